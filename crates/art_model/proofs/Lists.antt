@@ -1,0 +1,56 @@
+-- lists: what holds of each element, and fronts
+use Rattle.std.proofs.Common.{◌≡◌, ℕ, suc, ◌+◌, ◌<◌, ◌≤◌, List, [], ◌∷◌, ◌++◌, length, take, drop, refl, ap, sym, ◌∙◌, append_assoc, append-nil, arith, length-append, drop_at, eqb, eq-eqb, true, false, cond, length-drop, Bool, ap₂, eqb-true}
+use Rattle.std.specs.List.{AllByRecursion as Each}
+use Rattle.std.proofs.lemmas.List.{append_cancel_left}
+use Rattle.std.proofs.lemmas.Bool.{ne_eqb, cases_Bool}
+use Rattle.art_model.specs.Keys.{IsFront, common_front}
+use Rattle.art_model.specs.Trees.{shared_part, add_to_groups, groups, byte_at}
+
+module _ {A : Type 0} where
+  pub Each-append : (P : A → Type 0) (xs ys : List A) → Each P xs → Each P ys → Each P (xs ++ ys)
+  Each-append P [] ys h k = k
+  Each-append P (x ∷ xs) ys h k = (h.0, Each-append P xs ys h.1 k)
+
+  pub Each-left : (P : A → Type 0) (xs ys : List A) → Each P (xs ++ ys) → Each P xs
+  Each-left P [] ys h = tt
+  Each-left P (x ∷ xs) ys h = (h.0, Each-left P xs ys h.1)
+
+  pub Each-right : (P : A → Type 0) (xs ys : List A) → Each P (xs ++ ys) → Each P ys
+  Each-right P [] ys h = h
+  Each-right P (x ∷ xs) ys h = Each-right P xs ys h.1
+
+  pub Each-weaker : (P Q : A → Type 0) → ((x : A) → P x → Q x) → (xs : List A) → Each P xs → Each Q xs
+  Each-weaker P Q f [] h = tt
+  Each-weaker P Q f (x ∷ xs) h = (f x h.0, Each-weaker P Q f xs h.1)
+
+pub front_cut : (a b k : List ℕ) → IsFront (a ++ b) k → IsFront a k
+front_cut a b k (r, e) = (b ++ r, e ∙ append_assoc a b r)
+
+pub front_trans : (a b c : List ℕ) → IsFront a b → IsFront b c → IsFront a c
+front_trans a b c (r, e) (s, f) = (r ++ s, rw (f, e) (append_assoc a r s))
+
+pub after_front : (a k r : List ℕ) → k ≡ a ++ r → drop (length a) k ≡ r
+after_front a k r e = rw e (drop_at a r (length a) refl)
+
+pub common_front-append : (p a b : List ℕ) → common_front (p ++ a) (p ++ b) ≡ p ++ common_front a b
+common_front-append [] a b = refl
+common_front-append (x ∷ p) a b = rw (eq-eqb x x refl) (ap (λ s. x ∷ s) (common_front-append p a b))
+
+-- a common front is a front of both
+pub common_front_left : (a b : List ℕ) → IsFront (common_front a b) a
+common_front_left [] b = ([], refl)
+common_front_left (x ∷ a) [] = (x ∷ a, refl)
+common_front_left (x ∷ a) (y ∷ b) = go (common_front_left a b) (eqb x y)
+  where
+    go : IsFront (common_front a b) a → (t : Bool) → IsFront (cond t (x ∷ common_front a b) []) (x ∷ a)
+    go r true = (r.0, ap (λ s. x ∷ s) r.1)
+    go r false = (x ∷ a, refl)
+
+pub common_front_right : (a b : List ℕ) → IsFront (common_front a b) b
+common_front_right [] b = (b, refl)
+common_front_right (x ∷ a) [] = ([], refl)
+common_front_right (x ∷ a) (y ∷ b) = go (common_front_right a b) (eqb x y) refl
+  where
+    go : IsFront (common_front a b) b → (t : Bool) → eqb x y ≡ t → IsFront (cond t (x ∷ common_front a b) []) (y ∷ b)
+    go r true e = (r.0, ap₂ (λ z s. z ∷ s) (sym (eqb-true x y e)) r.1)
+    go r false e = (y ∷ b, refl)

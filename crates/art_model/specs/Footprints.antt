@@ -1,0 +1,22 @@
+-- What a call did to the nodes under names, between a store before and a store after.
+use Rattle.std.specs.Prelude.{◌≡◌, ◌≢◌, ℕ, ◌≤◌, ◌⊎◌, List, [], ◌∷◌, length, Option, Some, None}
+use Rattle.std.specs.List.{AllByRecursion as Each}
+use Rattle.art_nodes.specs.Nodes.{Nodes}
+use Rattle.art_nodes.specs.declared.node.OpaqueNodePtr.{OpaqueNodePtr}
+use Rattle.art_model.specs.Stores.{held, IsUsed}
+
+-- the list has the element
+abbrev pub IsIn : {X : Type 0} → X → List X → Type 0
+IsIn x [] = ⊥
+IsIn x (y ∷ ys) = (y ≡ x) ⊎ IsIn x ys
+
+-- the names that came, went and changed; every other name holds what it held
+pub record Footprint {K V : Type 0} (old new : Nodes K V) (placed freed changed : List OpaqueNodePtr) : Type 0 where
+  pub are_placed : Each (λ name. (held old name ≡ None) × IsUsed new name) placed
+  pub are_freed : Each (λ name. IsUsed old name × (held new name ≡ None)) freed
+  pub are_changed : Each (λ name. IsUsed old name × IsUsed new name) changed
+  pub others : (name : OpaqueNodePtr) → (IsIn name placed → ⊥) → (IsIn name freed → ⊥) → (IsIn name changed → ⊥) → held new name ≡ held old name
+
+-- at most so many names are placed, freed and changed
+abbrev pub TouchesAtMost : {K V : Type 0} → ℕ → ℕ → ℕ → Nodes K V → Nodes K V → Type 0
+TouchesAtMost most_placed most_freed most_changed old new = (placed freed changed : List OpaqueNodePtr) × Footprint old new placed freed changed × (length placed ≤ most_placed) × (length freed ≤ most_freed) × (length changed ≤ most_changed)

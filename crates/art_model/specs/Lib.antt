@@ -1,0 +1,12 @@
+pub mod Keys
+pub mod Pairs
+pub mod Trees
+pub mod Radix
+pub mod Layouts
+pub mod ByCases
+pub mod Stores
+pub mod Canonical
+pub mod Paths
+pub mod Places
+pub mod Heights
+pub mod Footprints

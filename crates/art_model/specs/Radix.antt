@@ -1,0 +1,51 @@
+-- The tree of a map seen from inside.
+use Rattle.std.specs.Prelude.{◌≡◌, ℕ, ◌<◌, ◌≤◌, List, [], ◌∷◌, ◌++◌, length}
+use Rattle.art_model.specs.Keys.{IsFront}
+use Rattle.art_model.specs.Pairs.{Pairwise}
+use Rattle.art_model.specs.Trees.{Tree, leaf, inner, Children, no_child, child, header_of}
+
+module _ {N A : Type 0} where
+  -- the pairs of the leaves in order
+  abbrev mutual
+    pub pairs_of : Tree N A → List A
+    pairs_of (leaf n x) = x ∷ []
+    pairs_of (inner n h cs) = pairs_below cs
+
+    pub pairs_below : Children N A → List A
+    pairs_below no_child = []
+    pairs_below (child b t cs) = pairs_of t ++ pairs_below cs
+
+  -- the plain tree
+  abbrev mutual
+    pub unmarked : Tree N A → Tree (Unit {0}) A
+    unmarked (leaf n x) = leaf tt x
+    unmarked (inner n h cs) = inner tt h (all_unmarked cs)
+
+    pub all_unmarked : Children N A → Children (Unit {0}) A
+    all_unmarked no_child = no_child
+    all_unmarked (child b t cs) = child b (unmarked t) (all_unmarked cs)
+
+  -- the bytes of the children
+  abbrev pub bytes_of : Children N A → List ℕ
+  bytes_of no_child = []
+  bytes_of (child b t cs) = b ∷ bytes_of cs
+
+  -- the children of both
+  abbrev pub join : Children N A → Children N A → Children N A
+  join no_child ds = ds
+  join (child b t cs) ds = child b t (join cs ds)
+
+-- each byte is below all later ones
+abbrev pub IsRising : List ℕ → Type 0
+IsRising = Pairwise (λ b c. b < c)
+
+module _ {N A : Type 0} (bytes : A → List ℕ) (P : ℕ) where
+  -- The way to a node is the bytes that lead to it. Each leaf's key begins with the way to the leaf.
+  abbrev mutual
+    pub IsRadix : List ℕ → Tree N A → Type 0
+    IsRadix way (leaf n x) = IsFront way (bytes x)
+    IsRadix way (inner n h cs) = (part : List ℕ) × (h ≡ header_of P part (length (bytes_of cs))) × (2 ≤ length (bytes_of cs)) × IsRising (bytes_of cs) × AreRadix (way ++ part) cs
+
+    pub AreRadix : List ℕ → Children N A → Type 0
+    AreRadix front no_child = Unit {0}
+    AreRadix front (child b t cs) = IsRadix (front ++ b ∷ []) t × AreRadix front cs
