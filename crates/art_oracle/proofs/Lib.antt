@@ -1,0 +1,3 @@
+pub mod SharedParts
+pub mod Kept
+pub mod Grouping
