@@ -20,7 +20,8 @@ use Rattle.art_model.proofs.Keys.{IsMap-left, IsMap-right}
 use Rattle.art_model.proofs.Groups.{groups-block, StartsApart}
 use Rattle.art_model.proofs.Build.{IsSortedAt, with_byte, sorted_at}
 use Rattle.art_model.proofs.Names.{distinct-append}
-use Rattle.art_oracle.specs.Build.{pairs_at, leaf_pair, leaf_key, Keeps, inner_names, inner_names_below, Ready, ReadyBelow, Built, BuiltBelow, IsGroup, AreBelow, GoesOn, count_groups}
+use Rattle.art_oracle.specs.Build.{pairs_at, leaf_pair, leaf_key, inner_names, inner_names_below, Ready, ReadyBelow, Built, BuiltBelow, IsGroup, AreBelow, GoesOn, count_groups}
+use Rattle.art_oracle.specs.Built.{KeepsNodes}
 use Rattle.art_oracle.proofs.Kept.{node_kept, node_used, was_free, holds_kept, inner_used}
 
 map-append : {A B : Type 0} (f : A → B) (xs ys : List A) → map f (xs ++ ys) ≡ map f xs ++ map f ys
@@ -83,50 +84,59 @@ module _ {K V : Type 0} (store : finite.FinMap leaf_cmp (LeafNode K V)) where
       go None s = absurd cc
       go (Some l) s = ((l.key, l.value), pairs_at store (take n qs), refl)
 
+-- a group whose byte is below all those after it is one more
+module _ {A : Type 0} (byte : A → ℕ) where
+  pub groups_apart : (b : ℕ) (ys : List A) → Each (λ z. b < byte z) ys → StartsApart b (groups byte ys)
+  groups_apart b [] h = tt
+  groups_apart b (y ∷ ys) h = go (groups byte ys) (ne_eqb b (byte y) (omega (arith, h.0)))
+    where
+      go : (gs : List (ℕ × List A)) → eqb b (byte y) ≡ false → StartsApart b (add_to_groups (byte y) y gs)
+      go [] e = e
+      go ((c, group) ∷ others) e = by_test (eqb (byte y) c) e
+        where
+          by_test : (t : Bool) → eqb b (byte y) ≡ false → StartsApart b (cond t ((byte y, y ∷ group) ∷ others) ((byte y, y ∷ []) ∷ (c, group) ∷ others))
+          by_test true e = e
+          by_test false e = e
+
+  pub count_more : (b : ℕ) (x : A) (xs group others : List A) → group ≡ x ∷ xs → Each (λ z. byte z ≡ b) group → Each (λ z. b < byte z) others → length (groups byte (group ++ others)) ≡ suc (length (groups byte others))
+  count_more b x xs group others some own above = rw some (ap length (groups-block byte b x xs others (groups byte others) (rw some at own) refl (groups_apart b others above)))
+
 module _ {K V : Type 0} (bytes : K → List ℕ) (P : ℕ) (old mid new : Nodes K V) (front : List ℕ) (group others : List LeafPtr) (b : ℕ) (name : OpaqueNodePtr) (from draft to : Inner) where
   abbrev At : ℕ
   At = length front
 
   pub compose :
-    mid.leaves ≡ old.leaves → new.leaves ≡ mid.leaves → Keeps old mid → Keeps mid new →
+    mid.leaves ≡ old.leaves → KeepsNodes old mid → KeepsNodes mid new →
     (x : K × V) (xs : List (K × V)) → pairs_at old.leaves group ≡ x ∷ xs → Each (λ z. byte_at (of_key bytes) (length front) z ≡ b) (pairs_at old.leaves group) → Each (λ z. b < byte_at (of_key bytes) (length front) z) (pairs_at old.leaves others) →
     Each (λ c. c.0 < b) from.children → draft ≡ record from { children = put_child from.children b name } →
     Built bytes P (front ++ b ∷ []) group old mid name → BuiltBelow bytes P front others mid new draft to → BuiltBelow bytes P front (group ++ others) old new from to
-  compose same same' kept kept' x xs some own above low drafted t cs =
+  compose same kept kept' x xs some own above low drafted t cs =
     let others_same : pairs_at mid.leaves others ≡ pairs_at old.leaves others = ap (λ m. pairs_at m others) same in
     let slots : to.children ≡ from.children ++ (b, name) ∷ slots_of cs.children = cs.slots ∙ ap (λ d. d.children ++ slots_of cs.children) drafted ∙ ap (λ l. l ++ slots_of cs.children) (put_last from.children b name low) ∙ append_assoc from.children ((b, name) ∷ []) (slots_of cs.children) in
-    let held = holds_kept (node_at mid) (node_at new) (node_kept mid new same' kept') t.tree t.holds in
-    let was_free : (n : OpaqueNodePtr) → held mid n ≡ None → held old n ≡ None = λ n e. free n (held old n) refl e in
     record
       { children = child b t.tree cs.children
       ; prefix = cs.prefix ∙ ap (λ d. d.prefix) drafted
       ; slots = slots ∙ ap (λ m. from.children ++ (b, m) ∷ slots_of cs.children) (sym t.named)
       ; radix = (t.radix, cs.radix)
       ; rising = (cs.above b (rw others_same above), cs.rising)
+      ; count = ap suc (cs.count ∙ ap (λ l. length (groups (byte_at (of_key bytes) (length front)) l)) others_same) ∙ sym (count_more (byte_at (of_key bytes) (length front)) b x xs (pairs_at old.leaves group) (pairs_at old.leaves others) some own above) ∙ ap (λ l. length (groups (byte_at (of_key bytes) (length front)) l)) (sym (pairs_at-append old.leaves group others))
       ; above = λ c h. let k = rw (pairs_at-append old.leaves group others) at h in let g = Each-left (λ z. c < byte_at (of_key bytes) (length front) z) (pairs_at old.leaves group) (pairs_at old.leaves others) k in
           let first : c < byte_at (of_key bytes) (length front) x = (rw some at g).0 in
           let mine : byte_at (of_key bytes) (length front) x ≡ b = (rw some at own).0 in
           (omega arith, cs.above c (rw others_same (Each-right (λ z. c < byte_at (of_key bytes) (length front) z) (pairs_at old.leaves group) (pairs_at old.leaves others) k)))
       ; its = ap₂ (λ (p q : List (K × V)). p ++ q) t.its (cs.its ∙ others_same) ∙ sym (pairs_at-append old.leaves group others)
       ; leaves_are = ap₂ (λ (p q : List OpaqueNodePtr). p ++ q) t.leaves_are cs.leaves_are ∙ sym (map-append leaf_name group others)
-      ; holds = (held, cs.holds)
-      ; fresh = Each-append (λ n. held old n ≡ None) (inner_names t.tree) (inner_names_below cs.children) t.fresh (Each-weaker (λ n. held mid n ≡ None) (λ n. held old n ≡ None) was_free (inner_names_below cs.children) cs.fresh)
+      ; holds = (holds_kept (node_at mid) (node_at new) (node_kept mid new kept') t.tree t.holds, cs.holds)
+      ; fresh = Each-append (λ n. held old n ≡ None) (inner_names t.tree) (inner_names_below cs.children) t.fresh (Each-weaker (λ n. held mid n ≡ None) (λ n. held old n ≡ None) (was_free old mid kept) (inner_names_below cs.children) cs.fresh)
       ; distinct = distinct-append (inner_names t.tree) (inner_names_below cs.children) t.distinct cs.distinct
-          (Each-weaker (λ n. held mid n ≢ None) (λ n. Each (λ k. n ≢ k) (inner_names_below cs.children)) (λ n used. Each-weaker (λ k. held mid k ≡ None) (λ k. n ≢ k) (λ k free e. used (ap (held mid) e ∙ free)) (inner_names_below cs.children) cs.fresh) (inner_names t.tree) (names_used t.tree t.holds))
+          (Each-weaker (λ n. held mid n ≢ None) (λ n. Each (λ k. n ≢ k) (inner_names_below cs.children)) (λ n used. Each-weaker (λ k. held mid k ≡ None) (λ k. n ≢ k) (λ k free e. used (ap (held mid) e ∙ free)) (inner_names_below cs.children) cs.fresh) (inner_names t.tree) (inner_used (node_at mid) (λ n. held mid n ≢ None) (node_used mid) t.tree t.holds))
       }
-    where
-      free : (n : OpaqueNodePtr) (o : Option Inner) → held old n ≡ o → held mid n ≡ None → held old n ≡ None
-      free n None e f = e
-      free n (Some node) e f = let k = kept n (λ z. absurd cc) in absurd cc
-
-      names_used : (t : OpaqueNodePtrd K V) → Holds (node_at mid) t → Each (λ n. held mid n ≢ None) (inner_names t)
-      names_used t h = inner_used (node_at mid) (λ n. held mid n ≢ None) (inner_shape mid) t h
 
   pub empty_below : length group ≡ 0 → BuiltBelow bytes P front group old old from from
   empty_below e = go group e
     where
       go : (ps : List LeafPtr) → length ps ≡ 0 → BuiltBelow bytes P front ps old old from from
-      go [] e = record { children = no_child; prefix = refl; slots = sym (append-nil from.children); radix = tt; rising = tt; above = λ b h. tt; its = refl; leaves_are = refl; holds = tt; fresh = tt; distinct = tt }
+      go [] e = record { children = no_child; prefix = refl; slots = sym (append-nil from.children); radix = tt; rising = tt; count = refl; above = λ b h. tt; its = refl; leaves_are = refl; holds = tt; fresh = tt; distinct = tt }
       go (p ∷ ps) e = absurd (omega arith)
 
 module _ {K V : Type 0} (bytes : K → List ℕ) (store : finite.FinMap leaf_cmp (LeafNode K V)) (front : List ℕ) (leaves : List LeafPtr) (at byte n : ℕ) (ready : ReadyBelow bytes store front leaves at) (group : IsGroup bytes store leaves at byte n) where

@@ -13,7 +13,8 @@ use Rattle.art_model.specs.Trees.{Tree, leaf, inner, Children, child, no_child, 
 use Rattle.art_model.specs.Layouts.{Node, leaf_node, inner_node, slots_of, Holds, HoldsBelow}
 use Rattle.art_model.specs.Stores.{node_at, node_in, inner_at, header_at, pair_of, Held, held_leaf, held_inner, held, held_in, IsUsed}
 use Rattle.art_model.proofs.Lists.{Each-append}
-use Rattle.art_oracle.specs.Build.{Keeps, inner_names, inner_names_below}
+use Rattle.art_oracle.specs.Build.{inner_names, inner_names_below}
+use Rattle.art_oracle.specs.Built.{KeepsNodes}
 
 module _ {K V : Type 0} where
   -- what a held node is in a tree
@@ -40,14 +41,14 @@ module _ {K V : Type 0} where
   pub node_used : (s : Nodes K V) (name : OpaqueNodePtr) (x : Node OpaqueNodePtr (K × V)) → node_at s name ≡ Some x → IsUsed s name
   node_used s name x e none = let f = sym (node_in-held s name.kind name.slot ∙ ap (option_map (node_of name.kind)) none) ∙ e in absurd cc
 
-  pub node_kept : (old new : Nodes K V) → Keeps old new → (name : OpaqueNodePtr) (x : Node OpaqueNodePtr (K × V)) → node_at old name ≡ Some x → node_at new name ≡ Some x
+  pub node_kept : (old new : Nodes K V) → KeepsNodes old new → (name : OpaqueNodePtr) (x : Node OpaqueNodePtr (K × V)) → node_at old name ≡ Some x → node_at new name ≡ Some x
   node_kept old new kept name x e = node_in-held new name.kind name.slot ∙ ap (option_map (node_of name.kind)) (kept name (node_used old name x e)) ∙ sym (node_in-held old name.kind name.slot) ∙ e
 
-  pub keeps-trans : (old mid new : Nodes K V) → Keeps old mid → Keeps mid new → Keeps old new
+  pub keeps-trans : (old mid new : Nodes K V) → KeepsNodes old mid → KeepsNodes mid new → KeepsNodes old new
   keeps-trans old mid new h k name used = let e = h name used in k name (λ none. used (sym e ∙ none)) ∙ e
 
-  -- what was free after was free before
-  pub was_free : (old new : Nodes K V) → Keeps old new → (name : OpaqueNodePtr) → held new name ≡ None → held old name ≡ None
+  -- what is free was free
+  pub was_free : (old new : Nodes K V) → KeepsNodes old new → (name : OpaqueNodePtr) → held new name ≡ None → held old name ≡ None
   was_free old new kept name free = go (held old name) refl
     where
       go : (o : Option (Held K V)) → held old name ≡ o → held old name ≡ None

@@ -14,7 +14,7 @@ use Rattle.art_model.specs.Pairs.{IsMap, of_key}
 use Rattle.art_model.specs.Trees.{Tree, leaf, inner, Children, child, no_child, byte_at, groups}
 use Rattle.art_model.specs.Radix.{pairs_of, pairs_below, IsRadix, AreRadix, IsRising, bytes_of}
 use Rattle.art_model.specs.Layouts.{name_of, slots_of, leaf_names, leaf_names_below, Holds, HoldsBelow, AreDistinct, AreLinked, first_or, last_or}
-use Rattle.art_model.specs.Stores.{node_at, links_at, held, IsUsed, pair_of}
+use Rattle.art_model.specs.Stores.{node_at, links_at, held, pair_of}
 
 -- a node with no child, and what of its prefix is stored
 abbrev pub started : ℕ → List ℕ → Inner
@@ -53,10 +53,6 @@ module _ {K V : Type 0} where
   abbrev pub pairs_at : finite.FinMap leaf_cmp (LeafNode K V) → List LeafPtr → List (K × V)
   pairs_at store [] = []
   pairs_at store (p ∷ ps) = leaf_pair (finite.get store p) ++ pairs_at store ps
-
-  -- every node of the first store is in the second as it was
-  abbrev pub Keeps : Nodes K V → Nodes K V → Type 0
-  Keeps old new = (name : OpaqueNodePtr) → IsUsed old name → held new name ≡ held old name
 
   module _ (bytes : K → List ℕ) where
     -- the leaves of a map whose keys all begin with a way of this length
