@@ -1,3 +1,4 @@
 pub mod SharedParts
 pub mod Kept
 pub mod Grouping
+pub mod Placing
