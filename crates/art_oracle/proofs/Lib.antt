@@ -2,3 +2,4 @@ pub mod SharedParts
 pub mod Kept
 pub mod Grouping
 pub mod Placing
+pub mod Counting

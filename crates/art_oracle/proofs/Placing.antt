@@ -1,11 +1,11 @@
 -- a node above the children that were built
-use Rattle.std.proofs.Common.{◌≡◌, ◌≢◌, ℕ, suc, zero, ◌+◌, ◌-◌, ◌<◌, ◌≤◌, List, [], ◌∷◌, ◌++◌, length, take, drop, get_or, map, refl, ap, ap₂, sym, ◌∙◌, arith, true, false, Bool, cond, leb, ◌⊎◌, inl, inr, subst, append_assoc, append-nil, length-append, Option, Some, None, IsSome}
+use Rattle.std.proofs.Common.{◌≡◌, ◌≢◌, ℕ, suc, zero, ◌+◌, ◌-◌, ◌<◌, ◌≤◌, List, [], ◌∷◌, ◌++◌, length, take, drop, get_or, map, min, refl, ap, ap₂, sym, ◌∙◌, arith, true, false, Bool, cond, leb, ◌⊎◌, inl, inr, subst, append_assoc, append-nil, length-append, Option, Some, None, IsSome}
 use Rattle.std.specs.Option.{option_map}
 use Rattle.std.specs.List.{AllByRecursion as Each, All}
 use Rattle.std.specs.FinMap as finite
 use Rattle.std.specs.Ordering.{is_lt}
 use Rattle.std.proofs.lemmas.Bool.{true≢false}
-use Rattle.std.proofs.lemmas.List.{take_at}
+use Rattle.std.proofs.lemmas.List.{take_at, take-take, take_min, length-take-le}
 use Rattle.std.proofs.lemmas.List.Elements.{All-cons, All-nil, All-head, All-tail}
 use Rattle.art_nodes.specs.Inner.{Inner}
 use Rattle.art_nodes.specs.Names.{leaf_name, inner_name}
@@ -31,7 +31,7 @@ use Rattle.art_model.proofs.Views.{node_in_inner}
 use Rattle.art_oracle.specs.Build.{pairs_at, leaf_pair, leaf_key, inner_names, inner_names_below, Ready, ReadyBelow, Built, BuiltBelow, GoesOn, started, last_from, Starts, count_groups}
 use Rattle.art_oracle.specs.Built.{KeepsNodes}
 use Rattle.art_oracle.proofs.Kept.{node_kept, node_used, was_free, holds_kept_below, inner_used_below}
-use Rattle.art_oracle.proofs.SharedParts.{common_between, parts, Parts}
+use Rattle.art_oracle.proofs.SharedParts.{common_between, common_fits, parts, Parts}
 
 before-append : (p a b : List ℕ) → is_before (p ++ a) (p ++ b) ≡ is_before a b
 before-append p a b = ap is_lt (cmp-append p a b)
@@ -217,6 +217,16 @@ module _ {K V : Type 0} (bytes : K → List ℕ) (P : ℕ) where
       ; distinct = (Each-weaker (λ m. IsUsed mid m) (λ m. inner_name p ≢ m) (λ m used e. used (ap (held mid) (sym e) ∙ placed_free mid p inner_kind free)) (inner_names_below cs) (inner_used_below (node_at mid) (IsUsed mid) (node_used mid) cs below.holds), below.distinct)
       }
 
+-- a prefix by its length and its first bytes
+header_started : (P len : ℕ) (rf : List ℕ) → len ≤ length rf → record { prefix = record { len = len; stored = take (min len P) rf }; children = [] } ≡ started P (take len rf)
+header_started P len rf long =
+  let n : length (take len rf) ≡ len = length-take-le len rf long in
+  let bytes : take (min P (length (take len rf))) (take len rf) ≡ take (min len P) rf = rw n (take-take (min P len) len rf (omega arith) ∙ ap (λ m. take m rf) (min_comm P len)) in
+  ap₂ (λ (m : ℕ) (s : List ℕ). let i : Inner = record { prefix = record { len = m; stored = s }; children = [] } in i) (sym n) (sym bytes ∙ take_min P (take len rf))
+  where
+    min_comm : (a b : ℕ) → min a b ≡ min b a
+    min_comm a b = omega arith
+
 -- what the first and the last of the leaves of a node show
 module _ {K V : Type 0} (bytes : K → List ℕ) (store : finite.FinMap leaf_cmp (LeafNode K V)) (way : List ℕ) (leaves : List LeafPtr) (depth : ℕ) (kf kl : List ℕ) where
   abbrev pub part_of : List ℕ
@@ -258,10 +268,19 @@ module _ {K V : Type 0} (bytes : K → List ℕ) (store : finite.FinMap leaf_cmp
       after way key k depth l (r, w) e = w ∙ ap (λ m. way ++ m) (sym (after_front way key r w) ∙ ap₂ (λ (m : ℕ) (q : List ℕ). drop m q) l e)
 
   -- the same, of the bytes after the way as they were read
-  pub starts : (P at len : ℕ) (rf rl : List ℕ) (node : Inner) → Ready bytes store way leaves depth → Ends bytes store leaves kf kl → rf ≡ drop depth kf → rl ≡ drop depth kl → len ≡ length (common_front rf rl) → at ≡ depth + len → node ≡ started P (take len rf) → Starts bytes P store way leaves depth at node
-  starts P at len rf rl node ready e f l n a d =
-    let p = parting ready e in
-    let len_is : len ≡ length part_of = n ∙ ap₂ (λ (u v : List ℕ). length (common_front u v)) f l in
-    let at_is : at ≡ depth + length part_of = a ∙ ap (λ m. depth + m) len_is in
-    let part_read : take len rf ≡ part_of = ap₂ (λ (m : ℕ) (u : List ℕ). take m u) len_is f ∙ p.part_is in
-    record { part = part_of; at_is = at_is; node_is = d ∙ ap (started P) part_read; below = subst (λ m. ReadyBelow bytes store (way ++ part_of) leaves m) (sym at_is) p.below; x = e.x; y = e.y; ys = e.ys; pairs_are = e.pairs_are; differ = p.differ }
+  module _ (len : ℕ) (rf rl : List ℕ) (ready : Ready bytes store way leaves depth) (e : Ends bytes store leaves kf kl) (f : rf ≡ drop depth kf) (l : rl ≡ drop depth kl) (n : len ≡ length (common_front rf rl)) where
+    len_is : len ≡ length part_of
+    len_is = n ∙ ap₂ (λ (u v : List ℕ). length (common_front u v)) f l
+
+    pub at_within : depth + len ≤ length kf
+    at_within = let w = (parting ready e).at_in_first in let i = len_is in omega arith
+
+    pub ready_below : ReadyBelow bytes store (way ++ part_of) leaves (depth + len)
+    ready_below = subst (λ m. ReadyBelow bytes store (way ++ part_of) leaves (depth + m)) (sym len_is) (parting ready e).below
+
+    pub starts : (P : ℕ) (node : Inner) → node ≡ record { prefix = record { len = len; stored = take (min len P) rf }; children = [] } → Starts bytes P store way leaves depth (depth + len) node
+    starts P node d =
+      let p = parting ready e in
+      let part_read : take len rf ≡ part_of = ap₂ (λ (m : ℕ) (u : List ℕ). take m u) len_is f ∙ p.part_is in
+      let long : len ≤ length rf = rw n (common_fits rf rl) in
+      record { part = part_of; at_is = ap (λ m. depth + m) len_is; node_is = d ∙ header_started P len rf long ∙ ap (started P) part_read; below = ready_below; x = e.x; y = e.y; ys = e.ys; pairs_are = e.pairs_are; differ = p.differ }

@@ -1,6 +1,19 @@
-//! Building the tree of a map in a store.
-ghost use Rattle.std.specs.Prelude.{◌≡◌, ◌≤◌, length};
+//! The radix tree of a map, built in a store at one go.
+ghost use Rattle.std.specs.Prelude.{◌≡◌, ◌≢◌, ℕ, ◌+◌, ◌*◌, ◌<◌, ◌≤◌, List, [], length, get_or, IsSome};
+ghost use Rattle.std.specs.FinMap as map;
+ghost use Rattle.std.specs.Vec.{vec_capacity};
+ghost use Rattle.art_nodes.specs.Kinds.{any_kind, any_view, kind_capacity};
+ghost use Rattle.art_nodes.specs.Inner.{childless};
+ghost use Rattle.art_nodes.specs.declared.node.NodeType.TheVariants.{Leaf};
 ghost use Rattle.art_model.specs.Keys.{common_front};
+ghost use Rattle.art_model.specs.Pairs.{IsMap, of_key};
+ghost use Rattle.art_model.specs.Trees.{kind_of};
+ghost use Rattle.art_model.specs.Canonical.{IsCanonical};
+ghost use Rattle.art_oracle.specs.Build.{Ready, ReadyBelow, IsGroup, count_groups, leaf_key, AreBelow, Starts, Built, BuiltBelow};
+ghost use Rattle.art_oracle.specs.Built.{KeepsNodes, AddsTree};
+
+use art_nodes::node::{AnyInner, AsBytes, Header, LeafNode, LeafPtr, NodeType, OpaqueNodePtr};
+use art_nodes::store::NodeStore;
 
 /// How many bytes two keys have in common in front.
 fn common_len(a: &[u8], b: &[u8]) -> usize
@@ -13,4 +26,114 @@ fn common_len(a: &[u8], b: &[u8]) -> usize
         }
     }
     count
+}
+
+/// The bytes of a leaf's key.
+fn key_of<K: AsBytes + Drop, V: Drop, const P: usize>(
+    store: &NodeStore<K, V, P>,
+    leaf: LeafPtr,
+) -> &[u8]
+    requires { IsSome (map.get store.now.leaves leaf) }
+    ensures { result.now ≡ leaf_key K.bytes (map.get store.now.leaves leaf) }
+{
+    match store.leaf(leaf) {
+        Some(node) => node.key.as_bytes(),
+        None => unreachable!(),
+    }
+}
+
+/// The byte of a leaf's key at a depth.
+fn byte_of<K: AsBytes + Drop, V: Drop, const P: usize>(
+    store: &NodeStore<K, V, P>,
+    leaf: LeafPtr,
+    at: usize,
+) -> u8
+    requires there { IsSome (map.get store.now.leaves leaf) }
+    requires longer { at < length (leaf_key K.bytes (map.get store.now.leaves leaf)) }
+    ensures { result ≡ get_or (leaf_key K.bytes (map.get store.now.leaves leaf)) at 0 }
+{
+    key_of(store, leaf)[at]
+}
+
+/// How many leaves in front have this byte at a depth.
+fn group_end<K: AsBytes + Drop, V: Drop, const P: usize>(
+    store: &NodeStore<K, V, P>,
+    leaves: &[LeafPtr],
+    at: usize,
+    byte: u8,
+) -> usize
+    requires { (front : List ℕ) × ReadyBelow K.bytes store.now.leaves front leaves.now at }
+    ensures { IsGroup K.bytes store.now.leaves leaves.now at byte result }
+{
+    let mut n = 0;
+    while n < leaves.len() && byte_of(store, leaves[n], at) == byte {
+        n += 1;
+    }
+    n
+}
+
+/// How many groups sorted leaves make by their bytes at a depth.
+fn group_count<K: AsBytes + Drop, V: Drop, const P: usize>(
+    store: &NodeStore<K, V, P>,
+    leaves: &[LeafPtr],
+    at: usize,
+) -> usize
+    requires some { 1 ≤ length leaves.now }
+    requires ready { (front : List ℕ) × ReadyBelow K.bytes store.now.leaves front leaves.now at }
+    ensures count { result ≡ count_groups K.bytes store.now.leaves leaves.now at }
+    ensures bound { result ≤ 256 }
+{
+    let mut last = byte_of(store, leaves[0], at);
+    let mut count = 1;
+    for i in 1..leaves.len() {
+        let byte = byte_of(store, leaves[i], at);
+        if byte != last {
+            count += 1;
+        }
+        last = byte;
+    }
+    count
+}
+
+/// The kind of a node with so many children.
+fn kind_for(children: usize) -> NodeType
+    ensures kind { result ≡ kind_of children }
+    ensures inner { result ≢ Leaf }
+    ensures capacity { children ≤ 256 → children ≤ kind_capacity result }
+{
+    match children {
+        0..=4 => NodeType::Node4,
+        5..=16 => NodeType::Node16,
+        17..=48 => NodeType::Node48,
+        _ => NodeType::Node256,
+    }
+}
+
+fn from_header<const P: usize>(kind: NodeType, header: Header<P>) -> AnyInner<P>
+    requires { kind ≢ Leaf }
+    ensures kind { any_kind result ≡ kind }
+    ensures view { any_view result ≡ childless header.entry }
+{
+    use art_nodes::node::{FromHeader, InnerNode4};
+    AnyInner::Node4(InnerNode4::from_header(header))
+}
+
+/// A node for the groups of some leaves, with the part that their keys share, and the depth after that part.
+fn start_node<K: AsBytes + Drop, V: Drop, const P: usize>(
+    store: &NodeStore<K, V, P>,
+    leaves: &[LeafPtr],
+    depth: usize,
+) -> (usize, AnyInner<P>)
+    requires two { 2 ≤ length leaves.now }
+    requires ready { (way : List ℕ) × Ready K.bytes store.now.leaves way leaves.now depth }
+    ensures starts { (way : List ℕ) → Ready K.bytes store.now.leaves way leaves.now depth → Starts K.bytes P store.now.leaves way leaves.now depth result.0 (any_view result.1) }
+    ensures kind { any_kind result.1 ≡ kind_of (count_groups K.bytes store.now.leaves leaves.now result.0) }
+    ensures capacity { count_groups K.bytes store.now.leaves leaves.now result.0 ≤ kind_capacity (any_kind result.1) }
+{
+    let (_, first) = key_of(store, leaves[0]).split_at(depth);
+    let (_, last) = key_of(store, leaves[leaves.len() - 1]).split_at(depth);
+    let len = common_len(first, last);
+    let at = depth + len;
+    let kind = kind_for(group_count(store, leaves, at));
+    (at, from_header(kind, Header::new(first, len)))
 }
