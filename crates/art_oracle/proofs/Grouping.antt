@@ -1,11 +1,12 @@
 -- how the trees of the groups make a node's children
-use Rattle.std.proofs.Common.{◌≡◌, ◌≢◌, ℕ, suc, zero, ◌+◌, ◌-◌, ◌<◌, ◌≤◌, List, [], ◌∷◌, ◌++◌, length, take, drop, get_or, map, refl, ap, ap₂, sym, ◌∙◌, arith, true, false, Bool, cond, eqb, subst, append_assoc, append-nil, Option, Some, None, IsSome}
+use Rattle.std.proofs.Common.{◌≡◌, ◌≢◌, ℕ, suc, zero, ◌+◌, ◌-◌, ◌<◌, ◌≤◌, List, [], ◌∷◌, ◌++◌, length, take, drop, get_or, map, refl, ap, ap₂, sym, ◌∙◌, arith, true, false, Bool, cond, eqb, subst, append_assoc, append-nil, ◌⊎◌, inl, inr, Option, Some, None, IsSome}
 use Rattle.std.specs.List.{AllByRecursion as Each, All}
 use Rattle.std.specs.FinMap as finite
 use Rattle.std.proofs.lemmas.Bool.{lt-ltb, ne_eqb}
 use Rattle.std.proofs.lemmas.List.{take-append-drop, length-append, drop_more, length-take-le}
 use Rattle.std.proofs.lemmas.List.Elements.{All-take, All-drop}
 use Rattle.art_nodes.specs.Inner.{Inner, put_child}
+use Rattle.art_nodes.specs.Changes.{with_child}
 use Rattle.art_nodes.specs.Names.{leaf_name}
 use Rattle.art_nodes.specs.Nodes.{Nodes, leaf_cmp}
 use Rattle.art_nodes.specs.declared.node.LeafPtr.{LeafPtr}
@@ -15,6 +16,7 @@ use Rattle.art_model.specs.Pairs.{IsMap, of_key}
 use Rattle.art_model.specs.Trees.{Tree, child, no_child, byte_at, groups, add_to_groups}
 use Rattle.art_model.specs.Layouts.{slots_of}
 use Rattle.art_model.specs.Stores.{node_at, held, IsUsed}
+use Rattle.art_model.specs.Footprints.{IsIn}
 use Rattle.art_model.proofs.Lists.{Each-append, Each-left, Each-right, Each-weaker}
 use Rattle.art_model.proofs.Keys.{IsMap-left, IsMap-right}
 use Rattle.art_model.proofs.Groups.{groups-block, StartsApart}
@@ -22,7 +24,7 @@ use Rattle.art_model.proofs.Build.{IsSortedAt, with_byte, sorted_at}
 use Rattle.art_model.proofs.Names.{distinct-append}
 use Rattle.art_oracle.specs.Build.{pairs_at, leaf_pair, leaf_key, inner_names, inner_names_below, Ready, ReadyBelow, Built, BuiltBelow, IsGroup, AreBelow, GoesOn, count_groups}
 use Rattle.art_oracle.specs.Built.{KeepsNodes}
-use Rattle.art_oracle.proofs.Kept.{node_kept, node_used, was_free, holds_kept, inner_used}
+use Rattle.art_oracle.proofs.Kept.{in_left, in_right, node_kept, node_used, was_free, holds_kept, inner_used}
 
 map-append : {A B : Type 0} (f : A → B) (xs ys : List A) → map f (xs ++ ys) ≡ map f xs ++ map f ys
 map-append f [] ys = refl
@@ -101,112 +103,87 @@ module _ {A : Type 0} (byte : A → ℕ) where
   pub count_more : (b : ℕ) (x : A) (xs group others : List A) → group ≡ x ∷ xs → Each (λ z. byte z ≡ b) group → Each (λ z. b < byte z) others → length (groups byte (group ++ others)) ≡ suc (length (groups byte others))
   count_more b x xs group others some own above = rw some (ap length (groups-block byte b x xs others (groups byte others) (rw some at own) refl (groups_apart b others above)))
 
-module _ {K V : Type 0} (bytes : K → List ℕ) (P : ℕ) (old mid new : Nodes K V) (front : List ℕ) (group others : List LeafPtr) (b : ℕ) (name : OpaqueNodePtr) (from draft to : Inner) where
-  abbrev At : ℕ
-  At = length front
+-- a group in front of the leaves, which has one
+pub record Grouped {K V : Type 0} (bytes : K → List ℕ) (store : finite.FinMap leaf_cmp (LeafNode K V)) (front : List ℕ) (leaves : List LeafPtr) (at byte n : ℕ) : Type 0 where
+  pub ready : ReadyBelow bytes store front leaves at
+  pub group : IsGroup bytes store leaves at byte n
+  pub x : K × V
+  pub xs : List (K × V)
+  pub some : pairs_at store (take n leaves) ≡ x ∷ xs
 
-  pub compose :
-    mid.leaves ≡ old.leaves → KeepsNodes old mid → KeepsNodes mid new →
-    (x : K × V) (xs : List (K × V)) → pairs_at old.leaves group ≡ x ∷ xs → Each (λ z. byte_at (of_key bytes) (length front) z ≡ b) (pairs_at old.leaves group) → Each (λ z. b < byte_at (of_key bytes) (length front) z) (pairs_at old.leaves others) →
-    Each (λ c. c.0 < b) from.children → draft ≡ record from { children = put_child from.children b name } →
-    Built bytes P (front ++ b ∷ []) group old mid name → BuiltBelow bytes P front others mid new draft to → BuiltBelow bytes P front (group ++ others) old new from to
-  compose same kept kept' x xs some own above low drafted t cs =
-    let others_same : pairs_at mid.leaves others ≡ pairs_at old.leaves others = ap (λ m. pairs_at m others) same in
-    let slots : to.children ≡ from.children ++ (b, name) ∷ slots_of cs.children = cs.slots ∙ ap (λ d. d.children ++ slots_of cs.children) drafted ∙ ap (λ l. l ++ slots_of cs.children) (put_last from.children b name low) ∙ append_assoc from.children ((b, name) ∷ []) (slots_of cs.children) in
-    record
-      { children = child b t.tree cs.children
-      ; prefix = cs.prefix ∙ ap (λ d. d.prefix) drafted
-      ; slots = slots ∙ ap (λ m. from.children ++ (b, m) ∷ slots_of cs.children) (sym t.named)
-      ; radix = (t.radix, cs.radix)
-      ; rising = (cs.above b (rw others_same above), cs.rising)
-      ; count = ap suc (cs.count ∙ ap (λ l. length (groups (byte_at (of_key bytes) (length front)) l)) others_same) ∙ sym (count_more (byte_at (of_key bytes) (length front)) b x xs (pairs_at old.leaves group) (pairs_at old.leaves others) some own above) ∙ ap (λ l. length (groups (byte_at (of_key bytes) (length front)) l)) (sym (pairs_at-append old.leaves group others))
-      ; above = λ c h. let k = rw (pairs_at-append old.leaves group others) at h in let g = Each-left (λ z. c < byte_at (of_key bytes) (length front) z) (pairs_at old.leaves group) (pairs_at old.leaves others) k in
-          let first : c < byte_at (of_key bytes) (length front) x = (rw some at g).0 in
-          let mine : byte_at (of_key bytes) (length front) x ≡ b = (rw some at own).0 in
-          (omega arith, cs.above c (rw others_same (Each-right (λ z. c < byte_at (of_key bytes) (length front) z) (pairs_at old.leaves group) (pairs_at old.leaves others) k)))
-      ; its = ap₂ (λ (p q : List (K × V)). p ++ q) t.its (cs.its ∙ others_same) ∙ sym (pairs_at-append old.leaves group others)
-      ; leaves_are = ap₂ (λ (p q : List OpaqueNodePtr). p ++ q) t.leaves_are cs.leaves_are ∙ sym (map-append leaf_name group others)
-      ; holds = (holds_kept (node_at mid) (node_at new) (node_kept mid new kept') t.tree t.holds, cs.holds)
-      ; fresh = Each-append (λ n. held old n ≡ None) (inner_names t.tree) (inner_names_below cs.children) t.fresh (Each-weaker (λ n. held mid n ≡ None) (λ n. held old n ≡ None) (was_free old mid kept) (inner_names_below cs.children) cs.fresh)
-      ; distinct = distinct-append (inner_names t.tree) (inner_names_below cs.children) t.distinct cs.distinct
-          (Each-weaker (λ n. held mid n ≢ None) (λ n. Each (λ k. n ≢ k) (inner_names_below cs.children)) (λ n used. Each-weaker (λ k. held mid k ≡ None) (λ k. n ≢ k) (λ k free e. used (ap (held mid) e ∙ free)) (inner_names_below cs.children) cs.fresh) (inner_names t.tree) (inner_used (node_at mid) (λ n. held mid n ≢ None) (node_used mid) t.tree t.holds))
-      }
-
-  pub empty_below : length group ≡ 0 → BuiltBelow bytes P front group old old from from
-  empty_below e = go group e
+-- a group by the byte of the first leaf
+module _ {K V : Type 0} {bytes : K → List ℕ} {store : finite.FinMap leaf_cmp (LeafNode K V)} {front : List ℕ} {leaves : List LeafPtr} {at byte n : ℕ} where
+  pub grouped : ReadyBelow bytes store front leaves at → IsGroup bytes store leaves at byte n → (p : LeafPtr) → 0 < length leaves → get_or (leaf_key bytes (finite.get store (get_or leaves 0 p))) at 0 ≡ byte → Grouped bytes store front leaves at byte n
+  grouped ready group p long e =
+    let (x, xs, some) = first_pair store leaves n (one n refl) long ready.there in
+    record { ready = ready; group = group; x = x; xs = xs; some = some }
     where
-      go : (ps : List LeafPtr) → length ps ≡ 0 → BuiltBelow bytes P front ps old old from from
-      go [] e = record { children = no_child; prefix = refl; slots = sym (append-nil from.children); radix = tt; rising = tt; count = refl; above = λ b h. tt; its = refl; leaves_are = refl; holds = tt; fresh = tt; distinct = tt }
-      go (p ∷ ps) e = absurd (omega arith)
+      one : (m : ℕ) → n ≡ m → 1 ≤ m
+      one zero z = absurd (group.ends p (omega arith) (ap (λ m. get_or (leaf_key bytes (finite.get store (get_or leaves m p))) at 0) z ∙ e))
+      one (suc m) z = omega arith
 
-module _ {K V : Type 0} (bytes : K → List ℕ) (store : finite.FinMap leaf_cmp (LeafNode K V)) (front : List ℕ) (leaves : List LeafPtr) (at byte n : ℕ) (ready : ReadyBelow bytes store front leaves at) (group : IsGroup bytes store leaves at byte n) where
+module _ {K V : Type 0} {bytes : K → List ℕ} {store : finite.FinMap leaf_cmp (LeafNode K V)} {front : List ℕ} {leaves : List LeafPtr} {at byte n : ℕ} (G : Grouped bytes store front leaves at byte n) where
   pairs_split : pairs_at store leaves ≡ pairs_at store (take n leaves) ++ pairs_at store (drop n leaves)
   pairs_split = ap (pairs_at store) (sym (take-append-drop n leaves)) ∙ pairs_at-append store (take n leaves) (drop n leaves)
 
   map_split : IsMap (of_key bytes) (pairs_at store (take n leaves) ++ pairs_at store (drop n leaves))
-  map_split = subst (IsMap (of_key bytes)) pairs_split ready.map
+  map_split = subst (IsMap (of_key bytes)) pairs_split G.ready.map
 
   ways_split : Each (λ x. GoesOn front (of_key bytes x)) (pairs_at store (take n leaves) ++ pairs_at store (drop n leaves))
-  ways_split = subst (Each (λ x. GoesOn front (of_key bytes x))) pairs_split ready.ways
+  ways_split = subst (Each (λ x. GoesOn front (of_key bytes x))) pairs_split G.ready.ways
 
   pub own_bytes : Each (λ x. byte_at (of_key bytes) (length front) x ≡ byte) (pairs_at store (take n leaves))
-  own_bytes = rw ready.depth_is (group_bytes bytes store at byte (take n leaves) group.same)
+  own_bytes = rw G.ready.depth_is (group_bytes bytes store at byte (take n leaves) G.group.same)
 
   pub group_ready : Ready bytes store (front ++ byte ∷ []) (take n leaves) (at + 1)
   group_ready = record
-    { there = All-take (λ p. IsSome (finite.get store p)) n leaves ready.there
+    { there = All-take (λ p. IsSome (finite.get store p)) n leaves G.ready.there
     ; map = IsMap-left (of_key bytes) (pairs_at store (take n leaves)) (pairs_at store (drop n leaves)) map_split
     ; ways = with_byte (of_key bytes) front byte (pairs_at store (take n leaves)) (Each-left (λ x. GoesOn front (of_key bytes x)) (pairs_at store (take n leaves)) (pairs_at store (drop n leaves)) ways_split) own_bytes
-    ; depth_is = simp length-append (let e = ready.depth_is in omega arith)
+    ; depth_is = simp length-append (let e = G.ready.depth_is in omega arith)
     }
 
   pub others_ready : ReadyBelow bytes store front (drop n leaves) at
   others_ready = record
-    { there = All-drop (λ p. IsSome (finite.get store p)) n leaves ready.there
-    ; longer = All-drop (λ p. at < length (leaf_key bytes (finite.get store p))) n leaves ready.longer
+    { there = All-drop (λ p. IsSome (finite.get store p)) n leaves G.ready.there
+    ; longer = All-drop (λ p. at < length (leaf_key bytes (finite.get store p))) n leaves G.ready.longer
     ; map = IsMap-right (of_key bytes) (pairs_at store (take n leaves)) (pairs_at store (drop n leaves)) map_split
     ; ways = Each-right (λ x. GoesOn front (of_key bytes x)) (pairs_at store (take n leaves)) (pairs_at store (drop n leaves)) ways_split
-    ; depth_is = ready.depth_is
+    ; depth_is = G.ready.depth_is
     }
 
-  -- where the group has a pair
-  pub others_above : (x : K × V) (xs : List (K × V)) → pairs_at store (take n leaves) ≡ x ∷ xs → Each (λ z. byte < byte_at (of_key bytes) (length front) z) (pairs_at store (drop n leaves))
-  others_above x xs some = go (pairs_at store (drop n leaves)) refl
+  pub others_above : Each (λ z. byte < byte_at (of_key bytes) (length front) z) (pairs_at store (drop n leaves))
+  others_above = go (pairs_at store (drop n leaves)) refl
     where
       next : (y : K × V) (ys : List (K × V)) → pairs_at store (drop n leaves) ≡ y ∷ ys → byte_at (of_key bytes) (length front) y ≢ byte
       next y ys e same =
-        let (q, rest, whole, key) = head_pair bytes store (drop n leaves) (All-drop (λ p. IsSome (finite.get store p)) n leaves ready.there) y ys e in
+        let (q, rest, whole, key) = head_pair bytes store (drop n leaves) (All-drop (λ p. IsSome (finite.get store p)) n leaves G.ready.there) y ys e in
         let (within, here) = drop_head leaves n q rest whole in
         let k : leaf_key bytes (finite.get store (get_or leaves n q)) ≡ bytes y.0 = ap (λ p. leaf_key bytes (finite.get store p)) here ∙ key in
-        group.ends q within (ap₂ (λ (l : List ℕ) (m : ℕ). get_or l m 0) k (sym ready.depth_is) ∙ same)
+        G.group.ends q within (ap₂ (λ (l : List ℕ) (m : ℕ). get_or l m 0) k (sym G.ready.depth_is) ∙ same)
 
       go : (ys : List (K × V)) → pairs_at store (drop n leaves) ≡ ys → Each (λ z. byte < byte_at (of_key bytes) (length front) z) ys
       go [] e = tt
       go (y ∷ ys) e =
         let sorted = sorted_at (of_key bytes) front (pairs_at store (take n leaves) ++ pairs_at store (drop n leaves)) map_split ways_split in
-        let own = rw some at own_bytes in
-        above_group (byte_at (of_key bytes) (length front)) byte x xs y ys (rw (some, e) at sorted) own.0 (next y ys e)
+        let own = rw G.some at own_bytes in
+        above_group (byte_at (of_key bytes) (length front)) byte G.x G.xs y ys (rw (G.some, e) at sorted) own.0 (next y ys e)
 
-  pub some_in_group : (p : LeafPtr) → 0 < length leaves → get_or (leaf_key bytes (finite.get store (get_or leaves 0 p))) at 0 ≡ byte → 1 ≤ n
-  some_in_group p some e = go n refl
-    where
-      go : (m : ℕ) → n ≡ m → 1 ≤ m
-      go zero z = absurd (group.ends p (omega arith) (ap (λ m. get_or (leaf_key bytes (finite.get store (get_or leaves m p))) at 0) z ∙ e))
-      go (suc m) z = omega arith
+  -- the group is one more than the others make
+  pub count_split : count_groups bytes store leaves at ≡ suc (count_groups bytes store (drop n leaves) at)
+  count_split = subst (λ m. count_groups bytes store leaves m ≡ suc (count_groups bytes store (drop n leaves) m)) G.ready.depth_is
+    (ap (λ l. length (groups (byte_at (of_key bytes) (length front)) l)) pairs_split ∙ count_more (byte_at (of_key bytes) (length front)) byte G.x G.xs (pairs_at store (take n leaves)) (pairs_at store (drop n leaves)) G.some own_bytes others_above)
 
-  pub group_pairs : 1 ≤ n → 0 < length leaves → (x : K × V) × (xs : List (K × V)) × (pairs_at store (take n leaves) ≡ x ∷ xs)
-  group_pairs one some = first_pair store leaves n one some ready.there
-
-  module _ (x : K × V) (xs : List (K × V)) (some : pairs_at store (take n leaves) ≡ x ∷ xs) (from : Inner) (below : AreBelow bytes store leaves at from) where
+  module _ (from : Inner) (below : AreBelow bytes store leaves at from) where
     -- the node's bytes are below the group's
     pub low : Each (λ c. c.0 < byte) from.children
     low = Each-weaker (λ c. Each (λ z. c.0 < byte_at (of_key bytes) at z) (pairs_at store leaves)) (λ c. c.0 < byte) (λ c h. first c (subst (Each (λ z. c.0 < byte_at (of_key bytes) at z)) pairs_split h)) from.children below
       where
         first : (c : ℕ × OpaqueNodePtr) → Each (λ z. c.0 < byte_at (of_key bytes) at z) (pairs_at store (take n leaves) ++ pairs_at store (drop n leaves)) → c.0 < byte
         first c h =
-          let g : c.0 < byte_at (of_key bytes) at x = (rw some at h).0 in
-          let e : byte_at (of_key bytes) (length front) x ≡ byte = (rw some at own_bytes).0 in
-          let f : byte_at (of_key bytes) at x ≡ byte = ap (λ m. byte_at (of_key bytes) m x) (sym ready.depth_is) ∙ e in
+          let g : c.0 < byte_at (of_key bytes) at G.x = (rw G.some at h).0 in
+          let e : byte_at (of_key bytes) (length front) G.x ≡ byte = (rw G.some at own_bytes).0 in
+          let f : byte_at (of_key bytes) at G.x ≡ byte = ap (λ m. byte_at (of_key bytes) m G.x) (sym G.ready.depth_is) ∙ e in
           omega arith
 
     -- with the group's child they are below those of the others
@@ -215,7 +192,54 @@ module _ {K V : Type 0} (bytes : K → List ℕ) (store : finite.FinMap leaf_cmp
       (Each-append (λ c. Each (λ z. c.0 < byte_at (of_key bytes) at z) (pairs_at store (drop n leaves))) from.children ((byte, name) ∷ [])
         (Each-weaker (λ c. Each (λ z. c.0 < byte_at (of_key bytes) at z) (pairs_at store leaves)) (λ c. Each (λ z. c.0 < byte_at (of_key bytes) at z) (pairs_at store (drop n leaves)))
           (λ c h. Each-right (λ z. c.0 < byte_at (of_key bytes) at z) (pairs_at store (take n leaves)) (pairs_at store (drop n leaves)) (subst (Each (λ z. c.0 < byte_at (of_key bytes) at z)) pairs_split h)) from.children below)
-        (subst (λ m. Each (λ z. byte < byte_at (of_key bytes) m z) (pairs_at store (drop n leaves))) ready.depth_is (others_above x xs some), tt))
+        (subst (λ m. Each (λ z. byte < byte_at (of_key bytes) m z) (pairs_at store (drop n leaves))) G.ready.depth_is others_above, tt))
 
     pub length-drafted : (name : OpaqueNodePtr) → length (put_child from.children byte name) ≡ length from.children + 1
     length-drafted name = ap length (put_last from.children byte name low) ∙ length-append from.children ((byte, name) ∷ [])
+
+-- the tree of the first group, then those of the others
+module _ {K V : Type 0} {bytes : K → List ℕ} (P : ℕ) (old mid new : Nodes K V) {front : List ℕ} {leaves : List LeafPtr} {at b n : ℕ} (G : Grouped bytes old.leaves front leaves at b n) (name : OpaqueNodePtr) (from draft to : Inner) where
+  pub compose :
+    mid.leaves ≡ old.leaves → KeepsNodes old mid → KeepsNodes mid new → AreBelow bytes old.leaves leaves at from → draft ≡ with_child b name from →
+    Built bytes P (front ++ b ∷ []) (take n leaves) old mid name → BuiltBelow bytes P front (drop n leaves) mid new draft to → BuiltBelow bytes P front leaves old new from to
+  compose same kept kept' below drafted t cs =
+    let group = take n leaves in
+    let others = drop n leaves in
+    let own = own_bytes G in
+    let above = others_above G in
+    let split : pairs_at old.leaves leaves ≡ pairs_at old.leaves group ++ pairs_at old.leaves others = pairs_split G in
+    let others_same : pairs_at mid.leaves others ≡ pairs_at old.leaves others = ap (λ m. pairs_at m others) same in
+    let slots : to.children ≡ from.children ++ (b, name) ∷ slots_of cs.children = cs.slots ∙ ap (λ d. d.children ++ slots_of cs.children) drafted ∙ ap (λ l. l ++ slots_of cs.children) (put_last from.children b name (low G from below)) ∙ append_assoc from.children ((b, name) ∷ []) (slots_of cs.children) in
+    record
+      { children = child b t.tree cs.children
+      ; prefix = cs.prefix ∙ ap (λ d. d.prefix) drafted
+      ; slots = slots ∙ ap (λ m. from.children ++ (b, m) ∷ slots_of cs.children) (sym t.named)
+      ; radix = (t.radix, cs.radix)
+      ; rising = (cs.above b (rw others_same above), cs.rising)
+      ; count = ap suc (cs.count ∙ ap (λ l. length (groups (byte_at (of_key bytes) (length front)) l)) others_same) ∙ sym (count_more (byte_at (of_key bytes) (length front)) b G.x G.xs (pairs_at old.leaves group) (pairs_at old.leaves others) G.some own above) ∙ ap (λ l. length (groups (byte_at (of_key bytes) (length front)) l)) (sym split)
+      ; above = λ c h. let k = rw split at h in let g = Each-left (λ z. c < byte_at (of_key bytes) (length front) z) (pairs_at old.leaves group) (pairs_at old.leaves others) k in
+          let first : c < byte_at (of_key bytes) (length front) G.x = (rw G.some at g).0 in
+          let mine : byte_at (of_key bytes) (length front) G.x ≡ b = (rw G.some at own).0 in
+          (omega arith, cs.above c (rw others_same (Each-right (λ z. c < byte_at (of_key bytes) (length front) z) (pairs_at old.leaves group) (pairs_at old.leaves others) k)))
+      ; its = ap₂ (λ (p q : List (K × V)). p ++ q) t.its (cs.its ∙ others_same) ∙ sym split
+      ; leaves_are = ap₂ (λ (p q : List OpaqueNodePtr). p ++ q) t.leaves_are cs.leaves_are ∙ sym (map-append leaf_name group others) ∙ ap (map leaf_name) (take-append-drop n leaves)
+      ; holds = (holds_kept (node_at mid) (node_at new) (node_kept mid new kept') t.tree t.holds, cs.holds)
+      ; fresh = Each-append (λ n. held old n ≡ None) (inner_names t.tree) (inner_names_below cs.children) t.fresh (Each-weaker (λ n. held mid n ≡ None) (λ n. held old n ≡ None) (was_free old mid kept) (inner_names_below cs.children) cs.fresh)
+      ; added = λ n used. from_rest n (cs.added n used)
+      ; distinct = distinct-append (inner_names t.tree) (inner_names_below cs.children) t.distinct cs.distinct
+          (Each-weaker (λ n. held mid n ≢ None) (λ n. Each (λ k. n ≢ k) (inner_names_below cs.children)) (λ n used. Each-weaker (λ k. held mid k ≡ None) (λ k. n ≢ k) (λ k free e. used (ap (held mid) e ∙ free)) (inner_names_below cs.children) cs.fresh) (inner_names t.tree) (inner_used (node_at mid) (λ n. held mid n ≢ None) (node_used mid) t.tree t.holds))
+      }
+    where
+      from_group : (n : OpaqueNodePtr) → IsUsed old n ⊎ IsIn n (inner_names t.tree) → IsUsed old n ⊎ IsIn n (inner_names t.tree ++ inner_names_below cs.children)
+      from_group n (inl used) = inl used
+      from_group n (inr h) = inr (in_left n (inner_names t.tree) (inner_names_below cs.children) h)
+
+      from_rest : (n : OpaqueNodePtr) → IsUsed mid n ⊎ IsIn n (inner_names_below cs.children) → IsUsed old n ⊎ IsIn n (inner_names t.tree ++ inner_names_below cs.children)
+      from_rest n (inl used) = from_group n (t.added n used)
+      from_rest n (inr h) = inr (in_right n (inner_names t.tree) (inner_names_below cs.children) h)
+
+-- no leaves make no children
+module _ {K V : Type 0} (bytes : K → List ℕ) (P : ℕ) (old : Nodes K V) (front : List ℕ) (from : Inner) where
+  pub empty_below : (leaves : List LeafPtr) → length leaves ≡ 0 → BuiltBelow bytes P front leaves old old from from
+  empty_below [] e = record { children = no_child; prefix = refl; slots = sym (append-nil from.children); radix = tt; rising = tt; count = refl; above = λ b h. tt; its = refl; leaves_are = refl; holds = tt; fresh = tt; added = λ n used. inl used; distinct = tt }
+  empty_below (p ∷ ps) e = absurd (omega arith)

@@ -1,10 +1,11 @@
 -- what a store that keeps its nodes keeps of a layout
-use Rattle.std.proofs.Common.{◌≡◌, ◌≢◌, ℕ, List, [], ◌∷◌, ◌++◌, refl, ap, sym, ◌∙◌, Option, Some, None}
+use Rattle.std.proofs.Common.{◌≡◌, ◌≢◌, ℕ, List, [], ◌∷◌, ◌++◌, refl, ap, ap₂, sym, ◌∙◌, Bool, true, false, cond, eqb, eqb-true, ◌⊎◌, inl, inr, Option, Some, None}
+use Rattle.std.proofs.lemmas.Bool.{eqb-false}
 use Rattle.std.specs.Option.{option_map}
 use Rattle.std.specs.List.{AllByRecursion as Each}
 use Rattle.std.specs.FinMap as finite
 use Rattle.art_nodes.specs.Inner.{Inner}
-use Rattle.art_nodes.specs.Nodes.{Nodes}
+use Rattle.art_nodes.specs.Nodes.{Nodes, kind_index}
 use Rattle.art_nodes.specs.declared.node.NodeType.{NodeType}
 use Rattle.art_nodes.specs.declared.node.NodeType.TheVariants.{Node4, Node16, Node48, Node256, Leaf}
 use Rattle.art_nodes.specs.declared.node.LeafNode.{LeafNode}
@@ -12,6 +13,7 @@ use Rattle.art_nodes.specs.declared.node.OpaqueNodePtr.{OpaqueNodePtr}
 use Rattle.art_model.specs.Trees.{Tree, leaf, inner, Children, child, no_child, Header}
 use Rattle.art_model.specs.Layouts.{Node, leaf_node, inner_node, slots_of, Holds, HoldsBelow}
 use Rattle.art_model.specs.Stores.{node_at, node_in, inner_at, header_at, pair_of, Held, held_leaf, held_inner, held, held_in, IsUsed}
+use Rattle.art_model.specs.Footprints.{IsIn}
 use Rattle.art_model.proofs.Lists.{Each-append}
 use Rattle.art_oracle.specs.Build.{inner_names, inner_names_below}
 use Rattle.art_oracle.specs.Built.{KeepsNodes}
@@ -54,6 +56,40 @@ module _ {K V : Type 0} where
       go : (o : Option (Held K V)) → held old name ≡ o → held old name ≡ None
       go None e = e
       go (Some x) e = let k = kept name (λ none. absurd cc) in absurd cc
+
+-- a name in one of two lists
+module _ {X : Type 0} where
+  pub in_left : (x : X) (xs ys : List X) → IsIn x xs → IsIn x (xs ++ ys)
+  in_left x [] ys h = absurd h
+  in_left x (z ∷ zs) ys (inl e) = inl e
+  in_left x (z ∷ zs) ys (inr h) = inr (in_left x zs ys h)
+
+  pub in_right : (x : X) (xs ys : List X) → IsIn x ys → IsIn x (xs ++ ys)
+  in_right x [] ys h = h
+  in_right x (z ∷ zs) ys h = inr (in_right x zs ys h)
+
+-- names are the same or differ
+kind_back : ℕ → NodeType
+kind_back n = cond (eqb n 0) Node4 (cond (eqb n 1) Node16 (cond (eqb n 2) Node48 (cond (eqb n 3) Node256 Leaf)))
+
+module _ where
+  kind_back-index : (k : NodeType) → kind_back (kind_index k) ≡ k
+  unfolding kind_back
+  kind_back-index Node4 = refl
+  kind_back-index Node16 = refl
+  kind_back-index Node48 = refl
+  kind_back-index Node256 = refl
+  kind_back-index Leaf = refl
+
+pub name_cases : (m n : OpaqueNodePtr) → (m ≡ n) ⊎ (m ≢ n)
+name_cases m n = go (eqb (kind_index m.kind) (kind_index n.kind)) (eqb m.slot n.slot) refl refl
+  where
+    go : (k s : Bool) → eqb (kind_index m.kind) (kind_index n.kind) ≡ k → eqb m.slot n.slot ≡ s → (m ≡ n) ⊎ (m ≢ n)
+    go true true e f =
+      let kinds : m.kind ≡ n.kind = sym (kind_back-index m.kind) ∙ ap kind_back (eqb-true (kind_index m.kind) (kind_index n.kind) e) ∙ kind_back-index n.kind in
+      inl (ap₂ (λ (k : NodeType) (s : ℕ). let p : OpaqueNodePtr = record { kind = k; slot = s } in p) kinds (eqb-true m.slot n.slot f))
+    go false s e f = inr (λ same. absurd (eqb-false (kind_index m.kind) (kind_index n.kind) e (ap (λ p. kind_index p.kind) same)))
+    go true false e f = inr (λ same. absurd (eqb-false m.slot n.slot f (ap (λ p. p.slot) same)))
 
 module _ {N A : Type 0} (at to : N → Option (Node N A)) (kept : (n : N) (x : Node N A) → at n ≡ Some x → to n ≡ Some x) where
   mutual

@@ -23,6 +23,7 @@ use Rattle.art_model.specs.Trees.{Tree, leaf, inner, Children, child, no_child, 
 use Rattle.art_model.specs.Radix.{pairs_of, pairs_below, AreRadix, bytes_of}
 use Rattle.art_model.specs.Layouts.{Node, leaf_node, inner_node, slots_of}
 use Rattle.art_model.specs.Stores.{node_at, node_in, inner_at, header_at, pair_of, Held, held, held_in, held_inner, IsUsed}
+use Rattle.art_model.specs.Footprints.{IsIn}
 use Rattle.art_model.proofs.Lists.{Each-weaker, after_front}
 use Rattle.art_model.proofs.Keys.{precedes_rest, precedes_apart, before_apart, cmp-append}
 use Rattle.art_model.proofs.Rebuild.{radix_way, byte_after}
@@ -30,7 +31,7 @@ use Rattle.art_model.proofs.Build.{go_on, at_byte}
 use Rattle.art_model.proofs.Views.{node_in_inner}
 use Rattle.art_oracle.specs.Build.{pairs_at, leaf_pair, leaf_key, inner_names, inner_names_below, Ready, ReadyBelow, Built, BuiltBelow, GoesOn, started, last_from, Starts, count_groups}
 use Rattle.art_oracle.specs.Built.{KeepsNodes}
-use Rattle.art_oracle.proofs.Kept.{node_kept, node_used, was_free, holds_kept_below, inner_used_below}
+use Rattle.art_oracle.proofs.Kept.{name_cases, node_kept, node_used, was_free, holds_kept_below, inner_used_below}
 use Rattle.art_oracle.proofs.SharedParts.{common_between, common_fits, parts, Parts}
 
 before-append : (p a b : List ℕ) → is_before (p ++ a) (p ++ b) ≡ is_before a b
@@ -193,6 +194,7 @@ module _ {K V : Type 0} (bytes : K → List ℕ) (P : ℕ) where
           ; leaves_are = refl
           ; holds = ap (option_map (λ (m : LeafNode K V). let n : Node OpaqueNodePtr (K × V) = leaf_node (pair_of m) in n)) i
           ; fresh = tt
+          ; added = λ n used. inl used
           ; distinct = tt
           }
 
@@ -214,8 +216,17 @@ module _ {K V : Type 0} (bytes : K → List ℕ) (P : ℕ) where
       ; leaves_are = below.leaves_are
       ; holds = (there ∙ ap₂ (λ h (l : List (ℕ × OpaqueNodePtr)). Some (inner_node h l)) header below.slots, holds_kept_below (node_at mid) (node_at new) (node_kept mid new mid_new) cs below.holds)
       ; fresh = (was_free old mid kept (inner_name p) (placed_free mid p inner_kind free), below.fresh)
+      ; added = λ n used. from_mid n used (name_cases n (inner_name p))
       ; distinct = (Each-weaker (λ m. IsUsed mid m) (λ m. inner_name p ≢ m) (λ m used e. used (ap (held mid) (sym e) ∙ placed_free mid p inner_kind free)) (inner_names_below cs) (inner_used_below (node_at mid) (IsUsed mid) (node_used mid) cs below.holds), below.distinct)
       }
+    where
+      from_below : (n : OpaqueNodePtr) → IsUsed old n ⊎ IsIn n (inner_names_below below.children) → IsUsed old n ⊎ IsIn n (inner_name p ∷ inner_names_below below.children)
+      from_below n (inl used) = inl used
+      from_below n (inr h) = inr (inr h)
+
+      from_mid : (n : OpaqueNodePtr) → IsUsed new n → (n ≡ inner_name p) ⊎ (n ≢ inner_name p) → IsUsed old n ⊎ IsIn n (inner_name p ∷ inner_names_below below.children)
+      from_mid n used (inl e) = inr (inl (sym e))
+      from_mid n used (inr e) = from_below n (below.added n (λ none. used (placed_others mid new p to same placed free n.kind n.slot e ∙ none)))
 
 -- a prefix by its length and its first bytes
 header_started : (P len : ℕ) (rf : List ℕ) → len ≤ length rf → record { prefix = record { len = len; stored = take (min len P) rf }; children = [] } ≡ started P (take len rf)

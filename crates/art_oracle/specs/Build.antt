@@ -1,5 +1,5 @@
 -- What the building of a tree asks of a store and leaves in it.
-use Rattle.std.specs.Prelude.{◌≡◌, ◌≢◌, ℕ, ◌+◌, ◌<◌, ◌≤◌, List, [], ◌∷◌, ◌++◌, length, take, drop, get_or, Option, Some, None, IsSome, map}
+use Rattle.std.specs.Prelude.{◌≡◌, ◌≢◌, ℕ, ◌+◌, ◌<◌, ◌≤◌, List, [], ◌∷◌, ◌++◌, length, take, drop, get_or, Option, Some, None, IsSome, map, ◌⊎◌}
 use Rattle.std.specs.Option.{option_map}
 use Rattle.std.specs.List.{AllByRecursion as Each, All}
 use Rattle.std.specs.FinMap as finite
@@ -14,7 +14,8 @@ use Rattle.art_model.specs.Pairs.{IsMap, of_key}
 use Rattle.art_model.specs.Trees.{Tree, leaf, inner, Children, child, no_child, byte_at, groups}
 use Rattle.art_model.specs.Radix.{pairs_of, pairs_below, IsRadix, AreRadix, IsRising, bytes_of}
 use Rattle.art_model.specs.Layouts.{name_of, slots_of, leaf_names, leaf_names_below, Holds, HoldsBelow, AreDistinct, AreLinked, first_or, last_or}
-use Rattle.art_model.specs.Stores.{node_at, links_at, held, pair_of}
+use Rattle.art_model.specs.Stores.{node_at, links_at, held, IsUsed, pair_of}
+use Rattle.art_model.specs.Footprints.{IsIn}
 
 -- a node with no child, and what of its prefix is stored
 abbrev pub started : ℕ → List ℕ → Inner
@@ -106,6 +107,7 @@ module _ {K V : Type 0} where
         pub leaves_are : leaf_names tree ≡ map leaf_name leaves
         pub holds : Holds (node_at new) tree
         pub fresh : Each (λ n. held old n ≡ None) (inner_names tree)
+        pub added : (n : OpaqueNodePtr) → IsUsed new n → IsUsed old n ⊎ IsIn n (inner_names tree)
         pub distinct : AreDistinct (inner_names tree)
 
       -- the trees of the groups of the leaves, which came to a node's children
@@ -121,4 +123,5 @@ module _ {K V : Type 0} where
         pub leaves_are : leaf_names_below children ≡ map leaf_name leaves
         pub holds : HoldsBelow (node_at new) children
         pub fresh : Each (λ n. held old n ≡ None) (inner_names_below children)
+        pub added : (n : OpaqueNodePtr) → IsUsed new n → IsUsed old n ⊎ IsIn n (inner_names_below children)
         pub distinct : AreDistinct (inner_names_below children)

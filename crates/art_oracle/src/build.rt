@@ -137,3 +137,57 @@ fn start_node<K: AsBytes + Drop, V: Drop, const P: usize>(
     let kind = kind_for(group_count(store, leaves, at));
     (at, from_header(kind, Header::new(first, len)))
 }
+
+/// Builds the tree of sorted leaves, whose keys begin with the same bytes up to a depth, from that depth on.
+#[cycle(nodes)]
+fn build_node<K: AsBytes + Drop, V: Drop, const P: usize>(
+    store: &mut NodeStore<K, V, P>,
+    leaves: &[LeafPtr],
+    depth: usize,
+) -> OpaqueNodePtr
+    requires some { 1 ≤ length leaves.now }
+    requires ready { (way : List ℕ) × Ready K.bytes store.old.leaves way leaves.now depth }
+    requires room { length leaves.now ≤ store.old.room + 1 }
+    ensures built { (way : List ℕ) → Ready K.bytes store.old.leaves way leaves.now depth → Built K.bytes P way leaves.now store.old store.new result }
+    ensures leaves { store.new.leaves ≡ store.old.leaves }
+    ensures kept { KeepsNodes store.old store.new }
+    ensures room { store.old.room + 1 ≤ store.new.room + length leaves.now }
+{
+    if leaves.len() == 1 {
+        return leaves[0].to_opaque();
+    }
+    let (at, mut node) = start_node(store, leaves, depth);
+    build_below(store, leaves, at, &mut node);
+    match store.place_inner(node) {
+        Ok(name) => name.to_opaque(),
+        Err(_) => unreachable!(),
+    }
+}
+
+/// Builds the children of a node from sorted leaves, whose keys have the same bytes up to a depth and a byte there.
+#[cycle(nodes)]
+fn build_below<K: AsBytes + Drop, V: Drop, const P: usize>(
+    store: &mut NodeStore<K, V, P>,
+    leaves: &[LeafPtr],
+    at: usize,
+    node: &mut AnyInner<P>,
+)
+    requires ready { (front : List ℕ) × ReadyBelow K.bytes store.old.leaves front leaves.now at }
+    requires below { AreBelow K.bytes store.old.leaves leaves.now at (any_view node.old) }
+    requires place { length (any_view node.old).children + count_groups K.bytes store.old.leaves leaves.now at ≤ kind_capacity (any_kind node.old) }
+    requires room { length leaves.now ≤ store.old.room + 1 }
+    ensures built { (front : List ℕ) → ReadyBelow K.bytes store.old.leaves front leaves.now at → BuiltBelow K.bytes P front leaves.now store.old store.new (any_view node.old) (any_view node.new) }
+    ensures kind { any_kind node.new ≡ any_kind node.old }
+    ensures leaves { store.new.leaves ≡ store.old.leaves }
+    ensures kept { KeepsNodes store.old store.new }
+    ensures room { store.old.room + length (any_view node.new).children ≤ store.new.room + length leaves.now + length (any_view node.old).children }
+{
+    if leaves.is_empty() {
+        return;
+    }
+    let byte = byte_of(store, leaves[0], at);
+    let (group, others) = leaves.split_at(group_end(store, leaves, at, byte));
+    let child = build_node(store, group, at + 1);
+    node.write_child(byte, child);
+    build_below(store, others, at, node);
+}
