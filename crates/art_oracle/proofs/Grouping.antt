@@ -169,6 +169,13 @@ module _ {K V : Type 0} {bytes : K → List ℕ} {store : finite.FinMap leaf_cmp
         let own = rw G.some at own_bytes in
         above_group (byte_at (of_key bytes) (length front)) byte G.x G.xs y ys (rw (G.some, e) at sorted) own.0 (next y ys e)
 
+  pub one_in_group : 1 ≤ n
+  one_in_group = go n refl
+    where
+      go : (m : ℕ) → n ≡ m → 1 ≤ m
+      go zero z = let e : [] ≡ G.x ∷ G.xs = ap (λ k. pairs_at store (take k leaves)) (sym z) ∙ G.some in absurd cc
+      go (suc m) z = omega arith
+
   -- the group is one more than the others make
   pub count_split : count_groups bytes store leaves at ≡ suc (count_groups bytes store (drop n leaves) at)
   count_split = subst (λ m. count_groups bytes store leaves m ≡ suc (count_groups bytes store (drop n leaves) m)) G.ready.depth_is

@@ -134,7 +134,7 @@ module _ {K V : Type 0} (bytes : K → List ℕ) (store : finite.FinMap leaf_cmp
     All-cons (λ p. length front < length (leaf_key bytes (finite.get store p))) q qs (omega (arith, simp length-append at l)) (leaves_go_on front qs (All-tail There q qs h) e'.1)
 
 -- the inner node that is placed
-kind_not_leaf : (n : ℕ) → kind_of n ≢ Leaf
+pub kind_not_leaf : (n : ℕ) → kind_of n ≢ Leaf
 kind_not_leaf n = go (leb n 4) (leb n 16) (leb n 48)
   where
     go : (a b c : Bool) → cond a Node4 (cond b Node16 (cond c Node48 Node256)) ≢ Leaf

@@ -1,5 +1,5 @@
 //! The radix tree of a map, built in a store at one go.
-ghost use Rattle.std.specs.Prelude.{◌≡◌, ◌≢◌, ℕ, ◌+◌, ◌*◌, ◌<◌, ◌≤◌, List, [], length, get_or, IsSome};
+ghost use Rattle.std.specs.Prelude.{◌≡◌, ◌≢◌, ℕ, ◌+◌, ◌*◌, ◌^◌, ◌<◌, ◌≤◌, List, [], length, get_or, IsSome};
 ghost use Rattle.std.specs.FinMap as map;
 ghost use Rattle.std.specs.Vec.{vec_capacity};
 ghost use Rattle.art_nodes.specs.Kinds.{any_kind, any_view, kind_capacity};
@@ -50,7 +50,8 @@ fn byte_of<K: AsBytes + Drop, V: Drop, const P: usize>(
 ) -> u8
     requires there { IsSome (map.get store.now.leaves leaf) }
     requires longer { at < length (leaf_key K.bytes (map.get store.now.leaves leaf)) }
-    ensures { result ≡ get_or (leaf_key K.bytes (map.get store.now.leaves leaf)) at 0 }
+    ensures byte { result ≡ get_or (leaf_key K.bytes (map.get store.now.leaves leaf)) at 0 }
+    ensures next { at + 1 < 2 ^ 64 }
 {
     key_of(store, leaf)[at]
 }
