@@ -1,5 +1,5 @@
 -- The one theorem that each operation uses: a subtree is replaced, and the root is canonical for the changed pairs.
-use Rattle.std.proofs.Common.{◌≡◌, ◌≢◌, ℕ, List, [], ◌∷◌, ◌++◌, refl, ap, sym, ◌∙◌, subst, Option, Some, None}
+use Rattle.std.proofs.Common.{◌≡◌, ℕ, List, [], refl, ap, sym, ◌∙◌, subst, Option, None}
 use Rattle.art_model.specs.Trees.{Tree}
 use Rattle.art_model.specs.Radix.{pairs_of, IsRadix}
 use Rattle.art_model.specs.Keys.{IsFront}
@@ -8,7 +8,8 @@ use Rattle.art_model.specs.Paths.{Frame, plug, IsPath}
 use Rattle.art_model.specs.Layouts.{Node, name_of, names_of, leaf_names, Holds, AreDistinct, Links, AreLinked}
 use Rattle.art_model.proofs.Canonical.{Layout}
 use Rattle.art_model.proofs.Paths.{put_at, overwrite_at, remove_at}
-use Rattle.art_model.proofs.Splice.{splice_any, ParentHas, IsParent, IsIn, OldOrFree}
+use Rattle.art_model.proofs.Splice.{splice_any, ParentHas, IsParent, OldOrFree}
+use Rattle.art_model.specs.Footprints.{IsIn}
 
 module _ {N A : Type 0} (bytes : A → List ℕ) (P : ℕ) (at to : N → Option (Node N A)) (links chain : N → Option (Links N)) (root : N) (pairs : List A) (l : Layout bytes P at links root pairs) where
   -- the subtree `t` at a path became `u`, and the store knows it
@@ -25,8 +26,8 @@ module _ {N A : Type 0} (bytes : A → List ℕ) (P : ℕ) (at to : N → Option
 
   changed : (fs : List (Frame N A)) (way : List ℕ) (t u : Tree N A) (F : List A → List A) → Replaced fs way t u → IsRadix bytes P [] (plug fs u) → pairs_of (plug fs u) ≡ F (pairs_of (plug fs t)) → Layout bytes P to chain (name_of (plug fs u)) (F pairs)
   changed fs way t u F r radix its =
-    let (holds, distinct) = splice_any at to fs t u (subst (Holds at) (sym r.whole) l.holds) (subst (λ z. AreDistinct (names_of z)) (sym r.whole) l.distinct) r.parent r.holds r.distinct r.old_or_free r.outside in
-    record { tree = plug fs u; root_is = refl; radix = radix; pairs_are = its ∙ ap (λ z. F (pairs_of z)) r.whole ∙ ap F l.pairs_are; holds = holds; distinct = distinct; linked = r.linked }
+      let (holds, distinct) = splice_any at to fs t u (subst (Holds at) (sym r.whole) l.holds) (subst (λ z. AreDistinct (names_of z)) (sym r.whole) l.distinct) r.parent r.holds r.distinct r.old_or_free r.outside in
+      record { tree = plug fs u; root_is = refl; radix = radix; pairs_are = its ∙ ap (λ z. F (pairs_of z)) r.whole ∙ ap F l.pairs_are; holds = holds; distinct = distinct; linked = r.linked }
 
   pub changed_by_put : (fs : List (Frame N A)) (way : List ℕ) (t u : Tree N A) (new : A) → IsFront way (bytes new) → pairs_of u ≡ put bytes new (pairs_of t) → Replaced fs way t u → Layout bytes P to chain (name_of (plug fs u)) (put bytes new pairs)
   changed_by_put fs way t u new k e r = let (radix, its) = put_at bytes P fs way r.path t u r.radix new k e in changed fs way t u (put bytes new) r radix its
