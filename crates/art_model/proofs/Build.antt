@@ -97,31 +97,31 @@ module _ {A : Type 0} (bytes : A → List ℕ) where
       let p : c ≡ b = sym (at_byte front x c r e) ∙ g.0 in
       ((r, e ∙ ap (λ z. front ++ z ∷ r) p ∙ sym (append_assoc front (b ∷ []) r)), with_byte front b xs f.1 g.1)
 
-  -- all keys begin with the way and the shared part
-  with_part : (way : List ℕ) (s : List ℕ) (xs : List A) → Each (λ x. IsFront way (bytes x)) xs → Each (λ x. IsFront s (drop (length way) (bytes x))) xs → Each (λ x. IsFront (way ++ s) (bytes x)) xs
-  with_part way s [] h g = tt
-  with_part way s (x ∷ xs) h g =
+  -- all keys begin with the place and the shared part
+  with_part : (place : List ℕ) (s : List ℕ) (xs : List A) → Each (λ x. IsFront place (bytes x)) xs → Each (λ x. IsFront s (drop (length place) (bytes x))) xs → Each (λ x. IsFront (place ++ s) (bytes x)) xs
+  with_part place s [] h g = tt
+  with_part place s (x ∷ xs) h g =
       let (r, e) = h.0 in
       let (q, f) = g.0 in
-      ((q, e ∙ ap (λ z. way ++ z) (sym (after_front way (bytes x) r e) ∙ f) ∙ sym (append_assoc way s q)), with_part way s xs h.1 g.1)
+      ((q, e ∙ ap (λ z. place ++ z) (sym (after_front place (bytes x) r e) ∙ f) ∙ sym (append_assoc place s q)), with_part place s xs h.1 g.1)
 
   groups_long : (byte : A → ℕ) (gs : List (ℕ × List A)) → AreGroups byte gs → length gs ≤ length (joined gs)
   groups_long byte [] h = omega arith
   groups_long byte ((b, g) ∷ others) h = let more = groups_long byte others h.2 in rw length-append (omega arith)
 
   -- the shared part is the longest: two or more groups
-  two_groups : (way : List ℕ) (x : A) (xs : List A) (gs : List (ℕ × List A)) → let front = way ++ shared_part bytes (length way) (x ∷ xs) in
+  two_groups : (place : List ℕ) (x : A) (xs : List A) (gs : List (ℕ × List A)) → let front = place ++ shared_part bytes (length place) (x ∷ xs) in
       joined gs ≡ x ∷ xs → AreGroups (byte_at bytes (length front)) gs → Each (GoesOn front) (x ∷ xs) → 2 ≤ length gs
-  two_groups way x xs [] e are on = absurd cc
-  two_groups way x xs ((b, g) ∷ []) e are on =
-      let part = shared_part bytes (length way) (x ∷ xs) in
-      let front = way ++ part in
+  two_groups place x xs [] e are on = absurd cc
+  two_groups place x xs ((b, g) ∷ []) e are on =
+      let part = shared_part bytes (length place) (x ∷ xs) in
+      let front = place ++ part in
       let whole : g ≡ x ∷ xs = sym (append-nil g) ∙ e in
       let one : Each (λ z. byte_at bytes (length front) z ≡ b) (x ∷ xs) = subst (λ l. Each (λ z. byte_at bytes (length front) z ≡ b) l) whole are.1 in
-      let longer : Each (λ z. IsFront (way ++ (part ++ b ∷ [])) (bytes z)) (x ∷ xs) = subst (λ f. Each (λ z. IsFront f (bytes z)) (x ∷ xs)) (append_assoc way part (b ∷ [])) (with_byte front b (x ∷ xs) on one) in
-      let p = ap length (shared_part-front bytes way (part ++ b ∷ []) x xs longer) in
+      let longer : Each (λ z. IsFront (place ++ (part ++ b ∷ [])) (bytes z)) (x ∷ xs) = subst (λ f. Each (λ z. IsFront f (bytes z)) (x ∷ xs)) (append_assoc place part (b ∷ [])) (with_byte front b (x ∷ xs) on one) in
+      let p = ap length (shared_part-front bytes place (part ++ b ∷ []) x xs longer) in
       absurd (omega (arith, simp length-append at p))
-  two_groups way x xs ((b, g) ∷ (c, k) ∷ gs) e are on = omega arith
+  two_groups place x xs ((b, g) ∷ (c, k) ∷ gs) e are on = omega arith
 
   length-bytes_in : (gs : List (ℕ × List A)) → length (bytes_in gs) ≡ length gs
   length-bytes_in [] = refl
@@ -133,10 +133,10 @@ module _ {A : Type 0} (bytes : A → List ℕ) (P : ℕ) where
       node_of bytes f P d xs ≡ Some (inner tt (header_of P (shared_part bytes d xs) n) cs)
   node_is f d e n xs cs depth made count = rw (← depth, made, count) refl
 
-  -- a list of pairs and a way have a radix tree, and grouping gives it
+  -- pairs whose keys begin with a place have a radix tree there, and grouping gives it
   abbrev Builds : ℕ → Type 0
-  Builds turns = (way : List ℕ) (xs : List A) → IsMap bytes xs → Each (λ x. IsFront way (bytes x)) xs → 1 ≤ length xs → length xs ≤ turns →
-      (t : Tree (Unit {0}) A) × (tree_within bytes turns P (length way) xs ≡ Some t) × IsRadix bytes P way t × (pairs_of t ≡ xs)
+  Builds turns = (place : List ℕ) (xs : List A) → IsMap bytes xs → Each (λ x. IsFront place (bytes x)) xs → 1 ≤ length xs → length xs ≤ turns →
+      (t : Tree (Unit {0}) A) × (tree_within bytes turns P (length place) xs ≡ Some t) × IsRadix bytes P place t × (pairs_of t ≡ xs)
 
   build_below : (turns : ℕ) → Builds turns → (front : List ℕ) (gs : List (ℕ × List A)) → AreGroups (byte_at bytes (length front)) gs → Each (GoesOn bytes front) (joined gs) → IsMap bytes (joined gs) → length (joined gs) + 1 ≤ turns + length gs →
       (cs : Children (Unit {0}) A) × (children_of (tree_within bytes turns P (length front + 1)) gs ≡ cs) × AreRadix bytes P front cs × (bytes_of cs ≡ bytes_in gs) × (pairs_below cs ≡ joined gs)
@@ -151,22 +151,22 @@ module _ {A : Type 0} (bytes : A → List ℕ) (P : ℕ) where
       (child b t cs, rw (is', made) refl, (radix, below), ap (λ l. b ∷ l) heads, rw (its, pairs) refl)
 
   pub build : (turns : ℕ) → Builds turns
-  build zero way xs sorted ways some enough = absurd (omega arith)
-  build (suc turns) way [] sorted ways some enough = absurd (omega arith)
-  build (suc turns) way (x ∷ []) sorted ways some enough = (leaf tt x, refl, ways.0, refl)
-  build (suc turns) way (x ∷ y ∷ xs) sorted ways some enough =
-      let part = shared_part bytes (length way) (x ∷ y ∷ xs) in
-      let front = way ++ part in
+  build zero place xs sorted ways some enough = absurd (omega arith)
+  build (suc turns) place [] sorted ways some enough = absurd (omega arith)
+  build (suc turns) place (x ∷ []) sorted ways some enough = (leaf tt x, refl, ways.0, refl)
+  build (suc turns) place (x ∷ y ∷ xs) sorted ways some enough =
+      let part = shared_part bytes (length place) (x ∷ y ∷ xs) in
+      let front = place ++ part in
       let byte = byte_at bytes (length front) in
       let gs = groups byte (x ∷ y ∷ xs) in
-      let on = go_on bytes front x y xs sorted (with_part bytes way part (x ∷ y ∷ xs) ways (shared_part_shared bytes (length way) (x ∷ y ∷ xs))) in
+      let on = go_on bytes front x y xs sorted (with_part bytes place part (x ∷ y ∷ xs) ways (shared_part_shared bytes (length place) (x ∷ y ∷ xs))) in
       let (e, are, up) = groups_are byte (x ∷ y ∷ xs) (sorted_at bytes front (x ∷ y ∷ xs) sorted on) in
-      let two = two_groups bytes way x (y ∷ xs) gs e are on in
+      let two = two_groups bytes place x (y ∷ xs) gs e are on in
       let l = ap length e in
       let (cs, made, below, heads, pairs) = build_below turns (build turns) front gs are (rw e on) (rw e sorted) (omega arith) in
       let count : length gs ≡ length (bytes_of cs) = sym (length-bytes_in bytes gs) ∙ ap length (sym heads) in
       let t = inner tt (header_of P part (length (bytes_of cs))) cs in
-      let same : tree_within bytes (suc turns) P (length way) (x ∷ y ∷ xs) ≡ Some t = node_is (tree_within bytes turns P) (length way) (length front) (length (bytes_of cs)) (x ∷ y ∷ xs) cs (length-append way part) made count in
+      let same : tree_within bytes (suc turns) P (length place) (x ∷ y ∷ xs) ≡ Some t = node_is (tree_within bytes turns P) (length place) (length front) (length (bytes_of cs)) (x ∷ y ∷ xs) cs (length-append place part) made count in
       (t, same, (part, refl, rw (← count) two, subst IsRising (sym heads) up, below), pairs ∙ e)
 
   -- the tree of a map: grouping gives a radix tree of these pairs

@@ -28,11 +28,11 @@ module _ {N A : Type 0} where
 
 module _ {N A : Type 0} (bytes : A → List ℕ) (P : ℕ) where
   mutual
-    pub radix_unmarked : (t : Tree N A) (way : List ℕ) → IsRadix bytes P way (unmarked t) → IsRadix bytes P way t
-    radix_unmarked (leaf n x) way h = h
-    radix_unmarked (inner n h cs) way (part, e, two, up, below) =
+    pub radix_unmarked : (t : Tree N A) (place : List ℕ) → IsRadix bytes P place (unmarked t) → IsRadix bytes P place t
+    radix_unmarked (leaf n x) place h = h
+    radix_unmarked (inner n h cs) place (part, e, two, up, below) =
         let bs = bytes_of-unmarked cs in
-        (part, e ∙ ap (λ l. header_of P part (length l)) bs, subst (λ l. 2 ≤ length l) bs two, subst IsRising bs up, radix_below_unmarked cs (way ++ part) below)
+        (part, e ∙ ap (λ l. header_of P part (length l)) bs, subst (λ l. 2 ≤ length l) bs two, subst IsRising bs up, radix_below_unmarked cs (place ++ part) below)
 
     pub radix_below_unmarked : (cs : Children N A) (front : List ℕ) → AreRadix bytes P front (all_unmarked cs) → AreRadix bytes P front cs
     radix_below_unmarked no_child front h = tt

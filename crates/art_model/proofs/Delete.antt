@@ -21,10 +21,10 @@ use Rattle.art_model.proofs.Insert.{name_of-plug}
 use Rattle.art_model.proofs.Links.{Relinked, relink}
 
 module _ {N A : Type 0} (bytes : A → List ℕ) (P : ℕ) (at to : N → Option (Node N A)) (links chain : N → Option (Links N)) (root : N) (pairs : List A) (l : Layout bytes P at links root pairs)
-    (g : Frame N A) (gs : List (Frame N A)) (way part q : List ℕ) (m n k : N) (h hk : Header) (ls rs es : Children N A) (b c : ℕ) (x : A) where
+    (g : Frame N A) (gs : List (Frame N A)) (place part q : List ℕ) (m n k : N) (h hk : Header) (ls rs es : Children N A) (b c : ℕ) (x : A) where
   pub delete_merge : let t = inner m h (join ls (child b (leaf n x) rs)) in
-      plug (g ∷ gs) t ≡ l.tree → IsPath bytes P way (g ∷ gs) → IsRising (bytes_of (join ls (child b (leaf n x) rs))) → AreRadix bytes P (way ++ part) (join ls (child b (leaf n x) rs)) →
-      join ls rs ≡ child c (inner k hk es) no_child → 2 ≤ length (bytes_of es) → IsRising (bytes_of es) → AreRadix bytes P (((way ++ part) ++ c ∷ []) ++ q) es →
+      plug (g ∷ gs) t ≡ l.tree → IsPath bytes P place (g ∷ gs) → IsRising (bytes_of (join ls (child b (leaf n x) rs))) → AreRadix bytes P (place ++ part) (join ls (child b (leaf n x) rs)) →
+      join ls rs ≡ child c (inner k hk es) no_child → 2 ≤ length (bytes_of es) → IsRising (bytes_of es) → AreRadix bytes P (((place ++ part) ++ c ∷ []) ++ q) es →
       to k ≡ Some (inner_node (header_of P (part ++ c ∷ q) (length (bytes_of es))) (slots_of es)) →
       to g.mark ≡ Some (inner_node g.header (slots_of g.left ++ (g.byte, k) ∷ slots_of g.right)) →
       ((j : N) → j ≢ g.mark → j ≢ m → j ≢ n → j ≢ k → to j ≡ at j) →
@@ -35,11 +35,11 @@ module _ {N A : Type 0} (bytes : A → List ℕ) (P : ℕ) (at to : N → Option
       let u = inner k (header_of P (part ++ c ∷ q) (length (bytes_of es))) es in
       let fs = g ∷ gs in
       -- the pairs
-      let (up', below', its) = without_child bytes P way part ls rs b n x up below in
+      let (up', below', its) = without_child bytes P place part ls rs b n x up below in
       let its_u : pairs_of u ≡ remove_key bytes (bytes x) (pairs_of t) = sym (append-nil (pairs_below es)) ∙ sym (ap pairs_below one) ∙ its in
-      let leaf_way : IsFront ((way ++ part) ++ b ∷ []) (bytes x) = (AreRadix-right bytes P (way ++ part) ls (child b (leaf n x) rs) below).0 in
-      let key_way = front_cut way part (bytes x) (front_cut (way ++ part) (b ∷ []) (bytes x) leaf_way) in
-      let (radix, all_its) = remove_at bytes P fs way path t u (merged bytes P way part c q k es two_es up_es below_es) (bytes x) key_way its_u in
+      let leaf_way : IsFront ((place ++ part) ++ b ∷ []) (bytes x) = (AreRadix-right bytes P (place ++ part) ls (child b (leaf n x) rs) below).0 in
+      let key_way = front_cut place part (bytes x) (front_cut (place ++ part) (b ∷ []) (bytes x) leaf_way) in
+      let (radix, all_its) = remove_at bytes P fs place path t u (merged bytes P place part c q k es two_es up_es below_es) (bytes x) key_way its_u in
       -- the names
       let holds : Holds at (plug fs t) = subst (Holds at) (sym whole) l.holds in
       let distinct : AreDistinct (names_of (plug fs t)) = subst (λ z. AreDistinct (names_of z)) (sym whole) l.distinct in

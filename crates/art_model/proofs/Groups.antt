@@ -20,14 +20,14 @@ module _ {A : Type 0} where
   groups-block byte b x (y ∷ xs) rest gs h e apart = rw (h.0, groups-block byte b y xs rest gs h.1 e apart, eq-eqb b b refl)
 
 module _ {A : Type 0} (bytes : A → List ℕ) where
-  -- the shared part from the end of a common way on
-  pub shared_part-front : (way part : List ℕ) (x : A) (xs : List A) → Each (λ y. IsFront (way ++ part) (bytes y)) (x ∷ xs) → shared_part bytes (length way) (x ∷ xs) ≡ part ++ shared_part bytes (length (way ++ part)) (x ∷ xs)
-  shared_part-front way part x [] h =
+  -- the shared part from the end of a common front on
+  pub shared_part-front : (place part : List ℕ) (x : A) (xs : List A) → Each (λ y. IsFront (place ++ part) (bytes y)) (x ∷ xs) → shared_part bytes (length place) (x ∷ xs) ≡ part ++ shared_part bytes (length (place ++ part)) (x ∷ xs)
+  shared_part-front place part x [] h =
       let r = h.0.0 in
-      after_front way (bytes x) (part ++ r) (h.0.1 ∙ append_assoc way part r) ∙ ap (λ s. part ++ s) (sym (after_front (way ++ part) (bytes x) r h.0.1))
-  shared_part-front way part x (y ∷ xs) h =
+      after_front place (bytes x) (part ++ r) (h.0.1 ∙ append_assoc place part r) ∙ ap (λ s. part ++ s) (sym (after_front (place ++ part) (bytes x) r h.0.1))
+  shared_part-front place part x (y ∷ xs) h =
       let r = h.0.0 in
-      rw (after_front way (bytes x) (part ++ r) (h.0.1 ∙ append_assoc way part r), after_front (way ++ part) (bytes x) r h.0.1, shared_part-front way part y xs h.1) (common_front-append part r (shared_part bytes (length (way ++ part)) (y ∷ xs)))
+      rw (after_front place (bytes x) (part ++ r) (h.0.1 ∙ append_assoc place part r), after_front (place ++ part) (bytes x) r h.0.1, shared_part-front place part y xs h.1) (common_front-append part r (shared_part bytes (length (place ++ part)) (y ∷ xs)))
 
   -- it is a front of what each key has from there on
   pub shared_part_shared : (d : ℕ) (xs : List A) → Each (λ y. IsFront (shared_part bytes d xs) (drop d (bytes y))) xs

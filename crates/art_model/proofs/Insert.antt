@@ -26,10 +26,10 @@ module _ {N A : Type 0} where
   others_same at to m n same (k ∷ ks) a b = (same k a.0 b.0, others_same at to m n same ks a.1 b.1)
 
 module _ {N A : Type 0} (bytes : A → List ℕ) (P : ℕ) (at to : N → Option (Node N A)) (links chain : N → Option (Links N)) (root : N) (pairs : List A) (l : Layout bytes P at links root pairs)
-    (fs : List (Frame N A)) (way part : List ℕ) (m n : N) (h : Header) (cs ds : Children N A) (b : ℕ) (new : A) where
-  pub new_child : plug fs (inner m h (join cs ds)) ≡ l.tree → IsPath bytes P way fs →
-      1 ≤ length (bytes_of (join cs ds)) → IsRising (bytes_of (join cs ds)) → AreRadix bytes P (way ++ part) (join cs ds) →
-      IsFront ((way ++ part) ++ b ∷ []) (bytes new) → Each (λ c. c < b) (bytes_of cs) → Each (λ c. b < c) (bytes_of ds) →
+    (fs : List (Frame N A)) (place part : List ℕ) (m n : N) (h : Header) (cs ds : Children N A) (b : ℕ) (new : A) where
+  pub new_child : plug fs (inner m h (join cs ds)) ≡ l.tree → IsPath bytes P place fs →
+      1 ≤ length (bytes_of (join cs ds)) → IsRising (bytes_of (join cs ds)) → AreRadix bytes P (place ++ part) (join cs ds) →
+      IsFront ((place ++ part) ++ b ∷ []) (bytes new) → Each (λ c. c < b) (bytes_of cs) → Each (λ c. b < c) (bytes_of ds) →
       at n ≡ None → to n ≡ Some (leaf_node new) →
       to m ≡ Some (inner_node (header_of P part (suc (length (bytes_of (join cs ds))))) (slots_of cs ++ (b, n) ∷ slots_of ds)) →
       ((k : N) → k ≢ m → k ≢ n → to k ≡ at k) →
@@ -39,10 +39,10 @@ module _ {N A : Type 0} (bytes : A → List ℕ) (P : ℕ) (at to : N → Option
   new_child whole path some up below k low high free placed changed same own_links linked =
       let t = inner m h (join cs ds) in
       let u = inner m (header_of P part (suc (length (bytes_of (join cs ds))))) (join cs (child b (leaf n new) ds)) in
-      let (radix, its) = with_child bytes P way part cs ds b m n new up low high some below k in
+      let (radix, its) = with_child bytes P place part cs ds b m n new up low high some below k in
       let front = k.0 in
-      let way_front : IsFront way (bytes new) = (part ++ (b ∷ []) ++ k.0, k.1 ∙ simp append_assoc) in
-      let (radix', its') = put_at bytes P fs way path t u radix new way_front its in
+      let way_front : IsFront place (bytes new) = (part ++ (b ∷ []) ++ k.0, k.1 ∙ simp append_assoc) in
+      let (radix', its') = put_at bytes P fs place path t u radix new way_front its in
       let holds : Holds at (plug fs t) = subst (Holds at) (sym whole) l.holds in
       let old : AreDistinct (names_before fs ++ m ∷ (names_below cs ++ (names_below ds ++ names_after fs))) = subst AreDistinct (sym (ap names_of whole) ∙ names_of-plug fs t ∙ simp (names_below-join, append_assoc)) l.distinct in
       let fresh : Each (λ k. k ≢ n) (names_before fs ++ m ∷ (names_below cs ++ (names_below ds ++ names_after fs))) = subst (Each (λ k. k ≢ n)) (names_of-plug fs t ∙ simp (names_below-join, append_assoc)) (free_apart at n free (plug fs t) holds) in

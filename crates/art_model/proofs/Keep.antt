@@ -27,17 +27,17 @@ every [] = tt
 every (b ∷ bs) = (tt, every bs)
 
 module _ {N A : Type 0} (bytes : A → List ℕ) (P : ℕ) where
-  whole_is : (h : Header) (way part : List ℕ) (n : ℕ) (cs : Children N A) → h ≡ header_of P part n → 2 ≤ length (bytes_of cs) → AreRadix bytes P (way ++ part) cs → take (length way + h.length_of) (least_below bytes cs) ≡ way ++ part
-  whole_is h way part n cs e two below =
-      let l : length way + h.length_of ≡ length (way ++ part) = ap (λ z. length way + z) (ap (λ z. z.length_of) e) ∙ sym (length-append way part) in
-      rw l (taken (way ++ part) (least_below bytes cs) (least_way_below bytes P cs (way ++ part) two below))
+  whole_is : (h : Header) (place part : List ℕ) (n : ℕ) (cs : Children N A) → h ≡ header_of P part n → 2 ≤ length (bytes_of cs) → AreRadix bytes P (place ++ part) cs → take (length place + h.length_of) (least_below bytes cs) ≡ place ++ part
+  whole_is h place part n cs e two below =
+      let l : length place + h.length_of ≡ length (place ++ part) = ap (λ z. length place + z) (ap (λ z. z.length_of) e) ∙ sym (length-append place part) in
+      rw l (taken (place ++ part) (least_below bytes cs) (least_way_below bytes P cs (place ++ part) two below))
 
   mutual
-    pub whole_way : (t : Tree N A) (way : List ℕ) → IsRadix bytes P way t → Each (λ e. IsFront way e.1) (inner_nodes bytes (length way) t)
-    whole_way (leaf n x) way h = tt
-    whole_way (inner n h cs) way (part, e, two, up, below) = (
-      (part, whole_is h way part (length (bytes_of cs)) cs e two below),
-      Each-weaker (λ e. IsFront (way ++ part) e.1) (λ e. IsFront way e.1) (λ e f. front_cut way part e.1 f) (inner_nodes_below bytes (length way + h.length_of + 1) cs) (whole_way_below cs (way ++ part) (length way + h.length_of + 1) (λ b. deeper way part b h.length_of (ap (λ z. z.length_of) e)) below),
+    pub whole_way : (t : Tree N A) (place : List ℕ) → IsRadix bytes P place t → Each (λ e. IsFront place e.1) (inner_nodes bytes (length place) t)
+    whole_way (leaf n x) place h = tt
+    whole_way (inner n h cs) place (part, e, two, up, below) = (
+      (part, whole_is h place part (length (bytes_of cs)) cs e two below),
+      Each-weaker (λ e. IsFront (place ++ part) e.1) (λ e. IsFront place e.1) (λ e f. front_cut place part e.1 f) (inner_nodes_below bytes (length place + h.length_of + 1) cs) (whole_way_below cs (place ++ part) (length place + h.length_of + 1) (λ b. deeper place part b h.length_of (ap (λ z. z.length_of) e)) below),
     )
 
     pub whole_way_below : (cs : Children N A) (front : List ℕ) (d : ℕ) → ((b : ℕ) → d ≡ length (front ++ b ∷ [])) → AreRadix bytes P front cs → Each (λ e. IsFront front e.1) (inner_nodes_below bytes d cs)
@@ -53,14 +53,14 @@ module _ {N A : Type 0} (bytes : A → List ℕ) (P : ℕ) where
       (with_bytes Q cs front d e h.1 q.1)
 
   mutual
-    pub whole_differ : (t : Tree N A) (way : List ℕ) → IsRadix bytes P way t → Pairwise Differ (inner_nodes bytes (length way) t)
-    whole_differ (leaf n x) way h = tt
-    whole_differ (inner n h cs) way (part, e, two, up, below) =
-        let w = whole_is h way part (length (bytes_of cs)) cs e two below in
-        let d = length way + h.length_of + 1 in
-        let depth = λ (b : ℕ). deeper way part b h.length_of (ap (λ z. z.length_of) e) in (
-          Each-weaker (WithByte (way ++ part) (λ c. Unit {0})) (λ f. take (length way + h.length_of) (least_below bytes cs) ≢ f.1) (λ f g same. let l = ap length (sym w ∙ same ∙ g.2.1) in absurd (omega (arith, simp length-append at l))) (inner_nodes_below bytes d cs) (with_bytes (λ c. Unit {0}) cs (way ++ part) d depth below (every (bytes_of cs))),
-          whole_differ_below cs (way ++ part) d depth up below,
+    pub whole_differ : (t : Tree N A) (place : List ℕ) → IsRadix bytes P place t → Pairwise Differ (inner_nodes bytes (length place) t)
+    whole_differ (leaf n x) place h = tt
+    whole_differ (inner n h cs) place (part, e, two, up, below) =
+        let w = whole_is h place part (length (bytes_of cs)) cs e two below in
+        let d = length place + h.length_of + 1 in
+        let depth = λ (b : ℕ). deeper place part b h.length_of (ap (λ z. z.length_of) e) in (
+          Each-weaker (WithByte (place ++ part) (λ c. Unit {0})) (λ f. take (length place + h.length_of) (least_below bytes cs) ≢ f.1) (λ f g same. let l = ap length (sym w ∙ same ∙ g.2.1) in absurd (omega (arith, simp length-append at l))) (inner_nodes_below bytes d cs) (with_bytes (λ c. Unit {0}) cs (place ++ part) d depth below (every (bytes_of cs))),
+          whole_differ_below cs (place ++ part) d depth up below,
         )
 
     pub whole_differ_below : (cs : Children N A) (front : List ℕ) (d : ℕ) → ((b : ℕ) → d ≡ length (front ++ b ∷ [])) → IsRising (bytes_of cs) → AreRadix bytes P front cs → Pairwise Differ (inner_nodes_below bytes d cs)

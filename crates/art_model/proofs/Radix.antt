@@ -62,9 +62,9 @@ module _ {N A : Type 0} (bytes : A → List ℕ) (P : ℕ) where
 
   -- the pairs of a radix tree are a map
   mutual
-    pub radix_map : (t : Tree N A) (way : List ℕ) → IsRadix bytes P way t → IsMap bytes (pairs_of t)
-    radix_map (leaf n x) way h = (tt, tt)
-    radix_map (inner n h cs) way (part, e, two, up, below) = radix_map_below cs (way ++ part) up below
+    pub radix_map : (t : Tree N A) (place : List ℕ) → IsRadix bytes P place t → IsMap bytes (pairs_of t)
+    radix_map (leaf n x) place h = (tt, tt)
+    radix_map (inner n h cs) place (part, e, two, up, below) = radix_map_below cs (place ++ part) up below
 
     pub radix_map_below : (cs : Children N A) (front : List ℕ) → IsRising (bytes_of cs) → AreRadix bytes P front cs → IsMap bytes (pairs_below cs)
     radix_map_below no_child front up h = tt

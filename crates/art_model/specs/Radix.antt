@@ -50,11 +50,11 @@ abbrev pub IsRising : List ℕ → Type 0
 IsRising = Pairwise (λ b c. b < c)
 
 module _ {N A : Type 0} (bytes : A → List ℕ) (P : ℕ) where
-  -- The way to a node is the bytes that lead to it. Each leaf's key begins with the way to the leaf, and each inner node has two or more children under rising bytes, and the header of its prefix and their number.
+  -- The tree may stand at a place, the bytes that lead to it. A leaf's key begins with the leaf's place; an inner node has two or more children under rising bytes, and the header of its prefix and their number.
   abbrev mutual
     pub IsRadix : List ℕ → Tree N A → Type 0
-    IsRadix way (leaf n x) = IsFront way (bytes x)
-    IsRadix way (inner n h cs) = (part : List ℕ) × (h ≡ header_of P part (length (bytes_of cs))) × (2 ≤ length (bytes_of cs)) × IsRising (bytes_of cs) × AreRadix (way ++ part) cs
+    IsRadix place (leaf n x) = IsFront place (bytes x)
+    IsRadix place (inner n h cs) = (part : List ℕ) × (h ≡ header_of P part (length (bytes_of cs))) × (2 ≤ length (bytes_of cs)) × IsRising (bytes_of cs) × AreRadix (place ++ part) cs
 
     pub AreRadix : List ℕ → Children N A → Type 0
     AreRadix front no_child = Unit {0}
