@@ -10,3 +10,4 @@ pub mod Paths
 pub mod Places
 pub mod Heights
 pub mod Footprints
+pub mod TreeLaws
