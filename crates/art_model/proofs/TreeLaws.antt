@@ -1,10 +1,8 @@
 -- the laws of the tree of a map
-use Rattle.std.proofs.Common.{◌≡◌, ℕ, suc, zero, ◌+◌, ◌≤◌, List, [], ◌∷◌, ◌++◌, length, drop, refl, ap, ap₂, sym, ◌∙◌, append-nil, arith, length-append, subst, Option, Some, None}
-use Rattle.std.specs.List.{AllByRecursion as Each}
+use Rattle.std.proofs.Common.{◌≡◌, ℕ, ◌+◌, ◌≤◌, List, [], ◌∷◌, ◌++◌, length, drop, refl, ap, ap₂, sym, ◌∙◌, arith, length-append, subst, Some}
 use Rattle.art_model.specs.Keys.{IsFront, common_front}
-use Rattle.art_model.specs.Pairs.{IsMap}
-use Rattle.art_model.specs.Trees.{Tree, leaf, inner, Children, child, no_child, Header, shared_part, node_of, tree_of}
-use Rattle.art_model.specs.Radix.{pairs_of, pairs_below, unmarked, all_unmarked, bytes_of, HaveChildren, HaveChildrenBelow, IsRadix, AreRadix}
+use Rattle.art_model.specs.Trees.{Tree, leaf, inner, Children, child, no_child, shared_part, node_of, tree_of}
+use Rattle.art_model.specs.Radix.{pairs_of, unmarked, all_unmarked, bytes_of, HaveChildren, HaveChildrenBelow, IsRadix, AreRadix}
 use Rattle.art_model.specs.Layouts.{leaf_names, leaf_names_below, inner_names, inner_names_below}
 use Rattle.art_model.specs.TreeLaws.{PartIsShared, PartIsLongest, IsBuiltByGrouping, HasTree, IsTreeOfItsPairs, IsOneTree, HaveTwoChildren, HasFewInnerNodes}
 use Rattle.art_model.proofs.Lists.{common_front-append}
@@ -37,8 +35,8 @@ module _ {A : Type 0} (bytes : A → List ℕ) where
   module _ (P : ℕ) where
     pub is_built_by_grouping : IsBuiltByGrouping bytes P
     is_built_by_grouping place x y rest map fronts =
-      let (t, made, radix, its) = build bytes P (length (x ∷ y ∷ rest)) place (x ∷ y ∷ rest) map fronts (omega arith) (omega arith) in
-      made ∙ go t radix its
+        let (t, made, radix, its) = build bytes P (length (x ∷ y ∷ rest)) place (x ∷ y ∷ rest) map fronts (omega arith) (omega arith) in
+        made ∙ go t radix its
       where
         go : (t : Tree (Unit {0}) A) → IsRadix bytes P place t → pairs_of t ≡ x ∷ y ∷ rest → Some t ≡ node_of bytes (λ d group. tree_of bytes group P d) P (length place) (x ∷ y ∷ rest)
         go (leaf u z) radix its = absurd cc
@@ -52,10 +50,10 @@ module _ {A : Type 0} (bytes : A → List ℕ) where
 
     pub is_one_tree : IsOneTree bytes P
     is_one_tree t u one other same =
-      let first = (is_tree_of_its_pairs t one).1 in
-      let second = (is_tree_of_its_pairs u other).1 in
-      let both : Some t ≡ Some u = sym first ∙ ap (λ xs. tree_of bytes xs P 0) same ∙ second in
-      cc
+        let first = (is_tree_of_its_pairs t one).1 in
+        let second = (is_tree_of_its_pairs u other).1 in
+        let both : Some t ≡ Some u = sym first ∙ ap (λ xs. tree_of bytes xs P 0) same ∙ second in
+        cc
 
 module _ {N A : Type 0} where
   module _ (bytes : A → List ℕ) (P : ℕ) where
@@ -79,8 +77,8 @@ module _ {N A : Type 0} where
     few_below : (cs : Children N A) → HaveChildrenBelow 2 cs → length (inner_names_below cs) + length (bytes_of cs) ≤ length (leaf_names_below cs)
     few_below no_child h = omega arith
     few_below (child b t cs) h =
-      let own = has_few_inner_nodes t h.0 in
-      let others = few_below cs h.1 in
-      let inners = length-append (inner_names t) (inner_names_below cs) in
-      let leaves = length-append (leaf_names t) (leaf_names_below cs) in
-      omega arith
+        let own = has_few_inner_nodes t h.0 in
+        let others = few_below cs h.1 in
+        let inners = length-append (inner_names t) (inner_names_below cs) in
+        let leaves = length-append (leaf_names t) (leaf_names_below cs) in
+        omega arith

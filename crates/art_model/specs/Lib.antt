@@ -11,3 +11,4 @@ pub mod Places
 pub mod Heights
 pub mod Footprints
 pub mod TreeLaws
+pub mod StoreLaws

@@ -1,5 +1,5 @@
 -- What holds of the tree of a map, whatever its keys.
-use Rattle.std.specs.Prelude.{◌≡◌, ℕ, suc, ◌≤◌, List, [], ◌∷◌, length, drop, Option, Some}
+use Rattle.std.specs.Prelude.{◌≡◌, ℕ, suc, ◌≤◌, List, [], ◌∷◌, length, drop, Some}
 use Rattle.std.specs.List.{AllByRecursion as Each}
 use Rattle.art_model.specs.Keys.{IsFront}
 use Rattle.art_model.specs.Pairs.{IsMap}
@@ -20,7 +20,7 @@ module _ {A : Type 0} (bytes : A → List ℕ) where
     -- two or more pairs of a map, whose keys begin with a place, have an inner node there, over the trees of their groups
     abbrev pub IsBuiltByGrouping : Type 0
     IsBuiltByGrouping = (place : List ℕ) (x y : A) (rest : List A) → IsMap bytes (x ∷ y ∷ rest) → Each (λ z. IsFront place (bytes z)) (x ∷ y ∷ rest) →
-      tree_of bytes (x ∷ y ∷ rest) P (length place) ≡ node_of bytes (λ d group. tree_of bytes group P d) P (length place) (x ∷ y ∷ rest)
+        tree_of bytes (x ∷ y ∷ rest) P (length place) ≡ node_of bytes (λ d group. tree_of bytes group P d) P (length place) (x ∷ y ∷ rest)
 
     -- a map that has a pair has a tree, whose leaves have its pairs in order, and which is a radix tree
     abbrev pub HasTree : Type 0
