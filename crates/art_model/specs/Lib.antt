@@ -12,3 +12,4 @@ pub mod Heights
 pub mod Footprints
 pub mod TreeLaws
 pub mod StoreLaws
+pub mod Examples
