@@ -50,3 +50,7 @@ zero_keys (suc n) = (zeros n ++ 255 ∷ []) ∷ zero_keys n
 abbrev pub zero_tree : ℕ → List ℕ → KeyTree
 zero_tree zero place = leaf tt (place ++ 255 ∷ [])
 zero_tree (suc n) place = over_two 0 [] 0 (zero_tree n (place ++ 0 ∷ [])) 255 (leaf tt (place ++ 255 ∷ []))
+
+-- the keys 1 2, 1 3 and 2 with the values 5, 6 and 7
+abbrev pub three_pairs : List (Key × ℕ)
+three_pairs = (1 ∷ 2 ∷ [], 5) ∷ (1 ∷ 3 ∷ [], 6) ∷ (2 ∷ [], 7) ∷ []
