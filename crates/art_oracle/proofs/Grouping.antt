@@ -14,17 +14,18 @@ use Rattle.art_nodes.specs.declared.node.LeafNode.{LeafNode}
 use Rattle.art_nodes.specs.declared.node.OpaqueNodePtr.{OpaqueNodePtr}
 use Rattle.art_model.specs.Pairs.{IsMap, of_key}
 use Rattle.art_model.specs.Trees.{Tree, child, no_child, byte_at, groups, add_to_groups}
-use Rattle.art_model.specs.Layouts.{slots_of}
+use Rattle.art_model.specs.Layouts.{slots_of, inner_names, inner_names_below}
 use Rattle.art_model.specs.Stores.{node_at, held, IsUsed}
 use Rattle.art_model.specs.Footprints.{IsIn}
 use Rattle.art_model.proofs.Lists.{Each-append, Each-left, Each-right, Each-weaker}
 use Rattle.art_model.proofs.Keys.{IsMap-left, IsMap-right}
 use Rattle.art_model.proofs.Groups.{groups-block, StartsApart}
 use Rattle.art_model.proofs.Build.{IsSortedAt, with_byte, sorted_at}
+use Rattle.art_model.proofs.Splice.{in_left, in_right}
 use Rattle.art_model.proofs.Names.{distinct-append}
-use Rattle.art_oracle.specs.Build.{pairs_at, leaf_pair, leaf_key, inner_names, inner_names_below, Ready, ReadyBelow, Built, BuiltBelow, IsGroup, AreBelow, GoesOn, count_groups}
+use Rattle.art_oracle.specs.Build.{pairs_at, leaf_pair, leaf_key, Ready, ReadyBelow, Built, BuiltBelow, IsGroup, AreBelow, GoesOn, count_groups}
 use Rattle.art_oracle.specs.Built.{KeepsNodes}
-use Rattle.art_oracle.proofs.Kept.{in_left, in_right, node_kept, node_used, was_free, holds_kept, inner_used}
+use Rattle.art_oracle.proofs.Kept.{node_kept, node_used, was_free, holds_kept, inner_used}
 
 map-append : {A B : Type 0} (f : A → B) (xs ys : List A) → map f (xs ++ ys) ≡ map f xs ++ map f ys
 map-append f [] ys = refl

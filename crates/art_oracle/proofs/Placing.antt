@@ -21,15 +21,15 @@ use Rattle.art_model.specs.Keys.{IsFront, Precedes, common_front, is_before}
 use Rattle.art_model.specs.Pairs.{IsMap, of_key}
 use Rattle.art_model.specs.Trees.{Tree, leaf, inner, Children, child, no_child, Header, kind_of, header_of, byte_at}
 use Rattle.art_model.specs.Radix.{pairs_of, pairs_below, AreRadix, bytes_of}
-use Rattle.art_model.specs.Layouts.{Node, leaf_node, inner_node, slots_of}
-use Rattle.art_model.specs.Stores.{node_at, node_in, inner_at, header_at, pair_of, Held, held, held_in, held_inner, IsUsed}
+use Rattle.art_model.specs.Layouts.{Node, leaf_node, inner_node, slots_of, inner_names, inner_names_below}
+use Rattle.art_model.specs.Stores.{node_at, seen, header_at, inner_seen, pair_of, Held, held, held_in, held_leaf, held_inner, IsUsed}
 use Rattle.art_model.specs.Footprints.{IsIn}
 use Rattle.art_model.proofs.Lists.{Each-weaker, after_front}
 use Rattle.art_model.proofs.Keys.{precedes_rest, precedes_apart, before_apart, cmp-append}
 use Rattle.art_model.proofs.Rebuild.{radix_way, byte_after}
 use Rattle.art_model.proofs.Build.{go_on, at_byte}
-use Rattle.art_model.proofs.Views.{node_in_inner}
-use Rattle.art_oracle.specs.Build.{pairs_at, leaf_pair, leaf_key, inner_names, inner_names_below, Ready, ReadyBelow, Built, BuiltBelow, GoesOn, started, last_from, Starts, count_groups}
+use Rattle.art_model.proofs.Views.{held_in_inner}
+use Rattle.art_oracle.specs.Build.{pairs_at, leaf_pair, leaf_key, Ready, ReadyBelow, Built, BuiltBelow, GoesOn, started, last_from, Starts, count_groups}
 use Rattle.art_oracle.specs.Built.{KeepsNodes}
 use Rattle.art_oracle.proofs.Kept.{name_cases, node_kept, node_used, was_free, holds_kept_below, inner_used_below}
 use Rattle.art_oracle.proofs.SharedParts.{common_between, common_fits, parts, Parts}
@@ -144,15 +144,8 @@ kind_not_leaf n = go (leb n 4) (leb n 16) (leb n 48)
     go false false false = λ e. absurd cc
 
 module _ {K V : Type 0} where
-  held_inner_name : (s : Nodes K V) (k : NodeType) (slot : ℕ) → k ≢ Leaf → held_in s k slot ≡ option_map held_inner (finite.get s.inners (record { kind = k; slot = slot }))
-  held_inner_name s Leaf slot n = absurd (n refl)
-  held_inner_name s Node4 slot n = refl
-  held_inner_name s Node16 slot n = refl
-  held_inner_name s Node48 slot n = refl
-  held_inner_name s Node256 slot n = refl
-
   pub placed_free : (s : Nodes K V) (p : InnerPtr) → p.kind ≢ Leaf → finite.get s.inners p ≡ None → held s (inner_name p) ≡ None
-  placed_free s p n free = held_inner_name s p.kind p.slot n ∙ ap (option_map held_inner) free
+  placed_free s p n free = held_in_inner s p.kind p.slot n ∙ ap (option_map held_inner) free
 
   -- a node placed under a free name
   module _ (old new : Nodes K V) (p : InnerPtr) (node : Inner) (same : new.leaves ≡ old.leaves) (placed : new.inners ≡ finite.insert old.inners p node) (free : finite.get old.inners p ≡ None) where
@@ -169,8 +162,9 @@ module _ {K V : Type 0} where
     pub placed_kept : p.kind ≢ Leaf → KeepsNodes old new
     placed_kept n name used = placed_others name.kind name.slot (λ e. used (ap (held old) e ∙ placed_free old p n free))
 
-    placed_here : p.kind ≢ Leaf → node_at new (inner_name p) ≡ Some (inner_node (header_at p.kind node) node.children)
-    placed_here n = node_in_inner new p.kind p.slot n ∙ ap (option_map (λ (i : Inner). let x : Node OpaqueNodePtr (K × V) = inner_node (header_at p.kind i) i.children in x)) (ap (λ m. finite.get m p) placed ∙ inner_here old.inners p node)
+    placed_here : p.kind ≢ Leaf → node_at new (inner_name p) ≡ Some (inner_seen p.kind node)
+    placed_here n =
+      ap (option_map (seen p.kind)) (held_in_inner new p.kind p.slot n) ∙ ap (λ o. option_map (seen p.kind) (option_map held_inner o)) (ap (λ m. finite.get m p) placed ∙ inner_here old.inners p node)
 
 pub length-slots : {N A : Type 0} (cs : Children N A) → length (slots_of cs) ≡ length (bytes_of cs)
 length-slots no_child = refl
@@ -192,7 +186,7 @@ module _ {K V : Type 0} (bytes : K → List ℕ) (P : ℕ) where
           ; radix = w'.0
           ; its = ap (λ o. leaf_pair o ++ []) (sym i)
           ; leaves_are = refl
-          ; holds = ap (option_map (λ (m : LeafNode K V). let n : Node OpaqueNodePtr (K × V) = leaf_node (pair_of m) in n)) i
+          ; holds = ap (λ o. option_map (seen Leaf) (option_map held_leaf o)) i
           ; fresh = tt
           ; added = λ n used. inl used
           ; distinct = tt

@@ -1,6 +1,5 @@
 -- What the building of a tree asks of a store and leaves in it.
 use Rattle.std.specs.Prelude.{◌≡◌, ◌≢◌, ℕ, ◌+◌, ◌<◌, ◌≤◌, List, [], ◌∷◌, ◌++◌, length, take, drop, get_or, Option, Some, None, IsSome, map, ◌⊎◌}
-use Rattle.std.specs.Option.{option_map}
 use Rattle.std.specs.List.{AllByRecursion as Each, All}
 use Rattle.std.specs.FinMap as finite
 use Rattle.art_nodes.specs.Inner.{Inner}
@@ -11,10 +10,10 @@ use Rattle.art_nodes.specs.declared.node.LeafNode.{LeafNode}
 use Rattle.art_nodes.specs.declared.node.OpaqueNodePtr.{OpaqueNodePtr}
 use Rattle.art_model.specs.Keys.{IsFront}
 use Rattle.art_model.specs.Pairs.{IsMap, of_key}
-use Rattle.art_model.specs.Trees.{Tree, leaf, inner, Children, child, no_child, byte_at, groups}
+use Rattle.art_model.specs.Trees.{Tree, Children, byte_at, groups}
 use Rattle.art_model.specs.Radix.{pairs_of, pairs_below, IsRadix, AreRadix, IsRising, bytes_of}
-use Rattle.art_model.specs.Layouts.{name_of, slots_of, leaf_names, leaf_names_below, Holds, HoldsBelow, AreDistinct, AreLinked, first_or, last_or}
-use Rattle.art_model.specs.Stores.{node_at, links_at, held, IsUsed, pair_of}
+use Rattle.art_model.specs.Layouts.{name_of, slots_of, leaf_names, leaf_names_below, inner_names, inner_names_below, Holds, HoldsBelow, AreDistinct}
+use Rattle.art_model.specs.Stores.{node_at, held, IsUsed, pair_of}
 use Rattle.art_model.specs.Footprints.{IsIn}
 
 -- a node with no child, and what of its prefix is stored
@@ -29,17 +28,6 @@ last_from x (y ∷ ys) = last_from y ys
 -- a byte comes after the front
 abbrev pub GoesOn : List ℕ → List ℕ → Type 0
 GoesOn front key = (b : ℕ) × (rest : List ℕ) × (key ≡ front ++ b ∷ rest)
-
-module _ {N A : Type 0} where
-  -- the names of the inner nodes
-  abbrev mutual
-    pub inner_names : Tree N A → List N
-    inner_names (leaf n x) = []
-    inner_names (inner n h cs) = n ∷ inner_names_below cs
-
-    pub inner_names_below : Children N A → List N
-    inner_names_below no_child = []
-    inner_names_below (child b t cs) = inner_names t ++ inner_names_below cs
 
 module _ {K V : Type 0} where
   abbrev pub leaf_key : (K → List ℕ) → Option (LeafNode K V) → List ℕ

@@ -3,7 +3,6 @@ ghost use Rattle.std.specs.Prelude.{◌≡◌, ◌≢◌, ℕ, ◌+◌, ◌*◌,
 ghost use Rattle.std.specs.FinMap as map;
 ghost use Rattle.std.specs.Vec.{vec_capacity};
 ghost use Rattle.art_nodes.specs.Kinds.{any_kind, any_view, kind_capacity};
-ghost use Rattle.art_nodes.specs.Inner.{childless};
 ghost use Rattle.art_nodes.specs.declared.node.NodeType.TheVariants.{Leaf};
 ghost use Rattle.art_model.specs.Keys.{common_front};
 ghost use Rattle.art_model.specs.Pairs.{IsMap, of_key};
@@ -110,14 +109,6 @@ fn kind_for(children: usize) -> NodeType
     }
 }
 
-fn from_header<const P: usize>(kind: NodeType, header: Header<P>) -> AnyInner<P>
-    requires { kind ≢ Leaf }
-    ensures kind { any_kind result ≡ kind }
-    ensures view { any_view result ≡ childless header.entry }
-{
-    use art_nodes::node::{FromHeader, InnerNode4};
-    AnyInner::Node4(InnerNode4::from_header(header))
-}
 
 /// A node for the groups of some leaves, with the part that their keys share, and the depth after that part.
 fn start_node<K: AsBytes + Drop, V: Drop, const P: usize>(
@@ -136,7 +127,7 @@ fn start_node<K: AsBytes + Drop, V: Drop, const P: usize>(
     let len = common_len(first, last);
     let at = depth + len;
     let kind = kind_for(group_count(store, leaves, at));
-    (at, from_header(kind, Header::new(first, len)))
+    (at, AnyInner::from_header(kind, Header::new(first, len)))
 }
 
 /// Builds the tree of sorted leaves, whose keys begin with the same bytes up to a depth, from that depth on.
