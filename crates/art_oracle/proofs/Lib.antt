@@ -3,3 +3,4 @@ pub mod Kept
 pub mod Grouping
 pub mod Placing
 pub mod Counting
+pub mod Leaves

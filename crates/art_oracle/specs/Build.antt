@@ -1,5 +1,6 @@
 -- What the building of a tree asks of a store and leaves in it.
 use Rattle.std.specs.Prelude.{◌≡◌, ◌≢◌, ℕ, ◌+◌, ◌<◌, ◌≤◌, List, [], ◌∷◌, ◌++◌, length, take, drop, get_or, Option, Some, None, IsSome, map, ◌⊎◌}
+use Rattle.std.specs.Option.{option_map}
 use Rattle.std.specs.List.{AllByRecursion as Each, All}
 use Rattle.std.specs.FinMap as finite
 use Rattle.art_nodes.specs.Inner.{Inner}
@@ -42,6 +43,19 @@ module _ {K V : Type 0} where
   abbrev pub pairs_at : finite.FinMap leaf_cmp (LeafNode K V) → List LeafPtr → List (K × V)
   pairs_at store [] = []
   pairs_at store (p ∷ ps) = leaf_pair (finite.get store p) ++ pairs_at store ps
+
+  -- the pairs have leaves, which were placed under these names
+  pub record IsPlaced (old new : finite.FinMap leaf_cmp (LeafNode K V)) (names : List LeafPtr) (pairs : List (K × V)) : Type 0 where
+    pub there : Each (λ p. IsSome (finite.get new p)) names
+    pub its : pairs_at new names ≡ pairs
+    pub distinct : AreDistinct names
+    pub fresh : Each (λ p. finite.get old p ≡ None) names
+    pub others : (p : LeafPtr) → IsIn p names ⊎ (finite.get new p ≡ finite.get old p)
+
+  -- leaves keep their pairs, and those with other names are as they were
+  pub record KeepsPairs (old new : finite.FinMap leaf_cmp (LeafNode K V)) (names : List LeafPtr) : Type 0 where
+    pub its : (p : LeafPtr) → option_map pair_of (finite.get new p) ≡ option_map pair_of (finite.get old p)
+    pub others : (p : LeafPtr) → IsIn p names ⊎ (finite.get new p ≡ finite.get old p)
 
   module _ (bytes : K → List ℕ) where
     -- the leaves of a map whose keys all begin with a way of this length

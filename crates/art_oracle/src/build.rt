@@ -1,15 +1,21 @@
 //! The radix tree of a map, built in a store at one go.
-ghost use Rattle.std.specs.Prelude.{◌≡◌, ◌≢◌, ℕ, ◌+◌, ◌*◌, ◌^◌, ◌<◌, ◌≤◌, List, [], length, get_or, IsSome};
+ghost use Rattle.std.specs.Prelude.{◌≡◌, ◌≢◌, ℕ, ◌+◌, ◌*◌, ◌^◌, ◌<◌, ◌≤◌, List, [], length, get_or, None, IsSome};
+ghost use Rattle.std.specs.Prelude.{map as list_map};
 ghost use Rattle.std.specs.FinMap as map;
+ghost use Rattle.std.specs.List.{AllByRecursion as Each};
 ghost use Rattle.std.specs.Vec.{vec_capacity};
+ghost use Rattle.art_nodes.specs.Names.{leaf_name};
 ghost use Rattle.art_nodes.specs.Kinds.{any_kind, any_view, kind_capacity};
 ghost use Rattle.art_nodes.specs.declared.node.NodeType.TheVariants.{Leaf};
+ghost use Rattle.art_nodes.specs.declared.node.OpaqueNodePtr.{OpaqueNodePtr};
 ghost use Rattle.art_model.specs.Keys.{common_front};
 ghost use Rattle.art_model.specs.Pairs.{IsMap, of_key};
 ghost use Rattle.art_model.specs.Trees.{kind_of};
+ghost use Rattle.art_model.specs.Layouts.{AreDistinct, AreLinked};
+ghost use Rattle.art_model.specs.Stores.{held, links_at};
 ghost use Rattle.art_model.specs.Canonical.{IsCanonical};
-ghost use Rattle.art_oracle.specs.Build.{Ready, ReadyBelow, IsGroup, count_groups, leaf_key, AreBelow, Starts, Built, BuiltBelow};
-ghost use Rattle.art_oracle.specs.Built.{KeepsNodes, AddsTree};
+ghost use Rattle.art_oracle.specs.Build.{Ready, ReadyBelow, IsGroup, count_groups, leaf_key, AreBelow, Starts, Built, BuiltBelow, IsPlaced, KeepsPairs};
+ghost use Rattle.art_oracle.specs.Built.{KeepsNodes, AddsTree, IsInTree};
 
 use art_nodes::node::{AnyInner, AsBytes, Header, LeafNode, LeafPtr, NodeType, OpaqueNodePtr};
 use art_nodes::store::NodeStore;
@@ -182,4 +188,70 @@ fn build_below<K: AsBytes + Drop, V: Drop, const P: usize>(
     let child = build_node(store, group, at + 1);
     node.write_child(byte, child);
     build_below(store, others, at, node);
+}
+
+/// Places a leaf for each pair, in order, and lists the names.
+fn place_leaves<K: AsBytes + Drop, V: Drop, const P: usize>(
+    store: &mut NodeStore<K, V, P>,
+    pairs: Vec<(K, V)>,
+    names: &mut Vec<LeafPtr>,
+)
+    requires empty { names.old.items ≡ [] }
+    requires capacity { length pairs.items ≤ vec_capacity names.old }
+    requires room { length pairs.items ≤ store.old.room }
+    ensures placed { IsPlaced store.old.leaves store.new.leaves names.new.items pairs.items }
+    ensures inners { store.new.inners ≡ store.old.inners }
+    ensures room { store.old.room ≤ store.new.room + length pairs.items }
+{
+    for (key, value) in pairs {
+        match store.place_leaf(LeafNode::with_no_siblings(key, value)) {
+            Ok(name) => names.push_reserved(name),
+            Err(_) => unreachable!(),
+        }
+    }
+}
+
+/// Links the leaves of a list, each to the one before it and the one after it.
+fn link_leaves<K: AsBytes + Drop, V: Drop, const P: usize>(
+    store: &mut NodeStore<K, V, P>,
+    names: &[LeafPtr],
+)
+    requires there { Each (λ p. IsSome (map.get store.old.leaves p)) names.now }
+    requires distinct { AreDistinct names.now }
+    ensures linked { AreLinked (links_at store.new) None (list_map leaf_name names.now) None }
+    ensures keeps { KeepsPairs store.old.leaves store.new.leaves names.now }
+    ensures inners { store.new.inners ≡ store.old.inners }
+    ensures room { store.new.room ≡ store.old.room }
+{
+    let mut previous = None;
+    for i in 0..names.len() {
+        store.set_links(names[i], previous, names.get(i + 1).copied());
+        previous = Some(names[i]);
+    }
+}
+
+/// Builds the canonical tree of a map in a store, and answers its root: none where there are no pairs.
+///
+/// It takes no memory: `names` is where it lists the leaves. The time is that of reading each key once
+/// for each inner node on the way to its leaf.
+pub fn build<K: AsBytes + Drop, V: Drop, const P: usize>(
+    store: &mut NodeStore<K, V, P>,
+    pairs: Vec<(K, V)>,
+    mut names: Vec<LeafPtr>,
+) -> Option<OpaqueNodePtr>
+    requires map { IsMap (of_key K.bytes) pairs.items }
+    requires room { 2 * length pairs.items ≤ store.old.room }
+    requires empty { names.items ≡ [] }
+    requires capacity { length pairs.items ≤ vec_capacity names }
+    ensures canonical { IsCanonical (of_key K.bytes) P store.new result pairs.items }
+    ensures kept { KeepsNodes store.old store.new }
+    ensures names { AddsTree (of_key K.bytes) P store.old store.new result pairs.items }
+    ensures fresh { (name : OpaqueNodePtr) → IsInTree (of_key K.bytes) P store.new result pairs.items name → held store.old name ≡ None }
+{
+    place_leaves(store, pairs, &mut names);
+    if names.is_empty() {
+        return None;
+    }
+    link_leaves(store, names.as_slice());
+    Some(build_node(store, names.as_slice(), 0))
 }
