@@ -1,6 +1,8 @@
 -- the leaves of a map: placed in order, and linked
-use Rattle.std.proofs.Common.{◌≡◌, ◌≢◌, ℕ, zero, suc, ◌+◌, ◌<◌, ◌≤◌, List, [], ◌∷◌, ◌++◌, length, take, drop, get_or, map, refl, ap, ap₂, sym, ◌∙◌, arith, true, false, Bool, eqb, eqb-true, ◌⊎◌, inl, inr, subst, append_assoc, append-nil, Option, Some, None, IsSome, slice_get}
-use Rattle.std.specs.Option.{option_map, option_and_then}
+use Rattle.std.proofs.Common.{◌≡◌, ◌≢◌, ℕ, zero, suc, ◌+◌, ◌<◌, ◌≤◌, List, [], ◌∷◌, ◌++◌, length, take, drop, get_or, map, refl, ap, ap₂, sym, ◌∙◌, add-one, arith, true, false, Bool, eqb, eqb-true, ◌⊎◌, inl, inr, subst, append_assoc, append-nil, Option, Some, None, IsSome, slice_get, Bor}
+use Rattle.std.specs.Option.{option_map, option_and_then, option_copied}
+use Rattle.std.specs.Slice.{IsItemAt}
+use Rattle.std.proofs.lemmas.Option.{slice_get_past, slice_get-get_or}
 use Rattle.std.specs.List.{AllByRecursion as Each, All}
 use Rattle.std.specs.FinMap as finite
 use Rattle.std.proofs.lemmas.Bool.{eqb-false}
@@ -41,7 +43,11 @@ next_name [] (suc n) = refl
 next_name (p ∷ ps) zero = refl
 next_name (p ∷ ps) (suc n) = next_name ps n
 
-each_map : {X Y : Type 0} (f : X → Y) (Q : Y → Type 0) (xs : List X) → Each (λ x. Q (f x)) xs → Each Q (map f xs)
+pub copied_is : (ps : List LeafPtr) (n : ℕ) (r : Option (Bor LeafPtr)) → IsItemAt ps n r → option_copied r ≡ slice_get ps n
+copied_is ps n None h = sym (slice_get_past ps n h.3)
+copied_is ps n (Some p) h = ap Some h.1 ∙ sym (slice_get-get_or ps n p.now h.3.0)
+
+pub each_map : {X Y : Type 0} (f : X → Y) (Q : Y → Type 0) (xs : List X) → Each (λ x. Q (f x)) xs → Each Q (map f xs)
 each_map f Q [] h = tt
 each_map f Q (x ∷ xs) h = (h.0, each_map f Q xs h.1)
 
@@ -55,6 +61,15 @@ module _ {K V : Type 0} where
       of_pairs None (Some y) e = absurd cc
       of_pairs (Some x) None e = absurd cc
       of_pairs (Some x) (Some y) e = let f : pair_of x ≡ pair_of y = cc in ap (λ z. z ∷ []) f
+
+  -- as many pairs as leaves that are there
+  pub pairs_long : (m : finite.FinMap leaf_cmp (LeafNode K V)) (ps : List LeafPtr) → Each (λ p. IsSome (finite.get m p)) ps → length (pairs_at m ps) ≡ length ps
+  pairs_long m [] h = refl
+  pairs_long m (p ∷ ps) h = go (finite.get m p) h.0 (pairs_long m ps h.1)
+    where
+      go : (o : Option (LeafNode K V)) → IsSome o → length (pairs_at m ps) ≡ length ps → length (leaf_pair o ++ pairs_at m ps) ≡ suc (length ps)
+      go None s e = absurd cc
+      go (Some l) s e = ap suc e
 
   there_differs : (m : finite.FinMap leaf_cmp (LeafNode K V)) (p q : LeafPtr) → IsSome (finite.get m q) → finite.get m p ≡ None → q ≢ p
   there_differs m p q there free e = go (finite.get m q) refl there
@@ -139,7 +154,7 @@ module _ {K V : Type 0} where
 
   -- the next leaf linked
   module _ (old mid new : Nodes K V) (names : List LeafPtr) (i : ℕ) (previous next : Option LeafPtr) (d : LeafPtr) (within : i < length names) (so_far : IsLinkedTo old mid names i previous)
-    (there : Each (λ p. IsSome (finite.get old.leaves p)) names) (distinct : AreDistinct names) (next_is : next ≡ slice_get names (suc i)) (written : new.leaves ≡ change mid.leaves (get_or names i d) (with_links previous next)) where
+    (there : Each (λ p. IsSome (finite.get old.leaves p)) names) (distinct : AreDistinct names) (next_is : next ≡ slice_get names (i + 1)) (written : new.leaves ≡ change mid.leaves (get_or names i d) (with_links previous next)) where
     abbrev q : LeafPtr
     q = get_or names i d
 
@@ -168,15 +183,15 @@ module _ {K V : Type 0} where
 
     q_linked : links_at new (leaf_name q) ≡ Some (record { previous = last_or (map leaf_name (take i names)) None; next = first_or (map leaf_name (drop (suc i) names)) None })
     q_linked = ap (λ m. links_in m q) written ∙ linked_there mid.leaves q previous next q_there
-      ∙ ap₂ (λ (a b : Option OpaqueNodePtr). Some (record { previous = a; next = b })) so_far.previous_is (ap (option_map leaf_name) next_is ∙ next_name names (suc i))
+      ∙ ap₂ (λ (a b : Option OpaqueNodePtr). Some (record { previous = a; next = b })) so_far.previous_is (ap (option_map leaf_name) next_is ∙ ap (λ m. option_map leaf_name (slice_get names m)) (add-one i) ∙ next_name names (suc i))
 
-    pub linked_more : IsLinkedTo old new names (suc i) (Some q)
-    linked_more = record
+    pub linked_more : IsLinkedTo old new names (i + 1) (Some q)
+    linked_more = subst (λ m. IsLinkedTo old new names m (Some q)) (sym (add-one i)) (record
       { previous_is = sym (last_or-push (map leaf_name (take i names)) (leaf_name q) None) ∙ ap (λ l. last_or l None) (sym named)
       ; linked = subst (λ l. AreLinked (links_at new) None l (first_or (map leaf_name (drop (suc i) names)) None)) (sym named)
           (linked-append (links_at new) (map leaf_name (take i names)) (leaf_name q ∷ []) None (first_or (map leaf_name (drop (suc i) names)) None) front_linked (q_linked, tt))
       ; keeps = record { its = λ p. pairs p (leaf_cases p q); others = λ p. by_name p (leaf_cases p q) }
-      }
+      })
       where
         named : map leaf_name (take (suc i) names) ≡ map leaf_name (take i names) ++ leaf_name q ∷ []
         named = ap (map leaf_name) front ∙ map-append leaf_name (take i names) (q ∷ [])

@@ -4,3 +4,4 @@ pub mod Grouping
 pub mod Placing
 pub mod Counting
 pub mod Leaves
+pub mod Whole
