@@ -29,11 +29,22 @@ pub enum Command<K, V> {
 }
 
 /// A key that can't be inserted: a stored key begins with it, or it begins with a stored key.
-#[derive(Clone, PartialEq, Eq, Debug, Drop, Error)]
+#[derive(PartialEq, Eq, Debug, Drop, Error)]
 #[error("Attempted to insert a key [{byte_repr:?}] which is either a prefix of an existing key or an existing key is a prefix of the new key.")]
 pub struct InsertPrefixError {
     /// The bytes of the key.
     pub byte_repr: BoxedSlice<u8>,
+}
+
+impl Clone for InsertPrefixError {
+    ghost use Rattle.std.specs.Prelude.{◌≡◌};
+
+    ghost is_clone = { λ error copy. copy.byte_repr.items.items ≡ error.byte_repr.items.items };
+
+    fn clone(&self) -> Result<Self, AllocError> {
+        let byte_repr = self.byte_repr.clone()?;
+        Ok(InsertPrefixError { byte_repr })
+    }
 }
 
 /// The reply to a command.
