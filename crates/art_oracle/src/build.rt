@@ -255,3 +255,6 @@ pub fn build<K: AsBytes + Drop, V: Drop, const P: usize>(
     link_leaves(store, names.as_slice());
     Some(build_node(store, names.as_slice(), 0))
 }
+
+#[cfg(test)]
+mod tests;
