@@ -1,5 +1,5 @@
 -- what a store that keeps its nodes keeps of a layout
-use Rattle.std.proofs.Common.{◌≡◌, ◌≢◌, ℕ, List, [], ◌∷◌, ◌++◌, refl, ap, ap₂, sym, ◌∙◌, Bool, true, false, cond, eqb, eqb-true, ◌⊎◌, inl, inr, Option, Some, None}
+use Rattle.std.proofs.Common.{◌≡◌, ◌≢◌, ℕ, refl, ap, ap₂, sym, ◌∙◌, Bool, true, false, cond, eqb, eqb-true, ◌⊎◌, inl, inr, Option, Some, None}
 use Rattle.std.proofs.lemmas.Bool.{eqb-false}
 use Rattle.std.specs.Option.{option_map}
 use Rattle.std.specs.List.{AllByRecursion as Each}
@@ -7,7 +7,7 @@ use Rattle.art_nodes.specs.Nodes.{Nodes, kind_index}
 use Rattle.art_nodes.specs.declared.node.NodeType.{NodeType}
 use Rattle.art_nodes.specs.declared.node.NodeType.TheVariants.{Node4, Node16, Node48, Node256, Leaf}
 use Rattle.art_nodes.specs.declared.node.OpaqueNodePtr.{OpaqueNodePtr}
-use Rattle.art_model.specs.Trees.{Tree, leaf, inner, Children, child, no_child, Header}
+use Rattle.art_model.specs.Trees.{Tree, leaf, inner, Children, child, no_child}
 use Rattle.art_model.specs.Layouts.{Node, inner_names, inner_names_below, Holds, HoldsBelow}
 use Rattle.art_model.specs.Stores.{node_at, seen, Held, held, IsUsed}
 use Rattle.art_model.proofs.Lists.{Each-append}
@@ -50,8 +50,8 @@ name_cases m n = go (eqb (kind_index m.kind) (kind_index n.kind)) (eqb m.slot n.
   where
     go : (k s : Bool) → eqb (kind_index m.kind) (kind_index n.kind) ≡ k → eqb m.slot n.slot ≡ s → (m ≡ n) ⊎ (m ≢ n)
     go true true e f =
-      let kinds : m.kind ≡ n.kind = sym (kind_back-index m.kind) ∙ ap kind_back (eqb-true (kind_index m.kind) (kind_index n.kind) e) ∙ kind_back-index n.kind in
-      inl (ap₂ (λ (k : NodeType) (s : ℕ). let p : OpaqueNodePtr = record { kind = k; slot = s } in p) kinds (eqb-true m.slot n.slot f))
+        let kinds : m.kind ≡ n.kind = sym (kind_back-index m.kind) ∙ ap kind_back (eqb-true (kind_index m.kind) (kind_index n.kind) e) ∙ kind_back-index n.kind in
+        inl (ap₂ (λ (k : NodeType) (s : ℕ). let p : OpaqueNodePtr = record { kind = k; slot = s } in p) kinds (eqb-true m.slot n.slot f))
     go false s e f = inr (λ same. absurd (eqb-false (kind_index m.kind) (kind_index n.kind) e (ap (λ p. kind_index p.kind) same)))
     go true false e f = inr (λ same. absurd (eqb-false m.slot n.slot f (ap (λ p. p.slot) same)))
 

@@ -17,7 +17,9 @@ ghost use Rattle.art_model.specs.Canonical.{IsCanonical};
 ghost use Rattle.art_oracle.specs.Build.{Ready, ReadyBelow, IsGroup, count_groups, leaf_key, AreBelow, Starts, Built, BuiltBelow, IsPlaced, KeepsPairs};
 ghost use Rattle.art_oracle.specs.Built.{KeepsNodes, AddsTree, IsInTree};
 
-use art_nodes::node::{AnyInner, AsBytes, Header, InnerPtr, LeafNode, LeafPtr, NodeType, OpaqueNodePtr};
+use art_nodes::node::{
+    AnyInner, AsBytes, Header, InnerPtr, LeafNode, LeafPtr, NodeType, OpaqueNodePtr,
+};
 use art_nodes::store::NodeStore;
 
 /// How many bytes two keys have in common in front.
@@ -114,7 +116,6 @@ fn kind_for(children: usize) -> NodeType
         _ => NodeType::Node256,
     }
 }
-
 
 /// A node for the groups of some leaves, with the part that their keys share, and the depth after that part.
 // A node is large: what moves one is kept out of the frames of the functions that recur.
