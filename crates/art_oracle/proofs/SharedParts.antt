@@ -12,9 +12,6 @@ common_same x y a b e = rw (eq-eqb x y e) (omega arith)
 pub common_differ : (x y : ℕ) (a b : List ℕ) → x ≢ y → length (common_front (x ∷ a) (y ∷ b)) ≡ 0
 common_differ x y a b n = rw (ne_eqb x y n) refl
 
-pub common_end_left : (b : List ℕ) → length (common_front [] b) ≡ 0
-common_end_left b = refl
-
 pub common_end_right : (a : List ℕ) → length (common_front a []) ≡ 0
 common_end_right [] = refl
 common_end_right (x ∷ a) = refl

@@ -1,5 +1,5 @@
 -- a store in which a child came to an inner node, between what was built before and after
-use Rattle.std.proofs.Common.{◌≡◌, ◌≢◌, ℕ, List, [], ◌∷◌, ◌++◌, length, map, refl, ap, sym, ◌∙◌, ◌⊎◌, inl, inr, subst, Option, Some, None}
+use Rattle.std.proofs.Common.{◌≡◌, ◌≢◌, ℕ, refl, ap, sym, ◌∙◌, ◌⊎◌, inl, inr, Option, Some, None}
 use Rattle.std.specs.Option.{option_map}
 use Rattle.std.specs.List.{AllByRecursion as Each}
 use Rattle.std.specs.FinMap as finite
@@ -35,7 +35,7 @@ module _ {K V : Type 0} where
       go (Some x) e = cc
 
   module _ (old mid written : Nodes K V) (parent : InnerPtr) (f : Inner → Inner) (from : Inner) (inner_kind : parent.kind ≢ Leaf) (there : finite.get old.inners parent ≡ Some from)
-    (kept : KeepsNodes old mid) (same : written.leaves ≡ mid.leaves) (change_is : written.inners ≡ change mid.inners parent f) where
+      (kept : KeepsNodes old mid) (same : written.leaves ≡ mid.leaves) (change_is : written.inners ≡ change mid.inners parent f) where
     pub parent_written : finite.get written.inners parent ≡ Some (f from)
     parent_written = ap (λ m. finite.get m parent) change_is ∙ inner_changed_here mid.inners parent f from (inner_kept old mid parent from inner_kind kept there)
 
@@ -69,16 +69,16 @@ module _ {K V : Type 0} where
     module _ (new : Nodes K V) (kept' : KeepsOthers written new parent) where
       pub others_kept : KeepsOthers old new parent
       others_kept n e u =
-        let mid_is = kept n u in
-        let in_mid : IsUsed mid n = λ none. u (sym mid_is ∙ none) in
-        kept' n e (mid_used n in_mid) ∙ written_others n.kind n.slot e ∙ mid_is
+          let mid_is = kept n u in
+          let in_mid : IsUsed mid n = λ none. u (sym mid_is ∙ none) in
+          kept' n e (mid_used n in_mid) ∙ written_others n.kind n.slot e ∙ mid_is
 
       -- a layout without the parent is held as before
       pub held_still : (t : Tree OpaqueNodePtr (K × V)) → Holds (node_at mid) t → Each (λ n. n ≢ inner_name parent) (names_of t) → Holds (node_at new) t
       held_still t holds apart = frame (node_at mid) (node_at new) t
-        (Each-weaker (λ n. (n ≢ inner_name parent) × (node_at mid n ≡ None → ⊥)) (λ n. node_at new n ≡ node_at mid n) one (names_of t) (both (λ n. n ≢ inner_name parent) (λ n. node_at mid n ≡ None → ⊥) (names_of t) apart (used (node_at mid) t holds))) holds
+          (Each-weaker (λ n. (n ≢ inner_name parent) × (node_at mid n ≡ None → ⊥)) (λ n. node_at new n ≡ node_at mid n) one (names_of t) (both (λ n. n ≢ inner_name parent) (λ n. node_at mid n ≡ None → ⊥) (names_of t) apart (used (node_at mid) t holds))) holds
         where
           one : (n : OpaqueNodePtr) → (n ≢ inner_name parent) × (node_at mid n ≡ None → ⊥) → node_at new n ≡ node_at mid n
           one n h =
-            let in_mid : IsUsed mid n = λ none. h.1 (ap (option_map (seen n.kind)) none) in
-            ap (option_map (seen n.kind)) (kept' n h.0 (mid_used n in_mid) ∙ written_others n.kind n.slot h.0)
+              let in_mid : IsUsed mid n = λ none. h.1 (ap (option_map (seen n.kind)) none) in
+              ap (option_map (seen n.kind)) (kept' n h.0 (mid_used n in_mid) ∙ written_others n.kind n.slot h.0)

@@ -18,7 +18,9 @@ ghost use Rattle.art_model.specs.Canonical.{IsCanonical};
 ghost use Rattle.art_oracle.specs.Build.{Ready, ReadyBelow, IsGroup, count_groups, leaf_key, AreBelow, Starts, Built, BuiltUnder, KeepsOthers, IsPlaced, KeepsPairs};
 ghost use Rattle.art_oracle.specs.Built.{KeepsNodes, AddsTree, IsInTree};
 
-use art_nodes::node::{AnyInner, AsBytes, Header, InnerPtr, LeafNode, LeafPtr, NodeType, OpaqueNodePtr};
+use art_nodes::node::{
+    AnyInner, AsBytes, Header, InnerPtr, LeafNode, LeafPtr, NodeType, OpaqueNodePtr,
+};
 use art_nodes::store::NodeStore;
 
 /// How many bytes two keys have in common in front.
@@ -115,7 +117,6 @@ fn kind_for(children: usize) -> NodeType
         _ => NodeType::Node256,
     }
 }
-
 
 /// A node for the groups of some leaves, with the part that their keys share, and the depth after that part.
 fn start_node<K: AsBytes + Drop, V: Drop, const P: usize>(
