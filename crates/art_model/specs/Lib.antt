@@ -13,3 +13,4 @@ pub mod Footprints
 pub mod TreeLaws
 pub mod StoreLaws
 pub mod Examples
+pub mod KeyLaws
