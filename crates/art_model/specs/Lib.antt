@@ -14,3 +14,5 @@ pub mod TreeLaws
 pub mod StoreLaws
 pub mod Examples
 pub mod KeyLaws
+pub mod Changes
+pub mod MapLaws
