@@ -5,7 +5,7 @@ use Rattle.std.specs.List.{AllByRecursion as Each, cons_option}
 use Rattle.art_model.specs.Keys.{are_related, are_same}
 use Rattle.art_model.specs.Pairs.{last_of, without_last, IsMap, with_key, has_key, related_to, is_conflict, match_of, put, put_reply, overwrite, overwrite_reply, remove_key, remove_reply}
 use Rattle.art_model.specs.Trees.{tree_of}
-use Rattle.art_model.specs.Changes.{Change, changed, after}
+use Rattle.art_model.specs.Changes.{Change, after}
 
 -- the reply tells which pairs went: none, this one, or this many
 abbrev pub Tells : {A : Type 0} → Option A × ℕ → List A → Type 0
@@ -50,7 +50,7 @@ module _ {A : Type 0} (bytes : A → List ℕ) where
   -- after an overwrite the new pair is found under its key, nothing under a related key, and what was found before under every other key
   abbrev pub OverwriteIsFound : Type 0
   OverwriteIsFound = (key : List ℕ) (new : A) (pairs : List A) →
-    with_key bytes key (overwrite bytes new pairs) ≡ cond (are_same key (bytes new)) (new ∷ []) (cond (are_related key (bytes new)) [] (with_key bytes key pairs))
+      with_key bytes key (overwrite bytes new pairs) ≡ cond (are_same key (bytes new)) (new ∷ []) (cond (are_related key (bytes new)) [] (with_key bytes key pairs))
 
   -- after a removal nothing is found under the key, and what was found before under every other key
   abbrev pub RemovedIsGone : Type 0

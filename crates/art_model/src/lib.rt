@@ -6,5 +6,6 @@
 pub mod examples;
 pub mod footprints;
 pub mod layouts;
+pub mod maps;
 pub mod order;
 pub mod trees;
