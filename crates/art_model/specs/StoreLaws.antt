@@ -4,9 +4,9 @@ use Rattle.art_nodes.specs.Nodes.{Nodes}
 use Rattle.art_nodes.specs.declared.node.OpaqueNodePtr.{OpaqueNodePtr}
 use Rattle.art_model.specs.Trees.{Tree}
 use Rattle.art_model.specs.Radix.{unmarked, pairs_of, IsRadix}
-use Rattle.art_model.specs.Layouts.{Node, names_of, leaf_names, IsLayout, StandsFor}
+use Rattle.art_model.specs.Layouts.{Node, names_of, leaf_names, inner_names, shape_of, IsLayout, StandsFor}
 use Rattle.art_model.specs.ByCases.{Stands}
-use Rattle.art_model.specs.Stores.{held}
+use Rattle.art_model.specs.Stores.{held, node_at, shape_at}
 use Rattle.art_model.specs.Canonical.{IsTree}
 use Rattle.art_model.specs.Footprints.{IsIn, Footprint}
 
@@ -25,6 +25,11 @@ module _ (N A : Type 0) where
   HasOneLayout = (at : N → Option (Node N A)) (root : N) (layout other : Tree N A) → IsLayout at root layout → IsLayout at root other → other ≡ layout
 
 module _ (K V : Type 0) where
+  -- a name that stands for a tree stands for it without leaves too, with the same names
+  abbrev pub HasShape : Type 0
+  HasShape = (s : Nodes K V) (root : OpaqueNodePtr) (layout : Tree OpaqueNodePtr (K × V)) → IsLayout (node_at s) root layout →
+      IsLayout (shape_at s) root (shape_of layout) × (leaf_names (shape_of layout) ≡ leaf_names layout) × (inner_names (shape_of layout) ≡ inner_names layout)
+
   -- a canonical root's layout is a radix tree, whose leaves have the pairs in order
   abbrev pub HasRadixLayout : Type 0
   HasRadixLayout = (bytes : K × V → List ℕ) (P : ℕ) (s : Nodes K V) (root : OpaqueNodePtr) (pairs : List (K × V)) (layout : Tree OpaqueNodePtr (K × V)) →
