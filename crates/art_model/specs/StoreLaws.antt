@@ -3,7 +3,7 @@ use Rattle.std.specs.Prelude.{◌≡◌, ℕ, List, [], Option, None}
 use Rattle.art_nodes.specs.Nodes.{Nodes}
 use Rattle.art_nodes.specs.declared.node.OpaqueNodePtr.{OpaqueNodePtr}
 use Rattle.art_model.specs.Trees.{Tree}
-use Rattle.art_model.specs.Radix.{unmarked, pairs_of, IsRadix}
+use Rattle.art_model.specs.Radix.{unmarked, pairs_of, HaveChildren, IsRadix}
 use Rattle.art_model.specs.Layouts.{Node, names_of, leaf_names, inner_names, shape_of, IsLayout, StandsFor}
 use Rattle.art_model.specs.ByCases.{Stands}
 use Rattle.art_model.specs.Stores.{held, node_at, shape_at}
@@ -34,6 +34,11 @@ module _ (K V : Type 0) where
   abbrev pub HasRadixLayout : Type 0
   HasRadixLayout = (bytes : K × V → List ℕ) (P : ℕ) (s : Nodes K V) (root : OpaqueNodePtr) (pairs : List (K × V)) (layout : Tree OpaqueNodePtr (K × V)) →
       IsTree bytes P s root pairs layout → IsRadix bytes P [] layout × (pairs_of layout ≡ pairs)
+
+  -- the nodes below a canonical root are where its layout says, and its inner nodes all have children
+  abbrev pub HasChildren : Type 0
+  HasChildren = (bytes : K × V → List ℕ) (P : ℕ) (s : Nodes K V) (root : OpaqueNodePtr) (pairs : List (K × V)) (layout : Tree OpaqueNodePtr (K × V)) →
+      IsTree bytes P s root pairs layout → IsLayout (node_at s) root layout × HaveChildren 1 layout
 
   -- roots that are canonical for the same pairs stand for the same tree, in whatever stores
   abbrev pub HaveSameTree : Type 0

@@ -1,6 +1,6 @@
 //! Names that stand for trees, and canonical roots.
 
-ghost use Rattle.art_model.specs.StoreLaws.{CasesHaveLayout, LayoutsHaveCases, HasOneLayout, HasShape, HasRadixLayout, HaveSameTree};
+ghost use Rattle.art_model.specs.StoreLaws.{CasesHaveLayout, LayoutsHaveCases, HasOneLayout, HasShape, HasRadixLayout, HasChildren, HaveSameTree};
 
 /// That a name stands for a tree can be said by cases on the tree, or by a layout: both say the same.
 pub fn both_forms_say_the_same<N, A>()
@@ -16,6 +16,11 @@ pub fn a_name_has_one_layout<N, A>()
 /// A tree can be read without its leaves: it has the same shape and the same names.
 pub fn a_tree_has_a_shape<K, V>()
     ensures { HasShape K V }
+{}
+
+/// A canonical root meets the wider condition of calls that ask for a layout whose inner nodes all have children.
+pub fn a_canonical_root_has_children<K, V>()
+    ensures { HasChildren K V }
 {}
 
 /// The pairs decide the tree below a canonical root: its shape, its prefixes and its leaves.
