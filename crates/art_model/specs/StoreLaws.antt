@@ -40,6 +40,11 @@ module _ (K V : Type 0) where
   HasChildren = (bytes : K × V → List ℕ) (P : ℕ) (s : Nodes K V) (root : OpaqueNodePtr) (pairs : List (K × V)) (layout : Tree OpaqueNodePtr (K × V)) →
       IsTree bytes P s root pairs layout → IsLayout (node_at s) root layout × HaveChildren 1 layout
 
+  -- a root is canonical for one list of pairs, with one layout
+  abbrev pub HasOneMap : Type 0
+  HasOneMap = (bytes : K × V → List ℕ) (P : ℕ) (s : Nodes K V) (root : OpaqueNodePtr) (pairs others : List (K × V)) (layout other : Tree OpaqueNodePtr (K × V)) →
+      IsTree bytes P s root pairs layout → IsTree bytes P s root others other → (others ≡ pairs) × (other ≡ layout)
+
   -- roots that are canonical for the same pairs stand for the same tree, in whatever stores
   abbrev pub HaveSameTree : Type 0
   HaveSameTree = (bytes : K × V → List ℕ) (P : ℕ) (s z : Nodes K V) (root other : OpaqueNodePtr) (pairs : List (K × V)) (layout copy : Tree OpaqueNodePtr (K × V)) →
