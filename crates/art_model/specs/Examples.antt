@@ -93,7 +93,7 @@ pictured =
     (child 105 (inner (node4 1) (of_length 4 (110 ∷ 116 ∷ [])) (child 97 (leaf (leaf_at 2) interact) (child 101 (leaf (leaf_at 0) interest) no_child)))
     (child 107 (leaf (leaf_at 5) kit) no_child))
 
--- the nodes under its names
+-- its nodes by kind and slot
 abbrev pub pictured_in : NodeType → ℕ → Option (Node OpaqueNodePtr Key)
 pictured_in Node4 slot =
     cond (eqb slot 0) (Some (inner_node (of_length 0 []) ((105, node4 1) ∷ (107, leaf_at 5) ∷ [])))
@@ -101,6 +101,7 @@ pictured_in Node4 slot =
 pictured_in Leaf slot = cond (eqb slot 2) (Some (leaf_node interact)) (cond (eqb slot 0) (Some (leaf_node interest)) (cond (eqb slot 5) (Some (leaf_node kit)) None))
 pictured_in kind slot = None
 
+-- the nodes under its names
 abbrev pub pictured_at : OpaqueNodePtr → Option (Node OpaqueNodePtr Key)
 pictured_at name = pictured_in name.kind name.slot
 
