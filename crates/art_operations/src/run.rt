@@ -14,6 +14,7 @@ ghost use Rattle.art_operations.specs.declared.run.Side.TheVariants.{First};
 
 use art_nodes::node::{AsBytes, LeafPtr, OpaqueNodePtr};
 use art_nodes::store::NodeStore;
+use art_oracle::build::build;
 use art_oracle::pairs::{contains, has_related, insert_at, remove, replace_at, search};
 use std::alloc::{AllocError, Global};
 use std::boxed::BoxedSlice;
@@ -198,27 +199,6 @@ fn reserve<K: AsBytes + Drop, V: Drop, const P: usize>(
     let nodes = leaves.checked_mul(2).ok_or(AllocError)?;
     store.reserve_any(nodes)?;
     names.reserve(leaves)
-}
-
-// A stand-in.
-fn build<K: AsBytes + Drop, V: Drop, const P: usize>(
-    store: &mut NodeStore<K, V, P>,
-    pairs: Vec<(K, V)>,
-    names: Vec<LeafPtr>,
-) -> Option<OpaqueNodePtr>
-    requires map { IsMap (of_key K.bytes) pairs.items }
-    requires room { 2 * length pairs.items ≤ store.old.room }
-    requires empty { names.items ≡ [] }
-    requires capacity { length pairs.items ≤ vec_capacity names }
-    ensures canonical { IsCanonical (of_key K.bytes) P store.new result pairs.items }
-    ensures kept { KeepsNodes store.old store.new }
-    ensures names { AddsTree (of_key K.bytes) P store.old store.new result pairs.items }
-    ensures fresh { (name : OpaqueNodePtr) → IsInTree (of_key K.bytes) P store.new result pairs.items name → held store.old name ≡ None }
-{
-    let _ = store;
-    let _ = pairs;
-    let _ = names;
-    None
 }
 
 #[cfg(test)]
