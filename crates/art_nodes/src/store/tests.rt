@@ -6,7 +6,6 @@ ghost use Rattle.art_nodes.specs.Changes.{with_links, with_child};
 ghost use Rattle.art_nodes.specs.Inner.{childless};
 
 use super::*;
-use crate::node::{FromHeader, InnerNode4};
 use art_test_support::all_memory;
 use std::test::Fail;
 
@@ -16,16 +15,11 @@ type Store = NodeStore<[u8; 1], u32, 2>;
 const MORE_THAN_FIT: usize = 1_000;
 
 fn leaf_of(byte: u8, value: u32) -> LeafNode<[u8; 1], u32> {
-    LeafNode {
-        key: [byte],
-        value,
-        previous: None,
-        next: None,
-    }
+    LeafNode::with_no_siblings([byte], value)
 }
 
 fn node4(prefix: &[u8; 2]) -> AnyInner<2> {
-    AnyInner::Node4(InnerNode4::from_header(Header::new(prefix, 2)))
+    AnyInner::from_header(NodeType::Node4, Header::new(prefix, 2))
 }
 
 // A caller: places a leaf and links it behind another one.
@@ -70,7 +64,7 @@ fn place_above<K: AsBytes + Drop, V: Drop, const P: usize>(
     ensures placed { IfOk result (λ name. map.get store.new.inners name ≡ Some (with_child byte child (childless header.entry))) }
     ensures leaves { store.new.leaves ≡ store.old.leaves }
 {
-    let node = AnyInner::Node4(InnerNode4::from_header(header));
+    let node = AnyInner::from_header(NodeType::Node4, header);
     let name = store.place_inner(node).map_err(|refused| refused.1)?;
     store.write_child(name, byte, child);
     Ok(name)
@@ -97,12 +91,9 @@ fn move_header<K: AsBytes + Drop, V: Drop, const P: usize>(
 #[test]
 fn an_empty_store_has_no_node(rt: HostRuntime) {
     let store = Store::new(rt.alloc());
-    let inner = InnerPtr {
-        kind: NodeType::Node4,
-        slot: 0,
-    };
     assert!(rt; store.leaf(LeafPtr::from_slot(0)).is_none());
-    assert!(rt; store.inner(inner).is_none());
+    let inner = InnerPtr::from_parts(NodeType::Node4, 0);
+    assert!(rt; inner.is_some_and(|name| store.inner(name).is_none()));
 }
 
 #[test]
@@ -153,7 +144,7 @@ fn inner_nodes_are_written_and_freed(rt: HostRuntime) -> Result<(), Fail> {
     let node = move_header(&mut store, lower, upper, Header::new(&[5, 6], 2));
     assert_eq!(rt; node.as_ref().lookup_child(3), Some(child));
     let seen = store.inner(upper).ok_or("the upper node")?;
-    assert_eq!(rt; seen.header().read_prefix(), [5, 6].as_slice());
+    assert_eq!(rt; seen.read_prefix(), [5, 6].as_slice());
     assert!(rt; store.inner(lower).is_none());
     Ok(())
 }
