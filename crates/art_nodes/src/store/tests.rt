@@ -88,6 +88,47 @@ fn move_header<K: AsBytes + Drop, V: Drop, const P: usize>(
     node
 }
 
+// A caller: no placement is refused that the promise covers.
+fn place_promised<K: AsBytes + Drop, V: Drop, const P: usize>(
+    store: &mut NodeStore<K, V, P>,
+    leaves: (LeafNode<K, V>, LeafNode<K, V>),
+    header: Header<P>,
+) -> Result<(LeafPtr, InnerPtr, LeafPtr), AllocError>
+    ensures reserved { IfOk result (λ names. IsSome (map.get store.new.leaves names.2)) }
+{
+    store.reserve(2, Some(NodeType::Node16))?;
+    let first = store
+        .place_leaf(leaves.0)
+        .map_err(|refused| refused.1)
+        .unwrap();
+    let node = AnyInner::from_header(NodeType::Node16, header);
+    let upper = store
+        .place_inner(node)
+        .map_err(|refused| refused.1)
+        .unwrap();
+    let second = store
+        .place_leaf(leaves.1)
+        .map_err(|refused| refused.1)
+        .unwrap();
+    Ok((first, upper, second))
+}
+
+// A caller: no placement is refused for which there is room.
+fn place_with_room<K: AsBytes + Drop, V: Drop, const P: usize>(
+    store: &mut NodeStore<K, V, P>,
+    leaf: LeafNode<K, V>,
+    header: Header<P>,
+) -> Result<(LeafPtr, InnerPtr), AllocError> {
+    store.reserve_any(2)?;
+    let node = AnyInner::from_header(NodeType::Node48, header);
+    let upper = store
+        .place_inner(node)
+        .map_err(|refused| refused.1)
+        .unwrap();
+    let lower = store.place_leaf(leaf).map_err(|refused| refused.1).unwrap();
+    Ok((lower, upper))
+}
+
 #[test]
 fn an_empty_store_has_no_node(rt: HostRuntime) {
     let store = Store::new(rt.alloc());
