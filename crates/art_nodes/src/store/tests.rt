@@ -219,62 +219,63 @@ fn refused_header(store: &mut Store) -> Option<Header<2>> {
     None
 }
 
-// A refusal before all memory is held decides nothing in the tests below.
-
+// Says the same with ample memory and with any one request for memory refused.
 #[test]
-fn refused_placements_hand_the_node_back(rt: HostRuntime) {
-    let alloc = rt.alloc();
-    let mut store = Store::new(alloc);
+fn refused_placements_leave_the_nodes(rt: HostRuntime) {
+    let mut store = Store::new(rt.alloc());
     let Ok(first) = store.place_leaf(leaf_of(1, 10)) else {
         return;
     };
+    for value in 0..20 {
+        match store.place_leaf(leaf_of(2, value)) {
+            Ok(name) => assert_eq!(rt; store.leaf(name).map(|leaf| leaf.value), Some(value)),
+            Err((leaf, _)) => assert_eq!(rt; (leaf.key[0], leaf.value), (2, value)),
+        }
+        assert_eq!(rt; store.leaf(first).map(|leaf| leaf.value), Some(10));
+    }
+}
+
+#[test]
+fn without_memory_placements_hand_the_node_back(rt: HostRuntime) -> Result<(), Fail> {
+    let alloc = rt.alloc();
+    let mut store = Store::new(alloc);
+    let first = store.place_leaf(leaf_of(1, 10)).map_err(|refused| refused.1)?;
     let child = first.to_opaque();
-    let Ok(upper) = place_above(&mut store, Header::new(&[5, 6], 2), 3, child) else {
-        return;
-    };
-    let Ok(held) = all_memory(alloc) else {
-        return;
-    };
+    let upper = place_above(&mut store, Header::new(&[5, 6], 2), 3, child)?;
+
+    let held = all_memory(alloc)?;
     let pair = refused_leaf(&mut store);
     let header = refused_header(&mut store);
     drop(held);
     assert_eq!(rt; pair, Some(([9], 90)));
     assert!(rt; header.is_some_and(|header| header.read_prefix() == [8, 9].as_slice()));
     assert_eq!(rt; store.leaf(first).map(|leaf| leaf.value), Some(10));
-    assert_eq!(rt;
-        store.inner(upper).and_then(|node| node.lookup_child(3)),
-        Some(child)
-    );
+    let seen = store.inner(upper).ok_or("the inner node")?;
+    assert_eq!(rt; seen.lookup_child(3), Some(child));
+    Ok(())
 }
 
 #[test]
-fn refused_reservations_leave_the_nodes(rt: HostRuntime) {
+fn without_memory_reservations_leave_the_nodes(rt: HostRuntime) -> Result<(), Fail> {
     let alloc = rt.alloc();
     let mut store = Store::new(alloc);
-    let Ok(first) = store.place_leaf(leaf_of(1, 10)) else {
-        return;
-    };
-    let Ok(held) = all_memory(alloc) else {
-        return;
-    };
-    let promised = store.reserve(1 << 20, None);
-    let made = store.reserve_any(1 << 20);
+    let first = store.place_leaf(leaf_of(1, 10)).map_err(|refused| refused.1)?;
+
+    let held = all_memory(alloc)?;
+    let refused = [store.reserve(1 << 20, None).is_err(), store.reserve_any(1 << 20).is_err()];
     drop(held);
-    assert!(rt; promised.is_err());
-    assert!(rt; made.is_err());
+    assert_eq!(rt; refused, [true; 2]);
     assert_eq!(rt; store.leaf(first).map(|leaf| leaf.value), Some(10));
+    Ok(())
 }
 
 #[test]
-fn refused_memory_leaves_what_is_promised(rt: HostRuntime) {
+fn without_memory_the_promise_is_kept(rt: HostRuntime) -> Result<(), Fail> {
     let alloc = rt.alloc();
     let mut store = Store::new(alloc);
-    if store.reserve(2, Some(NodeType::Node4)).is_err() {
-        return;
-    }
-    let Ok(held) = all_memory(alloc) else {
-        return;
-    };
+    store.reserve(2, Some(NodeType::Node4))?;
+
+    let held = all_memory(alloc)?;
     let placed = [
         store.place_leaf(leaf_of(1, 10)).is_ok(),
         store.reserve(1, Some(NodeType::Node4)).is_ok(),
@@ -283,18 +284,16 @@ fn refused_memory_leaves_what_is_promised(rt: HostRuntime) {
     ];
     drop(held);
     assert_eq!(rt; placed, [true; 4]);
+    Ok(())
 }
 
 #[test]
-fn refused_memory_leaves_the_room(rt: HostRuntime) {
+fn without_memory_the_room_is_kept(rt: HostRuntime) -> Result<(), Fail> {
     let alloc = rt.alloc();
     let mut store = Store::new(alloc);
-    if store.reserve_any(3).is_err() {
-        return;
-    }
-    let Ok(held) = all_memory(alloc) else {
-        return;
-    };
+    store.reserve_any(3)?;
+
+    let held = all_memory(alloc)?;
     let placed = [
         store.place_leaf(leaf_of(1, 10)).is_ok(),
         store.place_inner(node4(&[8, 9])).is_ok(),
@@ -303,4 +302,5 @@ fn refused_memory_leaves_the_room(rt: HostRuntime) {
     ];
     drop(held);
     assert_eq!(rt; placed, [true; 4]);
+    Ok(())
 }
