@@ -92,6 +92,25 @@ rises_by_place (c ∷ cs) j zero d e rising before within = absurd (omega arith)
 rises_by_place (c ∷ cs) zero (suc k) d e rising before within = below_all c.0 cs k e rising.0 (omega arith)
 rises_by_place (c ∷ cs) (suc j) (suc k) d e rising before within = rises_by_place cs j k d e rising.1 (omega arith) (omega arith)
 
+same_place : (cs : Children) (k : ℕ) (d e : Entry) → k < length cs → (get_or cs k d).0 ≤ (get_or cs k e).0
+same_place [] k d e within = absurd (omega arith)
+same_place (c ∷ cs) zero d e within = omega arith
+same_place (c ∷ cs) (suc k) d e within = same_place cs k d e (omega arith)
+
+pub first_is_least : (whole cs : Children) (d : Entry) → whole ≡ cs → IsRising whole → All (λ child. (get_or whole 0 d).0 ≤ child.0) cs
+first_is_least whole cs d same rising = subst (λ (xs : Children). All (λ child. (get_or whole 0 d).0 ≤ child.0) xs) same (λ k e within. at k e within (cases_eq 0 k))
+  where
+    at : (k : ℕ) (e : Entry) → k < length whole → (0 ≡ k) ⊎ (0 ≢ k) → (get_or whole 0 d).0 ≤ (get_or whole k e).0
+    at k e within (inl first) = subst (λ j. (get_or whole 0 d).0 ≤ (get_or whole j e).0) first (same_place whole 0 d e (omega arith))
+    at k e within (inr later) = omega (arith, rises_by_place whole 0 k d e rising (omega (arith, later)) within)
+
+pub last_is_greatest : (whole cs : Children) (d : Entry) → whole ≡ cs → IsRising whole → All (λ child. child.0 ≤ (get_or whole (length whole - 1) d).0) cs
+last_is_greatest whole cs d same rising = subst (λ (xs : Children). All (λ child. child.0 ≤ (get_or whole (length whole - 1) d).0) xs) same (λ k e within. at k e within (cases_eq k (length whole - 1)))
+  where
+    at : (k : ℕ) (e : Entry) → k < length whole → (k ≡ length whole - 1) ⊎ (k ≢ length whole - 1) → (get_or whole k e).0 ≤ (get_or whole (length whole - 1) d).0
+    at k e within (inl last) = subst (λ j. (get_or whole k e).0 ≤ (get_or whole j d).0) last (same_place whole k e d within)
+    at k e within (inr before) = omega (arith, rises_by_place whole k (length whole - 1) e d rising (omega (arith, before)) (omega arith))
+
 -- a part by bytes rises, and has under a byte in between what the whole has
 pub IsRising-children_between : (first last : ℕ) (cs : Children) → IsRising cs → IsRising (children_between first last cs)
 IsRising-children_between first last cs rising = subst IsRising (part_between first last cs rising) (IsRising-part _ _ cs rising)
