@@ -45,7 +45,6 @@ fn prints_names(rt: HostRuntime) -> Result<(), Fail> {
 #[test]
 fn tells_names_apart(rt: HostRuntime) -> Result<(), Fail> {
     let leaf = LeafPtr::from_slot(5);
-    assert_eq!(rt; leaf.slot(), 5);
     assert_eq!(rt;
         leaf.to_opaque(),
         OpaqueNodePtr::from_parts(NodeType::Leaf, 5)
@@ -55,8 +54,6 @@ fn tells_names_apart(rt: HostRuntime) -> Result<(), Fail> {
     assert_eq!(rt; leaf.to_opaque().split(), NodePtr::Leaf(leaf));
 
     let inner = InnerPtr::from_parts(NodeType::Node48, 5).ok_or("an inner kind")?;
-    assert_eq!(rt; inner.node_type(), NodeType::Node48);
-    assert_eq!(rt; inner.slot(), 5);
     assert_eq!(rt; inner.to_opaque().node_type(), NodeType::Node48);
     assert_eq!(rt; inner.to_opaque().slot(), 5);
     assert_eq!(rt; inner.to_opaque().as_leaf(), None);
