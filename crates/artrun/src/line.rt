@@ -1,0 +1,108 @@
+//! What a line of input asks for.
+ghost use Rattle.std.specs.Prelude.{◌≡◌, ◌≢◌, ◌↔◌, ◌<◌, ◌^◌, ℕ, IsTrue, IfSome, IfNone, IfOk};
+ghost use Rattle.std.specs.Fmt.{decimal};
+ghost use Rattle.artrun.specs.Keys.{IsKeyWord, key_word};
+
+use std::alloc::{AllocError, Global};
+use std::str;
+
+/// A key as a line writes it: `-` for the empty one, or its bytes in decimal joined by dots.
+/// It is judged, and not copied yet.
+#[derive(Clone, Copy)]
+pub struct KeyWord<'a> {
+    pub word: &'a [u8],
+    pub ghost is_key: { ∥ IsKeyWord word.now ∥₁ },
+}
+
+/// What a line asks for.
+#[derive(Clone, Copy)]
+pub enum Request<'a> {
+    Insert(KeyWord<'a>, u32),
+    Delete(KeyWord<'a>),
+    Find(KeyWord<'a>),
+    Nodes,
+}
+
+impl<'a> KeyWord<'a> {
+    /// The word as a key, or None where it writes none.
+    pub fn parse(word: &'a [u8]) -> Option<Self>
+        ensures word { IfSome result (λ key. key.word.now ≡ word.now) }
+        ensures none { IfNone result (¬ IsKeyWord word.now) }
+    {
+        if is_key_word(word) {
+            Some(KeyWord { word })
+        } else {
+            None
+        }
+    }
+
+    /// The key itself.
+    pub fn copy(self, alloc: Global) -> Result<Vec<u8>, AllocError>
+        ensures { IfOk result (λ key. self.entry.word.now ≡ key_word key.items) }
+    {
+        let mut key = Vec::new(alloc);
+        if self.word == b"-".as_slice() {
+            return Ok(key);
+        }
+        for digits in self.word.split(|&character| character == b'.') {
+            if let Some(byte) = parse_byte(digits) {
+                key.push(byte)?;
+            }
+        }
+        Ok(key)
+    }
+}
+
+impl<'a> Request<'a> {
+    ghost use Rattle.artrun.specs.Lines.{line_of, HasSmallValue};
+    ghost use Rattle.artrun.specs.declared.line.Request.{Request};
+
+    /// What a line without its line feed asks for, or None where there is nothing that it asks for.
+    pub fn parse(line: &'a [u8]) -> Option<Self>
+        ensures line { IfSome result (λ request. line.now ≡ line_of request) }
+        ensures none { IfNone result ((request : Request) → HasSmallValue request → line.now ≢ line_of request) }
+    {
+        if line == b"nodes".as_slice() {
+            return Some(Request::Nodes);
+        }
+        if let Some(words) = line.strip_prefix(b"insert ".as_slice()) {
+            let space = words.iter().position(|&character| character == b' ')?;
+            let (key, value) = words.split_at(space);
+            let key = KeyWord::parse(key)?;
+            return Some(Request::Insert(key, parse_number(&value[1..])?));
+        }
+        if let Some(key) = line.strip_prefix(b"delete ".as_slice()) {
+            return Some(Request::Delete(KeyWord::parse(key)?));
+        }
+        let key = line.strip_prefix(b"find ".as_slice())?;
+        Some(Request::Find(KeyWord::parse(key)?))
+    }
+}
+
+fn is_key_word(word: &[u8]) -> bool
+    ensures { IsTrue result ↔ IsKeyWord word.now }
+{
+    word == b"-".as_slice()
+        || word
+            .split(|&character| character == b'.')
+            .all(|digits| parse_byte(digits).is_some())
+}
+
+fn parse_byte(digits: &[u8]) -> Option<u8>
+    ensures value { IfSome result (λ n. digits.now ≡ decimal n) }
+    ensures none { IfNone result ((n : ℕ) → n < 2 ^ 8 → digits.now ≢ decimal n) }
+{
+    u8::try_from(parse_number(digits)?).ok()
+}
+
+// A number in decimal, without a sign and without leading zeros.
+fn parse_number(digits: &[u8]) -> Option<u32>
+    ensures value { IfSome result (λ n. digits.now ≡ decimal n) }
+    ensures none { IfNone result ((n : ℕ) → n < 2 ^ 32 → digits.now ≢ decimal n) }
+{
+    let first = *digits.first()?;
+    if first == b'+' || (first == b'0' && digits.len() > 1) {
+        return None;
+    }
+    str::from_utf8(digits).ok()?.parse().ok()
+}
