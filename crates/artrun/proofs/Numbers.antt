@@ -1,6 +1,7 @@
 -- Which bytes are a number in decimal.
 use Rattle.std.proofs.Common.{◌≡◌, ◌≢◌, ℕ, zero, suc, ◌+◌, ◌<◌, ◌≤◌, ◌^◌, List, length, get_or, refl, ap, sym, ◌∙◌, subst, arith, Result, Ok, Err}
-use Rattle.std.specs.Result.{OkIff, MatchResult}
+use Rattle.std.specs.Option.{IfSome, IfNone}
+use Rattle.std.specs.Result.{OkIff, MatchResult, result_ok}
 use Rattle.std.specs.Fmt.{decimal}
 use Rattle.std.specs.Str.{IsAscii, IsUtf8}
 use Rattle.std.specs.Str.Parse.{ParsesUnsigned, AllDigits, digits_value}
@@ -11,21 +12,28 @@ use Rattle.std.proofs.lemmas.Fmt.{IsAscii-decimal, decimal_digit, decimal_nonemp
 own : IsNumeralModel (AllDigits 10) (digits_value 10)
 own = record { to = λ ds h. h; from = λ ds h. h; same = λ ds h. refl }
 
--- no number begins with a plus, and but for 0 none with a zero
-pub decimal-plus : (bs : List ℕ) (n : ℕ) → n < 2 ^ 32 → get_or bs 0 0 ≡ 43 → bs ≡ decimal n → ⊥
-decimal-plus bs n small plus is =
+-- a number has a digit, no plus in front, and but for 0 no zero in front
+pub decimal_begins : (bs : List ℕ) (n : ℕ) → n < 2 ^ 32 → bs ≡ decimal n → 0 < length bs
+decimal_begins bs n small is = subst (λ xs. 0 < length xs) (sym is) (decimal_nonempty n (omega arith))
+
+pub decimal_unsigned : (bs : List ℕ) (n : ℕ) → n < 2 ^ 32 → bs ≡ decimal n → get_or bs 0 0 ≢ 43
+decimal_unsigned bs n small is plus =
     not_in_digits own (decimal n) 43 (digits_decimal own n (omega arith)) (λ h. omega (arith, h)) 0 (decimal_nonempty n (omega arith)) (ap (λ xs. get_or xs 0 0) (sym is) ∙ plus)
 
-pub decimal-zero : (bs : List ℕ) (n : ℕ) → n < 2 ^ 32 → get_or bs 0 0 ≡ 48 → 1 < length bs → bs ≡ decimal n → ⊥
-decimal-zero bs zero small first long is = omega (arith, ap length (is ∙ decimal_digit 0 (omega arith)))
-decimal-zero bs (suc n) small first long is = omega (arith, ap (λ xs. get_or xs 0 0) is, first_decimal (suc n) (omega arith) (omega arith))
+pub decimal_unpadded : (bs : List ℕ) (n : ℕ) → n < 2 ^ 32 → bs ≡ decimal n → get_or bs 0 0 ≡ 48 → length bs ≡ 1
+decimal_unpadded bs zero small is first = ap length (is ∙ decimal_digit 0 (omega arith))
+decimal_unpadded bs (suc n) small is first = absurd (omega (arith, ap (λ xs. get_or xs 0 0) is, first_decimal (suc n) (omega arith) (omega arith)))
 
 pub decimal_is_utf8 : (bs : List ℕ) (n : ℕ) → n < 2 ^ 32 → bs ≡ decimal n → IsUtf8 bs
 decimal_is_utf8 bs n small is = subst IsUtf8 (sym is) (IsUtf8-from_ascii (decimal n) (IsAscii-decimal n (omega arith)))
 
 -- what parsing gives for bytes with no plus and no zero in front
-pub parsed : {E : Type 0} (bs : List ℕ) (r : Result ℕ E) → ParsesUnsigned 32 10 bs r → get_or bs 0 0 ≢ 43 → (get_or bs 0 0 ≡ 48 → length bs ≡ 1) → MatchResult r (λ n. bs ≡ decimal n) (λ e. (n : ℕ) → n < 2 ^ 32 → bs ≢ decimal n)
+pub parsed : {E : Type 0} (bs : List ℕ) (r : Result ℕ E) → ParsesUnsigned 32 10 bs r → get_or bs 0 0 ≢ 43 → (get_or bs 0 0 ≡ 48 → length bs ≡ 1) → IfSome (result_ok r) (λ n. bs ≡ decimal n)
 parsed bs (Ok n) h plain unpadded =
     let k = parse_plain own 32 bs (Ok n) h plain in
     sym (decimal-digits_value own bs k.0.0 k.0.1 unpadded (omega (arith, k.0.2))) ∙ ap decimal (sym k.1)
-parsed {E} bs (Err e) h plain unpadded = λ n small is. let k : Err {T = ℕ} {E = E} e ≡ Ok n = parse-decimal 32 n bs (Err e) small (omega arith) is h in cc
+parsed bs (Err e) h plain unpadded = tt
+
+pub not_parsed : {E : Type 0} (bs : List ℕ) (r : Result ℕ E) → ParsesUnsigned 32 10 bs r → IfNone (result_ok r) ((n : ℕ) → n < 2 ^ 32 → bs ≢ decimal n)
+not_parsed bs (Ok n) h = tt
+not_parsed {E} bs (Err e) h = λ n small is. let k : Err {T = ℕ} {E = E} e ≡ Ok n = parse-decimal 32 n bs (Err e) small (omega arith) is h in cc

@@ -1,29 +1,26 @@
-//! `artrun`: an adaptive radix tree that is built by the lines of standard input.
+//! `artrun`: an adaptive radix tree that the lines of standard input build.
 #![tactic(auto)]
 
+mod engine;
 mod line;
+mod print;
+mod session;
 
 use std::io;
+use std::io::{BufReader, BufWriter};
+use std::process::ExitCode;
 
-fn main(rt: HostRuntime) -> io::Result<()> {
-    for text in rt.lines(rt.alloc()) {
-        let text = text?;
-        match line::Request::parse(text.as_bytes()) {
-            Some(line::Request::Insert(key, value)) => {
-                let key = key.copy(rt.alloc())?;
-                println!(rt; "insert {key:?} {value}")?;
-            }
-            Some(line::Request::Delete(key)) => {
-                let key = key.copy(rt.alloc())?;
-                println!(rt; "delete {key:?}")?;
-            }
-            Some(line::Request::Find(key)) => {
-                let key = key.copy(rt.alloc())?;
-                println!(rt; "find {key:?}")?;
-            }
-            Some(line::Request::Nodes) => println!(rt; "nodes")?,
-            None => println!(rt; "refused")?,
-        }
-    }
-    Ok(())
+fn status(rt: &(impl Input + Print + AllocGlobal)) -> u8 {
+    let alloc = rt.alloc();
+    let Ok(input) = BufReader::new(alloc, rt.reader()) else {
+        return 1;
+    };
+    let Ok(output) = BufWriter::new(alloc, io::writer(rt)) else {
+        return 1;
+    };
+    engine::serve(alloc, input, output)
+}
+
+fn main(rt: HostRuntime) -> ExitCode {
+    ExitCode::from(status(&rt))
 }
