@@ -10,3 +10,6 @@ pub mod Paths
 pub mod Places
 pub mod Heights
 pub mod Footprints
+pub mod TreeLaws
+pub mod StoreLaws
+pub mod Examples
