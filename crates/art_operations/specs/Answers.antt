@@ -16,3 +16,9 @@ module _ {K V : Type 0} (bytes : K → List ℕ) where
   Answers old (Delete key) (Deleted pair) new = (with_key (of_key bytes) key.items old ≡ option_to_list pair) × (new ≡ remove_key (of_key bytes) key.items old)
   Answers old (Contains key) (Found found) new = (found ≡ has_key (of_key bytes) key.items old) × (new ≡ old)
   Answers old command reply new = ⊥
+
+  -- the reply to an insertion that a related key forbids
+  abbrev pub IsRefusal : K → V → Reply K V → Type 0
+  IsRefusal k v (Conflict key value error) = (key ≡ k) × (value ≡ v) × (error.byte_repr.items.items ≡ bytes k)
+  IsRefusal k v (NoMemory pair) = pair ≡ Some (k, v)
+  IsRefusal k v reply = ⊥

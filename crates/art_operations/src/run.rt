@@ -1,11 +1,12 @@
 //! Commands that are answered in order, and the tree that they leave.
 
-ghost use Rattle.std.specs.Prelude.{◌≡◌, ℕ, List, [], length, ◌≤◌, IfOk, IfErr, OnErr, None};
+ghost use Rattle.std.specs.Prelude.{◌≡◌, ℕ, ◌+◌, ◌*◌, ◌≤◌, List, [], length, false, true, IfOk, IfErr, OnOk, OnErr, None};
 ghost use Rattle.std.specs.Vec.{vec_capacity};
 ghost use Rattle.art_model.specs.Canonical.{IsCanonical};
-ghost use Rattle.art_model.specs.Pairs.{IsMap, of_key};
+ghost use Rattle.art_model.specs.Pairs.{IsMap, of_key, is_conflict, has_key};
 ghost use Rattle.art_oracle.specs.Built.{KeepsNodes, AddsTree};
-ghost use Rattle.art_operations.specs.Answers.{Answers};
+ghost use Rattle.art_operations.specs.Answers.{Answers, IsRefusal};
+ghost use Rattle.art_operations.specs.Room.{HasRoomFor, SameNodes};
 ghost use Rattle.art_operations.specs.Runs.{IsFirstRun};
 ghost use Rattle.art_operations.specs.declared.run.Side.TheVariants.{First};
 
@@ -28,11 +29,22 @@ pub enum Command<K, V> {
 }
 
 /// A key that can't be inserted: a stored key begins with it, or it begins with a stored key.
-#[derive(Clone, PartialEq, Eq, Debug, Drop, Error)]
+#[derive(PartialEq, Eq, Debug, Drop, Error)]
 #[error("Attempted to insert a key [{byte_repr:?}] which is either a prefix of an existing key or an existing key is a prefix of the new key.")]
 pub struct InsertPrefixError {
     /// The bytes of the key.
     pub byte_repr: BoxedSlice<u8>,
+}
+
+impl Clone for InsertPrefixError {
+    ghost use Rattle.std.specs.Prelude.{◌≡◌};
+
+    ghost is_clone = { λ error copy. copy.byte_repr.items.items ≡ error.byte_repr.items.items };
+
+    fn clone(&self) -> Result<Self, AllocError> {
+        let byte_repr = self.byte_repr.clone()?;
+        Ok(InsertPrefixError { byte_repr })
+    }
 }
 
 /// The reply to a command.
@@ -70,7 +82,8 @@ pub struct RunResult<K, V> {
 
 /// Answers commands in order, from no tree, and leaves the tree of the last pairs in `first`.
 ///
-/// An `Err` is for want of memory before the first command, and hands the commands back.
+/// Between the commands the pairs are kept in a sorted list; the tree is built once, at the end.
+/// An `Err` is for want of memory for the replies, before the first command.
 pub fn run<K: AsBytes + Drop, V: Drop, const PREFIX_LEN: usize>(
     first: &mut NodeStore<K, V, PREFIX_LEN>,
     second: &mut NodeStore<K, V, PREFIX_LEN>,
@@ -94,7 +107,7 @@ pub fn run<K: AsBytes + Drop, V: Drop, const PREFIX_LEN: usize>(
     let mut pairs = Vec::new(alloc);
     let mut names = Vec::new(alloc);
     for command in commands {
-        let reply = answer(first, &mut names, &mut pairs, command);
+        let reply = answer(&mut pairs, first, &mut names, command);
         replies.push_reserved(reply);
     }
     let root = build(first, pairs, names);
@@ -105,58 +118,41 @@ pub fn run<K: AsBytes + Drop, V: Drop, const PREFIX_LEN: usize>(
     })
 }
 
-// A stand-in.
-fn build<K: AsBytes + Drop, V: Drop, const P: usize>(
-    store: &mut NodeStore<K, V, P>,
-    pairs: Vec<(K, V)>,
-    names: Vec<LeafPtr>,
-) -> Option<OpaqueNodePtr>
-    requires map { IsMap (of_key K.bytes) pairs.items }
-    requires empty { names.items ≡ [] }
-    requires capacity { length pairs.items ≤ vec_capacity names }
-    ensures canonical { IsCanonical (of_key K.bytes) P store.new result pairs.items }
-    ensures kept { KeepsNodes store.old store.new }
-    ensures names { AddsTree (of_key K.bytes) P store.old store.new result pairs.items }
-{
-    let _ = store;
-    let _ = pairs;
-    let _ = names;
-    None
-}
-
 // Answers a command from a map.
 fn answer<K: AsBytes + Drop, V: Drop, const P: usize>(
+    pairs: &mut Vec<(K, V)>,
     store: &mut NodeStore<K, V, P>,
     names: &mut Vec<LeafPtr>,
-    pairs: &mut Vec<(K, V)>,
     command: Command<K, V>,
 ) -> Reply<K, V>
-    requires { IsMap (of_key K.bytes) pairs.old.items }
+    requires map { IsMap (of_key K.bytes) pairs.old.items }
+    requires room { HasRoomFor pairs.old.items store.old names.old }
     ensures answers { Answers K.bytes pairs.old.items command result pairs.new.items }
     ensures map { IsMap (of_key K.bytes) pairs.new.items }
-    ensures leaves { store.new.leaves ≡ store.old.leaves }
-    ensures inners { store.new.inners ≡ store.old.inners }
+    ensures room { HasRoomFor pairs.new.items store.new names.new }
+    ensures nodes { SameNodes store.old store.new }
 {
     match command {
-        Command::Insert(key, value) => insert(store, names, pairs, key, value),
+        Command::Insert(key, value) => insert(pairs, store, names, key, value),
         Command::Delete(key) => Reply::Deleted(remove(pairs, &key)),
         Command::Contains(key) => Reply::Found(contains(pairs, &key)),
     }
 }
 
-// Puts a pair into a map, with room for the nodes of the map's tree.
+// Puts a pair into a map, once there is room for the nodes of the larger tree.
 fn insert<K: AsBytes + Drop, V: Drop, const P: usize>(
+    pairs: &mut Vec<(K, V)>,
     store: &mut NodeStore<K, V, P>,
     names: &mut Vec<LeafPtr>,
-    pairs: &mut Vec<(K, V)>,
     key: K,
     value: V,
 ) -> Reply<K, V>
-    requires { IsMap (of_key K.bytes) pairs.old.items }
+    requires map { IsMap (of_key K.bytes) pairs.old.items }
+    requires room { HasRoomFor pairs.old.items store.old names.old }
     ensures answers { Answers K.bytes pairs.old.items (Command.Insert key value) result pairs.new.items }
     ensures map { IsMap (of_key K.bytes) pairs.new.items }
-    ensures leaves { store.new.leaves ≡ store.old.leaves }
-    ensures inners { store.new.inners ≡ store.old.inners }
+    ensures room { HasRoomFor pairs.new.items store.new names.new }
+    ensures nodes { SameNodes store.old store.new }
 {
     match search(pairs, key.as_bytes()) {
         Ok(at) => Reply::Inserted(Some(replace_at(pairs, at, key, value))),
@@ -173,27 +169,53 @@ fn insert<K: AsBytes + Drop, V: Drop, const P: usize>(
     }
 }
 
-// The reply to an insertion of a key that is related to a stored one.
-fn conflict<K: AsBytes, V>(alloc: Global, key: K, value: V) -> Reply<K, V> {
+// Refuses a pair whose key is related to a stored one.
+fn conflict<K: AsBytes, V>(alloc: Global, key: K, value: V) -> Reply<K, V>
+    ensures { IsRefusal K.bytes key value result }
+{
     match BoxedSlice::from_slice(alloc, key.as_bytes()) {
         Ok(byte_repr) => Reply::Conflict(key, value, InsertPrefixError { byte_repr }),
         Err(_) => Reply::NoMemory(Some((key, value))),
     }
 }
 
-// Makes room for the leaf names and the nodes of one pair more: a tree has fewer inner nodes than leaves.
-fn reserve<K, V, const P: usize>(
+// Makes room for the leaf names and the nodes of the tree of one pair more.
+fn reserve<K: AsBytes + Drop, V: Drop, const P: usize>(
     store: &mut NodeStore<K, V, P>,
     names: &mut Vec<LeafPtr>,
     count: usize,
 ) -> Result<(), AllocError>
-    ensures leaves { store.new.leaves ≡ store.old.leaves }
-    ensures inners { store.new.inners ≡ store.old.inners }
+    ensures nodes { SameNodes store.old store.new }
+    ensures room { OnOk result (2 * (count + 1) ≤ store.new.room) }
+    ensures kept_room { store.old.room ≤ store.new.room }
+    ensures names { names.new.items ≡ names.old.items }
+    ensures capacity { OnOk result (count + 1 ≤ vec_capacity names.new) }
+    ensures kept_capacity { vec_capacity names.old ≤ vec_capacity names.new }
 {
     let leaves = count.checked_add(1).ok_or(AllocError)?;
     let nodes = leaves.checked_mul(2).ok_or(AllocError)?;
     store.reserve_any(nodes)?;
     names.reserve(leaves)
+}
+
+// A stand-in.
+fn build<K: AsBytes + Drop, V: Drop, const P: usize>(
+    store: &mut NodeStore<K, V, P>,
+    pairs: Vec<(K, V)>,
+    names: Vec<LeafPtr>,
+) -> Option<OpaqueNodePtr>
+    requires map { IsMap (of_key K.bytes) pairs.items }
+    requires room { 2 * length pairs.items ≤ store.old.room }
+    requires empty { names.items ≡ [] }
+    requires capacity { length pairs.items ≤ vec_capacity names }
+    ensures canonical { IsCanonical (of_key K.bytes) P store.new result pairs.items }
+    ensures kept { KeepsNodes store.old store.new }
+    ensures names { AddsTree (of_key K.bytes) P store.old store.new result pairs.items }
+{
+    let _ = store;
+    let _ = pairs;
+    let _ = names;
+    None
 }
 
 #[cfg(test)]

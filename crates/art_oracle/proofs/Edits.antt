@@ -1,13 +1,14 @@
 -- what a change at a key's place makes of a map
-use Rattle.std.proofs.Common.{◌≡◌, ◌≢◌, ℕ, suc, zero, ◌+◌, ◌-◌, ◌<◌, ◌≤◌, List, [], ◌∷◌, ◌++◌, length, take, drop, refl, ap, ap₂, sym, ◌∙◌, arith, true, false, Bool, ◌&&◌, ◌||◌, not, ◌⊎◌, inl, inr, Option, Some, None, slice_get, subst, Result, Ok, Err, IfOk, IfErr, OnOk, is_ok, append_assoc, append-nil, slice_set}
-use Rattle.std.specs.List.{AllByRecursion as Each, list_any, insert, remove}
-use Rattle.std.proofs.lemmas.Bool.{true≢false, false≢true}
+use Rattle.std.proofs.Common.{◌≡◌, ℕ, suc, zero, List, [], ◌∷◌, ◌++◌, take, drop, refl, ap, ap₂, sym, ◌∙◌, true, false, ◌&&◌, not, Some, slice_get, subst, Result, Ok, Err, IfOk, IfErr, OnOk, is_ok, append_assoc, append-nil, slice_set}
+use Rattle.std.specs.List.{AllByRecursion as Each, insert, remove}
+use Rattle.std.proofs.lemmas.Bool.{or_parts}
+use Rattle.std.proofs.Math.Bool.{and-false, or-true}
 use Rattle.std.proofs.lemmas.List.{take-append-drop, set_split}
 use Rattle.std.proofs.lemmas.List.Elements.{filter-append}
 use Rattle.std.proofs.lemmas.Option.{slice_get_within}
 use Rattle.art_model.specs.Keys.{is_before, is_front, are_related, are_same, Precedes}
 use Rattle.art_model.specs.Pairs.{IsMap, with_key, put, remove_key, of_key, is_conflict, has_key}
-use Rattle.art_model.proofs.Keys.{precedes_apart, before_apart, same_related, related_sym, front_same}
+use Rattle.art_model.proofs.Keys.{same_related, related_sym, front_same}
 use Rattle.art_model.proofs.Lists.{Each-weaker, Each-append}
 use Rattle.art_model.proofs.Pairwises.{Pairwise-before, Pairwise-after, Pairwise-without, Pairwise-with}
 use Rattle.art_model.proofs.Paths.{put-between, remove_key-between}
@@ -28,24 +29,16 @@ unrelated_after key k h n = (h, rw (n, later_no_front k key h) refl)
 unrelated_before : (key k : List ℕ) → is_before key k ≡ true → is_front key k ≡ false → Precedes key k
 unrelated_before key k h n = (h, rw (n, later_no_front key k h) refl)
 
-neither : (s t : Bool) → (s || t) ≡ false → (s ≡ false) × (t ≡ false)
-neither true t e = absurd (true≢false e)
-neither false t e = (refl, e)
-
 module _ {K V : Type 0} (bytes : K → List ℕ) (key : List ℕ) where
   pub all_low : (xs : List (K × V)) → AllBefore bytes key xs → is_conflict (of_key bytes) key xs ≡ false → Each (λ y. Precedes (of_key bytes y) key) xs
   all_low [] h e = tt
-  all_low (x ∷ xs) h e = let p = neither (are_related key (bytes x.0) && not (are_same key (bytes x.0))) (is_conflict (of_key bytes) key xs) e in
+  all_low (x ∷ xs) h e = let p = or_parts (are_related key (bytes x.0) && not (are_same key (bytes x.0))) (is_conflict (of_key bytes) key xs) e in
       (unrelated_after key (bytes x.0) h.0 (sym (other_after key (bytes x.0) h.0) ∙ p.0), all_low xs h.1 p.1)
 
   pub all_high : (xs : List (K × V)) → AllAfter bytes key xs → is_conflict (of_key bytes) key xs ≡ false → Each (λ y. Precedes key (of_key bytes y)) xs
   all_high [] h e = tt
-  all_high (x ∷ xs) h e = let p = neither (are_related key (bytes x.0) && not (are_same key (bytes x.0))) (is_conflict (of_key bytes) key xs) e in
+  all_high (x ∷ xs) h e = let p = or_parts (are_related key (bytes x.0) && not (are_same key (bytes x.0))) (is_conflict (of_key bytes) key xs) e in
       (unrelated_before key (bytes x.0) h.0 (sym (other_before key (bytes x.0) h.0) ∙ p.0), all_high xs h.1 p.1)
-
-and_false : (t : Bool) → (t && false) ≡ false
-and_false true = refl
-and_false false = refl
 
 module _ {A : Type 0} (bytes : A → List ℕ) (key : List ℕ) where
   keep_all : (xs : List A) → Each (λ y. are_same key (bytes y) ≡ false) xs → remove_key bytes key xs ≡ xs
@@ -59,13 +52,8 @@ module _ {A : Type 0} (bytes : A → List ℕ) (key : List ℕ) where
   pub some_same : (xs : List A) (i : ℕ) (x : A) → slice_get xs i ≡ Some x → bytes x ≡ key → has_key bytes key xs ≡ true
   some_same [] i x e f = absurd cc
   some_same (y ∷ xs) zero x e f = let s : bytes y ≡ key = ap (λ z. bytes z) (let t : y ≡ x = cc in t) ∙ f in let t : are_same key (bytes y) ≡ true = rw s (front_same key) in rw t refl
-  some_same (y ∷ xs) (suc i) x e f = rw (some_same xs i x e f) (or_true (are_same key (bytes y)))
-    where
-      or_true : (t : Bool) → (t || true) ≡ true
-      or_true true = refl
-      or_true false = refl
+  some_same (y ∷ xs) (suc i) x e f = rw (some_same xs i x e f) (or-true (are_same key (bytes y)))
 
-module _ {A : Type 0} (bytes : A → List ℕ) (key : List ℕ) where
   no_conflict : (xs : List A) → Each (λ y. (are_related key (bytes y) && not (are_same key (bytes y))) ≡ false) xs → is_conflict bytes key xs ≡ false
   no_conflict [] h = refl
   no_conflict (x ∷ xs) h = rw h.0 (no_conflict xs h.1)
@@ -82,13 +70,10 @@ module _ {A : Type 0} (bytes : A → List ℕ) (key : List ℕ) (xs zs : List A)
   conflict-one x e =
       let Q : A → Type 0 = λ y. (are_related key (bytes y) && not (are_same key (bytes y))) ≡ false in
       let same : are_same key (bytes x) ≡ true = rw e (front_same key) in
-      let own : Q x = rw same (and_false (are_related key (bytes x))) in
+      let own : Q x = rw same (and-false (are_related key (bytes x))) in
       no_conflict bytes key (xs ++ x ∷ zs) (Each-append Q xs (x ∷ zs)
       (Each-weaker (λ y. Precedes (bytes y) key) Q (λ y h. let r : are_related key (bytes y) ≡ false = related_sym key (bytes y) ∙ h.1 in rw r refl) xs low)
       (own, Each-weaker (λ y. Precedes key (bytes y)) Q (λ y h. rw h.1 refl) zs high))
-
-  pub with_key-none : with_key bytes key (xs ++ zs) ≡ []
-  with_key-none = filter-append (λ y. are_same key (bytes y)) xs zs ∙ ap₂ (λ (a b : List A). a ++ b) (filter_none (λ y. are_same key (bytes y)) xs others_low) (filter_none (λ y. are_same key (bytes y)) zs others_high)
 
   pub with_key-one : (x : A) → bytes x ≡ key → with_key bytes key (xs ++ x ∷ zs) ≡ x ∷ []
   with_key-one x e =
@@ -127,37 +112,37 @@ module _ {K V : Type 0} (bytes : K → List ℕ) where
 
   module _ (pairs : List (K × V)) (at : ℕ) (key : List ℕ) (map : IsMap (of_key bytes) pairs) where
     -- at the place of the pair with the key
-    module _ (x : K × V) (here : slice_get pairs at ≡ Some x) (same : of_key bytes x ≡ key) where
-      split_map : IsMap (of_key bytes) (take at pairs ++ x ∷ drop (suc at) pairs)
-      split_map = subst (IsMap (of_key bytes)) (split_here pairs at x here) map
+    module _ (is : IsPairOf bytes pairs at key) where
+      split_map : IsMap (of_key bytes) (take at pairs ++ is.pair ∷ drop (suc at) pairs)
+      split_map = subst (IsMap (of_key bytes)) (split_here pairs at is.pair is.here) map
 
       low_here : Each (λ y. Precedes (of_key bytes y) key) (take at pairs)
-      low_here = subst (λ k. Each (λ y. Precedes (of_key bytes y) k) (take at pairs)) same (Pairwise-before Before (take at pairs) (drop (suc at) pairs) x split_map)
+      low_here = subst (λ k. Each (λ y. Precedes (of_key bytes y) k) (take at pairs)) is.same (Pairwise-before Before (take at pairs) (drop (suc at) pairs) is.pair split_map)
 
       high_here : Each (λ y. Precedes key (of_key bytes y)) (drop (suc at) pairs)
-      high_here = subst (λ k. Each (λ y. Precedes k (of_key bytes y)) (drop (suc at) pairs)) same (Pairwise-after Before (take at pairs) (drop (suc at) pairs) x split_map)
+      high_here = subst (λ k. Each (λ y. Precedes k (of_key bytes y)) (drop (suc at) pairs)) is.same (Pairwise-after Before (take at pairs) (drop (suc at) pairs) is.pair split_map)
 
       pub replaced : (new : K × V) → of_key bytes new ≡ key → slice_set pairs at new ≡ put (of_key bytes) new pairs
       replaced new e =
-          set_split pairs at new (slice_get_within pairs at x here)
-          ∙ sym (put-over (of_key bytes) key (take at pairs) (drop (suc at) pairs) low_here high_here new x e same)
-          ∙ ap (put (of_key bytes) new) (sym (split_here pairs at x here))
+          set_split pairs at new (slice_get_within pairs at is.pair is.here)
+          ∙ sym (put-over (of_key bytes) key (take at pairs) (drop (suc at) pairs) low_here high_here new is.pair e is.same)
+          ∙ ap (put (of_key bytes) new) (sym (split_here pairs at is.pair is.here))
 
       pub replaced_map : (new : K × V) → of_key bytes new ≡ key → IsMap (of_key bytes) (slice_set pairs at new)
-      replaced_map new e = subst (IsMap (of_key bytes)) (sym (set_split pairs at new (slice_get_within pairs at x here)))
-          (map_with (take at pairs) (drop (suc at) pairs) new key e low_here high_here (Pairwise-without Before (take at pairs) (drop (suc at) pairs) x split_map))
+      replaced_map new e = subst (IsMap (of_key bytes)) (sym (set_split pairs at new (slice_get_within pairs at is.pair is.here)))
+          (map_with (take at pairs) (drop (suc at) pairs) new key e low_here high_here (Pairwise-without Before (take at pairs) (drop (suc at) pairs) is.pair split_map))
 
       pub removed : remove pairs at ≡ remove_key (of_key bytes) key pairs
-      removed = sym (remove_key-one (of_key bytes) key (take at pairs) (drop (suc at) pairs) low_here high_here x same) ∙ ap (remove_key (of_key bytes) key) (sym (split_here pairs at x here))
+      removed = sym (remove_key-one (of_key bytes) key (take at pairs) (drop (suc at) pairs) low_here high_here is.pair is.same) ∙ ap (remove_key (of_key bytes) key) (sym (split_here pairs at is.pair is.here))
 
       pub removed_map : IsMap (of_key bytes) (remove pairs at)
-      removed_map = Pairwise-without Before (take at pairs) (drop (suc at) pairs) x split_map
+      removed_map = Pairwise-without Before (take at pairs) (drop (suc at) pairs) is.pair split_map
 
       pub alone_here : is_conflict (of_key bytes) key pairs ≡ false
-      alone_here = ap (is_conflict (of_key bytes) key) (split_here pairs at x here) ∙ conflict-one (of_key bytes) key (take at pairs) (drop (suc at) pairs) low_here high_here x same
+      alone_here = ap (is_conflict (of_key bytes) key) (split_here pairs at is.pair is.here) ∙ conflict-one (of_key bytes) key (take at pairs) (drop (suc at) pairs) low_here high_here is.pair is.same
 
-      pub with_here : with_key (of_key bytes) key pairs ≡ x ∷ []
-      with_here = ap (with_key (of_key bytes) key) (split_here pairs at x here) ∙ with_key-one (of_key bytes) key (take at pairs) (drop (suc at) pairs) low_here high_here x same
+      pub with_here : with_key (of_key bytes) key pairs ≡ is.pair ∷ []
+      with_here = ap (with_key (of_key bytes) key) (split_here pairs at is.pair is.here) ∙ with_key-one (of_key bytes) key (take at pairs) (drop (suc at) pairs) low_here high_here is.pair is.same
 
     -- where the key has no pair and is in no conflict
     module _ (gap : IsGapFor bytes pairs at key) (free : is_conflict (of_key bytes) key pairs ≡ false) where
@@ -165,7 +150,7 @@ module _ {K V : Type 0} (bytes : K → List ℕ) where
       gap_map = subst (IsMap (of_key bytes)) (sym (take-append-drop at pairs)) map
 
       free_parts : (is_conflict (of_key bytes) key (take at pairs) ≡ false) × (is_conflict (of_key bytes) key (drop at pairs) ≡ false)
-      free_parts = neither (is_conflict (of_key bytes) key (take at pairs)) (is_conflict (of_key bytes) key (drop at pairs)) (sym (conflict_split bytes key at pairs) ∙ free)
+      free_parts = or_parts (is_conflict (of_key bytes) key (take at pairs)) (is_conflict (of_key bytes) key (drop at pairs)) (sym (conflict_split bytes key at pairs) ∙ free)
 
       low_gap : Each (λ y. Precedes (of_key bytes y) key) (take at pairs)
       low_gap = all_low bytes key (take at pairs) gap.low free_parts.0
@@ -184,7 +169,7 @@ module _ {K V : Type 0} (bytes : K → List ℕ) where
       others : Each (λ y. are_same key (of_key bytes y) ≡ false) (take at pairs ++ drop at pairs)
       others = Each-append (λ y. are_same key (of_key bytes y) ≡ false) (take at pairs) (drop at pairs)
           (Each-weaker (λ y. is_before (of_key bytes y) key ≡ true) (λ y. are_same key (of_key bytes y) ≡ false) (λ y h. rw (later_no_front (of_key bytes y) key h) refl) (take at pairs) gap.low)
-          (Each-weaker (λ y. is_before key (of_key bytes y) ≡ true) (λ y. are_same key (of_key bytes y) ≡ false) (λ y h. let e = later_no_front key (of_key bytes y) h in rw e (and_false (is_front key (of_key bytes y)))) (drop at pairs) gap.high)
+          (Each-weaker (λ y. is_before key (of_key bytes y) ≡ true) (λ y. are_same key (of_key bytes y) ≡ false) (λ y h. let e = later_no_front key (of_key bytes y) h in rw e (and-false (is_front key (of_key bytes y)))) (drop at pairs) gap.high)
 
       no_other : Each (λ y. are_same key (of_key bytes y) ≡ false) pairs
       no_other = subst (Each (λ y. are_same key (of_key bytes y) ≡ false)) (take-append-drop at pairs) others
@@ -201,8 +186,8 @@ module _ {K V : Type 0} (bytes : K → List ℕ) where
   module _ (pairs : List (K × V)) (key : List ℕ) (map : IsMap (of_key bytes) pairs) where
     pub alone : (r : Result ℕ ℕ) → IfOk r (λ at. IsPairOf bytes pairs at key) → OnOk r (is_conflict (of_key bytes) key pairs ≡ false)
     alone (Err at) h = tt
-    alone (Ok at) (x, here, same) = alone_here pairs at key map x here same
+    alone (Ok at) h = alone_here pairs at key map h
 
     pub stored : (r : Result ℕ ℕ) → IfOk r (λ at. IsPairOf bytes pairs at key) → IfErr r (λ at. IsGapFor bytes pairs at key) → is_ok r ≡ has_key (of_key bytes) key pairs
-    stored (Ok at) (x, here, same) gap = sym (some_same (of_key bytes) key pairs at x here same)
+    stored (Ok at) h gap = sym (some_same (of_key bytes) key pairs at h.pair h.here h.same)
     stored (Err at) pair gap = sym (has_none pairs at key map gap)

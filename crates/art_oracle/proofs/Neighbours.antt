@@ -1,47 +1,36 @@
 -- which keys of a sorted list a new key may be related to, and what a change at its place leaves
-use Rattle.std.proofs.Common.{◌≡◌, ◌≢◌, ℕ, suc, zero, ◌+◌, ◌-◌, ◌<◌, ◌≤◌, List, [], ◌∷◌, ◌++◌, length, take, drop, refl, ap, ap₂, sym, ◌∙◌, arith, true, false, Bool, ◌&&◌, ◌||◌, not, ◌⊎◌, inl, inr, Option, Some, None, slice_get, subst}
-use Rattle.std.specs.List.{AllByRecursion as Each, list_any}
-use Rattle.std.proofs.lemmas.Bool.{true≢false, false≢true}
+use Rattle.std.proofs.Common.{◌≡◌, ℕ, suc, ◌-◌, List, [], ◌∷◌, length, take, drop, refl, ap, sym, ◌∙◌, arith, true, false, Bool, ◌&&◌, ◌||◌, not, Some, slice_get, subst}
+use Rattle.std.specs.List.{AllByRecursion as Each}
+use Rattle.std.proofs.lemmas.Bool.{true≢false, false_from_ne_true}
+use Rattle.std.proofs.Math.Bool.{and-true, and-false, or-false}
 use Rattle.std.proofs.lemmas.List.{take-append-drop}
 use Rattle.std.proofs.lemmas.List.Folds.{list_any-append}
 use Rattle.art_model.specs.Keys.{is_before, is_front, are_related, are_same, Precedes}
-use Rattle.art_model.specs.Pairs.{IsMap, with_key, put, remove_key, of_key, is_conflict, has_key}
+use Rattle.art_model.specs.Pairs.{IsMap, of_key, is_conflict}
 use Rattle.art_model.proofs.Keys.{precedes_apart, before_apart, IsMap-left, IsMap-right}
 use Rattle.art_oracle.specs.SortedPairs.{AllBefore, AllAfter}
-use Rattle.art_oracle.proofs.Order.{between, later_no_front, before_trans}
+use Rattle.art_oracle.proofs.Order.{between, later_no_front}
 
 -- whether a key is related to another and unequal
 abbrev is_other : List ℕ → List ℕ → Bool
 is_other key other = are_related key other && not (are_same key other)
 
 pub other_after : (key k : List ℕ) → is_before k key ≡ true → is_other key k ≡ is_front k key
-other_after key k h = let e = later_no_front k key h in rw e (go (is_front k key))
-  where
-    go : (t : Bool) → ((false || t) && not (false && t)) ≡ t
-    go true = refl
-    go false = refl
+other_after key k h = let e = later_no_front k key h in rw e (and-true (is_front k key))
 
 pub other_before : (key k : List ℕ) → is_before key k ≡ true → is_other key k ≡ is_front key k
-other_before key k h = let e = later_no_front key k h in rw e (go (is_front key k))
-  where
-    go : (t : Bool) → ((t || false) && not (t && false)) ≡ t
-    go true = refl
-    go false = refl
+other_before key k h = let e = later_no_front key k h in rw (e, or-false, and-false, and-true) refl
 
-not_true : (t : Bool) → (t ≡ true → ⊥) → t ≡ false
-not_true true h = absurd (h refl)
-not_true false h = refl
-
-front_related : (a b : List ℕ) → is_front a b ≡ true → are_related a b ≡ true
-front_related a b e = rw e refl
+related_by_front : (a b : List ℕ) → is_front a b ≡ true → are_related a b ≡ true
+related_by_front a b e = rw e refl
 
 -- a key with another between it and the new one is no front of that
 far_below : (k l key : List ℕ) → Precedes k l → is_before l key ≡ true → is_front k key ≡ false
-far_below k l key p h = not_true (is_front k key) (λ e. true≢false (sym (front_related k l (between k l key (precedes_apart k l p) (before_apart l key h) e)) ∙ p.1))
+far_below k l key p h = false_from_ne_true (is_front k key) (λ e. true≢false (sym (related_by_front k l (between k l key (precedes_apart k l p) (before_apart l key h) e)) ∙ p.1))
 
 -- what a key begins, the keys before that and after it begin with it too
 far_above : (key k l : List ℕ) → is_before key k ≡ true → Precedes k l → is_front key k ≡ false → is_front key l ≡ false
-far_above key k l h p n = not_true (is_front key l) (λ e. true≢false (sym (between key k l (before_apart key k h) (precedes_apart k l p) e) ∙ n))
+far_above key k l h p n = false_from_ne_true (is_front key l) (λ e. true≢false (sym (between key k l (before_apart key k h) (precedes_apart k l p) e) ∙ n))
 
 module _ {K V : Type 0} (bytes : K → List ℕ) where
   pub conflict_split : (key : List ℕ) (at : ℕ) (pairs : List (K × V)) → is_conflict (of_key bytes) key pairs ≡ (is_conflict (of_key bytes) key (take at pairs) || is_conflict (of_key bytes) key (drop at pairs))
@@ -55,11 +44,7 @@ module _ {K V : Type 0} (bytes : K → List ℕ) where
 
   pub last_decides : (key : List ℕ) (pairs : List (K × V)) (x : K × V) → IsMap (of_key bytes) pairs → AllBefore bytes key pairs → slice_get pairs (length pairs - 1) ≡ Some x → is_conflict (of_key bytes) key pairs ≡ is_front (bytes x.0) key
   last_decides key [] x map low e = absurd cc
-  last_decides key (y ∷ []) x map low e = let s : y ≡ x = cc in rw (other_after key (bytes y.0) low.0) (subst (λ z. (is_front (bytes y.0) key || false) ≡ is_front (bytes z.0) key) s (or_false (is_front (bytes y.0) key)))
-    where
-      or_false : (t : Bool) → (t || false) ≡ t
-      or_false true = refl
-      or_false false = refl
+  last_decides key (y ∷ []) x map low e = let s : y ≡ x = cc in rw (other_after key (bytes y.0) low.0) (subst (λ z. (is_front (bytes y.0) key || false) ≡ is_front (bytes z.0) key) s (or-false (is_front (bytes y.0) key)))
   last_decides key (y ∷ z ∷ rest) x map low e =
       rw (other_after key (bytes y.0) low.0, far_below (bytes y.0) (bytes z.0) key map.0.0 low.1.0) (last_decides key (z ∷ rest) x map.1 low.1 (let n : length (y ∷ z ∷ rest) - 1 ≡ suc (length (z ∷ rest) - 1) = omega arith in rw n at e))
 

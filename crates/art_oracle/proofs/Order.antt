@@ -1,12 +1,11 @@
 -- fronts and the order of keys
-use Rattle.std.proofs.Common.{◌≡◌, ◌≢◌, ℕ, suc, zero, ◌+◌, ◌<◌, ◌≤◌, List, [], ◌∷◌, ◌++◌, length, take, refl, ap, ap₂, sym, ◌∙◌, arith, eqb, eq-eqb, true, false, Bool, ◌&&◌, ◌||◌, ◌⊎◌, inl, inr}
+use Rattle.std.proofs.Common.{◌≡◌, ℕ, ◌<◌, List, [], ◌∷◌, refl, ap, sym, ◌∙◌, arith, eqb, eq-eqb, true, false, Bool, ◌&&◌, ◌⊎◌, inl, inr}
 use Rattle.std.specs.List.{starts_with}
-use Rattle.std.specs.Cmp.Lexicographic.{slice_cmp, nat_list_cmp_total, pointwise}
+use Rattle.std.specs.Cmp.Lexicographic.{slice_cmp, nat_list_cmp_total}
 use Rattle.std.specs.Ordering.{nat_cmp, is_lt}
-use Rattle.std.specs.declared.cmp.Ordering.{Ordering}
-use Rattle.std.specs.declared.cmp.Ordering.TheVariants.{Less, Equal, Greater}
+use Rattle.std.specs.declared.cmp.Ordering.TheVariants.{Less, Greater}
 use Rattle.std.proofs.lemmas.Bool.{ne_eqb, le-ltb, lt-ltb, true≢false, false≢true, cases_order}
-use Rattle.art_model.specs.Keys.{is_before, is_front, are_related, are_same, Precedes}
+use Rattle.art_model.specs.Keys.{is_before, is_front}
 
 -- `starts_with` of std
 pub starts_with-bytes : (front whole : List ℕ) → starts_with eqb whole front ≡ is_front front whole
@@ -57,11 +56,3 @@ later_no_front a b h = go (is_front b a) refl
     go : (t : Bool) → is_front b a ≡ t → t ≡ false
     go true e = absurd (true≢false (sym h ∙ front_not_after b a e))
     go false e = refl
-
-pub before_trans : (a b c : List ℕ) → is_before a b ≡ true → is_before b c ≡ true → is_before a c ≡ true
-before_trans a b c h k = before_from_less a c (nat_list_cmp_total.trans a b c (less _ h) (less _ k))
-  where
-    less : (r : Ordering) → is_lt r ≡ true → r ≡ Less
-    less Less e = refl
-    less Equal e = absurd (false≢true e)
-    less Greater e = absurd (false≢true e)

@@ -1,15 +1,14 @@
 -- sorted pairs and a key: where it is, or where it would go
-use Rattle.std.proofs.Common.{◌≡◌, ◌≢◌, ℕ, suc, zero, ◌+◌, ◌<◌, ◌≤◌, List, [], ◌∷◌, ◌++◌, length, take, drop, get_or, refl, ap, ap₂, sym, ◌∙◌, arith, true, false, Bool, ◌⊎◌, inl, inr, Option, Some, None, Result, Ok, Err, IfOk, IfErr, slice_get, subst}
+use Rattle.std.proofs.Common.{◌≡◌, ℕ, suc, zero, ◌+◌, ◌<◌, ◌≤◌, List, [], ◌∷◌, length, take, drop, get_or, arith, true, ◌⊎◌, inl, inr, Some, None, Result, Ok, Err, IfOk, IfErr, slice_get, subst}
 use Rattle.std.specs.List.{AllByRecursion as Each, AllWithin}
 use Rattle.std.specs.List.Sorted.{IsBinarySearchResult, IsSearchInRange, IsSortedBy}
 use Rattle.std.specs.Cmp.Lexicographic.{slice_cmp, nat_list_cmp_total}
 use Rattle.std.specs.Ordering.{nat_cmp, is_lt}
-use Rattle.std.specs.declared.cmp.Ordering.TheVariants.{Less, Equal, Greater}
-use Rattle.std.proofs.lemmas.Bool.{true≢false, false≢true}
+use Rattle.std.specs.declared.cmp.Ordering.TheVariants.{Equal}
 use Rattle.std.proofs.lemmas.Option.{slice_get_cases}
 use Rattle.std.proofs.lemmas.List.Sorted.{searchable_from_sorted}
 use Rattle.std.proofs.lemmas.Map.Lookups.{exact_bytes}
-use Rattle.art_model.specs.Keys.{is_before, is_front, are_related, Precedes}
+use Rattle.art_model.specs.Keys.{is_before}
 use Rattle.art_model.specs.Pairs.{IsMap, of_key}
 use Rattle.art_model.proofs.Keys.{precedes_apart}
 use Rattle.art_oracle.specs.SortedPairs.{IsPairOf, IsGapFor}
@@ -40,7 +39,7 @@ module _ {K V : Type 0} (bytes : K → List ℕ) where
     found (Ok at) l h = go (slice_get_cases pairs at).1
       where
         go : ((x : K × V) × (at < length pairs) × (slice_get pairs at ≡ Some x) × (get_or pairs at x ≡ x)) ⊎ ((length pairs ≤ at) × (slice_get pairs at ≡ None)) → IsPairOf bytes pairs at key
-        go (inl (x, in', here, read)) = (x, here, exact_bytes (bytes x.0) key (subst (λ z. slice_cmp nat_cmp (bytes z.0) key ≡ Equal) read (h x)))
+        go (inl (x, in', here, read)) = record { pair = x; here = here; same = exact_bytes (bytes x.0) key (subst (λ z. slice_cmp nat_cmp (bytes z.0) key ≡ Equal) read (h x)) }
         go (inr (past, none)) = absurd (omega arith)
 
     pub absent : (r : Result ℕ ℕ) → IsSearchInRange r (length pairs) → IsBinarySearchResult (λ y. slice_cmp nat_cmp (bytes y.0) key) pairs r → IfErr r (λ at. IsGapFor bytes pairs at key)

@@ -6,8 +6,10 @@ use Rattle.art_model.specs.Pairs.{of_key}
 
 module _ {K V : Type 0} (bytes : K → List ℕ) where
   -- the pair at a place has this key
-  abbrev pub IsPairOf : List (K × V) → ℕ → List ℕ → Type 0
-  IsPairOf pairs at key = (x : K × V) × (slice_get pairs at ≡ Some x) × (of_key bytes x ≡ key)
+  pub record IsPairOf (pairs : List (K × V)) (at : ℕ) (key : List ℕ) : Type 0 where
+    pub pair : K × V
+    pub here : slice_get pairs at ≡ Some pair
+    pub same : of_key bytes pair ≡ key
 
   -- each pair's key is before this one
   abbrev pub AllBefore : List ℕ → List (K × V) → Type 0

@@ -116,3 +116,101 @@ pub fn remove<K: AsBytes, V>(pairs: &mut Vec<(K, V)>, key: &[u8]) -> Option<(K, 
         Err(_) => None,
     }
 }
+
+#[cfg(test)]
+mod tests {
+    use super::*;
+    use art_test_support::all_memory;
+    use std::alloc::{AllocError, Global};
+    use std::test::Fail;
+
+    // A caller: puts a pair in if no stored key is equal or related, and answers whether it did.
+    fn insert_apart<K: AsBytes + Drop, V: Drop>(
+        pairs: &mut Vec<(K, V)>,
+        key: K,
+        value: V,
+    ) -> Result<bool, AllocError>
+        requires { IsMap (of_key K.bytes) pairs.old.items }
+        ensures { IsMap (of_key K.bytes) pairs.new.items }
+    {
+        match search(pairs, key.as_bytes()) {
+            Err(at) if !has_related(pairs, at, key.as_bytes()) => {
+                insert_at(pairs, at, key, value).map_err(|_| AllocError)?;
+                Ok(true)
+            }
+            _ => Ok(false),
+        }
+    }
+
+    // A caller: gives a stored key another value, and answers the old one.
+    fn replace<K: AsBytes + Drop, V: Drop>(pairs: &mut Vec<(K, V)>, key: K, value: V) -> Option<V>
+        requires { IsMap (of_key K.bytes) pairs.old.items }
+        ensures { IsMap (of_key K.bytes) pairs.new.items }
+    {
+        let Ok(at) = search(pairs, key.as_bytes()) else {
+            return None;
+        };
+        let (_, old) = replace_at(pairs, at, key, value);
+        Some(old)
+    }
+
+    // The keys [1], [2, 1] and [2, 3], with the values 10, 20 and 30.
+    fn three_pairs(alloc: Global) -> Result<Vec<(Vec<u8>, u32)>, AllocError>
+        ensures { IfOk result (λ pairs. IsMap (of_key ⟦<Vec<u8> as AsBytes>⟧.bytes) pairs.items) }
+    {
+        let mut pairs = Vec::new(alloc);
+        insert_apart(&mut pairs, [2, 3].to_vec(alloc)?, 30)?;
+        insert_apart(&mut pairs, [1].to_vec(alloc)?, 10)?;
+        insert_apart(&mut pairs, [2, 1].to_vec(alloc)?, 20)?;
+        Ok(pairs)
+    }
+
+    #[test]
+    fn keeps_keys_in_order(rt: HostRuntime) -> Result<(), Fail> {
+        let pairs = three_pairs(rt.alloc())?;
+        assert_eq!(rt; search(&pairs, &[1]), Ok(0));
+        assert_eq!(rt; search(&pairs, &[2, 3]), Ok(2));
+        assert_eq!(rt; search(&pairs, &[2]), Err(1));
+        assert!(rt; contains(&pairs, &[1]));
+        assert!(rt; !contains(&pairs, &[1, 0]));
+        Ok(())
+    }
+
+    #[test]
+    fn sees_related_keys(rt: HostRuntime) -> Result<(), Fail> {
+        let alloc = rt.alloc();
+        let mut pairs = three_pairs(alloc)?;
+        assert!(rt; !insert_apart(&mut pairs, [2].to_vec(alloc)?, 0)?);
+        assert!(rt; !insert_apart(&mut pairs, [1, 0].to_vec(alloc)?, 0)?);
+        assert!(rt; insert_apart(&mut pairs, [2, 2].to_vec(alloc)?, 0)?);
+        assert_eq!(rt; pairs.len(), 4);
+        Ok(())
+    }
+
+    #[test]
+    fn replaces_and_removes(rt: HostRuntime) -> Result<(), Fail> {
+        let alloc = rt.alloc();
+        let mut pairs = three_pairs(alloc)?;
+        assert_eq!(rt; replace(&mut pairs, [2, 1].to_vec(alloc)?, 21), Some(20));
+        assert_eq!(rt; replace(&mut pairs, [2].to_vec(alloc)?, 0), None);
+        let (_, gone) = remove(&mut pairs, &[2, 1]).ok_or("the pair")?;
+        assert_eq!(rt; gone, 21);
+        assert!(rt; remove(&mut pairs, &[2, 1]).is_none());
+        assert_eq!(rt; pairs.len(), 2);
+        Ok(())
+    }
+
+    #[test]
+    fn refused_insertion_leaves_the_list(rt: HostRuntime) -> Result<(), Fail> {
+        let alloc = rt.alloc();
+        let mut pairs = Vec::new(alloc);
+        let held = all_memory(alloc)?;
+        let inserted = insert_apart(&mut pairs, [7], 70);
+        drop(held);
+        assert!(rt; inserted.is_err());
+        assert!(rt; pairs.is_empty());
+        assert!(rt; insert_apart(&mut pairs, [7], 70)?);
+        assert_eq!(rt; search(&pairs, &[7]), Ok(0));
+        Ok(())
+    }
+}
