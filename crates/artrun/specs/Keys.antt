@@ -8,6 +8,10 @@ abbrev pub key_word : List ℕ → List ℕ
 key_word [] = codes "-"
 key_word (b ∷ bs) = join_with_byte 46 (map decimal (b ∷ bs))
 
+-- the word writes a byte in decimal
+abbrev pub IsByteWord : List ℕ → Type 0
+IsByteWord word = (b : ℕ) × (b < 2 ^ 8) × (word ≡ decimal b)
+
 -- numbers that are bytes
 abbrev pub AreBytes : List ℕ → Type 0
 AreBytes = All (λ b. b < 2 ^ 8)

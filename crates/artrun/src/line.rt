@@ -1,7 +1,8 @@
 //! What a line of input asks for.
-ghost use Rattle.std.specs.Prelude.{◌≡◌, ◌≢◌, ◌↔◌, ◌<◌, ◌^◌, ℕ, IsTrue, IfSome, IfNone, IfOk};
+ghost use Rattle.std.specs.Prelude.{◌≡◌, ◌≢◌, ◌==◌, All, ◌↔◌, ◌<◌, ◌^◌, ℕ, IsTrue, IfSome, IfNone, IfOk, map};
 ghost use Rattle.std.specs.Fmt.{decimal};
-ghost use Rattle.artrun.specs.Keys.{IsKeyWord, key_word};
+ghost use Rattle.std.specs.List.{slice_split};
+ghost use Rattle.artrun.specs.Keys.{IsByteWord, IsKeyWord, key_word};
 
 use std::alloc::{AllocError, Global};
 use std::str;
@@ -40,16 +41,10 @@ impl<'a> KeyWord<'a> {
     pub fn copy(self, alloc: Global) -> Result<Vec<u8>, AllocError>
         ensures { IfOk result (λ key. self.entry.word.now ≡ key_word key.items) }
     {
-        let mut key = Vec::new(alloc);
         if self.word == b"-".as_slice() {
-            return Ok(key);
+            return Ok(Vec::new(alloc));
         }
-        for digits in self.word.split(|&character| character == b'.') {
-            if let Some(byte) = parse_byte(digits) {
-                key.push(byte)?;
-            }
-        }
-        Ok(key)
+        read_bytes(alloc, self.word)
     }
 }
 
@@ -82,10 +77,35 @@ impl<'a> Request<'a> {
 fn is_key_word(word: &[u8]) -> bool
     ensures { IsTrue result ↔ IsKeyWord word.now }
 {
-    word == b"-".as_slice()
-        || word
-            .split(|&character| character == b'.')
-            .all(|digits| parse_byte(digits).is_some())
+    word == b"-".as_slice() || has_byte_words(word)
+}
+
+// Whether each part between dots is the word for a byte.
+fn has_byte_words(word: &[u8]) -> bool
+    ensures { IsTrue result ↔ All IsByteWord (slice_split (λ c. c == 46) word.now) }
+{
+    word.split(|&character| character == b'.')
+        .all(|digits| is_byte_word(digits))
+}
+
+// The bytes that are written between dots.
+fn read_bytes(alloc: Global, word: &[u8]) -> Result<Vec<u8>, AllocError>
+    requires { ∥ All IsByteWord (slice_split (λ c. c == 46) word.now) ∥₁ }
+    ensures { IfOk result (λ key. slice_split (λ c. c == 46) word.now ≡ map decimal key.items) }
+{
+    let mut key = Vec::new(alloc);
+    for digits in word.split(|&character| character == b'.') {
+        if let Some(byte) = parse_byte(digits) {
+            key.push(byte)?;
+        }
+    }
+    Ok(key)
+}
+
+fn is_byte_word(digits: &[u8]) -> bool
+    ensures { IsTrue result ↔ IsByteWord digits.now }
+{
+    parse_byte(digits).is_some()
 }
 
 fn parse_byte(digits: &[u8]) -> Option<u8>
@@ -105,5 +125,8 @@ fn parse_number(digits: &[u8]) -> Option<u32>
     if first == b'+' || (first == b'0' && digits.len() > 1) {
         return None;
     }
-    str::from_utf8(digits).ok()?.parse().ok()
+    let Ok(text) = str::from_utf8(digits) else {
+        return None;
+    };
+    text.parse().ok()
 }
