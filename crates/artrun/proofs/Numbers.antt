@@ -54,6 +54,6 @@ pub decimal_undotted : (n : ℕ) → n < 2 ^ 8 → All (λ c. eqb c 46 ≡ false
 decimal_undotted n small k d below =
     let digits = digits_decimal own n (omega arith) in
     elim (eqb_tells (get_or (decimal n) k d) 46) [
-      inl h ↦ absurd (not_in_digits own (decimal n) 46 digits (λ r. omega (arith, r)) k below (get_or_default (decimal n) k 0 d below ∙ h.1))
-    | inr h ↦ h.0
+      | inl h ↦ absurd (not_in_digits own (decimal n) 46 digits (λ r. omega (arith, r)) k below (get_or_default (decimal n) k 0 d below ∙ h.1))
+      | inr h ↦ h.0
     ]

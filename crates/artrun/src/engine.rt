@@ -68,3 +68,6 @@ fn answer(
         Err(AllocError) => write_no_memory(output),
     }
 }
+
+#[cfg(test)]
+mod tests;

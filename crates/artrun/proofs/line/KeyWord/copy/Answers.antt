@@ -8,8 +8,8 @@ use Rattle.artrun.proofs.line.KeyWord.copy.Goals as goal
 pub read_bytes-requires : goal.read_bytes-requires
 read_bytes-requires c =
     ∥∥₁_map c.args.self.is_key (λ key. elim (words_from_key c.args.self.word.now key) [
-      inl is ↦ absurd (other_text c.args.self.word.now c.as_slice.result.now c.if-eq.ensures (is ∙ sym c.as_slice.ensures))
-    | inr all ↦ all
+      | inl is ↦ absurd (other_text c.args.self.word.now c.as_slice.result.now c.if-eq.ensures (is ∙ sym c.as_slice.ensures))
+      | inr all ↦ all
     ])
 
 pub returns : goal.returns
