@@ -1,2 +1,4 @@
 pub mod KeyLemmas
 pub mod Numbers
+pub mod Subtrees
+pub mod Words

@@ -1,14 +1,15 @@
 -- Which bytes are a number in decimal.
-use Rattle.std.proofs.Common.{◌≡◌, ◌≢◌, ℕ, zero, suc, ◌+◌, ◌<◌, ◌≤◌, ◌^◌, List, length, get_or, refl, ap, sym, ◌∙◌, subst, arith, false, eqb, inl, inr, Result, Ok, Err}
+use Rattle.std.proofs.Common.{◌≡◌, ◌≢◌, ℕ, zero, suc, ◌+◌, ◌<◌, ◌≤◌, ◌^◌, List, length, get_or, refl, ap, sym, ◌∙◌, subst, arith, false, eqb, Result, Ok, Err}
 use Rattle.std.specs.List.{All}
 use Rattle.std.specs.Option.{IfSome, IfNone}
 use Rattle.std.specs.Result.{OkIff, MatchResult, result_ok}
 use Rattle.std.specs.Fmt.{decimal}
+use Rattle.std.specs.Int.{IsInRange}
 use Rattle.std.specs.Str.{IsAscii, IsUtf8}
 use Rattle.std.specs.Str.Parse.{ParsesUnsigned, AllDigits, digits_value}
 use Rattle.std.proofs.lemmas.Str.{IsUtf8-from_ascii}
 use Rattle.std.proofs.lemmas.List.{get_or_default}
-use Rattle.std.proofs.lemmas.Bool.Decides.{eqb_tells}
+use Rattle.std.proofs.lemmas.Bool.{ne_eqb}
 use Rattle.std.proofs.lemmas.Str.Parse.{IsNumeralModel, parse_plain, not_in_digits}
 use Rattle.std.proofs.lemmas.Fmt.{IsAscii-decimal, decimal_digit, decimal_nonempty, first_decimal, digits_decimal, digits_value-decimal, decimal-digits_value, decimal_injective, parse-decimal}
 
@@ -49,11 +50,10 @@ pub too_large : {E : Type 0} (bs : List ℕ) (m : ℕ) (r : Result ℕ E) → m 
 too_large bs m (Ok n) fits is h = tt
 too_large bs m (Err e) fits is h = λ n small other. h (omega (arith, decimal_injective m n (omega arith) (omega arith) (sym is ∙ other)))
 
--- no number has a dot
+-- a number has nothing but digits
+pub decimal_without : (c n : ℕ) → ¬ (IsInRange 48 57 c) → n < 2 ^ 8 → All (λ x. x ≢ c) (decimal n)
+decimal_without c n other small k d below e =
+    not_in_digits own (decimal n) c (digits_decimal own n (omega arith)) other k below (get_or_default (decimal n) k 0 d below ∙ e)
+
 pub decimal_undotted : (n : ℕ) → n < 2 ^ 8 → All (λ c. eqb c 46 ≡ false) (decimal n)
-decimal_undotted n small k d below =
-    let digits = digits_decimal own n (omega arith) in
-    elim (eqb_tells (get_or (decimal n) k d) 46) [
-      | inl h ↦ absurd (not_in_digits own (decimal n) 46 digits (λ r. omega (arith, r)) k below (get_or_default (decimal n) k 0 d below ∙ h.1))
-      | inr h ↦ h.0
-    ]
+decimal_undotted n small k d below = ne_eqb _ _ (decimal_without 46 n (λ h. omega (arith, h)) small k d below)

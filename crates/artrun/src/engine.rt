@@ -1,7 +1,7 @@
 //! Lines in, replies out.
 
 use crate::line::Request;
-use crate::print::{write_no_memory, write_nodes, write_reply};
+use crate::print::{write_no_memory, write_reply};
 use crate::session::Session;
 use art_operations::run::Command;
 use std::alloc::{AllocError, Global};
@@ -61,7 +61,7 @@ fn answer(
         Request::Insert(key, value) => key.copy(alloc).map(|key| Command::Insert(key, value)),
         Request::Delete(key) => key.copy(alloc).map(Command::Delete),
         Request::Find(key) => key.copy(alloc).map(Command::Contains),
-        Request::Nodes => return write_nodes(output, session.store(), session.root()),
+        Request::Nodes => return session.write_nodes(output),
     };
     match command.and_then(|command| session.answer(command)) {
         Ok(reply) => write_reply(output, &reply),

@@ -1,5 +1,5 @@
 //! What a line of input asks for.
-ghost use Rattle.std.specs.Prelude.{◌≡◌, ◌≢◌, ◌==◌, All, ◌↔◌, ◌<◌, ◌^◌, ℕ, IsTrue, IfSome, IfNone, IfOk, map};
+ghost use Rattle.std.specs.Prelude.{◌≡◌, ◌≢◌, ◌==◌, ◌++◌, ◌∷◌, List, All, ◌↔◌, ◌<◌, ◌^◌, ℕ, IsTrue, IfSome, IfNone, IfOk, map};
 ghost use Rattle.std.specs.Fmt.{decimal};
 ghost use Rattle.std.specs.List.{slice_split};
 ghost use Rattle.artrun.specs.Keys.{IsByteWord, IsKeyWord, key_word};
@@ -60,18 +60,44 @@ impl<'a> Request<'a> {
         if line == b"nodes".as_slice() {
             return Some(Request::Nodes);
         }
-        if let Some(words) = line.strip_prefix(b"insert ".as_slice()) {
-            let space = words.iter().position(|&character| character == b' ')?;
-            let (key, value) = words.split_at(space);
-            let key = KeyWord::parse(key)?;
-            return Some(Request::Insert(key, parse_number(&value[1..])?));
+        if let Some(arguments) = strip(line, b"insert ") {
+            let (key, value) = parse_pair(arguments)?;
+            return Some(Request::Insert(key, value));
         }
-        if let Some(key) = line.strip_prefix(b"delete ".as_slice()) {
+        if let Some(key) = strip(line, b"delete ") {
             return Some(Request::Delete(KeyWord::parse(key)?));
         }
-        let key = line.strip_prefix(b"find ".as_slice())?;
+        let key = strip(line, b"find ")?;
         Some(Request::Find(KeyWord::parse(key)?))
     }
+}
+
+// What stands after a front.
+fn strip<'a>(line: &'a [u8], front: &[u8]) -> Option<&'a [u8]>
+    ensures rest { IfSome result (λ rest. line.now ≡ front.now ++ rest.now) }
+    ensures none { IfNone result ((rest : List ℕ) → line.now ≢ front.now ++ rest) }
+{
+    line.strip_prefix(front)
+}
+
+// A key and a value, with a space between them.
+fn parse_pair(words: &[u8]) -> Option<(KeyWord<'_>, u32)>
+    ensures pair { IfSome result (λ pair. words.now ≡ pair.0.word.now ++ 32 ∷ decimal pair.1) }
+    ensures none { IfNone result ((key : List ℕ) (value : ℕ) → IsKeyWord key → value < 2 ^ 32 → words.now ≢ key ++ 32 ∷ decimal value) }
+{
+    let (key, value) = split_word(words)?;
+    Some((KeyWord::parse(key)?, parse_number(value)?))
+}
+
+// The first word, and what stands after the space behind it.
+fn split_word(words: &[u8]) -> Option<(&[u8], &[u8])>
+    ensures parts { IfSome result (λ parts. words.now ≡ parts.0.now ++ 32 ∷ parts.1.now) }
+    ensures word { IfSome result (λ parts. All (λ c. c ≢ 32) parts.0.now) }
+    ensures none { IfNone result (All (λ c. c ≢ 32) words.now) }
+{
+    let space = words.iter().position(|&character| character == b' ')?;
+    let (word, rest) = words.split_at(space);
+    Some((word, &rest[1..]))
 }
 
 fn is_key_word(word: &[u8]) -> bool

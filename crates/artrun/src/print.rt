@@ -1,4 +1,6 @@
 //! What is written in reply.
+ghost use Rattle.std.specs.Prelude.{IfSome};
+ghost use Rattle.artrun.specs.Trees.{IsTreeIn};
 
 use art_nodes::node::{LeafNode, NodePtr, OpaqueNodePtr};
 use art_nodes::store::NodeStore;
@@ -67,7 +69,9 @@ pub fn write_nodes<const P: usize>(
     output: &mut impl Write,
     store: &NodeStore<Vec<u8>, u32, P>,
     root: Option<OpaqueNodePtr>,
-) -> io::Result<()> {
+) -> io::Result<()>
+    requires { IfSome root (IsTreeIn store.now) }
+{
     let place = Place {
         depth: 0,
         byte: None,
@@ -83,7 +87,9 @@ fn write_subtree<const P: usize>(
     store: &NodeStore<Vec<u8>, u32, P>,
     root: OpaqueNodePtr,
     place: Place,
-) -> io::Result<()> {
+) -> io::Result<()>
+    requires { IsTreeIn store.now root }
+{
     match root.split() {
         NodePtr::Leaf(name) => match store.leaf(name) {
             Some(leaf) => writeln!(output, "{place}Leaf {}={}", Key(&leaf.key), leaf.value),

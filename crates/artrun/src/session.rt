@@ -1,9 +1,14 @@
-//! The pairs that the lines so far have left, and their tree.
+//! The commands of the lines so far, and the tree that they leave.
+ghost use Rattle.std.specs.Prelude.{◌≡◌, ◌++◌, ◌∷◌, []};
+ghost use Rattle.artrun.specs.Trees.{HasCanonicalTree};
 
+use crate::print::write_nodes;
 use art_nodes::node::OpaqueNodePtr;
 use art_nodes::store::NodeStore;
 use art_operations::run::{Command, Reply, run};
 use std::alloc::{AllocError, Global};
+use std::io;
+use std::io::Write;
 
 /// How many bytes of its prefix an inner node stores.
 pub const PREFIX_LEN: usize = 4;
@@ -14,6 +19,7 @@ pub struct Session {
     commands: Vec<Command<Vec<u8>, u32>>,
     store: NodeStore<Vec<u8>, u32, PREFIX_LEN>,
     root: Option<OpaqueNodePtr>,
+    ghost canonical: { HasCanonicalTree store root },
 }
 
 impl Session {
@@ -26,14 +32,9 @@ impl Session {
         }
     }
 
-    /// The store that the tree stands in.
-    pub fn store(&self) -> &NodeStore<Vec<u8>, u32, PREFIX_LEN> {
-        &self.store
-    }
-
-    /// The root of the tree, if it has any pair.
-    pub fn root(&self) -> Option<OpaqueNodePtr> {
-        self.root
+    /// Writes the nodes of the tree, a line each.
+    pub fn write_nodes(&self, output: &mut impl Write) -> io::Result<()> {
+        write_nodes(output, &self.store, self.root)
     }
 
     /// Answers one more command: runs all of them in two new stores. Where memory is refused at any of them the
