@@ -11,7 +11,7 @@ use Rattle.art_model.specs.Canonical.{IsCanonical}
 
 -- the name stands for a tree in the store
 abbrev pub IsTreeIn : {K V : Type 0} → Nodes K V → OpaqueNodePtr → Type 0
-IsTreeIn {K} {V} s root = ∥ (layout : Tree OpaqueNodePtr (K × V)) × IsLayout (node_at s) root layout ∥₁
+IsTreeIn {K} {V} s root = ∥ ((layout : Tree OpaqueNodePtr (K × V)) × IsLayout (node_at s) root layout) ∥₁
 
 -- a key as a vector of bytes
 abbrev pub Key : Type 0
@@ -19,4 +19,4 @@ Key = Vec ℕ Global
 
 -- the root is the canonical tree of some pairs
 abbrev pub HasCanonicalTree : Nodes Key ℕ → Option OpaqueNodePtr → Type 0
-HasCanonicalTree s root = ∥ (pairs : List (Key × ℕ)) × IsCanonical (of_key (λ key. key.items)) 4 s root pairs ∥₁
+HasCanonicalTree s root = ∥ ((pairs : List (Key × ℕ)) × IsCanonical (of_key (λ key. key.items)) 4 s root pairs) ∥₁

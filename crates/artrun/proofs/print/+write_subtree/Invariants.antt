@@ -8,4 +8,4 @@ decreases-write_subtree g l = height_of l.store.now l.root
 
 -- the children to come stand for lower trees
 abbrev pub invariant-loop-byte : goal.invariant-loop-byte
-invariant-loop-byte g l = All (λ slot. IsLower l.store.now l.root slot.1) l.byte-iterator
+invariant-loop-byte g l = All (λ slot. IsLower l.store l.fn.root slot.1) l.byte-iterator
