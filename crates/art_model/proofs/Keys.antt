@@ -8,7 +8,7 @@ use Rattle.art_model.specs.Keys.{IsFront, is_before, is_front, are_related, are_
 use Rattle.art_model.specs.Pairs.{IsMap}
 use Rattle.art_model.proofs.Lists.{Each-append, Each-left}
 
-cmp-append : (p a b : List ℕ) → slice_cmp nat_cmp (p ++ a) (p ++ b) ≡ slice_cmp nat_cmp a b
+pub cmp-append : (p a b : List ℕ) → slice_cmp nat_cmp (p ++ a) (p ++ b) ≡ slice_cmp nat_cmp a b
 cmp-append [] a b = refl
 cmp-append (x ∷ p) a b = rw (le-ltb x x (omega arith), eq-eqb x x refl) (cmp-append p a b)
 

@@ -7,7 +7,7 @@ use Rattle.art_oracle.specs.Built.{KeepsNodes, AddsTree, IsInTree}
 use Rattle.art_operations.specs.Room.{SameNodes}
 
 module _ {K V : Type 0} where
-  held_same : (old mid : Nodes K V) → SameNodes old mid → (name : OpaqueNodePtr) → held mid name ≡ held old name
+  pub held_same : (old mid : Nodes K V) → SameNodes old mid → (name : OpaqueNodePtr) → held mid name ≡ held old name
   held_same old mid h name = ap₂ (λ leaves inners. held (record old { leaves = leaves; inners = inners }) name) h.0 h.1
 
   pub kept_since : (old mid new : Nodes K V) → SameNodes old mid → KeepsNodes mid new → KeepsNodes old new

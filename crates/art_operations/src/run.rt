@@ -3,8 +3,10 @@
 ghost use Rattle.std.specs.Prelude.{◌≡◌, ℕ, ◌+◌, ◌*◌, ◌≤◌, List, [], length, false, true, IfOk, IfErr, OnOk, OnErr, None};
 ghost use Rattle.std.specs.Vec.{vec_capacity};
 ghost use Rattle.art_model.specs.Canonical.{IsCanonical};
+ghost use Rattle.art_model.specs.Stores.{held};
+ghost use Rattle.art_nodes.specs.declared.node.OpaqueNodePtr.{OpaqueNodePtr};
 ghost use Rattle.art_model.specs.Pairs.{IsMap, of_key, is_conflict, has_key};
-ghost use Rattle.art_oracle.specs.Built.{KeepsNodes, AddsTree};
+ghost use Rattle.art_oracle.specs.Built.{KeepsNodes, AddsTree, IsInTree};
 ghost use Rattle.art_operations.specs.Answers.{Answers, IsRefusal};
 ghost use Rattle.art_operations.specs.Room.{HasRoomFor, SameNodes};
 ghost use Rattle.art_operations.specs.Runs.{IsFirstRun};
@@ -12,6 +14,7 @@ ghost use Rattle.art_operations.specs.declared.run.Side.TheVariants.{First};
 
 use art_nodes::node::{AsBytes, LeafPtr, OpaqueNodePtr};
 use art_nodes::store::NodeStore;
+use art_oracle::build::build;
 use art_oracle::pairs::{contains, has_related, insert_at, remove, replace_at, search};
 use std::alloc::{AllocError, Global};
 use std::boxed::BoxedSlice;
@@ -37,9 +40,9 @@ pub struct InsertPrefixError {
 }
 
 impl Clone for InsertPrefixError {
-    ghost use Rattle.std.specs.Prelude.{◌≡◌};
+    ghost use Rattle.std.specs.Box.{boxed_slice_items};
 
-    ghost is_clone = { λ error copy. copy.byte_repr.items.items ≡ error.byte_repr.items.items };
+    ghost is_clone = { λ error copy. boxed_slice_items copy.byte_repr ≡ boxed_slice_items error.byte_repr };
 
     fn clone(&self) -> Result<Self, AllocError> {
         let byte_repr = self.byte_repr.clone()?;
@@ -198,47 +201,5 @@ fn reserve<K: AsBytes + Drop, V: Drop, const P: usize>(
     names.reserve(leaves)
 }
 
-// A stand-in.
-fn build<K: AsBytes + Drop, V: Drop, const P: usize>(
-    store: &mut NodeStore<K, V, P>,
-    pairs: Vec<(K, V)>,
-    names: Vec<LeafPtr>,
-) -> Option<OpaqueNodePtr>
-    requires map { IsMap (of_key K.bytes) pairs.items }
-    requires room { 2 * length pairs.items ≤ store.old.room }
-    requires empty { names.items ≡ [] }
-    requires capacity { length pairs.items ≤ vec_capacity names }
-    ensures canonical { IsCanonical (of_key K.bytes) P store.new result pairs.items }
-    ensures kept { KeepsNodes store.old store.new }
-    ensures names { AddsTree (of_key K.bytes) P store.old store.new result pairs.items }
-{
-    let _ = store;
-    let _ = pairs;
-    let _ = names;
-    None
-}
-
 #[cfg(test)]
-mod tests {
-    use super::*;
-    use std::test::Fail;
-
-    #[test]
-    fn refuses_a_related_key(rt: HostRuntime) -> Result<(), Fail> {
-        let alloc = rt.alloc();
-        let mut first: NodeStore<Vec<u8>, u32, 4> = NodeStore::new(alloc);
-        let mut second = NodeStore::new(alloc);
-        let mut commands = Vec::new(alloc);
-        commands.push(Command::Insert(vec![in alloc; 1u8]?, 1u32))?;
-        commands.push(Command::Insert(vec![in alloc; 1u8, 2]?, 2))?;
-        let done = run(&mut first, &mut second, None, commands).map_err(|refused| refused.1)?;
-        assert!(rt; matches!(&done.replies[0], Reply::Inserted(None)));
-        let Reply::Conflict(key, value, error) = &done.replies[1] else {
-            panic!(rt; "no conflict");
-        };
-        assert_eq!(rt; key.as_bytes(), [1, 2].as_slice());
-        assert_eq!(rt; *value, 2);
-        assert_eq!(rt; error.byte_repr.as_slice(), [1, 2].as_slice());
-        Ok(())
-    }
-}
+mod tests;

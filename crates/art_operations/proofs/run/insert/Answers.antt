@@ -4,11 +4,6 @@ use Rattle.art_model.specs.Pairs.{of_key}
 use Rattle.art_operations.proofs.Lengths.{length-put, room_for_fewer}
 use Rattle.art_operations.proofs.run.insert.Goals as goal
 
-pub replace_at-requires-clause-here : goal.replace_at-requires-clause-here
-replace_at-requires-clause-here g c =
-    let (x, here, same) = rw c.deref.ensures.value at c.in-Ok.ensures.found in
-    (x, here, same ∙ c.as_bytes.ensures)
-
 pub returns-in-Ok-clause-room : goal.returns-in-Ok-clause-room
 returns-in-Ok-clause-room g c =
     room_for_fewer _ _ _ _ c.requires.room

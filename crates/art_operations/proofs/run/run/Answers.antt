@@ -2,7 +2,7 @@ use Rattle.std.proofs.Common.{◌≡◌, ◌∙◌, ap, sym, append_assoc, arith
 use Rattle.std.proofs.lemmas.Grind.{common_steps}
 use Rattle.art_operations.specs.Answers.{Answers}
 use Rattle.art_operations.proofs.Chains.{chain_more}
-use Rattle.art_operations.proofs.Kept.{kept_since, added_since}
+use Rattle.art_operations.proofs.Kept.{held_same, kept_since, added_since}
 use Rattle.art_operations.proofs.run.run.Goals as goal
 
 pub loop-command-preserved : goal.loop-command-preserved
@@ -20,11 +20,13 @@ loop-command-preserved g c =
 pub returns-clause-run : goal.returns-clause-run
 returns-clause-run g c =
     let all : c.args.commands.items ≡ c.loop-command.yielded = grind (arith, common_steps) in
+    let same = held_same c.args.first.now c.loop-command.first c.loop-command.invariant.nodes in
     record {
       pairs = c.loop-command.pairs.items;
       steps = rw all c.loop-command.invariant.chain;
       canonical = c.build-root.ensures.canonical;
       names = added_since _ _ c.args.first.now c.loop-command.first c.build-root.new.store _ _ c.loop-command.invariant.nodes c.build-root.ensures.names;
+      fresh = λ name in_tree. sym (same name) ∙ c.build-root.ensures.fresh name in_tree;
     }
 
 pub returns-clause-kept : goal.returns-clause-kept
