@@ -1,4 +1,4 @@
-use Rattle.std.proofs.Common.{◌≡◌, ◌<◌, ◌≤◌, ◌-◌, ◌++◌, ℕ, length, take, drop, get_or, remove, Some, None, sym, ap, subst, ◌∙◌, arith}
+use Rattle.std.proofs.Common.{◌≡◌, ◌≢◌, ◌<◌, ◌≤◌, ◌-◌, ◌++◌, ℕ, length, take, drop, get_or, remove, Some, None, sym, ap, subst, ◌∙◌, arith}
 use Rattle.std.proofs.lemmas.List.{get_or-take, length-take-le}
 use Rattle.art_nodes.specs.Inner.{Children, IsRising, child_at, count_below, remove_child}
 use Rattle.art_nodes.proofs.ChildrenLaws.{IsRising-remove_child, remove_child-absent}
@@ -19,6 +19,17 @@ rest len at b es shown new d shows fits rising place within same long written =
     ∙ ap (λ (t : Children). remove t at) shows
     ∙ removed_at shown b d at rising place (omega (arith, count)) (ap (λ (x : Entry). x.0) (sym (read len at es shown d shows within)) ∙ same)
 
+found : (len at b : ℕ) (es shown : Children) (d : Entry) → take len es ≡ shown → len ≤ length es → at ≡ count_below shown b → at < len → (get_or es at d).0 ≡ b → Some (get_or es at d).1 ≡ child_at shown b
+found len at b es shown d shows fits place within same =
+    let count : length shown ≡ len = ap length (sym shows) ∙ length-take-le len es fits in
+    let is = read len at es shown d shows within in
+    ap (λ (x : Entry). Some x.1) is ∙ found_at shown b d at place (omega (arith, count)) (ap (λ (x : Entry). x.0) (sym is) ∙ same)
+
+absent : (len at b : ℕ) (es shown : Children) (d : Entry) → take len es ≡ shown → len ≤ length es → IsRising shown → at ≡ count_below shown b → (at < len → (get_or es at d).0 ≢ b) → child_at shown b ≡ None
+absent len at b es shown d shows fits rising place other =
+    let count : length shown ≡ len = ap length (sym shows) ∙ length-take-le len es fits in
+    nothing_at shown b d at rising place (λ within e. let near : at < len = omega (arith, count) in other near (ap (λ (x : Entry). x.0) (read len at es shown d shows near) ∙ e))
+
 pub invariant_of-self : goal.invariant_of-self
 invariant_of-self g c =
     let rising = subst IsRising c.self.view_is c.self.invariant.1 in (
@@ -27,13 +38,19 @@ invariant_of-self g c =
     )
 
 pub returns-then-self-at-clause-removed : goal.returns-then-self-at-clause-removed
-returns-then-self-at-clause-removed g c = ?
+returns-then-self-at-clause-removed g c = found _ _ _ _ _ _ c.self.view_is (omega (arith, c.self.invariant.0, c.self.told)) c.place-at.ensures.value c.if-at-self.true c.if-self-at.true
 
 pub returns-then-self-at-clause-rest : goal.returns-then-self-at-clause-rest
 returns-then-self-at-clause-rest g c = rest _ _ _ _ _ _ _ c.self.view_is (omega (arith, c.self.invariant.0, c.self.told)) (subst IsRising c.self.view_is c.self.invariant.1) c.place-at.ensures.value c.if-at-self.true c.if-self-at.true c.remove_from.auto.part c.remove_from.ensures
 
 pub returns-else-at-self-clause-removed : goal.returns-else-at-self-clause-removed
-returns-else-at-self-clause-removed g c = ?
+returns-else-at-self-clause-removed g c =
+    let fits : c.self.inside.len ≤ length c.self.inside.entries = omega (arith, c.self.invariant.0, c.self.told) in
+    let rising = subst IsRising c.self.view_is c.self.invariant.1 in
+    sym (elim c.else-at-self.branch [
+      | else-at-self-via-then-at-self+else-self-at w ↦ absent _ _ _ _ _ _ c.self.view_is fits rising c.place-at.ensures.value (λ _. w.if-self-at.false)
+      | else-at-self-via-else-at-self w ↦ absent _ _ _ _ _ nobody c.self.view_is fits rising c.place-at.ensures.value (λ h. absurd (omega (arith, w.if-at-self.false)))
+    ])
 
 pub returns-else-at-self-clause-rest : goal.returns-else-at-self-clause-rest
-returns-else-at-self-clause-rest g c = ?
+returns-else-at-self-clause-rest g c = sym (remove_child-absent _ _ (sym (returns-else-at-self-clause-removed g c)))
