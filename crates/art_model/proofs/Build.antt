@@ -1,16 +1,15 @@
 -- grouping a map gives a radix tree
-use Rattle.std.proofs.Common.{◌≡◌, ℕ, suc, zero, ◌+◌, ◌<◌, ◌≤◌, List, [], ◌∷◌, ◌++◌, length, take, drop, refl, ap, sym, ◌∙◌, append_assoc, append-nil, arith, length-append, eqb, eq-eqb, eqb-true, true, false, cond, Option, Some, None, Bool, map, subst, ◌⊎◌, inl, inr}
+use Rattle.std.proofs.Common.{◌≡◌, ℕ, suc, zero, ◌+◌, ◌<◌, ◌≤◌, List, [], ◌∷◌, ◌++◌, length, drop, refl, ap, sym, ◌∙◌, append_assoc, append-nil, arith, length-append, eqb, eqb-true, true, false, cond, Option, Some, Bool, map, subst}
 use Rattle.std.specs.List.{AllByRecursion as Each}
-use Rattle.std.proofs.lemmas.Bool.{ne_eqb, eqb-false}
-use Rattle.std.proofs.lemmas.List.{drop_at}
-use Rattle.art_model.specs.Keys.{IsFront, common_front, Precedes}
-use Rattle.art_model.specs.Trees.{shared_part, add_to_groups, groups, byte_at, Tree, leaf, inner, Children, child, no_child, tree_within, tree_of, node_of, children_of, add_child, header_of}
+use Rattle.std.proofs.lemmas.Bool.{eqb-false}
+use Rattle.art_model.specs.Keys.{IsFront, Precedes}
+use Rattle.art_model.specs.Trees.{shared_part, add_to_groups, groups, byte_at, Tree, leaf, inner, Children, child, no_child, tree_within, tree_of, node_of, children_of, header_of}
 use Rattle.art_model.specs.Radix.{IsRadix, AreRadix, IsRising, bytes_of, pairs_of, pairs_below}
 use Rattle.art_model.specs.Pairs.{IsMap}
-use Rattle.art_model.proofs.Lists.{Each-append, Each-left, Each-right, front_cut, front_trans, after_front, Each-weaker}
+use Rattle.art_model.proofs.Lists.{Each-left, Each-right, after_front, Each-weaker}
 use Rattle.art_model.proofs.Groups.{shared_part-front, shared_part_shared}
 use Rattle.art_model.proofs.Keys.{precedes_byte, parts_left, parts_right, IsMap-left, IsMap-right}
-use Rattle.art_model.proofs.Rebuild.{tree_two, byte_after}
+use Rattle.art_model.proofs.Rebuild.{byte_after}
 
 module _ {A : Type 0} where
   -- the groups joined again
@@ -51,9 +50,9 @@ module _ {A : Type 0} where
   pub groups_are : (byte : A → ℕ) (xs : List A) → IsSortedAt byte xs → Groups byte (groups byte xs) xs
   groups_are byte [] h = (refl, tt, tt)
   groups_are byte (x ∷ xs) h =
-    let (e, are, up) = groups_are byte xs h.1 in
-    let g = add_groups byte x (groups byte xs) are up (floor byte (byte x) (groups byte xs) are (rw e h.0)) in
-    rw e at g
+      let (e, are, up) = groups_are byte xs h.1 in
+      let g = add_groups byte x (groups byte xs) are up (floor byte (byte x) (groups byte xs) are (rw e h.0)) in
+      rw e at g
 
 module _ {A : Type 0} (bytes : A → List ℕ) where
   -- where the keys go on after a common front: each with a byte
@@ -94,35 +93,35 @@ module _ {A : Type 0} (bytes : A → List ℕ) where
   with_byte : (front : List ℕ) (b : ℕ) (xs : List A) → Each (GoesOn front) xs → Each (λ x. byte_at bytes (length front) x ≡ b) xs → Each (λ x. IsFront (front ++ b ∷ []) (bytes x)) xs
   with_byte front b [] f g = tt
   with_byte front b (x ∷ xs) f g =
-    let (c, r, e) = f.0 in
-    let p : c ≡ b = sym (at_byte front x c r e) ∙ g.0 in
-    ((r, e ∙ ap (λ z. front ++ z ∷ r) p ∙ sym (append_assoc front (b ∷ []) r)), with_byte front b xs f.1 g.1)
+      let (c, r, e) = f.0 in
+      let p : c ≡ b = sym (at_byte front x c r e) ∙ g.0 in
+      ((r, e ∙ ap (λ z. front ++ z ∷ r) p ∙ sym (append_assoc front (b ∷ []) r)), with_byte front b xs f.1 g.1)
 
-  -- all keys begin with the way and the shared part
-  with_part : (way : List ℕ) (s : List ℕ) (xs : List A) → Each (λ x. IsFront way (bytes x)) xs → Each (λ x. IsFront s (drop (length way) (bytes x))) xs → Each (λ x. IsFront (way ++ s) (bytes x)) xs
-  with_part way s [] h g = tt
-  with_part way s (x ∷ xs) h g =
-    let (r, e) = h.0 in
-    let (q, f) = g.0 in
-    ((q, e ∙ ap (λ z. way ++ z) (sym (after_front way (bytes x) r e) ∙ f) ∙ sym (append_assoc way s q)), with_part way s xs h.1 g.1)
+  -- all keys begin with the place and the shared part
+  with_part : (place : List ℕ) (s : List ℕ) (xs : List A) → Each (λ x. IsFront place (bytes x)) xs → Each (λ x. IsFront s (drop (length place) (bytes x))) xs → Each (λ x. IsFront (place ++ s) (bytes x)) xs
+  with_part place s [] h g = tt
+  with_part place s (x ∷ xs) h g =
+      let (r, e) = h.0 in
+      let (q, f) = g.0 in
+      ((q, e ∙ ap (λ z. place ++ z) (sym (after_front place (bytes x) r e) ∙ f) ∙ sym (append_assoc place s q)), with_part place s xs h.1 g.1)
 
   groups_long : (byte : A → ℕ) (gs : List (ℕ × List A)) → AreGroups byte gs → length gs ≤ length (joined gs)
   groups_long byte [] h = omega arith
   groups_long byte ((b, g) ∷ others) h = let more = groups_long byte others h.2 in rw length-append (omega arith)
 
   -- the shared part is the longest: two or more groups
-  two_groups : (way : List ℕ) (x : A) (xs : List A) (gs : List (ℕ × List A)) → let front = way ++ shared_part bytes (length way) (x ∷ xs) in
-    joined gs ≡ x ∷ xs → AreGroups (byte_at bytes (length front)) gs → Each (GoesOn front) (x ∷ xs) → 2 ≤ length gs
-  two_groups way x xs [] e are on = absurd cc
-  two_groups way x xs ((b, g) ∷ []) e are on =
-    let part = shared_part bytes (length way) (x ∷ xs) in
-    let front = way ++ part in
-    let whole : g ≡ x ∷ xs = sym (append-nil g) ∙ e in
-    let one : Each (λ z. byte_at bytes (length front) z ≡ b) (x ∷ xs) = subst (λ l. Each (λ z. byte_at bytes (length front) z ≡ b) l) whole are.1 in
-    let longer : Each (λ z. IsFront (way ++ (part ++ b ∷ [])) (bytes z)) (x ∷ xs) = subst (λ f. Each (λ z. IsFront f (bytes z)) (x ∷ xs)) (append_assoc way part (b ∷ [])) (with_byte front b (x ∷ xs) on one) in
-    let p = ap length (shared_part-front bytes way (part ++ b ∷ []) x xs longer) in
-    absurd (omega (arith, simp length-append at p))
-  two_groups way x xs ((b, g) ∷ (c, k) ∷ gs) e are on = omega arith
+  two_groups : (place : List ℕ) (x : A) (xs : List A) (gs : List (ℕ × List A)) → let front = place ++ shared_part bytes (length place) (x ∷ xs) in
+      joined gs ≡ x ∷ xs → AreGroups (byte_at bytes (length front)) gs → Each (GoesOn front) (x ∷ xs) → 2 ≤ length gs
+  two_groups place x xs [] e are on = absurd cc
+  two_groups place x xs ((b, g) ∷ []) e are on =
+      let part = shared_part bytes (length place) (x ∷ xs) in
+      let front = place ++ part in
+      let whole : g ≡ x ∷ xs = sym (append-nil g) ∙ e in
+      let one : Each (λ z. byte_at bytes (length front) z ≡ b) (x ∷ xs) = subst (λ l. Each (λ z. byte_at bytes (length front) z ≡ b) l) whole are.1 in
+      let longer : Each (λ z. IsFront (place ++ (part ++ b ∷ [])) (bytes z)) (x ∷ xs) = subst (λ f. Each (λ z. IsFront f (bytes z)) (x ∷ xs)) (append_assoc place part (b ∷ [])) (with_byte front b (x ∷ xs) on one) in
+      let p = ap length (shared_part-front bytes place (part ++ b ∷ []) x xs longer) in
+      absurd (omega (arith, simp length-append at p))
+  two_groups place x xs ((b, g) ∷ (c, k) ∷ gs) e are on = omega arith
 
   length-bytes_in : (gs : List (ℕ × List A)) → length (bytes_in gs) ≡ length gs
   length-bytes_in [] = refl
@@ -131,44 +130,44 @@ module _ {A : Type 0} (bytes : A → List ℕ) where
 module _ {A : Type 0} (bytes : A → List ℕ) (P : ℕ) where
   -- the node of a list, by its parts
   node_is : (f : ℕ → List A → Option (Tree (Unit {0}) A)) (d e n : ℕ) (xs : List A) (cs : Children (Unit {0}) A) → e ≡ d + length (shared_part bytes d xs) → children_of (f (e + 1)) (groups (byte_at bytes e) xs) ≡ cs → length (groups (byte_at bytes e) xs) ≡ n →
-    node_of bytes f P d xs ≡ Some (inner tt (header_of P (shared_part bytes d xs) n) cs)
+      node_of bytes f P d xs ≡ Some (inner tt (header_of P (shared_part bytes d xs) n) cs)
   node_is f d e n xs cs depth made count = rw (← depth, made, count) refl
 
-  -- a list of pairs and a way have a radix tree, and grouping gives it
+  -- pairs whose keys begin with a place have a radix tree there, and grouping gives it
   abbrev Builds : ℕ → Type 0
-  Builds turns = (way : List ℕ) (xs : List A) → IsMap bytes xs → Each (λ x. IsFront way (bytes x)) xs → 1 ≤ length xs → length xs ≤ turns →
-    (t : Tree (Unit {0}) A) × (tree_within bytes turns P (length way) xs ≡ Some t) × IsRadix bytes P way t × (pairs_of t ≡ xs)
+  Builds turns = (place : List ℕ) (xs : List A) → IsMap bytes xs → Each (λ x. IsFront place (bytes x)) xs → 1 ≤ length xs → length xs ≤ turns →
+      (t : Tree (Unit {0}) A) × (tree_within bytes turns P (length place) xs ≡ Some t) × IsRadix bytes P place t × (pairs_of t ≡ xs)
 
   build_below : (turns : ℕ) → Builds turns → (front : List ℕ) (gs : List (ℕ × List A)) → AreGroups (byte_at bytes (length front)) gs → Each (GoesOn bytes front) (joined gs) → IsMap bytes (joined gs) → length (joined gs) + 1 ≤ turns + length gs →
-    (cs : Children (Unit {0}) A) × (children_of (tree_within bytes turns P (length front + 1)) gs ≡ cs) × AreRadix bytes P front cs × (bytes_of cs ≡ bytes_in gs) × (pairs_below cs ≡ joined gs)
+      (cs : Children (Unit {0}) A) × (children_of (tree_within bytes turns P (length front + 1)) gs ≡ cs) × AreRadix bytes P front cs × (bytes_of cs ≡ bytes_in gs) × (pairs_below cs ≡ joined gs)
   build_below turns ih front [] are on map enough = (no_child, refl, tt, refl, refl)
   build_below turns ih front ((b, g) ∷ gs) are on map enough =
-    let long = groups_long bytes (byte_at bytes (length front)) gs are.2 in
-    let sum = length-append g (joined gs) in
-    let one : 1 ≤ length g = are.0 in
-    let (cs, made, below, heads, pairs) = build_below turns ih front gs are.2 (Each-right (GoesOn bytes front) g (joined gs) on) (IsMap-right bytes g (joined gs) map) (omega arith) in
-    let (t, is, radix, its) = ih (front ++ b ∷ []) g (IsMap-left bytes g (joined gs) map) (with_byte bytes front b g (Each-left (GoesOn bytes front) g (joined gs) on) are.1) one (omega arith) in
-    let is' : tree_within bytes turns P (length front + 1) g ≡ Some t = subst (λ d. tree_within bytes turns P d g ≡ Some t) (length-append front (b ∷ [])) is in
-    (child b t cs, rw (is', made) refl, (radix, below), ap (λ l. b ∷ l) heads, rw (its, pairs) refl)
+      let long = groups_long bytes (byte_at bytes (length front)) gs are.2 in
+      let sum = length-append g (joined gs) in
+      let one : 1 ≤ length g = are.0 in
+      let (cs, made, below, heads, pairs) = build_below turns ih front gs are.2 (Each-right (GoesOn bytes front) g (joined gs) on) (IsMap-right bytes g (joined gs) map) (omega arith) in
+      let (t, is, radix, its) = ih (front ++ b ∷ []) g (IsMap-left bytes g (joined gs) map) (with_byte bytes front b g (Each-left (GoesOn bytes front) g (joined gs) on) are.1) one (omega arith) in
+      let is' : tree_within bytes turns P (length front + 1) g ≡ Some t = subst (λ d. tree_within bytes turns P d g ≡ Some t) (length-append front (b ∷ [])) is in
+      (child b t cs, rw (is', made) refl, (radix, below), ap (λ l. b ∷ l) heads, rw (its, pairs) refl)
 
   pub build : (turns : ℕ) → Builds turns
-  build zero way xs sorted ways some enough = absurd (omega arith)
-  build (suc turns) way [] sorted ways some enough = absurd (omega arith)
-  build (suc turns) way (x ∷ []) sorted ways some enough = (leaf tt x, refl, ways.0, refl)
-  build (suc turns) way (x ∷ y ∷ xs) sorted ways some enough =
-    let part = shared_part bytes (length way) (x ∷ y ∷ xs) in
-    let front = way ++ part in
-    let byte = byte_at bytes (length front) in
-    let gs = groups byte (x ∷ y ∷ xs) in
-    let on = go_on bytes front x y xs sorted (with_part bytes way part (x ∷ y ∷ xs) ways (shared_part_shared bytes (length way) (x ∷ y ∷ xs))) in
-    let (e, are, up) = groups_are byte (x ∷ y ∷ xs) (sorted_at bytes front (x ∷ y ∷ xs) sorted on) in
-    let two = two_groups bytes way x (y ∷ xs) gs e are on in
-    let l = ap length e in
-    let (cs, made, below, heads, pairs) = build_below turns (build turns) front gs are (rw e on) (rw e sorted) (omega arith) in
-    let count : length gs ≡ length (bytes_of cs) = sym (length-bytes_in bytes gs) ∙ ap length (sym heads) in
-    let t = inner tt (header_of P part (length (bytes_of cs))) cs in
-    let same : tree_within bytes (suc turns) P (length way) (x ∷ y ∷ xs) ≡ Some t = node_is (tree_within bytes turns P) (length way) (length front) (length (bytes_of cs)) (x ∷ y ∷ xs) cs (length-append way part) made count in
-    (t, same, (part, refl, rw (← count) two, subst IsRising (sym heads) up, below), pairs ∙ e)
+  build zero place xs sorted ways some enough = absurd (omega arith)
+  build (suc turns) place [] sorted ways some enough = absurd (omega arith)
+  build (suc turns) place (x ∷ []) sorted ways some enough = (leaf tt x, refl, ways.0, refl)
+  build (suc turns) place (x ∷ y ∷ xs) sorted ways some enough =
+      let part = shared_part bytes (length place) (x ∷ y ∷ xs) in
+      let front = place ++ part in
+      let byte = byte_at bytes (length front) in
+      let gs = groups byte (x ∷ y ∷ xs) in
+      let on = go_on bytes front x y xs sorted (with_part bytes place part (x ∷ y ∷ xs) ways (shared_part_shared bytes (length place) (x ∷ y ∷ xs))) in
+      let (e, are, up) = groups_are byte (x ∷ y ∷ xs) (sorted_at bytes front (x ∷ y ∷ xs) sorted on) in
+      let two = two_groups bytes place x (y ∷ xs) gs e are on in
+      let l = ap length e in
+      let (cs, made, below, heads, pairs) = build_below turns (build turns) front gs are (rw e on) (rw e sorted) (omega arith) in
+      let count : length gs ≡ length (bytes_of cs) = sym (length-bytes_in bytes gs) ∙ ap length (sym heads) in
+      let t = inner tt (header_of P part (length (bytes_of cs))) cs in
+      let same : tree_within bytes (suc turns) P (length place) (x ∷ y ∷ xs) ≡ Some t = node_is (tree_within bytes turns P) (length place) (length front) (length (bytes_of cs)) (x ∷ y ∷ xs) cs (length-append place part) made count in
+      (t, same, (part, refl, rw (← count) two, subst IsRising (sym heads) up, below), pairs ∙ e)
 
   -- the tree of a map: grouping gives a radix tree of these pairs
   pub build_root : (xs : List A) → IsMap bytes xs → 1 ≤ length xs → (t : Tree (Unit {0}) A) × (tree_of bytes xs P 0 ≡ Some t) × IsRadix bytes P [] t × (pairs_of t ≡ xs)

@@ -1,13 +1,15 @@
--- a canonical root and the layout that is a radix tree
-use Rattle.std.proofs.Common.{◌≡◌, ◌≢◌, ℕ, suc, zero, ◌+◌, ◌≤◌, List, [], ◌∷◌, ◌++◌, length, refl, ap, ap₂, sym, ◌∙◌, arith, subst, Option, Some, None}
+-- a canonical root's layout is a radix tree, and a layout that is one makes the root canonical
+use Rattle.std.proofs.Common.{◌≡◌, ℕ, ◌≤◌, List, [], ◌∷◌, ◌++◌, length, refl, ap, ap₂, sym, ◌∙◌, arith, subst, Option, Some, None}
 use Rattle.art_model.specs.Trees.{Tree, leaf, inner, Children, child, no_child, header_of, tree_of}
 use Rattle.art_model.specs.Radix.{unmarked, all_unmarked, pairs_of, pairs_below, IsRadix, AreRadix, IsRising, bytes_of}
-use Rattle.art_model.specs.Keys.{IsFront}
 use Rattle.art_model.specs.Pairs.{IsMap}
-use Rattle.art_model.specs.Layouts.{Node, name_of, names_of, leaf_names, Holds, AreDistinct, StandsFor, Links, AreLinked}
-use Rattle.art_model.specs.Canonical.{IsCanonicalIn, IsCanonicalBy}
+use Rattle.art_model.specs.Layouts.{Node, name_of, names_of, leaf_names, Holds, AreDistinct, Links, AreLinked}
+use Rattle.art_nodes.specs.Nodes.{Nodes}
+use Rattle.art_nodes.specs.declared.node.OpaqueNodePtr.{OpaqueNodePtr}
+use Rattle.art_model.specs.Canonical.{IsTree}
+use Rattle.art_model.specs.Stores.{node_at, links_at}
 use Rattle.art_model.proofs.Build.{build_root}
-use Rattle.art_model.proofs.Rebuild.{rebuild_root, radix_some}
+use Rattle.art_model.proofs.Rebuild.{rebuild_root}
 use Rattle.art_model.proofs.Radix.{radix_map}
 
 module _ {N A : Type 0} where
@@ -26,15 +28,23 @@ module _ {N A : Type 0} where
 
 module _ {N A : Type 0} (bytes : A → List ℕ) (P : ℕ) where
   mutual
-    pub radix_unmarked : (t : Tree N A) (way : List ℕ) → IsRadix bytes P way (unmarked t) → IsRadix bytes P way t
-    radix_unmarked (leaf n x) way h = h
-    radix_unmarked (inner n h cs) way (part, e, two, up, below) =
-      let bs = bytes_of-unmarked cs in
-      (part, e ∙ ap (λ l. header_of P part (length l)) bs, subst (λ l. 2 ≤ length l) bs two, subst IsRising bs up, radix_below_unmarked cs (way ++ part) below)
+    pub radix_unmarked : (t : Tree N A) (place : List ℕ) → IsRadix bytes P place (unmarked t) → IsRadix bytes P place t
+    radix_unmarked (leaf n x) place h = h
+    radix_unmarked (inner n h cs) place (part, e, two, up, below) =
+        let bs = bytes_of-unmarked cs in
+        (part, e ∙ ap (λ l. header_of P part (length l)) bs, subst (λ l. 2 ≤ length l) bs two, subst IsRising bs up, radix_below_unmarked cs (place ++ part) below)
 
     pub radix_below_unmarked : (cs : Children N A) (front : List ℕ) → AreRadix bytes P front (all_unmarked cs) → AreRadix bytes P front cs
     radix_below_unmarked no_child front h = tt
     radix_below_unmarked (child b t cs) front h = (radix_unmarked t (front ++ b ∷ []) h.0, radix_below_unmarked cs front h.1)
+
+  -- a layout whose plain tree is that of a map is a radix tree with these pairs
+  radix_from : (pairs : List A) (tree : Tree (Unit {0}) A) (layout : Tree N A) → IsMap bytes pairs → tree_of bytes pairs P 0 ≡ Some tree → unmarked layout ≡ tree → IsRadix bytes P [] layout × (pairs_of layout ≡ pairs)
+  radix_from [] tree layout map e is = absurd cc
+  radix_from (x ∷ xs) tree layout map e is =
+      let (t, made, radix, pairs) = build_root bytes P (x ∷ xs) map (omega arith) in
+      let same : t ≡ unmarked layout = cc in
+      (radix_unmarked layout [] (subst (IsRadix bytes P []) same radix), sym (pairs_of-unmarked layout) ∙ ap pairs_of (sym same) ∙ pairs)
 
   -- the layout below a canonical root
   pub record Layout (at : N → Option (Node N A)) (links : N → Option (Links N)) (root : N) (pairs : List A) : Type 0 where
@@ -46,20 +56,22 @@ module _ {N A : Type 0} (bytes : A → List ℕ) (P : ℕ) where
     pub distinct : AreDistinct (names_of tree)
     pub linked : AreLinked links None (leaf_names tree) None
 
-  pub layout_by : (at : N → Option (Node N A)) (links : N → Option (Links N)) (root : N) (pairs : List A) (layout : Tree N A) → IsCanonicalBy bytes P at links root pairs layout → IsRadix bytes P [] layout × (pairs_of layout ≡ pairs)
-  layout_by at links root [] layout (map, (tree, e, stands, linked)) = absurd cc
-  layout_by at links root (x ∷ xs) layout (map, (tree, e, (named, is, holds, distinct), linked)) =
-    let (t, made, radix, pairs) = build_root bytes P (x ∷ xs) map (omega arith) in
-    let same : t ≡ unmarked layout = cc in
-    (radix_unmarked layout [] (subst (IsRadix bytes P []) same radix), sym (pairs_of-unmarked layout) ∙ ap pairs_of (sym same) ∙ pairs)
+module _ {K V : Type 0} {bytes : K × V → List ℕ} {P : ℕ} {s : Nodes K V} {root : OpaqueNodePtr} {pairs : List (K × V)} where
+  -- what a canonical root's layout is
+  pub tree_radix : {layout : Tree OpaqueNodePtr (K × V)} → IsTree bytes P s root pairs layout → IsRadix bytes P [] layout × (pairs_of layout ≡ pairs)
+  tree_radix {layout} by = radix_from bytes P pairs by.tree layout by.is_map by.is_tree by.stands.1
 
-  pub layout_of : (at : N → Option (Node N A)) (links : N → Option (Links N)) (root : N) (pairs : List A) → IsCanonicalIn bytes P at links (Some root) pairs → Layout at links root pairs
-  layout_of at links root pairs (layout, by) =
-    let (radix, is) = layout_by at links root pairs layout by in
-    let (map, (tree, e, (named, same, holds, distinct), linked)) = by in
-    record { tree = layout; root_is = named; radix = radix; pairs_are = is; holds = holds; distinct = distinct; linked = linked }
+  pub layout_of : {layout : Tree OpaqueNodePtr (K × V)} → IsTree bytes P s root pairs layout → Layout bytes P (node_at s) (links_at s) root pairs
+  layout_of {layout} by =
+      let (radix, is) = tree_radix by in
+      record { tree = layout; root_is = by.stands.0.named; radix = radix; pairs_are = is; holds = by.stands.0.holds; distinct = by.stands.0.distinct; linked = by.linked }
 
-  pub canonical_from : (at : N → Option (Node N A)) (links : N → Option (Links N)) (root : N) (pairs : List A) → Layout at links root pairs → IsCanonicalIn bytes P at links (Some root) pairs
-  canonical_from at links root pairs l =
-    (l.tree, (subst (IsMap bytes) l.pairs_are (radix_map bytes P l.tree [] l.radix)
-    , (unmarked l.tree, subst (λ xs. tree_of bytes xs P 0 ≡ Some (unmarked l.tree)) l.pairs_are (rebuild_root bytes P l.tree l.radix), (l.root_is, refl, l.holds, l.distinct), l.linked)))
+  pub tree_from : (l : Layout bytes P (node_at s) (links_at s) root pairs) → IsTree bytes P s root pairs l.tree
+  tree_from l =
+      record {
+        is_map = subst (IsMap bytes) l.pairs_are (radix_map bytes P l.tree [] l.radix);
+        tree = unmarked l.tree;
+        is_tree = subst (λ xs. tree_of bytes xs P 0 ≡ Some (unmarked l.tree)) l.pairs_are (rebuild_root bytes P l.tree l.radix);
+        stands = (record { named = l.root_is; holds = l.holds; distinct = l.distinct }, refl);
+        linked = l.linked;
+      }

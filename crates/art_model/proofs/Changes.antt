@@ -1,17 +1,16 @@
 -- the local changes of an insertion, an overwrite and a deletion
-use Rattle.std.proofs.Common.{◌≡◌, ℕ, suc, zero, ◌+◌, ◌<◌, ◌≤◌, List, [], ◌∷◌, ◌++◌, length, refl, ap, ap₂, sym, ◌∙◌, append_assoc, append-nil, arith, length-append, subst, true, false, Bool, cond, not, ltb, ◌⊎◌, inl, inr}
+use Rattle.std.proofs.Common.{◌≡◌, ℕ, suc, ◌<◌, ◌≤◌, List, [], ◌∷◌, ◌++◌, length, refl, ap, sym, ◌∙◌, append_assoc, append-nil, arith, length-append, subst, cond, ltb, ◌⊎◌, inl, inr}
 use Rattle.std.specs.List.{AllByRecursion as Each}
 use Rattle.std.proofs.lemmas.Bool.{cases_order, le-ltb, lt-ltb}
-use Rattle.art_model.specs.Keys.{IsFront, Precedes, are_same, are_related, is_front}
+use Rattle.art_model.specs.Keys.{IsFront, Precedes}
 use Rattle.art_model.specs.Trees.{Tree, leaf, inner, Children, child, no_child, header_of, Header}
 use Rattle.art_model.specs.Radix.{IsRadix, AreRadix, IsRising, bytes_of, pairs_of, pairs_below, join}
-use Rattle.art_model.specs.Pairs.{IsMap, add_in_order, put, overwrite, remove_key, remove_related}
-use Rattle.art_model.specs.Paths.{Frame, fill}
-use Rattle.art_model.proofs.Lists.{Each-append, Each-left, Each-right, front_cut, Each-weaker}
-use Rattle.art_model.proofs.Rebuild.{radix_way, radix_below}
+use Rattle.art_model.specs.Pairs.{add_in_order, put, overwrite, remove_key, remove_related}
+use Rattle.art_model.proofs.Lists.{front_cut, Each-weaker}
+use Rattle.art_model.proofs.Rebuild.{radix_way}
 use Rattle.art_model.proofs.Radix.{bytes_of-join, pairs_below-join, AreRadix-join, AreRadix-left, AreRadix-right, parts, PartsBelow, PartsAbove, all_below, all_above}
 use Rattle.art_model.proofs.Paths.{rising_left, rising_right, rising_without, rising_with, put-between, remove_key-between}
-use Rattle.art_model.proofs.Keys.{front_related, front_is, front_same}
+use Rattle.art_model.proofs.Keys.{front_related, front_same}
 
 module _ {N A : Type 0} where
   -- two children in the order of their bytes
@@ -20,76 +19,83 @@ module _ {N A : Type 0} where
 
 module _ {N A : Type 0} (bytes : A → List ℕ) (P : ℕ) where
   -- a new node over an old one and a new leaf: a leaf is split, or a prefix
-  pub branch : (way part : List ℕ) (b c : ℕ) (t : Tree N A) (m n : N) (new : A) →
-    IsRadix bytes P ((way ++ part) ++ b ∷ []) t → IsFront ((way ++ part) ++ c ∷ []) (bytes new) → (b ≡ c → ⊥) →
-    let u = inner m (header_of P part 2) (two_children b t c (leaf n new)) in
-    IsRadix bytes P way u × (pairs_of u ≡ put bytes new (pairs_of t))
-  branch way part b c t m n new h k apart = go (cases_order b c)
+  pub branch : (place part : List ℕ) (b c : ℕ) (t : Tree N A) (m n : N) (new : A) →
+      IsRadix bytes P ((place ++ part) ++ b ∷ []) t → IsFront ((place ++ part) ++ c ∷ []) (bytes new) → (b ≡ c → ⊥) →
+      let u = inner m (header_of P part 2) (two_children b t c (leaf n new)) in
+      IsRadix bytes P place u × (pairs_of u ≡ put bytes new (pairs_of t))
+  branch place part b c t m n new h k apart = go (cases_order b c)
     where
-      ways : Each (λ x. IsFront ((way ++ part) ++ b ∷ []) (bytes x)) (pairs_of t)
-      ways = radix_way bytes P t ((way ++ part) ++ b ∷ []) h
+      ways : Each (λ x. IsFront ((place ++ part) ++ b ∷ []) (bytes x)) (pairs_of t)
+      ways = radix_way bytes P t ((place ++ part) ++ b ∷ []) h
 
       Goal : Children N A → Type 0
-      Goal cs = IsRadix bytes P way (inner m (header_of P part 2) cs) × (pairs_below cs ≡ put bytes new (pairs_of t))
+      Goal cs = IsRadix bytes P place (inner m (header_of P part 2) cs) × (pairs_below cs ≡ put bytes new (pairs_of t))
 
       go : (b ≡ c) ⊎ ((b < c) ⊎ (c < b)) → Goal (two_children b t c (leaf n new))
       go (inl e) = absurd (apart e)
       go (inr (inl l)) =
-        let low = Each-weaker (λ x. IsFront ((way ++ part) ++ b ∷ []) (bytes x)) (λ x. Precedes (bytes x) (bytes new)) (λ x f. parts bytes (way ++ part) b c (bytes x) (bytes new) f k l) (pairs_of t) ways in
-        rw (lt-ltb b c l) ((part, refl, omega arith, ((l, tt), (tt, tt)), (h, (k, tt))),
-          sym (ap (put bytes new) (sym (append-nil (pairs_of t ++ []) ∙ append-nil (pairs_of t))) ∙ put-between bytes new (pairs_of t) [] [] low tt ∙ append-nil (pairs_of t ++ new ∷ [])))
+          let low = Each-weaker (λ x. IsFront ((place ++ part) ++ b ∷ []) (bytes x)) (λ x. Precedes (bytes x) (bytes new)) (λ x f. parts bytes (place ++ part) b c (bytes x) (bytes new) f k l) (pairs_of t) ways in
+          rw (lt-ltb b c l) (
+            (part, refl, omega arith, ((l, tt), (tt, tt)), (h, (k, tt))),
+            sym (ap (put bytes new) (sym (append-nil (pairs_of t ++ []) ∙ append-nil (pairs_of t))) ∙ put-between bytes new (pairs_of t) [] [] low tt ∙ append-nil (pairs_of t ++ new ∷ [])),
+          )
       go (inr (inr l)) =
-        let high = Each-weaker (λ x. IsFront ((way ++ part) ++ b ∷ []) (bytes x)) (λ x. Precedes (bytes new) (bytes x)) (λ x f. parts bytes (way ++ part) c b (bytes new) (bytes x) k f l) (pairs_of t) ways in
-        rw (le-ltb b c (omega arith)) ((part, refl, omega arith, ((l, tt), (tt, tt)), (k, (h, tt))),
-          ap (λ l. new ∷ l) (append-nil (pairs_of t)) ∙ sym (put-between bytes new [] [] (pairs_of t) tt high))
+          let high = Each-weaker (λ x. IsFront ((place ++ part) ++ b ∷ []) (bytes x)) (λ x. Precedes (bytes new) (bytes x)) (λ x f. parts bytes (place ++ part) c b (bytes new) (bytes x) k f l) (pairs_of t) ways in
+          rw (le-ltb b c (omega arith)) (
+            (part, refl, omega arith, ((l, tt), (tt, tt)), (k, (h, tt))),
+            ap (λ l. new ∷ l) (append-nil (pairs_of t)) ∙ sym (put-between bytes new [] [] (pairs_of t) tt high),
+          )
 
-  -- a node whose prefix lost its front, a byte's way further down
-  pub trimmed : (way m q : List ℕ) (b : ℕ) (n : N) (h : Header) (cs : Children N A) → 2 ≤ length (bytes_of cs) → IsRising (bytes_of cs) → AreRadix bytes P (way ++ (m ++ b ∷ q)) cs →
-    IsRadix bytes P ((way ++ m) ++ b ∷ []) (inner n (header_of P q (length (bytes_of cs))) cs)
-  trimmed way m q b n h cs two up below = (q, refl, two, up, subst (λ f. AreRadix bytes P f cs) (simp append_assoc) below)
+  -- a node whose prefix lost its front, a byte further down
+  pub trimmed : (place m q : List ℕ) (b : ℕ) (n : N) (h : Header) (cs : Children N A) → 2 ≤ length (bytes_of cs) → IsRising (bytes_of cs) → AreRadix bytes P (place ++ (m ++ b ∷ q)) cs →
+      IsRadix bytes P ((place ++ m) ++ b ∷ []) (inner n (header_of P q (length (bytes_of cs))) cs)
+  trimmed place m q b n h cs two up below = (q, refl, two, up, subst (λ f. AreRadix bytes P f cs) (simp append_assoc) below)
 
   -- a node whose prefix took its parent's prefix and its byte in front
-  pub merged : (way part : List ℕ) (c : ℕ) (q : List ℕ) (n : N) (cs : Children N A) → 2 ≤ length (bytes_of cs) → IsRising (bytes_of cs) → AreRadix bytes P (((way ++ part) ++ c ∷ []) ++ q) cs →
-    IsRadix bytes P way (inner n (header_of P (part ++ c ∷ q) (length (bytes_of cs))) cs)
-  merged way part c q n cs two up below = (part ++ c ∷ q, refl, two, up, subst (λ f. AreRadix bytes P f cs) (simp append_assoc) below)
+  pub merged : (place part : List ℕ) (c : ℕ) (q : List ℕ) (n : N) (cs : Children N A) → 2 ≤ length (bytes_of cs) → IsRising (bytes_of cs) → AreRadix bytes P (((place ++ part) ++ c ∷ []) ++ q) cs →
+      IsRadix bytes P place (inner n (header_of P (part ++ c ∷ q) (length (bytes_of cs))) cs)
+  merged place part c q n cs two up below = (part ++ c ∷ q, refl, two, up, subst (λ f. AreRadix bytes P f cs) (simp append_assoc) below)
 
-  -- a leaf a byte's way further up
-  pub raised : (way part : List ℕ) (c : ℕ) (n : N) (x : A) → IsRadix bytes P ((way ++ part) ++ c ∷ []) (leaf n x) → IsRadix bytes P way (leaf n x)
-  raised way part c n x h = front_cut way part (bytes x) (front_cut (way ++ part) (c ∷ []) (bytes x) h)
+  -- a leaf a byte further up
+  pub raised : (place part : List ℕ) (c : ℕ) (n : N) (x : A) → IsRadix bytes P ((place ++ part) ++ c ∷ []) (leaf n x) → IsRadix bytes P place (leaf n x)
+  raised place part c n x h = front_cut place part (bytes x) (front_cut (place ++ part) (c ∷ []) (bytes x) h)
 
   -- a new leaf under a byte that had no child
-  pub with_child : (way part : List ℕ) (cs ds : Children N A) (b : ℕ) (m n : N) (new : A) →
-    IsRising (bytes_of (join cs ds)) → Each (λ c. c < b) (bytes_of cs) → Each (λ c. b < c) (bytes_of ds) → 1 ≤ length (bytes_of (join cs ds)) → AreRadix bytes P (way ++ part) (join cs ds) → IsFront ((way ++ part) ++ b ∷ []) (bytes new) →
-    let u = inner m (header_of P part (suc (length (bytes_of (join cs ds))))) (join cs (child b (leaf n new) ds)) in
-    IsRadix bytes P way u × (pairs_of u ≡ put bytes new (pairs_below (join cs ds)))
-  with_child way part cs ds b m n new up l r some all k =
-    let front = way ++ part in
-    let hl = AreRadix-left bytes P front cs ds all in
-    let hr = AreRadix-right bytes P front cs ds all in
-    let old = bytes_of-join cs ds in
-    let bs = bytes_of-join cs (child b (leaf n new) ds) in
-    let s = length-append (bytes_of cs) (bytes_of ds) in
-    let s' = length-append (bytes_of cs) (b ∷ bytes_of ds) in
-    let count : suc (length (bytes_of (join cs ds))) ≡ length (bytes_of (join cs (child b (leaf n new) ds))) = rw (old, bs) (omega arith) in
-    let low = Each-weaker (PartsBelow bytes front b) (λ x. Precedes (bytes x) (bytes new)) (λ x g. parts bytes front g.0 b (bytes x) (bytes new) g.2 k g.1) (pairs_below cs) (all_below bytes P front b cs hl l) in
-    let high = Each-weaker (PartsAbove bytes front b) (λ x. Precedes (bytes new) (bytes x)) (λ x g. parts bytes front b g.0 (bytes new) (bytes x) k g.2 g.1) (pairs_below ds) (all_above bytes P front b ds hr r) in
-    ((part, ap (header_of P part) count, rw (← count) (omega arith), subst IsRising (sym bs) (rising_with (bytes_of cs) (bytes_of ds) b l r (rw old at up)), AreRadix-join bytes P front cs (child b (leaf n new) ds) hl (k, hr)),
-      pairs_below-join cs (child b (leaf n new) ds) ∙ sym (ap (put bytes new) (pairs_below-join cs ds ∙ ap (λ l. l ++ pairs_below ds) (sym (append-nil (pairs_below cs)))) ∙ put-between bytes new (pairs_below cs) [] (pairs_below ds) low high ∙ append_assoc (pairs_below cs) (new ∷ []) (pairs_below ds)))
+  pub with_child : (place part : List ℕ) (cs ds : Children N A) (b : ℕ) (m n : N) (new : A) →
+      IsRising (bytes_of (join cs ds)) → Each (λ c. c < b) (bytes_of cs) → Each (λ c. b < c) (bytes_of ds) → 1 ≤ length (bytes_of (join cs ds)) → AreRadix bytes P (place ++ part) (join cs ds) → IsFront ((place ++ part) ++ b ∷ []) (bytes new) →
+      let u = inner m (header_of P part (suc (length (bytes_of (join cs ds))))) (join cs (child b (leaf n new) ds)) in
+      IsRadix bytes P place u × (pairs_of u ≡ put bytes new (pairs_below (join cs ds)))
+  with_child place part cs ds b m n new up l r some all k =
+      let front = place ++ part in
+      let hl = AreRadix-left bytes P front cs ds all in
+      let hr = AreRadix-right bytes P front cs ds all in
+      let old = bytes_of-join cs ds in
+      let bs = bytes_of-join cs (child b (leaf n new) ds) in
+      let s = length-append (bytes_of cs) (bytes_of ds) in
+      let s' = length-append (bytes_of cs) (b ∷ bytes_of ds) in
+      let count : suc (length (bytes_of (join cs ds))) ≡ length (bytes_of (join cs (child b (leaf n new) ds))) = rw (old, bs) (omega arith) in
+      let low = Each-weaker (PartsBelow bytes front b) (λ x. Precedes (bytes x) (bytes new)) (λ x g. parts bytes front g.0 b (bytes x) (bytes new) g.2 k g.1) (pairs_below cs) (all_below bytes P front b cs hl l) in
+      let high = Each-weaker (PartsAbove bytes front b) (λ x. Precedes (bytes new) (bytes x)) (λ x g. parts bytes front b g.0 (bytes new) (bytes x) k g.2 g.1) (pairs_below ds) (all_above bytes P front b ds hr r) in (
+        (part, ap (header_of P part) count, rw (← count) (omega arith), subst IsRising (sym bs) (rising_with (bytes_of cs) (bytes_of ds) b l r (rw old at up)), AreRadix-join bytes P front cs (child b (leaf n new) ds) hl (k, hr)),
+        pairs_below-join cs (child b (leaf n new) ds) ∙ sym (ap (put bytes new) (pairs_below-join cs ds ∙ ap (λ l. l ++ pairs_below ds) (sym (append-nil (pairs_below cs)))) ∙ put-between bytes new (pairs_below cs) [] (pairs_below ds) low high ∙ append_assoc (pairs_below cs) (new ∷ []) (pairs_below ds)),
+      )
 
   -- a child that is a leaf goes: what is left below
-  pub without_child : (way part : List ℕ) (cs ds : Children N A) (b : ℕ) (n : N) (x : A) →
-    IsRising (bytes_of (join cs (child b (leaf n x) ds))) → AreRadix bytes P (way ++ part) (join cs (child b (leaf n x) ds)) →
-    IsRising (bytes_of (join cs ds)) × AreRadix bytes P (way ++ part) (join cs ds) × (pairs_below (join cs ds) ≡ remove_key bytes (bytes x) (pairs_below (join cs (child b (leaf n x) ds))))
-  without_child way part cs ds b n x up all =
-    let front = way ++ part in
-    let hl = AreRadix-left bytes P front cs (child b (leaf n x) ds) all in
-    let hr = AreRadix-right bytes P front cs (child b (leaf n x) ds) all in
-    let bs = bytes_of-join cs (child b (leaf n x) ds) in
-    let up' : IsRising (bytes_of cs ++ b ∷ bytes_of ds) = subst IsRising bs up in
-    let low = Each-weaker (PartsBelow bytes front b) (λ y. Precedes (bytes y) (bytes x)) (λ y g. parts bytes front g.0 b (bytes y) (bytes x) g.2 hr.0 g.1) (pairs_below cs) (all_below bytes P front b cs hl (rising_left (bytes_of cs) (bytes_of ds) b up')) in
-    let high = Each-weaker (PartsAbove bytes front b) (λ y. Precedes (bytes x) (bytes y)) (λ y g. parts bytes front b g.0 (bytes x) (bytes y) hr.0 g.2 g.1) (pairs_below ds) (all_above bytes P front b ds hr.1 (rising_right (bytes_of cs) (bytes_of ds) b up')) in
-    (subst IsRising (sym (bytes_of-join cs ds)) (rising_without (bytes_of cs) (bytes_of ds) b up'), AreRadix-join bytes P front cs ds hl hr.1,
-      pairs_below-join cs ds ∙ sym (ap (remove_key bytes (bytes x)) (pairs_below-join cs (child b (leaf n x) ds) ∙ sym (append_assoc (pairs_below cs) (x ∷ []) (pairs_below ds))) ∙ remove_key-between bytes (bytes x) (pairs_below cs) (x ∷ []) (pairs_below ds) low high ∙ gone))
+  pub without_child : (place part : List ℕ) (cs ds : Children N A) (b : ℕ) (n : N) (x : A) →
+      IsRising (bytes_of (join cs (child b (leaf n x) ds))) → AreRadix bytes P (place ++ part) (join cs (child b (leaf n x) ds)) →
+      IsRising (bytes_of (join cs ds)) × AreRadix bytes P (place ++ part) (join cs ds) × (pairs_below (join cs ds) ≡ remove_key bytes (bytes x) (pairs_below (join cs (child b (leaf n x) ds))))
+  without_child place part cs ds b n x up all =
+      let front = place ++ part in
+      let hl = AreRadix-left bytes P front cs (child b (leaf n x) ds) all in
+      let hr = AreRadix-right bytes P front cs (child b (leaf n x) ds) all in
+      let bs = bytes_of-join cs (child b (leaf n x) ds) in
+      let up' : IsRising (bytes_of cs ++ b ∷ bytes_of ds) = subst IsRising bs up in
+      let low = Each-weaker (PartsBelow bytes front b) (λ y. Precedes (bytes y) (bytes x)) (λ y g. parts bytes front g.0 b (bytes y) (bytes x) g.2 hr.0 g.1) (pairs_below cs) (all_below bytes P front b cs hl (rising_left (bytes_of cs) (bytes_of ds) b up')) in
+      let high = Each-weaker (PartsAbove bytes front b) (λ y. Precedes (bytes x) (bytes y)) (λ y g. parts bytes front b g.0 (bytes x) (bytes y) hr.0 g.2 g.1) (pairs_below ds) (all_above bytes P front b ds hr.1 (rising_right (bytes_of cs) (bytes_of ds) b up')) in (
+        subst IsRising (sym (bytes_of-join cs ds)) (rising_without (bytes_of cs) (bytes_of ds) b up'),
+        AreRadix-join bytes P front cs ds hl hr.1,
+        pairs_below-join cs ds ∙ sym (ap (remove_key bytes (bytes x)) (pairs_below-join cs (child b (leaf n x) ds) ∙ sym (append_assoc (pairs_below cs) (x ∷ []) (pairs_below ds))) ∙ remove_key-between bytes (bytes x) (pairs_below cs) (x ∷ []) (pairs_below ds) low high ∙ gone),
+      )
     where
       gone : pairs_below cs ++ remove_key bytes (bytes x) (x ∷ []) ++ pairs_below ds ≡ pairs_below cs ++ pairs_below ds
       gone = rw (front_same (bytes x)) (ap (λ l. l ++ pairs_below ds) (append-nil (pairs_below cs)))

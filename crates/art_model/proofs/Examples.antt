@@ -1,22 +1,22 @@
-use Rattle.std.proofs.Common.{◌≡◌, ℕ, List, [], ◌∷◌, Option, Some, None, refl}
+use Rattle.std.proofs.Common.{◌≡◌, ℕ, List, [], ◌∷◌, Some, None, refl}
 use Rattle.art_nodes.specs.declared.node.NodeType.TheVariants.{Node4, Node256}
-use Rattle.art_model.specs.Trees.{tree_of, Tree, leaf, inner, child, no_child, Header}
-use Rattle.art_model.specs.Pairs.{put, add_in_order, remove_key, overwrite, match_of}
+use Rattle.art_model.specs.Trees.{tree_of, leaf, inner, child, no_child}
+use Rattle.art_model.specs.Pairs.{put, remove_key, overwrite, match_of}
 
 abbrev key : List ℕ → List ℕ
 key x = x
 
 -- the keys 1 2, 1 3 and 2
 three : tree_of key ((1 ∷ 2 ∷ []) ∷ (1 ∷ 3 ∷ []) ∷ (2 ∷ []) ∷ []) 16 0
-  ≡ Some (inner tt (record { kind = Node4; length_of = 0; stored = [] })
-      (child 1 (inner tt (record { kind = Node4; length_of = 0; stored = [] })
-          (child 2 (leaf tt (1 ∷ 2 ∷ [])) (child 3 (leaf tt (1 ∷ 3 ∷ [])) no_child)))
-        (child 2 (leaf tt (2 ∷ [])) no_child)))
+    ≡ Some (inner tt (record { kind = Node4; length_of = 0; stored = [] })
+    (child 1 (inner tt (record { kind = Node4; length_of = 0; stored = [] })
+    (child 2 (leaf tt (1 ∷ 2 ∷ [])) (child 3 (leaf tt (1 ∷ 3 ∷ [])) no_child)))
+    (child 2 (leaf tt (2 ∷ [])) no_child)))
 three = refl
 
 long_prefix : tree_of key ((7 ∷ 1 ∷ 1 ∷ 1 ∷ 1 ∷ 5 ∷ []) ∷ (7 ∷ 1 ∷ 1 ∷ 1 ∷ 1 ∷ 6 ∷ []) ∷ []) 2 0
-  ≡ Some (inner tt (record { kind = Node4; length_of = 5; stored = 7 ∷ 1 ∷ [] })
-      (child 5 (leaf tt (7 ∷ 1 ∷ 1 ∷ 1 ∷ 1 ∷ 5 ∷ [])) (child 6 (leaf tt (7 ∷ 1 ∷ 1 ∷ 1 ∷ 1 ∷ 6 ∷ [])) no_child)))
+    ≡ Some (inner tt (record { kind = Node4; length_of = 5; stored = 7 ∷ 1 ∷ [] })
+    (child 5 (leaf tt (7 ∷ 1 ∷ 1 ∷ 1 ∷ 1 ∷ 5 ∷ [])) (child 6 (leaf tt (7 ∷ 1 ∷ 1 ∷ 1 ∷ 1 ∷ 6 ∷ [])) no_child)))
 long_prefix = refl
 
 nothing : tree_of key [] 16 0 ≡ None

@@ -1,23 +1,20 @@
 -- heights read off a store, and why the store's count of inner nodes is enough steps
-use Rattle.std.proofs.Common.{◌≡◌, ◌≢◌, ℕ, suc, zero, ◌+◌, ◌-◌, ◌<◌, ◌≤◌, max, List, [], ◌∷◌, ◌++◌, length, refl, ap, ap₂, sym, ◌∙◌, arith, subst, length-append, Option, Some, None, Bool, true, false, cond, is_some}
+use Rattle.std.proofs.Common.{◌≡◌, ◌≢◌, ℕ, suc, zero, ◌-◌, ◌≤◌, max, List, [], ◌∷◌, length, refl, ap, ap₂, sym, ◌∙◌, arith, length-append, Option, true, cond, is_some}
 use Rattle.std.specs.List.{AllByRecursion as Each}
-use Rattle.std.specs.Option.{option_map}
 use Rattle.std.specs.FinMap as map
 use Rattle.std.proofs.lemmas.Bool.{false≢true}
 use Rattle.art_nodes.specs.Inner.{Inner}
 use Rattle.art_nodes.specs.Nodes.{Nodes, inner_cmp}
-use Rattle.art_nodes.specs.declared.node.NodeType.{NodeType}
-use Rattle.art_nodes.specs.declared.node.NodeType.TheVariants.{Node4, Node16, Node48, Node256, Leaf}
 use Rattle.art_nodes.specs.declared.node.InnerPtr.{InnerPtr}
 use Rattle.art_nodes.specs.declared.node.OpaqueNodePtr.{OpaqueNodePtr}
 use Rattle.art_nodes.proofs.NameLemmas.{inner_cmp_total}
 use Rattle.art_nodes.proofs.StoreLaws.{gone_elsewhere}
 use Rattle.art_nodes.proofs.NameLemmas.{inner_cmp-IsAntisymmetric}
 use Rattle.art_model.specs.Trees.{Tree, leaf, inner, Children, child, no_child}
-use Rattle.art_model.specs.Layouts.{Node, leaf_node, inner_node, name_of, slots_of, names_of, names_below, Holds, HoldsBelow, AreDistinct}
-use Rattle.art_model.specs.Heights.{highest, height_above, height, tree_height, height_below}
-use Rattle.art_model.specs.Stores.{node_at, node_in}
-use Rattle.art_model.proofs.Views.{held_inner}
+use Rattle.art_model.specs.Layouts.{Node, name_of, slots_of, names_of, names_below, inner_names, inner_names_below, Holds, HoldsBelow, AreDistinct}
+use Rattle.art_model.specs.Heights.{highest, height, tree_height, height_below}
+use Rattle.art_model.specs.Stores.{node_at}
+use Rattle.art_model.proofs.Views.{inner_is_used}
 use Rattle.art_model.proofs.Lists.{Each-append, Each-left, Each-right, Each-weaker}
 use Rattle.art_model.proofs.Names.{distinct_left, distinct_right, distinct_cross, distinct-append}
 
@@ -25,6 +22,7 @@ use Rattle.art_model.proofs.Names.{distinct_left, distinct_right, distinct_cross
 module _ {N A : Type 0} (at : N → Option (Node N A)) where
   mutual
     unfolding height
+
     pub height_is : (t : Tree N A) (steps : ℕ) → Holds at t → tree_height t ≤ steps → height at steps (name_of t) ≡ tree_height t
     height_is (leaf n x) zero h enough = refl
     height_is (leaf n x) (suc steps) h enough = rw h refl
@@ -35,17 +33,7 @@ module _ {N A : Type 0} (at : N → Option (Node N A)) where
     highest_is no_child steps h enough = refl
     highest_is (child b t cs) steps h enough = ap₂ max (height_is t steps h.0 (omega arith)) (highest_is cs steps h.1 (omega arith))
 
--- the inner nodes' names
 module _ {N A : Type 0} where
-  abbrev mutual
-    pub inner_names : Tree N A → List N
-    inner_names (leaf n x) = []
-    inner_names (inner n h cs) = n ∷ inner_names_below cs
-
-    pub inner_names_below : Children N A → List N
-    inner_names_below no_child = []
-    inner_names_below (child b t cs) = inner_names t ++ inner_names_below cs
-
   mutual
     pub height_long : (t : Tree N A) → tree_height t ≤ length (inner_names t)
     height_long (leaf n x) = omega arith
@@ -72,7 +60,7 @@ module _ {N A : Type 0} where
     pub inners_distinct_below : (cs : Children N A) → AreDistinct (names_below cs) → AreDistinct (inner_names_below cs)
     inners_distinct_below no_child h = tt
     inners_distinct_below (child b t cs) d = distinct-append (inner_names t) (inner_names_below cs) (inners_distinct t (distinct_left (names_of t) (names_below cs) d)) (inners_distinct_below cs (distinct_right (names_of t) (names_below cs) d))
-      (inners_among (λ x. Each (λ z. x ≢ z) (inner_names_below cs)) t (Each-weaker (λ x. Each (λ z. x ≢ z) (names_below cs)) (λ x. Each (λ z. x ≢ z) (inner_names_below cs)) (λ x k. inners_among_below (λ z. x ≢ z) cs k) (names_of t) (distinct_cross (names_of t) (names_below cs) d)))
+        (inners_among (λ x. Each (λ z. x ≢ z) (inner_names_below cs)) t (Each-weaker (λ x. Each (λ z. x ≢ z) (names_below cs)) (λ x. Each (λ z. x ≢ z) (inner_names_below cs)) (λ x k. inners_among_below (λ z. x ≢ z) cs k) (names_of t) (distinct_cross (names_of t) (names_below cs) d)))
 
 -- distinct names that a store has are at most as many as it has
 abbrev pub as_inner : OpaqueNodePtr → InnerPtr
@@ -83,17 +71,17 @@ same_name n k e = ap (λ p. let r : OpaqueNodePtr = record { kind = p.kind; slot
 
 one_less : (m : map.FinMap inner_cmp Inner) (p : InnerPtr) → is_some (map.get m p) ≡ true → suc (map.len (map.remove m p)) ≡ map.len m
 one_less m p there =
-  let e : map.len (map.remove m p) ≡ map.len m - 1 = map.len-remove inner_cmp_total m p ∙ ap (λ b. cond b (map.len m - 1) (map.len m)) there in
-  let some : map.len m ≢ 0 = λ z. false≢true (sym (ap is_some (map.get-empty inner_cmp p)) ∙ ap (λ n. is_some (map.get n p)) (sym (map.empty_of_len m z)) ∙ there) in
-  omega arith
+    let e : map.len (map.remove m p) ≡ map.len m - 1 = map.len-remove inner_cmp_total m p ∙ ap (λ b. cond b (map.len m - 1) (map.len m)) there in
+    let some : map.len m ≢ 0 = λ z. false≢true (sym (ap is_some (map.get-empty inner_cmp p)) ∙ ap (λ n. is_some (map.get n p)) (sym (map.empty_of_len m z)) ∙ there) in
+    omega arith
 
 pub enough_inners : (ns : List OpaqueNodePtr) (m : map.FinMap inner_cmp Inner) → AreDistinct ns → Each (λ n. is_some (map.get m (as_inner n)) ≡ true) ns → length ns ≤ map.len m
 enough_inners [] m d h = omega arith
 enough_inners (n ∷ ns) m d h =
-  let less = one_less m (as_inner n) h.0 in
-  let kept = go ns d.0 h.1 in
-  let ih = enough_inners ns (map.remove m (as_inner n)) d.1 kept in
-  omega arith
+    let less = one_less m (as_inner n) h.0 in
+    let kept = go ns d.0 h.1 in
+    let ih = enough_inners ns (map.remove m (as_inner n)) d.1 kept in
+    omega arith
   where
     go : (ks : List OpaqueNodePtr) → Each (λ k. n ≢ k) ks → Each (λ k. is_some (map.get m (as_inner k)) ≡ true) ks → Each (λ k. is_some (map.get (map.remove m (as_inner n)) (as_inner k)) ≡ true) ks
     go [] o h = tt
@@ -103,7 +91,7 @@ module _ {K V : Type 0} (s : Nodes K V) where
   mutual
     inners_held : (t : Tree OpaqueNodePtr (K × V)) → Holds (node_at s) t → Each (λ n. is_some (map.get s.inners (as_inner n)) ≡ true) (inner_names t)
     inners_held (leaf n x) h = tt
-    inners_held (inner n h cs) holds = (held_inner s n h (slots_of cs) holds.0, inners_held_below cs holds.1)
+    inners_held (inner n h cs) holds = (inner_is_used s n h (slots_of cs) holds.0, inners_held_below cs holds.1)
 
     inners_held_below : (cs : Children OpaqueNodePtr (K × V)) → HoldsBelow (node_at s) cs → Each (λ n. is_some (map.get s.inners (as_inner n)) ≡ true) (inner_names_below cs)
     inners_held_below no_child h = tt
@@ -112,6 +100,6 @@ module _ {K V : Type 0} (s : Nodes K V) where
   -- the steps that a store's count of inner nodes gives are enough
   pub enough_steps : (t : Tree OpaqueNodePtr (K × V)) → Holds (node_at s) t → AreDistinct (names_of t) → tree_height t ≤ map.len s.inners
   enough_steps t h d =
-    let l = height_long t in
-    let k = enough_inners (inner_names t) s.inners (inners_distinct t d) (inners_held t h) in
-    omega arith
+      let l = height_long t in
+      let k = enough_inners (inner_names t) s.inners (inners_distinct t d) (inners_held t h) in
+      omega arith

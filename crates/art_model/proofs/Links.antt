@@ -78,10 +78,10 @@ module _ {N : Type 0} where
   not_last_from : (ws : List N) (k : N) → Ends ws → Each (λ w. w ≢ k) ws → NotLast ws k
   not_last_from ws k (inl none) a e = let f = ap (λ l. last_or l None) none in absurd cc
   not_last_from ws k (inr (vs, v, push)) a e =
-    let b = Each-right (λ w. w ≢ k) vs (v ∷ []) (subst (Each (λ w. w ≢ k)) push a) in
-    let last = last_or-push vs v None in
-    let f = ap (λ l. last_or l None) push in
-    b.0 cc
+      let b = Each-right (λ w. w ≢ k) vs (v ∷ []) (subst (Each (λ w. w ≢ k)) push a) in
+      let last = last_or-push vs v None in
+      let f = ap (λ l. last_or l None) push in
+      b.0 cc
 
   not_last : (ws us : List N) → AreDistinct (ws ++ us) → Each (NotLast ws) us
   not_last ws [] d = tt
@@ -90,7 +90,7 @@ module _ {N : Type 0} where
   module _ (links to : N → Option (Links N)) (Stays : N → Type 0) (q p : Option N) where
     before_part : (ys : List N) (l : N) (zs : List N) (o : Option N) → Each Stays ys → AreDistinct (ys ++ l ∷ zs) → Relinked links to Stays (Some l) q p (first_or zs None) → AreLinked links None (ys ++ l ∷ []) o → AreLinked to None (ys ++ l ∷ []) q
     before_part ys l zs o stay distinct change h =
-      relink_end links to ys l None o q (same ys stay (distinct_cross ys (l ∷ zs) distinct)) h (change.on_left l (last_or ys None) o refl (last_link links ys l None o h))
+        relink_end links to ys l None o q (same ys stay (distinct_cross ys (l ∷ zs) distinct)) h (change.on_left l (last_or ys None) o refl (last_link links ys l None o h))
       where
         same : (ws : List N) → Each Stays ws → Each (λ x. Each (λ z. x ≢ z) (l ∷ zs)) ws → Each (λ k. to k ≡ links k) ws
         same [] a b = tt
@@ -98,7 +98,7 @@ module _ {N : Type 0} where
 
     after_part : (xs : List N) (z : N) (zs : List N) (o : Option N) → Each Stays zs → AreDistinct (xs ++ z ∷ zs) → Relinked links to Stays (last_or xs None) q p (Some z) → AreLinked links o (z ∷ zs) None → AreLinked to p (z ∷ zs) None
     after_part xs z zs o stay distinct change h =
-      relink_start links to z zs o None p (same zs stay (apart_after xs zs z distinct) (not_last xs zs (distinct_without xs zs z distinct))) h (change.on_right z o (first_or zs None) refl h.0)
+        relink_start links to z zs o None p (same zs stay (apart_after xs zs z distinct) (not_last xs zs (distinct_without xs zs z distinct))) h (change.on_right z o (first_or zs None) refl h.0)
       where
         same : (us : List N) → Each Stays us → Each (λ k. k ≢ z) us → Each (NotLast xs) us → Each (λ k. to k ≡ links k) us
         same [] a b c = tt
@@ -110,8 +110,8 @@ module _ {N : Type 0} where
         go : Ends xs → AreLinked to None xs q
         go (inl e) = rw e tt
         go (inr (ys, l, e)) =
-          let last : last_or xs None ≡ Some l = rw e (last_or-push ys l None) in
-          rw e (before_part ys l zs o (Each-left Stays ys (l ∷ []) (rw e at stay)) (rw (e, append_assoc ys (l ∷ []) zs) at distinct) (rw last at change) (rw e at h))
+            let last : last_or xs None ≡ Some l = rw e (last_or-push ys l None) in
+            rw e (before_part ys l zs o (Each-left Stays ys (l ∷ []) (rw e at stay)) (rw (e, append_assoc ys (l ∷ []) zs) at distinct) (rw last at change) (rw e at h))
 
     back_of : (xs zs : List N) (o : Option N) → Each Stays zs → AreDistinct (xs ++ zs) → Relinked links to Stays (last_or xs None) q p (first_or zs None) → AreLinked links o zs None → AreLinked to p zs None
     back_of xs [] o stay distinct change h = tt
@@ -119,14 +119,14 @@ module _ {N : Type 0} where
 
   -- other leaves between those before and those after
   pub relink : (links to : N → Option (Links N)) (Stays : N → Type 0) (xs ms ns zs : List N) → Each Stays xs → Each Stays zs → AreDistinct (xs ++ zs) →
-    Relinked links to Stays (last_or xs None) (first_or ns (first_or zs None)) (last_or ns (last_or xs None)) (first_or zs None) →
-    AreLinked to (last_or xs None) ns (first_or zs None) →
-    AreLinked links None (xs ++ ms ++ zs) None → AreLinked to None (xs ++ ns ++ zs) None
+      Relinked links to Stays (last_or xs None) (first_or ns (first_or zs None)) (last_or ns (last_or xs None)) (first_or zs None) →
+      AreLinked to (last_or xs None) ns (first_or zs None) →
+      AreLinked links None (xs ++ ms ++ zs) None → AreLinked to None (xs ++ ns ++ zs) None
   relink links to Stays xs ms ns zs stay_l stay_r distinct change inside h =
-    let q = first_or ns (first_or zs None) in
-    let p = last_or ns (last_or xs None) in
-    let old = linked_front links xs ms None (first_or zs None) (linked_front links (xs ++ ms) zs None None h) in
-    let rest = linked_rest links (xs ++ ms) zs None None h in
-    linked-append to (xs ++ ns) zs None None
+      let q = first_or ns (first_or zs None) in
+      let p = last_or ns (last_or xs None) in
+      let old = linked_front links xs ms None (first_or zs None) (linked_front links (xs ++ ms) zs None None h) in
+      let rest = linked_rest links (xs ++ ms) zs None None h in
+      linked-append to (xs ++ ns) zs None None
       (linked-append to xs ns None (first_or zs None) (front_of links to Stays q p xs zs (first_or ms (first_or zs None)) stay_l distinct change old) inside)
       (rw last_or-append (back_of links to Stays q p xs zs (last_or (xs ++ ms) None) stay_r distinct change rest))

@@ -1,10 +1,7 @@
 -- lists: what holds of each element, and fronts
-use Rattle.std.proofs.Common.{◌≡◌, ℕ, suc, ◌+◌, ◌<◌, ◌≤◌, List, [], ◌∷◌, ◌++◌, length, take, drop, refl, ap, sym, ◌∙◌, append_assoc, append-nil, arith, length-append, drop_at, eqb, eq-eqb, true, false, cond, length-drop, Bool, ap₂, eqb-true}
+use Rattle.std.proofs.Common.{◌≡◌, ℕ, List, [], ◌∷◌, ◌++◌, length, drop, refl, ap, sym, ◌∙◌, append_assoc, drop_at, eqb, eq-eqb, true, false, cond, Bool, ap₂, eqb-true}
 use Rattle.std.specs.List.{AllByRecursion as Each}
-use Rattle.std.proofs.lemmas.List.{append_cancel_left}
-use Rattle.std.proofs.lemmas.Bool.{ne_eqb, cases_Bool}
 use Rattle.art_model.specs.Keys.{IsFront, common_front}
-use Rattle.art_model.specs.Trees.{shared_part, add_to_groups, groups, byte_at}
 
 module _ {A : Type 0} where
   pub Each-append : (P : A → Type 0) (xs ys : List A) → Each P xs → Each P ys → Each P (xs ++ ys)

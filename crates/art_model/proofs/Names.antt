@@ -1,5 +1,5 @@
 -- distinct names
-use Rattle.std.proofs.Common.{◌≡◌, ◌≢◌, List, [], ◌∷◌, ◌++◌, refl, ap, sym, ◌∙◌, Option, Some, None}
+use Rattle.std.proofs.Common.{◌≡◌, ◌≢◌, List, [], ◌∷◌, ◌++◌, sym, Option, Some, None}
 use Rattle.std.specs.List.{AllByRecursion as Each}
 use Rattle.art_model.specs.Trees.{Tree, leaf, inner, Children, child, no_child}
 use Rattle.art_model.specs.Layouts.{Node, AreDistinct, Holds, HoldsBelow, names_of, names_below, leaf_names, leaf_names_below}
@@ -59,7 +59,7 @@ module _ {N A : Type 0} where
     pub leaves_distinct_below : (cs : Children N A) → AreDistinct (names_below cs) → AreDistinct (leaf_names_below cs)
     leaves_distinct_below no_child h = tt
     leaves_distinct_below (child b t cs) d = distinct-append (leaf_names t) (leaf_names_below cs) (leaves_distinct t (distinct_left (names_of t) (names_below cs) d)) (leaves_distinct_below cs (distinct_right (names_of t) (names_below cs) d))
-      (leaves_among (λ x. Each (λ z. x ≢ z) (leaf_names_below cs)) t (Each-weaker (λ x. Each (λ z. x ≢ z) (names_below cs)) (λ x. Each (λ z. x ≢ z) (leaf_names_below cs)) (λ x k. leaves_among_below (λ z. x ≢ z) cs k) (names_of t) (distinct_cross (names_of t) (names_below cs) d)))
+        (leaves_among (λ x. Each (λ z. x ≢ z) (leaf_names_below cs)) t (Each-weaker (λ x. Each (λ z. x ≢ z) (names_below cs)) (λ x. Each (λ z. x ≢ z) (leaf_names_below cs)) (λ x k. leaves_among_below (λ z. x ≢ z) cs k) (names_of t) (distinct_cross (names_of t) (names_below cs) d)))
 
 module _ {N A : Type 0} (at : N → Option (Node N A)) (n : N) (free : at n ≡ None) where
   clash : (k : N) (v : Node N A) → k ≡ n → at k ≡ Some v → ⊥

@@ -1,5 +1,5 @@
 -- relations between each element and each later one
-use Rattle.std.proofs.Common.{◌≡◌, List, [], ◌∷◌, ◌++◌}
+use Rattle.std.proofs.Common.{List, [], ◌∷◌, ◌++◌}
 use Rattle.std.specs.List.{AllByRecursion as Each}
 use Rattle.art_model.specs.Pairs.{Pairwise}
 use Rattle.art_model.proofs.Lists.{Each-append, Each-left, Each-right}

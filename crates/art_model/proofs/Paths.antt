@@ -1,15 +1,14 @@
 -- a subtree replaced by another at the same place
-use Rattle.std.proofs.Common.{◌≡◌, ℕ, suc, zero, ◌+◌, ◌<◌, ◌≤◌, List, [], ◌∷◌, ◌++◌, length, refl, ap, ap₂, sym, ◌∙◌, append_assoc, append-nil, arith, length-append, subst, true, false, Bool, cond, not, ◌||◌, ◌&&◌, filter, ◌⊎◌, inl, inr}
+use Rattle.std.proofs.Common.{◌≡◌, ℕ, ◌<◌, ◌≤◌, List, [], ◌∷◌, ◌++◌, length, refl, ap, sym, ◌∙◌, append_assoc, append-nil, arith, length-append, subst, true, false, Bool, cond}
 use Rattle.std.specs.List.{AllByRecursion as Each}
 use Rattle.std.proofs.lemmas.List.Elements.{filter-append}
-use Rattle.std.proofs.lemmas.Bool.{cases_Bool, true≢false}
-use Rattle.art_model.specs.Keys.{IsFront, Precedes, are_same, are_related, is_before, is_front}
-use Rattle.art_model.specs.Trees.{Tree, leaf, inner, Children, child, no_child, header_of}
-use Rattle.art_model.specs.Radix.{IsRadix, AreRadix, IsRising, bytes_of, pairs_of, pairs_below, join}
-use Rattle.art_model.specs.Pairs.{IsMap, add_in_order, put, overwrite, remove_key, remove_related}
+use Rattle.art_model.specs.Keys.{IsFront, Precedes, are_related, is_before}
+use Rattle.art_model.specs.Trees.{Tree, child, header_of}
+use Rattle.art_model.specs.Radix.{IsRadix, IsRising, bytes_of, pairs_of, pairs_below}
+use Rattle.art_model.specs.Pairs.{add_in_order, put, overwrite, remove_key, remove_related}
 use Rattle.art_model.specs.Paths.{Frame, fill, plug, pairs_before, pairs_after, IsPath}
 use Rattle.art_model.proofs.Lists.{Each-append, Each-left, Each-right, front_cut, Each-weaker}
-use Rattle.art_model.proofs.Keys.{precedes_at, IsMap-append, precedes_apart, related_sym, same_related}
+use Rattle.art_model.proofs.Keys.{precedes_apart, related_sym, same_related}
 use Rattle.art_model.proofs.Radix.{bytes_of-join, pairs_below-join, AreRadix-join, AreRadix-left, AreRadix-right, parts, PartsBelow, PartsAbove, all_below, all_above}
 
 -- bytes that rise through a middle one
@@ -36,40 +35,44 @@ module _ {N A : Type 0} where
 
 module _ {N A : Type 0} (bytes : A → List ℕ) (P : ℕ) where
   -- a radix tree in the hole of a path makes a radix tree
-  pub plug_radix : (fs : List (Frame N A)) (way : List ℕ) (t : Tree N A) → IsPath bytes P way fs → IsRadix bytes P way t → IsRadix bytes P [] (plug fs t)
-  plug_radix [] way t e h = subst (λ w. IsRadix bytes P w t) e h
-  plug_radix (f ∷ fs) way t (outer, part, e, head, two, up, l, r, path) h =
-    let bs = bytes_of-join f.left (child f.byte t f.right) in
-    let count = length-append (bytes_of f.left) (f.byte ∷ bytes_of f.right) in
-    plug_radix fs outer (fill f t) path
-      (part, head ∙ ap (λ z. header_of P part (length z)) (sym bs), rw bs (omega arith), subst IsRising (sym bs) up,
-        AreRadix-join bytes P (outer ++ part) f.left (child f.byte t f.right) l (subst (λ w. IsRadix bytes P w t) e h, r))
+  pub plug_radix : (fs : List (Frame N A)) (place : List ℕ) (t : Tree N A) → IsPath bytes P place fs → IsRadix bytes P place t → IsRadix bytes P [] (plug fs t)
+  plug_radix [] place t e h = subst (λ w. IsRadix bytes P w t) e h
+  plug_radix (f ∷ fs) place t (outer, part, e, head, two, up, l, r, path) h =
+      let bs = bytes_of-join f.left (child f.byte t f.right) in
+      let count = length-append (bytes_of f.left) (f.byte ∷ bytes_of f.right) in
+      plug_radix fs outer (fill f t) path (
+        part,
+        head ∙ ap (λ z. header_of P part (length z)) (sym bs),
+        rw bs (omega arith),
+        subst IsRising (sym bs) up,
+        AreRadix-join bytes P (outer ++ part) f.left (child f.byte t f.right) l (subst (λ w. IsRadix bytes P w t) e h, r),
+      )
 
   -- one step down
-  pub path_down : (fs : List (Frame N A)) (way : List ℕ) (f : Frame N A) (t : Tree N A) → IsPath bytes P way fs → (radix : IsRadix bytes P way (fill f t)) →
-    IsPath bytes P ((way ++ radix.0) ++ f.byte ∷ []) (f ∷ fs) × IsRadix bytes P ((way ++ radix.0) ++ f.byte ∷ []) t
-  path_down fs way f t path (part, head, two, up, all) =
-    let bs = bytes_of-join f.left (child f.byte t f.right) in
-    let l = AreRadix-left bytes P (way ++ part) f.left (child f.byte t f.right) all in
-    let r = AreRadix-right bytes P (way ++ part) f.left (child f.byte t f.right) all in
-    let count = length-append (bytes_of f.left) (f.byte ∷ bytes_of f.right) in
-    let two' : 2 ≤ length (bytes_of f.left ++ f.byte ∷ bytes_of f.right) = rw bs at two in
-    ((way, part, refl, head ∙ ap (λ z. header_of P part (length z)) bs, omega arith, subst IsRising bs up, l, r.1, path), r.0)
+  pub path_down : (fs : List (Frame N A)) (place : List ℕ) (f : Frame N A) (t : Tree N A) → IsPath bytes P place fs → (radix : IsRadix bytes P place (fill f t)) →
+      IsPath bytes P ((place ++ radix.0) ++ f.byte ∷ []) (f ∷ fs) × IsRadix bytes P ((place ++ radix.0) ++ f.byte ∷ []) t
+  path_down fs place f t path (part, head, two, up, all) =
+      let bs = bytes_of-join f.left (child f.byte t f.right) in
+      let l = AreRadix-left bytes P (place ++ part) f.left (child f.byte t f.right) all in
+      let r = AreRadix-right bytes P (place ++ part) f.left (child f.byte t f.right) all in
+      let count = length-append (bytes_of f.left) (f.byte ∷ bytes_of f.right) in
+      let two' : 2 ≤ length (bytes_of f.left ++ f.byte ∷ bytes_of f.right) = rw bs at two in
+      ((place, part, refl, head ∙ ap (λ z. header_of P part (length z)) bs, omega arith, subst IsRising bs up, l, r.1, path), r.0)
 
   -- keys before and after a place
-  pub path_before : (fs : List (Frame N A)) (way key : List ℕ) → IsPath bytes P way fs → IsFront way key → Each (λ x. Precedes (bytes x) key) (pairs_before fs)
-  path_before [] way key path k = tt
-  path_before (f ∷ fs) way key (outer, part, e, head, two, up, l, r, path) k =
-    let k' : IsFront ((outer ++ part) ++ f.byte ∷ []) key = subst (λ w. IsFront w key) e k in
-    Each-append (λ x. Precedes (bytes x) key) (pairs_before fs) (pairs_below f.left)
+  pub path_before : (fs : List (Frame N A)) (place key : List ℕ) → IsPath bytes P place fs → IsFront place key → Each (λ x. Precedes (bytes x) key) (pairs_before fs)
+  path_before [] place key path k = tt
+  path_before (f ∷ fs) place key (outer, part, e, head, two, up, l, r, path) k =
+      let k' : IsFront ((outer ++ part) ++ f.byte ∷ []) key = subst (λ w. IsFront w key) e k in
+      Each-append (λ x. Precedes (bytes x) key) (pairs_before fs) (pairs_below f.left)
       (path_before fs outer key path (front_cut outer part key (front_cut (outer ++ part) (f.byte ∷ []) key k')))
       (Each-weaker (PartsBelow bytes (outer ++ part) f.byte) (λ x. Precedes (bytes x) key) (λ x g. parts bytes (outer ++ part) g.0 f.byte (bytes x) key g.2 k' g.1) (pairs_below f.left) (all_below bytes P (outer ++ part) f.byte f.left l (rising_left (bytes_of f.left) (bytes_of f.right) f.byte up)))
 
-  pub path_after : (fs : List (Frame N A)) (way key : List ℕ) → IsPath bytes P way fs → IsFront way key → Each (λ x. Precedes key (bytes x)) (pairs_after fs)
-  path_after [] way key path k = tt
-  path_after (f ∷ fs) way key (outer, part, e, head, two, up, l, r, path) k =
-    let k' : IsFront ((outer ++ part) ++ f.byte ∷ []) key = subst (λ w. IsFront w key) e k in
-    Each-append (λ x. Precedes key (bytes x)) (pairs_below f.right) (pairs_after fs)
+  pub path_after : (fs : List (Frame N A)) (place key : List ℕ) → IsPath bytes P place fs → IsFront place key → Each (λ x. Precedes key (bytes x)) (pairs_after fs)
+  path_after [] place key path k = tt
+  path_after (f ∷ fs) place key (outer, part, e, head, two, up, l, r, path) k =
+      let k' : IsFront ((outer ++ part) ++ f.byte ∷ []) key = subst (λ w. IsFront w key) e k in
+      Each-append (λ x. Precedes key (bytes x)) (pairs_below f.right) (pairs_after fs)
       (Each-weaker (PartsAbove bytes (outer ++ part) f.byte) (λ x. Precedes key (bytes x)) (λ x g. parts bytes (outer ++ part) f.byte g.0 key (bytes x) k' g.2 g.1) (pairs_below f.right) (all_above bytes P (outer ++ part) f.byte f.right r (rising_right (bytes_of f.left) (bytes_of f.right) f.byte up)))
       (path_after fs outer key path (front_cut outer part key (front_cut (outer ++ part) (f.byte ∷ []) key k')))
 
@@ -123,15 +126,21 @@ module _ {A : Type 0} (bytes : A → List ℕ) where
     overwrite-between = ap (add_in_order bytes new) (remove_related-between (bytes new) xs ys zs low high) ∙ add_in_order-between (remove_related bytes (bytes new) ys)
 
 -- a change at a place is a change of the whole
-module _ {N A : Type 0} (bytes : A → List ℕ) (P : ℕ) (fs : List (Frame N A)) (way : List ℕ) (path : IsPath bytes P way fs) (t u : Tree N A) (radix : IsRadix bytes P way u) where
-  pub put_at : (new : A) → IsFront way (bytes new) → pairs_of u ≡ put bytes new (pairs_of t) → IsRadix bytes P [] (plug fs u) × (pairs_of (plug fs u) ≡ put bytes new (pairs_of (plug fs t)))
-  put_at new k e = (plug_radix bytes P fs way u path radix,
-    rw (pairs_of-plug fs u, pairs_of-plug fs t, put-between bytes new (pairs_before fs) (pairs_of t) (pairs_after fs) (path_before bytes P fs way (bytes new) path k) (path_after bytes P fs way (bytes new) path k), e) refl)
+module _ {N A : Type 0} (bytes : A → List ℕ) (P : ℕ) (fs : List (Frame N A)) (place : List ℕ) (path : IsPath bytes P place fs) (t u : Tree N A) (radix : IsRadix bytes P place u) where
+  pub put_at : (new : A) → IsFront place (bytes new) → pairs_of u ≡ put bytes new (pairs_of t) → IsRadix bytes P [] (plug fs u) × (pairs_of (plug fs u) ≡ put bytes new (pairs_of (plug fs t)))
+  put_at new k e = (
+    plug_radix bytes P fs place u path radix,
+    rw (pairs_of-plug fs u, pairs_of-plug fs t, put-between bytes new (pairs_before fs) (pairs_of t) (pairs_after fs) (path_before bytes P fs place (bytes new) path k) (path_after bytes P fs place (bytes new) path k), e) refl,
+  )
 
-  pub overwrite_at : (new : A) → IsFront way (bytes new) → pairs_of u ≡ overwrite bytes new (pairs_of t) → IsRadix bytes P [] (plug fs u) × (pairs_of (plug fs u) ≡ overwrite bytes new (pairs_of (plug fs t)))
-  overwrite_at new k e = (plug_radix bytes P fs way u path radix,
-    rw (pairs_of-plug fs u, pairs_of-plug fs t, overwrite-between bytes new (pairs_before fs) (pairs_of t) (pairs_after fs) (path_before bytes P fs way (bytes new) path k) (path_after bytes P fs way (bytes new) path k), e) refl)
+  pub overwrite_at : (new : A) → IsFront place (bytes new) → pairs_of u ≡ overwrite bytes new (pairs_of t) → IsRadix bytes P [] (plug fs u) × (pairs_of (plug fs u) ≡ overwrite bytes new (pairs_of (plug fs t)))
+  overwrite_at new k e = (
+    plug_radix bytes P fs place u path radix,
+    rw (pairs_of-plug fs u, pairs_of-plug fs t, overwrite-between bytes new (pairs_before fs) (pairs_of t) (pairs_after fs) (path_before bytes P fs place (bytes new) path k) (path_after bytes P fs place (bytes new) path k), e) refl,
+  )
 
-  pub remove_at : (key : List ℕ) → IsFront way key → pairs_of u ≡ remove_key bytes key (pairs_of t) → IsRadix bytes P [] (plug fs u) × (pairs_of (plug fs u) ≡ remove_key bytes key (pairs_of (plug fs t)))
-  remove_at key k e = (plug_radix bytes P fs way u path radix,
-    rw (pairs_of-plug fs u, pairs_of-plug fs t, remove_key-between bytes key (pairs_before fs) (pairs_of t) (pairs_after fs) (path_before bytes P fs way key path k) (path_after bytes P fs way key path k), e) refl)
+  pub remove_at : (key : List ℕ) → IsFront place key → pairs_of u ≡ remove_key bytes key (pairs_of t) → IsRadix bytes P [] (plug fs u) × (pairs_of (plug fs u) ≡ remove_key bytes key (pairs_of (plug fs t)))
+  remove_at key k e = (
+    plug_radix bytes P fs place u path radix,
+    rw (pairs_of-plug fs u, pairs_of-plug fs t, remove_key-between bytes key (pairs_before fs) (pairs_of t) (pairs_after fs) (path_before bytes P fs place key path k) (path_after bytes P fs place key path k), e) refl,
+  )

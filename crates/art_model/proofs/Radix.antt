@@ -1,13 +1,13 @@
 -- joined children, and the map of a radix tree
-use Rattle.std.proofs.Common.{◌≡◌, ℕ, suc, zero, ◌+◌, ◌<◌, ◌≤◌, List, [], ◌∷◌, ◌++◌, length, refl, ap, sym, ◌∙◌, append_assoc, append-nil, arith, length-append, subst}
+use Rattle.std.proofs.Common.{◌≡◌, ℕ, ◌<◌, List, [], ◌∷◌, ◌++◌, refl, ap, sym, ◌∙◌, append_assoc}
 use Rattle.std.specs.List.{AllByRecursion as Each}
 use Rattle.art_model.specs.Keys.{IsFront, Precedes}
-use Rattle.art_model.specs.Trees.{Tree, leaf, inner, Children, child, no_child, header_of}
+use Rattle.art_model.specs.Trees.{Tree, leaf, inner, Children, child, no_child}
 use Rattle.art_model.specs.Radix.{IsRadix, AreRadix, IsRising, bytes_of, pairs_of, pairs_below, join}
 use Rattle.art_model.specs.Pairs.{IsMap}
-use Rattle.art_model.proofs.Lists.{Each-append, Each-left, Each-right, front_cut, Each-weaker}
+use Rattle.art_model.proofs.Lists.{Each-append, Each-weaker}
 use Rattle.art_model.proofs.Keys.{precedes_at, IsMap-append}
-use Rattle.art_model.proofs.Rebuild.{radix_way, radix_below}
+use Rattle.art_model.proofs.Rebuild.{radix_way}
 
 module _ {N A : Type 0} where
   pub bytes_of-join : (cs ds : Children N A) → bytes_of (join cs ds) ≡ bytes_of cs ++ bytes_of ds
@@ -51,22 +51,22 @@ module _ {N A : Type 0} (bytes : A → List ℕ) (P : ℕ) where
   pub all_above : (front : List ℕ) (b : ℕ) (cs : Children N A) → AreRadix bytes P front cs → Each (λ c. b < c) (bytes_of cs) → Each (PartsAbove bytes front b) (pairs_below cs)
   all_above front b no_child h up = tt
   all_above front b (child c t cs) h up = Each-append (PartsAbove bytes front b) (pairs_of t) (pairs_below cs)
-    (Each-weaker (λ x. IsFront (front ++ c ∷ []) (bytes x)) (PartsAbove bytes front b) (λ x f. (c, up.0, f)) (pairs_of t) (radix_way bytes P t (front ++ c ∷ []) h.0))
-    (all_above front b cs h.1 up.1)
+      (Each-weaker (λ x. IsFront (front ++ c ∷ []) (bytes x)) (PartsAbove bytes front b) (λ x f. (c, up.0, f)) (pairs_of t) (radix_way bytes P t (front ++ c ∷ []) h.0))
+      (all_above front b cs h.1 up.1)
 
   pub all_below : (front : List ℕ) (b : ℕ) (cs : Children N A) → AreRadix bytes P front cs → Each (λ c. c < b) (bytes_of cs) → Each (PartsBelow bytes front b) (pairs_below cs)
   all_below front b no_child h up = tt
   all_below front b (child c t cs) h up = Each-append (PartsBelow bytes front b) (pairs_of t) (pairs_below cs)
-    (Each-weaker (λ x. IsFront (front ++ c ∷ []) (bytes x)) (PartsBelow bytes front b) (λ x f. (c, up.0, f)) (pairs_of t) (radix_way bytes P t (front ++ c ∷ []) h.0))
-    (all_below front b cs h.1 up.1)
+      (Each-weaker (λ x. IsFront (front ++ c ∷ []) (bytes x)) (PartsBelow bytes front b) (λ x f. (c, up.0, f)) (pairs_of t) (radix_way bytes P t (front ++ c ∷ []) h.0))
+      (all_below front b cs h.1 up.1)
 
   -- the pairs of a radix tree are a map
   mutual
-    pub radix_map : (t : Tree N A) (way : List ℕ) → IsRadix bytes P way t → IsMap bytes (pairs_of t)
-    radix_map (leaf n x) way h = (tt, tt)
-    radix_map (inner n h cs) way (part, e, two, up, below) = radix_map_below cs (way ++ part) up below
+    pub radix_map : (t : Tree N A) (place : List ℕ) → IsRadix bytes P place t → IsMap bytes (pairs_of t)
+    radix_map (leaf n x) place h = (tt, tt)
+    radix_map (inner n h cs) place (part, e, two, up, below) = radix_map_below cs (place ++ part) up below
 
     pub radix_map_below : (cs : Children N A) (front : List ℕ) → IsRising (bytes_of cs) → AreRadix bytes P front cs → IsMap bytes (pairs_below cs)
     radix_map_below no_child front up h = tt
     radix_map_below (child b t cs) front up h = IsMap-append bytes (pairs_of t) (pairs_below cs) (radix_map t (front ++ b ∷ []) h.0) (radix_map_below cs front up.1 h.1)
-      (each_pair (λ x y. Precedes (bytes x) (bytes y)) (λ x. IsFront (front ++ b ∷ []) (bytes x)) (PartsAbove bytes front b) (λ x y f g. parts bytes front b g.0 (bytes x) (bytes y) f g.2 g.1) (pairs_of t) (pairs_below cs) (radix_way bytes P t (front ++ b ∷ []) h.0) (all_above front b cs h.1 up.0))
+        (each_pair (λ x y. Precedes (bytes x) (bytes y)) (λ x. IsFront (front ++ b ∷ []) (bytes x)) (PartsAbove bytes front b) (λ x y f g. parts bytes front b g.0 (bytes x) (bytes y) f g.2 g.1) (pairs_of t) (pairs_below cs) (radix_way bytes P t (front ++ b ∷ []) h.0) (all_above front b cs h.1 up.0))

@@ -1,12 +1,12 @@
 -- a radix tree is the tree of its pairs
-use Rattle.std.proofs.Common.{◌≡◌, ℕ, suc, zero, ◌+◌, ◌<◌, ◌≤◌, List, [], ◌∷◌, ◌++◌, length, take, drop, refl, ap, sym, ◌∙◌, append_assoc, append-nil, arith, length-append, drop_at, eqb, eq-eqb, true, false, cond, Option, Some, None, get_or}
+use Rattle.std.proofs.Common.{◌≡◌, ℕ, suc, zero, ◌+◌, ◌<◌, ◌≤◌, List, [], ◌∷◌, ◌++◌, length, drop, refl, ap, ◌∙◌, append_assoc, append-nil, arith, length-append, Some}
 use Rattle.std.specs.List.{AllByRecursion as Each}
 use Rattle.std.proofs.lemmas.Bool.{ne_eqb}
 use Rattle.std.proofs.lemmas.List.{get_or_at}
-use Rattle.art_model.specs.Keys.{IsFront, common_front}
-use Rattle.art_model.specs.Trees.{shared_part, add_to_groups, groups, byte_at, Tree, leaf, inner, Children, child, no_child, tree_within, tree_of, node_of, children_of, add_child, header_of}
+use Rattle.art_model.specs.Keys.{IsFront}
+use Rattle.art_model.specs.Trees.{shared_part, groups, byte_at, Tree, leaf, inner, Children, child, no_child, tree_within, tree_of, node_of, children_of}
 use Rattle.art_model.specs.Radix.{IsRadix, AreRadix, IsRising, bytes_of, pairs_of, pairs_below, unmarked, all_unmarked}
-use Rattle.art_model.proofs.Lists.{Each-append, Each-left, Each-right, front_cut, front_trans, after_front, common_front-append, common_front_left, common_front_right, Each-weaker}
+use Rattle.art_model.proofs.Lists.{Each-append, Each-left, Each-right, front_cut, after_front, Each-weaker}
 use Rattle.art_model.proofs.Groups.{StartsApart, groups-block, shared_part-front, shared_part_shared}
 
 module _ {A : Type 0} (bytes : A → List ℕ) where
@@ -14,23 +14,23 @@ module _ {A : Type 0} (bytes : A → List ℕ) where
   byte_after front b x (r, e) = rw (e, append_assoc front (b ∷ []) r) (get_or_at front b r 0 (length front) refl)
 
 module _ {N A : Type 0} (bytes : A → List ℕ) (P : ℕ) where
-  -- each key below a node begins with the way to it
+  -- each key below a node begins with the node's place
   mutual
-    pub radix_way : (t : Tree N A) (way : List ℕ) → IsRadix bytes P way t → Each (λ x. IsFront way (bytes x)) (pairs_of t)
-    radix_way (leaf n x) way h = (h, tt)
-    radix_way (inner n h cs) way (part, e, two, up, below) = Each-weaker (λ x. IsFront (way ++ part) (bytes x)) (λ x. IsFront way (bytes x)) (λ x f. front_cut way part (bytes x) f) (pairs_below cs) (radix_below cs (way ++ part) below)
+    pub radix_way : (t : Tree N A) (place : List ℕ) → IsRadix bytes P place t → Each (λ x. IsFront place (bytes x)) (pairs_of t)
+    radix_way (leaf n x) place h = (h, tt)
+    radix_way (inner n h cs) place (part, e, two, up, below) = Each-weaker (λ x. IsFront (place ++ part) (bytes x)) (λ x. IsFront place (bytes x)) (λ x f. front_cut place part (bytes x) f) (pairs_below cs) (radix_below cs (place ++ part) below)
 
     pub radix_below : (cs : Children N A) (front : List ℕ) → AreRadix bytes P front cs → Each (λ x. IsFront front (bytes x)) (pairs_below cs)
     radix_below no_child front h = tt
     radix_below (child b t cs) front h = Each-append (λ x. IsFront front (bytes x)) (pairs_of t) (pairs_below cs)
-      (Each-weaker (λ x. IsFront (front ++ b ∷ []) (bytes x)) (λ x. IsFront front (bytes x)) (λ x f. front_cut front (b ∷ []) (bytes x) f) (pairs_of t) (radix_way t (front ++ b ∷ []) h.0))
-      (radix_below cs front h.1)
+        (Each-weaker (λ x. IsFront (front ++ b ∷ []) (bytes x)) (λ x. IsFront front (bytes x)) (λ x f. front_cut front (b ∷ []) (bytes x) f) (pairs_of t) (radix_way t (front ++ b ∷ []) h.0))
+        (radix_below cs front h.1)
 
   -- a radix tree has a pair
   mutual
-    pub radix_some : (t : Tree N A) (way : List ℕ) → IsRadix bytes P way t → (x : A) × (xs : List A) × (pairs_of t ≡ x ∷ xs)
-    radix_some (leaf n x) way h = (x, [], refl)
-    radix_some (inner n h cs) way (part, e, two, up, below) = radix_some_below cs (way ++ part) two below
+    pub radix_some : (t : Tree N A) (place : List ℕ) → IsRadix bytes P place t → (x : A) × (xs : List A) × (pairs_of t ≡ x ∷ xs)
+    radix_some (leaf n x) place h = (x, [], refl)
+    radix_some (inner n h cs) place (part, e, two, up, below) = radix_some_below cs (place ++ part) two below
 
     pub radix_some_below : (cs : Children N A) (front : List ℕ) → 2 ≤ length (bytes_of cs) → AreRadix bytes P front cs → (x : A) × (xs : List A) × (pairs_below cs ≡ x ∷ xs)
     radix_some_below no_child front two h = absurd (omega arith)
@@ -39,9 +39,9 @@ module _ {N A : Type 0} (bytes : A → List ℕ) (P : ℕ) where
   radix_long : (cs : Children N A) (front : List ℕ) → AreRadix bytes P front cs → length (bytes_of cs) ≤ length (pairs_below cs)
   radix_long no_child front h = omega arith
   radix_long (child b t cs) front h =
-    let r = radix_some t (front ++ b ∷ []) h.0 in
-    let more = radix_long cs front h.1 in
-    rw (length-append, r.2) (omega arith)
+      let r = radix_some t (front ++ b ∷ []) h.0 in
+      let more = radix_long cs front h.1 in
+      rw (length-append, r.2) (omega arith)
 
   -- the groups are the children's pairs
   abbrev groups_of : Children N A → List (ℕ × List A)
@@ -59,9 +59,9 @@ module _ {N A : Type 0} (bytes : A → List ℕ) (P : ℕ) where
   groups_below : (cs : Children N A) (front : List ℕ) → AreRadix bytes P front cs → IsRising (bytes_of cs) → groups (byte_at bytes (length front)) (pairs_below cs) ≡ groups_of cs
   groups_below no_child front h up = refl
   groups_below (child b t cs) front h up =
-    let r = radix_some t (front ++ b ∷ []) h.0 in
-    let way : Each (λ x. byte_at bytes (length front) x ≡ b) (pairs_of t) = Each-weaker (λ x. IsFront (front ++ b ∷ []) (bytes x)) (λ x. byte_at bytes (length front) x ≡ b) (byte_after bytes front b) (pairs_of t) (radix_way t (front ++ b ∷ []) h.0) in
-    rw r.2 (groups-block (byte_at bytes (length front)) b r.0 r.1 (pairs_below cs) (groups_of cs) (rw r.2 at way) (groups_below cs front h.1 up.1) (apart_from b cs up.0))
+      let r = radix_some t (front ++ b ∷ []) h.0 in
+      let place : Each (λ x. byte_at bytes (length front) x ≡ b) (pairs_of t) = Each-weaker (λ x. IsFront (front ++ b ∷ []) (bytes x)) (λ x. byte_at bytes (length front) x ≡ b) (byte_after bytes front b) (pairs_of t) (radix_way t (front ++ b ∷ []) h.0) in
+      rw r.2 (groups-block (byte_at bytes (length front)) b r.0 r.1 (pairs_below cs) (groups_of cs) (rw r.2 at place) (groups_below cs front h.1 up.1) (apart_from b cs up.0))
 
 module _ {A : Type 0} (bytes : A → List ℕ) (P : ℕ) where
   pub tree_two : (turns d : ℕ) (xs : List A) → 2 ≤ length xs → tree_within bytes (suc turns) P d xs ≡ node_of bytes (tree_within bytes turns P) P d xs
@@ -77,50 +77,50 @@ module _ {N A : Type 0} (bytes : A → List ℕ) (P : ℕ) where
   -- the first key below a child, from the end of the front on
   first_below : (t : Tree N A) (front : List ℕ) (b : ℕ) (s : List ℕ) → IsRadix bytes P (front ++ b ∷ []) t → Each (λ x. IsFront s (drop (length front) (bytes x))) (pairs_of t) → (k : List ℕ) × IsFront s (b ∷ k)
   first_below t front b s h shared =
-    let r = radix_some bytes P t (front ++ b ∷ []) h in
-    let w : Each (λ x. IsFront (front ++ b ∷ []) (bytes x)) (pairs_of t) = radix_way bytes P t (front ++ b ∷ []) h in
-    let first : IsFront (front ++ b ∷ []) (bytes r.0) = (rw r.2 at w).0 in
-    let f : IsFront s (drop (length front) (bytes r.0)) = (rw r.2 at shared).0 in
-    (first.0, rw (after_front front (bytes r.0) (b ∷ first.0) (first.1 ∙ append_assoc front (b ∷ []) first.0)) at f)
+      let r = radix_some bytes P t (front ++ b ∷ []) h in
+      let w : Each (λ x. IsFront (front ++ b ∷ []) (bytes x)) (pairs_of t) = radix_way bytes P t (front ++ b ∷ []) h in
+      let first : IsFront (front ++ b ∷ []) (bytes r.0) = (rw r.2 at w).0 in
+      let f : IsFront s (drop (length front) (bytes r.0)) = (rw r.2 at shared).0 in
+      (first.0, rw (after_front front (bytes r.0) (b ∷ first.0) (first.1 ∙ append_assoc front (b ∷ []) first.0)) at f)
 
-  shared_below : (cs : Children N A) (way part : List ℕ) → 2 ≤ length (bytes_of cs) → IsRising (bytes_of cs) → AreRadix bytes P (way ++ part) cs → shared_part bytes (length way) (pairs_below cs) ≡ part
-  shared_below no_child way part two up h = absurd (omega arith)
-  shared_below (child b t no_child) way part two up h = absurd (omega arith)
-  shared_below (child b t (child c u cs)) way part two up h =
-    let front = way ++ part in
-    let all = child b t (child c u cs) in
-    let s = shared_part bytes (length front) (pairs_below all) in
-    let shared = shared_part_shared bytes (length front) (pairs_below all) in
-    let Q = λ (x : A). IsFront s (drop (length front) (bytes x)) in
-    let one = first_below t front b s h.0 (Each-left Q (pairs_of t) (pairs_below (child c u cs)) shared) in
-    let other = first_below u front c s h.1.0 (Each-left Q (pairs_of u) (pairs_below cs) (Each-right Q (pairs_of t) (pairs_below (child c u cs)) shared)) in
-    let none : s ≡ [] = two_fronts s b c one.0 other.0 up.0.0 one.1 other.1 in
-    let r = radix_some_below bytes P all front two h in
-    let ways : Each (λ x. IsFront front (bytes x)) (pairs_below all) = radix_below bytes P all front h in
-    let e : shared_part bytes (length way) (pairs_below all) ≡ part ++ s = rw r.2 (shared_part-front bytes way part r.0 r.1 (rw r.2 at ways)) in
-    e ∙ ap (λ z. part ++ z) none ∙ append-nil part
+  shared_below : (cs : Children N A) (place part : List ℕ) → 2 ≤ length (bytes_of cs) → IsRising (bytes_of cs) → AreRadix bytes P (place ++ part) cs → shared_part bytes (length place) (pairs_below cs) ≡ part
+  shared_below no_child place part two up h = absurd (omega arith)
+  shared_below (child b t no_child) place part two up h = absurd (omega arith)
+  shared_below (child b t (child c u cs)) place part two up h =
+      let front = place ++ part in
+      let all = child b t (child c u cs) in
+      let s = shared_part bytes (length front) (pairs_below all) in
+      let shared = shared_part_shared bytes (length front) (pairs_below all) in
+      let Q = λ (x : A). IsFront s (drop (length front) (bytes x)) in
+      let one = first_below t front b s h.0 (Each-left Q (pairs_of t) (pairs_below (child c u cs)) shared) in
+      let other = first_below u front c s h.1.0 (Each-left Q (pairs_of u) (pairs_below cs) (Each-right Q (pairs_of t) (pairs_below (child c u cs)) shared)) in
+      let none : s ≡ [] = two_fronts s b c one.0 other.0 up.0.0 one.1 other.1 in
+      let r = radix_some_below bytes P all front two h in
+      let ways : Each (λ x. IsFront front (bytes x)) (pairs_below all) = radix_below bytes P all front h in
+      let e : shared_part bytes (length place) (pairs_below all) ≡ part ++ s = rw r.2 (shared_part-front bytes place part r.0 r.1 (rw r.2 at ways)) in
+      e ∙ ap (λ z. part ++ z) none ∙ append-nil part
 
   -- a radix tree is what grouping its pairs gives
   mutual
-    pub rebuild : (t : Tree N A) (way : List ℕ) (turns : ℕ) → IsRadix bytes P way t → length (pairs_of t) ≤ turns → tree_within bytes turns P (length way) (pairs_of t) ≡ Some (unmarked t)
-    rebuild (leaf n x) way zero h enough = absurd (omega arith)
-    rebuild (leaf n x) way (suc turns) h enough = refl
-    rebuild (inner n h cs) way zero (part, e, two, up, below) enough = let more = radix_long bytes P cs (way ++ part) below in absurd (omega arith)
-    rebuild (inner n h cs) way (suc turns) (part, e, two, up, below) enough =
-      let more = radix_long bytes P cs (way ++ part) below in
-      let s = shared_below cs way part two up below in
-      let g = groups_below bytes P cs (way ++ part) below up in
-      let ih = rebuild_below cs (way ++ part) turns below (omega arith) in
-      tree_two bytes P turns (length way) (pairs_below cs) (omega arith) ∙ rw (s, ← length-append way part, g, length-groups_of bytes P cs, ih, e) refl
+    pub rebuild : (t : Tree N A) (place : List ℕ) (turns : ℕ) → IsRadix bytes P place t → length (pairs_of t) ≤ turns → tree_within bytes turns P (length place) (pairs_of t) ≡ Some (unmarked t)
+    rebuild (leaf n x) place zero h enough = absurd (omega arith)
+    rebuild (leaf n x) place (suc turns) h enough = refl
+    rebuild (inner n h cs) place zero (part, e, two, up, below) enough = let more = radix_long bytes P cs (place ++ part) below in absurd (omega arith)
+    rebuild (inner n h cs) place (suc turns) (part, e, two, up, below) enough =
+        let more = radix_long bytes P cs (place ++ part) below in
+        let s = shared_below cs place part two up below in
+        let g = groups_below bytes P cs (place ++ part) below up in
+        let ih = rebuild_below cs (place ++ part) turns below (omega arith) in
+        tree_two bytes P turns (length place) (pairs_below cs) (omega arith) ∙ rw (s, ← length-append place part, g, length-groups_of bytes P cs, ih, e) refl
 
     pub rebuild_below : (cs : Children N A) (front : List ℕ) (turns : ℕ) → AreRadix bytes P front cs → length (pairs_below cs) + 1 ≤ turns + length (bytes_of cs) → children_of (tree_within bytes turns P (length front + 1)) (groups_of bytes P cs) ≡ all_unmarked cs
     rebuild_below no_child front turns h enough = refl
     rebuild_below (child b t cs) front turns h enough =
-      let some = radix_some bytes P t (front ++ b ∷ []) h.0 in
-      let one : 1 ≤ length (pairs_of t) = rw some.2 (omega arith) in
-      let more = radix_long bytes P cs front h.1 in
-      let sum = length-append (pairs_of t) (pairs_below cs) in
-      rw (← length-append front (b ∷ []), rebuild t (front ++ b ∷ []) turns h.0 (omega arith), rebuild_below cs front turns h.1 (omega arith)) refl
+        let some = radix_some bytes P t (front ++ b ∷ []) h.0 in
+        let one : 1 ≤ length (pairs_of t) = rw some.2 (omega arith) in
+        let more = radix_long bytes P cs front h.1 in
+        let sum = length-append (pairs_of t) (pairs_below cs) in
+        rw (← length-append front (b ∷ []), rebuild t (front ++ b ∷ []) turns h.0 (omega arith), rebuild_below cs front turns h.1 (omega arith)) refl
 
   pub rebuild_root : (t : Tree N A) → IsRadix bytes P [] t → tree_of bytes (pairs_of t) P 0 ≡ Some (unmarked t)
   rebuild_root t h = rebuild t [] (length (pairs_of t)) h (omega arith)

@@ -1,14 +1,12 @@
 -- a layout in a store: what stays, and what a change at a place leaves
-use Rattle.std.proofs.Common.{◌≡◌, ◌≢◌, ℕ, suc, zero, ◌+◌, List, [], ◌∷◌, ◌++◌, refl, ap, ap₂, sym, ◌∙◌, append_assoc, append-nil, arith, subst, Option, Some, None}
+use Rattle.std.proofs.Common.{◌≡◌, List, [], ◌∷◌, ◌++◌, refl, ap, sym, ◌∙◌, append_assoc, append-nil, subst, Option}
 use Rattle.std.specs.List.{AllByRecursion as Each}
-use Rattle.art_model.specs.Trees.{Tree, leaf, inner, Children, child, no_child, Header, header_of}
-use Rattle.art_model.specs.Radix.{join, unmarked, all_unmarked, pairs_of, pairs_below, IsRadix, AreRadix, IsRising, bytes_of}
+use Rattle.art_model.specs.Trees.{Tree, leaf, inner, Children, child, no_child}
+use Rattle.art_model.specs.Radix.{join}
 use Rattle.art_model.specs.Paths.{Frame, fill, plug}
-use Rattle.art_model.specs.Keys.{IsFront}
-use Rattle.art_model.specs.Layouts.{Node, leaf_node, inner_node, name_of, slots_of, names_of, names_below, leaf_names, leaf_names_below, Holds, HoldsBelow, AreDistinct, StandsFor, Links, AreLinked, first_or, last_or}
+use Rattle.art_model.specs.Layouts.{Node, name_of, slots_of, names_of, names_below, leaf_names, leaf_names_below, Holds, HoldsBelow}
 use Rattle.art_model.specs.Paths.{HoldsPath, names_before, names_after, leaves_before, leaves_after}
-use Rattle.art_model.specs.Canonical.{IsCanonical}
-use Rattle.art_model.proofs.Lists.{Each-append, Each-left, Each-right, Each-weaker}
+use Rattle.art_model.proofs.Lists.{Each-left, Each-right}
 
 module _ {N A : Type 0} where
   pub slots_of-join : (cs ds : Children N A) → slots_of (join cs ds) ≡ slots_of cs ++ slots_of ds
@@ -52,9 +50,9 @@ module _ {N A : Type 0} where
     pub path_holds : (fs : List (Frame N A)) (t : Tree N A) → Holds at (plug fs t) → HoldsPath at (name_of t) fs × Holds at t
     path_holds [] t h = (tt, h)
     path_holds (f ∷ fs) t h =
-      let (path, (e, below)) = path_holds fs (fill f t) h in
-      let r = HoldsBelow-right f.left (child f.byte t f.right) below in
-      ((rw slots_of-join at e, HoldsBelow-left f.left (child f.byte t f.right) below, r.1, path), r.0)
+        let (path, (e, below)) = path_holds fs (fill f t) h in
+        let r = HoldsBelow-right f.left (child f.byte t f.right) below in
+        ((rw slots_of-join at e, HoldsBelow-left f.left (child f.byte t f.right) below, r.1, path), r.0)
 
   -- the frame law: a layout is held wherever its names have the same nodes
   module _ (at to : N → Option (Node N A)) where
@@ -70,12 +68,13 @@ module _ {N A : Type 0} where
     pub frame_path : (fs : List (Frame N A)) (hole : N) → Each (λ n. to n ≡ at n) (names_before fs) → Each (λ n. to n ≡ at n) (names_after fs) → HoldsPath at hole fs → HoldsPath to hole fs
     frame_path [] hole l r h = tt
     frame_path (f ∷ fs) hole l r (e, hl, hr, path) =
-      let Q = λ (n : N). to n ≡ at n in
-      let own = Each-right Q (names_before fs) (f.mark ∷ names_below f.left) l in
-      ( own.0 ∙ e
-      , frame_below f.left own.1 hl
-      , frame_below f.right (Each-left Q (names_below f.right) (names_after fs) r) hr
-      , frame_path fs f.mark (Each-left Q (names_before fs) (f.mark ∷ names_below f.left) l) (Each-right Q (names_below f.right) (names_after fs) r) path)
+        let Q = λ (n : N). to n ≡ at n in
+        let own = Each-right Q (names_before fs) (f.mark ∷ names_below f.left) l in (
+          own.0 ∙ e,
+          frame_below f.left own.1 hl,
+          frame_below f.right (Each-left Q (names_below f.right) (names_after fs) r) hr,
+          frame_path fs f.mark (Each-left Q (names_before fs) (f.mark ∷ names_below f.left) l) (Each-right Q (names_below f.right) (names_after fs) r) path,
+        )
 
     -- the replacement law: another layout under the same name
     pub replace : (fs : List (Frame N A)) (t u : Tree N A) → name_of u ≡ name_of t → Each (λ n. to n ≡ at n) (names_before fs) → Each (λ n. to n ≡ at n) (names_after fs) → Holds at (plug fs t) → Holds to u → Holds to (plug fs u)

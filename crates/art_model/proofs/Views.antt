@@ -1,4 +1,4 @@
--- a store's maps from what a layout says of its views
+-- a store's maps from what a tree sees in them
 use Rattle.std.proofs.Common.{◌≡◌, ◌≢◌, ℕ, List, Option, Some, None, refl, ap, sym, ◌∙◌, is_some, true}
 use Rattle.std.specs.Option.{option_map}
 use Rattle.std.specs.FinMap as map
@@ -13,52 +13,61 @@ use Rattle.art_nodes.specs.declared.node.OpaqueNodePtr.{OpaqueNodePtr}
 use Rattle.art_nodes.specs.declared.node.LeafNode.{LeafNode}
 use Rattle.art_model.specs.Trees.{Header}
 use Rattle.art_model.specs.Layouts.{Node, leaf_node, inner_node}
-use Rattle.art_model.specs.Stores.{node_at, node_in, inner_at, header_at, pair_of}
+use Rattle.art_model.specs.Stores.{held_leaf, held_inner, held_in, seen, node_at, header_at, pair_of}
 
--- what was mapped
-pub mapped : {A B : Type 0} (f : A → B) (o : Option A) (y : B) → option_map f o ≡ Some y → (x : A) × (o ≡ Some x) × (f x ≡ y)
-mapped f None y e = absurd cc
-mapped f (Some x) y e = (x, refl, cc)
+module _ {K V : Type 0} where
+  seen_leaf : (o : Option (LeafNode K V)) (x : K × V) → option_map (seen Leaf) (option_map held_leaf o) ≡ Some (leaf_node x) → (leaf : LeafNode K V) × (o ≡ Some leaf) × (pair_of leaf ≡ x)
+  seen_leaf None x e = absurd cc
+  seen_leaf (Some leaf) x e = (leaf, refl, cc)
+
+  seen_no_inner : (o : Option (LeafNode K V)) (h : Header) (slots : List (ℕ × OpaqueNodePtr)) → option_map (seen Leaf) (option_map held_leaf o) ≡ Some (inner_node h slots) → ⊥
+  seen_no_inner None h slots e = cc
+  seen_no_inner (Some leaf) h slots e = cc
+
+  -- what a tree sees of an inner node
+  abbrev seen_of : NodeType → Option Inner → Option (Node OpaqueNodePtr (K × V))
+  seen_of kind o = option_map (seen kind) (option_map held_inner o)
+
+  seen_inner : (kind : NodeType) (o : Option Inner) (h : Header) (slots : List (ℕ × OpaqueNodePtr)) → seen_of kind o ≡ Some (inner_node h slots) → (node : Inner) × (o ≡ Some node) × (header_at kind node ≡ h) × (node.children ≡ slots)
+  seen_inner kind None h slots e = absurd cc
+  seen_inner kind (Some node) h slots e = (node, refl, cc, cc)
+
+  seen_no_leaf : (kind : NodeType) (o : Option Inner) (x : K × V) → seen_of kind o ≡ Some (leaf_node x) → ⊥
+  seen_no_leaf kind None x e = cc
+  seen_no_leaf kind (Some node) x e = cc
 
 module _ {K V : Type 0} (s : Nodes K V) where
-  pub node_in_inner : (k : NodeType) (slot : ℕ) → k ≢ Leaf → node_in s k slot ≡ inner_at s k slot
-  node_in_inner Leaf slot n = absurd (n refl)
-  node_in_inner Node4 slot n = refl
-  node_in_inner Node16 slot n = refl
-  node_in_inner Node48 slot n = refl
-  node_in_inner Node256 slot n = refl
+  -- what is held under an inner kind
+  pub held_in_inner : (kind : NodeType) (slot : ℕ) → kind ≢ Leaf → held_in s kind slot ≡ option_map held_inner (map.get s.inners (record { kind = kind; slot = slot }))
+  held_in_inner Leaf slot n = absurd (n refl)
+  held_in_inner Node4 slot n = refl
+  held_in_inner Node16 slot n = refl
+  held_in_inner Node48 slot n = refl
+  held_in_inner Node256 slot n = refl
 
   -- a leaf's name that stands for a leaf
-  pub leaf_held : (p : LeafPtr) (x : K × V) → node_at s (leaf_name p) ≡ Some (leaf_node x) → (leaf : LeafNode K V) × (map.get s.leaves p ≡ Some leaf) × (pair_of leaf ≡ x)
-  leaf_held p x e = let (leaf, there, is) = mapped (λ leaf. leaf_node (pair_of leaf)) (map.get s.leaves p) (leaf_node x) e in (leaf, there, cc)
+  pub leaf_there : (p : LeafPtr) (x : K × V) → node_at s (leaf_name p) ≡ Some (leaf_node x) → (leaf : LeafNode K V) × (map.get s.leaves p ≡ Some leaf) × (pair_of leaf ≡ x)
+  leaf_there p x e = seen_leaf (map.get s.leaves p) x e
 
-  leaf_no_inner : (o : Option (LeafNode K V)) (h : Header) (slots : List (ℕ × OpaqueNodePtr)) → option_map (λ leaf. leaf_node (pair_of leaf)) o ≡ Some (inner_node h slots) → ⊥
-  leaf_no_inner None h slots e = cc
-  leaf_no_inner (Some leaf) h slots e = cc
-
-  inner_no_leaf : (k : NodeType) (o : Option Inner) (x : K × V) → option_map (λ node. inner_node (header_at k node) node.children) o ≡ Some (leaf_node x) → ⊥
-  inner_no_leaf k None x e = cc
-  inner_no_leaf k (Some node) x e = cc
-
+  -- a leaf's name stands for no inner node
   pub leaf_name_is : (p : LeafPtr) (h : Header) (slots : List (ℕ × OpaqueNodePtr)) → node_at s (leaf_name p) ≡ Some (inner_node h slots) → ⊥
-  leaf_name_is p h slots e = leaf_no_inner (map.get s.leaves p) h slots e
-
-  pub inner_name_is : (p : InnerPtr) (x : K × V) → p.kind ≢ Leaf → node_at s (inner_name p) ≡ Some (leaf_node x) → ⊥
-  inner_name_is p x n e = inner_no_leaf p.kind (map.get s.inners p) x (sym (node_in_inner p.kind p.slot n) ∙ e)
+  leaf_name_is p h slots e = seen_no_inner (map.get s.leaves p) h slots e
 
   -- an inner node's name that stands for an inner node
-  pub inner_held : (p : InnerPtr) (h : Header) (slots : List (ℕ × OpaqueNodePtr)) → p.kind ≢ Leaf → node_at s (inner_name p) ≡ Some (inner_node h slots) → (node : Inner) × (map.get s.inners p ≡ Some node) × (header_at p.kind node ≡ h) × (node.children ≡ slots)
-  inner_held p h slots n e =
-    let f : Inner → Node OpaqueNodePtr (K × V) = λ node. inner_node (header_at p.kind node) node.children in
-    let (node, there, is) = mapped f (map.get s.inners p) (inner_node h slots) (sym (node_in_inner p.kind p.slot n) ∙ e) in
-    (node, there, cc, cc)
+  pub inner_there : (p : InnerPtr) (h : Header) (slots : List (ℕ × OpaqueNodePtr)) → p.kind ≢ Leaf → node_at s (inner_name p) ≡ Some (inner_node h slots) → (node : Inner) × (map.get s.inners p ≡ Some node) × (header_at p.kind node ≡ h) × (node.children ≡ slots)
+  inner_there p h slots n e = seen_inner p.kind (map.get s.inners p) h slots (ap (option_map (seen p.kind)) (sym (held_in_inner p.kind p.slot n)) ∙ e)
 
-  held_in : (k : NodeType) (slot : ℕ) (h : Header) (slots : List (ℕ × OpaqueNodePtr)) → node_in s k slot ≡ Some (inner_node h slots) → is_some (map.get s.inners (record { kind = k; slot = slot })) ≡ true
-  held_in Leaf slot h slots e = absurd (leaf_no_inner (map.get s.leaves (record { slot = slot })) h slots e)
-  held_in Node4 slot h slots e = rw (inner_held (record { kind = Node4; slot = slot }) h slots (λ z. cc) e).1 refl
-  held_in Node16 slot h slots e = rw (inner_held (record { kind = Node16; slot = slot }) h slots (λ z. cc) e).1 refl
-  held_in Node48 slot h slots e = rw (inner_held (record { kind = Node48; slot = slot }) h slots (λ z. cc) e).1 refl
-  held_in Node256 slot h slots e = rw (inner_held (record { kind = Node256; slot = slot }) h slots (λ z. cc) e).1 refl
+  -- an inner node's name stands for no leaf
+  pub inner_name_is : (p : InnerPtr) (x : K × V) → p.kind ≢ Leaf → node_at s (inner_name p) ≡ Some (leaf_node x) → ⊥
+  inner_name_is p x n e = seen_no_leaf p.kind (map.get s.inners p) x (ap (option_map (seen p.kind)) (sym (held_in_inner p.kind p.slot n)) ∙ e)
 
-  pub held_inner : (n : OpaqueNodePtr) (h : Header) (slots : List (ℕ × OpaqueNodePtr)) → node_at s n ≡ Some (inner_node h slots) → is_some (map.get s.inners (record { kind = n.kind; slot = n.slot })) ≡ true
-  held_inner n h slots e = held_in n.kind n.slot h slots e
+  inner_used : (kind : NodeType) (slot : ℕ) (h : Header) (slots : List (ℕ × OpaqueNodePtr)) → option_map (seen kind) (held_in s kind slot) ≡ Some (inner_node h slots) → is_some (map.get s.inners (record { kind = kind; slot = slot })) ≡ true
+  inner_used Leaf slot h slots e = absurd (seen_no_inner (map.get s.leaves (record { slot = slot })) h slots e)
+  inner_used Node4 slot h slots e = rw (seen_inner Node4 (map.get s.inners (record { kind = Node4; slot = slot })) h slots e).1 refl
+  inner_used Node16 slot h slots e = rw (seen_inner Node16 (map.get s.inners (record { kind = Node16; slot = slot })) h slots e).1 refl
+  inner_used Node48 slot h slots e = rw (seen_inner Node48 (map.get s.inners (record { kind = Node48; slot = slot })) h slots e).1 refl
+  inner_used Node256 slot h slots e = rw (seen_inner Node256 (map.get s.inners (record { kind = Node256; slot = slot })) h slots e).1 refl
+
+  -- a name that stands for an inner node is one of the store's inner names
+  pub inner_is_used : (n : OpaqueNodePtr) (h : Header) (slots : List (ℕ × OpaqueNodePtr)) → node_at s n ≡ Some (inner_node h slots) → is_some (map.get s.inners (record { kind = n.kind; slot = n.slot })) ≡ true
+  inner_is_used n h slots e = inner_used n.kind n.slot h slots e

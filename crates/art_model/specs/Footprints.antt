@@ -1,16 +1,16 @@
--- What a call did to the nodes under names, between a store before and a store after.
-use Rattle.std.specs.Prelude.{◌≡◌, ◌≢◌, ℕ, ◌≤◌, ◌⊎◌, List, [], ◌∷◌, length, Option, Some, None}
+-- What a call did to the nodes under names, between the store before it and the store after it.
+use Rattle.std.specs.Prelude.{◌≡◌, ℕ, ◌≤◌, ◌⊎◌, List, [], ◌∷◌, length, None}
 use Rattle.std.specs.List.{AllByRecursion as Each}
 use Rattle.art_nodes.specs.Nodes.{Nodes}
 use Rattle.art_nodes.specs.declared.node.OpaqueNodePtr.{OpaqueNodePtr}
 use Rattle.art_model.specs.Stores.{held, IsUsed}
 
--- the list has the element
+-- the element stands in the list
 abbrev pub IsIn : {X : Type 0} → X → List X → Type 0
 IsIn x [] = ⊥
 IsIn x (y ∷ ys) = (y ≡ x) ⊎ IsIn x ys
 
--- the names that came, went and changed; every other name holds what it held
+-- The placed names are in use in the new store alone, the freed ones in the old store alone, and all names that hold another node are among the changed ones.
 pub record Footprint {K V : Type 0} (old new : Nodes K V) (placed freed changed : List OpaqueNodePtr) : Type 0 where
   pub are_placed : Each (λ name. (held old name ≡ None) × IsUsed new name) placed
   pub are_freed : Each (λ name. IsUsed old name × (held new name ≡ None)) freed

@@ -1,22 +1,10 @@
--- How many inner nodes stand on the longest way down, read off the store within a number of steps.
+-- The height of a tree is the number of inner nodes on its longest way down; it can be read off a store within a number of steps.
 use Rattle.std.specs.Prelude.{ℕ, zero, suc, max, List, [], ◌∷◌, Option, Some, None}
 use Rattle.art_model.specs.Layouts.{Node, leaf_node, inner_node}
 use Rattle.art_model.specs.Trees.{Tree, leaf, inner, Children, child, no_child}
 
-abbrev pub highest : {N : Type 0} → (N → ℕ) → List (ℕ × N) → ℕ
-highest f [] = 0
-highest f (slot ∷ slots) = max (f slot.1) (highest f slots)
-
 module _ {N A : Type 0} where
-  abbrev pub height_above : (N → ℕ) → Option (Node N A) → ℕ
-  height_above f None = 0
-  height_above f (Some (leaf_node x)) = 0
-  height_above f (Some (inner_node h slots)) = suc (highest f slots)
-
-  unfoldable pub height : (N → Option (Node N A)) → ℕ → N → ℕ
-  height at zero name = 0
-  height at (suc steps) name = height_above (height at steps) (at name)
-
+  -- the height of a tree
   abbrev mutual
     pub tree_height : Tree N A → ℕ
     tree_height (leaf n x) = 0
@@ -25,3 +13,20 @@ module _ {N A : Type 0} where
     pub height_below : Children N A → ℕ
     height_below no_child = 0
     height_below (child b t cs) = max (tree_height t) (height_below cs)
+
+-- the greatest height below the names of children
+abbrev pub highest : {N : Type 0} → (N → ℕ) → List (ℕ × N) → ℕ
+highest f [] = 0
+highest f (slot ∷ slots) = max (f slot.1) (highest f slots)
+
+module _ {N A : Type 0} where
+  -- the height of a node from those below the names of its children
+  abbrev pub height_above : (N → ℕ) → Option (Node N A) → ℕ
+  height_above f None = 0
+  height_above f (Some (leaf_node x)) = 0
+  height_above f (Some (inner_node h slots)) = suc (highest f slots)
+
+  -- the height below a name, where at most so many inner nodes stand on a way down
+  unfoldable pub height : (N → Option (Node N A)) → ℕ → N → ℕ
+  height at zero name = 0
+  height at (suc steps) name = height_above (height at steps) (at name)

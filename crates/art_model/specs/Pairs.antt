@@ -1,4 +1,4 @@
--- Maps as lists of pairs. A pair is anything that has the bytes of a key.
+-- A map as a sorted list of pairs, and its changes. A pair is anything that has the bytes of a key.
 use Rattle.std.specs.Prelude.{ℕ, Bool, cond, not, ◌&&◌, List, [], ◌∷◌, length, Option, Some, None, filter}
 use Rattle.std.specs.List.{AllByRecursion as Each, list_any}
 use Rattle.art_model.specs.Keys.{is_before, is_front, are_related, are_same, Precedes}
@@ -8,70 +8,93 @@ abbrev pub Pairwise : {X : Type 0} → (X → X → Type 0) → List X → Type 
 Pairwise R [] = Unit {0}
 Pairwise R (x ∷ xs) = Each (R x) xs × Pairwise R xs
 
+-- the first element, if there is one
+abbrev pub first_of : {X : Type 0} → List X → Option X
+first_of [] = None
+first_of (x ∷ xs) = Some x
+
+-- the last element, if there is one
+abbrev pub last_of : {X : Type 0} → List X → Option X
+last_of [] = None
+last_of (x ∷ []) = Some x
+last_of (x ∷ y ∷ xs) = last_of (y ∷ xs)
+
+-- the elements after the first one
+abbrev pub without_first : {X : Type 0} → List X → List X
+without_first [] = []
+without_first (x ∷ xs) = xs
+
+-- the elements before the last one
+abbrev pub without_last : {X : Type 0} → List X → List X
+without_last [] = []
+without_last (x ∷ []) = []
+without_last (x ∷ y ∷ xs) = x ∷ without_last (y ∷ xs)
+
+-- what is answered of pairs that went: none, the only one, or how many
+abbrev pub went : {X : Type 0} → List X → Option X × ℕ
+went [] = (None, 0)
+went (x ∷ []) = (Some x, 0)
+went (x ∷ y ∷ xs) = (None, length (x ∷ y ∷ xs))
+
 module _ {A : Type 0} (bytes : A → List ℕ) where
-  -- strictly rising, and no two keys related
+  -- the keys rise strictly, and no two are related
   abbrev pub IsMap : List A → Type 0
   IsMap = Pairwise (λ x y. Precedes (bytes x) (bytes y))
-
-  -- the pair put where the order wants it
-  abbrev pub add_in_order : A → List A → List A
-  add_in_order new [] = new ∷ []
-  add_in_order new (x ∷ xs) = cond (is_before (bytes new) (bytes x)) (new ∷ x ∷ xs) (x ∷ add_in_order new xs)
 
   -- the pairs with this key: at most one in a map
   abbrev pub with_key : List ℕ → List A → List A
   with_key key pairs = filter (λ x. are_same key (bytes x)) pairs
 
+  -- whether a pair has this key
+  abbrev pub has_key : List ℕ → List A → Bool
+  has_key key pairs = list_any (λ x. are_same key (bytes x)) pairs
+
   -- the pairs whose keys are related to this one
   abbrev pub related_to : List ℕ → List A → List A
   related_to key pairs = filter (λ x. are_related key (bytes x)) pairs
 
-  -- the pairs that are left after a removal by bytes
-  abbrev pub remove_key : List ℕ → List A → List A
-  remove_key key pairs = filter (λ x. not (are_same key (bytes x))) pairs
-
-  -- the pairs whose keys are not related to this one
-  abbrev pub remove_related : List ℕ → List A → List A
-  remove_related key pairs = filter (λ x. not (are_related key (bytes x))) pairs
-
-  -- the pair in the place of one with an equal key, or between its neighbours
-  abbrev pub put : A → List A → List A
-  put new pairs = add_in_order new (remove_key (bytes new) pairs)
-
-  -- the pair in the place of all whose keys are related
-  abbrev pub overwrite : A → List A → List A
-  overwrite new pairs = add_in_order new (remove_related (bytes new) pairs)
-
-  -- the stored key that is a front of the query
-  abbrev pub match_of : List ℕ → List A → List A
-  match_of query pairs = filter (λ x. is_front (bytes x) query) pairs
-
-  -- whether an unequal key of the list is related to this one
+  -- whether a key is related to this one and unequal: such a key can't be put
   abbrev pub is_conflict : List ℕ → List A → Bool
   is_conflict key pairs = list_any (λ x. are_related key (bytes x) && not (are_same key (bytes x))) pairs
 
-  -- whether the list has this key
-  abbrev pub has_key : List ℕ → List A → Bool
-  has_key key pairs = list_any (λ x. are_same key (bytes x)) pairs
+  -- the pairs whose keys are a front of the query: at most one in a map, the match
+  abbrev pub match_of : List ℕ → List A → List A
+  match_of query pairs = filter (λ x. is_front (bytes x) query) pairs
+
+  -- the pairs that stay when those with this key go
+  abbrev pub remove_key : List ℕ → List A → List A
+  remove_key key pairs = filter (λ x. not (are_same key (bytes x))) pairs
+
+  -- the pairs that stay when those with related keys go
+  abbrev pub remove_related : List ℕ → List A → List A
+  remove_related key pairs = filter (λ x. not (are_related key (bytes x))) pairs
+
+  -- a pair comes in front of the first one whose key is after its own
+  abbrev pub add_in_order : A → List A → List A
+  add_in_order new [] = new ∷ []
+  add_in_order new (x ∷ xs) = cond (is_before (bytes new) (bytes x)) (new ∷ x ∷ xs) (x ∷ add_in_order new xs)
+
+  -- a pair takes the place of the one with an equal key, or its own place in the order
+  abbrev pub put : A → List A → List A
+  put new pairs = add_in_order new (remove_key (bytes new) pairs)
+
+  -- what a put answers: the pair whose place the new one took, if there was one
+  abbrev pub put_reply : A → List A → Option A
+  put_reply new pairs = first_of (with_key (bytes new) pairs)
+
+  -- a pair takes the place of all those with related keys
+  abbrev pub overwrite : A → List A → List A
+  overwrite new pairs = add_in_order new (remove_related (bytes new) pairs)
+
+  -- what an overwrite answers: of the pairs with related keys the only one, or how many
+  abbrev pub overwrite_reply : A → List A → Option A × ℕ
+  overwrite_reply new pairs = went (related_to (bytes new) pairs)
+
+  -- what a removal by key answers: the pair that went, if there was one
+  abbrev pub remove_reply : List ℕ → List A → Option A
+  remove_reply key pairs = first_of (with_key key pairs)
 
 module _ {K V : Type 0} (bytes : K → List ℕ) where
-  -- the bytes of a pair's key
+  -- the bytes of the key of a pair of key and value
   abbrev pub of_key : K × V → List ℕ
   of_key pair = bytes pair.0
-
--- the pairs after the first one
-abbrev pub without_first : {A : Type 0} → List A → List A
-without_first [] = []
-without_first (x ∷ xs) = xs
-
--- the pairs before the last one
-abbrev pub without_last : {A : Type 0} → List A → List A
-without_last [] = []
-without_last (x ∷ []) = []
-without_last (x ∷ y ∷ xs) = x ∷ without_last (y ∷ xs)
-
--- what an overwrite answers of the pairs that went: none, the only one, or their number
-abbrev pub went : {A : Type 0} → List A → Option A × ℕ
-went [] = (None, 0)
-went (x ∷ []) = (Some x, 0)
-went (x ∷ y ∷ xs) = (None, length (x ∷ y ∷ xs))

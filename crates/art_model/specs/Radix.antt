@@ -1,11 +1,11 @@
--- The tree of a map seen from inside.
+-- The tree of a map seen from inside: what holds at each node.
 use Rattle.std.specs.Prelude.{◌≡◌, ℕ, ◌<◌, ◌≤◌, List, [], ◌∷◌, ◌++◌, length}
 use Rattle.art_model.specs.Keys.{IsFront}
 use Rattle.art_model.specs.Pairs.{Pairwise}
 use Rattle.art_model.specs.Trees.{Tree, leaf, inner, Children, no_child, child, header_of}
 
 module _ {N A : Type 0} where
-  -- the pairs of the leaves in order
+  -- the pairs of the leaves, in order
   abbrev mutual
     pub pairs_of : Tree N A → List A
     pairs_of (leaf n x) = x ∷ []
@@ -15,7 +15,7 @@ module _ {N A : Type 0} where
     pairs_below no_child = []
     pairs_below (child b t cs) = pairs_of t ++ pairs_below cs
 
-  -- the plain tree
+  -- the plain tree: its marks are gone
   abbrev mutual
     pub unmarked : Tree N A → Tree (Unit {0}) A
     unmarked (leaf n x) = leaf tt x
@@ -25,26 +25,36 @@ module _ {N A : Type 0} where
     all_unmarked no_child = no_child
     all_unmarked (child b t cs) = child b (unmarked t) (all_unmarked cs)
 
-  -- the bytes of the children
+  -- the bytes that children stand under
   abbrev pub bytes_of : Children N A → List ℕ
   bytes_of no_child = []
   bytes_of (child b t cs) = b ∷ bytes_of cs
 
-  -- the children of both
+  -- the first children, and after them the second
   abbrev pub join : Children N A → Children N A → Children N A
   join no_child ds = ds
   join (child b t cs) ds = child b t (join cs ds)
+
+  -- each inner node has at least so many children
+  abbrev mutual
+    pub HaveChildren : ℕ → Tree N A → Type 0
+    HaveChildren least (leaf n x) = Unit {0}
+    HaveChildren least (inner n h cs) = (least ≤ length (bytes_of cs)) × HaveChildrenBelow least cs
+
+    pub HaveChildrenBelow : ℕ → Children N A → Type 0
+    HaveChildrenBelow least no_child = Unit {0}
+    HaveChildrenBelow least (child b t cs) = HaveChildren least t × HaveChildrenBelow least cs
 
 -- each byte is below all later ones
 abbrev pub IsRising : List ℕ → Type 0
 IsRising = Pairwise (λ b c. b < c)
 
 module _ {N A : Type 0} (bytes : A → List ℕ) (P : ℕ) where
-  -- The way to a node is the bytes that lead to it. Each leaf's key begins with the way to the leaf.
+  -- The tree may stand at a place, the bytes that lead to it. A leaf's key begins with the leaf's place; an inner node has two or more children under rising bytes, and the header of its prefix and their number.
   abbrev mutual
     pub IsRadix : List ℕ → Tree N A → Type 0
-    IsRadix way (leaf n x) = IsFront way (bytes x)
-    IsRadix way (inner n h cs) = (part : List ℕ) × (h ≡ header_of P part (length (bytes_of cs))) × (2 ≤ length (bytes_of cs)) × IsRising (bytes_of cs) × AreRadix (way ++ part) cs
+    IsRadix place (leaf n x) = IsFront place (bytes x)
+    IsRadix place (inner n h cs) = (part : List ℕ) × (h ≡ header_of P part (length (bytes_of cs))) × (2 ≤ length (bytes_of cs)) × IsRising (bytes_of cs) × AreRadix (place ++ part) cs
 
     pub AreRadix : List ℕ → Children N A → Type 0
     AreRadix front no_child = Unit {0}

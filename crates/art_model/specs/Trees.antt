@@ -1,16 +1,16 @@
--- Radix trees, and the tree of a map by grouping.
+-- Radix trees, and the tree of a map: its pairs grouped by the byte after the part that their keys share.
 use Rattle.std.specs.Prelude.{ℕ, zero, suc, ◌+◌, cond, eqb, leb, List, [], ◌∷◌, length, take, drop, get_or, Option, Some, None}
 use Rattle.art_nodes.specs.declared.node.NodeType.{NodeType}
 use Rattle.art_nodes.specs.declared.node.NodeType.TheVariants.{Node4, Node16, Node48, Node256}
 use Rattle.art_model.specs.Keys.{common_front}
 
--- kind, length of the prefix, and the first bytes of the prefix
+-- an inner node's kind, the length of its prefix, and the bytes that are stored of the prefix
 pub record Header : Type 0 where
   pub kind : NodeType
   pub length_of : ℕ
   pub stored : List ℕ
 
--- N is the type of the mark that each node bears: nothing, `Unit`, or its name in a store
+-- N is the type of the mark that each node bears: `Unit` in a plain tree, a name in a layout
 mutual
   pub data Tree (N A : Type 0) : Type 0 where
     leaf : N → A → Tree N A
@@ -20,26 +20,26 @@ mutual
     no_child : Children N A
     child : ℕ → Tree N A → Children N A → Children N A
 
--- the kind of a node by the number of its children
+-- the kind of an inner node by the number of its children
 abbrev pub kind_of : ℕ → NodeType
 kind_of n = cond (leb n 4) Node4 (cond (leb n 16) Node16 (cond (leb n 48) Node48 Node256))
 
--- the header of a node with this whole prefix and so many children
+-- the header of an inner node with this prefix and so many children, where P bytes can be stored
 abbrev pub header_of : ℕ → List ℕ → ℕ → Header
 header_of P part n = record { kind = kind_of n; length_of = length part; stored = take P part }
 
 module _ {A : Type 0} where
-  -- a pair in front of the groups, in the first of them where that has its byte
+  -- a pair joins the first group where that has its byte, and is else a group of its own in front
   abbrev pub add_to_groups : ℕ → A → List (ℕ × List A) → List (ℕ × List A)
   add_to_groups b x [] = (b, x ∷ []) ∷ []
   add_to_groups b x ((c, group) ∷ others) = cond (eqb b c) ((b, x ∷ group) ∷ others) ((b, x ∷ []) ∷ (c, group) ∷ others)
 
-  -- neighbours with the same byte are one group
+  -- neighbours with the same byte are one group, under that byte
   abbrev pub groups : (A → ℕ) → List A → List (ℕ × List A)
   groups byte [] = []
   groups byte (x ∷ xs) = add_to_groups (byte x) x (groups byte xs)
 
-  -- a child in front, where there is one
+  -- a child in front, where there is a tree for it
   abbrev pub add_child : ℕ → Option (Tree (Unit {0}) A) → Children (Unit {0}) A → Children (Unit {0}) A
   add_child b None others = others
   add_child b (Some t) others = child b t others
@@ -60,20 +60,20 @@ module _ {A : Type 0} (bytes : A → List ℕ) where
   abbrev pub byte_at : ℕ → A → ℕ
   byte_at d x = get_or (bytes x) d 0
 
-  -- the inner node of two or more pairs, its children built by a function of depth and group
+  -- The inner node of two or more pairs at depth d: `build` makes a tree of each group, from the depth after the group's byte.
   abbrev pub node_of : (ℕ → List A → Option (Tree (Unit {0}) A)) → ℕ → ℕ → List A → Option (Tree (Unit {0}) A)
   node_of build P d pairs =
-    let part = shared_part d pairs in
-    let gs = groups (byte_at (d + length part)) pairs in
-    Some (inner tt (header_of P part (length gs)) (children_of (build (d + length part + 1)) gs))
+      let part = shared_part d pairs in
+      let gs = groups (byte_at (d + length part)) pairs in
+      Some (inner tt (header_of P part (length gs)) (children_of (build (d + length part + 1)) gs))
 
-  -- The first number bounds the turns: each group is shorter than the whole list.
+  -- No pair has no tree, one pair its leaf, more an inner node. The first number bounds the turns.
   abbrev pub tree_within : ℕ → ℕ → ℕ → List A → Option (Tree (Unit {0}) A)
   tree_within zero P d pairs = None
   tree_within (suc turns) P d [] = None
   tree_within (suc turns) P d (x ∷ []) = Some (leaf tt x)
   tree_within (suc turns) P d (x ∷ y ∷ rest) = node_of (tree_within turns P) P d (x ∷ y ∷ rest)
 
-  -- the radix tree of a map from a depth on
+  -- The tree of a map whose keys agree up to depth d. Each group is smaller than the whole, so the number of pairs bounds the turns.
   abbrev pub tree_of : List A → ℕ → ℕ → Option (Tree (Unit {0}) A)
   tree_of pairs P d = tree_within (length pairs) P d pairs
