@@ -1,0 +1,5 @@
+//! Operations on a radix tree in a store.
+#![tactic(auto)]
+
+pub mod lookup;
+pub mod path;
