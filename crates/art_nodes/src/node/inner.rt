@@ -1,0 +1,360 @@
+//! Inner nodes of each kind.
+ghost use Rattle.std.specs.Prelude.{◌≡◌, ℕ, ◌-◌, ◌<◌, ◌≤◌, min, length, slice_get, Some, All, IsTrue, ◌↔◌};
+
+use super::children::Children;
+use super::header::{FromHeader, Header};
+use super::table::Table;
+use super::{AnyInner, NodeType, OpaqueNodePtr};
+use std::marker::Model;
+
+/// An inner node of one kind.
+pub trait InnerNode<const P: usize>: FromHeader<Header<P>> {
+    ghost use Rattle.art_nodes.specs.Changes.{with_child};
+    ghost use Rattle.art_nodes.specs.Inner.{HasPlace, Inner, IsRising, Prefix, child_at, childless, children_between};
+    ghost use Rattle.art_nodes.specs.Kinds.{any_kind, any_view, kind_capacity};
+    ghost use Rattle.art_nodes.specs.declared.node.NodeType.{NodeType};
+
+    const TYPE: NodeType;
+
+    ghost TYPE: { NodeType };
+
+    /// What a node is seen as.
+    ghost view_of: { Self → Inner };
+
+    fn header(&self) -> Header<P>
+        ensures { result ≡ (view_of self.now).prefix };
+
+    /// The length of the prefix, which may be more than is stored.
+    fn prefix_len(&self) -> usize
+        ensures { result ≡ (view_of self.now).prefix.len };
+
+    /// The stored bytes of the prefix.
+    fn read_prefix(&self) -> &[u8]
+        ensures stored { result.now ≡ (view_of self.now).prefix.stored }
+        ensures count { length (view_of self.now).prefix.stored ≡ min (view_of self.now).prefix.len P };
+
+    /// The children by rising bytes.
+    fn iter(&self) -> Children<'_>
+        ensures children { result ≡ (view_of self.now).children }
+        ensures rising { IsRising (view_of self.now).children }
+        ensures bound { length (view_of self.now).children ≤ kind_capacity TYPE };
+
+    /// Puts a child under a byte, in place of the one that is there.
+    fn write_child(&mut self, byte: u8, child: OpaqueNodePtr)
+        requires { HasPlace (kind_capacity TYPE) (view_of self.old).children byte }
+        ensures { view_of self.new ≡ with_child byte child (view_of self.old) };
+
+    fn into_any(self) -> AnyInner<P>
+        ensures kind { any_kind result ≡ TYPE }
+        ensures view { any_view result ≡ view_of self };
+
+    fn num_children(&self) -> usize
+        ensures value { result ≡ length (view_of self.now).children }
+        ensures bound { length (view_of self.now).children ≤ kind_capacity TYPE }
+    {
+        self.iter().len()
+    }
+
+    fn is_full(&self) -> bool
+        ensures { IsTrue result ↔ (kind_capacity TYPE ≤ length (view_of self.now).children) }
+    {
+        self.num_children() >= Self::TYPE.capacity()
+    }
+
+    /// The name under a byte.
+    fn lookup_child(&self, byte: u8) -> Option<OpaqueNodePtr>
+        ensures { result ≡ child_at (view_of self.now).children byte }
+    {
+        self.iter().get(byte)
+    }
+
+    /// The least byte, and the name under it.
+    fn min(&self) -> (u8, OpaqueNodePtr)
+        requires { 0 < length (view_of self.now).children }
+        ensures first { slice_get (view_of self.now).children 0 ≡ Some result }
+    {
+        self.iter().least()
+    }
+
+    /// The greatest byte, and the name under it.
+    fn max(&self) -> (u8, OpaqueNodePtr)
+        requires { 0 < length (view_of self.now).children }
+        ensures last { slice_get (view_of self.now).children (length (view_of self.now).children - 1) ≡ Some result }
+    {
+        self.iter().greatest()
+    }
+
+    /// The children under the bytes from `first` to `last`, both included: none where `last` is less.
+    fn range(&self, first: u8, last: u8) -> Children<'_>
+        ensures { result ≡ children_between first last (view_of self.now).children }
+    {
+        self.iter().between(first, last)
+    }
+
+    /// A new node has no child.
+    ghost starts_childless: { (header : Prefix) (node : Self) → Self.FromHeader.starts header node → view_of node ≡ childless header };
+}
+
+/// An inner node of up to 4 children.
+#[derive(Drop)]
+pub struct InnerNode4<const P: usize> {
+    pub(super) header: Header<P>,
+    pub(super) table: Table<4>,
+}
+
+impl<const P: usize> Model for InnerNode4<P> {
+    ghost use Rattle.art_nodes.specs.Inner.{Inner, IsSize};
+
+    ghost Value = { Inner };
+
+    ghost view = { λ n. record { prefix = n.header; children = n.table } };
+
+    ghost invariant = { λ _. IsSize P };
+}
+
+impl<const P: usize> FromHeader<Header<P>> for InnerNode4<P> {
+    ghost use Rattle.art_nodes.specs.Inner.{childless};
+
+    ghost starts = { λ h n. n ≡ childless h };
+
+    fn from_header(header: Header<P>) -> Self {
+        InnerNode4 {
+            header,
+            table: Table::new(),
+        }
+    }
+}
+
+impl<const P: usize> InnerNode<P> for InnerNode4<P> {
+    ghost use Rattle.art_nodes.specs.declared.node.NodeType.TheVariants as kinds;
+
+    const TYPE: NodeType = NodeType::Node4;
+
+    ghost TYPE = { kinds.Node4 };
+
+    ghost view_of = { λ n. n };
+
+    ghost starts_childless = { λ header node starts. starts };
+
+    fn header(&self) -> Header<P> {
+        self.header
+    }
+
+    fn prefix_len(&self) -> usize {
+        self.header.prefix_len()
+    }
+
+    fn read_prefix(&self) -> &[u8] {
+        self.header.read_prefix()
+    }
+
+    fn iter(&self) -> Children<'_> {
+        self.table.iter()
+    }
+
+    fn write_child(&mut self, byte: u8, child: OpaqueNodePtr) {
+        self.table.write(byte, child)
+    }
+
+    fn into_any(self) -> AnyInner<P> {
+        AnyInner::Node4(self)
+    }
+}
+
+/// An inner node of up to 16 children.
+#[derive(Drop)]
+pub struct InnerNode16<const P: usize> {
+    pub(super) header: Header<P>,
+    pub(super) table: Table<16>,
+}
+
+impl<const P: usize> Model for InnerNode16<P> {
+    ghost use Rattle.art_nodes.specs.Inner.{Inner, IsSize};
+
+    ghost Value = { Inner };
+
+    ghost view = { λ n. record { prefix = n.header; children = n.table } };
+
+    ghost invariant = { λ _. IsSize P };
+}
+
+impl<const P: usize> FromHeader<Header<P>> for InnerNode16<P> {
+    ghost use Rattle.art_nodes.specs.Inner.{childless};
+
+    ghost starts = { λ h n. n ≡ childless h };
+
+    fn from_header(header: Header<P>) -> Self {
+        InnerNode16 {
+            header,
+            table: Table::new(),
+        }
+    }
+}
+
+impl<const P: usize> InnerNode<P> for InnerNode16<P> {
+    ghost use Rattle.art_nodes.specs.declared.node.NodeType.TheVariants as kinds;
+
+    const TYPE: NodeType = NodeType::Node16;
+
+    ghost TYPE = { kinds.Node16 };
+
+    ghost view_of = { λ n. n };
+
+    ghost starts_childless = { λ header node starts. starts };
+
+    fn header(&self) -> Header<P> {
+        self.header
+    }
+
+    fn prefix_len(&self) -> usize {
+        self.header.prefix_len()
+    }
+
+    fn read_prefix(&self) -> &[u8] {
+        self.header.read_prefix()
+    }
+
+    fn iter(&self) -> Children<'_> {
+        self.table.iter()
+    }
+
+    fn write_child(&mut self, byte: u8, child: OpaqueNodePtr) {
+        self.table.write(byte, child)
+    }
+
+    fn into_any(self) -> AnyInner<P> {
+        AnyInner::Node16(self)
+    }
+}
+
+/// An inner node of up to 48 children.
+#[derive(Drop)]
+pub struct InnerNode48<const P: usize> {
+    pub(super) header: Header<P>,
+    pub(super) table: Table<48>,
+}
+
+impl<const P: usize> Model for InnerNode48<P> {
+    ghost use Rattle.art_nodes.specs.Inner.{Inner, IsSize};
+
+    ghost Value = { Inner };
+
+    ghost view = { λ n. record { prefix = n.header; children = n.table } };
+
+    ghost invariant = { λ _. IsSize P };
+}
+
+impl<const P: usize> FromHeader<Header<P>> for InnerNode48<P> {
+    ghost use Rattle.art_nodes.specs.Inner.{childless};
+
+    ghost starts = { λ h n. n ≡ childless h };
+
+    fn from_header(header: Header<P>) -> Self {
+        InnerNode48 {
+            header,
+            table: Table::new(),
+        }
+    }
+}
+
+impl<const P: usize> InnerNode<P> for InnerNode48<P> {
+    ghost use Rattle.art_nodes.specs.declared.node.NodeType.TheVariants as kinds;
+
+    const TYPE: NodeType = NodeType::Node48;
+
+    ghost TYPE = { kinds.Node48 };
+
+    ghost view_of = { λ n. n };
+
+    ghost starts_childless = { λ header node starts. starts };
+
+    fn header(&self) -> Header<P> {
+        self.header
+    }
+
+    fn prefix_len(&self) -> usize {
+        self.header.prefix_len()
+    }
+
+    fn read_prefix(&self) -> &[u8] {
+        self.header.read_prefix()
+    }
+
+    fn iter(&self) -> Children<'_> {
+        self.table.iter()
+    }
+
+    fn write_child(&mut self, byte: u8, child: OpaqueNodePtr) {
+        self.table.write(byte, child)
+    }
+
+    fn into_any(self) -> AnyInner<P> {
+        AnyInner::Node48(self)
+    }
+}
+
+/// An inner node of up to 256 children.
+#[derive(Drop)]
+pub struct InnerNodeDirect<const P: usize> {
+    pub(super) header: Header<P>,
+    pub(super) table: Table<256>,
+}
+
+impl<const P: usize> Model for InnerNodeDirect<P> {
+    ghost use Rattle.art_nodes.specs.Inner.{Inner, IsSize};
+
+    ghost Value = { Inner };
+
+    ghost view = { λ n. record { prefix = n.header; children = n.table } };
+
+    ghost invariant = { λ _. IsSize P };
+}
+
+impl<const P: usize> FromHeader<Header<P>> for InnerNodeDirect<P> {
+    ghost use Rattle.art_nodes.specs.Inner.{childless};
+
+    ghost starts = { λ h n. n ≡ childless h };
+
+    fn from_header(header: Header<P>) -> Self {
+        InnerNodeDirect {
+            header,
+            table: Table::new(),
+        }
+    }
+}
+
+impl<const P: usize> InnerNode<P> for InnerNodeDirect<P> {
+    ghost use Rattle.art_nodes.specs.declared.node.NodeType.TheVariants as kinds;
+
+    const TYPE: NodeType = NodeType::Node256;
+
+    ghost TYPE = { kinds.Node256 };
+
+    ghost view_of = { λ n. n };
+
+    ghost starts_childless = { λ header node starts. starts };
+
+    fn header(&self) -> Header<P> {
+        self.header
+    }
+
+    fn prefix_len(&self) -> usize {
+        self.header.prefix_len()
+    }
+
+    fn read_prefix(&self) -> &[u8] {
+        self.header.read_prefix()
+    }
+
+    fn iter(&self) -> Children<'_> {
+        self.table.iter()
+    }
+
+    fn write_child(&mut self, byte: u8, child: OpaqueNodePtr) {
+        self.table.write(byte, child)
+    }
+
+    fn into_any(self) -> AnyInner<P> {
+        AnyInner::Node256(self)
+    }
+}
