@@ -10,3 +10,5 @@ pub mod Paths
 pub mod Places
 pub mod Heights
 pub mod Footprints
+pub mod Roots
+pub mod Lookups

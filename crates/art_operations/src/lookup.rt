@@ -3,7 +3,7 @@ ghost use Rattle.std.specs.Prelude.{◌≡◌, ◌≤◌, ◌↔◌, length, dro
 ghost use Rattle.art_model.specs.Keys.{IsFront};
 
 use crate::path::{AttemptOptimisticPrefixMatch, PessimisticMismatch};
-use art_nodes::node::{AsBytes, InnerNode, LeafNode};
+use art_nodes::node::{AsBytes, InnerNode, InnerRef, LeafNode};
 
 /// How a look-up compares the bytes of prefixes on its way down.
 ///
@@ -19,6 +19,7 @@ pub enum PrefixMatchBehavior {
 }
 
 impl PrefixMatchBehavior {
+    ghost use Rattle.art_nodes.specs.Kinds.{ref_view};
     ghost use Rattle.art_operations.specs.Matching.{LeafKeyIsPrefix, MatchesLeafKey, behavior_after, prefix_match};
 
     /// Compares the prefix of an inner node with the rest of the key, from the node's depth on.
@@ -30,8 +31,24 @@ impl PrefixMatchBehavior {
         ensures outcome { result ≡ prefix_match self.old (N.view_of node.now).prefix rest_of_key.now }
         ensures behavior { self.new ≡ behavior_after self.old (N.view_of node.now).prefix rest_of_key.now }
     {
-        let header = node.header();
-        self.match_stored(header.prefix_len(), header.read_prefix(), rest_of_key)
+        self.match_stored(node.prefix_len(), node.read_prefix(), rest_of_key)
+    }
+
+    // The same for a node of any kind.
+    fn match_any<const P: usize>(
+        &mut self,
+        node: InnerRef<'_, P>,
+        rest_of_key: &[u8],
+    ) -> Result<AttemptOptimisticPrefixMatch, PessimisticMismatch>
+        ensures outcome { result ≡ prefix_match self.old (ref_view node.entry).prefix rest_of_key.now }
+        ensures behavior { self.new ≡ behavior_after self.old (ref_view node.entry).prefix rest_of_key.now }
+    {
+        match node {
+            InnerRef::Node4(node) => self.match_prefix(node, rest_of_key),
+            InnerRef::Node16(node) => self.match_prefix(node, rest_of_key),
+            InnerRef::Node48(node) => self.match_prefix(node, rest_of_key),
+            InnerRef::Node256(node) => self.match_prefix(node, rest_of_key),
+        }
     }
 
     // Compares a prefix of this length, of which these bytes are stored, with the rest of the key.
