@@ -1,1 +1,3 @@
 pub mod Rests
+pub mod Outcomes
+pub mod OnWay
