@@ -1,3 +1,4 @@
 pub mod Rests
 pub mod Outcomes
 pub mod OnWay
+pub mod Steps

@@ -75,22 +75,22 @@ module _ {A : Type 0} {bytes : A → List ℕ} {P : ℕ} {key : List ℕ} {tree 
     leaf_place : take depth (bytes x) ≡ d.place
     leaf_place = subst (λ t. place_of bytes depth t ≡ d.place) is own_place
 
-    leaf_leads : IsFront d.place (bytes x)
+    pub leaf_leads : IsFront d.place (bytes x)
     leaf_leads = subst (IsRadix bytes P d.place) is d.radix
 
-    leaf_whole : HasLeaf tree n x
+    pub leaf_whole : HasLeaf tree n x
     leaf_whole = (d.path, ap (plug d.path) (sym is) ∙ d.whole)
 
-    leaf_only : match_of bytes key (pairs_of tree) ≡ match_of bytes key (x ∷ [])
+    pub leaf_only : match_of bytes key (pairs_of tree) ≡ match_of bytes key (x ∷ [])
     leaf_only = d.matches ∙ ap (λ t. match_of bytes key (pairs_of t)) is
 
-    leaf_least : before + count_on_way key (places bytes 0 tree) ≤ now + 1
+    pub leaf_least : before + count_on_way key (places bytes 0 tree) ≤ now + 1
     leaf_least =
         let l = subst (λ t. before + count_on_way key (places bytes 0 tree) ≤ now + count_on_way key (places bytes depth t)) is d.at_least in
         let m = count_most key (take depth (bytes x), n) [] in
         omega arith
 
-    leaf_exactly : IsFront d.place key → before + count_on_way key (places bytes 0 tree) ≡ now + 1
+    pub leaf_exactly : IsFront d.place key → before + count_on_way key (places bytes 0 tree) ≡ now + 1
     leaf_exactly front =
         let l = subst (λ t. before + count_on_way key (places bytes 0 tree) ≡ now + count_on_way key (places bytes depth t)) is (d.exactly front) in
         let m = count_front key (take depth (bytes x), n) [] (subst (λ z. IsFront z key) (sym leaf_place) front) in
@@ -98,11 +98,11 @@ module _ {A : Type 0} {bytes : A → List ℕ} {P : ℕ} {key : List ℕ} {tree 
 
   -- at an inner node that the store shows
   module _ {p : InnerPtr} {shown : Inner} (at : IsShown d.node p shown) where
-    radix : IsRadix bytes P d.place (inner (inner_name p) (header_at p.kind shown) at.children)
+    pub radix : IsRadix bytes P d.place (inner (inner_name p) (header_at p.kind shown) at.children)
     radix = subst (IsRadix bytes P d.place) at.is d.radix
 
     -- the place and the whole prefix
-    abbrev front : List ℕ
+    abbrev pub front : List ℕ
     front = d.place ++ radix.0
 
     len_is : shown.prefix.len ≡ length radix.0

@@ -194,7 +194,7 @@ fn walk<'a, K: AsBytes + Drop, V: Drop, const PREFIX_LEN: usize>(
 {
     let mut name = root;
     let mut depth = 0;
-    let mut behavior = PrefixMatchBehavior::default();
+    let mut behavior = PrefixMatchBehavior::Pessimistic;
     'down: loop {
         visits.add_one();
         match name.split() {
@@ -213,10 +213,14 @@ fn walk<'a, K: AsBytes + Drop, V: Drop, const PREFIX_LEN: usize>(
                 Some(node) => {
                     let header = node.header();
                     let rest_of_key = &key_bytes[depth..];
-                    let matched = behavior.match_stored(header.prefix_len(), header.read_prefix(), rest_of_key).ok()?;
+                    let matched = behavior
+                        .match_stored(header.prefix_len(), header.read_prefix(), rest_of_key)
+                        .ok()?;
                     depth += matched.matched_bytes;
-                    let &byte = key_bytes.get(depth)?;
-                    name = node.lookup_child(byte)?;
+                    if depth >= key_bytes.len() {
+                        return None;
+                    }
+                    name = node.lookup_child(key_bytes[depth])?;
                     depth += 1;
                 }
                 None => unreachable!(),
