@@ -2,3 +2,4 @@ pub mod Rests
 pub mod Outcomes
 pub mod OnWay
 pub mod Steps
+pub mod Ends
