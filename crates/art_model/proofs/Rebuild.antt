@@ -4,7 +4,7 @@ use Rattle.std.specs.List.{AllByRecursion as Each}
 use Rattle.std.proofs.lemmas.Bool.{ne_eqb}
 use Rattle.std.proofs.lemmas.List.{get_or_at}
 use Rattle.art_model.specs.Keys.{IsFront}
-use Rattle.art_model.specs.Trees.{shared_part, groups, byte_at, Tree, leaf, inner, Children, child, no_child, tree_within, tree_of, node_of, children_of}
+use Rattle.art_model.specs.Trees.{shared_part, groups, byte_at, Tree, leaf, inner, Children, child, no_child, Header, tree_within, tree_of, node_of, children_of}
 use Rattle.art_model.specs.Radix.{IsRadix, AreRadix, IsRising, bytes_of, pairs_of, pairs_below, unmarked, all_unmarked}
 use Rattle.art_model.proofs.Lists.{Each-append, Each-left, Each-right, front_cut, after_front, Each-weaker}
 use Rattle.art_model.proofs.Groups.{StartsApart, groups-block, shared_part-front, shared_part_shared}
@@ -121,6 +121,20 @@ module _ {N A : Type 0} (bytes : A → List ℕ) (P : ℕ) where
         let more = radix_long bytes P cs front h.1 in
         let sum = length-append (pairs_of t) (pairs_below cs) in
         rw (← length-append front (b ∷ []), rebuild t (front ++ b ∷ []) turns h.0 (omega arith), rebuild_below cs front turns h.1 (omega arith)) refl
+
+  -- the same without a bound on the turns
+  rebuild_each : (cs : Children N A) (front : List ℕ) → AreRadix bytes P front cs → children_of (λ group. tree_of bytes group P (length front + 1)) (groups_of bytes P cs) ≡ all_unmarked cs
+  rebuild_each no_child front h = refl
+  rebuild_each (child b t cs) front h =
+      let own : tree_of bytes (pairs_of t) P (length front + 1) ≡ Some (unmarked t) = rw (← length-append front (b ∷ [])) (rebuild t (front ++ b ∷ []) (length (pairs_of t)) h.0 (omega arith)) in
+      rw (own, rebuild_each cs front h.1) refl
+
+  pub rebuild_node : (n : N) (h : Header) (cs : Children N A) (place : List ℕ) → IsRadix bytes P place (inner n h cs) →
+      node_of bytes (λ d group. tree_of bytes group P d) P (length place) (pairs_below cs) ≡ Some (unmarked (inner n h cs))
+  rebuild_node n h cs place (part, e, two, up, below) =
+      let s = shared_below cs place part two up below in
+      let g = groups_below bytes P cs (place ++ part) below up in
+      rw (s, ← length-append place part, g, length-groups_of bytes P cs, rebuild_each cs (place ++ part) below, e) refl
 
   pub rebuild_root : (t : Tree N A) → IsRadix bytes P [] t → tree_of bytes (pairs_of t) P 0 ≡ Some (unmarked t)
   rebuild_root t h = rebuild t [] (length (pairs_of t)) h (omega arith)

@@ -10,5 +10,8 @@ pub mod Paths
 pub mod Places
 pub mod Heights
 pub mod Footprints
+pub mod TreeLaws
+pub mod StoreLaws
+pub mod Examples
 pub mod Roots
 pub mod Lookups

@@ -20,7 +20,11 @@ pub fn all_memory(alloc: Global) -> Result<Vec<Vec<u8>>, AllocError> {
                     break;
                 }
             }
-            Err(_) => size = if size > 4096 { size / 2 } else { size.saturating_sub(8) },
+            Err(_) => size = if size > 4096 {
+                size / 2
+            } else {
+                size.saturating_sub(8)
+            },
         }
     }
     Ok(held)

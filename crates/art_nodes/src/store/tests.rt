@@ -6,11 +6,14 @@ ghost use Rattle.art_nodes.specs.Changes.{with_links, with_child};
 ghost use Rattle.art_nodes.specs.Inner.{childless};
 
 use super::*;
-use crate::node::{FromHeader, InnerNode4, InnerNode16};
+use crate::node::{FromHeader, InnerNode4};
 use art_test_support::all_memory;
 use std::test::Fail;
 
 type Store = NodeStore<[u8; 1], u32, 2>;
+
+// No store has room for so many nodes before it is asked for.
+const MORE_THAN_FIT: usize = 1_000;
 
 fn leaf_of(byte: u8, value: u32) -> LeafNode<[u8; 1], u32> {
     LeafNode {
@@ -113,16 +116,24 @@ fn a_store_hands_out_its_allocator(rt: HostRuntime) -> Result<(), Fail> {
 #[test]
 fn leaves_are_linked_and_freed(rt: HostRuntime) -> Result<(), Fail> {
     let mut store = Store::new(rt.alloc());
-    let first = store.place_leaf(leaf_of(1, 10)).map_err(|refused| refused.1)?;
+    let first = store
+        .place_leaf(leaf_of(1, 10))
+        .map_err(|refused| refused.1)?;
     let second = place_behind(&mut store, first, leaf_of(2, 20)).map_err(|refused| refused.1)?;
     assert!(rt; first != second);
     let seen = store.leaf(second).ok_or("the second leaf")?;
-    assert_eq!(rt; (seen.value, seen.previous, seen.next), (20, Some(first), None));
+    assert_eq!(rt;
+        (seen.value, seen.previous, seen.next),
+        (20, Some(first), None)
+    );
 
     let pair = move_pair(&mut store, first, second);
     assert_eq!(rt; pair, ([2], 20));
     let seen = store.leaf(second).ok_or("the second leaf")?;
-    assert_eq!(rt; (seen.key, seen.value, seen.previous), ([1], 10, Some(first)));
+    assert_eq!(rt;
+        (seen.key, seen.value, seen.previous),
+        ([1], 10, Some(first))
+    );
     assert!(rt; store.leaf(first).is_none());
     Ok(())
 }
@@ -132,7 +143,9 @@ fn inner_nodes_are_written_and_freed(rt: HostRuntime) -> Result<(), Fail> {
     let mut store = Store::new(rt.alloc());
     let child = LeafPtr::from_slot(7).to_opaque();
     let lower = place_above(&mut store, Header::new(&[5, 6], 2), 3, child)?;
-    let upper = store.place_inner(node4(&[8, 9])).map_err(|refused| refused.1)?;
+    let upper = store
+        .place_inner(node4(&[8, 9]))
+        .map_err(|refused| refused.1)?;
     let seen = store.inner(lower).ok_or("the lower node")?;
     assert_eq!(rt; seen.lookup_child(3), Some(child));
     assert_eq!(rt; seen.lookup_child(4), None);
@@ -143,4 +156,119 @@ fn inner_nodes_are_written_and_freed(rt: HostRuntime) -> Result<(), Fail> {
     assert_eq!(rt; seen.header().read_prefix(), [5, 6].as_slice());
     assert!(rt; store.inner(lower).is_none());
     Ok(())
+}
+
+#[test]
+fn a_reservation_past_all_numbers_is_refused(rt: HostRuntime) {
+    let mut store = Store::new(rt.alloc());
+    assert!(rt; store.reserve(usize::MAX, Some(NodeType::Node4)).is_err());
+    assert!(rt; store.reserve_any(usize::MAX).is_err());
+    assert!(rt; store.reserve(0, None).is_ok());
+}
+
+// Places leaves until one is refused, and answers its pair.
+fn refused_leaf(store: &mut Store) -> Option<([u8; 1], u32)> {
+    for _ in 0..MORE_THAN_FIT {
+        if let Err((leaf, _)) = store.place_leaf(leaf_of(9, 90)) {
+            let key = leaf.key;
+            return Some((key, leaf.value));
+        }
+    }
+    None
+}
+
+// Places inner nodes until one is refused, and answers its header.
+fn refused_header(store: &mut Store) -> Option<Header<2>> {
+    for _ in 0..MORE_THAN_FIT {
+        if let Err((node, _)) = store.place_inner(node4(&[8, 9])) {
+            return Some(node.as_ref().header());
+        }
+    }
+    None
+}
+
+// A refusal before all memory is held decides nothing in the tests below.
+
+#[test]
+fn refused_placements_hand_the_node_back(rt: HostRuntime) {
+    let alloc = rt.alloc();
+    let mut store = Store::new(alloc);
+    let Ok(first) = store.place_leaf(leaf_of(1, 10)) else {
+        return;
+    };
+    let child = first.to_opaque();
+    let Ok(upper) = place_above(&mut store, Header::new(&[5, 6], 2), 3, child) else {
+        return;
+    };
+    let Ok(held) = all_memory(alloc) else {
+        return;
+    };
+    let pair = refused_leaf(&mut store);
+    let header = refused_header(&mut store);
+    drop(held);
+    assert_eq!(rt; pair, Some(([9], 90)));
+    assert!(rt; header.is_some_and(|header| header.read_prefix() == [8, 9].as_slice()));
+    assert_eq!(rt; store.leaf(first).map(|leaf| leaf.value), Some(10));
+    assert_eq!(rt;
+        store.inner(upper).and_then(|node| node.lookup_child(3)),
+        Some(child)
+    );
+}
+
+#[test]
+fn refused_reservations_leave_the_nodes(rt: HostRuntime) {
+    let alloc = rt.alloc();
+    let mut store = Store::new(alloc);
+    let Ok(first) = store.place_leaf(leaf_of(1, 10)) else {
+        return;
+    };
+    let Ok(held) = all_memory(alloc) else {
+        return;
+    };
+    let promised = store.reserve(1 << 20, None);
+    let made = store.reserve_any(1 << 20);
+    drop(held);
+    assert!(rt; promised.is_err());
+    assert!(rt; made.is_err());
+    assert_eq!(rt; store.leaf(first).map(|leaf| leaf.value), Some(10));
+}
+
+#[test]
+fn refused_memory_leaves_what_is_promised(rt: HostRuntime) {
+    let alloc = rt.alloc();
+    let mut store = Store::new(alloc);
+    if store.reserve(2, Some(NodeType::Node4)).is_err() {
+        return;
+    }
+    let Ok(held) = all_memory(alloc) else {
+        return;
+    };
+    let placed = [
+        store.place_leaf(leaf_of(1, 10)).is_ok(),
+        store.reserve(1, Some(NodeType::Node4)).is_ok(),
+        store.place_inner(node4(&[8, 9])).is_ok(),
+        store.place_leaf(leaf_of(2, 20)).is_ok(),
+    ];
+    drop(held);
+    assert_eq!(rt; placed, [true; 4]);
+}
+
+#[test]
+fn refused_memory_leaves_the_room(rt: HostRuntime) {
+    let alloc = rt.alloc();
+    let mut store = Store::new(alloc);
+    if store.reserve_any(3).is_err() {
+        return;
+    }
+    let Ok(held) = all_memory(alloc) else {
+        return;
+    };
+    let placed = [
+        store.place_leaf(leaf_of(1, 10)).is_ok(),
+        store.place_inner(node4(&[8, 9])).is_ok(),
+        store.reserve_any(1).is_ok(),
+        store.place_inner(node4(&[5, 6])).is_ok(),
+    ];
+    drop(held);
+    assert_eq!(rt; placed, [true; 4]);
 }

@@ -1,0 +1,5 @@
+use Rattle.art_model.proofs.StoreLaws.{has_one_layout}
+use Rattle.art_model.proofs.layouts.a_name_has_one_layout.Goals as goal
+
+pub returns : goal.returns
+returns g c = has_one_layout

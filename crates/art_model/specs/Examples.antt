@@ -1,0 +1,56 @@
+-- Small maps and their trees, to be compared with what the definitions compute. Where values don't matter a pair is its key alone.
+use Rattle.std.specs.Prelude.{ℕ, zero, suc, ◌+◌, List, [], ◌∷◌, ◌++◌, Option}
+use Rattle.art_nodes.specs.declared.node.NodeType.{NodeType}
+use Rattle.art_nodes.specs.declared.node.NodeType.TheVariants.{Node4}
+use Rattle.art_model.specs.Pairs.{of_key}
+use Rattle.art_model.specs.Trees.{Tree, leaf, inner, Children, child, no_child, Header, tree_of}
+
+abbrev pub Key : Type 0
+Key = List ℕ
+
+abbrev pub KeyTree : Type 0
+KeyTree = Tree (Unit {0}) Key
+
+-- the tree of keys
+abbrev pub tree_of_keys : List Key → ℕ → Option KeyTree
+tree_of_keys keys P = tree_of (λ key. key) keys P 0
+
+-- a key and a number as its value
+abbrev pub bytes_of_pair : Key × ℕ → Key
+bytes_of_pair = of_key (λ key. key)
+
+-- a Node4 with this prefix length, these stored bytes and two children
+abbrev pub over_two : ℕ → List ℕ → ℕ → KeyTree → ℕ → KeyTree → KeyTree
+over_two length_of stored b t c u = inner tt (record { kind = Node4; length_of = length_of; stored = stored }) (child b t (child c u no_child))
+
+-- so many keys of one byte each, from a first byte on
+abbrev pub one_byte_keys : ℕ → ℕ → List Key
+one_byte_keys zero first = []
+one_byte_keys (suc n) first = (first ∷ []) ∷ one_byte_keys n (first + 1)
+
+-- their leaves, each under its byte
+abbrev pub one_byte_leaves : ℕ → ℕ → Children (Unit {0}) Key
+one_byte_leaves zero first = no_child
+one_byte_leaves (suc n) first = child first (leaf tt (first ∷ [])) (one_byte_leaves n (first + 1))
+
+-- a node of this kind with no prefix over so many leaves of one-byte keys
+abbrev pub fan : NodeType → ℕ → KeyTree
+fan kind n = inner tt (record { kind = kind; length_of = 0; stored = [] }) (one_byte_leaves n 0)
+
+abbrev pub zeros : ℕ → List ℕ
+zeros zero = []
+zeros (suc n) = 0 ∷ zeros n
+
+-- so many keys, each of some zeros and then 255, the one with the most zeros first
+abbrev pub zero_keys : ℕ → List Key
+zero_keys zero = []
+zero_keys (suc n) = (zeros n ++ 255 ∷ []) ∷ zero_keys n
+
+-- their tree: so many nodes one below the other, each under the byte 0 and beside a leaf under 255
+abbrev pub zero_tree : ℕ → List ℕ → KeyTree
+zero_tree zero place = leaf tt (place ++ 255 ∷ [])
+zero_tree (suc n) place = over_two 0 [] 0 (zero_tree n (place ++ 0 ∷ [])) 255 (leaf tt (place ++ 255 ∷ []))
+
+-- the keys 1 2, 1 3 and 2 with the values 5, 6 and 7
+abbrev pub three_pairs : List (Key × ℕ)
+three_pairs = (1 ∷ 2 ∷ [], 5) ∷ (1 ∷ 3 ∷ [], 6) ∷ (2 ∷ [], 7) ∷ []
