@@ -13,5 +13,9 @@ pub mod Footprints
 pub mod TreeLaws
 pub mod StoreLaws
 pub mod Examples
+pub mod KeyLaws
+pub mod Changes
+pub mod MapLaws
+pub mod PlaceLaws
 pub mod Roots
 pub mod Lookups
