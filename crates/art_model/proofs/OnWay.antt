@@ -12,12 +12,11 @@ use Rattle.art_model.specs.Trees.{Tree, Children, child, no_child}
 use Rattle.art_model.specs.Radix.{pairs_of, pairs_below, IsRadix, AreRadix, IsRising, bytes_of, join}
 use Rattle.art_model.specs.Layouts.{name_of, slots_of}
 use Rattle.art_model.specs.Places.{places, places_below}
-use Rattle.art_model.proofs.Lists.{Each-append, Each-weaker, front_cut, front_trans}
-use Rattle.art_model.proofs.Keys.{front_is}
+use Rattle.art_model.proofs.Lists.{filter_none, Each-append, Each-weaker, front_cut, front_trans}
+use Rattle.art_model.proofs.Keys.{front_from}
 use Rattle.art_model.proofs.Radix.{AreRadix-left, AreRadix-right, pairs_below-join}
 use Rattle.art_model.proofs.Rebuild.{radix_way}
 use Rattle.art_model.proofs.Places.{places_way}
-use Rattle.art_model.proofs.Search.{front_from, filter_none}
 
 is_false : (t : Bool) → (t ≡ true → ⊥) → t ≡ false
 is_false true never = absurd (never refl)

@@ -8,8 +8,7 @@ use Rattle.art_model.specs.Lookups.{FindsLeaf, nodes_on_way}
 use Rattle.art_model.specs.Stores.{pair_of}
 use Rattle.art_model.specs.Trees.{Tree}
 use Rattle.art_model.proofs.Lists.{after_front, front_trans}
-use Rattle.art_model.proofs.Keys.{front_is, front_same}
-use Rattle.art_model.proofs.Search.{front_from, same_equal}
+use Rattle.art_model.proofs.Keys.{front_from, front_is, front_same, same_equal}
 use Rattle.art_nodes.specs.declared.node.OpaqueNodePtr.{OpaqueNodePtr}
 use Rattle.art_operations.specs.declared.lookup.LastLeaf.{LastLeaf}
 use Rattle.art_operations.specs.declared.lookup.PrefixMatchBehavior.{PrefixMatchBehavior}
