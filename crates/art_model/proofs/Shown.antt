@@ -22,6 +22,11 @@ pub record IsShown {A : Type 0} (t : Tree OpaqueNodePtr A) (p : InnerPtr) (shown
 
 module _ {K V : Type 0} (s : Nodes K V) where
   module _ (p : LeafPtr) where
+    -- what has a leaf's name is a leaf
+    pub leaf_named : (t : Tree OpaqueNodePtr (K × V)) → name_of t ≡ leaf_name p → Holds (node_at s) t → (x : K × V) × (t ≡ leaf (leaf_name p) x)
+    leaf_named (leaf n x) named held = (x, ap (λ m. leaf m x) named)
+    leaf_named (inner n h cs) named held = absurd (leaf_name_is s p h (slots_of cs) (ap (node_at s) (sym named) ∙ held.0))
+
     -- under a leaf's name is the leaf
     abbrev LeafIs : Tree OpaqueNodePtr (K × V) → Option (LeafNode K V) → Type 0
     LeafIs t None = ⊥
