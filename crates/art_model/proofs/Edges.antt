@@ -167,3 +167,15 @@ module _ {K V : Type 0} {s : Nodes K V} {tree : Tree OpaqueNodePtr (K × V)} {na
         ap last_of names ∙ rw append-nil (last_of-append (leaves_before d.path) (leaf_name p)),
         (x, ap last_of pairs ∙ rw append-nil (last_of-append (pairs_before d.path) x), (d.path, whole)),
       )
+
+-- at an inner node it goes on below the child at the edge
+module _ {K V : Type 0} {s : Nodes K V} {tree : Tree OpaqueNodePtr (K × V)} {name : OpaqueNodePtr} {p : InnerPtr} {shown : Inner} {r : ℕ × OpaqueNodePtr} where
+  pub first_down : (d : IsAtEdge AreFirst s tree name) → IsShown d.node p shown → slice_get shown.children 0 ≡ Some r → IsAtEdge AreFirst s tree r.1 × (height (node_at s) (map.len s.inners) r.1 < height (node_at s) (map.len s.inners) name)
+  first_down d at e =
+      let (t, ds, split, named) = first_child at.children r (ap (λ cs. slice_get cs 0) (sym at.slots) ∙ e) in
+      edge_down AreFirst s tree d at no_child r.0 t ds split named (refl, d.along)
+
+  pub last_down : (d : IsAtEdge AreLast s tree name) → IsShown d.node p shown → slice_get shown.children (length shown.children - 1) ≡ Some r → IsAtEdge AreLast s tree r.1 × (height (node_at s) (map.len s.inners) r.1 < height (node_at s) (map.len s.inners) name)
+  last_down d at e =
+      let (ds, t, split, named) = last_child at.children r (ap (λ cs. slice_get cs (length cs - 1)) (sym at.slots) ∙ e) in
+      edge_down AreLast s tree d at ds r.0 t no_child split named (refl, d.along)

@@ -2,4 +2,5 @@
 #![tactic(auto)]
 
 pub mod lookup;
+pub mod minmax;
 pub mod path;
