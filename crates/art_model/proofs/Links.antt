@@ -45,7 +45,7 @@ module _ {N : Type 0} where
     pub on_right : (l : N) (a b : Option N) → after ≡ Some l → links l ≡ Some (record { previous = a; next = b }) → to l ≡ Some (record { previous = p; next = b })
     pub others : (k : N) → Stays k → (before ≡ Some k → ⊥) → (after ≡ Some k → ⊥) → to k ≡ links k
 
-  last_or-push : (xs : List N) (l : N) (o : Option N) → last_or (xs ++ l ∷ []) o ≡ Some l
+  pub last_or-push : (xs : List N) (l : N) (o : Option N) → last_or (xs ++ l ∷ []) o ≡ Some l
   last_or-push [] l o = refl
   last_or-push (x ∷ xs) l o = last_or-push xs l (Some x)
 

@@ -1,3 +1,7 @@
+pub mod Examples
+pub mod Chains
+pub mod Lengths
+pub mod Kept
 pub mod Rests
 pub mod Outcomes
 pub mod OnWay

@@ -4,3 +4,4 @@
 pub mod lookup;
 pub mod minmax;
 pub mod path;
+pub mod run;
