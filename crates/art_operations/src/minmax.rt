@@ -47,3 +47,6 @@ pub fn maximum_unchecked<K: AsBytes + Drop, V: Drop, const PREFIX_LEN: usize>(
         }
     }
 }
+
+#[cfg(test)]
+mod tests;
