@@ -50,7 +50,7 @@ fn finds_the_ends_of_three_levels(rt: HostRuntime) -> Result<(), Fail> {
     }
     assert_eq!(rt; inners.len(), 43);
     for inner in &inners {
-        assert_eq!(rt; inner.node_type(), NodeType::Node16);
+        assert_eq!(rt; inner.kind, NodeType::Node16);
         let node = store.inner(*inner).ok_or("a node")?;
         assert_eq!(rt; node.num_children(), 6);
     }
@@ -80,7 +80,7 @@ fn finds_the_ends_of_a_deep_tree(rt: HostRuntime) -> Result<(), Fail> {
             break;
         }
         inners += 1;
-        assert_eq!(rt; inner.node_type(), NodeType::Node4);
+        assert_eq!(rt; inner.kind, NodeType::Node4);
         let node = store.inner(inner).ok_or("a node")?;
         assert_eq!(rt; node.prefix_len(), 0);
         name = node.lookup_child(0).ok_or("a child")?;
