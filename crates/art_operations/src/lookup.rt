@@ -6,7 +6,9 @@ ghost use Rattle.art_model.specs.Roots.{ForTree, IsCanonicalRoot};
 ghost use Rattle.art_operations.specs.Walks.{WalkEnds};
 
 use crate::path::{AttemptOptimisticPrefixMatch, PessimisticMismatch};
-use art_nodes::node::{AsBytes, InnerNode, LeafNode, LeafPtr, NodePtr, OpaqueNodePtr, OptionalLeafPtr};
+use art_nodes::node::{
+    AsBytes, InnerNode, LeafNode, LeafPtr, NodePtr, OpaqueNodePtr, OptionalLeafPtr,
+};
 use art_nodes::store::NodeStore;
 use std::marker::Model;
 
@@ -197,35 +199,34 @@ fn walk<'a, K: AsBytes + Drop, V: Drop, const PREFIX_LEN: usize>(
     let mut behavior = PrefixMatchBehavior::Pessimistic;
     'down: loop {
         visits.add_one();
-        match name.split() {
-            NodePtr::Leaf(name) => match store.leaf(name) {
-                Some(node) => {
-                    return Some(LastLeaf {
-                        name,
-                        node,
-                        depth,
-                        behavior,
-                    });
-                }
-                None => unreachable!(),
-            },
-            NodePtr::Inner(inner) => match store.inner(inner) {
-                Some(node) => {
-                    let header = node.header();
-                    let rest_of_key = &key_bytes[depth..];
-                    let matched = behavior
-                        .match_stored(header.prefix_len(), header.read_prefix(), rest_of_key)
-                        .ok()?;
-                    depth += matched.matched_bytes;
-                    if depth >= key_bytes.len() {
-                        return None;
-                    }
-                    name = node.lookup_child(key_bytes[depth])?;
-                    depth += 1;
-                }
-                None => unreachable!(),
-            },
+        let inner = match name.split() {
+            NodePtr::Inner(inner) => inner,
+            NodePtr::Leaf(name) => {
+                let Some(node) = store.leaf(name) else {
+                    unreachable!()
+                };
+                return Some(LastLeaf {
+                    name,
+                    node,
+                    depth,
+                    behavior,
+                });
+            }
+        };
+        let Some(node) = store.inner(inner) else {
+            unreachable!()
+        };
+        let header = node.header();
+        let rest_of_key = &key_bytes[depth..];
+        let matched = behavior
+            .match_stored(header.prefix_len(), header.read_prefix(), rest_of_key)
+            .ok()?;
+        depth += matched.matched_bytes;
+        if depth >= key_bytes.len() {
+            return None;
         }
+        name = node.lookup_child(key_bytes[depth])?;
+        depth += 1;
     }
 }
 
@@ -257,7 +258,10 @@ pub fn search_visiting<K: AsBytes + Drop, V: Drop, const PREFIX_LEN: usize>(
     ensures at_most { visits.new ≤ visits.old + length key_bytes.now + 1 }
 {
     let last = walk(store, root, key_bytes, visits)?;
-    if last.behavior.matches_leaf_key(last.node, key_bytes, last.depth) {
+    if last
+        .behavior
+        .matches_leaf_key(last.node, key_bytes, last.depth)
+    {
         Some(last.name)
     } else {
         None
@@ -293,7 +297,10 @@ pub fn prefix_search_visiting<K: AsBytes + Drop, V: Drop, const PREFIX_LEN: usiz
     ensures at_most { visits.new ≤ visits.old + length key_bytes.now + 1 }
 {
     let last = walk(store, root, key_bytes, visits)?;
-    if last.behavior.leaf_key_is_prefix(last.node, key_bytes, last.depth) {
+    if last
+        .behavior
+        .leaf_key_is_prefix(last.node, key_bytes, last.depth)
+    {
         Some(last.name)
     } else {
         None

@@ -18,13 +18,14 @@ pub fn minimum_unchecked<K: AsBytes + Drop, V: Drop, const PREFIX_LEN: usize>(
 {
     let mut name = root;
     'down: loop {
-        match name.split() {
+        let inner = match name.split() {
+            NodePtr::Inner(inner) => inner,
             NodePtr::Leaf(leaf) => return leaf,
-            NodePtr::Inner(inner) => match store.inner(inner) {
-                Some(node) => name = node.min().1,
-                None => unreachable!(),
-            },
-        }
+        };
+        let Some(node) = store.inner(inner) else {
+            unreachable!()
+        };
+        name = node.min().1;
     }
 }
 
@@ -38,13 +39,14 @@ pub fn maximum_unchecked<K: AsBytes + Drop, V: Drop, const PREFIX_LEN: usize>(
 {
     let mut name = root;
     'down: loop {
-        match name.split() {
+        let inner = match name.split() {
+            NodePtr::Inner(inner) => inner,
             NodePtr::Leaf(leaf) => return leaf,
-            NodePtr::Inner(inner) => match store.inner(inner) {
-                Some(node) => name = node.max().1,
-                None => unreachable!(),
-            },
-        }
+        };
+        let Some(node) = store.inner(inner) else {
+            unreachable!()
+        };
+        name = node.max().1;
     }
 }
 

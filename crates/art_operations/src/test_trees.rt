@@ -3,7 +3,7 @@ ghost use Rattle.std.specs.Prelude.{IfOk};
 ghost use Rattle.art_model.specs.Pairs.{of_key};
 ghost use Rattle.art_model.specs.Roots.{IsCanonicalRoot};
 
-use crate::run::{run, Command};
+use crate::run::{Command, run};
 use art_nodes::node::{AsBytes, LeafPtr, OpaqueNodePtr};
 use art_nodes::store::NodeStore;
 use std::alloc::Global;
@@ -57,6 +57,9 @@ pub fn keys_of_zeros(alloc: Global) -> Result<Vec<Key>, Fail> {
 }
 
 /// The value of a leaf.
-pub fn value_of<const P: usize>(store: &NodeStore<Key, u32, P>, leaf: LeafPtr) -> Option<u32> {
+pub fn value_of<K: AsBytes + Drop, const P: usize>(
+    store: &NodeStore<K, u32, P>,
+    leaf: LeafPtr,
+) -> Option<u32> {
     Some(store.leaf(leaf)?.value)
 }

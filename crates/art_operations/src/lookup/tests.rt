@@ -1,60 +1,57 @@
+ghost use Rattle.art_model.specs.Pairs.{of_key};
+ghost use Rattle.art_model.specs.Roots.{IsCanonicalRoot};
+
 use super::*;
-use crate::test_trees::{keys, keys_of_zeros, plant, value_of, Key};
-use art_nodes::node::{FromHeader, Header, InnerNode16, InnerNode4, InnerNode48, InnerNodeDirect};
+use crate::test_trees::{Key, keys, keys_of_zeros, plant, value_of};
+use art_nodes::node::{FromHeader, Header, InnerNode4, InnerNode16, InnerNode48, InnerNodeDirect};
 use std::test::Fail;
 
 // The value of the leaf that a search finds.
-fn found<const P: usize>(
-    store: &NodeStore<Key, u32, P>,
+fn found<K: AsBytes + Drop, const P: usize>(
+    store: &NodeStore<K, u32, P>,
     root: OpaqueNodePtr,
     key_bytes: &[u8],
 ) -> Option<u32>
-    requires { IsCanonicalRoot (of_key (λ (key : Vec ℕ). key.items)) P store.now root }
+    requires { IsCanonicalRoot (of_key K.bytes) P store.now root }
 {
     value_of(store, search_unchecked(store, root, key_bytes)?)
 }
 
 // The same of a prefix search.
-fn prefix_found<const P: usize>(
-    store: &NodeStore<Key, u32, P>,
+fn prefix_found<K: AsBytes + Drop, const P: usize>(
+    store: &NodeStore<K, u32, P>,
     root: OpaqueNodePtr,
     key_bytes: &[u8],
 ) -> Option<u32>
-    requires { IsCanonicalRoot (of_key (λ (key : Vec ℕ). key.items)) P store.now root }
+    requires { IsCanonicalRoot (of_key K.bytes) P store.now root }
 {
     value_of(store, prefix_search_unchecked(store, root, key_bytes)?)
 }
 
 // The value of the leaf that a search finds, and how many nodes it reads.
-fn searched<const P: usize>(
-    store: &NodeStore<Key, u32, P>,
+fn searched<K: AsBytes + Drop, const P: usize>(
+    store: &NodeStore<K, u32, P>,
     root: OpaqueNodePtr,
     key_bytes: &[u8],
 ) -> (Option<u32>, usize)
-    requires { IsCanonicalRoot (of_key (λ (key : Vec ℕ). key.items)) P store.now root }
+    requires { IsCanonicalRoot (of_key K.bytes) P store.now root }
 {
     let mut visits = Visits::new();
     let leaf = search_visiting(store, root, key_bytes, &mut visits);
-    (
-        leaf.and_then(|leaf| value_of(store, leaf)),
-        visits.count(),
-    )
+    (leaf.and_then(|leaf| value_of(store, leaf)), visits.count())
 }
 
 // The same of a prefix search.
-fn prefix_searched<const P: usize>(
-    store: &NodeStore<Key, u32, P>,
+fn prefix_searched<K: AsBytes + Drop, const P: usize>(
+    store: &NodeStore<K, u32, P>,
     root: OpaqueNodePtr,
     key_bytes: &[u8],
 ) -> (Option<u32>, usize)
-    requires { IsCanonicalRoot (of_key (λ (key : Vec ℕ). key.items)) P store.now root }
+    requires { IsCanonicalRoot (of_key K.bytes) P store.now root }
 {
     let mut visits = Visits::new();
     let leaf = prefix_search_visiting(store, root, key_bytes, &mut visits);
-    (
-        leaf.and_then(|leaf| value_of(store, leaf)),
-        visits.count(),
-    )
+    (leaf.and_then(|leaf| value_of(store, leaf)), visits.count())
 }
 
 #[test]
@@ -80,7 +77,10 @@ fn compares_the_whole_key_after_skipped_bytes(rt: HostRuntime) -> Result<(), Fai
         keys(alloc, &[&[1, 1, 1, 1, 5], &[1, 1, 1, 1, 6]])?,
     )?;
     assert_eq!(rt; searched(&store, root, &[1, 1, 9, 1, 5]), (None, 2));
-    assert_eq!(rt; prefix_searched(&store, root, &[1, 1, 9, 1, 5, 7]), (None, 2));
+    assert_eq!(rt;
+        prefix_searched(&store, root, &[1, 1, 9, 1, 5, 7]),
+        (None, 2)
+    );
     assert_eq!(rt; found(&store, root, &[1, 1, 1, 1, 5]), Some(0));
     assert_eq!(rt; prefix_found(&store, root, &[1, 1, 1, 1, 6, 7]), Some(1));
     Ok(())
@@ -120,10 +120,22 @@ fn answers_the_same_at_every_length(rt: HostRuntime) -> Result<(), Fail> {
     let alloc = rt.alloc();
     let slices: [&[u8]; 2] = [&[1, 2, 3], &[1, 2, 4]];
     let wanted = [Some(0), None, None, Some(1), None];
-    assert_eq!(rt; answers_at::<0>(&mut NodeStore::new(alloc), keys(alloc, &slices)?)?, wanted);
-    assert_eq!(rt; answers_at::<2>(&mut NodeStore::new(alloc), keys(alloc, &slices)?)?, wanted);
-    assert_eq!(rt; answers_at::<4>(&mut NodeStore::new(alloc), keys(alloc, &slices)?)?, wanted);
-    assert_eq!(rt; answers_at::<16>(&mut NodeStore::new(alloc), keys(alloc, &slices)?)?, wanted);
+    assert_eq!(rt;
+        answers_at::<0>(&mut NodeStore::new(alloc), keys(alloc, &slices)?)?,
+        wanted
+    );
+    assert_eq!(rt;
+        answers_at::<2>(&mut NodeStore::new(alloc), keys(alloc, &slices)?)?,
+        wanted
+    );
+    assert_eq!(rt;
+        answers_at::<4>(&mut NodeStore::new(alloc), keys(alloc, &slices)?)?,
+        wanted
+    );
+    assert_eq!(rt;
+        answers_at::<16>(&mut NodeStore::new(alloc), keys(alloc, &slices)?)?,
+        wanted
+    );
     Ok(())
 }
 
