@@ -1,6 +1,5 @@
-use Rattle.std.proofs.Common.{◌+◌, ◌≤◌, arith, ap, ap₂, sym, ◌∙◌, refl}
+use Rattle.std.proofs.Common.{arith}
 use Rattle.std.proofs.lemmas.List.{take_rest}
-use Rattle.art_operations.specs.Walks.{WalkEnds}
 use Rattle.art_operations.proofs.Steps.{start, leaf_there, inner_there, shown_there, last_leaf, read, stops_off, stops_end, stops_childless, steps}
 use Rattle.art_operations.proofs.lookup.walk.Goals as goal
 
