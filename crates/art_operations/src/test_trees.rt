@@ -12,22 +12,21 @@ use std::test::Fail;
 /// The keys of the tests.
 pub type Key = Vec<u8>;
 
-/// The tree of these keys, with the place of each among them as its value.
+/// The tree of these keys, with the place of each among them as its value. The second store is for the run alone.
 pub fn plant<K: AsBytes + Drop, const P: usize>(
     store: &mut NodeStore<K, u32, P>,
+    second: &mut NodeStore<K, u32, P>,
     keys: Vec<K>,
 ) -> Result<OpaqueNodePtr, Fail>
     ensures { IfOk result (λ root. IsCanonicalRoot (of_key K.bytes) P store.new root) }
 {
-    let alloc = store.alloc();
-    let mut commands = Vec::new(alloc);
+    let mut commands = Vec::new(store.alloc());
     let mut value = 0u32;
     for key in keys {
         commands.push(Command::Insert(key, value))?;
         value = value.wrapping_add(1);
     }
-    let mut second = NodeStore::new(alloc);
-    match run(store, &mut second, None, commands) {
+    match run(store, second, None, commands) {
         Ok(done) => Ok(done.root.ok_or("no key")?),
         Err((_, error)) => Err(error.into()),
     }
