@@ -9,7 +9,7 @@ use Rattle.std.proofs.lemmas.Option.{slice_get_within}
 use Rattle.art_model.specs.Keys.{is_before, is_front, are_related, are_same, Precedes}
 use Rattle.art_model.specs.Pairs.{IsMap, with_key, put, remove_key, of_key, is_conflict, has_key}
 use Rattle.art_model.proofs.Keys.{same_related, related_sym, front_same}
-use Rattle.art_model.proofs.Lists.{filter_none, Each-weaker, Each-append}
+use Rattle.art_model.proofs.Lists.{Each-weaker, Each-append, filter_none}
 use Rattle.art_model.proofs.Pairwises.{Pairwise-before, Pairwise-after, Pairwise-without, Pairwise-with}
 use Rattle.art_model.proofs.Paths.{put-between, remove_key-between}
 use Rattle.art_oracle.specs.SortedPairs.{IsPairOf, IsGapFor, AllBefore, AllAfter}
