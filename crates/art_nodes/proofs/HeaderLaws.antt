@@ -74,12 +74,12 @@ extended_header P whole more bytes old new was begins len stored =
     let room : P - length (take P whole) ≡ P - length whole = omega (arith, length-take P whole) in
     header_by_parts P (whole ++ more) new (omega (arith, len, len_of_header P whole old was, length-append whole more))
     (
-      stored
-      ∙ ap (λ (t : List ℕ). take P (t ++ take (length more) bytes)) (stored_of_header P whole old was)
-      ∙ take-append_over P (take P whole) (take (length more) bytes) (omega (arith, length-take P whole))
-      ∙ ap (λ (k : ℕ). take P whole ++ take k (take (length more) bytes)) room
-      ∙ ap (λ (t : List ℕ). take P whole ++ t) (same_part (P - length whole) P more bytes (omega arith) begins)
-      ∙ sym (take-append P whole more)
+    stored
+    ∙ ap (λ (t : List ℕ). take P (t ++ take (length more) bytes)) (stored_of_header P whole old was)
+    ∙ take-append_over P (take P whole) (take (length more) bytes) (omega (arith, length-take P whole))
+    ∙ ap (λ (k : ℕ). take P whole ++ take k (take (length more) bytes)) room
+    ∙ ap (λ (t : List ℕ). take P whole ++ t) (same_part (P - length whole) P more bytes (omega arith) begins)
+    ∙ sym (take-append P whole more)
     )
 
 -- an emptied header, and the bytes that it answers, which begin as its prefix did
