@@ -201,7 +201,7 @@ mod tests {
     }
 
     #[test]
-    fn refused_insertion_leaves_the_list(rt: HostRuntime) -> Result<(), Fail> {
+    fn without_memory_an_insertion_leaves_the_list(rt: HostRuntime) -> Result<(), Fail> {
         let alloc = rt.alloc();
         let mut pairs = Vec::new(alloc);
         let held = all_memory(alloc)?;

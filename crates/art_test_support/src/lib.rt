@@ -36,7 +36,7 @@ mod tests {
     use std::test::Fail;
 
     #[test]
-    fn refused_once_all_is_held(rt: HostRuntime) -> Result<(), Fail> {
+    fn nothing_is_left_once_all_is_held(rt: HostRuntime) -> Result<(), Fail> {
         let alloc = rt.alloc();
         let held = all_memory(alloc)?;
         let refused = Vec::<u8>::with_capacity(alloc, 1).is_err();

@@ -18,7 +18,7 @@ fn insertions(alloc: Global) -> Result<Vec<Command<Key, u32>>, AllocError> {
 }
 
 #[test]
-fn refused_in_turn_run(rt: HostRuntime) -> Result<(), Fail> {
+fn refused_commands_leave_the_tree_of_the_others(rt: HostRuntime) -> Result<(), Fail> {
     let alloc = rt.alloc();
     let Ok(commands) = insertions(alloc) else {
         return Ok(());

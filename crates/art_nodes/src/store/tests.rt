@@ -246,20 +246,35 @@ fn refused_header(store: &mut Store) -> Option<Header<2>> {
     None
 }
 
-// Says the same with ample memory and with any one request for memory refused.
+// Says the same with ample memory and with requests for memory refused.
 #[test]
-fn refused_placements_leave_the_nodes(rt: HostRuntime) {
+fn refused_placements_leave_the_nodes(rt: HostRuntime) -> Result<(), Fail> {
     let mut store = Store::new(rt.alloc());
     let Ok(first) = store.place_leaf(leaf_of(1, 10)) else {
-        return;
+        return Ok(());
     };
-    for value in 0..20 {
+    let mut any_refused = false;
+    for value in 0..10 {
         match store.place_leaf(leaf_of(2, value)) {
             Ok(name) => assert_eq!(rt; store.leaf(name).map(|leaf| leaf.value), Some(value)),
-            Err((leaf, _)) => assert_eq!(rt; (leaf.key[0], leaf.value), (2, value)),
+            Err((leaf, _)) => {
+                assert_eq!(rt; (leaf.key[0], leaf.value), (2, value));
+                any_refused = true;
+            }
+        }
+        match store.place_inner(node4(&[8, 9])) {
+            Ok(name) => assert!(rt; store.inner(name).is_some()),
+            Err((node, _)) => {
+                assert!(rt; node.as_ref().header().read_prefix() == [8, 9].as_slice());
+                any_refused = true;
+            }
         }
         assert_eq!(rt; store.leaf(first).map(|leaf| leaf.value), Some(10));
     }
+    if any_refused {
+        println!(rt; "asserted")?;
+    }
+    Ok(())
 }
 
 #[test]

@@ -102,7 +102,7 @@ fn prints_and_copies_an_error(rt: HostRuntime) -> Result<(), Fail> {
 }
 
 #[test]
-fn refused_replies_hand_the_commands_back(rt: HostRuntime) -> Result<(), Fail> {
+fn without_memory_a_run_hands_the_commands_back(rt: HostRuntime) -> Result<(), Fail> {
     let alloc = rt.alloc();
     let mut first: NodeStore<Key, u32, 4> = NodeStore::new(alloc);
     let mut second = NodeStore::new(alloc);
@@ -124,7 +124,7 @@ fn refused_replies_hand_the_commands_back(rt: HostRuntime) -> Result<(), Fail> {
 }
 
 #[test]
-fn refused_commands_leave_the_pairs(rt: HostRuntime) -> Result<(), Fail> {
+fn without_memory_an_insertion_leaves_the_pairs(rt: HostRuntime) -> Result<(), Fail> {
     let alloc = rt.alloc();
     let mut pairs = Vec::new(alloc);
     let mut store: NodeStore<Key, u32, 4> = NodeStore::new(alloc);
@@ -139,7 +139,7 @@ fn refused_commands_leave_the_pairs(rt: HostRuntime) -> Result<(), Fail> {
 }
 
 #[test]
-fn refused_copies_of_a_key_leave_the_pairs(rt: HostRuntime) -> Result<(), Fail> {
+fn without_memory_a_conflict_leaves_the_pairs(rt: HostRuntime) -> Result<(), Fail> {
     let alloc = rt.alloc();
     let mut pairs = Vec::new(alloc);
     let mut store: NodeStore<Key, u32, 4> = NodeStore::new(alloc);
