@@ -1,5 +1,5 @@
 -- What the calls of a header make of the header of a whole prefix, for callers.
-use Rattle.std.proofs.Common.{◌≡◌, ℕ, ◌+◌, ◌-◌, ◌≤◌, min, List, [], ◌++◌, length, take, drop, replicate, inl, inr, refl, sym, ap, ◌∙◌, arith}
+use Rattle.std.proofs.Common.{◌≡◌, ℕ, ◌+◌, ◌-◌, ◌≤◌, min, List, [], ◌++◌, length, take, drop, inl, inr, sym, ap, ◌∙◌, arith}
 use Rattle.std.proofs.lemmas.List.{drop-take, drop-drop, length-append, length-drop, length-take, take-append-le, take-take, take_all, take_min, append-nil}
 use Rattle.art_nodes.specs.Inner.{Prefix, header_of}
 use Rattle.art_nodes.proofs.TableLemmas.{by_order}

@@ -5,12 +5,8 @@ use Rattle.std.proofs.lemmas.Slice.{put_mid-rotated}
 use borrow.Rule.Slice.PartMut.{put_mid, mid_of}
 use Rattle.art_nodes.specs.Inner.{Children, IsRising, child_at, remove_child, count_below}
 use Rattle.art_nodes.specs.declared.node.OpaqueNodePtr.{OpaqueNodePtr}
-use Rattle.art_nodes.specs.declared.node.NodeType.TheVariants.{Leaf}
-use Rattle.art_nodes.proofs.TableLemmas.{Entry, by_order, counted_front, counted_here, place_of_child}
+use Rattle.art_nodes.proofs.TableLemmas.{Entry, nobody, by_order, counted_front, counted_here, place_of_child}
 use Rattle.art_nodes.proofs.ChildrenLaws.{at_here, at_later, first_kept, remove_child-between}
-
-abbrev pub nobody : Entry
-nobody = (0, record { kind = Leaf; slot = 0 })
 
 -- the entry at the place has the byte: its name is the one under the byte
 pub found_at : (cs : Children) (b : ℕ) (d : Entry) (at : ℕ) → at ≡ count_below cs b → at < length cs → (get_or cs at d).0 ≡ b → Some (get_or cs at d).1 ≡ child_at cs b

@@ -122,7 +122,6 @@ fn stores_the_front_of_a_prefix(rt: HostRuntime) {
 }
 
 // A caller that knows whole prefixes: the rest of a prefix that a key has at a depth.
-#[tactic(auto, using(crate::proofs::HeaderLaws::header_laws))]
 fn trim_by_key<const P: usize>(header: &mut Header<P>, n: usize, depth: usize, key: &[u8])
     requires of_key { header.old ≡ header_of P (take header.old.len (drop depth key.now)) }
     requires within { n ≤ header.old.len }

@@ -1,5 +1,3 @@
-use Rattle.std.proofs.Common.{ap, ◌∙◌, ◌-◌, take, remove, arith, ℕ, List}
-use Rattle.std.proofs.lemmas.Slice.{put_mid-rotated}
 use Rattle.art_nodes.proofs.RemovalLemmas.{shown_rotated}
 use Rattle.art_nodes.proofs.node.table.remove_from.Goals as goal
 

@@ -1,4 +1,4 @@
-use Rattle.std.proofs.Common.{◌≡◌, ℕ, drop, ap, ◌∙◌, arith}
+use Rattle.std.proofs.Common.{◌≡◌, drop, ap, ◌∙◌, arith}
 use Rattle.art_nodes.specs.Inner.{Prefix}
 use Rattle.art_nodes.proofs.HeaderLemmas.{trimmed}
 use Rattle.art_nodes.proofs.node.header.Header.ltrim_by.Goals as goal

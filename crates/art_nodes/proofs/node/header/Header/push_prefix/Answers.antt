@@ -1,4 +1,4 @@
-use Rattle.std.proofs.Common.{ap, ◌∙◌, ◌++◌, take, List, ℕ}
+use Rattle.std.proofs.Common.{ap, ◌∙◌, ◌++◌, take}
 use Rattle.art_nodes.specs.Inner.{Prefix}
 use Rattle.art_nodes.proofs.HeaderLemmas.{extended, zeros_after}
 use Rattle.art_nodes.proofs.node.header.Header.push_prefix.Goals as goal

@@ -2,8 +2,8 @@ use Rattle.std.proofs.Common.{◌≡◌, ◌≢◌, ◌<◌, ◌≤◌, ◌-◌,
 use Rattle.std.proofs.lemmas.List.{get_or-take, length-take-le}
 use Rattle.art_nodes.specs.Inner.{Children, IsRising, child_at, count_below, remove_child}
 use Rattle.art_nodes.proofs.ChildrenLaws.{IsRising-remove_child, remove_child-absent}
-use Rattle.art_nodes.proofs.RemovalLemmas.{nobody, found_at, removed_at, nothing_at, front_without}
-use Rattle.art_nodes.proofs.TableLemmas.{Entry}
+use Rattle.art_nodes.proofs.RemovalLemmas.{found_at, removed_at, nothing_at, front_without}
+use Rattle.art_nodes.proofs.TableLemmas.{Entry, nobody}
 use Rattle.art_nodes.proofs.node.table.Table.remove.Goals.{else-at-self-via-then-at-self+else-self-at, else-at-self-via-else-at-self}
 use Rattle.art_nodes.proofs.node.table.Table.remove.Goals as goal
 
