@@ -1,14 +1,14 @@
 -- the order of keys
-use Rattle.std.proofs.Common.{◌≡◌, ℕ, ◌<◌, ◌≤◌, List, [], ◌∷◌, ◌++◌, refl, sym, arith, eq-eqb, true, false, Bool, ◌&&◌, ◌||◌, append-nil, ◌⊎◌, inl, inr}
+use Rattle.std.proofs.Common.{◌≡◌, ℕ, ◌<◌, ◌≤◌, List, [], ◌∷◌, ◌++◌, refl, sym, arith, eqb, eq-eqb, eqb-true, length, length-append, ap, ap₂, ◌∙◌, true, false, Bool, ◌&&◌, ◌||◌, append-nil, ◌⊎◌, inl, inr}
 use Rattle.std.specs.List.{AllByRecursion as Each}
 use Rattle.std.specs.Cmp.Lexicographic.{slice_cmp}
 use Rattle.std.specs.Ordering.{nat_cmp}
-use Rattle.std.proofs.lemmas.Bool.{ne_eqb, le-ltb, lt-ltb, true≢false, false≢true, cases_order}
+use Rattle.std.proofs.lemmas.Bool.{and_parts, ne_eqb, le-ltb, lt-ltb, true≢false, false≢true, cases_order}
 use Rattle.art_model.specs.Keys.{IsFront, is_before, is_front, are_related, are_same, Precedes}
 use Rattle.art_model.specs.Pairs.{IsMap}
 use Rattle.art_model.proofs.Lists.{Each-append, Each-left}
 
-cmp-append : (p a b : List ℕ) → slice_cmp nat_cmp (p ++ a) (p ++ b) ≡ slice_cmp nat_cmp a b
+pub cmp-append : (p a b : List ℕ) → slice_cmp nat_cmp (p ++ a) (p ++ b) ≡ slice_cmp nat_cmp a b
 cmp-append [] a b = refl
 cmp-append (x ∷ p) a b = rw (le-ltb x x (omega arith), eq-eqb x x refl) (cmp-append p a b)
 
@@ -58,7 +58,7 @@ module _ {A : Type 0} (bytes : A → List ℕ) where
   IsMap-append [] ys h k o = k
   IsMap-append (x ∷ xs) ys h k o = (Each-append (λ y. Precedes (bytes x) (bytes y)) xs ys h.0 o.0, IsMap-append xs ys h.1 k o.1)
 
-first_less : (a b : ℕ) (r s : List ℕ) → is_before (a ∷ r) (b ∷ s) ≡ true → (a < b) ⊎ ((a ≡ b) × (is_before r s ≡ true))
+pub first_less : (a b : ℕ) (r s : List ℕ) → is_before (a ∷ r) (b ∷ s) ≡ true → (a < b) ⊎ ((a ≡ b) × (is_before r s ≡ true))
 first_less a b r s h = go (cases_order a b)
   where
     go : (a ≡ b) ⊎ ((a < b) ⊎ (b < a)) → (a < b) ⊎ ((a ≡ b) × (is_before r s ≡ true))
@@ -104,3 +104,25 @@ front_related a b (r, e) = rw (e, front_is a r) refl
 
 pub front_same : (a : List ℕ) → are_same a a ≡ true
 front_same a = let e : is_front a a ≡ true = rw append-nil at (front_is a []) in rw e refl
+
+pub front_from : (a b : List ℕ) → is_front a b ≡ true → IsFront a b
+front_from [] b h = (b, refl)
+front_from (x ∷ a) [] h = absurd (false≢true h)
+front_from (x ∷ a) (y ∷ b) h =
+    let p = and_parts (eqb x y) (is_front a b) h in
+    let e : x ≡ y = eqb-true x y p.0 in
+    let r = front_from a b p.1 in
+    (r.0, ap₂ (λ z s. z ∷ s) (sym e) r.1)
+
+pub same_equal : (a b : List ℕ) → are_same a b ≡ true → b ≡ a
+same_equal a b h =
+    let p = and_parts (is_front a b) (is_front b a) h in
+    let (r, e) = front_from a b p.0 in
+    let (s, f) = front_from b a p.1 in
+    let l = ap length e in
+    let k = ap length f in
+    go r e (omega (arith, simp length-append at l, simp length-append at k))
+  where
+    go : (r : List ℕ) → b ≡ a ++ r → length r ≡ 0 → b ≡ a
+    go [] e z = e ∙ append-nil a
+    go (x ∷ r) e z = absurd (omega arith)

@@ -1,5 +1,5 @@
 -- lists: what holds of each element, and fronts
-use Rattle.std.proofs.Common.{◌≡◌, ℕ, List, [], ◌∷◌, ◌++◌, length, drop, refl, ap, sym, ◌∙◌, append_assoc, drop_at, eqb, eq-eqb, true, false, cond, Bool, ap₂, eqb-true}
+use Rattle.std.proofs.Common.{filter, ◌≡◌, ℕ, List, [], ◌∷◌, ◌++◌, length, drop, refl, ap, sym, ◌∙◌, append_assoc, drop_at, eqb, eq-eqb, true, false, cond, Bool, ap₂, eqb-true}
 use Rattle.std.specs.List.{AllByRecursion as Each}
 use Rattle.art_model.specs.Keys.{IsFront, common_front}
 
@@ -19,6 +19,10 @@ module _ {A : Type 0} where
   pub Each-weaker : (P Q : A → Type 0) → ((x : A) → P x → Q x) → (xs : List A) → Each P xs → Each Q xs
   Each-weaker P Q f [] h = tt
   Each-weaker P Q f (x ∷ xs) h = (f x h.0, Each-weaker P Q f xs h.1)
+
+  pub filter_none : (test : A → Bool) (xs : List A) → Each (λ x. test x ≡ false) xs → filter test xs ≡ []
+  filter_none test [] h = refl
+  filter_none test (x ∷ xs) h = rw h.0 (filter_none test xs h.1)
 
 pub front_cut : (a b k : List ℕ) → IsFront (a ++ b) k → IsFront a k
 front_cut a b k (r, e) = (b ++ r, e ∙ append_assoc a b r)

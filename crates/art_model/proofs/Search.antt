@@ -1,42 +1,15 @@
 -- what a look-up may skip
-use Rattle.std.proofs.Common.{◌≡◌, ℕ, ◌<◌, ◌≤◌, List, [], ◌∷◌, ◌++◌, length, get_or, refl, ap, ap₂, sym, ◌∙◌, arith, append_assoc, append-nil, length-append, Option, Some, None, Bool, true, false, cond, filter, eqb, eqb-true, inl, inr, ◌⊎◌}
+use Rattle.std.proofs.Common.{◌≡◌, ℕ, ◌<◌, ◌≤◌, List, [], ◌∷◌, ◌++◌, length, get_or, refl, ap, ap₂, ◌∙◌, arith, append_assoc, append-nil, length-append, Option, Some, None, Bool, true, false, cond, filter, eqb, eqb-true, inl, inr, ◌⊎◌}
 use Rattle.std.specs.List.{AllByRecursion as Each}
 use Rattle.std.proofs.lemmas.List.Elements.{filter-append}
 use Rattle.std.proofs.lemmas.List.{get_or_at}
-use Rattle.std.proofs.lemmas.Bool.{cases_Bool, eqb-false, false≢true, and_parts}
+use Rattle.std.proofs.lemmas.Bool.{cases_Bool, eqb-false}
 use Rattle.art_model.specs.Trees.{Tree, Children, child, no_child}
 use Rattle.art_model.specs.Radix.{pairs_of, pairs_below, AreRadix, IsRising, bytes_of, join}
-use Rattle.art_model.specs.Keys.{IsFront, is_front, are_same}
+use Rattle.art_model.specs.Keys.{IsFront}
 use Rattle.art_model.specs.Layouts.{slots_of, name_of}
-use Rattle.art_model.proofs.Lists.{Each-append, Each-weaker, front_trans}
+use Rattle.art_model.proofs.Lists.{filter_none, Each-append, Each-weaker, front_trans}
 use Rattle.art_model.proofs.Rebuild.{radix_way, radix_below}
-
-pub front_from : (a b : List ℕ) → is_front a b ≡ true → IsFront a b
-front_from [] b h = (b, refl)
-front_from (x ∷ a) [] h = absurd (false≢true h)
-front_from (x ∷ a) (y ∷ b) h =
-    let p = and_parts (eqb x y) (is_front a b) h in
-    let e : x ≡ y = eqb-true x y p.0 in
-    let r = front_from a b p.1 in
-    (r.0, ap₂ (λ z s. z ∷ s) (sym e) r.1)
-
-pub same_equal : (a b : List ℕ) → are_same a b ≡ true → b ≡ a
-same_equal a b h =
-    let p = and_parts (is_front a b) (is_front b a) h in
-    let (r, e) = front_from a b p.0 in
-    let (s, f) = front_from b a p.1 in
-    let l = ap length e in
-    let k = ap length f in
-    go r e (omega (arith, simp length-append at l, simp length-append at k))
-  where
-    go : (r : List ℕ) → b ≡ a ++ r → length r ≡ 0 → b ≡ a
-    go [] e z = e ∙ append-nil a
-    go (x ∷ r) e z = absurd (omega arith)
-
-module _ {A : Type 0} where
-  pub filter_none : (test : A → Bool) (xs : List A) → Each (λ x. test x ≡ false) xs → filter test xs ≡ []
-  filter_none test [] h = refl
-  filter_none test (x ∷ xs) h = rw h.0 (filter_none test xs h.1)
 
 fails : (t : Bool) → (t ≡ true → ⊥) → t ≡ false
 fails true h = absurd (h refl)

@@ -3,7 +3,7 @@ use Rattle.std.specs.Prelude.{ℕ, zero, suc, ◌+◌, List, [], ◌∷◌, ◌+
 use Rattle.art_nodes.specs.declared.node.NodeType.{NodeType}
 use Rattle.art_nodes.specs.declared.node.NodeType.TheVariants.{Node4}
 use Rattle.art_model.specs.Pairs.{of_key}
-use Rattle.art_model.specs.Trees.{Tree, leaf, inner, Children, child, no_child, Header, tree_of}
+use Rattle.art_model.specs.Trees.{Tree, leaf, inner, Children, child, no_child, tree_of}
 
 abbrev pub Key : Type 0
 Key = List ℕ

@@ -13,3 +13,6 @@ pub mod Footprints
 pub mod TreeLaws
 pub mod StoreLaws
 pub mod Examples
+pub mod KeyLaws
+pub mod Changes
+pub mod MapLaws

@@ -10,17 +10,12 @@ ghost use Rattle.art_model.specs.Examples.{Key, bytes_of_pair, tree_of_keys, ove
 pub fn trees_of_few_keys()
     ensures none { tree_of_keys [] 16 ≡ None }
     ensures one { tree_of_keys ((9 ∷ 9 ∷ []) ∷ []) 16 ≡ Some (leaf tt (9 ∷ 9 ∷ [])) }
-    ensures long_prefix {
-        tree_of_keys ((7 ∷ 1 ∷ 1 ∷ 1 ∷ 1 ∷ 5 ∷ []) ∷ (7 ∷ 1 ∷ 1 ∷ 1 ∷ 1 ∷ 6 ∷ []) ∷ []) 2
-            ≡ Some (over_two 5 (7 ∷ 1 ∷ []) 5 (leaf tt (7 ∷ 1 ∷ 1 ∷ 1 ∷ 1 ∷ 5 ∷ [])) 6 (leaf tt (7 ∷ 1 ∷ 1 ∷ 1 ∷ 1 ∷ 6 ∷ [])))
-    }
-    ensures nested {
-        tree_of_keys ((1 ∷ 2 ∷ []) ∷ (1 ∷ 3 ∷ []) ∷ (2 ∷ []) ∷ []) 16
-            ≡ Some (over_two 0 [] 1 (over_two 0 [] 2 (leaf tt (1 ∷ 2 ∷ [])) 3 (leaf tt (1 ∷ 3 ∷ []))) 2 (leaf tt (2 ∷ [])))
-    }
+    ensures long_prefix { tree_of_keys ((7 ∷ 1 ∷ 1 ∷ 1 ∷ 1 ∷ 5 ∷ []) ∷ (7 ∷ 1 ∷ 1 ∷ 1 ∷ 1 ∷ 6 ∷ []) ∷ []) 2
+        ≡ Some (over_two 5 (7 ∷ 1 ∷ []) 5 (leaf tt (7 ∷ 1 ∷ 1 ∷ 1 ∷ 1 ∷ 5 ∷ [])) 6 (leaf tt (7 ∷ 1 ∷ 1 ∷ 1 ∷ 1 ∷ 6 ∷ []))) }
+    ensures nested { tree_of_keys ((1 ∷ 2 ∷ []) ∷ (1 ∷ 3 ∷ []) ∷ (2 ∷ []) ∷ []) 16
+        ≡ Some (over_two 0 [] 1 (over_two 0 [] 2 (leaf tt (1 ∷ 2 ∷ [])) 3 (leaf tt (1 ∷ 3 ∷ []))) 2 (leaf tt (2 ∷ []))) }
     ensures twelve { tree_of_keys (zero_keys 12) 16 ≡ Some (zero_tree 11 []) }
-{
-}
+{}
 
 /// The kind of a node changes with the fifth, the seventeenth and the forty-ninth child.
 pub fn kinds_by_number_of_children()
@@ -31,8 +26,7 @@ pub fn kinds_by_number_of_children()
     ensures forty_eight { tree_of_keys (one_byte_keys 48 0) 16 ≡ Some (fan Node48 48) }
     ensures forty_nine { tree_of_keys (one_byte_keys 49 0) 16 ≡ Some (fan Node256 49) }
     ensures all_bytes { tree_of_keys (one_byte_keys 256 0) 16 ≡ Some (fan Node256 256) }
-{
-}
+{}
 
 /// Keys between others, equal keys, and keys that are fronts of others.
 pub fn puts_into_a_small_map()
@@ -44,8 +38,7 @@ pub fn puts_into_a_small_map()
     ensures shorter { is_conflict bytes_of_pair (1 ∷ []) three_pairs ≡ true }
     ensures longer { is_conflict bytes_of_pair (2 ∷ 0 ∷ []) three_pairs ≡ true }
     ensures empty { is_conflict bytes_of_pair [] three_pairs ≡ true }
-{
-}
+{}
 
 /// A key related to none, to one and to two.
 pub fn overwrites_of_a_small_map()
@@ -55,8 +48,7 @@ pub fn overwrites_of_a_small_map()
     ensures one_gone { overwrite_reply bytes_of_pair (2 ∷ 9 ∷ [], 8) three_pairs ≡ (Some (2 ∷ [], 7), 0) }
     ensures two { overwrite bytes_of_pair (1 ∷ [], 8) three_pairs ≡ (1 ∷ [], 8) ∷ (2 ∷ [], 7) ∷ [] }
     ensures two_gone { overwrite_reply bytes_of_pair (1 ∷ [], 8) three_pairs ≡ (None, 2) }
-{
-}
+{}
 
 /// Removals by key and at both ends, and the key that is a front of a query.
 pub fn removals_and_matches_in_a_small_map()
@@ -70,5 +62,4 @@ pub fn removals_and_matches_in_a_small_map()
     ensures all_but_last { without_last three_pairs ≡ (1 ∷ 2 ∷ [], 5) ∷ (1 ∷ 3 ∷ [], 6) ∷ [] }
     ensures longer_query { match_of bytes_of_pair (1 ∷ 3 ∷ 9 ∷ []) three_pairs ≡ (1 ∷ 3 ∷ [], 6) ∷ [] }
     ensures shorter_query { match_of bytes_of_pair (1 ∷ []) three_pairs ≡ [] }
-{
-}
+{}

@@ -6,4 +6,5 @@
 pub mod examples;
 pub mod footprints;
 pub mod layouts;
+pub mod order;
 pub mod trees;

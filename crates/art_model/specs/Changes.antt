@@ -1,0 +1,25 @@
+-- Changes of a map, one after another.
+use Rattle.std.specs.Prelude.{ℕ, cond, List, [], ◌∷◌}
+use Rattle.art_model.specs.Pairs.{is_conflict, put, overwrite, remove_key, without_first, without_last}
+
+-- what can be done to a map of such pairs
+pub data Change (A : Type 0) : Type 0 where
+  put_pair : A → Change A
+  overwrite_with : A → Change A
+  remove_at : List ℕ → Change A
+  remove_first : Change A
+  remove_last : Change A
+
+module _ {A : Type 0} (bytes : A → List ℕ) where
+  -- the pairs after a change; a put that is a conflict changes nothing
+  abbrev pub changed : Change A → List A → List A
+  changed (put_pair new) pairs = cond (is_conflict bytes (bytes new) pairs) pairs (put bytes new pairs)
+  changed (overwrite_with new) pairs = overwrite bytes new pairs
+  changed (remove_at key) pairs = remove_key bytes key pairs
+  changed remove_first pairs = without_first pairs
+  changed remove_last pairs = without_last pairs
+
+  -- the pairs after all of the changes
+  abbrev pub after : List (Change A) → List A → List A
+  after [] pairs = pairs
+  after (change ∷ changes) pairs = after changes (changed change pairs)
