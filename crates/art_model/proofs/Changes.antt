@@ -9,7 +9,8 @@ use Rattle.art_model.specs.Pairs.{add_in_order, put, overwrite, remove_key, remo
 use Rattle.art_model.proofs.Lists.{front_cut, Each-weaker}
 use Rattle.art_model.proofs.Rebuild.{radix_way}
 use Rattle.art_model.proofs.Radix.{bytes_of-join, pairs_below-join, AreRadix-join, AreRadix-left, AreRadix-right, parts, PartsBelow, PartsAbove, all_below, all_above}
-use Rattle.art_model.proofs.Paths.{rising_left, rising_right, rising_without, rising_with, put-between, remove_key-between}
+use Rattle.art_model.proofs.Pairwises.{Pairwise-before, Pairwise-after, Pairwise-without, Pairwise-with}
+use Rattle.art_model.proofs.Between.{put-between, remove_key-between}
 use Rattle.art_model.proofs.Keys.{front_related, front_same}
 
 module _ {N A : Type 0} where
@@ -76,7 +77,7 @@ module _ {N A : Type 0} (bytes : A → List ℕ) (P : ℕ) where
       let count : suc (length (bytes_of (join cs ds))) ≡ length (bytes_of (join cs (child b (leaf n new) ds))) = rw (old, bs) (omega arith) in
       let low = Each-weaker (PartsBelow bytes front b) (λ x. Precedes (bytes x) (bytes new)) (λ x g. parts bytes front g.0 b (bytes x) (bytes new) g.2 k g.1) (pairs_below cs) (all_below bytes P front b cs hl l) in
       let high = Each-weaker (PartsAbove bytes front b) (λ x. Precedes (bytes new) (bytes x)) (λ x g. parts bytes front b g.0 (bytes new) (bytes x) k g.2 g.1) (pairs_below ds) (all_above bytes P front b ds hr r) in (
-        (part, ap (header_of P part) count, rw (← count) (omega arith), subst IsRising (sym bs) (rising_with (bytes_of cs) (bytes_of ds) b l r (rw old at up)), AreRadix-join bytes P front cs (child b (leaf n new) ds) hl (k, hr)),
+        (part, ap (header_of P part) count, rw (← count) (omega arith), subst IsRising (sym bs) (Pairwise-with ◌<◌ (bytes_of cs) (bytes_of ds) b l r (rw old at up)), AreRadix-join bytes P front cs (child b (leaf n new) ds) hl (k, hr)),
         pairs_below-join cs (child b (leaf n new) ds) ∙ sym (ap (put bytes new) (pairs_below-join cs ds ∙ ap (λ l. l ++ pairs_below ds) (sym (append-nil (pairs_below cs)))) ∙ put-between bytes new (pairs_below cs) [] (pairs_below ds) low high ∙ append_assoc (pairs_below cs) (new ∷ []) (pairs_below ds)),
       )
 
@@ -90,9 +91,9 @@ module _ {N A : Type 0} (bytes : A → List ℕ) (P : ℕ) where
       let hr = AreRadix-right bytes P front cs (child b (leaf n x) ds) all in
       let bs = bytes_of-join cs (child b (leaf n x) ds) in
       let up' : IsRising (bytes_of cs ++ b ∷ bytes_of ds) = subst IsRising bs up in
-      let low = Each-weaker (PartsBelow bytes front b) (λ y. Precedes (bytes y) (bytes x)) (λ y g. parts bytes front g.0 b (bytes y) (bytes x) g.2 hr.0 g.1) (pairs_below cs) (all_below bytes P front b cs hl (rising_left (bytes_of cs) (bytes_of ds) b up')) in
-      let high = Each-weaker (PartsAbove bytes front b) (λ y. Precedes (bytes x) (bytes y)) (λ y g. parts bytes front b g.0 (bytes x) (bytes y) hr.0 g.2 g.1) (pairs_below ds) (all_above bytes P front b ds hr.1 (rising_right (bytes_of cs) (bytes_of ds) b up')) in (
-        subst IsRising (sym (bytes_of-join cs ds)) (rising_without (bytes_of cs) (bytes_of ds) b up'),
+      let low = Each-weaker (PartsBelow bytes front b) (λ y. Precedes (bytes y) (bytes x)) (λ y g. parts bytes front g.0 b (bytes y) (bytes x) g.2 hr.0 g.1) (pairs_below cs) (all_below bytes P front b cs hl (Pairwise-before ◌<◌ (bytes_of cs) (bytes_of ds) b up')) in
+      let high = Each-weaker (PartsAbove bytes front b) (λ y. Precedes (bytes x) (bytes y)) (λ y g. parts bytes front b g.0 (bytes x) (bytes y) hr.0 g.2 g.1) (pairs_below ds) (all_above bytes P front b ds hr.1 (Pairwise-after ◌<◌ (bytes_of cs) (bytes_of ds) b up')) in (
+        subst IsRising (sym (bytes_of-join cs ds)) (Pairwise-without ◌<◌ (bytes_of cs) (bytes_of ds) b up'),
         AreRadix-join bytes P front cs ds hl hr.1,
         pairs_below-join cs ds ∙ sym (ap (remove_key bytes (bytes x)) (pairs_below-join cs (child b (leaf n x) ds) ∙ sym (append_assoc (pairs_below cs) (x ∷ []) (pairs_below ds))) ∙ remove_key-between bytes (bytes x) (pairs_below cs) (x ∷ []) (pairs_below ds) low high ∙ gone),
       )

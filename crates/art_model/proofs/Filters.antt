@@ -1,7 +1,7 @@
 -- lists after a test, and with one element more
-use Rattle.std.proofs.Common.{◌≡◌, ℕ, suc, ◌+◌, ◌≤◌, List, [], ◌∷◌, length, filter, refl, ap, sym, ◌∙◌, arith, true, false, not, cond, Bool, subst, Some}
+use Rattle.std.proofs.Common.{◌≡◌, ℕ, ◌+◌, List, [], ◌∷◌, length, filter, refl, ap, sym, ◌∙◌, arith, true, false, cond, Bool, subst, Some}
 use Rattle.std.specs.List.{AllByRecursion as Each}
-use Rattle.std.proofs.lemmas.Bool.{true≢false, false≢true}
+use Rattle.std.proofs.lemmas.Bool.{true≢false}
 use Rattle.art_model.specs.Keys.{is_before}
 use Rattle.art_model.proofs.Lists.{filter_none}
 use Rattle.art_model.specs.Pairs.{Pairwise, last_of, without_last, add_in_order}

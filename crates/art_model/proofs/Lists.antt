@@ -1,7 +1,8 @@
--- lists: what holds of each element, and fronts
-use Rattle.std.proofs.Common.{filter, ◌≡◌, ℕ, List, [], ◌∷◌, ◌++◌, length, drop, refl, ap, sym, ◌∙◌, append_assoc, drop_at, eqb, eq-eqb, true, false, cond, Bool, ap₂, eqb-true}
+-- lists: what holds of each element, which elements stand in a list, and fronts
+use Rattle.std.proofs.Common.{filter, ◌≡◌, ℕ, List, [], ◌∷◌, ◌++◌, length, drop, refl, ap, sym, ◌∙◌, append_assoc, drop_at, eqb, eq-eqb, true, false, cond, Bool, ap₂, eqb-true, subst, ◌⊎◌, inl, inr}
 use Rattle.std.specs.List.{AllByRecursion as Each}
 use Rattle.art_model.specs.Keys.{IsFront, common_front}
+use Rattle.art_model.specs.Footprints.{IsIn}
 
 module _ {A : Type 0} where
   pub Each-append : (P : A → Type 0) (xs ys : List A) → Each P xs → Each P ys → Each P (xs ++ ys)
@@ -23,6 +24,31 @@ module _ {A : Type 0} where
   pub filter_none : (test : A → Bool) (xs : List A) → Each (λ x. test x ≡ false) xs → filter test xs ≡ []
   filter_none test [] h = refl
   filter_none test (x ∷ xs) h = rw h.0 (filter_none test xs h.1)
+
+module _ {X : Type 0} where
+  pub in_right : (k : X) (xs ys : List X) → IsIn k ys → IsIn k (xs ++ ys)
+  in_right k [] ys h = h
+  in_right k (x ∷ xs) ys h = inr (in_right k xs ys h)
+
+  pub in_left : (k : X) (xs ys : List X) → IsIn k xs → IsIn k (xs ++ ys)
+  in_left k [] ys h = absurd h
+  in_left k (x ∷ xs) ys (inl e) = inl e
+  in_left k (x ∷ xs) ys (inr h) = inr (in_left k xs ys h)
+
+  pub in_either : (k : X) (xs ys : List X) → IsIn k (xs ++ ys) → IsIn k xs ⊎ IsIn k ys
+  in_either k [] ys h = inr h
+  in_either k (x ∷ xs) ys (inl e) = inl (inl e)
+  in_either k (x ∷ xs) ys (inr h) = elim (in_either k xs ys h) [ inl i ↦ inl (inr i) | inr i ↦ inr i ]
+
+  -- what holds of each element holds of one that is in the list, and the other way round
+  pub each_in : (P : X → Type 0) (k : X) (xs : List X) → Each P xs → IsIn k xs → P k
+  each_in P k [] h i = absurd i
+  each_in P k (x ∷ xs) h (inl e) = subst P e h.0
+  each_in P k (x ∷ xs) h (inr i) = each_in P k xs h.1 i
+
+  pub each_from : (P : X → Type 0) (xs : List X) → ((k : X) → IsIn k xs → P k) → Each P xs
+  each_from P [] f = tt
+  each_from P (x ∷ xs) f = (f x (inl refl), each_from P xs (λ k i. f k (inr i)))
 
 pub front_cut : (a b k : List ℕ) → IsFront (a ++ b) k → IsFront a k
 front_cut a b k (r, e) = (b ++ r, e ∙ append_assoc a b r)

@@ -2,7 +2,8 @@
 use Rattle.std.proofs.Common.{List, [], ◌∷◌, ◌++◌}
 use Rattle.std.specs.List.{AllByRecursion as Each}
 use Rattle.art_model.specs.Pairs.{Pairwise}
-use Rattle.art_model.proofs.Lists.{Each-append, Each-left, Each-right}
+use Rattle.art_model.specs.Footprints.{IsIn}
+use Rattle.art_model.proofs.Lists.{Each-append, Each-left, Each-right, each_in}
 
 module _ {X : Type 0} (R : X → X → Type 0) where
   pub Pairwise-left : (xs ys : List X) → Pairwise R (xs ++ ys) → Pairwise R xs
@@ -36,3 +37,7 @@ module _ {X : Type 0} (R : X → X → Type 0) where
   pub Pairwise-after : (xs ys : List X) (b : X) → Pairwise R (xs ++ b ∷ ys) → Each (R b) ys
   Pairwise-after [] ys b h = h.0
   Pairwise-after (x ∷ xs) ys b h = Pairwise-after xs ys b h.1
+
+  -- an element of the first part stands in the relation to one of the second
+  pub Pairwise-in : (xs ys : List X) (x y : X) → Pairwise R (xs ++ ys) → IsIn x xs → IsIn y ys → R x y
+  Pairwise-in xs ys x y h i j = each_in (R x) y ys (each_in (λ z. Each (R z) ys) x xs (Pairwise-across xs ys h) i) j

@@ -10,7 +10,7 @@ use Rattle.art_model.specs.Pairs.{Pairwise}
 use Rattle.art_model.specs.Places.{least_key, least_below, places, places_below, prefix_of}
 use Rattle.art_model.proofs.Lists.{Each-append, Each-left, Each-right, Each-weaker, front_cut, front_trans, after_front}
 use Rattle.art_model.proofs.Radix.{AreRadix-join, bytes_of-join}
-use Rattle.art_model.proofs.Paths.{rising_left, rising_right}
+use Rattle.art_model.proofs.Pairwises.{Pairwise-before, Pairwise-after}
 
 pub one_way : (front : List ℕ) (b c : ℕ) (key : List ℕ) → IsFront (front ++ b ∷ []) key → IsFront (front ++ c ∷ []) key → b ≡ c
 one_way front b c key (r, e) (s, f) =
@@ -89,7 +89,7 @@ module _ {N A : Type 0} (bytes : A → List ℕ) (P : ℕ) where
       ended fs outer key (fill f t) n path node (front_cut outer part key (front_cut front (f.byte ∷ []) key k')) short (
         (λ g. rw (place_is (fill f t) outer node) short),
         places_join f.left (child f.byte t f.right) (NoLonger key n) d
-            (beside f.left front key d n depth hl (Each-weaker (λ c. c < f.byte) (λ c. IsFront (front ++ c ∷ []) key → ⊥) (λ c o g. let p = one_way front c f.byte key g k' in absurd (omega arith)) (bytes_of f.left) (rising_left (bytes_of f.left) (bytes_of f.right) f.byte up)))
+            (beside f.left front key d n depth hl (Each-weaker (λ c. c < f.byte) (λ c. IsFront (front ++ c ∷ []) key → ⊥) (λ c o g. let p = one_way front c f.byte key g k' in absurd (omega arith)) (bytes_of f.left) (Pairwise-before ◌<◌ (bytes_of f.left) (bytes_of f.right) f.byte up)))
             (Each-append (NoLonger key n) (places bytes d t) (places_below bytes d f.right) own
-            (beside f.right front key d n depth hr (Each-weaker (λ c. f.byte < c) (λ c. IsFront (front ++ c ∷ []) key → ⊥) (λ c o g. let p = one_way front c f.byte key g k' in absurd (omega arith)) (bytes_of f.right) (rising_right (bytes_of f.left) (bytes_of f.right) f.byte up)))),
+            (beside f.right front key d n depth hr (Each-weaker (λ c. f.byte < c) (λ c. IsFront (front ++ c ∷ []) key → ⊥) (λ c o g. let p = one_way front c f.byte key g k' in absurd (omega arith)) (bytes_of f.right) (Pairwise-after ◌<◌ (bytes_of f.left) (bytes_of f.right) f.byte up)))),
       )

@@ -7,7 +7,7 @@ use Rattle.art_model.specs.Stores.{held, IsUsed}
 use Rattle.art_model.specs.StoreLaws.{CasesHaveLayout, LayoutsHaveCases, HasOneLayout, HasRadixLayout, HaveSameTree, OthersStayFree, OthersWereFree}
 use Rattle.art_model.proofs.ByCases.{layout_of, stands_from}
 use Rattle.art_model.proofs.Canonical.{tree_radix}
-use Rattle.art_model.proofs.Splice.{each_in}
+use Rattle.art_model.proofs.Lists.{each_in}
 
 module _ {N A : Type 0} where
   pub cases_have_layout : CasesHaveLayout N A

@@ -5,7 +5,7 @@ use Rattle.std.specs.List.{AllByRecursion as Each, cons_option}
 use Rattle.art_model.specs.Keys.{are_related, are_same}
 use Rattle.art_model.specs.Pairs.{last_of, without_last, IsMap, with_key, has_key, related_to, is_conflict, match_of, put, put_reply, overwrite, overwrite_reply, remove_key, remove_reply}
 use Rattle.art_model.specs.Trees.{tree_of}
-use Rattle.art_model.specs.Changes.{Change, changed, after}
+use Rattle.art_model.specs.Changes.{Change, after}
 
 -- the reply tells which pairs went: none, this one, or this many
 abbrev pub Tells : {A : Type 0} → Option A × ℕ → List A → Type 0
