@@ -55,7 +55,7 @@ module _ {N A : Type 0} where
 
 module _ {N A : Type 0} (bytes : A → List ℕ) (P : ℕ) where
   -- a radix tree in the hole of a frame makes a radix tree
-  pub fill_radix : (f : Frame N A) (fs : List (Frame N A)) (place : List ℕ) (t : Tree N A) (path : IsPath bytes P place (f ∷ fs)) → IsRadix bytes P place t → IsRadix bytes P path.0 (fill f t)
+  unfoldable pub fill_radix : (f : Frame N A) (fs : List (Frame N A)) (place : List ℕ) (t : Tree N A) (path : IsPath bytes P place (f ∷ fs)) → IsRadix bytes P place t → IsRadix bytes P path.0 (fill f t)
   fill_radix f fs place t (outer, part, e, head, two, up, l, r, path) h =
       let bs = bytes_of-join f.left (child f.byte t f.right) in
       let count = length-append (bytes_of f.left) (f.byte ∷ bytes_of f.right) in (
