@@ -1,8 +1,8 @@
--- the local changes of an insertion, an overwrite and a deletion
-use Rattle.std.proofs.Common.{◌≡◌, ℕ, suc, ◌<◌, ◌≤◌, List, [], ◌∷◌, ◌++◌, length, refl, ap, sym, ◌∙◌, append_assoc, append-nil, arith, length-append, subst, cond, ltb, ◌⊎◌, inl, inr}
+-- What each change makes of the tree in the hole: a radix tree again, with the pairs that the map's operation leaves.
+use Rattle.std.proofs.Common.{◌≡◌, ℕ, suc, ◌<◌, ◌≤◌, List, [], ◌∷◌, ◌++◌, length, refl, ap, sym, ◌∙◌, append_assoc, append-nil, arith, length-append, subst, cond, ltb, ◌⊎◌, inl, inr, true}
 use Rattle.std.specs.List.{AllByRecursion as Each}
 use Rattle.std.proofs.lemmas.Bool.{cases_order, le-ltb, lt-ltb}
-use Rattle.art_model.specs.Keys.{IsFront, Precedes}
+use Rattle.art_model.specs.Keys.{IsFront, Precedes, are_related}
 use Rattle.art_model.specs.Trees.{Tree, leaf, inner, Children, child, no_child, header_of, Header}
 use Rattle.art_model.specs.Radix.{IsRadix, AreRadix, IsRising, bytes_of, pairs_of, pairs_below, join}
 use Rattle.art_model.specs.Pairs.{add_in_order, put, overwrite, remove_key, remove_related}
@@ -101,11 +101,38 @@ module _ {N A : Type 0} (bytes : A → List ℕ) (P : ℕ) where
       gone : pairs_below cs ++ remove_key bytes (bytes x) (x ∷ []) ++ pairs_below ds ≡ pairs_below cs ++ pairs_below ds
       gone = rw (front_same (bytes x)) (ap (λ l. l ++ pairs_below ds) (append-nil (pairs_below cs)))
 
--- a key that is a front of the keys below takes their place
+  -- a child that is a leaf goes, and two or more stay: the node keeps its kind or shrinks
+  pub child_removed : (place part : List ℕ) (cs ds : Children N A) (b : ℕ) (m n : N) (x : A) →
+      IsRising (bytes_of (join cs (child b (leaf n x) ds))) → AreRadix bytes P (place ++ part) (join cs (child b (leaf n x) ds)) → 2 ≤ length (bytes_of (join cs ds)) →
+      let u = inner m (header_of P part (length (bytes_of (join cs ds)))) (join cs ds) in
+      IsRadix bytes P place u × (pairs_of u ≡ remove_key bytes (bytes x) (pairs_below (join cs (child b (leaf n x) ds))))
+  child_removed place part cs ds b m n x up all two = let (rising, below, its) = without_child place part cs ds b n x up all in ((part, refl, two, rising, below), its)
+
+  -- a child that is a leaf goes, and one is left
+  pub child_left : (place part : List ℕ) (cs ds : Children N A) (b c : ℕ) (n : N) (x : A) (v : Tree N A) →
+      IsRising (bytes_of (join cs (child b (leaf n x) ds))) → AreRadix bytes P (place ++ part) (join cs (child b (leaf n x) ds)) → join cs ds ≡ child c v no_child →
+      IsRadix bytes P ((place ++ part) ++ c ∷ []) v × (pairs_of v ≡ remove_key bytes (bytes x) (pairs_below (join cs (child b (leaf n x) ds))))
+  child_left place part cs ds b c n x v up all one =
+      let (rising, below, its) = without_child place part cs ds b n x up all in
+      ((subst (AreRadix bytes P (place ++ part)) one below).0, sym (append-nil (pairs_of v)) ∙ ap pairs_below (sym one) ∙ its)
+
 module _ {A : Type 0} (bytes : A → List ℕ) where
+  -- a pair takes the place of the one with its key
+  pub exact : (new x : A) → bytes new ≡ bytes x → put bytes new (x ∷ []) ≡ new ∷ []
+  exact new x e = rw (← e, front_same (bytes new)) refl
+
+  -- the only pair goes
+  pub alone : (x : A) → remove_key bytes (bytes x) (x ∷ []) ≡ []
+  alone x = rw (front_same (bytes x)) refl
+
+  -- a pair whose key is a front of the keys below takes their place
   pub overwritten : (new : A) (xs : List A) → Each (λ x. IsFront (bytes new) (bytes x)) xs → overwrite bytes new xs ≡ new ∷ []
   overwritten new xs h = ap (add_in_order bytes new) (all_gone xs h)
     where
       all_gone : (ys : List A) → Each (λ x. IsFront (bytes new) (bytes x)) ys → remove_related bytes (bytes new) ys ≡ []
       all_gone [] k = refl
       all_gone (y ∷ ys) k = rw (front_related (bytes new) (bytes y) k.0) (all_gone ys k.1)
+
+  -- a pair whose key is related to that of the only pair takes its place
+  pub overwritten_one : (new x : A) → are_related (bytes new) (bytes x) ≡ true → overwrite bytes new (x ∷ []) ≡ new ∷ []
+  overwritten_one new x e = rw e refl
