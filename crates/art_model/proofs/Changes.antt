@@ -62,7 +62,7 @@ module _ {N A : Type 0} (bytes : A → List ℕ) (P : ℕ) where
   raised place part c n x h = front_cut place part (bytes x) (front_cut (place ++ part) (c ∷ []) (bytes x) h)
 
   -- a new leaf under a byte that had no child
-  pub with_child : (place part : List ℕ) (cs ds : Children N A) (b : ℕ) (m n : N) (new : A) →
+  unfoldable pub with_child : (place part : List ℕ) (cs ds : Children N A) (b : ℕ) (m n : N) (new : A) →
       IsRising (bytes_of (join cs ds)) → Each (λ c. c < b) (bytes_of cs) → Each (λ c. b < c) (bytes_of ds) → 1 ≤ length (bytes_of (join cs ds)) → AreRadix bytes P (place ++ part) (join cs ds) → IsFront ((place ++ part) ++ b ∷ []) (bytes new) →
       let u = inner m (header_of P part (suc (length (bytes_of (join cs ds))))) (join cs (child b (leaf n new) ds)) in
       IsRadix bytes P place u × (pairs_of u ≡ put bytes new (pairs_below (join cs ds)))
@@ -102,7 +102,7 @@ module _ {N A : Type 0} (bytes : A → List ℕ) (P : ℕ) where
       gone = rw (front_same (bytes x)) (ap (λ l. l ++ pairs_below ds) (append-nil (pairs_below cs)))
 
   -- a child that is a leaf goes, and two or more stay: the node keeps its kind or shrinks
-  pub child_removed : (place part : List ℕ) (cs ds : Children N A) (b : ℕ) (m n : N) (x : A) →
+  unfoldable pub child_removed : (place part : List ℕ) (cs ds : Children N A) (b : ℕ) (m n : N) (x : A) →
       IsRising (bytes_of (join cs (child b (leaf n x) ds))) → AreRadix bytes P (place ++ part) (join cs (child b (leaf n x) ds)) → 2 ≤ length (bytes_of (join cs ds)) →
       let u = inner m (header_of P part (length (bytes_of (join cs ds)))) (join cs ds) in
       IsRadix bytes P place u × (pairs_of u ≡ remove_key bytes (bytes x) (pairs_below (join cs (child b (leaf n x) ds))))
