@@ -1,5 +1,5 @@
 -- Insertions from store to store: a branch takes the place of a subtree, or a node has one child more.
-use Rattle.std.proofs.Common.{◌≡◌, ◌≢◌, ℕ, suc, ◌+◌, ◌<◌, List, [], ◌∷◌, ◌++◌, length, refl, ap, sym, ◌∙◌, arith, append_assoc, append-nil, Option, Some, None, true, false, Bool, cond, ltb, ◌⊎◌, inl, inr}
+use Rattle.std.proofs.Common.{◌≡◌, ◌≢◌, ℕ, suc, ◌+◌, ◌<◌, List, [], ◌∷◌, ◌++◌, length, refl, ap, sym, ◌∙◌, arith, append-nil, Option, Some, None, true, false, Bool, cond, ltb, ◌⊎◌, inl, inr}
 use Rattle.std.specs.List.{AllByRecursion as Each}
 use Rattle.art_model.specs.Keys.{IsFront}
 use Rattle.art_model.specs.Trees.{Tree, leaf, inner, Children, child, no_child, Header, header_of, kind_of}
@@ -9,7 +9,7 @@ use Rattle.art_model.specs.Paths.{Frame, plug, leaves_before, leaves_after}
 use Rattle.art_model.specs.Places.{inner_nodes}
 use Rattle.art_model.specs.Layouts.{Node, leaf_node, inner_node, slots_of, names_of, leaf_names, leaf_names_below, Links}
 use Rattle.art_model.proofs.Between.{put-between}
-use Rattle.art_model.proofs.Paths.{root_with, leaf_names_below-join}
+use Rattle.art_model.proofs.Paths.{root_with, leaf_names_below-three}
 use Rattle.art_model.proofs.Changes.{two_children, branch, with_child}
 use Rattle.art_model.proofs.Wholes.{KeepNames, kept}
 use Rattle.art_model.proofs.Kept.{kept_branch, kept_children, inner_nodes-leaf}
@@ -104,7 +104,7 @@ module _ {N A : Type 0} {bytes : A → List ℕ} {P : ℕ} {at to : N → Option
           (record { named = is.named; were_free = (is.leaf_was_free, tt); distinct = (tt, tt); apart = (is.differ, tt); there = is.there; below = (is.new_leaf, tt) }) is.same;
       same = λ k up out used. is.same k up (λ i. elim i [ inl e ↦ out (inl e) | inr j ↦ j ]) used;
       linked = linked_in_hole fs before links (inner m h (join l r)) (inner node head (join l (child b (leaf n new) r))) (leaf_names_below l) [] (n ∷ []) (leaf_names_below r) old.distinct old.linked
-          (leaf_names_below-join l r ∙ ap (λ z. z ++ leaf_names_below r) (sym (append-nil (leaf_names_below l)))) (leaf_names_below-join l (child b (leaf n new) r) ∙ sym (append_assoc (leaf_names_below l) (n ∷ []) (leaf_names_below r))) is.relinked;
+          (leaf_names_below-three l no_child r) (leaf_names_below-three l (child b (leaf n new) no_child) r) is.relinked;
     }) (bytes new) (put bytes new) (put-between bytes new) is.hole.front with_leaf.1
 
     -- and inner nodes that stay keep their names

@@ -26,6 +26,10 @@ module _ {N A : Type 0} where
   leaf_names_below-join no_child ds = refl
   leaf_names_below-join (child b t cs) ds = ap (λ l. leaf_names t ++ l) (leaf_names_below-join cs ds) ∙ sym (append_assoc (leaf_names t) (leaf_names_below cs) (leaf_names_below ds))
 
+  -- the leaves on the left, in the middle and on the right
+  pub leaf_names_below-three : (l middle r : Children N A) → leaf_names_below (join l (join middle r)) ≡ leaf_names_below l ++ leaf_names_below middle ++ leaf_names_below r
+  leaf_names_below-three l middle r = leaf_names_below-join l (join middle r) ∙ ap (λ z. leaf_names_below l ++ z) (leaf_names_below-join middle r) ∙ sym (append_assoc (leaf_names_below l) (leaf_names_below middle) (leaf_names_below r))
+
   pub pairs_of-plug : (fs : List (Frame N A)) (t : Tree N A) → pairs_of (plug fs t) ≡ pairs_before fs ++ pairs_of t ++ pairs_after fs
   pairs_of-plug [] t = sym (append-nil (pairs_of t))
   pairs_of-plug (f ∷ fs) t = pairs_of-plug fs (fill f t) ∙ simp (pairs_below-join, append_assoc)

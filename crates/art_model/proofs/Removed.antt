@@ -1,0 +1,95 @@
+-- Deletions from store to store: a leaf goes from a node that keeps two or more children, or of which one child is left.
+use Rattle.std.proofs.Common.{◌≡◌, ℕ, ◌+◌, ◌≤◌, List, [], ◌∷◌, ◌++◌, length, refl, ap, sym, ◌∙◌, subst, append-nil, Option, Some, None, ◌⊎◌, inl, inr}
+use Rattle.art_model.specs.Trees.{Tree, leaf, inner, Children, child, no_child, Header, header_of, kind_of}
+use Rattle.art_model.specs.Radix.{IsRadix, bytes_of, join, pairs_of}
+use Rattle.art_model.specs.Pairs.{remove_key}
+use Rattle.art_model.specs.Paths.{Frame, plug, leaves_before, leaves_after}
+use Rattle.art_model.specs.Places.{inner_nodes}
+use Rattle.art_model.specs.Layouts.{Node, inner_node, name_of, slots_of, names_of, names_below, leaf_names, leaf_names_below, Holds, Links}
+use Rattle.art_model.specs.Footprints.{IsIn}
+use Rattle.art_model.proofs.Lists.{in_right}
+use Rattle.art_model.proofs.Between.{remove_key-between}
+use Rattle.art_model.proofs.Paths.{root_with, leaf_names_below-three, names_below-join}
+use Rattle.art_model.proofs.Changes.{child_removed, child_left}
+use Rattle.art_model.proofs.Wholes.{KeepNames, kept}
+use Rattle.art_model.proofs.Kept.{kept_children, kept_lifted, inner_nodes-leaf}
+use Rattle.art_model.proofs.Stores.{SameBut, ParentHas}
+use Rattle.art_model.proofs.Links.{Relinked}
+use Rattle.art_model.proofs.Canonical.{IsLaidOut}
+use Rattle.art_model.proofs.Regrown.{children_regrown, lifted_regrown}
+use Rattle.art_model.proofs.Replaced.{IsHole, replaced, linked_in_hole}
+
+module _ {N A : Type 0} (bytes : A → List ℕ) (P : ℕ) (at to : N → Option (Node N A)) (before links : N → Option (Links N)) (fs : List (Frame N A)) (place : List ℕ) where
+  -- The node in the hole loses a leaf and keeps two or more children: it stays, or a smaller node takes its place.
+  pub record ChildRemoved (m node n : N) (h : Header) (l r : Children N A) (b : ℕ) (x : A) : Type 0 where
+    pub hole : IsHole bytes P fs place (inner m h (join l (child b (leaf n x) r))) (bytes x)
+    pub two : 2 ≤ length (bytes_of (join l r))
+    pub named : (node ≡ m) ⊎ (at node ≡ None)
+    pub same_kind : h.kind ≡ kind_of (length (bytes_of (join l r))) → m ≡ node
+    pub there : to node ≡ Some (inner_node (header_of P hole.radix.0 (length (bytes_of (join l r)))) (slots_of (join l r)))
+    pub parent : ParentHas to fs node
+    pub same : SameBut at to fs (m ∷ n ∷ [])
+    pub relinked : Relinked before links (leaves_before fs ++ leaf_names_below l) [] (leaf_names_below r ++ leaves_after fs)
+
+  -- The node in the hole loses a leaf, and `v` is its one child that is left: `u`, which has the names of `v`, takes the node's place.
+  pub record NodeRemoved (m n : N) (h : Header) (l r : Children N A) (b c : ℕ) (x : A) (v u : Tree N A) : Type 0 where
+    pub hole : IsHole bytes P fs place (inner m h (join l (child b (leaf n x) r))) (bytes x)
+    pub one : join l r ≡ child c v no_child
+    pub radix : IsRadix bytes P place u
+    pub same_pairs : pairs_of u ≡ pairs_of v
+    pub same_names : names_of u ≡ names_of v
+    pub same_leaves : leaf_names u ≡ leaf_names v
+    pub same_inners : inner_nodes bytes (length place) u ≡ inner_nodes bytes (length place + h.length_of + 1) v
+    pub below : Holds to u
+    pub parent : ParentHas to fs (name_of u)
+    pub same : SameBut at to fs (names_of (inner m h (join l (child b (leaf n x) r))))
+    pub relinked : Relinked before links (leaves_before fs ++ leaf_names_below l) [] (leaf_names_below r ++ leaves_after fs)
+
+module _ {N A : Type 0} {bytes : A → List ℕ} {P : ℕ} {at to : N → Option (Node N A)} {before links : N → Option (Links N)} {fs : List (Frame N A)} {place : List ℕ} {root : N} {pairs : List A} {m n : N} {h : Header} {l r : Children N A} {b : ℕ} {x : A}
+    (old : IsLaidOut bytes P at before root pairs (plug fs (inner m h (join l (child b (leaf n x) r))))) where
+  module _ {node : N} (is : ChildRemoved bytes P at to before links fs place m node n h l r b x) where
+    abbrev less : Tree N A
+    less = inner node (header_of P is.hole.radix.0 (length (bytes_of (join l r)))) (join l r)
+
+    without_leaf : IsRadix bytes P place less × (pairs_of less ≡ remove_key bytes (bytes x) (pairs_of (inner m h (join l (child b (leaf n x) r)))))
+    without_leaf = child_removed bytes P place is.hole.radix.0 l r b node n x is.hole.radix.3 is.hole.radix.4 is.two
+
+    -- the root is canonical for the pairs without the key
+    pub child_removed_from : IsLaidOut bytes P to links (root_with fs root node) (remove_key bytes (bytes x) pairs) (plug fs (inner node (header_of P is.hole.radix.0 (length (bytes_of (join l r)))) (join l r)))
+    child_removed_from = replaced old (record {
+      path = is.hole.path;
+      radix = without_leaf.0;
+      parent = is.parent;
+      regrown = children_regrown at to fs m h l (child b (leaf n x) no_child) r old.holds old.distinct node (header_of P is.hole.radix.0 (length (bytes_of (join l r)))) no_child
+          (record { named = is.named; were_free = tt; distinct = tt; apart = tt; there = is.there; below = tt }) is.same;
+      same = λ k up out used. is.same k up (λ i. elim i [ inl e ↦ out (inl e) | inr j ↦ elim j [ inl e ↦ out (inr (leaf_in k e)) | inr j ↦ j ] ]) used;
+      linked = linked_in_hole fs before links (inner m h (join l (child b (leaf n x) r))) less (leaf_names_below l) (n ∷ []) [] (leaf_names_below r) old.distinct old.linked (leaf_names_below-three l (child b (leaf n x) no_child) r) (leaf_names_below-three l no_child r) is.relinked;
+    }) (bytes x) (remove_key bytes (bytes x)) (remove_key-between bytes (bytes x)) is.hole.front without_leaf.1
+      where
+        leaf_in : (k : N) → n ≡ k → IsIn k (names_below (join l (child b (leaf n x) r)))
+        leaf_in k e = subst (IsIn k) (sym (names_below-join l (child b (leaf n x) r))) (in_right k (names_below l) (n ∷ names_below r) (inl e))
+
+    -- and inner nodes that stay keep their names
+    pub child_removed_keeps : KeepNames (inner_nodes bytes 0 (plug fs (inner m h (join l (child b (leaf n x) r))))) (inner_nodes bytes 0 (plug fs (inner node (header_of P is.hole.radix.0 (length (bytes_of (join l r)))) (join l r))))
+    unfolding without_leaf child_removed
+    child_removed_keeps = kept bytes P fs place (inner m h (join l (child b (leaf n x) r))) less is.hole.path is.hole.radix without_leaf.0
+        (kept_children bytes P place m node h (header_of P is.hole.radix.0 (length (bytes_of (join l r)))) (join l (child b (leaf n x) r)) (join l r) is.hole.radix without_leaf.0 refl (λ d. sym (inner_nodes-leaf bytes P d l r b n x)) is.same_kind)
+
+  module _ {c : ℕ} {v u : Tree N A} (is : NodeRemoved bytes P at to before links fs place m n h l r b c x v u) where
+    lifted_leaves : leaf_names u ≡ leaf_names_below l ++ [] ++ leaf_names_below r
+    lifted_leaves = is.same_leaves ∙ sym (append-nil (leaf_names v)) ∙ ap leaf_names_below (sym is.one) ∙ leaf_names_below-three l no_child r
+
+    -- the root is canonical for the pairs without the key
+    pub node_removed : IsLaidOut bytes P to links (root_with fs root (name_of u)) (remove_key bytes (bytes x) pairs) (plug fs u)
+    node_removed = replaced old (record {
+      path = is.hole.path;
+      radix = is.radix;
+      parent = is.parent;
+      regrown = lifted_regrown at to fs m h l (child b (leaf n x) no_child) r old.holds old.distinct c v u is.one is.same_names is.below;
+      same = is.same;
+      linked = linked_in_hole fs before links (inner m h (join l (child b (leaf n x) r))) u (leaf_names_below l) (n ∷ []) [] (leaf_names_below r) old.distinct old.linked (leaf_names_below-three l (child b (leaf n x) no_child) r) lifted_leaves is.relinked;
+    }) (bytes x) (remove_key bytes (bytes x)) (remove_key-between bytes (bytes x)) is.hole.front (is.same_pairs ∙ (child_left bytes P place is.hole.radix.0 l r b c n x v is.hole.radix.3 is.hole.radix.4 is.one).1)
+
+    -- and inner nodes that stay keep their names
+    pub node_removed_keeps : KeepNames (inner_nodes bytes 0 (plug fs (inner m h (join l (child b (leaf n x) r))))) (inner_nodes bytes 0 (plug fs u))
+    node_removed_keeps = kept bytes P fs place (inner m h (join l (child b (leaf n x) r))) u is.hole.path is.hole.radix is.radix (kept_lifted bytes P place m n h l r b c x v u is.hole.radix is.one is.same_inners)
