@@ -52,7 +52,3 @@ module _ {N A : Type 0} (bytes : A → List ℕ) (P : ℕ) where
       let below : inner_nodes_below bytes d (join l (child b (leaf n x) r)) ≡ inner_nodes bytes d v ++ [] = inner_nodes-leaf d l r b n x ∙ ap (inner_nodes_below bytes d) one in
       kept_among (inner_nodes bytes (length place) t) (inner_nodes bytes (length place) t) (inner_nodes bytes (length place) u) (whole_differ bytes P t place radix)
       (λ e i. i) (λ e i. inr (subst (IsIn e) (sym below) (in_left e (inner_nodes bytes d v) [] (subst (IsIn e) same i))))
-
-  -- nothing is to be kept by a leaf
-  pub kept_leaf : (d : ℕ) (t : Tree N A) (n : N) (new : A) → KeepNames (inner_nodes bytes d t) (inner_nodes bytes d (leaf n new))
-  kept_leaf d t n new e f i j = absurd j

@@ -174,7 +174,11 @@ module _ {N A : Type 0} (at to : N → Option (Node N A)) (fs : List (Frame N A)
     pub left_child_distinct : AreDistinct (names_of v)
     left_child_distinct = subst AreDistinct left_names beside_distinct
 
-    -- its names have the same nodes as before
+    -- its names are among those of the hole
+    pub lifted_in : (k : N) → IsIn k (names_of v) → IsIn k (names_of (inner m h (join l (join old r))))
+    lifted_in k i = elim (in_either k (names_below l) (names_below r) (subst (IsIn k) (sym left_names) i)) [ inl j ↦ in_hole k (in_left_part k j) | inr j ↦ in_hole k (in_right_part k j) ]
+
+    -- they have the same nodes as before
     pub left_child_still : (touched : List N) → SameBut at to fs (touched ++ m ∷ names_below old) → (k : N) → IsIn k (names_of v) → (IsIn k touched → ⊥) → to k ≡ at k
     left_child_still touched same k i off = go (in_either k (names_below l) (names_below r) (subst (IsIn k) (sym left_names) i))
       where

@@ -1,5 +1,5 @@
 -- Deletions from store to store: a leaf goes from a node that keeps two or more children, or of which one child is left.
-use Rattle.std.proofs.Common.{◌≡◌, ℕ, ◌+◌, ◌≤◌, List, [], ◌∷◌, ◌++◌, length, refl, ap, sym, ◌∙◌, subst, append-nil, Option, Some, None, ◌⊎◌, inl, inr}
+use Rattle.std.proofs.Common.{◌≡◌, ℕ, ◌+◌, ◌≤◌, List, [], ◌∷◌, ◌++◌, length, length-append, arith, refl, ap, sym, ◌∙◌, subst, append-nil, Option, Some, None, ◌⊎◌, inl, inr}
 use Rattle.art_model.specs.Trees.{Tree, leaf, inner, Children, child, no_child, Header, header_of, kind_of}
 use Rattle.art_model.specs.Radix.{IsRadix, bytes_of, join, pairs_of}
 use Rattle.art_model.specs.Pairs.{remove_key}
@@ -10,13 +10,13 @@ use Rattle.art_model.specs.Footprints.{IsIn}
 use Rattle.art_model.proofs.Lists.{in_right}
 use Rattle.art_model.proofs.Between.{remove_key-between}
 use Rattle.art_model.proofs.Paths.{root_with, leaf_names_below-three, names_below-join}
-use Rattle.art_model.proofs.Changes.{child_removed, child_left}
+use Rattle.art_model.proofs.Changes.{child_removed, child_left, merged, raised}
 use Rattle.art_model.proofs.Wholes.{KeepNames, kept}
-use Rattle.art_model.proofs.Kept.{kept_children, kept_lifted, inner_nodes-leaf}
+use Rattle.art_model.proofs.Kept.{kept_children, kept_lifted, inner_nodes-leaf, inner_nodes-moved}
 use Rattle.art_model.proofs.Stores.{SameBut, ParentHas}
 use Rattle.art_model.proofs.Links.{Relinked}
 use Rattle.art_model.proofs.Canonical.{IsLaidOut}
-use Rattle.art_model.proofs.Regrown.{children_regrown, lifted_regrown}
+use Rattle.art_model.proofs.Regrown.{children_regrown, lifted_regrown, left_child_holds, left_child_below, lifted_in}
 use Rattle.art_model.proofs.Replaced.{IsHole, replaced, linked_in_hole}
 
 module _ {N A : Type 0} (bytes : A → List ℕ) (P : ℕ) (at to : N → Option (Node N A)) (before links : N → Option (Links N)) (fs : List (Frame N A)) (place : List ℕ) where
@@ -45,6 +45,10 @@ module _ {N A : Type 0} (bytes : A → List ℕ) (P : ℕ) (at to : N → Option
     pub same : SameBut at to fs (names_of (inner m h (join l (child b (leaf n x) r))))
     pub relinked : Relinked before links (leaves_before fs ++ leaf_names_below l) [] (leaf_names_below r ++ leaves_after fs)
 
+-- the leaf's name is one of the hole's
+leaf_in : {N A : Type 0} (m n : N) (h : Header) (l r : Children N A) (b : ℕ) (x : A) (k : N) → n ≡ k → IsIn k (names_of (inner m h (join l (child b (leaf n x) r))))
+leaf_in m n h l r b x k e = inr (subst (IsIn k) (sym (names_below-join l (child b (leaf n x) r))) (in_right k (names_below l) (n ∷ names_below r) (inl e)))
+
 module _ {N A : Type 0} {bytes : A → List ℕ} {P : ℕ} {at to : N → Option (Node N A)} {before links : N → Option (Links N)} {fs : List (Frame N A)} {place : List ℕ} {root : N} {pairs : List A} {m n : N} {h : Header} {l r : Children N A} {b : ℕ} {x : A}
     (old : IsLaidOut bytes P at before root pairs (plug fs (inner m h (join l (child b (leaf n x) r))))) where
   module _ {node : N} (is : ChildRemoved bytes P at to before links fs place m node n h l r b x) where
@@ -62,12 +66,9 @@ module _ {N A : Type 0} {bytes : A → List ℕ} {P : ℕ} {at to : N → Option
       parent = is.parent;
       regrown = children_regrown at to fs m h l (child b (leaf n x) no_child) r old.holds old.distinct node (header_of P is.hole.radix.0 (length (bytes_of (join l r)))) no_child
           (record { named = is.named; were_free = tt; distinct = tt; apart = tt; there = is.there; below = tt }) is.same;
-      same = λ k up out used. is.same k up (λ i. elim i [ inl e ↦ out (inl e) | inr j ↦ elim j [ inl e ↦ out (inr (leaf_in k e)) | inr j ↦ j ] ]) used;
+      same = λ k up out used. is.same k up (λ i. elim i [ inl e ↦ out (inl e) | inr j ↦ elim j [ inl e ↦ out (leaf_in m n h l r b x k e) | inr j ↦ j ] ]) used;
       linked = linked_in_hole fs before links (inner m h (join l (child b (leaf n x) r))) less (leaf_names_below l) (n ∷ []) [] (leaf_names_below r) old.distinct old.linked (leaf_names_below-three l (child b (leaf n x) no_child) r) (leaf_names_below-three l no_child r) is.relinked;
     }) (bytes x) (remove_key bytes (bytes x)) (remove_key-between bytes (bytes x)) is.hole.front without_leaf.1
-      where
-        leaf_in : (k : N) → n ≡ k → IsIn k (names_below (join l (child b (leaf n x) r)))
-        leaf_in k e = subst (IsIn k) (sym (names_below-join l (child b (leaf n x) r))) (in_right k (names_below l) (n ∷ names_below r) (inl e))
 
     -- and inner nodes that stay keep their names
     pub child_removed_keeps : KeepNames (inner_nodes bytes 0 (plug fs (inner m h (join l (child b (leaf n x) r))))) (inner_nodes bytes 0 (plug fs (inner node (header_of P is.hole.radix.0 (length (bytes_of (join l r)))) (join l r))))
@@ -93,3 +94,48 @@ module _ {N A : Type 0} {bytes : A → List ℕ} {P : ℕ} {at to : N → Option
     -- and inner nodes that stay keep their names
     pub node_removed_keeps : KeepNames (inner_nodes bytes 0 (plug fs (inner m h (join l (child b (leaf n x) r))))) (inner_nodes bytes 0 (plug fs u))
     node_removed_keeps = kept bytes P fs place (inner m h (join l (child b (leaf n x) r))) u is.hole.path is.hole.radix is.radix (kept_lifted bytes P place m n h l r b c x v u is.hole.radix is.one is.same_inners)
+
+  -- ---- which child is left: a leaf, which is raised, or an inner node, which takes its parent's prefix and its own byte in front
+
+  module _ (hole : IsHole bytes P fs place (inner m h (join l (child b (leaf n x) r))) (bytes x)) (relinked : Relinked before links (leaves_before fs ++ leaf_names_below l) [] (leaf_names_below r ++ leaves_after fs)) where
+    pub raised_leaf : (c : ℕ) (k : N) (y : A) → join l r ≡ child c (leaf k y) no_child → ParentHas to fs k → SameBut at to fs (m ∷ n ∷ []) → NodeRemoved bytes P at to before links fs place m n h l r b c x (leaf k y) (leaf k y)
+    raised_leaf c k y one parent same = record {
+      hole = hole;
+      one = one;
+      radix = raised bytes P place hole.radix.0 c k y (child_left bytes P place hole.radix.0 l r b c n x (leaf k y) hole.radix.3 hole.radix.4 one).0;
+      same_pairs = refl;
+      same_names = refl;
+      same_leaves = refl;
+      same_inners = refl;
+      below = left_child_holds at to fs m h l (child b (leaf n x) no_child) r old.holds old.distinct c (leaf k y) one same;
+      parent = parent;
+      same = λ j up out used. same j up (λ i. elim i [ inl e ↦ out (inl e) | inr i ↦ elim i [ inl e ↦ out (leaf_in m n h l r b x j e) | inr i ↦ i ] ]) used;
+      relinked = relinked;
+    }
+
+    pub merged_node : (c : ℕ) (k : N) (head : Header) (cs : Children N A) → join l r ≡ child c (inner k head cs) no_child → (radix : IsRadix bytes P ((place ++ hole.radix.0) ++ c ∷ []) (inner k head cs)) →
+        let merged_head = header_of P (hole.radix.0 ++ c ∷ radix.0) (length (bytes_of cs)) in
+        to k ≡ Some (inner_node merged_head (slots_of cs)) → ParentHas to fs k → SameBut at to fs (k ∷ m ∷ n ∷ []) →
+        NodeRemoved bytes P at to before links fs place m n h l r b c x (inner k head cs) (inner k merged_head cs)
+    merged_node c k head cs one (q, e, two, up, below) there parent same =
+        let part = hole.radix.0 in
+        let merged_head = header_of P (part ++ c ∷ q) (length (bytes_of cs)) in
+        let longer = length-append part (c ∷ q) in
+        let own : h.length_of ≡ length part = ap (λ z. z.length_of) hole.radix.1 in
+        let its : head.length_of ≡ length q = ap (λ z. z.length_of) e in
+        record {
+          hole = hole;
+          one = one;
+          radix = merged bytes P place part c q k cs two up below;
+          same_pairs = refl;
+          same_names = refl;
+          same_leaves = refl;
+          same_inners = inner_nodes-moved bytes (length place + h.length_of + 1) (length place) k head merged_head cs (sym (ap (λ z. z.kind) e)) (omega arith);
+          below = (there, left_child_below at to fs m h l (child b (leaf n x) no_child) r old.holds old.distinct c k head cs one same);
+          parent = parent;
+          same = λ j up out used. same j up (λ i. elim i [ inl e ↦ out (child_in j e) | inr i ↦ elim i [ inl e ↦ out (inl e) | inr i ↦ elim i [ inl e ↦ out (leaf_in m n h l r b x j e) | inr i ↦ i ] ] ]) used;
+          relinked = relinked;
+        }
+      where
+        child_in : (j : N) → k ≡ j → IsIn j (names_of (inner m h (join l (child b (leaf n x) r))))
+        child_in j e = lifted_in at to fs m h l (child b (leaf n x) no_child) r old.holds old.distinct c (inner k head cs) one j (inl e)

@@ -1,0 +1,42 @@
+-- A leaf takes the place of all that is in the hole: a pair is replaced in place, or a subtree is overwritten.
+use Rattle.std.proofs.Common.{◌≡◌, ℕ, List, [], ◌∷◌, refl, sym, append-nil, subst, Option, Some, None, ◌⊎◌}
+use Rattle.art_model.specs.Trees.{Tree, leaf}
+use Rattle.art_model.specs.Radix.{pairs_of}
+use Rattle.art_model.specs.Paths.{Frame, plug, leaves_before, leaves_after}
+use Rattle.art_model.specs.Places.{inner_nodes}
+use Rattle.art_model.specs.Layouts.{Node, leaf_node, names_of, leaf_names, Links}
+use Rattle.art_model.specs.Footprints.{IsIn}
+use Rattle.art_model.proofs.Between.{IsLocal}
+use Rattle.art_model.proofs.Paths.{root_with}
+use Rattle.art_model.proofs.Wholes.{KeepNames, kept}
+use Rattle.art_model.proofs.Stores.{SameBut, ParentHas}
+use Rattle.art_model.proofs.Links.{Relinked}
+use Rattle.art_model.proofs.Canonical.{IsLaidOut}
+use Rattle.art_model.proofs.Regrown.{leaf_regrown}
+use Rattle.art_model.proofs.Replaced.{IsHole, replaced, linked_in_hole}
+
+-- All in the hole gave way to one leaf, which has an old name or one that was free.
+pub record LeafAlone {N A : Type 0} (bytes : A → List ℕ) (P : ℕ) (at to : N → Option (Node N A)) (before links : N → Option (Links N)) (fs : List (Frame N A)) (place : List ℕ) (t : Tree N A) (n : N) (new : A) : Type 0 where
+  pub hole : IsHole bytes P fs place t (bytes new)
+  pub named : IsIn n (names_of t) ⊎ (at n ≡ None)
+  pub there : to n ≡ Some (leaf_node new)
+  pub parent : ParentHas to fs n
+  pub same : SameBut at to fs (names_of t)
+  pub relinked : Relinked before links (leaves_before fs) (n ∷ []) (leaves_after fs)
+
+module _ {N A : Type 0} {bytes : A → List ℕ} {P : ℕ} {at to : N → Option (Node N A)} {before links : N → Option (Links N)} {fs : List (Frame N A)} {place : List ℕ} {t : Tree N A} {n : N} {new : A} {root : N} {pairs : List A}
+    (old : IsLaidOut bytes P at before root pairs (plug fs t)) (is : LeafAlone bytes P at to before links fs place t n new) where
+  -- the root is canonical for what an operation makes of the pairs that leaves the new one alone in the hole
+  pub leaf_alone : (F : List A → List A) → IsLocal bytes (bytes new) F → F (pairs_of t) ≡ new ∷ [] → IsLaidOut bytes P to links (root_with fs root n) (F pairs) (plug fs (leaf n new))
+  leaf_alone F local its = replaced old (record {
+    path = is.hole.path;
+    radix = is.hole.front;
+    parent = is.parent;
+    regrown = leaf_regrown at to t n new is.named is.there;
+    same = is.same;
+    linked = linked_in_hole fs before links t (leaf n new) [] (leaf_names t) (n ∷ []) [] old.distinct old.linked (sym (append-nil (leaf_names t))) refl (subst (λ z. Relinked before links z (n ∷ []) (leaves_after fs)) (sym (append-nil (leaves_before fs))) is.relinked);
+  }) (bytes new) F local is.hole.front (sym its)
+
+  -- and inner nodes that stay keep their names
+  pub leaf_alone_keeps : KeepNames (inner_nodes bytes 0 (plug fs t)) (inner_nodes bytes 0 (plug fs (leaf n new)))
+  leaf_alone_keeps = kept bytes P fs place t (leaf n new) is.hole.path is.hole.radix is.hole.front (λ e f i j. absurd j)
