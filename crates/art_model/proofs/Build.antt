@@ -72,10 +72,10 @@ module _ {A : Type 0} (bytes : A → List ℕ) where
   all_later front x (y ∷ ys) o e f = (later front x y o.0 e f.0, all_later front x ys o.1 e f.1)
 
   -- two or more keys of a map go on after every common front
-  go_on : (front : List ℕ) (x y : A) (xs : List A) → IsMap bytes (x ∷ y ∷ xs) → Each (λ z. IsFront front (bytes z)) (x ∷ y ∷ xs) → Each (GoesOn front) (x ∷ y ∷ xs)
+  pub go_on : (front : List ℕ) (x y : A) (xs : List A) → IsMap bytes (x ∷ y ∷ xs) → Each (λ z. IsFront front (bytes z)) (x ∷ y ∷ xs) → Each (GoesOn front) (x ∷ y ∷ xs)
   go_on front x y xs h f = (sooner front x y h.0.0 f.0 f.1.0, all_later front x (y ∷ xs) h.0 f.0 f.1)
 
-  at_byte : (front : List ℕ) (x : A) (b : ℕ) (r : List ℕ) → bytes x ≡ front ++ b ∷ r → byte_at bytes (length front) x ≡ b
+  pub at_byte : (front : List ℕ) (x : A) (b : ℕ) (r : List ℕ) → bytes x ≡ front ++ b ∷ r → byte_at bytes (length front) x ≡ b
   at_byte front x b r e = byte_after bytes front b x (r, e ∙ sym (append_assoc front (b ∷ []) r))
 
   byte_order : (front : List ℕ) (x y : A) → Precedes (bytes x) (bytes y) → GoesOn front x → GoesOn front y → byte_at bytes (length front) x ≤ byte_at bytes (length front) y
@@ -85,12 +85,12 @@ module _ {A : Type 0} (bytes : A → List ℕ) where
   bytes_order front x [] o e f = tt
   bytes_order front x (y ∷ ys) o e f = (byte_order front x y o.0 e f.0, bytes_order front x ys o.1 e f.1)
 
-  sorted_at : (front : List ℕ) (xs : List A) → IsMap bytes xs → Each (GoesOn front) xs → IsSortedAt (byte_at bytes (length front)) xs
+  pub sorted_at : (front : List ℕ) (xs : List A) → IsMap bytes xs → Each (GoesOn front) xs → IsSortedAt (byte_at bytes (length front)) xs
   sorted_at front [] h f = tt
   sorted_at front (x ∷ xs) h f = (bytes_order front x xs h.0 f.0 f.1, sorted_at front xs h.1 f.1)
 
   -- a group's keys begin with the front and its byte
-  with_byte : (front : List ℕ) (b : ℕ) (xs : List A) → Each (GoesOn front) xs → Each (λ x. byte_at bytes (length front) x ≡ b) xs → Each (λ x. IsFront (front ++ b ∷ []) (bytes x)) xs
+  pub with_byte : (front : List ℕ) (b : ℕ) (xs : List A) → Each (GoesOn front) xs → Each (λ x. byte_at bytes (length front) x ≡ b) xs → Each (λ x. IsFront (front ++ b ∷ []) (bytes x)) xs
   with_byte front b [] f g = tt
   with_byte front b (x ∷ xs) f g =
       let (c, r, e) = f.0 in

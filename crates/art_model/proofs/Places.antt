@@ -43,7 +43,7 @@ module _ {N A : Type 0} (bytes : A → List ℕ) (P : ℕ) where
       rw (len, after_front place (least_below bytes cs) (part ++ r) (f ∙ append_assoc place part r)) (take_at part r (length part) refl)
 
   -- the place goes on after the front with the byte of a child
-  abbrev Under : List ℕ → Children N A → (List ℕ × N) → Type 0
+  abbrev pub Under : List ℕ → Children N A → (List ℕ × N) → Type 0
   Under front cs p = (c : ℕ) × IsIn c (bytes_of cs) × IsFront (front ++ c ∷ []) p.0
 
   -- all places below a node begin with its own, and go on with the byte of a child

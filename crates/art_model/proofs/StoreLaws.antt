@@ -1,12 +1,14 @@
 -- the laws of names that stand for trees, of canonical roots and of footprints
-use Rattle.std.proofs.Common.{◌≡◌, ℕ, refl, ap, sym, ◌∙◌, subst, Option, Some, None}
+use Rattle.std.proofs.Common.{[], ◌≡◌, ℕ, refl, ap, sym, ◌∙◌, subst, Option, Some, None}
 use Rattle.art_model.specs.Trees.{Tree, leaf, inner, Children, child, no_child}
+use Rattle.art_model.specs.Radix.{pairs_of}
 use Rattle.art_model.specs.Layouts.{Node, inner_node, name_of, slots_of, names_of, leaf_names, Holds, HoldsBelow, AreDistinct}
 use Rattle.art_model.specs.ByCases.{Stands}
-use Rattle.art_model.specs.Stores.{held, IsUsed}
-use Rattle.art_model.specs.StoreLaws.{CasesHaveLayout, LayoutsHaveCases, HasOneLayout, HasRadixLayout, HaveSameTree, OthersStayFree, OthersWereFree}
+use Rattle.art_model.specs.Stores.{held, node_at, IsUsed}
+use Rattle.art_model.specs.StoreLaws.{CasesHaveLayout, LayoutsHaveCases, HasOneLayout, HasRadixLayout, HaveSameTree, HasChildren, HasOneMap, OthersStayFree, OthersWereFree}
 use Rattle.art_model.proofs.ByCases.{layout_of, stands_from}
 use Rattle.art_model.proofs.Canonical.{tree_radix}
+use Rattle.art_model.proofs.TreeLaws.{one_child, have_two_children}
 use Rattle.art_model.proofs.Lists.{each_in}
 
 module _ {N A : Type 0} where
@@ -72,3 +74,11 @@ module _ {K V : Type 0} where
       not_freed
       (λ i. (each_in (λ n. IsUsed old n × IsUsed new n) name changed f.are_changed i).1 free))
       ∙ free
+
+  pub has_children : HasChildren K V
+  has_children bytes P s root pairs layout by = (by.stands.0, one_child layout (have_two_children bytes P [] layout (tree_radix by).0))
+
+  pub has_one_map : HasOneMap K V
+  has_one_map bytes P s root pairs others layout other one two =
+      let same : other ≡ layout = has_one_layout (node_at s) root layout other one.stands.0 two.stands.0 in
+      (sym (tree_radix two).1 ∙ ap pairs_of same ∙ (tree_radix one).1, same)

@@ -69,6 +69,16 @@ module _ {N A : Type 0} where
   pub have_two_children : HaveTwoChildren N A
   have_two_children bytes P place t h = radix_children bytes P t place h
 
+  -- who has at least two children has at least one
+  mutual
+    pub one_child : (t : Tree N A) → HaveChildren 2 t → HaveChildren 1 t
+    one_child (leaf n x) h = tt
+    one_child (inner n h cs) two = (let some = two.0 in omega arith, one_child_below cs two.1)
+
+    one_child_below : (cs : Children N A) → HaveChildrenBelow 2 cs → HaveChildrenBelow 1 cs
+    one_child_below no_child h = tt
+    one_child_below (child b t cs) h = (one_child t h.0, one_child_below cs h.1)
+
   mutual
     pub has_few_inner_nodes : HasFewInnerNodes N A
     has_few_inner_nodes (leaf n x) h = omega arith

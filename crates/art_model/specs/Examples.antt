@@ -54,3 +54,15 @@ zero_tree (suc n) place = over_two 0 [] 0 (zero_tree n (place ++ 0 ∷ [])) 255 
 -- the keys 1 2, 1 3 and 2 with the values 5, 6 and 7
 abbrev pub three_pairs : List (Key × ℕ)
 three_pairs = (1 ∷ 2 ∷ [], 5) ∷ (1 ∷ 3 ∷ [], 6) ∷ (2 ∷ [], 7) ∷ []
+
+-- interact
+abbrev pub interact : Key
+interact = 105 ∷ 110 ∷ 116 ∷ 101 ∷ 114 ∷ 97 ∷ 99 ∷ 116 ∷ []
+
+-- interest
+abbrev pub interest : Key
+interest = 105 ∷ 110 ∷ 116 ∷ 101 ∷ 114 ∷ 101 ∷ 115 ∷ 116 ∷ []
+
+-- kit
+abbrev pub kit : Key
+kit = 107 ∷ 105 ∷ 116 ∷ []

@@ -59,6 +59,16 @@ module _ {N A : Type 0} where
     inner_names_below no_child = []
     inner_names_below (child b t cs) = inner_names t ++ inner_names_below cs
 
+  -- the layout without its pairs
+  abbrev mutual
+    pub shape_of : Tree N A → Tree N (Unit {0})
+    shape_of (leaf n x) = leaf n tt
+    shape_of (inner n h cs) = inner n h (shape_below cs)
+
+    pub shape_below : Children N A → Children N (Unit {0})
+    shape_below no_child = no_child
+    shape_below (child b t cs) = child b (shape_of t) (shape_below cs)
+
   -- under each name of the layout is the node that the layout says
   abbrev mutual
     pub Holds : (N → Option (Node N A)) → Tree N A → Type 0

@@ -16,3 +16,4 @@ pub mod Examples
 pub mod KeyLaws
 pub mod Changes
 pub mod MapLaws
+pub mod PlaceLaws

@@ -50,7 +50,7 @@ module _ {A : Type 0} (bytes : A → List ℕ) where
   -- after an overwrite the new pair is found under its key, nothing under a related key, and what was found before under every other key
   abbrev pub OverwriteIsFound : Type 0
   OverwriteIsFound = (key : List ℕ) (new : A) (pairs : List A) →
-    with_key bytes key (overwrite bytes new pairs) ≡ cond (are_same key (bytes new)) (new ∷ []) (cond (are_related key (bytes new)) [] (with_key bytes key pairs))
+      with_key bytes key (overwrite bytes new pairs) ≡ cond (are_same key (bytes new)) (new ∷ []) (cond (are_related key (bytes new)) [] (with_key bytes key pairs))
 
   -- after a removal nothing is found under the key, and what was found before under every other key
   abbrev pub RemovedIsGone : Type 0

@@ -3,10 +3,10 @@ use Rattle.std.specs.Prelude.{◌≡◌, ℕ, List, [], Option, None}
 use Rattle.art_nodes.specs.Nodes.{Nodes}
 use Rattle.art_nodes.specs.declared.node.OpaqueNodePtr.{OpaqueNodePtr}
 use Rattle.art_model.specs.Trees.{Tree}
-use Rattle.art_model.specs.Radix.{unmarked, pairs_of, IsRadix}
-use Rattle.art_model.specs.Layouts.{Node, names_of, leaf_names, IsLayout, StandsFor}
+use Rattle.art_model.specs.Radix.{unmarked, pairs_of, HaveChildren, IsRadix}
+use Rattle.art_model.specs.Layouts.{Node, names_of, leaf_names, inner_names, shape_of, IsLayout, StandsFor}
 use Rattle.art_model.specs.ByCases.{Stands}
-use Rattle.art_model.specs.Stores.{held}
+use Rattle.art_model.specs.Stores.{held, node_at, shape_at}
 use Rattle.art_model.specs.Canonical.{IsTree}
 use Rattle.art_model.specs.Footprints.{IsIn, Footprint}
 
@@ -25,10 +25,25 @@ module _ (N A : Type 0) where
   HasOneLayout = (at : N → Option (Node N A)) (root : N) (layout other : Tree N A) → IsLayout at root layout → IsLayout at root other → other ≡ layout
 
 module _ (K V : Type 0) where
+  -- a name that stands for a tree stands for it without leaves too, with the same names
+  abbrev pub HasShape : Type 0
+  HasShape = (s : Nodes K V) (root : OpaqueNodePtr) (layout : Tree OpaqueNodePtr (K × V)) → IsLayout (node_at s) root layout →
+      IsLayout (shape_at s) root (shape_of layout) × (leaf_names (shape_of layout) ≡ leaf_names layout) × (inner_names (shape_of layout) ≡ inner_names layout)
+
   -- a canonical root's layout is a radix tree, whose leaves have the pairs in order
   abbrev pub HasRadixLayout : Type 0
   HasRadixLayout = (bytes : K × V → List ℕ) (P : ℕ) (s : Nodes K V) (root : OpaqueNodePtr) (pairs : List (K × V)) (layout : Tree OpaqueNodePtr (K × V)) →
       IsTree bytes P s root pairs layout → IsRadix bytes P [] layout × (pairs_of layout ≡ pairs)
+
+  -- the nodes below a canonical root are where its layout says, and its inner nodes all have children
+  abbrev pub HasChildren : Type 0
+  HasChildren = (bytes : K × V → List ℕ) (P : ℕ) (s : Nodes K V) (root : OpaqueNodePtr) (pairs : List (K × V)) (layout : Tree OpaqueNodePtr (K × V)) →
+      IsTree bytes P s root pairs layout → IsLayout (node_at s) root layout × HaveChildren 1 layout
+
+  -- a root is canonical for one list of pairs, with one layout
+  abbrev pub HasOneMap : Type 0
+  HasOneMap = (bytes : K × V → List ℕ) (P : ℕ) (s : Nodes K V) (root : OpaqueNodePtr) (pairs others : List (K × V)) (layout other : Tree OpaqueNodePtr (K × V)) →
+      IsTree bytes P s root pairs layout → IsTree bytes P s root others other → (others ≡ pairs) × (other ≡ layout)
 
   -- roots that are canonical for the same pairs stand for the same tree, in whatever stores
   abbrev pub HaveSameTree : Type 0

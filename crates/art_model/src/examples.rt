@@ -4,7 +4,7 @@ ghost use Rattle.std.specs.Prelude.{◌≡◌, ℕ, List, [], ◌∷◌, Option,
 ghost use Rattle.art_nodes.specs.declared.node.NodeType.TheVariants.{Node4, Node16, Node48, Node256};
 ghost use Rattle.art_model.specs.Pairs.{first_of, last_of, without_first, without_last, put, put_reply, overwrite, overwrite_reply, remove_key, remove_reply, match_of, is_conflict};
 ghost use Rattle.art_model.specs.Trees.{Tree, leaf};
-ghost use Rattle.art_model.specs.Examples.{Key, bytes_of_pair, tree_of_keys, over_two, one_byte_keys, fan, zero_keys, zero_tree, three_pairs};
+ghost use Rattle.art_model.specs.Examples.{Key, bytes_of_pair, tree_of_keys, over_two, one_byte_keys, fan, zero_keys, zero_tree, three_pairs, interact, interest, kit};
 
 /// No key, one key, a prefix longer than the two bytes that can be stored, and a node below a node.
 pub fn trees_of_few_keys()
@@ -14,6 +14,8 @@ pub fn trees_of_few_keys()
         ≡ Some (over_two 5 (7 ∷ 1 ∷ []) 5 (leaf tt (7 ∷ 1 ∷ 1 ∷ 1 ∷ 1 ∷ 5 ∷ [])) 6 (leaf tt (7 ∷ 1 ∷ 1 ∷ 1 ∷ 1 ∷ 6 ∷ []))) }
     ensures nested { tree_of_keys ((1 ∷ 2 ∷ []) ∷ (1 ∷ 3 ∷ []) ∷ (2 ∷ []) ∷ []) 16
         ≡ Some (over_two 0 [] 1 (over_two 0 [] 2 (leaf tt (1 ∷ 2 ∷ [])) 3 (leaf tt (1 ∷ 3 ∷ []))) 2 (leaf tt (2 ∷ []))) }
+    ensures words { tree_of_keys (interact ∷ interest ∷ kit ∷ []) 2
+        ≡ Some (over_two 0 [] 105 (over_two 4 (110 ∷ 116 ∷ []) 97 (leaf tt interact) 101 (leaf tt interest)) 107 (leaf tt kit)) }
     ensures twelve { tree_of_keys (zero_keys 12) 16 ≡ Some (zero_tree 11 []) }
 {}
 

@@ -1,6 +1,6 @@
 //! Names that stand for trees, and canonical roots.
 
-ghost use Rattle.art_model.specs.StoreLaws.{CasesHaveLayout, LayoutsHaveCases, HasOneLayout, HasRadixLayout, HaveSameTree};
+ghost use Rattle.art_model.specs.StoreLaws.{CasesHaveLayout, LayoutsHaveCases, HasOneLayout, HasShape, HasRadixLayout, HasChildren, HasOneMap, HaveSameTree};
 
 /// That a name stands for a tree can be said by cases on the tree, or by a layout: both say the same.
 pub fn both_forms_say_the_same<N, A>()
@@ -11,6 +11,21 @@ pub fn both_forms_say_the_same<N, A>()
 /// What a store holds decides the layout below a name.
 pub fn a_name_has_one_layout<N, A>()
     ensures { HasOneLayout N A }
+{}
+
+/// A tree can be read without its leaves: it has the same shape and the same names.
+pub fn a_tree_has_a_shape<K, V>()
+    ensures { HasShape K V }
+{}
+
+/// A canonical root meets the wider condition of calls that ask for a layout whose inner nodes all have children.
+pub fn a_canonical_root_has_children<K, V>()
+    ensures { HasChildren K V }
+{}
+
+/// What a call says of all pairs for which a root is canonical it says of one list.
+pub fn a_root_is_canonical_for_one_map<K, V>()
+    ensures { HasOneMap K V }
 {}
 
 /// The pairs decide the tree below a canonical root: its shape, its prefixes and its leaves.

@@ -3,8 +3,10 @@
 //! The definitions stand in `specs/`. The functions of this crate do nothing: each has a law of the definitions as its contract.
 #![tactic(auto)]
 
+pub mod end_nodes;
 pub mod examples;
 pub mod footprints;
 pub mod layouts;
+pub mod maps;
 pub mod order;
 pub mod trees;

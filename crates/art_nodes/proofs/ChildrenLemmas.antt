@@ -35,13 +35,13 @@ IsRising-front [] after rising = tt
 IsRising-front (c ∷ before) after rising = (IsBelow-front c.0 before after rising.0, IsRising-front before after rising.1)
 
 -- an entry that is in the range comes, and one that is not does not
-between_here : (first last : ℕ) (c : Entry) (cs : Children) → first ≤ c.0 → c.0 ≤ last → children_between first last (c ∷ cs) ≡ c ∷ children_between first last cs
+pub between_here : (first last : ℕ) (c : Entry) (cs : Children) → first ≤ c.0 → c.0 ≤ last → children_between first last (c ∷ cs) ≡ c ∷ children_between first last cs
 between_here first last c cs h k = ap (λ t. cond (t && leb c.0 last) (c ∷ children_between first last cs) (children_between first last cs)) (le-leb first c.0 h) ∙ ap (λ t. cond t (c ∷ children_between first last cs) (children_between first last cs)) (le-leb c.0 last k)
 
-between_after : (first last : ℕ) (c : Entry) (cs : Children) → c.0 < first → children_between first last (c ∷ cs) ≡ children_between first last cs
+pub between_after : (first last : ℕ) (c : Entry) (cs : Children) → c.0 < first → children_between first last (c ∷ cs) ≡ children_between first last cs
 between_after first last c cs h = ap (λ t. cond (t && leb c.0 last) (c ∷ children_between first last cs) (children_between first last cs)) (lt-leb first c.0 h)
 
-between_before : (first last : ℕ) (c : Entry) (cs : Children) → last < c.0 → children_between first last (c ∷ cs) ≡ children_between first last cs
+pub between_before : (first last : ℕ) (c : Entry) (cs : Children) → last < c.0 → children_between first last (c ∷ cs) ≡ children_between first last cs
 between_before first last c cs h =
     ap (λ t. cond (leb first c.0 && t) (c ∷ children_between first last cs) (children_between first last cs)) (lt-leb c.0 last h)
     ∙ ap (λ t. cond t (c ∷ children_between first last cs) (children_between first last cs)) (and_false (leb first c.0))

@@ -31,7 +31,7 @@ impl<const N: usize> AsBytes for [u8; N] {
     ghost bytes = { λ a. a };
 
     fn as_bytes(&self) -> &[u8] {
-        self.as_slice()
+        self
     }
 }
 

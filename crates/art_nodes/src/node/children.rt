@@ -1,5 +1,5 @@
 //! The children of an inner node, in order.
-ghost use Rattle.std.specs.Prelude.{◌≡◌, ℕ, ◌+◌, ◌-◌, ◌<◌, ◌≤◌, List, length, slice_get, Some, take, drop};
+ghost use Rattle.std.specs.Prelude.{◌≡◌, ℕ, ◌+◌, ◌-◌, ◌<◌, ◌≤◌, List, length, slice_get, Some, All, take, drop};
 ghost use Rattle.std.specs.Iterator.{YieldsFirst, YieldsLast, item_count};
 
 use super::OpaqueNodePtr;
@@ -46,14 +46,16 @@ impl<'a> Children<'a> {
 
     pub(super) fn least(&self) -> (u8, OpaqueNodePtr)
         requires { 0 < length self.now }
-        ensures { slice_get self.now 0 ≡ Some result }
+        ensures first { slice_get self.now 0 ≡ Some result }
+        ensures least { All (λ child. result.0 ≤ child.0) self.now }
     {
         self.rest[0]
     }
 
     pub(super) fn greatest(&self) -> (u8, OpaqueNodePtr)
         requires { 0 < length self.now }
-        ensures { slice_get self.now (length self.now - 1) ≡ Some result }
+        ensures last { slice_get self.now (length self.now - 1) ≡ Some result }
+        ensures greatest { All (λ child. child.0 ≤ result.0) self.now }
     {
         self.rest[self.rest.len() - 1]
     }

@@ -72,6 +72,7 @@ pub trait InnerNode<const P: usize>: FromHeader<Header<P>> {
     fn min(&self) -> (u8, OpaqueNodePtr)
         requires { 0 < length (view_of self.now).children }
         ensures first { slice_get (view_of self.now).children 0 ≡ Some result }
+        ensures least { All (λ child. result.0 ≤ child.0) (view_of self.now).children }
     {
         self.iter().least()
     }
@@ -80,6 +81,7 @@ pub trait InnerNode<const P: usize>: FromHeader<Header<P>> {
     fn max(&self) -> (u8, OpaqueNodePtr)
         requires { 0 < length (view_of self.now).children }
         ensures last { slice_get (view_of self.now).children (length (view_of self.now).children - 1) ≡ Some result }
+        ensures greatest { All (λ child. child.0 ≤ result.0) (view_of self.now).children }
     {
         self.iter().greatest()
     }

@@ -6,7 +6,6 @@ ghost use Rattle.art_nodes.specs.Changes.{with_links, with_child};
 ghost use Rattle.art_nodes.specs.Inner.{childless};
 
 use super::*;
-use crate::node::{FromHeader, InnerNode4};
 use art_test_support::all_memory;
 use std::test::Fail;
 
@@ -16,16 +15,11 @@ type Store = NodeStore<[u8; 1], u32, 2>;
 const MORE_THAN_FIT: usize = 1_000;
 
 fn leaf_of(byte: u8, value: u32) -> LeafNode<[u8; 1], u32> {
-    LeafNode {
-        key: [byte],
-        value,
-        previous: None,
-        next: None,
-    }
+    LeafNode::with_no_siblings([byte], value)
 }
 
 fn node4(prefix: &[u8; 2]) -> AnyInner<2> {
-    AnyInner::Node4(InnerNode4::from_header(Header::new(prefix, 2)))
+    AnyInner::from_header(NodeType::Node4, Header::new(prefix, 2))
 }
 
 // A caller: places a leaf and links it behind another one.
@@ -70,7 +64,7 @@ fn place_above<K: AsBytes + Drop, V: Drop, const P: usize>(
     ensures placed { IfOk result (λ name. map.get store.new.inners name ≡ Some (with_child byte child (childless header.entry))) }
     ensures leaves { store.new.leaves ≡ store.old.leaves }
 {
-    let node = AnyInner::Node4(InnerNode4::from_header(header));
+    let node = AnyInner::from_header(NodeType::Node4, header);
     let name = store.place_inner(node).map_err(|refused| refused.1)?;
     store.write_child(name, byte, child);
     Ok(name)
@@ -94,15 +88,53 @@ fn move_header<K: AsBytes + Drop, V: Drop, const P: usize>(
     node
 }
 
+// A caller: no placement is refused that the promise covers.
+fn place_promised<K: AsBytes + Drop, V: Drop, const P: usize>(
+    store: &mut NodeStore<K, V, P>,
+    leaves: (LeafNode<K, V>, LeafNode<K, V>),
+    header: Header<P>,
+) -> Result<(LeafPtr, InnerPtr, LeafPtr), AllocError>
+    ensures reserved { IfOk result (λ names. IsSome (map.get store.new.leaves names.2)) }
+{
+    store.reserve(2, Some(NodeType::Node16))?;
+    let first = store
+        .place_leaf(leaves.0)
+        .map_err(|refused| refused.1)
+        .unwrap();
+    let node = AnyInner::from_header(NodeType::Node16, header);
+    let upper = store
+        .place_inner(node)
+        .map_err(|refused| refused.1)
+        .unwrap();
+    let second = store
+        .place_leaf(leaves.1)
+        .map_err(|refused| refused.1)
+        .unwrap();
+    Ok((first, upper, second))
+}
+
+// A caller: no placement is refused for which there is room.
+fn place_with_room<K: AsBytes + Drop, V: Drop, const P: usize>(
+    store: &mut NodeStore<K, V, P>,
+    leaf: LeafNode<K, V>,
+    header: Header<P>,
+) -> Result<(LeafPtr, InnerPtr), AllocError> {
+    store.reserve_any(2)?;
+    let node = AnyInner::from_header(NodeType::Node48, header);
+    let upper = store
+        .place_inner(node)
+        .map_err(|refused| refused.1)
+        .unwrap();
+    let lower = store.place_leaf(leaf).map_err(|refused| refused.1).unwrap();
+    Ok((lower, upper))
+}
+
 #[test]
 fn an_empty_store_has_no_node(rt: HostRuntime) {
     let store = Store::new(rt.alloc());
-    let inner = InnerPtr {
-        kind: NodeType::Node4,
-        slot: 0,
-    };
     assert!(rt; store.leaf(LeafPtr::from_slot(0)).is_none());
-    assert!(rt; store.inner(inner).is_none());
+    let inner = InnerPtr::from_parts(NodeType::Node4, 0);
+    assert!(rt; inner.is_some_and(|name| store.inner(name).is_none()));
 }
 
 #[test]
@@ -153,7 +185,7 @@ fn inner_nodes_are_written_and_freed(rt: HostRuntime) -> Result<(), Fail> {
     let node = move_header(&mut store, lower, upper, Header::new(&[5, 6], 2));
     assert_eq!(rt; node.as_ref().lookup_child(3), Some(child));
     let seen = store.inner(upper).ok_or("the upper node")?;
-    assert_eq!(rt; seen.header().read_prefix(), [5, 6].as_slice());
+    assert_eq!(rt; seen.read_prefix(), [5, 6].as_slice());
     assert!(rt; store.inner(lower).is_none());
     Ok(())
 }
@@ -187,62 +219,63 @@ fn refused_header(store: &mut Store) -> Option<Header<2>> {
     None
 }
 
-// A refusal before all memory is held decides nothing in the tests below.
-
+// Says the same with ample memory and with any one request for memory refused.
 #[test]
-fn refused_placements_hand_the_node_back(rt: HostRuntime) {
-    let alloc = rt.alloc();
-    let mut store = Store::new(alloc);
+fn refused_placements_leave_the_nodes(rt: HostRuntime) {
+    let mut store = Store::new(rt.alloc());
     let Ok(first) = store.place_leaf(leaf_of(1, 10)) else {
         return;
     };
+    for value in 0..20 {
+        match store.place_leaf(leaf_of(2, value)) {
+            Ok(name) => assert_eq!(rt; store.leaf(name).map(|leaf| leaf.value), Some(value)),
+            Err((leaf, _)) => assert_eq!(rt; (leaf.key[0], leaf.value), (2, value)),
+        }
+        assert_eq!(rt; store.leaf(first).map(|leaf| leaf.value), Some(10));
+    }
+}
+
+#[test]
+fn without_memory_placements_hand_the_node_back(rt: HostRuntime) -> Result<(), Fail> {
+    let alloc = rt.alloc();
+    let mut store = Store::new(alloc);
+    let first = store.place_leaf(leaf_of(1, 10)).map_err(|refused| refused.1)?;
     let child = first.to_opaque();
-    let Ok(upper) = place_above(&mut store, Header::new(&[5, 6], 2), 3, child) else {
-        return;
-    };
-    let Ok(held) = all_memory(alloc) else {
-        return;
-    };
+    let upper = place_above(&mut store, Header::new(&[5, 6], 2), 3, child)?;
+
+    let held = all_memory(alloc)?;
     let pair = refused_leaf(&mut store);
     let header = refused_header(&mut store);
     drop(held);
     assert_eq!(rt; pair, Some(([9], 90)));
     assert!(rt; header.is_some_and(|header| header.read_prefix() == [8, 9].as_slice()));
     assert_eq!(rt; store.leaf(first).map(|leaf| leaf.value), Some(10));
-    assert_eq!(rt;
-        store.inner(upper).and_then(|node| node.lookup_child(3)),
-        Some(child)
-    );
+    let seen = store.inner(upper).ok_or("the inner node")?;
+    assert_eq!(rt; seen.lookup_child(3), Some(child));
+    Ok(())
 }
 
 #[test]
-fn refused_reservations_leave_the_nodes(rt: HostRuntime) {
+fn without_memory_reservations_leave_the_nodes(rt: HostRuntime) -> Result<(), Fail> {
     let alloc = rt.alloc();
     let mut store = Store::new(alloc);
-    let Ok(first) = store.place_leaf(leaf_of(1, 10)) else {
-        return;
-    };
-    let Ok(held) = all_memory(alloc) else {
-        return;
-    };
-    let promised = store.reserve(1 << 20, None);
-    let made = store.reserve_any(1 << 20);
+    let first = store.place_leaf(leaf_of(1, 10)).map_err(|refused| refused.1)?;
+
+    let held = all_memory(alloc)?;
+    let refused = [store.reserve(1 << 20, None).is_err(), store.reserve_any(1 << 20).is_err()];
     drop(held);
-    assert!(rt; promised.is_err());
-    assert!(rt; made.is_err());
+    assert_eq!(rt; refused, [true; 2]);
     assert_eq!(rt; store.leaf(first).map(|leaf| leaf.value), Some(10));
+    Ok(())
 }
 
 #[test]
-fn refused_memory_leaves_what_is_promised(rt: HostRuntime) {
+fn without_memory_the_promise_is_kept(rt: HostRuntime) -> Result<(), Fail> {
     let alloc = rt.alloc();
     let mut store = Store::new(alloc);
-    if store.reserve(2, Some(NodeType::Node4)).is_err() {
-        return;
-    }
-    let Ok(held) = all_memory(alloc) else {
-        return;
-    };
+    store.reserve(2, Some(NodeType::Node4))?;
+
+    let held = all_memory(alloc)?;
     let placed = [
         store.place_leaf(leaf_of(1, 10)).is_ok(),
         store.reserve(1, Some(NodeType::Node4)).is_ok(),
@@ -251,18 +284,16 @@ fn refused_memory_leaves_what_is_promised(rt: HostRuntime) {
     ];
     drop(held);
     assert_eq!(rt; placed, [true; 4]);
+    Ok(())
 }
 
 #[test]
-fn refused_memory_leaves_the_room(rt: HostRuntime) {
+fn without_memory_the_room_is_kept(rt: HostRuntime) -> Result<(), Fail> {
     let alloc = rt.alloc();
     let mut store = Store::new(alloc);
-    if store.reserve_any(3).is_err() {
-        return;
-    }
-    let Ok(held) = all_memory(alloc) else {
-        return;
-    };
+    store.reserve_any(3)?;
+
+    let held = all_memory(alloc)?;
     let placed = [
         store.place_leaf(leaf_of(1, 10)).is_ok(),
         store.place_inner(node4(&[8, 9])).is_ok(),
@@ -271,4 +302,5 @@ fn refused_memory_leaves_the_room(rt: HostRuntime) {
     ];
     drop(held);
     assert_eq!(rt; placed, [true; 4]);
+    Ok(())
 }

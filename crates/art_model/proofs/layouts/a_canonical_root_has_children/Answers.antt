@@ -1,0 +1,5 @@
+use Rattle.art_model.proofs.StoreLaws.{has_children}
+use Rattle.art_model.proofs.layouts.a_canonical_root_has_children.Goals as goal
+
+pub returns : goal.returns
+returns g c = has_children

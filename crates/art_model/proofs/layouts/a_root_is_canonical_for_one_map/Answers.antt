@@ -1,0 +1,5 @@
+use Rattle.art_model.proofs.StoreLaws.{has_one_map}
+use Rattle.art_model.proofs.layouts.a_root_is_canonical_for_one_map.Goals as goal
+
+pub returns : goal.returns
+returns g c = has_one_map

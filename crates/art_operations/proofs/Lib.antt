@@ -1,0 +1,4 @@
+pub mod Examples
+pub mod Chains
+pub mod Lengths
+pub mod Kept

@@ -1,0 +1,4 @@
+//! Commands on a radix tree.
+#![tactic(auto)]
+
+pub mod run;

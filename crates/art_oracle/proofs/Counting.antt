@@ -1,0 +1,102 @@
+-- how many groups sorted leaves make, counted from leaf to leaf
+use Rattle.std.proofs.Common.{◌≡◌, ◌≢◌, ℕ, suc, zero, ◌+◌, ◌<◌, ◌≤◌, List, [], ◌∷◌, ◌++◌, length, drop, get_or, refl, ap, ap₂, sym, ◌∙◌, arith, true, false, Bool, cond, eqb, eq-eqb, subst, Option, Some, None, IsSome}
+use Rattle.std.specs.List.{AllByRecursion as Each, All}
+use Rattle.std.specs.FinMap as finite
+use Rattle.std.proofs.lemmas.Bool.{ne_eqb}
+use Rattle.std.proofs.lemmas.List.Elements.{All-tail}
+use Rattle.std.proofs.Math.Seq.{drop-cons}
+use Rattle.art_nodes.specs.Nodes.{leaf_cmp}
+use Rattle.art_nodes.specs.declared.node.LeafPtr.{LeafPtr}
+use Rattle.art_nodes.specs.declared.node.LeafNode.{LeafNode}
+use Rattle.art_model.specs.Pairs.{of_key}
+use Rattle.art_model.specs.Trees.{byte_at, groups, add_to_groups}
+use Rattle.art_model.proofs.Build.{IsSortedAt, sorted_at}
+use Rattle.art_oracle.specs.Build.{pairs_at, leaf_pair, leaf_key, ReadyBelow, count_groups}
+
+module _ {A : Type 0} where
+  length_joined : (b c : ℕ) (x : A) (group : List A) (others : List (ℕ × List A)) (t : Bool) → length {A = ℕ × List A} (cond t ((b, x ∷ group) ∷ others) ((b, x ∷ []) ∷ (c, group) ∷ others)) ≡ cond t 0 1 + length {A = ℕ × List A} ((c, group) ∷ others)
+  length_joined b c x group others true = omega arith
+  length_joined b c x group others false = omega arith
+
+  -- one more group, unless the byte is that of the first
+  length_added : (b c : ℕ) (x y : A) (gs : List (ℕ × List A)) → length (add_to_groups b x (add_to_groups c y gs)) ≡ cond (eqb b c) 0 1 + length (add_to_groups c y gs)
+  length_added b c x y [] = length_joined b c x (y ∷ []) [] (eqb b c)
+  length_added b c x y ((d, group) ∷ others) = by_test (eqb c d)
+    where
+      by_test : (u : Bool) → length (add_to_groups b x (cond u ((c, y ∷ group) ∷ others) ((c, y ∷ []) ∷ (d, group) ∷ others))) ≡ cond (eqb b c) 0 1 + length (cond u ((c, y ∷ group) ∷ others) ((c, y ∷ []) ∷ (d, group) ∷ others))
+      by_test true = length_joined b c x (y ∷ group) others (eqb b c)
+      by_test false = length_joined b c x (y ∷ []) ((d, group) ∷ others) (eqb b c)
+
+module _ {K V : Type 0} (bytes : K → List ℕ) (store : finite.FinMap leaf_cmp (LeafNode K V)) (at : ℕ) where
+  abbrev pub leaf_byte : LeafPtr → ℕ
+  leaf_byte p = get_or (leaf_key bytes (finite.get store p)) at 0
+
+  -- how often the byte changes from leaf to leaf, after a leaf with this one
+  abbrev pub changes : ℕ → List LeafPtr → ℕ
+  changes last [] = 0
+  changes last (p ∷ ps) = cond (eqb last (leaf_byte p)) 0 1 + changes (leaf_byte p) ps
+
+  -- the bytes don't fall from leaf to leaf, after a leaf with this one
+  abbrev pub Rises : ℕ → List LeafPtr → Type 0
+  Rises last [] = Unit {0}
+  Rises last (p ∷ ps) = (last ≤ leaf_byte p) × Rises (leaf_byte p) ps
+
+  abbrev There : LeafPtr → Type 0
+  There p = IsSome (finite.get store p)
+
+  there_is : (o : Option (LeafNode K V)) → IsSome o → (l : LeafNode K V) × (o ≡ Some l)
+  there_is None s = absurd cc
+  there_is (Some l) s = (l, refl)
+
+  count_changes : (p : LeafPtr) (ps : List LeafPtr) → All There (p ∷ ps) → count_groups bytes store (p ∷ ps) at ≡ suc (changes (leaf_byte p) ps)
+  count_changes p [] h = let (l, e) = there_is (finite.get store p) (h 0 p (omega arith)) in rw e refl
+  count_changes p (q ∷ qs) h =
+    let (l, e) = there_is (finite.get store p) (h 0 p (omega arith)) in
+    let rest = All-tail There p (q ∷ qs) h in
+    let (m, f) = there_is (finite.get store q) (rest 0 q (omega arith)) in
+    let more = count_changes q qs rest in
+    let added = length_added (get_or (bytes l.key) at 0) (get_or (bytes m.key) at 0) (l.key, l.value) (m.key, m.value) (groups (byte_at (of_key bytes) at) (pairs_at store qs)) in
+    rw (e, f) (added ∙ ap (λ n. cond (eqb (get_or (bytes l.key) at 0) (get_or (bytes m.key) at 0)) 0 1 + n) (rw f at more) ∙ omega arith)
+
+  rises_from : (p : LeafPtr) (ps : List LeafPtr) → All There (p ∷ ps) → IsSortedAt (byte_at (of_key bytes) at) (pairs_at store (p ∷ ps)) → Rises (leaf_byte p) ps
+  rises_from p [] h s = tt
+  rises_from p (q ∷ qs) h s =
+    let (l, e) = there_is (finite.get store p) (h 0 p (omega arith)) in
+    let rest = All-tail There p (q ∷ qs) h in
+    let (m, f) = there_is (finite.get store q) (rest 0 q (omega arith)) in
+    let s' : IsSortedAt (byte_at (of_key bytes) at) ((l.key, l.value) ∷ pairs_at store (q ∷ qs)) = subst (λ o. IsSortedAt (byte_at (of_key bytes) at) (leaf_pair o ++ pairs_at store (q ∷ qs))) e s in
+    let first : get_or (bytes l.key) at 0 ≤ get_or (bytes m.key) at 0 = (subst (λ o. Each (λ y. get_or (bytes l.key) at 0 ≤ byte_at (of_key bytes) at y) (leaf_pair o ++ pairs_at store qs)) f s'.0).0 in
+    (rw (e, f) first, rises_from q qs rest s'.1)
+
+  -- the count after so many leaves, the last of them with this byte
+  pub record IsCount (leaves : List LeafPtr) (n last count : ℕ) : Type 0 where
+    pub whole : count + changes last (drop n leaves) ≡ count_groups bytes store leaves at
+    pub low : count ≤ last + 1
+    pub byte : last < 256
+    pub rises : Rises last (drop n leaves)
+
+  pub count_first : (front : List ℕ) (leaves : List LeafPtr) (d : LeafPtr) → 1 ≤ length leaves → ReadyBelow bytes store front leaves at → leaf_byte (get_or leaves 0 d) < 256 → IsCount leaves 1 (leaf_byte (get_or leaves 0 d)) 1
+  count_first front [] d some ready small = absurd (omega arith)
+  count_first front (p ∷ ps) d some ready small =
+    record
+      { whole = omega (arith, count_changes p ps ready.there)
+      ; low = omega arith
+      ; byte = small
+      ; rises = rises_from p ps ready.there (subst (λ n. IsSortedAt (byte_at (of_key bytes) n) (pairs_at store (p ∷ ps))) ready.depth_is (sorted_at (of_key bytes) front (pairs_at store (p ∷ ps)) ready.map ready.ways))
+      }
+
+  module _ (leaves : List LeafPtr) (n last count byte : ℕ) (d : LeafPtr) (within : n < length leaves) (is : byte ≡ leaf_byte (get_or leaves n d)) (small : byte < 256) (so_far : IsCount leaves n last count) where
+    next_is : drop n leaves ≡ get_or leaves n d ∷ drop (suc n) leaves
+    next_is = drop-cons leaves n d within
+
+    rest : count + (cond (eqb last byte) 0 1 + changes byte (drop (suc n) leaves)) ≡ count_groups bytes store leaves at
+    rest = subst (λ b. count + (cond (eqb last b) 0 1 + changes b (drop (suc n) leaves)) ≡ count_groups bytes store leaves at) (sym is) (subst (λ l. count + changes last l ≡ count_groups bytes store leaves at) next_is so_far.whole)
+
+    up : (last ≤ byte) × Rises byte (drop (suc n) leaves)
+    up = subst (λ b. (last ≤ b) × Rises b (drop (suc n) leaves)) (sym is) (subst (Rises last) next_is so_far.rises)
+
+    pub count_same : byte ≡ last → IsCount leaves (suc n) byte count
+    count_same e = let r = rw (eq-eqb last byte (sym e)) at rest in record { whole = omega (arith, r); low = omega (arith, so_far.low); byte = small; rises = up.1 }
+
+    pub count_next : byte ≢ last → IsCount leaves (suc n) byte (count + 1)
+    count_next e = let r = rw (ne_eqb last byte (λ f. e (sym f))) at rest in let l : last ≤ byte = up.0 in record { whole = omega (arith, r); low = omega (arith, so_far.low, l, e); byte = small; rises = up.1 }

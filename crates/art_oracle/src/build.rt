@@ -1,0 +1,257 @@
+//! The radix tree of a map, built in a store at one go.
+ghost use Rattle.std.specs.Prelude.{◌≡◌, ◌≢◌, ℕ, ◌+◌, ◌*◌, ◌^◌, ◌<◌, ◌≤◌, List, [], length, get_or, None, IsSome};
+ghost use Rattle.std.specs.Prelude.{map as list_map};
+ghost use Rattle.std.specs.FinMap as map;
+ghost use Rattle.std.specs.List.{AllByRecursion as Each};
+ghost use Rattle.std.specs.Vec.{vec_capacity};
+ghost use Rattle.art_nodes.specs.Names.{leaf_name};
+ghost use Rattle.art_nodes.specs.Kinds.{any_kind, any_view, kind_capacity};
+ghost use Rattle.art_nodes.specs.declared.node.NodeType.TheVariants.{Leaf};
+ghost use Rattle.art_nodes.specs.declared.node.OpaqueNodePtr.{OpaqueNodePtr};
+ghost use Rattle.art_model.specs.Keys.{common_front};
+ghost use Rattle.art_model.specs.Pairs.{IsMap, of_key};
+ghost use Rattle.art_model.specs.Trees.{kind_of};
+ghost use Rattle.art_model.specs.Layouts.{AreDistinct, AreLinked};
+ghost use Rattle.art_model.specs.Stores.{held, links_at};
+ghost use Rattle.art_model.specs.Canonical.{IsCanonical};
+ghost use Rattle.art_oracle.specs.Build.{Ready, ReadyBelow, IsGroup, count_groups, leaf_key, AreBelow, Starts, Built, BuiltBelow, IsPlaced, KeepsPairs};
+ghost use Rattle.art_oracle.specs.Built.{KeepsNodes, AddsTree, IsInTree};
+
+use art_nodes::node::{AnyInner, AsBytes, Header, LeafNode, LeafPtr, NodeType, OpaqueNodePtr};
+use art_nodes::store::NodeStore;
+
+/// How many bytes two keys have in common in front.
+fn common_len(a: &[u8], b: &[u8]) -> usize
+    ensures { result ≡ length (common_front a.now b.now) }
+{
+    let count = a.len().min(b.len());
+    for n in 0..count {
+        if a[n] != b[n] {
+            return n;
+        }
+    }
+    count
+}
+
+/// The bytes of a leaf's key.
+fn key_of<K: AsBytes + Drop, V: Drop, const P: usize>(
+    store: &NodeStore<K, V, P>,
+    leaf: LeafPtr,
+) -> &[u8]
+    requires { IsSome (map.get store.now.leaves leaf) }
+    ensures { result.now ≡ leaf_key K.bytes (map.get store.now.leaves leaf) }
+{
+    match store.leaf(leaf) {
+        Some(node) => node.key.as_bytes(),
+        None => unreachable!(),
+    }
+}
+
+/// The byte of a leaf's key at a depth.
+fn byte_of<K: AsBytes + Drop, V: Drop, const P: usize>(
+    store: &NodeStore<K, V, P>,
+    leaf: LeafPtr,
+    at: usize,
+) -> u8
+    requires there { IsSome (map.get store.now.leaves leaf) }
+    requires longer { at < length (leaf_key K.bytes (map.get store.now.leaves leaf)) }
+    ensures byte { result ≡ get_or (leaf_key K.bytes (map.get store.now.leaves leaf)) at 0 }
+    ensures next { at + 1 < 2 ^ 64 }
+{
+    key_of(store, leaf)[at]
+}
+
+/// How many leaves in front have this byte at a depth.
+fn group_end<K: AsBytes + Drop, V: Drop, const P: usize>(
+    store: &NodeStore<K, V, P>,
+    leaves: &[LeafPtr],
+    at: usize,
+    byte: u8,
+) -> usize
+    requires { (front : List ℕ) × ReadyBelow K.bytes store.now.leaves front leaves.now at }
+    ensures { IsGroup K.bytes store.now.leaves leaves.now at byte result }
+{
+    let mut n = 0;
+    while n < leaves.len() && byte_of(store, leaves[n], at) == byte {
+        n += 1;
+    }
+    n
+}
+
+/// How many groups sorted leaves make by their bytes at a depth.
+fn group_count<K: AsBytes + Drop, V: Drop, const P: usize>(
+    store: &NodeStore<K, V, P>,
+    leaves: &[LeafPtr],
+    at: usize,
+) -> usize
+    requires some { 1 ≤ length leaves.now }
+    requires ready { (front : List ℕ) × ReadyBelow K.bytes store.now.leaves front leaves.now at }
+    ensures count { result ≡ count_groups K.bytes store.now.leaves leaves.now at }
+    ensures bound { result ≤ 256 }
+{
+    let mut last = byte_of(store, leaves[0], at);
+    let mut count = 1;
+    for i in 1..leaves.len() {
+        let byte = byte_of(store, leaves[i], at);
+        if byte != last {
+            count += 1;
+        }
+        last = byte;
+    }
+    count
+}
+
+/// The kind of a node with so many children.
+fn kind_for(children: usize) -> NodeType
+    ensures kind { result ≡ kind_of children }
+    ensures inner { result ≢ Leaf }
+    ensures capacity { children ≤ 256 → children ≤ kind_capacity result }
+{
+    match children {
+        0..=4 => NodeType::Node4,
+        5..=16 => NodeType::Node16,
+        17..=48 => NodeType::Node48,
+        _ => NodeType::Node256,
+    }
+}
+
+
+/// A node for the groups of some leaves, with the part that their keys share, and the depth after that part.
+fn start_node<K: AsBytes + Drop, V: Drop, const P: usize>(
+    store: &NodeStore<K, V, P>,
+    leaves: &[LeafPtr],
+    depth: usize,
+) -> (usize, AnyInner<P>)
+    requires two { 2 ≤ length leaves.now }
+    requires ready { (way : List ℕ) × Ready K.bytes store.now.leaves way leaves.now depth }
+    ensures starts { (way : List ℕ) → Ready K.bytes store.now.leaves way leaves.now depth → Starts K.bytes P store.now.leaves way leaves.now depth result.0 (any_view result.1) }
+    ensures kind { any_kind result.1 ≡ kind_of (count_groups K.bytes store.now.leaves leaves.now result.0) }
+    ensures capacity { count_groups K.bytes store.now.leaves leaves.now result.0 ≤ kind_capacity (any_kind result.1) }
+{
+    let (_, first) = key_of(store, leaves[0]).split_at(depth);
+    let (_, last) = key_of(store, leaves[leaves.len() - 1]).split_at(depth);
+    let len = common_len(first, last);
+    let at = depth + len;
+    let kind = kind_for(group_count(store, leaves, at));
+    (at, AnyInner::from_header(kind, Header::new(first, len)))
+}
+
+/// Builds the tree of sorted leaves, whose keys begin with the same bytes up to a depth, from that depth on.
+#[cycle(nodes)]
+fn build_node<K: AsBytes + Drop, V: Drop, const P: usize>(
+    store: &mut NodeStore<K, V, P>,
+    leaves: &[LeafPtr],
+    depth: usize,
+) -> OpaqueNodePtr
+    requires some { 1 ≤ length leaves.now }
+    requires ready { (way : List ℕ) × Ready K.bytes store.old.leaves way leaves.now depth }
+    requires room { length leaves.now ≤ store.old.room + 1 }
+    ensures built { (way : List ℕ) → Ready K.bytes store.old.leaves way leaves.now depth → Built K.bytes P way leaves.now store.old store.new result }
+    ensures leaves { store.new.leaves ≡ store.old.leaves }
+    ensures kept { KeepsNodes store.old store.new }
+    ensures room { store.old.room + 1 ≤ store.new.room + length leaves.now }
+{
+    if leaves.len() == 1 {
+        return leaves[0].to_opaque();
+    }
+    let (at, mut node) = start_node(store, leaves, depth);
+    build_below(store, leaves, at, &mut node);
+    match store.place_inner(node) {
+        Ok(name) => name.to_opaque(),
+        Err(_) => unreachable!(),
+    }
+}
+
+/// Builds the children of a node from sorted leaves, whose keys have the same bytes up to a depth and a byte there.
+#[cycle(nodes)]
+fn build_below<K: AsBytes + Drop, V: Drop, const P: usize>(
+    store: &mut NodeStore<K, V, P>,
+    leaves: &[LeafPtr],
+    at: usize,
+    node: &mut AnyInner<P>,
+)
+    requires ready { (front : List ℕ) × ReadyBelow K.bytes store.old.leaves front leaves.now at }
+    requires below { AreBelow K.bytes store.old.leaves leaves.now at (any_view node.old) }
+    requires place { length (any_view node.old).children + count_groups K.bytes store.old.leaves leaves.now at ≤ kind_capacity (any_kind node.old) }
+    requires room { length leaves.now ≤ store.old.room + 1 }
+    ensures built { (front : List ℕ) → ReadyBelow K.bytes store.old.leaves front leaves.now at → BuiltBelow K.bytes P front leaves.now store.old store.new (any_view node.old) (any_view node.new) }
+    ensures kind { any_kind node.new ≡ any_kind node.old }
+    ensures leaves { store.new.leaves ≡ store.old.leaves }
+    ensures kept { KeepsNodes store.old store.new }
+    ensures room { store.old.room + length (any_view node.new).children ≤ store.new.room + length leaves.now + length (any_view node.old).children }
+{
+    if leaves.is_empty() {
+        return;
+    }
+    let byte = byte_of(store, leaves[0], at);
+    let (group, others) = leaves.split_at(group_end(store, leaves, at, byte));
+    let child = build_node(store, group, at + 1);
+    node.write_child(byte, child);
+    build_below(store, others, at, node);
+}
+
+/// Places a leaf for each pair, in order, and lists the names.
+fn place_leaves<K: AsBytes + Drop, V: Drop, const P: usize>(
+    store: &mut NodeStore<K, V, P>,
+    pairs: Vec<(K, V)>,
+    names: &mut Vec<LeafPtr>,
+)
+    requires empty { names.old.items ≡ [] }
+    requires capacity { length pairs.items ≤ vec_capacity names.old }
+    requires room { length pairs.items ≤ store.old.room }
+    ensures placed { IsPlaced store.old.leaves store.new.leaves names.new.items pairs.items }
+    ensures inners { store.new.inners ≡ store.old.inners }
+    ensures room { store.old.room ≤ store.new.room + length pairs.items }
+{
+    for (key, value) in pairs {
+        match store.place_leaf(LeafNode::with_no_siblings(key, value)) {
+            Ok(name) => names.push_reserved(name),
+            Err(_) => unreachable!(),
+        }
+    }
+}
+
+/// Links the leaves of a list, each to the one before it and the one after it.
+fn link_leaves<K: AsBytes + Drop, V: Drop, const P: usize>(
+    store: &mut NodeStore<K, V, P>,
+    names: &[LeafPtr],
+)
+    requires there { Each (λ p. IsSome (map.get store.old.leaves p)) names.now }
+    requires distinct { AreDistinct names.now }
+    ensures linked { AreLinked (links_at store.new) None (list_map leaf_name names.now) None }
+    ensures keeps { KeepsPairs store.old.leaves store.new.leaves names.now }
+    ensures inners { store.new.inners ≡ store.old.inners }
+    ensures room { store.new.room ≡ store.old.room }
+{
+    let mut previous = None;
+    for i in 0..names.len() {
+        store.set_links(names[i], previous, names.get(i + 1).copied());
+        previous = Some(names[i]);
+    }
+}
+
+/// Builds the canonical tree of a map in a store, and answers its root: none where there are no pairs.
+///
+/// It takes no memory: `names` is where it lists the leaves. The time is that of reading each key once
+/// for each inner node on the way to its leaf.
+pub fn build<K: AsBytes + Drop, V: Drop, const P: usize>(
+    store: &mut NodeStore<K, V, P>,
+    pairs: Vec<(K, V)>,
+    mut names: Vec<LeafPtr>,
+) -> Option<OpaqueNodePtr>
+    requires map { IsMap (of_key K.bytes) pairs.items }
+    requires room { 2 * length pairs.items ≤ store.old.room }
+    requires empty { names.items ≡ [] }
+    requires capacity { length pairs.items ≤ vec_capacity names }
+    ensures canonical { IsCanonical (of_key K.bytes) P store.new result pairs.items }
+    ensures kept { KeepsNodes store.old store.new }
+    ensures names { AddsTree (of_key K.bytes) P store.old store.new result pairs.items }
+    ensures fresh { (name : OpaqueNodePtr) → IsInTree (of_key K.bytes) P store.new result pairs.items name → held store.old name ≡ None }
+{
+    place_leaves(store, pairs, &mut names);
+    if names.is_empty() {
+        return None;
+    }
+    link_leaves(store, names.as_slice());
+    Some(build_node(store, names.as_slice(), 0))
+}

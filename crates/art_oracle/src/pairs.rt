@@ -1,0 +1,216 @@
+//! A map as a sorted list of pairs.
+
+ghost use Rattle.std.specs.Prelude.{◌≡◌, ℕ, List, [], ◌∷◌, false, is_ok, IfOk, IfErr, OnOk, OnErr};
+ghost use Rattle.std.specs.Option.{option_to_list};
+ghost use Rattle.art_model.specs.Keys.{is_front};
+ghost use Rattle.art_model.specs.Pairs.{IsMap, put, remove_key, with_key, of_key, is_conflict, has_key};
+ghost use Rattle.art_oracle.specs.SortedPairs.{IsPairOf, IsGapFor, AllBefore, AllAfter};
+
+use art_nodes::node::AsBytes;
+use std::mem;
+
+/// Where the pair of a key is, or where it would go. One comparison for each halving of the list.
+pub fn search<K: AsBytes, V>(pairs: &[(K, V)], key: &[u8]) -> Result<usize, usize>
+    requires { IsMap (of_key K.bytes) pairs.now }
+    ensures stored { is_ok result ≡ has_key (of_key K.bytes) key.now pairs.now }
+    ensures found { IfOk result (λ at. IsPairOf K.bytes pairs.now at key.now) }
+    ensures absent { IfErr result (λ at. IsGapFor K.bytes pairs.now at key.now) }
+
+    // A key that is stored is in no conflict.
+    ensures alone { OnOk result (is_conflict (of_key K.bytes) key.now pairs.now ≡ false) }
+{
+    pairs.binary_search_by(|pair| pair.0.as_bytes().cmp(key))
+}
+
+/// Whether a key that isn't stored is related to a stored one. It looks at the two pairs beside its place.
+#[tactic(auto, using(crate::proofs::Neighbours::conflict_split, crate::proofs::Neighbours::map_low, crate::proofs::Neighbours::map_high))]
+pub fn has_related<K: AsBytes, V>(pairs: &[(K, V)], at: usize, key: &[u8]) -> bool
+    requires map { IsMap (of_key K.bytes) pairs.now }
+    requires gap { IsGapFor K.bytes pairs.now at key.now }
+    ensures { result ≡ is_conflict (of_key K.bytes) key.now pairs.now }
+{
+    let (low, high) = pairs.split_at(at);
+    follows_related(low, key) || precedes_related(high, key)
+}
+
+// Whether a key after all of these is related to one: only the last can be.
+fn follows_related<K: AsBytes, V>(pairs: &[(K, V)], key: &[u8]) -> bool
+    requires map { IsMap (of_key K.bytes) pairs.now }
+    requires before { AllBefore K.bytes key.now pairs.now }
+    ensures { result ≡ is_conflict (of_key K.bytes) key.now pairs.now }
+{
+    match pairs.last() {
+        Some(pair) => is_front_of(pair.0.as_bytes(), key),
+        None => false,
+    }
+}
+
+// Whether a key before all of these is related to one: if any is, the first is.
+fn precedes_related<K: AsBytes, V>(pairs: &[(K, V)], key: &[u8]) -> bool
+    requires map { IsMap (of_key K.bytes) pairs.now }
+    requires after { AllAfter K.bytes key.now pairs.now }
+    ensures { result ≡ is_conflict (of_key K.bytes) key.now pairs.now }
+{
+    match pairs.first() {
+        Some(pair) => is_front_of(key, pair.0.as_bytes()),
+        None => false,
+    }
+}
+
+// Whether a list of bytes begins with another.
+fn is_front_of(front: &[u8], whole: &[u8]) -> bool
+    ensures { result ≡ is_front front.now whole.now }
+{
+    whole.starts_with(front)
+}
+
+/// Whether a key has a pair.
+pub fn contains<K: AsBytes, V>(pairs: &[(K, V)], key: &[u8]) -> bool
+    requires { IsMap (of_key K.bytes) pairs.now }
+    ensures { result ≡ has_key (of_key K.bytes) key.now pairs.now }
+{
+    search(pairs, key).is_ok()
+}
+
+/// Puts a pair in the place of the one with its key, and answers that one.
+pub fn replace_at<K: AsBytes, V>(pairs: &mut Vec<(K, V)>, at: usize, key: K, value: V) -> (K, V)
+    requires map { IsMap (of_key K.bytes) pairs.old.items }
+    requires here { IsPairOf K.bytes pairs.old.items at (K.bytes key) }
+    ensures pairs { pairs.new.items ≡ put (of_key K.bytes) (key, value) pairs.old.items }
+    ensures old { with_key (of_key K.bytes) (K.bytes key) pairs.old.items ≡ result ∷ [] }
+    ensures map { IsMap (of_key K.bytes) pairs.new.items }
+{
+    mem::replace(&mut pairs[at], (key, value))
+}
+
+/// Puts a pair in between, at the place of its key, or hands it back where there is no memory.
+pub fn insert_at<K: AsBytes, V>(
+    pairs: &mut Vec<(K, V)>,
+    at: usize,
+    key: K,
+    value: V,
+) -> Result<(), (K, V)>
+    requires map { IsMap (of_key K.bytes) pairs.old.items }
+    requires gap { IsGapFor K.bytes pairs.old.items at (K.bytes key) }
+    requires unrelated { is_conflict (of_key K.bytes) (K.bytes key) pairs.old.items ≡ false }
+    ensures pairs { OnOk result (pairs.new.items ≡ put (of_key K.bytes) (key, value) pairs.old.items) }
+    ensures old { with_key (of_key K.bytes) (K.bytes key) pairs.old.items ≡ [] }
+    ensures map { IsMap (of_key K.bytes) pairs.new.items }
+    ensures refused { OnErr result (pairs.new.items ≡ pairs.old.items) }
+    ensures handed_back { IfErr result (λ pair. pair ≡ (key, value)) }
+{
+    pairs
+        .insert(at, (key, value))
+        .map_err(|failed| failed.value)
+}
+
+/// Takes the pair of a key out, if there is one.
+pub fn remove<K: AsBytes, V>(pairs: &mut Vec<(K, V)>, key: &[u8]) -> Option<(K, V)>
+    requires { IsMap (of_key K.bytes) pairs.old.items }
+    ensures pairs { pairs.new.items ≡ remove_key (of_key K.bytes) key.now pairs.old.items }
+    ensures old { with_key (of_key K.bytes) key.now pairs.old.items ≡ option_to_list result }
+    ensures map { IsMap (of_key K.bytes) pairs.new.items }
+{
+    match search(pairs, key) {
+        Ok(at) => Some(pairs.remove(at)),
+        Err(_) => None,
+    }
+}
+
+#[cfg(test)]
+mod tests {
+    use super::*;
+    use art_test_support::all_memory;
+    use std::alloc::{AllocError, Global};
+    use std::test::Fail;
+
+    // A caller: puts a pair in if no stored key is equal or related, and answers whether it did.
+    fn insert_apart<K: AsBytes + Drop, V: Drop>(
+        pairs: &mut Vec<(K, V)>,
+        key: K,
+        value: V,
+    ) -> Result<bool, AllocError>
+        requires { IsMap (of_key K.bytes) pairs.old.items }
+        ensures { IsMap (of_key K.bytes) pairs.new.items }
+    {
+        match search(pairs, key.as_bytes()) {
+            Err(at) if !has_related(pairs, at, key.as_bytes()) => {
+                insert_at(pairs, at, key, value).map_err(|_| AllocError)?;
+                Ok(true)
+            }
+            _ => Ok(false),
+        }
+    }
+
+    // A caller: gives a stored key another value, and answers the old one.
+    fn replace<K: AsBytes + Drop, V: Drop>(pairs: &mut Vec<(K, V)>, key: K, value: V) -> Option<V>
+        requires { IsMap (of_key K.bytes) pairs.old.items }
+        ensures { IsMap (of_key K.bytes) pairs.new.items }
+    {
+        let Ok(at) = search(pairs, key.as_bytes()) else {
+            return None;
+        };
+        let (_, old) = replace_at(pairs, at, key, value);
+        Some(old)
+    }
+
+    // The keys [1], [2, 1] and [2, 3], with the values 10, 20 and 30.
+    fn three_pairs(alloc: Global) -> Result<Vec<(Vec<u8>, u32)>, AllocError>
+        ensures { IfOk result (λ pairs. IsMap (of_key ⟦<Vec<u8> as AsBytes>⟧.bytes) pairs.items) }
+    {
+        let mut pairs = Vec::new(alloc);
+        insert_apart(&mut pairs, [2, 3].to_vec(alloc)?, 30)?;
+        insert_apart(&mut pairs, [1].to_vec(alloc)?, 10)?;
+        insert_apart(&mut pairs, [2, 1].to_vec(alloc)?, 20)?;
+        Ok(pairs)
+    }
+
+    #[test]
+    fn keeps_keys_in_order(rt: HostRuntime) -> Result<(), Fail> {
+        let pairs = three_pairs(rt.alloc())?;
+        assert_eq!(rt; search(&pairs, &[1]), Ok(0));
+        assert_eq!(rt; search(&pairs, &[2, 3]), Ok(2));
+        assert_eq!(rt; search(&pairs, &[2]), Err(1));
+        assert!(rt; contains(&pairs, &[1]));
+        assert!(rt; !contains(&pairs, &[1, 0]));
+        Ok(())
+    }
+
+    #[test]
+    fn sees_related_keys(rt: HostRuntime) -> Result<(), Fail> {
+        let alloc = rt.alloc();
+        let mut pairs = three_pairs(alloc)?;
+        assert!(rt; !insert_apart(&mut pairs, [2].to_vec(alloc)?, 0)?);
+        assert!(rt; !insert_apart(&mut pairs, [1, 0].to_vec(alloc)?, 0)?);
+        assert!(rt; insert_apart(&mut pairs, [2, 2].to_vec(alloc)?, 0)?);
+        assert_eq!(rt; pairs.len(), 4);
+        Ok(())
+    }
+
+    #[test]
+    fn replaces_and_removes(rt: HostRuntime) -> Result<(), Fail> {
+        let alloc = rt.alloc();
+        let mut pairs = three_pairs(alloc)?;
+        assert_eq!(rt; replace(&mut pairs, [2, 1].to_vec(alloc)?, 21), Some(20));
+        assert_eq!(rt; replace(&mut pairs, [2].to_vec(alloc)?, 0), None);
+        let (_, gone) = remove(&mut pairs, &[2, 1]).ok_or("the pair")?;
+        assert_eq!(rt; gone, 21);
+        assert!(rt; remove(&mut pairs, &[2, 1]).is_none());
+        assert_eq!(rt; pairs.len(), 2);
+        Ok(())
+    }
+
+    #[test]
+    fn refused_insertion_leaves_the_list(rt: HostRuntime) -> Result<(), Fail> {
+        let alloc = rt.alloc();
+        let mut pairs = Vec::new(alloc);
+        let held = all_memory(alloc)?;
+        let inserted = insert_apart(&mut pairs, [7], 70);
+        drop(held);
+        assert!(rt; inserted.is_err());
+        assert!(rt; pairs.is_empty());
+        assert!(rt; insert_apart(&mut pairs, [7], 70)?);
+        assert_eq!(rt; search(&pairs, &[7]), Ok(0));
+        Ok(())
+    }
+}

@@ -1,0 +1,5 @@
+pub mod KeyLemmas
+pub mod Numbers
+pub mod Requests
+pub mod Subtrees
+pub mod Words

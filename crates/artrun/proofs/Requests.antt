@@ -1,0 +1,34 @@
+-- Lines that ask for nothing: what stands after their first word is wrong.
+use Rattle.std.proofs.Common.{◌≡◌, ◌≢◌, ℕ, ◌<◌, ◌^◌, List, ◌∷◌, ◌++◌, drop, get_or, ap, sym, ◌∙◌, subst, arith, codes}
+use Rattle.std.proofs.Math.Logic.{∥∥₁_elim}
+use Rattle.std.specs.Fmt.{decimal}
+use Rattle.artrun.specs.Keys.{IsKeyWord}
+use Rattle.artrun.specs.Lines.{line_of, HasSmallValue}
+use Rattle.artrun.specs.declared.line.KeyWord.{KeyWord}
+use Rattle.artrun.specs.declared.line.Request.{Request}
+use Rattle.artrun.specs.declared.line.Request.TheVariants.{Insert, Delete, Find, Nodes}
+
+abbrev first : List ℕ → ℕ
+first line = get_or line 0 0
+
+no_key : (key : KeyWord) (word : List ℕ) → word ≡ key.word.now → ¬ (IsKeyWord word) → ⊥
+no_key key word is none = ∥∥₁_elim key.is_key (λ x y. absurd x) (λ k. none (subst IsKeyWord (sym is) k))
+
+pub no_insert : (line words : List ℕ) → line ≡ codes "insert " ++ words → ((key : List ℕ) (value : ℕ) → IsKeyWord key → value < 2 ^ 32 → words ≢ key ++ 32 ∷ decimal value) → (request : Request) → HasSmallValue request → line ≢ line_of request
+no_insert line words is none (Insert key value) small same =
+    ∥∥₁_elim key.is_key (λ x y. absurd x) (λ k. none key.word.now value k small (ap (drop 7) (sym is ∙ same)))
+no_insert line words is none (Delete key) small same = omega (arith, ap first (sym is ∙ same))
+no_insert line words is none (Find key) small same = omega (arith, ap first (sym is ∙ same))
+no_insert line words is none Nodes small same = omega (arith, ap first (sym is ∙ same))
+
+pub no_delete : (line word : List ℕ) → line ≡ codes "delete " ++ word → ¬ (IsKeyWord word) → (request : Request) → HasSmallValue request → line ≢ line_of request
+no_delete line word is none (Insert key value) small same = omega (arith, ap first (sym is ∙ same))
+no_delete line word is none (Delete key) small same = no_key key word (ap (drop 7) (sym is ∙ same)) none
+no_delete line word is none (Find key) small same = omega (arith, ap first (sym is ∙ same))
+no_delete line word is none Nodes small same = omega (arith, ap first (sym is ∙ same))
+
+pub no_find : (line word : List ℕ) → line ≡ codes "find " ++ word → ¬ (IsKeyWord word) → (request : Request) → HasSmallValue request → line ≢ line_of request
+no_find line word is none (Insert key value) small same = omega (arith, ap first (sym is ∙ same))
+no_find line word is none (Delete key) small same = omega (arith, ap first (sym is ∙ same))
+no_find line word is none (Find key) small same = no_key key word (ap (drop 5) (sym is ∙ same)) none
+no_find line word is none Nodes small same = omega (arith, ap first (sym is ∙ same))

@@ -1,0 +1,22 @@
+-- Trees of the program's keys and values.
+use Rattle.std.specs.Prelude.{ℕ, List, Option, Vec}
+use Rattle.std.specs.declared.alloc.Global.{Global}
+use Rattle.art_nodes.specs.Nodes.{Nodes}
+use Rattle.art_nodes.specs.declared.node.OpaqueNodePtr.{OpaqueNodePtr}
+use Rattle.art_model.specs.Pairs.{of_key}
+use Rattle.art_model.specs.Trees.{Tree}
+use Rattle.art_model.specs.Layouts.{IsLayout}
+use Rattle.art_model.specs.Stores.{node_at}
+use Rattle.art_model.specs.Canonical.{IsCanonical}
+
+-- the name stands for a tree in the store
+abbrev pub IsTreeIn : {K V : Type 0} → Nodes K V → OpaqueNodePtr → Type 0
+IsTreeIn {K} {V} s root = ∥ ((layout : Tree OpaqueNodePtr (K × V)) × IsLayout (node_at s) root layout) ∥₁
+
+-- a key as a vector of bytes
+abbrev pub Key : Type 0
+Key = Vec ℕ Global
+
+-- the root is the canonical tree of some pairs
+abbrev pub HasCanonicalTree : Nodes Key ℕ → Option OpaqueNodePtr → Type 0
+HasCanonicalTree s root = ∥ ((pairs : List (Key × ℕ)) × IsCanonical (of_key (λ key. key.items)) 4 s root pairs) ∥₁

@@ -1,0 +1,171 @@
+use super::*;
+use std::io::{BufReader, ErrorKind, Read};
+use std::test::Fail;
+
+/// Reads from memory, at most 7 bytes a call; the call at which `calls` is 0 fails.
+#[derive(Drop)]
+struct Source<'a> {
+    rest: &'a [u8],
+    calls: u32,
+}
+
+impl Read for Source<'_> {
+    fn read(&mut self, buf: &mut [u8]) -> io::Result<usize> {
+        if self.calls == 0 {
+            return Err(io::Error::from(ErrorKind::Other));
+        }
+        self.calls -= 1;
+        let count = buf.len().min(self.rest.len()).min(7);
+        let (front, rest) = self.rest.split_at(count);
+        buf[..count].copy_from_slice(front);
+        self.rest = rest;
+        Ok(count)
+    }
+}
+
+/// Writes to memory, at most 5 bytes a call; the call at which `calls` is 0 fails, be it to write or to flush.
+#[derive(Drop)]
+struct Sink<'a> {
+    held: &'a mut Vec<u8>,
+    calls: u32,
+}
+
+impl Sink<'_> {
+    fn call(&mut self) -> io::Result<()> {
+        if self.calls == 0 {
+            return Err(io::Error::from(ErrorKind::Other));
+        }
+        self.calls -= 1;
+        Ok(())
+    }
+}
+
+impl Write for Sink<'_> {
+    fn write(&mut self, buf: &[u8]) -> io::Result<usize> {
+        self.call()?;
+        let count = buf.len().min(5);
+        self.held.extend_from_slice(&buf[..count])?;
+        Ok(count)
+    }
+
+    fn flush(&mut self) -> io::Result<()> {
+        self.call()
+    }
+}
+
+const LINES: &[u8] =
+    b"insert 1.2 3\ninsert 1.4 5\nnodes\nfind 1.2\ndelete 1.2\ndelete 7\ninsert 1 1";
+
+const REPLIES: &[u8] =
+    b"inserted\ninserted\n*: Node4 prefix 1 stored 1 children 2\n  2: Leaf 1.2=3\n  4: Leaf 1.4=5\nyes\ndeleted 1.2 3\nabsent\nconflict: Attempted to insert a key [[1]] which is either a prefix of an existing key or an existing key is a prefix of the new key.\n";
+
+fn served(alloc: Global, lines: &[u8]) -> (u8, Vec<u8>) {
+    let mut replies = Vec::new(alloc);
+    let status = serve(alloc, lines, &mut replies);
+    (status, replies)
+}
+
+#[test]
+fn answers_each_line(rt: HostRuntime) {
+    let (status, replies) = served(rt.alloc(), LINES);
+    assert_eq!(rt; replies.as_slice(), REPLIES);
+    assert_eq!(rt; status, 0);
+}
+
+#[test]
+fn formats(rt: HostRuntime) {
+    for (lines, replies, status) in [
+        (b"".as_slice(), b"".as_slice(), 0),
+        (b"nodes\n", b"empty\n", 0),
+        (b"insert 1 4294967295", b"inserted\n", 0),
+        (
+            b"insert - 5\ninsert - 6\nnodes\n",
+            b"inserted\nreplaced - 5\n*: Leaf -=6\n",
+            0,
+        ),
+        (
+            b"insert 0.255.10 0\ndelete 0.255.10",
+            b"inserted\ndeleted 0.255.10 0\n",
+            0,
+        ),
+        (b"find -\ninsert - 1\nfind -", b"no\ninserted\nyes\n", 0),
+        (b"find 1\n\n", b"no\nline 2: refused\n", 2),
+        (
+            b"insert 1 1\nnodes \nfind 1",
+            b"inserted\nline 2: refused\n",
+            2,
+        ),
+    ] {
+        let (was, wrote) = served(rt.alloc(), lines);
+        assert_eq!(rt; wrote.as_slice(), replies, "at {lines:?}");
+        assert_eq!(rt; was, status, "at {lines:?}");
+    }
+}
+
+#[test]
+fn refuses_bad_lines(rt: HostRuntime) {
+    for line in [
+        b"\n".as_slice(),
+        b"insert 01 1",
+        b"insert 1  1",
+        b"insert 1 4294967296",
+        b"insert -.1 1",
+        b"find 1.",
+        b"find 256",
+        b"walk ",
+        b"walk\r",
+        b"nodes ",
+        b"nodes\r",
+        b"Insert 1 1",
+        b"find +1",
+        b"find \xc2\xb2",
+    ] {
+        let (status, replies) = served(rt.alloc(), line);
+        assert_eq!(rt;
+            replies.as_slice(),
+            b"line 1: refused\n".as_slice(),
+            "at {line:?}"
+        );
+        assert_eq!(rt; status, 2, "at {line:?}");
+    }
+}
+
+#[test]
+fn each_read_fails(rt: HostRuntime) -> Result<(), Fail> {
+    let mut answered = 0u32;
+    for calls in 0..30 {
+        let mut replies = Vec::new(rt.alloc());
+        let input = BufReader::new(rt.alloc(), Source { rest: LINES, calls })?;
+        let status = serve(rt.alloc(), input, &mut replies);
+        assert!(rt; REPLIES.starts_with(replies.as_slice()), "at call {calls}");
+        if status == 0 {
+            answered = answered.saturating_add(1);
+            assert_eq!(rt; replies.as_slice(), REPLIES, "at call {calls}");
+        } else {
+            assert_eq!(rt; status, 1, "at call {calls}");
+        }
+    }
+    assert!(rt; answered != 0 && answered != 30);
+    Ok(())
+}
+
+#[test]
+fn each_write_fails(rt: HostRuntime) {
+    let mut answered = 0u32;
+    for calls in 0..120 {
+        let mut replies = Vec::new(rt.alloc());
+        let output = Sink {
+            held: &mut replies,
+            calls,
+        };
+        let status = serve(rt.alloc(), LINES, output);
+        assert!(rt; REPLIES.starts_with(replies.as_slice()), "at call {calls}");
+        if status == 0 {
+            answered = answered.saturating_add(1);
+            assert_eq!(rt; replies.as_slice(), REPLIES, "at call {calls}");
+        } else {
+            assert_eq!(rt; status, 1, "at call {calls}");
+        }
+    }
+    assert!(rt; answered != 0 && answered != 120);
+}

@@ -1,0 +1,120 @@
+//! What is written in reply.
+ghost use Rattle.std.specs.Prelude.{IfSome};
+ghost use Rattle.artrun.specs.Trees.{IsTreeIn};
+
+use art_nodes::node::{LeafNode, NodePtr, OpaqueNodePtr};
+use art_nodes::store::NodeStore;
+use art_operations::run::Reply;
+use std::io::Write;
+use std::{fmt, io};
+
+/// A key, which is displayed as a line writes it: `-` for the empty one, or its bytes in decimal joined by dots.
+#[derive(Clone, Copy)]
+struct Key<'a>(&'a [u8]);
+
+impl fmt::Display for Key<'_> {
+    fn fmt<W: fmt::Write>(&self, f: &mut fmt::Formatter<W>) -> fmt::Result {
+        let Some((first, others)) = self.0.split_first() else {
+            return f.write_str("-");
+        };
+        write!(f, "{first}")?;
+        for byte in others {
+            write!(f, ".{byte}")?;
+        }
+        Ok(())
+    }
+}
+
+/// Where a node stands, which is displayed as the beginning of its line: two spaces for each inner node above it, and
+/// the byte that it is the child under, or `*` for the root.
+#[derive(Clone, Copy)]
+struct Place {
+    depth: usize,
+    byte: Option<u8>,
+}
+
+impl fmt::Display for Place {
+    fn fmt<W: fmt::Write>(&self, f: &mut fmt::Formatter<W>) -> fmt::Result {
+        for _ in 0..self.depth {
+            f.write_str("  ")?;
+        }
+        match self.byte {
+            Some(byte) => write!(f, "{byte}: "),
+            None => f.write_str("*: "),
+        }
+    }
+}
+
+/// Writes the reply to a command, a line.
+pub fn write_reply(output: &mut impl Write, reply: &Reply<Vec<u8>, u32>) -> io::Result<()> {
+    match reply {
+        Reply::Inserted(None) => writeln!(output, "inserted"),
+        Reply::Inserted(Some((key, value))) => writeln!(output, "replaced {} {value}", Key(key)),
+        Reply::Conflict(_, _, error) => writeln!(output, "conflict: {error}"),
+        Reply::Deleted(None) => writeln!(output, "absent"),
+        Reply::Deleted(Some((key, value))) => writeln!(output, "deleted {} {value}", Key(key)),
+        Reply::Found(true) => writeln!(output, "yes"),
+        Reply::Found(false) => writeln!(output, "no"),
+        Reply::NoMemory(_) => write_no_memory(output),
+    }
+}
+
+pub fn write_no_memory(output: &mut impl Write) -> io::Result<()> {
+    writeln!(output, "no memory")
+}
+
+/// Writes the nodes of a tree, a line each: the root, and after each inner node its children in the order of their
+/// bytes, each with all that stands below it.
+pub fn write_nodes<const P: usize>(
+    output: &mut impl Write,
+    store: &NodeStore<Vec<u8>, u32, P>,
+    root: Option<OpaqueNodePtr>,
+) -> io::Result<()>
+    requires { IfSome root (IsTreeIn store.now) }
+{
+    let place = Place {
+        depth: 0,
+        byte: None,
+    };
+    match root {
+        Some(root) => write_subtree(output, store, root, place),
+        None => writeln!(output, "empty"),
+    }
+}
+
+fn write_subtree<const P: usize>(
+    output: &mut impl Write,
+    store: &NodeStore<Vec<u8>, u32, P>,
+    root: OpaqueNodePtr,
+    place: Place,
+) -> io::Result<()>
+    requires { IsTreeIn store.now root }
+{
+    match root.split() {
+        NodePtr::Leaf(name) => match store.leaf(name) {
+            Some(leaf) => writeln!(output, "{place}Leaf {}={}", Key(&leaf.key), leaf.value),
+            None => unreachable!(),
+        },
+        NodePtr::Inner(name) => match store.inner(name) {
+            Some(node) => {
+                let kind = node.node_type();
+                let len = node.prefix_len();
+                let stored = Key(node.read_prefix());
+                let count = node.num_children();
+                writeln!(
+                    output,
+                    "{place}{kind} prefix {len} stored {stored} children {count}"
+                )?;
+                for (byte, child) in node.iter() {
+                    let place = Place {
+                        depth: place.depth.saturating_add(1),
+                        byte: Some(byte),
+                    };
+                    write_subtree(output, store, child, place)?;
+                }
+                Ok(())
+            }
+            None => unreachable!(),
+        },
+    }
+}

@@ -1,0 +1,67 @@
+// Refuses requests for memory of the process that it is preloaded into. REFUSE_AT is the number of
+// the request that is refused, counted from 1 (0 or unset: none); with REFUSE_ALL=1 each later one is
+// refused too. At the end it writes 'requests=N refused=M' to the file descriptor REFUSE_FD.
+#define _GNU_SOURCE
+#include <errno.h>
+#include <stdio.h>
+#include <stdlib.h>
+#include <unistd.h>
+
+extern void *__libc_malloc(size_t);
+extern void *__libc_calloc(size_t, size_t);
+extern void *__libc_realloc(void *, size_t);
+extern void *__libc_memalign(size_t, size_t);
+
+static unsigned long requests, refused, at;
+static int all, descriptor = -1, counting;
+
+static unsigned long number(const char *name) {
+    const char *text = getenv(name);
+    return text ? strtoul(text, NULL, 10) : 0;
+}
+
+__attribute__((constructor)) static void begin(void) {
+    at = number("REFUSE_AT");
+    all = number("REFUSE_ALL") == 1;
+    if (getenv("REFUSE_FD")) descriptor = (int)number("REFUSE_FD");
+    counting = 1;
+}
+
+static int is_refused(void) {
+    if (!counting) return 0;
+    requests++;
+    if (at == 0 || requests < at || (requests > at && !all)) return 0;
+    refused++;
+    errno = ENOMEM;
+    return 1;
+}
+
+void *malloc(size_t size) {
+    return is_refused() ? NULL : __libc_malloc(size);
+}
+
+void *calloc(size_t count, size_t size) {
+    return is_refused() ? NULL : __libc_calloc(count, size);
+}
+
+void *realloc(void *block, size_t size) {
+    return is_refused() ? NULL : __libc_realloc(block, size);
+}
+
+void *aligned_alloc(size_t alignment, size_t size) {
+    return is_refused() ? NULL : __libc_memalign(alignment, size);
+}
+
+int posix_memalign(void **block, size_t alignment, size_t size) {
+    if (is_refused()) return ENOMEM;
+    *block = __libc_memalign(alignment, size);
+    return *block ? 0 : ENOMEM;
+}
+
+__attribute__((destructor)) static void end(void) {
+    char line[80];
+    counting = 0;
+    if (descriptor < 0) return;
+    int length = snprintf(line, sizeof line, "requests=%lu refused=%lu\n", requests, refused);
+    if (write(descriptor, line, (size_t)length) < 0) _exit(125);
+}
