@@ -1,5 +1,5 @@
 -- a store's maps from what a tree sees in them
-use Rattle.std.proofs.Common.{◌≡◌, ◌≢◌, ℕ, List, Option, Some, None, refl, ap, sym, ◌∙◌, is_some, true}
+use Rattle.std.proofs.Common.{◌≡◌, ◌≢◌, ℕ, List, Option, Some, None, refl, ap, sym, ◌∙◌, is_some, true, ◌⊎◌, inl, inr}
 use Rattle.std.specs.Option.{option_map}
 use Rattle.std.specs.FinMap as map
 use Rattle.art_nodes.specs.Inner.{Inner}
@@ -71,3 +71,20 @@ module _ {K V : Type 0} (s : Nodes K V) where
   -- a name that stands for an inner node is one of the store's inner names
   pub inner_is_used : (n : OpaqueNodePtr) (h : Header) (slots : List (ℕ × OpaqueNodePtr)) → node_at s n ≡ Some (inner_node h slots) → is_some (map.get s.inners (record { kind = n.kind; slot = n.slot })) ≡ true
   inner_is_used n h slots e = inner_used n.kind n.slot h slots e
+
+-- a name is that of a leaf, or has an inner kind
+pub leaf_or : (k : OpaqueNodePtr) → ((p : LeafPtr) × (k ≡ leaf_name p)) ⊎ (k.kind ≢ Leaf)
+leaf_or k = go k.kind k.slot refl
+  where
+    name : NodeType → ℕ → OpaqueNodePtr
+    name kind slot = record { kind = kind; slot = slot }
+
+    other : (kind : NodeType) (slot : ℕ) → k ≡ name kind slot → kind ≢ Leaf → k.kind ≢ Leaf
+    other kind slot e off f = off (sym (ap (λ (z : OpaqueNodePtr). z.kind) e) ∙ f)
+
+    go : (kind : NodeType) (slot : ℕ) → k ≡ name kind slot → ((p : LeafPtr) × (k ≡ leaf_name p)) ⊎ (k.kind ≢ Leaf)
+    go Leaf slot e = inl (record { slot = slot }, e)
+    go Node4 slot e = inr (other Node4 slot e (λ f. absurd cc))
+    go Node16 slot e = inr (other Node16 slot e (λ f. absurd cc))
+    go Node48 slot e = inr (other Node48 slot e (λ f. absurd cc))
+    go Node256 slot e = inr (other Node256 slot e (λ f. absurd cc))
