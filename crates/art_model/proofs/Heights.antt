@@ -14,6 +14,7 @@ use Rattle.art_model.specs.Trees.{Tree, leaf, inner, Children, child, no_child}
 use Rattle.art_model.specs.Layouts.{Node, name_of, slots_of, names_of, inner_names, inner_names_below, Holds, HoldsBelow, AreDistinct}
 use Rattle.art_model.specs.Heights.{highest, height, tree_height, height_below}
 use Rattle.art_model.specs.Stores.{node_at}
+use Rattle.art_model.specs.Writes.{as_inner}
 use Rattle.art_model.proofs.Views.{inner_is_used}
 use Rattle.art_model.proofs.Lists.{Each-append}
 use Rattle.art_model.proofs.Names.{taken_distinct, takes_inners}
@@ -44,9 +45,6 @@ module _ {N A : Type 0} where
     height_below_long (child b t cs) = let l = height_long t in let k = height_below_long cs in rw length-append (omega arith)
 
 -- distinct names that a store has are at most as many as it has
-abbrev pub as_inner : OpaqueNodePtr → InnerPtr
-as_inner n = record { kind = n.kind; slot = n.slot }
-
 same_name : (n k : OpaqueNodePtr) → as_inner n ≡ as_inner k → n ≡ k
 same_name n k e = ap (λ p. let r : OpaqueNodePtr = record { kind = p.kind; slot = p.slot } in r) e
 

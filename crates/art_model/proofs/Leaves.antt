@@ -1,23 +1,19 @@
--- A leaf comes between two others, or goes: what the store holds under each name then, and that the chain knows it.
-use Rattle.std.proofs.Common.{◌≡◌, ◌≢◌, ℕ, List, ◌++◌, Option, Some, None, refl, ap, sym, ◌∙◌, subst, ◌⊎◌, inl, inr}
+-- A leaf comes between two others, or goes: what the map of leaves has under each name then, and which names are touched.
+use Rattle.std.proofs.Common.{◌≡◌, ◌≢◌, ℕ, List, [], ◌∷◌, ◌++◌, length, ◌≤◌, arith, Option, Some, None, refl, ap, sym, ◌∙◌, ◌⊎◌, inl, inr}
 use Rattle.std.proofs.lemmas.Bool.{cases_eq}
-use Rattle.std.specs.Option.{option_map, option_and_then}
+use Rattle.std.specs.Option.{option_map}
 use Rattle.std.specs.FinMap.{get, insert}
-use Rattle.art_nodes.specs.Inner.{Inner}
 use Rattle.art_nodes.specs.Names.{leaf_name}
-use Rattle.art_nodes.specs.Nodes.{Nodes}
-use Rattle.art_nodes.specs.declared.node.NodeType.TheVariants.{Leaf}
 use Rattle.art_nodes.specs.declared.node.LeafPtr.{LeafPtr}
 use Rattle.art_nodes.specs.declared.node.OpaqueNodePtr.{OpaqueNodePtr}
 use Rattle.art_nodes.specs.declared.node.LeafNode.{LeafNode}
+use Rattle.art_nodes.proofs.NameLemmas.{leaf_cmp_total, leaf_cmp-IsAntisymmetric}
 use Rattle.art_nodes.proofs.StoreLaws.{leaf_here, leaf_elsewhere, leaf_gone, leaf_gone_elsewhere, leaf_changed_at, leaf_changed_elsewhere}
-use Rattle.art_model.specs.Layouts.{Links, AreLinked, AreDistinct, first_or, last_or}
-use Rattle.art_model.specs.Stores.{held_leaf, held_inner, links_at, links_of, pair_of}
-use Rattle.art_model.specs.Leaves.{Leaves, with_next, with_previous, change_some, joined, with_leaf, without_leaf}
+use Rattle.art_model.specs.Stores.{pair_of}
+use Rattle.art_model.specs.Writes.{Leaves, with_next, with_previous, change_some, joined, with_leaf, without_leaf}
 use Rattle.art_model.specs.Footprints.{IsIn}
-use Rattle.art_model.proofs.Lists.{in_left, in_right}
-use Rattle.art_model.proofs.Links.{Relinked, last_in, first_in, last_not_first}
-use Rattle.art_model.proofs.Views.{held_in_inner, leaf_or}
+use Rattle.art_model.proofs.Lists.{in_either}
+use Rattle.art_model.proofs.Touches.{Touched, touched_none, then_placed, then_changed, then_freed, still_placed, still_changed}
 
 -- two names of leaves are the same, or not
 pub same_leaf : (p q : LeafPtr) → (p ≡ q) ⊎ (p ≢ q)
@@ -48,6 +44,12 @@ module _ {K V : Type 0} where
   change_some_elsewhere m None f q n = refl
   change_some_elsewhere m (Some p) f q n = leaf_changed_elsewhere m p q f (λ e. n (ap Some (sym e)))
 
+  change_some-cong : (other m : Leaves K V) (o : Option LeafPtr) (f : LeafNode K V → LeafNode K V) (q : LeafPtr) → get other q ≡ get m q → get (change_some other o f) q ≡ get (change_some m o f) q
+  change_some-cong other m o f q e = elim (some_leaf o q) [
+    | inl g ↦ change_some_at other o f q g ∙ ap (option_map f) e ∙ sym (change_some_at m o f q g)
+    | inr n ↦ change_some_elsewhere other o f q n ∙ e ∙ sym (change_some_elsewhere m o f q n)
+  ]
+
   -- a change that keeps pairs
   change_some_pair : (m : Leaves K V) (o : Option LeafPtr) (f : LeafNode K V → LeafNode K V) (q : LeafPtr) → ((x : LeafNode K V) → pair_of (f x) ≡ pair_of x) → option_map pair_of (get (change_some m o f) q) ≡ option_map pair_of (get m q)
   change_some_pair m o f q keeps = elim (some_leaf o q) [
@@ -71,6 +73,10 @@ module _ {K V : Type 0} where
     pub joined_elsewhere : (q : LeafPtr) → (before ≡ Some q → ⊥) → (after ≡ Some q → ⊥) → get (joined m before after next previous) q ≡ get m q
     joined_elsewhere q off non = change_some_elsewhere (change_some m before (with_next next)) after (with_previous previous) q non ∙ change_some_elsewhere m before (with_next next) q off
 
+    -- what comes of a name depends on what was there
+    pub joined-cong : (other : Leaves K V) (q : LeafPtr) → get other q ≡ get m q → get (joined other before after next previous) q ≡ get (joined m before after next previous) q
+    joined-cong other q e = change_some-cong (change_some other before (with_next next)) (change_some m before (with_next next)) after (with_previous previous) q (change_some-cong other m before (with_next next) q e)
+
     -- the pairs are what they were
     pub joined_pair : (q : LeafPtr) → option_map pair_of (get (joined m before after next previous) q) ≡ option_map pair_of (get m q)
     joined_pair q = change_some_pair (change_some m before (with_next next)) after (with_previous previous) q (λ _. refl) ∙ change_some_pair m before (with_next next) q (λ _. refl)
@@ -82,6 +88,10 @@ module _ {K V : Type 0} where
     unfolding with_leaf
     with_leaf_here p q = joined_elsewhere (insert m n x) x.previous x.next (Some n) (Some n) n p q ∙ leaf_here m n x
 
+    pub with_leaf_elsewhere : (q : LeafPtr) → q ≢ n → get (with_leaf m n x) q ≡ get (joined m x.previous x.next (Some n) (Some n)) q
+    unfolding with_leaf
+    with_leaf_elsewhere q off = joined-cong m x.previous x.next (Some n) (Some n) (insert m n x) q (leaf_elsewhere m n q x off)
+
     pub with_leaf_pair : (q : LeafPtr) → q ≢ n → option_map pair_of (get (with_leaf m n x) q) ≡ option_map pair_of (get m q)
     unfolding with_leaf
     with_leaf_pair q off = joined_pair (insert m n x) x.previous x.next (Some n) (Some n) q ∙ ap (option_map pair_of) (leaf_elsewhere m n q x off)
@@ -90,67 +100,61 @@ module _ {K V : Type 0} where
     unfolding without_leaf
     without_leaf_here = leaf_gone (joined m x.previous x.next x.next x.previous) n
 
+    pub without_leaf_elsewhere : (q : LeafPtr) → q ≢ n → get (without_leaf m n x) q ≡ get (joined m x.previous x.next x.next x.previous) q
+    unfolding without_leaf
+    without_leaf_elsewhere q off = leaf_gone_elsewhere (joined m x.previous x.next x.next x.previous) n q off
+
     pub without_leaf_pair : (q : LeafPtr) → q ≢ n → option_map pair_of (get (without_leaf m n x) q) ≡ option_map pair_of (get m q)
     unfolding without_leaf
     without_leaf_pair q off = ap (option_map pair_of) (leaf_gone_elsewhere (joined m x.previous x.next x.next x.previous) n q off) ∙ joined_pair m x.previous x.next x.next x.previous q
 
--- ---- the chain
+-- ---- what is touched
+
+-- the name, where there is one
+abbrev pub listed : Option LeafPtr → List LeafPtr
+listed None = []
+listed (Some p) = p ∷ []
+
+pub length-listed : (o : Option LeafPtr) → length (listed o) ≤ 1
+length-listed None = omega arith
+length-listed (Some p) = omega arith
 
 module _ {K V : Type 0} where
-  links_leaf : (u : Nodes K V) (p : LeafPtr) (o : Option (LeafNode K V)) → get u.leaves p ≡ o → links_at u (leaf_name p) ≡ option_and_then links_of (option_map held_leaf o)
-  links_leaf u p o e = ap (λ z. option_and_then links_of (option_map held_leaf z)) e
+  -- the leaf, where a name is given, is there
+  abbrev pub IsThere : Leaves K V → Option LeafPtr → Type 0
+  IsThere m o = (p : LeafPtr) → o ≡ Some p → get m p ≢ None
 
-  -- the links of a leaf after a change
-  relinks : (f : LeafNode K V → LeafNode K V) (a b c d : Option OpaqueNodePtr) → ((y : LeafNode K V) → option_map leaf_name y.previous ≡ a → option_map leaf_name y.next ≡ b → links_of (held_leaf (f y)) ≡ Some (record { previous = c; next = d })) →
-      (o : Option (LeafNode K V)) → option_and_then links_of (option_map held_leaf o) ≡ Some (record { previous = a; next = b }) → option_and_then links_of (option_map held_leaf (option_map f o)) ≡ Some (record { previous = c; next = d })
-  relinks f a b c d h None e = absurd cc
-  relinks f a b c d h (Some y) e =
-      let l : ◌≡◌ {A = Links OpaqueNodePtr} (record { previous = option_map leaf_name y.previous; next = option_map leaf_name y.next }) (record { previous = a; next = b }) = cc in
-      h y (ap (λ z. z.previous) l) (ap (λ z. z.next) l)
+  then_change_some : {old new : Leaves K V} {placed freed changed : List LeafPtr} → Touched old new placed freed changed → (o : Option LeafPtr) (f : LeafNode K V → LeafNode K V) → IsThere old o → IsThere new o → Touched old (change_some new o f) placed freed (listed o ++ changed)
+  then_change_some so_far None f was is = so_far
+  then_change_some so_far (Some p) f was is = then_changed leaf_cmp_total leaf_cmp-IsAntisymmetric so_far p f (was p refl) (is p refl)
 
-  links_inner : (u : Nodes K V) (k : OpaqueNodePtr) → (k.kind ≡ Leaf → ⊥) → links_at u k ≡ None
-  links_inner u k off = ap (option_and_then links_of) (held_in_inner u k.kind k.slot off) ∙ go (get u.inners (record { kind = k.kind; slot = k.slot }))
-    where
-      go : (o : Option Inner) → option_and_then (links_of {K = K} {V = V}) (option_map held_inner o) ≡ None
-      go None = refl
-      go (Some i) = refl
+  there_changed : (m : Leaves K V) (o q : Option LeafPtr) (f : LeafNode K V → LeafNode K V) → IsThere m q → IsThere (change_some m o f) q
+  there_changed m None q f h = h
+  there_changed m (Some n) q f h = λ p e. still_changed leaf_cmp_total leaf_cmp-IsAntisymmetric m n p f (h p e)
 
--- Between the leaves of `xs` and those of `zs` come the leaves of `ns`; of the former only the last one, and of the latter only the first one, has another link.
-pub record AreBeside {K V : Type 0} (s t : Nodes K V) (xs ns zs : List OpaqueNodePtr) (before after next previous : Option LeafPtr) : Type 0 where
-  pub distinct : AreDistinct (xs ++ zs)
-  pub before_is : option_map leaf_name before ≡ last_or xs None
-  pub after_is : option_map leaf_name after ≡ first_or zs None
-  pub next_is : option_map leaf_name next ≡ first_or ns (first_or zs None)
-  pub previous_is : option_map leaf_name previous ≡ last_or ns (last_or xs None)
-  pub inside : AreLinked (links_at t) (last_or xs None) ns (first_or zs None)
-  pub leaves : (p : LeafPtr) → IsIn (leaf_name p) (xs ++ zs) → get t.leaves p ≡ get (joined s.leaves before after next previous) p
+  -- the leaves beside a place change
+  pub then_joined : {old new : Leaves K V} {placed freed changed : List LeafPtr} → Touched old new placed freed changed → (before after next previous : Option LeafPtr) → IsThere old before → IsThere old after → IsThere new before → IsThere new after →
+      Touched old (joined new before after next previous) placed freed (listed after ++ (listed before ++ changed))
+  then_joined {new = new} so_far before after next previous was_b was_a is_b is_a =
+      then_change_some (then_change_some so_far before (with_next next) was_b is_b) after (with_previous previous) was_a (there_changed new before after (with_next next) is_a)
 
-module _ {K V : Type 0} {s t : Nodes K V} {xs ns zs : List OpaqueNodePtr} {before after next previous : Option LeafPtr} (is : AreBeside s t xs ns zs before after next previous) where
-  -- then the chain knows it
-  pub relinked_beside : Relinked (links_at s) (links_at t) xs ns zs
-  relinked_beside = record {
-    on_left = λ l a b last old.
-        let (p, here, e) = named_leaf before l (is.before_is ∙ last) in
-        let among = in_left (leaf_name p) xs zs (subst (λ z. IsIn z xs) e (last_in xs l last)) in
-        subst (λ (k : OpaqueNodePtr). links_at t k ≡ Some (record { previous = a; next = first_or ns (first_or zs None) })) (sym e)
-        (links_leaf t p (option_map (with_next next) (get s.leaves p)) (is.leaves p among ∙ joined_before s.leaves before after next previous p here (λ f. not_both p here f))
-              ∙ relinks (with_next next) a b a (first_or ns (first_or zs None)) (λ y u v. both u is.next_is) (get s.leaves p) (ap (links_at s) (sym e) ∙ old));
-    on_right = λ l a b first old.
-        let (p, here, e) = named_leaf after l (is.after_is ∙ first) in
-        let among = in_right (leaf_name p) xs zs (subst (λ z. IsIn z zs) e (first_in zs l first)) in
-        subst (λ (k : OpaqueNodePtr). links_at t k ≡ Some (record { previous = last_or ns (last_or xs None); next = b })) (sym e)
-        (links_leaf t p (option_map (with_previous previous) (get s.leaves p)) (is.leaves p among ∙ joined_after s.leaves before after next previous p here (λ f. not_both p f here))
-              ∙ relinks (with_previous previous) a b (last_or ns (last_or xs None)) b (λ y u v. both is.previous_is v) (get s.leaves p) (ap (links_at s) (sym e) ∙ old));
-    inside = is.inside;
-    others = λ k i f g. elim (leaf_or k) [
-      | inl (p, e) ↦ subst (λ (z : OpaqueNodePtr). links_at t z ≡ links_at s z) (sym e) (links_leaf t p (get s.leaves p) (is.leaves p (subst (λ z. IsIn z (xs ++ zs)) e i)
-            ∙ joined_elsewhere s.leaves before after next previous p (λ h. f (sym is.before_is ∙ ap (option_map leaf_name) h ∙ ap Some (sym e))) (λ h. g (sym is.after_is ∙ ap (option_map leaf_name) h ∙ ap Some (sym e)))))
-      | inr off ↦ links_inner t k off ∙ sym (links_inner s k off)
-    ];
-  }
-    where
-      not_both : (p : LeafPtr) → before ≡ Some p → after ≡ Some p → ⊥
-      not_both p e f = last_not_first xs zs (leaf_name p) is.distinct (sym is.before_is ∙ ap (option_map leaf_name) e) (sym is.after_is ∙ ap (option_map leaf_name) f)
+  module _ (m : Leaves K V) (n : LeafPtr) (x : LeafNode K V) (before : IsThere m x.previous) (after : IsThere m x.next) where
+    -- a leaf that comes, and at most two that change
+    pub touched_with_leaf : get m n ≡ None → Touched m (with_leaf m n x) (n ∷ []) [] (listed x.next ++ (listed x.previous ++ []))
+    unfolding with_leaf
+    touched_with_leaf free =
+        let still = λ (o : Option LeafPtr) (h : IsThere m o) (p : LeafPtr) (e : o ≡ Some p). still_placed leaf_cmp_total leaf_cmp-IsAntisymmetric m n p x (h p e) in
+        then_joined (then_placed leaf_cmp_total leaf_cmp-IsAntisymmetric (touched_none m) n x free (λ i. i)) x.previous x.next (Some n) (Some n) before after (still x.previous before) (still x.next after)
 
-      both : {a b c d : Option OpaqueNodePtr} → a ≡ b → c ≡ d → ◌≡◌ {A = Option (Links OpaqueNodePtr)} (Some (record { previous = a; next = c })) (Some (record { previous = b; next = d }))
-      both e f = cc
+    -- a leaf that goes, and at most two that change
+    pub touched_without_leaf : get m n ≢ None → (x.previous ≡ Some n → ⊥) → (x.next ≡ Some n → ⊥) → Touched m (without_leaf m n x) [] (n ∷ []) (listed x.next ++ (listed x.previous ++ []))
+    unfolding without_leaf
+    touched_without_leaf here not_before not_after = then_freed leaf_cmp_total leaf_cmp-IsAntisymmetric (then_joined (touched_none m) x.previous x.next x.next x.previous before after before after) n here (λ i. elim (in_either n (listed x.next) (listed x.previous ++ []) i) [
+      | inl j ↦ not_after (in_listed x.next j)
+      | inr j ↦ elim (in_either n (listed x.previous) [] j) [ inl k ↦ not_before (in_listed x.previous k) | inr k ↦ k ]
+    ])
+      where
+        in_listed : (o : Option LeafPtr) → IsIn n (listed o) → o ≡ Some n
+        in_listed None i = absurd i
+        in_listed (Some p) (inl e) = ap Some e
+        in_listed (Some p) (inr i) = absurd i

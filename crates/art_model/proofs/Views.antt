@@ -28,7 +28,7 @@ module _ {K V : Type 0} where
   abbrev pub seen_of : NodeType → Option Inner → Option (Node OpaqueNodePtr (K × V))
   seen_of kind o = option_map (seen kind) (option_map held_inner o)
 
-  seen_inner : (kind : NodeType) (o : Option Inner) (h : Header) (slots : List (ℕ × OpaqueNodePtr)) → seen_of kind o ≡ Some (inner_node h slots) → (node : Inner) × (o ≡ Some node) × (header_at kind node ≡ h) × (node.children ≡ slots)
+  pub seen_inner : (kind : NodeType) (o : Option Inner) (h : Header) (slots : List (ℕ × OpaqueNodePtr)) → seen_of kind o ≡ Some (inner_node h slots) → (node : Inner) × (o ≡ Some node) × (header_at kind node ≡ h) × (node.children ≡ slots)
   seen_inner kind None h slots e = absurd cc
   seen_inner kind (Some node) h slots e = (node, refl, cc, cc)
 
