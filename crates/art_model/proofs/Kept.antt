@@ -1,11 +1,22 @@
--- The inner nodes that stay at each change keep their names: those in the hole, and so all.
-use Rattle.std.proofs.Common.{◌≡◌, ℕ, ◌+◌, List, [], ◌∷◌, ◌++◌, length, take, refl, ap, ap₂, sym, ◌∙◌, subst, true, false, Bool, cond, ltb, inr}
+-- The nodes that stay at each change keep their names: those in the hole, and so all, inner nodes and leaves.
+use Rattle.std.proofs.Common.{◌≡◌, ◌≢◌, ℕ, ◌+◌, List, [], ◌∷◌, ◌++◌, length, take, map, refl, ap, ap₂, sym, ◌∙◌, subst, append-nil, true, false, Bool, cond, ltb, inr}
+use Rattle.std.specs.List.{AllByRecursion as Each}
+use Rattle.std.proofs.lemmas.Bool.{true≢false}
+use Rattle.std.proofs.lemmas.List.{map-append}
+use Rattle.art_model.specs.Keys.{Precedes}
+use Rattle.art_model.specs.Pairs.{Pairwise, IsMap}
 use Rattle.art_model.specs.Trees.{Tree, leaf, inner, Children, child, no_child, Header}
-use Rattle.art_model.specs.Radix.{IsRadix, bytes_of, join}
+use Rattle.art_model.specs.Radix.{IsRadix, bytes_of, join, pairs_of, pairs_below}
+use Rattle.art_model.specs.Layouts.{leaves_of, leaves_below}
+use Rattle.art_model.specs.Paths.{Frame, plug}
 use Rattle.art_model.specs.Places.{least_below, inner_nodes, inner_nodes_below}
 use Rattle.art_model.specs.Footprints.{IsIn}
 use Rattle.art_model.proofs.Lists.{in_left}
+use Rattle.art_model.proofs.Keys.{front_related}
+use Rattle.art_model.proofs.Radix.{radix_map}
+use Rattle.art_model.proofs.Paths.{entries_before, entries_after, leaves_of-plug}
 use Rattle.art_model.proofs.Changes.{two_children}
+use Rattle.art_model.proofs.Entries.{Keep, keep_among, keep_between}
 use Rattle.art_model.proofs.Wholes.{KeepNames, kept_among, kept_head, whole_is, whole_differ, inner_nodes_below-join}
 
 module _ {N A : Type 0} (bytes : A → List ℕ) where
@@ -52,3 +63,53 @@ module _ {N A : Type 0} (bytes : A → List ℕ) (P : ℕ) where
       let below : inner_nodes_below bytes d (join l (child b (leaf n x) r)) ≡ inner_nodes bytes d v ++ [] = inner_nodes-leaf d l r b n x ∙ ap (inner_nodes_below bytes d) one in
       kept_among (inner_nodes bytes (length place) t) (inner_nodes bytes (length place) t) (inner_nodes bytes (length place) u) (whole_differ bytes P t place radix)
       (λ e i. i) (λ e i. inr (subst (IsIn e) (sym below) (in_left e (inner_nodes bytes d v) [] (subst (IsIn e) same i))))
+
+-- ---- leaves: a key that stays keeps its leaf's name
+
+module _ {N A : Type 0} where
+  mutual
+    -- the pairs of the entries are those of the tree
+    pub pairs_of-leaves : (t : Tree N A) → map (λ e. e.0) (leaves_of t) ≡ pairs_of t
+    pairs_of-leaves (leaf n x) = refl
+    pairs_of-leaves (inner n h cs) = pairs_below-leaves cs
+
+    pub pairs_below-leaves : (cs : Children N A) → map (λ e. e.0) (leaves_below cs) ≡ pairs_below cs
+    pairs_below-leaves no_child = refl
+    pairs_below-leaves (child b t cs) = map-append (λ e. e.0) (leaves_of t) (leaves_below cs) ∙ ap₂ (λ (xs ys : List A). xs ++ ys) (pairs_of-leaves t) (pairs_below-leaves cs)
+
+module _ {N A : Type 0} (bytes : A → List ℕ) (P : ℕ) where
+  -- an entry of the second list that has the key of one of the first has its name
+  abbrev pub KeepLeaves : List (A × N) → List (A × N) → Type 0
+  KeepLeaves = Keep (λ e. bytes e.0) (λ e. e.1) (λ e f. Unit {0})
+
+  -- the entries of a radix tree have different keys
+  pub keys_differ : (t : Tree N A) (place : List ℕ) → IsRadix bytes P place t → Pairwise (λ e f. bytes e.0 ≢ bytes f.0) (leaves_of t)
+  keys_differ t place h = from_pairs (leaves_of t) (subst (IsMap bytes) (sym (pairs_of-leaves t)) (radix_map bytes P t place h))
+    where
+      apart : (x y : A) → Precedes (bytes x) (bytes y) → bytes x ≢ bytes y
+      apart x y o e = true≢false (sym (front_related (bytes x) (bytes y) ([], sym e ∙ sym (append-nil (bytes x)))) ∙ o.1)
+
+      each_apart : (x : A) (es : List (A × N)) → Each (λ y. Precedes (bytes x) (bytes y)) (map (λ e. e.0) es) → Each (λ f. bytes x ≢ bytes f.0) es
+      each_apart x [] h = tt
+      each_apart x (e ∷ es) h = (apart x e.0 h.0, each_apart x es h.1)
+
+      from_pairs : (es : List (A × N)) → IsMap bytes (map (λ e. e.0) es) → Pairwise (λ e f. bytes e.0 ≢ bytes f.0) es
+      from_pairs [] h = tt
+      from_pairs (e ∷ es) h = (each_apart e.0 es h.0, from_pairs es h.1)
+
+  -- Keys that stay keep their leaves' names in the whole tree where those in the hole do.
+  pub kept_leaves : (fs : List (Frame N A)) (t u : Tree N A) → IsRadix bytes P [] (plug fs t) → IsRadix bytes P [] (plug fs u) → KeepLeaves (leaves_of t) (leaves_of u) → KeepLeaves (leaves_of (plug fs t)) (leaves_of (plug fs u))
+  kept_leaves fs t u rt ru local =
+      let was = leaves_of-plug fs t in
+      let is = leaves_of-plug fs u in
+      let R = λ (e f : A × N). bytes e.0 ≢ bytes f.0 in
+      subst (λ xs. KeepLeaves xs (leaves_of (plug fs u))) (sym was) (subst (λ xs. KeepLeaves (entries_before fs ++ leaves_of t ++ entries_after fs) xs) (sym is)
+          (keep_between (λ e. bytes e.0) (λ e. e.1) (λ e f. Unit {0}) (entries_before fs) (leaves_of t) (leaves_of u) (entries_after fs)
+          (subst (Pairwise R) was (keys_differ (plug fs t) [] rt)) (subst (Pairwise R) is (keys_differ (plug fs u) [] ru)) local))
+
+  -- the leaves in the hole are among those of the new tree, or the other way round: so in each insertion and deletion
+  pub kept_leaves_more : (t u : Tree N A) (place : List ℕ) → IsRadix bytes P place u → ((e : A × N) → IsIn e (leaves_of t) → IsIn e (leaves_of u)) → KeepLeaves (leaves_of t) (leaves_of u)
+  kept_leaves_more t u place radix among = keep_among (λ e. bytes e.0) (λ e. e.1) (λ e f. Unit {0}) (leaves_of u) (leaves_of t) (leaves_of u) (keys_differ u place radix) among (λ e i. i)
+
+  pub kept_leaves_fewer : (t u : Tree N A) (place : List ℕ) → IsRadix bytes P place t → ((e : A × N) → IsIn e (leaves_of u) → IsIn e (leaves_of t)) → KeepLeaves (leaves_of t) (leaves_of u)
+  kept_leaves_fewer t u place radix among = keep_among (λ e. bytes e.0) (λ e. e.1) (λ e f. Unit {0}) (leaves_of t) (leaves_of t) (leaves_of u) (keys_differ t place radix) (λ e i. i) among

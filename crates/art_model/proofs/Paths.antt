@@ -4,7 +4,7 @@ use Rattle.std.specs.List.{AllByRecursion as Each}
 use Rattle.art_model.specs.Keys.{IsFront, Precedes}
 use Rattle.art_model.specs.Trees.{Tree, Children, child, no_child, header_of}
 use Rattle.art_model.specs.Radix.{IsRadix, IsRising, bytes_of, join, pairs_of, pairs_below}
-use Rattle.art_model.specs.Layouts.{name_of, slots_of, names_of, names_below, leaf_names, leaf_names_below}
+use Rattle.art_model.specs.Layouts.{name_of, slots_of, names_of, names_below, leaf_names, leaf_names_below, leaves_of, leaves_below}
 use Rattle.art_model.specs.Paths.{Frame, fill, plug, pairs_before, pairs_after, names_before, names_after, leaves_before, leaves_after, IsPath}
 use Rattle.art_model.proofs.Lists.{Each-append, front_cut, Each-weaker}
 use Rattle.art_model.proofs.Pairwises.{Pairwise-before, Pairwise-after}
@@ -26,6 +26,10 @@ module _ {N A : Type 0} where
   leaf_names_below-join no_child ds = refl
   leaf_names_below-join (child b t cs) ds = ap (λ l. leaf_names t ++ l) (leaf_names_below-join cs ds) ∙ sym (append_assoc (leaf_names t) (leaf_names_below cs) (leaf_names_below ds))
 
+  pub leaves_below-join : (cs ds : Children N A) → leaves_below (join cs ds) ≡ leaves_below cs ++ leaves_below ds
+  leaves_below-join no_child ds = refl
+  leaves_below-join (child b t cs) ds = ap (λ l. leaves_of t ++ l) (leaves_below-join cs ds) ∙ sym (append_assoc (leaves_of t) (leaves_below cs) (leaves_below ds))
+
   -- the leaves on the left, in the middle and on the right
   pub leaf_names_below-three : (l middle r : Children N A) → leaf_names_below (join l (join middle r)) ≡ leaf_names_below l ++ leaf_names_below middle ++ leaf_names_below r
   leaf_names_below-three l middle r = leaf_names_below-join l (join middle r) ∙ ap (λ z. leaf_names_below l ++ z) (leaf_names_below-join middle r) ∙ sym (append_assoc (leaf_names_below l) (leaf_names_below middle) (leaf_names_below r))
@@ -41,6 +45,19 @@ module _ {N A : Type 0} where
   pub leaf_names-plug : (fs : List (Frame N A)) (t : Tree N A) → leaf_names (plug fs t) ≡ leaves_before fs ++ leaf_names t ++ leaves_after fs
   leaf_names-plug [] t = sym (append-nil (leaf_names t))
   leaf_names-plug (f ∷ fs) t = leaf_names-plug fs (fill f t) ∙ simp (leaf_names_below-join, append_assoc)
+
+  -- the pairs and names of the leaves before the hole, and of those after it
+  abbrev pub entries_before : List (Frame N A) → List (A × N)
+  entries_before [] = []
+  entries_before (f ∷ fs) = entries_before fs ++ leaves_below f.left
+
+  abbrev pub entries_after : List (Frame N A) → List (A × N)
+  entries_after [] = []
+  entries_after (f ∷ fs) = leaves_below f.right ++ entries_after fs
+
+  pub leaves_of-plug : (fs : List (Frame N A)) (t : Tree N A) → leaves_of (plug fs t) ≡ entries_before fs ++ leaves_of t ++ entries_after fs
+  leaves_of-plug [] t = sym (append-nil (leaves_of t))
+  leaves_of-plug (f ∷ fs) t = leaves_of-plug fs (fill f t) ∙ simp (leaves_below-join, append_assoc)
 
   -- the root's name, where the tree in the hole may have another name
   abbrev pub root_with : List (Frame N A) → N → N → N

@@ -1,5 +1,5 @@
 -- The whole bytes of inner nodes: no two nodes of a tree have the same ones, so names that stay are told by them.
-use Rattle.std.proofs.Common.{◌≡◌, ◌≢◌, ℕ, ◌+◌, ◌<◌, ◌≤◌, List, [], ◌∷◌, ◌++◌, length, take, refl, ap, ap₂, sym, ◌∙◌, arith, subst, append_assoc, append-nil, length-append, ◌⊎◌, inl, inr}
+use Rattle.std.proofs.Common.{◌≡◌, ◌≢◌, ℕ, ◌+◌, ◌<◌, ◌≤◌, List, [], ◌∷◌, ◌++◌, length, take, refl, ap, ap₂, sym, ◌∙◌, arith, subst, append_assoc, append-nil, length-append, inl, inr}
 use Rattle.std.specs.List.{AllByRecursion as Each}
 use Rattle.art_nodes.specs.declared.node.NodeType.{NodeType}
 use Rattle.art_model.specs.Keys.{IsFront}
@@ -9,8 +9,9 @@ use Rattle.art_model.specs.Pairs.{Pairwise}
 use Rattle.art_model.specs.Paths.{Frame, fill, plug, IsPath}
 use Rattle.art_model.specs.Places.{least_below, inner_nodes, inner_nodes_below}
 use Rattle.art_model.specs.Footprints.{IsIn}
-use Rattle.art_model.proofs.Lists.{Each-append, Each-weaker, each_in, in_left, in_right, in_either, front_cut}
+use Rattle.art_model.proofs.Lists.{Each-append, Each-weaker, each_in, front_cut}
 use Rattle.art_model.proofs.Pairwises.{Pairwise-append}
+use Rattle.art_model.proofs.Entries.{Keep, same_entry, keep_among, keep_between}
 use Rattle.art_model.proofs.Paths.{fill_radix, plug_radix}
 use Rattle.art_model.proofs.Places.{least_way_below, taken, deeper, one_way}
 
@@ -24,26 +25,18 @@ module _ {N : Type 0} where
 
   -- an inner node of the second list that has the kind and the whole bytes of one of the first has its name
   abbrev pub KeepNames : List (Entry N) → List (Entry N) → Type 0
-  KeepNames old new = (e f : Entry N) → IsIn e old → IsIn f new → e.0 ≡ f.0 → e.1 ≡ f.1 → e.2 ≡ f.2
-
-  -- of entries that differ two with the same whole bytes are one
-  pub same_entry : (xs : List (Entry N)) → Pairwise Differ xs → (e f : Entry N) → IsIn e xs → IsIn f xs → e.1 ≡ f.1 → e ≡ f
-  same_entry [] d e f i j same = absurd i
-  same_entry (x ∷ xs) d e f (inl i) (inl j) same = sym i ∙ j
-  same_entry (x ∷ xs) d e f (inl i) (inr j) same = absurd (each_in (Differ x) f xs d.0 j (ap (λ z. z.1) i ∙ same))
-  same_entry (x ∷ xs) d e f (inr i) (inl j) same = absurd (each_in (Differ x) e xs d.0 i (ap (λ z. z.1) j ∙ sym same))
-  same_entry (x ∷ xs) d e f (inr i) (inr j) same = same_entry xs d.1 e f i j same
+  KeepNames = Keep (λ e. e.1) (λ e. e.2) (λ e f. e.0 ≡ f.0)
 
   -- names are kept where all entries are among some that differ
   pub kept_among : (xs old new : List (Entry N)) → Pairwise Differ xs → ((e : Entry N) → IsIn e old → IsIn e xs) → ((e : Entry N) → IsIn e new → IsIn e xs) → KeepNames old new
-  kept_among xs old new d one two e f i j kind whole = ap (λ z. z.2) (same_entry xs d e f (one e i) (two f j) whole)
+  kept_among = keep_among (λ e. e.1) (λ e. e.2) (λ e f. e.0 ≡ f.0)
 
   -- where one entry becomes another with its whole bytes, which has its name or another kind
   pub kept_head : (e f : Entry N) (rest : List (Entry N)) → e.1 ≡ f.1 → (e.0 ≡ f.0 → e.2 ≡ f.2) → Pairwise Differ (e ∷ rest) → KeepNames (e ∷ rest) (f ∷ rest)
   kept_head e f rest whole named d x y (inl i) (inl j) kind same = ap (λ z. z.2) (sym i) ∙ named (ap (λ z. z.0) i ∙ kind ∙ ap (λ z. z.0) (sym j)) ∙ ap (λ z. z.2) j
   kept_head e f rest whole named d x y (inl i) (inr j) kind same = absurd (each_in (Differ e) y rest d.0 j (ap (λ z. z.1) i ∙ same))
   kept_head e f rest whole named d x y (inr i) (inl j) kind same = absurd (each_in (Differ e) x rest d.0 i (whole ∙ ap (λ z. z.1) j ∙ sym same))
-  kept_head e f rest whole named d x y (inr i) (inr j) kind same = ap (λ z. z.2) (same_entry rest d.1 x y i j same)
+  kept_head e f rest whole named d x y (inr i) (inr j) kind same = ap (λ z. z.2) (same_entry (λ e. e.1) (λ e. e.2) (λ e f. e.0 ≡ f.0) rest d.1 x y i j same)
 
 module _ {N A : Type 0} (bytes : A → List ℕ) (P : ℕ) where
   -- the whole bytes of a node are its place and its whole prefix
@@ -126,28 +119,10 @@ module _ {N A : Type 0} (bytes : A → List ℕ) (P : ℕ) where
   -- Inner nodes that stay keep their names in the whole tree where those in the hole do.
   pub kept : (fs : List (Frame N A)) (place : List ℕ) (t u : Tree N A) → IsPath bytes P place fs → IsRadix bytes P place t → IsRadix bytes P place u →
       KeepNames (inner_nodes bytes (length place) t) (inner_nodes bytes (length place) u) → KeepNames (inner_nodes bytes 0 (plug fs t)) (inner_nodes bytes 0 (plug fs u))
-  kept fs place t u p rt ru local e f i j kind whole =
-      go (parts t (inner_nodes-plug fs place t p rt) e i) (parts u (inner_nodes-plug fs place u p ru) f j)
-    where
-      Outside : Entry N → Type 0
-      Outside x = IsIn x (nodes_before fs place p) ⊎ IsIn x (nodes_after fs place p)
-
-      parts : (v : Tree N A) → inner_nodes bytes 0 (plug fs v) ≡ nodes_before fs place p ++ inner_nodes bytes (length place) v ++ nodes_after fs place p → (x : Entry N) → IsIn x (inner_nodes bytes 0 (plug fs v)) → Outside x ⊎ IsIn x (inner_nodes bytes (length place) v)
-      parts v is x i = elim (in_either x (nodes_before fs place p ++ inner_nodes bytes (length place) v) (nodes_after fs place p) (subst (IsIn x) is i)) [
-        | inr a ↦ inl (inr a)
-        | inl b ↦ elim (in_either x (nodes_before fs place p) (inner_nodes bytes (length place) v) b) [ inl c ↦ inl (inl c) | inr c ↦ inr c ]
-      ]
-
-      whole_of : (v : Tree N A) → IsRadix bytes P place v → (x : Entry N) → Outside x → IsIn x (inner_nodes bytes 0 (plug fs v))
-      whole_of v r x o = subst (IsIn x) (sym (inner_nodes-plug fs place v p r)) (elim o [
-        | inl a ↦ in_left x (nodes_before fs place p ++ inner_nodes bytes (length place) v) (nodes_after fs place p) (in_left x (nodes_before fs place p) (inner_nodes bytes (length place) v) a)
-        | inr a ↦ in_right x (nodes_before fs place p ++ inner_nodes bytes (length place) v) (nodes_after fs place p) a
-      ])
-
-      one : (v : Tree N A) → IsRadix bytes P place v → IsIn e (inner_nodes bytes 0 (plug fs v)) → IsIn f (inner_nodes bytes 0 (plug fs v)) → e.2 ≡ f.2
-      one v r a b = ap (λ z. z.2) (same_entry (inner_nodes bytes 0 (plug fs v)) (whole_differ bytes P (plug fs v) [] (plug_radix bytes P fs place v p r)) e f a b whole)
-
-      go : Outside e ⊎ IsIn e (inner_nodes bytes (length place) t) → Outside f ⊎ IsIn f (inner_nodes bytes (length place) u) → e.2 ≡ f.2
-      go (inl o) q = one u ru (whole_of u ru e o) j
-      go (inr a) (inl o) = one t rt i (whole_of t rt f o)
-      go (inr a) (inr b) = local e f a b kind whole
+  kept fs place t u p rt ru local =
+      let was = inner_nodes-plug fs place t p rt in
+      let is = inner_nodes-plug fs place u p ru in
+      let apart = λ (v : Tree N A) (r : IsRadix bytes P place v). whole_differ bytes P (plug fs v) [] (plug_radix bytes P fs place v p r) in
+      subst (λ xs. KeepNames xs (inner_nodes bytes 0 (plug fs u))) (sym was) (subst (λ xs. KeepNames (nodes_before fs place p ++ inner_nodes bytes (length place) t ++ nodes_after fs place p) xs) (sym is)
+          (keep_between (λ e. e.1) (λ e. e.2) (λ e f. e.0 ≡ f.0) (nodes_before fs place p) (inner_nodes bytes (length place) t) (inner_nodes bytes (length place) u) (nodes_after fs place p)
+          (subst (Pairwise Differ) was (apart t rt)) (subst (Pairwise Differ) is (apart u ru)) local))
