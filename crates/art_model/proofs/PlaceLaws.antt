@@ -12,7 +12,8 @@ use Rattle.art_model.specs.Places.{depth_of, place_of, places, places_below, IsE
 use Rattle.art_model.specs.PlaceLaws.{PlacesAreReadOff, PrefixesAreReadOff, PlacesRise, HasEndNode, HasOneEnd}
 use Rattle.art_model.proofs.Lists.{each_in, each_from, Each-left, Each-right, Each-weaker}
 use Rattle.art_model.proofs.Pairwises.{Pairwise-append}
-use Rattle.art_model.proofs.KeyLaws.{fronts_are_decided, order_is_decided}
+use Rattle.art_model.proofs.KeyLaws.{fronts_are_decided, order_is_decided, order_is_strict}
+use Rattle.art_model.proofs.Filters.{Each-both}
 use Rattle.art_model.proofs.Rebuild.{radix_below}
 use Rattle.art_model.proofs.Paths.{path_down, radix_plug}
 use Rattle.art_model.proofs.Places.{Under, places_under, taken, place_is, prefix_is, places_way, deeper, beside, ended}
@@ -73,6 +74,20 @@ module _ {N A : Type 0} (bytes : A → List ℕ) (P : ℕ) where
         Pairwise-append Before (places bytes d t) (places_below bytes d cs)
         (subst (λ z. Pairwise Before (places bytes z t)) (sym (e b)) (rise t (front ++ b ∷ []) h.0)) (rise_below cs front d e up.1 h.1)
         (Each-weaker (λ p. IsFront (front ++ b ∷ []) p.0) (λ p. Each (Before p) (places_below bytes d cs)) (λ p f. Each-weaker (GoesOn front (λ c. b < c)) (Before p) (λ q g. before_beside front b p q f g) (places_below bytes d cs) (all_go_on (λ c. b < c) cs front d e h.1 up.0)) (places bytes d t) (under front d b t (e b) h.0))
+
+  -- entries with the same place have the same name
+  abbrev HaveOneName : (List ℕ × N) → (List ℕ × N) → Type 0
+  HaveOneName p q = q.0 ≡ p.0 → q.1 ≡ p.1
+
+  one_name : (ps : List (List ℕ × N)) → Pairwise Before ps → Each (λ p. Each (HaveOneName p) ps) ps
+  one_name [] h = tt
+  one_name (p ∷ ps) h = (
+    ((λ e. refl), Each-weaker (Before p) (HaveOneName p) (λ q b e. absurd (differ p q b e)) ps h.0),
+    Each-both (Before p) (λ q. Each (HaveOneName q) ps) (λ q. Each (HaveOneName q) (p ∷ ps)) (λ q b k. ((λ e. absurd (differ p q b (sym e))), k)) ps h.0 (one_name ps h.1),
+  )
+    where
+      differ : (p q : List ℕ × N) → Before p q → q.0 ≡ p.0 → ⊥
+      differ p q b e = true≢false (sym (subst (λ z. is_before p.0 z ≡ true) e b) ∙ order_is_strict p.0)
 
   -- ---- end nodes
 
@@ -188,5 +203,10 @@ module _ {N A : Type 0} where
       let b = place_of bytes (depth_of road) other in
       let here = no_longer bytes P tree key path road node other h one two in
       let there = no_longer bytes P tree key road path other node h two one in
-      let same : length b ≡ length a = omega arith in
-      sym (taken b key two.is_front) ∙ ap (λ n. take n key) same ∙ taken a key one.is_front
+      let length_is : length b ≡ length a = omega arith in
+      let same : b ≡ a = sym (taken b key two.is_front) ∙ ap (λ n. take n key) length_is ∙ taken a key one.is_front in
+      let R = HaveOneName bytes P in
+      let names = one_name bytes P (places bytes 0 tree) (rise bytes P tree [] h) in
+      let of_node : Each (R (a, name_of node)) (places bytes 0 tree) = own_place bytes P (λ p. Each (R p) (places bytes 0 tree)) (depth_of path) node (places_at bytes P (λ p. Each (R p) (places bytes 0 tree)) path node (subst (λ t. Each (λ p. Each (R p) (places bytes 0 tree)) (places bytes 0 t)) (sym one.whole) names)) in
+      let of_both : R (a, name_of node) (b, name_of other) = own_place bytes P (R (a, name_of node)) (depth_of road) other (places_at bytes P (R (a, name_of node)) road other (subst (λ t. Each (R (a, name_of node)) (places bytes 0 t)) (sym two.whole) of_node)) in
+      (same, of_both same)

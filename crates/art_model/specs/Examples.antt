@@ -1,13 +1,17 @@
 -- Small maps and their trees, to be compared with what the definitions compute. Where values don't matter a pair is its key alone.
-use Rattle.std.specs.Prelude.{ℕ, zero, suc, ◌+◌, List, [], ◌∷◌, ◌++◌, Option}
+use Rattle.std.specs.Prelude.{ℕ, zero, suc, ◌+◌, cond, eqb, List, [], ◌∷◌, ◌++◌, Option, Some, None}
 use Rattle.art_nodes.specs.declared.node.NodeType.{NodeType}
-use Rattle.art_nodes.specs.declared.node.NodeType.TheVariants.{Node4}
+use Rattle.art_nodes.specs.declared.node.NodeType.TheVariants.{Node4, Leaf}
+use Rattle.art_nodes.specs.declared.node.OpaqueNodePtr.{OpaqueNodePtr}
 use Rattle.art_model.specs.Pairs.{of_key}
-use Rattle.art_model.specs.Trees.{Tree, leaf, inner, Children, child, no_child, tree_of}
+use Rattle.art_model.specs.Trees.{Tree, leaf, inner, Children, child, no_child, Header, tree_of}
+use Rattle.art_model.specs.Layouts.{Node, leaf_node, inner_node, Links}
 
+-- a key
 abbrev pub Key : Type 0
 Key = List ℕ
 
+-- a tree whose leaves have keys alone
 abbrev pub KeyTree : Type 0
 KeyTree = Tree (Unit {0}) Key
 
@@ -19,9 +23,13 @@ tree_of_keys keys P = tree_of (λ key. key) keys P 0
 abbrev pub bytes_of_pair : Key × ℕ → Key
 bytes_of_pair = of_key (λ key. key)
 
--- a Node4 with this prefix length, these stored bytes and two children
+-- the header of a Node4 with this prefix length and these stored bytes
+abbrev pub of_length : ℕ → List ℕ → Header
+of_length length_of stored = record { kind = Node4; length_of = length_of; stored = stored }
+
+-- a Node4 with two children
 abbrev pub over_two : ℕ → List ℕ → ℕ → KeyTree → ℕ → KeyTree → KeyTree
-over_two length_of stored b t c u = inner tt (record { kind = Node4; length_of = length_of; stored = stored }) (child b t (child c u no_child))
+over_two length_of stored b t c u = inner tt (of_length length_of stored) (child b t (child c u no_child))
 
 -- so many keys of one byte each, from a first byte on
 abbrev pub one_byte_keys : ℕ → ℕ → List Key
@@ -37,6 +45,7 @@ one_byte_leaves (suc n) first = child first (leaf tt (first ∷ [])) (one_byte_l
 abbrev pub fan : NodeType → ℕ → KeyTree
 fan kind n = inner tt (record { kind = kind; length_of = 0; stored = [] }) (one_byte_leaves n 0)
 
+-- so many zeros
 abbrev pub zeros : ℕ → List ℕ
 zeros zero = []
 zeros (suc n) = 0 ∷ zeros n
@@ -55,14 +64,50 @@ zero_tree (suc n) place = over_two 0 [] 0 (zero_tree n (place ++ 0 ∷ [])) 255 
 abbrev pub three_pairs : List (Key × ℕ)
 three_pairs = (1 ∷ 2 ∷ [], 5) ∷ (1 ∷ 3 ∷ [], 6) ∷ (2 ∷ [], 7) ∷ []
 
--- interact
+-- the bytes of "interact"
 abbrev pub interact : Key
 interact = 105 ∷ 110 ∷ 116 ∷ 101 ∷ 114 ∷ 97 ∷ 99 ∷ 116 ∷ []
 
--- interest
+-- the bytes of "interest"
 abbrev pub interest : Key
 interest = 105 ∷ 110 ∷ 116 ∷ 101 ∷ 114 ∷ 101 ∷ 115 ∷ 116 ∷ []
 
--- kit
+-- the bytes of "kit"
 abbrev pub kit : Key
 kit = 107 ∷ 105 ∷ 116 ∷ []
+
+-- ---- a tree with its names
+
+-- the name of a Node4
+abbrev pub node4 : ℕ → OpaqueNodePtr
+node4 slot = record { kind = Node4; slot = slot }
+
+-- the name of a leaf
+abbrev pub leaf_at : ℕ → OpaqueNodePtr
+leaf_at slot = record { kind = Leaf; slot = slot }
+
+-- the tree of interact, interest and kit, with a name for each node
+abbrev pub pictured : Tree OpaqueNodePtr Key
+pictured =
+    inner (node4 0) (of_length 0 [])
+    (child 105 (inner (node4 1) (of_length 4 (110 ∷ 116 ∷ [])) (child 97 (leaf (leaf_at 2) interact) (child 101 (leaf (leaf_at 0) interest) no_child)))
+    (child 107 (leaf (leaf_at 5) kit) no_child))
+
+-- its nodes by kind and slot
+abbrev pub pictured_in : NodeType → ℕ → Option (Node OpaqueNodePtr Key)
+pictured_in Node4 slot =
+    cond (eqb slot 0) (Some (inner_node (of_length 0 []) ((105, node4 1) ∷ (107, leaf_at 5) ∷ [])))
+    (cond (eqb slot 1) (Some (inner_node (of_length 4 (110 ∷ 116 ∷ [])) ((97, leaf_at 2) ∷ (101, leaf_at 0) ∷ []))) None)
+pictured_in Leaf slot = cond (eqb slot 2) (Some (leaf_node interact)) (cond (eqb slot 0) (Some (leaf_node interest)) (cond (eqb slot 5) (Some (leaf_node kit)) None))
+pictured_in kind slot = None
+
+-- the nodes under its names
+abbrev pub pictured_at : OpaqueNodePtr → Option (Node OpaqueNodePtr Key)
+pictured_at name = pictured_in name.kind name.slot
+
+-- the links of its leaves
+abbrev pub pictured_links : OpaqueNodePtr → Option (Links OpaqueNodePtr)
+pictured_links name =
+    cond (eqb name.slot 2) (Some (record { previous = None; next = Some (leaf_at 0) }))
+    (cond (eqb name.slot 0) (Some (record { previous = Some (leaf_at 2); next = Some (leaf_at 5) }))
+    (cond (eqb name.slot 5) (Some (record { previous = Some (leaf_at 0); next = None })) None))

@@ -5,6 +5,7 @@ use Rattle.art_model.specs.Keys.{IsFront, is_before}
 use Rattle.art_model.specs.Pairs.{Pairwise}
 use Rattle.art_model.specs.Trees.{Tree, inner, Children, Header, header_of}
 use Rattle.art_model.specs.Radix.{pairs_below, bytes_of, IsRadix}
+use Rattle.art_model.specs.Layouts.{name_of}
 use Rattle.art_model.specs.Paths.{Frame}
 use Rattle.art_model.specs.Places.{depth_of, place_of, prefix_of, places, IsEndNode}
 
@@ -27,7 +28,7 @@ module _ (N A : Type 0) where
   abbrev pub HasEndNode : Type 0
   HasEndNode = (bytes : A → List ℕ) (P : ℕ) (tree : Tree N A) (key : List ℕ) → IsRadix bytes P [] tree → (path : List (Frame N A)) × (node : Tree N A) × IsEndNode bytes tree key path node
 
-  -- and all its end nodes have the same place
+  -- and all its end nodes have the same place and name
   abbrev pub HasOneEnd : Type 0
   HasOneEnd = (bytes : A → List ℕ) (P : ℕ) (tree : Tree N A) (key : List ℕ) (path road : List (Frame N A)) (node other : Tree N A) → IsRadix bytes P [] tree →
-      IsEndNode bytes tree key path node → IsEndNode bytes tree key road other → place_of bytes (depth_of road) other ≡ place_of bytes (depth_of path) node
+      IsEndNode bytes tree key path node → IsEndNode bytes tree key road other → (place_of bytes (depth_of road) other ≡ place_of bytes (depth_of path) node) × (name_of other ≡ name_of node)

@@ -1,10 +1,13 @@
 //! What the definitions give for small maps.
 
-ghost use Rattle.std.specs.Prelude.{◌≡◌, ℕ, List, [], ◌∷◌, Option, Some, None, true, false};
+ghost use Rattle.std.specs.Prelude.{◌≡◌, ℕ, List, [], ◌∷◌, take, Option, Some, None, true, false};
 ghost use Rattle.art_nodes.specs.declared.node.NodeType.TheVariants.{Node4, Node16, Node48, Node256};
 ghost use Rattle.art_model.specs.Pairs.{first_of, last_of, without_first, without_last, put, put_reply, overwrite, overwrite_reply, remove_key, remove_reply, match_of, is_conflict};
 ghost use Rattle.art_model.specs.Trees.{Tree, leaf};
-ghost use Rattle.art_model.specs.Examples.{Key, bytes_of_pair, tree_of_keys, over_two, one_byte_keys, fan, zero_keys, zero_tree, three_pairs, interact, interest, kit};
+ghost use Rattle.art_model.specs.Radix.{unmarked};
+ghost use Rattle.art_model.specs.Layouts.{IsLayout, AreLinked, leaf_names};
+ghost use Rattle.art_model.specs.Places.{places, inner_nodes};
+ghost use Rattle.art_model.specs.Examples.{Key, bytes_of_pair, tree_of_keys, over_two, one_byte_keys, fan, zero_keys, zero_tree, three_pairs, interact, interest, kit, node4, leaf_at, pictured, pictured_at, pictured_links};
 
 /// No key, one key, a prefix longer than the two bytes that can be stored, and a node below a node.
 pub fn trees_of_few_keys()
@@ -14,8 +17,6 @@ pub fn trees_of_few_keys()
         ≡ Some (over_two 5 (7 ∷ 1 ∷ []) 5 (leaf tt (7 ∷ 1 ∷ 1 ∷ 1 ∷ 1 ∷ 5 ∷ [])) 6 (leaf tt (7 ∷ 1 ∷ 1 ∷ 1 ∷ 1 ∷ 6 ∷ []))) }
     ensures nested { tree_of_keys ((1 ∷ 2 ∷ []) ∷ (1 ∷ 3 ∷ []) ∷ (2 ∷ []) ∷ []) 16
         ≡ Some (over_two 0 [] 1 (over_two 0 [] 2 (leaf tt (1 ∷ 2 ∷ [])) 3 (leaf tt (1 ∷ 3 ∷ []))) 2 (leaf tt (2 ∷ []))) }
-    ensures words { tree_of_keys (interact ∷ interest ∷ kit ∷ []) 2
-        ≡ Some (over_two 0 [] 105 (over_two 4 (110 ∷ 116 ∷ []) 97 (leaf tt interact) 101 (leaf tt interest)) 107 (leaf tt kit)) }
     ensures twelve { tree_of_keys (zero_keys 12) 16 ≡ Some (zero_tree 11 []) }
 {}
 
@@ -64,4 +65,13 @@ pub fn removals_and_matches_in_a_small_map()
     ensures all_but_last { without_last three_pairs ≡ (1 ∷ 2 ∷ [], 5) ∷ (1 ∷ 3 ∷ [], 6) ∷ [] }
     ensures longer_query { match_of bytes_of_pair (1 ∷ 3 ∷ 9 ∷ []) three_pairs ≡ (1 ∷ 3 ∷ [], 6) ∷ [] }
     ensures shorter_query { match_of bytes_of_pair (1 ∷ []) three_pairs ≡ [] }
+{}
+
+/// The tree of three words with a name for each node: its layout, its links, its places and the whole bytes of its inner nodes.
+pub fn a_tree_with_its_names()
+    ensures tree { tree_of_keys (interact ∷ interest ∷ kit ∷ []) 2 ≡ Some (unmarked pictured) }
+    ensures layout { IsLayout pictured_at (node4 0) pictured }
+    ensures linked { AreLinked pictured_links None (leaf_names pictured) None }
+    ensures places { places (λ key. key) 0 pictured ≡ ([], node4 0) ∷ (105 ∷ [], node4 1) ∷ (take 6 interact, leaf_at 2) ∷ (take 6 interest, leaf_at 0) ∷ (107 ∷ [], leaf_at 5) ∷ [] }
+    ensures whole_bytes { inner_nodes (λ key. key) 0 pictured ≡ (Node4, [], node4 0) ∷ (Node4, take 5 interact, node4 1) ∷ [] }
 {}

@@ -1,6 +1,6 @@
 -- What lists of children have under a byte, for callers.
-use Rattle.std.proofs.Common.{◌≡◌, ◌≢◌, ◌⊎◌, ℕ, zero, suc, ◌+◌, ◌-◌, ◌<◌, ◌≤◌, cond, List, [], ◌∷◌, ◌++◌, length, get_or, slice_get, Option, Some, None, IsSome, is_some, All, Contains, refl, sym, ap, ◌∙◌, inl, inr, arith, subst, eqb}
-use Rattle.std.proofs.lemmas.Bool.{eqb-true, eqb-false, eq-eqb, ne_eqb, cases_eq}
+use Rattle.std.proofs.Common.{◌≡◌, ◌≢◌, ◌⊎◌, ℕ, zero, suc, ◌+◌, ◌-◌, ◌<◌, ◌≤◌, cond, [], ◌∷◌, ◌++◌, length, get_or, Some, None, IsSome, is_some, All, Contains, refl, sym, ap, ◌∙◌, inl, inr, arith, subst, eqb}
+use Rattle.std.proofs.lemmas.Bool.{eq-eqb, ne_eqb, cases_eq}
 use Rattle.art_nodes.specs.Inner.{Children, IsAbove, IsBelow, IsRising, child_at, children_between, put_child}
 use Rattle.art_nodes.specs.declared.node.OpaqueNodePtr.{OpaqueNodePtr}
 use Rattle.art_nodes.proofs.TableLemmas.{Entry, before, by_order, front, here, later_above, none_is_not, IsRising-put_child}

@@ -1,5 +1,5 @@
 -- a chain goes on by one step
-use Rattle.std.proofs.Common.{◌≡◌, List, [], ◌∷◌, ◌++◌, subst, refl}
+use Rattle.std.proofs.Common.{List, [], ◌∷◌, ◌++◌, subst, refl}
 use Rattle.art_operations.specs.Runs.{Chain}
 
 module _ {S C R : Type 0} (Step : S → C → R → S → Type 0) where

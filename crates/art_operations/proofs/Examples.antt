@@ -1,14 +1,12 @@
 -- what commands answer on small maps
-use Rattle.std.proofs.Common.{◌≡◌, ℕ, List, [], ◌∷◌, Option, Some, None, refl, sym, true, false}
+use Rattle.std.proofs.Common.{◌≡◌, ℕ, List, [], ◌∷◌, Option, Some, None, refl, true, false}
 use Rattle.std.specs.Global.{Vec}
 use Rattle.std.specs.Box.{boxed_slice_items}
 use Rattle.std.proofs.lemmas.Bool.{true≢false}
 use Rattle.art_operations.specs.Answers.{Answers}
 use Rattle.art_operations.specs.Runs.{Chain}
 use Rattle.art_operations.specs.declared.run.InsertPrefixError.{InsertPrefixError}
-use Rattle.art_operations.specs.declared.run.Command.{Command}
 use Rattle.art_operations.specs.declared.run.Command.TheVariants.{Insert, Delete, Contains}
-use Rattle.art_operations.specs.declared.run.Reply.{Reply}
 use Rattle.art_operations.specs.declared.run.Reply.TheVariants.{Inserted, Conflict, Deleted, Found, NoMemory}
 
 abbrev Key : Type 0

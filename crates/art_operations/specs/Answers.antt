@@ -1,5 +1,5 @@
 -- What each command answers, and what it makes of the pairs.
-use Rattle.std.specs.Prelude.{◌≡◌, ℕ, List, [], Option, Some, None, true, false}
+use Rattle.std.specs.Prelude.{◌≡◌, ℕ, List, Some, true, false}
 use Rattle.std.specs.Option.{option_to_list}
 use Rattle.std.specs.Box.{boxed_slice_items}
 use Rattle.art_model.specs.Pairs.{with_key, put, remove_key, of_key, is_conflict, has_key}

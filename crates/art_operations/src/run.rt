@@ -1,12 +1,9 @@
 //! Commands that are answered in order, and the tree that they leave.
 
-ghost use Rattle.std.specs.Prelude.{◌≡◌, ℕ, ◌+◌, ◌*◌, ◌≤◌, List, [], length, false, true, IfOk, IfErr, OnOk, OnErr, None};
+ghost use Rattle.std.specs.Prelude.{◌≡◌, ◌+◌, ◌*◌, ◌≤◌, None, IfOk, IfErr, OnOk, OnErr};
 ghost use Rattle.std.specs.Vec.{vec_capacity};
-ghost use Rattle.art_model.specs.Canonical.{IsCanonical};
-ghost use Rattle.art_model.specs.Stores.{held};
-ghost use Rattle.art_nodes.specs.declared.node.OpaqueNodePtr.{OpaqueNodePtr};
-ghost use Rattle.art_model.specs.Pairs.{IsMap, of_key, is_conflict, has_key};
-ghost use Rattle.art_oracle.specs.Built.{KeepsNodes, AddsTree, IsInTree};
+ghost use Rattle.art_model.specs.Pairs.{IsMap, of_key};
+ghost use Rattle.art_oracle.specs.Built.{KeepsNodes};
 ghost use Rattle.art_operations.specs.Answers.{Answers, IsRefusal};
 ghost use Rattle.art_operations.specs.Room.{HasRoomFor, SameNodes};
 ghost use Rattle.art_operations.specs.Runs.{IsFirstRun};

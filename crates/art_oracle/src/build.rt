@@ -17,7 +17,7 @@ ghost use Rattle.art_model.specs.Canonical.{IsCanonical};
 ghost use Rattle.art_oracle.specs.Build.{Ready, ReadyBelow, IsGroup, count_groups, leaf_key, AreBelow, Starts, Built, BuiltBelow, IsPlaced, KeepsPairs};
 ghost use Rattle.art_oracle.specs.Built.{KeepsNodes, AddsTree, IsInTree};
 
-use art_nodes::node::{AnyInner, AsBytes, Header, LeafNode, LeafPtr, NodeType, OpaqueNodePtr};
+use art_nodes::node::{AnyInner, AsBytes, Header, InnerPtr, LeafNode, LeafPtr, NodeType, OpaqueNodePtr};
 use art_nodes::store::NodeStore;
 
 /// How many bytes two keys have in common in front.
@@ -117,6 +117,8 @@ fn kind_for(children: usize) -> NodeType
 
 
 /// A node for the groups of some leaves, with the part that their keys share, and the depth after that part.
+// A node is large: what moves one is kept out of the frames of the functions that recur.
+#[inline(never)]
 fn start_node<K: AsBytes + Drop, V: Drop, const P: usize>(
     store: &NodeStore<K, V, P>,
     leaves: &[LeafPtr],
@@ -134,6 +136,25 @@ fn start_node<K: AsBytes + Drop, V: Drop, const P: usize>(
     let at = depth + len;
     let kind = kind_for(group_count(store, leaves, at));
     (at, AnyInner::from_header(kind, Header::new(first, len)))
+}
+
+/// Places a node where there is room.
+#[inline(never)]
+fn place<K: AsBytes + Drop, V: Drop, const P: usize>(
+    store: &mut NodeStore<K, V, P>,
+    node: AnyInner<P>,
+) -> InnerPtr
+    requires { 0 < store.old.room }
+    ensures placed { store.new.inners ≡ map.insert store.old.inners result (any_view node.entry) }
+    ensures kind { result.kind ≡ any_kind node.entry }
+    ensures fresh { map.get store.old.inners result ≡ None }
+    ensures leaves { store.new.leaves ≡ store.old.leaves }
+    ensures room { store.old.room ≤ store.new.room + 1 }
+{
+    match store.place_inner(node) {
+        Ok(name) => name,
+        Err(_) => unreachable!(),
+    }
 }
 
 /// Builds the tree of sorted leaves, whose keys begin with the same bytes up to a depth, from that depth on.
@@ -156,10 +177,7 @@ fn build_node<K: AsBytes + Drop, V: Drop, const P: usize>(
     }
     let (at, mut node) = start_node(store, leaves, depth);
     build_below(store, leaves, at, &mut node);
-    match store.place_inner(node) {
-        Ok(name) => name.to_opaque(),
-        Err(_) => unreachable!(),
-    }
+    place(store, node).to_opaque()
 }
 
 /// Builds the children of a node from sorted leaves, whose keys have the same bytes up to a depth and a byte there.
@@ -255,3 +273,6 @@ pub fn build<K: AsBytes + Drop, V: Drop, const P: usize>(
     link_leaves(store, names.as_slice());
     Some(build_node(store, names.as_slice(), 0))
 }
+
+#[cfg(test)]
+mod tests;

@@ -1,6 +1,7 @@
 -- The nodes below a name that stands for a tree.
 use Rattle.std.proofs.Common.{◌≡◌, ◌≢◌, ℕ, suc, zero, ◌+◌, ◌<◌, ◌≤◌, max, List, [], ◌∷◌, ◌++◌, length, refl, ap, sym, ◌∙◌, arith, subst, Option, Some, None}
 use Rattle.std.specs.List.{All}
+use Rattle.std.specs.Option.{IfSome}
 use Rattle.std.specs.FinMap as map
 use Rattle.std.proofs.Math.Logic.{∥∥₁_elim, ∥∥₁_map, ∥∥₁_prop}
 use Rattle.std.proofs.Math.Bridge.{le_prop}
@@ -19,7 +20,7 @@ use Rattle.art_model.specs.Stores.{node_at}
 use Rattle.art_model.proofs.Views.{leaf_there, leaf_name_is, inner_there, inner_name_is}
 use Rattle.art_model.proofs.Pairwises.{Pairwise-left, Pairwise-right}
 use Rattle.art_model.proofs.Heights.{height_is, enough_steps}
-use Rattle.artrun.specs.Trees.{IsTreeIn}
+use Rattle.artrun.specs.Trees.{IsTreeIn, Key, HasCanonicalTree}
 
 module _ {K V : Type 0} (s : Nodes K V) where
   -- how high the tree of a name is
@@ -70,3 +71,8 @@ module _ {K V : Type 0} (s : Nodes K V) where
   pub children_are_lower : (p : InnerPtr) (root : OpaqueNodePtr) → p.kind ≢ Leaf → inner_name p ≡ root → IsTreeIn s root → (node : Inner) → Some node ≡ map.get s.inners p → All (λ slot. IsLower root slot.1) node.children
   children_are_lower p root proper is tree node there = λ k d below.
       ∥∥₁_elim tree (IsLower_prop root _) (λ found. (subst (Found root) (sym there) (inner_held p root proper is found.0 found.1)) k d below)
+
+-- a canonical root stands for a tree
+pub canonical_is_tree : (s : Nodes Key ℕ) (root : Option OpaqueNodePtr) → HasCanonicalTree s root → IfSome root (IsTreeIn s)
+canonical_is_tree s None h = tt
+canonical_is_tree s (Some root) h = ∥∥₁_map h (λ found. (found.1.0, found.1.1.stands.0))

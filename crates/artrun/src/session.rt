@@ -1,5 +1,5 @@
 //! The commands of the lines so far, and the tree that they leave.
-ghost use Rattle.std.specs.Prelude.{◌≡◌, ◌++◌, ◌∷◌, []};
+ghost use Rattle.std.specs.Prelude.{◌≡◌, ◌++◌, ◌∷◌, [], OnOk, OnErr};
 ghost use Rattle.artrun.specs.Trees.{HasCanonicalTree};
 
 use crate::print::write_nodes;
@@ -23,6 +23,8 @@ pub struct Session {
 }
 
 impl Session {
+    ghost use Rattle.artrun.specs.Sessions.{accepted, tree};
+
     /// No commands, and no tree.
     pub fn new(alloc: Global) -> Self {
         Session {
@@ -42,7 +44,11 @@ impl Session {
     pub fn answer(
         &mut self,
         command: Command<Vec<u8>, u32>,
-    ) -> Result<Reply<Vec<u8>, u32>, AllocError> {
+    ) -> Result<Reply<Vec<u8>, u32>, AllocError>
+        ensures accepted { OnOk result (accepted self.new ≡ accepted self.old ++ command ∷ []) }
+        ensures dropped { OnErr result (accepted self.new ≡ accepted self.old) }
+        ensures tree { OnErr result (tree self.new ≡ tree self.old) }
+    {
         let alloc = self.store.alloc();
         self.commands.reserve(1)?;
         let commands = self.commands_with(copy(alloc, &command)?)?;

@@ -1,3 +1,6 @@
+ghost use Rattle.std.specs.Prelude.{◌≡◌, ℕ};
+ghost use Rattle.art_nodes.specs.Inner.{child_at};
+
 use super::*;
 use std::boxed::BoxedSlice;
 use std::process::Abort;
@@ -118,6 +121,18 @@ fn stores_the_front_of_a_prefix(rt: HostRuntime) {
     check_prefix(&rt, Header::<2>::new(&[7, 1], 1000), 1000, &[7, 1]);
 }
 
+// A walk over the children comes by what a look-up finds.
+fn find_child<N: InnerNode<4>>(node: &N, byte: u8) -> Option<OpaqueNodePtr>
+    ensures { result ≡ child_at (N.view_of node.now).children byte }
+{
+    for (b, child) in node.iter() {
+        if b == byte {
+            return Some(child);
+        }
+    }
+    None
+}
+
 // Fills a node from its last byte down to 0, and reads what it then holds.
 fn check_full<N: InnerNode<4>>(rt: &impl Abort, last: u8) {
     let mut node = N::from_header(Header::new(&[9], 1));
@@ -134,6 +149,7 @@ fn check_full<N: InnerNode<4>>(rt: &impl Abort, last: u8) {
     assert_eq!(rt; node.min(), (0, name(0)));
     assert_eq!(rt; node.max(), (last, name(last)));
     assert_eq!(rt; node.lookup_child(last), Some(name(last)));
+    assert_eq!(rt; find_child(&node, last), Some(name(last)));
     for (index, (byte, child)) in node.iter().enumerate() {
         assert_eq!(rt; byte as usize, index);
         assert_eq!(rt; child, name(byte));

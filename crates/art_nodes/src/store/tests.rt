@@ -239,7 +239,9 @@ fn refused_placements_leave_the_nodes(rt: HostRuntime) {
 fn without_memory_placements_hand_the_node_back(rt: HostRuntime) -> Result<(), Fail> {
     let alloc = rt.alloc();
     let mut store = Store::new(alloc);
-    let first = store.place_leaf(leaf_of(1, 10)).map_err(|refused| refused.1)?;
+    let first = store
+        .place_leaf(leaf_of(1, 10))
+        .map_err(|refused| refused.1)?;
     let child = first.to_opaque();
     let upper = place_above(&mut store, Header::new(&[5, 6], 2), 3, child)?;
 
@@ -259,10 +261,15 @@ fn without_memory_placements_hand_the_node_back(rt: HostRuntime) -> Result<(), F
 fn without_memory_reservations_leave_the_nodes(rt: HostRuntime) -> Result<(), Fail> {
     let alloc = rt.alloc();
     let mut store = Store::new(alloc);
-    let first = store.place_leaf(leaf_of(1, 10)).map_err(|refused| refused.1)?;
+    let first = store
+        .place_leaf(leaf_of(1, 10))
+        .map_err(|refused| refused.1)?;
 
     let held = all_memory(alloc)?;
-    let refused = [store.reserve(1 << 20, None).is_err(), store.reserve_any(1 << 20).is_err()];
+    let refused = [
+        store.reserve(1 << 20, None).is_err(),
+        store.reserve_any(1 << 20).is_err(),
+    ];
     drop(held);
     assert_eq!(rt; refused, [true; 2]);
     assert_eq!(rt; store.leaf(first).map(|leaf| leaf.value), Some(10));

@@ -106,12 +106,7 @@ fn refused_replies_hand_the_commands_back(rt: HostRuntime) -> Result<(), Fail> {
     let alloc = rt.alloc();
     let mut first: NodeStore<Key, u32, 4> = NodeStore::new(alloc);
     let mut second = NodeStore::new(alloc);
-    let leaf = LeafNode {
-        key: [9].to_vec(alloc)?,
-        value: 90,
-        previous: None,
-        next: None,
-    };
+    let leaf = LeafNode::with_no_siblings([9].to_vec(alloc)?, 90);
     let leaf = first.place_leaf(leaf).map_err(|refused| refused.1)?;
     let mut commands = Vec::new(alloc);
     commands.push(insertion(alloc, &[1], 10)?)?;

@@ -1,6 +1,5 @@
 use Rattle.std.proofs.Common.{rules, ◌≡◌, ◌≤◌, ◌<◌, ◌+◌, ◌∷◌, [], ◌++◌, List, length, take, drop, get_or, arith, sym, ap, ◌∙◌, subst, inl}
 use Rattle.std.specs.FinMap as finite
-use Rattle.std.proofs.lemmas.Bool.{false≢true}
 use Rattle.std.proofs.lemmas.Grind.{common_steps}
 use Rattle.art_nodes.specs.Inner.{Inner}
 use Rattle.art_nodes.specs.Kinds.{any_kind, any_view, kind_capacity}
@@ -89,8 +88,8 @@ build_below-returns-clause-room g t c =
 pub build_node-returns-then-leaves-eq1-clause-built : goal.build_node-returns-then-leaves-eq1-clause-built
 build_node-returns-then-leaves-eq1-clause-built g t c way ready = leaf_built g.K.AsBytes.bytes g.row.P c.args.store.now way c.args.leaves.now c.args.depth (record { slot = 0 }) c.to_opaque.result ready c.if-leaves-eq1.true c.to_opaque.ensures
 
-pub build_node-unreachable-requires : goal.build_node-unreachable-requires
-build_node-unreachable-requires g t c =
+pub build_node-place-requires : goal.build_node-place-requires
+build_node-place-requires g t c =
   let (way, ready) = c.requires.ready in
   let bytes = g.K.AsBytes.bytes in
   let s = c.start_node-at.ensures.starts way ready in
@@ -99,7 +98,7 @@ build_node-unreachable-requires g t c =
   let count : length (any_view c.build_below.new.node).children ≡ length (bytes_of b.children) = ap length b.slots ∙ length-slots b.children in
   let none : length (any_view c.start_node-at.result.1).children ≡ 0 = ap (λ d. length d.children) s.node_is in
   let room : 0 < c.build_below.new.store.room = omega (arith, c.build_below.ensures.room, c.requires.room) in
-  false≢true (c.in-Err.ensures.has_room room)
+  (search rules, (search rules, room))
 
 pub build_node-returns-clause-built : goal.build_node-returns-clause-built
 build_node-returns-clause-built g t c way ready =
@@ -108,16 +107,16 @@ build_node-returns-clause-built g t c way ready =
   let b = subst (λ d. BuiltBelow bytes g.row.P (way ++ s.part) c.args.leaves.now c.args.store.now c.build_below.new.store d (any_view c.build_below.new.node)) s.node_is (c.build_below.ensures.built (way ++ s.part) s.below) in
   let two = two_children (of_key bytes) g.row.P (way ++ s.part) b.children s.x s.y s.ys b.radix (b.its ∙ s.pairs_are) s.differ in
   let deep : length (way ++ s.part) ≡ c.start_node-at.result.0 = s.below.depth_is in
-  let kind = c.in-Ok.ensures.kind ∙ c.build_below.ensures.kind ∙ c.start_node-at.ensures.kind ∙ ap (λ m. kind_of (count_groups bytes c.args.store.now.leaves c.args.leaves.now m)) (sym deep) in
-  rw c.to_opaque-in-Ok.ensures (node_built bytes g.row.P c.args.store.now c.build_below.new.store c.place_inner.new.self way s.part c.args.leaves.now (any_view c.build_below.new.node) c.in-Ok.name b two
-    c.build_below.ensures.kept c.in-Ok.ensures.leaves c.in-Ok.ensures.placed c.in-Ok.ensures.fresh kind)
+  let kind = c.place.ensures.kind ∙ c.build_below.ensures.kind ∙ c.start_node-at.ensures.kind ∙ ap (λ m. kind_of (count_groups bytes c.args.store.now.leaves c.args.leaves.now m)) (sym deep) in
+  rw c.to_opaque-2.ensures (node_built bytes g.row.P c.args.store.now c.build_below.new.store c.place.new.store way s.part c.args.leaves.now (any_view c.build_below.new.node) c.place.result b two
+    c.build_below.ensures.kept c.place.ensures.leaves c.place.ensures.placed c.place.ensures.fresh kind)
 
 pub build_node-returns-clause-kept : goal.build_node-returns-clause-kept
 build_node-returns-clause-kept g t c =
   let n = count_groups g.K.AsBytes.bytes c.args.store.now.leaves c.args.leaves.now c.start_node-at.result.0 in
-  let kind : c.in-Ok.name.kind ≡ kind_of n = c.in-Ok.ensures.kind ∙ c.build_below.ensures.kind ∙ c.start_node-at.ensures.kind in
-  keeps-trans c.args.store.now c.build_below.new.store c.place_inner.new.self c.build_below.ensures.kept
-    (placed_kept c.build_below.new.store c.place_inner.new.self c.in-Ok.name (any_view c.build_below.new.node) c.in-Ok.ensures.leaves c.in-Ok.ensures.placed c.in-Ok.ensures.fresh (λ e. kind_not_leaf n (sym kind ∙ e)))
+  let kind : c.place.result.kind ≡ kind_of n = c.place.ensures.kind ∙ c.build_below.ensures.kind ∙ c.start_node-at.ensures.kind in
+  keeps-trans c.args.store.now c.build_below.new.store c.place.new.store c.build_below.ensures.kept
+    (placed_kept c.build_below.new.store c.place.new.store c.place.result (any_view c.build_below.new.node) c.place.ensures.leaves c.place.ensures.placed c.place.ensures.fresh (λ e. kind_not_leaf n (sym kind ∙ e)))
 
 pub build_node-returns-clause-room : goal.build_node-returns-clause-room
 build_node-returns-clause-room g t c =
@@ -128,4 +127,4 @@ build_node-returns-clause-room g t c =
   let two = two_children (of_key bytes) g.row.P (way ++ s.part) b.children s.x s.y s.ys b.radix (b.its ∙ s.pairs_are) s.differ in
   let count : length (any_view c.build_below.new.node).children ≡ length (bytes_of b.children) = ap length b.slots ∙ length-slots b.children in
   let none : length (any_view c.start_node-at.result.1).children ≡ 0 = ap (λ d. length d.children) s.node_is in
-  omega (arith, c.build_below.ensures.room, c.in-Ok.ensures.room)
+  omega (arith, c.build_below.ensures.room, c.place.ensures.room)

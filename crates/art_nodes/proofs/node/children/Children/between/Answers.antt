@@ -1,5 +1,5 @@
-use Rattle.std.proofs.Common.{◌≡◌, ℕ, ◌+◌, ◌-◌, take, drop, min, sym, ap, ◌∙◌, subst}
-use Rattle.art_nodes.specs.Inner.{IsRising, Children, children_between, count_below}
+use Rattle.std.proofs.Common.{ℕ, ◌+◌, ◌-◌, take, drop, min, ap, ◌∙◌}
+use Rattle.art_nodes.specs.Inner.{children_between, count_below}
 use Rattle.art_nodes.proofs.ChildrenLemmas.{IsRising-part, part_between}
 use Rattle.art_nodes.proofs.node.children.Children.between.Goals as goal
 

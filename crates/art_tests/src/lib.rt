@@ -1,0 +1,7 @@
+//! Tests that cross crates. There is nothing here but tests.
+#![tactic(auto)]
+
+#[cfg(test)]
+mod shapes;
+#[cfg(test)]
+mod trees;

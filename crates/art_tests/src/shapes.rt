@@ -1,0 +1,124 @@
+//! The shapes of trees that insertions leave.
+
+use crate::trees::{Key, Shape, shape_of, tree_of};
+use art_nodes::node::NodeType;
+use art_operations::run::Reply;
+use std::alloc::{AllocError, Global};
+use std::process::Abort;
+use std::test::Fail;
+
+/// All keys [a, b, c] with a up to `ends[0]`, b up to `ends[1]` and c up to `ends[2]`.
+fn boxed_keys(alloc: Global, ends: [u8; 3]) -> Result<Vec<Key>, AllocError> {
+    let mut keys = Vec::new(alloc);
+    for a in 0..=ends[0] {
+        for b in 0..=ends[1] {
+            for c in 0..=ends[2] {
+                keys.push(Vec::from_array(alloc, [a, b, c])?)?;
+            }
+        }
+    }
+    Ok(keys)
+}
+
+/// For each i from 0 to 11 the key of i zeros and 255.
+fn nested_keys(alloc: Global) -> Result<Vec<Key>, AllocError> {
+    let mut keys = Vec::new(alloc);
+    for zeros in 0..12 {
+        let mut key = Vec::new(alloc);
+        for _ in 0..zeros {
+            key.push(0)?;
+        }
+        key.push(255)?;
+        keys.push(key)?;
+    }
+    Ok(keys)
+}
+
+fn rows(alloc: Global) -> Result<[(Vec<Key>, Shape); 4], AllocError> {
+    let small = (NodeType::Node4, NodeType::Node4);
+    Ok([
+        (
+            boxed_keys(alloc, [3, 2, 1])?,
+            Shape {
+                leaves: 24,
+                inner: 17,
+                root: (NodeType::Node4, 4),
+                kinds: small,
+                longest_prefix: 0,
+            },
+        ),
+        (
+            boxed_keys(alloc, [50, 1, 2])?,
+            Shape {
+                leaves: 306,
+                inner: 154,
+                root: (NodeType::Node256, 51),
+                kinds: (NodeType::Node4, NodeType::Node256),
+                longest_prefix: 0,
+            },
+        ),
+        (
+            boxed_keys(alloc, [5, 5, 5])?,
+            Shape {
+                leaves: 216,
+                inner: 43,
+                root: (NodeType::Node16, 6),
+                kinds: (NodeType::Node16, NodeType::Node16),
+                longest_prefix: 0,
+            },
+        ),
+        (
+            nested_keys(alloc)?,
+            Shape {
+                leaves: 12,
+                inner: 11,
+                root: (NodeType::Node4, 2),
+                kinds: small,
+                longest_prefix: 0,
+            },
+        ),
+    ])
+}
+
+fn have_their_shapes<const P: usize>(rt: &impl Abort, alloc: Global) -> Result<(), Fail> {
+    for (keys, want) in rows(alloc)? {
+        let tree = tree_of::<P>(alloc, keys)?;
+        let root = tree.root.ok_or("no root")?;
+        assert_eq!(rt;
+            shape_of(alloc, &tree.store, root)?,
+            Some(want),
+            "with {P} stored bytes"
+        );
+    }
+    Ok(())
+}
+
+#[test]
+fn trees_have_their_shapes(rt: HostRuntime) -> Result<(), Fail> {
+    have_their_shapes::<0>(&rt, rt.alloc())?;
+    have_their_shapes::<2>(&rt, rt.alloc())?;
+    have_their_shapes::<4>(&rt, rt.alloc())?;
+    have_their_shapes::<16>(&rt, rt.alloc())
+}
+
+#[test]
+fn a_longer_key_is_in_conflict(rt: HostRuntime) -> Result<(), Fail> {
+    let alloc = rt.alloc();
+    let mut keys = Vec::new(alloc);
+    keys.push(Vec::from_array(alloc, [1u8])?)?;
+    keys.push(Vec::from_array(alloc, [1u8, 2])?)?;
+    let tree = tree_of::<4>(alloc, keys)?;
+    assert_eq!(rt; tree.replies.len(), 2);
+    assert!(rt; matches!(&tree.replies[0], Reply::Inserted(None)));
+    let Reply::Conflict(key, value, error) = &tree.replies[1] else {
+        return Err(Fail::from("no conflict"));
+    };
+    assert_eq!(rt; key.as_slice(), [1, 2].as_slice());
+    assert_eq!(rt; *value, 1);
+    let text = format!(in alloc; "{error}")?;
+    assert_eq!(rt;
+        text.as_str(),
+        "Attempted to insert a key [[1, 2]] which is either a prefix of an existing key or an existing key is a prefix of the new key."
+    );
+    Ok(())
+}

@@ -1,0 +1,100 @@
+//! Trees that tests are about, and their shapes.
+
+use art_nodes::node::{NodePtr, NodeType, OpaqueNodePtr};
+use art_nodes::store::NodeStore;
+use art_operations::run::{Command, Reply, run};
+use std::alloc::{AllocError, Global};
+
+pub type Key = Vec<u8>;
+
+/// A tree in a store of its own.
+#[derive(Drop)]
+pub struct Tree<const P: usize> {
+    pub store: NodeStore<Key, u32, P>,
+    pub root: Option<OpaqueNodePtr>,
+    pub replies: Vec<Reply<Key, u32>>,
+}
+
+/// How a tree is made, as met by walking children from its root.
+#[derive(Clone, Copy, PartialEq, Eq, Debug)]
+pub struct Shape {
+    pub leaves: usize,
+    pub inner: usize,
+    /// The kind of the root, and how many children it has.
+    pub root: (NodeType, usize),
+    /// The least and the greatest kind of an inner node.
+    pub kinds: (NodeType, NodeType),
+    pub longest_prefix: usize,
+}
+
+/// The tree that the insertions of these keys leave, each with its place in the list as its value.
+pub fn tree_of<const P: usize>(alloc: Global, keys: Vec<Key>) -> Result<Tree<P>, AllocError> {
+    let mut commands = Vec::new(alloc);
+    let mut value = 0u32;
+    for key in keys {
+        commands.push(Command::Insert(key, value))?;
+        value = value.wrapping_add(1);
+    }
+    let mut store = NodeStore::new(alloc);
+    let mut other = NodeStore::new(alloc);
+    let done = run(&mut store, &mut other, None, commands).map_err(|refused| refused.1)?;
+    Ok(Tree {
+        store,
+        root: done.root,
+        replies: done.replies,
+    })
+}
+
+impl Shape {
+    fn new(root: OpaqueNodePtr) -> Self {
+        Shape {
+            leaves: 0,
+            inner: 0,
+            root: (root.node_type(), 0),
+            kinds: (NodeType::Leaf, NodeType::Node4),
+            longest_prefix: 0,
+        }
+    }
+}
+
+/// The shape of a tree of at most 10,000 nodes. None where a name on the way is the name of no node.
+pub fn shape_of<const P: usize>(
+    alloc: Global,
+    store: &NodeStore<Key, u32, P>,
+    root: OpaqueNodePtr,
+) -> Result<Option<Shape>, AllocError> {
+    let mut shape = Shape::new(root);
+    let mut names = Vec::new(alloc);
+    names.push(root)?;
+    for _ in 0..10_000 {
+        let Some(name) = names.pop() else {
+            return Ok(Some(shape));
+        };
+        match name.split() {
+            NodePtr::Leaf(leaf) => {
+                if store.leaf(leaf).is_none() {
+                    return Ok(None);
+                }
+                shape.leaves = shape.leaves.saturating_add(1);
+            }
+            NodePtr::Inner(inner) => {
+                let Some(node) = store.inner(inner) else {
+                    return Ok(None);
+                };
+                if name == root {
+                    shape.root.1 = node.num_children();
+                }
+                shape.inner = shape.inner.saturating_add(1);
+                shape.kinds = (
+                    shape.kinds.0.min(node.node_type()),
+                    shape.kinds.1.max(node.node_type()),
+                );
+                shape.longest_prefix = shape.longest_prefix.max(node.prefix_len());
+                for (_, child) in node.iter() {
+                    names.push(child)?;
+                }
+            }
+        }
+    }
+    Ok(None)
+}
