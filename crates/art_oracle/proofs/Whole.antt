@@ -21,7 +21,7 @@ use Rattle.art_model.proofs.Lists.{Each-append, Each-left, Each-right, Each-weak
 use Rattle.art_model.proofs.Pairwises.{Pairwise-across, Pairwise-left, Pairwise-right, Pairwise-append}
 use Rattle.art_model.proofs.Lists.{in_left, in_right, each_in}
 use Rattle.art_model.proofs.Links.{linked-frame}
-use Rattle.art_model.proofs.Canonical.{tree_from}
+use Rattle.art_model.proofs.Canonical.{canonical_from}
 use Rattle.art_model.proofs.StoreLaws.{has_one_layout}
 use Rattle.art_oracle.specs.Build.{pairs_at, Ready, Built, IsPlaced, KeepsPairs}
 use Rattle.art_oracle.specs.Built.{KeepsNodes, AddsTree, IsInTree}
@@ -187,7 +187,7 @@ module _ {K V : Type 0} {bytes : K → List ℕ} {P : ℕ} {old mid new : Nodes 
       every (p ∷ ps) = (ap (λ m. option_and_then links_of (option_map held_leaf (finite.get m p))) same, every ps)
 
   pub whole_tree : IsTree (of_key bytes) P new root pairs b.tree
-  whole_tree = tree_from (record { tree = b.tree; root_is = b.named; radix = b.radix; pairs_are = b.its ∙ H.placed.its; holds = b.holds; distinct = distinct; linked = linked })
+  whole_tree = canonical_from (record { named = b.named; radix = b.radix; pairs_are = b.its ∙ H.placed.its; holds = b.holds; distinct = distinct; linked = linked })
 
   pub whole_added : AddsTree (of_key bytes) P old new (Some root) pairs
   whole_added name used = from_mid (b.added name used)
