@@ -1,5 +1,5 @@
 -- The nodes that stay at each change keep their names: those in the hole, and so all, inner nodes and leaves.
-use Rattle.std.proofs.Common.{◌≡◌, ◌≢◌, ℕ, ◌+◌, List, [], ◌∷◌, ◌++◌, length, take, map, refl, ap, ap₂, sym, ◌∙◌, subst, append-nil, true, false, Bool, cond, ltb, inr}
+use Rattle.std.proofs.Common.{◌≡◌, ◌≢◌, ℕ, ◌+◌, List, [], ◌∷◌, ◌++◌, length, take, map, refl, ap, ap₂, sym, ◌∙◌, subst, append-nil, true, false, Bool, cond, ltb, inl, inr}
 use Rattle.std.specs.List.{AllByRecursion as Each}
 use Rattle.std.proofs.lemmas.Bool.{true≢false}
 use Rattle.std.proofs.lemmas.List.{map-append}
@@ -11,10 +11,10 @@ use Rattle.art_model.specs.Layouts.{leaves_of, leaves_below}
 use Rattle.art_model.specs.Paths.{Frame, plug}
 use Rattle.art_model.specs.Places.{least_below, inner_nodes, inner_nodes_below}
 use Rattle.art_model.specs.Footprints.{IsIn}
-use Rattle.art_model.proofs.Lists.{in_left}
+use Rattle.art_model.proofs.Lists.{Each-weaker, each_in, each_unmap, in_left}
 use Rattle.art_model.proofs.Keys.{front_related}
 use Rattle.art_model.proofs.Radix.{radix_map}
-use Rattle.art_model.proofs.Paths.{entries_before, entries_after, leaves_of-plug}
+use Rattle.art_model.proofs.Paths.{entries_before, entries_after, leaves_of-plug, pairs_of-leaves}
 use Rattle.art_model.proofs.Changes.{two_children}
 use Rattle.art_model.proofs.Entries.{Keep, keep_among, keep_between}
 use Rattle.art_model.proofs.Wholes.{KeepNames, kept_among, kept_head, whole_is, whole_differ, inner_nodes_below-join}
@@ -66,17 +66,6 @@ module _ {N A : Type 0} (bytes : A → List ℕ) (P : ℕ) where
 
 -- ---- leaves: a key that stays keeps its leaf's name
 
-module _ {N A : Type 0} where
-  mutual
-    -- the pairs of the entries are those of the tree
-    pub pairs_of-leaves : (t : Tree N A) → map (λ e. e.0) (leaves_of t) ≡ pairs_of t
-    pairs_of-leaves (leaf n x) = refl
-    pairs_of-leaves (inner n h cs) = pairs_below-leaves cs
-
-    pub pairs_below-leaves : (cs : Children N A) → map (λ e. e.0) (leaves_below cs) ≡ pairs_below cs
-    pairs_below-leaves no_child = refl
-    pairs_below-leaves (child b t cs) = map-append (λ e. e.0) (leaves_of t) (leaves_below cs) ∙ ap₂ (λ (xs ys : List A). xs ++ ys) (pairs_of-leaves t) (pairs_below-leaves cs)
-
 module _ {N A : Type 0} (bytes : A → List ℕ) (P : ℕ) where
   -- an entry of the second list that has the key of one of the first has its name
   abbrev pub KeepLeaves : List (A × N) → List (A × N) → Type 0
@@ -89,13 +78,9 @@ module _ {N A : Type 0} (bytes : A → List ℕ) (P : ℕ) where
       apart : (x y : A) → Precedes (bytes x) (bytes y) → bytes x ≢ bytes y
       apart x y o e = true≢false (sym (front_related (bytes x) (bytes y) ([], sym e ∙ sym (append-nil (bytes x)))) ∙ o.1)
 
-      each_apart : (x : A) (es : List (A × N)) → Each (λ y. Precedes (bytes x) (bytes y)) (map (λ e. e.0) es) → Each (λ f. bytes x ≢ bytes f.0) es
-      each_apart x [] h = tt
-      each_apart x (e ∷ es) h = (apart x e.0 h.0, each_apart x es h.1)
-
       from_pairs : (es : List (A × N)) → IsMap bytes (map (λ e. e.0) es) → Pairwise (λ e f. bytes e.0 ≢ bytes f.0) es
       from_pairs [] h = tt
-      from_pairs (e ∷ es) h = (each_apart e.0 es h.0, from_pairs es h.1)
+      from_pairs (e ∷ es) h = (Each-weaker (λ f. Precedes (bytes e.0) (bytes f.0)) (λ f. bytes e.0 ≢ bytes f.0) (λ f o. apart e.0 f.0 o) es (each_unmap (λ f. f.0) (λ y. Precedes (bytes e.0) (bytes y)) es h.0), from_pairs es h.1)
 
   -- Keys that stay keep their leaves' names in the whole tree where those in the hole do.
   pub kept_leaves : (fs : List (Frame N A)) (t u : Tree N A) → IsRadix bytes P [] (plug fs t) → IsRadix bytes P [] (plug fs u) → KeepLeaves (leaves_of t) (leaves_of u) → KeepLeaves (leaves_of (plug fs t)) (leaves_of (plug fs u))
@@ -113,3 +98,14 @@ module _ {N A : Type 0} (bytes : A → List ℕ) (P : ℕ) where
 
   pub kept_leaves_fewer : (t u : Tree N A) (place : List ℕ) → IsRadix bytes P place t → ((e : A × N) → IsIn e (leaves_of u) → IsIn e (leaves_of t)) → KeepLeaves (leaves_of t) (leaves_of u)
   kept_leaves_fewer t u place radix among = keep_among (λ e. bytes e.0) (λ e. e.1) (λ e f. Unit {0}) (leaves_of t) (leaves_of t) (leaves_of u) (keys_differ t place radix) (λ e i. i) among
+
+  -- one leaf in the place of another with its name
+  pub kept_leaf : (n : N) (x new : A) → KeepLeaves (leaves_of (leaf n x)) (leaves_of (leaf n new))
+  kept_leaf n x new e f (inl i) (inl j) alike same = ap (λ z. z.1) (sym i) ∙ ap (λ z. z.1) j
+  kept_leaf n x new e f (inl i) (inr j) alike same = absurd j
+  kept_leaf n x new e f (inr i) j alike same = absurd i
+
+  -- a leaf in the place of others, none of which has its key
+  pub kept_over : (t : Tree N A) (n : N) (new : A) → Each (λ x. bytes x ≢ bytes new) (pairs_of t) → KeepLeaves (leaves_of t) (leaves_of (leaf n new))
+  kept_over t n new off e f i (inl j) alike same = absurd (each_in (λ z. bytes z.0 ≢ bytes new) e (leaves_of t) (each_unmap (λ z. z.0) (λ x. bytes x ≢ bytes new) (leaves_of t) (subst (Each (λ x. bytes x ≢ bytes new)) (sym (pairs_of-leaves t)) off)) i (same ∙ ap (λ z. bytes z.0) (sym j)))
+  kept_over t n new off e f i (inr j) alike same = absurd j

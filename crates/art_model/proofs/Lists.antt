@@ -1,5 +1,5 @@
 -- lists: what holds of each element, which elements stand in a list, and fronts
-use Rattle.std.proofs.Common.{filter, ◌≡◌, ℕ, List, [], ◌∷◌, ◌++◌, length, drop, refl, ap, sym, ◌∙◌, append_assoc, drop_at, eqb, eq-eqb, true, false, cond, Bool, ap₂, eqb-true, subst, ◌⊎◌, inl, inr}
+use Rattle.std.proofs.Common.{filter, ◌≡◌, ℕ, List, [], ◌∷◌, ◌++◌, length, drop, refl, ap, sym, ◌∙◌, append_assoc, drop_at, eqb, eq-eqb, true, false, cond, Bool, ap₂, eqb-true, subst, map, ◌⊎◌, inl, inr}
 use Rattle.std.specs.List.{AllByRecursion as Each}
 use Rattle.art_model.specs.Keys.{IsFront, common_front}
 use Rattle.art_model.specs.Footprints.{IsIn}
@@ -40,6 +40,10 @@ module _ {X : Type 0} where
   in_either k (x ∷ xs) ys (inl e) = inl (inl e)
   in_either k (x ∷ xs) ys (inr h) = elim (in_either k xs ys h) [ inl i ↦ inl (inr i) | inr i ↦ inr i ]
 
+  -- an element before or after the middle
+  pub in_around : (k : X) (xs ms zs : List X) → IsIn k (xs ++ zs) → IsIn k (xs ++ ms ++ zs)
+  in_around k xs ms zs i = elim (in_either k xs zs i) [ inl j ↦ in_left k (xs ++ ms) zs (in_left k xs ms j) | inr j ↦ in_right k (xs ++ ms) zs j ]
+
   -- what holds of each element holds of one that is in the list, and the other way round
   pub each_in : (P : X → Type 0) (k : X) (xs : List X) → Each P xs → IsIn k xs → P k
   each_in P k [] h i = absurd i
@@ -49,6 +53,20 @@ module _ {X : Type 0} where
   pub each_from : (P : X → Type 0) (xs : List X) → ((k : X) → IsIn k xs → P k) → Each P xs
   each_from P [] f = tt
   each_from P (x ∷ xs) f = (f x (inl refl), each_from P xs (λ k i. f k (inr i)))
+
+module _ {X Y : Type 0} (f : X → Y) where
+  pub in_map : (x : X) (xs : List X) → IsIn x xs → IsIn (f x) (map f xs)
+  in_map x [] i = absurd i
+  in_map x (y ∷ ys) (inl e) = inl (ap f e)
+  in_map x (y ∷ ys) (inr i) = inr (in_map x ys i)
+
+  pub each_map : (P : Y → Type 0) (xs : List X) → Each (λ x. P (f x)) xs → Each P (map f xs)
+  each_map P [] h = tt
+  each_map P (x ∷ xs) h = (h.0, each_map P xs h.1)
+
+  pub each_unmap : (P : Y → Type 0) (xs : List X) → Each P (map f xs) → Each (λ x. P (f x)) xs
+  each_unmap P [] h = tt
+  each_unmap P (x ∷ xs) h = (h.0, each_unmap P xs h.1)
 
 pub front_cut : (a b k : List ℕ) → IsFront (a ++ b) k → IsFront a k
 front_cut a b k (r, e) = (b ++ r, e ∙ append_assoc a b r)

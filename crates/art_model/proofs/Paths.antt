@@ -1,8 +1,9 @@
 -- Paths: what stands before the hole, in it and after it, and what a change in the hole makes of the whole tree.
-use Rattle.std.proofs.Common.{◌≡◌, ℕ, ◌<◌, ◌≤◌, List, [], ◌∷◌, ◌++◌, length, refl, ap, sym, ◌∙◌, append_assoc, append-nil, arith, length-append, subst}
+use Rattle.std.proofs.Common.{◌≡◌, ℕ, ◌<◌, ◌≤◌, List, [], ◌∷◌, ◌++◌, length, refl, ap, sym, ◌∙◌, append_assoc, append-nil, arith, length-append, subst, map, ap₂}
 use Rattle.std.specs.List.{AllByRecursion as Each}
+use Rattle.std.proofs.lemmas.List.{map-append}
 use Rattle.art_model.specs.Keys.{IsFront, Precedes}
-use Rattle.art_model.specs.Trees.{Tree, Children, child, no_child, header_of}
+use Rattle.art_model.specs.Trees.{Tree, leaf, inner, Children, child, no_child, header_of}
 use Rattle.art_model.specs.Radix.{IsRadix, IsRising, bytes_of, join, pairs_of, pairs_below}
 use Rattle.art_model.specs.Layouts.{name_of, slots_of, names_of, names_below, leaf_names, leaf_names_below, leaves_of, leaves_below}
 use Rattle.art_model.specs.Paths.{Frame, fill, plug, pairs_before, pairs_after, names_before, names_after, leaves_before, leaves_after, IsPath}
@@ -30,7 +31,10 @@ module _ {N A : Type 0} where
   leaves_below-join no_child ds = refl
   leaves_below-join (child b t cs) ds = ap (λ l. leaves_of t ++ l) (leaves_below-join cs ds) ∙ sym (append_assoc (leaves_of t) (leaves_below cs) (leaves_below ds))
 
-  -- the leaves on the left, in the middle and on the right
+  pub leaves_below-three : (l middle r : Children N A) → leaves_below (join l (join middle r)) ≡ leaves_below l ++ leaves_below middle ++ leaves_below r
+  leaves_below-three l middle r = leaves_below-join l (join middle r) ∙ ap (λ z. leaves_below l ++ z) (leaves_below-join middle r) ∙ sym (append_assoc (leaves_below l) (leaves_below middle) (leaves_below r))
+
+  -- the names of the leaves on the left, in the middle and on the right
   pub leaf_names_below-three : (l middle r : Children N A) → leaf_names_below (join l (join middle r)) ≡ leaf_names_below l ++ leaf_names_below middle ++ leaf_names_below r
   leaf_names_below-three l middle r = leaf_names_below-join l (join middle r) ∙ ap (λ z. leaf_names_below l ++ z) (leaf_names_below-join middle r) ∙ sym (append_assoc (leaf_names_below l) (leaf_names_below middle) (leaf_names_below r))
 
@@ -45,6 +49,33 @@ module _ {N A : Type 0} where
   pub leaf_names-plug : (fs : List (Frame N A)) (t : Tree N A) → leaf_names (plug fs t) ≡ leaves_before fs ++ leaf_names t ++ leaves_after fs
   leaf_names-plug [] t = sym (append-nil (leaf_names t))
   leaf_names-plug (f ∷ fs) t = leaf_names-plug fs (fill f t) ∙ simp (leaf_names_below-join, append_assoc)
+
+  mutual
+    -- the pairs of the entries are those of the tree
+    pub pairs_of-leaves : (t : Tree N A) → map (λ e. e.0) (leaves_of t) ≡ pairs_of t
+    pairs_of-leaves (leaf n x) = refl
+    pairs_of-leaves (inner n h cs) = pairs_below-leaves cs
+
+    pub pairs_below-leaves : (cs : Children N A) → map (λ e. e.0) (leaves_below cs) ≡ pairs_below cs
+    pairs_below-leaves no_child = refl
+    pairs_below-leaves (child b t cs) = map-append (λ e. e.0) (leaves_of t) (leaves_below cs) ∙ ap₂ (λ (xs ys : List A). xs ++ ys) (pairs_of-leaves t) (pairs_below-leaves cs)
+
+  mutual
+    -- and their names are those of the leaves
+    pub leaf_names-leaves : (t : Tree N A) → map (λ e. e.1) (leaves_of t) ≡ leaf_names t
+    leaf_names-leaves (leaf n x) = refl
+    leaf_names-leaves (inner n h cs) = leaf_names_below-leaves cs
+
+    pub leaf_names_below-leaves : (cs : Children N A) → map (λ e. e.1) (leaves_below cs) ≡ leaf_names_below cs
+    leaf_names_below-leaves no_child = refl
+    leaf_names_below-leaves (child b t cs) = map-append (λ e. e.1) (leaves_of t) (leaves_below cs) ∙ ap₂ (λ (ks ls : List N). ks ++ ls) (leaf_names-leaves t) (leaf_names_below-leaves cs)
+
+  -- trees with the same entries have the same pairs and the same leaves
+  pub same_pairs_of : (t u : Tree N A) → leaves_of u ≡ leaves_of t → pairs_of u ≡ pairs_of t
+  same_pairs_of t u e = sym (pairs_of-leaves u) ∙ ap (map (λ e. e.0)) e ∙ pairs_of-leaves t
+
+  pub same_leaf_names : (t u : Tree N A) → leaves_of u ≡ leaves_of t → leaf_names u ≡ leaf_names t
+  same_leaf_names t u e = sym (leaf_names-leaves u) ∙ ap (map (λ e. e.1)) e ∙ leaf_names-leaves t
 
   -- the pairs and names of the leaves before the hole, and of those after it
   abbrev pub entries_before : List (Frame N A) → List (A × N)

@@ -18,7 +18,7 @@ use Rattle.art_nodes.specs.declared.node.OpaqueNodePtr.{OpaqueNodePtr}
 use Rattle.art_nodes.proofs.StoreLaws.{elsewhere, here, gone, gone_elsewhere, changed_from, changed_elsewhere}
 use Rattle.art_model.specs.Stores.{Held, held_leaf, held_inner, held}
 use Rattle.art_model.specs.Footprints.{IsIn, Footprint, TouchesAtMost}
-use Rattle.art_model.proofs.Lists.{Each-append, Each-weaker, each_in, each_from, in_left, in_right}
+use Rattle.art_model.proofs.Lists.{Each-append, Each-weaker, each_in, each_from, in_left, in_right, in_map, each_map}
 use Rattle.art_model.proofs.Views.{held_in_inner, leaf_or}
 
 -- The names that came into use between two maps, those that went out of it, and those that may have other values; all others have the values that they had.
@@ -115,16 +115,6 @@ module _ {N X : Type 0} {R : N → N → Ordering} (order : IsTotalOrder R) (sam
     }
 
 -- ---- both maps of a store
-
-module _ {X Y : Type 0} (f : X → Y) where
-  in_map : (x : X) (xs : List X) → IsIn x xs → IsIn (f x) (map f xs)
-  in_map x [] i = absurd i
-  in_map x (y ∷ ys) (inl e) = inl (ap f e)
-  in_map x (y ∷ ys) (inr i) = inr (in_map x ys i)
-
-  each_map : (P : Y → Type 0) (xs : List X) → Each (λ x. P (f x)) xs → Each P (map f xs)
-  each_map P [] h = tt
-  each_map P (x ∷ xs) h = (h.0, each_map P xs h.1)
 
 -- a name of an inner node has an inner kind
 abbrev pub IsInner : InnerPtr → Type 0
