@@ -4,10 +4,11 @@ use Rattle.art_model.specs.Trees.{Tree, leaf}
 use Rattle.art_model.specs.Radix.{pairs_of}
 use Rattle.art_model.specs.Paths.{Frame, plug, leaves_before, leaves_after}
 use Rattle.art_model.specs.Places.{inner_nodes}
-use Rattle.art_model.specs.Layouts.{Node, leaf_node, names_of, leaf_names, Links}
+use Rattle.art_model.specs.Layouts.{Node, leaf_node, names_of, leaf_names, Links, leaves_of}
 use Rattle.art_model.specs.Footprints.{IsIn}
 use Rattle.art_model.proofs.Between.{IsLocal}
 use Rattle.art_model.proofs.Paths.{root_with}
+use Rattle.art_model.proofs.Kept.{KeepLeaves, kept_leaves}
 use Rattle.art_model.proofs.Wholes.{KeepNames, kept}
 use Rattle.art_model.proofs.Stores.{SameBut, ParentHas}
 use Rattle.art_model.proofs.Links.{Relinked}
@@ -40,3 +41,7 @@ module _ {N A : Type 0} {bytes : A → List ℕ} {P : ℕ} {at to : N → Option
   -- and inner nodes that stay keep their names
   pub leaf_alone_keeps : KeepNames (inner_nodes bytes 0 (plug fs t)) (inner_nodes bytes 0 (plug fs (leaf n new)))
   leaf_alone_keeps = kept bytes P fs place t (leaf n new) is.hole.path is.hole.radix is.hole.front (λ e f i j. absurd j)
+
+  -- and keys that stay keep their leaves' names, where those in the hole do
+  pub leaf_alone_keeps_leaves : (F : List A → List A) → IsLocal bytes (bytes new) F → F (pairs_of t) ≡ new ∷ [] → KeepLeaves bytes P (leaves_of t) (leaves_of (leaf n new)) → KeepLeaves bytes P (leaves_of (plug fs t)) (leaves_of (plug fs (leaf n new)))
+  leaf_alone_keeps_leaves F local its kept_here = kept_leaves bytes P fs t (leaf n new) old.radix (leaf_alone F local its).radix kept_here

@@ -5,14 +5,14 @@ use Rattle.art_model.specs.Radix.{IsRadix, bytes_of, join, pairs_of}
 use Rattle.art_model.specs.Pairs.{remove_key}
 use Rattle.art_model.specs.Paths.{Frame, plug, leaves_before, leaves_after}
 use Rattle.art_model.specs.Places.{inner_nodes}
-use Rattle.art_model.specs.Layouts.{Node, inner_node, name_of, slots_of, names_of, names_below, leaf_names, leaf_names_below, Holds, Links}
+use Rattle.art_model.specs.Layouts.{Node, inner_node, name_of, slots_of, names_of, names_below, leaf_names, leaf_names_below, Holds, Links, leaves_of, leaves_below}
 use Rattle.art_model.specs.Footprints.{IsIn}
-use Rattle.art_model.proofs.Lists.{in_right}
+use Rattle.art_model.proofs.Lists.{in_right, in_around}
 use Rattle.art_model.proofs.Between.{remove_key-between}
-use Rattle.art_model.proofs.Paths.{root_with, leaf_names_below-three, names_below-join}
+use Rattle.art_model.proofs.Paths.{root_with, leaf_names_below-three, leaves_below-three, leaves_below-join, same_pairs_of, same_leaf_names, names_below-join}
 use Rattle.art_model.proofs.Changes.{child_removed, child_left, merged, raised}
 use Rattle.art_model.proofs.Wholes.{KeepNames, kept}
-use Rattle.art_model.proofs.Kept.{kept_children, kept_lifted, inner_nodes-leaf, inner_nodes-moved}
+use Rattle.art_model.proofs.Kept.{KeepLeaves, kept_leaves, kept_leaves_fewer, kept_children, kept_lifted, inner_nodes-leaf, inner_nodes-moved}
 use Rattle.art_model.proofs.Stores.{SameBut, ParentHas}
 use Rattle.art_model.proofs.Links.{Relinked}
 use Rattle.art_model.proofs.Canonical.{IsLaidOut}
@@ -36,14 +36,17 @@ module _ {N A : Type 0} (bytes : A → List ℕ) (P : ℕ) (at to : N → Option
     pub hole : IsHole bytes P fs place (inner m h (join l (child b (leaf n x) r))) (bytes x)
     pub one : join l r ≡ child c v no_child
     pub radix : IsRadix bytes P place u
-    pub same_pairs : pairs_of u ≡ pairs_of v
+    pub same_entries : leaves_of u ≡ leaves_of v
     pub same_names : names_of u ≡ names_of v
-    pub same_leaves : leaf_names u ≡ leaf_names v
     pub same_inners : inner_nodes bytes (length place) u ≡ inner_nodes bytes (length place + h.length_of + 1) v
     pub below : Holds to u
     pub parent : ParentHas to fs (name_of u)
     pub same : SameBut at to fs (names_of (inner m h (join l (child b (leaf n x) r))))
     pub relinked : Relinked before links (leaves_before fs ++ leaf_names_below l) [] (leaf_names_below r ++ leaves_after fs)
+
+-- the leaves that are left are among those that were there
+fewer : {N A : Type 0} (l r : Children N A) (b : ℕ) (n : N) (x : A) (e : A × N) → IsIn e (leaves_below (join l r)) → IsIn e (leaves_below (join l (child b (leaf n x) r)))
+fewer l r b n x e i = subst (IsIn e) (sym (leaves_below-three l (child b (leaf n x) no_child) r)) (in_around e (leaves_below l) ((x, n) ∷ []) (leaves_below r) (subst (IsIn e) (leaves_below-join l r) i))
 
 -- the leaf's name is one of the hole's
 leaf_in : {N A : Type 0} (m n : N) (h : Header) (l r : Children N A) (b : ℕ) (x : A) (k : N) → n ≡ k → IsIn k (names_of (inner m h (join l (child b (leaf n x) r))))
@@ -76,9 +79,13 @@ module _ {N A : Type 0} {bytes : A → List ℕ} {P : ℕ} {at to : N → Option
     child_removed_keeps = kept bytes P fs place (inner m h (join l (child b (leaf n x) r))) less is.hole.path is.hole.radix without_leaf.0
         (kept_children bytes P place m node h (header_of P is.hole.radix.0 (length (bytes_of (join l r)))) (join l (child b (leaf n x) r)) (join l r) is.hole.radix without_leaf.0 refl (λ d. sym (inner_nodes-leaf bytes P d l r b n x)) is.same_kind)
 
+    -- and keys that stay keep their leaves' names
+    pub child_removed_keeps_leaves : KeepLeaves bytes P (leaves_of (plug fs (inner m h (join l (child b (leaf n x) r))))) (leaves_of (plug fs (inner node (header_of P is.hole.radix.0 (length (bytes_of (join l r)))) (join l r))))
+    child_removed_keeps_leaves = kept_leaves bytes P fs (inner m h (join l (child b (leaf n x) r))) less old.radix child_removed_from.radix (kept_leaves_fewer bytes P (inner m h (join l (child b (leaf n x) r))) less place is.hole.radix (λ e i. fewer l r b n x e i))
+
   module _ {c : ℕ} {v u : Tree N A} (is : NodeRemoved bytes P at to before links fs place m n h l r b c x v u) where
     lifted_leaves : leaf_names u ≡ leaf_names_below l ++ [] ++ leaf_names_below r
-    lifted_leaves = is.same_leaves ∙ sym (append-nil (leaf_names v)) ∙ ap leaf_names_below (sym is.one) ∙ leaf_names_below-three l no_child r
+    lifted_leaves = same_leaf_names v u is.same_entries ∙ sym (append-nil (leaf_names v)) ∙ ap leaf_names_below (sym is.one) ∙ leaf_names_below-three l no_child r
 
     -- the root is canonical for the pairs without the key
     pub node_removed : IsLaidOut bytes P to links (root_with fs root (name_of u)) (remove_key bytes (bytes x) pairs) (plug fs u)
@@ -89,11 +96,16 @@ module _ {N A : Type 0} {bytes : A → List ℕ} {P : ℕ} {at to : N → Option
       regrown = lifted_regrown at to fs m h l (child b (leaf n x) no_child) r old.holds old.distinct c v u is.one is.same_names is.below;
       same = is.same;
       linked = linked_in_hole fs before links (inner m h (join l (child b (leaf n x) r))) u (leaf_names_below l) (n ∷ []) [] (leaf_names_below r) old.distinct old.linked (leaf_names_below-three l (child b (leaf n x) no_child) r) lifted_leaves is.relinked;
-    }) (bytes x) (remove_key bytes (bytes x)) (remove_key-between bytes (bytes x)) is.hole.front (is.same_pairs ∙ (child_left bytes P place is.hole.radix.0 l r b c n x v is.hole.radix.3 is.hole.radix.4 is.one).1)
+    }) (bytes x) (remove_key bytes (bytes x)) (remove_key-between bytes (bytes x)) is.hole.front (same_pairs_of v u is.same_entries ∙ (child_left bytes P place is.hole.radix.0 l r b c n x v is.hole.radix.3 is.hole.radix.4 is.one).1)
 
     -- and inner nodes that stay keep their names
     pub node_removed_keeps : KeepNames (inner_nodes bytes 0 (plug fs (inner m h (join l (child b (leaf n x) r))))) (inner_nodes bytes 0 (plug fs u))
     node_removed_keeps = kept bytes P fs place (inner m h (join l (child b (leaf n x) r))) u is.hole.path is.hole.radix is.radix (kept_lifted bytes P place m n h l r b c x v u is.hole.radix is.one is.same_inners)
+
+    -- and keys that stay keep their leaves' names
+    pub node_removed_keeps_leaves : KeepLeaves bytes P (leaves_of (plug fs (inner m h (join l (child b (leaf n x) r))))) (leaves_of (plug fs u))
+    node_removed_keeps_leaves = kept_leaves bytes P fs (inner m h (join l (child b (leaf n x) r))) u old.radix node_removed.radix (kept_leaves_fewer bytes P (inner m h (join l (child b (leaf n x) r))) u place is.hole.radix
+        (λ e i. fewer l r b n x e (subst (IsIn e) (sym (ap leaves_below is.one ∙ append-nil (leaves_of v) ∙ sym is.same_entries)) i)))
 
   -- ---- which child is left: a leaf, which is raised, or an inner node, which takes its parent's prefix and its own byte in front
 
@@ -103,9 +115,8 @@ module _ {N A : Type 0} {bytes : A → List ℕ} {P : ℕ} {at to : N → Option
       hole = hole;
       one = one;
       radix = raised bytes P place hole.radix.0 c k y (child_left bytes P place hole.radix.0 l r b c n x (leaf k y) hole.radix.3 hole.radix.4 one).0;
-      same_pairs = refl;
+      same_entries = refl;
       same_names = refl;
-      same_leaves = refl;
       same_inners = refl;
       below = left_child_holds at to fs m h l (child b (leaf n x) no_child) r old.holds old.distinct c (leaf k y) one same;
       parent = parent;
@@ -127,10 +138,9 @@ module _ {N A : Type 0} {bytes : A → List ℕ} {P : ℕ} {at to : N → Option
           hole = hole;
           one = one;
           radix = merged bytes P place part c q k cs two up below;
-          same_pairs = refl;
+          same_entries = refl;
           same_names = refl;
-          same_leaves = refl;
-          same_inners = inner_nodes-moved bytes (length place + h.length_of + 1) (length place) k head merged_head cs (sym (ap (λ z. z.kind) e)) (omega arith);
+              same_inners = inner_nodes-moved bytes (length place + h.length_of + 1) (length place) k head merged_head cs (sym (ap (λ z. z.kind) e)) (omega arith);
           below = (there, left_child_below at to fs m h l (child b (leaf n x) no_child) r old.holds old.distinct c k head cs one same);
           parent = parent;
           same = λ j up out used. same j up (λ i. elim i [ inl e ↦ out (child_in j e) | inr i ↦ elim i [ inl e ↦ out (inl e) | inr i ↦ elim i [ inl e ↦ out (leaf_in m n h l r b x j e) | inr i ↦ i ] ] ]) used;
