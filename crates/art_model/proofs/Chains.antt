@@ -58,17 +58,17 @@ module _ {K V : Type 0} {s t : Nodes K V} {xs ns zs : List OpaqueNodePtr} {befor
         let among = in_left (leaf_name p) xs zs (subst (λ z. IsIn z xs) e (last_in xs l last)) in
         subst (λ (k : OpaqueNodePtr). links_at t k ≡ Some (record { previous = a; next = first_or ns (first_or zs None) })) (sym e)
         (links_leaf t p (option_map (with_next next) (get s.leaves p)) (is.leaves p among ∙ joined_before s.leaves before after next previous p here (λ f. not_both p here f))
-              ∙ relinks (with_next next) a b a (first_or ns (first_or zs None)) (λ y u v. both u is.next_is) (get s.leaves p) (ap (links_at s) (sym e) ∙ old));
+        ∙ relinks (with_next next) a b a (first_or ns (first_or zs None)) (λ y u v. both u is.next_is) (get s.leaves p) (ap (links_at s) (sym e) ∙ old));
     on_right = λ l a b first old.
         let (p, here, e) = named_leaf after l (is.after_is ∙ first) in
         let among = in_right (leaf_name p) xs zs (subst (λ z. IsIn z zs) e (first_in zs l first)) in
         subst (λ (k : OpaqueNodePtr). links_at t k ≡ Some (record { previous = last_or ns (last_or xs None); next = b })) (sym e)
         (links_leaf t p (option_map (with_previous previous) (get s.leaves p)) (is.leaves p among ∙ joined_after s.leaves before after next previous p here (λ f. not_both p f here))
-              ∙ relinks (with_previous previous) a b (last_or ns (last_or xs None)) b (λ y u v. both is.previous_is v) (get s.leaves p) (ap (links_at s) (sym e) ∙ old));
+        ∙ relinks (with_previous previous) a b (last_or ns (last_or xs None)) b (λ y u v. both is.previous_is v) (get s.leaves p) (ap (links_at s) (sym e) ∙ old));
     inside = is.inside;
     others = λ k i f g. elim (leaf_or k) [
       | inl (p, e) ↦ subst (λ (z : OpaqueNodePtr). links_at t z ≡ links_at s z) (sym e) (links_leaf t p (get s.leaves p) (is.leaves p (subst (λ z. IsIn z (xs ++ zs)) e i)
-            ∙ joined_elsewhere s.leaves before after next previous p (λ h. f (sym is.before_is ∙ ap (option_map leaf_name) h ∙ ap Some (sym e))) (λ h. g (sym is.after_is ∙ ap (option_map leaf_name) h ∙ ap Some (sym e)))))
+          ∙ joined_elsewhere s.leaves before after next previous p (λ h. f (sym is.before_is ∙ ap (option_map leaf_name) h ∙ ap Some (sym e))) (λ h. g (sym is.after_is ∙ ap (option_map leaf_name) h ∙ ap Some (sym e)))))
       | inr off ↦ links_inner t k off ∙ sym (links_inner s k off)
     ];
   }
@@ -114,7 +114,7 @@ module _ {K V : Type 0} (s t : Nodes K V) (xs zs : List OpaqueNodePtr) (n : Leaf
       ((p : LeafPtr) → IsIn (leaf_name p) (xs ++ zs) → get t.leaves p ≡ get (without_leaf s.leaves n x) p) → AreBeside s t xs [] zs x.previous x.next x.next x.previous
   leaf_goes distinct linked here leaves =
       let own : ◌≡◌ {A = Links OpaqueNodePtr} (record { previous = option_map leaf_name x.previous; next = option_map leaf_name x.next }) (record { previous = last_or xs None; next = first_or zs None }) =
-          let e = sym (links_leaf s n (Some x) here) ∙ link_of (links_at s) xs zs (leaf_name n) None None linked in cc in
+      let e = sym (links_leaf s n (Some x) here) ∙ link_of (links_at s) xs zs (leaf_name n) None None linked in cc in
       let last : option_map leaf_name x.previous ≡ last_or xs None = ap (λ z. z.previous) own in
       let first : option_map leaf_name x.next ≡ first_or zs None = ap (λ z. z.next) own in
       record {

@@ -11,7 +11,7 @@ use Rattle.art_model.specs.Layouts.{Node, leaf_node, inner_node, slots_of, names
 use Rattle.art_model.specs.Footprints.{IsIn}
 use Rattle.art_model.proofs.Lists.{each_in, each_from, in_left, in_around}
 use Rattle.art_model.proofs.Between.{put-between}
-use Rattle.art_model.proofs.Paths.{root_with, leaf_names_below-three, leaves_below-three, leaves_below-join, same_pairs_of, same_leaf_names}
+use Rattle.art_model.proofs.Paths.{IsHole, root_with, leaf_names_below-three, leaves_below-three, leaves_below-join, same_pairs_of, same_leaf_names}
 use Rattle.art_model.proofs.Changes.{two_children, branch, with_child, trimmed}
 use Rattle.art_model.proofs.Wholes.{KeepNames, kept}
 use Rattle.art_model.proofs.Kept.{kept_branch, kept_children, inner_nodes-leaf, inner_nodes-moved, KeepLeaves, kept_leaves, kept_leaves_more}
@@ -19,7 +19,7 @@ use Rattle.art_model.proofs.Stores.{SameBut, ParentHas, path_holds, hole_distinc
 use Rattle.art_model.proofs.Links.{Relinked}
 use Rattle.art_model.proofs.Canonical.{IsLaidOut}
 use Rattle.art_model.proofs.Regrown.{IsBranch, branch_regrown, children_regrown}
-use Rattle.art_model.proofs.Replaced.{IsHole, replaced, linked_in_hole}
+use Rattle.art_model.proofs.Replaced.{replaced, linked_in_hole}
 
 module _ {N A : Type 0} (bytes : A → List ℕ) (P : ℕ) (at to : N → Option (Node N A)) (before links : N → Option (Links N)) (fs : List (Frame N A)) (place : List ℕ) where
   -- The tree `t` in the hole became `u`, which stands beside a new leaf below a new node: a leaf is split, or a prefix.

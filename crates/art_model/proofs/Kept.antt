@@ -2,12 +2,11 @@
 use Rattle.std.proofs.Common.{◌≡◌, ◌≢◌, ℕ, ◌+◌, List, [], ◌∷◌, ◌++◌, length, take, map, refl, ap, ap₂, sym, ◌∙◌, subst, append-nil, true, false, Bool, cond, ltb, inl, inr}
 use Rattle.std.specs.List.{AllByRecursion as Each}
 use Rattle.std.proofs.lemmas.Bool.{true≢false}
-use Rattle.std.proofs.lemmas.List.{map-append}
 use Rattle.art_model.specs.Keys.{Precedes}
 use Rattle.art_model.specs.Pairs.{Pairwise, IsMap}
 use Rattle.art_model.specs.Trees.{Tree, leaf, inner, Children, child, no_child, Header}
-use Rattle.art_model.specs.Radix.{IsRadix, bytes_of, join, pairs_of, pairs_below}
-use Rattle.art_model.specs.Layouts.{leaves_of, leaves_below}
+use Rattle.art_model.specs.Radix.{IsRadix, bytes_of, join, pairs_of}
+use Rattle.art_model.specs.Layouts.{leaves_of}
 use Rattle.art_model.specs.Paths.{Frame, plug}
 use Rattle.art_model.specs.Places.{least_below, inner_nodes, inner_nodes_below}
 use Rattle.art_model.specs.Footprints.{IsIn}
@@ -44,7 +43,7 @@ module _ {N A : Type 0} (bytes : A → List ℕ) (P : ℕ) where
   kept_children place m node h head cs ds (part, e, two, up, below) (part', e', two', up', below') same others named =
       let len : head.length_of ≡ h.length_of = ap (λ z. z.length_of) e' ∙ ap length same ∙ sym (ap (λ z. z.length_of) e) in
       let whole : take (length place + h.length_of) (least_below bytes cs) ≡ take (length place + head.length_of) (least_below bytes ds) =
-          whole_is bytes P h place part (length (bytes_of cs)) cs e two below ∙ ap (λ z. place ++ z) (sym same) ∙ sym (whole_is bytes P head place part' (length (bytes_of ds)) ds e' two' below') in
+      whole_is bytes P h place part (length (bytes_of cs)) cs e two below ∙ ap (λ z. place ++ z) (sym same) ∙ sym (whole_is bytes P head place part' (length (bytes_of ds)) ds e' two' below') in
       let d = length place + h.length_of + 1 in
       let rest : inner_nodes_below bytes (length place + head.length_of + 1) ds ≡ inner_nodes_below bytes d cs = ap (λ z. inner_nodes_below bytes (length place + z + 1) ds) len ∙ others d in
       subst (λ xs. KeepNames (inner_nodes bytes (length place) (inner m h cs)) ((head.kind, take (length place + head.length_of) (least_below bytes ds), node) ∷ xs)) (sym rest)
@@ -89,8 +88,8 @@ module _ {N A : Type 0} (bytes : A → List ℕ) (P : ℕ) where
       let is = leaves_of-plug fs u in
       let R = λ (e f : A × N). bytes e.0 ≢ bytes f.0 in
       subst (λ xs. KeepLeaves xs (leaves_of (plug fs u))) (sym was) (subst (λ xs. KeepLeaves (entries_before fs ++ leaves_of t ++ entries_after fs) xs) (sym is)
-          (keep_between (λ e. bytes e.0) (λ e. e.1) (λ e f. Unit {0}) (entries_before fs) (leaves_of t) (leaves_of u) (entries_after fs)
-          (subst (Pairwise R) was (keys_differ (plug fs t) [] rt)) (subst (Pairwise R) is (keys_differ (plug fs u) [] ru)) local))
+      (keep_between (λ e. bytes e.0) (λ e. e.1) (λ e f. Unit {0}) (entries_before fs) (leaves_of t) (leaves_of u) (entries_after fs)
+      (subst (Pairwise R) was (keys_differ (plug fs t) [] rt)) (subst (Pairwise R) is (keys_differ (plug fs u) [] ru)) local))
 
   -- the leaves in the hole are among those of the new tree, or the other way round: so in each insertion and deletion
   pub kept_leaves_more : (t u : Tree N A) (place : List ℕ) → IsRadix bytes P place u → ((e : A × N) → IsIn e (leaves_of t) → IsIn e (leaves_of u)) → KeepLeaves (leaves_of t) (leaves_of u)

@@ -107,8 +107,8 @@ module _ {N : Type 0} (links to : N → Option (Links N)) (xs ns zs : List N) (d
           let last : last_or xs None ≡ Some l = ap (λ z. last_or z None) e ∙ last_or-push ys l None in
           let own : AreDistinct (ys ++ l ∷ []) = subst AreDistinct e (Pairwise-left ◌≢◌ xs zs distinct) in
           let same = each_from (λ k. to k ≡ links k) ys (λ k i.
-              let among : IsIn k xs = subst (IsIn k) (sym e) (in_left k ys (l ∷ []) i) in
-              change.others k (in_left k xs zs among) (λ f. let g : l ≡ k = cc in apart_in ys (l ∷ []) k own i (inl g)) (λ f. apart_in xs zs k distinct among (first_in zs k f))) in
+          let among : IsIn k xs = subst (IsIn k) (sym e) (in_left k ys (l ∷ []) i) in
+          change.others k (in_left k xs zs among) (λ f. let g : l ≡ k = cc in apart_in ys (l ∷ []) k own i (inl g)) (λ f. apart_in xs zs k distinct among (first_in zs k f))) in
           subst (λ z. AreLinked to None z (first_or ns (first_or zs None))) (sym e)
           (relink_end links to ys l None o (first_or ns (first_or zs None)) same h' (change.on_left l (last_or ys None) o last (link_of links ys [] l None o h')))
 
@@ -123,8 +123,8 @@ module _ {N : Type 0} (links to : N → Option (Links N)) (xs ns zs : List N) (d
           let all : AreDistinct ((xs ++ w ∷ []) ++ ws) = subst AreDistinct (ap (λ z. xs ++ z) e ∙ sym (append_assoc xs (w ∷ []) ws)) distinct in
           let first : first_or zs None ≡ Some w = ap (λ z. first_or z None) e in
           let same = each_from (λ k. to k ≡ links k) ws (λ k i.
-              let among : IsIn k (xs ++ zs) = in_right k xs zs (subst (IsIn k) (sym e) (inr i)) in
-              change.others k among (λ f. apart_in (xs ++ w ∷ []) ws k all (in_left k xs (w ∷ []) (last_in xs k f)) i) (λ f. let g : w ≡ k = cc in apart_in (xs ++ w ∷ []) ws k all (in_right k xs (w ∷ []) (inl g)) i)) in
+          let among : IsIn k (xs ++ zs) = in_right k xs zs (subst (IsIn k) (sym e) (inr i)) in
+          change.others k among (λ f. apart_in (xs ++ w ∷ []) ws k all (in_left k xs (w ∷ []) (last_in xs k f)) i) (λ f. let g : w ≡ k = cc in apart_in (xs ++ w ∷ []) ws k all (in_right k xs (w ∷ []) (inl g)) i)) in
           relink_start links to w ws o None (last_or ns (last_or xs None)) same h' (change.on_right w o (first_or ws None) first h'.0)
 
   -- the chain with other leaves in the middle

@@ -50,8 +50,8 @@ module _ {N A : Type 0} {part : Tree N A → List N} {parts : Children N A → L
     taken_distinct_below (child b t cs) d =
         let cross = Pairwise-across ◌≢◌ (names_of t) (names_below cs) d in
         subst AreDistinct (sym (takes.of_child b t cs)) (Pairwise-append ◌≢◌ (part t) (parts cs)
-            (taken_distinct t (Pairwise-left ◌≢◌ (names_of t) (names_below cs) d)) (taken_distinct_below cs (Pairwise-right ◌≢◌ (names_of t) (names_below cs) d))
-            (among (λ x. Each (λ z. x ≢ z) (parts cs)) t (Each-weaker (λ x. Each (λ z. x ≢ z) (names_below cs)) (λ x. Each (λ z. x ≢ z) (parts cs)) (λ x k. among_below (λ z. x ≢ z) cs k) (names_of t) cross)))
+        (taken_distinct t (Pairwise-left ◌≢◌ (names_of t) (names_below cs) d)) (taken_distinct_below cs (Pairwise-right ◌≢◌ (names_of t) (names_below cs) d))
+        (among (λ x. Each (λ z. x ≢ z) (parts cs)) t (Each-weaker (λ x. Each (λ z. x ≢ z) (names_below cs)) (λ x. Each (λ z. x ≢ z) (parts cs)) (λ x k. among_below (λ z. x ≢ z) cs k) (names_of t) cross)))
 
 module _ {N A : Type 0} where
   pub takes_leaves : TakesNames {N = N} {A = A} leaf_names leaf_names_below
@@ -94,7 +94,7 @@ module _ {N A : Type 0} (at : N → Option (Node N A)) where
       (Pairwise-append ◌≢◌ xs new (Pairwise-left ◌≢◌ xs old xo) d (each_from (λ x. Each (λ k. x ≢ k) new) xs (λ x i. each_from (λ k. x ≢ k) new (λ k j e. before x k e xo i (each_in (λ k. IsIn k old ⊎ (at k ≡ None)) k new on j)))))
       (Pairwise-right ◌≢◌ (xs ++ old) zs all)
       (Each-append (λ x. Each (λ z. x ≢ z) zs) xs new (Each-left (λ x. Each (λ z. x ≢ z) zs) xs old cross)
-          (Each-weaker (λ k. IsIn k old ⊎ (at k ≡ None)) (λ k. Each (λ z. k ≢ z) zs) (λ k. after k (Each-right (λ x. Each (λ z. x ≢ z) zs) xs old cross)) new on))
+      (Each-weaker (λ k. IsIn k old ⊎ (at k ≡ None)) (λ k. Each (λ z. k ≢ z) zs) (λ k. after k (Each-right (λ x. Each (λ z. x ≢ z) zs) xs old cross)) new on))
     where
       before : (x k : N) → x ≡ k → AreDistinct (xs ++ old) → IsIn x xs → IsIn k old ⊎ (at k ≡ None) → ⊥
       before x k e d i (inl o) = apart_in xs old x d i (subst (λ z. IsIn z old) (sym e) o)

@@ -7,14 +7,14 @@ use Rattle.art_model.specs.Places.{inner_nodes}
 use Rattle.art_model.specs.Layouts.{Node, leaf_node, names_of, leaf_names, Links, leaves_of}
 use Rattle.art_model.specs.Footprints.{IsIn}
 use Rattle.art_model.proofs.Between.{IsLocal}
-use Rattle.art_model.proofs.Paths.{root_with}
+use Rattle.art_model.proofs.Paths.{IsHole, root_with}
 use Rattle.art_model.proofs.Kept.{KeepLeaves, kept_leaves}
 use Rattle.art_model.proofs.Wholes.{KeepNames, kept}
 use Rattle.art_model.proofs.Stores.{SameBut, ParentHas}
 use Rattle.art_model.proofs.Links.{Relinked}
 use Rattle.art_model.proofs.Canonical.{IsLaidOut}
 use Rattle.art_model.proofs.Regrown.{leaf_regrown}
-use Rattle.art_model.proofs.Replaced.{IsHole, replaced, linked_in_hole}
+use Rattle.art_model.proofs.Replaced.{replaced, linked_in_hole}
 
 -- All in the hole gave way to one leaf, which has an old name or one that was free.
 pub record LeafAlone {N A : Type 0} (bytes : A → List ℕ) (P : ℕ) (at to : N → Option (Node N A)) (before links : N → Option (Links N)) (fs : List (Frame N A)) (place : List ℕ) (t : Tree N A) (n : N) (new : A) : Type 0 where

@@ -7,7 +7,9 @@ use Rattle.art_model.specs.Trees.{Tree, leaf, inner, Children, child, no_child, 
 use Rattle.art_model.specs.Radix.{IsRadix, IsRising, bytes_of, join, pairs_of, pairs_below}
 use Rattle.art_model.specs.Layouts.{name_of, slots_of, names_of, names_below, leaf_names, leaf_names_below, leaves_of, leaves_below}
 use Rattle.art_model.specs.Paths.{Frame, fill, plug, pairs_before, pairs_after, names_before, names_after, leaves_before, leaves_after, IsPath}
-use Rattle.art_model.proofs.Lists.{Each-append, front_cut, Each-weaker}
+use Rattle.art_model.specs.Footprints.{IsIn}
+use Rattle.art_model.proofs.Rebuild.{radix_way}
+use Rattle.art_model.proofs.Lists.{each_in, Each-append, front_cut, Each-weaker}
 use Rattle.art_model.proofs.Pairwises.{Pairwise-before, Pairwise-after}
 use Rattle.art_model.proofs.Between.{IsLocal}
 use Rattle.art_model.proofs.Radix.{bytes_of-join, pairs_below-join, AreRadix-join, AreRadix-left, AreRadix-right, parts, PartsBelow, PartsAbove, all_below, all_above}
@@ -158,6 +160,18 @@ module _ {N A : Type 0} (bytes : A → List ℕ) (P : ℕ) where
       let (outer, path, node) = radix_plug fs (fill f t) h in
       let (down, radix) = path_down fs outer f t path node in
       ((outer ++ node.0) ++ f.byte ∷ [], down, radix)
+
+-- the tree in the hole of a path is a radix tree at a place that is a front of the key
+pub record IsHole {N A : Type 0} (bytes : A → List ℕ) (P : ℕ) (fs : List (Frame N A)) (place : List ℕ) (t : Tree N A) (key : List ℕ) : Type 0 where
+  pub path : IsPath bytes P place fs
+  pub radix : IsRadix bytes P place t
+  pub front : IsFront place key
+
+-- in a radix tree each path is one, and what is in its hole is a hole for each of its pairs
+pub hole_of : {N A : Type 0} (bytes : A → List ℕ) (P : ℕ) (fs : List (Frame N A)) (t : Tree N A) (x : A) → IsRadix bytes P [] (plug fs t) → IsIn x (pairs_of t) → (place : List ℕ) × IsHole bytes P fs place t (bytes x)
+hole_of bytes P fs t x radix i =
+    let (place, path, own) = radix_plug bytes P fs t radix in
+    (place, record { path = path; radix = own; front = each_in (λ y. IsFront place (bytes y)) x (pairs_of t) (radix_way bytes P t place own) i })
 
 -- A change in the hole of a path is a change of the whole, where it is a local one at a key that goes on from the hole.
 module _ {N A : Type 0} (bytes : A → List ℕ) (P : ℕ) (fs : List (Frame N A)) (place : List ℕ) (path : IsPath bytes P place fs) (t u : Tree N A) (radix : IsRadix bytes P place u) where

@@ -9,7 +9,7 @@ use Rattle.art_model.specs.Layouts.{Node, inner_node, name_of, slots_of, names_o
 use Rattle.art_model.specs.Footprints.{IsIn}
 use Rattle.art_model.proofs.Lists.{in_right, in_around}
 use Rattle.art_model.proofs.Between.{remove_key-between}
-use Rattle.art_model.proofs.Paths.{root_with, leaf_names_below-three, leaves_below-three, leaves_below-join, same_pairs_of, same_leaf_names, names_below-join}
+use Rattle.art_model.proofs.Paths.{IsHole, root_with, leaf_names_below-three, leaves_below-three, leaves_below-join, same_pairs_of, same_leaf_names, names_below-join}
 use Rattle.art_model.proofs.Changes.{child_removed, child_left, merged, raised}
 use Rattle.art_model.proofs.Wholes.{KeepNames, kept}
 use Rattle.art_model.proofs.Kept.{KeepLeaves, kept_leaves, kept_leaves_fewer, kept_children, kept_lifted, inner_nodes-leaf, inner_nodes-moved}
@@ -17,7 +17,7 @@ use Rattle.art_model.proofs.Stores.{SameBut, ParentHas}
 use Rattle.art_model.proofs.Links.{Relinked}
 use Rattle.art_model.proofs.Canonical.{IsLaidOut}
 use Rattle.art_model.proofs.Regrown.{children_regrown, lifted_regrown, left_child_holds, left_child_below, lifted_in}
-use Rattle.art_model.proofs.Replaced.{IsHole, replaced, linked_in_hole}
+use Rattle.art_model.proofs.Replaced.{replaced, linked_in_hole}
 
 module _ {N A : Type 0} (bytes : A → List ℕ) (P : ℕ) (at to : N → Option (Node N A)) (before links : N → Option (Links N)) (fs : List (Frame N A)) (place : List ℕ) where
   -- The node in the hole loses a leaf and keeps two or more children: it stays, or a smaller node takes its place.
@@ -140,7 +140,7 @@ module _ {N A : Type 0} {bytes : A → List ℕ} {P : ℕ} {at to : N → Option
           radix = merged bytes P place part c q k cs two up below;
           same_entries = refl;
           same_names = refl;
-              same_inners = inner_nodes-moved bytes (length place + h.length_of + 1) (length place) k head merged_head cs (sym (ap (λ z. z.kind) e)) (omega arith);
+          same_inners = inner_nodes-moved bytes (length place + h.length_of + 1) (length place) k head merged_head cs (sym (ap (λ z. z.kind) e)) (omega arith);
           below = (there, left_child_below at to fs m h l (child b (leaf n x) no_child) r old.holds old.distinct c k head cs one same);
           parent = parent;
           same = λ j up out used. same j up (λ i. elim i [ inl e ↦ out (child_in j e) | inr i ↦ elim i [ inl e ↦ out (inl e) | inr i ↦ elim i [ inl e ↦ out (leaf_in m n h l r b x j e) | inr i ↦ i ] ] ]) used;

@@ -1,5 +1,5 @@
 -- The theorem that every operation uses: another tree in the hole of a path, the store and the links say so, and the root is canonical for the changed pairs.
-use Rattle.std.proofs.Common.{[], ◌≡◌, ◌≢◌, ℕ, List, ◌++◌, sym, ap, ◌∙◌, subst, append_assoc, Option, None}
+use Rattle.std.proofs.Common.{◌≡◌, ◌≢◌, ℕ, List, ◌++◌, sym, ap, ◌∙◌, subst, append_assoc, Option, None}
 use Rattle.std.specs.List.{AllByRecursion as Each}
 use Rattle.art_model.specs.Keys.{IsFront}
 use Rattle.art_model.specs.Trees.{Tree}
@@ -9,25 +9,11 @@ use Rattle.art_model.specs.Layouts.{Node, name_of, names_of, leaf_names, AreDist
 use Rattle.art_model.proofs.Between.{IsLocal}
 use Rattle.art_model.proofs.Canonical.{IsLaidOut}
 use Rattle.art_model.proofs.Links.{Relinked, relink}
-use Rattle.art_model.specs.Footprints.{IsIn}
-use Rattle.art_model.proofs.Rebuild.{radix_way}
-use Rattle.art_model.proofs.Lists.{Each-left, each_in}
+use Rattle.art_model.proofs.Lists.{Each-left}
 use Rattle.art_model.proofs.Names.{taken_distinct, takes_leaves}
 use Rattle.art_model.proofs.Pairwises.{Pairwise-left, Pairwise-right, Pairwise-across, Pairwise-append}
-use Rattle.art_model.proofs.Paths.{root_with, radix_plug, name_of-plug, leaf_names-plug, changed_at}
+use Rattle.art_model.proofs.Paths.{root_with, name_of-plug, leaf_names-plug, changed_at}
 use Rattle.art_model.proofs.Stores.{ParentHas, SameBut, Regrown, replace}
-
--- the tree in the hole of a path is a radix tree at a place that is a front of the key
-pub record IsHole {N A : Type 0} (bytes : A → List ℕ) (P : ℕ) (fs : List (Frame N A)) (place : List ℕ) (t : Tree N A) (key : List ℕ) : Type 0 where
-  pub path : IsPath bytes P place fs
-  pub radix : IsRadix bytes P place t
-  pub front : IsFront place key
-
--- in a radix tree each path is one, and what is in its hole is a hole for each of its pairs
-pub hole_of : {N A : Type 0} (bytes : A → List ℕ) (P : ℕ) (fs : List (Frame N A)) (t : Tree N A) (x : A) → IsRadix bytes P [] (plug fs t) → IsIn x (pairs_of t) → (place : List ℕ) × IsHole bytes P fs place t (bytes x)
-hole_of bytes P fs t x radix i =
-    let (place, path, own) = radix_plug bytes P fs t radix in
-    (place, record { path = path; radix = own; front = each_in (λ y. IsFront place (bytes y)) x (pairs_of t) (radix_way bytes P t place own) i })
 
 -- `t` in the hole of a path became `u`: a radix tree, held in the new store, which the parent names; the rest is as it was, and all leaves are linked
 pub record Replaced {N A : Type 0} (bytes : A → List ℕ) (P : ℕ) (at to : N → Option (Node N A)) (links : N → Option (Links N)) (fs : List (Frame N A)) (place : List ℕ) (t u : Tree N A) : Type 0 where
@@ -70,5 +56,5 @@ module _ {N A : Type 0} (fs : List (Frame N A)) where
       let was = leaf_names-parts t xs ms zs old in
       let all : AreDistinct (left ++ ms ++ right) = subst AreDistinct was (taken_distinct takes_leaves (plug fs t) distinct) in
       let outer = Pairwise-append ◌≢◌ left right (Pairwise-left ◌≢◌ left ms (Pairwise-left ◌≢◌ (left ++ ms) right all)) (Pairwise-right ◌≢◌ (left ++ ms) right all)
-          (Each-left (λ x. Each (λ y. x ≢ y) right) left ms (Pairwise-across ◌≢◌ (left ++ ms) right all)) in
+      (Each-left (λ x. Each (λ y. x ≢ y) right) left ms (Pairwise-across ◌≢◌ (left ++ ms) right all)) in
       subst (λ ks. AreLinked links None ks None) (sym (leaf_names-parts u xs ns zs new)) (relink before links left ns right outer change ms (subst (λ ks. AreLinked before None ks None) was linked))

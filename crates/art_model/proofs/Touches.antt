@@ -114,6 +114,20 @@ module _ {N X : Type 0} {R : N → N → Ordering} (order : IsTotalOrder R) (sam
       others = λ k p f c. gone_elsewhere order same new n k (λ e. f (inl (sym e))) ∙ so_far.others k p (λ i. f (inr i)) c;
     }
 
+    -- names that go together: they were there at first, and were neither changed nor freed before
+    pub then_gone : {newer : FinMap R X} (gone_names : List N) → Each (λ k. get old k ≢ None) gone_names → ((k : N) → IsIn k gone_names → IsIn k changed → ⊥) → ((k : N) → IsIn k gone_names → IsIn k freed → ⊥) →
+        ((k : N) → IsIn k gone_names → get newer k ≡ None) → ((k : N) → (IsIn k gone_names → ⊥) → get newer k ≡ get new k) → Touched old newer placed (gone_names ++ freed) changed
+    then_gone {newer} ns were not_changed not_freed absent rest =
+        let kept = λ (k : N) (off : IsIn k ns → ⊥) (used : get new k ≢ None) (e : get newer k ≡ None). used (sym (rest k off) ∙ e) in
+        record {
+          are_placed = each_from (λ k. (get old k ≡ None) × (get newer k ≢ None)) placed (λ k i. let h = each_in (λ k. (get old k ≡ None) × (get new k ≢ None)) k placed so_far.are_placed i in (h.0, kept k (λ j. each_in (λ k. get old k ≢ None) k ns were j h.0) h.1));
+          are_freed = Each-append (λ k. (get old k ≢ None) × (get newer k ≡ None)) ns freed
+              (each_from (λ k. (get old k ≢ None) × (get newer k ≡ None)) ns (λ k i. (each_in (λ k. get old k ≢ None) k ns were i, absent k i)))
+              (each_from (λ k. (get old k ≢ None) × (get newer k ≡ None)) freed (λ k i. let h = each_in (λ k. (get old k ≢ None) × (get new k ≡ None)) k freed so_far.are_freed i in (h.0, rest k (λ j. not_freed k j i) ∙ h.1)));
+          are_changed = each_from (λ k. (get old k ≢ None) × (get newer k ≢ None)) changed (λ k i. let h = each_in (λ k. (get old k ≢ None) × (get new k ≢ None)) k changed so_far.are_changed i in (h.0, kept k (λ j. not_changed k j i) h.1));
+          others = λ k p f c. rest k (λ i. f (in_left k ns freed i)) ∙ so_far.others k p (λ i. f (in_right k ns freed i)) c;
+        }
+
 -- ---- both maps of a store
 
 -- a name of an inner node has an inner kind
@@ -141,9 +155,9 @@ module _ {K V : Type 0} (s t : Nodes K V) where
     both_held leaves inners l i k = Each-append Listed (map leaf_name leaves) (map inner_name inners)
         (each_map leaf_name Listed leaves (Each-weaker (λ n. P (LeafNode K V) (get s.leaves n) × Q (LeafNode K V) (get t.leaves n)) (λ n. Listed (leaf_name n)) (λ n h. (p_held (LeafNode K V) held_leaf (get s.leaves n) h.0, q_held (LeafNode K V) held_leaf (get t.leaves n) h.1)) leaves l))
         (each_map inner_name Listed inners (each_from (λ n. Listed (inner_name n)) inners (λ n j.
-              let h = each_in (λ n. P Inner (get s.inners n) × Q Inner (get t.inners n)) n inners i j in
-              let kind = each_in IsInner n inners k j in
-              (subst (P (Held K V)) (sym (held_in_inner s n.kind n.slot kind)) (p_held Inner held_inner (get s.inners n) h.0), subst (Q (Held K V)) (sym (held_in_inner t n.kind n.slot kind)) (q_held Inner held_inner (get t.inners n) h.1)))))
+        let h = each_in (λ n. P Inner (get s.inners n) × Q Inner (get t.inners n)) n inners i j in
+        let kind = each_in IsInner n inners k j in
+        (subst (P (Held K V)) (sym (held_in_inner s n.kind n.slot kind)) (p_held Inner held_inner (get s.inners n) h.0), subst (Q (Held K V)) (sym (held_in_inner t n.kind n.slot kind)) (q_held Inner held_inner (get t.inners n) h.1)))))
 
   -- the footprint of the writes to both maps
   pub footprint_of : {lp lf lc : List LeafPtr} {ip if_ ic : List InnerPtr} → Touched s.leaves t.leaves lp lf lc → Touched s.inners t.inners ip if_ ic → Each IsInner ip → Each IsInner if_ → Each IsInner ic →
@@ -154,15 +168,15 @@ module _ {K V : Type 0} (s t : Nodes K V) where
     are_changed = both_held (λ X o. o ≢ None) (λ X o. o ≢ None) held_some held_some lc ic l.are_changed i.are_changed kc;
     others = λ k p f c. elim (leaf_or k) [
       | inl (q, e) ↦ subst (λ z. held t z ≡ held s z) (sym e) (ap (option_map held_leaf) (l.others q
-            (λ j. p (subst (λ z. IsIn z (both_names lp ip)) (sym e) (in_left (leaf_name q) (map leaf_name lp) (map inner_name ip) (in_map leaf_name q lp j))))
-            (λ j. f (subst (λ z. IsIn z (both_names lf if_)) (sym e) (in_left (leaf_name q) (map leaf_name lf) (map inner_name if_) (in_map leaf_name q lf j))))
-            (λ j. c (subst (λ z. IsIn z (both_names lc ic)) (sym e) (in_left (leaf_name q) (map leaf_name lc) (map inner_name ic) (in_map leaf_name q lc j))))))
+          (λ j. p (subst (λ z. IsIn z (both_names lp ip)) (sym e) (in_left (leaf_name q) (map leaf_name lp) (map inner_name ip) (in_map leaf_name q lp j))))
+          (λ j. f (subst (λ z. IsIn z (both_names lf if_)) (sym e) (in_left (leaf_name q) (map leaf_name lf) (map inner_name if_) (in_map leaf_name q lf j))))
+          (λ j. c (subst (λ z. IsIn z (both_names lc ic)) (sym e) (in_left (leaf_name q) (map leaf_name lc) (map inner_name ic) (in_map leaf_name q lc j))))))
       | inr off ↦
           let q : InnerPtr = record { kind = k.kind; slot = k.slot } in
           held_in_inner t k.kind k.slot off ∙ ap (option_map held_inner) (i.others q
-            (λ j. p (in_right k (map leaf_name lp) (map inner_name ip) (in_map inner_name q ip j)))
-            (λ j. f (in_right k (map leaf_name lf) (map inner_name if_) (in_map inner_name q if_ j)))
-            (λ j. c (in_right k (map leaf_name lc) (map inner_name ic) (in_map inner_name q ic j)))) ∙ sym (held_in_inner s k.kind k.slot off)
+          (λ j. p (in_right k (map leaf_name lp) (map inner_name ip) (in_map inner_name q ip j)))
+          (λ j. f (in_right k (map leaf_name lf) (map inner_name if_) (in_map inner_name q if_ j)))
+          (λ j. c (in_right k (map leaf_name lc) (map inner_name ic) (in_map inner_name q ic j)))) ∙ sym (held_in_inner s k.kind k.slot off)
     ];
   }
 

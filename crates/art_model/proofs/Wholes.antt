@@ -83,7 +83,7 @@ module _ {N A : Type 0} (bytes : A → List ℕ) (P : ℕ) where
         let own = subst (λ z. Each (λ e. IsFront (front ++ b ∷ []) e.1) (inner_nodes bytes z t)) (sym (e b)) (whole_way t (front ++ b ∷ []) h.0) in
         Pairwise-append Differ (inner_nodes bytes d t) (inner_nodes_below bytes d cs) (subst (λ z. Pairwise Differ (inner_nodes bytes z t)) (sym (e b)) (whole_differ t (front ++ b ∷ []) h.0)) (whole_differ_below cs front d e up.1 h.1)
         (Each-weaker (λ e. IsFront (front ++ b ∷ []) e.1) (λ e. Each (Differ e) (inner_nodes_below bytes d cs)) (λ f k. Each-weaker (Under front cs) (Differ f)
-              (λ g u same. let p = one_way front b u.0 g.1 (subst (λ z. IsFront (front ++ b ∷ []) z) same k) u.2 in let lt = each_in (λ c. b < c) u.0 (bytes_of cs) up.0 u.1 in absurd (omega arith)) (inner_nodes_below bytes d cs) (whole_under cs front d e h.1)) (inner_nodes bytes d t) own)
+        (λ g u same. let p = one_way front b u.0 g.1 (subst (λ z. IsFront (front ++ b ∷ []) z) same k) u.2 in let lt = each_in (λ c. b < c) u.0 (bytes_of cs) up.0 u.1 in absurd (omega arith)) (inner_nodes_below bytes d cs) (whole_under cs front d e h.1)) (inner_nodes bytes d t) own)
 
 -- ---- the inner nodes of a plugged path
 
@@ -111,7 +111,7 @@ module _ {N A : Type 0} (bytes : A → List ℕ) (P : ℕ) where
       let own : take (length outer + f.header.length_of) (least_below bytes (join f.left (child f.byte t f.right))) ≡ outer ++ part = whole_is bytes P f.header outer part (length (bytes_of (join f.left (child f.byte t f.right)))) (join f.left (child f.byte t f.right)) node.1 node.2 node.4 in
       let deep : d ≡ length place = deeper outer part f.byte f.header.length_of (ap (λ z. z.length_of) head) ∙ ap length (sym e) in
       let below : inner_nodes_below bytes d (join f.left (child f.byte t f.right)) ≡ inner_nodes_below bytes d f.left ++ inner_nodes bytes (length place) t ++ inner_nodes_below bytes d f.right =
-          inner_nodes_below-join bytes d f.left (child f.byte t f.right) ∙ ap (λ z. inner_nodes_below bytes d f.left ++ (inner_nodes bytes z t ++ inner_nodes_below bytes d f.right)) deep ∙ sym (append_assoc (inner_nodes_below bytes d f.left) (inner_nodes bytes (length place) t) (inner_nodes_below bytes d f.right)) in
+      inner_nodes_below-join bytes d f.left (child f.byte t f.right) ∙ ap (λ z. inner_nodes_below bytes d f.left ++ (inner_nodes bytes z t ++ inner_nodes_below bytes d f.right)) deep ∙ sym (append_assoc (inner_nodes_below bytes d f.left) (inner_nodes bytes (length place) t) (inner_nodes_below bytes d f.right)) in
       inner_nodes-plug fs outer (fill f t) path node
       ∙ ap₂ (λ w z. nodes_before fs outer path ++ ((f.header.kind, w, f.mark) ∷ z) ++ nodes_after fs outer path) own below
       ∙ simp append_assoc
@@ -124,5 +124,5 @@ module _ {N A : Type 0} (bytes : A → List ℕ) (P : ℕ) where
       let is = inner_nodes-plug fs place u p ru in
       let apart = λ (v : Tree N A) (r : IsRadix bytes P place v). whole_differ bytes P (plug fs v) [] (plug_radix bytes P fs place v p r) in
       subst (λ xs. KeepNames xs (inner_nodes bytes 0 (plug fs u))) (sym was) (subst (λ xs. KeepNames (nodes_before fs place p ++ inner_nodes bytes (length place) t ++ nodes_after fs place p) xs) (sym is)
-          (keep_between (λ e. e.1) (λ e. e.2) (λ e f. e.0 ≡ f.0) (nodes_before fs place p) (inner_nodes bytes (length place) t) (inner_nodes bytes (length place) u) (nodes_after fs place p)
-          (subst (Pairwise Differ) was (apart t rt)) (subst (Pairwise Differ) is (apart u ru)) local))
+      (keep_between (λ e. e.1) (λ e. e.2) (λ e f. e.0 ≡ f.0) (nodes_before fs place p) (inner_nodes bytes (length place) t) (inner_nodes bytes (length place) u) (nodes_after fs place p)
+      (subst (Pairwise Differ) was (apart t rt)) (subst (Pairwise Differ) is (apart u ru)) local))

@@ -105,7 +105,7 @@ module _ {K V : Type 0} (bytes : K × V → List ℕ) (P : ℕ) (s : Nodes K V) 
       let (off, node, there, header, below) = inner_at s f.mark f.header (slots_of f.left ++ (f.byte, hole) ∷ slots_of f.right) holds.0 in
       let put : put_child node.children f.byte name ≡ slots_of f.left ++ (f.byte, name) ∷ slots_of f.right = ap (λ z. put_child z f.byte name) below ∙ put_child-there f.left f.byte hole name (slots_of f.right) (Pairwise-before ◌<◌ (bytes_of f.left) (bytes_of f.right) f.byte up) in
       let got : get t.inners (as_inner f.mark) ≡ Some (with_child f.byte name node) =
-          after f.mark refl ∙ inner_changed_at m (as_inner f.mark) (with_child f.byte name) ∙ ap (option_map (with_child f.byte name)) (before f.mark refl ∙ there) in
+      after f.mark refl ∙ inner_changed_at m (as_inner f.mark) (with_child f.byte name) ∙ ap (option_map (with_child f.byte name)) (before f.mark refl ∙ there) in
       node_at-inner t f.mark off (Some (with_child f.byte name node)) got ∙ shown (header_at f.mark.kind node) header put
     where
       shown : {slots rest : List (ℕ × OpaqueNodePtr)} (g : Header) → g ≡ f.header → slots ≡ rest → ◌≡◌ {A = Option (Node OpaqueNodePtr (K × V))} (Some (inner_node g slots)) (Some (inner_node f.header rest))
