@@ -17,10 +17,12 @@ module _ {A : Type 0} (bytes : A → List ℕ) where
   add_in_order_first new [] h = refl
   add_in_order_first new (y ∷ ys) h = rw h.0.0
 
+  -- all before the place stay in front
   pub add_in_order-after : (new : A) (xs ys : List A) → Each (λ x. Precedes (bytes x) (bytes new)) xs → add_in_order bytes new (xs ++ ys) ≡ xs ++ add_in_order bytes new ys
   add_in_order-after new [] ys h = refl
   add_in_order-after new (x ∷ xs) ys h = rw (precedes_apart (bytes x) (bytes new) h.0) (ap (λ l. x ∷ l) (add_in_order-after new xs ys h.1))
 
+  -- all after the place stay behind
   pub add_in_order-before : (new : A) (ys zs : List A) → Each (λ x. Precedes (bytes new) (bytes x)) zs → add_in_order bytes new (ys ++ zs) ≡ add_in_order bytes new ys ++ zs
   add_in_order-before new [] zs h = add_in_order_first new zs h
   add_in_order-before new (y ∷ ys) zs h = go (add_in_order-before new ys zs h) (is_before (bytes new) (bytes y))
@@ -42,9 +44,11 @@ module _ {A : Type 0} (bytes : A → List ℕ) where
     high_apart : Each (λ x. are_related key (bytes x) ≡ false) zs
     high_apart = Each-weaker (λ x. Precedes key (bytes x)) (λ x. are_related key (bytes x) ≡ false) (λ x h. h.1) zs high
 
+    -- related pairs go from the middle alone
     pub remove_related-between : remove_related bytes key (xs ++ ys ++ zs) ≡ xs ++ remove_related bytes key ys ++ zs
     remove_related-between = simp (filter-append, unrelated key xs low_apart, unrelated key zs high_apart)
 
+    -- a pair with the key goes from the middle alone
     pub remove_key-between : remove_key bytes key (xs ++ ys ++ zs) ≡ xs ++ remove_key bytes key ys ++ zs
     remove_key-between = simp (filter-append, unequal key xs low_apart, unequal key zs high_apart)
 
@@ -52,8 +56,10 @@ module _ {A : Type 0} (bytes : A → List ℕ) where
     add_in_order-between : (ms : List A) → add_in_order bytes new (xs ++ ms ++ zs) ≡ xs ++ add_in_order bytes new ms ++ zs
     add_in_order-between ms = add_in_order-before new (xs ++ ms) zs high ∙ ap (λ l. l ++ zs) (add_in_order-after new xs ms low)
 
+    -- a put is one into the middle
     pub put-between : put bytes new (xs ++ ys ++ zs) ≡ xs ++ put bytes new ys ++ zs
     put-between = ap (add_in_order bytes new) (remove_key-between (bytes new) xs ys zs low high) ∙ add_in_order-between (remove_key bytes (bytes new) ys)
 
+    -- an overwrite is one of the middle
     pub overwrite-between : overwrite bytes new (xs ++ ys ++ zs) ≡ xs ++ overwrite bytes new ys ++ zs
     overwrite-between = ap (add_in_order bytes new) (remove_related-between (bytes new) xs ys zs low high) ∙ add_in_order-between (remove_related bytes (bytes new) ys)

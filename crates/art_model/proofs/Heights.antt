@@ -24,6 +24,7 @@ module _ {N A : Type 0} (at : N → Option (Node N A)) where
   mutual
     unfolding height
 
+    -- of a name
     pub height_is : (t : Tree N A) (steps : ℕ) → Holds at t → tree_height t ≤ steps → height at steps (name_of t) ≡ tree_height t
     height_is (leaf n x) zero h enough = refl
     height_is (leaf n x) (suc steps) h enough = rw h refl
@@ -36,6 +37,7 @@ module _ {N A : Type 0} (at : N → Option (Node N A)) where
 
 module _ {N A : Type 0} where
   mutual
+    -- a tree is no higher than it has inner nodes
     pub height_long : (t : Tree N A) → tree_height t ≤ length (inner_names t)
     height_long (leaf n x) = omega arith
     height_long (inner n h cs) = let l = height_below_long cs in omega arith
@@ -54,6 +56,7 @@ one_less m p there =
     let some : map.len m ≢ 0 = λ z. false≢true (sym (ap is_some (map.get-empty inner_cmp p)) ∙ ap (λ n. is_some (map.get n p)) (sym (map.empty_of_len m z)) ∙ there) in
     omega arith
 
+-- so a map of inner nodes has at least as many as a layout
 pub enough_inners : (ns : List OpaqueNodePtr) (m : map.FinMap inner_cmp Inner) → AreDistinct ns → Each (λ n. is_some (map.get m (as_inner n)) ≡ true) ns → length ns ≤ map.len m
 enough_inners [] m d h = omega arith
 enough_inners (n ∷ ns) m d h =

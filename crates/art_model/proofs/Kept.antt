@@ -95,6 +95,7 @@ module _ {N A : Type 0} (bytes : A → List ℕ) (P : ℕ) where
   pub kept_leaves_more : (t u : Tree N A) (place : List ℕ) → IsRadix bytes P place u → ((e : A × N) → IsIn e (leaves_of t) → IsIn e (leaves_of u)) → KeepLeaves (leaves_of t) (leaves_of u)
   kept_leaves_more t u place radix among = keep_among (λ e. bytes e.0) (λ e. e.1) (λ e f. Unit {0}) (leaves_of u) (leaves_of t) (leaves_of u) (keys_differ u place radix) among (λ e i. i)
 
+  -- and those of the new tree among those that were there
   pub kept_leaves_fewer : (t u : Tree N A) (place : List ℕ) → IsRadix bytes P place t → ((e : A × N) → IsIn e (leaves_of u) → IsIn e (leaves_of t)) → KeepLeaves (leaves_of t) (leaves_of u)
   kept_leaves_fewer t u place radix among = keep_among (λ e. bytes e.0) (λ e. e.1) (λ e f. Unit {0}) (leaves_of t) (leaves_of t) (leaves_of u) (keys_differ t place radix) (λ e i. i) among
 

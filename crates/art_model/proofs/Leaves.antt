@@ -22,6 +22,7 @@ same_leaf p q = elim (cases_eq p.slot q.slot) [
   | inr n ↦ inr (λ e. n (ap (λ (z : LeafPtr). z.slot) e))
 ]
 
+-- leaves' names tell leaves apart
 pub leaf_name_one : (p q : LeafPtr) → leaf_name p ≡ leaf_name q → p ≡ q
 leaf_name_one p q e = λ i. record { slot = (e i).slot }
 
@@ -64,12 +65,15 @@ module _ {K V : Type 0} where
   -- ---- the leaves beside a place
 
   module _ (m : Leaves K V) (before after next previous : Option LeafPtr) where
+    -- the leaf before the place
     pub joined_before : (q : LeafPtr) → before ≡ Some q → (after ≡ Some q → ⊥) → get (joined m before after next previous) q ≡ option_map (with_next next) (get m q)
     joined_before q e off = change_some_elsewhere (change_some m before (with_next next)) after (with_previous previous) q off ∙ change_some_at m before (with_next next) q e
 
+    -- the leaf after it
     pub joined_after : (q : LeafPtr) → after ≡ Some q → (before ≡ Some q → ⊥) → get (joined m before after next previous) q ≡ option_map (with_previous previous) (get m q)
     joined_after q e off = change_some_at (change_some m before (with_next next)) after (with_previous previous) q e ∙ ap (option_map (with_previous previous)) (change_some_elsewhere m before (with_next next) q off)
 
+    -- all other leaves
     pub joined_elsewhere : (q : LeafPtr) → (before ≡ Some q → ⊥) → (after ≡ Some q → ⊥) → get (joined m before after next previous) q ≡ get m q
     joined_elsewhere q off non = change_some_elsewhere (change_some m before (with_next next)) after (with_previous previous) q non ∙ change_some_elsewhere m before (with_next next) q off
 
@@ -84,26 +88,32 @@ module _ {K V : Type 0} where
   -- ---- a leaf that comes, and a leaf that goes
 
   module _ (m : Leaves K V) (n : LeafPtr) (x : LeafNode K V) where
+    -- the new leaf
     pub with_leaf_here : (x.previous ≡ Some n → ⊥) → (x.next ≡ Some n → ⊥) → get (with_leaf m n x) n ≡ Some x
     unfolding with_leaf
     with_leaf_here p q = joined_elsewhere (insert m n x) x.previous x.next (Some n) (Some n) n p q ∙ leaf_here m n x
 
+    -- leaves beside the new one and elsewhere
     pub with_leaf_elsewhere : (q : LeafPtr) → q ≢ n → get (with_leaf m n x) q ≡ get (joined m x.previous x.next (Some n) (Some n)) q
     unfolding with_leaf
     with_leaf_elsewhere q off = joined-cong m x.previous x.next (Some n) (Some n) (insert m n x) q (leaf_elsewhere m n q x off)
 
+    -- pairs of other leaves
     pub with_leaf_pair : (q : LeafPtr) → q ≢ n → option_map pair_of (get (with_leaf m n x) q) ≡ option_map pair_of (get m q)
     unfolding with_leaf
     with_leaf_pair q off = joined_pair (insert m n x) x.previous x.next (Some n) (Some n) q ∙ ap (option_map pair_of) (leaf_elsewhere m n q x off)
 
+    -- the leaf is gone
     pub without_leaf_here : get (without_leaf m n x) n ≡ None
     unfolding without_leaf
     without_leaf_here = leaf_gone (joined m x.previous x.next x.next x.previous) n
 
+    -- leaves beside it and elsewhere
     pub without_leaf_elsewhere : (q : LeafPtr) → q ≢ n → get (without_leaf m n x) q ≡ get (joined m x.previous x.next x.next x.previous) q
     unfolding without_leaf
     without_leaf_elsewhere q off = leaf_gone_elsewhere (joined m x.previous x.next x.next x.previous) n q off
 
+    -- pairs of other leaves
     pub without_leaf_pair : (q : LeafPtr) → q ≢ n → option_map pair_of (get (without_leaf m n x) q) ≡ option_map pair_of (get m q)
     unfolding without_leaf
     without_leaf_pair q off = ap (option_map pair_of) (leaf_gone_elsewhere (joined m x.previous x.next x.next x.previous) n q off) ∙ joined_pair m x.previous x.next x.next x.previous q
@@ -115,6 +125,7 @@ abbrev pub listed : Option LeafPtr → List LeafPtr
 listed None = []
 listed (Some p) = p ∷ []
 
+-- at most one
 pub length-listed : (o : Option LeafPtr) → length (listed o) ≤ 1
 length-listed None = omega arith
 length-listed (Some p) = omega arith

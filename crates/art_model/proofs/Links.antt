@@ -8,11 +8,13 @@ use Rattle.art_model.proofs.Pairwises.{Pairwise-left}
 use Rattle.art_model.proofs.Names.{apart_in}
 
 module _ {N : Type 0} where
+  -- the first of a joined list
   pub first_or-append : (xs ys : List N) (o : Option N) → first_or (xs ++ ys) o ≡ first_or xs (first_or ys o)
   first_or-append [] ys o = refl
   first_or-append (x ∷ xs) ys o = refl
 
   module _ (links to : N → Option (Links N)) where
+    -- a chain stays one where its links stay
     pub linked-frame : (xs : List N) (p q : Option N) → Each (λ n. to n ≡ links n) xs → AreLinked links p xs q → AreLinked to p xs q
     linked-frame [] p q same h = tt
     linked-frame (x ∷ xs) p q same h = (same.0 ∙ h.0, linked-frame xs (Some x) q same.1 h.1)
@@ -28,14 +30,17 @@ module _ {N : Type 0} where
     relink_start x xs p q r same h e = (e, linked-frame xs (Some x) q same h.1)
 
   module _ (links : N → Option (Links N)) where
+    -- the first part of a chain
     pub linked_front : (xs ys : List N) (p q : Option N) → AreLinked links p (xs ++ ys) q → AreLinked links p xs (first_or ys q)
     linked_front [] ys p q h = tt
     linked_front (x ∷ xs) ys p q h = (h.0 ∙ ap (λ o. Some (record { previous = p; next = o })) (first_or-append xs ys q), linked_front xs ys (Some x) q h.1)
 
+    -- the second part of a chain
     pub linked_rest : (xs ys : List N) (p q : Option N) → AreLinked links p (xs ++ ys) q → AreLinked links (last_or xs p) ys q
     linked_rest [] ys p q h = h
     linked_rest (x ∷ xs) ys p q h = linked_rest xs ys (Some x) q h.1
 
+    -- two chains that meet
     pub linked-append : (xs ys : List N) (p q : Option N) → AreLinked links p xs (first_or ys q) → AreLinked links (last_or xs p) ys q → AreLinked links p (xs ++ ys) q
     linked-append [] ys p q h k = k
     linked-append (x ∷ xs) ys p q h k = (h.0 ∙ ap (λ o. Some (record { previous = p; next = o })) (sym (first_or-append xs ys q)), linked-append xs ys (Some x) q h.1 k)
@@ -43,10 +48,12 @@ module _ {N : Type 0} where
 -- ---- the first and the last leaf of a list
 
 module _ {N : Type 0} where
+  -- the last of a list with one more at its end
   pub last_or-push : (xs : List N) (l : N) (o : Option N) → last_or (xs ++ l ∷ []) o ≡ Some l
   last_or-push [] l o = refl
   last_or-push (x ∷ xs) l o = last_or-push xs l (Some x)
 
+  -- the last of a joined list
   pub last_or-append : (xs ys : List N) (o : Option N) → last_or (xs ++ ys) o ≡ last_or ys (last_or xs o)
   last_or-append [] ys o = refl
   last_or-append (x ∷ xs) ys o = last_or-append xs ys (Some x)
@@ -73,6 +80,7 @@ module _ {N : Type 0} where
           let same : l ≡ k = cc in
           subst (IsIn k) (sym is) (in_right k ys (l ∷ []) (inl same))
 
+  -- the first one of a list is in it
   pub first_in : (xs : List N) (k : N) → first_or xs None ≡ Some k → IsIn k xs
   first_in [] k e = absurd cc
   first_in (x ∷ xs) k e = inl cc

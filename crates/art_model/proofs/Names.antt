@@ -54,9 +54,11 @@ module _ {N A : Type 0} {part : Tree N A → List N} {parts : Children N A → L
         (among (λ x. Each (λ z. x ≢ z) (parts cs)) t (Each-weaker (λ x. Each (λ z. x ≢ z) (names_below cs)) (λ x. Each (λ z. x ≢ z) (parts cs)) (λ x k. among_below (λ z. x ≢ z) cs k) (names_of t) cross)))
 
 module _ {N A : Type 0} where
+  -- the names of the leaves
   pub takes_leaves : TakesNames {N = N} {A = A} leaf_names leaf_names_below
   takes_leaves = record { of_leaf = λ n x. inr refl; of_inner = λ n h cs. inl refl; of_none = refl; of_child = λ b t cs. refl }
 
+  -- the names of the inner nodes
   pub takes_inners : TakesNames {N = N} {A = A} inner_names inner_names_below
   takes_inners = record { of_leaf = λ n x. inl refl; of_inner = λ n h cs. inr refl; of_none = refl; of_child = λ b t cs. refl }
 

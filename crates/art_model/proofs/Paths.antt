@@ -17,22 +17,27 @@ use Rattle.art_model.proofs.Radix.{bytes_of-join, pairs_below-join, AreRadix-joi
 -- ---- what joined children and a plugged path consist of
 
 module _ {N A : Type 0} where
+  -- slots of joined children
   pub slots_of-join : (cs ds : Children N A) → slots_of (join cs ds) ≡ slots_of cs ++ slots_of ds
   slots_of-join no_child ds = refl
   slots_of-join (child b t cs) ds = ap (λ l. (b, name_of t) ∷ l) (slots_of-join cs ds)
 
+  -- names of joined children
   pub names_below-join : (cs ds : Children N A) → names_below (join cs ds) ≡ names_below cs ++ names_below ds
   names_below-join no_child ds = refl
   names_below-join (child b t cs) ds = ap (λ l. names_of t ++ l) (names_below-join cs ds) ∙ sym (append_assoc (names_of t) (names_below cs) (names_below ds))
 
+  -- names of joined children's leaves
   pub leaf_names_below-join : (cs ds : Children N A) → leaf_names_below (join cs ds) ≡ leaf_names_below cs ++ leaf_names_below ds
   leaf_names_below-join no_child ds = refl
   leaf_names_below-join (child b t cs) ds = ap (λ l. leaf_names t ++ l) (leaf_names_below-join cs ds) ∙ sym (append_assoc (leaf_names t) (leaf_names_below cs) (leaf_names_below ds))
 
+  -- entries of joined children
   pub leaves_below-join : (cs ds : Children N A) → leaves_below (join cs ds) ≡ leaves_below cs ++ leaves_below ds
   leaves_below-join no_child ds = refl
   leaves_below-join (child b t cs) ds = ap (λ l. leaves_of t ++ l) (leaves_below-join cs ds) ∙ sym (append_assoc (leaves_of t) (leaves_below cs) (leaves_below ds))
 
+  -- entries on the left, in the middle and on the right
   pub leaves_below-three : (l middle r : Children N A) → leaves_below (join l (join middle r)) ≡ leaves_below l ++ leaves_below middle ++ leaves_below r
   leaves_below-three l middle r = leaves_below-join l (join middle r) ∙ ap (λ z. leaves_below l ++ z) (leaves_below-join middle r) ∙ sym (append_assoc (leaves_below l) (leaves_below middle) (leaves_below r))
 
@@ -40,14 +45,17 @@ module _ {N A : Type 0} where
   pub leaf_names_below-three : (l middle r : Children N A) → leaf_names_below (join l (join middle r)) ≡ leaf_names_below l ++ leaf_names_below middle ++ leaf_names_below r
   leaf_names_below-three l middle r = leaf_names_below-join l (join middle r) ∙ ap (λ z. leaf_names_below l ++ z) (leaf_names_below-join middle r) ∙ sym (append_assoc (leaf_names_below l) (leaf_names_below middle) (leaf_names_below r))
 
+  -- the pairs before the hole, in it and after it
   pub pairs_of-plug : (fs : List (Frame N A)) (t : Tree N A) → pairs_of (plug fs t) ≡ pairs_before fs ++ pairs_of t ++ pairs_after fs
   pairs_of-plug [] t = sym (append-nil (pairs_of t))
   pairs_of-plug (f ∷ fs) t = pairs_of-plug fs (fill f t) ∙ simp (pairs_below-join, append_assoc)
 
+  -- the names before the hole, in it and after it
   pub names_of-plug : (fs : List (Frame N A)) (t : Tree N A) → names_of (plug fs t) ≡ names_before fs ++ names_of t ++ names_after fs
   names_of-plug [] t = sym (append-nil (names_of t))
   names_of-plug (f ∷ fs) t = names_of-plug fs (fill f t) ∙ simp (names_below-join, append_assoc)
 
+  -- the names of the leaves before the hole, in it and after it
   pub leaf_names-plug : (fs : List (Frame N A)) (t : Tree N A) → leaf_names (plug fs t) ≡ leaves_before fs ++ leaf_names t ++ leaves_after fs
   leaf_names-plug [] t = sym (append-nil (leaf_names t))
   leaf_names-plug (f ∷ fs) t = leaf_names-plug fs (fill f t) ∙ simp (leaf_names_below-join, append_assoc)
@@ -76,6 +84,7 @@ module _ {N A : Type 0} where
   pub same_pairs_of : (t u : Tree N A) → leaves_of u ≡ leaves_of t → pairs_of u ≡ pairs_of t
   same_pairs_of t u e = sym (pairs_of-leaves u) ∙ ap (map (λ e. e.0)) e ∙ pairs_of-leaves t
 
+  -- and the same names of leaves
   pub same_leaf_names : (t u : Tree N A) → leaves_of u ≡ leaves_of t → leaf_names u ≡ leaf_names t
   same_leaf_names t u e = sym (leaf_names-leaves u) ∙ ap (map (λ e. e.1)) e ∙ leaf_names-leaves t
 
@@ -88,6 +97,7 @@ module _ {N A : Type 0} where
   entries_after [] = []
   entries_after (f ∷ fs) = leaves_below f.right ++ entries_after fs
 
+  -- the entries before the hole, in it and after it
   pub leaves_of-plug : (fs : List (Frame N A)) (t : Tree N A) → leaves_of (plug fs t) ≡ entries_before fs ++ leaves_of t ++ entries_after fs
   leaves_of-plug [] t = sym (append-nil (leaves_of t))
   leaves_of-plug (f ∷ fs) t = leaves_of-plug fs (fill f t) ∙ simp (leaves_below-join, append_assoc)
@@ -97,6 +107,7 @@ module _ {N A : Type 0} where
   root_with [] root hole = hole
   root_with (f ∷ fs) root hole = root
 
+  -- the root's name after a change in the hole
   pub name_of-plug : (fs : List (Frame N A)) (t u : Tree N A) → name_of (plug fs u) ≡ root_with fs (name_of (plug fs t)) (name_of u)
   name_of-plug [] t u = refl
   name_of-plug (f ∷ fs) t u = same_root fs (fill f t) (fill f u) refl
@@ -145,6 +156,7 @@ module _ {N A : Type 0} (bytes : A → List ℕ) (P : ℕ) where
       (path_before fs outer key path (front_cut outer part key (front_cut (outer ++ part) (f.byte ∷ []) key k')))
       (Each-weaker (PartsBelow bytes (outer ++ part) f.byte) (λ x. Precedes (bytes x) key) (λ x g. parts bytes (outer ++ part) g.0 f.byte (bytes x) key g.2 k' g.1) (pairs_below f.left) (all_below bytes P (outer ++ part) f.byte f.left l (Pairwise-before ◌<◌ (bytes_of f.left) (bytes_of f.right) f.byte up)))
 
+  -- and keys after it
   pub path_after : (fs : List (Frame N A)) (place key : List ℕ) → IsPath bytes P place fs → IsFront place key → Each (λ x. Precedes key (bytes x)) (pairs_after fs)
   path_after [] place key path k = tt
   path_after (f ∷ fs) place key (outer, part, e, head, two, up, l, r, path) k =
@@ -175,6 +187,7 @@ hole_of bytes P fs t x radix i =
 
 -- A change in the hole of a path is a change of the whole, where it is a local one at a key that goes on from the hole.
 module _ {N A : Type 0} (bytes : A → List ℕ) (P : ℕ) (fs : List (Frame N A)) (place : List ℕ) (path : IsPath bytes P place fs) (t u : Tree N A) (radix : IsRadix bytes P place u) where
+  -- the tree is a radix tree again, and its pairs are those of the change
   pub changed_at : (key : List ℕ) (F : List A → List A) → IsLocal bytes key F → IsFront place key → pairs_of u ≡ F (pairs_of t) → IsRadix bytes P [] (plug fs u) × (pairs_of (plug fs u) ≡ F (pairs_of (plug fs t)))
   changed_at key F local k e = (
     plug_radix bytes P fs place u path radix,

@@ -12,18 +12,22 @@ use Rattle.art_model.specs.Footprints.{IsIn}
 use Rattle.art_model.proofs.Lists.{each_in, Each-append, Each-left, Each-right, Each-weaker, front_cut, front_trans, after_front}
 use Rattle.art_model.proofs.Pairwises.{Pairwise-before, Pairwise-after}
 
+-- a key goes on after a front with one byte
 pub one_way : (front : List ℕ) (b c : ℕ) (key : List ℕ) → IsFront (front ++ b ∷ []) key → IsFront (front ++ c ∷ []) key → b ≡ c
 one_way front b c key (r, e) (s, f) =
     let p : b ∷ r ≡ c ∷ s = append_cancel_left front (b ∷ r) (c ∷ s) (sym (append_assoc front (b ∷ []) r) ∙ sym e ∙ f ∙ append_assoc front (c ∷ []) s) in cc
 
+-- a front is what is taken of its length
 pub taken : (place k : List ℕ) → IsFront place k → take (length place) k ≡ place
 taken place k (r, e) = rw e (take_at place r (length place) refl)
 
+-- the depth of a child, by its parent
 pub deeper : (place part : List ℕ) (b n : ℕ) → n ≡ length part → length place + n + 1 ≡ length ((place ++ part) ++ b ∷ [])
 deeper place part b n e = simp length-append (omega arith)
 
 module _ {N A : Type 0} (bytes : A → List ℕ) (P : ℕ) where
   mutual
+    -- a place is a front of the least key below it
     pub least_way : (t : Tree N A) (place : List ℕ) → IsRadix bytes P place t → IsFront place (least_key bytes t)
     least_way (leaf n x) place h = h
     least_way (inner n h cs) place (part, e, two, up, below) = front_cut place part (least_below bytes cs) (least_way_below cs (place ++ part) two below)
@@ -36,6 +40,7 @@ module _ {N A : Type 0} (bytes : A → List ℕ) (P : ℕ) where
   pub place_is : (t : Tree N A) (place : List ℕ) → IsRadix bytes P place t → take (length place) (least_key bytes t) ≡ place
   place_is t place h = taken place (least_key bytes t) (least_way t place h)
 
+  -- the whole prefix, read off the least key
   pub prefix_is : (n : N) (h : Header) (cs : Children N A) (place : List ℕ) (radix : IsRadix bytes P place (inner n h cs)) → prefix_of bytes (length place) (inner n h cs) ≡ radix.0
   prefix_is n h cs place (part, e, two, up, below) =
       let (r, f) = least_way_below cs (place ++ part) two below in

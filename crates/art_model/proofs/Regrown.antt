@@ -16,6 +16,7 @@ use Rattle.art_model.proofs.Stores.{SameBut, Regrown, HoldsBelow-join, HoldsBelo
 module _ {N A : Type 0} (at to : N → Option (Node N A)) where
   -- ---- one leaf
 
+  -- a leaf alone, under an old name or a new one
   pub leaf_regrown : (t : Tree N A) (n : N) (new : A) → IsIn n (names_of t) ⊎ (at n ≡ None) → to n ≡ Some (leaf_node new) → Regrown at to t (leaf n new)
   leaf_regrown t n new named there = record { holds = there; distinct = (tt, tt); old_or_free = (named, tt) }
 
@@ -58,6 +59,7 @@ module _ {N A : Type 0} (at to : N → Option (Node N A)) where
           (inr is.leaf_was_free, subst (OldOrFree at (names_of t)) (sym all) still_old),
         )
 
+    -- a branch
     pub branch_regrown : Regrown at to t (inner m h (two_children b u c (leaf n new)))
     branch_regrown = let (holds, apart, old) = below_branch (ltb b c) in record { holds = (is.node, holds); distinct = apart; old_or_free = (inr is.node_was_free, old) }
 
@@ -99,6 +101,7 @@ module _ {N A : Type 0} (at to : N → Option (Node N A)) (fs : List (Frame N A)
   left_apart k i (inl e) = each_in (λ z. m ≢ z) k (names_below l ++ (names_below old ++ names_below r)) own_distinct.0 (in_left_part k i) e
   left_apart k i (inr j) = apart_in (names_below l) (names_below old ++ names_below r) k own_distinct.1 i (in_left k (names_below old) (names_below r) j)
 
+  -- nor are those on the right
   pub right_apart : (k : N) → IsIn k (names_below r) → IsIn k (m ∷ names_below old) → ⊥
   right_apart k i (inl e) = each_in (λ z. m ≢ z) k (names_below l ++ (names_below old ++ names_below r)) own_distinct.0 (in_right_part k i) e
   right_apart k i (inr j) = apart_in (names_below old) (names_below r) k (Pairwise-right ◌≢◌ (names_below l) (names_below old ++ names_below r) own_distinct.1) j i
@@ -111,6 +114,7 @@ module _ {N A : Type 0} (at to : N → Option (Node N A)) (fs : List (Frame N A)
     pub left_holds : HoldsBelow to l
     left_holds = frame_below at to l (each_from (λ k. to k ≡ at k) (names_below l) (λ k i. still k (in_left_part k i) (left_apart k i))) own_held.0
 
+    -- and those on the right
     pub right_holds : HoldsBelow to r
     right_holds = frame_below at to r (each_from (λ k. to k ≡ at k) (names_below r) (λ k i. still k (in_right_part k i) (right_apart k i))) own_held.2
 
@@ -132,6 +136,7 @@ module _ {N A : Type 0} (at to : N → Option (Node N A)) (fs : List (Frame N A)
     refilled_names : names_below (join l (join middle r)) ≡ names_below l ++ (names_below middle ++ names_below r)
     refilled_names = names_three middle
 
+    -- a node with other children in the middle
     pub children_regrown : SameBut at to fs (m ∷ names_below old) → Regrown at to (inner m h (join l (join old r))) (inner node head (join l (join middle r)))
     children_regrown same =
         let rest = names_below old ++ names_below r in
@@ -168,9 +173,11 @@ module _ {N A : Type 0} (at to : N → Option (Node N A)) (fs : List (Frame N A)
     left_names : names_below l ++ names_below r ≡ names_of v
     left_names = sym (names_below-join l r) ∙ ap names_below one ∙ append-nil (names_of v)
 
+    -- the child that is left is held in the old store
     pub left_child_held : Holds at v
     left_child_held = (subst (HoldsBelow at) one (HoldsBelow-join at l r own_held.0 own_held.2)).0
 
+    -- under distinct names
     pub left_child_distinct : AreDistinct (names_of v)
     left_child_distinct = subst AreDistinct left_names beside_distinct
 

@@ -110,6 +110,7 @@ module _ {N A : Type 0} {bytes : A → List ℕ} {P : ℕ} {at to : N → Option
   -- ---- which child is left: a leaf, which is raised, or an inner node, which takes its parent's prefix and its own byte in front
 
   module _ (hole : IsHole bytes P fs place (inner m h (join l (child b (leaf n x) r))) (bytes x)) (relinked : Relinked before links (leaves_before fs ++ leaf_names_below l) [] (leaf_names_below r ++ leaves_after fs)) where
+    -- the child that is left is a leaf
     pub raised_leaf : (c : ℕ) (k : N) (y : A) → join l r ≡ child c (leaf k y) no_child → ParentHas to fs k → SameBut at to fs (m ∷ n ∷ []) → NodeRemoved bytes P at to before links fs place m n h l r b c x (leaf k y) (leaf k y)
     raised_leaf c k y one parent same = record {
       hole = hole;
@@ -124,6 +125,7 @@ module _ {N A : Type 0} {bytes : A → List ℕ} {P : ℕ} {at to : N → Option
       relinked = relinked;
     }
 
+    -- the child that is left is an inner node
     pub merged_node : (c : ℕ) (k : N) (head : Header) (cs : Children N A) → join l r ≡ child c (inner k head cs) no_child → (radix : IsRadix bytes P ((place ++ hole.radix.0) ++ c ∷ []) (inner k head cs)) →
         let merged_head = header_of P (hole.radix.0 ++ c ∷ radix.0) (length (bytes_of cs)) in
         to k ≡ Some (inner_node merged_head (slots_of cs)) → ParentHas to fs k → SameBut at to fs (k ∷ m ∷ n ∷ []) →

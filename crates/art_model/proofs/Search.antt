@@ -21,6 +21,7 @@ module _ {A : Type 0} (bytes : A → List ℕ) (test : List ℕ → Bool) where
 
 -- a look-up passes only keys that are a front of the query: the equal key, or the match
 module _ {A : Type 0} (bytes : A → List ℕ) (key : List ℕ) (test : List ℕ → Bool) (only : (k : List ℕ) → test k ≡ true → IsFront k key) where
+  -- nothing passes where no key is a front of the query
   pub no_key : (Q : A → Type 0) → ((x : A) → Q x → IsFront (bytes x) key → ⊥) → (xs : List A) → Each Q xs → passing bytes test xs ≡ []
   no_key Q f xs h = filter_none (λ x. test (bytes x)) xs (Each-weaker Q (λ x. test (bytes x) ≡ false) (λ x q. fails (test (bytes x)) (λ e. f x q (only (bytes x) e))) xs h)
 

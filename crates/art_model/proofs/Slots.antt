@@ -13,6 +13,7 @@ use Rattle.art_model.specs.Layouts.{slots_of, name_of}
 use Rattle.art_model.proofs.Changes.{two_children}
 
 module _ {N A : Type 0} where
+  -- as many slots as bytes
   pub length-slots_of : (cs : Children N A) → length (slots_of cs) ≡ length (bytes_of cs)
   length-slots_of no_child = refl
   length-slots_of (child b t cs) = ap suc (length-slots_of cs)

@@ -13,14 +13,17 @@ use Rattle.art_model.proofs.Names.{IsTaken, all_taken, apart_in, OldOrFree, dist
 
 module _ {N A : Type 0} where
   module _ (at : N → Option (Node N A)) where
+    -- joined children are held where both are
     pub HoldsBelow-join : (cs ds : Children N A) → HoldsBelow at cs → HoldsBelow at ds → HoldsBelow at (join cs ds)
     HoldsBelow-join no_child ds h k = k
     HoldsBelow-join (child b t cs) ds h k = (h.0, HoldsBelow-join cs ds h.1 k)
 
+    -- and so are those on the left
     pub HoldsBelow-left : (cs ds : Children N A) → HoldsBelow at (join cs ds) → HoldsBelow at cs
     HoldsBelow-left no_child ds h = tt
     HoldsBelow-left (child b t cs) ds h = (h.0, HoldsBelow-left cs ds h.1)
 
+    -- and those on the right
     pub HoldsBelow-right : (cs ds : Children N A) → HoldsBelow at (join cs ds) → HoldsBelow at ds
     HoldsBelow-right no_child ds h = h
     HoldsBelow-right (child b t cs) ds h = HoldsBelow-right cs ds h.1
@@ -30,6 +33,7 @@ module _ {N A : Type 0} where
     plug_holds [] t path h = h
     plug_holds (f ∷ fs) t (e, l, r, path) h = plug_holds fs (fill f t) path (rw slots_of-join e, HoldsBelow-join f.left (child f.byte t f.right) l (h, r))
 
+    -- and the other way round
     pub path_holds : (fs : List (Frame N A)) (t : Tree N A) → Holds at (plug fs t) → HoldsPath at (name_of t) fs × Holds at t
     path_holds [] t h = (tt, h)
     path_holds (f ∷ fs) t h =
@@ -40,6 +44,7 @@ module _ {N A : Type 0} where
   -- the frame law: a layout is held wherever its names have the same nodes
   module _ (at to : N → Option (Node N A)) where
     mutual
+      -- a layout
       pub frame : (t : Tree N A) → Each (λ n. to n ≡ at n) (names_of t) → Holds at t → Holds to t
       frame (leaf n x) same h = same.0 ∙ h
       frame (inner n h cs) same holds = (same.0 ∙ holds.0, frame_below cs same.1 holds.1)
@@ -48,6 +53,7 @@ module _ {N A : Type 0} where
       frame_below no_child same h = tt
       frame_below (child b t cs) same h = (frame t (Each-left (λ n. to n ≡ at n) (names_of t) (names_below cs) same) h.0, frame_below cs (Each-right (λ n. to n ≡ at n) (names_of t) (names_below cs) same) h.1)
 
+    -- a path
     pub frame_path : (fs : List (Frame N A)) (hole : N) → Each (λ n. to n ≡ at n) (names_before fs) → Each (λ n. to n ≡ at n) (names_after fs) → HoldsPath at hole fs → HoldsPath to hole fs
     frame_path [] hole l r h = tt
     frame_path (f ∷ fs) hole l r (e, hl, hr, path) =
@@ -83,9 +89,11 @@ module _ {N A : Type 0} where
     pub old_or_free : OldOrFree at (names_of t) (names_of u)
 
 module _ {N A : Type 0} (at to : N → Option (Node N A)) (fs : List (Frame N A)) (t : Tree N A) (holds : Holds at (plug fs t)) (distinct : AreDistinct (names_of (plug fs t))) where
+  -- the names before the hole, in it and after it are distinct
   pub all_distinct : AreDistinct (names_before fs ++ names_of t ++ names_after fs)
   all_distinct = subst AreDistinct (names_of-plug fs t) distinct
 
+  -- and so are those of the hole
   pub hole_distinct : AreDistinct (names_of t)
   hole_distinct = Pairwise-right ◌≢◌ (names_before fs) (names_of t) (Pairwise-left ◌≢◌ (names_before fs ++ names_of t) (names_after fs) all_distinct)
 
@@ -98,6 +106,7 @@ module _ {N A : Type 0} (at to : N → Option (Node N A)) (fs : List (Frame N A)
   after_taken : Each (IsTaken at) (names_after fs)
   after_taken = Each-right (IsTaken at) (names_before fs ++ names_of t) (names_after fs) every_taken
 
+  -- names of the hole are in use
   pub hole_taken : (k : N) → IsIn k (names_of t) → at k ≡ None → ⊥
   hole_taken k i = each_in (IsTaken at) k (names_of t) (Each-right (IsTaken at) (names_before fs) (names_of t) (Each-left (IsTaken at) (names_before fs ++ names_of t) (names_after fs) every_taken)) i
 
@@ -105,14 +114,17 @@ module _ {N A : Type 0} (at to : N → Option (Node N A)) (fs : List (Frame N A)
   pub before_apart : (k : N) → IsIn k (names_before fs) → IsIn k (names_of t) → ⊥
   before_apart k i j = apart_in (names_before fs) (names_of t) k (Pairwise-left ◌≢◌ (names_before fs ++ names_of t) (names_after fs) all_distinct) i j
 
+  -- nor after it
   pub after_apart : (k : N) → IsIn k (names_of t) → IsIn k (names_after fs) → ⊥
   after_apart k i j = apart_in (names_before fs ++ names_of t) (names_after fs) k all_distinct (in_right k (names_before fs) (names_of t) i) j
 
 module _ {N A : Type 0} where
+  -- the parent's name is before the hole
   pub parent_before : (fs : List (Frame N A)) (k : N) → IsParent fs k → IsIn k (names_before fs)
   parent_before [] k is = absurd is
   parent_before (g ∷ gs) k is = in_right k (names_before gs) (g.mark ∷ names_below g.left) (inl (sym is))
 
+  -- the parent is no node of the hole
   pub parent_apart : (at to : N → Option (Node N A)) (fs : List (Frame N A)) (t : Tree N A) → Holds at (plug fs t) → AreDistinct (names_of (plug fs t)) → (k : N) → IsParent fs k → IsIn k (names_of t) → ⊥
   parent_apart at to fs t holds distinct k is i = before_apart at to fs t holds distinct k (parent_before fs k is) i
 
@@ -146,6 +158,7 @@ module _ {N A : Type 0} (at to : N → Option (Node N A)) (g : Frame N A) (gs : 
 
 -- the replacement law: another tree stands in the hole, the parent knows it, and the rest is as it was
 module _ {N A : Type 0} (at to : N → Option (Node N A)) where
+  -- the whole is a layout again
   pub replace : (fs : List (Frame N A)) (t u : Tree N A) → Holds at (plug fs t) → AreDistinct (names_of (plug fs t)) → ParentHas to fs (name_of u) → Regrown at to t u → SameBut at to fs (names_of t) → Holds to (plug fs u) × AreDistinct (names_of (plug fs u))
   replace [] t u holds distinct parent new same = (new.holds, new.distinct)
   replace (g ∷ gs) t u holds distinct parent new same =

@@ -50,6 +50,7 @@ module _ {N X : Type 0} {R : N → N → Ordering} (order : IsTotalOrder R) (sam
   pub still_placed : (m : FinMap R X) (n k : N) (x : X) → get m k ≢ None → get (insert m n x) k ≢ None
   still_placed m n k x h = subst (λ o. o ≢ None) (sym (get-insert order m n x k)) (some_or (eq_by_cmp R k n) x (get m k) h)
 
+  -- and so does a change
   pub still_changed : (m : FinMap R X) (n k : N) (f : X → X) → get m k ≢ None → get (change m n f) k ≢ None
   still_changed m n k f h = go (get m n) refl
     where

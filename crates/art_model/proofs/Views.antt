@@ -20,6 +20,7 @@ module _ {K V : Type 0} where
   seen_leaf None x e = absurd cc
   seen_leaf (Some leaf) x e = (leaf, refl, cc)
 
+  -- a leaf is seen as no inner node
   pub seen_no_inner : (o : Option (LeafNode K V)) (h : Header) (slots : List (ℕ × OpaqueNodePtr)) → option_map (seen Leaf) (option_map held_leaf o) ≡ Some (inner_node h slots) → ⊥
   seen_no_inner None h slots e = cc
   seen_no_inner (Some leaf) h slots e = cc
@@ -28,10 +29,12 @@ module _ {K V : Type 0} where
   abbrev pub seen_of : NodeType → Option Inner → Option (Node OpaqueNodePtr (K × V))
   seen_of kind o = option_map (seen kind) (option_map held_inner o)
 
+  -- what is seen as an inner node is one
   pub seen_inner : (kind : NodeType) (o : Option Inner) (h : Header) (slots : List (ℕ × OpaqueNodePtr)) → seen_of kind o ≡ Some (inner_node h slots) → (node : Inner) × (o ≡ Some node) × (header_at kind node ≡ h) × (node.children ≡ slots)
   seen_inner kind None h slots e = absurd cc
   seen_inner kind (Some node) h slots e = (node, refl, cc, cc)
 
+  -- an inner node is seen as no leaf
   pub seen_no_leaf : (kind : NodeType) (o : Option Inner) (x : K × V) → seen_of kind o ≡ Some (leaf_node x) → ⊥
   seen_no_leaf kind None x e = cc
   seen_no_leaf kind (Some node) x e = cc

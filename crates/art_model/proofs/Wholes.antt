@@ -88,6 +88,7 @@ module _ {N A : Type 0} (bytes : A → List ℕ) (P : ℕ) where
 -- ---- the inner nodes of a plugged path
 
 module _ {N A : Type 0} (bytes : A → List ℕ) where
+  -- inner nodes of joined children
   pub inner_nodes_below-join : (d : ℕ) (cs ds : Children N A) → inner_nodes_below bytes d (join cs ds) ≡ inner_nodes_below bytes d cs ++ inner_nodes_below bytes d ds
   inner_nodes_below-join d no_child ds = refl
   inner_nodes_below-join d (child b t cs) ds = ap (λ z. inner_nodes bytes d t ++ z) (inner_nodes_below-join d cs ds) ∙ sym (append_assoc (inner_nodes bytes d t) (inner_nodes_below bytes d cs) (inner_nodes_below bytes d ds))
@@ -102,6 +103,7 @@ module _ {N A : Type 0} (bytes : A → List ℕ) (P : ℕ) where
   nodes_after [] place p = []
   nodes_after (f ∷ fs) place (outer, part, e, head, two, up, hl, hr, path) = inner_nodes_below bytes (length outer + f.header.length_of + 1) f.right ++ nodes_after fs outer path
 
+  -- the inner nodes before the hole, in it and after it
   pub inner_nodes-plug : (fs : List (Frame N A)) (place : List ℕ) (t : Tree N A) (p : IsPath bytes P place fs) → IsRadix bytes P place t → inner_nodes bytes 0 (plug fs t) ≡ nodes_before fs place p ++ inner_nodes bytes (length place) t ++ nodes_after fs place p
   unfolding fill_radix
   inner_nodes-plug [] place t p h = ap (λ w. inner_nodes bytes (length w) t) (sym p) ∙ sym (append-nil (inner_nodes bytes (length place) t))

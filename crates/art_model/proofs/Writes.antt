@@ -26,6 +26,7 @@ use Rattle.art_model.proofs.Stores.{IsParent, ParentHas, SameBut}
 use Rattle.art_model.proofs.Touches.{Touched, then_changed}
 use Rattle.art_model.proofs.Views.{seen_no_inner, seen_inner, held_in_inner, leaf_or}
 
+-- inner nodes' names tell them apart
 pub inner_name_one : (k l : OpaqueNodePtr) → as_inner k ≡ as_inner l → k ≡ l
 inner_name_one k l e = λ i. record { kind = (e i).kind; slot = (e i).slot }
 
@@ -73,6 +74,7 @@ module _ {A : Type 0} where
   parents [] = []
   parents (f ∷ fs) = as_inner f.mark ∷ []
 
+  -- at most one
   pub length-parents : (fs : List (Frame OpaqueNodePtr A)) → length (parents fs) ≤ 1
   length-parents [] = omega arith
   length-parents (f ∷ fs) = omega arith
@@ -91,6 +93,7 @@ module _ {K V : Type 0} (bytes : K × V → List ℕ) (P : ℕ) (s : Nodes K V) 
       let (off, node, there, head, below) = inner_at s f.mark f.header (slots_of f.left ++ (f.byte, hole) ∷ slots_of f.right) holds.0 in
       ((λ e. off (sym (ap (λ (z : OpaqueNodePtr). z.kind) is) ∙ e)), (λ e. let g = sym there ∙ ap (λ z. get s.inners (as_inner z)) (sym is) ∙ e in absurd cc))
 
+  -- and has the hole as the child under its byte
   pub parent_ready : (fs : List (Frame OpaqueNodePtr (K × V))) (place : List ℕ) (hole : OpaqueNodePtr) → IsPath bytes P place fs → HoldsPath (node_at s) hole fs → IfSome (parent_of fs) (λ p. IsSomeAnd (get s.inners p.0) (λ node. child_at node.children p.1 ≡ Some hole))
   parent_ready [] place hole path holds = tt
   parent_ready (f ∷ fs) place hole (outer, part, e, head, two, up, l, r, path) holds =
