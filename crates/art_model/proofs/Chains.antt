@@ -9,16 +9,18 @@ use Rattle.art_nodes.specs.declared.node.NodeType.TheVariants.{Leaf}
 use Rattle.art_nodes.specs.declared.node.LeafPtr.{LeafPtr}
 use Rattle.art_nodes.specs.declared.node.OpaqueNodePtr.{OpaqueNodePtr}
 use Rattle.art_nodes.specs.declared.node.LeafNode.{LeafNode}
-use Rattle.art_model.specs.Layouts.{Links, AreLinked, AreDistinct, first_or, last_or}
-use Rattle.art_model.specs.Stores.{held_leaf, held_inner, links_at, links_of}
+use Rattle.art_model.specs.Layouts.{leaf_node, leaf_names, Holds, Links, AreLinked, AreDistinct, first_or, last_or}
+use Rattle.art_model.specs.Stores.{node_at, pair_of, held_leaf, held_inner, links_at, links_of}
 use Rattle.art_model.specs.Writes.{with_next, with_previous, joined, with_leaf, without_leaf}
 use Rattle.art_model.specs.Footprints.{IsIn}
 use Rattle.art_model.proofs.Lists.{each_in, in_left, in_right, in_either}
 use Rattle.art_model.proofs.Pairwises.{Pairwise-without, Pairwise-before}
-use Rattle.art_model.proofs.Names.{apart_after}
+use Rattle.art_model.proofs.Names.{apart_after, IsTaken, all_taken, among, takes_leaves}
 use Rattle.art_model.proofs.Links.{Relinked, last_in, first_in, last_not_first, link_of}
+use Rattle.art_model.specs.Trees.{Tree}
+use Rattle.art_model.proofs.Writes.{node_at-leaf}
 use Rattle.art_model.proofs.Views.{held_in_inner, leaf_or}
-use Rattle.art_model.proofs.Leaves.{named_leaf, joined_before, joined_after, joined_elsewhere, with_leaf_here, with_leaf_elsewhere, without_leaf_elsewhere}
+use Rattle.art_model.proofs.Leaves.{IsThere, named_leaf, joined_before, joined_after, joined_elsewhere, with_leaf_here, with_leaf_elsewhere, without_leaf_elsewhere}
 
 module _ {K V : Type 0} where
   links_leaf : (u : Nodes K V) (p : LeafPtr) (o : Option (LeafNode K V)) → get u.leaves p ≡ o → links_at u (leaf_name p) ≡ option_and_then links_of (option_map held_leaf o)
@@ -132,3 +134,15 @@ module _ {K V : Type 0} (s t : Nodes K V) (xs zs : List OpaqueNodePtr) (n : Leaf
         | inl j ↦ each_in (λ k. k ≢ leaf_name n) (leaf_name p) xs (Pairwise-before ◌≢◌ xs zs (leaf_name n) distinct) j e
         | inr j ↦ each_in (λ k. k ≢ leaf_name n) (leaf_name p) zs (apart_after xs zs (leaf_name n) distinct) j e
       ]
+
+module _ {K V : Type 0} (s : Nodes K V) where
+  -- the leaves of a layout are there
+  pub are_there : (t : Tree OpaqueNodePtr (K × V)) → Holds (node_at s) t → AreThere s (leaf_names t)
+  are_there t h p i free = each_in (IsTaken (node_at s)) (leaf_name p) (leaf_names t) (among takes_leaves (IsTaken (node_at s)) t (all_taken (node_at s) t h)) i (node_at-leaf s p ∙ ap (λ o. option_map leaf_node (option_map pair_of o)) free)
+
+  -- and the neighbours of a place are among them
+  pub previous_there : (xs zs : List OpaqueNodePtr) (o : Option LeafPtr) → AreThere s (xs ++ zs) → option_map leaf_name o ≡ last_or xs None → IsThere s.leaves o
+  previous_there xs zs o are e p is = are p (in_left (leaf_name p) xs zs (last_in xs (leaf_name p) (sym e ∙ ap (option_map leaf_name) is)))
+
+  pub next_there : (xs zs : List OpaqueNodePtr) (o : Option LeafPtr) → AreThere s (xs ++ zs) → option_map leaf_name o ≡ first_or zs None → IsThere s.leaves o
+  next_there xs zs o are e p is = are p (in_right (leaf_name p) xs zs (first_in zs (leaf_name p) (sym e ∙ ap (option_map leaf_name) is)))

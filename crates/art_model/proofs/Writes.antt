@@ -13,7 +13,7 @@ use Rattle.art_nodes.specs.declared.node.InnerPtr.{InnerPtr}
 use Rattle.art_nodes.specs.declared.node.OpaqueNodePtr.{OpaqueNodePtr}
 use Rattle.art_nodes.proofs.NameLemmas.{inner_cmp_total, inner_cmp-IsAntisymmetric}
 use Rattle.art_nodes.proofs.StoreLaws.{inner_changed_at, inner_changed_elsewhere}
-use Rattle.art_model.specs.Trees.{Header}
+use Rattle.art_model.specs.Trees.{Header, header_of, kind_of}
 use Rattle.art_model.specs.Radix.{bytes_of}
 use Rattle.art_model.specs.Paths.{Frame, IsPath, HoldsPath}
 use Rattle.art_model.specs.Layouts.{Node, leaf_node, inner_node, slots_of}
@@ -60,6 +60,10 @@ module _ {K V : Type 0} (s t : Nodes K V) where
         (node_at-leaf t p ∙ ap (option_map leaf_node) (leaves p (λ i. off (subst (λ z. IsIn z touched) (sym e) i)) (λ free. used (ap (node_at s) e ∙ node_at-leaf s p ∙ ap (λ o. option_map leaf_node (option_map pair_of o)) free))) ∙ sym (node_at-leaf s p))
     | inr kind ↦ node_at-inner t k kind (get s.inners (as_inner k)) (inners k kind up off used) ∙ sym (node_at-inner s k kind (get s.inners (as_inner k)) refl)
   ]
+
+-- a header with the kind for another number of children
+pub header_with : (P : ℕ) (part : List ℕ) (n count : ℕ) (h : Header) → h ≡ header_of P part n → h.kind ≡ kind_of count → h ≡ header_of P part count
+header_with P part n count h e kind = λ i. record { kind = kind i; length_of = (e i).length_of; stored = (e i).stored }
 
 -- ---- the parent's child
 
