@@ -1,25 +1,22 @@
--- what a store that keeps its nodes keeps of a layout
-use Rattle.std.proofs.Common.{◌≡◌, ◌≢◌, ℕ, List, [], ◌∷◌, ◌++◌, refl, ap, ap₂, sym, ◌∙◌, Bool, true, false, cond, eqb, eqb-true, ◌⊎◌, inl, inr, Option, Some, None}
+-- what a store that keeps its nodes keeps, and what holds of each name of a layout
+use Rattle.std.proofs.Common.{map, ◌≡◌, ◌≢◌, ℕ, List, [], ◌∷◌, refl, ap, ap₂, sym, ◌∙◌, Bool, true, false, eqb, eqb-true, ◌⊎◌, inl, inr, Option, Some, None}
 use Rattle.std.proofs.lemmas.Bool.{eqb-false}
 use Rattle.std.specs.Option.{option_map}
 use Rattle.std.specs.List.{AllByRecursion as Each}
+use Rattle.art_nodes.specs.Codes.{kind_at, kind_at-index}
 use Rattle.art_nodes.specs.Nodes.{Nodes, kind_index}
 use Rattle.art_nodes.specs.declared.node.NodeType.{NodeType}
-use Rattle.art_nodes.specs.declared.node.NodeType.TheVariants.{Node4, Node16, Node48, Node256, Leaf}
 use Rattle.art_nodes.specs.declared.node.OpaqueNodePtr.{OpaqueNodePtr}
-use Rattle.art_model.specs.Trees.{Tree, leaf, inner, Children, child, no_child, Header}
-use Rattle.art_model.specs.Layouts.{Node, inner_names, inner_names_below, Holds, HoldsBelow}
+use Rattle.art_model.specs.Trees.{Tree, leaf, inner, Children, child, no_child}
+use Rattle.art_model.specs.Layouts.{Node, names_of, names_below, leaf_names, leaf_names_below, inner_names, inner_names_below, Holds, HoldsBelow}
 use Rattle.art_model.specs.Stores.{node_at, seen, Held, held, IsUsed}
-use Rattle.art_model.proofs.Lists.{Each-append}
+use Rattle.art_model.proofs.Lists.{Each-append, Each-left, Each-right}
 use Rattle.art_oracle.specs.Built.{KeepsNodes}
 
 module _ {K V : Type 0} where
   -- a name that stands for a node is in use
   pub node_used : (s : Nodes K V) (name : OpaqueNodePtr) (x : Node OpaqueNodePtr (K × V)) → node_at s name ≡ Some x → IsUsed s name
   node_used s name x e none = let f = sym (ap (option_map (seen name.kind)) none) ∙ e in absurd cc
-
-  pub node_kept : (old new : Nodes K V) → KeepsNodes old new → (name : OpaqueNodePtr) (x : Node OpaqueNodePtr (K × V)) → node_at old name ≡ Some x → node_at new name ≡ Some x
-  node_kept old new kept name x e = ap (option_map (seen name.kind)) (kept name (node_used old name x e)) ∙ e
 
   pub keeps-trans : (old mid new : Nodes K V) → KeepsNodes old mid → KeepsNodes mid new → KeepsNodes old new
   keeps-trans old mid new h k name used = let e = h name used in k name (λ none. used (sym e ∙ none)) ∙ e
@@ -33,37 +30,15 @@ module _ {K V : Type 0} where
       go (Some x) e = let k = kept name (λ none. absurd cc) in absurd cc
 
 -- names are the same or differ
-kind_back : ℕ → NodeType
-kind_back n = cond (eqb n 0) Node4 (cond (eqb n 1) Node16 (cond (eqb n 2) Node48 (cond (eqb n 3) Node256 Leaf)))
-
-module _ where
-  kind_back-index : (k : NodeType) → kind_back (kind_index k) ≡ k
-  unfolding kind_back
-  kind_back-index Node4 = refl
-  kind_back-index Node16 = refl
-  kind_back-index Node48 = refl
-  kind_back-index Node256 = refl
-  kind_back-index Leaf = refl
-
 pub name_cases : (m n : OpaqueNodePtr) → (m ≡ n) ⊎ (m ≢ n)
 name_cases m n = go (eqb (kind_index m.kind) (kind_index n.kind)) (eqb m.slot n.slot) refl refl
   where
     go : (k s : Bool) → eqb (kind_index m.kind) (kind_index n.kind) ≡ k → eqb m.slot n.slot ≡ s → (m ≡ n) ⊎ (m ≢ n)
     go true true e f =
-      let kinds : m.kind ≡ n.kind = sym (kind_back-index m.kind) ∙ ap kind_back (eqb-true (kind_index m.kind) (kind_index n.kind) e) ∙ kind_back-index n.kind in
-      inl (ap₂ (λ (k : NodeType) (s : ℕ). let p : OpaqueNodePtr = record { kind = k; slot = s } in p) kinds (eqb-true m.slot n.slot f))
+        let kinds : m.kind ≡ n.kind = sym (kind_at-index m.kind) ∙ ap kind_at (eqb-true (kind_index m.kind) (kind_index n.kind) e) ∙ kind_at-index n.kind in
+        inl (ap₂ (λ (k : NodeType) (s : ℕ). let p : OpaqueNodePtr = record { kind = k; slot = s } in p) kinds (eqb-true m.slot n.slot f))
     go false s e f = inr (λ same. absurd (eqb-false (kind_index m.kind) (kind_index n.kind) e (ap (λ p. kind_index p.kind) same)))
     go true false e f = inr (λ same. absurd (eqb-false m.slot n.slot f (ap (λ p. p.slot) same)))
-
-module _ {N A : Type 0} (at to : N → Option (Node N A)) (kept : (n : N) (x : Node N A) → at n ≡ Some x → to n ≡ Some x) where
-  mutual
-    pub holds_kept : (t : Tree N A) → Holds at t → Holds to t
-    holds_kept (leaf n x) h = kept n _ h
-    holds_kept (inner n h cs) holds = (kept n _ holds.0, holds_kept_below cs holds.1)
-
-    pub holds_kept_below : (cs : Children N A) → HoldsBelow at cs → HoldsBelow to cs
-    holds_kept_below no_child h = tt
-    holds_kept_below (child b t cs) h = (holds_kept t h.0, holds_kept_below cs h.1)
 
 module _ {N A : Type 0} (at : N → Option (Node N A)) (Q : N → Type 0) (used : (n : N) (x : Node N A) → at n ≡ Some x → Q n) where
   mutual
@@ -71,6 +46,26 @@ module _ {N A : Type 0} (at : N → Option (Node N A)) (Q : N → Type 0) (used 
     inner_used (leaf n x) h = tt
     inner_used (inner n h cs) holds = (used n _ holds.0, inner_used_below cs holds.1)
 
-    pub inner_used_below : (cs : Children N A) → HoldsBelow at cs → Each Q (inner_names_below cs)
+    inner_used_below : (cs : Children N A) → HoldsBelow at cs → Each Q (inner_names_below cs)
     inner_used_below no_child h = tt
     inner_used_below (child b t cs) h = Each-append Q (inner_names t) (inner_names_below cs) (inner_used t h.0) (inner_used_below cs h.1)
+
+pub both : {X : Type 0} (P Q : X → Type 0) (xs : List X) → Each P xs → Each Q xs → Each (λ x. P x × Q x) xs
+both P Q [] h k = tt
+both P Q (x ∷ xs) h k = ((h.0, k.0), both P Q xs h.1 k.1)
+
+module _ {N A : Type 0} where
+  mutual
+    pub names_each : (Q : N → Type 0) (t : Tree N A) → Each Q (leaf_names t) → Each Q (inner_names t) → Each Q (names_of t)
+    names_each Q (leaf n x) l i = l
+    names_each Q (inner n h cs) l i = (i.0, names_each_below Q cs l i.1)
+
+    pub names_each_below : (Q : N → Type 0) (cs : Children N A) → Each Q (leaf_names_below cs) → Each Q (inner_names_below cs) → Each Q (names_below cs)
+    names_each_below Q no_child l i = tt
+    names_each_below Q (child b t cs) l i = Each-append Q (names_of t) (names_below cs)
+        (names_each Q t (Each-left Q (leaf_names t) (leaf_names_below cs) l) (Each-left Q (inner_names t) (inner_names_below cs) i))
+        (names_each_below Q cs (Each-right Q (leaf_names t) (leaf_names_below cs) l) (Each-right Q (inner_names t) (inner_names_below cs) i))
+
+pub each_map : {X Y : Type 0} (f : X → Y) (Q : Y → Type 0) (xs : List X) → Each (λ x. Q (f x)) xs → Each Q (map f xs)
+each_map f Q [] h = tt
+each_map f Q (x ∷ xs) h = (h.0, each_map f Q xs h.1)

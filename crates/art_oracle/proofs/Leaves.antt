@@ -1,5 +1,5 @@
 -- the leaves of a map: placed in order, and linked
-use Rattle.std.proofs.Common.{◌≡◌, ◌≢◌, ℕ, zero, suc, ◌+◌, ◌<◌, ◌≤◌, List, [], ◌∷◌, ◌++◌, length, take, drop, get_or, map, refl, ap, ap₂, sym, ◌∙◌, add-one, arith, true, false, Bool, eqb, eqb-true, ◌⊎◌, inl, inr, subst, append_assoc, append-nil, Option, Some, None, IsSome, slice_get, Bor}
+use Rattle.std.proofs.Common.{◌≡◌, ◌≢◌, ℕ, zero, suc, ◌+◌, ◌<◌, List, [], ◌∷◌, ◌++◌, length, take, drop, get_or, map, refl, ap, ap₂, sym, ◌∙◌, add-one, true, false, Bool, eqb, eqb-true, ◌⊎◌, inl, inr, subst, Option, Some, None, IsSome, slice_get, Bor}
 use Rattle.std.specs.Option.{option_map, option_and_then, option_copied}
 use Rattle.std.specs.Slice.{IsItemAt}
 use Rattle.std.proofs.lemmas.Option.{slice_get_past, slice_get-get_or}
@@ -19,12 +19,13 @@ use Rattle.art_nodes.proofs.StoreLaws.{leaf_here, leaf_elsewhere, leaf_changed_a
 use Rattle.art_model.specs.Layouts.{Links, AreDistinct, AreLinked, first_or, last_or}
 use Rattle.art_model.specs.Stores.{links_at, links_of, held_leaf, pair_of}
 use Rattle.art_model.specs.Footprints.{IsIn}
-use Rattle.art_model.proofs.Lists.{Each-append, Each-left, Each-right, Each-weaker}
+use Rattle.art_model.proofs.Lists.{Each-append, Each-weaker}
 use Rattle.art_model.proofs.Links.{linked-append, linked-frame, last_or-push}
 use Rattle.art_model.proofs.Pairwises.{Pairwise-append, Pairwise-before}
 use Rattle.art_model.proofs.Lists.{in_left, in_right, each_in}
 use Rattle.art_oracle.specs.Build.{pairs_at, leaf_pair, IsPlaced, KeepsPairs}
 use Rattle.art_oracle.proofs.Grouping.{pairs_at-append, map-append}
+use Rattle.art_oracle.proofs.Kept.{each_map}
 
 pub all_from : {X : Type 0} (P : X → Type 0) (xs : List X) → Each P xs → All P xs
 all_from P [] h = All-nil P
@@ -46,10 +47,6 @@ next_name (p ∷ ps) (suc n) = next_name ps n
 pub copied_is : (ps : List LeafPtr) (n : ℕ) (r : Option (Bor LeafPtr)) → IsItemAt ps n r → option_copied r ≡ slice_get ps n
 copied_is ps n None h = sym (slice_get_past ps n h.3)
 copied_is ps n (Some p) h = ap Some h.1 ∙ sym (slice_get-get_or ps n p.now h.3.0)
-
-pub each_map : {X Y : Type 0} (f : X → Y) (Q : Y → Type 0) (xs : List X) → Each (λ x. Q (f x)) xs → Each Q (map f xs)
-each_map f Q [] h = tt
-each_map f Q (x ∷ xs) h = (h.0, each_map f Q xs h.1)
 
 module _ {K V : Type 0} where
   pub pairs_at-same : (m k : finite.FinMap leaf_cmp (LeafNode K V)) (ps : List LeafPtr) → Each (λ p. option_map pair_of (finite.get k p) ≡ option_map pair_of (finite.get m p)) ps → pairs_at k ps ≡ pairs_at m ps
@@ -97,17 +94,17 @@ module _ {K V : Type 0} where
     was_free (inr e) = sym e ∙ free
 
     pub placed_more : IsPlaced old new (names ++ q ∷ []) (pairs ++ pair_of leaf ∷ [])
-    placed_more = record
-      { there = Each-append (λ p. IsSome (finite.get new p)) names (q ∷ [])
+    placed_more = record {
+      there = Each-append (λ p. IsSome (finite.get new p)) names (q ∷ [])
           (Each-weaker (λ p. IsSome (finite.get mid p) × (p ≢ q)) (λ p. IsSome (finite.get new p)) (λ p h. rw (leaf_elsewhere mid q p leaf h.1) h.0) names (both names so_far.there apart))
-          (here_some, tt)
-      ; its = pairs_at-append new names (q ∷ []) ∙ ap₂ (λ (a b : List (K × V)). a ++ b)
+          (here_some, tt);
+      its = pairs_at-append new names (q ∷ []) ∙ ap₂ (λ (a b : List (K × V)). a ++ b)
           (pairs_at-same mid new names (Each-weaker (λ p. p ≢ q) (λ p. option_map pair_of (finite.get new p) ≡ option_map pair_of (finite.get mid p)) (λ p n. ap (option_map pair_of) (leaf_elsewhere mid q p leaf n)) names apart) ∙ so_far.its)
-          (ap (λ o. leaf_pair o ++ []) (leaf_here mid q leaf))
-      ; distinct = Pairwise-append ◌≢◌ names (q ∷ []) so_far.distinct (tt, tt) (Each-weaker (λ p. p ≢ q) (λ p. Each (λ r. p ≢ r) (q ∷ [])) (λ p n. (n, tt)) names apart)
-      ; fresh = Each-append (λ p. finite.get old p ≡ None) names (q ∷ []) so_far.fresh (was_free (so_far.others q), tt)
-      ; others = λ p. by_name p (leaf_cases p q)
-      }
+          (ap (λ o. leaf_pair o ++ []) (leaf_here mid q leaf));
+      distinct = Pairwise-append ◌≢◌ names (q ∷ []) so_far.distinct (tt, tt) (Each-weaker (λ p. p ≢ q) (λ p. Each (λ r. p ≢ r) (q ∷ [])) (λ p n. (n, tt)) names apart);
+      fresh = Each-append (λ p. finite.get old p ≡ None) names (q ∷ []) so_far.fresh (was_free (so_far.others q), tt);
+      others = λ p. by_name p (leaf_cases p q);
+    }
       where
         both : (ps : List LeafPtr) → Each (λ p. IsSome (finite.get mid p)) ps → Each (λ p. p ≢ q) ps → Each (λ p. IsSome (finite.get mid p) × (p ≢ q)) ps
         both [] h k = tt
@@ -136,7 +133,7 @@ module _ {K V : Type 0} where
   links_in m p = option_and_then links_of (option_map held_leaf (finite.get m p))
 
   linked_there : (m : finite.FinMap leaf_cmp (LeafNode K V)) (p : LeafPtr) (previous next : Option LeafPtr) → IsSome (finite.get m p) →
-    links_in (change m p (with_links previous next)) p ≡ Some (record { previous = option_map leaf_name previous; next = option_map leaf_name next })
+      links_in (change m p (with_links previous next)) p ≡ Some (record { previous = option_map leaf_name previous; next = option_map leaf_name next })
   linked_there m p previous next there = ap (λ o. option_and_then links_of (option_map held_leaf o)) (leaf_changed_at m p (with_links previous next)) ∙ go (finite.get m p) there
     where
       go : (o : Option (LeafNode K V)) → IsSome o → option_and_then links_of (option_map held_leaf (option_map (with_links previous next) o)) ≡ Some (record { previous = option_map leaf_name previous; next = option_map leaf_name next })
@@ -154,7 +151,7 @@ module _ {K V : Type 0} where
 
   -- the next leaf linked
   module _ (old mid new : Nodes K V) (names : List LeafPtr) (i : ℕ) (previous next : Option LeafPtr) (d : LeafPtr) (within : i < length names) (so_far : IsLinkedTo old mid names i previous)
-    (there : Each (λ p. IsSome (finite.get old.leaves p)) names) (distinct : AreDistinct names) (next_is : next ≡ slice_get names (i + 1)) (written : new.leaves ≡ change mid.leaves (get_or names i d) (with_links previous next)) where
+      (there : Each (λ p. IsSome (finite.get old.leaves p)) names) (distinct : AreDistinct names) (next_is : next ≡ slice_get names (i + 1)) (written : new.leaves ≡ change mid.leaves (get_or names i d) (with_links previous next)) where
     abbrev q : LeafPtr
     q = get_or names i d
 
@@ -178,20 +175,20 @@ module _ {K V : Type 0} where
 
     front_linked : AreLinked (links_at new) None (map leaf_name (take i names)) (Some (leaf_name q))
     front_linked = linked-frame (links_at mid) (links_at new) (map leaf_name (take i names)) None (Some (leaf_name q))
-      (each_map leaf_name (λ n. links_at new n ≡ links_at mid n) (take i names) (Each-weaker (λ p. p ≢ q) (λ p. links_at new (leaf_name p) ≡ links_at mid (leaf_name p)) (λ p n. ap (λ o. option_and_then links_of (option_map held_leaf o)) (elsewhere p n)) (take i names) front_apart))
-      (subst (λ l. AreLinked (links_at mid) None (map leaf_name (take i names)) (first_or (map leaf_name l) None)) (drop-cons names i d within) so_far.linked)
+        (each_map leaf_name (λ n. links_at new n ≡ links_at mid n) (take i names) (Each-weaker (λ p. p ≢ q) (λ p. links_at new (leaf_name p) ≡ links_at mid (leaf_name p)) (λ p n. ap (λ o. option_and_then links_of (option_map held_leaf o)) (elsewhere p n)) (take i names) front_apart))
+        (subst (λ l. AreLinked (links_at mid) None (map leaf_name (take i names)) (first_or (map leaf_name l) None)) (drop-cons names i d within) so_far.linked)
 
     q_linked : links_at new (leaf_name q) ≡ Some (record { previous = last_or (map leaf_name (take i names)) None; next = first_or (map leaf_name (drop (suc i) names)) None })
     q_linked = ap (λ m. links_in m q) written ∙ linked_there mid.leaves q previous next q_there
-      ∙ ap₂ (λ (a b : Option OpaqueNodePtr). Some (record { previous = a; next = b })) so_far.previous_is (ap (option_map leaf_name) next_is ∙ ap (λ m. option_map leaf_name (slice_get names m)) (add-one i) ∙ next_name names (suc i))
+        ∙ ap₂ (λ (a b : Option OpaqueNodePtr). Some (record { previous = a; next = b })) so_far.previous_is (ap (option_map leaf_name) next_is ∙ ap (λ m. option_map leaf_name (slice_get names m)) (add-one i) ∙ next_name names (suc i))
 
     pub linked_more : IsLinkedTo old new names (i + 1) (Some q)
-    linked_more = subst (λ m. IsLinkedTo old new names m (Some q)) (sym (add-one i)) (record
-      { previous_is = sym (last_or-push (map leaf_name (take i names)) (leaf_name q) None) ∙ ap (λ l. last_or l None) (sym named)
-      ; linked = subst (λ l. AreLinked (links_at new) None l (first_or (map leaf_name (drop (suc i) names)) None)) (sym named)
-          (linked-append (links_at new) (map leaf_name (take i names)) (leaf_name q ∷ []) None (first_or (map leaf_name (drop (suc i) names)) None) front_linked (q_linked, tt))
-      ; keeps = record { its = λ p. pairs p (leaf_cases p q); others = λ p. by_name p (leaf_cases p q) }
-      })
+    linked_more = subst (λ m. IsLinkedTo old new names m (Some q)) (sym (add-one i)) (record {
+      previous_is = sym (last_or-push (map leaf_name (take i names)) (leaf_name q) None) ∙ ap (λ l. last_or l None) (sym named);
+      linked = subst (λ l. AreLinked (links_at new) None l (first_or (map leaf_name (drop (suc i) names)) None)) (sym named)
+          (linked-append (links_at new) (map leaf_name (take i names)) (leaf_name q ∷ []) None (first_or (map leaf_name (drop (suc i) names)) None) front_linked (q_linked, tt));
+      keeps = record { its = λ p. pairs p (leaf_cases p q); others = λ p. by_name p (leaf_cases p q) };
+    })
       where
         named : map leaf_name (take (suc i) names) ≡ map leaf_name (take i names) ++ leaf_name q ∷ []
         named = ap (map leaf_name) front ∙ map-append leaf_name (take i names) (q ∷ [])
@@ -211,13 +208,13 @@ module _ {K V : Type 0} where
 -- leaves that keep their pairs are placed as they were
 module _ {K V : Type 0} (old mid new : finite.FinMap leaf_cmp (LeafNode K V)) (names : List LeafPtr) (pairs : List (K × V)) where
   pub placed_kept : IsPlaced old mid names pairs → KeepsPairs mid new names → IsPlaced old new names pairs
-  placed_kept placed keeps = record
-    { there = Each-weaker (λ p. IsSome (finite.get mid p)) (λ p. IsSome (finite.get new p)) (λ p h. pair_there (finite.get mid p) (finite.get new p) (keeps.its p) h) names placed.there
-    ; its = pairs_at-same mid new names (every names) ∙ placed.its
-    ; distinct = placed.distinct
-    ; fresh = placed.fresh
-    ; others = λ p. by_new p (keeps.others p)
-    }
+  placed_kept placed keeps = record {
+    there = Each-weaker (λ p. IsSome (finite.get mid p)) (λ p. IsSome (finite.get new p)) (λ p h. pair_there (finite.get mid p) (finite.get new p) (keeps.its p) h) names placed.there;
+    its = pairs_at-same mid new names (every names) ∙ placed.its;
+    distinct = placed.distinct;
+    fresh = placed.fresh;
+    others = λ p. by_new p (keeps.others p);
+  }
     where
       every : (ps : List LeafPtr) → Each (λ p. option_map pair_of (finite.get new p) ≡ option_map pair_of (finite.get mid p)) ps
       every [] = tt

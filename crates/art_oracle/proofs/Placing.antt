@@ -1,12 +1,12 @@
 -- a node above the children that were built
-use Rattle.std.proofs.Common.{◌≡◌, ◌≢◌, ℕ, suc, zero, ◌+◌, ◌-◌, ◌<◌, ◌≤◌, List, [], ◌∷◌, ◌++◌, length, take, drop, get_or, map, min, refl, ap, ap₂, sym, ◌∙◌, arith, true, false, Bool, cond, leb, ◌⊎◌, inl, inr, subst, append_assoc, append-nil, length-append, Option, Some, None, IsSome}
+use Rattle.std.proofs.Common.{◌≡◌, ◌≢◌, ℕ, suc, ◌+◌, ◌-◌, ◌<◌, ◌≤◌, List, [], ◌∷◌, ◌++◌, length, take, drop, get_or, map, min, refl, ap, ap₂, sym, ◌∙◌, arith, true, false, Bool, cond, leb, eqb, eqb-true, ◌⊎◌, inl, inr, subst, append_assoc, length-append, Option, Some, None, IsSome}
 use Rattle.std.specs.Option.{option_map}
 use Rattle.std.specs.List.{AllByRecursion as Each, All}
 use Rattle.std.specs.FinMap as finite
 use Rattle.std.specs.Ordering.{is_lt}
 use Rattle.std.proofs.lemmas.Bool.{true≢false}
 use Rattle.std.proofs.lemmas.List.{take_at, take-take, take_min, length-take-le}
-use Rattle.std.proofs.lemmas.List.Elements.{All-cons, All-nil, All-head, All-tail}
+use Rattle.std.proofs.lemmas.List.Elements.{All-cons, All-nil, All-tail}
 use Rattle.art_nodes.specs.Inner.{Inner}
 use Rattle.art_nodes.specs.Names.{leaf_name, inner_name}
 use Rattle.art_nodes.specs.Nodes.{Nodes, leaf_cmp}
@@ -19,19 +19,20 @@ use Rattle.art_nodes.specs.declared.node.OpaqueNodePtr.{OpaqueNodePtr}
 use Rattle.art_nodes.proofs.StoreLaws.{inner_here, inner_elsewhere}
 use Rattle.art_model.specs.Keys.{IsFront, Precedes, common_front, is_before}
 use Rattle.art_model.specs.Pairs.{IsMap, of_key}
-use Rattle.art_model.specs.Trees.{Tree, leaf, inner, Children, child, no_child, Header, kind_of, header_of, byte_at}
-use Rattle.art_model.specs.Radix.{pairs_of, pairs_below, AreRadix, bytes_of}
-use Rattle.art_model.specs.Layouts.{Node, leaf_node, inner_node, slots_of, inner_names, inner_names_below}
-use Rattle.art_model.specs.Stores.{node_at, seen, header_at, inner_seen, pair_of, Held, held, held_in, held_leaf, held_inner, IsUsed}
+use Rattle.art_model.specs.Trees.{leaf, inner, kind_of, header_of, byte_at, groups}
+use Rattle.art_model.specs.Radix.{bytes_of}
+use Rattle.art_model.specs.Layouts.{inner_node, slots_of, inner_names_below}
+use Rattle.art_model.specs.Stores.{node_at, seen, inner_seen, held, held_in, held_leaf, held_inner, IsUsed}
 use Rattle.art_model.specs.Footprints.{IsIn}
 use Rattle.art_model.proofs.Lists.{Each-weaker, after_front}
 use Rattle.art_model.proofs.Keys.{precedes_rest, precedes_apart, before_apart, cmp-append}
-use Rattle.art_model.proofs.Rebuild.{radix_way, byte_after}
 use Rattle.art_model.proofs.Build.{go_on, at_byte}
 use Rattle.art_model.proofs.Views.{held_in_inner}
-use Rattle.art_oracle.specs.Build.{pairs_at, leaf_pair, leaf_key, Ready, ReadyBelow, Built, BuiltBelow, GoesOn, started, last_from, Starts, count_groups}
+use Rattle.art_oracle.specs.Build.{pairs_at, leaf_pair, leaf_key, Ready, ReadyBelow, Built, GoesOn, started, last_from, Starts, count_groups, KeepsOthers, BuiltUnder}
 use Rattle.art_oracle.specs.Built.{KeepsNodes}
-use Rattle.art_oracle.proofs.Kept.{name_cases, node_kept, node_used, was_free, holds_kept_below, inner_used_below}
+use Rattle.art_oracle.proofs.Kept.{name_cases, was_free}
+use Rattle.art_oracle.proofs.Written.{inner_is_used}
+use Rattle.art_oracle.proofs.Counting.{length_added}
 use Rattle.art_oracle.proofs.SharedParts.{common_between, common_fits, parts, Parts}
 
 before-append : (p a b : List ℕ) → is_before (p ++ a) (p ++ b) ≡ is_before a b
@@ -65,10 +66,10 @@ module _ {A : Type 0} (bytes : A → List ℕ) where
     where
       one : (z : A) → IsFront way (bytes z) → is_before (bytes z) (bytes x) ≡ false → is_before (bytes (last_from x xs)) (bytes z) ≡ false → IsFront (way ++ common_front rf rl) (bytes z)
       one z (rz, w) b a =
-        let b' : is_before rz rf ≡ false = sym (before-append way rz rf) ∙ rw (w, e) at b in
-        let a' : is_before rl rz ≡ false = sym (before-append way rl rz) ∙ rw (f, w) at a in
-        let (r, g) = common_between rf rz rl b' a' in
-        (r, w ∙ ap (λ l. way ++ l) g ∙ sym (append_assoc way (common_front rf rl) r))
+          let b' : is_before rz rf ≡ false = sym (before-append way rz rf) ∙ rw (w, e) at b in
+          let a' : is_before rl rz ≡ false = sym (before-append way rl rz) ∙ rw (f, w) at a in
+          let (r, g) = common_between rf rz rl b' a' in
+          (r, w ∙ ap (λ l. way ++ l) g ∙ sym (append_assoc way (common_front rf rl) r))
 
       go : (zs : List A) → Each (λ z. IsFront way (bytes z)) zs → Each (λ z. is_before (bytes z) (bytes x) ≡ false) zs → Each (λ z. is_before (bytes (last_from x xs)) (bytes z) ≡ false) zs → Each (λ z. IsFront (way ++ common_front rf rl) (bytes z)) zs
       go [] w b a = tt
@@ -78,14 +79,19 @@ module _ {A : Type 0} (bytes : A → List ℕ) where
   pub part_ways : (way rf rl : List ℕ) (x y : A) (ys : List A) → IsMap bytes (x ∷ y ∷ ys) → bytes x ≡ way ++ rf → bytes (last_from y ys) ≡ way ++ rl → Parts rf rl
   part_ways way rf rl x y ys map e f = parts rf rl (precedes_rest way rf rl (rw (e, f) at (last_each (λ z. Precedes (bytes x) (bytes z)) y ys map.0))).1
 
--- two keys that part below a node are below two children
-module _ {N A : Type 0} (bytes : A → List ℕ) (P : ℕ) where
-  pub two_children : (front : List ℕ) (cs : Children N A) (x y : A) (ys : List A) → AreRadix bytes P front cs → pairs_below cs ≡ x ∷ y ∷ ys → byte_at bytes (length front) x ≢ byte_at bytes (length front) (last_from y ys) → 2 ≤ length (bytes_of cs)
-  two_children front no_child x y ys radix its n = absurd cc
-  two_children front (child b t no_child) x y ys radix its n =
-    let one : Each (λ z. byte_at bytes (length front) z ≡ b) (x ∷ y ∷ ys) = subst (Each (λ z. byte_at bytes (length front) z ≡ b)) (sym (append-nil (pairs_of t)) ∙ its) (Each-weaker (λ z. IsFront (front ++ b ∷ []) (bytes z)) (λ z. byte_at bytes (length front) z ≡ b) (byte_after bytes front b) (pairs_of t) (radix_way bytes P t (front ++ b ∷ []) radix.0)) in
-    absurd (n (one.0 ∙ sym (last_each (λ z. byte_at bytes (length front) z ≡ b) y ys one.1)))
-  two_children front (child b t (child c u cs)) x y ys radix its n = omega arith
+-- elements whose first and last have different bytes make two groups
+module _ {A : Type 0} (byte : A → ℕ) where
+  some_group : (x : A) (xs : List A) → 1 ≤ length (groups byte (x ∷ xs))
+  some_group x [] = omega arith
+  some_group x (y ∷ ys) = let l = length_added (byte x) (byte y) x y (groups byte ys) in let m = some_group y ys in omega arith
+
+  pub two_groups : (x : A) (xs : List A) → byte x ≢ byte (last_from x xs) → 2 ≤ length (groups byte (x ∷ xs))
+  two_groups x [] n = absurd (n refl)
+  two_groups x (y ∷ ys) n = go (two_groups y ys) (eqb (byte x) (byte y)) refl (length_added (byte x) (byte y) x y (groups byte ys))
+    where
+      go : (byte y ≢ byte (last_from y ys) → 2 ≤ length (groups byte (y ∷ ys))) → (t : Bool) → eqb (byte x) (byte y) ≡ t → length (groups byte (x ∷ y ∷ ys)) ≡ cond (eqb (byte x) (byte y)) 0 1 + length (groups byte (y ∷ ys)) → 2 ≤ length (groups byte (x ∷ y ∷ ys))
+      go ih true e l = let more = ih (λ f. n (eqb-true (byte x) (byte y) e ∙ f)) in let l' = rw e at l in omega arith
+      go ih false e l = let some = some_group y ys in let l' = rw e at l in omega arith
 
 -- leaves and their pairs
 module _ {K V : Type 0} (bytes : K → List ℕ) (store : finite.FinMap leaf_cmp (LeafNode K V)) where
@@ -107,31 +113,31 @@ module _ {K V : Type 0} (bytes : K → List ℕ) (store : finite.FinMap leaf_cmp
 
   last_key : (q : LeafPtr) (qs : List LeafPtr) (d : LeafPtr) → All There (q ∷ qs) → (y : K × V) × (ys : List (K × V)) × (pairs_at store (q ∷ qs) ≡ y ∷ ys) × (bytes (last_from y ys).0 ≡ leaf_key bytes (finite.get store (get_or (q ∷ qs) (length qs) d)))
   last_key q [] d h =
-    let (x, one, key) = pair_there (finite.get store q) (h 0 q (omega arith)) in
-    (x, [], ap (λ l. l ++ []) one, sym key)
+      let (x, one, key) = pair_there (finite.get store q) (h 0 q (omega arith)) in
+      (x, [], ap (λ l. l ++ []) one, sym key)
   last_key q (r ∷ rs) d h =
-    let (x, one, key) = pair_there (finite.get store q) (h 0 q (omega arith)) in
-    let (y, ys, more, last) = last_key r rs d (All-tail There q (r ∷ rs) h) in
-    (x, y ∷ ys, ap₂ (λ (a b : List (K × V)). a ++ b) one more, last)
+      let (x, one, key) = pair_there (finite.get store q) (h 0 q (omega arith)) in
+      let (y, ys, more, last) = last_key r rs d (All-tail There q (r ∷ rs) h) in
+      (x, y ∷ ys, ap₂ (λ (a b : List (K × V)). a ++ b) one more, last)
 
   pub ends : (leaves : List LeafPtr) (d : LeafPtr) → All There leaves → 1 ≤ length leaves → length leaves ≢ 1 → Ends leaves (leaf_key bytes (finite.get store (get_or leaves 0 d))) (leaf_key bytes (finite.get store (get_or leaves (length leaves - 1) d)))
   ends [] d h some n = absurd (omega arith)
   ends (q ∷ []) d h some n = absurd (n refl)
   ends (q ∷ r ∷ rs) d h some n =
-    let (x, one, key) = pair_there (finite.get store q) (h 0 q (omega arith)) in
-    let (y, ys, more, last) = last_key r rs d (All-tail There q (r ∷ rs) h) in
-    let m : length (q ∷ r ∷ rs) - 1 ≡ suc (length rs) = omega arith in
-    record { x = x; y = y; ys = ys; pairs_are = ap₂ (λ (a b : List (K × V)). a ++ b) one more; first_is = sym key; last_is = rw m last }
+      let (x, one, key) = pair_there (finite.get store q) (h 0 q (omega arith)) in
+      let (y, ys, more, last) = last_key r rs d (All-tail There q (r ∷ rs) h) in
+      let m : length (q ∷ r ∷ rs) - 1 ≡ suc (length rs) = omega arith in
+      record { x = x; y = y; ys = ys; pairs_are = ap₂ (λ (a b : List (K × V)). a ++ b) one more; first_is = sym key; last_is = rw m last }
 
   -- what each pair has, each leaf has
   pub leaves_go_on : (front : List ℕ) (leaves : List LeafPtr) → All There leaves → Each (λ z. GoesOn front (bytes z.0)) (pairs_at store leaves) → All (λ p. length front < length (leaf_key bytes (finite.get store p))) leaves
   leaves_go_on front [] h e = All-nil _
   leaves_go_on front (q ∷ qs) h e =
-    let (x, one, key) = pair_there (finite.get store q) (h 0 q (omega arith)) in
-    let e' : Each (λ z. GoesOn front (bytes z.0)) (x ∷ pairs_at store qs) = subst (λ l. Each (λ z. GoesOn front (bytes z.0)) (l ++ pairs_at store qs)) one e in
-    let (b, rest, whole) = e'.0 in
-    let l : length (leaf_key bytes (finite.get store q)) ≡ length (front ++ b ∷ rest) = ap length (key ∙ whole) in
-    All-cons (λ p. length front < length (leaf_key bytes (finite.get store p))) q qs (omega (arith, simp length-append at l)) (leaves_go_on front qs (All-tail There q qs h) e'.1)
+      let (x, one, key) = pair_there (finite.get store q) (h 0 q (omega arith)) in
+      let e' : Each (λ z. GoesOn front (bytes z.0)) (x ∷ pairs_at store qs) = subst (λ l. Each (λ z. GoesOn front (bytes z.0)) (l ++ pairs_at store qs)) one e in
+      let (b, rest, whole) = e'.0 in
+      let l : length (leaf_key bytes (finite.get store q)) ≡ length (front ++ b ∷ rest) = ap length (key ∙ whole) in
+      All-cons (λ p. length front < length (leaf_key bytes (finite.get store p))) q qs (omega (arith, simp length-append at l)) (leaves_go_on front qs (All-tail There q qs h) e'.1)
 
 -- the inner node that is placed
 pub kind_not_leaf : (n : ℕ) → kind_of n ≢ Leaf
@@ -162,14 +168,6 @@ module _ {K V : Type 0} where
     pub placed_kept : p.kind ≢ Leaf → KeepsNodes old new
     placed_kept n name used = placed_others name.kind name.slot (λ e. used (ap (held old) e ∙ placed_free old p n free))
 
-    placed_here : p.kind ≢ Leaf → node_at new (inner_name p) ≡ Some (inner_seen p.kind node)
-    placed_here n =
-      ap (option_map (seen p.kind)) (held_in_inner new p.kind p.slot n) ∙ ap (λ o. option_map (seen p.kind) (option_map held_inner o)) (ap (λ m. finite.get m p) placed ∙ inner_here old.inners p node)
-
-pub length-slots : {N A : Type 0} (cs : Children N A) → length (slots_of cs) ≡ length (bytes_of cs)
-length-slots no_child = refl
-length-slots (child b t cs) = ap suc (length-slots cs)
-
 module _ {K V : Type 0} (bytes : K → List ℕ) (P : ℕ) where
   pub leaf_built : (old : Nodes K V) (way : List ℕ) (leaves : List LeafPtr) (depth : ℕ) (d : LeafPtr) (name : OpaqueNodePtr) → Ready bytes old.leaves way leaves depth → length leaves ≡ 1 → name ≡ leaf_name (get_or leaves 0 d) → Built bytes P way leaves old old name
   leaf_built old way [] depth d name ready one e = absurd (omega arith)
@@ -179,55 +177,77 @@ module _ {K V : Type 0} (bytes : K → List ℕ) (P : ℕ) where
       go : (o : Option (LeafNode K V)) → finite.get old.leaves q ≡ o → IsSome o → Each (λ x. IsFront way (of_key bytes x)) (leaf_pair (finite.get old.leaves q) ++ []) → Built bytes P way (q ∷ []) old old name
       go None i s w = absurd cc
       go (Some l) i s w =
-        let w' : Each (λ x. IsFront way (of_key bytes x)) ((l.key, l.value) ∷ []) = subst (λ o. Each (λ x. IsFront way (of_key bytes x)) (leaf_pair o ++ [])) i w in
-        record
-          { tree = leaf (leaf_name q) (l.key, l.value)
-          ; named = sym e
-          ; radix = w'.0
-          ; its = ap (λ o. leaf_pair o ++ []) (sym i)
-          ; leaves_are = refl
-          ; holds = ap (λ o. option_map (seen Leaf) (option_map held_leaf o)) i
-          ; fresh = tt
-          ; added = λ n used. inl used
-          ; distinct = tt
+          let w' : Each (λ x. IsFront way (of_key bytes x)) ((l.key, l.value) ∷ []) = subst (λ o. Each (λ x. IsFront way (of_key bytes x)) (leaf_pair o ++ [])) i w in
+          record {
+            tree = leaf (leaf_name q) (l.key, l.value);
+            named = sym e;
+            radix = w'.0;
+            its = ap (λ o. leaf_pair o ++ []) (sym i);
+            leaves_are = refl;
+            holds = ap (λ o. option_map (seen Leaf) (option_map held_leaf o)) i;
+            fresh = tt;
+            added = λ n used. inl used;
+            distinct = tt;
           }
 
-  pub node_built : (old mid new : Nodes K V) (way part : List ℕ) (leaves : List LeafPtr) (to : Inner) (p : InnerPtr) (below : BuiltBelow bytes P (way ++ part) leaves old mid (started P part) to) → 2 ≤ length (bytes_of below.children) →
-    KeepsNodes old mid → new.leaves ≡ mid.leaves → new.inners ≡ finite.insert mid.inners p to → finite.get mid.inners p ≡ None → p.kind ≡ kind_of (count_groups bytes old.leaves leaves (length (way ++ part))) → Built bytes P way leaves old new (inner_name p)
-  node_built old mid new way part leaves to p below two kept same placed free kind =
-    let cs = below.children in
-    let n = length (bytes_of cs) in
-    let is : p.kind ≡ kind_of n = kind ∙ ap kind_of (sym below.count) in
-    let inner_kind : p.kind ≢ Leaf = λ e. kind_not_leaf n (sym is ∙ e) in
-    let there : node_at new (inner_name p) ≡ Some (inner_node (header_at p.kind to) to.children) = placed_here mid new p to same placed free inner_kind in
-    let header : header_at p.kind to ≡ header_of P part n = ap₂ (λ (k : NodeType) f. header_at k (record { prefix = f; children = [] })) is below.prefix in
-    let mid_new = placed_kept mid new p to same placed free inner_kind in
-    record
-      { tree = inner (inner_name p) (header_of P part n) cs
-      ; named = refl
-      ; radix = (part, refl, two, below.rising, below.radix)
-      ; its = below.its
-      ; leaves_are = below.leaves_are
-      ; holds = (there ∙ ap₂ (λ h (l : List (ℕ × OpaqueNodePtr)). Some (inner_node h l)) header below.slots, holds_kept_below (node_at mid) (node_at new) (node_kept mid new mid_new) cs below.holds)
-      ; fresh = (was_free old mid kept (inner_name p) (placed_free mid p inner_kind free), below.fresh)
-      ; added = λ n used. from_mid n used (name_cases n (inner_name p))
-      ; distinct = (Each-weaker (λ m. IsUsed mid m) (λ m. inner_name p ≢ m) (λ m used e. used (ap (held mid) (sym e) ∙ placed_free mid p inner_kind free)) (inner_names_below cs) (inner_used_below (node_at mid) (IsUsed mid) (node_used mid) cs below.holds), below.distinct)
-      }
-    where
-      from_below : (n : OpaqueNodePtr) → IsUsed old n ⊎ IsIn n (inner_names_below below.children) → IsUsed old n ⊎ IsIn n (inner_name p ∷ inner_names_below below.children)
-      from_below n (inl used) = inl used
-      from_below n (inr h) = inr (inr h)
+  -- the node that was placed first, with the children that came to it
+  module _ (old mid new : Nodes K V) (way part : List ℕ) (leaves : List LeafPtr) (p : InnerPtr) (same : mid.leaves ≡ old.leaves) (placed : mid.inners ≡ finite.insert old.inners p (started P part)) (free : finite.get old.inners p ≡ None)
+      (kind : p.kind ≡ kind_of (count_groups bytes old.leaves leaves (length (way ++ part)))) (two : 2 ≤ count_groups bytes old.leaves leaves (length (way ++ part)))
+      (kept : KeepsOthers mid new p) (under : BuiltUnder bytes P (way ++ part) leaves mid new p (started P part)) where
+    abbrev count : ℕ
+    count = length (bytes_of under.below.children)
 
-      from_mid : (n : OpaqueNodePtr) → IsUsed new n → (n ≡ inner_name p) ⊎ (n ≢ inner_name p) → IsUsed old n ⊎ IsIn n (inner_name p ∷ inner_names_below below.children)
-      from_mid n used (inl e) = inr (inl (sym e))
-      from_mid n used (inr e) = from_below n (below.added n (λ none. used (placed_others mid new p to same placed free n.kind n.slot e ∙ none)))
+    count_is : count ≡ count_groups bytes old.leaves leaves (length (way ++ part))
+    count_is = under.below.count ∙ ap (λ m. count_groups bytes m leaves (length (way ++ part))) same
+
+    is : p.kind ≡ kind_of count
+    is = kind ∙ ap kind_of (sym count_is)
+
+    inner_kind : p.kind ≢ Leaf
+    inner_kind e = kind_not_leaf count (sym is ∙ e)
+
+    mid_kept : KeepsNodes old mid
+    mid_kept = placed_kept old mid p (started P part) same placed free inner_kind
+
+    p_used : IsUsed mid (inner_name p)
+    p_used = inner_is_used mid p (started P part) inner_kind (ap (λ m. finite.get m p) placed ∙ inner_here old.inners p (started P part))
+
+    pub node_kept : KeepsNodes old new
+    node_kept name used =
+        let mid_is = mid_kept name used in
+        kept name (λ e. used (ap (held old) e ∙ placed_free old p inner_kind free)) (λ none. used (sym mid_is ∙ none)) ∙ mid_is
+
+    here : node_at new (inner_name p) ≡ Some (inner_node (header_of P part count) (slots_of under.below.children))
+    here = ap (option_map (seen p.kind)) (held_in_inner new p.kind p.slot inner_kind) ∙ ap (λ o. option_map (seen p.kind) (option_map held_inner o)) under.there
+        ∙ ap₂ (λ (k : NodeType) (i : Inner). Some (inner_seen k i)) is (ap₂ (λ f (l : List (ℕ × OpaqueNodePtr)). let i : Inner = record { prefix = f; children = l } in i) under.below.prefix under.below.slots)
+
+    pub node_built : Built bytes P way leaves old new (inner_name p)
+    node_built = record {
+      tree = inner (inner_name p) (header_of P part count) under.below.children;
+      named = refl;
+      radix = (part, refl, subst (λ m. 2 ≤ m) (sym count_is) two, under.below.rising, under.below.radix);
+      its = under.below.its ∙ ap (λ m. pairs_at m leaves) same;
+      leaves_are = under.below.leaves_are;
+      holds = (here, under.below.holds);
+      fresh = (placed_free old p inner_kind free, Each-weaker (λ n. held mid n ≡ None) (λ n. held old n ≡ None) (was_free old mid mid_kept) (inner_names_below under.below.children) under.below.fresh);
+      added = λ n used. from_below n (under.below.added n used);
+      distinct = (Each-weaker (λ n. held mid n ≡ None) (λ n. inner_name p ≢ n) (λ n none e. p_used (ap (held mid) e ∙ none)) (inner_names_below under.below.children) under.below.fresh, under.below.distinct);
+    }
+      where
+        from_mid : (n : OpaqueNodePtr) → IsUsed mid n → (n ≡ inner_name p) ⊎ (n ≢ inner_name p) → IsUsed old n ⊎ IsIn n (inner_name p ∷ inner_names_below under.below.children)
+        from_mid n used (inl e) = inr (inl (sym e))
+        from_mid n used (inr e) = inl (λ none. used (placed_others old mid p (started P part) same placed free n.kind n.slot e ∙ none))
+
+        from_below : (n : OpaqueNodePtr) → IsUsed mid n ⊎ IsIn n (inner_names_below under.below.children) → IsUsed old n ⊎ IsIn n (inner_name p ∷ inner_names_below under.below.children)
+        from_below n (inl used) = from_mid n used (name_cases n (inner_name p))
+        from_below n (inr h) = inr (inr h)
 
 -- a prefix by its length and its first bytes
 header_started : (P len : ℕ) (rf : List ℕ) → len ≤ length rf → record { prefix = record { len = len; stored = take (min len P) rf }; children = [] } ≡ started P (take len rf)
 header_started P len rf long =
-  let n : length (take len rf) ≡ len = length-take-le len rf long in
-  let bytes : take (min P (length (take len rf))) (take len rf) ≡ take (min len P) rf = rw n (take-take (min P len) len rf (omega arith) ∙ ap (λ m. take m rf) (min_comm P len)) in
-  ap₂ (λ (m : ℕ) (s : List ℕ). let i : Inner = record { prefix = record { len = m; stored = s }; children = [] } in i) (sym n) (sym bytes ∙ take_min P (take len rf))
+    let n : length (take len rf) ≡ len = length-take-le len rf long in
+    let bytes : take (min P (length (take len rf))) (take len rf) ≡ take (min len P) rf = rw n (take-take (min P len) len rf (omega arith) ∙ ap (λ m. take m rf) (min_comm P len)) in
+    ap₂ (λ (m : ℕ) (s : List ℕ). let i : Inner = record { prefix = record { len = m; stored = s }; children = [] } in i) (sym n) (sym bytes ∙ take_min P (take len rf))
   where
     min_comm : (a b : ℕ) → min a b ≡ min b a
     min_comm a b = omega arith
@@ -247,26 +267,26 @@ module _ {K V : Type 0} (bytes : K → List ℕ) (store : finite.FinMap leaf_cmp
 
   pub parting : Ready bytes store way leaves depth → (e : Ends bytes store leaves kf kl) → Parting e
   parting ready e =
-    let map' : IsMap (of_key bytes) (e.x ∷ e.y ∷ e.ys) = subst (IsMap (of_key bytes)) e.pairs_are ready.map in
-    let ways' : Each (λ z. IsFront way (of_key bytes z)) (e.x ∷ e.y ∷ e.ys) = subst (Each (λ z. IsFront way (of_key bytes z))) e.pairs_are ready.ways in
-    let first : bytes e.x.0 ≡ way ++ drop depth kf = after way (bytes e.x.0) kf depth ready.depth_is ways'.0 e.first_is in
-    let last : bytes (last_from e.y e.ys).0 ≡ way ++ drop depth kl = after way (bytes (last_from e.y e.ys).0) kl depth ready.depth_is (last_each (λ z. IsFront way (of_key bytes z)) e.y e.ys ways'.1) e.last_is in
-    let p = part_ways (of_key bytes) way (drop depth kf) (drop depth kl) e.x e.y e.ys map' first last in
-    let shared = share (of_key bytes) way (drop depth kf) (drop depth kl) e.x (e.y ∷ e.ys) map' ways' first last in
-    let on = subst (Each (λ z. GoesOn (way ++ part_of) (of_key bytes z))) (sym e.pairs_are) (go_on (of_key bytes) (way ++ part_of) e.x e.y e.ys map' shared) in
-    let at : length (way ++ part_of) ≡ depth + length part_of = length-append way part_of ∙ ap (λ m. m + length part_of) ready.depth_is in
-    let lf : length kf ≡ depth + length (drop depth kf) = ap length (sym e.first_is ∙ first) ∙ length-append way (drop depth kf) ∙ ap (λ m. m + length (drop depth kf)) ready.depth_is in
-    let ll : length kl ≡ depth + length (drop depth kl) = ap length (sym e.last_is ∙ last) ∙ length-append way (drop depth kl) ∙ ap (λ m. m + length (drop depth kl)) ready.depth_is in
-    let lp : length (drop depth kf) ≡ length part_of + length (p.left ∷ p.left_rest) = ap length p.left_is ∙ length-append part_of (p.left ∷ p.left_rest) in
-    let byte_f : byte_at (of_key bytes) (length (way ++ part_of)) e.x ≡ p.left = at_byte (of_key bytes) (way ++ part_of) e.x p.left p.left_rest (first ∙ ap (λ l. way ++ l) p.left_is ∙ sym (append_assoc way part_of (p.left ∷ p.left_rest))) in
-    let byte_l : byte_at (of_key bytes) (length (way ++ part_of)) (last_from e.y e.ys) ≡ p.right = at_byte (of_key bytes) (way ++ part_of) (last_from e.y e.ys) p.right p.right_rest (last ∙ ap (λ l. way ++ l) p.right_is ∙ sym (append_assoc way part_of (p.right ∷ p.right_rest))) in
-    record
-      { in_first = omega arith
-      ; in_last = omega arith
-      ; at_in_first = omega arith
-      ; part_is = ap (take (length part_of)) p.left_is ∙ take_at part_of (p.left ∷ p.left_rest) (length part_of) refl
-      ; below = record { there = ready.there; longer = subst (λ m. All (λ q. m < length (leaf_key bytes (finite.get store q))) leaves) at (leaves_go_on bytes store (way ++ part_of) leaves ready.there on); map = ready.map; ways = on; depth_is = at }
-      ; differ = λ same. p.differ (sym byte_f ∙ same ∙ byte_l)
+      let map' : IsMap (of_key bytes) (e.x ∷ e.y ∷ e.ys) = subst (IsMap (of_key bytes)) e.pairs_are ready.map in
+      let ways' : Each (λ z. IsFront way (of_key bytes z)) (e.x ∷ e.y ∷ e.ys) = subst (Each (λ z. IsFront way (of_key bytes z))) e.pairs_are ready.ways in
+      let first : bytes e.x.0 ≡ way ++ drop depth kf = after way (bytes e.x.0) kf depth ready.depth_is ways'.0 e.first_is in
+      let last : bytes (last_from e.y e.ys).0 ≡ way ++ drop depth kl = after way (bytes (last_from e.y e.ys).0) kl depth ready.depth_is (last_each (λ z. IsFront way (of_key bytes z)) e.y e.ys ways'.1) e.last_is in
+      let p = part_ways (of_key bytes) way (drop depth kf) (drop depth kl) e.x e.y e.ys map' first last in
+      let shared = share (of_key bytes) way (drop depth kf) (drop depth kl) e.x (e.y ∷ e.ys) map' ways' first last in
+      let on = subst (Each (λ z. GoesOn (way ++ part_of) (of_key bytes z))) (sym e.pairs_are) (go_on (of_key bytes) (way ++ part_of) e.x e.y e.ys map' shared) in
+      let at : length (way ++ part_of) ≡ depth + length part_of = length-append way part_of ∙ ap (λ m. m + length part_of) ready.depth_is in
+      let lf : length kf ≡ depth + length (drop depth kf) = ap length (sym e.first_is ∙ first) ∙ length-append way (drop depth kf) ∙ ap (λ m. m + length (drop depth kf)) ready.depth_is in
+      let ll : length kl ≡ depth + length (drop depth kl) = ap length (sym e.last_is ∙ last) ∙ length-append way (drop depth kl) ∙ ap (λ m. m + length (drop depth kl)) ready.depth_is in
+      let lp : length (drop depth kf) ≡ length part_of + length (p.left ∷ p.left_rest) = ap length p.left_is ∙ length-append part_of (p.left ∷ p.left_rest) in
+      let byte_f : byte_at (of_key bytes) (length (way ++ part_of)) e.x ≡ p.left = at_byte (of_key bytes) (way ++ part_of) e.x p.left p.left_rest (first ∙ ap (λ l. way ++ l) p.left_is ∙ sym (append_assoc way part_of (p.left ∷ p.left_rest))) in
+      let byte_l : byte_at (of_key bytes) (length (way ++ part_of)) (last_from e.y e.ys) ≡ p.right = at_byte (of_key bytes) (way ++ part_of) (last_from e.y e.ys) p.right p.right_rest (last ∙ ap (λ l. way ++ l) p.right_is ∙ sym (append_assoc way part_of (p.right ∷ p.right_rest))) in
+      record {
+        in_first = omega arith;
+        in_last = omega arith;
+        at_in_first = omega arith;
+        part_is = ap (take (length part_of)) p.left_is ∙ take_at part_of (p.left ∷ p.left_rest) (length part_of) refl;
+        below = record { there = ready.there; longer = subst (λ m. All (λ q. m < length (leaf_key bytes (finite.get store q))) leaves) at (leaves_go_on bytes store (way ++ part_of) leaves ready.there on); map = ready.map; ways = on; depth_is = at };
+        differ = λ same. p.differ (sym byte_f ∙ same ∙ byte_l);
       }
     where
       after : (way key k : List ℕ) (depth : ℕ) → length way ≡ depth → IsFront way key → key ≡ k → key ≡ way ++ drop depth k
@@ -285,7 +305,7 @@ module _ {K V : Type 0} (bytes : K → List ℕ) (store : finite.FinMap leaf_cmp
 
     pub starts : (P : ℕ) (node : Inner) → node ≡ record { prefix = record { len = len; stored = take (min len P) rf }; children = [] } → Starts bytes P store way leaves depth (depth + len) node
     starts P node d =
-      let p = parting ready e in
-      let part_read : take len rf ≡ part_of = ap₂ (λ (m : ℕ) (u : List ℕ). take m u) len_is f ∙ p.part_is in
-      let long : len ≤ length rf = rw n (common_fits rf rl) in
-      record { part = part_of; at_is = ap (λ m. depth + m) len_is; node_is = d ∙ header_started P len rf long ∙ ap (started P) part_read; below = ready_below; x = e.x; y = e.y; ys = e.ys; pairs_are = e.pairs_are; differ = p.differ }
+        let p = parting ready e in
+        let part_read : take len rf ≡ part_of = ap₂ (λ (m : ℕ) (u : List ℕ). take m u) len_is f ∙ p.part_is in
+        let long : len ≤ length rf = rw n (common_fits rf rl) in
+        record { part = part_of; at_is = ap (λ m. depth + m) len_is; node_is = d ∙ header_started P len rf long ∙ ap (started P) part_read; below = ready_below; x = e.x; y = e.y; ys = e.ys; pairs_are = e.pairs_are; differ = p.differ }

@@ -1,10 +1,10 @@
 -- the whole tree: its leaves, then its inner nodes
-use Rattle.std.proofs.Common.{◌≡◌, ◌≢◌, ℕ, zero, suc, ◌+◌, ◌<◌, ◌≤◌, List, [], ◌∷◌, ◌++◌, length, map, refl, ap, ap₂, sym, ◌∙◌, arith, ◌⊎◌, inl, inr, subst, Option, Some, None, IsSome}
+use Rattle.std.proofs.Common.{◌≡◌, ◌≢◌, ℕ, List, [], ◌∷◌, ◌++◌, map, refl, ap, sym, ◌∙◌, ◌⊎◌, inl, inr, subst, Option, Some, None, IsSome}
 use Rattle.std.specs.Option.{option_map, option_and_then}
-use Rattle.std.specs.List.{AllByRecursion as Each, All}
+use Rattle.std.specs.List.{AllByRecursion as Each}
 use Rattle.std.specs.FinMap as finite
 use Rattle.art_nodes.specs.Names.{leaf_name}
-use Rattle.art_nodes.specs.Nodes.{Nodes, leaf_cmp}
+use Rattle.art_nodes.specs.Nodes.{Nodes}
 use Rattle.art_nodes.specs.declared.node.NodeType.{NodeType}
 use Rattle.art_nodes.specs.declared.node.NodeType.TheVariants.{Node4, Node16, Node48, Node256, Leaf}
 use Rattle.art_nodes.specs.declared.node.LeafPtr.{LeafPtr}
@@ -13,11 +13,11 @@ use Rattle.art_nodes.specs.declared.node.OpaqueNodePtr.{OpaqueNodePtr}
 use Rattle.art_model.specs.Keys.{IsFront}
 use Rattle.art_model.specs.Pairs.{IsMap, of_key}
 use Rattle.art_model.specs.Trees.{Tree, leaf, inner, Children, child, no_child}
-use Rattle.art_model.specs.Layouts.{names_of, names_below, leaf_names, leaf_names_below, inner_names, inner_names_below, AreDistinct, AreLinked, IsLayout}
+use Rattle.art_model.specs.Layouts.{names_of, names_below, leaf_names, leaf_names_below, inner_names, inner_names_below, AreDistinct, AreLinked}
 use Rattle.art_model.specs.Stores.{node_at, links_at, held, held_in, held_leaf, held_inner, links_of, IsUsed}
 use Rattle.art_model.specs.Canonical.{IsTree}
 use Rattle.art_model.specs.Footprints.{IsIn}
-use Rattle.art_model.proofs.Lists.{Each-append, Each-left, Each-right, Each-weaker}
+use Rattle.art_model.proofs.Lists.{Each-left, Each-right, Each-weaker}
 use Rattle.art_model.proofs.Pairwises.{Pairwise-across, Pairwise-left, Pairwise-right, Pairwise-append}
 use Rattle.art_model.proofs.Lists.{in_left, in_right, each_in}
 use Rattle.art_model.proofs.Links.{linked-frame}
@@ -25,30 +25,14 @@ use Rattle.art_model.proofs.Canonical.{canonical_from}
 use Rattle.art_model.proofs.StoreLaws.{has_one_layout}
 use Rattle.art_oracle.specs.Build.{pairs_at, Ready, Built, IsPlaced, KeepsPairs}
 use Rattle.art_oracle.specs.Built.{KeepsNodes, AddsTree, IsInTree}
-use Rattle.art_oracle.proofs.Kept.{keeps-trans, was_free}
-use Rattle.art_oracle.proofs.Leaves.{all_from, each_map, placed_kept}
+use Rattle.art_oracle.proofs.Kept.{keeps-trans, was_free, both, names_each, names_each_below, each_map}
+use Rattle.art_oracle.proofs.Leaves.{all_from, placed_kept}
 
 -- a name in two lists joined, where each is within another
 in_both : {N : Type 0} (n : N) (xs ys us vs : List N) → (IsIn n xs → IsIn n us) → (IsIn n ys → IsIn n vs) → IsIn n (xs ++ ys) → IsIn n (us ++ vs)
 in_both n [] ys us vs f g i = in_right n us vs (g i)
 in_both n (x ∷ xs) ys us vs f g (inl e) = in_left n us vs (f (inl e))
 in_both n (x ∷ xs) ys us vs f g (inr i) = in_both n xs ys us vs (λ j. f (inr j)) g i
-
-both : {X : Type 0} (P Q : X → Type 0) (xs : List X) → Each P xs → Each Q xs → Each (λ x. P x × Q x) xs
-both P Q [] h k = tt
-both P Q (x ∷ xs) h k = ((h.0, k.0), both P Q xs h.1 k.1)
-
-module _ {N A : Type 0} where
-  mutual
-    names_each : (Q : N → Type 0) (t : Tree N A) → Each Q (leaf_names t) → Each Q (inner_names t) → Each Q (names_of t)
-    names_each Q (leaf n x) l i = l
-    names_each Q (inner n h cs) l i = (i.0, names_each_below Q cs l i.1)
-
-    names_each_below : (Q : N → Type 0) (cs : Children N A) → Each Q (leaf_names_below cs) → Each Q (inner_names_below cs) → Each Q (names_below cs)
-    names_each_below Q no_child l i = tt
-    names_each_below Q (child b t cs) l i = Each-append Q (names_of t) (names_below cs)
-      (names_each Q t (Each-left Q (leaf_names t) (leaf_names_below cs) l) (Each-left Q (inner_names t) (inner_names_below cs) i))
-      (names_each_below Q cs (Each-right Q (leaf_names t) (leaf_names_below cs) l) (Each-right Q (inner_names t) (inner_names_below cs) i))
 
 -- leaves and inner nodes have different names
 module _ {N A : Type 0} (L M : N → Type 0) (apart : (x y : N) → L x → M y → x ≢ y) where
@@ -60,18 +44,18 @@ module _ {N A : Type 0} (L M : N → Type 0) (apart : (x y : N) → L x → M y 
     pub all_distinct_below : (cs : Children N A) → AreDistinct (leaf_names_below cs) → AreDistinct (inner_names_below cs) → Each L (leaf_names_below cs) → Each M (inner_names_below cs) → AreDistinct (names_below cs)
     all_distinct_below no_child dl di l m = tt
     all_distinct_below (child b t cs) dl di l m =
-      let ll = Each-left L (leaf_names t) (leaf_names_below cs) l in
-      let lr = Each-right L (leaf_names t) (leaf_names_below cs) l in
-      let ml = Each-left M (inner_names t) (inner_names_below cs) m in
-      let mr = Each-right M (inner_names t) (inner_names_below cs) m in
-      Pairwise-append ◌≢◌ (names_of t) (names_below cs)
+        let ll = Each-left L (leaf_names t) (leaf_names_below cs) l in
+        let lr = Each-right L (leaf_names t) (leaf_names_below cs) l in
+        let ml = Each-left M (inner_names t) (inner_names_below cs) m in
+        let mr = Each-right M (inner_names t) (inner_names_below cs) m in
+        Pairwise-append ◌≢◌ (names_of t) (names_below cs)
         (all_distinct t (Pairwise-left ◌≢◌ (leaf_names t) (leaf_names_below cs) dl) (Pairwise-left ◌≢◌ (inner_names t) (inner_names_below cs) di) ll ml)
         (all_distinct_below cs (Pairwise-right ◌≢◌ (leaf_names t) (leaf_names_below cs) dl) (Pairwise-right ◌≢◌ (inner_names t) (inner_names_below cs) di) lr mr)
         (names_each (λ x. Each (λ y. x ≢ y) (names_below cs)) t
-          (Each-weaker (λ x. Each (λ y. x ≢ y) (leaf_names_below cs) × L x) (λ x. Each (λ y. x ≢ y) (names_below cs)) (λ x (d, lx). names_each_below (λ y. x ≢ y) cs d (Each-weaker M (λ y. x ≢ y) (λ y my. apart x y lx my) (inner_names_below cs) mr)) (leaf_names t)
-            (both (λ x. Each (λ y. x ≢ y) (leaf_names_below cs)) L (leaf_names t) (Pairwise-across ◌≢◌ (leaf_names t) (leaf_names_below cs) dl) ll))
-          (Each-weaker (λ x. Each (λ y. x ≢ y) (inner_names_below cs) × M x) (λ x. Each (λ y. x ≢ y) (names_below cs)) (λ x (d, mx). names_each_below (λ y. x ≢ y) cs (Each-weaker L (λ y. x ≢ y) (λ y ly e. apart y x ly mx (sym e)) (leaf_names_below cs) lr) d) (inner_names t)
-            (both (λ x. Each (λ y. x ≢ y) (inner_names_below cs)) M (inner_names t) (Pairwise-across ◌≢◌ (inner_names t) (inner_names_below cs) di) ml)))
+        (Each-weaker (λ x. Each (λ y. x ≢ y) (leaf_names_below cs) × L x) (λ x. Each (λ y. x ≢ y) (names_below cs)) (λ x (d, lx). names_each_below (λ y. x ≢ y) cs d (Each-weaker M (λ y. x ≢ y) (λ y my. apart x y lx my) (inner_names_below cs) mr)) (leaf_names t)
+        (both (λ x. Each (λ y. x ≢ y) (leaf_names_below cs)) L (leaf_names t) (Pairwise-across ◌≢◌ (leaf_names t) (leaf_names_below cs) dl) ll))
+        (Each-weaker (λ x. Each (λ y. x ≢ y) (inner_names_below cs) × M x) (λ x. Each (λ y. x ≢ y) (names_below cs)) (λ x (d, mx). names_each_below (λ y. x ≢ y) cs (Each-weaker L (λ y. x ≢ y) (λ y ly e. apart y x ly mx (sym e)) (leaf_names_below cs) lr) d) (inner_names t)
+        (both (λ x. Each (λ y. x ≢ y) (inner_names_below cs)) M (inner_names t) (Pairwise-across ◌≢◌ (inner_names t) (inner_names_below cs) di) ml)))
 
 module _ {N A : Type 0} (n : N) where
   mutual
@@ -101,21 +85,21 @@ pub record HasLeaves {K V : Type 0} (old new : Nodes K V) (names : List LeafPtr)
 
 -- leaves that were placed, and then linked as they are listed
 pub has_leaves : {K V : Type 0} (old mid new : Nodes K V) (names list : List LeafPtr) (pairs : List (K × V)) → list ≡ names → IsPlaced old.leaves mid.leaves names pairs → mid.inners ≡ old.inners →
-  KeepsPairs mid.leaves new.leaves list → AreLinked (links_at new) None (map leaf_name list) None → new.inners ≡ mid.inners → HasLeaves old new names pairs
-has_leaves old mid new names list pairs e placed same keeps linked same' = record
-  { placed = placed_kept old.leaves mid.leaves new.leaves names pairs placed (subst (KeepsPairs mid.leaves new.leaves) e keeps)
-  ; linked = subst (λ l. AreLinked (links_at new) None (map leaf_name l) None) e linked
-  ; inners = same' ∙ same
-  }
+    KeepsPairs mid.leaves new.leaves list → AreLinked (links_at new) None (map leaf_name list) None → new.inners ≡ mid.inners → HasLeaves old new names pairs
+has_leaves old mid new names list pairs e placed same keeps linked same' = record {
+  placed = placed_kept old.leaves mid.leaves new.leaves names pairs placed (subst (KeepsPairs mid.leaves new.leaves) e keeps);
+  linked = subst (λ l. AreLinked (links_at new) None (map leaf_name l) None) e linked;
+  inners = same' ∙ same;
+}
 
 module _ {K V : Type 0} {old new : Nodes K V} {names : List LeafPtr} {pairs : List (K × V)} (H : HasLeaves old new names pairs) where
   pub leaves_ready : (bytes : K → List ℕ) → IsMap (of_key bytes) pairs → Ready bytes new.leaves [] names 0
-  leaves_ready bytes map = record
-    { there = all_from (λ p. IsSome (finite.get new.leaves p)) names H.placed.there
-    ; map = subst (IsMap (of_key bytes)) (sym H.placed.its) map
-    ; ways = no_way (pairs_at new.leaves names)
-    ; depth_is = refl
-    }
+  leaves_ready bytes map = record {
+    there = all_from (λ p. IsSome (finite.get new.leaves p)) names H.placed.there;
+    map = subst (IsMap (of_key bytes)) (sym H.placed.its) map;
+    ways = no_way (pairs_at new.leaves names);
+    depth_is = refl;
+  }
     where
       no_way : (xs : List (K × V)) → Each (λ x. IsFront [] (of_key bytes x)) xs
       no_way [] = tt
@@ -176,11 +160,11 @@ whole_kept {old = old} {mid = mid} H new kept = keeps-trans old mid new (leaves_
 module _ {K V : Type 0} {bytes : K → List ℕ} {P : ℕ} {old mid new : Nodes K V} {names : List LeafPtr} {pairs : List (K × V)} {root : OpaqueNodePtr} (H : HasLeaves old mid names pairs) (b : Built bytes P [] names mid new root) (same : new.leaves ≡ mid.leaves) where
   distinct : AreDistinct (names_of b.tree)
   distinct = all_distinct (IsUsed mid) (λ n. held mid n ≡ None) (λ x y used free e. used (ap (held mid) e ∙ free)) b.tree
-    (subst AreDistinct (sym b.leaves_are) (names_distinct H)) b.distinct (subst (Each (IsUsed mid)) (sym b.leaves_are) (names_used H)) b.fresh
+      (subst AreDistinct (sym b.leaves_are) (names_distinct H)) b.distinct (subst (Each (IsUsed mid)) (sym b.leaves_are) (names_used H)) b.fresh
 
   linked : AreLinked (links_at new) None (leaf_names b.tree) None
   linked = subst (λ l. AreLinked (links_at new) None l None) (sym b.leaves_are)
-    (linked-frame (links_at mid) (links_at new) (map leaf_name names) None None (each_map leaf_name (λ n. links_at new n ≡ links_at mid n) names (every names)) H.linked)
+      (linked-frame (links_at mid) (links_at new) (map leaf_name names) None None (each_map leaf_name (λ n. links_at new n ≡ links_at mid n) names (every names)) H.linked)
     where
       every : (ps : List LeafPtr) → Each (λ p. links_at new (leaf_name p) ≡ links_at mid (leaf_name p)) ps
       every [] = tt

@@ -1,12 +1,13 @@
 -- What the building of a tree asks of a store and leaves in it.
-use Rattle.std.specs.Prelude.{◌≡◌, ◌≢◌, ℕ, ◌+◌, ◌<◌, ◌≤◌, List, [], ◌∷◌, ◌++◌, length, take, drop, get_or, Option, Some, None, IsSome, map, ◌⊎◌}
+use Rattle.std.specs.Prelude.{◌≡◌, ◌≢◌, ℕ, ◌+◌, ◌<◌, ◌≤◌, List, [], ◌∷◌, ◌++◌, length, take, get_or, Option, Some, None, IsSome, map, ◌⊎◌}
 use Rattle.std.specs.Option.{option_map}
 use Rattle.std.specs.List.{AllByRecursion as Each, All}
 use Rattle.std.specs.FinMap as finite
 use Rattle.art_nodes.specs.Inner.{Inner}
-use Rattle.art_nodes.specs.Names.{leaf_name}
+use Rattle.art_nodes.specs.Names.{leaf_name, inner_name}
 use Rattle.art_nodes.specs.Nodes.{Nodes, leaf_cmp}
 use Rattle.art_nodes.specs.declared.node.LeafPtr.{LeafPtr}
+use Rattle.art_nodes.specs.declared.node.InnerPtr.{InnerPtr}
 use Rattle.art_nodes.specs.declared.node.LeafNode.{LeafNode}
 use Rattle.art_nodes.specs.declared.node.OpaqueNodePtr.{OpaqueNodePtr}
 use Rattle.art_model.specs.Keys.{IsFront}
@@ -43,6 +44,10 @@ module _ {K V : Type 0} where
   abbrev pub pairs_at : finite.FinMap leaf_cmp (LeafNode K V) → List LeafPtr → List (K × V)
   pairs_at store [] = []
   pairs_at store (p ∷ ps) = leaf_pair (finite.get store p) ++ pairs_at store ps
+
+  -- every node of the first store but this inner one is in the second as it was
+  abbrev pub KeepsOthers : Nodes K V → Nodes K V → InnerPtr → Type 0
+  KeepsOthers old new parent = (name : OpaqueNodePtr) → name ≢ inner_name parent → IsUsed old name → held new name ≡ held old name
 
   -- the pairs have leaves, which were placed under these names
   pub record IsPlaced (old new : finite.FinMap leaf_cmp (LeafNode K V)) (names : List LeafPtr) (pairs : List (K × V)) : Type 0 where
@@ -127,3 +132,9 @@ module _ {K V : Type 0} where
         pub fresh : Each (λ n. held old n ≡ None) (inner_names_below children)
         pub added : (n : OpaqueNodePtr) → IsUsed new n → IsUsed old n ⊎ IsIn n (inner_names_below children)
         pub distinct : AreDistinct (inner_names_below children)
+
+      -- the same of a node in the store
+      pub record BuiltUnder (front : List ℕ) (leaves : List LeafPtr) (old new : Nodes K V) (parent : InnerPtr) (from : Inner) : Type 0 where
+        pub to : Inner
+        pub there : finite.get new.inners parent ≡ Some to
+        pub below : BuiltBelow front leaves old new from to

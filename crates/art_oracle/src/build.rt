@@ -1,10 +1,11 @@
 //! The radix tree of a map, built in a store at one go.
-ghost use Rattle.std.specs.Prelude.{◌≡◌, ◌≢◌, ℕ, ◌+◌, ◌*◌, ◌^◌, ◌<◌, ◌≤◌, List, [], length, get_or, None, IsSome};
+ghost use Rattle.std.specs.Prelude.{◌≡◌, ◌≢◌, ℕ, ◌+◌, ◌*◌, ◌^◌, ◌<◌, ◌≤◌, List, [], length, get_or, Some, None, IsSome};
 ghost use Rattle.std.specs.Prelude.{map as list_map};
 ghost use Rattle.std.specs.FinMap as map;
 ghost use Rattle.std.specs.List.{AllByRecursion as Each};
 ghost use Rattle.std.specs.Vec.{vec_capacity};
 ghost use Rattle.art_nodes.specs.Names.{leaf_name};
+ghost use Rattle.art_nodes.specs.Inner.{Inner};
 ghost use Rattle.art_nodes.specs.Kinds.{any_kind, any_view, kind_capacity};
 ghost use Rattle.art_nodes.specs.declared.node.NodeType.TheVariants.{Leaf};
 ghost use Rattle.art_nodes.specs.declared.node.OpaqueNodePtr.{OpaqueNodePtr};
@@ -14,10 +15,12 @@ ghost use Rattle.art_model.specs.Trees.{kind_of};
 ghost use Rattle.art_model.specs.Layouts.{AreDistinct, AreLinked};
 ghost use Rattle.art_model.specs.Stores.{held, links_at};
 ghost use Rattle.art_model.specs.Canonical.{IsCanonical};
-ghost use Rattle.art_oracle.specs.Build.{Ready, ReadyBelow, IsGroup, count_groups, leaf_key, AreBelow, Starts, Built, BuiltBelow, IsPlaced, KeepsPairs};
+ghost use Rattle.art_oracle.specs.Build.{Ready, ReadyBelow, IsGroup, count_groups, leaf_key, AreBelow, Starts, Built, BuiltUnder, KeepsOthers, IsPlaced, KeepsPairs};
 ghost use Rattle.art_oracle.specs.Built.{KeepsNodes, AddsTree, IsInTree};
 
-use art_nodes::node::{AnyInner, AsBytes, Header, InnerPtr, LeafNode, LeafPtr, NodeType, OpaqueNodePtr};
+use art_nodes::node::{
+    AnyInner, AsBytes, Header, InnerPtr, LeafNode, LeafPtr, NodeType, OpaqueNodePtr,
+};
 use art_nodes::store::NodeStore;
 
 /// How many bytes two keys have in common in front.
@@ -115,10 +118,7 @@ fn kind_for(children: usize) -> NodeType
     }
 }
 
-
 /// A node for the groups of some leaves, with the part that their keys share, and the depth after that part.
-// A node is large: what moves one is kept out of the frames of the functions that recur.
-#[inline(never)]
 fn start_node<K: AsBytes + Drop, V: Drop, const P: usize>(
     store: &NodeStore<K, V, P>,
     leaves: &[LeafPtr],
@@ -138,21 +138,28 @@ fn start_node<K: AsBytes + Drop, V: Drop, const P: usize>(
     (at, AnyInner::from_header(kind, Header::new(first, len)))
 }
 
-/// Places a node where there is room.
+/// Places the node for the groups of some leaves, still without children, and answers its name and the
+/// depth after the part that the keys share.
+// A node is large: it stands on the stack while it is placed, and not through the recursion.
 #[inline(never)]
-fn place<K: AsBytes + Drop, V: Drop, const P: usize>(
+fn place_node<K: AsBytes + Drop, V: Drop, const P: usize>(
     store: &mut NodeStore<K, V, P>,
-    node: AnyInner<P>,
-) -> InnerPtr
-    requires { 0 < store.old.room }
-    ensures placed { store.new.inners ≡ map.insert store.old.inners result (any_view node.entry) }
-    ensures kind { result.kind ≡ any_kind node.entry }
-    ensures fresh { map.get store.old.inners result ≡ None }
+    leaves: &[LeafPtr],
+    depth: usize,
+) -> (usize, InnerPtr)
+    requires two { 2 ≤ length leaves.now }
+    requires ready { (way : List ℕ) × Ready K.bytes store.old.leaves way leaves.now depth }
+    requires room { 0 < store.old.room }
+    ensures placed { (node : Inner) × (store.new.inners ≡ map.insert store.old.inners result.1 node) × ((way : List ℕ) → Ready K.bytes store.old.leaves way leaves.now depth → Starts K.bytes P store.old.leaves way leaves.now depth result.0 node) }
+    ensures fresh { map.get store.old.inners result.1 ≡ None }
     ensures leaves { store.new.leaves ≡ store.old.leaves }
+    ensures kind { result.1.kind ≡ kind_of (count_groups K.bytes store.old.leaves leaves.now result.0) }
+    ensures capacity { count_groups K.bytes store.old.leaves leaves.now result.0 ≤ kind_capacity result.1.kind }
     ensures room { store.old.room ≤ store.new.room + 1 }
 {
+    let (at, node) = start_node(store, leaves, depth);
     match store.place_inner(node) {
-        Ok(name) => name,
+        Ok(name) => (at, name),
         Err(_) => unreachable!(),
     }
 }
@@ -175,9 +182,9 @@ fn build_node<K: AsBytes + Drop, V: Drop, const P: usize>(
     if leaves.len() == 1 {
         return leaves[0].to_opaque();
     }
-    let (at, mut node) = start_node(store, leaves, depth);
-    build_below(store, leaves, at, &mut node);
-    place(store, node).to_opaque()
+    let (at, name) = place_node(store, leaves, depth);
+    build_below(store, leaves, at, name);
+    name.to_opaque()
 }
 
 /// Builds the children of a node from sorted leaves, whose keys have the same bytes up to a depth and a byte there.
@@ -186,17 +193,16 @@ fn build_below<K: AsBytes + Drop, V: Drop, const P: usize>(
     store: &mut NodeStore<K, V, P>,
     leaves: &[LeafPtr],
     at: usize,
-    node: &mut AnyInner<P>,
+    parent: InnerPtr,
 )
     requires ready { (front : List ℕ) × ReadyBelow K.bytes store.old.leaves front leaves.now at }
-    requires below { AreBelow K.bytes store.old.leaves leaves.now at (any_view node.old) }
-    requires place { length (any_view node.old).children + count_groups K.bytes store.old.leaves leaves.now at ≤ kind_capacity (any_kind node.old) }
-    requires room { length leaves.now ≤ store.old.room + 1 }
-    ensures built { (front : List ℕ) → ReadyBelow K.bytes store.old.leaves front leaves.now at → BuiltBelow K.bytes P front leaves.now store.old store.new (any_view node.old) (any_view node.new) }
-    ensures kind { any_kind node.new ≡ any_kind node.old }
+    requires parent { (node : Inner) × (map.get store.old.inners parent ≡ Some node) × AreBelow K.bytes store.old.leaves leaves.now at node × (length node.children + count_groups K.bytes store.old.leaves leaves.now at ≤ kind_capacity parent.kind) }
+    requires inner { parent.kind ≢ Leaf }
+    requires room { length leaves.now ≤ store.old.room + count_groups K.bytes store.old.leaves leaves.now at }
+    ensures built { (front : List ℕ) (node : Inner) → ReadyBelow K.bytes store.old.leaves front leaves.now at → map.get store.old.inners parent ≡ Some node → AreBelow K.bytes store.old.leaves leaves.now at node → BuiltUnder K.bytes P front leaves.now store.old store.new parent node }
     ensures leaves { store.new.leaves ≡ store.old.leaves }
-    ensures kept { KeepsNodes store.old store.new }
-    ensures room { store.old.room + length (any_view node.new).children ≤ store.new.room + length leaves.now + length (any_view node.old).children }
+    ensures kept { KeepsOthers store.old store.new parent }
+    ensures room { store.old.room + count_groups K.bytes store.old.leaves leaves.now at ≤ store.new.room + length leaves.now }
 {
     if leaves.is_empty() {
         return;
@@ -204,8 +210,8 @@ fn build_below<K: AsBytes + Drop, V: Drop, const P: usize>(
     let byte = byte_of(store, leaves[0], at);
     let (group, others) = leaves.split_at(group_end(store, leaves, at, byte));
     let child = build_node(store, group, at + 1);
-    node.write_child(byte, child);
-    build_below(store, others, at, node);
+    store.write_child(parent, byte, child);
+    build_below(store, others, at, parent);
 }
 
 /// Places a leaf for each pair, in order, and lists the names.

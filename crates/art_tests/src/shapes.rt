@@ -2,6 +2,7 @@
 
 use crate::trees::{Key, Shape, shape_of, tree_of};
 use art_nodes::node::NodeType;
+use art_nodes::store::NodeStore;
 use art_operations::run::Reply;
 use std::alloc::{AllocError, Global};
 use std::process::Abort;
@@ -80,25 +81,30 @@ fn rows(alloc: Global) -> Result<[(Vec<Key>, Shape); 4], AllocError> {
     ])
 }
 
-fn have_their_shapes<const P: usize>(rt: &impl Abort, alloc: Global) -> Result<(), Fail> {
-    for (keys, want) in rows(alloc)? {
-        let tree = tree_of::<P>(alloc, keys)?;
-        let root = tree.root.ok_or("no root")?;
-        assert_eq!(rt;
-            shape_of(alloc, &tree.store, root)?,
-            Some(want),
-            "with {P} stored bytes"
-        );
-    }
+fn has_shape<const P: usize>(
+    rt: &impl Abort,
+    store: NodeStore<Key, u32, P>,
+    keys: &[Key],
+    want: Shape,
+) -> Result<(), Fail> {
+    let alloc = store.alloc();
+    let tree = tree_of(store, keys)?;
+    let root = tree.root.ok_or("no root")?;
+    let shape = shape_of(alloc, &tree.store, root)?;
+    assert_eq!(rt; shape, Some(want), "with {P} stored bytes");
     Ok(())
 }
 
 #[test]
 fn trees_have_their_shapes(rt: HostRuntime) -> Result<(), Fail> {
-    have_their_shapes::<0>(&rt, rt.alloc())?;
-    have_their_shapes::<2>(&rt, rt.alloc())?;
-    have_their_shapes::<4>(&rt, rt.alloc())?;
-    have_their_shapes::<16>(&rt, rt.alloc())
+    let alloc = rt.alloc();
+    for (keys, want) in rows(alloc)? {
+        has_shape(&rt, NodeStore::<Key, u32, 0>::new(alloc), &keys, want)?;
+        has_shape(&rt, NodeStore::<Key, u32, 2>::new(alloc), &keys, want)?;
+        has_shape(&rt, NodeStore::<Key, u32, 4>::new(alloc), &keys, want)?;
+        has_shape(&rt, NodeStore::<Key, u32, 16>::new(alloc), &keys, want)?;
+    }
+    Ok(())
 }
 
 #[test]
@@ -107,7 +113,7 @@ fn a_longer_key_is_in_conflict(rt: HostRuntime) -> Result<(), Fail> {
     let mut keys = Vec::new(alloc);
     keys.push(Vec::from_array(alloc, [1u8])?)?;
     keys.push(Vec::from_array(alloc, [1u8, 2])?)?;
-    let tree = tree_of::<4>(alloc, keys)?;
+    let tree = tree_of(NodeStore::<Key, u32, 4>::new(alloc), &keys)?;
     assert_eq!(rt; tree.replies.len(), 2);
     assert!(rt; matches!(&tree.replies[0], Reply::Inserted(None)));
     let Reply::Conflict(key, value, error) = &tree.replies[1] else {

@@ -27,15 +27,18 @@ pub struct Shape {
     pub longest_prefix: usize,
 }
 
-/// The tree that the insertions of these keys leave, each with its place in the list as its value.
-pub fn tree_of<const P: usize>(alloc: Global, keys: Vec<Key>) -> Result<Tree<P>, AllocError> {
+/// The tree that the insertions of these keys leave in an empty store, each with its place in the list as its value.
+pub fn tree_of<const P: usize>(
+    mut store: NodeStore<Key, u32, P>,
+    keys: &[Key],
+) -> Result<Tree<P>, AllocError> {
+    let alloc = store.alloc();
     let mut commands = Vec::new(alloc);
     let mut value = 0u32;
     for key in keys {
-        commands.push(Command::Insert(key, value))?;
+        commands.push(Command::Insert(key.clone()?, value))?;
         value = value.wrapping_add(1);
     }
-    let mut store = NodeStore::new(alloc);
     let mut other = NodeStore::new(alloc);
     let done = run(&mut store, &mut other, None, commands).map_err(|refused| refused.1)?;
     Ok(Tree {

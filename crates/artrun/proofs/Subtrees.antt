@@ -1,5 +1,5 @@
 -- The nodes below a name that stands for a tree.
-use Rattle.std.proofs.Common.{◌≡◌, ◌≢◌, ℕ, suc, zero, ◌+◌, ◌<◌, ◌≤◌, max, List, [], ◌∷◌, ◌++◌, length, refl, ap, sym, ◌∙◌, arith, subst, Option, Some, None}
+use Rattle.std.proofs.Common.{◌≡◌, ◌≢◌, ℕ, ◌<◌, [], ◌∷◌, refl, ap, sym, ◌∙◌, arith, subst, Option, Some, None}
 use Rattle.std.specs.List.{All}
 use Rattle.std.specs.Option.{IfSome}
 use Rattle.std.specs.FinMap as map
@@ -14,7 +14,7 @@ use Rattle.art_nodes.specs.declared.node.LeafPtr.{LeafPtr}
 use Rattle.art_nodes.specs.declared.node.InnerPtr.{InnerPtr}
 use Rattle.art_nodes.specs.declared.node.OpaqueNodePtr.{OpaqueNodePtr}
 use Rattle.art_model.specs.Trees.{Tree, leaf, inner, Children, child, no_child}
-use Rattle.art_model.specs.Layouts.{name_of, slots_of, names_of, names_below, Holds, HoldsBelow, AreDistinct, IsLayout}
+use Rattle.art_model.specs.Layouts.{name_of, slots_of, names_of, names_below, HoldsBelow, AreDistinct, IsLayout}
 use Rattle.art_model.specs.Heights.{height, tree_height, height_below}
 use Rattle.art_model.specs.Stores.{node_at}
 use Rattle.art_model.proofs.Views.{leaf_there, leaf_name_is, inner_there, inner_name_is}

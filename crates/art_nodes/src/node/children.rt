@@ -9,7 +9,7 @@ use std::marker::Model;
 /// The children of an inner node by rising bytes, each with its byte, seen as the list of those that have not come yet.
 #[derive(Clone, Drop)]
 pub struct Children<'a> {
-    rest: &'a [(u8, OpaqueNodePtr)],
+    pub(super) rest: &'a [(u8, OpaqueNodePtr)],
 }
 
 impl<'a> Model for Children<'a> {

@@ -9,9 +9,9 @@ use std::marker::Model;
 
 /// An inner node of one kind.
 pub trait InnerNode<const P: usize>: FromHeader<Header<P>> {
-    ghost use Rattle.art_nodes.specs.Changes.{with_child};
+    ghost use Rattle.art_nodes.specs.Changes.{with_child, without_child};
     ghost use Rattle.art_nodes.specs.Inner.{HasPlace, Inner, IsRising, Prefix, child_at, childless, children_between};
-    ghost use Rattle.art_nodes.specs.Kinds.{any_kind, any_view, kind_capacity};
+    ghost use Rattle.art_nodes.specs.Kinds.{any_kind, any_view, kind_capacity, larger_kind, smaller_kind};
     ghost use Rattle.art_nodes.specs.declared.node.NodeType.{NodeType};
 
     const TYPE: NodeType;
@@ -44,8 +44,24 @@ pub trait InnerNode<const P: usize>: FromHeader<Header<P>> {
         requires { HasPlace (kind_capacity TYPE) (view_of self.old).children byte }
         ensures { view_of self.new ≡ with_child byte child (view_of self.old) };
 
+    /// Takes out the child under a byte, and answers its name.
+    fn remove_child(&mut self, byte: u8) -> Option<OpaqueNodePtr>
+        ensures removed { result ≡ child_at (view_of self.old).children byte }
+        ensures rest { view_of self.new ≡ without_child byte (view_of self.old) };
+
     fn into_any(self) -> AnyInner<P>
         ensures kind { any_kind result ≡ TYPE }
+        ensures view { any_view result ≡ view_of self };
+
+    /// The node of the next larger kind. A node of the largest kind stays what it is.
+    fn grow(self) -> AnyInner<P>
+        ensures kind { any_kind result ≡ larger_kind TYPE }
+        ensures view { any_view result ≡ view_of self };
+
+    /// The node of the next smaller kind. A node of the smallest kind stays what it is.
+    fn shrink(self) -> AnyInner<P>
+        requires { length (view_of self).children ≤ kind_capacity (smaller_kind TYPE) }
+        ensures kind { any_kind result ≡ smaller_kind TYPE }
         ensures view { any_view result ≡ view_of self };
 
     fn num_children(&self) -> usize
@@ -158,8 +174,23 @@ impl<const P: usize> InnerNode<P> for InnerNode4<P> {
         self.table.write(byte, child)
     }
 
+    fn remove_child(&mut self, byte: u8) -> Option<OpaqueNodePtr> {
+        self.table.remove(byte)
+    }
+
     fn into_any(self) -> AnyInner<P> {
         AnyInner::Node4(self)
+    }
+
+    fn grow(self) -> AnyInner<P> {
+        AnyInner::Node16(InnerNode16 {
+            header: self.header,
+            table: Table::of(self.iter()),
+        })
+    }
+
+    fn shrink(self) -> AnyInner<P> {
+        self.into_any()
     }
 }
 
@@ -224,8 +255,26 @@ impl<const P: usize> InnerNode<P> for InnerNode16<P> {
         self.table.write(byte, child)
     }
 
+    fn remove_child(&mut self, byte: u8) -> Option<OpaqueNodePtr> {
+        self.table.remove(byte)
+    }
+
     fn into_any(self) -> AnyInner<P> {
         AnyInner::Node16(self)
+    }
+
+    fn grow(self) -> AnyInner<P> {
+        AnyInner::Node48(InnerNode48 {
+            header: self.header,
+            table: Table::of(self.iter()),
+        })
+    }
+
+    fn shrink(self) -> AnyInner<P> {
+        AnyInner::Node4(InnerNode4 {
+            header: self.header,
+            table: Table::of(self.iter()),
+        })
     }
 }
 
@@ -290,8 +339,26 @@ impl<const P: usize> InnerNode<P> for InnerNode48<P> {
         self.table.write(byte, child)
     }
 
+    fn remove_child(&mut self, byte: u8) -> Option<OpaqueNodePtr> {
+        self.table.remove(byte)
+    }
+
     fn into_any(self) -> AnyInner<P> {
         AnyInner::Node48(self)
+    }
+
+    fn grow(self) -> AnyInner<P> {
+        AnyInner::Node256(InnerNodeDirect {
+            header: self.header,
+            table: Table::of(self.iter()),
+        })
+    }
+
+    fn shrink(self) -> AnyInner<P> {
+        AnyInner::Node16(InnerNode16 {
+            header: self.header,
+            table: Table::of(self.iter()),
+        })
     }
 }
 
@@ -356,7 +423,22 @@ impl<const P: usize> InnerNode<P> for InnerNodeDirect<P> {
         self.table.write(byte, child)
     }
 
+    fn remove_child(&mut self, byte: u8) -> Option<OpaqueNodePtr> {
+        self.table.remove(byte)
+    }
+
     fn into_any(self) -> AnyInner<P> {
         AnyInner::Node256(self)
+    }
+
+    fn grow(self) -> AnyInner<P> {
+        self.into_any()
+    }
+
+    fn shrink(self) -> AnyInner<P> {
+        AnyInner::Node48(InnerNode48 {
+            header: self.header,
+            table: Table::of(self.iter()),
+        })
     }
 }

@@ -1,9 +1,18 @@
 //! Names under rising bytes.
-ghost use Rattle.std.specs.Prelude.{◌≡◌, ℕ, ◌+◌, ◌-◌, ◌<◌, ◌≤◌, List, [], ◌∷◌, ◌++◌, length, take, drop};
+ghost use Rattle.std.specs.Prelude.{◌≡◌, ℕ, ◌+◌, ◌-◌, ◌<◌, ◌≤◌, List, [], ◌∷◌, ◌++◌, length, take, drop, remove};
 
 use super::children::{Children, count_below};
 use super::{NodeType, OpaqueNodePtr};
 use std::marker::Model;
+
+// What stands past a table's last entry.
+const VACANT: (u8, OpaqueNodePtr) = (
+    0,
+    OpaqueNodePtr {
+        kind: NodeType::Leaf,
+        slot: 0,
+    },
+);
 
 /// Up to `N` names under rising bytes, seen as their list.
 #[derive(Drop)]
@@ -24,19 +33,26 @@ impl<const N: usize> Model for Table<N> {
 }
 
 impl<const N: usize> Table<N> {
-    ghost use Rattle.art_nodes.specs.Inner.{HasPlace, IsRising, count_below, put_child};
+    ghost use Rattle.art_nodes.specs.Inner.{HasPlace, IsRising, child_at, count_below, put_child, remove_child};
 
     pub(super) fn new() -> Self
         ensures { result ≡ [] }
     {
-        let nothing = OpaqueNodePtr {
-            kind: NodeType::Leaf,
-            slot: 0,
-        };
         Table {
-            entries: [(0, nothing); N],
+            entries: [VACANT; N],
             len: 0,
         }
+    }
+
+    // A table of these children.
+    pub(super) fn of(children: Children<'_>) -> Self
+        requires { length children ≤ N }
+        ensures { result ≡ children.entry }
+    {
+        let len = children.rest.len();
+        let mut entries = [VACANT; N];
+        entries[..len].copy_from_slice(children.rest);
+        Table { entries, len }
     }
 
     pub(super) fn iter(&self) -> Children<'_>
@@ -60,6 +76,21 @@ impl<const N: usize> Table<N> {
         }
     }
 
+    pub(super) fn remove(&mut self, byte: u8) -> Option<OpaqueNodePtr>
+        ensures removed { result ≡ child_at self.old byte }
+        ensures rest { self.new ≡ remove_child self.old byte }
+    {
+        let at = self.place(byte);
+        if at < self.len && self.entries[at].0 == byte {
+            let child = self.entries[at].1;
+            remove_from(&mut self.entries[..self.len], at);
+            self.len -= 1;
+            Some(child)
+        } else {
+            None
+        }
+    }
+
     // How many entries have a byte below this one.
     fn place(&self, byte: u8) -> usize
         ensures value { result ≡ count_below self.now byte }
@@ -76,4 +107,12 @@ fn insert_into(part: &mut [(u8, OpaqueNodePtr)], at: usize, entry: (u8, OpaqueNo
 {
     part[at..].rotate_right(1);
     part[at] = entry;
+}
+
+// Closes the gap where an entry is let go: the later ones move one place to the front.
+fn remove_from(part: &mut [(u8, OpaqueNodePtr)], at: usize)
+    requires { at < length part.old }
+    ensures { take (length part.old - 1) part.new ≡ remove part.old at }
+{
+    part[at..].rotate_left(1);
 }

@@ -135,7 +135,9 @@ fn builds_a_chain_of_small_nodes(rt: HostRuntime) -> Result<(), Fail> {
     let pairs = chain(alloc, 12)?;
     let mut name = build_in(&mut store, alloc, pairs)?.ok_or("a root")?;
     for _ in 0..11 {
-        let node = store.inner(name.as_inner().ok_or("an inner node")?).ok_or("a node")?;
+        let node = store
+            .inner(name.as_inner().ok_or("an inner node")?)
+            .ok_or("a node")?;
         assert_eq!(rt; node.node_type(), NodeType::Node4);
         assert_eq!(rt; node.prefix_len(), 0);
         assert_eq!(rt; node.num_children(), 2);

@@ -1,4 +1,3 @@
-use Rattle.std.proofs.Common.{◌≡◌, ◌+◌, length, drop, sym, ◌∙◌, ap, arith, zero-add}
 use Rattle.art_oracle.proofs.SharedParts.{common_ends}
 use Rattle.art_oracle.proofs.build.common_len.Goals as goal
 

@@ -1,6 +1,6 @@
-use Rattle.std.proofs.Common.{rules, ◌≡◌, ℕ, ◌<◌, List, [], length, refl, Bool, true, false, eqb, arith}
+use Rattle.std.proofs.Common.{rules, ℕ, ◌<◌, List, [], length, refl, Bool, true, false, eqb, arith}
 use Rattle.std.specs.Bool.{IsTrue, MatchBool}
-use Rattle.std.specs.List.{slice_split, All, AllWithin, HoldsAt}
+use Rattle.std.specs.List.{All, AllWithin, HoldsAt}
 use Rattle.std.specs.Prelude.{◌↔◌}
 use Rattle.std.proofs.lemmas.Iterator.{cases_from_all}
 use Rattle.std.proofs.lemmas.Iterator.Splits.{YieldsList-from_slice_split}

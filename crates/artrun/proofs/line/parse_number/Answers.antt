@@ -1,7 +1,4 @@
-use Rattle.std.proofs.Common.{◌≡◌, ◌≢◌, ℕ, ◌<◌, ◌^◌, length, get_or, arith, subst, inl, inr}
-use Rattle.std.specs.Option.{IfSome, IfNone}
-use Rattle.std.specs.Result.{result_ok}
-use Rattle.std.specs.Fmt.{decimal}
+use Rattle.std.proofs.Common.{◌≡◌, ◌≢◌, length, get_or, arith}
 use Rattle.artrun.proofs.Numbers.{parsed, not_parsed, decimal_is_utf8}
 use Rattle.artrun.proofs.line.parse_number.Goals as goal
 

@@ -1,12 +1,10 @@
-use Rattle.std.proofs.Common.{rules, ◌≡◌, ◌<◌, ℕ, List, [], ◌∷◌, ◌++◌, length, map, get_or, eqb, is_ok, ap, sym, ◌∙◌, refl, subst}
+use Rattle.std.proofs.Common.{rules, ◌≡◌, ℕ, List, [], ◌∷◌, ◌++◌, map, eqb, ap, sym, ◌∙◌}
 use Rattle.std.proofs.Math.Logic.{∥∥₁_elim}
 use Rattle.std.specs.Fmt.{decimal}
-use Rattle.std.specs.List.{slice_split}
 use Rattle.std.specs.Slice.Iter.{split_rest, split_done, split_callee}
 use Rattle.std.proofs.lemmas.List.{map-append}
 use Rattle.std.proofs.lemmas.Iterator.Consumers.{YieldsList-turn, YieldsList-end}
 use Rattle.std.proofs.lemmas.Iterator.Splits.{YieldsList-from_slice_split}
-use Rattle.artrun.specs.Keys.{IsByteWord}
 use Rattle.artrun.proofs.line.read_bytes.Goals as goal
 
 one_more : {A : Type 0} (f : A → List ℕ) (xs : List A) (x : A) (bs : List ℕ) (b : ℕ) → map f xs ≡ map decimal bs → f x ≡ decimal b → map f (xs ++ x ∷ []) ≡ map decimal (bs ++ b ∷ [])

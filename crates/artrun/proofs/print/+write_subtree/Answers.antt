@@ -1,5 +1,4 @@
-use Rattle.std.proofs.Common.{rules, ◌≡◌, ◌≢◌, ◌<◌, ℕ, arith, sym, subst, ◌∙◌}
-use Rattle.std.specs.List.{All}
+use Rattle.std.proofs.Common.{rules, arith, sym, ◌∙◌}
 use Rattle.std.proofs.lemmas.List.Elements.{All-head, All-rest, All-same}
 use Rattle.art_nodes.specs.Kinds.{ref_view}
 use Rattle.artrun.proofs.Subtrees.{IsLower, leaf_is_there, inner_is_there, children_are_lower}
@@ -16,7 +15,7 @@ loop-byte-init g t c =
 pub write_subtree-requires : goal.write_subtree-requires
 write_subtree-requires g t c κs within =
     let lower = All-head (λ slot. IsLower c.args.store.now c.args.root slot.1) (c.in-Some-2.byte, c.in-Some-2.child) c.next.new.self
-        (All-same (λ slot. IsLower c.args.store.now c.args.root slot.1) _ _ (sym c.in-Some-2.ensures.steps) c.loop-byte.invariant) in
+    (All-same (λ slot. IsLower c.args.store.now c.args.root slot.1) _ _ (sym c.in-Some-2.ensures.steps) c.loop-byte.invariant) in
     (omega (arith, lower.1, c.decreases), (search rules, (within, (search rules, lower.0))))
 
 pub loop-byte-preserved : goal.loop-byte-preserved

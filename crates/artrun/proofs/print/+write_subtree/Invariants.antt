@@ -1,4 +1,3 @@
-use Rattle.std.proofs.Common.{◌≡◌}
 use Rattle.std.specs.List.{All}
 use Rattle.artrun.proofs.Subtrees.{height_of, IsLower}
 use Rattle.artrun.proofs.print.+write_subtree.Given as goal

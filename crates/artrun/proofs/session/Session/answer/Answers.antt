@@ -1,4 +1,4 @@
-use Rattle.std.proofs.Common.{◌≡◌, Result, Ok, Err, subst, sym, ◌∙◌}
+use Rattle.std.proofs.Common.{◌≡◌, Result, Ok, Err, subst}
 use Rattle.std.specs.Result.{MatchResult, IfOk, IsErrAnd}
 use Rattle.artrun.proofs.session.Session.answer.Goals as goal
 
