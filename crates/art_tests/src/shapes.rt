@@ -1,6 +1,6 @@
 //! The shapes of trees that insertions leave.
 
-use crate::trees::{Key, Shape, shape_of, tree_of};
+use crate::trees::{Key, Shape, insert_all, shape_of};
 use art_nodes::node::NodeType;
 use art_nodes::store::NodeStore;
 use art_operations::run::Reply;
@@ -83,14 +83,14 @@ fn rows(alloc: Global) -> Result<[(Vec<Key>, Shape); 4], AllocError> {
 
 fn has_shape<const P: usize>(
     rt: &impl Abort,
-    store: NodeStore<Key, u32, P>,
+    mut store: NodeStore<Key, u32, P>,
     keys: &[Key],
     want: Shape,
 ) -> Result<(), Fail> {
     let alloc = store.alloc();
-    let tree = tree_of(store, keys)?;
-    let root = tree.root.ok_or("no root")?;
-    let shape = shape_of(alloc, &tree.store, root)?;
+    let done = insert_all(&mut store, keys)?;
+    let root = done.root.ok_or("no root")?;
+    let shape = shape_of(alloc, &store, root)?;
     assert_eq!(rt; shape, Some(want), "with {P} stored bytes");
     Ok(())
 }
@@ -113,10 +113,11 @@ fn a_longer_key_is_in_conflict(rt: HostRuntime) -> Result<(), Fail> {
     let mut keys = Vec::new(alloc);
     keys.push(Vec::from_array(alloc, [1u8])?)?;
     keys.push(Vec::from_array(alloc, [1u8, 2])?)?;
-    let tree = tree_of(NodeStore::<Key, u32, 4>::new(alloc), &keys)?;
-    assert_eq!(rt; tree.replies.len(), 2);
-    assert!(rt; matches!(&tree.replies[0], Reply::Inserted(None)));
-    let Reply::Conflict(key, value, error) = &tree.replies[1] else {
+    let mut store: NodeStore<Key, u32, 4> = NodeStore::new(alloc);
+    let done = insert_all(&mut store, &keys)?;
+    assert_eq!(rt; done.replies.len(), 2);
+    assert!(rt; matches!(&done.replies[0], Reply::Inserted(None)));
+    let Reply::Conflict(key, value, error) = &done.replies[1] else {
         return Err(Fail::from("no conflict"));
     };
     assert_eq!(rt; key.as_slice(), [1, 2].as_slice());

@@ -2,18 +2,10 @@
 
 use art_nodes::node::{NodePtr, NodeType, OpaqueNodePtr};
 use art_nodes::store::NodeStore;
-use art_operations::run::{Command, Reply, run};
+use art_operations::run::{Command, RunResult, run};
 use std::alloc::{AllocError, Global};
 
 pub type Key = Vec<u8>;
-
-/// A tree in a store of its own.
-#[derive(Drop)]
-pub struct Tree<const P: usize> {
-    pub store: NodeStore<Key, u32, P>,
-    pub root: Option<OpaqueNodePtr>,
-    pub replies: Vec<Reply<Key, u32>>,
-}
 
 /// How a tree is made, as met by walking children from its root.
 #[derive(Clone, Copy, PartialEq, Eq, Debug)]
@@ -27,11 +19,11 @@ pub struct Shape {
     pub longest_prefix: usize,
 }
 
-/// The tree that the insertions of these keys leave in an empty store, each with its place in the list as its value.
-pub fn tree_of<const P: usize>(
-    mut store: NodeStore<Key, u32, P>,
+/// Inserts these keys into an empty store, each with its place in the list as its value.
+pub fn insert_all<const P: usize>(
+    store: &mut NodeStore<Key, u32, P>,
     keys: &[Key],
-) -> Result<Tree<P>, AllocError> {
+) -> Result<RunResult<Key, u32>, AllocError> {
     let alloc = store.alloc();
     let mut commands = Vec::new(alloc);
     let mut value = 0u32;
@@ -40,12 +32,7 @@ pub fn tree_of<const P: usize>(
         value = value.wrapping_add(1);
     }
     let mut other = NodeStore::new(alloc);
-    let done = run(&mut store, &mut other, None, commands).map_err(|refused| refused.1)?;
-    Ok(Tree {
-        store,
-        root: done.root,
-        replies: done.replies,
-    })
+    run(store, &mut other, None, commands).map_err(|refused| refused.1)
 }
 
 impl Shape {

@@ -2,7 +2,7 @@
 
 use crate::line::Request;
 use crate::print::{write_no_memory, write_reply};
-use crate::session::Session;
+use crate::history::History;
 use art_operations::run::Command;
 use std::alloc::{AllocError, Global};
 use std::io;
@@ -30,7 +30,7 @@ fn answer_lines(
     input: &mut impl BufRead,
     output: &mut impl Write,
 ) -> io::Result<End> {
-    let mut session = Session::new(alloc);
+    let mut history = History::new(alloc);
     let mut line = Vec::new(alloc);
     for number in 1..u64::MAX {
         line.clear();
@@ -45,7 +45,7 @@ fn answer_lines(
             output.flush()?;
             return Ok(End::BadLine);
         };
-        answer(alloc, &mut session, request, output)?;
+        answer(alloc, &mut history, request, output)?;
         output.flush()?;
     }
     Ok(End::Input)
@@ -53,7 +53,7 @@ fn answer_lines(
 
 fn answer(
     alloc: Global,
-    session: &mut Session,
+    history: &mut History,
     request: Request<'_>,
     output: &mut impl Write,
 ) -> io::Result<()> {
@@ -61,9 +61,9 @@ fn answer(
         Request::Insert(key, value) => key.copy(alloc).map(|key| Command::Insert(key, value)),
         Request::Delete(key) => key.copy(alloc).map(Command::Delete),
         Request::Find(key) => key.copy(alloc).map(Command::Contains),
-        Request::Nodes => return session.write_nodes(output),
+        Request::Nodes => return history.write_nodes(output),
     };
-    match command.and_then(|command| session.answer(command)) {
+    match command.and_then(|command| history.answer(command)) {
         Ok(reply) => write_reply(output, &reply),
         Err(AllocError) => write_no_memory(output),
     }

@@ -4,7 +4,7 @@
 mod engine;
 mod line;
 mod print;
-mod session;
+mod history;
 
 use std::io;
 use std::io::{BufReader, BufWriter};

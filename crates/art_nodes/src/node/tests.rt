@@ -1,5 +1,5 @@
-ghost use Rattle.std.specs.Prelude.{◌≡◌, ℕ};
-ghost use Rattle.art_nodes.specs.Inner.{child_at};
+ghost use Rattle.std.specs.Prelude.{◌≡◌, ℕ, ◌+◌, ◌≤◌, length, take, drop};
+ghost use Rattle.art_nodes.specs.Inner.{child_at, header_of};
 
 use super::*;
 use std::boxed::BoxedSlice;
@@ -121,6 +121,76 @@ fn stores_the_front_of_a_prefix(rt: HostRuntime) {
     check_prefix(&rt, Header::<2>::new(&[7, 1], 1000), 1000, &[7, 1]);
 }
 
+// A caller that knows whole prefixes: the rest of a prefix that a key has at a depth.
+#[tactic(auto, using(crate::proofs::HeaderLaws::header_laws))]
+fn trim_by_key<const P: usize>(header: &mut Header<P>, n: usize, depth: usize, key: &[u8])
+    requires of_key { header.old ≡ header_of P (take header.old.len (drop depth key.now)) }
+    requires within { n ≤ header.old.len }
+    requires given { depth + header.old.len ≤ length key.now }
+    ensures { header.new ≡ header_of P (drop n (take header.old.len (drop depth key.now))) }
+{
+    header.ltrim_by_with_leaf(n, depth, key);
+}
+
+#[test]
+fn trims_a_prefix(rt: HostRuntime) {
+    let mut header = Header::<4>::new(&[1, 2, 3, 4], 4);
+    header.ltrim_by(0);
+    check_prefix(&rt, header, 4, &[1, 2, 3, 4]);
+    header.ltrim_by(1);
+    check_prefix(&rt, header, 3, &[2, 3, 4]);
+    header.ltrim_by(3);
+    check_prefix(&rt, header, 0, &[]);
+}
+
+#[test]
+fn trims_a_prefix_by_a_leaf(rt: HostRuntime) {
+    let key = [9, 7, 1, 1, 1, 5, 6, 0];
+    let prefix = [7, 1, 1, 1, 5, 6];
+    let mut nothing = Header::<0>::new(&prefix, 6);
+    nothing.ltrim_by_with_leaf(2, 1, &key);
+    check_prefix(&rt, nothing, 4, &[]);
+    let mut front = Header::<2>::new(&prefix, 6);
+    front.ltrim_by_with_leaf(3, 1, &key);
+    check_prefix(&rt, front, 3, &[1, 5]);
+    let mut most = Header::<4>::new(&prefix, 6);
+    most.ltrim_by_with_leaf(2, 1, &key);
+    check_prefix(&rt, most, 4, &[1, 1, 5, 6]);
+    let mut all = Header::<16>::new(&prefix, 6);
+    all.ltrim_by_with_leaf(6, 1, &key);
+    check_prefix(&rt, all, 0, &[]);
+}
+
+#[test]
+fn extends_a_prefix(rt: HostRuntime) {
+    let mut nothing = Header::<0>::new(&[], 2);
+    nothing.push_prefix(&[], 3);
+    check_prefix(&rt, nothing, 5, &[]);
+    let mut front = Header::<2>::new(&[1], 1);
+    front.push_prefix(&[2, 3], 4);
+    check_prefix(&rt, front, 5, &[1, 2]);
+    let mut most = Header::<4>::new(&[1, 2], 2);
+    most.push_prefix(&[3, 9, 9], 1);
+    check_prefix(&rt, most, 3, &[1, 2, 3]);
+    most.push_prefix(&[4, 5], 2);
+    check_prefix(&rt, most, 5, &[1, 2, 3, 4]);
+    most.push_prefix(&[6], 1);
+    check_prefix(&rt, most, 6, &[1, 2, 3, 4]);
+    let mut all = Header::<16>::new(&[1], 1);
+    all.push_prefix(&[2, 3], 2);
+    check_prefix(&rt, all, 3, &[1, 2, 3]);
+}
+
+#[test]
+fn empties_a_prefix(rt: HostRuntime) {
+    let mut whole = Header::<4>::new(&[1, 2, 3], 3);
+    assert_eq!(rt; whole.clear_prefix(), ([1, 2, 3, 0], 3, 3));
+    check_prefix(&rt, whole, 0, &[]);
+    let mut front = Header::<2>::new(&[1, 2], 5);
+    assert_eq!(rt; front.clear_prefix(), ([1, 2], 5, 2));
+    check_prefix(&rt, front, 0, &[]);
+}
+
 // A walk over the children comes by what a look-up finds.
 fn find_child<N: InnerNode<4>>(node: &N, byte: u8) -> Option<OpaqueNodePtr>
     ensures { result ≡ child_at (N.view_of node.now).children byte }
@@ -163,6 +233,10 @@ fn check_full<N: InnerNode<4>>(rt: &impl Abort, last: u8) {
     node.write_child(0, other);
     assert_eq!(rt; node.lookup_child(0), Some(other));
     assert_eq!(rt; node.num_children(), last as usize + 1);
+    assert_eq!(rt; node.remove_child(2), Some(name(2)));
+    assert_eq!(rt; node.remove_child(2), None);
+    assert_eq!(rt; node.num_children(), last as usize);
+    check_range(rt, node.range(1, 3), &[1, 3]);
     assert_eq!(rt; node.into_any().node_type(), N::TYPE);
 }
 
@@ -220,4 +294,61 @@ fn check_any(rt: &impl Abort, kind: NodeType) {
     check_range(rt, node.iter(), &[0, 20, 255]);
     check_range(rt, node.range(1, 254), &[20]);
     check_range(rt, node.range(20, 255), &[20, 255]);
+}
+
+// A node with a child under each byte from 0 on grows when it is full, and shrinks once it fits.
+#[test]
+fn grows_and_shrinks_at_each_bound(rt: HostRuntime) {
+    let mut any: AnyInner<4> = AnyInner::from_header(NodeType::Node4, Header::new(&[9], 1));
+    for byte in 0..=255 {
+        if any.as_ref().is_full() {
+            assert!(rt; any.node_type() != NodeType::Node256);
+            any = any.grow();
+        }
+        assert!(rt; !any.as_ref().is_full());
+        any.write_child(byte, name(byte));
+        check_count(&rt, &any, byte as usize + 1);
+    }
+    for byte in (0..=255).rev() {
+        assert_eq!(rt; any.remove_child(byte), Some(name(byte)));
+        assert_eq!(rt; any.remove_child(byte), None);
+        any = shrink_where_it_fits(any);
+        check_count(&rt, &any, byte as usize);
+    }
+}
+
+fn shrink_where_it_fits(any: AnyInner<4>) -> AnyInner<4> {
+    match any {
+        AnyInner::Node16(node) if node.num_children() <= 4 => node.shrink(),
+        AnyInner::Node48(node) if node.num_children() <= 16 => node.shrink(),
+        AnyInner::Node256(node) if node.num_children() <= 48 => node.shrink(),
+        any => any,
+    }
+}
+
+fn check_count(rt: &impl Abort, any: &AnyInner<4>, count: usize) {
+    let kind = match count {
+        0..=4 => NodeType::Node4,
+        5..=16 => NodeType::Node16,
+        17..=48 => NodeType::Node48,
+        _ => NodeType::Node256,
+    };
+    assert_eq!(rt; any.node_type(), kind);
+    let node = any.as_ref();
+    check_prefix(rt, node.header(), 1, &[9]);
+    assert_eq!(rt; node.num_children(), count);
+    for (index, (byte, child)) in node.iter().enumerate() {
+        assert_eq!(rt; byte as usize, index);
+        assert_eq!(rt; child, name(byte));
+    }
+}
+
+#[test]
+fn has_no_kind_beyond_the_ends(rt: HostRuntime) {
+    let smallest = InnerNode4::<4>::from_header(Header::new(&[9], 1));
+    assert_eq!(rt; smallest.shrink().node_type(), NodeType::Node4);
+    let largest = InnerNodeDirect::<4>::from_header(Header::new(&[9], 1));
+    assert_eq!(rt; largest.grow().node_type(), NodeType::Node256);
+    let empty: AnyInner<4> = AnyInner::from_header(NodeType::Node16, Header::new(&[9], 1));
+    assert_eq!(rt; empty.shrink().node_type(), NodeType::Node4);
 }

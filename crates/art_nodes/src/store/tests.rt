@@ -1,9 +1,9 @@
 #![tactic(auto, using(crate::proofs::StoreLaws::leaf_laws, crate::proofs::StoreLaws::inner_laws))]
 
-ghost use Rattle.std.specs.Prelude.{◌≡◌, ◌≢◌, Some, None, IsSome, IfOk};
+ghost use Rattle.std.specs.Prelude.{◌≡◌, ◌≢◌, Some, None, IsSome, IfSome, IfOk};
 ghost use Rattle.std.specs.FinMap as map;
 ghost use Rattle.art_nodes.specs.Changes.{with_links, with_child};
-ghost use Rattle.art_nodes.specs.Inner.{childless};
+ghost use Rattle.art_nodes.specs.Inner.{child_at, childless};
 
 use super::*;
 use art_test_support::all_memory;
@@ -86,6 +86,20 @@ fn move_header<K: AsBytes + Drop, V: Drop, const P: usize>(
     let node = store.free_inner(from);
     store.set_header(to, header);
     node
+}
+
+// A caller: cuts a child off, which is then gone.
+#[tactic(auto, using(crate::proofs::StoreLaws::inner_changed_here, crate::proofs::ChildrenLaws::children_laws))]
+fn cut_child<K: AsBytes + Drop, V: Drop, const P: usize>(
+    store: &mut NodeStore<K, V, P>,
+    from: InnerPtr,
+    byte: u8,
+) -> Option<OpaqueNodePtr>
+    requires { IsSome (map.get store.old.inners from) }
+    ensures stays { IsSome (map.get store.new.inners from) }
+    ensures gone { IfSome (map.get store.new.inners from) (λ node. child_at node.children byte ≡ None) }
+{
+    store.remove_child(from, byte)
 }
 
 // A caller: no placement is refused that the promise covers.
@@ -187,6 +201,19 @@ fn inner_nodes_are_written_and_freed(rt: HostRuntime) -> Result<(), Fail> {
     let seen = store.inner(upper).ok_or("the upper node")?;
     assert_eq!(rt; seen.read_prefix(), [5, 6].as_slice());
     assert!(rt; store.inner(lower).is_none());
+    Ok(())
+}
+
+#[test]
+fn a_child_is_cut_off(rt: HostRuntime) -> Result<(), Fail> {
+    let mut store = Store::new(rt.alloc());
+    let child = LeafPtr::from_slot(7).to_opaque();
+    let upper = place_above(&mut store, Header::new(&[5, 6], 2), 3, child)?;
+    assert_eq!(rt; cut_child(&mut store, upper, 4), None);
+    assert_eq!(rt; cut_child(&mut store, upper, 3), Some(child));
+    let seen = store.inner(upper).ok_or("the inner node")?;
+    assert_eq!(rt; seen.num_children(), 0);
+    assert_eq!(rt; seen.read_prefix(), [5, 6].as_slice());
     Ok(())
 }
 

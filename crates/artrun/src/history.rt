@@ -15,19 +15,19 @@ pub const PREFIX_LEN: usize = 4;
 
 /// The commands that were accepted so far, and the tree that they leave.
 #[derive(Drop)]
-pub struct Session {
+pub struct History {
     commands: Vec<Command<Vec<u8>, u32>>,
     store: NodeStore<Vec<u8>, u32, PREFIX_LEN>,
     root: Option<OpaqueNodePtr>,
     ghost canonical: { HasCanonicalTree store root },
 }
 
-impl Session {
-    ghost use Rattle.artrun.specs.Sessions.{accepted, tree};
+impl History {
+    ghost use Rattle.artrun.specs.Histories.{accepted, tree};
 
     /// No commands, and no tree.
     pub fn new(alloc: Global) -> Self {
-        Session {
+        History {
             commands: Vec::new(alloc),
             store: NodeStore::new(alloc),
             root: None,
