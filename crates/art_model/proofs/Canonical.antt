@@ -46,32 +46,32 @@ module _ {N A : Type 0} (bytes : A → List ℕ) (P : ℕ) where
       let same : t ≡ unmarked layout = cc in
       (radix_unmarked layout [] (subst (IsRadix bytes P []) same radix), sym (pairs_of-unmarked layout) ∙ ap pairs_of (sym same) ∙ pairs)
 
-  -- the layout below a canonical root
-  pub record Layout (at : N → Option (Node N A)) (links : N → Option (Links N)) (root : N) (pairs : List A) : Type 0 where
-    pub tree : Tree N A
-    pub root_is : name_of tree ≡ root
-    pub radix : IsRadix bytes P [] tree
-    pub pairs_are : pairs_of tree ≡ pairs
-    pub holds : Holds at tree
-    pub distinct : AreDistinct (names_of tree)
-    pub linked : AreLinked links None (leaf_names tree) None
+  -- A layout seen from inside: a radix tree of the pairs, held in the store under distinct names, with its leaves linked.
+  pub record IsLaidOut (at : N → Option (Node N A)) (links : N → Option (Links N)) (root : N) (pairs : List A) (layout : Tree N A) : Type 0 where
+    pub named : name_of layout ≡ root
+    pub radix : IsRadix bytes P [] layout
+    pub pairs_are : pairs_of layout ≡ pairs
+    pub holds : Holds at layout
+    pub distinct : AreDistinct (names_of layout)
+    pub linked : AreLinked links None (leaf_names layout) None
 
-module _ {K V : Type 0} {bytes : K × V → List ℕ} {P : ℕ} {s : Nodes K V} {root : OpaqueNodePtr} {pairs : List (K × V)} where
-  -- what a canonical root's layout is
-  pub tree_radix : {layout : Tree OpaqueNodePtr (K × V)} → IsTree bytes P s root pairs layout → IsRadix bytes P [] layout × (pairs_of layout ≡ pairs)
-  tree_radix {layout} by = radix_from bytes P pairs by.tree layout by.is_map by.is_tree by.stands.1
+module _ {K V : Type 0} {bytes : K × V → List ℕ} {P : ℕ} {s : Nodes K V} {root : OpaqueNodePtr} {pairs : List (K × V)} {layout : Tree OpaqueNodePtr (K × V)} where
+  -- a canonical root's layout is a radix tree with its pairs
+  pub tree_radix : IsTree bytes P s root pairs layout → IsRadix bytes P [] layout × (pairs_of layout ≡ pairs)
+  tree_radix by = radix_from bytes P pairs by.tree layout by.is_map by.is_tree by.stands.1
 
-  pub layout_of : {layout : Tree OpaqueNodePtr (K × V)} → IsTree bytes P s root pairs layout → Layout bytes P (node_at s) (links_at s) root pairs
-  layout_of {layout} by =
+  -- a canonical root is laid out
+  pub laid_out : IsTree bytes P s root pairs layout → IsLaidOut bytes P (node_at s) (links_at s) root pairs layout
+  laid_out by =
       let (radix, is) = tree_radix by in
-      record { tree = layout; root_is = by.stands.0.named; radix = radix; pairs_are = is; holds = by.stands.0.holds; distinct = by.stands.0.distinct; linked = by.linked }
+      record { named = by.stands.0.named; radix = radix; pairs_are = is; holds = by.stands.0.holds; distinct = by.stands.0.distinct; linked = by.linked }
 
-  pub tree_from : (l : Layout bytes P (node_at s) (links_at s) root pairs) → IsTree bytes P s root pairs l.tree
-  tree_from l =
-      record {
-        is_map = subst (IsMap bytes) l.pairs_are (radix_map bytes P l.tree [] l.radix);
-        tree = unmarked l.tree;
-        is_tree = subst (λ xs. tree_of bytes xs P 0 ≡ Some (unmarked l.tree)) l.pairs_are (rebuild_root bytes P l.tree l.radix);
-        stands = (record { named = l.root_is; holds = l.holds; distinct = l.distinct }, refl);
-        linked = l.linked;
-      }
+  -- what is laid out makes the root canonical
+  pub canonical_from : IsLaidOut bytes P (node_at s) (links_at s) root pairs layout → IsTree bytes P s root pairs layout
+  canonical_from l = record {
+    is_map = subst (IsMap bytes) l.pairs_are (radix_map bytes P layout [] l.radix);
+    tree = unmarked layout;
+    is_tree = subst (λ xs. tree_of bytes xs P 0 ≡ Some (unmarked layout)) l.pairs_are (rebuild_root bytes P layout l.radix);
+    stands = (record { named = l.named; holds = l.holds; distinct = l.distinct }, refl);
+    linked = l.linked;
+  }

@@ -1,15 +1,16 @@
--- the local changes of an insertion, an overwrite and a deletion
-use Rattle.std.proofs.Common.{◌≡◌, ℕ, suc, ◌<◌, ◌≤◌, List, [], ◌∷◌, ◌++◌, length, refl, ap, sym, ◌∙◌, append_assoc, append-nil, arith, length-append, subst, cond, ltb, ◌⊎◌, inl, inr}
+-- What each change makes of the tree in the hole: a radix tree again, with the pairs that the map's operation leaves.
+use Rattle.std.proofs.Common.{◌≡◌, ℕ, suc, ◌<◌, ◌≤◌, List, [], ◌∷◌, ◌++◌, length, refl, ap, sym, ◌∙◌, append_assoc, append-nil, arith, length-append, subst, cond, ltb, ◌⊎◌, inl, inr, true}
 use Rattle.std.specs.List.{AllByRecursion as Each}
 use Rattle.std.proofs.lemmas.Bool.{cases_order, le-ltb, lt-ltb}
-use Rattle.art_model.specs.Keys.{IsFront, Precedes}
+use Rattle.art_model.specs.Keys.{IsFront, Precedes, are_related}
 use Rattle.art_model.specs.Trees.{Tree, leaf, inner, Children, child, no_child, header_of, Header}
 use Rattle.art_model.specs.Radix.{IsRadix, AreRadix, IsRising, bytes_of, pairs_of, pairs_below, join}
 use Rattle.art_model.specs.Pairs.{add_in_order, put, overwrite, remove_key, remove_related}
 use Rattle.art_model.proofs.Lists.{front_cut, Each-weaker}
 use Rattle.art_model.proofs.Rebuild.{radix_way}
 use Rattle.art_model.proofs.Radix.{bytes_of-join, pairs_below-join, AreRadix-join, AreRadix-left, AreRadix-right, parts, PartsBelow, PartsAbove, all_below, all_above}
-use Rattle.art_model.proofs.Paths.{rising_left, rising_right, rising_without, rising_with, put-between, remove_key-between}
+use Rattle.art_model.proofs.Pairwises.{Pairwise-before, Pairwise-after, Pairwise-without, Pairwise-with}
+use Rattle.art_model.proofs.Between.{put-between, remove_key-between}
 use Rattle.art_model.proofs.Keys.{front_related, front_same}
 
 module _ {N A : Type 0} where
@@ -61,7 +62,7 @@ module _ {N A : Type 0} (bytes : A → List ℕ) (P : ℕ) where
   raised place part c n x h = front_cut place part (bytes x) (front_cut (place ++ part) (c ∷ []) (bytes x) h)
 
   -- a new leaf under a byte that had no child
-  pub with_child : (place part : List ℕ) (cs ds : Children N A) (b : ℕ) (m n : N) (new : A) →
+  unfoldable pub with_child : (place part : List ℕ) (cs ds : Children N A) (b : ℕ) (m n : N) (new : A) →
       IsRising (bytes_of (join cs ds)) → Each (λ c. c < b) (bytes_of cs) → Each (λ c. b < c) (bytes_of ds) → 1 ≤ length (bytes_of (join cs ds)) → AreRadix bytes P (place ++ part) (join cs ds) → IsFront ((place ++ part) ++ b ∷ []) (bytes new) →
       let u = inner m (header_of P part (suc (length (bytes_of (join cs ds))))) (join cs (child b (leaf n new) ds)) in
       IsRadix bytes P place u × (pairs_of u ≡ put bytes new (pairs_below (join cs ds)))
@@ -76,7 +77,7 @@ module _ {N A : Type 0} (bytes : A → List ℕ) (P : ℕ) where
       let count : suc (length (bytes_of (join cs ds))) ≡ length (bytes_of (join cs (child b (leaf n new) ds))) = rw (old, bs) (omega arith) in
       let low = Each-weaker (PartsBelow bytes front b) (λ x. Precedes (bytes x) (bytes new)) (λ x g. parts bytes front g.0 b (bytes x) (bytes new) g.2 k g.1) (pairs_below cs) (all_below bytes P front b cs hl l) in
       let high = Each-weaker (PartsAbove bytes front b) (λ x. Precedes (bytes new) (bytes x)) (λ x g. parts bytes front b g.0 (bytes new) (bytes x) k g.2 g.1) (pairs_below ds) (all_above bytes P front b ds hr r) in (
-        (part, ap (header_of P part) count, rw (← count) (omega arith), subst IsRising (sym bs) (rising_with (bytes_of cs) (bytes_of ds) b l r (rw old at up)), AreRadix-join bytes P front cs (child b (leaf n new) ds) hl (k, hr)),
+        (part, ap (header_of P part) count, rw (← count) (omega arith), subst IsRising (sym bs) (Pairwise-with ◌<◌ (bytes_of cs) (bytes_of ds) b l r (rw old at up)), AreRadix-join bytes P front cs (child b (leaf n new) ds) hl (k, hr)),
         pairs_below-join cs (child b (leaf n new) ds) ∙ sym (ap (put bytes new) (pairs_below-join cs ds ∙ ap (λ l. l ++ pairs_below ds) (sym (append-nil (pairs_below cs)))) ∙ put-between bytes new (pairs_below cs) [] (pairs_below ds) low high ∙ append_assoc (pairs_below cs) (new ∷ []) (pairs_below ds)),
       )
 
@@ -90,9 +91,9 @@ module _ {N A : Type 0} (bytes : A → List ℕ) (P : ℕ) where
       let hr = AreRadix-right bytes P front cs (child b (leaf n x) ds) all in
       let bs = bytes_of-join cs (child b (leaf n x) ds) in
       let up' : IsRising (bytes_of cs ++ b ∷ bytes_of ds) = subst IsRising bs up in
-      let low = Each-weaker (PartsBelow bytes front b) (λ y. Precedes (bytes y) (bytes x)) (λ y g. parts bytes front g.0 b (bytes y) (bytes x) g.2 hr.0 g.1) (pairs_below cs) (all_below bytes P front b cs hl (rising_left (bytes_of cs) (bytes_of ds) b up')) in
-      let high = Each-weaker (PartsAbove bytes front b) (λ y. Precedes (bytes x) (bytes y)) (λ y g. parts bytes front b g.0 (bytes x) (bytes y) hr.0 g.2 g.1) (pairs_below ds) (all_above bytes P front b ds hr.1 (rising_right (bytes_of cs) (bytes_of ds) b up')) in (
-        subst IsRising (sym (bytes_of-join cs ds)) (rising_without (bytes_of cs) (bytes_of ds) b up'),
+      let low = Each-weaker (PartsBelow bytes front b) (λ y. Precedes (bytes y) (bytes x)) (λ y g. parts bytes front g.0 b (bytes y) (bytes x) g.2 hr.0 g.1) (pairs_below cs) (all_below bytes P front b cs hl (Pairwise-before ◌<◌ (bytes_of cs) (bytes_of ds) b up')) in
+      let high = Each-weaker (PartsAbove bytes front b) (λ y. Precedes (bytes x) (bytes y)) (λ y g. parts bytes front b g.0 (bytes x) (bytes y) hr.0 g.2 g.1) (pairs_below ds) (all_above bytes P front b ds hr.1 (Pairwise-after ◌<◌ (bytes_of cs) (bytes_of ds) b up')) in (
+        subst IsRising (sym (bytes_of-join cs ds)) (Pairwise-without ◌<◌ (bytes_of cs) (bytes_of ds) b up'),
         AreRadix-join bytes P front cs ds hl hr.1,
         pairs_below-join cs ds ∙ sym (ap (remove_key bytes (bytes x)) (pairs_below-join cs (child b (leaf n x) ds) ∙ sym (append_assoc (pairs_below cs) (x ∷ []) (pairs_below ds))) ∙ remove_key-between bytes (bytes x) (pairs_below cs) (x ∷ []) (pairs_below ds) low high ∙ gone),
       )
@@ -100,11 +101,38 @@ module _ {N A : Type 0} (bytes : A → List ℕ) (P : ℕ) where
       gone : pairs_below cs ++ remove_key bytes (bytes x) (x ∷ []) ++ pairs_below ds ≡ pairs_below cs ++ pairs_below ds
       gone = rw (front_same (bytes x)) (ap (λ l. l ++ pairs_below ds) (append-nil (pairs_below cs)))
 
--- a key that is a front of the keys below takes their place
+  -- a child that is a leaf goes, and two or more stay: the node keeps its kind or shrinks
+  unfoldable pub child_removed : (place part : List ℕ) (cs ds : Children N A) (b : ℕ) (m n : N) (x : A) →
+      IsRising (bytes_of (join cs (child b (leaf n x) ds))) → AreRadix bytes P (place ++ part) (join cs (child b (leaf n x) ds)) → 2 ≤ length (bytes_of (join cs ds)) →
+      let u = inner m (header_of P part (length (bytes_of (join cs ds)))) (join cs ds) in
+      IsRadix bytes P place u × (pairs_of u ≡ remove_key bytes (bytes x) (pairs_below (join cs (child b (leaf n x) ds))))
+  child_removed place part cs ds b m n x up all two = let (rising, below, its) = without_child place part cs ds b n x up all in ((part, refl, two, rising, below), its)
+
+  -- a child that is a leaf goes, and one is left
+  pub child_left : (place part : List ℕ) (cs ds : Children N A) (b c : ℕ) (n : N) (x : A) (v : Tree N A) →
+      IsRising (bytes_of (join cs (child b (leaf n x) ds))) → AreRadix bytes P (place ++ part) (join cs (child b (leaf n x) ds)) → join cs ds ≡ child c v no_child →
+      IsRadix bytes P ((place ++ part) ++ c ∷ []) v × (pairs_of v ≡ remove_key bytes (bytes x) (pairs_below (join cs (child b (leaf n x) ds))))
+  child_left place part cs ds b c n x v up all one =
+      let (rising, below, its) = without_child place part cs ds b n x up all in
+      ((subst (AreRadix bytes P (place ++ part)) one below).0, sym (append-nil (pairs_of v)) ∙ ap pairs_below (sym one) ∙ its)
+
 module _ {A : Type 0} (bytes : A → List ℕ) where
+  -- a pair takes the place of the one with its key
+  pub exact : (new x : A) → bytes new ≡ bytes x → put bytes new (x ∷ []) ≡ new ∷ []
+  exact new x e = rw (← e, front_same (bytes new)) refl
+
+  -- the only pair goes
+  pub alone : (x : A) → remove_key bytes (bytes x) (x ∷ []) ≡ []
+  alone x = rw (front_same (bytes x)) refl
+
+  -- a pair whose key is a front of the keys below takes their place
   pub overwritten : (new : A) (xs : List A) → Each (λ x. IsFront (bytes new) (bytes x)) xs → overwrite bytes new xs ≡ new ∷ []
   overwritten new xs h = ap (add_in_order bytes new) (all_gone xs h)
     where
       all_gone : (ys : List A) → Each (λ x. IsFront (bytes new) (bytes x)) ys → remove_related bytes (bytes new) ys ≡ []
       all_gone [] k = refl
       all_gone (y ∷ ys) k = rw (front_related (bytes new) (bytes y) k.0) (all_gone ys k.1)
+
+  -- a pair whose key is related to that of the only pair takes its place
+  pub overwritten_one : (new x : A) → are_related (bytes new) (bytes x) ≡ true → overwrite bytes new (x ∷ []) ≡ new ∷ []
+  overwritten_one new x e = rw e refl

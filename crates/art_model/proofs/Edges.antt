@@ -17,8 +17,8 @@ use Rattle.art_model.specs.Paths.{Frame, plug, leaves_before, leaves_after, pair
 use Rattle.art_model.specs.Heights.{height, tree_height, height_below}
 use Rattle.art_model.specs.Lookups.{HasFirstLeaf, HasLastLeaf}
 use Rattle.art_model.specs.Roots.{IsFullTree}
-use Rattle.art_model.proofs.Stores.{leaf_names-plug, HoldsBelow-right}
-use Rattle.art_model.proofs.Paths.{pairs_of-plug}
+use Rattle.art_model.proofs.Stores.{HoldsBelow-right}
+use Rattle.art_model.proofs.Paths.{leaf_names-plug, pairs_of-plug}
 use Rattle.art_model.proofs.Heights.{height_is, enough_steps}
 use Rattle.art_model.proofs.Shown.{IsShown, no_leaf_gone, no_inner_gone, inner_shown, leaf_named}
 

@@ -11,18 +11,20 @@ use Rattle.art_nodes.proofs.NameLemmas.{inner_cmp_total}
 use Rattle.art_nodes.proofs.StoreLaws.{gone_elsewhere}
 use Rattle.art_nodes.proofs.NameLemmas.{inner_cmp-IsAntisymmetric}
 use Rattle.art_model.specs.Trees.{Tree, leaf, inner, Children, child, no_child}
-use Rattle.art_model.specs.Layouts.{Node, name_of, slots_of, names_of, names_below, inner_names, inner_names_below, Holds, HoldsBelow, AreDistinct}
+use Rattle.art_model.specs.Layouts.{Node, name_of, slots_of, names_of, inner_names, inner_names_below, Holds, HoldsBelow, AreDistinct}
 use Rattle.art_model.specs.Heights.{highest, height, tree_height, height_below}
 use Rattle.art_model.specs.Stores.{node_at}
+use Rattle.art_model.specs.Writes.{as_inner}
 use Rattle.art_model.proofs.Views.{inner_is_used}
-use Rattle.art_model.proofs.Lists.{Each-append, Each-left, Each-right, Each-weaker}
-use Rattle.art_model.proofs.Names.{distinct_left, distinct_right, distinct_cross, distinct-append}
+use Rattle.art_model.proofs.Lists.{Each-append}
+use Rattle.art_model.proofs.Names.{taken_distinct, takes_inners}
 
 -- the height read off the store is that of the layout
 module _ {N A : Type 0} (at : N → Option (Node N A)) where
   mutual
     unfolding height
 
+    -- of a name
     pub height_is : (t : Tree N A) (steps : ℕ) → Holds at t → tree_height t ≤ steps → height at steps (name_of t) ≡ tree_height t
     height_is (leaf n x) zero h enough = refl
     height_is (leaf n x) (suc steps) h enough = rw h refl
@@ -35,6 +37,7 @@ module _ {N A : Type 0} (at : N → Option (Node N A)) where
 
 module _ {N A : Type 0} where
   mutual
+    -- a tree is no higher than it has inner nodes
     pub height_long : (t : Tree N A) → tree_height t ≤ length (inner_names t)
     height_long (leaf n x) = omega arith
     height_long (inner n h cs) = let l = height_below_long cs in omega arith
@@ -43,29 +46,7 @@ module _ {N A : Type 0} where
     height_below_long no_child = omega arith
     height_below_long (child b t cs) = let l = height_long t in let k = height_below_long cs in rw length-append (omega arith)
 
-  mutual
-    pub inners_among : (Q : N → Type 0) (t : Tree N A) → Each Q (names_of t) → Each Q (inner_names t)
-    inners_among Q (leaf n x) h = tt
-    inners_among Q (inner n h cs) k = (k.0, inners_among_below Q cs k.1)
-
-    pub inners_among_below : (Q : N → Type 0) (cs : Children N A) → Each Q (names_below cs) → Each Q (inner_names_below cs)
-    inners_among_below Q no_child h = tt
-    inners_among_below Q (child b t cs) h = Each-append Q (inner_names t) (inner_names_below cs) (inners_among Q t (Each-left Q (names_of t) (names_below cs) h)) (inners_among_below Q cs (Each-right Q (names_of t) (names_below cs) h))
-
-  mutual
-    pub inners_distinct : (t : Tree N A) → AreDistinct (names_of t) → AreDistinct (inner_names t)
-    inners_distinct (leaf n x) h = tt
-    inners_distinct (inner n h cs) d = (inners_among_below (λ k. n ≢ k) cs d.0, inners_distinct_below cs d.1)
-
-    pub inners_distinct_below : (cs : Children N A) → AreDistinct (names_below cs) → AreDistinct (inner_names_below cs)
-    inners_distinct_below no_child h = tt
-    inners_distinct_below (child b t cs) d = distinct-append (inner_names t) (inner_names_below cs) (inners_distinct t (distinct_left (names_of t) (names_below cs) d)) (inners_distinct_below cs (distinct_right (names_of t) (names_below cs) d))
-        (inners_among (λ x. Each (λ z. x ≢ z) (inner_names_below cs)) t (Each-weaker (λ x. Each (λ z. x ≢ z) (names_below cs)) (λ x. Each (λ z. x ≢ z) (inner_names_below cs)) (λ x k. inners_among_below (λ z. x ≢ z) cs k) (names_of t) (distinct_cross (names_of t) (names_below cs) d)))
-
 -- distinct names that a store has are at most as many as it has
-abbrev pub as_inner : OpaqueNodePtr → InnerPtr
-as_inner n = record { kind = n.kind; slot = n.slot }
-
 same_name : (n k : OpaqueNodePtr) → as_inner n ≡ as_inner k → n ≡ k
 same_name n k e = ap (λ p. let r : OpaqueNodePtr = record { kind = p.kind; slot = p.slot } in r) e
 
@@ -75,6 +56,7 @@ one_less m p there =
     let some : map.len m ≢ 0 = λ z. false≢true (sym (ap is_some (map.get-empty inner_cmp p)) ∙ ap (λ n. is_some (map.get n p)) (sym (map.empty_of_len m z)) ∙ there) in
     omega arith
 
+-- so a map of inner nodes has at least as many as a layout
 pub enough_inners : (ns : List OpaqueNodePtr) (m : map.FinMap inner_cmp Inner) → AreDistinct ns → Each (λ n. is_some (map.get m (as_inner n)) ≡ true) ns → length ns ≤ map.len m
 enough_inners [] m d h = omega arith
 enough_inners (n ∷ ns) m d h =
@@ -101,5 +83,5 @@ module _ {K V : Type 0} (s : Nodes K V) where
   pub enough_steps : (t : Tree OpaqueNodePtr (K × V)) → Holds (node_at s) t → AreDistinct (names_of t) → tree_height t ≤ map.len s.inners
   enough_steps t h d =
       let l = height_long t in
-      let k = enough_inners (inner_names t) s.inners (inners_distinct t d) (inners_held t h) in
+      let k = enough_inners (inner_names t) s.inners (taken_distinct takes_inners t d) (inners_held t h) in
       omega arith

@@ -1,16 +1,20 @@
--- the chain of leaves
+-- The chain of leaves: its parts, and what is left of it when the leaves in the middle change.
 use Rattle.std.proofs.Common.{◌≡◌, ◌≢◌, List, [], ◌∷◌, ◌++◌, refl, ap, sym, ◌∙◌, Option, Some, None, ◌⊎◌, inl, inr, subst, append_assoc}
 use Rattle.std.specs.List.{AllByRecursion as Each}
 use Rattle.art_model.specs.Layouts.{Links, AreLinked, first_or, last_or, AreDistinct}
-use Rattle.art_model.proofs.Lists.{Each-left, Each-right}
-use Rattle.art_model.proofs.Names.{apart_before, apart_after, distinct_without, distinct_cross}
+use Rattle.art_model.specs.Footprints.{IsIn}
+use Rattle.art_model.proofs.Lists.{each_from, in_left, in_right}
+use Rattle.art_model.proofs.Pairwises.{Pairwise-left}
+use Rattle.art_model.proofs.Names.{apart_in}
 
 module _ {N : Type 0} where
+  -- the first of a joined list
   pub first_or-append : (xs ys : List N) (o : Option N) → first_or (xs ++ ys) o ≡ first_or xs (first_or ys o)
   first_or-append [] ys o = refl
   first_or-append (x ∷ xs) ys o = refl
 
   module _ (links to : N → Option (Links N)) where
+    -- a chain stays one where its links stay
     pub linked-frame : (xs : List N) (p q : Option N) → Each (λ n. to n ≡ links n) xs → AreLinked links p xs q → AreLinked to p xs q
     linked-frame [] p q same h = tt
     linked-frame (x ∷ xs) p q same h = (same.0 ∙ h.0, linked-frame xs (Some x) q same.1 h.1)
@@ -26,107 +30,116 @@ module _ {N : Type 0} where
     relink_start x xs p q r same h e = (e, linked-frame xs (Some x) q same h.1)
 
   module _ (links : N → Option (Links N)) where
+    -- the first part of a chain
     pub linked_front : (xs ys : List N) (p q : Option N) → AreLinked links p (xs ++ ys) q → AreLinked links p xs (first_or ys q)
     linked_front [] ys p q h = tt
     linked_front (x ∷ xs) ys p q h = (h.0 ∙ ap (λ o. Some (record { previous = p; next = o })) (first_or-append xs ys q), linked_front xs ys (Some x) q h.1)
 
+    -- the second part of a chain
     pub linked_rest : (xs ys : List N) (p q : Option N) → AreLinked links p (xs ++ ys) q → AreLinked links (last_or xs p) ys q
     linked_rest [] ys p q h = h
     linked_rest (x ∷ xs) ys p q h = linked_rest xs ys (Some x) q h.1
 
+    -- two chains that meet
     pub linked-append : (xs ys : List N) (p q : Option N) → AreLinked links p xs (first_or ys q) → AreLinked links (last_or xs p) ys q → AreLinked links p (xs ++ ys) q
     linked-append [] ys p q h k = k
     linked-append (x ∷ xs) ys p q h k = (h.0 ∙ ap (λ o. Some (record { previous = p; next = o })) (sym (first_or-append xs ys q)), linked-append xs ys (Some x) q h.1 k)
 
--- What becomes of the chain when the leaves between `before` and `after` change: their new first and last ones are `q` and `p`.
-module _ {N : Type 0} where
-  pub record Relinked (links to : N → Option (Links N)) (Stays : N → Type 0) (before q p after : Option N) : Type 0 where
-    pub on_left : (l : N) (a b : Option N) → before ≡ Some l → links l ≡ Some (record { previous = a; next = b }) → to l ≡ Some (record { previous = a; next = q })
-    pub on_right : (l : N) (a b : Option N) → after ≡ Some l → links l ≡ Some (record { previous = a; next = b }) → to l ≡ Some (record { previous = p; next = b })
-    pub others : (k : N) → Stays k → (before ≡ Some k → ⊥) → (after ≡ Some k → ⊥) → to k ≡ links k
+-- ---- the first and the last leaf of a list
 
+module _ {N : Type 0} where
+  -- the last of a list with one more at its end
   pub last_or-push : (xs : List N) (l : N) (o : Option N) → last_or (xs ++ l ∷ []) o ≡ Some l
   last_or-push [] l o = refl
   last_or-push (x ∷ xs) l o = last_or-push xs l (Some x)
 
+  -- the last of a joined list
   pub last_or-append : (xs ys : List N) (o : Option N) → last_or (xs ++ ys) o ≡ last_or ys (last_or xs o)
   last_or-append [] ys o = refl
   last_or-append (x ∷ xs) ys o = last_or-append xs ys (Some x)
 
+  -- a list is empty, or its last element is in it
   abbrev Ends : List N → Type 0
   Ends xs = (xs ≡ []) ⊎ ((ys : List N) × (l : N) × (xs ≡ ys ++ l ∷ []))
 
   ends : (xs : List N) → Ends xs
   ends [] = inl refl
-  ends (x ∷ xs) = go (ends xs)
+  ends (x ∷ xs) = elim (ends xs) [
+    | inl e ↦ inr ([], x, ap (λ l. x ∷ l) e)
+    | inr e ↦ let (ys, l, is) = e in inr (x ∷ ys, l, ap (λ l. x ∷ l) is)
+  ]
+
+  -- the last one of a list is in it, and so is the first one
+  pub last_in : (xs : List N) (k : N) → last_or xs None ≡ Some k → IsIn k xs
+  last_in xs k e = go (ends xs)
     where
-      go : Ends xs → Ends (x ∷ xs)
-      go (inl e) = inr ([], x, ap (λ l. x ∷ l) e)
-      go (inr (ys, l, e)) = inr (x ∷ ys, l, ap (λ l. x ∷ l) e)
+      go : Ends xs → IsIn k xs
+      go (inl none) = let f : last_or xs None ≡ None = ap (λ l. last_or l None) none in absurd cc
+      go (inr (ys, l, is)) =
+          let f : last_or xs None ≡ Some l = ap (λ z. last_or z None) is ∙ last_or-push ys l None in
+          let same : l ≡ k = cc in
+          subst (IsIn k) (sym is) (in_right k ys (l ∷ []) (inl same))
 
-  last_link : (links : N → Option (Links N)) (xs : List N) (l : N) (p q : Option N) → AreLinked links p (xs ++ l ∷ []) q → links l ≡ Some (record { previous = last_or xs p; next = q })
-  last_link links [] l p q h = h.0
-  last_link links (x ∷ xs) l p q h = last_link links xs l (Some x) q h.1
+  -- the first one of a list is in it
+  pub first_in : (xs : List N) (k : N) → first_or xs None ≡ Some k → IsIn k xs
+  first_in [] k e = absurd cc
+  first_in (x ∷ xs) k e = inl cc
 
-  not_first : (zs : List N) (k : N) → Each (λ z. k ≢ z) zs → first_or zs None ≡ Some k → ⊥
-  not_first [] k h e = absurd cc
-  not_first (z ∷ zs) k h e = h.0 cc
+  -- of distinct leaves the last one before a place is not the first one after it
+  pub last_not_first : (xs zs : List N) (k : N) → AreDistinct (xs ++ zs) → last_or xs None ≡ Some k → first_or zs None ≡ Some k → ⊥
+  last_not_first xs zs k d e f = apart_in xs zs k d (last_in xs k e) (first_in zs k f)
 
-  abbrev NotLast : List N → N → Type 0
-  NotLast ws k = last_or ws None ≡ Some k → ⊥
+  -- the links of a leaf in the chain
+  pub link_of : (links : N → Option (Links N)) (xs zs : List N) (k : N) (p q : Option N) → AreLinked links p (xs ++ k ∷ zs) q → links k ≡ Some (record { previous = last_or xs p; next = first_or zs q })
+  link_of links xs zs k p q h = (linked_rest links xs (k ∷ zs) p q h).0
 
-  not_last_from : (ws : List N) (k : N) → Ends ws → Each (λ w. w ≢ k) ws → NotLast ws k
-  not_last_from ws k (inl none) a e = let f = ap (λ l. last_or l None) none in absurd cc
-  not_last_from ws k (inr (vs, v, push)) a e =
-      let b = Each-right (λ w. w ≢ k) vs (v ∷ []) (subst (Each (λ w. w ≢ k)) push a) in
-      let last = last_or-push vs v None in
-      let f = ap (λ l. last_or l None) push in
-      b.0 cc
+-- ---- other leaves in the middle
 
-  not_last : (ws us : List N) → AreDistinct (ws ++ us) → Each (NotLast ws) us
-  not_last ws [] d = tt
-  not_last ws (u ∷ us) d = (not_last_from ws u (ends ws) (apart_before ws us u d), not_last ws us (distinct_without ws us u d))
+module _ {N : Type 0} where
+  -- Between `xs` and `zs` stand `ns`: they are linked, the leaves beside them know it, and the others have the links that they had.
+  pub record Relinked (links to : N → Option (Links N)) (xs ns zs : List N) : Type 0 where
+    pub on_left : (l : N) (a b : Option N) → last_or xs None ≡ Some l → links l ≡ Some (record { previous = a; next = b }) → to l ≡ Some (record { previous = a; next = first_or ns (first_or zs None) })
+    pub on_right : (l : N) (a b : Option N) → first_or zs None ≡ Some l → links l ≡ Some (record { previous = a; next = b }) → to l ≡ Some (record { previous = last_or ns (last_or xs None); next = b })
+    pub inside : AreLinked to (last_or xs None) ns (first_or zs None)
+    pub others : (k : N) → IsIn k (xs ++ zs) → (last_or xs None ≡ Some k → ⊥) → (first_or zs None ≡ Some k → ⊥) → to k ≡ links k
 
-  module _ (links to : N → Option (Links N)) (Stays : N → Type 0) (q p : Option N) where
-    before_part : (ys : List N) (l : N) (zs : List N) (o : Option N) → Each Stays ys → AreDistinct (ys ++ l ∷ zs) → Relinked links to Stays (Some l) q p (first_or zs None) → AreLinked links None (ys ++ l ∷ []) o → AreLinked to None (ys ++ l ∷ []) q
-    before_part ys l zs o stay distinct change h =
-        relink_end links to ys l None o q (same ys stay (distinct_cross ys (l ∷ zs) distinct)) h (change.on_left l (last_or ys None) o refl (last_link links ys l None o h))
-      where
-        same : (ws : List N) → Each Stays ws → Each (λ x. Each (λ z. x ≢ z) (l ∷ zs)) ws → Each (λ k. to k ≡ links k) ws
-        same [] a b = tt
-        same (w ∷ ws) a b = (change.others w a.0 (λ e. b.0.0 (sym cc)) (not_first zs w b.0.1), same ws a.1 b.1)
+module _ {N : Type 0} (links to : N → Option (Links N)) (xs ns zs : List N) (distinct : AreDistinct (xs ++ zs)) (change : Relinked links to xs ns zs) where
+  -- the leaves before the middle
+  linked_before : (o : Option N) → AreLinked links None xs o → AreLinked to None xs (first_or ns (first_or zs None))
+  linked_before o h = go (ends xs)
+    where
+      go : Ends xs → AreLinked to None xs (first_or ns (first_or zs None))
+      go (inl e) = rw e tt
+      go (inr (ys, l, e)) =
+          let h' : AreLinked links None (ys ++ l ∷ []) o = subst (λ z. AreLinked links None z o) e h in
+          let last : last_or xs None ≡ Some l = ap (λ z. last_or z None) e ∙ last_or-push ys l None in
+          let own : AreDistinct (ys ++ l ∷ []) = subst AreDistinct e (Pairwise-left ◌≢◌ xs zs distinct) in
+          let same = each_from (λ k. to k ≡ links k) ys (λ k i.
+          let among : IsIn k xs = subst (IsIn k) (sym e) (in_left k ys (l ∷ []) i) in
+          change.others k (in_left k xs zs among) (λ f. let g : l ≡ k = cc in apart_in ys (l ∷ []) k own i (inl g)) (λ f. apart_in xs zs k distinct among (first_in zs k f))) in
+          subst (λ z. AreLinked to None z (first_or ns (first_or zs None))) (sym e)
+          (relink_end links to ys l None o (first_or ns (first_or zs None)) same h' (change.on_left l (last_or ys None) o last (link_of links ys [] l None o h')))
 
-    after_part : (xs : List N) (z : N) (zs : List N) (o : Option N) → Each Stays zs → AreDistinct (xs ++ z ∷ zs) → Relinked links to Stays (last_or xs None) q p (Some z) → AreLinked links o (z ∷ zs) None → AreLinked to p (z ∷ zs) None
-    after_part xs z zs o stay distinct change h =
-        relink_start links to z zs o None p (same zs stay (apart_after xs zs z distinct) (not_last xs zs (distinct_without xs zs z distinct))) h (change.on_right z o (first_or zs None) refl h.0)
-      where
-        same : (us : List N) → Each Stays us → Each (λ k. k ≢ z) us → Each (NotLast xs) us → Each (λ k. to k ≡ links k) us
-        same [] a b c = tt
-        same (u ∷ us) a b c = (change.others u a.0 c.0 (λ e. b.0 (sym cc)), same us a.1 b.1 c.1)
+  -- the leaves after it
+  linked_after : (o : Option N) → AreLinked links o zs None → AreLinked to (last_or ns (last_or xs None)) zs None
+  linked_after o h = go zs refl
+    where
+      go : (ws : List N) → zs ≡ ws → AreLinked to (last_or ns (last_or xs None)) ws None
+      go [] e = tt
+      go (w ∷ ws) e =
+          let h' : AreLinked links o (w ∷ ws) None = subst (λ z. AreLinked links o z None) e h in
+          let all : AreDistinct ((xs ++ w ∷ []) ++ ws) = subst AreDistinct (ap (λ z. xs ++ z) e ∙ sym (append_assoc xs (w ∷ []) ws)) distinct in
+          let first : first_or zs None ≡ Some w = ap (λ z. first_or z None) e in
+          let same = each_from (λ k. to k ≡ links k) ws (λ k i.
+          let among : IsIn k (xs ++ zs) = in_right k xs zs (subst (IsIn k) (sym e) (inr i)) in
+          change.others k among (λ f. apart_in (xs ++ w ∷ []) ws k all (in_left k xs (w ∷ []) (last_in xs k f)) i) (λ f. let g : w ≡ k = cc in apart_in (xs ++ w ∷ []) ws k all (in_right k xs (w ∷ []) (inl g)) i)) in
+          relink_start links to w ws o None (last_or ns (last_or xs None)) same h' (change.on_right w o (first_or ws None) first h'.0)
 
-    front_of : (xs zs : List N) (o : Option N) → Each Stays xs → AreDistinct (xs ++ zs) → Relinked links to Stays (last_or xs None) q p (first_or zs None) → AreLinked links None xs o → AreLinked to None xs q
-    front_of xs zs o stay distinct change h = go (ends xs)
-      where
-        go : Ends xs → AreLinked to None xs q
-        go (inl e) = rw e tt
-        go (inr (ys, l, e)) =
-            let last : last_or xs None ≡ Some l = rw e (last_or-push ys l None) in
-            rw e (before_part ys l zs o (Each-left Stays ys (l ∷ []) (rw e at stay)) (rw (e, append_assoc ys (l ∷ []) zs) at distinct) (rw last at change) (rw e at h))
-
-    back_of : (xs zs : List N) (o : Option N) → Each Stays zs → AreDistinct (xs ++ zs) → Relinked links to Stays (last_or xs None) q p (first_or zs None) → AreLinked links o zs None → AreLinked to p zs None
-    back_of xs [] o stay distinct change h = tt
-    back_of xs (z ∷ zs) o stay distinct change h = after_part xs z zs o stay.1 distinct change h
-
-  -- other leaves between those before and those after
-  pub relink : (links to : N → Option (Links N)) (Stays : N → Type 0) (xs ms ns zs : List N) → Each Stays xs → Each Stays zs → AreDistinct (xs ++ zs) →
-      Relinked links to Stays (last_or xs None) (first_or ns (first_or zs None)) (last_or ns (last_or xs None)) (first_or zs None) →
-      AreLinked to (last_or xs None) ns (first_or zs None) →
-      AreLinked links None (xs ++ ms ++ zs) None → AreLinked to None (xs ++ ns ++ zs) None
-  relink links to Stays xs ms ns zs stay_l stay_r distinct change inside h =
-      let q = first_or ns (first_or zs None) in
-      let p = last_or ns (last_or xs None) in
+  -- the chain with other leaves in the middle
+  pub relink : (ms : List N) → AreLinked links None (xs ++ ms ++ zs) None → AreLinked to None (xs ++ ns ++ zs) None
+  relink ms h =
       let old = linked_front links xs ms None (first_or zs None) (linked_front links (xs ++ ms) zs None None h) in
       let rest = linked_rest links (xs ++ ms) zs None None h in
       linked-append to (xs ++ ns) zs None None
-      (linked-append to xs ns None (first_or zs None) (front_of links to Stays q p xs zs (first_or ms (first_or zs None)) stay_l distinct change old) inside)
-      (rw last_or-append (back_of links to Stays q p xs zs (last_or (xs ++ ms) None) stay_r distinct change rest))
+      (linked-append to xs ns None (first_or zs None) (linked_before (first_or ms (first_or zs None)) old) change.inside)
+      (rw last_or-append (linked_after (last_or (xs ++ ms) None) rest))

@@ -1,52 +1,140 @@
--- a subtree replaced by another at the same place
-use Rattle.std.proofs.Common.{◌≡◌, ℕ, ◌<◌, ◌≤◌, List, [], ◌∷◌, ◌++◌, length, refl, ap, sym, ◌∙◌, append_assoc, append-nil, arith, length-append, subst, true, false, Bool, cond}
+-- Paths: what stands before the hole, in it and after it, and what a change in the hole makes of the whole tree.
+use Rattle.std.proofs.Common.{◌≡◌, ℕ, ◌<◌, ◌≤◌, List, [], ◌∷◌, ◌++◌, length, refl, ap, sym, ◌∙◌, append_assoc, append-nil, arith, length-append, subst, map, ap₂}
 use Rattle.std.specs.List.{AllByRecursion as Each}
-use Rattle.std.proofs.lemmas.List.Elements.{filter-append}
-use Rattle.art_model.specs.Keys.{IsFront, Precedes, are_related, is_before}
-use Rattle.art_model.specs.Trees.{Tree, child, header_of}
-use Rattle.art_model.specs.Radix.{IsRadix, IsRising, bytes_of, pairs_of, pairs_below}
-use Rattle.art_model.specs.Pairs.{add_in_order, put, overwrite, remove_key, remove_related}
-use Rattle.art_model.specs.Paths.{Frame, fill, plug, pairs_before, pairs_after, IsPath}
-use Rattle.art_model.proofs.Lists.{Each-append, Each-left, Each-right, front_cut, Each-weaker}
-use Rattle.art_model.proofs.Keys.{precedes_apart, related_sym, same_related}
+use Rattle.std.proofs.lemmas.List.{map-append}
+use Rattle.art_model.specs.Keys.{IsFront, Precedes}
+use Rattle.art_model.specs.Trees.{Tree, leaf, inner, Children, child, no_child, header_of}
+use Rattle.art_model.specs.Radix.{IsRadix, IsRising, bytes_of, join, pairs_of, pairs_below}
+use Rattle.art_model.specs.Layouts.{name_of, slots_of, names_of, names_below, leaf_names, leaf_names_below, leaves_of, leaves_below}
+use Rattle.art_model.specs.Paths.{Frame, fill, plug, pairs_before, pairs_after, names_before, names_after, leaves_before, leaves_after, IsPath}
+use Rattle.art_model.specs.Footprints.{IsIn}
+use Rattle.art_model.proofs.Rebuild.{radix_way}
+use Rattle.art_model.proofs.Lists.{each_in, Each-append, front_cut, Each-weaker}
+use Rattle.art_model.proofs.Pairwises.{Pairwise-before, Pairwise-after}
+use Rattle.art_model.proofs.Between.{IsLocal}
 use Rattle.art_model.proofs.Radix.{bytes_of-join, pairs_below-join, AreRadix-join, AreRadix-left, AreRadix-right, parts, PartsBelow, PartsAbove, all_below, all_above}
 
--- bytes that rise through a middle one
-pub rising_left : (xs ys : List ℕ) (b : ℕ) → IsRising (xs ++ b ∷ ys) → Each (λ c. c < b) xs
-rising_left [] ys b h = tt
-rising_left (x ∷ xs) ys b h = ((Each-right (λ c. x < c) xs (b ∷ ys) h.0).0, rising_left xs ys b h.1)
-
-pub rising_right : (xs ys : List ℕ) (b : ℕ) → IsRising (xs ++ b ∷ ys) → Each (λ c. b < c) ys
-rising_right [] ys b h = h.0
-rising_right (x ∷ xs) ys b h = rising_right xs ys b h.1
-
-pub rising_without : (xs ys : List ℕ) (b : ℕ) → IsRising (xs ++ b ∷ ys) → IsRising (xs ++ ys)
-rising_without [] ys b h = h.1
-rising_without (x ∷ xs) ys b h = (Each-append (λ c. x < c) xs ys (Each-left (λ c. x < c) xs (b ∷ ys) h.0) (Each-right (λ c. x < c) xs (b ∷ ys) h.0).1, rising_without xs ys b h.1)
-
-pub rising_with : (xs ys : List ℕ) (b : ℕ) → Each (λ c. c < b) xs → Each (λ c. b < c) ys → IsRising (xs ++ ys) → IsRising (xs ++ b ∷ ys)
-rising_with [] ys b l r h = (r, h)
-rising_with (x ∷ xs) ys b l r h = (Each-append (λ c. x < c) xs (b ∷ ys) (Each-left (λ c. x < c) xs ys h.0) (l.0, Each-right (λ c. x < c) xs ys h.0), rising_with xs ys b l.1 r h.1)
+-- ---- what joined children and a plugged path consist of
 
 module _ {N A : Type 0} where
+  -- slots of joined children
+  pub slots_of-join : (cs ds : Children N A) → slots_of (join cs ds) ≡ slots_of cs ++ slots_of ds
+  slots_of-join no_child ds = refl
+  slots_of-join (child b t cs) ds = ap (λ l. (b, name_of t) ∷ l) (slots_of-join cs ds)
+
+  -- names of joined children
+  pub names_below-join : (cs ds : Children N A) → names_below (join cs ds) ≡ names_below cs ++ names_below ds
+  names_below-join no_child ds = refl
+  names_below-join (child b t cs) ds = ap (λ l. names_of t ++ l) (names_below-join cs ds) ∙ sym (append_assoc (names_of t) (names_below cs) (names_below ds))
+
+  -- names of joined children's leaves
+  pub leaf_names_below-join : (cs ds : Children N A) → leaf_names_below (join cs ds) ≡ leaf_names_below cs ++ leaf_names_below ds
+  leaf_names_below-join no_child ds = refl
+  leaf_names_below-join (child b t cs) ds = ap (λ l. leaf_names t ++ l) (leaf_names_below-join cs ds) ∙ sym (append_assoc (leaf_names t) (leaf_names_below cs) (leaf_names_below ds))
+
+  -- entries of joined children
+  pub leaves_below-join : (cs ds : Children N A) → leaves_below (join cs ds) ≡ leaves_below cs ++ leaves_below ds
+  leaves_below-join no_child ds = refl
+  leaves_below-join (child b t cs) ds = ap (λ l. leaves_of t ++ l) (leaves_below-join cs ds) ∙ sym (append_assoc (leaves_of t) (leaves_below cs) (leaves_below ds))
+
+  -- entries on the left, in the middle and on the right
+  pub leaves_below-three : (l middle r : Children N A) → leaves_below (join l (join middle r)) ≡ leaves_below l ++ leaves_below middle ++ leaves_below r
+  leaves_below-three l middle r = leaves_below-join l (join middle r) ∙ ap (λ z. leaves_below l ++ z) (leaves_below-join middle r) ∙ sym (append_assoc (leaves_below l) (leaves_below middle) (leaves_below r))
+
+  -- the names of the leaves on the left, in the middle and on the right
+  pub leaf_names_below-three : (l middle r : Children N A) → leaf_names_below (join l (join middle r)) ≡ leaf_names_below l ++ leaf_names_below middle ++ leaf_names_below r
+  leaf_names_below-three l middle r = leaf_names_below-join l (join middle r) ∙ ap (λ z. leaf_names_below l ++ z) (leaf_names_below-join middle r) ∙ sym (append_assoc (leaf_names_below l) (leaf_names_below middle) (leaf_names_below r))
+
+  -- the pairs before the hole, in it and after it
   pub pairs_of-plug : (fs : List (Frame N A)) (t : Tree N A) → pairs_of (plug fs t) ≡ pairs_before fs ++ pairs_of t ++ pairs_after fs
   pairs_of-plug [] t = sym (append-nil (pairs_of t))
   pairs_of-plug (f ∷ fs) t = pairs_of-plug fs (fill f t) ∙ simp (pairs_below-join, append_assoc)
 
+  -- the names before the hole, in it and after it
+  pub names_of-plug : (fs : List (Frame N A)) (t : Tree N A) → names_of (plug fs t) ≡ names_before fs ++ names_of t ++ names_after fs
+  names_of-plug [] t = sym (append-nil (names_of t))
+  names_of-plug (f ∷ fs) t = names_of-plug fs (fill f t) ∙ simp (names_below-join, append_assoc)
+
+  -- the names of the leaves before the hole, in it and after it
+  pub leaf_names-plug : (fs : List (Frame N A)) (t : Tree N A) → leaf_names (plug fs t) ≡ leaves_before fs ++ leaf_names t ++ leaves_after fs
+  leaf_names-plug [] t = sym (append-nil (leaf_names t))
+  leaf_names-plug (f ∷ fs) t = leaf_names-plug fs (fill f t) ∙ simp (leaf_names_below-join, append_assoc)
+
+  mutual
+    -- the pairs of the entries are those of the tree
+    pub pairs_of-leaves : (t : Tree N A) → map (λ e. e.0) (leaves_of t) ≡ pairs_of t
+    pairs_of-leaves (leaf n x) = refl
+    pairs_of-leaves (inner n h cs) = pairs_below-leaves cs
+
+    pub pairs_below-leaves : (cs : Children N A) → map (λ e. e.0) (leaves_below cs) ≡ pairs_below cs
+    pairs_below-leaves no_child = refl
+    pairs_below-leaves (child b t cs) = map-append (λ e. e.0) (leaves_of t) (leaves_below cs) ∙ ap₂ (λ (xs ys : List A). xs ++ ys) (pairs_of-leaves t) (pairs_below-leaves cs)
+
+  mutual
+    -- and their names are those of the leaves
+    pub leaf_names-leaves : (t : Tree N A) → map (λ e. e.1) (leaves_of t) ≡ leaf_names t
+    leaf_names-leaves (leaf n x) = refl
+    leaf_names-leaves (inner n h cs) = leaf_names_below-leaves cs
+
+    pub leaf_names_below-leaves : (cs : Children N A) → map (λ e. e.1) (leaves_below cs) ≡ leaf_names_below cs
+    leaf_names_below-leaves no_child = refl
+    leaf_names_below-leaves (child b t cs) = map-append (λ e. e.1) (leaves_of t) (leaves_below cs) ∙ ap₂ (λ (ks ls : List N). ks ++ ls) (leaf_names-leaves t) (leaf_names_below-leaves cs)
+
+  -- trees with the same entries have the same pairs and the same leaves
+  pub same_pairs_of : (t u : Tree N A) → leaves_of u ≡ leaves_of t → pairs_of u ≡ pairs_of t
+  same_pairs_of t u e = sym (pairs_of-leaves u) ∙ ap (map (λ e. e.0)) e ∙ pairs_of-leaves t
+
+  -- and the same names of leaves
+  pub same_leaf_names : (t u : Tree N A) → leaves_of u ≡ leaves_of t → leaf_names u ≡ leaf_names t
+  same_leaf_names t u e = sym (leaf_names-leaves u) ∙ ap (map (λ e. e.1)) e ∙ leaf_names-leaves t
+
+  -- the pairs and names of the leaves before the hole, and of those after it
+  abbrev pub entries_before : List (Frame N A) → List (A × N)
+  entries_before [] = []
+  entries_before (f ∷ fs) = entries_before fs ++ leaves_below f.left
+
+  abbrev pub entries_after : List (Frame N A) → List (A × N)
+  entries_after [] = []
+  entries_after (f ∷ fs) = leaves_below f.right ++ entries_after fs
+
+  -- the entries before the hole, in it and after it
+  pub leaves_of-plug : (fs : List (Frame N A)) (t : Tree N A) → leaves_of (plug fs t) ≡ entries_before fs ++ leaves_of t ++ entries_after fs
+  leaves_of-plug [] t = sym (append-nil (leaves_of t))
+  leaves_of-plug (f ∷ fs) t = leaves_of-plug fs (fill f t) ∙ simp (leaves_below-join, append_assoc)
+
+  -- the root's name, where the tree in the hole may have another name
+  abbrev pub root_with : List (Frame N A) → N → N → N
+  root_with [] root hole = hole
+  root_with (f ∷ fs) root hole = root
+
+  -- the root's name after a change in the hole
+  pub name_of-plug : (fs : List (Frame N A)) (t u : Tree N A) → name_of (plug fs u) ≡ root_with fs (name_of (plug fs t)) (name_of u)
+  name_of-plug [] t u = refl
+  name_of-plug (f ∷ fs) t u = same_root fs (fill f t) (fill f u) refl
+    where
+      same_root : (gs : List (Frame N A)) (t u : Tree N A) → name_of u ≡ name_of t → name_of (plug gs u) ≡ name_of (plug gs t)
+      same_root [] t u e = e
+      same_root (g ∷ gs) t u e = same_root gs (fill g t) (fill g u) refl
+
+-- ---- paths of a radix tree
+
 module _ {N A : Type 0} (bytes : A → List ℕ) (P : ℕ) where
-  -- a radix tree in the hole of a path makes a radix tree
-  pub plug_radix : (fs : List (Frame N A)) (place : List ℕ) (t : Tree N A) → IsPath bytes P place fs → IsRadix bytes P place t → IsRadix bytes P [] (plug fs t)
-  plug_radix [] place t e h = subst (λ w. IsRadix bytes P w t) e h
-  plug_radix (f ∷ fs) place t (outer, part, e, head, two, up, l, r, path) h =
+  -- a radix tree in the hole of a frame makes a radix tree
+  unfoldable pub fill_radix : (f : Frame N A) (fs : List (Frame N A)) (place : List ℕ) (t : Tree N A) (path : IsPath bytes P place (f ∷ fs)) → IsRadix bytes P place t → IsRadix bytes P path.0 (fill f t)
+  fill_radix f fs place t (outer, part, e, head, two, up, l, r, path) h =
       let bs = bytes_of-join f.left (child f.byte t f.right) in
-      let count = length-append (bytes_of f.left) (f.byte ∷ bytes_of f.right) in
-      plug_radix fs outer (fill f t) path (
+      let count = length-append (bytes_of f.left) (f.byte ∷ bytes_of f.right) in (
         part,
         head ∙ ap (λ z. header_of P part (length z)) (sym bs),
         rw bs (omega arith),
         subst IsRising (sym bs) up,
         AreRadix-join bytes P (outer ++ part) f.left (child f.byte t f.right) l (subst (λ w. IsRadix bytes P w t) e h, r),
       )
+
+  -- a radix tree in the hole of a path makes a radix tree
+  pub plug_radix : (fs : List (Frame N A)) (place : List ℕ) (t : Tree N A) → IsPath bytes P place fs → IsRadix bytes P place t → IsRadix bytes P [] (plug fs t)
+  plug_radix [] place t e h = subst (λ w. IsRadix bytes P w t) e h
+  plug_radix (f ∷ fs) place t (outer, part, e, head, two, up, l, r, path) h = plug_radix fs outer (fill f t) path (fill_radix f fs place t (outer, part, e, head, two, up, l, r, path) h)
 
   -- one step down
   pub path_down : (fs : List (Frame N A)) (place : List ℕ) (f : Frame N A) (t : Tree N A) → IsPath bytes P place fs → (radix : IsRadix bytes P place (fill f t)) →
@@ -66,81 +154,42 @@ module _ {N A : Type 0} (bytes : A → List ℕ) (P : ℕ) where
       let k' : IsFront ((outer ++ part) ++ f.byte ∷ []) key = subst (λ w. IsFront w key) e k in
       Each-append (λ x. Precedes (bytes x) key) (pairs_before fs) (pairs_below f.left)
       (path_before fs outer key path (front_cut outer part key (front_cut (outer ++ part) (f.byte ∷ []) key k')))
-      (Each-weaker (PartsBelow bytes (outer ++ part) f.byte) (λ x. Precedes (bytes x) key) (λ x g. parts bytes (outer ++ part) g.0 f.byte (bytes x) key g.2 k' g.1) (pairs_below f.left) (all_below bytes P (outer ++ part) f.byte f.left l (rising_left (bytes_of f.left) (bytes_of f.right) f.byte up)))
+      (Each-weaker (PartsBelow bytes (outer ++ part) f.byte) (λ x. Precedes (bytes x) key) (λ x g. parts bytes (outer ++ part) g.0 f.byte (bytes x) key g.2 k' g.1) (pairs_below f.left) (all_below bytes P (outer ++ part) f.byte f.left l (Pairwise-before ◌<◌ (bytes_of f.left) (bytes_of f.right) f.byte up)))
 
+  -- and keys after it
   pub path_after : (fs : List (Frame N A)) (place key : List ℕ) → IsPath bytes P place fs → IsFront place key → Each (λ x. Precedes key (bytes x)) (pairs_after fs)
   path_after [] place key path k = tt
   path_after (f ∷ fs) place key (outer, part, e, head, two, up, l, r, path) k =
       let k' : IsFront ((outer ++ part) ++ f.byte ∷ []) key = subst (λ w. IsFront w key) e k in
       Each-append (λ x. Precedes key (bytes x)) (pairs_below f.right) (pairs_after fs)
-      (Each-weaker (PartsAbove bytes (outer ++ part) f.byte) (λ x. Precedes key (bytes x)) (λ x g. parts bytes (outer ++ part) f.byte g.0 key (bytes x) k' g.2 g.1) (pairs_below f.right) (all_above bytes P (outer ++ part) f.byte f.right r (rising_right (bytes_of f.left) (bytes_of f.right) f.byte up)))
+      (Each-weaker (PartsAbove bytes (outer ++ part) f.byte) (λ x. Precedes key (bytes x)) (λ x g. parts bytes (outer ++ part) f.byte g.0 key (bytes x) k' g.2 g.1) (pairs_below f.right) (all_above bytes P (outer ++ part) f.byte f.right r (Pairwise-after ◌<◌ (bytes_of f.left) (bytes_of f.right) f.byte up)))
       (path_after fs outer key path (front_cut outer part key (front_cut (outer ++ part) (f.byte ∷ []) key k')))
 
--- the map's operations where the pairs before and after are not related
-module _ {A : Type 0} (bytes : A → List ℕ) where
-  add_in_order_first : (new : A) (ys : List A) → Each (λ x. Precedes (bytes new) (bytes x)) ys → add_in_order bytes new ys ≡ new ∷ ys
-  add_in_order_first new [] h = refl
-  add_in_order_first new (y ∷ ys) h = rw h.0.0
+  -- what such a tree is: a radix tree in the hole of a path
+  pub radix_plug : (fs : List (Frame N A)) (t : Tree N A) → IsRadix bytes P [] (plug fs t) → (place : List ℕ) × IsPath bytes P place fs × IsRadix bytes P place t
+  radix_plug [] t h = ([], refl, h)
+  radix_plug (f ∷ fs) t h =
+      let (outer, path, node) = radix_plug fs (fill f t) h in
+      let (down, radix) = path_down fs outer f t path node in
+      ((outer ++ node.0) ++ f.byte ∷ [], down, radix)
 
-  pub add_in_order-after : (new : A) (xs ys : List A) → Each (λ x. Precedes (bytes x) (bytes new)) xs → add_in_order bytes new (xs ++ ys) ≡ xs ++ add_in_order bytes new ys
-  add_in_order-after new [] ys h = refl
-  add_in_order-after new (x ∷ xs) ys h = rw (precedes_apart (bytes x) (bytes new) h.0) (ap (λ l. x ∷ l) (add_in_order-after new xs ys h.1))
+-- the tree in the hole of a path is a radix tree at a place that is a front of the key
+pub record IsHole {N A : Type 0} (bytes : A → List ℕ) (P : ℕ) (fs : List (Frame N A)) (place : List ℕ) (t : Tree N A) (key : List ℕ) : Type 0 where
+  pub path : IsPath bytes P place fs
+  pub radix : IsRadix bytes P place t
+  pub front : IsFront place key
 
-  pub add_in_order-before : (new : A) (ys zs : List A) → Each (λ x. Precedes (bytes new) (bytes x)) zs → add_in_order bytes new (ys ++ zs) ≡ add_in_order bytes new ys ++ zs
-  add_in_order-before new [] zs h = add_in_order_first new zs h
-  add_in_order-before new (y ∷ ys) zs h = go (add_in_order-before new ys zs h) (is_before (bytes new) (bytes y))
-    where
-      go : add_in_order bytes new (ys ++ zs) ≡ add_in_order bytes new ys ++ zs → (t : Bool) → cond t (new ∷ y ∷ (ys ++ zs)) (y ∷ add_in_order bytes new (ys ++ zs)) ≡ cond t (new ∷ y ∷ ys) (y ∷ add_in_order bytes new ys) ++ zs
-      go e true = refl
-      go e false = ap (λ l. y ∷ l) e
+-- in a radix tree each path is one, and what is in its hole is a hole for each of its pairs
+pub hole_of : {N A : Type 0} (bytes : A → List ℕ) (P : ℕ) (fs : List (Frame N A)) (t : Tree N A) (x : A) → IsRadix bytes P [] (plug fs t) → IsIn x (pairs_of t) → (place : List ℕ) × IsHole bytes P fs place t (bytes x)
+hole_of bytes P fs t x radix i =
+    let (place, path, own) = radix_plug bytes P fs t radix in
+    (place, record { path = path; radix = own; front = each_in (λ y. IsFront place (bytes y)) x (pairs_of t) (radix_way bytes P t place own) i })
 
-  unrelated : (key : List ℕ) (xs : List A) → Each (λ x. are_related key (bytes x) ≡ false) xs → remove_related bytes key xs ≡ xs
-  unrelated key [] h = refl
-  unrelated key (x ∷ xs) h = rw h.0 (ap (λ l. x ∷ l) (unrelated key xs h.1))
-
-  unequal : (key : List ℕ) (xs : List A) → Each (λ x. are_related key (bytes x) ≡ false) xs → remove_key bytes key xs ≡ xs
-  unequal key [] h = refl
-  unequal key (x ∷ xs) h = rw (same_related key (bytes x) h.0) (ap (λ l. x ∷ l) (unequal key xs h.1))
-
-  module _ (key : List ℕ) (xs ys zs : List A) (low : Each (λ x. Precedes (bytes x) key) xs) (high : Each (λ x. Precedes key (bytes x)) zs) where
-    low_apart : Each (λ x. are_related key (bytes x) ≡ false) xs
-    low_apart = Each-weaker (λ x. Precedes (bytes x) key) (λ x. are_related key (bytes x) ≡ false) (λ x h. related_sym key (bytes x) ∙ h.1) xs low
-
-    high_apart : Each (λ x. are_related key (bytes x) ≡ false) zs
-    high_apart = Each-weaker (λ x. Precedes key (bytes x)) (λ x. are_related key (bytes x) ≡ false) (λ x h. h.1) zs high
-
-    pub remove_related-between : remove_related bytes key (xs ++ ys ++ zs) ≡ xs ++ remove_related bytes key ys ++ zs
-    remove_related-between = simp (filter-append, unrelated key xs low_apart, unrelated key zs high_apart)
-
-    pub remove_key-between : remove_key bytes key (xs ++ ys ++ zs) ≡ xs ++ remove_key bytes key ys ++ zs
-    remove_key-between = simp (filter-append, unequal key xs low_apart, unequal key zs high_apart)
-
-  module _ (new : A) (xs ys zs : List A) (low : Each (λ x. Precedes (bytes x) (bytes new)) xs) (high : Each (λ x. Precedes (bytes new) (bytes x)) zs) where
-    add_in_order-between : (ms : List A) → add_in_order bytes new (xs ++ ms ++ zs) ≡ xs ++ add_in_order bytes new ms ++ zs
-    add_in_order-between ms = add_in_order-before new (xs ++ ms) zs high ∙ ap (λ l. l ++ zs) (add_in_order-after new xs ms low)
-
-    pub put-between : put bytes new (xs ++ ys ++ zs) ≡ xs ++ put bytes new ys ++ zs
-    put-between = ap (add_in_order bytes new) (remove_key-between (bytes new) xs ys zs low high) ∙ add_in_order-between (remove_key bytes (bytes new) ys)
-
-    pub overwrite-between : overwrite bytes new (xs ++ ys ++ zs) ≡ xs ++ overwrite bytes new ys ++ zs
-    overwrite-between = ap (add_in_order bytes new) (remove_related-between (bytes new) xs ys zs low high) ∙ add_in_order-between (remove_related bytes (bytes new) ys)
-
--- a change at a place is a change of the whole
+-- A change in the hole of a path is a change of the whole, where it is a local one at a key that goes on from the hole.
 module _ {N A : Type 0} (bytes : A → List ℕ) (P : ℕ) (fs : List (Frame N A)) (place : List ℕ) (path : IsPath bytes P place fs) (t u : Tree N A) (radix : IsRadix bytes P place u) where
-  pub put_at : (new : A) → IsFront place (bytes new) → pairs_of u ≡ put bytes new (pairs_of t) → IsRadix bytes P [] (plug fs u) × (pairs_of (plug fs u) ≡ put bytes new (pairs_of (plug fs t)))
-  put_at new k e = (
+  -- the tree is a radix tree again, and its pairs are those of the change
+  pub changed_at : (key : List ℕ) (F : List A → List A) → IsLocal bytes key F → IsFront place key → pairs_of u ≡ F (pairs_of t) → IsRadix bytes P [] (plug fs u) × (pairs_of (plug fs u) ≡ F (pairs_of (plug fs t)))
+  changed_at key F local k e = (
     plug_radix bytes P fs place u path radix,
-    rw (pairs_of-plug fs u, pairs_of-plug fs t, put-between bytes new (pairs_before fs) (pairs_of t) (pairs_after fs) (path_before bytes P fs place (bytes new) path k) (path_after bytes P fs place (bytes new) path k), e) refl,
-  )
-
-  pub overwrite_at : (new : A) → IsFront place (bytes new) → pairs_of u ≡ overwrite bytes new (pairs_of t) → IsRadix bytes P [] (plug fs u) × (pairs_of (plug fs u) ≡ overwrite bytes new (pairs_of (plug fs t)))
-  overwrite_at new k e = (
-    plug_radix bytes P fs place u path radix,
-    rw (pairs_of-plug fs u, pairs_of-plug fs t, overwrite-between bytes new (pairs_before fs) (pairs_of t) (pairs_after fs) (path_before bytes P fs place (bytes new) path k) (path_after bytes P fs place (bytes new) path k), e) refl,
-  )
-
-  pub remove_at : (key : List ℕ) → IsFront place key → pairs_of u ≡ remove_key bytes key (pairs_of t) → IsRadix bytes P [] (plug fs u) × (pairs_of (plug fs u) ≡ remove_key bytes key (pairs_of (plug fs t)))
-  remove_at key k e = (
-    plug_radix bytes P fs place u path radix,
-    rw (pairs_of-plug fs u, pairs_of-plug fs t, remove_key-between bytes key (pairs_before fs) (pairs_of t) (pairs_after fs) (path_before bytes P fs place key path k) (path_after bytes P fs place key path k), e) refl,
+    rw (pairs_of-plug fs u, pairs_of-plug fs t, local (pairs_before fs) (pairs_of t) (pairs_after fs) (path_before bytes P fs place key path k) (path_after bytes P fs place key path k), e) refl,
   )

@@ -10,21 +10,17 @@ use Rattle.art_model.specs.Layouts.{name_of}
 use Rattle.art_model.specs.Paths.{Frame, fill, plug, IsPath}
 use Rattle.art_model.specs.Places.{depth_of, place_of, places, places_below, IsEndNode}
 use Rattle.art_model.specs.PlaceLaws.{PlacesAreReadOff, PrefixesAreReadOff, PlacesRise, HasEndNode, HasOneEnd}
-use Rattle.art_model.proofs.Lists.{Each-append, Each-left, Each-right, Each-weaker}
+use Rattle.art_model.proofs.Lists.{each_in, each_from, Each-left, Each-right, Each-weaker}
 use Rattle.art_model.proofs.Pairwises.{Pairwise-append}
 use Rattle.art_model.proofs.KeyLaws.{fronts_are_decided, order_is_decided, order_is_strict}
 use Rattle.art_model.proofs.Filters.{Each-both}
 use Rattle.art_model.proofs.Rebuild.{radix_below}
-use Rattle.art_model.proofs.Paths.{path_down}
-use Rattle.art_model.proofs.Places.{taken, place_is, prefix_is, places_way, deeper, beside, ended}
+use Rattle.art_model.proofs.Paths.{path_down, radix_plug}
+use Rattle.art_model.proofs.Places.{Under, places_under, taken, place_is, prefix_is, places_way, deeper, beside, ended}
 
 by_test : {X : Type 0} (t : Bool) → (t ≡ true → X) → (t ≡ false → X) → X
 by_test true f g = f refl
 by_test false f g = g refl
-
-every : (bs : List ℕ) → Each (λ b. Unit {0}) bs
-every [] = tt
-every (b ∷ bs) = (tt, every bs)
 
 module _ {N A : Type 0} where
   pub places_are_read_off : PlacesAreReadOff N A
@@ -49,10 +45,7 @@ module _ {N A : Type 0} (bytes : A → List ℕ) (P : ℕ) where
   under front d b t e h = subst (λ z. Each (λ p. IsFront (front ++ b ∷ []) p.0) (places bytes z t)) (sym e) (places_way bytes P t (front ++ b ∷ []) h)
 
   all_go_on : (Q : ℕ → Type 0) (cs : Children N A) (front : List ℕ) (d : ℕ) → ((b : ℕ) → d ≡ length (front ++ b ∷ [])) → AreRadix bytes P front cs → Each Q (bytes_of cs) → Each (GoesOn front Q) (places_below bytes d cs)
-  all_go_on Q no_child front d e h q = tt
-  all_go_on Q (child b t cs) front d e h q = Each-append (GoesOn front Q) (places bytes d t) (places_below bytes d cs)
-      (Each-weaker (λ p. IsFront (front ++ b ∷ []) p.0) (GoesOn front Q) (λ p f. (b, q.0, f)) (places bytes d t) (under front d b t (e b) h.0))
-      (all_go_on Q cs front d e h.1 q.1)
+  all_go_on Q cs front d e h q = Each-weaker (Under bytes P front cs) (GoesOn front Q) (λ p u. (u.0, each_in Q u.0 (bytes_of cs) q u.1, u.2)) (places_below bytes d cs) (places_under bytes P cs front d e h)
 
   before_below : (place part : List ℕ) (p q : List ℕ × N) → p.0 ≡ place → GoesOn (place ++ part) (λ c. Unit {0}) q → Before p q
   before_below place part p q e (c, u, (r, f)) = (order_is_decided p.0 q.0).1 (inl (first part refl))
@@ -71,7 +64,7 @@ module _ {N A : Type 0} (bytes : A → List ℕ) (P : ℕ) where
         let d = length place + h.length_of + 1 in
         let depth = λ (b : ℕ). deeper place part b h.length_of (ap (λ z. z.length_of) e) in
         let own = place_is bytes P (inner n h cs) place (part, e, two, up, below) in (
-          Each-weaker (GoesOn (place ++ part) (λ c. Unit {0})) (Before (place_of bytes (length place) (inner n h cs), n)) (λ q g. before_below place part (place_of bytes (length place) (inner n h cs), n) q own g) (places_below bytes d cs) (all_go_on (λ c. Unit {0}) cs (place ++ part) d depth below (every (bytes_of cs))),
+          Each-weaker (GoesOn (place ++ part) (λ c. Unit {0})) (Before (place_of bytes (length place) (inner n h cs), n)) (λ q g. before_below place part (place_of bytes (length place) (inner n h cs), n) q own g) (places_below bytes d cs) (all_go_on (λ c. Unit {0}) cs (place ++ part) d depth below (each_from (λ c. Unit {0}) (bytes_of cs) (λ c i. tt))),
           rise_below cs (place ++ part) d depth up below,
         )
 
@@ -182,13 +175,9 @@ module _ {N A : Type 0} (bytes : A → List ℕ) (P : ℕ) where
   own_place Q d (leaf n x) h = h.0
   own_place Q d (inner n h cs) k = k.0
 
-  place_at : (fs : List (Frame N A)) (t : Tree N A) → IsRadix bytes P [] (plug fs t) → (place : List ℕ) × IsPath bytes P place fs × IsRadix bytes P place t
-  place_at [] t h = ([], refl, h)
-  place_at (f ∷ fs) t h = let (outer, path, node) = place_at fs (fill f t) h in let (longer, under_it) = path_down bytes P fs outer f t path node in ((outer ++ node.0) ++ f.byte ∷ [], longer, under_it)
-
   place_long : (tree : Tree N A) (fs : List (Frame N A)) (t : Tree N A) → plug fs t ≡ tree → IsRadix bytes P [] tree → length (place_of bytes (depth_of fs) t) ≡ depth_of fs
   place_long tree fs t whole h =
-      let (place, path, node) = place_at fs t (subst (IsRadix bytes P []) (sym whole) h) in
+      let (place, path, node) = radix_plug bytes P fs t (subst (IsRadix bytes P []) (sym whole) h) in
       let depth = depth_is fs place path in
       ap length (ap (λ d. place_of bytes d t) depth ∙ place_is bytes P t place node) ∙ sym depth
 

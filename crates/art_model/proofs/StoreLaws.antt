@@ -9,7 +9,7 @@ use Rattle.art_model.specs.StoreLaws.{CasesHaveLayout, LayoutsHaveCases, HasOneL
 use Rattle.art_model.proofs.ByCases.{layout_of, stands_from}
 use Rattle.art_model.proofs.Canonical.{tree_radix}
 use Rattle.art_model.proofs.TreeLaws.{one_child, have_two_children}
-use Rattle.art_model.proofs.Splice.{each_in}
+use Rattle.art_model.proofs.Lists.{each_in}
 
 module _ {N A : Type 0} where
   pub cases_have_layout : CasesHaveLayout N A

@@ -1,5 +1,5 @@
 -- a store's maps from what a tree sees in them
-use Rattle.std.proofs.Common.{◌≡◌, ◌≢◌, ℕ, List, Option, Some, None, refl, ap, sym, ◌∙◌, is_some, true}
+use Rattle.std.proofs.Common.{◌≡◌, ◌≢◌, ℕ, List, Option, Some, None, refl, ap, sym, ◌∙◌, is_some, true, ◌⊎◌, inl, inr}
 use Rattle.std.specs.Option.{option_map}
 use Rattle.std.specs.FinMap as map
 use Rattle.art_nodes.specs.Inner.{Inner}
@@ -20,6 +20,7 @@ module _ {K V : Type 0} where
   seen_leaf None x e = absurd cc
   seen_leaf (Some leaf) x e = (leaf, refl, cc)
 
+  -- a leaf is seen as no inner node
   pub seen_no_inner : (o : Option (LeafNode K V)) (h : Header) (slots : List (ℕ × OpaqueNodePtr)) → option_map (seen Leaf) (option_map held_leaf o) ≡ Some (inner_node h slots) → ⊥
   seen_no_inner None h slots e = cc
   seen_no_inner (Some leaf) h slots e = cc
@@ -28,10 +29,12 @@ module _ {K V : Type 0} where
   abbrev pub seen_of : NodeType → Option Inner → Option (Node OpaqueNodePtr (K × V))
   seen_of kind o = option_map (seen kind) (option_map held_inner o)
 
-  seen_inner : (kind : NodeType) (o : Option Inner) (h : Header) (slots : List (ℕ × OpaqueNodePtr)) → seen_of kind o ≡ Some (inner_node h slots) → (node : Inner) × (o ≡ Some node) × (header_at kind node ≡ h) × (node.children ≡ slots)
+  -- what is seen as an inner node is one
+  pub seen_inner : (kind : NodeType) (o : Option Inner) (h : Header) (slots : List (ℕ × OpaqueNodePtr)) → seen_of kind o ≡ Some (inner_node h slots) → (node : Inner) × (o ≡ Some node) × (header_at kind node ≡ h) × (node.children ≡ slots)
   seen_inner kind None h slots e = absurd cc
   seen_inner kind (Some node) h slots e = (node, refl, cc, cc)
 
+  -- an inner node is seen as no leaf
   pub seen_no_leaf : (kind : NodeType) (o : Option Inner) (x : K × V) → seen_of kind o ≡ Some (leaf_node x) → ⊥
   seen_no_leaf kind None x e = cc
   seen_no_leaf kind (Some node) x e = cc
@@ -71,3 +74,20 @@ module _ {K V : Type 0} (s : Nodes K V) where
   -- a name that stands for an inner node is one of the store's inner names
   pub inner_is_used : (n : OpaqueNodePtr) (h : Header) (slots : List (ℕ × OpaqueNodePtr)) → node_at s n ≡ Some (inner_node h slots) → is_some (map.get s.inners (record { kind = n.kind; slot = n.slot })) ≡ true
   inner_is_used n h slots e = inner_used n.kind n.slot h slots e
+
+-- a name is that of a leaf, or has an inner kind
+pub leaf_or : (k : OpaqueNodePtr) → ((p : LeafPtr) × (k ≡ leaf_name p)) ⊎ (k.kind ≢ Leaf)
+leaf_or k = go k.kind k.slot refl
+  where
+    name : NodeType → ℕ → OpaqueNodePtr
+    name kind slot = record { kind = kind; slot = slot }
+
+    other : (kind : NodeType) (slot : ℕ) → k ≡ name kind slot → kind ≢ Leaf → k.kind ≢ Leaf
+    other kind slot e off f = off (sym (ap (λ (z : OpaqueNodePtr). z.kind) e) ∙ f)
+
+    go : (kind : NodeType) (slot : ℕ) → k ≡ name kind slot → ((p : LeafPtr) × (k ≡ leaf_name p)) ⊎ (k.kind ≢ Leaf)
+    go Leaf slot e = inl (record { slot = slot }, e)
+    go Node4 slot e = inr (other Node4 slot e (λ f. absurd cc))
+    go Node16 slot e = inr (other Node16 slot e (λ f. absurd cc))
+    go Node48 slot e = inr (other Node48 slot e (λ f. absurd cc))
+    go Node256 slot e = inr (other Node256 slot e (λ f. absurd cc))

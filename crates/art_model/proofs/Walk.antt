@@ -9,7 +9,7 @@ use Rattle.art_model.specs.Pairs.{related_to}
 use Rattle.art_model.specs.Layouts.{Node, name_of, slots_of, Holds}
 use Rattle.art_model.proofs.Lists.{filter_none, Each-weaker}
 use Rattle.art_model.proofs.Keys.{related_sym}
-use Rattle.art_model.proofs.Paths.{path_down, pairs_of-plug, path_before, path_after}
+use Rattle.art_model.proofs.Paths.{IsHole, path_down, pairs_of-plug, path_before, path_after}
 use Rattle.art_model.proofs.Slots.{split_children}
 use Rattle.art_model.proofs.Stores.{path_holds}
 
@@ -20,15 +20,13 @@ module _ {N A : Type 0} (bytes : A → List ℕ) (P : ℕ) where
     pub place : List ℕ
     pub node : Tree N A
     pub whole : plug frames node ≡ tree
-    pub path : IsPath bytes P place frames
-    pub radix : IsRadix bytes P place node
-    pub front : IsFront place key
+    pub hole : IsHole bytes P frames place node key
     pub named : name_of node ≡ name
     pub depth_is : length place ≡ depth
 
   -- the root is one
   pub spot_root : (tree : Tree N A) (key : List ℕ) → IsRadix bytes P [] tree → Spot tree key (name_of tree) 0
-  spot_root tree key h = record { frames = []; place = []; node = tree; whole = refl; path = refl; radix = h; front = (key, refl); named = refl; depth_is = refl }
+  spot_root tree key h = record { frames = []; place = []; node = tree; whole = refl; hole = record { path = refl; radix = h; front = (key, refl) }; named = refl; depth_is = refl }
 
   -- the node of the store at a spot
   pub spot_holds : (at : N → Option (Node N A)) (tree : Tree N A) (key : List ℕ) (name : N) (depth : ℕ) → Holds at tree → (s : Spot tree key name depth) → Holds at s.node
@@ -44,7 +42,7 @@ module _ {N A : Type 0} (bytes : A → List ℕ) (P : ℕ) where
       let radix : IsRadix bytes P place (fill f t) = (part, subst (λ c. h ≡ header_of P part (length (bytes_of c))) is e, subst (λ c. 2 ≤ length (bytes_of c)) is two, subst (λ c. IsRising (bytes_of c)) is up, subst (AreRadix bytes P (place ++ part)) is below) in
       let (path', radix') = path_down bytes P fs place f t path radix in
       let len : h.length_of ≡ length part = ap (λ z. z.length_of) e in
-      record { frames = f ∷ fs; place = (place ++ part) ++ b ∷ []; node = t; whole = ap (λ c. plug fs (inner m h c)) (sym is) ∙ whole; path = path'; radix = radix'; front = front; named = named; depth_is = simp length-append (omega arith) }
+      record { frames = f ∷ fs; place = (place ++ part) ++ b ∷ []; node = t; whole = ap (λ c. plug fs (inner m h c)) (sym is) ∙ whole; hole = record { path = path'; radix = radix'; front = front }; named = named; depth_is = simp length-append (omega arith) }
 
   -- The pairs related to the key are those at its spot.
   pub related_at : (fs : List (Frame N A)) (place key : List ℕ) (t : Tree N A) → IsPath bytes P place fs → IsFront place key → related_to bytes key (pairs_of (plug fs t)) ≡ related_to bytes key (pairs_of t)

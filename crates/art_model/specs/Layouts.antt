@@ -49,6 +49,16 @@ module _ {N A : Type 0} where
     leaf_names_below no_child = []
     leaf_names_below (child b t cs) = leaf_names t ++ leaf_names_below cs
 
+  -- the pairs and names of the leaves, in order
+  abbrev mutual
+    pub leaves_of : Tree N A → List (A × N)
+    leaves_of (leaf n x) = (x, n) ∷ []
+    leaves_of (inner n h cs) = leaves_below cs
+
+    pub leaves_below : Children N A → List (A × N)
+    leaves_below no_child = []
+    leaves_below (child b t cs) = leaves_of t ++ leaves_below cs
+
   -- the names of the inner nodes
   abbrev mutual
     pub inner_names : Tree N A → List N

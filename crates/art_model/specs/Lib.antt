@@ -5,6 +5,7 @@ pub mod Radix
 pub mod Layouts
 pub mod ByCases
 pub mod Stores
+pub mod Writes
 pub mod Canonical
 pub mod Paths
 pub mod Places

@@ -11,7 +11,7 @@ use Rattle.art_model.specs.Pairs.{IsMap, with_key, put, remove_key, of_key, is_c
 use Rattle.art_model.proofs.Keys.{same_related, related_sym, front_same}
 use Rattle.art_model.proofs.Lists.{Each-weaker, Each-append, filter_none}
 use Rattle.art_model.proofs.Pairwises.{Pairwise-before, Pairwise-after, Pairwise-without, Pairwise-with}
-use Rattle.art_model.proofs.Paths.{put-between, remove_key-between}
+use Rattle.art_model.proofs.Between.{put-between, remove_key-between}
 use Rattle.art_oracle.specs.SortedPairs.{IsPairOf, IsGapFor, AllBefore, AllAfter}
 use Rattle.art_oracle.proofs.Order.{later_no_front}
 use Rattle.art_oracle.proofs.Neighbours.{other_after, other_before, conflict_split}

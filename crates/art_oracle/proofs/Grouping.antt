@@ -23,8 +23,8 @@ use Rattle.art_model.proofs.Lists.{Each-append, Each-left, Each-right, Each-weak
 use Rattle.art_model.proofs.Keys.{IsMap-left, IsMap-right}
 use Rattle.art_model.proofs.Groups.{groups-block, StartsApart}
 use Rattle.art_model.proofs.Build.{IsSortedAt, with_byte, sorted_at}
-use Rattle.art_model.proofs.Splice.{in_left, in_right}
-use Rattle.art_model.proofs.Names.{distinct-append}
+use Rattle.art_model.proofs.Lists.{in_left, in_right}
+use Rattle.art_model.proofs.Pairwises.{Pairwise-append}
 use Rattle.art_oracle.specs.Build.{pairs_at, leaf_pair, leaf_key, Ready, ReadyBelow, Built, BuiltBelow, IsGroup, AreBelow, GoesOn, count_groups, KeepsOthers}
 use Rattle.art_oracle.specs.Built.{KeepsNodes}
 use Rattle.art_oracle.proofs.Kept.{node_used, was_free, inner_used, names_each, each_map}
@@ -237,7 +237,7 @@ module _ {K V : Type 0} {bytes : K → List ℕ} (P : ℕ) (old mid written new 
         holds = (held_still old mid written parent (with_child b name) from inner_kind there kept leaves_written change_is new kept' t.tree t.holds (apart t), cs.holds);
         fresh = Each-append (λ n. held old n ≡ None) (inner_names t.tree) (inner_names_below cs.children) t.fresh (Each-weaker (λ n. held written n ≡ None) (λ n. held old n ≡ None) (λ n free. was_free old mid kept n (now_free n free)) (inner_names_below cs.children) cs.fresh);
         added = λ n used. from_rest n (cs.added n used);
-        distinct = distinct-append (inner_names t.tree) (inner_names_below cs.children) t.distinct cs.distinct
+        distinct = Pairwise-append ◌≢◌ (inner_names t.tree) (inner_names_below cs.children) t.distinct cs.distinct
             (Each-weaker (λ n. IsUsed mid n) (λ n. Each (λ k. n ≢ k) (inner_names_below cs.children)) (λ n used. Each-weaker (λ k. held written k ≡ None) (λ k. n ≢ k) (λ k free e. used (ap (held mid) e ∙ now_free k free)) (inner_names_below cs.children) cs.fresh) (inner_names t.tree) (inner_used (node_at mid) (IsUsed mid) (node_used mid) t.tree t.holds));
       }
     where

@@ -21,8 +21,8 @@ use Rattle.art_model.specs.Stores.{links_at, links_of, held_leaf, pair_of}
 use Rattle.art_model.specs.Footprints.{IsIn}
 use Rattle.art_model.proofs.Lists.{Each-append, Each-weaker}
 use Rattle.art_model.proofs.Links.{linked-append, linked-frame, last_or-push}
-use Rattle.art_model.proofs.Names.{distinct-append, apart_before}
-use Rattle.art_model.proofs.Splice.{in_left, in_right, each_in}
+use Rattle.art_model.proofs.Pairwises.{Pairwise-append, Pairwise-before}
+use Rattle.art_model.proofs.Lists.{in_left, in_right, each_in}
 use Rattle.art_oracle.specs.Build.{pairs_at, leaf_pair, IsPlaced, KeepsPairs}
 use Rattle.art_oracle.proofs.Grouping.{pairs_at-append, map-append}
 use Rattle.art_oracle.proofs.Kept.{each_map}
@@ -101,7 +101,7 @@ module _ {K V : Type 0} where
       its = pairs_at-append new names (q ∷ []) ∙ ap₂ (λ (a b : List (K × V)). a ++ b)
           (pairs_at-same mid new names (Each-weaker (λ p. p ≢ q) (λ p. option_map pair_of (finite.get new p) ≡ option_map pair_of (finite.get mid p)) (λ p n. ap (option_map pair_of) (leaf_elsewhere mid q p leaf n)) names apart) ∙ so_far.its)
           (ap (λ o. leaf_pair o ++ []) (leaf_here mid q leaf));
-      distinct = distinct-append names (q ∷ []) so_far.distinct (tt, tt) (Each-weaker (λ p. p ≢ q) (λ p. Each (λ r. p ≢ r) (q ∷ [])) (λ p n. (n, tt)) names apart);
+      distinct = Pairwise-append ◌≢◌ names (q ∷ []) so_far.distinct (tt, tt) (Each-weaker (λ p. p ≢ q) (λ p. Each (λ r. p ≢ r) (q ∷ [])) (λ p n. (n, tt)) names apart);
       fresh = Each-append (λ p. finite.get old p ≡ None) names (q ∷ []) so_far.fresh (was_free (so_far.others q), tt);
       others = λ p. by_name p (leaf_cases p q);
     }
@@ -162,7 +162,7 @@ module _ {K V : Type 0} where
     front = take-suc names i d within
 
     front_apart : Each (λ p. p ≢ q) (take i names)
-    front_apart = apart_before (take i names) (drop (suc i) names) q (subst AreDistinct split distinct)
+    front_apart = Pairwise-before ◌≢◌ (take i names) (drop (suc i) names) q (subst AreDistinct split distinct)
 
     q_in : IsIn q names
     q_in = subst (IsIn q) (sym split) (in_right q (take i names) (q ∷ drop (suc i) names) (inl refl))

@@ -18,10 +18,10 @@ use Rattle.art_model.specs.Stores.{node_at, links_at, held, held_in, held_leaf, 
 use Rattle.art_model.specs.Canonical.{IsTree}
 use Rattle.art_model.specs.Footprints.{IsIn}
 use Rattle.art_model.proofs.Lists.{Each-left, Each-right, Each-weaker}
-use Rattle.art_model.proofs.Names.{distinct_cross, distinct_left, distinct_right, distinct-append}
-use Rattle.art_model.proofs.Splice.{in_left, in_right, each_in}
+use Rattle.art_model.proofs.Pairwises.{Pairwise-across, Pairwise-left, Pairwise-right, Pairwise-append}
+use Rattle.art_model.proofs.Lists.{in_left, in_right, each_in}
 use Rattle.art_model.proofs.Links.{linked-frame}
-use Rattle.art_model.proofs.Canonical.{tree_from}
+use Rattle.art_model.proofs.Canonical.{canonical_from}
 use Rattle.art_model.proofs.StoreLaws.{has_one_layout}
 use Rattle.art_oracle.specs.Build.{pairs_at, Ready, Built, IsPlaced, KeepsPairs}
 use Rattle.art_oracle.specs.Built.{KeepsNodes, AddsTree, IsInTree}
@@ -48,14 +48,14 @@ module _ {N A : Type 0} (L M : N → Type 0) (apart : (x y : N) → L x → M y 
         let lr = Each-right L (leaf_names t) (leaf_names_below cs) l in
         let ml = Each-left M (inner_names t) (inner_names_below cs) m in
         let mr = Each-right M (inner_names t) (inner_names_below cs) m in
-        distinct-append (names_of t) (names_below cs)
-        (all_distinct t (distinct_left (leaf_names t) (leaf_names_below cs) dl) (distinct_left (inner_names t) (inner_names_below cs) di) ll ml)
-        (all_distinct_below cs (distinct_right (leaf_names t) (leaf_names_below cs) dl) (distinct_right (inner_names t) (inner_names_below cs) di) lr mr)
+        Pairwise-append ◌≢◌ (names_of t) (names_below cs)
+        (all_distinct t (Pairwise-left ◌≢◌ (leaf_names t) (leaf_names_below cs) dl) (Pairwise-left ◌≢◌ (inner_names t) (inner_names_below cs) di) ll ml)
+        (all_distinct_below cs (Pairwise-right ◌≢◌ (leaf_names t) (leaf_names_below cs) dl) (Pairwise-right ◌≢◌ (inner_names t) (inner_names_below cs) di) lr mr)
         (names_each (λ x. Each (λ y. x ≢ y) (names_below cs)) t
         (Each-weaker (λ x. Each (λ y. x ≢ y) (leaf_names_below cs) × L x) (λ x. Each (λ y. x ≢ y) (names_below cs)) (λ x (d, lx). names_each_below (λ y. x ≢ y) cs d (Each-weaker M (λ y. x ≢ y) (λ y my. apart x y lx my) (inner_names_below cs) mr)) (leaf_names t)
-        (both (λ x. Each (λ y. x ≢ y) (leaf_names_below cs)) L (leaf_names t) (distinct_cross (leaf_names t) (leaf_names_below cs) dl) ll))
+        (both (λ x. Each (λ y. x ≢ y) (leaf_names_below cs)) L (leaf_names t) (Pairwise-across ◌≢◌ (leaf_names t) (leaf_names_below cs) dl) ll))
         (Each-weaker (λ x. Each (λ y. x ≢ y) (inner_names_below cs) × M x) (λ x. Each (λ y. x ≢ y) (names_below cs)) (λ x (d, mx). names_each_below (λ y. x ≢ y) cs (Each-weaker L (λ y. x ≢ y) (λ y ly e. apart y x ly mx (sym e)) (leaf_names_below cs) lr) d) (inner_names t)
-        (both (λ x. Each (λ y. x ≢ y) (inner_names_below cs)) M (inner_names t) (distinct_cross (inner_names t) (inner_names_below cs) di) ml)))
+        (both (λ x. Each (λ y. x ≢ y) (inner_names_below cs)) M (inner_names t) (Pairwise-across ◌≢◌ (inner_names t) (inner_names_below cs) di) ml)))
 
 module _ {N A : Type 0} (n : N) where
   mutual
@@ -171,7 +171,7 @@ module _ {K V : Type 0} {bytes : K → List ℕ} {P : ℕ} {old mid new : Nodes 
       every (p ∷ ps) = (ap (λ m. option_and_then links_of (option_map held_leaf (finite.get m p))) same, every ps)
 
   pub whole_tree : IsTree (of_key bytes) P new root pairs b.tree
-  whole_tree = tree_from (record { tree = b.tree; root_is = b.named; radix = b.radix; pairs_are = b.its ∙ H.placed.its; holds = b.holds; distinct = distinct; linked = linked })
+  whole_tree = canonical_from (record { named = b.named; radix = b.radix; pairs_are = b.its ∙ H.placed.its; holds = b.holds; distinct = distinct; linked = linked })
 
   pub whole_added : AddsTree (of_key bytes) P old new (Some root) pairs
   whole_added name used = from_mid (b.added name used)

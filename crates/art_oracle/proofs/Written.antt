@@ -16,7 +16,7 @@ use Rattle.art_model.specs.Layouts.{names_of, Holds}
 use Rattle.art_model.specs.Stores.{node_at, seen, Held, held, held_in, held_inner, IsUsed}
 use Rattle.art_model.proofs.Lists.{Each-weaker}
 use Rattle.art_model.proofs.Stores.{frame}
-use Rattle.art_model.proofs.Splice.{used}
+use Rattle.art_model.proofs.Names.{all_taken}
 use Rattle.art_model.proofs.Views.{held_in_inner}
 use Rattle.art_oracle.specs.Build.{KeepsOthers}
 use Rattle.art_oracle.specs.Built.{KeepsNodes}
@@ -76,7 +76,7 @@ module _ {K V : Type 0} where
       -- a layout without the parent is held as before
       pub held_still : (t : Tree OpaqueNodePtr (K × V)) → Holds (node_at mid) t → Each (λ n. n ≢ inner_name parent) (names_of t) → Holds (node_at new) t
       held_still t holds apart = frame (node_at mid) (node_at new) t
-          (Each-weaker (λ n. (n ≢ inner_name parent) × (node_at mid n ≡ None → ⊥)) (λ n. node_at new n ≡ node_at mid n) one (names_of t) (both (λ n. n ≢ inner_name parent) (λ n. node_at mid n ≡ None → ⊥) (names_of t) apart (used (node_at mid) t holds))) holds
+          (Each-weaker (λ n. (n ≢ inner_name parent) × (node_at mid n ≡ None → ⊥)) (λ n. node_at new n ≡ node_at mid n) one (names_of t) (both (λ n. n ≢ inner_name parent) (λ n. node_at mid n ≡ None → ⊥) (names_of t) apart (all_taken (node_at mid) t holds))) holds
         where
           one : (n : OpaqueNodePtr) → (n ≢ inner_name parent) × (node_at mid n ≡ None → ⊥) → node_at new n ≡ node_at mid n
           one n h =

@@ -18,7 +18,7 @@ use Rattle.art_model.specs.Layouts.{name_of, slots_of, names_of, names_below, Ho
 use Rattle.art_model.specs.Heights.{height, tree_height, height_below}
 use Rattle.art_model.specs.Stores.{node_at}
 use Rattle.art_model.proofs.Views.{leaf_there, leaf_name_is, inner_there, inner_name_is}
-use Rattle.art_model.proofs.Names.{distinct_left, distinct_right}
+use Rattle.art_model.proofs.Pairwises.{Pairwise-left, Pairwise-right}
 use Rattle.art_model.proofs.Heights.{height_is, enough_steps}
 use Rattle.artrun.specs.Trees.{IsTreeIn, Key, HasCanonicalTree}
 
@@ -37,10 +37,10 @@ module _ {K V : Type 0} (s : Nodes K V) where
   lower_below : (root : OpaqueNodePtr) (cs : Children OpaqueNodePtr (K × V)) → HoldsBelow (node_at s) cs → AreDistinct (names_below cs) → height_below cs < height_of root → All (λ slot. IsLower root slot.1) (slots_of cs)
   lower_below root no_child holds distinct low = λ k d below. absurd (omega arith)
   lower_below root (child b t cs) holds distinct low =
-      let is : IsLayout (node_at s) (name_of t) t = record { named = refl; holds = holds.0; distinct = distinct_left (names_of t) (names_below cs) distinct } in
+      let is : IsLayout (node_at s) (name_of t) t = record { named = refl; holds = holds.0; distinct = Pairwise-left ◌≢◌ (names_of t) (names_below cs) distinct } in
       let same = height_of_layout t (name_of t) is in
       All-cons (λ slot. IsLower root slot.1) (b, name_of t) (slots_of cs) (∣ (t, is) ∣₁, omega arith)
-      (lower_below root cs holds.1 (distinct_right (names_of t) (names_below cs) distinct) (omega arith))
+      (lower_below root cs holds.1 (Pairwise-right ◌≢◌ (names_of t) (names_below cs) distinct) (omega arith))
 
   -- the leaf of a leaf's name is there
   leaf_held : (p : LeafPtr) (root : OpaqueNodePtr) → leaf_name p ≡ root → (t : Tree OpaqueNodePtr (K × V)) → IsLayout (node_at s) root t → map.get s.leaves p ≢ None
@@ -60,7 +60,7 @@ module _ {K V : Type 0} (s : Nodes K V) where
   inner_held p root proper is (inner n head cs) h =
       let there = inner_there s p head (slots_of cs) proper (ap (node_at s) (is ∙ sym h.named) ∙ h.holds.0) in
       let same = height_of_layout (inner n head cs) root h in
-      subst (Found root) (sym there.1) (subst (All (λ slot. IsLower root slot.1)) (sym there.3) (lower_below root cs h.holds.1 (distinct_right (n ∷ []) (names_below cs) h.distinct) (omega arith)))
+      subst (Found root) (sym there.1) (subst (All (λ slot. IsLower root slot.1)) (sym there.3) (lower_below root cs h.holds.1 (Pairwise-right ◌≢◌ (n ∷ []) (names_below cs) h.distinct) (omega arith)))
 
   pub inner_is_there : (p : InnerPtr) (root : OpaqueNodePtr) → p.kind ≢ Leaf → inner_name p ≡ root → IsTreeIn s root → map.get s.inners p ≢ None
   inner_is_there p root proper is tree none = ∥∥₁_elim tree (λ x y. absurd x) (λ found. subst (Found root) none (inner_held p root proper is found.0 found.1))

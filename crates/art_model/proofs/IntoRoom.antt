@@ -1,0 +1,90 @@
+-- An insertion into a node that has room, from the equations of the store's maps: what is laid out then, and what is touched.
+use Rattle.std.proofs.Common.{◌≡◌, ◌≢◌, ℕ, suc, ◌<◌, List, [], ◌∷◌, ◌++◌, length, Option, Some, None, refl, ap, sym, ◌∙◌, subst, arith, length-append, inl}
+use Rattle.std.specs.List.{AllByRecursion as Each}
+use Rattle.std.specs.Option.{option_map}
+use Rattle.std.specs.FinMap.{get}
+use Rattle.art_nodes.specs.Inner.{put_child}
+use Rattle.art_nodes.specs.Kinds.{kind_capacity}
+use Rattle.art_nodes.specs.Changes.{with_child}
+use Rattle.art_nodes.specs.Names.{leaf_name}
+use Rattle.art_nodes.specs.Nodes.{Nodes, change}
+use Rattle.art_nodes.specs.declared.node.LeafPtr.{LeafPtr}
+use Rattle.art_nodes.specs.declared.node.LeafNode.{LeafNode}
+use Rattle.art_nodes.specs.declared.node.OpaqueNodePtr.{OpaqueNodePtr}
+use Rattle.art_nodes.proofs.NameLemmas.{inner_cmp_total, inner_cmp-IsAntisymmetric}
+use Rattle.art_nodes.proofs.StoreLaws.{inner_changed_at, inner_changed_elsewhere}
+use Rattle.art_model.specs.Keys.{IsFront}
+use Rattle.art_model.specs.Trees.{leaf, inner, Children, Header, kind_of}
+use Rattle.art_model.specs.Radix.{bytes_of, join}
+use Rattle.art_model.specs.Paths.{Frame, plug, leaves_before, leaves_after}
+use Rattle.art_model.specs.Layouts.{Node, inner_node, slots_of, leaf_names_below}
+use Rattle.art_model.specs.Stores.{node_at, links_at, pair_of}
+use Rattle.art_model.specs.Writes.{as_inner}
+use Rattle.art_model.specs.Footprints.{TouchesAtMost}
+use Rattle.art_model.proofs.Canonical.{IsLaidOut}
+use Rattle.art_model.proofs.Paths.{IsHole}
+use Rattle.art_model.proofs.Stores.{IsParent, path_holds, parent_apart}
+use Rattle.art_model.proofs.Inserted.{ChildInserted}
+use Rattle.art_model.proofs.Touches.{Touched, touches_at_most, touched_none, then_changed}
+use Rattle.art_model.proofs.Leaves.{listed, length-listed}
+use Rattle.art_model.proofs.Placed.{LeafPlaced, placed_was_free, placed_node, placed_pairs, placed_relinked, placed_touched}
+use Rattle.art_model.proofs.Slots.{put_child-new, kind_of-room}
+use Rattle.art_model.proofs.Writes.{inner_at, node_at-inner, same_but, parent_stays, parent_there, inner_name_one, header_with}
+
+-- A leaf is placed, and the node in the hole, which has room, takes it as a child under a byte that had none.
+pub record IntoRoom {K V : Type 0} (bytes : K × V → List ℕ) (P : ℕ) (s t : Nodes K V) (fs : List (Frame OpaqueNodePtr (K × V))) (place : List ℕ) (m : OpaqueNodePtr) (h : Header) (l r : Children OpaqueNodePtr (K × V)) (b : ℕ) (n : LeafPtr) (x : LeafNode K V) : Type 0 where
+  pub hole : IsHole bytes P fs place (inner m h (join l r)) (bytes (pair_of x))
+  pub front : IsFront ((place ++ hole.radix.0) ++ b ∷ []) (bytes (pair_of x))
+  pub low : Each (λ c. c < b) (bytes_of l)
+  pub high : Each (λ c. b < c) (bytes_of r)
+  pub room : length (bytes_of (join l r)) < kind_capacity m.kind
+  pub placed : LeafPlaced s t (plug fs (inner m h (join l r))) (leaves_before fs ++ leaf_names_below l) (leaf_names_below r ++ leaves_after fs) n x
+  pub inners : t.inners ≡ change s.inners (as_inner m) (with_child b (leaf_name n))
+
+module _ {K V : Type 0} {bytes : K × V → List ℕ} {P : ℕ} {s t : Nodes K V} {root : OpaqueNodePtr} {pairs : List (K × V)} {fs : List (Frame OpaqueNodePtr (K × V))} {place : List ℕ} {m : OpaqueNodePtr} {h : Header} {l r : Children OpaqueNodePtr (K × V)} {b : ℕ} {n : LeafPtr} {x : LeafNode K V}
+    (old : IsLaidOut bytes P (node_at s) (links_at s) root pairs (plug fs (inner m h (join l r)))) (into : IntoRoom bytes P s t fs place m h l r b n x) where
+  others : (k : OpaqueNodePtr) → k ≢ m → get t.inners (as_inner k) ≡ get s.inners (as_inner k)
+  others k off = ap (λ z. get z (as_inner k)) into.inners ∙ inner_changed_elsewhere s.inners (as_inner m) (as_inner k) (with_child b (leaf_name n)) (λ e. off (inner_name_one k m e))
+
+  -- the node has one child more
+  pub room_inserted : ChildInserted bytes P (node_at s) (node_at t) (links_at s) (links_at t) fs place m m (leaf_name n) h l r b (pair_of x)
+  room_inserted =
+      let held = path_holds (node_at s) fs (inner m h (join l r)) old.holds in
+      let (off, node, got, head, kids) = inner_at s m h (slots_of (join l r)) held.1.0 in
+      let is : get t.inners (as_inner m) ≡ Some (with_child b (leaf_name n) node) = ap (λ z. get z (as_inner m)) into.inners ∙ inner_changed_at s.inners (as_inner m) (with_child b (leaf_name n)) ∙ ap (option_map (with_child b (leaf_name n))) got in
+      let count = length (bytes_of (join l r)) in
+      let kind : h.kind ≡ m.kind = sym (ap (λ z. z.kind) head) in
+      let more : h.kind ≡ kind_of (suc count) = kind ∙ kind_of-room m.kind count (sym kind ∙ ap (λ z. z.kind) into.hole.radix.1) into.room in
+      record {
+        hole = into.hole;
+        front = into.front;
+        low = into.low;
+        high = into.high;
+        named = inl refl;
+        same_kind = λ e. refl;
+        leaf_was_free = placed_was_free old.holds old.distinct into.placed;
+        differ = λ e. off (ap (λ (z : OpaqueNodePtr). z.kind) e);
+        there = node_at-inner t m off (Some (with_child b (leaf_name n) node)) is ∙ shown (head ∙ header_with P into.hole.radix.0 count (suc count) h into.hole.radix.1 more) (ap (λ z. put_child z b (leaf_name n)) kids ∙ put_child-new l r b (leaf (leaf_name n) (pair_of x)) into.low into.high);
+        new_leaf = placed_node old.holds old.distinct into.placed;
+        parent = parent_stays (node_at s) (node_at t) fs m held.0 (λ k is. parent_same k is);
+        same = same_but s t fs (m ∷ []) (λ p i used. placed_pairs old.holds old.distinct into.placed p used) (λ k inner_kind up i used. others k (λ e. i (inl (sym e))));
+        relinked = placed_relinked old.holds old.distinct into.placed;
+      }
+    where
+      shown : {slots rest : List (ℕ × OpaqueNodePtr)} {g f : Header} → g ≡ f → slots ≡ rest → ◌≡◌ {A = Option (Node OpaqueNodePtr (K × V))} (Some (inner_node g slots)) (Some (inner_node f rest))
+      shown a e = cc
+
+      parent_same : (k : OpaqueNodePtr) → IsParent fs k → node_at t k ≡ node_at s k
+      parent_same k is =
+          let (off, there) = parent_there bytes P s fs m (path_holds (node_at s) fs (inner m h (join l r)) old.holds).0 k is in
+          node_at-inner t k off (get s.inners (as_inner k)) (others k (λ e. parent_apart (node_at s) (node_at t) fs (inner m h (join l r)) old.holds old.distinct k is (inl (sym e)))) ∙ sym (node_at-inner s k off (get s.inners (as_inner k)) refl)
+
+  -- one name is placed, and at most three are changed
+  pub room_touches : TouchesAtMost 1 0 3 s t
+  room_touches =
+      let (off, node, got, head, kids) = inner_at s m h (slots_of (join l r)) (path_holds (node_at s) fs (inner m h (join l r)) old.holds).1.0 in
+      let used : get s.inners (as_inner m) ≢ None = λ e. absurd (cc (got, e)) in
+      let a = length-listed x.next in let c = length-listed x.previous in
+      let e = length-append (listed x.next) (listed x.previous ++ []) in let f = length-append (listed x.previous) [] in
+      touches_at_most s t 1 0 3 (placed_touched old.holds old.distinct into.placed)
+      (subst (λ z. Touched s.inners z [] [] (as_inner m ∷ [])) (sym into.inners) (then_changed inner_cmp_total inner_cmp-IsAntisymmetric (touched_none s.inners) (as_inner m) (with_child b (leaf_name n)) used used)) tt tt (off, tt) (omega arith) (omega arith) (omega arith)
