@@ -1,8 +1,8 @@
 //! Lines in, replies out.
 
+use crate::history::History;
 use crate::line::Request;
 use crate::print::{write_no_memory, write_reply};
-use crate::history::History;
 use art_operations::run::Command;
 use std::alloc::{AllocError, Global};
 use std::io;

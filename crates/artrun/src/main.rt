@@ -2,9 +2,9 @@
 #![tactic(auto)]
 
 mod engine;
+mod history;
 mod line;
 mod print;
-mod history;
 
 use std::io;
 use std::io::{BufReader, BufWriter};
