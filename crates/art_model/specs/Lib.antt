@@ -17,3 +17,5 @@ pub mod KeyLaws
 pub mod Changes
 pub mod MapLaws
 pub mod PlaceLaws
+pub mod Roots
+pub mod Lookups

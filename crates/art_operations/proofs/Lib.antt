@@ -2,3 +2,8 @@ pub mod Examples
 pub mod Chains
 pub mod Lengths
 pub mod Kept
+pub mod Rests
+pub mod Outcomes
+pub mod OnWay
+pub mod Steps
+pub mod Ends

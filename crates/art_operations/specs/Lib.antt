@@ -1,3 +1,5 @@
 pub mod Answers
 pub mod Runs
 pub mod Room
+pub mod Matching
+pub mod Walks

@@ -1,4 +1,10 @@
-//! Commands on a radix tree.
+//! Operations on a radix tree in a store.
 #![tactic(auto)]
 
+pub mod lookup;
+pub mod minmax;
+pub mod path;
 pub mod run;
+
+#[cfg(test)]
+mod test_trees;

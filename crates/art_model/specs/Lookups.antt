@@ -1,0 +1,32 @@
+-- What a look-up finds, and the nodes on its way.
+use Rattle.std.specs.Prelude.{◌≡◌, ℕ, List, [], ◌∷◌, Option, Some, None}
+use Rattle.art_nodes.specs.Names.{leaf_name}
+use Rattle.art_nodes.specs.declared.node.LeafPtr.{LeafPtr}
+use Rattle.art_nodes.specs.declared.node.OpaqueNodePtr.{OpaqueNodePtr}
+use Rattle.art_model.specs.Trees.{Tree, leaf}
+use Rattle.art_model.specs.Radix.{pairs_of}
+use Rattle.art_model.specs.Layouts.{leaf_names}
+use Rattle.art_model.specs.Pairs.{first_of, last_of, match_of}
+use Rattle.art_model.specs.Paths.{Frame, plug}
+use Rattle.art_model.specs.Places.{places}
+
+-- the tree has the leaf of this pair under this name
+abbrev pub HasLeaf : {N A : Type 0} → Tree N A → N → A → Type 0
+HasLeaf {N} {A} tree name x = (path : List (Frame N A)) × (plug path (leaf name x) ≡ tree)
+
+-- the tree's first leaf has this name, and the first pair
+abbrev pub HasFirstLeaf : {N A : Type 0} → Tree N A → N → Type 0
+HasFirstLeaf {N} {A} tree name = (first_of (leaf_names tree) ≡ Some name) × ((x : A) × (first_of (pairs_of tree) ≡ Some x) × HasLeaf tree name x)
+
+-- the tree's last leaf has this name, and the last pair
+abbrev pub HasLastLeaf : {N A : Type 0} → Tree N A → N → Type 0
+HasLastLeaf {N} {A} tree name = (last_of (leaf_names tree) ≡ Some name) × ((x : A) × (last_of (pairs_of tree) ≡ Some x) × HasLeaf tree name x)
+
+-- the leaf of the only pair of the list is found, or none where there is no pair
+abbrev pub FindsLeaf : {A : Type 0} → Tree OpaqueNodePtr A → List A → Option LeafPtr → Type 0
+FindsLeaf tree pairs None = pairs ≡ []
+FindsLeaf {A} tree pairs (Some name) = (x : A) × (pairs ≡ x ∷ []) × HasLeaf tree (leaf_name name) x
+
+-- the nodes whose place is a front of the key, each with its place
+abbrev pub nodes_on_way : {N A : Type 0} → (A → List ℕ) → List ℕ → Tree N A → List (List ℕ × N)
+nodes_on_way bytes key tree = match_of (λ node. node.0) key (places bytes 0 tree)

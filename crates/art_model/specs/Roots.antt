@@ -1,0 +1,22 @@
+-- What a call asks and says of a canonical root: of the pairs it is canonical for, and of the layout that says where their tree is.
+use Rattle.std.specs.Prelude.{ℕ, List}
+use Rattle.art_nodes.specs.Nodes.{Nodes}
+use Rattle.art_nodes.specs.declared.node.OpaqueNodePtr.{OpaqueNodePtr}
+use Rattle.art_model.specs.Trees.{Tree}
+use Rattle.art_model.specs.Radix.{HaveChildren}
+use Rattle.art_model.specs.Layouts.{IsLayout}
+use Rattle.art_model.specs.Stores.{node_at}
+use Rattle.art_model.specs.Canonical.{IsTree}
+
+module _ {K V : Type 0} (bytes : K × V → List ℕ) (P : ℕ) where
+  -- the root is canonical for some pairs
+  abbrev pub IsCanonicalRoot : Nodes K V → OpaqueNodePtr → Type 0
+  IsCanonicalRoot s root = (pairs : List (K × V)) × (layout : Tree OpaqueNodePtr (K × V)) × IsTree bytes P s root pairs layout
+
+  -- this holds of the pairs that the root is canonical for, and of the layout
+  abbrev pub ForTree : Nodes K V → OpaqueNodePtr → (List (K × V) → Tree OpaqueNodePtr (K × V) → Type 0) → Type 0
+  ForTree s root Holds = (pairs : List (K × V)) (layout : Tree OpaqueNodePtr (K × V)) → IsTree bytes P s root pairs layout → Holds pairs layout
+
+-- the name stands for a tree, this layout, whose inner nodes all have children
+abbrev pub IsFullTree : {K V : Type 0} → Nodes K V → OpaqueNodePtr → Tree OpaqueNodePtr (K × V) → Type 0
+IsFullTree s name layout = IsLayout (node_at s) name layout × HaveChildren 1 layout

@@ -1,0 +1,29 @@
+-- Where the way down with a key ends.
+use Rattle.std.specs.Prelude.{◌≡◌, ℕ, ◌+◌, ◌≤◌, List, [], ◌∷◌, length, Option, Some, None}
+use Rattle.art_nodes.specs.Names.{leaf_name}
+use Rattle.art_nodes.specs.declared.node.OpaqueNodePtr.{OpaqueNodePtr}
+use Rattle.art_model.specs.Keys.{IsFront}
+use Rattle.art_model.specs.Lookups.{HasLeaf, nodes_on_way}
+use Rattle.art_model.specs.Pairs.{match_of}
+use Rattle.art_model.specs.Stores.{pair_of}
+use Rattle.art_model.specs.Trees.{Tree}
+use Rattle.art_operations.specs.declared.lookup.LastLeaf.{LastLeaf}
+use Rattle.art_operations.specs.declared.lookup.PrefixMatchBehavior.TheVariants.{Pessimistic}
+
+module _ {K V : Type 0} (bytes : K × V → List ℕ) (key : List ℕ) (pairs : List (K × V)) (layout : Tree OpaqueNodePtr (K × V)) (before after : ℕ) where
+  -- the only leaf that can match the key, and what is left to compare of it: the bytes after its place, or all of them
+  pub record IsLastLeaf (last : LastLeaf K V) : Type 0 where
+    pub place : List ℕ
+    pub is_leaf : HasLeaf layout (leaf_name last.name) (pair_of last.node.now)
+    pub leads_to : IsFront place (bytes (pair_of last.node.now))
+    pub depth_is : length place ≡ last.depth
+    pub is_short : last.depth ≤ length key
+    pub compared : last.behavior ≡ Pessimistic → IsFront place key
+    pub only : match_of bytes key pairs ≡ match_of bytes key (pair_of last.node.now ∷ [])
+    pub at_least : before + length (nodes_on_way bytes key layout) ≤ after
+    pub exactly : IsFront place key → before + length (nodes_on_way bytes key layout) ≡ after
+
+  -- the way ends at a leaf, or where no key can match
+  abbrev pub WalkEnds : Option (LastLeaf K V) → Type 0
+  WalkEnds None = (match_of bytes key pairs ≡ []) × (before + length (nodes_on_way bytes key layout) ≤ after)
+  WalkEnds (Some last) = IsLastLeaf last

@@ -1,0 +1,62 @@
+//! Trees for the tests of look-ups, made by runs of insertions.
+ghost use Rattle.std.specs.Prelude.{IfOk};
+ghost use Rattle.art_model.specs.Pairs.{of_key};
+ghost use Rattle.art_model.specs.Roots.{IsCanonicalRoot};
+
+use crate::run::{run, Command};
+use art_nodes::node::{AsBytes, LeafPtr, OpaqueNodePtr};
+use art_nodes::store::NodeStore;
+use std::alloc::Global;
+use std::test::Fail;
+
+/// The keys of the tests.
+pub type Key = Vec<u8>;
+
+/// The tree of these keys, with the place of each among them as its value.
+pub fn plant<K: AsBytes + Drop, const P: usize>(
+    store: &mut NodeStore<K, u32, P>,
+    keys: Vec<K>,
+) -> Result<OpaqueNodePtr, Fail>
+    ensures { IfOk result (λ root. IsCanonicalRoot (of_key K.bytes) P store.new root) }
+{
+    let alloc = store.alloc();
+    let mut commands = Vec::new(alloc);
+    let mut value = 0u32;
+    for key in keys {
+        commands.push(Command::Insert(key, value))?;
+        value = value.wrapping_add(1);
+    }
+    let mut second = NodeStore::new(alloc);
+    match run(store, &mut second, None, commands) {
+        Ok(done) => Ok(done.root.ok_or("no key")?),
+        Err((_, error)) => Err(error.into()),
+    }
+}
+
+/// Copies of these keys.
+pub fn keys(alloc: Global, slices: &[&[u8]]) -> Result<Vec<Key>, Fail> {
+    let mut keys = Vec::new(alloc);
+    for slice in slices {
+        keys.push(slice.to_vec(alloc)?)?;
+    }
+    Ok(keys)
+}
+
+/// Twelve keys: so many zeros from none to eleven, and then 255.
+pub fn keys_of_zeros(alloc: Global) -> Result<Vec<Key>, Fail> {
+    let mut keys = Vec::new(alloc);
+    for count in 0..12usize {
+        let mut key = Vec::new(alloc);
+        for _ in 0..count {
+            key.push(0)?;
+        }
+        key.push(255)?;
+        keys.push(key)?;
+    }
+    Ok(keys)
+}
+
+/// The value of a leaf.
+pub fn value_of<const P: usize>(store: &NodeStore<Key, u32, P>, leaf: LeafPtr) -> Option<u32> {
+    Some(store.leaf(leaf)?.value)
+}
