@@ -9,3 +9,4 @@ pub mod Steps
 pub mod Ends
 pub mod Partings
 pub mod Spots
+pub mod Prefixes

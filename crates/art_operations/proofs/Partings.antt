@@ -54,6 +54,13 @@ front_right a b h = go (common_front_left a b) (common_front_right a b)
     go (r, e) ([], f) = (r, e ∙ ap (λ l. l ++ r) (sym (f ∙ append-nil (common_front a b))))
     go (r, e) (x ∷ s, f) = absurd (let l = ap length f in omega (arith, simp length-append at l))
 
+-- as many as all of the first key's bytes are shared
+pub all_shared : (a b : List ℕ) (n : ℕ) → n ≡ shared_len a b → length a ≤ n → (n ≡ length a) × IsFront a b
+all_shared a b n e h =
+    let (r, f) = common_front_left a b in
+    let l = ap length f in
+    (omega (arith, simp length-append at l), front_left a b (omega arith))
+
 pub whole_same : (a b : List ℕ) → IsFront a b → length a ≡ length b → b ≡ a
 whole_same a b ([], e) same = e ∙ append-nil a
 whole_same a b (x ∷ r, e) same = absurd (let l = ap length e in omega (arith, simp length-append at l))
