@@ -1,7 +1,8 @@
 -- the way down with a key to its end node
-use Rattle.std.proofs.Common.{◌≡◌, ◌≢◌, ℕ, suc, ◌+◌, ◌<◌, ◌≤◌, List, [], ◌∷◌, ◌++◌, length, drop, get_or, refl, ap, sym, ◌∙◌, arith, subst, append_assoc, append-nil, length-append, Option, Some, None, Result, Ok, Err, true, false}
+use Rattle.std.proofs.Common.{◌≡◌, ◌≢◌, ℕ, suc, ◌+◌, ◌<◌, ◌≤◌, List, [], ◌∷◌, ◌++◌, length, drop, get_or, refl, ap, sym, ◌∙◌, arith, subst, append_assoc, append-nil, length-append, length-drop, Option, Some, None, Result, Ok, Err, true, false}
 use Rattle.std.specs.List.{AllByRecursion as Each}
 use Rattle.std.specs.FinMap as map
+use Rattle.std.proofs.lemmas.Option.{slice_get_within}
 use Rattle.art_nodes.specs.Inner.{Inner, child_at}
 use Rattle.art_nodes.specs.Names.{leaf_name, inner_name}
 use Rattle.art_nodes.specs.Nodes.{Nodes}
@@ -19,7 +20,7 @@ use Rattle.art_model.specs.Stores.{node_at, header_at, pair_of}
 use Rattle.art_model.specs.Paths.{Frame, plug, fill, names_before, names_after}
 use Rattle.art_model.specs.Places.{places, depth_of, prefix_of, IsEndNode}
 use Rattle.art_model.specs.Canonical.{IsTree}
-use Rattle.art_model.proofs.Lists.{Each-append, Each-weaker, front_trans, after_front}
+use Rattle.art_model.proofs.Lists.{Each-append, Each-weaker, common_front_right, front_trans, after_front}
 use Rattle.art_model.proofs.Keys.{front_related}
 use Rattle.art_model.proofs.Canonical.{tree_radix}
 use Rattle.art_model.proofs.Names.{distinct_left, distinct_right}
@@ -47,6 +48,23 @@ pub record IsAt {A : Type 0} (bytes : A → List ℕ) (P : ℕ) (key : List ℕ)
   pub spot : Spot bytes P tree key name depth
   pub path_is : path ≡ path_of spot.frames
 
+-- as much of the key was used as it has
+module _ {A : Type 0} (bytes : A → List ℕ) (P : ℕ) (key : List ℕ) (node : Tree OpaqueNodePtr A) {depth : ℕ} (short : depth ≤ length key) where
+  pub prefix_inside : {match : PrefixMatch} → IsCompared bytes P key node depth (Ok match) → depth + match.matched_bytes ≤ length key
+  prefix_inside c =
+      let m = c.0 in
+      let l = ap length c.1.1 in
+      let k = length-drop depth key in
+      omega (arith, simp length-append at l)
+
+  pub mismatch_inside : {m : ExplicitMismatch} → IsMismatch bytes P key node depth m → depth + m.matched_bytes ≤ length key
+  mismatch_inside {m} c =
+      let (r, e) = common_front_right (prefix_of bytes depth node) (drop depth key) in
+      let q = c.matched in
+      let l = ap length e in
+      let k = length-drop depth key in
+      omega (arith, simp length-append at l)
+
 module _ {K V : Type 0} {s : Nodes K V} {bytes : K × V → List ℕ} {P : ℕ} {root : OpaqueNodePtr} {pairs : List (K × V)} {layout : Tree OpaqueNodePtr (K × V)} (by : IsTree bytes P s root pairs layout) where
   pub start : (key : List ℕ) → IsAt bytes P key layout Root root 0
   start key =
@@ -66,6 +84,14 @@ module _ {K V : Type 0} {s : Nodes K V} {bytes : K × V → List ℕ} {P : ℕ} 
 
     pub shown_there : {p : InnerPtr} {shown : Inner} → p.kind ≢ Leaf → inner_name p ≡ name → Some shown ≡ map.get s.inners p → IsShown d.spot.node p shown
     shown_there {p} {shown} proper is there = inner_shown s p proper d.spot.node (d.spot.named ∙ sym is) holds shown there
+
+    -- the node that the store shows under an inner name on the way
+    pub some_shown : {p : InnerPtr} → p.kind ≢ Leaf → inner_name p ≡ name → (shown : Inner) × IsShown d.spot.node p shown
+    some_shown {p} proper is = go (map.get s.inners p) refl
+      where
+        go : (o : Option Inner) → o ≡ map.get s.inners p → (shown : Inner) × IsShown d.spot.node p shown
+        go None gone = absurd (inner_there proper is gone)
+        go (Some shown) there = (shown, shown_there proper is there)
 
     -- the part of the tree below
     pub part_there : {part : OpaqueNodePtr} → part ≡ name → IsPart bytes P s part depth d.spot.node
@@ -244,9 +270,10 @@ module _ {K V : Type 0} {s : Nodes K V} {bytes : K × V → List ℕ} {P : ℕ} 
             let (r, e) = front_right radix.0 (drop depth key) rest in
             short_conflict (r, ap (λ l. d.spot.place ++ l) e ∙ sym (append_assoc d.spot.place (drop depth key) r) ∙ ap (λ l. l ++ r) (sym key_is))
 
-        module _ (long : depth + m.matched_bytes < length key) (inside : m.matched_bytes < length (prefix_of bytes depth d.spot.node)) where
+        module _ (long : depth + m.matched_bytes < length key) where
           parts_at : ArePart front key
           parts_at =
+              let inside = slice_get_within (prefix_of bytes depth d.spot.node) m.matched_bytes m.prefix_byte c.byte in
               let q = shared_is in
               let w = ap length whole_prefix in
               let k = ap length key_is in

@@ -13,7 +13,9 @@ ghost use Rattle.art_operations.specs.Points.{AnswersTo, IsCompared, IsKindFor, 
 use crate::lookup::shared_len;
 use crate::minmax::minimum_unchecked;
 use crate::path::{ExplicitMismatch, PrefixMatch, TreePath};
-use art_nodes::node::{AsBytes, InnerPtr, LeafNode, LeafPtr, NodePtr, OpaqueNodePtr, OptionalLeafPtr};
+use art_nodes::node::{
+    AsBytes, InnerPtr, LeafNode, LeafPtr, NodePtr, OpaqueNodePtr, OptionalLeafPtr,
+};
 use art_nodes::store::NodeStore;
 use std::alloc::{AllocError, Global};
 use std::boxed::BoxedSlice;
@@ -80,9 +82,13 @@ pub enum InsertKind {
         new_key_bytes_used: usize,
     },
     /// The leaf of the key itself: its pair is replaced.
-    Exact { leaf_node_ptr: LeafPtr },
+    Exact {
+        leaf_node_ptr: LeafPtr,
+    },
     /// An inner node gets a child more.
-    IntoExisting { inner_node_ptr: InnerPtr },
+    IntoExisting {
+        inner_node_ptr: InnerPtr,
+    },
 }
 
 /// The point of a key in the tree of a canonical root. There is none where an unequal stored key is

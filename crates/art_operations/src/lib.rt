@@ -6,6 +6,5 @@ pub mod lookup;
 pub mod minmax;
 pub mod path;
 pub mod run;
-
 #[cfg(test)]
 mod test_trees;
