@@ -121,8 +121,8 @@ module _ {K V : Type 0} {s : Nodes K V} {bytes : K × V → List ℕ} {P : ℕ} 
     pub steps : {to : OpaqueNodePtr} {behavior' : PrefixMatchBehavior} → behavior' ≡ behavior_after behavior prefix rest → depth + m.matched_bytes < length key → Some to ≡ child_at shown.children (get_or key (depth + m.matched_bytes) 0) → IsOnWay bytes P key layout to (depth + m.matched_bytes + 1) behavior' before after
     steps {to} {behavior'} is long there =
         let down = goes_on d at {to = to} {after = behavior'} (let l = len_is in omega arith) (ap (λ n. child_at shown.children (get_or key n 0)) (sym len_is) ∙ sym there)
-        (λ sure.
-        let (was, all, stored) = ok_compared shown.prefix (drop depth key) behavior m matched (ap₂ (behavior_after behavior) (sym reads.prefix_is) (sym reads.rest_is) ∙ sym is ∙ sure) in
-        still_compared d at was all stored) in
+            (λ sure.
+                let (was, all, stored) = ok_compared shown.prefix (drop depth key) behavior m matched (ap₂ (behavior_after behavior) (sym reads.prefix_is) (sym reads.rest_is) ∙ sym is ∙ sure) in
+                still_compared d at was all stored) in
         let here = subst (λ n. IsOnWay bytes P key layout to (n + 1) behavior' before (now + 1)) (sym len_is) down in
         subst (λ n. IsOnWay bytes P key layout to (depth + m.matched_bytes + 1) behavior' before n) (sym counted) here

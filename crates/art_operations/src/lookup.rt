@@ -6,9 +6,7 @@ ghost use Rattle.art_model.specs.Roots.{ForTree, IsCanonicalRoot};
 ghost use Rattle.art_operations.specs.Walks.{WalkEnds};
 
 use crate::path::{AttemptOptimisticPrefixMatch, PessimisticMismatch};
-use art_nodes::node::{
-    AsBytes, InnerNode, LeafNode, LeafPtr, NodePtr, OpaqueNodePtr, OptionalLeafPtr,
-};
+use art_nodes::node::{AsBytes, InnerNode, LeafNode, LeafPtr, NodePtr, OpaqueNodePtr, OptionalLeafPtr};
 use art_nodes::store::NodeStore;
 use std::marker::Model;
 
@@ -259,10 +257,7 @@ pub fn search_visiting<K: AsBytes + Drop, V: Drop, const PREFIX_LEN: usize>(
     ensures at_most { visits.new ≤ visits.old + length key_bytes.now + 1 }
 {
     let last = walk(store, root, key_bytes, visits)?;
-    if last
-        .behavior
-        .matches_leaf_key(last.node, key_bytes, last.depth)
-    {
+    if last.behavior.matches_leaf_key(last.node, key_bytes, last.depth) {
         Some(last.name)
     } else {
         None
@@ -298,10 +293,7 @@ pub fn prefix_search_visiting<K: AsBytes + Drop, V: Drop, const PREFIX_LEN: usiz
     ensures at_most { visits.new ≤ visits.old + length key_bytes.now + 1 }
 {
     let last = walk(store, root, key_bytes, visits)?;
-    if last
-        .behavior
-        .leaf_key_is_prefix(last.node, key_bytes, last.depth)
-    {
+    if last.behavior.leaf_key_is_prefix(last.node, key_bytes, last.depth) {
         Some(last.name)
     } else {
         None

@@ -2,7 +2,7 @@ ghost use Rattle.art_model.specs.Pairs.{of_key};
 ghost use Rattle.art_model.specs.Roots.{IsCanonicalRoot};
 
 use super::*;
-use crate::test_trees::{Key, keys, keys_of_zeros, plant, value_of};
+use crate::test_trees::{keys, keys_of_zeros, plant, value_of, Key};
 use art_nodes::node::NodeType;
 use std::alloc::Global;
 use std::test::Fail;
@@ -43,9 +43,7 @@ fn finds_the_ends_of_three_levels(rt: HostRuntime) -> Result<(), Fail> {
     let mut inners = Vec::new(alloc);
     inners.push(root.as_inner().ok_or("an inner root")?)?;
     for i in 0..7usize {
-        let node = store
-            .inner(*inners.get(i).ok_or("seven nodes")?)
-            .ok_or("a node")?;
+        let node = store.inner(*inners.get(i).ok_or("seven nodes")?).ok_or("a node")?;
         for (_, child) in node.iter() {
             inners.push(child.as_inner().ok_or("an inner child")?)?;
         }
