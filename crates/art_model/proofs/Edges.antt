@@ -1,5 +1,5 @@
 -- the way down along the first or the last children
-use Rattle.std.proofs.Common.{◌≡◌, ◌≢◌, ℕ, suc, zero, ◌+◌, ◌-◌, ◌<◌, ◌≤◌, max, List, [], ◌∷◌, ◌++◌, length, slice_get, refl, ap, ap₂, sym, ◌∙◌, arith, subst, append-nil, Option, Some, None}
+use Rattle.std.proofs.Common.{◌≡◌, ◌≢◌, ℕ, suc, ◌-◌, ◌<◌, ◌≤◌, List, [], ◌∷◌, ◌++◌, length, slice_get, refl, ap, sym, ◌∙◌, arith, subst, append-nil, Some, None}
 use Rattle.std.specs.FinMap as map
 use Rattle.art_nodes.specs.Inner.{Inner}
 use Rattle.art_nodes.specs.Names.{leaf_name, inner_name}
@@ -8,22 +8,19 @@ use Rattle.art_nodes.specs.declared.node.NodeType.TheVariants.{Leaf}
 use Rattle.art_nodes.specs.declared.node.LeafPtr.{LeafPtr}
 use Rattle.art_nodes.specs.declared.node.InnerPtr.{InnerPtr}
 use Rattle.art_nodes.specs.declared.node.OpaqueNodePtr.{OpaqueNodePtr}
-use Rattle.art_nodes.specs.declared.node.LeafNode.{LeafNode}
 use Rattle.art_model.specs.Trees.{Tree, leaf, inner, Children, child, no_child}
-use Rattle.art_model.specs.Radix.{bytes_of, join, pairs_of, HaveChildren, HaveChildrenBelow, IsRadix, AreRadix}
+use Rattle.art_model.specs.Radix.{bytes_of, join, pairs_of, HaveChildren, HaveChildrenBelow}
 use Rattle.art_model.specs.Pairs.{first_of, last_of}
-use Rattle.art_model.specs.Layouts.{name_of, slots_of, leaf_names, Holds, HoldsBelow}
-use Rattle.art_model.specs.Stores.{node_at, header_at, pair_of}
-use Rattle.art_model.specs.Paths.{Frame, fill, plug, leaves_before, leaves_after, pairs_before, pairs_after}
+use Rattle.art_model.specs.Layouts.{name_of, slots_of, leaf_names, Holds}
+use Rattle.art_model.specs.Stores.{node_at, header_at}
+use Rattle.art_model.specs.Paths.{Frame, plug, leaves_before, leaves_after, pairs_before, pairs_after}
 use Rattle.art_model.specs.Heights.{height, tree_height, height_below}
 use Rattle.art_model.specs.Lookups.{HasFirstLeaf, HasLastLeaf}
 use Rattle.art_model.specs.Roots.{IsFullTree}
-use Rattle.art_model.specs.Canonical.{IsTree}
-use Rattle.art_model.proofs.Stores.{path_holds, leaf_names-plug, HoldsBelow-right}
+use Rattle.art_model.proofs.Stores.{leaf_names-plug, HoldsBelow-right}
 use Rattle.art_model.proofs.Paths.{pairs_of-plug}
-use Rattle.art_model.proofs.Canonical.{tree_radix}
 use Rattle.art_model.proofs.Heights.{height_is, enough_steps}
-use Rattle.art_model.proofs.Shown.{IsShown, no_leaf_gone, leaf_shown, no_inner_gone, inner_shown, leaf_named}
+use Rattle.art_model.proofs.Shown.{IsShown, no_leaf_gone, no_inner_gone, inner_shown, leaf_named}
 
 -- ---- paths along an edge
 module _ {N A : Type 0} where

@@ -1,7 +1,7 @@
 -- how many bytes two keys share in front
 use Rattle.std.proofs.Common.{◌≡◌, ◌≢◌, ℕ, suc, zero, ◌<◌, ◌≤◌, List, [], ◌∷◌, ◌++◌, length, drop, get_or, refl, ap, ap₂, sym, arith, eqb, eq-eqb, eqb-true, cond, Bool, true, false, ◌⊎◌, inl, inr}
 use Rattle.std.proofs.lemmas.Bool.{ne_eqb}
-use Rattle.art_model.specs.Keys.{common_front, IsFront, is_front}
+use Rattle.art_model.specs.Keys.{common_front, IsFront}
 
 -- where the bytes at a place are the same, the keys share one byte more than after it
 pub shared_same : (i : ℕ) (a b : List ℕ) → i < length a → i < length b → get_or a i 0 ≡ get_or b i 0 → length (common_front (drop i a) (drop i b)) ≡ suc (length (common_front (drop (suc i) a) (drop (suc i) b)))

@@ -1,5 +1,5 @@
 -- a key's way goes below one child at most
-use Rattle.std.proofs.Common.{◌≡◌, ◌≢◌, ℕ, ◌+◌, ◌<◌, ◌≤◌, List, [], ◌∷◌, ◌++◌, length, get_or, refl, ap, ap₂, sym, ◌∙◌, arith, subst, append_assoc, append-nil, length-append, Some, None, Bool, true, false, cond, eqb, eqb-true}
+use Rattle.std.proofs.Common.{◌≡◌, ◌≢◌, ℕ, ◌+◌, ◌<◌, ◌≤◌, List, [], ◌∷◌, ◌++◌, length, get_or, refl, ap, sym, ◌∙◌, arith, subst, append_assoc, append-nil, length-append, Some, None, Bool, true, false, cond, eqb, eqb-true}
 use Rattle.std.specs.List.{AllByRecursion as Each}
 use Rattle.std.proofs.lemmas.List.Elements.{filter-append}
 use Rattle.std.proofs.lemmas.List.{get_or_at}
@@ -7,9 +7,9 @@ use Rattle.std.proofs.lemmas.Bool.{eqb-false}
 use Rattle.art_nodes.specs.Inner.{child_at}
 use Rattle.art_nodes.specs.declared.node.OpaqueNodePtr.{OpaqueNodePtr}
 use Rattle.art_model.specs.Keys.{IsFront, is_front}
-use Rattle.art_model.specs.Pairs.{match_of, with_key}
+use Rattle.art_model.specs.Pairs.{match_of}
 use Rattle.art_model.specs.Trees.{Tree, Children, child, no_child}
-use Rattle.art_model.specs.Radix.{pairs_of, pairs_below, IsRadix, AreRadix, IsRising, bytes_of, join}
+use Rattle.art_model.specs.Radix.{pairs_of, pairs_below, AreRadix, IsRising, bytes_of, join}
 use Rattle.art_model.specs.Layouts.{name_of, slots_of}
 use Rattle.art_model.specs.Places.{places, places_below}
 use Rattle.art_model.proofs.Lists.{filter_none, Each-append, Each-weaker, front_cut, front_trans}

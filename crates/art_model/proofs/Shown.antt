@@ -1,5 +1,5 @@
 -- what a store has under the name of a node of a layout
-use Rattle.std.proofs.Common.{◌≡◌, ◌≢◌, ℕ, List, ap, ap₂, sym, subst, ◌∙◌, Option, Some, None}
+use Rattle.std.proofs.Common.{◌≡◌, ◌≢◌, ap, ap₂, sym, subst, ◌∙◌, Option, Some, None}
 use Rattle.std.specs.FinMap as map
 use Rattle.art_nodes.specs.Inner.{Inner}
 use Rattle.art_nodes.specs.Names.{leaf_name, inner_name}

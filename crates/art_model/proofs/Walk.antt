@@ -10,7 +10,7 @@ use Rattle.art_model.specs.Layouts.{Node, name_of, slots_of, Holds}
 use Rattle.art_model.proofs.Lists.{filter_none, Each-weaker}
 use Rattle.art_model.proofs.Keys.{related_sym}
 use Rattle.art_model.proofs.Paths.{path_down, pairs_of-plug, path_before, path_after}
-use Rattle.art_model.proofs.Search.{split_children}
+use Rattle.art_model.proofs.Slots.{split_children}
 use Rattle.art_model.proofs.Stores.{path_holds}
 
 module _ {N A : Type 0} (bytes : A → List ℕ) (P : ℕ) where

@@ -1,5 +1,5 @@
 -- what the comparison at the last leaf tells
-use Rattle.std.proofs.Common.{◌≡◌, ℕ, ◌+◌, ◌≤◌, ◌↔◌, min, List, [], ◌∷◌, ◌++◌, length, drop, refl, subst, ap, ap₂, sym, ◌∙◌, arith, append_assoc, length-append, Some, Bool, true, false, IsTrue, ◌&&◌}
+use Rattle.std.proofs.Common.{◌≡◌, ℕ, ◌+◌, ◌≤◌, ◌↔◌, min, List, [], ◌∷◌, ◌++◌, length, drop, refl, subst, ap, sym, ◌∙◌, arith, append_assoc, length-append, Some, Bool, true, false, IsTrue}
 use Rattle.std.proofs.lemmas.Bool.{false≢true}
 use Rattle.std.proofs.lemmas.List.{append_cancel_left}
 use Rattle.art_model.specs.Keys.{IsFront, is_front, are_same}

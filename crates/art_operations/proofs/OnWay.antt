@@ -1,39 +1,29 @@
 -- the way down with a key: what a look-up keeps at each node
-use Rattle.std.proofs.Common.{◌≡◌, ◌≢◌, ℕ, ◌+◌, ◌<◌, ◌≤◌, suc, zero, List, [], ◌∷◌, ◌++◌, length, take, drop, get_or, refl, ap, sym, ◌∙◌, arith, subst, append_assoc, length-append, length-drop, Some, None, Bool, true, false, cond}
+use Rattle.std.proofs.Common.{◌≡◌, ℕ, ◌+◌, ◌<◌, ◌≤◌, suc, zero, List, [], ◌∷◌, ◌++◌, length, take, drop, get_or, refl, ap, sym, ◌∙◌, arith, subst, append_assoc, length-append, Some, None, Bool, true, false, cond}
 use Rattle.std.proofs.lemmas.List.{take-append-drop}
-use Rattle.std.specs.FinMap as map
 use Rattle.art_nodes.specs.Inner.{Inner, child_at}
-use Rattle.art_nodes.specs.Names.{leaf_name, inner_name}
-use Rattle.art_nodes.specs.Nodes.{Nodes}
-use Rattle.art_nodes.specs.declared.node.NodeType.TheVariants.{Leaf}
-use Rattle.art_nodes.specs.declared.node.LeafPtr.{LeafPtr}
+use Rattle.art_nodes.specs.Names.{inner_name}
 use Rattle.art_nodes.specs.declared.node.InnerPtr.{InnerPtr}
 use Rattle.art_nodes.specs.declared.node.OpaqueNodePtr.{OpaqueNodePtr}
-use Rattle.art_nodes.specs.declared.node.LeafNode.{LeafNode}
 use Rattle.art_model.specs.Keys.{IsFront, is_front}
 use Rattle.art_model.specs.Pairs.{match_of}
-use Rattle.art_model.specs.Trees.{Tree, leaf, inner, Children, child}
-use Rattle.art_model.specs.Radix.{IsRadix, AreRadix, bytes_of, join, pairs_of, pairs_below}
-use Rattle.art_model.specs.Layouts.{name_of, Holds}
-use Rattle.art_model.specs.Stores.{node_at, header_at, pair_of}
-use Rattle.art_model.specs.Paths.{Frame, fill, plug}
+use Rattle.art_model.specs.Trees.{Tree, leaf, inner, child}
+use Rattle.art_model.specs.Radix.{IsRadix, AreRadix, pairs_of, pairs_below}
+use Rattle.art_model.specs.Layouts.{name_of}
+use Rattle.art_model.specs.Stores.{header_at}
+use Rattle.art_model.specs.Paths.{Frame, plug}
 use Rattle.art_model.specs.Places.{places, places_below, place_of}
-use Rattle.art_model.specs.Lookups.{HasLeaf, nodes_on_way}
-use Rattle.art_model.specs.Canonical.{IsTree}
-use Rattle.art_model.proofs.Lists.{front_cut, front_trans, after_front}
+use Rattle.art_model.specs.Lookups.{HasLeaf}
+use Rattle.art_model.proofs.Lists.{front_cut, after_front}
 use Rattle.art_model.proofs.Keys.{front_is}
 use Rattle.art_model.proofs.Radix.{AreRadix-right}
-use Rattle.art_model.proofs.Stores.{path_holds}
-use Rattle.art_model.proofs.Canonical.{tree_radix}
 use Rattle.art_model.proofs.Places.{place_is}
 use Rattle.art_model.proofs.Fronts.{shared_whole, whole_shared}
-use Rattle.art_model.proofs.OnWay.{none_match, AreAside, aside_others, aside_off, aside_end, aside_pairs, aside_places, pairs_between, places_between, IsUnder, child_under, no_child_under, front_byte}
-use Rattle.art_model.proofs.Shown.{IsShown, no_leaf_gone, leaf_shown, no_inner_gone, inner_shown}
-use Rattle.art_operations.specs.declared.lookup.LastLeaf.{LastLeaf}
+use Rattle.art_model.proofs.OnWay.{none_match, AreAside, aside_others, aside_off, aside_end, aside_pairs, aside_places, pairs_between, places_between, child_under, no_child_under, front_byte}
+use Rattle.art_model.proofs.Shown.{IsShown}
 use Rattle.art_operations.specs.declared.lookup.PrefixMatchBehavior.{PrefixMatchBehavior}
 use Rattle.art_operations.specs.declared.lookup.PrefixMatchBehavior.TheVariants.{Pessimistic}
 use Rattle.art_operations.specs.Matching.{shared_len}
-use Rattle.art_operations.specs.Walks.{IsLastLeaf}
 
 -- how many of these nodes are on the key's way
 abbrev pub count_on_way : {N : Type 0} → List ℕ → List (List ℕ × N) → ℕ

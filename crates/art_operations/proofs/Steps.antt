@@ -1,5 +1,5 @@
 -- the steps of a way down, in the shape that its code shows
-use Rattle.std.proofs.Common.{◌≡◌, ◌≢◌, ℕ, ◌+◌, ◌-◌, ◌<◌, ◌≤◌, ◌⊎◌, inl, inr, List, [], ◌∷◌, length, take, drop, get_or, refl, ap, ap₂, sym, ◌∙◌, arith, subst, length-drop, Option, Some, None, Result, Ok, Err}
+use Rattle.std.proofs.Common.{◌≡◌, ◌≢◌, ℕ, ◌+◌, ◌<◌, ◌≤◌, ◌⊎◌, inl, inr, List, [], length, drop, get_or, refl, ap, ap₂, sym, ◌∙◌, arith, subst, length-drop, Some, None, Result, Ok, Err}
 use Rattle.std.specs.Result.{result_ok}
 use Rattle.std.specs.FinMap as map
 use Rattle.art_nodes.specs.Inner.{Inner, Prefix, child_at}
@@ -9,7 +9,6 @@ use Rattle.art_nodes.specs.declared.node.NodeType.TheVariants.{Leaf}
 use Rattle.art_nodes.specs.declared.node.LeafPtr.{LeafPtr}
 use Rattle.art_nodes.specs.declared.node.InnerPtr.{InnerPtr}
 use Rattle.art_nodes.specs.declared.node.OpaqueNodePtr.{OpaqueNodePtr}
-use Rattle.art_model.specs.Keys.{IsFront}
 use Rattle.art_model.specs.Pairs.{match_of}
 use Rattle.art_model.specs.Trees.{Tree}
 use Rattle.art_model.specs.Layouts.{Holds}
@@ -25,7 +24,7 @@ use Rattle.art_operations.specs.declared.lookup.PrefixMatchBehavior.TheVariants.
 use Rattle.art_operations.specs.declared.path.AttemptOptimisticPrefixMatch.{AttemptOptimisticPrefixMatch}
 use Rattle.art_operations.specs.declared.path.PessimisticMismatch.{PessimisticMismatch}
 use Rattle.art_operations.specs.Matching.{shared_len, prefix_match, behavior_after}
-use Rattle.art_operations.specs.Walks.{IsLastLeaf, WalkEnds}
+use Rattle.art_operations.specs.Walks.{IsLastLeaf}
 use Rattle.art_operations.proofs.Outcomes.{ok_len, err_why, ok_compared}
 use Rattle.art_operations.proofs.OnWay.{IsOnWay, leaf_leads, leaf_whole, leaf_only, leaf_least, leaf_exactly, IsEnd, ends_short, ends_off, ends_childless, still_compared, goes_on}
 
@@ -121,8 +120,8 @@ module _ {K V : Type 0} {s : Nodes K V} {bytes : K × V → List ℕ} {P : ℕ} 
     pub steps : {to : OpaqueNodePtr} {behavior' : PrefixMatchBehavior} → behavior' ≡ behavior_after behavior prefix rest → depth + m.matched_bytes < length key → Some to ≡ child_at shown.children (get_or key (depth + m.matched_bytes) 0) → IsOnWay bytes P key layout to (depth + m.matched_bytes + 1) behavior' before after
     steps {to} {behavior'} is long there =
         let down = goes_on d at {to = to} {after = behavior'} (let l = len_is in omega arith) (ap (λ n. child_at shown.children (get_or key n 0)) (sym len_is) ∙ sym there)
-            (λ sure.
-                let (was, all, stored) = ok_compared shown.prefix (drop depth key) behavior m matched (ap₂ (behavior_after behavior) (sym reads.prefix_is) (sym reads.rest_is) ∙ sym is ∙ sure) in
-                still_compared d at was all stored) in
+        (λ sure.
+        let (was, all, stored) = ok_compared shown.prefix (drop depth key) behavior m matched (ap₂ (behavior_after behavior) (sym reads.prefix_is) (sym reads.rest_is) ∙ sym is ∙ sure) in
+        still_compared d at was all stored) in
         let here = subst (λ n. IsOnWay bytes P key layout to (n + 1) behavior' before (now + 1)) (sym len_is) down in
         subst (λ n. IsOnWay bytes P key layout to (depth + m.matched_bytes + 1) behavior' before n) (sym counted) here

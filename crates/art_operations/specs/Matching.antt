@@ -15,9 +15,9 @@ shared_len a b = length (common_front a b)
 abbrev pub match_by_length : ℕ → List ℕ → Bool → Result AttemptOptimisticPrefixMatch PessimisticMismatch
 match_by_length len rest implicit =
     if nat_lt (length rest) len then
-      Err (record { matched_bytes = length rest; prefix_byte = None })
+    Err (record { matched_bytes = length rest; prefix_byte = None })
     else
-      Ok (record { matched_bytes = len; any_implicit_bytes = implicit })
+    Ok (record { matched_bytes = len; any_implicit_bytes = implicit })
 
 -- whether the rest of the query parts from the bytes that are stored of a prefix
 abbrev pub parts_from : List ℕ → List ℕ → Bool
@@ -28,9 +28,9 @@ abbrev pub prefix_match : PrefixMatchBehavior → Prefix → List ℕ → Result
 prefix_match Optimistic prefix rest = match_by_length prefix.len rest true
 prefix_match Pessimistic prefix rest =
     if parts_from rest prefix.stored then
-      Err (record { matched_bytes = shared_len prefix.stored rest; prefix_byte = slice_get prefix.stored (shared_len prefix.stored rest) })
+    Err (record { matched_bytes = shared_len prefix.stored rest; prefix_byte = slice_get prefix.stored (shared_len prefix.stored rest) })
     else
-      match_by_length prefix.len rest (nat_lt (length prefix.stored) prefix.len)
+    match_by_length prefix.len rest (nat_lt (length prefix.stored) prefix.len)
 
 -- the behavior after the comparison: optimistic once bytes were passed over, or the query ended before the prefix
 abbrev pub behavior_after : PrefixMatchBehavior → Prefix → List ℕ → PrefixMatchBehavior

@@ -6,7 +6,9 @@ ghost use Rattle.art_model.specs.Roots.{ForTree, IsCanonicalRoot};
 ghost use Rattle.art_operations.specs.Walks.{WalkEnds};
 
 use crate::path::{AttemptOptimisticPrefixMatch, PessimisticMismatch};
-use art_nodes::node::{AsBytes, InnerNode, LeafNode, LeafPtr, NodePtr, OpaqueNodePtr, OptionalLeafPtr};
+use art_nodes::node::{
+    AsBytes, InnerNode, LeafNode, LeafPtr, NodePtr, OpaqueNodePtr, OptionalLeafPtr,
+};
 use art_nodes::store::NodeStore;
 use std::marker::Model;
 
@@ -180,7 +182,7 @@ struct LastLeaf<'a, K, V> {
     behavior: PrefixMatchBehavior,
 }
 
-// Goes down with a key to the only leaf whose key can be a prefix of it. Each node that is read counts.
+// Goes down with a key to the only leaf whose key can be a prefix of it, and counts each node that it reads.
 fn walk<'a, K: AsBytes + Drop, V: Drop, const PREFIX_LEN: usize>(
     store: &'a NodeStore<K, V, PREFIX_LEN>,
     root: OpaqueNodePtr,
@@ -189,7 +191,8 @@ fn walk<'a, K: AsBytes + Drop, V: Drop, const PREFIX_LEN: usize>(
 ) -> Option<LastLeaf<'a, K, V>>
     requires root { IsCanonicalRoot (of_key K.bytes) PREFIX_LEN store.now root }
     requires room { visits.old + length key_bytes.now + 1 < 2 ^ 64 }
-    ensures ends { ForTree (of_key K.bytes) PREFIX_LEN store.now root (λ pairs layout. WalkEnds (of_key K.bytes) key_bytes.now pairs layout visits.old visits.new result) }
+    ensures ends { ForTree (of_key K.bytes) PREFIX_LEN store.now root (λ pairs layout.
+        WalkEnds (of_key K.bytes) key_bytes.now pairs layout visits.old visits.new result) }
     ensures at_most { visits.new ≤ visits.old + length key_bytes.now + 1 }
 {
     let mut name = root;
@@ -197,51 +200,54 @@ fn walk<'a, K: AsBytes + Drop, V: Drop, const PREFIX_LEN: usize>(
     let mut behavior = PrefixMatchBehavior::Pessimistic;
     'down: loop {
         visits.add_one();
-        match name.split() {
-            NodePtr::Leaf(name) => match store.leaf(name) {
-                Some(node) => {
-                    return Some(LastLeaf {
-                        name,
-                        node,
-                        depth,
-                        behavior,
-                    });
-                }
-                None => unreachable!(),
-            },
-            NodePtr::Inner(inner) => match store.inner(inner) {
-                Some(node) => {
-                    let header = node.header();
-                    let rest_of_key = &key_bytes[depth..];
-                    let matched = behavior
-                        .match_stored(header.prefix_len(), header.read_prefix(), rest_of_key)
-                        .ok()?;
-                    depth += matched.matched_bytes;
-                    if depth >= key_bytes.len() {
-                        return None;
-                    }
-                    name = node.lookup_child(key_bytes[depth])?;
-                    depth += 1;
-                }
-                None => unreachable!(),
-            },
+        let inner = match name.split() {
+            NodePtr::Inner(inner) => inner,
+            NodePtr::Leaf(name) => {
+                let Some(node) = store.leaf(name) else {
+                    unreachable!()
+                };
+                return Some(LastLeaf {
+                    name,
+                    node,
+                    depth,
+                    behavior,
+                });
+            }
+        };
+        let Some(node) = store.inner(inner) else {
+            unreachable!()
+        };
+        let header = node.header();
+        let rest_of_key = &key_bytes[depth..];
+        let matched = behavior
+            .match_stored(header.prefix_len(), header.read_prefix(), rest_of_key)
+            .ok()?;
+        depth += matched.matched_bytes;
+        if depth >= key_bytes.len() {
+            return None;
         }
+        name = node.lookup_child(key_bytes[depth])?;
+        depth += 1;
     }
 }
 
-/// The leaf of a key, or `None` where no stored key is equal to it. It is of a canonical root.
+/// The leaf of a key, or `None` where no stored key is equal to it.
+///
+/// It reads at most one node more than the key has bytes, and no leaf but the last. Where the bytes of
+/// a prefix are not all stored it passes over the others, and compares the whole key at the leaf.
 pub fn search_unchecked<K: AsBytes + Drop, V: Drop, const PREFIX_LEN: usize>(
     store: &NodeStore<K, V, PREFIX_LEN>,
     root: OpaqueNodePtr,
     key_bytes: &[u8],
 ) -> OptionalLeafPtr
     requires { IsCanonicalRoot (of_key K.bytes) PREFIX_LEN store.now root }
-    ensures { ForTree (of_key K.bytes) PREFIX_LEN store.now root (λ pairs layout. FindsLeaf layout (with_key (of_key K.bytes) key_bytes.now pairs) result) }
+    ensures { ForTree (of_key K.bytes) PREFIX_LEN store.now root (λ pairs layout.
+        FindsLeaf layout (with_key (of_key K.bytes) key_bytes.now pairs) result) }
 {
     search_visiting(store, root, key_bytes, &mut Visits::new())
 }
 
-/// The same as `search_unchecked`, and each reading of a node counts.
+/// The same as `search_unchecked`; each reading of a node is counted.
 pub fn search_visiting<K: AsBytes + Drop, V: Drop, const PREFIX_LEN: usize>(
     store: &NodeStore<K, V, PREFIX_LEN>,
     root: OpaqueNodePtr,
@@ -250,34 +256,41 @@ pub fn search_visiting<K: AsBytes + Drop, V: Drop, const PREFIX_LEN: usize>(
 ) -> OptionalLeafPtr
     requires root { IsCanonicalRoot (of_key K.bytes) PREFIX_LEN store.now root }
     requires room { visits.old + length key_bytes.now + 1 < 2 ^ 64 }
-    ensures leaf { ForTree (of_key K.bytes) PREFIX_LEN store.now root (λ pairs layout. FindsLeaf layout (with_key (of_key K.bytes) key_bytes.now pairs) result) }
+    ensures leaf { ForTree (of_key K.bytes) PREFIX_LEN store.now root (λ pairs layout.
+        FindsLeaf layout (with_key (of_key K.bytes) key_bytes.now pairs) result) }
 
-    ensures at_least { ForTree (of_key K.bytes) PREFIX_LEN store.now root (λ pairs layout. visits.old + length (nodes_on_way (of_key K.bytes) key_bytes.now layout) ≤ visits.new) }
-    ensures exactly { ForTree (of_key K.bytes) PREFIX_LEN store.now root (λ pairs layout. IsSome result → visits.old + length (nodes_on_way (of_key K.bytes) key_bytes.now layout) ≡ visits.new) }
+    ensures at_least { ForTree (of_key K.bytes) PREFIX_LEN store.now root (λ pairs layout.
+        visits.old + length (nodes_on_way (of_key K.bytes) key_bytes.now layout) ≤ visits.new) }
+    ensures exactly { ForTree (of_key K.bytes) PREFIX_LEN store.now root (λ pairs layout.
+        IsSome result →
+        visits.old + length (nodes_on_way (of_key K.bytes) key_bytes.now layout) ≡ visits.new) }
     ensures at_most { visits.new ≤ visits.old + length key_bytes.now + 1 }
 {
     let last = walk(store, root, key_bytes, visits)?;
-    if last.behavior.matches_leaf_key(last.node, key_bytes, last.depth) {
+    let behavior = last.behavior;
+    if behavior.matches_leaf_key(last.node, key_bytes, last.depth) {
         Some(last.name)
     } else {
         None
     }
 }
 
-/// The leaf whose key is a prefix of these bytes or equal to them, or `None` where there is none. It
-/// is of a canonical root.
+/// The leaf whose key is a prefix of these bytes or equal to them, or `None` where there is none.
+///
+/// It goes the way of `search_unchecked`, at the same cost.
 pub fn prefix_search_unchecked<K: AsBytes + Drop, V: Drop, const PREFIX_LEN: usize>(
     store: &NodeStore<K, V, PREFIX_LEN>,
     root: OpaqueNodePtr,
     key_bytes: &[u8],
 ) -> OptionalLeafPtr
     requires { IsCanonicalRoot (of_key K.bytes) PREFIX_LEN store.now root }
-    ensures { ForTree (of_key K.bytes) PREFIX_LEN store.now root (λ pairs layout. FindsLeaf layout (match_of (of_key K.bytes) key_bytes.now pairs) result) }
+    ensures { ForTree (of_key K.bytes) PREFIX_LEN store.now root (λ pairs layout.
+        FindsLeaf layout (match_of (of_key K.bytes) key_bytes.now pairs) result) }
 {
     prefix_search_visiting(store, root, key_bytes, &mut Visits::new())
 }
 
-/// The same as `prefix_search_unchecked`, and each reading of a node counts.
+/// The same as `prefix_search_unchecked`; each reading of a node is counted.
 pub fn prefix_search_visiting<K: AsBytes + Drop, V: Drop, const PREFIX_LEN: usize>(
     store: &NodeStore<K, V, PREFIX_LEN>,
     root: OpaqueNodePtr,
@@ -286,14 +299,19 @@ pub fn prefix_search_visiting<K: AsBytes + Drop, V: Drop, const PREFIX_LEN: usiz
 ) -> OptionalLeafPtr
     requires root { IsCanonicalRoot (of_key K.bytes) PREFIX_LEN store.now root }
     requires room { visits.old + length key_bytes.now + 1 < 2 ^ 64 }
-    ensures leaf { ForTree (of_key K.bytes) PREFIX_LEN store.now root (λ pairs layout. FindsLeaf layout (match_of (of_key K.bytes) key_bytes.now pairs) result) }
+    ensures leaf { ForTree (of_key K.bytes) PREFIX_LEN store.now root (λ pairs layout.
+        FindsLeaf layout (match_of (of_key K.bytes) key_bytes.now pairs) result) }
 
-    ensures at_least { ForTree (of_key K.bytes) PREFIX_LEN store.now root (λ pairs layout. visits.old + length (nodes_on_way (of_key K.bytes) key_bytes.now layout) ≤ visits.new) }
-    ensures exactly { ForTree (of_key K.bytes) PREFIX_LEN store.now root (λ pairs layout. IsSome result → visits.old + length (nodes_on_way (of_key K.bytes) key_bytes.now layout) ≡ visits.new) }
+    ensures at_least { ForTree (of_key K.bytes) PREFIX_LEN store.now root (λ pairs layout.
+        visits.old + length (nodes_on_way (of_key K.bytes) key_bytes.now layout) ≤ visits.new) }
+    ensures exactly { ForTree (of_key K.bytes) PREFIX_LEN store.now root (λ pairs layout.
+        IsSome result →
+        visits.old + length (nodes_on_way (of_key K.bytes) key_bytes.now layout) ≡ visits.new) }
     ensures at_most { visits.new ≤ visits.old + length key_bytes.now + 1 }
 {
     let last = walk(store, root, key_bytes, visits)?;
-    if last.behavior.leaf_key_is_prefix(last.node, key_bytes, last.depth) {
+    let behavior = last.behavior;
+    if behavior.leaf_key_is_prefix(last.node, key_bytes, last.depth) {
         Some(last.name)
     } else {
         None

@@ -8,43 +8,47 @@ ghost use Rattle.art_model.specs.Trees.{Tree};
 use art_nodes::node::{AsBytes, LeafPtr, NodePtr, OpaqueNodePtr};
 use art_nodes::store::NodeStore;
 
-/// The leaf of the least key in the tree below a name.
+/// The first leaf of the tree that a name stands for. It reads one inner node for each level.
 pub fn minimum_unchecked<K: AsBytes + Drop, V: Drop, const PREFIX_LEN: usize>(
     store: &NodeStore<K, V, PREFIX_LEN>,
     root: OpaqueNodePtr,
 ) -> LeafPtr
     requires { (layout : Tree OpaqueNodePtr (K × V)) × IsFullTree store.now root layout }
-    ensures { (layout : Tree OpaqueNodePtr (K × V)) → IsFullTree store.now root layout → HasFirstLeaf layout (leaf_name result) }
+    ensures { (layout : Tree OpaqueNodePtr (K × V)) →
+        IsFullTree store.now root layout → HasFirstLeaf layout (leaf_name result) }
 {
     let mut name = root;
     'down: loop {
-        match name.split() {
+        let inner = match name.split() {
+            NodePtr::Inner(inner) => inner,
             NodePtr::Leaf(leaf) => return leaf,
-            NodePtr::Inner(inner) => match store.inner(inner) {
-                Some(node) => name = node.min().1,
-                None => unreachable!(),
-            },
-        }
+        };
+        let Some(node) = store.inner(inner) else {
+            unreachable!()
+        };
+        name = node.min().1;
     }
 }
 
-/// The leaf of the greatest key in the tree below a name.
+/// The last leaf of the tree that a name stands for. It reads one inner node for each level.
 pub fn maximum_unchecked<K: AsBytes + Drop, V: Drop, const PREFIX_LEN: usize>(
     store: &NodeStore<K, V, PREFIX_LEN>,
     root: OpaqueNodePtr,
 ) -> LeafPtr
     requires { (layout : Tree OpaqueNodePtr (K × V)) × IsFullTree store.now root layout }
-    ensures { (layout : Tree OpaqueNodePtr (K × V)) → IsFullTree store.now root layout → HasLastLeaf layout (leaf_name result) }
+    ensures { (layout : Tree OpaqueNodePtr (K × V)) →
+        IsFullTree store.now root layout → HasLastLeaf layout (leaf_name result) }
 {
     let mut name = root;
     'down: loop {
-        match name.split() {
+        let inner = match name.split() {
+            NodePtr::Inner(inner) => inner,
             NodePtr::Leaf(leaf) => return leaf,
-            NodePtr::Inner(inner) => match store.inner(inner) {
-                Some(node) => name = node.max().1,
-                None => unreachable!(),
-            },
-        }
+        };
+        let Some(node) = store.inner(inner) else {
+            unreachable!()
+        };
+        name = node.max().1;
     }
 }
 

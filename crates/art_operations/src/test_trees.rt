@@ -3,7 +3,7 @@ ghost use Rattle.std.specs.Prelude.{IfOk};
 ghost use Rattle.art_model.specs.Pairs.{of_key};
 ghost use Rattle.art_model.specs.Roots.{IsCanonicalRoot};
 
-use crate::run::{run, Command};
+use crate::run::{Command, run};
 use art_nodes::node::{AsBytes, LeafPtr, OpaqueNodePtr};
 use art_nodes::store::NodeStore;
 use std::alloc::Global;
@@ -12,22 +12,21 @@ use std::test::Fail;
 /// The keys of the tests.
 pub type Key = Vec<u8>;
 
-/// The tree of these keys, with the place of each among them as its value.
+/// The tree of these keys, with the place of each among them as its value. The second store is for the run alone.
 pub fn plant<K: AsBytes + Drop, const P: usize>(
     store: &mut NodeStore<K, u32, P>,
+    second: &mut NodeStore<K, u32, P>,
     keys: Vec<K>,
 ) -> Result<OpaqueNodePtr, Fail>
     ensures { IfOk result (λ root. IsCanonicalRoot (of_key K.bytes) P store.new root) }
 {
-    let alloc = store.alloc();
-    let mut commands = Vec::new(alloc);
+    let mut commands = Vec::new(store.alloc());
     let mut value = 0u32;
     for key in keys {
         commands.push(Command::Insert(key, value))?;
         value = value.wrapping_add(1);
     }
-    let mut second = NodeStore::new(alloc);
-    match run(store, &mut second, None, commands) {
+    match run(store, second, None, commands) {
         Ok(done) => Ok(done.root.ok_or("no key")?),
         Err((_, error)) => Err(error.into()),
     }
@@ -57,6 +56,9 @@ pub fn keys_of_zeros(alloc: Global) -> Result<Vec<Key>, Fail> {
 }
 
 /// The value of a leaf.
-pub fn value_of<const P: usize>(store: &NodeStore<Key, u32, P>, leaf: LeafPtr) -> Option<u32> {
+pub fn value_of<K: AsBytes + Drop, const P: usize>(
+    store: &NodeStore<K, u32, P>,
+    leaf: LeafPtr,
+) -> Option<u32> {
     Some(store.leaf(leaf)?.value)
 }

@@ -28,4 +28,4 @@ down-preserved g c layout full =
 pub unreachable-requires : goal.unreachable-requires
 unreachable-requires g c =
     let (layout, full) = c.requires in
-    edge_inner_there AreLast c.args.store.now layout (c.down.invariant layout full) c.in-Inner.ensures.proper c.in-Inner.ensures.name c.in-None.ensures.view
+    edge_inner_there AreLast c.args.store.now layout (c.down.invariant layout full) c.in-Inner.ensures.proper c.in-Inner.ensures.name c.in_default.ensures.view
