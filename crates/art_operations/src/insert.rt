@@ -272,3 +272,6 @@ fn match_prefix(
         }),
     }
 }
+
+#[cfg(test)]
+mod tests;
