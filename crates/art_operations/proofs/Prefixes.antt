@@ -1,5 +1,5 @@
 -- the whole prefix of a node, as it is read
-use Rattle.std.proofs.Common.{◌≡◌, ◌≢◌, ℕ, ◌+◌, ◌-◌, ◌<◌, ◌≤◌, List, [], ◌∷◌, ◌++◌, length, take, drop, slice_get, refl, ap, sym, ◌∙◌, arith, subst, length-append, length-take, Option, Some, None, Result, Ok, Err}
+use Rattle.std.proofs.Common.{◌≡◌, ◌≢◌, ℕ, ◌+◌, ◌-◌, ◌<◌, ◌≤◌, List, [], ◌∷◌, ◌++◌, length, take, drop, slice_get, ap, sym, ◌∙◌, arith, subst, length-append, Option, Some, None, Result, Ok, Err}
 use Rattle.std.specs.Result.{IfOk, IfErr}
 use Rattle.std.proofs.lemmas.List.{take_all}
 use Rattle.std.specs.FinMap as map
@@ -12,7 +12,7 @@ use Rattle.art_nodes.specs.declared.node.InnerPtr.{InnerPtr}
 use Rattle.art_nodes.specs.declared.node.OpaqueNodePtr.{OpaqueNodePtr}
 use Rattle.art_nodes.specs.declared.node.LeafNode.{LeafNode}
 use Rattle.art_model.specs.Keys.{IsFront}
-use Rattle.art_model.specs.Lookups.{HasFirstLeaf, HasLeaf}
+use Rattle.art_model.specs.Lookups.{HasFirstLeaf}
 use Rattle.art_model.specs.Pairs.{first_of}
 use Rattle.art_model.specs.Roots.{IsFullTree}
 use Rattle.art_model.specs.Trees.{Tree, leaf, inner, Children, child, no_child}

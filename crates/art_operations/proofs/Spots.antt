@@ -1,5 +1,5 @@
 -- the way down with a key to its end node
-use Rattle.std.proofs.Common.{◌≡◌, ◌≢◌, ℕ, suc, ◌+◌, ◌<◌, ◌≤◌, List, [], ◌∷◌, ◌++◌, length, drop, get_or, refl, ap, sym, ◌∙◌, arith, subst, append_assoc, append-nil, length-append, length-drop, Option, Some, None, Result, Ok, Err, true, false}
+use Rattle.std.proofs.Common.{◌≡◌, ◌≢◌, ℕ, ◌+◌, ◌<◌, ◌≤◌, List, [], ◌∷◌, ◌++◌, length, drop, get_or, refl, ap, sym, ◌∙◌, arith, subst, append_assoc, append-nil, length-append, length-drop, Option, Some, None, Ok, true, false}
 use Rattle.std.specs.List.{AllByRecursion as Each}
 use Rattle.std.specs.FinMap as map
 use Rattle.std.proofs.lemmas.Option.{slice_get_within}
@@ -12,10 +12,10 @@ use Rattle.art_nodes.specs.declared.node.InnerPtr.{InnerPtr}
 use Rattle.art_nodes.specs.declared.node.OpaqueNodePtr.{OpaqueNodePtr}
 use Rattle.art_nodes.specs.declared.node.LeafNode.{LeafNode}
 use Rattle.art_model.specs.Keys.{IsFront, are_related}
-use Rattle.art_model.specs.Pairs.{is_conflict, related_to}
+use Rattle.art_model.specs.Pairs.{is_conflict}
 use Rattle.art_model.specs.Trees.{Tree, leaf, inner, Children, child, no_child, header_of}
-use Rattle.art_model.specs.Radix.{IsRadix, AreRadix, bytes_of, join, pairs_of, pairs_below}
-use Rattle.art_model.specs.Layouts.{name_of, names_of, slots_of, Holds, AreDistinct}
+use Rattle.art_model.specs.Radix.{IsRadix, AreRadix, bytes_of, pairs_of, pairs_below}
+use Rattle.art_model.specs.Layouts.{names_of, slots_of, Holds, AreDistinct}
 use Rattle.art_model.specs.Stores.{node_at, header_at, pair_of}
 use Rattle.art_model.specs.Paths.{Frame, plug, fill, names_before, names_after}
 use Rattle.art_model.specs.Places.{places, depth_of, prefix_of, IsEndNode}
@@ -29,18 +29,17 @@ use Rattle.art_model.proofs.Paths.{path_down}
 use Rattle.art_model.proofs.Places.{place_is, prefix_is, beside, deeper}
 use Rattle.art_model.proofs.PlaceLaws.{depth_is, ends_at}
 use Rattle.art_model.proofs.Rebuild.{radix_way, radix_below, radix_some}
-use Rattle.art_model.proofs.OnWay.{AreAside, aside_others, aside_off, aside_end, child_under, no_child_under, front_byte}
+use Rattle.art_model.proofs.OnWay.{AreAside, aside_others, aside_off, child_under, no_child_under, front_byte}
 use Rattle.art_model.proofs.Shown.{IsShown, no_leaf_gone, leaf_shown, no_inner_gone, inner_shown}
-use Rattle.art_model.proofs.Walk.{Spot, spot_root, spot_holds, related_at}
+use Rattle.art_model.proofs.Walk.{Spot, spot_holds, related_at}
 use Rattle.art_operations.specs.declared.insert.InsertKind.{InsertKind}
 use Rattle.art_operations.specs.declared.insert.InsertKind.TheVariants.{MismatchPrefix, SplitLeaf, Exact, IntoExisting}
-use Rattle.art_operations.specs.declared.insert.InsertPoint.{InsertPoint}
 use Rattle.art_operations.specs.declared.path.ExplicitMismatch.{ExplicitMismatch}
 use Rattle.art_operations.specs.declared.path.PrefixMatch.{PrefixMatch}
 use Rattle.art_operations.specs.declared.path.TreePath.{TreePath}
 use Rattle.art_operations.specs.declared.path.TreePath.TheVariants.{Root}
 use Rattle.art_operations.specs.Matching.{shared_len}
-use Rattle.art_operations.specs.Points.{step_down, path_of, as_inner, AnswersTo, IsPointFor, IsKindFor, IsKindAtLeaf, IsKindOf, IsCompared, IsMismatch, IsPart}
+use Rattle.art_operations.specs.Points.{step_down, path_of, AnswersTo, IsPointFor, IsKindFor, IsKindAtLeaf, IsKindOf, IsCompared, IsMismatch, IsPart}
 use Rattle.art_operations.proofs.Partings.{ArePart, part_where, parted_unrelated, unrelated_after, front_right, conflict-related, no_conflict, first_conflict, same_conflict}
 
 -- a node on the key's way, and the path to it
@@ -67,9 +66,7 @@ module _ {A : Type 0} (bytes : A → List ℕ) (P : ℕ) (key : List ℕ) (node 
 
 module _ {K V : Type 0} {s : Nodes K V} {bytes : K × V → List ℕ} {P : ℕ} {root : OpaqueNodePtr} {pairs : List (K × V)} {layout : Tree OpaqueNodePtr (K × V)} (by : IsTree bytes P s root pairs layout) where
   pub start : (key : List ℕ) → IsAt bytes P key layout Root root 0
-  start key =
-      let spot = spot_root bytes P layout key (tree_radix by).0 in
-      record { spot = record { frames = []; place = []; node = layout; whole = refl; path = refl; radix = (tree_radix by).0; front = (key, refl); named = by.stands.0.named; depth_is = refl }; path_is = refl }
+  start key = record { spot = record { frames = []; place = []; node = layout; whole = refl; path = refl; radix = (tree_radix by).0; front = (key, refl); named = by.stands.0.named; depth_is = refl }; path_is = refl }
 
   module _ {key : List ℕ} {path : TreePath} {name : OpaqueNodePtr} {depth : ℕ} (d : IsAt bytes P key layout path name depth) where
     holds : Holds (node_at s) d.spot.node

@@ -7,7 +7,7 @@ use Rattle.art_nodes.specs.Nodes.{Nodes}
 use Rattle.art_nodes.specs.declared.node.LeafPtr.{LeafPtr}
 use Rattle.art_nodes.specs.declared.node.InnerPtr.{InnerPtr}
 use Rattle.art_nodes.specs.declared.node.OpaqueNodePtr.{OpaqueNodePtr}
-use Rattle.art_model.specs.Keys.{IsFront, are_related, common_front}
+use Rattle.art_model.specs.Keys.{IsFront, are_related}
 use Rattle.art_model.specs.Layouts.{name_of, slots_of, IsLayout}
 use Rattle.art_model.specs.Lookups.{HasFirstLeaf}
 use Rattle.art_model.specs.Pairs.{is_conflict}

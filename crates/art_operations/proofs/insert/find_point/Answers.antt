@@ -1,4 +1,4 @@
-use Rattle.std.proofs.Common.{rules, ◌+◌, ◌≤◌, length, arith, subst, sym}
+use Rattle.std.proofs.Common.{rules, ◌+◌, arith, subst, sym}
 use Rattle.art_model.specs.Pairs.{of_key}
 use Rattle.art_operations.proofs.Spots.{IsAt, prefix_inside, mismatch_inside, start, leaf_there, inner_there, shown_there, some_shown, part_there, leaf_conflict, leaf_point, prefix_conflict, into_point, goes_on, mismatch_conflict, mismatch_point}
 use Rattle.art_operations.proofs.insert.find_point.Goals as goal

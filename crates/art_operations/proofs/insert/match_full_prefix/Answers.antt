@@ -1,4 +1,4 @@
-use Rattle.std.proofs.Common.{rules, ◌+◌, ◌≤◌, length, ap, sym, refl, ◌∙◌, arith, subst}
+use Rattle.std.proofs.Common.{rules, ◌+◌, ◌≤◌, length, ap, refl, arith}
 use Rattle.std.proofs.lemmas.List.{take_rest}
 use Rattle.art_operations.proofs.Prefixes.{is_full, no_leaf_gone, long_enough, matches_stored, matches_read}
 use Rattle.art_operations.proofs.insert.match_full_prefix.Goals as goal
