@@ -5,7 +5,7 @@ use Rattle.std.specs.Box.{boxed_slice_items}
 use Rattle.std.proofs.lemmas.Bool.{true≢false}
 use Rattle.art_operations.specs.Answers.{Answers}
 use Rattle.art_operations.specs.Runs.{Chain}
-use Rattle.art_operations.specs.declared.run.InsertPrefixError.{InsertPrefixError}
+use Rattle.art_operations.specs.declared.insert.InsertPrefixError.{InsertPrefixError}
 use Rattle.art_operations.specs.declared.run.Command.TheVariants.{Insert, Delete, Contains}
 use Rattle.art_operations.specs.declared.run.Reply.TheVariants.{Inserted, Conflict, Deleted, Found, NoMemory}
 

@@ -7,3 +7,6 @@ pub mod Outcomes
 pub mod OnWay
 pub mod Steps
 pub mod Ends
+pub mod Partings
+pub mod Spots
+pub mod Prefixes

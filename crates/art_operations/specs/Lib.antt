@@ -3,3 +3,4 @@ pub mod Runs
 pub mod Room
 pub mod Matching
 pub mod Walks
+pub mod Points

@@ -1,6 +1,7 @@
 //! Operations on a radix tree in a store.
 #![tactic(auto)]
 
+pub mod insert;
 pub mod lookup;
 pub mod minmax;
 pub mod path;

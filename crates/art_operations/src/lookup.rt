@@ -121,8 +121,8 @@ impl PrefixMatchBehavior {
 
 ghost use Rattle.art_operations.specs.Matching.{shared_len};
 
-// How many bytes the two share in front.
-fn shared_len(a: &[u8], b: &[u8]) -> usize
+/// How many bytes the two share in front.
+pub(crate) fn shared_len(a: &[u8], b: &[u8]) -> usize
     ensures { result ≡ shared_len a.now b.now }
 {
     let end = a.len().min(b.len());

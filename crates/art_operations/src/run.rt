@@ -9,13 +9,13 @@ ghost use Rattle.art_operations.specs.Room.{HasRoomFor, SameNodes};
 ghost use Rattle.art_operations.specs.Runs.{IsFirstRun};
 ghost use Rattle.art_operations.specs.declared.run.Side.TheVariants.{First};
 
+use crate::insert::InsertPrefixError;
 use art_nodes::node::{AsBytes, LeafPtr, OpaqueNodePtr};
 use art_nodes::store::NodeStore;
 use art_oracle::build::build;
 use art_oracle::pairs::{contains, has_related, insert_at, remove, replace_at, search};
 use std::alloc::{AllocError, Global};
 use std::boxed::BoxedSlice;
-use thiserror::Error;
 
 /// A command on a tree.
 #[derive(Debug, Drop)]
@@ -26,25 +26,6 @@ pub enum Command<K, V> {
     Delete(Vec<u8>),
     /// Asks whether the key with these bytes is stored.
     Contains(Vec<u8>),
-}
-
-/// A key that can't be inserted: a stored key begins with it, or it begins with a stored key.
-#[derive(PartialEq, Eq, Debug, Drop, Error)]
-#[error("Attempted to insert a key [{byte_repr:?}] which is either a prefix of an existing key or an existing key is a prefix of the new key.")]
-pub struct InsertPrefixError {
-    /// The bytes of the key.
-    pub byte_repr: BoxedSlice<u8>,
-}
-
-impl Clone for InsertPrefixError {
-    ghost use Rattle.std.specs.Box.{boxed_slice_items};
-
-    ghost is_clone = { λ error copy. boxed_slice_items copy.byte_repr ≡ boxed_slice_items error.byte_repr };
-
-    fn clone(&self) -> Result<Self, AllocError> {
-        let byte_repr = self.byte_repr.clone()?;
-        Ok(InsertPrefixError { byte_repr })
-    }
 }
 
 /// The reply to a command.

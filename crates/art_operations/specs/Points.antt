@@ -1,0 +1,108 @@
+-- The points at which keys come into a tree: what a point says of its key's end node.
+use Rattle.std.specs.Prelude.{◌≡◌, ◌≢◌, ℕ, ◌+◌, ◌<◌, ◌≤◌, true, false, List, [], ◌∷◌, length, drop, get_or, slice_get, Option, Some, None, Result, Ok, Err}
+use Rattle.std.specs.Box.{boxed_slice_items}
+use Rattle.art_nodes.specs.Inner.{child_at}
+use Rattle.art_nodes.specs.Names.{leaf_name, inner_name}
+use Rattle.art_nodes.specs.Nodes.{Nodes}
+use Rattle.art_nodes.specs.declared.node.LeafPtr.{LeafPtr}
+use Rattle.art_nodes.specs.declared.node.InnerPtr.{InnerPtr}
+use Rattle.art_nodes.specs.declared.node.OpaqueNodePtr.{OpaqueNodePtr}
+use Rattle.art_model.specs.Keys.{IsFront, are_related}
+use Rattle.art_model.specs.Layouts.{name_of, slots_of, IsLayout}
+use Rattle.art_model.specs.Lookups.{HasFirstLeaf}
+use Rattle.art_model.specs.Pairs.{is_conflict}
+use Rattle.art_model.specs.Paths.{Frame}
+use Rattle.art_model.specs.Places.{depth_of, prefix_of, IsEndNode}
+use Rattle.art_model.specs.Radix.{IsRadix}
+use Rattle.art_model.specs.Stores.{node_at}
+use Rattle.art_model.specs.Trees.{Tree, leaf, inner, Children, Header}
+use Rattle.art_operations.specs.declared.insert.InsertKind.{InsertKind}
+use Rattle.art_operations.specs.declared.insert.InsertKind.TheVariants.{MismatchPrefix, SplitLeaf, Exact, IntoExisting}
+use Rattle.art_operations.specs.declared.insert.InsertPoint.{InsertPoint}
+use Rattle.art_operations.specs.declared.insert.InsertSearchError.{InsertSearchError}
+use Rattle.art_operations.specs.declared.insert.InsertSearchError.TheVariants.{Prefix, Memory}
+use Rattle.art_operations.specs.declared.path.ExplicitMismatch.{ExplicitMismatch}
+use Rattle.art_operations.specs.declared.path.PrefixMatch.{PrefixMatch}
+use Rattle.art_operations.specs.declared.path.TreePath.{TreePath}
+use Rattle.art_operations.specs.declared.path.TreePath.TheVariants.{Root, ChildOfRoot, Normal}
+use Rattle.art_operations.specs.Matching.{shared_len}
+
+-- the path one step further down, to the child that a node has under a byte
+abbrev pub step_down : TreePath → InnerPtr → ℕ → TreePath
+step_down Root node byte = ChildOfRoot node byte
+step_down (ChildOfRoot parent b) node byte = Normal parent b node byte
+step_down (Normal grandparent c parent b) node byte = Normal parent b node byte
+
+-- the name of a node that is inner
+abbrev pub as_inner : OpaqueNodePtr → InnerPtr
+as_inner n = record { kind = n.kind; slot = n.slot }
+
+-- the last steps of a path: the parent and the grandparent, with the bytes that lead down
+abbrev pub path_of : {A : Type 0} → List (Frame OpaqueNodePtr A) → TreePath
+path_of [] = Root
+path_of (f ∷ fs) = step_down (path_of fs) (as_inner f.mark) f.byte
+
+-- a leaf's key and the key part at a byte of both, after so many bytes, or they are the same
+abbrev pub IsKindAtLeaf : List ℕ → LeafPtr → List ℕ → InsertKind → Type 0
+IsKindAtLeaf key name other (Exact p) = (p ≡ name) × (other ≡ key)
+IsKindAtLeaf key name other (SplitLeaf p used) = (p ≡ name) × (are_related key other ≡ false) × (used ≡ shared_len key other)
+IsKindAtLeaf key name other kind = ⊥
+
+-- the least leaf below a node, exactly where the node's prefix is longer than what can be stored of it
+abbrev pub IsLeafForPrefix : {A : Type 0} → ℕ → List ℕ → Tree OpaqueNodePtr A → Option LeafPtr → Type 0
+IsLeafForPrefix P prefix node None = length prefix ≤ P
+IsLeafForPrefix P prefix node (Some name) = (P < length prefix) × HasFirstLeaf node (leaf_name name)
+
+module _ {A : Type 0} (bytes : A → List ℕ) (P : ℕ) (key : List ℕ) (node : Tree OpaqueNodePtr A) (depth : ℕ) where
+  -- the node's prefix and the rest of the key are the same up to a byte of the prefix, which the key parts from or ends before
+  pub record IsMismatch (mismatch : ExplicitMismatch) : Type 0 where
+    pub matched : mismatch.matched_bytes ≡ shared_len (prefix_of bytes depth node) (drop depth key)
+    pub byte : slice_get (prefix_of bytes depth node) mismatch.matched_bytes ≡ Some mismatch.prefix_byte
+    pub least_leaf : IsLeafForPrefix P (prefix_of bytes depth node) node mismatch.leaf_ptr
+
+  -- the node's whole prefix, compared with the rest of the key
+  abbrev pub IsCompared : Result PrefixMatch ExplicitMismatch → Type 0
+  IsCompared (Ok match) = (match.matched_bytes ≡ length (prefix_of bytes depth node)) × IsFront (prefix_of bytes depth node) (drop depth key)
+  IsCompared (Err mismatch) = IsMismatch mismatch
+
+  -- what a point's kind and its number of bytes used say of the node: by cases, the leaf of the key; a leaf whose key is not related; an inner node that has no child for the key's byte after its prefix; one whose prefix and the key part at a byte of both
+  abbrev pub IsKindOf : ℕ → InsertKind → Type 0
+  IsKindOf used (Exact p) = (used ≡ depth) × ((pair : A) × (node ≡ leaf (leaf_name p) pair) × IsKindAtLeaf key p (bytes pair) (Exact p))
+  IsKindOf used (SplitLeaf p new_used) = (used ≡ depth) × ((pair : A) × (node ≡ leaf (leaf_name p) pair) × IsKindAtLeaf key p (bytes pair) (SplitLeaf p new_used))
+  IsKindOf used (IntoExisting p) =
+      (header : Header) × (children : Children OpaqueNodePtr A) × (node ≡ inner (inner_name p) header children) × IsFront (prefix_of bytes depth node) (drop depth key)
+      × (used ≡ depth + length (prefix_of bytes depth node)) × (used < length key) × (child_at (slots_of children) (get_or key used 0) ≡ None)
+  IsKindOf used (MismatchPrefix mismatch p) =
+      (used ≡ depth) × ((header : Header) × (children : Children OpaqueNodePtr A) × (node ≡ inner (inner_name p) header children) × IsMismatch mismatch × (depth + mismatch.matched_bytes < length key))
+
+module _ {A : Type 0} (bytes : A → List ℕ) (P : ℕ) where
+  -- The point names the tree's root and the key's end node, with the parent and the grandparent of that and the bytes that lead down.
+  pub record AnswersTo (layout : Tree OpaqueNodePtr A) (key : List ℕ) (point : InsertPoint) : Type 0 where
+    pub path : List (Frame OpaqueNodePtr A)
+    pub node : Tree OpaqueNodePtr A
+    pub is_end : IsEndNode bytes layout key path node
+    pub root_is : point.root ≡ name_of layout
+    pub path_is : point.path ≡ path_of path
+    pub kind_is : IsKindOf bytes P key node (depth_of path) point.key_bytes_used point.insert_kind
+
+  -- a point where the key can come in, or none where a stored key is related to it and unequal
+  abbrev pub IsPointFor : List ℕ → List A → Tree OpaqueNodePtr A → Option InsertPoint → Type 0
+  IsPointFor key pairs layout None = is_conflict bytes key pairs ≡ true
+  IsPointFor key pairs layout (Some point) = (is_conflict bytes key pairs ≡ false) × AnswersTo layout key point
+
+-- where a leaf's key and the key are related and unequal there is no kind
+abbrev pub IsKindFor : List ℕ → LeafPtr → List ℕ → Option InsertKind → Type 0
+IsKindFor key name other None = (are_related key other ≡ true) × (key ≢ other)
+IsKindFor key name other (Some kind) = IsKindAtLeaf key name other kind
+
+-- the name stands for a part of a radix tree, to which so many bytes lead
+pub record IsPart {K V : Type 0} (bytes : K × V → List ℕ) (P : ℕ) (s : Nodes K V) (name : OpaqueNodePtr) (depth : ℕ) (node : Tree OpaqueNodePtr (K × V)) : Type 0 where
+  pub place : List ℕ
+  pub depth_is : length place ≡ depth
+  pub radix : IsRadix bytes P place node
+  pub layout : IsLayout (node_at s) name node
+
+-- a refusal with the bytes of the key, or for want of memory
+abbrev pub IsRefusedFor : List ℕ → InsertSearchError → Type 0
+IsRefusedFor key (Prefix error) = boxed_slice_items error.byte_repr ≡ key
+IsRefusedFor key (Memory error) = Unit {0}
