@@ -23,9 +23,8 @@ use Rattle.art_model.specs.Canonical.{IsTree}
 use Rattle.art_model.proofs.Lists.{Each-append, Each-weaker, common_front_right, front_trans, after_front}
 use Rattle.art_model.proofs.Keys.{front_related}
 use Rattle.art_model.proofs.Canonical.{tree_radix}
-use Rattle.art_model.proofs.Names.{distinct_left, distinct_right}
-use Rattle.art_model.proofs.Stores.{names_of-plug}
-use Rattle.art_model.proofs.Paths.{path_down}
+use Rattle.art_model.proofs.Pairwises.{Pairwise-left, Pairwise-right}
+use Rattle.art_model.proofs.Paths.{path_down, names_of-plug}
 use Rattle.art_model.proofs.Places.{place_is, prefix_is, beside, deeper}
 use Rattle.art_model.proofs.PlaceLaws.{depth_is, ends_at}
 use Rattle.art_model.proofs.Rebuild.{radix_way, radix_below, radix_some}
@@ -66,7 +65,7 @@ module _ {A : Type 0} (bytes : A → List ℕ) (P : ℕ) (key : List ℕ) (node 
 
 module _ {K V : Type 0} {s : Nodes K V} {bytes : K × V → List ℕ} {P : ℕ} {root : OpaqueNodePtr} {pairs : List (K × V)} {layout : Tree OpaqueNodePtr (K × V)} (by : IsTree bytes P s root pairs layout) where
   pub start : (key : List ℕ) → IsAt bytes P key layout Root root 0
-  start key = record { spot = record { frames = []; place = []; node = layout; whole = refl; path = refl; radix = (tree_radix by).0; front = (key, refl); named = by.stands.0.named; depth_is = refl }; path_is = refl }
+  start key = record { spot = record { frames = []; place = []; node = layout; whole = refl; hole = record { path = refl; radix = (tree_radix by).0; front = (key, refl) }; named = by.stands.0.named; depth_is = refl }; path_is = refl }
 
   module _ {key : List ℕ} {path : TreePath} {name : OpaqueNodePtr} {depth : ℕ} (d : IsAt bytes P key layout path name depth) where
     holds : Holds (node_at s) d.spot.node
@@ -97,8 +96,8 @@ module _ {K V : Type 0} {s : Nodes K V} {bytes : K × V → List ℕ} {P : ℕ} 
         record {
           place = d.spot.place;
           depth_is = d.spot.depth_is;
-          radix = d.spot.radix;
-          layout = record { named = d.spot.named ∙ sym is; holds = holds; distinct = distinct_right (names_before d.spot.frames) (names_of d.spot.node) (distinct_left (names_before d.spot.frames ++ names_of d.spot.node) (names_after d.spot.frames) all) };
+          radix = d.spot.hole.radix;
+          layout = record { named = d.spot.named ∙ sym is; holds = holds; distinct = Pairwise-right (λ n k. n ≢ k) (names_before d.spot.frames) (names_of d.spot.node) (Pairwise-left (λ n k. n ≢ k) (names_before d.spot.frames ++ names_of d.spot.node) (names_after d.spot.frames) all) };
         }
 
     -- what is in conflict with the key is below
@@ -106,11 +105,11 @@ module _ {K V : Type 0} {s : Nodes K V} {bytes : K × V → List ℕ} {P : ℕ} 
     conflict_below =
         let whole : pairs ≡ pairs_of (plug d.spot.frames d.spot.node) = sym (tree_radix by).1 ∙ ap pairs_of (sym d.spot.whole) in
         ap (is_conflict bytes key) whole ∙ sym (conflict-related bytes key (pairs_of (plug d.spot.frames d.spot.node)))
-        ∙ ap (is_conflict bytes key) (related_at bytes P d.spot.frames d.spot.place key d.spot.node d.spot.path d.spot.front)
+        ∙ ap (is_conflict bytes key) (related_at bytes P d.spot.frames d.spot.place key d.spot.node d.spot.hole.path d.spot.hole.front)
         ∙ conflict-related bytes key (pairs_of d.spot.node)
 
     deep : depth_of d.spot.frames ≡ depth
-    deep = depth_is bytes P d.spot.frames d.spot.place d.spot.path ∙ d.spot.depth_is
+    deep = depth_is bytes P d.spot.frames d.spot.place d.spot.hole.path ∙ d.spot.depth_is
 
     -- no longer place is a front of the key, so this is the end node
     answers : (used : ℕ) (kind : InsertKind) → Each (λ other. IsFront other.0 key → length other.0 ≤ length d.spot.place) (places bytes (length d.spot.place) d.spot.node) → IsKindOf bytes P key d.spot.node depth used kind →
@@ -119,7 +118,7 @@ module _ {K V : Type 0} {s : Nodes K V} {bytes : K × V → List ℕ} {P : ℕ} 
         record {
           path = d.spot.frames;
           node = d.spot.node;
-          is_end = subst (λ t. IsEndNode bytes t key d.spot.frames d.spot.node) d.spot.whole (ends_at bytes P key d.spot.frames d.spot.place d.spot.node d.spot.path d.spot.radix d.spot.front longest);
+          is_end = subst (λ t. IsEndNode bytes t key d.spot.frames d.spot.node) d.spot.whole (ends_at bytes P key d.spot.frames d.spot.place d.spot.node d.spot.hole.path d.spot.hole.radix d.spot.hole.front longest);
           root_is = sym by.stands.0.named;
           path_is = d.path_is;
           kind_is = subst (λ n. IsKindOf bytes P key d.spot.node n used kind) (sym deep) is;
@@ -135,7 +134,7 @@ module _ {K V : Type 0} {s : Nodes K V} {bytes : K × V → List ℕ} {P : ℕ} 
 
       longest_leaf : Each (λ other. IsFront other.0 key → length other.0 ≤ length d.spot.place) (places bytes (length d.spot.place) d.spot.node)
       longest_leaf =
-          let radix = subst (IsRadix bytes P d.spot.place) at_leaf d.spot.radix in
+          let radix = subst (IsRadix bytes P d.spot.place) at_leaf d.spot.hole.radix in
           subst (λ t. Each (λ other. IsFront other.0 key → length other.0 ≤ length d.spot.place) (places bytes (length d.spot.place) t)) (sym at_leaf) ((λ g. rw (place_is bytes P (leaf (leaf_name p) (pair_of shown)) d.spot.place radix) (omega arith)), tt)
 
       pub leaf_conflict : IsKindFor key p (bytes (pair_of shown)) None → IsPointFor bytes P key pairs layout None
@@ -155,7 +154,7 @@ module _ {K V : Type 0} {s : Nodes K V} {bytes : K × V → List ℕ} {P : ℕ} 
       here = inner (inner_name p) (header_at p.kind shown) at.children
 
       radix : IsRadix bytes P d.spot.place here
-      radix = subst (IsRadix bytes P d.spot.place) at.is d.spot.radix
+      radix = subst (IsRadix bytes P d.spot.place) at.is d.spot.hole.radix
 
       abbrev front : List ℕ
       front = d.spot.place ++ radix.0
@@ -168,7 +167,7 @@ module _ {K V : Type 0} {s : Nodes K V} {bytes : K × V → List ℕ} {P : ℕ} 
 
       key_is : key ≡ d.spot.place ++ drop depth key
       key_is =
-          let (r, e) = d.spot.front in
+          let (r, e) = d.spot.hole.front in
           e ∙ ap (λ l. d.spot.place ++ l) (sym (after_front d.spot.place key r e) ∙ ap (λ n. drop n key) d.spot.depth_is)
 
       below : is_conflict bytes key pairs ≡ is_conflict bytes key (pairs_below at.children)
@@ -240,7 +239,7 @@ module _ {K V : Type 0} {s : Nodes K V} {bytes : K × V → List ℕ} {P : ℕ} 
               let f : Frame OpaqueNodePtr (K × V) = record { mark = inner_name p; header = header_at p.kind shown; left = u.left; byte = b; right = u.right } in
               let filled : here ≡ fill f u.tree = ap (inner (inner_name p) (header_at p.kind shown)) u.whole in
               let node : IsRadix bytes P d.spot.place (fill f u.tree) = (radix.0, subst (λ cs. header_at p.kind shown ≡ header_of P radix.0 (length (bytes_of cs))) u.whole radix.1, subst (λ cs. 2 ≤ length (bytes_of cs)) u.whole radix.2, subst (λ cs. Rattle.art_model.specs.Radix.IsRising (bytes_of cs)) u.whole radix.3, subst (AreRadix bytes P front) u.whole radix.4) in
-              let down = path_down bytes P d.spot.frames d.spot.place f u.tree d.spot.path node in
+              let down = path_down bytes P d.spot.frames d.spot.place f u.tree d.spot.hole.path node in
               record {
                 spot = record {
                   frames = f ∷ d.spot.frames;
