@@ -246,9 +246,7 @@ module _ {K V : Type 0} {s : Nodes K V} {bytes : K × V → List ℕ} {P : ℕ} 
                   place = front ++ b ∷ [];
                   node = u.tree;
                   whole = ap (plug d.spot.frames) (sym filled ∙ sym at.is) ∙ d.spot.whole;
-                  path = down.0;
-                  radix = down.1;
-                  front = subst (λ n. IsFront (front ++ get_or key n 0 ∷ []) key) (sym used) next;
+                  hole = record { path = down.0; radix = down.1; front = subst (λ n. IsFront (front ++ get_or key n 0 ∷ []) key) (sym used) next };
                   named = u.named;
                   depth_is = length-append front (b ∷ []) ∙ ap (λ n. n + 1) (sym used);
                 };
