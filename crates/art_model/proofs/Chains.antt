@@ -11,7 +11,7 @@ use Rattle.art_nodes.specs.declared.node.OpaqueNodePtr.{OpaqueNodePtr}
 use Rattle.art_nodes.specs.declared.node.LeafNode.{LeafNode}
 use Rattle.art_model.specs.Layouts.{leaf_node, leaf_names, Holds, Links, AreLinked, AreDistinct, first_or, last_or}
 use Rattle.art_model.specs.Stores.{node_at, pair_of, held_leaf, held_inner, links_at, links_of}
-use Rattle.art_model.specs.Writes.{with_next, with_previous, joined, with_leaf, without_leaf}
+use Rattle.art_model.specs.Writes.{IsThere, with_next, with_previous, joined, with_leaf, without_leaf}
 use Rattle.art_model.specs.Footprints.{IsIn}
 use Rattle.art_model.proofs.Lists.{each_in, in_left, in_right, in_either}
 use Rattle.art_model.proofs.Pairwises.{Pairwise-without, Pairwise-before}
@@ -20,7 +20,7 @@ use Rattle.art_model.proofs.Links.{Relinked, last_in, first_in, last_not_first, 
 use Rattle.art_model.specs.Trees.{Tree}
 use Rattle.art_model.proofs.Writes.{node_at-leaf}
 use Rattle.art_model.proofs.Views.{held_in_inner, leaf_or}
-use Rattle.art_model.proofs.Leaves.{IsThere, named_leaf, joined_before, joined_after, joined_elsewhere, with_leaf_here, with_leaf_elsewhere, without_leaf_elsewhere}
+use Rattle.art_model.proofs.Leaves.{named_leaf, joined_before, joined_after, joined_elsewhere, with_leaf_here, with_leaf_elsewhere, without_leaf_elsewhere}
 
 module _ {K V : Type 0} where
   links_leaf : (u : Nodes K V) (p : LeafPtr) (o : Option (LeafNode K V)) → get u.leaves p ≡ o → links_at u (leaf_name p) ≡ option_and_then links_of (option_map held_leaf o)

@@ -10,7 +10,7 @@ use Rattle.art_nodes.specs.declared.node.LeafNode.{LeafNode}
 use Rattle.art_nodes.proofs.NameLemmas.{leaf_cmp_total, leaf_cmp-IsAntisymmetric}
 use Rattle.art_nodes.proofs.StoreLaws.{leaf_here, leaf_elsewhere, leaf_gone, leaf_gone_elsewhere, leaf_changed_at, leaf_changed_elsewhere}
 use Rattle.art_model.specs.Stores.{pair_of}
-use Rattle.art_model.specs.Writes.{Leaves, with_next, with_previous, change_some, joined, with_leaf, without_leaf}
+use Rattle.art_model.specs.Writes.{IsThere, Leaves, with_next, with_previous, change_some, joined, with_leaf, without_leaf}
 use Rattle.art_model.specs.Footprints.{IsIn}
 use Rattle.art_model.proofs.Lists.{in_either}
 use Rattle.art_model.proofs.Touches.{Touched, touched_none, then_placed, then_changed, then_freed, still_placed, still_changed}
@@ -131,10 +131,6 @@ length-listed None = omega arith
 length-listed (Some p) = omega arith
 
 module _ {K V : Type 0} where
-  -- the leaf, where a name is given, is there
-  abbrev pub IsThere : Leaves K V → Option LeafPtr → Type 0
-  IsThere m o = (p : LeafPtr) → o ≡ Some p → get m p ≢ None
-
   then_change_some : {old new : Leaves K V} {placed freed changed : List LeafPtr} → Touched old new placed freed changed → (o : Option LeafPtr) (f : LeafNode K V → LeafNode K V) → IsThere old o → IsThere new o → Touched old (change_some new o f) placed freed (listed o ++ changed)
   then_change_some so_far None f was is = so_far
   then_change_some so_far (Some p) f was is = then_changed leaf_cmp_total leaf_cmp-IsAntisymmetric so_far p f (was p refl) (is p refl)

@@ -10,13 +10,13 @@ use Rattle.art_nodes.specs.declared.node.OpaqueNodePtr.{OpaqueNodePtr}
 use Rattle.art_model.specs.Trees.{Tree}
 use Rattle.art_model.specs.Layouts.{leaf_node, leaf_names, Holds, AreDistinct, AreLinked, names_of, first_or, last_or}
 use Rattle.art_model.specs.Stores.{node_at, links_at, pair_of}
-use Rattle.art_model.specs.Writes.{with_leaf, without_leaf}
+use Rattle.art_model.specs.Writes.{IsThere, with_leaf, without_leaf}
 use Rattle.art_model.specs.Footprints.{IsIn}
 use Rattle.art_model.proofs.Lists.{in_around, in_right}
 use Rattle.art_model.proofs.Names.{apart_in, taken_distinct, takes_leaves}
 use Rattle.art_model.proofs.Links.{Relinked, last_in, first_in}
 use Rattle.art_model.proofs.Touches.{Touched}
-use Rattle.art_model.proofs.Leaves.{IsThere, listed, with_leaf_here, with_leaf_pair, without_leaf_pair, touched_with_leaf, touched_without_leaf}
+use Rattle.art_model.proofs.Leaves.{listed, with_leaf_here, with_leaf_pair, without_leaf_pair, touched_with_leaf, touched_without_leaf}
 use Rattle.art_model.proofs.Writes.{node_at-leaf}
 use Rattle.art_model.proofs.Chains.{AreBeside, AreThere, are_there, previous_there, next_there, leaf_comes, leaf_goes, relinked_beside}
 

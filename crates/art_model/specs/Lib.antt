@@ -11,6 +11,8 @@ pub mod Paths
 pub mod Places
 pub mod Heights
 pub mod Footprints
+pub mod Kept
+pub mod Promises
 pub mod TreeLaws
 pub mod StoreLaws
 pub mod Examples

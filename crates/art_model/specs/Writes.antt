@@ -1,5 +1,5 @@
 -- What writes make of a store's maps: a leaf comes between two others or goes, and a parent has another node in its hole.
-use Rattle.std.specs.Prelude.{ℕ, List, [], ◌∷◌, Option, Some, None}
+use Rattle.std.specs.Prelude.{◌≡◌, ◌≢◌, ℕ, List, [], ◌∷◌, Option, Some, None}
 use Rattle.std.specs.FinMap as map
 use Rattle.art_nodes.specs.Inner.{Inner}
 use Rattle.art_nodes.specs.Changes.{with_child}
@@ -15,6 +15,10 @@ abbrev pub Leaves : Type 0 → Type 0 → Type 0
 Leaves K V = map.FinMap leaf_cmp (LeafNode K V)
 
 module _ {K V : Type 0} where
+  -- the leaf of the name, where there is a name, is there
+  abbrev pub IsThere : Leaves K V → Option LeafPtr → Type 0
+  IsThere leaves name = (p : LeafPtr) → name ≡ Some p → map.get leaves p ≢ None
+
   -- the leaf with another next one
   abbrev pub with_next : Option LeafPtr → LeafNode K V → LeafNode K V
   with_next next leaf = record leaf { next = next }

@@ -4,3 +4,6 @@ pub mod Room
 pub mod Matching
 pub mod Walks
 pub mod Points
+pub mod Writes
+pub mod Inserted
+pub mod Deleted

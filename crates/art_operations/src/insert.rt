@@ -21,6 +21,10 @@ use std::alloc::{AllocError, Global};
 use std::boxed::BoxedSlice;
 use thiserror::Error;
 
+mod apply;
+mod branch;
+mod existing;
+
 /// A key that can't be inserted: a stored key begins with it, or it begins with a stored key.
 #[derive(PartialEq, Eq, Debug, Drop, Error)]
 #[error("Attempted to insert a key [{byte_repr:?}] which is either a prefix of an existing key or an existing key is a prefix of the new key.")]
@@ -89,6 +93,40 @@ pub enum InsertKind {
     IntoExisting {
         inner_node_ptr: InnerPtr,
     },
+}
+
+/// What an insertion did.
+#[derive(Drop)]
+pub struct InsertResult<K, V> {
+    /// The leaf of the key.
+    pub leaf_node_ptr: LeafPtr,
+    /// The pair that gave way, if the key was stored, as a leaf with no siblings.
+    pub existing_leaf: Option<LeafNode<K, V>>,
+    /// The root of the tree.
+    pub new_root: OpaqueNodePtr,
+    /// The parent of the leaf.
+    pub parent_node_change: InsertParentNodeChange,
+}
+
+/// What an insertion made of the parent of its leaf.
+#[derive(Clone, Copy, PartialEq, Eq, Debug)]
+pub enum InsertParentNodeChange {
+    /// The parent has a child more, the leaf. It is a new node, or the one that was there where it
+    /// had room.
+    NewParent {
+        new_parent_node: OpaqueNodePtr,
+        /// The byte under which the parent has the leaf.
+        leaf_node_key_byte: u8,
+    },
+    /// A pair was replaced in its leaf.
+    NoChange,
+}
+
+/// A pair that was not inserted, for want of memory.
+#[derive(PartialEq, Eq, Debug, Drop)]
+pub struct Refused<K, V> {
+    pub key: K,
+    pub value: V,
 }
 
 /// The point of a key in the tree of a canonical root. There is none where an unequal stored key is

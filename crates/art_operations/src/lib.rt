@@ -1,6 +1,7 @@
 //! Operations on a radix tree in a store.
 #![tactic(auto)]
 
+pub mod delete;
 pub mod insert;
 pub mod lookup;
 pub mod minmax;
@@ -8,3 +9,4 @@ pub mod path;
 pub mod run;
 #[cfg(test)]
 mod test_trees;
+mod writes;

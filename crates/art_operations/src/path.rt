@@ -28,6 +28,25 @@ pub enum TreePath {
 
 impl TreePath {
     ghost use Rattle.art_operations.specs.Points.{step_down};
+    ghost use Rattle.art_operations.specs.Writes.{last_step};
+
+    /// The parent at the end of the path, with the byte under which it has the node.
+    pub(crate) fn last_step(self) -> Option<(InnerPtr, u8)>
+        ensures { result ≡ last_step self }
+    {
+        match self {
+            TreePath::Root => None,
+            TreePath::ChildOfRoot {
+                parent,
+                child_key_byte,
+            }
+            | TreePath::Normal {
+                parent,
+                child_key_byte,
+                ..
+            } => Some((parent, child_key_byte)),
+        }
+    }
 
     /// The path one step further down: from this path's node to the child that it has under a byte.
     pub fn step_down(self, node: InnerPtr, byte: u8) -> TreePath

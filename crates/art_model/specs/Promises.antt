@@ -1,0 +1,22 @@
+-- What becomes of a store's promise when leaves and an inner node are placed. What is placed is written as a promise too.
+use Rattle.std.specs.Prelude.{ℕ, zero, suc, Bool, cond, Option, Some, None}
+use Rattle.art_nodes.specs.Nodes.{Promise, covers, no_promise, take_leaf, take_inner}
+use Rattle.art_nodes.specs.declared.node.NodeType.{NodeType}
+
+-- what is left when so many leaves are placed
+abbrev pub leaves_taken : ℕ → Promise → Promise
+leaves_taken zero promise = promise
+leaves_taken (suc n) promise = take_leaf (leaves_taken n promise)
+
+-- what is left when an inner node of this kind is placed, if there is one
+abbrev pub inner_taken : Option NodeType → Promise → Promise
+inner_taken None promise = promise
+inner_taken (Some kind) promise = take_inner kind promise
+
+-- whether a promise covers what is placed
+abbrev pub is_covered : Promise → Promise → Bool
+is_covered placed promise = covers promise placed.leaves placed.inner
+
+-- what is placed is taken from a promise that covers it; else nothing is promised any more
+abbrev pub promise_after : Promise → Promise → Promise
+promise_after placed promise = cond (is_covered placed promise) (inner_taken placed.inner (leaves_taken placed.leaves promise)) no_promise

@@ -1,0 +1,42 @@
+-- What the writes of the operations ask and answer: the parent that a path ends with, and the leaves beside one.
+use Rattle.std.specs.Prelude.{◌≡◌, ℕ, Option, Some, None, IsSome, IsSomeAnd, IfSome}
+use Rattle.std.specs.FinMap as map
+use Rattle.art_nodes.specs.Inner.{child_at}
+use Rattle.art_nodes.specs.Names.{leaf_name}
+use Rattle.art_nodes.specs.Nodes.{Nodes}
+use Rattle.art_nodes.specs.declared.node.InnerPtr.{InnerPtr}
+use Rattle.art_nodes.specs.declared.node.LeafPtr.{LeafPtr}
+use Rattle.art_nodes.specs.declared.node.OpaqueNodePtr.{OpaqueNodePtr}
+use Rattle.art_model.specs.Lookups.{HasFirstLeaf, HasLastLeaf}
+use Rattle.art_model.specs.Trees.{Tree}
+use Rattle.art_model.specs.Writes.{Leaves, Inners, IsThere}
+use Rattle.art_operations.specs.declared.path.TreePath.{TreePath}
+use Rattle.art_operations.specs.declared.path.TreePath.TheVariants.{Root, ChildOfRoot, Normal}
+
+-- the parent at the end of a path, with the byte that leads down
+abbrev pub last_step : TreePath → Option (InnerPtr × ℕ)
+last_step Root = None
+last_step (ChildOfRoot parent byte) = Some (parent, byte)
+last_step (Normal grandparent above parent byte) = Some (parent, byte)
+
+-- the root, where the node at the end of the path may be another one
+abbrev pub root_with : TreePath → OpaqueNodePtr → OpaqueNodePtr → OpaqueNodePtr
+root_with Root root node = node
+root_with path root node = root
+
+-- the parent, where there is one, has a child under its byte
+abbrev pub HasChild : Inners → Option (InnerPtr × ℕ) → Type 0
+HasChild inners None = Unit {0}
+HasChild inners (Some parent) = IsSomeAnd (map.get inners parent.0) (λ node. IsSome (child_at node.children parent.1))
+
+-- the leaves that a leaf names are there
+abbrev pub LinksAreThere : {K V : Type 0} → Leaves K V → LeafPtr → Type 0
+LinksAreThere leaves name = IfSome (map.get leaves name) (λ leaf. IsThere leaves leaf.previous × IsThere leaves leaf.next)
+
+-- a new leaf that comes right before a tree's first leaf has these leaves beside it
+abbrev pub ComesBefore : {K V : Type 0} → Nodes K V → Tree OpaqueNodePtr (K × V) → Option LeafPtr → Option LeafPtr → Type 0
+ComesBefore s tree previous next = (first : LeafPtr) × HasFirstLeaf tree (leaf_name first) × (next ≡ Some first) × IsSomeAnd (map.get s.leaves first) (λ leaf. previous ≡ leaf.previous)
+
+-- a new leaf that comes right after a tree's last leaf has these leaves beside it
+abbrev pub ComesAfter : {K V : Type 0} → Nodes K V → Tree OpaqueNodePtr (K × V) → Option LeafPtr → Option LeafPtr → Type 0
+ComesAfter s tree previous next = (last : LeafPtr) × HasLastLeaf tree (leaf_name last) × (previous ≡ Some last) × IsSomeAnd (map.get s.leaves last) (λ leaf. next ≡ leaf.next)
