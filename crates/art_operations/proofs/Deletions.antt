@@ -40,7 +40,7 @@ last_step-path_of (f ∷ fs) = down (path_of fs)
     down (Normal grandparent c parent b) = refl
 
 -- the same value is there
-some_same : {X : Type 0} {x y : X} → ◌≡◌ {A = Option X} (Some x) (Some y) → x ≡ y
+pub some_same : {X : Type 0} {x y : X} → ◌≡◌ {A = Option X} (Some x) (Some y) → x ≡ y
 some_same e = cc
 
 -- what holds of each answer
