@@ -5,7 +5,7 @@ use Rattle.std.specs.Option.{option_map}
 use Rattle.std.specs.FinMap.{get, insert, remove}
 use Rattle.std.proofs.lemmas.Bool.{ne_eqb}
 use Rattle.art_nodes.specs.Inner.{Inner, remove_child}
-use Rattle.art_nodes.specs.Kinds.{kind_least, smaller_kind}
+use Rattle.art_nodes.specs.Kinds.{kind_capacity, kind_least, smaller_kind}
 use Rattle.art_nodes.specs.Changes.{without_child}
 use Rattle.art_nodes.specs.Names.{leaf_name, inner_name}
 use Rattle.art_nodes.specs.Nodes.{Nodes, change}
@@ -83,6 +83,14 @@ kind_of-smaller kind n off e least = sym (kind_of-range (smaller_kind kind) n (f
     fewer Node256 off h l = (omega arith, omega arith)
     fewer Leaf off h l = absurd h
 
+-- and the smaller kind has room for them
+pub room_in_smaller : (kind : NodeType) (n : ℕ) → kind ≢ Node4 → n < kind_least kind → n ≤ kind_capacity (smaller_kind kind)
+room_in_smaller Node4 n off h = absurd (off refl)
+room_in_smaller Node16 n off h = omega arith
+room_in_smaller Node48 n off h = omega arith
+room_in_smaller Node256 n off h = omega arith
+room_in_smaller Leaf n off h = omega arith
+
 -- a smaller kind is another, and an inner one
 smaller_other : (kind : NodeType) → kind ≢ Node4 → kind ≢ Leaf → smaller_kind kind ≢ kind
 smaller_other Node4 first end e = first refl
@@ -91,7 +99,7 @@ smaller_other Node48 first end e = absurd cc
 smaller_other Node256 first end e = absurd cc
 smaller_other Leaf first end e = end refl
 
-smaller_inner : (kind : NodeType) → kind ≢ Leaf → smaller_kind kind ≢ Leaf
+pub smaller_inner : (kind : NodeType) → kind ≢ Leaf → smaller_kind kind ≢ Leaf
 smaller_inner Node4 end e = absurd cc
 smaller_inner Node16 end e = absurd cc
 smaller_inner Node48 end e = absurd cc
@@ -189,7 +197,7 @@ pub record HasLeafBelow {K V : Type 0} (bytes : K × V → List ℕ) (P : ℕ) (
   pub laid : IsLaidOut bytes P (node_at s) (links_at s) root pairs (plug fs (with_leaf_in f n x))
 
 module _ {K V : Type 0} {bytes : K × V → List ℕ} {P : ℕ} {s : Nodes K V} {root : OpaqueNodePtr} {pairs : List (K × V)} {f : Frame OpaqueNodePtr (K × V)} {fs : List (Frame OpaqueNodePtr (K × V))} {n : LeafPtr} {x : LeafNode K V} (old : HasLeafBelow bytes P s root pairs f fs n x) where
-  above_holds : HoldsPath (node_at s) f.mark fs
+  pub above_holds : HoldsPath (node_at s) f.mark fs
   above_holds = (path_holds (node_at s) fs (with_leaf_in f n x) old.laid.holds).0
 
   -- the parent, in a hole at a place
@@ -208,7 +216,7 @@ module _ {K V : Type 0} {bytes : K × V → List ℕ} {P : ℕ} {s : Nodes K V} 
       let a = ap length bytes_are in let b = length-append (bytes_of f.left) (f.byte ∷ bytes_of f.right) in
       let c = ap length (bytes_of-join f.left f.right) in let d = length-append (bytes_of f.left) (bytes_of f.right) in omega arith
 
-  slots_left : (slots : List (ℕ × OpaqueNodePtr)) → slots ≡ slots_of (join f.left (child f.byte (leaf (leaf_name n) (pair_of x)) f.right)) → remove_child slots f.byte ≡ slots_of (join f.left f.right)
+  pub slots_left : (slots : List (ℕ × OpaqueNodePtr)) → slots ≡ slots_of (join f.left (child f.byte (leaf (leaf_name n) (pair_of x)) f.right)) → remove_child slots f.byte ≡ slots_of (join f.left f.right)
   slots_left slots e = ap (λ z. remove_child z f.byte) e ∙ remove_child-there f.left f.right f.byte (leaf (leaf_name n) (pair_of x)) (Pairwise-before ◌<◌ (bytes_of f.left) (bytes_of f.right) f.byte rising) (Pairwise-after ◌<◌ (bytes_of f.left) (bytes_of f.right) f.byte rising)
 
   -- the parent as the store has it
@@ -328,7 +336,7 @@ module _ {K V : Type 0} {bytes : K × V → List ℕ} {P : ℕ} {s : Nodes K V} 
 
   module _ {t : Nodes K V} {q : InnerPtr} {node : Inner} (shrinks : ParentShrinks s t f fs n x q node) where
     -- the inner nodes when the smaller node is placed
-    abbrev placed : Inners
+    abbrev pub placed : Inners
     placed = insert (remove s.inners (as_inner f.mark)) q (without_child f.byte node)
 
     off : q.kind ≢ Leaf
@@ -352,7 +360,7 @@ module _ {K V : Type 0} {bytes : K × V → List ℕ} {P : ℕ} {s : Nodes K V} 
     above_used : (k : OpaqueNodePtr) → IsParent fs k → get s.inners (as_inner k) ≢ None
     above_used k up = (parent_there bytes P s fs f.mark above_holds k up).1
 
-    above_same : (k : OpaqueNodePtr) → IsParent fs k → get placed (as_inner k) ≡ get s.inners (as_inner k)
+    pub above_same : (k : OpaqueNodePtr) → IsParent fs k → get placed (as_inner k) ≡ get s.inners (as_inner k)
     above_same k up = placed_elsewhere k (λ e. parent_apart (node_at s) (node_at t) fs (with_leaf_in f n x) old.laid.holds old.laid.distinct k up (inl (sym e))) (above_used k up)
 
     all_inners : (k : OpaqueNodePtr) → get t.inners (as_inner k) ≡ get (with_child_at (parent_of fs) (inner_name q) placed) (as_inner k)

@@ -62,11 +62,7 @@ impl DeletePoint {
         ensures inners { OnErr result (store.new.inners ≡ store.old.inners) }
         ensures void { OnErr result (store.new.promise ≡ no_promise) }
     {
-        let smaller = match parent.kind {
-            NodeType::Node48 => NodeType::Node16,
-            NodeType::Node256 => NodeType::Node48,
-            _ => NodeType::Node4,
-        };
+        let smaller = next_smaller(parent.kind);
         if store.reserve(0, Some(smaller)).is_err() {
             return Err(DeleteRefused { point: self });
         }
@@ -81,5 +77,17 @@ impl DeletePoint {
             new_root: Some(new_root),
             deleted_leaf,
         })
+    }
+}
+
+// The kind with room for fewer children; the smallest is its own.
+fn next_smaller(kind: NodeType) -> NodeType
+    ensures { result ≡ smaller_kind kind }
+{
+    match kind {
+        NodeType::Node4 | NodeType::Node16 => NodeType::Node4,
+        NodeType::Node48 => NodeType::Node16,
+        NodeType::Node256 => NodeType::Node48,
+        NodeType::Leaf => NodeType::Leaf,
     }
 }
