@@ -19,6 +19,12 @@ last_step Root = None
 last_step (ChildOfRoot parent byte) = Some (parent, byte)
 last_step (Normal grandparent above parent byte) = Some (parent, byte)
 
+-- the path of the parent at the end of a path, as far as it is known
+abbrev pub up : TreePath → TreePath
+up Root = Root
+up (ChildOfRoot parent byte) = Root
+up (Normal grandparent above parent byte) = ChildOfRoot grandparent above
+
 -- the root, where the node at the end of the path may be another one
 abbrev pub root_with : TreePath → OpaqueNodePtr → OpaqueNodePtr → OpaqueNodePtr
 root_with Root root node = node
