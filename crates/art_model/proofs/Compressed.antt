@@ -121,7 +121,7 @@ module _ {A : Type 0} where
   rewritten_each Q (inner j head cs) h = (h j (inl refl), tt)
 
   -- a subtree's own name is one of its names
-  own_name : (w : Tree OpaqueNodePtr A) → IsIn (name_of w) (names_of w)
+  pub own_name : (w : Tree OpaqueNodePtr A) → IsIn (name_of w) (names_of w)
   own_name (leaf j y) = inl refl
   own_name (inner j head cs) = inl refl
 
@@ -156,7 +156,8 @@ module _ {K V : Type 0} {bytes : K × V → List ℕ} {P : ℕ} {s t : Nodes K V
   below_is : below ≡ names_below l ++ leaf_name n ∷ names_below r
   below_is = names_below-join l (child b (leaf (leaf_name n) (pair_of x)) r)
 
-  left_in : (k : OpaqueNodePtr) → IsIn k (names_of v) → IsIn k below
+  -- a name of the child that is left is one below the node
+  pub left_in : (k : OpaqueNodePtr) → IsIn k (names_of v) → IsIn k below
   left_in k i = subst (IsIn k) (sym below_is) (subst (IsIn k) (append_assoc (names_below l) (leaf_name n ∷ []) (names_below r)) (in_around k (names_below l) (leaf_name n ∷ []) (names_below r) (subst (IsIn k) left_names i)))
 
   of_hole : (k : OpaqueNodePtr) → IsIn k (names_of gone) → IsIn k (names_of v) ⊎ IsIn k (leaf_name n ∷ m ∷ [])
@@ -166,7 +167,8 @@ module _ {K V : Type 0} {bytes : K × V → List ℕ} {P : ℕ} {s t : Nodes K V
     | inr j ↦ elim j [ inl e ↦ inr (inl e) | inr a ↦ inl (subst (IsIn k) (sym left_names) (in_right k (names_below l) (names_below r) a)) ]
   ]
 
-  off_node : (k : OpaqueNodePtr) → IsIn k (names_of v) → k ≢ m
+  -- and not the node's
+  pub off_node : (k : OpaqueNodePtr) → IsIn k (names_of v) → k ≢ m
   off_node k i e = each_in (λ z. m ≢ z) k below (hole_distinct (node_at s) (node_at t) fs gone old.holds old.distinct).0 (left_in k i) (sym e)
 
   off_parent : (k : OpaqueNodePtr) → IsIn k (names_of gone) → IsParent fs k → ⊥
@@ -195,7 +197,8 @@ module _ {K V : Type 0} {bytes : K × V → List ℕ} {P : ℕ} {s t : Nodes K V
       go (leaf j y) prefix f = without
       go (inner j head cs) prefix f = inner_changed_elsewhere (remove s.inners (as_inner m)) (as_inner j) (as_inner k) (with_header (nodes.header_of P prefix)) (λ e. f (inl (sym (inner_name_one k j e)))) ∙ without
 
-  above_same : (k : OpaqueNodePtr) → IsParent fs k → get middle (as_inner k) ≡ get s.inners (as_inner k)
+  -- the parent is still as it was then
+  pub above_same : (k : OpaqueNodePtr) → IsParent fs k → get middle (as_inner k) ≡ get s.inners (as_inner k)
   above_same k up = middle_elsewhere k (λ e. off_parent k (inl (sym e)) up) (λ i. off_parent k (inr (left_in k (rewritten_in v k i))) up)
 
   inners_elsewhere : (k : OpaqueNodePtr) → (IsParent fs k → ⊥) → get t.inners (as_inner k) ≡ get middle (as_inner k)

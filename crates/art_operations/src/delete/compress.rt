@@ -94,8 +94,7 @@ fn lengthen_prefix<K: AsBytes + Drop, V: Drop, const P: usize>(
     byte: u8,
     below: LeafPtr,
 )
-    requires there { name.kind ≢ Leaf → IsSome (map.get store.old.inners (as_inner name)) }
-    requires below { IsSomeAnd (map.get store.old.leaves below) (λ leaf. IfSome (map.get store.old.inners (as_inner name)) (λ node.
+    requires { name.kind ≢ Leaf → IsSomeAnd (map.get store.old.leaves below) (λ leaf. IsSomeAnd (map.get store.old.inners (as_inner name)) (λ node.
         front.len + 1 + node.prefix.len ≤ length (K.bytes leaf.key))) }
     ensures leaf { name.kind ≡ Leaf → store.new.inners ≡ store.old.inners }
     ensures inner { name.kind ≢ Leaf → (first rest : List ℕ) → front.entry ≡ header_of P first →
