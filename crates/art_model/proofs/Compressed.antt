@@ -145,7 +145,8 @@ module _ {K V : Type 0} {bytes : K × V → List ℕ} {P : ℕ} {s t : Nodes K V
   held : HoldsPath (node_at s) m fs × Holds (node_at s) gone
   held = path_holds (node_at s) fs gone old.holds
 
-  v_held : Holds (node_at s) v
+  -- the child that is left is held
+  pub v_held : Holds (node_at s) v
   v_held = left_child_held (node_at s) (node_at t) fs m h l (child b (leaf (leaf_name n) (pair_of x)) no_child) r old.holds old.distinct c v is.one
 
   -- ---- which names are which

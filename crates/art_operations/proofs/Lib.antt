@@ -12,3 +12,4 @@ pub mod Partings
 pub mod Spots
 pub mod Prefixes
 pub mod Compressions
+pub mod Removals
