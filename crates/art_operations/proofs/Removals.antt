@@ -31,7 +31,7 @@ use Rattle.art_model.specs.Writes.{Leaves, Inners, IsThere, as_inner, parent_of,
 use Rattle.art_model.proofs.Canonical.{IsLaidOut, laid_out, canonical_from}
 use Rattle.art_model.proofs.Changes.{child_left}
 use Rattle.art_model.proofs.Changes as changes
-use Rattle.art_model.proofs.Compressed.{Compressed, with_prefix, prefix_written, prefix_at, compressed, compressed_touches, compressed_in_place, above_same, left_in, off_node, own_name}
+use Rattle.art_model.proofs.Compressed.{Compressed, with_prefix, prefix_written, prefix_at, compressed, compressed_touches, compressed_in_place, above_same, off_node, own_name, v_held}
 use Rattle.art_model.proofs.Emptied.{emptied_touches, emptied_in_place}
 use Rattle.art_model.proofs.Lists.{each_in, in_right}
 use Rattle.art_model.proofs.Links.{first_or-append, last_or-append}
@@ -44,10 +44,10 @@ use Rattle.art_model.proofs.Radix.{bytes_of-join, pairs_below-join}
 use Rattle.art_model.proofs.Rebuild.{radix_way, radix_below}
 use Rattle.art_model.proofs.Replaced.{leaf_names-parts}
 use Rattle.art_model.proofs.Slots.{length-slots_of}
-use Rattle.art_model.proofs.Stores.{path_holds}
+use Rattle.art_model.proofs.Stores.{IsParent, path_holds}
 use Rattle.art_model.proofs.Taken.{LeafAmong, previous_is, next_is, before_there, after_there, leaf_at, some_leaf_name, last_of_some}
-use Rattle.art_model.proofs.Views.{leaf_there}
-use Rattle.art_model.proofs.Writes.{inner_at, parent_ready}
+use Rattle.art_model.proofs.Views.{leaf_there, leaf_or, inner_name_is}
+use Rattle.art_model.proofs.Writes.{inner_at, parent_ready, inner_name_one}
 use Rattle.art_operations.specs.Deleted.{IsDeleted, IsRootAfter, LeadsTo, TouchesFor, ParentChange, change_of, parent_change, no_parent, keeps, shrinks, is_compressed}
 use Rattle.art_operations.specs.Inserted.{alone}
 use Rattle.art_operations.specs.Points.{path_of, step_down}
@@ -311,6 +311,10 @@ module _ {K V : Type 0} {bytes : K × V → List ℕ} {P : ℕ} {s : Nodes K V} 
         let same : any ≡ at.own = some_same (sym is ∙ at.there) in
         ap₂ remove_child (ap (λ z. z.children) same ∙ at.kids) (sym at.byte_is) ∙ remove_one at.frame.left at.frame.right at.frame.byte (leaf (leaf_name point.leaf_node_ptr) (pair_of at.node)) low high ∙ ap slots_of at.one
 
+    -- so that is the least one
+    pub least_left : (any : Inner) (shown : Inner) (least : ℕ × OpaqueNodePtr) → get s.inners parent ≡ Some any → shown ≡ without_child byte any → slice_get shown.children 0 ≡ Some least → least ≡ (at.c, name_of at.v)
+    least_left any shown least is without first = some_same (sym first ∙ ap (λ z. slice_get z 0) (ap (λ z. z.children) without ∙ other_left any is))
+
     -- its header is that of its whole prefix
     pub own_header : (any : Inner) → get s.inners parent ≡ Some any → any.prefix ≡ nodes.header_of P at.hole.radix.0
     own_header any is =
@@ -357,3 +361,111 @@ module _ {K V : Type 0} {bytes : K × V → List ℕ} {P : ℕ} {s : Nodes K V} 
       where
         some : (k : OpaqueNodePtr) × (ks : List OpaqueNodePtr) × (leaf_names at.v ≡ k ∷ ks)
         some = some_leaf_name bytes P at.v ((at.place ++ at.hole.radix.0) ++ at.c ∷ []) left_radix
+
+    -- such a leaf is found
+    pub beside_ready : (leaves : Leaves K V) (d : ℕ) → leaves ≡ s.leaves → d ≡ at.c → IsSomeAnd (get leaves point.leaf_node_ptr) (λ leaf. IsSome (cond (nat_lt byte d) leaf.next leaf.previous))
+    beside_ready leaves d l e =
+        subst (λ z. IsSomeAnd (get z point.leaf_node_ptr) (λ leaf. IsSome (cond (nat_lt byte d) leaf.next leaf.previous))) (sym l)
+        (subst (λ o. IsSomeAnd o (λ leaf. IsSome (cond (nat_lt byte d) leaf.next leaf.previous))) (sym at.here)
+        (subst (λ z. IsSome (cond (nat_lt byte z) at.node.next at.node.previous)) (sym e) (subst IsSome (sym beside_other.1) refl)))
+
+    pub beside_found : (leaves : Leaves K V) (d : ℕ) (p : LeafPtr) → leaves ≡ s.leaves → d ≡ at.c → IfSome (get leaves point.leaf_node_ptr) (λ leaf. cond (nat_lt byte d) leaf.next leaf.previous ≡ Some p) → cond (nat_lt byte at.c) at.node.next at.node.previous ≡ Some p
+    beside_found leaves d p l e found =
+        subst (λ z. cond (nat_lt byte z) at.node.next at.node.previous ≡ Some p) e
+        (subst (λ o. IfSome o (λ leaf. cond (nat_lt byte d) leaf.next leaf.previous ≡ Some p)) (ap (λ z. get z point.leaf_node_ptr) l ∙ at.here) found)
+
+    -- ---- what the writes ask for
+
+    -- the prefix of the child that is left may be written
+    pub may_lengthen : (leaves : Leaves K V) (inners : Inners) (other : OpaqueNodePtr) (p : LeafPtr) (front : Prefix) → leaves ≡ s.leaves → inners ≡ remove s.inners parent → other ≡ name_of at.v → cond (nat_lt byte at.c) at.node.next at.node.previous ≡ Some p → front ≡ nodes.header_of P at.hole.radix.0 →
+        other.kind ≢ Leaf → IsSomeAnd (get leaves p) (λ leaf. IsSomeAnd (get inners (as_inner other)) (λ node. front.len + 1 + node.prefix.len ≤ length (bytes (pair_of leaf))))
+    unfolding left_prefix
+    may_lengthen leaves inners other p front l i is next front_is kind =
+        let (q, found, below) = beside_other in
+        let same : q ≡ p = some_same (sym found ∙ next) in
+        let leaf_is : get leaves p ≡ Some below.leaf = ap (λ z. get z p) l ∙ ap (get s.leaves) (sym same) ∙ below.here in
+        let (node, got, len) = its_prefix at.v left_radix left_held (subst (λ (z : OpaqueNodePtr). z.kind ≢ Leaf) is kind) in
+        let gone : get inners (as_inner other) ≡ Some node =
+        ap (λ z. get z (as_inner other)) i ∙ ap (λ z. get (remove s.inners parent) (as_inner z)) is
+        ∙ inner_gone_elsewhere s.inners parent (as_inner (name_of at.v)) (λ e. left_other (inner_name_one (name_of at.v) at.frame.mark (e ∙ sym at.parent_is))) ∙ got in
+        let front_len = ap (λ z. z.len) front_is in
+        let long = below.long in
+        let fits : front.len + 1 + node.prefix.len ≤ length (bytes (pair_of below.leaf)) = omega arith in
+        rw (leaf_is, gone) fits
+      where
+        its_prefix : (w : Tree OpaqueNodePtr (K × V)) (radix : IsRadix bytes P ((at.place ++ at.hole.radix.0) ++ at.c ∷ []) w) → Holds (node_at s) w → (name_of w).kind ≢ Leaf →
+            (node : Inner) × (get s.inners (as_inner (name_of w)) ≡ Some node) × (node.prefix.len ≡ length (prefix_at bytes P ((at.place ++ at.hole.radix.0) ++ at.c ∷ []) w radix))
+        its_prefix (leaf k y) radix held kind = absurd (inner_name_is s (as_inner k) y kind held)
+        its_prefix (inner k head cs) radix held kind =
+            let (off, node, got, is, kids) = inner_at s k head (slots_of cs) held.0 in
+            (node, got, ap (λ z. z.length_of) (is ∙ radix.1))
+
+    -- and then the inner nodes are these
+    pub lengthened_is : (one two : Inners) (other : OpaqueNodePtr) (byte' : ℕ) (front : Prefix) → one ≡ remove s.inners parent → other ≡ name_of at.v → byte' ≡ at.c → front ≡ nodes.header_of P at.hole.radix.0 →
+        (other.kind ≡ Leaf → two ≡ one) →
+        (other.kind ≢ Leaf → (first rest : List ℕ) → front ≡ nodes.header_of P first → IfSome (get one (as_inner other)) (λ node. node.prefix ≡ nodes.header_of P rest) → two ≡ change one (as_inner other) (with_header (nodes.header_of P (first ++ byte' ∷ rest)))) →
+        two ≡ lengthened_inners
+    unfolding lengthened_inners
+    lengthened_is one two other byte' front one_is is byte_same front_is as_leaf as_inner_node = go at.v left_radix left_held left_other is
+      where
+        removed : one ≡ remove s.inners (as_inner at.frame.mark)
+        removed = one_is ∙ ap (remove s.inners) (sym at.parent_is)
+
+        go : (w : Tree OpaqueNodePtr (K × V)) (radix : IsRadix bytes P ((at.place ++ at.hole.radix.0) ++ at.c ∷ []) w) → Holds (node_at s) w → name_of w ≢ at.frame.mark → other ≡ name_of w →
+            two ≡ prefix_written P (at.hole.radix.0 ++ at.c ∷ prefix_at bytes P ((at.place ++ at.hole.radix.0) ++ at.c ∷ []) w radix) w (remove s.inners (as_inner at.frame.mark))
+        go (leaf k y) radix held off is = elim (leaf_or other) [
+          | inl (p, e) ↦ as_leaf (ap (λ (z : OpaqueNodePtr). z.kind) e) ∙ removed
+          | inr kind ↦ absurd (inner_name_is s (as_inner k) y (subst (λ (z : OpaqueNodePtr). z.kind ≢ Leaf) is kind) held)
+        ]
+        go (inner k head cs) radix held off is =
+            let (kind, node, got, head_is, kids) = inner_at s k head (slots_of cs) held.0 in
+            let there : get one (as_inner other) ≡ Some node =
+            ap (λ z. get z (as_inner other)) removed ∙ ap (λ z. get (remove s.inners (as_inner at.frame.mark)) (as_inner z)) is
+            ∙ inner_gone_elsewhere s.inners (as_inner at.frame.mark) (as_inner k) (λ e. off (inner_name_one k at.frame.mark e)) ∙ got in
+            let prefix : node.prefix ≡ nodes.header_of P radix.0 = header_by_parts P radix.0 node.prefix (ap (λ z. z.length_of) (head_is ∙ radix.1)) (ap (λ z. z.stored) (head_is ∙ radix.1)) in
+            as_inner_node (subst (λ (z : OpaqueNodePtr). z.kind ≢ Leaf) (sym is) kind) at.hole.radix.0 radix.0 front_is (subst (λ o. IfSome o (λ node. node.prefix ≡ nodes.header_of P radix.0)) (sym there) prefix)
+            ∙ ap₂ (λ (inners : Inners) (b : ℕ). change inners (as_inner other) (with_header (nodes.header_of P (at.hole.radix.0 ++ b ∷ radix.0)))) removed byte_same
+            ∙ ap (λ z. change (remove s.inners (as_inner at.frame.mark)) (as_inner z) (with_header (nodes.header_of P (at.hole.radix.0 ++ at.c ∷ radix.0)))) is
+
+    above_is : (k : OpaqueNodePtr) → IsParent at.above k → get lengthened_inners (as_inner k) ≡ get s.inners (as_inner k)
+    unfolding lengthened_inners is_compressed_at is_compressed_to
+    above_is k e = above_same at.laid is_compressed_at k e
+
+    -- the node above has a child where the parent was
+    pub above_ready : (inners : Inners) (path : TreePath) → inners ≡ lengthened_inners → path ≡ up point.path → HasChild inners (last_step path)
+    above_ready inners path is path_is = subst (HasChild inners) (sym (ap last_step (path_is ∙ ap up at.path_is) ∙ last_step-up at.frame at.above))
+        (go at.above (parent_ready bytes P s at.above at.place at.frame.mark at.hole.path (path_holds (node_at s) at.above (with_leaf_in at.frame point.leaf_node_ptr at.node) at.laid.holds).0) (λ k e. ap (λ z. get z (as_inner k)) is ∙ above_is k e))
+      where
+        some_child : (o : Option Inner) (b : ℕ) → IsSomeAnd o (λ node. child_at node.children b ≡ Some at.frame.mark) → IsSomeAnd o (λ node. IsSome (child_at node.children b))
+        some_child None b h = absurd h
+        some_child (Some node) b h = subst IsSome (sym h) refl
+
+        go : (fs : List (Frame OpaqueNodePtr (K × V))) → IfSome (parent_of fs) (λ p. IsSomeAnd (get s.inners p.0) (λ node. child_at node.children p.1 ≡ Some at.frame.mark)) → ((k : OpaqueNodePtr) → IsParent fs k → get inners (as_inner k) ≡ get s.inners (as_inner k)) → HasChild inners (parent_of fs)
+        go [] ready same = tt
+        go (f ∷ fs) ready same = subst (λ o. IsSomeAnd o (λ node. IsSome (child_at node.children f.byte))) (sym (same f.mark refl)) (some_child (get s.inners (as_inner f.mark)) f.byte ready)
+
+    -- ---- what is done
+
+    module _ (t : Nodes K V) (path : TreePath) (other : OpaqueNodePtr) (inners : Inners) (leaves : IsSomeAnd (get s.leaves point.leaf_node_ptr) (λ leaf. t.leaves ≡ without_leaf s.leaves point.leaf_node_ptr leaf))
+        (path_up : path ≡ up point.path) (is : other ≡ name_of at.v) (lengthened : inners ≡ lengthened_inners) (written : t.inners ≡ with_child_at (last_step path) other inners) where
+      done : Compressed bytes P s t at.above at.place at.frame.mark at.frame.header at.frame.left at.frame.right at.frame.byte point.leaf_node_ptr at.node at.c at.v
+      done = is_compressed_to t (rw at.here at leaves) (written ∙ ap (λ o. with_child_at o other inners) (ap last_step (path_up ∙ ap up at.path_is) ∙ last_step-up at.frame at.above) ∙ ap₂ (with_child_at (parent_of at.above)) is lengthened)
+
+      -- two names are freed, and at most four are changed
+      pub two_touches : parent_change s point.path ≡ is_compressed → TouchesFor (parent_change s point.path) s t
+      two_touches told = subst (λ change. TouchesFor change s t) (sym told) (compressed_touches at.laid done)
+
+      -- the tree without the leaf
+      pub two_deleted : {gone : LeafNode K V} (new_root : OpaqueNodePtr) → IsSomeAnd (get s.leaves point.leaf_node_ptr) (λ leaf. gone ≡ alone (leaf.key, leaf.value)) → new_root ≡ root_with path root other →
+          IsDeleted bytes P s t root point x pairs layout (record { new_root = Some new_root; deleted_leaf = gone })
+      unfolding done is_compressed_to
+      two_deleted {gone} new_root pair root_is =
+          let same : new_root ≡ paths.root_with at.above root (name_of at.v) = root_is ∙ ap₂ (λ q k. root_with q root k) (path_up ∙ ap up at.path_is) is ∙ root_with-up at.frame at.above root (name_of at.v) in
+          let tree = plug at.above (with_prefix P (at.hole.radix.0 ++ at.c ∷ prefix_at bytes P ((at.place ++ at.hole.radix.0) ++ at.c ∷ []) at.v left_radix) at.v) in
+          record {
+            tree = Some tree;
+            canonical = subst (λ r. IsTree bytes P t r (remove_key bytes (bytes x) pairs) tree) (sym same) (subst (λ y. IsTree bytes P t (paths.root_with at.above root (name_of at.v)) (remove_key bytes (bytes y) pairs) tree) at.pair (canonical_from (compressed at.laid done)));
+            deleted = rw at.here at pair ∙ ap alone at.pair;
+            root_is = subst (λ q. IsRootAfter q root (Some new_root)) (sym at.path_is) (subst (λ r. IsRootAfter (path_of (at.frame ∷ at.above)) root (Some r)) (sym same) (root_after_at at.frame at.above root (name_of at.v)));
+            kept = subst (λ old. ChangesInPlace bytes s t (Some old) (Some tree)) at.whole (compressed_in_place at.laid done);
+          }
