@@ -23,7 +23,8 @@ use Rattle.art_model.proofs.Views.{held_in_inner, leaf_or}
 use Rattle.art_model.proofs.Leaves.{named_leaf, joined_before, joined_after, joined_elsewhere, with_leaf_here, with_leaf_elsewhere, without_leaf_elsewhere}
 
 module _ {K V : Type 0} where
-  links_leaf : (u : Nodes K V) (p : LeafPtr) (o : Option (LeafNode K V)) → get u.leaves p ≡ o → links_at u (leaf_name p) ≡ option_and_then links_of (option_map held_leaf o)
+  -- the links of the leaf under a name
+  pub links_leaf : (u : Nodes K V) (p : LeafPtr) (o : Option (LeafNode K V)) → get u.leaves p ≡ o → links_at u (leaf_name p) ≡ option_and_then links_of (option_map held_leaf o)
   links_leaf u p o e = ap (λ z. option_and_then links_of (option_map held_leaf z)) e
 
   -- the links of a leaf after a change

@@ -13,3 +13,5 @@ pub mod Spots
 pub mod Prefixes
 pub mod Deletions
 pub mod Below
+pub mod Compressions
+pub mod Removals
