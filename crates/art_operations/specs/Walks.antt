@@ -4,17 +4,19 @@ use Rattle.art_nodes.specs.Names.{leaf_name}
 use Rattle.art_nodes.specs.declared.node.OpaqueNodePtr.{OpaqueNodePtr}
 use Rattle.art_model.specs.Keys.{IsFront}
 use Rattle.art_model.specs.Lookups.{HasLeaf, nodes_on_way}
-use Rattle.art_model.specs.Pairs.{match_of}
+use Rattle.art_model.specs.Pairs.{match_of, with_key}
 use Rattle.art_model.specs.Stores.{pair_of}
 use Rattle.art_model.specs.Trees.{Tree}
 use Rattle.art_operations.specs.declared.lookup.LastLeaf.{LastLeaf}
 use Rattle.art_operations.specs.declared.lookup.PrefixMatchBehavior.TheVariants.{Pessimistic}
+use Rattle.art_operations.specs.Points.{path_of}
 
 module _ {K V : Type 0} (bytes : K × V → List ℕ) (key : List ℕ) (pairs : List (K × V)) (layout : Tree OpaqueNodePtr (K × V)) (before after : ℕ) where
   -- the only leaf that can match the key, and what is left to compare of it: the bytes after its place, or all of them
   pub record IsLastLeaf (last : LastLeaf K V) : Type 0 where
     pub place : List ℕ
     pub is_leaf : HasLeaf layout (leaf_name last.name) (pair_of last.node.now)
+    pub path_is : last.path ≡ path_of is_leaf.0
     pub leads_to : IsFront place (bytes (pair_of last.node.now))
     pub depth_is : length place ≡ last.depth
     pub is_short : last.depth ≤ length key
@@ -27,3 +29,8 @@ module _ {K V : Type 0} (bytes : K × V → List ℕ) (key : List ℕ) (pairs : 
   abbrev pub WalkEnds : Option (LastLeaf K V) → Type 0
   WalkEnds None = (match_of bytes key pairs ≡ []) × (before + length (nodes_on_way bytes key layout) ≤ after)
   WalkEnds (Some last) = IsLastLeaf last
+
+-- the leaf of the key's only pair, with the path to it, or none where there is no such pair
+abbrev pub IsKeysLeaf : {K V : Type 0} → (K × V → List ℕ) → List ℕ → List (K × V) → Tree OpaqueNodePtr (K × V) → Option (LastLeaf K V) → Type 0
+IsKeysLeaf bytes key pairs layout None = with_key bytes key pairs ≡ []
+IsKeysLeaf bytes key pairs layout (Some last) = (with_key bytes key pairs ≡ pair_of last.node.now ∷ []) × ((is : HasLeaf layout (leaf_name last.name) (pair_of last.node.now)) × (last.path ≡ path_of is.0))
