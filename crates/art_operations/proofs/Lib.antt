@@ -10,3 +10,5 @@ pub mod Ends
 pub mod Partings
 pub mod Spots
 pub mod Prefixes
+pub mod Along
+pub mod DeletePoints
