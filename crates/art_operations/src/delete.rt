@@ -161,3 +161,6 @@ impl DeletePoint {
         self.shrink_parent(store, root, parent, byte)
     }
 }
+
+#[cfg(test)]
+mod tests;
