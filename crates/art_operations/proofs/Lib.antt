@@ -15,3 +15,5 @@ pub mod Deletions
 pub mod Below
 pub mod Compressions
 pub mod Removals
+pub mod Along
+pub mod DeletePoints
