@@ -98,7 +98,7 @@ impl InsertPoint {
         requires previous { IsThere store.old.leaves branch.previous }
         requires next { IsThere store.old.leaves branch.next }
         requires parent { HasChild store.old.inners (last_step self.path) }
-        ensures placed { IsPlaced store.old store.new self old branch (key, value) result }
+        ensures placed { IsPlaced store.old store.new self old branch.entry (key, value) result }
         ensures promise { store.new.promise ≡ take_inner Node4 (take_leaf store.old.promise) }
     {
         let leaf = place_between(
