@@ -11,3 +11,5 @@ pub mod Ends
 pub mod Partings
 pub mod Spots
 pub mod Prefixes
+pub mod Forks
+pub mod Branches
