@@ -1,5 +1,5 @@
 -- A branch at the end of a point's path: what a store has there, and what it is when the branch is placed.
-use Rattle.std.proofs.Common.{◌≡◌, ◌≢◌, ℕ, ◌+◌, ◌<◌, ◌≤◌, List, [], ◌∷◌, ◌++◌, length, take, drop, Option, Some, None, IsSome, IsSomeAnd, IfSome, is_some, refl, ap, ap₂, sym, ◌∙◌, subst, cond, ltb, Bool, true, false, append_assoc}
+use Rattle.std.proofs.Common.{◌≡◌, ◌≢◌, ℕ, ◌+◌, ◌<◌, ◌≤◌, List, [], ◌∷◌, ◌++◌, length, take, drop, Option, Some, None, IsSome, IsSomeAnd, IfSome, is_some, refl, ap, ap₂, sym, ◌∙◌, subst, cond, ltb, Bool, true, false, append_assoc, append-nil}
 use Rattle.std.specs.List.{AllByRecursion as Each}
 use Rattle.std.specs.Option.{option_map}
 use Rattle.std.specs.FinMap.{get, insert}
@@ -7,6 +7,7 @@ use Rattle.art_nodes.specs.Changes.{with_child}
 use Rattle.art_nodes.specs.Inner.{Inner, Prefix, childless, child_at}
 use Rattle.art_nodes.specs.Names.{leaf_name, inner_name}
 use Rattle.art_nodes.specs.Nodes.{Nodes, Promise, covers, take_leaf, take_inner, no_promise}
+use Rattle.art_nodes.specs.declared.node.NodeType.{NodeType}
 use Rattle.art_nodes.specs.declared.node.InnerPtr.{InnerPtr}
 use Rattle.art_nodes.specs.declared.node.LeafPtr.{LeafPtr}
 use Rattle.art_nodes.specs.declared.node.LeafNode.{LeafNode}
@@ -14,6 +15,7 @@ use Rattle.art_nodes.specs.declared.node.OpaqueNodePtr.{OpaqueNodePtr}
 use Rattle.art_nodes.proofs.StoreLaws.{inner_elsewhere}
 use Rattle.art_model.specs.Canonical.{IsTree}
 use Rattle.art_model.specs.Footprints.{IsIn}
+use Rattle.art_model.specs.Kept.{ChangesInPlace}
 use Rattle.art_model.specs.Keys.{IsFront, are_related, are_same}
 use Rattle.art_model.specs.Layouts.{name_of, names_of, leaf_names}
 use Rattle.art_model.specs.Pairs.{with_key, put, put_reply, related_to, first_of}
@@ -29,6 +31,7 @@ use Rattle.art_model.proofs.Chains.{AreThere, are_there, previous_there, next_th
 use Rattle.art_model.proofs.Changes.{two_children}
 use Rattle.art_model.proofs.Filters.{filter_filter}
 use Rattle.art_model.proofs.Inserted.{BranchInserted, branch_inserted}
+use Rattle.art_model.proofs.Keys.{front_related, same_equal}
 use Rattle.art_model.proofs.Lists.{Each-weaker, each_in, filter_none}
 use Rattle.art_model.proofs.Paths as paths
 use Rattle.art_model.proofs.Paths.{IsHole, radix_plug, leaf_names-plug, same_pairs_of}
@@ -86,7 +89,7 @@ root_told point (Normal grandparent above parent b) node byte = refl
 -- ---- what is promised
 
 -- a leaf and an inner node are taken from what a successful call promised of them
-pub promise_taken : (old new : Promise) (kind : Rattle.art_nodes.specs.declared.node.NodeType.NodeType) → (covers old 1 (Some kind) ≡ true → new ≡ old) → (covers old 1 (Some kind) ≡ false → new ≡ record { leaves = 1; inner = Some kind }) → take_inner kind (take_leaf (record { leaves = 1; inner = Some kind })) ≡ no_promise →
+pub promise_taken : (old new : Promise) (kind : NodeType) → (covers old 1 (Some kind) ≡ true → new ≡ old) → (covers old 1 (Some kind) ≡ false → new ≡ record { leaves = 1; inner = Some kind }) → take_inner kind (take_leaf (record { leaves = 1; inner = Some kind })) ≡ no_promise →
     take_inner kind (take_leaf new) ≡ cond (covers old 1 (Some kind)) (take_inner kind (take_leaf old)) no_promise
 promise_taken old new kind kept made none = go (covers old 1 (Some kind)) kept made
   where
@@ -187,7 +190,7 @@ module _ {K V : Type 0} {bytes : K × V → List ℕ} {P : ℕ} {s : Nodes K V} 
         ap first_of (sym (filter_filter (λ y. are_same key (bytes y)) (λ y. are_related key (bytes y)) (λ y e. both key (bytes y) e) pairs) ∙ ap (with_key bytes key) whole)
       where
         both : (a b : List ℕ) → are_same a b ≡ true → are_related a b ≡ true
-        both a b e = Rattle.art_model.proofs.Keys.front_related a b ([], sym (Rattle.art_model.proofs.Keys.same_equal a b e ∙ Rattle.std.proofs.Common.append-nil b))
+        both a b e = front_related a b ([], same_equal a b e ∙ sym (append-nil a))
 
     -- the leaf's path
     abbrev leaf_frame : Bool → Frame OpaqueNodePtr (K × V)
@@ -207,7 +210,7 @@ module _ {K V : Type 0} {bytes : K × V → List ℕ} {P : ℕ} {s : Nodes K V} 
         root = placed.root ∙ root_told point point.path (inner_name placed.node) branch.new_byte ∙ ap (root_after point) (sym placed.change);
       };
       replaced = placed.existing ∙ sym (ap (option_map alone) none_replaced);
-      kept = subst (λ tree. Rattle.art_model.specs.Kept.ChangesInPlace bytes s t (Some tree) (Some (plug at.path grown))) at.is_end.whole (branch_in_place (end_laid by at) stored new);
+      kept = subst (λ tree. ChangesInPlace bytes s t (Some tree) (Some (plug at.path grown))) at.is_end.whole (branch_in_place (end_laid by at) stored new);
     }
       where
         root : paths.root_with at.path point.root (inner_name placed.node) ≡ done.new_root

@@ -1,5 +1,5 @@
 -- A new node above a node and a new leaf: what is read before it is placed, and what its placement makes of a store.
-use Rattle.std.specs.Prelude.{◌≡◌, ◌≢◌, ℕ, cond, ltb, List, [], ◌∷◌, ◌++◌, take, Option, None}
+use Rattle.std.specs.Prelude.{◌≡◌, ◌≢◌, ℕ, cond, ltb, List, [], ◌∷◌, ◌++◌, take, Bool, true, false, Option, None}
 use Rattle.std.specs.Option.{option_map}
 use Rattle.std.specs.FinMap as map
 use Rattle.art_nodes.specs.Changes.{with_child}
@@ -7,6 +7,7 @@ use Rattle.art_nodes.specs.Inner.{Prefix, childless, header_of}
 use Rattle.art_nodes.specs.Names.{leaf_name, inner_name}
 use Rattle.art_nodes.specs.Nodes.{Nodes}
 use Rattle.art_nodes.specs.declared.node.InnerPtr.{InnerPtr}
+use Rattle.art_nodes.specs.declared.node.LeafPtr.{LeafPtr}
 use Rattle.art_nodes.specs.declared.node.NodeType.TheVariants.{Node4}
 use Rattle.art_nodes.specs.declared.node.OpaqueNodePtr.{OpaqueNodePtr}
 use Rattle.art_model.specs.Canonical.{IsTree}
@@ -21,7 +22,7 @@ use Rattle.art_operations.specs.declared.insert.InsertPoint.{InsertPoint}
 use Rattle.art_operations.specs.declared.insert.InsertResult.{InsertResult}
 use Rattle.art_operations.specs.declared.insert.branch.Branch.{Branch}
 use Rattle.art_operations.specs.Points.{AnswersTo}
-use Rattle.art_operations.specs.Writes.{last_step, root_with}
+use Rattle.art_operations.specs.Writes.{ComesAfter, ComesBefore, last_step, root_with}
 
 -- this holds of the path and the node that the point answers to, in each layout of its root
 abbrev pub ForEnd : {K V : Type 0} → (K × V → List ℕ) → ℕ → Nodes K V → List ℕ → InsertPoint → (List (Frame OpaqueNodePtr (K × V)) → Tree OpaqueNodePtr (K × V) → Type 0) → Type 0
@@ -37,6 +38,11 @@ module _ {A : Type 0} {P : ℕ} (bytes : A → List ℕ) (key : List ℕ) (path 
     pub apart : branch.old_byte ≢ branch.new_byte
     pub previous : option_map leaf_name branch.previous ≡ last_or (leaves_before path ++ cond (ltb branch.old_byte branch.new_byte) (leaf_names node) []) None
     pub next : option_map leaf_name branch.next ≡ first_or (cond (ltb branch.old_byte branch.new_byte) [] (leaf_names node) ++ leaves_after path) None
+
+-- a new leaf that comes right after a tree, or right before it, has these leaves beside it
+abbrev pub IsBeside : {K V : Type 0} → Nodes K V → Tree OpaqueNodePtr (K × V) → Bool → Option LeafPtr → Option LeafPtr → Type 0
+IsBeside s tree true previous next = ComesAfter s tree previous next
+IsBeside s tree false previous next = ComesBefore s tree previous next
 
 -- A leaf of the pair and a Node4 above it and the old node are placed, and the parent at the end of the path has the Node4.
 pub record IsPlaced {K V : Type 0} {P : ℕ} (s t : Nodes K V) (point : InsertPoint) (old : OpaqueNodePtr) (branch : Branch P) (pair : K × V) (done : InsertResult K V) : Type 0 where

@@ -1,22 +1,24 @@
 //! A new node above a leaf and a new one, or above an inner node and a new leaf.
-ghost use Rattle.std.specs.Prelude.{◌≡◌, ◌≢◌, ◌<◌, length, slice_get, IsOk, IsTrue, IfOk, IfErr, OnOk, OnErr, Some};
+ghost use Rattle.std.specs.Prelude.{◌≡◌, nat_lt, IsOk, IsTrue, IfOk, IfErr, OnOk, OnErr, Some};
 ghost use Rattle.art_nodes.specs.Changes.{with_child};
-ghost use Rattle.art_nodes.specs.Inner.{childless};
+ghost use Rattle.art_nodes.specs.Inner.{childless, header_of};
 ghost use Rattle.art_nodes.specs.Kinds.{any_kind, any_view};
 ghost use Rattle.art_nodes.specs.Nodes.{covers, no_promise, take_inner, take_leaf};
 ghost use Rattle.art_nodes.specs.declared.node.NodeType.TheVariants.{Node4};
+ghost use Rattle.art_nodes.specs.declared.node.OpaqueNodePtr.{OpaqueNodePtr};
 ghost use Rattle.art_model.specs.Pairs.{of_key};
 ghost use Rattle.art_model.specs.Promises.{is_covered, promise_after};
-ghost use Rattle.art_model.specs.Roots.{ForTree};
+ghost use Rattle.art_model.specs.Roots.{ForTree, IsFullTree};
+ghost use Rattle.art_model.specs.Trees.{Tree};
 ghost use Rattle.art_model.specs.Writes.{IsThere};
-ghost use Rattle.art_operations.specs.Branches.{ForEnd, IsBranch, IsPlaced};
+ghost use Rattle.art_operations.specs.Branches.{ForEnd, IsBeside, IsBranch, IsPlaced};
 ghost use Rattle.art_operations.specs.Inserted.{IsInserted, IsPointIn, Touches, placed_for};
 ghost use Rattle.art_operations.specs.Writes.{HasChild, last_step};
 ghost use Rattle.art_operations.specs.declared.insert.InsertKind.TheVariants as kinds;
 
 use super::{InsertParentNodeChange, InsertPoint, InsertResult, Refused};
 use crate::path::ExplicitMismatch;
-use crate::writes::{place_between, replace_at};
+use crate::writes::{links_after, links_before, place_between, replace_at};
 use art_nodes::node::{
     AnyInner, AsBytes, Header, InnerPtr, LeafNode, LeafPtr, NodeType, OpaqueNodePtr,
     OptionalLeafPtr,
@@ -52,6 +54,36 @@ fn above_two<const P: usize>(
     node
 }
 
+// What is read before the tree under a name gets a parent with this prefix, and under these bytes it
+// and a new leaf.
+fn branch_above<K: AsBytes + Drop, V: Drop, const P: usize>(
+    store: &NodeStore<K, V, P>,
+    name: OpaqueNodePtr,
+    part: &[u8],
+    old_byte: u8,
+    new_byte: u8,
+) -> Branch<P>
+    requires { (tree : Tree OpaqueNodePtr (K × V)) × IsFullTree store.now name tree }
+    ensures header { result.header ≡ header_of P part.now }
+    ensures old_byte { result.old_byte ≡ old_byte }
+    ensures new_byte { result.new_byte ≡ new_byte }
+    ensures beside { (tree : Tree OpaqueNodePtr (K × V)) → IsFullTree store.now name tree →
+        IsBeside store.now tree (nat_lt old_byte new_byte) result.previous result.next }
+{
+    let (previous, next) = if old_byte < new_byte {
+        links_after(store, name)
+    } else {
+        links_before(store, name)
+    };
+    Branch {
+        header: Header::new(part, part.len()),
+        old_byte,
+        new_byte,
+        previous,
+        next,
+    }
+}
+
 impl InsertPoint {
     // Reads what splits a leaf.
     fn branch_at_leaf<K: AsBytes + Drop, V: Drop, const P: usize>(
@@ -68,21 +100,40 @@ impl InsertPoint {
         let Some(leaf) = store.leaf(leaf_node_ptr) else {
             unreachable!()
         };
+        let part = &key_bytes[self.key_bytes_used..new_key_bytes_used];
         let old_byte = leaf.key.as_bytes()[new_key_bytes_used];
         let new_byte = key_bytes[new_key_bytes_used];
-        let part = &key_bytes[self.key_bytes_used..new_key_bytes_used];
-        let (previous, next) = if old_byte < new_byte {
-            (Some(leaf_node_ptr), leaf.next)
-        } else {
-            (leaf.previous, Some(leaf_node_ptr))
-        };
-        Branch {
-            header: Header::new(part, part.len()),
+        branch_above(
+            store,
+            leaf_node_ptr.to_opaque(),
+            part,
             old_byte,
             new_byte,
-            previous,
-            next,
-        }
+        )
+    }
+
+    // Reads what splits a prefix.
+    fn branch_at_prefix<K: AsBytes + Drop, V: Drop, const P: usize>(
+        self,
+        store: &NodeStore<K, V, P>,
+        mismatch: ExplicitMismatch,
+        inner_node_ptr: InnerPtr,
+        key_bytes: &[u8],
+    ) -> Branch<P>
+        requires point { self.insert_kind ≡ kinds.MismatchPrefix mismatch inner_node_ptr }
+        requires answers { IsPointIn (of_key K.bytes) P store.now key_bytes.now self }
+        ensures { ForEnd (of_key K.bytes) P store.now key_bytes.now self (λ path node. IsBranch (of_key K.bytes) key_bytes.now path node result) }
+    {
+        let end = self.key_bytes_used + mismatch.matched_bytes;
+        let part = &key_bytes[self.key_bytes_used..end];
+        let new_byte = key_bytes[end];
+        branch_above(
+            store,
+            inner_node_ptr.to_opaque(),
+            part,
+            mismatch.prefix_byte,
+            new_byte,
+        )
     }
 
     // Places the leaf of a pair, and a node above it and the old one in the place of the old one.
