@@ -13,3 +13,4 @@ pub mod Spots
 pub mod Prefixes
 pub mod Forks
 pub mod Branches
+pub mod BranchReads
