@@ -17,3 +17,6 @@ pub mod Compressions
 pub mod Removals
 pub mod Along
 pub mod DeletePoints
+pub mod Forks
+pub mod Branches
+pub mod BranchReads

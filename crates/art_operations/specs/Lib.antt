@@ -6,4 +6,5 @@ pub mod Walks
 pub mod Points
 pub mod Writes
 pub mod Inserted
+pub mod Branches
 pub mod Deleted
