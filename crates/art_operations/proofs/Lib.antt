@@ -10,3 +10,4 @@ pub mod Ends
 pub mod Partings
 pub mod Spots
 pub mod Prefixes
+pub mod Applied
