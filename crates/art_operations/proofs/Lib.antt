@@ -11,3 +11,5 @@ pub mod Partings
 pub mod Spots
 pub mod Prefixes
 pub mod Applied
+pub mod Answered
+pub mod Replaced

@@ -8,7 +8,7 @@ ghost use Rattle.art_operations.specs.Inserted.{IsInserted, IsPointIn, Touches, 
 ghost use Rattle.art_operations.specs.declared.insert.InsertKind.TheVariants as kinds;
 
 use super::{InsertParentNodeChange, InsertPoint, InsertResult, Refused};
-use art_nodes::node::{AsBytes, InnerPtr, LeafPtr};
+use art_nodes::node::{AsBytes, InnerPtr, LeafNode, LeafPtr};
 use art_nodes::store::NodeStore;
 
 impl InsertPoint {
@@ -27,7 +27,13 @@ impl InsertPoint {
         ensures touches { Touches self.insert_kind store.old store.new }
         ensures promise { store.new.promise ≡ store.old.promise }
     {
-        unreachable!()
+        let (key, value) = store.swap_pair(leaf_node_ptr, key, value);
+        InsertResult {
+            leaf_node_ptr,
+            existing_leaf: Some(LeafNode::with_no_siblings(key, value)),
+            new_root: self.root,
+            parent_node_change: InsertParentNodeChange::NoChange,
+        }
     }
 
     /// Puts a leaf of a pair below an inner node, which is replaced by a larger one where it is full.
