@@ -135,7 +135,7 @@ module _ {K V : Type 0} where
   then_change_some so_far None f was is = so_far
   then_change_some so_far (Some p) f was is = then_changed leaf_cmp_total leaf_cmp-IsAntisymmetric so_far p f (was p refl) (is p refl)
 
-  there_changed : (m : Leaves K V) (o q : Option LeafPtr) (f : LeafNode K V → LeafNode K V) → IsThere m q → IsThere (change_some m o f) q
+  pub there_changed : (m : Leaves K V) (o q : Option LeafPtr) (f : LeafNode K V → LeafNode K V) → IsThere m q → IsThere (change_some m o f) q
   there_changed m None q f h = h
   there_changed m (Some n) q f h = λ p e. still_changed leaf_cmp_total leaf_cmp-IsAntisymmetric m n p f (h p e)
 
