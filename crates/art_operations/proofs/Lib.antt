@@ -14,3 +14,4 @@ pub mod Prefixes
 pub mod Applied
 pub mod Answered
 pub mod Replaced
+pub mod Gaps

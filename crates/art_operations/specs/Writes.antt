@@ -9,7 +9,7 @@ use Rattle.art_nodes.specs.declared.node.InnerPtr.{InnerPtr}
 use Rattle.art_nodes.specs.declared.node.LeafPtr.{LeafPtr}
 use Rattle.art_nodes.specs.declared.node.OpaqueNodePtr.{OpaqueNodePtr}
 use Rattle.art_model.specs.Lookups.{HasFirstLeaf, HasLastLeaf}
-use Rattle.art_model.specs.Radix.{bytes_of, join}
+use Rattle.art_model.specs.Radix.{IsRising, bytes_of, join}
 use Rattle.art_model.specs.Roots.{IsFullTree}
 use Rattle.art_model.specs.Trees.{Tree, inner, Children, child, no_child, Header}
 use Rattle.art_model.specs.Writes.{Leaves, Inners, IsThere}
@@ -48,6 +48,7 @@ ComesAfter s tree previous next = (last : LeafPtr) × HasLastLeaf tree (leaf_nam
 pub record HasGap {K V : Type 0} (s : Nodes K V) (name : InnerPtr) (byte : ℕ) (left right : Children OpaqueNodePtr (K × V)) : Type 0 where
   pub header : Header
   pub full : IsFullTree s (inner_name name) (inner (inner_name name) header (join left right))
+  pub rising : IsRising (bytes_of (join left right))
   pub low : Each (λ c. c < byte) (bytes_of left)
   pub high : Each (λ c. byte < c) (bytes_of right)
 
