@@ -76,7 +76,8 @@ module _ {N A : Type 0} where
   slots_long no_child = refl
   slots_long (child b t cs) = ap suc (slots_long cs)
 
-  children_right : (least : ℕ) (cs ds : Children N A) → HaveChildrenBelow least (join cs ds) → HaveChildrenBelow least ds
+  -- the children on the right have as many as all do
+  pub children_right : (least : ℕ) (cs ds : Children N A) → HaveChildrenBelow least (join cs ds) → HaveChildrenBelow least ds
   children_right least no_child ds h = h
   children_right least (child b t cs) ds h = children_right least cs ds h.1
 

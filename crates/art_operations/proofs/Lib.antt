@@ -20,3 +20,7 @@ pub mod DeletePoints
 pub mod Forks
 pub mod Branches
 pub mod BranchReads
+pub mod Applied
+pub mod Answered
+pub mod Replaced
+pub mod Gaps
