@@ -1,0 +1,288 @@
+ghost use Rattle.art_model.specs.Pairs.{of_key};
+ghost use Rattle.art_model.specs.Roots.{IsCanonicalRoot};
+
+use super::*;
+use crate::delete::search_for_delete_point;
+use crate::test_trees::{Key, keys, plant};
+use art_nodes::node::{NodePtr, NodeType, OptionalLeafPtr};
+use art_test_support::all_memory;
+use std::alloc::{AllocError, Global};
+use std::test::Fail;
+
+// What a slot holds.
+#[derive(PartialEq, Eq, Debug, Drop)]
+enum Held {
+    Nothing,
+    Leaf {
+        value: u32,
+        previous: OptionalLeafPtr,
+        next: OptionalLeafPtr,
+    },
+    Inner {
+        kind: NodeType,
+        prefix_len: usize,
+        stored: Vec<u8>,
+        children: Vec<(u8, OpaqueNodePtr)>,
+    },
+}
+
+// A node of a tree: a leaf with its value and key, or an inner node with the length of its prefix,
+// the stored bytes, and its children.
+#[derive(Drop)]
+struct Outline {
+    kind: NodeType,
+    number: usize,
+    bytes: Vec<u8>,
+    below: Vec<(u8, OpaqueNodePtr)>,
+}
+
+// Deletes a key.
+fn delete<K: AsBytes + Drop, const P: usize>(
+    store: &mut NodeStore<K, u32, P>,
+    root: OpaqueNodePtr,
+    key_bytes: &[u8],
+) -> Option<DeleteResult<K, u32>>
+    requires { IsCanonicalRoot (of_key K.bytes) P store.old root }
+{
+    let point = search_for_delete_point(store, root, key_bytes)?;
+    point.apply(store, root).ok()
+}
+
+fn held_in<const P: usize>(
+    store: &NodeStore<Key, u32, P>,
+    slot: usize,
+) -> Result<Held, AllocError> {
+    if let Some(leaf) = store.leaf(LeafPtr { slot }) {
+        return Ok(Held::Leaf {
+            value: leaf.value,
+            previous: leaf.previous,
+            next: leaf.next,
+        });
+    }
+    let kind = NodeType::Node4;
+    let Some(node) = store.inner(InnerPtr { kind, slot }) else {
+        return Ok(Held::Nothing);
+    };
+    let mut children = Vec::new(store.alloc());
+    for child in node.iter() {
+        children.push(child)?;
+    }
+    Ok(Held::Inner {
+        kind,
+        prefix_len: node.prefix_len(),
+        stored: node.read_prefix().to_vec(store.alloc())?,
+        children,
+    })
+}
+
+// What the first slots hold, where all inner nodes are small.
+fn all_held<const P: usize>(store: &NodeStore<Key, u32, P>) -> Result<Vec<Held>, AllocError> {
+    let mut all = Vec::new(store.alloc());
+    for slot in 0..16usize {
+        all.push(held_in(store, slot)?)?;
+    }
+    Ok(all)
+}
+
+// How many slots came into use, went out of it, and hold another node.
+fn counts(before: &[Held], after: &[Held]) -> (usize, usize, usize) {
+    let (mut placed, mut freed, mut changed) = (0usize, 0usize, 0usize);
+    for (old, new) in before.iter().zip(after) {
+        match (old, new) {
+            (Held::Nothing, Held::Nothing) => {}
+            (Held::Nothing, _) => placed = placed.saturating_add(1),
+            (_, Held::Nothing) => freed = freed.saturating_add(1),
+            (old, new) => {
+                if old != new {
+                    changed = changed.saturating_add(1);
+                }
+            }
+        }
+    }
+    (placed, freed, changed)
+}
+
+fn outline_of<const P: usize>(
+    store: &NodeStore<Key, u32, P>,
+    name: OpaqueNodePtr,
+) -> Result<Outline, Fail> {
+    let alloc = store.alloc();
+    let mut below = Vec::new(alloc);
+    let kind = name.node_type();
+    match name.split() {
+        NodePtr::Leaf(leaf) => {
+            let leaf = store.leaf(leaf).ok_or("a leaf")?;
+            Ok(Outline {
+                kind,
+                number: leaf.value as usize,
+                bytes: leaf.key.as_slice().to_vec(alloc)?,
+                below,
+            })
+        }
+        NodePtr::Inner(inner) => {
+            let node = store.inner(inner).ok_or("an inner node")?;
+            for child in node.iter() {
+                below.push(child)?;
+            }
+            Ok(Outline {
+                kind,
+                number: node.prefix_len(),
+                bytes: node.read_prefix().to_vec(alloc)?,
+                below,
+            })
+        }
+    }
+}
+
+// Whether two trees of at most 100 nodes are the same but for the names of their nodes.
+fn are_alike<const P: usize>(
+    store: &NodeStore<Key, u32, P>,
+    root: OpaqueNodePtr,
+    other: &NodeStore<Key, u32, P>,
+    other_root: OpaqueNodePtr,
+) -> Result<bool, Fail> {
+    let mut pairs = Vec::new(store.alloc());
+    pairs.push((root, other_root))?;
+    for _ in 0..100 {
+        let Some((name, other_name)) = pairs.pop() else {
+            return Ok(true);
+        };
+        let node = outline_of(store, name)?;
+        let other_node = outline_of(other, other_name)?;
+        if node.kind != other_node.kind
+            || node.number != other_node.number
+            || node.bytes != other_node.bytes
+            || node.below.len() != other_node.below.len()
+        {
+            return Ok(false);
+        }
+        for (child, other_child) in node.below.iter().zip(&other_node.below) {
+            if child.0 != other_child.0 {
+                return Ok(false);
+            }
+            pairs.push((child.1, other_child.1))?;
+        }
+    }
+    Ok(false)
+}
+
+#[test]
+fn raises_the_other_leaf(rt: HostRuntime) -> Result<(), Fail> {
+    let alloc = rt.alloc();
+    let mut store: NodeStore<Key, u32, 16> = NodeStore::new(alloc);
+    let root = plant(
+        &mut store,
+        &mut NodeStore::new(alloc),
+        keys(alloc, &[&[1, 2, 3, 4], &[1, 2, 9]])?,
+    )?;
+    let parent = root.as_inner().ok_or("an inner root")?;
+    let other = store.inner(parent).ok_or("the root")?.lookup_child(3);
+    let done = delete(&mut store, root, &[1, 2, 9]).ok_or("a deletion")?;
+    assert!(rt; other.is_some());
+    assert_eq!(rt; done.new_root, other);
+    assert_eq!(rt; done.deleted_leaf.key.as_slice(), [1, 2, 9].as_slice());
+    assert_eq!(rt; done.deleted_leaf.value, 1);
+    assert!(rt; store.inner(parent).is_none());
+    Ok(())
+}
+
+#[test]
+fn merges_a_prefix_that_is_not_stored_whole(rt: HostRuntime) -> Result<(), Fail> {
+    let alloc = rt.alloc();
+    let mut store: NodeStore<Key, u32, 2> = NodeStore::new(alloc);
+    let root = plant(
+        &mut store,
+        &mut NodeStore::new(alloc),
+        keys(
+            alloc,
+            &[&[7, 1, 1, 1, 1, 5], &[7, 1, 1, 1, 1, 6], &[7, 1, 1, 9]],
+        )?,
+    )?;
+    let before = all_held(&store)?;
+    let done = delete(&mut store, root, &[7, 1, 1, 9]).ok_or("a deletion")?;
+    let after = all_held(&store)?;
+    assert_eq!(rt; counts(&before, &after), (0, 2, 2));
+    let new_root = done.new_root.ok_or("a root")?;
+    let node = store
+        .inner(new_root.as_inner().ok_or("an inner root")?)
+        .ok_or("the root")?;
+    assert_eq!(rt; node.node_type(), NodeType::Node4);
+    assert_eq!(rt; node.prefix_len(), 5);
+    assert_eq!(rt; node.read_prefix(), [7, 1].as_slice());
+    Ok(())
+}
+
+// How many slots a deletion of an inserted key places, frees and changes, and whether the tree is
+// the one of the other keys.
+fn undone<const P: usize>(alloc: Global) -> Result<((usize, usize, usize), bool), Fail> {
+    let mut store: NodeStore<Key, u32, P> = NodeStore::new(alloc);
+    let mut second = NodeStore::new(alloc);
+    let root = plant(
+        &mut store,
+        &mut second,
+        keys(
+            alloc,
+            &[&[0], &[1, 1, 1, 5], &[1, 1, 1, 6], &[2], &[1, 1, 9]],
+        )?,
+    )?;
+    let mut other: NodeStore<Key, u32, P> = NodeStore::new(alloc);
+    let other_root = plant(
+        &mut other,
+        &mut second,
+        keys(alloc, &[&[0], &[1, 1, 1, 5], &[1, 1, 1, 6], &[2]])?,
+    )?;
+    let before = all_held(&store)?;
+    let done = delete(&mut store, root, &[1, 1, 9]).ok_or("a deletion")?;
+    let after = all_held(&store)?;
+    let new_root = done.new_root.ok_or("a root")?;
+    let same = are_alike(&store, new_root, &other, other_root)?;
+    Ok((counts(&before, &after), same && new_root == root))
+}
+
+#[test]
+fn undoes_an_insertion(rt: HostRuntime) -> Result<(), Fail> {
+    let alloc = rt.alloc();
+    assert_eq!(rt; undone::<0>(alloc)?, ((0, 2, 4), true));
+    assert_eq!(rt; undone::<4>(alloc)?, ((0, 2, 4), true));
+    assert_eq!(rt; undone::<16>(alloc)?, ((0, 2, 4), true));
+    Ok(())
+}
+
+#[test]
+fn without_memory_a_parent_is_compressed(rt: HostRuntime) -> Result<(), Fail> {
+    let alloc = rt.alloc();
+    let mut store: NodeStore<Key, u32, 4> = NodeStore::new(alloc);
+    let root = plant(
+        &mut store,
+        &mut NodeStore::new(alloc),
+        keys(alloc, &[&[1, 1, 5], &[1, 1, 6], &[1, 9]])?,
+    )?;
+    let held = all_memory(alloc)?;
+    let done = delete(&mut store, root, &[1, 9]);
+    drop(held);
+    let new_root = done.ok_or("a deletion")?.new_root.ok_or("a root")?;
+    let node = store
+        .inner(new_root.as_inner().ok_or("an inner root")?)
+        .ok_or("the root")?;
+    assert_eq!(rt; node.read_prefix(), [1, 1].as_slice());
+    assert_eq!(rt; node.num_children(), 2);
+    Ok(())
+}
+
+#[test]
+fn leaves_nothing_of_one_leaf(rt: HostRuntime) -> Result<(), Fail> {
+    let alloc = rt.alloc();
+    let mut store: NodeStore<Key, u32, 16> = NodeStore::new(alloc);
+    let root = plant(
+        &mut store,
+        &mut NodeStore::new(alloc),
+        keys(alloc, &[&[1, 2, 3]])?,
+    )?;
+    let done = delete(&mut store, root, &[1, 2, 3]).ok_or("a deletion")?;
+    assert_eq!(rt; done.new_root, None);
+    assert_eq!(rt; done.deleted_leaf.key.as_slice(), [1, 2, 3].as_slice());
+    for held in &all_held(&store)? {
+        assert_eq!(rt; *held, Held::Nothing);
+    }
+    Ok(())
+}
