@@ -39,7 +39,7 @@ use Rattle.art_operations.specs.declared.path.PrefixMatch.{PrefixMatch}
 use Rattle.art_operations.specs.declared.path.TreePath.{TreePath}
 use Rattle.art_operations.specs.declared.path.TreePath.TheVariants.{Root}
 use Rattle.art_operations.specs.Matching.{shared_len}
-use Rattle.art_operations.specs.Points.{IsAt, step_down, path_of, AnswersTo, IsPointFor, IsKindFor, IsKindAtLeaf, IsKindOf, IsCompared, IsMismatch, IsPart}
+use Rattle.art_operations.specs.Points.{IsAt, step_down, AnswersTo, IsPointFor, IsKindFor, IsKindAtLeaf, IsKindOf, IsCompared, IsMismatch, IsPart}
 use Rattle.art_operations.proofs.Partings.{ArePart, part_where, parted_unrelated, unrelated_after, front_right, conflict-related, no_conflict, first_conflict, same_conflict}
 
 -- as much of the key was used as it has

@@ -1,4 +1,4 @@
-use Rattle.std.proofs.Common.{rules, ◌+◌, arith}
+use Rattle.std.proofs.Common.{rules, arith}
 use Rattle.art_model.specs.Pairs.{of_key}
 use Rattle.art_operations.proofs.Spots.{prefix_inside, mismatch_inside, inner_there, shown_there, some_shown, part_there, prefix_conflict, into_point, goes_on, mismatch_conflict, mismatch_point}
 use Rattle.art_operations.proofs.insert.step_at_inner.Goals as goal
