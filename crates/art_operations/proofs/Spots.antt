@@ -67,6 +67,13 @@ module _ {K V : Type 0} {s : Nodes K V} {bytes : K × V → List ℕ} {P : ℕ} 
     holds : Holds (node_at s) d.node
     holds = (path_holds (node_at s) d.frames d.node (subst (Holds (node_at s)) (sym d.whole) by.stands.0.holds)).1
 
+    -- the key is as long as its way
+    pub inside : depth ≤ length key
+    inside =
+        let l = ap length d.on_way.1 in
+        let n = d.depth_is in
+        omega (arith, simp length-append at l)
+
     -- the names on the way are there
     pub leaf_there : {p : LeafPtr} → leaf_name p ≡ name → None ≡ map.get s.leaves p → ⊥
     leaf_there {p} is gone = no_leaf_gone s p d.node (d.named ∙ sym is) holds gone
