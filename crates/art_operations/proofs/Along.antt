@@ -1,5 +1,5 @@
 -- the way down along an edge, with its path
-use Rattle.std.proofs.Common.{◌≡◌, ℕ, ◌-◌, ◌<◌, List, [], length, slice_get, refl, ap, sym, ◌∙◌, Some}
+use Rattle.std.proofs.Common.{◌≡◌, ℕ, ◌-◌, ◌<◌, List, length, slice_get, refl, ap, sym, ◌∙◌}
 use Rattle.std.specs.FinMap as map
 use Rattle.art_nodes.specs.Inner.{Inner}
 use Rattle.art_nodes.specs.Names.{leaf_name}

@@ -39,7 +39,7 @@ use Rattle.art_operations.specs.declared.path.PrefixMatch.{PrefixMatch}
 use Rattle.art_operations.specs.declared.path.TreePath.{TreePath}
 use Rattle.art_operations.specs.declared.path.TreePath.TheVariants.{Root}
 use Rattle.art_operations.specs.Matching.{shared_len}
-use Rattle.art_operations.specs.Points.{IsAt, step_down, path_of, AnswersTo, IsPointFor, IsKindFor, IsKindAtLeaf, IsKindOf, IsCompared, IsMismatch, IsPart}
+use Rattle.art_operations.specs.Points.{IsAt, step_down, AnswersTo, IsPointFor, IsKindFor, IsKindAtLeaf, IsKindOf, IsCompared, IsMismatch, IsPart}
 use Rattle.art_operations.proofs.Partings.{ArePart, part_where, parted_unrelated, unrelated_after, front_right, conflict-related, no_conflict, first_conflict, same_conflict}
 
 -- as much of the key was used as it has
@@ -66,6 +66,13 @@ module _ {K V : Type 0} {s : Nodes K V} {bytes : K × V → List ℕ} {P : ℕ} 
   module _ {key : List ℕ} {path : TreePath} {name : OpaqueNodePtr} {depth : ℕ} (d : IsAt bytes P key layout (record { path = path; name = name; depth = depth })) where
     holds : Holds (node_at s) d.node
     holds = (path_holds (node_at s) d.frames d.node (subst (Holds (node_at s)) (sym d.whole) by.stands.0.holds)).1
+
+    -- the key is as long as its way
+    pub inside : depth ≤ length key
+    inside =
+        let l = ap length d.on_way.1 in
+        let n = d.depth_is in
+        omega (arith, simp length-append at l)
 
     -- the names on the way are there
     pub leaf_there : {p : LeafPtr} → leaf_name p ≡ name → None ≡ map.get s.leaves p → ⊥

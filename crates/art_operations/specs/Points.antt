@@ -110,7 +110,7 @@ module _ {A : Type 0} (bytes : A → List ℕ) (P : ℕ) where
   abbrev pub IsStepFrom : List ℕ → List A → Tree OpaqueNodePtr A → ℕ → Option Step → Type 0
   IsStepFrom key pairs layout depth None = IsPointFor key pairs layout None
   IsStepFrom key pairs layout depth (Some (Point point)) = IsPointFor key pairs layout (Some point)
-  IsStepFrom key pairs layout depth (Some (Down spot)) = (depth < spot.depth) × (spot.depth ≤ length key) × IsAt key layout spot
+  IsStepFrom key pairs layout depth (Some (Down spot)) = (depth < spot.depth) × IsAt key layout spot
 
 -- where a leaf's key and the key are related and unequal there is no kind
 abbrev pub IsKindFor : List ℕ → LeafPtr → List ℕ → Option InsertKind → Type 0

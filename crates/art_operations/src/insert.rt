@@ -228,7 +228,6 @@ fn next_step<K: AsBytes + Drop, V: Drop, const PREFIX_LEN: usize>(
     spot: Spot,
 ) -> Option<Step>
     requires root { IsCanonicalRoot (of_key K.bytes) PREFIX_LEN store.now root }
-    requires depth { spot.depth ≤ length key_bytes.now }
     requires spot { ForTree (of_key K.bytes) PREFIX_LEN store.now root (λ pairs layout. IsAt (of_key K.bytes) PREFIX_LEN key_bytes.now layout spot) }
     ensures { ForTree (of_key K.bytes) PREFIX_LEN store.now root (λ pairs layout. IsStepFrom (of_key K.bytes) PREFIX_LEN key_bytes.now pairs layout spot.depth result) }
 {
@@ -253,7 +252,6 @@ fn step_at_inner<K: AsBytes + Drop, V: Drop, const PREFIX_LEN: usize>(
     inner: InnerPtr,
 ) -> Option<Step>
     requires root { IsCanonicalRoot (of_key K.bytes) PREFIX_LEN store.now root }
-    requires depth { spot.depth ≤ length key_bytes.now }
     requires spot { ForTree (of_key K.bytes) PREFIX_LEN store.now root (λ pairs layout. IsAt (of_key K.bytes) PREFIX_LEN key_bytes.now layout spot) }
     requires inner { inner.kind ≢ Leaf }
     requires name { inner_name inner ≡ spot.name }

@@ -1,19 +1,19 @@
-use Rattle.std.proofs.Common.{rules, ◌+◌, arith}
+use Rattle.std.proofs.Common.{rules, arith}
 use Rattle.art_model.specs.Pairs.{of_key}
-use Rattle.art_operations.proofs.Spots.{prefix_inside, mismatch_inside, inner_there, shown_there, some_shown, part_there, prefix_conflict, into_point, goes_on, mismatch_conflict, mismatch_point}
+use Rattle.art_operations.proofs.Spots.{inside, prefix_inside, mismatch_inside, inner_there, shown_there, some_shown, part_there, prefix_conflict, into_point, goes_on, mismatch_conflict, mismatch_point}
 use Rattle.art_operations.proofs.insert.step_at_inner.Goals as goal
 
 pub match_full_prefix-requires : goal.match_full_prefix-requires
 match_full_prefix-requires g c =
     let (pairs, layout, by) = c.requires.root in
     let d = c.requires.spot pairs layout by in
-    (search rules, (c.requires.inner, (c.requires.depth, (d.node, part_there by d c.requires.name))))
+    (search rules, (c.requires.inner, ((inside by d), (d.node, part_there by d c.requires.name))))
 
 pub overflow_add-spot : goal.overflow_add-spot
 overflow_add-spot g c =
     let (pairs, layout, by) = c.requires.root in
     let d = c.requires.spot pairs layout by in
-    let inside = mismatch_inside (of_key g.K.AsBytes.bytes) g.row.PREFIX_LEN c.args.key_bytes.now d.node c.requires.depth (c.in-Err.ensures d.node (part_there by d c.requires.name)) in
+    let inside = mismatch_inside (of_key g.K.AsBytes.bytes) g.row.PREFIX_LEN c.args.key_bytes.now d.node (inside by d) (c.in-Err.ensures d.node (part_there by d c.requires.name)) in
     omega arith
 
 pub returns-then-spot-mismatch : goal.returns-then-spot-mismatch
@@ -32,7 +32,7 @@ pub overflow_add-depth : goal.overflow_add-depth
 overflow_add-depth g c =
     let (pairs, layout, by) = c.requires.root in
     let d = c.requires.spot pairs layout by in
-    let inside = prefix_inside (of_key g.K.AsBytes.bytes) g.row.PREFIX_LEN c.args.key_bytes.now d.node c.requires.depth (c.in-Ok.ensures d.node (part_there by d c.requires.name)) in
+    let inside = prefix_inside (of_key g.K.AsBytes.bytes) g.row.PREFIX_LEN c.args.key_bytes.now d.node (inside by d) (c.in-Ok.ensures d.node (part_there by d c.requires.name)) in
     omega arith
 
 pub returns-then-depth-key_bytes : goal.returns-then-depth-key_bytes
@@ -56,6 +56,5 @@ pub returns : goal.returns
 returns g c pairs layout by =
     let d = c.requires.spot pairs layout by in
     let at = shown_there by d c.requires.inner c.requires.name c.in-Some.ensures.view in
-    let long = c.if-depth-key_bytes.false in
     let next = goes_on by d at (c.in-Ok.ensures d.node (part_there by d c.requires.name)) c.if-depth-key_bytes.false c.in-Some-lookup_child.ensures in
-    (omega arith, omega arith, rw c.step_down.ensures next)
+    (omega arith, rw c.step_down.ensures next)
