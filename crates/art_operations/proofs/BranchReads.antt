@@ -196,6 +196,10 @@ module _ {K V : Type 0} {bytes : K × V → List ℕ} {P : ℕ} {s : Nodes K V} 
     pub leaf_named : name_of at.node ≡ leaf_name p
     leaf_named = let (start, (pair, is, rest)) = leaf_kind in ap name_of is
 
+    -- the node is the leaf
+    pub leaf_found : (pair : K × V) × (at.node ≡ leaf (leaf_name p) pair)
+    leaf_found = let (start, (pair, is, rest)) = leaf_kind in (pair, is)
+
     pub leaf_gone : None ≡ get s.leaves p → ⊥
     leaf_gone gone = no_leaf_gone s p at.node leaf_named (path_holds (node_at s) at.path at.node (end_laid by at).holds).1 gone
 

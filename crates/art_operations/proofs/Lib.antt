@@ -14,3 +14,5 @@ pub mod Prefixes
 pub mod Forks
 pub mod Branches
 pub mod BranchReads
+pub mod Reserved
+pub mod Splits
