@@ -61,7 +61,8 @@ pub child_stays : (m : Inners) (p : InnerPtr) (x : Inner) (step : Option (InnerP
 child_stays m p x None free h = h
 child_stays m p x (Some (q, b)) free h = subst (λ o. IsSomeAnd o (λ node. IsSome (child_at node.children b))) (sym (inner_elsewhere m p q x (λ e. subst (λ o. IsSomeAnd o (λ node. IsSome (child_at node.children b))) (ap (get m) e ∙ free) h))) h
 
-last_is : {A : Type 0} (fs : List (Frame OpaqueNodePtr A)) → last_step (path_of fs) ≡ parent_of fs
+-- the last step of a path is its parent
+pub last_is : {A : Type 0} (fs : List (Frame OpaqueNodePtr A)) → last_step (path_of fs) ≡ parent_of fs
 last_is [] = refl
 last_is (f ∷ fs) = go (path_of fs)
   where

@@ -15,4 +15,5 @@ pub mod Forks
 pub mod Branches
 pub mod BranchReads
 pub mod Reserved
+pub mod Trims
 pub mod Splits

@@ -123,7 +123,8 @@ impl InsertPoint {
     ) -> Branch<P>
         requires point { self.insert_kind ≡ kinds.MismatchPrefix mismatch inner_node_ptr }
         requires answers { IsPointIn (of_key K.bytes) P store.now key_bytes.now self }
-        ensures { ForEnd (of_key K.bytes) P store.now key_bytes.now self (λ path node. IsBranch (of_key K.bytes) key_bytes.now path node result) }
+        ensures branch { ForEnd (of_key K.bytes) P store.now key_bytes.now self (λ path node. IsBranch (of_key K.bytes) key_bytes.now path node result) }
+        ensures len { result.header.len ≡ mismatch.matched_bytes }
     {
         let end = self.key_bytes_used + mismatch.matched_bytes;
         let part = &key_bytes[self.key_bytes_used..end];
@@ -276,3 +277,6 @@ impl InsertPoint {
         Ok(self.place_branch(store, old, branch, key, value))
     }
 }
+
+#[cfg(test)]
+mod tests;
