@@ -60,7 +60,7 @@ module _ {K V : Type 0} {bytes : K × V → List ℕ} {P : ℕ} {s t : Nodes K V
 prefix_parts : (prefix part rest more : List ℕ) (b : ℕ) → prefix ++ rest ≡ part ++ b ∷ more → length part < length prefix → prefix ≡ part ++ b ∷ drop (length part + 1) prefix
 prefix_parts prefix part rest more b whole long =
     let front : take (length part + 1) prefix ≡ part ++ b ∷ [] =
-    sym (take-append-le (length part + 1) prefix rest (omega arith)) ∙ ap (take (length part + 1)) (whole ∙ sym (append_assoc part (b ∷ []) more)) ∙ take_at (part ++ b ∷ []) more (length part + 1) (sym (length-append part (b ∷ []))) in
+    sym (take-append-le (length part + 1) prefix rest (omega arith)) ∙ ap (take (length part + 1)) (whole ∙ sym (append_assoc part (b ∷ []) more)) ∙ take_at (part ++ b ∷ []) more (length part + 1) (length-append part (b ∷ [])) in
     sym (take-append-drop (length part + 1) prefix) ∙ ap (λ z. z ++ drop (length part + 1) prefix) front ∙ append_assoc part (b ∷ []) (drop (length part + 1) prefix)
 
 module _ {K V : Type 0} {bytes : K × V → List ℕ} {P : ℕ} {s : Nodes K V} {point : InsertPoint} {pairs : List (K × V)} {layout : Tree OpaqueNodePtr (K × V)} {pair : K × V} (by : IsTree bytes P s point.root pairs layout) (at : AnswersTo bytes P layout (bytes pair) point) {branch : Branch P} (is : IsBranch bytes (bytes pair) at.path at.node branch)
@@ -119,15 +119,17 @@ module _ {K V : Type 0} {bytes : K × V → List ℕ} {P : ℕ} {s : Nodes K V} 
     pub prefix_split_touches : Touches point.insert_kind s t
     prefix_split_touches = subst (λ k. Touches k s t) (sym kind) (branch_touches (end_laid by at) prefix_stored 4 (omega arith))
 
+-- the header of a node is written
+module _ {K V : Type 0} {bytes : K × V → List ℕ} {P : ℕ} {s : Nodes K V} {key : List ℕ} {point : InsertPoint} {pairs : List (K × V)} {layout : Tree OpaqueNodePtr (K × V)} (by : IsTree bytes P s point.root pairs layout) (at : AnswersTo bytes P layout key point) where
   -- the parent has a child under its byte when the node's header is written
-  pub parent_stays : {p : InnerPtr} {mismatch : ExplicitMismatch} (header : Prefix) → point.insert_kind ≡ MismatchPrefix mismatch p → mid.inners ≡ change s.inners p (with_header header) → HasChild mid.inners (last_step point.path)
-  parent_stays {p} header kind inners =
+  pub parent_stays : {after : Inners} {p : InnerPtr} {mismatch : ExplicitMismatch} (header : Prefix) → point.insert_kind ≡ MismatchPrefix mismatch p → after ≡ change s.inners p (with_header header) → HasChild after (last_step point.path)
+  parent_stays {after} {p} header kind written =
       let steps = ap last_step at.path_is ∙ last_is at.path in
       let (h, cs, found) = inner_found by at kind in
       let own : IsIn (inner_name p) (names_of at.node) = subst (λ t. IsIn (inner_name p) (names_of t)) (sym found) (inl refl) in
-      subst (HasChild mid.inners) (sym steps) (go at.path (subst (HasChild s.inners) steps (end_parent by at))
+      subst (HasChild after) (sym steps) (go at.path (subst (HasChild s.inners) steps (end_parent by at))
       (λ k up e. parent_apart (node_at s) (node_at s) at.path at.node (end_laid by at).holds (end_laid by at).distinct k up (subst (λ z. IsIn z (names_of at.node)) (sym (inner_name_one k (inner_name p) e)) own)))
     where
-      go : (fs : List (Frame OpaqueNodePtr (K × V))) → HasChild s.inners (parent_of fs) → ((k : OpaqueNodePtr) → IsParent fs k → as_inner k ≢ p) → HasChild mid.inners (parent_of fs)
+      go : (fs : List (Frame OpaqueNodePtr (K × V))) → HasChild s.inners (parent_of fs) → ((k : OpaqueNodePtr) → IsParent fs k → as_inner k ≢ p) → HasChild after (parent_of fs)
       go [] h off = tt
-      go (f ∷ fs) h off = subst (λ o. IsSomeAnd o (λ node. IsSome (child_at node.children f.byte))) (sym (ap (λ z. get z (as_inner f.mark)) inners ∙ inner_changed_elsewhere s.inners p (as_inner f.mark) (with_header header) (off f.mark refl))) h
+      go (f ∷ fs) h off = subst (λ o. IsSomeAnd o (λ node. IsSome (child_at node.children f.byte))) (sym (ap (λ z. get z (as_inner f.mark)) written ∙ inner_changed_elsewhere s.inners p (as_inner f.mark) (with_header header) (off f.mark refl))) h

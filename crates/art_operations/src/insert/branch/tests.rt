@@ -4,7 +4,8 @@ ghost use Rattle.art_model.specs.Roots.{IsCanonicalRoot};
 
 use super::*;
 use crate::insert::{InsertKind, search_for_insert_point};
-use crate::test_trees::{Key, count_touched, keys, keys_of_zeros, nodes_seen, plant};
+use crate::test_nodes::{count_touched, nodes_seen};
+use crate::test_trees::{Key, keys, keys_of_zeros, plant};
 use art_nodes::node::InnerRef;
 use art_test_support::all_memory;
 use std::test::Fail;
@@ -151,8 +152,34 @@ fn without_memory_a_reserved_split_is_made(rt: HostRuntime) -> Result<(), Fail> 
 fn refused_splits_hand_the_pair_back(rt: HostRuntime) -> Result<(), Fail> {
     let alloc = rt.alloc();
     let mut store: NodeStore<Key, u32, 4> = NodeStore::new(alloc);
-    let Ok(mut all) = keys_of_zeros(alloc) else {
+    let mut second = NodeStore::new(alloc);
+    let (Ok(first), Ok(more)) = (keys(alloc, &[&[255]]), keys_of_zeros(alloc)) else {
         return Ok(());
     };
+    let Ok(mut root) = plant(&mut store, &mut second, first) else {
+        return Ok(());
+    };
+    let mut any_refused = false;
+    for key in more {
+        let (Ok(copy), Ok(before)) = (key.clone(), nodes_seen(&store)) else {
+            return Ok(());
+        };
+        match insert(&mut store, root, key, 7) {
+            None => return Ok(()),
+            Some(Ok(done)) => root = done.new_root,
+            Some(Err(refused)) => {
+                assert_eq!(rt; refused.key, copy);
+                assert_eq!(rt; refused.value, 7);
+                let Ok(after) = nodes_seen(&store) else {
+                    return Ok(());
+                };
+                assert_eq!(rt; count_touched(&before, &after), (0, 0, 0));
+                any_refused = true;
+            }
+        }
+    }
+    if any_refused {
+        println!(rt; "asserted")?;
+    }
     Ok(())
 }
