@@ -23,7 +23,8 @@ use Rattle.art_model.proofs.Views.{held_in_inner, leaf_or}
 use Rattle.art_model.proofs.Leaves.{named_leaf, joined_before, joined_after, joined_elsewhere, with_leaf_here, with_leaf_elsewhere, without_leaf_elsewhere}
 
 module _ {K V : Type 0} where
-  links_leaf : (u : Nodes K V) (p : LeafPtr) (o : Option (LeafNode K V)) → get u.leaves p ≡ o → links_at u (leaf_name p) ≡ option_and_then links_of (option_map held_leaf o)
+  -- the links of a leaf are those that it names
+  pub links_leaf : (u : Nodes K V) (p : LeafPtr) (o : Option (LeafNode K V)) → get u.leaves p ≡ o → links_at u (leaf_name p) ≡ option_and_then links_of (option_map held_leaf o)
   links_leaf u p o e = ap (λ z. option_and_then links_of (option_map held_leaf z)) e
 
   -- the links of a leaf after a change
@@ -34,7 +35,8 @@ module _ {K V : Type 0} where
       let l : ◌≡◌ {A = Links OpaqueNodePtr} (record { previous = option_map leaf_name y.previous; next = option_map leaf_name y.next }) (record { previous = a; next = b }) = cc in
       h y (ap (λ z. z.previous) l) (ap (λ z. z.next) l)
 
-  links_inner : (u : Nodes K V) (k : OpaqueNodePtr) → (k.kind ≡ Leaf → ⊥) → links_at u k ≡ None
+  -- an inner node has none
+  pub links_inner : (u : Nodes K V) (k : OpaqueNodePtr) → (k.kind ≡ Leaf → ⊥) → links_at u k ≡ None
   links_inner u k off = ap (option_and_then links_of) (held_in_inner u k.kind k.slot off) ∙ go (get u.inners (record { kind = k.kind; slot = k.slot }))
     where
       go : (o : Option Inner) → option_and_then (links_of {K = K} {V = V}) (option_map held_inner o) ≡ None

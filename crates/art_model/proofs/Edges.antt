@@ -15,7 +15,6 @@ use Rattle.art_model.specs.Layouts.{name_of, slots_of, leaf_names, Holds}
 use Rattle.art_model.specs.Stores.{node_at, header_at}
 use Rattle.art_model.specs.Paths.{Frame, plug, leaves_before, leaves_after, pairs_before, pairs_after}
 use Rattle.art_model.specs.Heights.{height, tree_height, height_below}
-use Rattle.art_model.specs.Lookups.{HasFirstLeaf, HasLastLeaf}
 use Rattle.art_model.specs.Roots.{IsFullTree}
 use Rattle.art_model.proofs.Stores.{HoldsBelow-right}
 use Rattle.art_model.proofs.Paths.{leaf_names-plug, pairs_of-plug}
@@ -77,7 +76,8 @@ module _ {N A : Type 0} where
   slots_long no_child = refl
   slots_long (child b t cs) = ap suc (slots_long cs)
 
-  children_right : (least : ℕ) (cs ds : Children N A) → HaveChildrenBelow least (join cs ds) → HaveChildrenBelow least ds
+  -- the children on the right have as many as all do
+  pub children_right : (least : ℕ) (cs ds : Children N A) → HaveChildrenBelow least (join cs ds) → HaveChildrenBelow least ds
   children_right least no_child ds h = h
   children_right least (child b t cs) ds h = children_right least cs ds h.1
 
@@ -86,21 +86,23 @@ module _ {N A : Type 0} where
   height_join (child b t cs) ds = let l = height_join cs ds in omega arith
 
 -- ---- a way down that keeps to an edge
-module _ {K V : Type 0} (side : List (Frame OpaqueNodePtr (K × V)) → Type 0) (s : Nodes K V) (tree : Tree OpaqueNodePtr (K × V)) where
-  pub record IsAtEdge (name : OpaqueNodePtr) : Type 0 where
-    pub path : List (Frame OpaqueNodePtr (K × V))
-    pub node : Tree OpaqueNodePtr (K × V)
-    pub whole : plug path node ≡ tree
-    pub named : name_of node ≡ name
-    pub holds : Holds (node_at s) node
-    pub full : HaveChildren 1 node
-    pub enough : tree_height node ≤ map.len s.inners
-    pub along : side path
 
-  pub edge_start : {root : OpaqueNodePtr} → IsFullTree s root tree → side [] → IsAtEdge root
+-- a node of a full tree, where the frames above it keep to a side
+pub record IsAtEdge {K V : Type 0} (side : List (Frame OpaqueNodePtr (K × V)) → Type 0) (s : Nodes K V) (tree : Tree OpaqueNodePtr (K × V)) (name : OpaqueNodePtr) : Type 0 where
+  pub path : List (Frame OpaqueNodePtr (K × V))
+  pub node : Tree OpaqueNodePtr (K × V)
+  pub whole : plug path node ≡ tree
+  pub named : name_of node ≡ name
+  pub holds : Holds (node_at s) node
+  pub full : HaveChildren 1 node
+  pub enough : tree_height node ≤ map.len s.inners
+  pub along : side path
+
+module _ {K V : Type 0} (side : List (Frame OpaqueNodePtr (K × V)) → Type 0) (s : Nodes K V) (tree : Tree OpaqueNodePtr (K × V)) where
+  pub edge_start : {root : OpaqueNodePtr} → IsFullTree s root tree → side [] → IsAtEdge side s tree root
   edge_start (is, full) along = record { path = []; node = tree; whole = refl; named = is.named; holds = is.holds; full = full; enough = enough_steps s tree is.holds is.distinct; along = along }
 
-  module _ {name : OpaqueNodePtr} (d : IsAtEdge name) where
+  module _ {name : OpaqueNodePtr} (d : IsAtEdge side s tree name) where
     pub edge_leaf_there : {p : LeafPtr} → leaf_name p ≡ name → None ≡ map.get s.leaves p → ⊥
     edge_leaf_there {p} is gone = no_leaf_gone s p d.node (d.named ∙ sym is) d.holds gone
 
@@ -118,11 +120,11 @@ module _ {K V : Type 0} (side : List (Frame OpaqueNodePtr (K × V)) → Type 0) 
           let long = slots_long at.children in
           rw at.slots (let l = full.0 in omega arith)
 
-      -- below one of the children
-      pub edge_down : (l : Children OpaqueNodePtr (K × V)) (b : ℕ) (t : Tree OpaqueNodePtr (K × V)) (r : Children OpaqueNodePtr (K × V)) {to : OpaqueNodePtr} → at.children ≡ join l (child b t r) → name_of t ≡ to →
-          side (record { mark = inner_name p; header = header_at p.kind shown; left = l; byte = b; right = r } ∷ d.path) →
-          IsAtEdge to × (height (node_at s) (map.len s.inners) to < height (node_at s) (map.len s.inners) name)
-      edge_down l b t r {to} split named along =
+      -- below one of the children, along any side that its frame keeps to
+      pub edge_down : (next : List (Frame OpaqueNodePtr (K × V)) → Type 0) (l : Children OpaqueNodePtr (K × V)) (b : ℕ) (t : Tree OpaqueNodePtr (K × V)) (r : Children OpaqueNodePtr (K × V)) {to : OpaqueNodePtr} → at.children ≡ join l (child b t r) → name_of t ≡ to →
+          next (record { mark = inner_name p; header = header_at p.kind shown; left = l; byte = b; right = r } ∷ d.path) →
+          IsAtEdge next s tree to × (height (node_at s) (map.len s.inners) to < height (node_at s) (map.len s.inners) name)
+      edge_down next l b t r {to} split named along =
           let is : d.node ≡ inner (inner_name p) (header_at p.kind shown) (join l (child b t r)) = at.is ∙ ap (inner (inner_name p) (header_at p.kind shown)) split in
           let held = subst (Holds (node_at s)) is d.holds in
           let below = HoldsBelow-right (node_at s) l (child b t r) held.1 in
@@ -146,33 +148,21 @@ module _ {K V : Type 0} (side : List (Frame OpaqueNodePtr (K × V)) → Type 0) 
           )
 
 -- at a leaf the way ends
-module _ {K V : Type 0} {s : Nodes K V} {tree : Tree OpaqueNodePtr (K × V)} {name : OpaqueNodePtr} {p : LeafPtr} (is : leaf_name p ≡ name) where
-  pub first_leaf : IsAtEdge AreFirst s tree name → HasFirstLeaf tree (leaf_name p)
-  first_leaf d =
+module _ {K V : Type 0} {side : List (Frame OpaqueNodePtr (K × V)) → Type 0} {s : Nodes K V} {tree : Tree OpaqueNodePtr (K × V)} {name : OpaqueNodePtr} {p : LeafPtr} (is : leaf_name p ≡ name) (d : IsAtEdge side s tree name) where
+  pub first_leaf : AreFirst d.path → (first_of (leaf_names tree) ≡ Some (leaf_name p)) × ((x : K × V) × (first_of (pairs_of tree) ≡ Some x) × (plug d.path (leaf (leaf_name p) x) ≡ tree))
+  first_leaf first =
       let (x, at) = leaf_named s p d.node (d.named ∙ sym is) d.holds in
       let whole = ap (plug d.path) (sym at) ∙ d.whole in (
-        ap (λ t. first_of (leaf_names t)) (sym whole) ∙ ap first_of (leaf_names-plug d.path (leaf (leaf_name p) x)) ∙ ap (λ ns. first_of (ns ++ leaf_name p ∷ [] ++ leaves_after d.path)) (no_leaves_before d.path d.along),
-        (x, ap (λ t. first_of (pairs_of t)) (sym whole) ∙ ap first_of (pairs_of-plug d.path (leaf (leaf_name p) x)) ∙ ap (λ xs. first_of (xs ++ x ∷ [] ++ pairs_after d.path)) (no_pairs_before d.path d.along), (d.path, whole)),
+        ap (λ t. first_of (leaf_names t)) (sym whole) ∙ ap first_of (leaf_names-plug d.path (leaf (leaf_name p) x)) ∙ ap (λ ns. first_of (ns ++ leaf_name p ∷ [] ++ leaves_after d.path)) (no_leaves_before d.path first),
+        (x, ap (λ t. first_of (pairs_of t)) (sym whole) ∙ ap first_of (pairs_of-plug d.path (leaf (leaf_name p) x)) ∙ ap (λ xs. first_of (xs ++ x ∷ [] ++ pairs_after d.path)) (no_pairs_before d.path first), whole),
       )
 
-  pub last_leaf : IsAtEdge AreLast s tree name → HasLastLeaf tree (leaf_name p)
-  last_leaf d =
+  pub last_leaf : AreLast d.path → (last_of (leaf_names tree) ≡ Some (leaf_name p)) × ((x : K × V) × (last_of (pairs_of tree) ≡ Some x) × (plug d.path (leaf (leaf_name p) x) ≡ tree))
+  last_leaf last =
       let (x, at) = leaf_named s p d.node (d.named ∙ sym is) d.holds in
       let whole = ap (plug d.path) (sym at) ∙ d.whole in
-      let names = ap leaf_names (sym whole) ∙ leaf_names-plug d.path (leaf (leaf_name p) x) ∙ ap (λ ns. leaves_before d.path ++ leaf_name p ∷ [] ++ ns) (no_leaves_after d.path d.along) in
-      let pairs = ap pairs_of (sym whole) ∙ pairs_of-plug d.path (leaf (leaf_name p) x) ∙ ap (λ xs. pairs_before d.path ++ x ∷ [] ++ xs) (no_pairs_after d.path d.along) in (
+      let names = ap leaf_names (sym whole) ∙ leaf_names-plug d.path (leaf (leaf_name p) x) ∙ ap (λ ns. leaves_before d.path ++ leaf_name p ∷ [] ++ ns) (no_leaves_after d.path last) in
+      let pairs = ap pairs_of (sym whole) ∙ pairs_of-plug d.path (leaf (leaf_name p) x) ∙ ap (λ xs. pairs_before d.path ++ x ∷ [] ++ xs) (no_pairs_after d.path last) in (
         ap last_of names ∙ rw append-nil (last_of-append (leaves_before d.path) (leaf_name p)),
-        (x, ap last_of pairs ∙ rw append-nil (last_of-append (pairs_before d.path) x), (d.path, whole)),
+        (x, ap last_of pairs ∙ rw append-nil (last_of-append (pairs_before d.path) x), whole),
       )
-
--- at an inner node it goes on below the child at the edge
-module _ {K V : Type 0} {s : Nodes K V} {tree : Tree OpaqueNodePtr (K × V)} {name : OpaqueNodePtr} {p : InnerPtr} {shown : Inner} {r : ℕ × OpaqueNodePtr} where
-  pub first_down : (d : IsAtEdge AreFirst s tree name) → IsShown d.node p shown → slice_get shown.children 0 ≡ Some r → IsAtEdge AreFirst s tree r.1 × (height (node_at s) (map.len s.inners) r.1 < height (node_at s) (map.len s.inners) name)
-  first_down d at e =
-      let (t, ds, split, named) = first_child at.children r (ap (λ cs. slice_get cs 0) (sym at.slots) ∙ e) in
-      edge_down AreFirst s tree d at no_child r.0 t ds split named (refl, d.along)
-
-  pub last_down : (d : IsAtEdge AreLast s tree name) → IsShown d.node p shown → slice_get shown.children (length shown.children - 1) ≡ Some r → IsAtEdge AreLast s tree r.1 × (height (node_at s) (map.len s.inners) r.1 < height (node_at s) (map.len s.inners) name)
-  last_down d at e =
-      let (ds, t, split, named) = last_child at.children r (ap (λ cs. slice_get cs (length cs - 1)) (sym at.slots) ∙ e) in
-      edge_down AreLast s tree d at ds r.0 t no_child split named (refl, d.along)

@@ -1,5 +1,5 @@
 -- An insertion into a node that has room, from the equations of the store's maps: what is laid out then, and what is touched.
-use Rattle.std.proofs.Common.{◌≡◌, ◌≢◌, ℕ, suc, ◌<◌, List, [], ◌∷◌, ◌++◌, length, Option, Some, None, refl, ap, sym, ◌∙◌, subst, arith, length-append, inl}
+use Rattle.std.proofs.Common.{◌≡◌, ◌≢◌, ℕ, suc, ◌<◌, List, [], ◌∷◌, ◌++◌, length, map, Option, Some, None, refl, ap, sym, ◌∙◌, subst, arith, length-append, inl, inr}
 use Rattle.std.specs.List.{AllByRecursion as Each}
 use Rattle.std.specs.Option.{option_map}
 use Rattle.std.specs.FinMap.{get}
@@ -8,6 +8,7 @@ use Rattle.art_nodes.specs.Kinds.{kind_capacity}
 use Rattle.art_nodes.specs.Changes.{with_child}
 use Rattle.art_nodes.specs.Names.{leaf_name}
 use Rattle.art_nodes.specs.Nodes.{Nodes, change}
+use Rattle.art_nodes.specs.declared.node.NodeType.TheVariants.{Leaf}
 use Rattle.art_nodes.specs.declared.node.LeafPtr.{LeafPtr}
 use Rattle.art_nodes.specs.declared.node.LeafNode.{LeafNode}
 use Rattle.art_nodes.specs.declared.node.OpaqueNodePtr.{OpaqueNodePtr}
@@ -17,15 +18,18 @@ use Rattle.art_model.specs.Keys.{IsFront}
 use Rattle.art_model.specs.Trees.{leaf, inner, Children, Header, kind_of}
 use Rattle.art_model.specs.Radix.{bytes_of, join}
 use Rattle.art_model.specs.Paths.{Frame, plug, leaves_before, leaves_after}
-use Rattle.art_model.specs.Layouts.{Node, inner_node, slots_of, leaf_names_below}
+use Rattle.art_model.specs.Layouts.{Node, inner_node, names_of, slots_of, leaf_names_below}
 use Rattle.art_model.specs.Stores.{node_at, links_at, pair_of}
 use Rattle.art_model.specs.Writes.{as_inner}
-use Rattle.art_model.specs.Footprints.{TouchesAtMost}
+use Rattle.art_model.specs.Footprints.{IsIn, TouchesAtMost}
 use Rattle.art_model.proofs.Canonical.{IsLaidOut}
 use Rattle.art_model.proofs.Paths.{IsHole}
 use Rattle.art_model.proofs.Stores.{IsParent, path_holds, parent_apart}
 use Rattle.art_model.proofs.Inserted.{ChildInserted}
-use Rattle.art_model.proofs.Touches.{Touched, touches_at_most, touched_none, then_changed}
+use Rattle.art_model.proofs.Touches.{Touched, touches_at_most, footprint_of, touched_none, then_changed}
+use Rattle.art_model.proofs.AddedChild.{ChildAdded, child_added, names_with_leaf, beside_in}
+use Rattle.art_model.proofs.InHole.{in_whole}
+use Rattle.art_model.proofs.Lists.{in_either}
 use Rattle.art_model.proofs.Leaves.{listed, length-listed}
 use Rattle.art_model.proofs.Placed.{LeafPlaced, placed_was_free, placed_node, placed_pairs, placed_relinked, placed_touched}
 use Rattle.art_model.proofs.Slots.{put_child-new, kind_of-room}
@@ -79,12 +83,35 @@ module _ {K V : Type 0} {bytes : K × V → List ℕ} {P : ℕ} {s t : Nodes K V
           let (off, there) = parent_there bytes P s fs m (path_holds (node_at s) fs (inner m h (join l r)) old.holds).0 k is in
           node_at-inner t k off (get s.inners (as_inner k)) (others k (λ e. parent_apart (node_at s) (node_at t) fs (inner m h (join l r)) old.holds old.distinct k is (inl (sym e)))) ∙ sym (node_at-inner s k off (get s.inners (as_inner k)) refl)
 
+  abbrev changed : List LeafPtr
+  changed = listed x.next ++ (listed x.previous ++ [])
+
+  room_leaves : Touched s.leaves t.leaves (n ∷ []) [] changed
+  room_leaves = placed_touched old.holds old.distinct into.placed
+
+  room_inners : Touched s.inners t.inners [] [] (as_inner m ∷ [])
+  room_inners =
+      let (off, node, got, head, kids) = inner_at s m h (slots_of (join l r)) (path_holds (node_at s) fs (inner m h (join l r)) old.holds).1.0 in
+      let used : get s.inners (as_inner m) ≢ None = λ e. absurd (cc (got, e)) in
+      subst (λ z. Touched s.inners z [] [] (as_inner m ∷ [])) (sym into.inners) (then_changed inner_cmp_total inner_cmp-IsAntisymmetric (touched_none s.inners) (as_inner m) (with_child b (leaf_name n)) used used)
+
+  is_inner : m.kind ≢ Leaf
+  is_inner = (inner_at s m h (slots_of (join l r)) (path_holds (node_at s) fs (inner m h (join l r)) old.holds).1.0).0
+
   -- one name is placed, and at most three are changed
   pub room_touches : TouchesAtMost 1 0 3 s t
   room_touches =
-      let (off, node, got, head, kids) = inner_at s m h (slots_of (join l r)) (path_holds (node_at s) fs (inner m h (join l r)) old.holds).1.0 in
-      let used : get s.inners (as_inner m) ≢ None = λ e. absurd (cc (got, e)) in
       let a = length-listed x.next in let c = length-listed x.previous in
       let e = length-append (listed x.next) (listed x.previous ++ []) in let f = length-append (listed x.previous) [] in
-      touches_at_most s t 1 0 3 (placed_touched old.holds old.distinct into.placed)
-      (subst (λ z. Touched s.inners z [] [] (as_inner m ∷ [])) (sym into.inners) (then_changed inner_cmp_total inner_cmp-IsAntisymmetric (touched_none s.inners) (as_inner m) (with_child b (leaf_name n)) used used)) tt tt (off, tt) (omega arith) (omega arith) (omega arith)
+      touches_at_most s t 1 0 3 room_leaves room_inners tt tt (is_inner, tt) (omega arith) (omega arith) (omega arith)
+
+  changed_in : (q : OpaqueNodePtr) → IsIn q (map leaf_name changed ++ m ∷ []) → IsIn q (names_of (plug fs (inner m h (join l r))))
+  changed_in q i = elim (in_either q (map leaf_name changed) (m ∷ []) i) [
+    | inl j ↦ beside_in into.placed q j
+    | inr (inl e) ↦ in_whole fs (inner m h (join l r)) q (inl e)
+    | inr (inr j) ↦ absurd j
+  ]
+
+  -- the root is canonical for the pairs with the new one, and all nodes that stay keep their names
+  pub room_added : ChildAdded bytes P s t root pairs fs m m h l r b (leaf_name n) (pair_of x)
+  room_added = child_added old room_inserted (footprint_of s t room_leaves room_inners tt tt (is_inner, tt)) (λ g. names_with_leaf fs m m h g l r b (leaf_name n) (pair_of x) changed_in refl)

@@ -22,6 +22,11 @@ by_test : {X : Type 0} (t : Bool) → (t ≡ true → X) → (t ≡ false → X)
 by_test true f g = f refl
 by_test false f g = g refl
 
+-- no children on the right
+pub join_none : {N A : Type 0} (cs : Children N A) → join cs no_child ≡ cs
+join_none no_child = refl
+join_none (child b t cs) = ap (child b t) (join_none cs)
+
 module _ {N A : Type 0} where
   pub places_are_read_off : PlacesAreReadOff N A
   places_are_read_off bytes P place t h = place_is bytes P t place h
@@ -120,10 +125,6 @@ module _ {N A : Type 0} (bytes : A → List ℕ) (P : ℕ) where
   off_both : (Q : ℕ → Type 0) (cs : Children N A) (b : ℕ) (t : Tree N A) → Each Q (bytes_of cs) → Q b → Each Q (bytes_of (join cs (child b t no_child)))
   off_both Q no_child b t h q = (q, tt)
   off_both Q (child c u cs) b t h q = (h.0, off_both Q cs b t h.1 q)
-
-  join_none : (cs : Children N A) → join cs no_child ≡ cs
-  join_none no_child = refl
-  join_none (child b t cs) = ap (child b t) (join_none cs)
 
   mutual
     -- a node on the key's way: its end node is there or below

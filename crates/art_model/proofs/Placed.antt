@@ -73,7 +73,8 @@ module _ {K V : Type 0} {s t : Nodes K V} {layout : Tree OpaqueNodePtr (K × V)}
     pub taken_pairs : (p : LeafPtr) → p ≢ n → option_map pair_of (get t.leaves p) ≡ option_map pair_of (get s.leaves p)
     taken_pairs p off = ap (λ z. option_map pair_of (get z p)) is.leaves ∙ without_leaf_pair s.leaves n x p off
 
-    beside : AreBeside s t xs [] zs x.previous x.next x.next x.previous
+    -- it stood between these two
+    pub beside : AreBeside s t xs [] zs x.previous x.next x.next x.previous
     beside = leaf_goes s t xs zs n x list_distinct (subst (λ ks. AreLinked (links_at s) None ks None) is.list linked) is.here (λ p i. ap (λ z. get z p) is.leaves)
 
     -- the chain knows it

@@ -14,7 +14,7 @@ use Rattle.art_operations.specs.declared.lookup.LastLeaf.{LastLeaf}
 use Rattle.art_operations.specs.declared.lookup.PrefixMatchBehavior.{PrefixMatchBehavior}
 use Rattle.art_operations.specs.declared.lookup.PrefixMatchBehavior.TheVariants.{Pessimistic, Optimistic}
 use Rattle.art_operations.specs.Matching.{compared_from, MatchesLeafKey, LeafKeyIsPrefix}
-use Rattle.art_operations.specs.Walks.{IsLastLeaf}
+use Rattle.art_operations.specs.Walks.{IsKeysLeaf, IsLastLeaf}
 
 -- both keys have the same bytes before those that are compared
 record IsShared (leaf query : List ℕ) (n : ℕ) : Type 0 where
@@ -69,10 +69,10 @@ module _ {K V : Type 0} {bytes : K × V → List ℕ} {key : List ℕ} {pairs : 
     equal : r ≡ true → bytes (pair_of last.node.now) ≡ key
     equal t = whole_same shared (test.0 t)
 
-    pub found_equal : r ≡ true → FindsLeaf layout (with_key bytes key pairs) (Some last.name)
+    pub found_equal : r ≡ true → IsKeysLeaf bytes key pairs layout (Some last)
     found_equal t =
         let is : are_same key (bytes (pair_of last.node.now)) ≡ true = ap (are_same key) (equal t) ∙ front_same key in
-        (pair_of last.node.now, only_with_key ∙ rw is refl, h.is_leaf)
+        (only_with_key ∙ rw is refl, (h.is_leaf, h.path_is))
 
     pub counted_equal : r ≡ true → before + length (nodes_on_way bytes key layout) ≡ after
     counted_equal t = h.exactly (subst (IsFront h.place) (equal t) h.leads_to)

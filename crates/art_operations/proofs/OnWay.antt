@@ -1,5 +1,5 @@
 -- the way down with a key: what a look-up keeps at each node
-use Rattle.std.proofs.Common.{◌≡◌, ℕ, ◌+◌, ◌<◌, ◌≤◌, suc, zero, List, [], ◌∷◌, ◌++◌, length, take, drop, get_or, refl, ap, sym, ◌∙◌, arith, subst, append_assoc, length-append, Some, None, Bool, true, false, cond}
+use Rattle.std.proofs.Common.{◌≡◌, ℕ, ◌+◌, ◌<◌, ◌≤◌, suc, zero, List, [], ◌∷◌, ◌++◌, length, take, drop, get_or, refl, ap, ap₂, sym, ◌∙◌, arith, subst, append_assoc, length-append, Some, None, Bool, true, false, cond}
 use Rattle.std.proofs.lemmas.List.{take-append-drop}
 use Rattle.art_nodes.specs.Inner.{Inner, child_at}
 use Rattle.art_nodes.specs.Names.{inner_name}
@@ -13,7 +13,6 @@ use Rattle.art_model.specs.Layouts.{name_of}
 use Rattle.art_model.specs.Stores.{header_at}
 use Rattle.art_model.specs.Paths.{Frame, plug}
 use Rattle.art_model.specs.Places.{places, places_below, place_of}
-use Rattle.art_model.specs.Lookups.{HasLeaf}
 use Rattle.art_model.proofs.Lists.{front_cut, after_front}
 use Rattle.art_model.proofs.Keys.{front_is}
 use Rattle.art_model.proofs.Radix.{AreRadix-right}
@@ -23,18 +22,21 @@ use Rattle.art_model.proofs.OnWay.{none_match, AreAside, aside_others, aside_off
 use Rattle.art_model.proofs.Shown.{IsShown}
 use Rattle.art_operations.specs.declared.lookup.PrefixMatchBehavior.{PrefixMatchBehavior}
 use Rattle.art_operations.specs.declared.lookup.PrefixMatchBehavior.TheVariants.{Pessimistic}
+use Rattle.art_operations.specs.declared.path.TreePath.{TreePath}
 use Rattle.art_operations.specs.Matching.{shared_len}
+use Rattle.art_operations.specs.Points.{step_down, path_of}
 
 -- how many of these nodes are on the key's way
 abbrev pub count_on_way : {N : Type 0} → List ℕ → List (List ℕ × N) → ℕ
 count_on_way key nodes = length (match_of (λ node. node.0) key nodes)
 
 -- A node of the tree below which all pairs are that match the key. The nodes above it were counted, and all of them are on the key's way if it is.
-pub record IsOnWay {A : Type 0} (bytes : A → List ℕ) (P : ℕ) (key : List ℕ) (tree : Tree OpaqueNodePtr A) (name : OpaqueNodePtr) (depth : ℕ) (behavior : PrefixMatchBehavior) (before now : ℕ) : Type 0 where
+pub record IsOnWay {A : Type 0} (bytes : A → List ℕ) (P : ℕ) (key : List ℕ) (tree : Tree OpaqueNodePtr A) (way : TreePath) (name : OpaqueNodePtr) (depth : ℕ) (behavior : PrefixMatchBehavior) (before now : ℕ) : Type 0 where
   pub path : List (Frame OpaqueNodePtr A)
   pub node : Tree OpaqueNodePtr A
   pub place : List ℕ
   pub whole : plug path node ≡ tree
+  pub way_is : way ≡ path_of path
   pub named : name_of node ≡ name
   pub radix : IsRadix bytes P place node
   pub depth_is : length place ≡ depth
@@ -55,7 +57,7 @@ module _ {N : Type 0} (key : List ℕ) (node : List ℕ × N) (nodes : List (Lis
   count_front : IsFront node.0 key → count_on_way key (node ∷ nodes) ≡ 1 + count_on_way key nodes
   count_front (r, e) = let is : is_front node.0 key ≡ true = ap (is_front node.0) e ∙ front_is node.0 r in rw is (omega arith)
 
-module _ {A : Type 0} {bytes : A → List ℕ} {P : ℕ} {key : List ℕ} {tree : Tree OpaqueNodePtr A} {name : OpaqueNodePtr} {depth : ℕ} {behavior : PrefixMatchBehavior} {before now : ℕ} (d : IsOnWay bytes P key tree name depth behavior before now) where
+module _ {A : Type 0} {bytes : A → List ℕ} {P : ℕ} {key : List ℕ} {tree : Tree OpaqueNodePtr A} {way : TreePath} {name : OpaqueNodePtr} {depth : ℕ} {behavior : PrefixMatchBehavior} {before now : ℕ} (d : IsOnWay bytes P key tree way name depth behavior before now) where
   -- the node's own place
   own_place : place_of bytes depth d.node ≡ d.place
   own_place = subst (λ n. place_of bytes n d.node ≡ d.place) d.depth_is (place_is bytes P d.node d.place d.radix)
@@ -68,8 +70,8 @@ module _ {A : Type 0} {bytes : A → List ℕ} {P : ℕ} {key : List ℕ} {tree 
     pub leaf_leads : IsFront d.place (bytes x)
     leaf_leads = subst (IsRadix bytes P d.place) is d.radix
 
-    pub leaf_whole : HasLeaf tree n x
-    leaf_whole = (d.path, ap (plug d.path) (sym is) ∙ d.whole)
+    pub leaf_whole : plug d.path (leaf n x) ≡ tree
+    leaf_whole = ap (plug d.path) (sym is) ∙ d.whole
 
     pub leaf_only : match_of bytes key (pairs_of tree) ≡ match_of bytes key (x ∷ [])
     leaf_only = d.matches ∙ ap (λ t. match_of bytes key (pairs_of t)) is
@@ -171,7 +173,7 @@ module _ {A : Type 0} {bytes : A → List ℕ} {P : ℕ} {key : List ℕ} {tree 
         whole_take (suc n) (x ∷ xs) h = ap (λ l. x ∷ l) (whole_take n xs (omega arith))
 
     -- a child goes on with the key
-    pub goes_on : {to : OpaqueNodePtr} {after : PrefixMatchBehavior} → depth + shown.prefix.len < length key → child_at shown.children (get_or key (depth + shown.prefix.len) 0) ≡ Some to → (after ≡ Pessimistic → IsFront front key) → IsOnWay bytes P key tree to (depth + shown.prefix.len + 1) after before (now + 1)
+    pub goes_on : {to : OpaqueNodePtr} {after : PrefixMatchBehavior} → depth + shown.prefix.len < length key → child_at shown.children (get_or key (depth + shown.prefix.len) 0) ≡ Some to → (after ≡ Pessimistic → IsFront front key) → IsOnWay bytes P key tree (step_down way p (get_or key (depth + shown.prefix.len) 0)) to (depth + shown.prefix.len + 1) after before (now + 1)
     goes_on {to} {after} long there sure =
         let b = get_or key (length front) 0 in
         let e = ap (λ cs. child_at cs b) (sym at.slots) ∙ ap (λ n. child_at shown.children (get_or key n 0)) front_len ∙ there in
@@ -186,6 +188,7 @@ module _ {A : Type 0} {bytes : A → List ℕ} {P : ℕ} {key : List ℕ} {tree 
           node = u.tree;
           place = front ++ b ∷ [];
           whole = ap (λ cs. plug d.path (inner (inner_name p) (header_at p.kind shown) cs)) (sym u.whole) ∙ ap (plug d.path) (sym at.is) ∙ d.whole;
+          way_is = ap₂ (λ z n. step_down z p (get_or key n 0)) d.way_is (sym front_len);
           named = u.named;
           radix = (AreRadix-right bytes P front u.left (child b u.tree u.right) below).0;
           depth_is = length-append front (b ∷ []) ∙ ap (λ n. n + 1) front_len;

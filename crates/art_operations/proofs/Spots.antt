@@ -30,7 +30,8 @@ use Rattle.art_model.proofs.PlaceLaws.{depth_is, ends_at}
 use Rattle.art_model.proofs.Rebuild.{radix_way, radix_below, radix_some}
 use Rattle.art_model.proofs.OnWay.{AreAside, aside_others, aside_off, child_under, no_child_under, front_byte}
 use Rattle.art_model.proofs.Shown.{IsShown, no_leaf_gone, leaf_shown, no_inner_gone, inner_shown}
-use Rattle.art_model.proofs.Walk.{Spot, spot_holds, related_at}
+use Rattle.art_model.proofs.Walk.{related_at}
+use Rattle.art_model.proofs.Stores.{path_holds}
 use Rattle.art_operations.specs.declared.insert.InsertKind.{InsertKind}
 use Rattle.art_operations.specs.declared.insert.InsertKind.TheVariants.{MismatchPrefix, SplitLeaf, Exact, IntoExisting}
 use Rattle.art_operations.specs.declared.path.ExplicitMismatch.{ExplicitMismatch}
@@ -38,13 +39,8 @@ use Rattle.art_operations.specs.declared.path.PrefixMatch.{PrefixMatch}
 use Rattle.art_operations.specs.declared.path.TreePath.{TreePath}
 use Rattle.art_operations.specs.declared.path.TreePath.TheVariants.{Root}
 use Rattle.art_operations.specs.Matching.{shared_len}
-use Rattle.art_operations.specs.Points.{step_down, path_of, AnswersTo, IsPointFor, IsKindFor, IsKindAtLeaf, IsKindOf, IsCompared, IsMismatch, IsPart}
+use Rattle.art_operations.specs.Points.{IsAt, step_down, path_of, AnswersTo, IsPointFor, IsKindFor, IsKindAtLeaf, IsKindOf, IsCompared, IsMismatch, IsPart}
 use Rattle.art_operations.proofs.Partings.{ArePart, part_where, parted_unrelated, unrelated_after, front_right, conflict-related, no_conflict, first_conflict, same_conflict}
-
--- a node on the key's way, and the path to it
-pub record IsAt {A : Type 0} (bytes : A → List ℕ) (P : ℕ) (key : List ℕ) (tree : Tree OpaqueNodePtr A) (path : TreePath) (name : OpaqueNodePtr) (depth : ℕ) : Type 0 where
-  pub spot : Spot bytes P tree key name depth
-  pub path_is : path ≡ path_of spot.frames
 
 -- as much of the key was used as it has
 module _ {A : Type 0} (bytes : A → List ℕ) (P : ℕ) (key : List ℕ) (node : Tree OpaqueNodePtr A) {depth : ℕ} (short : depth ≤ length key) where
@@ -64,78 +60,78 @@ module _ {A : Type 0} (bytes : A → List ℕ) (P : ℕ) (key : List ℕ) (node 
       omega (arith, simp length-append at l)
 
 module _ {K V : Type 0} {s : Nodes K V} {bytes : K × V → List ℕ} {P : ℕ} {root : OpaqueNodePtr} {pairs : List (K × V)} {layout : Tree OpaqueNodePtr (K × V)} (by : IsTree bytes P s root pairs layout) where
-  pub start : (key : List ℕ) → IsAt bytes P key layout Root root 0
-  start key = record { spot = record { frames = []; place = []; node = layout; whole = refl; hole = record { path = refl; radix = (tree_radix by).0; front = (key, refl) }; named = by.stands.0.named; depth_is = refl }; path_is = refl }
+  pub start : (key : List ℕ) → IsAt bytes P key layout (record { path = Root; name = root; depth = 0 })
+  start key = record { frames = []; place = []; node = layout; whole = refl; leads = refl; radix = (tree_radix by).0; on_way = (key, refl); named = by.stands.0.named; depth_is = refl; path_is = refl }
 
-  module _ {key : List ℕ} {path : TreePath} {name : OpaqueNodePtr} {depth : ℕ} (d : IsAt bytes P key layout path name depth) where
-    holds : Holds (node_at s) d.spot.node
-    holds = spot_holds bytes P (node_at s) layout key name depth by.stands.0.holds d.spot
+  module _ {key : List ℕ} {path : TreePath} {name : OpaqueNodePtr} {depth : ℕ} (d : IsAt bytes P key layout (record { path = path; name = name; depth = depth })) where
+    holds : Holds (node_at s) d.node
+    holds = (path_holds (node_at s) d.frames d.node (subst (Holds (node_at s)) (sym d.whole) by.stands.0.holds)).1
 
     -- the names on the way are there
     pub leaf_there : {p : LeafPtr} → leaf_name p ≡ name → None ≡ map.get s.leaves p → ⊥
-    leaf_there {p} is gone = no_leaf_gone s p d.spot.node (d.spot.named ∙ sym is) holds gone
+    leaf_there {p} is gone = no_leaf_gone s p d.node (d.named ∙ sym is) holds gone
 
     pub inner_there : {p : InnerPtr} → p.kind ≢ Leaf → inner_name p ≡ name → None ≡ map.get s.inners p → ⊥
-    inner_there {p} proper is gone = no_inner_gone s p proper d.spot.node (d.spot.named ∙ sym is) holds gone
+    inner_there {p} proper is gone = no_inner_gone s p proper d.node (d.named ∙ sym is) holds gone
 
-    pub shown_there : {p : InnerPtr} {shown : Inner} → p.kind ≢ Leaf → inner_name p ≡ name → Some shown ≡ map.get s.inners p → IsShown d.spot.node p shown
-    shown_there {p} {shown} proper is there = inner_shown s p proper d.spot.node (d.spot.named ∙ sym is) holds shown there
+    pub shown_there : {p : InnerPtr} {shown : Inner} → p.kind ≢ Leaf → inner_name p ≡ name → Some shown ≡ map.get s.inners p → IsShown d.node p shown
+    shown_there {p} {shown} proper is there = inner_shown s p proper d.node (d.named ∙ sym is) holds shown there
 
     -- the node that the store shows under an inner name on the way
-    pub some_shown : {p : InnerPtr} → p.kind ≢ Leaf → inner_name p ≡ name → (shown : Inner) × IsShown d.spot.node p shown
+    pub some_shown : {p : InnerPtr} → p.kind ≢ Leaf → inner_name p ≡ name → (shown : Inner) × IsShown d.node p shown
     some_shown {p} proper is = go (map.get s.inners p) refl
       where
-        go : (o : Option Inner) → o ≡ map.get s.inners p → (shown : Inner) × IsShown d.spot.node p shown
+        go : (o : Option Inner) → o ≡ map.get s.inners p → (shown : Inner) × IsShown d.node p shown
         go None gone = absurd (inner_there proper is gone)
         go (Some shown) there = (shown, shown_there proper is there)
 
     -- the part of the tree below
-    pub part_there : {part : OpaqueNodePtr} → part ≡ name → IsPart bytes P s part depth d.spot.node
+    pub part_there : {part : OpaqueNodePtr} → part ≡ name → IsPart bytes P s part depth d.node
     part_there is =
-        let all : AreDistinct (names_before d.spot.frames ++ names_of d.spot.node ++ names_after d.spot.frames) = subst AreDistinct (ap names_of (sym d.spot.whole) ∙ names_of-plug d.spot.frames d.spot.node) by.stands.0.distinct in
+        let all : AreDistinct (names_before d.frames ++ names_of d.node ++ names_after d.frames) = subst AreDistinct (ap names_of (sym d.whole) ∙ names_of-plug d.frames d.node) by.stands.0.distinct in
         record {
-          place = d.spot.place;
-          depth_is = d.spot.depth_is;
-          radix = d.spot.hole.radix;
-          layout = record { named = d.spot.named ∙ sym is; holds = holds; distinct = Pairwise-right (λ n k. n ≢ k) (names_before d.spot.frames) (names_of d.spot.node) (Pairwise-left (λ n k. n ≢ k) (names_before d.spot.frames ++ names_of d.spot.node) (names_after d.spot.frames) all) };
+          place = d.place;
+          depth_is = d.depth_is;
+          radix = d.radix;
+          layout = record { named = d.named ∙ sym is; holds = holds; distinct = Pairwise-right (λ n k. n ≢ k) (names_before d.frames) (names_of d.node) (Pairwise-left (λ n k. n ≢ k) (names_before d.frames ++ names_of d.node) (names_after d.frames) all) };
         }
 
     -- what is in conflict with the key is below
-    conflict_below : is_conflict bytes key pairs ≡ is_conflict bytes key (pairs_of d.spot.node)
+    conflict_below : is_conflict bytes key pairs ≡ is_conflict bytes key (pairs_of d.node)
     conflict_below =
-        let whole : pairs ≡ pairs_of (plug d.spot.frames d.spot.node) = sym (tree_radix by).1 ∙ ap pairs_of (sym d.spot.whole) in
-        ap (is_conflict bytes key) whole ∙ sym (conflict-related bytes key (pairs_of (plug d.spot.frames d.spot.node)))
-        ∙ ap (is_conflict bytes key) (related_at bytes P d.spot.frames d.spot.place key d.spot.node d.spot.hole.path d.spot.hole.front)
-        ∙ conflict-related bytes key (pairs_of d.spot.node)
+        let whole : pairs ≡ pairs_of (plug d.frames d.node) = sym (tree_radix by).1 ∙ ap pairs_of (sym d.whole) in
+        ap (is_conflict bytes key) whole ∙ sym (conflict-related bytes key (pairs_of (plug d.frames d.node)))
+        ∙ ap (is_conflict bytes key) (related_at bytes P d.frames d.place key d.node d.leads d.on_way)
+        ∙ conflict-related bytes key (pairs_of d.node)
 
-    deep : depth_of d.spot.frames ≡ depth
-    deep = depth_is bytes P d.spot.frames d.spot.place d.spot.hole.path ∙ d.spot.depth_is
+    deep : depth_of d.frames ≡ depth
+    deep = depth_is bytes P d.frames d.place d.leads ∙ d.depth_is
 
     -- no longer place is a front of the key, so this is the end node
-    answers : (used : ℕ) (kind : InsertKind) → Each (λ other. IsFront other.0 key → length other.0 ≤ length d.spot.place) (places bytes (length d.spot.place) d.spot.node) → IsKindOf bytes P key d.spot.node depth used kind →
+    answers : (used : ℕ) (kind : InsertKind) → Each (λ other. IsFront other.0 key → length other.0 ≤ length d.place) (places bytes (length d.place) d.node) → IsKindOf bytes P key d.node depth used kind →
         AnswersTo bytes P layout key (record { path = path; insert_kind = kind; key_bytes_used = used; root = root })
     answers used kind longest is =
         record {
-          path = d.spot.frames;
-          node = d.spot.node;
-          is_end = subst (λ t. IsEndNode bytes t key d.spot.frames d.spot.node) d.spot.whole (ends_at bytes P key d.spot.frames d.spot.place d.spot.node d.spot.hole.path d.spot.hole.radix d.spot.hole.front longest);
+          path = d.frames;
+          node = d.node;
+          is_end = subst (λ t. IsEndNode bytes t key d.frames d.node) d.whole (ends_at bytes P key d.frames d.place d.node d.leads d.radix d.on_way longest);
           root_is = sym by.stands.0.named;
           path_is = d.path_is;
-          kind_is = subst (λ n. IsKindOf bytes P key d.spot.node n used kind) (sym deep) is;
+          kind_is = subst (λ n. IsKindOf bytes P key d.node n used kind) (sym deep) is;
         }
 
     -- ---- at a leaf
     module _ {p : LeafPtr} {shown : LeafNode K V} (is : leaf_name p ≡ name) (there : Some shown ≡ map.get s.leaves p) where
-      at_leaf : d.spot.node ≡ leaf (leaf_name p) (pair_of shown)
-      at_leaf = leaf_shown s p d.spot.node (d.spot.named ∙ sym is) holds shown there
+      at_leaf : d.node ≡ leaf (leaf_name p) (pair_of shown)
+      at_leaf = leaf_shown s p d.node (d.named ∙ sym is) holds shown there
 
       own_pair : is_conflict bytes key pairs ≡ is_conflict bytes key (pair_of shown ∷ [])
       own_pair = conflict_below ∙ ap (λ t. is_conflict bytes key (pairs_of t)) at_leaf
 
-      longest_leaf : Each (λ other. IsFront other.0 key → length other.0 ≤ length d.spot.place) (places bytes (length d.spot.place) d.spot.node)
+      longest_leaf : Each (λ other. IsFront other.0 key → length other.0 ≤ length d.place) (places bytes (length d.place) d.node)
       longest_leaf =
-          let radix = subst (IsRadix bytes P d.spot.place) at_leaf d.spot.hole.radix in
-          subst (λ t. Each (λ other. IsFront other.0 key → length other.0 ≤ length d.spot.place) (places bytes (length d.spot.place) t)) (sym at_leaf) ((λ g. rw (place_is bytes P (leaf (leaf_name p) (pair_of shown)) d.spot.place radix) (omega arith)), tt)
+          let radix = subst (IsRadix bytes P d.place) at_leaf d.radix in
+          subst (λ t. Each (λ other. IsFront other.0 key → length other.0 ≤ length d.place) (places bytes (length d.place) t)) (sym at_leaf) ((λ g. rw (place_is bytes P (leaf (leaf_name p) (pair_of shown)) d.place radix) (omega arith)), tt)
 
       pub leaf_conflict : IsKindFor key p (bytes (pair_of shown)) None → IsPointFor bytes P key pairs layout None
       leaf_conflict (related, unequal) = own_pair ∙ first_conflict bytes key (pair_of shown) [] related unequal
@@ -149,36 +145,36 @@ module _ {K V : Type 0} {s : Nodes K V} {bytes : K × V → List ℕ} {P : ℕ} 
       leaf_point (MismatchPrefix m q) h = absurd h
 
     -- ---- at an inner node
-    module _ {p : InnerPtr} {shown : Inner} (at : IsShown d.spot.node p shown) where
+    module _ {p : InnerPtr} {shown : Inner} (at : IsShown d.node p shown) where
       abbrev here : Tree OpaqueNodePtr (K × V)
       here = inner (inner_name p) (header_at p.kind shown) at.children
 
-      radix : IsRadix bytes P d.spot.place here
-      radix = subst (IsRadix bytes P d.spot.place) at.is d.spot.hole.radix
+      radix : IsRadix bytes P d.place here
+      radix = subst (IsRadix bytes P d.place) at.is d.radix
 
       abbrev front : List ℕ
-      front = d.spot.place ++ radix.0
+      front = d.place ++ radix.0
 
-      whole_prefix : prefix_of bytes depth d.spot.node ≡ radix.0
-      whole_prefix = ap (prefix_of bytes depth) at.is ∙ subst (λ n. prefix_of bytes n here ≡ radix.0) d.spot.depth_is (prefix_is bytes P (inner_name p) (header_at p.kind shown) at.children d.spot.place radix)
+      whole_prefix : prefix_of bytes depth d.node ≡ radix.0
+      whole_prefix = ap (prefix_of bytes depth) at.is ∙ subst (λ n. prefix_of bytes n here ≡ radix.0) d.depth_is (prefix_is bytes P (inner_name p) (header_at p.kind shown) at.children d.place radix)
 
-      front_len : length front ≡ depth + length (prefix_of bytes depth d.spot.node)
-      front_len = let l = ap length whole_prefix in let k = d.spot.depth_is in simp length-append (omega arith)
+      front_len : length front ≡ depth + length (prefix_of bytes depth d.node)
+      front_len = let l = ap length whole_prefix in let k = d.depth_is in simp length-append (omega arith)
 
-      key_is : key ≡ d.spot.place ++ drop depth key
+      key_is : key ≡ d.place ++ drop depth key
       key_is =
-          let (r, e) = d.spot.hole.front in
-          e ∙ ap (λ l. d.spot.place ++ l) (sym (after_front d.spot.place key r e) ∙ ap (λ n. drop n key) d.spot.depth_is)
+          let (r, e) = d.on_way in
+          e ∙ ap (λ l. d.place ++ l) (sym (after_front d.place key r e) ∙ ap (λ n. drop n key) d.depth_is)
 
       below : is_conflict bytes key pairs ≡ is_conflict bytes key (pairs_below at.children)
       below = conflict_below ∙ ap (λ t. is_conflict bytes key (pairs_of t)) at.is
 
-      longest_inner : AreAside front key at.children → Each (λ other. IsFront other.0 key → length other.0 ≤ length d.spot.place) (places bytes (length d.spot.place) d.spot.node)
+      longest_inner : AreAside front key at.children → Each (λ other. IsFront other.0 key → length other.0 ≤ length d.place) (places bytes (length d.place) d.node)
       longest_inner aside =
           let len : (header_at p.kind shown).length_of ≡ length radix.0 = ap (λ h. h.length_of) radix.1 in
-          subst (λ t. Each (λ other. IsFront other.0 key → length other.0 ≤ length d.spot.place) (places bytes (length d.spot.place) t)) (sym at.is) (
-            (λ g. rw (place_is bytes P here d.spot.place radix) (omega arith)),
-            beside bytes P at.children front key (length d.spot.place + (header_at p.kind shown).length_of + 1) (length d.spot.place) (λ b. deeper d.spot.place radix.0 b (header_at p.kind shown).length_of len) radix.4 aside,
+          subst (λ t. Each (λ other. IsFront other.0 key → length other.0 ≤ length d.place) (places bytes (length d.place) t)) (sym at.is) (
+            (λ g. rw (place_is bytes P here d.place radix) (omega arith)),
+            beside bytes P at.children front key (length d.place + (header_at p.kind shown).length_of + 1) (length d.place) (λ b. deeper d.place radix.0 b (header_at p.kind shown).length_of len) radix.4 aside,
           )
 
       -- all pairs below go on after the key
@@ -195,11 +191,11 @@ module _ {K V : Type 0} {s : Nodes K V} {bytes : K × V → List ℕ} {P : ℕ} 
               rw e (first_conflict bytes key x (xs ++ pairs_below cs) (front_related key (bytes x) goes) (λ same. let l = ap length same in omega arith))
 
       -- the prefix is compared
-      module _ {match : PrefixMatch} (c : IsCompared bytes P key d.spot.node depth (Ok match)) where
+      module _ {match : PrefixMatch} (c : IsCompared bytes P key d.node depth (Ok match)) where
         on_way : IsFront front key
         on_way =
             let (r, e) = c.1 in
-            (r, key_is ∙ ap (λ l. d.spot.place ++ l) (e ∙ ap (λ l. l ++ r) whole_prefix) ∙ sym (append_assoc d.spot.place radix.0 r))
+            (r, key_is ∙ ap (λ l. d.place ++ l) (e ∙ ap (λ l. l ++ r) whole_prefix) ∙ sym (append_assoc d.place radix.0 r))
 
         used : depth + match.matched_bytes ≡ length front
         used = let l = front_len in let k = c.0 in omega arith
@@ -231,49 +227,49 @@ module _ {K V : Type 0} {s : Nodes K V} {bytes : K × V → List ℕ} {P : ℕ} 
               )
 
           -- a child goes on with the key
-          pub goes_on : {to : OpaqueNodePtr} → Some to ≡ child_at shown.children (get_or key (depth + match.matched_bytes) 0) → IsAt bytes P key layout (step_down path p (get_or key (depth + match.matched_bytes) 0)) to (depth + match.matched_bytes + 1)
+          pub goes_on : {to : OpaqueNodePtr} → Some to ≡ child_at shown.children (get_or key (depth + match.matched_bytes) 0) → IsAt bytes P key layout (record { path = step_down path p (get_or key (depth + match.matched_bytes) 0); name = to; depth = depth + match.matched_bytes + 1 })
           goes_on {to} there =
               let b = get_or key (depth + match.matched_bytes) 0 in
               let e : child_at (slots_of at.children) b ≡ Some to = ap (λ cs. child_at cs b) (sym at.slots) ∙ sym there in
               let u = child_under at.children b to radix.3 e in
               let f : Frame OpaqueNodePtr (K × V) = record { mark = inner_name p; header = header_at p.kind shown; left = u.left; byte = b; right = u.right } in
               let filled : here ≡ fill f u.tree = ap (inner (inner_name p) (header_at p.kind shown)) u.whole in
-              let node : IsRadix bytes P d.spot.place (fill f u.tree) = (radix.0, subst (λ cs. header_at p.kind shown ≡ header_of P radix.0 (length (bytes_of cs))) u.whole radix.1, subst (λ cs. 2 ≤ length (bytes_of cs)) u.whole radix.2, subst (λ cs. Rattle.art_model.specs.Radix.IsRising (bytes_of cs)) u.whole radix.3, subst (AreRadix bytes P front) u.whole radix.4) in
-              let down = path_down bytes P d.spot.frames d.spot.place f u.tree d.spot.hole.path node in
+              let node : IsRadix bytes P d.place (fill f u.tree) = (radix.0, subst (λ cs. header_at p.kind shown ≡ header_of P radix.0 (length (bytes_of cs))) u.whole radix.1, subst (λ cs. 2 ≤ length (bytes_of cs)) u.whole radix.2, subst (λ cs. Rattle.art_model.specs.Radix.IsRising (bytes_of cs)) u.whole radix.3, subst (AreRadix bytes P front) u.whole radix.4) in
+              let down = path_down bytes P d.frames d.place f u.tree d.leads node in
               record {
-                spot = record {
-                  frames = f ∷ d.spot.frames;
-                  place = front ++ b ∷ [];
-                  node = u.tree;
-                  whole = ap (plug d.spot.frames) (sym filled ∙ sym at.is) ∙ d.spot.whole;
-                  hole = record { path = down.0; radix = down.1; front = subst (λ n. IsFront (front ++ get_or key n 0 ∷ []) key) (sym used) next };
-                  named = u.named;
-                  depth_is = length-append front (b ∷ []) ∙ ap (λ n. n + 1) (sym used);
-                };
+                frames = f ∷ d.frames;
+                place = front ++ b ∷ [];
+                node = u.tree;
+                whole = ap (plug d.frames) (sym filled ∙ sym at.is) ∙ d.whole;
+                leads = down.0;
+                radix = down.1;
+                on_way = subst (λ n. IsFront (front ++ get_or key n 0 ∷ []) key) (sym used) next;
+                named = u.named;
+                depth_is = length-append front (b ∷ []) ∙ ap (λ n. n + 1) (sym used);
                 path_is = ap (λ z. step_down z p b) d.path_is;
               }
 
       -- the prefix and the key part, or the key ends
-      module _ {m : ExplicitMismatch} (c : IsMismatch bytes P key d.spot.node depth m) where
+      module _ {m : ExplicitMismatch} (c : IsMismatch bytes P key d.node depth m) where
         shared_is : m.matched_bytes ≡ shared_len radix.0 (drop depth key)
         shared_is = c.matched ∙ ap (λ l. shared_len l (drop depth key)) whole_prefix
 
         pub mismatch_conflict : length key ≤ depth + m.matched_bytes → IsPointFor bytes P key pairs layout None
         mismatch_conflict short =
-            let rest : length (drop depth key) ≤ shared_len radix.0 (drop depth key) = let k = ap length key_is in let n = d.spot.depth_is in let q = shared_is in omega (arith, simp length-append at k) in
+            let rest : length (drop depth key) ≤ shared_len radix.0 (drop depth key) = let k = ap length key_is in let n = d.depth_is in let q = shared_is in omega (arith, simp length-append at k) in
             let (r, e) = front_right radix.0 (drop depth key) rest in
-            short_conflict (r, ap (λ l. d.spot.place ++ l) e ∙ sym (append_assoc d.spot.place (drop depth key) r) ∙ ap (λ l. l ++ r) (sym key_is))
+            short_conflict (r, ap (λ l. d.place ++ l) e ∙ sym (append_assoc d.place (drop depth key) r) ∙ ap (λ l. l ++ r) (sym key_is))
 
         module _ (long : depth + m.matched_bytes < length key) where
           parts_at : ArePart front key
           parts_at =
-              let inside = slice_get_within (prefix_of bytes depth d.spot.node) m.matched_bytes m.prefix_byte c.byte in
+              let inside = slice_get_within (prefix_of bytes depth d.node) m.matched_bytes m.prefix_byte c.byte in
               let q = shared_is in
               let w = ap length whole_prefix in
               let k = ap length key_is in
-              let n = d.spot.depth_is in
+              let n = d.depth_is in
               let a = part_where radix.0 (drop depth key) (omega arith) (omega (arith, simp length-append at k)) in
-              record { front = d.spot.place ++ a.front; x = a.x; y = a.y; r = a.r; s = a.s; a_is = ap (λ l. d.spot.place ++ l) a.a_is ∙ sym (append_assoc d.spot.place a.front (a.x ∷ a.r)); b_is = key_is ∙ ap (λ l. d.spot.place ++ l) a.b_is ∙ sym (append_assoc d.spot.place a.front (a.y ∷ a.s)); differ = a.differ }
+              record { front = d.place ++ a.front; x = a.x; y = a.y; r = a.r; s = a.s; a_is = ap (λ l. d.place ++ l) a.a_is ∙ sym (append_assoc d.place a.front (a.x ∷ a.r)); b_is = key_is ∙ ap (λ l. d.place ++ l) a.b_is ∙ sym (append_assoc d.place a.front (a.y ∷ a.s)); differ = a.differ }
 
           unrelated_below : Each (λ x. are_related key (bytes x) ≡ false) (pairs_below at.children)
           unrelated_below =

@@ -11,7 +11,7 @@ use Rattle.art_model.specs.Keys.{IsFront, are_related}
 use Rattle.art_model.specs.Layouts.{name_of, slots_of, IsLayout}
 use Rattle.art_model.specs.Lookups.{HasFirstLeaf}
 use Rattle.art_model.specs.Pairs.{is_conflict}
-use Rattle.art_model.specs.Paths.{Frame}
+use Rattle.art_model.specs.Paths.{Frame, IsPath, plug}
 use Rattle.art_model.specs.Places.{depth_of, prefix_of, IsEndNode}
 use Rattle.art_model.specs.Radix.{IsRadix}
 use Rattle.art_model.specs.Stores.{node_at}
@@ -21,6 +21,9 @@ use Rattle.art_operations.specs.declared.insert.InsertKind.TheVariants.{Mismatch
 use Rattle.art_operations.specs.declared.insert.InsertPoint.{InsertPoint}
 use Rattle.art_operations.specs.declared.insert.InsertSearchError.{InsertSearchError}
 use Rattle.art_operations.specs.declared.insert.InsertSearchError.TheVariants.{Prefix, Memory}
+use Rattle.art_operations.specs.declared.insert.Spot.{Spot}
+use Rattle.art_operations.specs.declared.insert.Step.{Step}
+use Rattle.art_operations.specs.declared.insert.Step.TheVariants.{Point, Down}
 use Rattle.art_operations.specs.declared.path.ExplicitMismatch.{ExplicitMismatch}
 use Rattle.art_operations.specs.declared.path.PrefixMatch.{PrefixMatch}
 use Rattle.art_operations.specs.declared.path.TreePath.{TreePath}
@@ -89,6 +92,25 @@ module _ {A : Type 0} (bytes : A → List ℕ) (P : ℕ) where
   abbrev pub IsPointFor : List ℕ → List A → Tree OpaqueNodePtr A → Option InsertPoint → Type 0
   IsPointFor key pairs layout None = is_conflict bytes key pairs ≡ true
   IsPointFor key pairs layout (Some point) = (is_conflict bytes key pairs ≡ false) × AnswersTo layout key point
+
+  -- the spot is a node of the tree at a place that is a front of the key
+  pub record IsAt (key : List ℕ) (tree : Tree OpaqueNodePtr A) (spot : Spot) : Type 0 where
+    pub frames : List (Frame OpaqueNodePtr A)
+    pub place : List ℕ
+    pub node : Tree OpaqueNodePtr A
+    pub whole : plug frames node ≡ tree
+    pub leads : IsPath bytes P place frames
+    pub radix : IsRadix bytes P place node
+    pub on_way : IsFront place key
+    pub named : name_of node ≡ spot.name
+    pub depth_is : length place ≡ spot.depth
+    pub path_is : spot.path ≡ path_of frames
+
+  -- a step from this depth comes to the key's point, or further down
+  abbrev pub IsStepFrom : List ℕ → List A → Tree OpaqueNodePtr A → ℕ → Option Step → Type 0
+  IsStepFrom key pairs layout depth None = IsPointFor key pairs layout None
+  IsStepFrom key pairs layout depth (Some (Point point)) = IsPointFor key pairs layout (Some point)
+  IsStepFrom key pairs layout depth (Some (Down spot)) = (depth < spot.depth) × (spot.depth ≤ length key) × IsAt key layout spot
 
 -- where a leaf's key and the key are related and unequal there is no kind
 abbrev pub IsKindFor : List ℕ → LeafPtr → List ℕ → Option InsertKind → Type 0

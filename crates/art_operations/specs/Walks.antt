@@ -1,20 +1,26 @@
--- Where the way down with a key ends.
-use Rattle.std.specs.Prelude.{◌≡◌, ℕ, ◌+◌, ◌≤◌, List, [], ◌∷◌, length, Option, Some, None}
+-- Where the ways down end, with a key and along an edge.
+use Rattle.std.specs.Prelude.{◌≡◌, ℕ, ◌+◌, ◌-◌, ◌≤◌, List, [], ◌∷◌, length, slice_get, Option, Some, None}
 use Rattle.art_nodes.specs.Names.{leaf_name}
+use Rattle.art_nodes.specs.declared.node.LeafPtr.{LeafPtr}
 use Rattle.art_nodes.specs.declared.node.OpaqueNodePtr.{OpaqueNodePtr}
 use Rattle.art_model.specs.Keys.{IsFront}
-use Rattle.art_model.specs.Lookups.{HasLeaf, nodes_on_way}
-use Rattle.art_model.specs.Pairs.{match_of}
+use Rattle.art_model.specs.Lookups.{HasLeaf, HasFirstLeaf, HasLastLeaf, nodes_on_way}
+use Rattle.art_model.specs.Pairs.{match_of, with_key}
 use Rattle.art_model.specs.Stores.{pair_of}
 use Rattle.art_model.specs.Trees.{Tree}
 use Rattle.art_operations.specs.declared.lookup.LastLeaf.{LastLeaf}
 use Rattle.art_operations.specs.declared.lookup.PrefixMatchBehavior.TheVariants.{Pessimistic}
+use Rattle.art_operations.specs.declared.minmax.End.{End}
+use Rattle.art_operations.specs.declared.minmax.End.TheVariants.{First, Last}
+use Rattle.art_operations.specs.declared.path.TreePath.{TreePath}
+use Rattle.art_operations.specs.Points.{path_of}
 
 module _ {K V : Type 0} (bytes : K × V → List ℕ) (key : List ℕ) (pairs : List (K × V)) (layout : Tree OpaqueNodePtr (K × V)) (before after : ℕ) where
   -- the only leaf that can match the key, and what is left to compare of it: the bytes after its place, or all of them
   pub record IsLastLeaf (last : LastLeaf K V) : Type 0 where
     pub place : List ℕ
     pub is_leaf : HasLeaf layout (leaf_name last.name) (pair_of last.node.now)
+    pub path_is : last.path ≡ path_of is_leaf.0
     pub leads_to : IsFront place (bytes (pair_of last.node.now))
     pub depth_is : length place ≡ last.depth
     pub is_short : last.depth ≤ length key
@@ -27,3 +33,18 @@ module _ {K V : Type 0} (bytes : K × V → List ℕ) (key : List ℕ) (pairs : 
   abbrev pub WalkEnds : Option (LastLeaf K V) → Type 0
   WalkEnds None = (match_of bytes key pairs ≡ []) × (before + length (nodes_on_way bytes key layout) ≤ after)
   WalkEnds (Some last) = IsLastLeaf last
+
+-- the leaf of the key's only pair, with the path to it, or none where there is no such pair
+abbrev pub IsKeysLeaf : {K V : Type 0} → (K × V → List ℕ) → List ℕ → List (K × V) → Tree OpaqueNodePtr (K × V) → Option (LastLeaf K V) → Type 0
+IsKeysLeaf bytes key pairs layout None = with_key bytes key pairs ≡ []
+IsKeysLeaf bytes key pairs layout (Some last) = (with_key bytes key pairs ≡ pair_of last.node.now ∷ []) × ((is : HasLeaf layout (leaf_name last.name) (pair_of last.node.now)) × (last.path ≡ path_of is.0))
+
+-- the path leads to the tree's first leaf, or to the last one
+abbrev pub LeadsToEnd : {A : Type 0} → Tree OpaqueNodePtr A → End → TreePath → LeafPtr → Type 0
+LeadsToEnd tree First path leaf = (is : HasFirstLeaf tree (leaf_name leaf)) × (path ≡ path_of is.1.2.0)
+LeadsToEnd tree Last path leaf = (is : HasLastLeaf tree (leaf_name leaf)) × (path ≡ path_of is.1.2.0)
+
+-- a node's first child, with its byte, or the last one
+abbrev pub IsEndChild : End → List (ℕ × OpaqueNodePtr) → ℕ × OpaqueNodePtr → Type 0
+IsEndChild First children child = slice_get children 0 ≡ Some child
+IsEndChild Last children child = slice_get children (length children - 1) ≡ Some child

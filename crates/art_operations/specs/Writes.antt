@@ -1,14 +1,17 @@
 -- What the writes of the operations ask and answer: the parent that a path ends with, and the leaves beside one.
-use Rattle.std.specs.Prelude.{◌≡◌, ℕ, Option, Some, None, IsSome, IsSomeAnd, IfSome}
+use Rattle.std.specs.Prelude.{◌≡◌, ◌<◌, ℕ, Option, Some, None, IsSome, IsSomeAnd, IfSome}
+use Rattle.std.specs.List.{AllByRecursion as Each}
 use Rattle.std.specs.FinMap as map
 use Rattle.art_nodes.specs.Inner.{child_at}
-use Rattle.art_nodes.specs.Names.{leaf_name}
+use Rattle.art_nodes.specs.Names.{leaf_name, inner_name}
 use Rattle.art_nodes.specs.Nodes.{Nodes}
 use Rattle.art_nodes.specs.declared.node.InnerPtr.{InnerPtr}
 use Rattle.art_nodes.specs.declared.node.LeafPtr.{LeafPtr}
 use Rattle.art_nodes.specs.declared.node.OpaqueNodePtr.{OpaqueNodePtr}
 use Rattle.art_model.specs.Lookups.{HasFirstLeaf, HasLastLeaf}
-use Rattle.art_model.specs.Trees.{Tree}
+use Rattle.art_model.specs.Radix.{IsRising, bytes_of, join}
+use Rattle.art_model.specs.Roots.{IsFullTree}
+use Rattle.art_model.specs.Trees.{Tree, inner, Children, child, no_child, Header}
 use Rattle.art_model.specs.Writes.{Leaves, Inners, IsThere}
 use Rattle.art_operations.specs.declared.path.TreePath.{TreePath}
 use Rattle.art_operations.specs.declared.path.TreePath.TheVariants.{Root, ChildOfRoot, Normal}
@@ -18,6 +21,12 @@ abbrev pub last_step : TreePath → Option (InnerPtr × ℕ)
 last_step Root = None
 last_step (ChildOfRoot parent byte) = Some (parent, byte)
 last_step (Normal grandparent above parent byte) = Some (parent, byte)
+
+-- the path one step further up, to the parent: the grandparent is its last node, whatever is above
+abbrev pub up : TreePath → TreePath
+up Root = Root
+up (ChildOfRoot parent byte) = Root
+up (Normal grandparent above parent byte) = ChildOfRoot grandparent above
 
 -- the root, where the node at the end of the path may be another one
 abbrev pub root_with : TreePath → OpaqueNodePtr → OpaqueNodePtr → OpaqueNodePtr
@@ -40,3 +49,16 @@ ComesBefore s tree previous next = (first : LeafPtr) × HasFirstLeaf tree (leaf_
 -- a new leaf that comes right after a tree's last leaf has these leaves beside it
 abbrev pub ComesAfter : {K V : Type 0} → Nodes K V → Tree OpaqueNodePtr (K × V) → Option LeafPtr → Option LeafPtr → Type 0
 ComesAfter s tree previous next = (last : LeafPtr) × HasLastLeaf tree (leaf_name last) × (previous ≡ Some last) × IsSomeAnd (map.get s.leaves last) (λ leaf. next ≡ leaf.next)
+
+-- the name stands for an inner node of a full tree with these children, those on the left under lesser bytes than this one and those on the right under greater ones
+pub record HasGap {K V : Type 0} (s : Nodes K V) (name : InnerPtr) (byte : ℕ) (left right : Children OpaqueNodePtr (K × V)) : Type 0 where
+  pub header : Header
+  pub full : IsFullTree s (inner_name name) (inner (inner_name name) header (join left right))
+  pub rising : IsRising (bytes_of (join left right))
+  pub low : Each (λ c. c < byte) (bytes_of left)
+  pub high : Each (λ c. byte < c) (bytes_of right)
+
+-- a new leaf that comes between these children has these leaves beside it: it is right before the first leaf on the right, or right after the last one where there is none
+abbrev pub ComesBetween : {K V : Type 0} → Nodes K V → Children OpaqueNodePtr (K × V) → Children OpaqueNodePtr (K × V) → Option LeafPtr → Option LeafPtr → Type 0
+ComesBetween s left (child b t right) previous next = ComesBefore s t previous next
+ComesBetween {K} {V} s left no_child previous next = (others : Children OpaqueNodePtr (K × V)) × (b : ℕ) × (t : Tree OpaqueNodePtr (K × V)) × (left ≡ join others (child b t no_child)) × ComesAfter s t previous next

@@ -12,7 +12,8 @@ ghost use Rattle.art_model.specs.Stores.{pair_of};
 ghost use Rattle.art_operations.specs.Inserted.{alone};
 ghost use Rattle.art_operations.specs.Deleted.{IsDeletePoint, IsDeletePointIn, IsRootAfter, TouchesFor, parent_change, placed_for_deletion};
 
-use crate::lookup::Visits;
+use crate::lookup::{Visits, walk_to_key};
+use crate::minmax::{End, walk_to_end};
 use crate::path::TreePath;
 use art_nodes::node::{AsBytes, LeafNode, LeafPtr, NodeType, OpaqueNodePtr};
 use art_nodes::store::NodeStore;
@@ -77,7 +78,11 @@ pub fn search_for_delete_point_visiting<K: AsBytes + Drop, V: Drop, const PREFIX
         visits.old + length (nodes_on_way (of_key K.bytes) key_bytes.now layout) ≡ visits.new) }
     ensures at_most { visits.new ≤ visits.old + length key_bytes.now + 1 }
 {
-    unreachable!()
+    let last = walk_to_key(store, root, key_bytes, visits)?;
+    Some(DeletePoint {
+        path: last.path,
+        leaf_node_ptr: last.name,
+    })
 }
 
 /// The point of the first leaf. It reads one inner node for each level.
@@ -89,7 +94,11 @@ pub fn find_minimum_to_delete<K: AsBytes + Drop, V: Drop, const PREFIX_LEN: usiz
     ensures { ForTree (of_key K.bytes) PREFIX_LEN store.now root (λ pairs layout.
         IsDeletePoint layout (first_of pairs) (Some result)) }
 {
-    unreachable!()
+    let (path, leaf_node_ptr) = walk_to_end(store, root, End::First);
+    DeletePoint {
+        path,
+        leaf_node_ptr,
+    }
 }
 
 /// The point of the last leaf. It reads one inner node for each level.
@@ -101,7 +110,11 @@ pub fn find_maximum_to_delete<K: AsBytes + Drop, V: Drop, const PREFIX_LEN: usiz
     ensures { ForTree (of_key K.bytes) PREFIX_LEN store.now root (λ pairs layout.
         IsDeletePoint layout (last_of pairs) (Some result)) }
 {
-    unreachable!()
+    let (path, leaf_node_ptr) = walk_to_end(store, root, End::Last);
+    DeletePoint {
+        path,
+        leaf_node_ptr,
+    }
 }
 
 impl DeletePoint {
@@ -148,3 +161,6 @@ impl DeletePoint {
         self.shrink_parent(store, root, parent, byte)
     }
 }
+
+#[cfg(test)]
+mod tests;

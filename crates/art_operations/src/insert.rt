@@ -8,7 +8,7 @@ ghost use Rattle.art_model.specs.Pairs.{is_conflict, of_key};
 ghost use Rattle.art_model.specs.Roots.{ForTree, IsCanonicalRoot};
 ghost use Rattle.art_model.specs.Trees.{Tree};
 ghost use Rattle.art_operations.specs.Matching.{shared_len};
-ghost use Rattle.art_operations.specs.Points.{AnswersTo, IsCompared, IsKindFor, IsPart, IsPointFor, IsRefusedFor};
+ghost use Rattle.art_operations.specs.Points.{AnswersTo, IsAt, IsCompared, IsKindFor, IsPart, IsPointFor, IsRefusedFor, IsStepFrom};
 
 use crate::lookup::shared_len;
 use crate::minmax::minimum_unchecked;
@@ -169,69 +169,128 @@ fn find_point<K: AsBytes + Drop, V: Drop, const PREFIX_LEN: usize>(
     requires { IsCanonicalRoot (of_key K.bytes) PREFIX_LEN store.now root }
     ensures { ForTree (of_key K.bytes) PREFIX_LEN store.now root (λ pairs layout. IsPointFor (of_key K.bytes) PREFIX_LEN key_bytes.now pairs layout result) }
 {
-    let mut path = TreePath::Root;
-    let mut name = root;
-    let mut depth = 0;
+    let mut spot = Spot {
+        path: TreePath::Root,
+        name: root,
+        depth: 0,
+    };
     'down: loop {
-        let inner = match name.split() {
-            NodePtr::Leaf(leaf_node_ptr) => {
-                let Some(leaf) = store.leaf(leaf_node_ptr) else {
-                    unreachable!()
-                };
-                let insert_kind = kind_at_leaf(leaf_node_ptr, leaf, key_bytes)?;
-                return Some(InsertPoint {
-                    path,
-                    insert_kind,
-                    key_bytes_used: depth,
-                    root,
-                });
-            }
-            NodePtr::Inner(inner) => inner,
-        };
-        match match_full_prefix(store, inner, key_bytes, depth) {
-            Ok(matched) => depth += matched.matched_bytes,
-            Err(mismatch) => {
-                if depth + mismatch.matched_bytes >= key_bytes.len() {
-                    return None;
-                }
-                let insert_kind = InsertKind::MismatchPrefix {
-                    mismatch,
-                    mismatched_inner_node_ptr: inner,
-                };
-                return Some(InsertPoint {
-                    path,
-                    insert_kind,
-                    key_bytes_used: depth,
-                    root,
-                });
-            }
-        }
-        if depth >= key_bytes.len() {
-            return None;
-        }
-        let Some(node) = store.inner(inner) else {
-            unreachable!()
-        };
-        let byte = key_bytes[depth];
-        match node.lookup_child(byte) {
-            Some(child) => {
-                path = path.step_down(inner, byte);
-                name = child;
-                depth += 1;
-            }
-            None => {
-                let insert_kind = InsertKind::IntoExisting {
-                    inner_node_ptr: inner,
-                };
-                return Some(InsertPoint {
-                    path,
-                    insert_kind,
-                    key_bytes_used: depth,
-                    root,
-                });
-            }
+        match next_step(store, root, key_bytes, spot)? {
+            Step::Point(point) => return Some(point),
+            Step::Down(below) => spot = below,
         }
     }
+}
+
+// A node on the way down with a key.
+#[derive(Clone, Copy)]
+struct Spot {
+    /// The nodes right above the node.
+    path: TreePath,
+    name: OpaqueNodePtr,
+    /// How many bytes lead to the node.
+    depth: usize,
+}
+
+impl Spot {
+    // The point at this node.
+    fn point(
+        self,
+        root: OpaqueNodePtr,
+        insert_kind: InsertKind,
+        key_bytes_used: usize,
+    ) -> InsertPoint
+        ensures { result ≡ record { path = self.path; insert_kind = insert_kind; key_bytes_used = key_bytes_used; root = root } }
+    {
+        InsertPoint {
+            path: self.path,
+            insert_kind,
+            key_bytes_used,
+            root,
+        }
+    }
+}
+
+// Where a step on the way down with a key comes to.
+#[derive(Clone, Copy)]
+enum Step {
+    /// The key's point.
+    Point(InsertPoint),
+    /// A child that the key goes on with.
+    Down(Spot),
+}
+
+// One step on the way down, or `None` where an unequal stored key is related to the key.
+fn next_step<K: AsBytes + Drop, V: Drop, const PREFIX_LEN: usize>(
+    store: &NodeStore<K, V, PREFIX_LEN>,
+    root: OpaqueNodePtr,
+    key_bytes: &[u8],
+    spot: Spot,
+) -> Option<Step>
+    requires root { IsCanonicalRoot (of_key K.bytes) PREFIX_LEN store.now root }
+    requires depth { spot.depth ≤ length key_bytes.now }
+    requires spot { ForTree (of_key K.bytes) PREFIX_LEN store.now root (λ pairs layout. IsAt (of_key K.bytes) PREFIX_LEN key_bytes.now layout spot) }
+    ensures { ForTree (of_key K.bytes) PREFIX_LEN store.now root (λ pairs layout. IsStepFrom (of_key K.bytes) PREFIX_LEN key_bytes.now pairs layout spot.depth result) }
+{
+    match spot.name.split() {
+        NodePtr::Inner(inner) => step_at_inner(store, root, key_bytes, spot, inner),
+        NodePtr::Leaf(leaf_node_ptr) => {
+            let Some(leaf) = store.leaf(leaf_node_ptr) else {
+                unreachable!()
+            };
+            let insert_kind = kind_at_leaf(leaf_node_ptr, leaf, key_bytes)?;
+            Some(Step::Point(spot.point(root, insert_kind, spot.depth)))
+        }
+    }
+}
+
+// The same at an inner node.
+fn step_at_inner<K: AsBytes + Drop, V: Drop, const PREFIX_LEN: usize>(
+    store: &NodeStore<K, V, PREFIX_LEN>,
+    root: OpaqueNodePtr,
+    key_bytes: &[u8],
+    spot: Spot,
+    inner: InnerPtr,
+) -> Option<Step>
+    requires root { IsCanonicalRoot (of_key K.bytes) PREFIX_LEN store.now root }
+    requires depth { spot.depth ≤ length key_bytes.now }
+    requires spot { ForTree (of_key K.bytes) PREFIX_LEN store.now root (λ pairs layout. IsAt (of_key K.bytes) PREFIX_LEN key_bytes.now layout spot) }
+    requires inner { inner.kind ≢ Leaf }
+    requires name { inner_name inner ≡ spot.name }
+    ensures { ForTree (of_key K.bytes) PREFIX_LEN store.now root (λ pairs layout. IsStepFrom (of_key K.bytes) PREFIX_LEN key_bytes.now pairs layout spot.depth result) }
+{
+    let matched = match match_full_prefix(store, inner, key_bytes, spot.depth) {
+        Ok(matched) => matched,
+        Err(mismatch) => {
+            if spot.depth + mismatch.matched_bytes >= key_bytes.len() {
+                return None;
+            }
+            let insert_kind = InsertKind::MismatchPrefix {
+                mismatch,
+                mismatched_inner_node_ptr: inner,
+            };
+            return Some(Step::Point(spot.point(root, insert_kind, spot.depth)));
+        }
+    };
+    let depth = spot.depth + matched.matched_bytes;
+    if depth >= key_bytes.len() {
+        return None;
+    }
+    let Some(node) = store.inner(inner) else {
+        unreachable!()
+    };
+    let byte = key_bytes[depth];
+    let Some(child) = node.lookup_child(byte) else {
+        let insert_kind = InsertKind::IntoExisting {
+            inner_node_ptr: inner,
+        };
+        return Some(Step::Point(spot.point(root, insert_kind, depth)));
+    };
+    Some(Step::Down(Spot {
+        path: spot.path.step_down(inner, byte),
+        name: child,
+        depth: depth + 1,
+    }))
 }
 
 // What is to be done at a leaf, or `None` where its key and the key are related but not equal.

@@ -3,9 +3,9 @@ ghost use Rattle.std.specs.Prelude.{◌≡◌, ◌+◌, ◌<◌, ◌≤◌, ◌^
 ghost use Rattle.art_model.specs.Lookups.{FindsLeaf, nodes_on_way};
 ghost use Rattle.art_model.specs.Pairs.{match_of, of_key, with_key};
 ghost use Rattle.art_model.specs.Roots.{ForTree, IsCanonicalRoot};
-ghost use Rattle.art_operations.specs.Walks.{WalkEnds};
+ghost use Rattle.art_operations.specs.Walks.{IsKeysLeaf, WalkEnds};
 
-use crate::path::{AttemptOptimisticPrefixMatch, PessimisticMismatch};
+use crate::path::{AttemptOptimisticPrefixMatch, PessimisticMismatch, TreePath};
 use art_nodes::node::{
     AsBytes, InnerNode, LeafNode, LeafPtr, NodePtr, OpaqueNodePtr, OptionalLeafPtr,
 };
@@ -175,8 +175,10 @@ impl Visits {
 
 // The leaf that a way down ends at, and how its key is to be compared there.
 #[derive(Clone, Copy)]
-struct LastLeaf<'a, K, V> {
-    name: LeafPtr,
+pub(crate) struct LastLeaf<'a, K, V> {
+    /// The nodes right above the leaf.
+    pub(crate) path: TreePath,
+    pub(crate) name: LeafPtr,
     node: &'a LeafNode<K, V>,
     depth: usize,
     behavior: PrefixMatchBehavior,
@@ -195,6 +197,7 @@ fn walk<'a, K: AsBytes + Drop, V: Drop, const PREFIX_LEN: usize>(
         WalkEnds (of_key K.bytes) key_bytes.now pairs layout visits.old visits.new result) }
     ensures at_most { visits.new ≤ visits.old + length key_bytes.now + 1 }
 {
+    let mut path = TreePath::Root;
     let mut name = root;
     let mut depth = 0;
     let mut behavior = PrefixMatchBehavior::Pessimistic;
@@ -207,6 +210,7 @@ fn walk<'a, K: AsBytes + Drop, V: Drop, const PREFIX_LEN: usize>(
                     unreachable!()
                 };
                 return Some(LastLeaf {
+                    path,
                     name,
                     node,
                     depth,
@@ -226,8 +230,37 @@ fn walk<'a, K: AsBytes + Drop, V: Drop, const PREFIX_LEN: usize>(
         if depth >= key_bytes.len() {
             return None;
         }
-        name = node.lookup_child(key_bytes[depth])?;
+        let byte = key_bytes[depth];
+        name = node.lookup_child(byte)?;
+        path = path.step_down(inner, byte);
         depth += 1;
+    }
+}
+
+// Goes down with a key to its own leaf, or to `None` where no stored key is equal to it.
+pub(crate) fn walk_to_key<'a, K: AsBytes + Drop, V: Drop, const PREFIX_LEN: usize>(
+    store: &'a NodeStore<K, V, PREFIX_LEN>,
+    root: OpaqueNodePtr,
+    key_bytes: &[u8],
+    visits: &mut Visits,
+) -> Option<LastLeaf<'a, K, V>>
+    requires root { IsCanonicalRoot (of_key K.bytes) PREFIX_LEN store.now root }
+    requires room { visits.old + length key_bytes.now + 1 < 2 ^ 64 }
+    ensures leaf { ForTree (of_key K.bytes) PREFIX_LEN store.now root (λ pairs layout.
+        IsKeysLeaf (of_key K.bytes) key_bytes.now pairs layout result) }
+    ensures at_least { ForTree (of_key K.bytes) PREFIX_LEN store.now root (λ pairs layout.
+        visits.old + length (nodes_on_way (of_key K.bytes) key_bytes.now layout) ≤ visits.new) }
+    ensures exactly { ForTree (of_key K.bytes) PREFIX_LEN store.now root (λ pairs layout.
+        IsSome result →
+        visits.old + length (nodes_on_way (of_key K.bytes) key_bytes.now layout) ≡ visits.new) }
+    ensures at_most { visits.new ≤ visits.old + length key_bytes.now + 1 }
+{
+    let last = walk(store, root, key_bytes, visits)?;
+    let behavior = last.behavior;
+    if behavior.matches_leaf_key(last.node, key_bytes, last.depth) {
+        Some(last)
+    } else {
+        None
     }
 }
 
@@ -266,13 +299,8 @@ pub fn search_visiting<K: AsBytes + Drop, V: Drop, const PREFIX_LEN: usize>(
         visits.old + length (nodes_on_way (of_key K.bytes) key_bytes.now layout) ≡ visits.new) }
     ensures at_most { visits.new ≤ visits.old + length key_bytes.now + 1 }
 {
-    let last = walk(store, root, key_bytes, visits)?;
-    let behavior = last.behavior;
-    if behavior.matches_leaf_key(last.node, key_bytes, last.depth) {
-        Some(last.name)
-    } else {
-        None
-    }
+    let last = walk_to_key(store, root, key_bytes, visits)?;
+    Some(last.name)
 }
 
 /// The leaf whose key is a prefix of these bytes or equal to them, or `None` where there is none.

@@ -28,7 +28,7 @@ pub enum TreePath {
 
 impl TreePath {
     ghost use Rattle.art_operations.specs.Points.{step_down};
-    ghost use Rattle.art_operations.specs.Writes.{last_step};
+    ghost use Rattle.art_operations.specs.Writes.{last_step, up};
 
     /// The parent at the end of the path, with the byte under which it has the node.
     pub(crate) fn last_step(self) -> Option<(InnerPtr, u8)>
@@ -45,6 +45,23 @@ impl TreePath {
                 child_key_byte,
                 ..
             } => Some((parent, child_key_byte)),
+        }
+    }
+
+    /// The path to the parent of this path's node. It ends with the grandparent, whatever is above.
+    pub(crate) fn up(self) -> TreePath
+        ensures { result ≡ up self }
+    {
+        match self {
+            TreePath::Root | TreePath::ChildOfRoot { .. } => TreePath::Root,
+            TreePath::Normal {
+                grandparent,
+                parent_key_byte,
+                ..
+            } => TreePath::ChildOfRoot {
+                parent: grandparent,
+                child_key_byte: parent_key_byte,
+            },
         }
     }
 

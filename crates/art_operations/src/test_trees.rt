@@ -55,6 +55,28 @@ pub fn keys_of_zeros(alloc: Global) -> Result<Vec<Key>, Fail> {
     Ok(keys)
 }
 
+/// All keys of three bytes, each byte less than its limit.
+pub fn keys_of_three(alloc: Global, limits: [u8; 3]) -> Result<Vec<Key>, Fail> {
+    let mut keys = Vec::new(alloc);
+    for a in 0..limits[0] {
+        for b in 0..limits[1] {
+            for c in 0..limits[2] {
+                keys.push([a, b, c].to_vec(alloc)?)?;
+            }
+        }
+    }
+    Ok(keys)
+}
+
+/// The child of an inner node under a byte.
+pub fn child<K: AsBytes + Drop, const P: usize>(
+    store: &NodeStore<K, u32, P>,
+    node: OpaqueNodePtr,
+    byte: u8,
+) -> Option<OpaqueNodePtr> {
+    store.inner(node.as_inner()?)?.lookup_child(byte)
+}
+
 /// The value of a leaf.
 pub fn value_of<K: AsBytes + Drop, const P: usize>(
     store: &NodeStore<K, u32, P>,

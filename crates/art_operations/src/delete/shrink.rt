@@ -11,6 +11,7 @@ ghost use Rattle.art_nodes.specs.Kinds.{kind_least, smaller_kind};
 ghost use Rattle.art_operations.specs.Deleted.{shrinks};
 
 use super::{DeletePoint, DeleteRefused, DeleteResult};
+use crate::writes::{replace_at, take_from_between};
 use art_nodes::node::{AsBytes, InnerPtr, NodeType, OpaqueNodePtr};
 use art_nodes::store::NodeStore;
 
@@ -31,7 +32,12 @@ impl DeletePoint {
         ensures touches { TouchesFor (parent_change store.old self.path) store.old store.new }
         ensures promise { store.new.promise ≡ store.old.promise }
     {
-        unreachable!()
+        let deleted_leaf = take_from_between(store, self.leaf_node_ptr);
+        store.remove_child(parent, byte);
+        DeleteResult {
+            new_root: Some(root),
+            deleted_leaf,
+        }
     }
 
     /// Takes a leaf out, and puts a node of the next smaller kind in the place of its parent.
@@ -56,6 +62,32 @@ impl DeletePoint {
         ensures inners { OnErr result (store.new.inners ≡ store.old.inners) }
         ensures void { OnErr result (store.new.promise ≡ no_promise) }
     {
-        unreachable!()
+        let smaller = next_smaller(parent.kind);
+        if store.reserve(0, Some(smaller)).is_err() {
+            return Err(DeleteRefused { point: self });
+        }
+        let deleted_leaf = take_from_between(store, self.leaf_node_ptr);
+        let mut node = store.free_inner(parent);
+        node.remove_child(byte);
+        let Ok(node) = store.place_inner(node.shrink()) else {
+            unreachable!()
+        };
+        let new_root = replace_at(store, self.path.up(), root, node.to_opaque());
+        Ok(DeleteResult {
+            new_root: Some(new_root),
+            deleted_leaf,
+        })
+    }
+}
+
+// The kind with room for fewer children; the smallest is its own.
+fn next_smaller(kind: NodeType) -> NodeType
+    ensures { result ≡ smaller_kind kind }
+{
+    match kind {
+        NodeType::Node4 | NodeType::Node16 => NodeType::Node4,
+        NodeType::Node48 => NodeType::Node16,
+        NodeType::Node256 => NodeType::Node48,
+        NodeType::Leaf => NodeType::Leaf,
     }
 }

@@ -1,14 +1,14 @@
 use Rattle.std.proofs.Common.{◌-◌, ◌≤◌, length}
 use Rattle.art_model.specs.Pairs.{of_key}
 use Rattle.art_model.specs.Roots.{ForTree}
-use Rattle.art_operations.proofs.Spots.{IsAt}
+use Rattle.art_operations.specs.Points.{IsAt}
 use Rattle.art_operations.proofs.insert.find_point.Given as goal
 
 abbrev pub invariant-down : goal.invariant-down
 invariant-down g l = record {
-  short : l.depth ≤ length l.key_bytes;
-  at : ForTree (of_key g.K.AsBytes.bytes) g.row.PREFIX_LEN l.store l.fn.root (λ pairs layout. IsAt (of_key g.K.AsBytes.bytes) g.row.PREFIX_LEN l.key_bytes layout l.path l.name l.depth);
+  short : l.spot.depth ≤ length l.key_bytes;
+  at : ForTree (of_key g.K.AsBytes.bytes) g.row.PREFIX_LEN l.store l.fn.root (λ pairs layout. IsAt (of_key g.K.AsBytes.bytes) g.row.PREFIX_LEN l.key_bytes layout l.spot);
 }
 
 abbrev pub decreases-down : goal.decreases-down
-decreases-down g l = length l.key_bytes - l.depth
+decreases-down g l = length l.key_bytes - l.spot.depth

@@ -1,27 +1,11 @@
-use Rattle.art_model.specs.Pairs.{of_key}
-use Rattle.art_operations.proofs.Ends.{found_equal, counted_equal, lost_equal, none_equal}
+use Rattle.art_model.specs.Stores.{pair_of}
 use Rattle.art_operations.proofs.lookup.search_visiting.Goals as goal
 
 pub returns-in_err-last-clause-leaf : goal.returns-in_err-last-clause-leaf
-returns-in_err-last-clause-leaf g c pairs layout by = rw c.from_residual.ensures (none_equal (of_key g.K.AsBytes.bytes) c.args.key_bytes.now pairs (c.in_err-last.ensures.ends pairs layout by).0)
+returns-in_err-last-clause-leaf g c pairs layout by = rw c.from_residual.ensures (c.in_err-last.ensures.leaf pairs layout by)
 
-pub returns-in_err-last-clause-at_least : goal.returns-in_err-last-clause-at_least
-returns-in_err-last-clause-at_least g c pairs layout by = (c.in_err-last.ensures.ends pairs layout by).1
+pub returns-clause-leaf : goal.returns-clause-leaf
+returns-clause-leaf g c pairs layout by = let found = c.in_ok-last.ensures.leaf pairs layout by in (pair_of c.in_ok-last.last.node.now, found.0, found.1.0)
 
-pub returns-then-matches_leaf_key-clause-leaf : goal.returns-then-matches_leaf_key-clause-leaf
-returns-then-matches_leaf_key-clause-leaf g c pairs layout by = found_equal (c.in_ok-last.ensures.ends pairs layout by) c.matches_leaf_key.ensures c.if-matches_leaf_key.true
-
-pub returns-then-matches_leaf_key-clause-at_least :
-    goal.returns-then-matches_leaf_key-clause-at_least
-returns-then-matches_leaf_key-clause-at_least g c pairs layout by = (c.in_ok-last.ensures.ends pairs layout by).at_least
-
-pub returns-then-matches_leaf_key-clause-exactly :
-    goal.returns-then-matches_leaf_key-clause-exactly
-returns-then-matches_leaf_key-clause-exactly g c pairs layout by found = counted_equal (c.in_ok-last.ensures.ends pairs layout by) c.matches_leaf_key.ensures c.if-matches_leaf_key.true
-
-pub returns-else-matches_leaf_key-clause-leaf : goal.returns-else-matches_leaf_key-clause-leaf
-returns-else-matches_leaf_key-clause-leaf g c pairs layout by = lost_equal (c.in_ok-last.ensures.ends pairs layout by) c.matches_leaf_key.ensures c.if-matches_leaf_key.false
-
-pub returns-else-matches_leaf_key-clause-at_least :
-    goal.returns-else-matches_leaf_key-clause-at_least
-returns-else-matches_leaf_key-clause-at_least g c pairs layout by = (c.in_ok-last.ensures.ends pairs layout by).at_least
+pub returns-clause-exactly : goal.returns-clause-exactly
+returns-clause-exactly g c pairs layout by found = c.in_ok-last.ensures.exactly pairs layout by found

@@ -46,5 +46,5 @@ down-preserved g c = record {
   on_way = λ pairs layout by.
       let d = c.down.invariant.on_way pairs layout by in
       let at = shown_there by d c.in-Inner.ensures.proper c.in-Inner.ensures.name c.in-Some-inner.ensures.view in
-      steps by d at c.down.invariant.short c.add_one.ensures (read c.header-header.ensures c.prefix_len.ensures c.read_prefix.ensures.stored (take_rest c.args.key_bytes.now c.down.depth)) c.match_stored.ensures.outcome c.in_ok-matched.ensures.value c.match_stored.ensures.behavior c.if-depth-key_bytes.false c.in_ok-name.ensures;
+      rw c.step_down-path.ensures (steps by d at c.down.invariant.short c.add_one.ensures (read c.header-header.ensures c.prefix_len.ensures c.read_prefix.ensures.stored (take_rest c.args.key_bytes.now c.down.depth)) c.match_stored.ensures.outcome c.in_ok-matched.ensures.value c.match_stored.ensures.behavior c.if-depth-key_bytes.false c.in_ok-name.ensures);
 }

@@ -4,11 +4,12 @@ use Rattle.art_model.specs.Trees.{Tree}
 use Rattle.art_model.specs.Stores.{node_at}
 use Rattle.art_model.specs.Heights.{height}
 use Rattle.art_model.specs.Roots.{IsFullTree}
-use Rattle.art_model.proofs.Edges.{AreFirst, IsAtEdge}
-use Rattle.art_operations.proofs.minmax.minimum_unchecked.Given as goal
+use Rattle.art_model.proofs.Edges.{IsAtEdge}
+use Rattle.art_operations.proofs.Along.{IsAlong}
+use Rattle.art_operations.proofs.minmax.walk_to_end.Given as goal
 
 abbrev pub invariant-down : goal.invariant-down
-invariant-down g l = (layout : Tree OpaqueNodePtr (g.row.K.Denot × g.row.V.Denot)) → IsFullTree l.store l.fn.root layout → IsAtEdge AreFirst l.store layout l.name
+invariant-down g l = (layout : Tree OpaqueNodePtr (g.row.K.Denot × g.row.V.Denot)) → IsFullTree l.store l.fn.root layout → IsAtEdge (IsAlong l.end l.path) l.store layout l.name
 
 abbrev pub decreases-down : goal.decreases-down
 decreases-down g l = height (node_at l.store) (map.len l.store.inners) l.name

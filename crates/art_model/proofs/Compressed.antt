@@ -1,0 +1,305 @@
+-- A deletion that leaves a node one child, from the equations of the store's maps: the child takes the node's place, with a longer prefix where it is an inner node.
+use Rattle.std.proofs.Common.{◌≡◌, ◌≢◌, ℕ, ◌+◌, ◌≤◌, List, [], ◌∷◌, ◌++◌, length, take, map, Option, Some, None, refl, ap, sym, ◌∙◌, subst, arith, length-append, append-nil, append_assoc, ◌⊎◌, inl, inr}
+use Rattle.std.specs.List.{AllByRecursion as Each}
+use Rattle.std.specs.Option.{option_map}
+use Rattle.std.specs.FinMap.{get, remove}
+use Rattle.art_nodes.specs.Changes.{with_header}
+use Rattle.art_nodes.specs.Inner as nodes
+use Rattle.art_nodes.specs.Names.{leaf_name, inner_name}
+use Rattle.art_nodes.specs.Nodes.{Nodes, change}
+use Rattle.art_nodes.specs.declared.node.NodeType.{NodeType}
+use Rattle.art_nodes.specs.declared.node.NodeType.TheVariants.{Leaf}
+use Rattle.art_nodes.specs.declared.node.LeafPtr.{LeafPtr}
+use Rattle.art_nodes.specs.declared.node.InnerPtr.{InnerPtr}
+use Rattle.art_nodes.specs.declared.node.LeafNode.{LeafNode}
+use Rattle.art_nodes.specs.declared.node.OpaqueNodePtr.{OpaqueNodePtr}
+use Rattle.art_nodes.proofs.NameLemmas.{inner_cmp_total, inner_cmp-IsAntisymmetric}
+use Rattle.art_nodes.proofs.StoreLaws.{inner_changed_at, inner_changed_elsewhere, inner_gone_elsewhere}
+use Rattle.art_model.specs.Trees.{Tree, leaf, inner, Children, child, no_child, Header, header_of}
+use Rattle.art_model.specs.Radix.{IsRadix, bytes_of, join}
+use Rattle.art_model.specs.Pairs.{remove_key}
+use Rattle.art_model.specs.Paths.{Frame, plug, names_before, names_after, leaves_before, leaves_after, HoldsPath}
+use Rattle.art_model.specs.Layouts.{Node, inner_node, name_of, slots_of, names_of, names_below, leaf_names_below, Holds}
+use Rattle.art_model.specs.Stores.{node_at, links_at, pair_of}
+use Rattle.art_model.specs.Writes.{Inners, as_inner, parent_of, with_child_at}
+use Rattle.art_model.specs.Kept.{ChangesInPlace}
+use Rattle.art_model.specs.Footprints.{IsIn, TouchesAtMost}
+use Rattle.art_model.proofs.Canonical.{IsLaidOut}
+use Rattle.art_model.proofs.InPlace.{AreNames, in_place}
+use Rattle.art_model.proofs.Lists.{Each-append, each_in, each_from, each_map, in_left, in_right, in_either, in_around}
+use Rattle.art_model.proofs.Paths.{IsHole, root_with, names_of-plug, names_below-join}
+use Rattle.art_model.proofs.Stores.{IsParent, ParentHas, SameBut, path_holds, parent_apart, parent_before, hole_distinct}
+use Rattle.art_model.proofs.Regrown.{left_child_held}
+use Rattle.art_model.proofs.Links.{Relinked}
+use Rattle.art_model.proofs.Removed.{NodeRemoved, node_removed, node_removed_keeps, node_removed_keeps_leaves, raised_leaf, merged_node}
+use Rattle.art_model.proofs.Touches.{Touched, IsInner, both_names, footprint_of, touches_at_most, touched_none, then_freed, then_changed}
+use Rattle.art_model.proofs.Leaves.{listed, length-listed}
+use Rattle.art_model.proofs.Placed.{LeafTaken, taken_pairs, taken_relinked, taken_touched}
+use Rattle.art_model.proofs.Taken.{beside_in}
+use Rattle.art_model.proofs.Writes.{inner_at, node_at-inner, same_but, parent_written, parent_there, parents, length-parents, then_parent, with_child_at-elsewhere, inner_name_one}
+
+-- ---- a subtree with a longer prefix
+
+module _ {A : Type 0} (P : ℕ) (prefix : List ℕ) where
+  -- an inner node gets this prefix, a leaf has none
+  abbrev pub with_prefix : Tree OpaqueNodePtr A → Tree OpaqueNodePtr A
+  with_prefix (leaf k y) = leaf k y
+  with_prefix (inner k head cs) = inner k (header_of P prefix (length (bytes_of cs))) cs
+
+  -- and so in a store
+  abbrev pub prefix_written : Tree OpaqueNodePtr A → Inners → Inners
+  prefix_written (leaf k y) inners = inners
+  prefix_written (inner k head cs) inners = change inners (as_inner k) (with_header (nodes.header_of P prefix))
+
+-- the node whose prefix is written
+abbrev pub rewritten : {A : Type 0} → Tree OpaqueNodePtr A → List OpaqueNodePtr
+rewritten (leaf k y) = []
+rewritten (inner k head cs) = k ∷ []
+
+-- the whole prefix of a node; a leaf has none
+abbrev pub prefix_at : {A : Type 0} (bytes : A → List ℕ) (P : ℕ) (place : List ℕ) (t : Tree OpaqueNodePtr A) → IsRadix bytes P place t → List ℕ
+prefix_at bytes P place (leaf k y) radix = []
+prefix_at bytes P place (inner k head cs) radix = radix.0
+
+-- A leaf is taken from a node that has one other child, `v`; the node goes, and `v` takes its place, with the node's prefix and its own byte in front of its own prefix.
+pub record Compressed {K V : Type 0} (bytes : K × V → List ℕ) (P : ℕ) (s t : Nodes K V) (fs : List (Frame OpaqueNodePtr (K × V))) (place : List ℕ) (m : OpaqueNodePtr) (h : Header) (l r : Children OpaqueNodePtr (K × V)) (b : ℕ) (n : LeafPtr) (x : LeafNode K V) (c : ℕ) (v : Tree OpaqueNodePtr (K × V)) : Type 0 where
+  pub hole : IsHole bytes P fs place (inner m h (join l (child b (leaf (leaf_name n) (pair_of x)) r))) (bytes (pair_of x))
+  pub one : join l r ≡ child c v no_child
+  pub radix : IsRadix bytes P ((place ++ hole.radix.0) ++ c ∷ []) v
+  pub taken : LeafTaken s t (plug fs (inner m h (join l (child b (leaf (leaf_name n) (pair_of x)) r)))) (leaves_before fs ++ leaf_names_below l) (leaf_names_below r ++ leaves_after fs) n x
+  pub inners : t.inners ≡ with_child_at (parent_of fs) (name_of v) (prefix_written P (hole.radix.0 ++ c ∷ prefix_at bytes P ((place ++ hole.radix.0) ++ c ∷ []) v radix) v (remove s.inners (as_inner m)))
+
+-- ---- the names around a hole
+
+module _ {N A : Type 0} (fs : List (Frame N A)) where
+  -- a name of the hole is one of the whole
+  pub in_hole : (t : Tree N A) (k : N) → IsIn k (names_of t) → IsIn k (names_of (plug fs t))
+  in_hole t k i = subst (IsIn k) (sym (names_of-plug fs t)) (in_left k (names_before fs ++ names_of t) (names_after fs) (in_right k (names_before fs) (names_of t) i))
+
+  -- and so is the parent's
+  pub parent_in : (t : Tree N A) (k : N) → IsParent fs k → IsIn k (names_of (plug fs t))
+  parent_in t k is = subst (IsIn k) (sym (names_of-plug fs t)) (in_left k (names_before fs ++ names_of t) (names_after fs) (in_left k (names_before fs) (names_of t) (parent_before fs k is)))
+
+  -- A name of the whole stays, but for one of the hole that doesn't.
+  pub around_hole : (t u : Tree N A) (Q : Type 0) (k : N) → (IsIn k (names_of t) → IsIn k (names_of u) ⊎ Q) → IsIn k (names_of (plug fs t)) → IsIn k (names_of (plug fs u)) ⊎ Q
+  around_hole t u Q k f i = elim (in_either k (names_before fs ++ names_of t) (names_after fs) (subst (IsIn k) (names_of-plug fs t) i)) [
+    | inl j ↦ elim (in_either k (names_before fs) (names_of t) j) [
+      | inl a ↦ inl (back (in_left k (names_before fs ++ names_of u) (names_after fs) (in_left k (names_before fs) (names_of u) a)))
+      | inr a ↦ elim (f a) [ inl e ↦ inl (in_hole u k e) | inr q ↦ inr q ]
+    ]
+    | inr j ↦ inl (back (in_right k (names_before fs ++ names_of u) (names_after fs) j))
+  ]
+    where
+      back : IsIn k (names_before fs ++ names_of u ++ names_after fs) → IsIn k (names_of (plug fs u))
+      back = subst (IsIn k) (sym (names_of-plug fs u))
+
+-- parents are inner nodes
+parents_inner : {A : Type 0} (fs : List (Frame OpaqueNodePtr A)) → ((k : OpaqueNodePtr) → IsParent fs k → k.kind ≢ Leaf) → Each IsInner (parents fs)
+parents_inner [] h = tt
+parents_inner (f ∷ fs) h = (h f.mark refl, tt)
+
+-- and stand for names of the whole
+parents_each : {A : Type 0} (Q : OpaqueNodePtr → Type 0) (fs : List (Frame OpaqueNodePtr A)) → ((k : OpaqueNodePtr) → IsParent fs k → Q k) → Each (λ p. Q (inner_name p)) (parents fs)
+parents_each Q [] h = tt
+parents_each Q (f ∷ fs) h = (h f.mark refl, tt)
+
+module _ {A : Type 0} where
+  -- the node that is written is one of the subtree
+  rewritten_in : (w : Tree OpaqueNodePtr A) (k : OpaqueNodePtr) → IsIn k (rewritten w) → IsIn k (names_of w)
+  rewritten_in (leaf j y) k i = absurd i
+  rewritten_in (inner j head cs) k (inl e) = inl e
+  rewritten_in (inner j head cs) k (inr i) = absurd i
+
+  -- and there is at most one
+  length-rewritten : (w : Tree OpaqueNodePtr A) → length (map as_inner (rewritten w)) ≤ 1
+  length-rewritten (leaf j y) = omega arith
+  length-rewritten (inner j head cs) = omega arith
+
+  -- what holds of it
+  rewritten_each : (Q : InnerPtr → Type 0) (w : Tree OpaqueNodePtr A) → ((k : OpaqueNodePtr) → IsIn k (rewritten w) → Q (as_inner k)) → Each Q (map as_inner (rewritten w))
+  rewritten_each Q (leaf j y) h = tt
+  rewritten_each Q (inner j head cs) h = (h j (inl refl), tt)
+
+  -- a subtree's own name is one of its names
+  pub own_name : (w : Tree OpaqueNodePtr A) → IsIn (name_of w) (names_of w)
+  own_name (leaf j y) = inl refl
+  own_name (inner j head cs) = inl refl
+
+  -- and it keeps it
+  name_of-with_prefix : (P : ℕ) (prefix : List ℕ) (w : Tree OpaqueNodePtr A) → name_of (with_prefix P prefix w) ≡ name_of w
+  name_of-with_prefix P prefix (leaf j y) = refl
+  name_of-with_prefix P prefix (inner j head cs) = refl
+
+module _ {K V : Type 0} {bytes : K × V → List ℕ} {P : ℕ} {s t : Nodes K V} {root : OpaqueNodePtr} {pairs : List (K × V)} {fs : List (Frame OpaqueNodePtr (K × V))} {place : List ℕ} {m : OpaqueNodePtr} {h : Header} {l r : Children OpaqueNodePtr (K × V)} {b : ℕ} {n : LeafPtr} {x : LeafNode K V} {c : ℕ} {v : Tree OpaqueNodePtr (K × V)}
+    (old : IsLaidOut bytes P (node_at s) (links_at s) root pairs (plug fs (inner m h (join l (child b (leaf (leaf_name n) (pair_of x)) r))))) (is : Compressed bytes P s t fs place m h l r b n x c v) where
+  abbrev gone : Tree OpaqueNodePtr (K × V)
+  gone = inner m h (join l (child b (leaf (leaf_name n) (pair_of x)) r))
+
+  abbrev below : List OpaqueNodePtr
+  below = names_below (join l (child b (leaf (leaf_name n) (pair_of x)) r))
+
+  -- the inner nodes before the parent is written
+  abbrev middle : Inners
+  middle = prefix_written P (is.hole.radix.0 ++ c ∷ prefix_at bytes P ((place ++ is.hole.radix.0) ++ c ∷ []) v is.radix) v (remove s.inners (as_inner m))
+
+  held : HoldsPath (node_at s) m fs × Holds (node_at s) gone
+  held = path_holds (node_at s) fs gone old.holds
+
+  -- the child that is left is held
+  pub v_held : Holds (node_at s) v
+  v_held = left_child_held (node_at s) (node_at t) fs m h l (child b (leaf (leaf_name n) (pair_of x)) no_child) r old.holds old.distinct c v is.one
+
+  -- ---- which names are which
+
+  left_names : names_of v ≡ names_below l ++ names_below r
+  left_names = sym (ap names_below is.one ∙ append-nil (names_of v)) ∙ names_below-join l r
+
+  below_is : below ≡ names_below l ++ leaf_name n ∷ names_below r
+  below_is = names_below-join l (child b (leaf (leaf_name n) (pair_of x)) r)
+
+  -- a name of the child that is left is one below the node
+  pub left_in : (k : OpaqueNodePtr) → IsIn k (names_of v) → IsIn k below
+  left_in k i = subst (IsIn k) (sym below_is) (subst (IsIn k) (append_assoc (names_below l) (leaf_name n ∷ []) (names_below r)) (in_around k (names_below l) (leaf_name n ∷ []) (names_below r) (subst (IsIn k) left_names i)))
+
+  of_hole : (k : OpaqueNodePtr) → IsIn k (names_of gone) → IsIn k (names_of v) ⊎ IsIn k (leaf_name n ∷ m ∷ [])
+  of_hole k (inl e) = inr (inr (inl e))
+  of_hole k (inr i) = elim (in_either k (names_below l) (leaf_name n ∷ names_below r) (subst (IsIn k) below_is i)) [
+    | inl j ↦ inl (subst (IsIn k) (sym left_names) (in_left k (names_below l) (names_below r) j))
+    | inr j ↦ elim j [ inl e ↦ inr (inl e) | inr a ↦ inl (subst (IsIn k) (sym left_names) (in_right k (names_below l) (names_below r) a)) ]
+  ]
+
+  -- and not the node's
+  pub off_node : (k : OpaqueNodePtr) → IsIn k (names_of v) → k ≢ m
+  off_node k i e = each_in (λ z. m ≢ z) k below (hole_distinct (node_at s) (node_at t) fs gone old.holds old.distinct).0 (left_in k i) (sym e)
+
+  off_parent : (k : OpaqueNodePtr) → IsIn k (names_of gone) → IsParent fs k → ⊥
+  off_parent k i up = parent_apart (node_at s) (node_at t) fs gone old.holds old.distinct k up i
+
+  -- ---- what the inner nodes are
+
+  node_there : (m.kind ≢ Leaf) × (get s.inners (as_inner m) ≢ None)
+  node_there = let (off, node, got, head, kids) = inner_at s m h (slots_of (join l (child b (leaf (leaf_name n) (pair_of x)) r))) held.1.0 in (off, λ e. absurd (cc (got, e)))
+
+  rewritten_there : (k : OpaqueNodePtr) → IsIn k (rewritten v) → (k.kind ≢ Leaf) × (get s.inners (as_inner k) ≢ None)
+  rewritten_there k i = go v v_held i
+    where
+      go : (w : Tree OpaqueNodePtr (K × V)) → Holds (node_at s) w → IsIn k (rewritten w) → (k.kind ≢ Leaf) × (get s.inners (as_inner k) ≢ None)
+      go (leaf j y) e i = absurd i
+      go (inner j head cs) holds (inl e) = let (off, node, got, head, kids) = inner_at s j head (slots_of cs) holds.0 in subst (λ (z : OpaqueNodePtr). (z.kind ≢ Leaf) × (get s.inners (as_inner z) ≢ None)) e (off, λ f. absurd (cc (got, f)))
+      go (inner j head cs) holds (inr i) = absurd i
+
+  middle_elsewhere : (k : OpaqueNodePtr) → k ≢ m → (IsIn k (rewritten v) → ⊥) → get middle (as_inner k) ≡ get s.inners (as_inner k)
+  middle_elsewhere k off non = go v (is.hole.radix.0 ++ c ∷ prefix_at bytes P ((place ++ is.hole.radix.0) ++ c ∷ []) v is.radix) non
+    where
+      without : get (remove s.inners (as_inner m)) (as_inner k) ≡ get s.inners (as_inner k)
+      without = inner_gone_elsewhere s.inners (as_inner m) (as_inner k) (λ e. off (inner_name_one k m e))
+
+      go : (w : Tree OpaqueNodePtr (K × V)) (prefix : List ℕ) → (IsIn k (rewritten w) → ⊥) → get (prefix_written P prefix w (remove s.inners (as_inner m))) (as_inner k) ≡ get s.inners (as_inner k)
+      go (leaf j y) prefix f = without
+      go (inner j head cs) prefix f = inner_changed_elsewhere (remove s.inners (as_inner m)) (as_inner j) (as_inner k) (with_header (nodes.header_of P prefix)) (λ e. f (inl (sym (inner_name_one k j e)))) ∙ without
+
+  -- the parent is still as it was then
+  pub above_same : (k : OpaqueNodePtr) → IsParent fs k → get middle (as_inner k) ≡ get s.inners (as_inner k)
+  above_same k up = middle_elsewhere k (λ e. off_parent k (inl (sym e)) up) (λ i. off_parent k (inr (left_in k (rewritten_in v k i))) up)
+
+  inners_elsewhere : (k : OpaqueNodePtr) → (IsParent fs k → ⊥) → get t.inners (as_inner k) ≡ get middle (as_inner k)
+  inners_elsewhere k off = ap (λ z. get z (as_inner k)) is.inners ∙ with_child_at-elsewhere fs (name_of v) middle k off
+
+  parent_has : ParentHas (node_at t) fs (name_of v)
+  parent_has = parent_written bytes P s t middle fs place m (name_of v) is.hole.path held.0 above_same (λ k up. ap (λ z. get z (as_inner k)) is.inners)
+
+  same : SameBut (node_at s) (node_at t) fs (rewritten v ++ m ∷ leaf_name n ∷ [])
+  same = same_but s t fs (rewritten v ++ m ∷ leaf_name n ∷ [])
+      (λ p i used. taken_pairs old.holds old.distinct old.linked is.taken p (λ e. i (in_right (leaf_name p) (rewritten v) (m ∷ leaf_name n ∷ []) (inr (inl (ap leaf_name (sym e)))))))
+      (λ k kind up i used. inners_elsewhere k up ∙ middle_elsewhere k (λ e. i (in_right k (rewritten v) (m ∷ leaf_name n ∷ []) (inl (sym e)))) (λ j. i (in_left k (rewritten v) (m ∷ leaf_name n ∷ []) j)))
+
+  -- ---- the child that is left
+
+  removed : NodeRemoved bytes P (node_at s) (node_at t) (links_at s) (links_at t) fs place m (leaf_name n) h l r b c (pair_of x) v (with_prefix P (is.hole.radix.0 ++ c ∷ prefix_at bytes P ((place ++ is.hole.radix.0) ++ c ∷ []) v is.radix) v)
+  removed = go v is.one is.radix v_held (off_node (name_of v) (own_name v)) (inners_elsewhere (name_of v) (off_parent (name_of v) (inr (left_in (name_of v) (own_name v))))) parent_has same
+    where
+      relinked : Relinked (links_at s) (links_at t) (leaves_before fs ++ leaf_names_below l) [] (leaf_names_below r ++ leaves_after fs)
+      relinked = taken_relinked old.holds old.distinct old.linked is.taken
+
+      shown : {kind other : NodeType} {slots rest : List (ℕ × OpaqueNodePtr)} (prefix : List ℕ) → kind ≡ other → slots ≡ rest →
+          ◌≡◌ {A = Option (Node OpaqueNodePtr (K × V))} (Some (inner_node (record { kind = kind; length_of = length prefix; stored = take P prefix }) slots)) (Some (inner_node (record { kind = other; length_of = length prefix; stored = take P prefix }) rest))
+      shown prefix a e = cc
+
+      go : (w : Tree OpaqueNodePtr (K × V)) (one : join l r ≡ child c w no_child) (radix : IsRadix bytes P ((place ++ is.hole.radix.0) ++ c ∷ []) w) → Holds (node_at s) w → name_of w ≢ m →
+          get t.inners (as_inner (name_of w)) ≡ get (prefix_written P (is.hole.radix.0 ++ c ∷ prefix_at bytes P ((place ++ is.hole.radix.0) ++ c ∷ []) w radix) w (remove s.inners (as_inner m))) (as_inner (name_of w)) →
+          ParentHas (node_at t) fs (name_of w) → SameBut (node_at s) (node_at t) fs (rewritten w ++ m ∷ leaf_name n ∷ []) →
+          NodeRemoved bytes P (node_at s) (node_at t) (links_at s) (links_at t) fs place m (leaf_name n) h l r b c (pair_of x) w (with_prefix P (is.hole.radix.0 ++ c ∷ prefix_at bytes P ((place ++ is.hole.radix.0) ++ c ∷ []) w radix) w)
+      go (leaf k y) one radix holds apart new has same = raised_leaf old is.hole relinked c k y one has same
+      go (inner k head cs) one radix holds apart new has same =
+          let prefix = is.hole.radix.0 ++ c ∷ radix.0 in
+          let (off, node, got, head_is, kids) = inner_at s k head (slots_of cs) holds.0 in
+          let there : get t.inners (as_inner k) ≡ Some (with_header (nodes.header_of P prefix) node) =
+          new ∙ inner_changed_at (remove s.inners (as_inner m)) (as_inner k) (with_header (nodes.header_of P prefix))
+          ∙ ap (option_map (with_header (nodes.header_of P prefix))) (inner_gone_elsewhere s.inners (as_inner m) (as_inner k) (λ e. apart (inner_name_one k m e)) ∙ got) in
+          merged_node old is.hole relinked c k head cs one radix (node_at-inner t k off (Some (with_header (nodes.header_of P prefix) node)) there ∙ shown prefix (ap (λ z. z.kind) (head_is ∙ radix.1)) kids) has same
+
+  -- the root is canonical for the pairs without the key
+  pub compressed : IsLaidOut bytes P (node_at t) (links_at t) (root_with fs root (name_of v)) (remove_key bytes (bytes (pair_of x)) pairs) (plug fs (with_prefix P (is.hole.radix.0 ++ c ∷ prefix_at bytes P ((place ++ is.hole.radix.0) ++ c ∷ []) v is.radix) v))
+  compressed = subst (λ k. IsLaidOut bytes P (node_at t) (links_at t) (root_with fs root k) (remove_key bytes (bytes (pair_of x)) pairs) (plug fs (with_prefix P (is.hole.radix.0 ++ c ∷ prefix_at bytes P ((place ++ is.hole.radix.0) ++ c ∷ []) v is.radix) v)))
+      (name_of-with_prefix P (is.hole.radix.0 ++ c ∷ prefix_at bytes P ((place ++ is.hole.radix.0) ++ c ∷ []) v is.radix) v) (node_removed old removed)
+
+  -- ---- what is touched
+
+  touched_middle : Touched s.inners middle [] (as_inner m ∷ []) (map as_inner (rewritten v))
+  touched_middle = go v (is.hole.radix.0 ++ c ∷ prefix_at bytes P ((place ++ is.hole.radix.0) ++ c ∷ []) v is.radix) (λ k i. (rewritten_there k i).1) (λ k i. off_node k (rewritten_in v k i))
+    where
+      freed : Touched s.inners (remove s.inners (as_inner m)) [] (as_inner m ∷ []) []
+      freed = then_freed inner_cmp_total inner_cmp-IsAntisymmetric (touched_none s.inners) (as_inner m) node_there.1 (λ i. i)
+
+      go : (w : Tree OpaqueNodePtr (K × V)) (prefix : List ℕ) → ((k : OpaqueNodePtr) → IsIn k (rewritten w) → get s.inners (as_inner k) ≢ None) → ((k : OpaqueNodePtr) → IsIn k (rewritten w) → k ≢ m) →
+          Touched s.inners (prefix_written P prefix w (remove s.inners (as_inner m))) [] (as_inner m ∷ []) (map as_inner (rewritten w))
+      go (leaf j y) prefix there apart = freed
+      go (inner j head cs) prefix there apart = then_changed inner_cmp_total inner_cmp-IsAntisymmetric freed (as_inner j) (with_header (nodes.header_of P prefix)) (there j (inl refl))
+          (λ e. there j (inl refl) (sym (inner_gone_elsewhere s.inners (as_inner m) (as_inner j) (λ f. apart j (inl refl) (inner_name_one j m f))) ∙ e))
+
+  touched_inners : Touched s.inners t.inners [] (as_inner m ∷ []) (parents fs ++ map as_inner (rewritten v))
+  touched_inners = subst (λ z. Touched s.inners z [] (as_inner m ∷ []) (parents fs ++ map as_inner (rewritten v))) (sym is.inners)
+      (then_parent touched_middle fs (name_of v) (λ k up. (parent_there bytes P s fs m held.0 k up).1) (λ k up e. (parent_there bytes P s fs m held.0 k up).1 (sym (above_same k up) ∙ e)))
+
+  inner_kinds : Each IsInner (parents fs ++ map as_inner (rewritten v))
+  inner_kinds = Each-append IsInner (parents fs) (map as_inner (rewritten v)) (parents_inner fs (λ k up. (parent_there bytes P s fs m held.0 k up).0)) (rewritten_each IsInner v (λ k i. (rewritten_there k i).0))
+
+  -- two names are freed, and at most four are changed
+  pub compressed_touches : TouchesAtMost 0 2 4 s t
+  compressed_touches =
+      let a = length-listed x.next in let d = length-listed x.previous in let p = length-parents fs in let q = length-rewritten v in
+      let e = length-append (listed x.next) (listed x.previous ++ []) in let f = length-append (listed x.previous) [] in let g = length-append (parents fs) (map as_inner (rewritten v)) in
+      touches_at_most s t 0 2 4 (taken_touched old.holds old.distinct old.linked is.taken) touched_inners tt (node_there.0, tt) inner_kinds (omega arith) (omega arith) (omega arith)
+
+  -- ---- what is kept
+
+  names_are : AreNames (names_of (plug fs gone)) (names_of (plug fs (with_prefix P (is.hole.radix.0 ++ c ∷ prefix_at bytes P ((place ++ is.hole.radix.0) ++ c ∷ []) v is.radix) v))) []
+      (both_names (n ∷ []) (as_inner m ∷ [])) (both_names (listed x.next ++ (listed x.previous ++ [])) (parents fs ++ map as_inner (rewritten v)))
+  names_are = record {
+    placed_in = λ k i. absurd i;
+    freed_in = λ k i. in_hole fs gone k (in_gone k i);
+    changed_in = λ k i. each_in Old k (both_names (listed x.next ++ (listed x.previous ++ [])) (parents fs ++ map as_inner (rewritten v))) changed_old i;
+    old_stays = λ k i. around_hole fs gone kept (IsIn k (leaf_name n ∷ m ∷ [])) k (λ j. elim (of_hole k j) [ inl a ↦ inl (subst (IsIn k) (sym removed.same_names) a) | inr a ↦ inr a ]) i;
+    new_comes = λ k i. around_hole fs kept gone (IsIn k []) k (λ j. inl (inr (left_in k (subst (IsIn k) removed.same_names j)))) i;
+  }
+    where
+      kept : Tree OpaqueNodePtr (K × V)
+      kept = with_prefix P (is.hole.radix.0 ++ c ∷ prefix_at bytes P ((place ++ is.hole.radix.0) ++ c ∷ []) v is.radix) v
+
+      Old : OpaqueNodePtr → Type 0
+      Old k = IsIn k (names_of (plug fs gone))
+
+      in_gone : (k : OpaqueNodePtr) → IsIn k (leaf_name n ∷ m ∷ []) → IsIn k (names_of gone)
+      in_gone k (inl e) = inr (subst (IsIn k) (sym below_is) (in_right k (names_below l) (leaf_name n ∷ names_below r) (inl e)))
+      in_gone k (inr (inl e)) = inl e
+      in_gone k (inr (inr i)) = absurd i
+
+      changed_old : Each Old (both_names (listed x.next ++ (listed x.previous ++ [])) (parents fs ++ map as_inner (rewritten v)))
+      changed_old = Each-append Old (map leaf_name (listed x.next ++ (listed x.previous ++ []))) (map inner_name (parents fs ++ map as_inner (rewritten v)))
+          (each_map leaf_name Old (listed x.next ++ (listed x.previous ++ [])) (each_from (λ p. Old (leaf_name p)) (listed x.next ++ (listed x.previous ++ [])) (λ p i. beside_in {s = s} old.holds old.linked (record { list = is.taken.list; here = is.taken.here }) p i)))
+          (each_map inner_name Old (parents fs ++ map as_inner (rewritten v)) (Each-append (λ p. Old (inner_name p)) (parents fs) (map as_inner (rewritten v))
+          (parents_each Old fs (λ k up. parent_in fs gone k up)) (rewritten_each (λ p. Old (inner_name p)) v (λ k i. in_hole fs gone k (inr (left_in k (rewritten_in v k i)))))))
+
+  -- and the rest stays
+  pub compressed_in_place : ChangesInPlace bytes s t (Some (plug fs (inner m h (join l (child b (leaf (leaf_name n) (pair_of x)) r))))) (Some (plug fs (with_prefix P (is.hole.radix.0 ++ c ∷ prefix_at bytes P ((place ++ is.hole.radix.0) ++ c ∷ []) v is.radix) v)))
+  compressed_in_place = in_place (footprint_of s t (taken_touched old.holds old.distinct old.linked is.taken) touched_inners tt (node_there.0, tt) inner_kinds) P names_are (node_removed_keeps_leaves old removed) (node_removed_keeps old removed)

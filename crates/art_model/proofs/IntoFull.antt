@@ -1,0 +1,163 @@
+-- An insertion into a node that is full, from the equations of the store's maps: a larger node takes its place, and what is laid out then, and what is touched.
+use Rattle.std.proofs.Common.{◌≡◌, ◌≢◌, ℕ, suc, ◌<◌, ◌≤◌, List, [], ◌∷◌, ◌++◌, length, map, Option, Some, None, refl, ap, sym, ◌∙◌, subst, arith, length-append, inl, inr}
+use Rattle.std.specs.List.{AllByRecursion as Each}
+use Rattle.std.specs.FinMap.{get, insert, remove}
+use Rattle.art_nodes.specs.Inner.{Inner, put_child}
+use Rattle.art_nodes.specs.Kinds.{kind_capacity, larger_kind}
+use Rattle.art_nodes.specs.Changes.{with_child}
+use Rattle.art_nodes.specs.Names.{leaf_name, inner_name}
+use Rattle.art_nodes.specs.Nodes.{Nodes}
+use Rattle.art_nodes.specs.declared.node.NodeType.TheVariants.{Node256, Leaf}
+use Rattle.art_nodes.specs.declared.node.InnerPtr.{InnerPtr}
+use Rattle.art_nodes.specs.declared.node.LeafPtr.{LeafPtr}
+use Rattle.art_nodes.specs.declared.node.LeafNode.{LeafNode}
+use Rattle.art_nodes.specs.declared.node.OpaqueNodePtr.{OpaqueNodePtr}
+use Rattle.art_nodes.proofs.NameLemmas.{inner_cmp_total, inner_cmp-IsAntisymmetric}
+use Rattle.art_nodes.proofs.StoreLaws.{inner_here, inner_elsewhere, inner_gone_elsewhere}
+use Rattle.art_model.specs.Keys.{IsFront}
+use Rattle.art_model.specs.Trees.{leaf, inner, Children, Header, header_of, kind_of}
+use Rattle.art_model.specs.Radix.{bytes_of, join}
+use Rattle.art_model.specs.Paths.{Frame, plug, leaves_before, leaves_after}
+use Rattle.art_model.specs.Layouts.{Node, inner_node, names_of, slots_of, leaf_names_below}
+use Rattle.art_model.specs.Stores.{header_at, node_at, links_at, pair_of}
+use Rattle.art_model.specs.Writes.{Inners, as_inner, parent_of, with_child_at}
+use Rattle.art_model.specs.Footprints.{IsIn, TouchesAtMost}
+use Rattle.art_model.proofs.AddedChild.{ChildAdded, child_added, kind_of-larger, names_with_both, beside_in, parent_in}
+use Rattle.art_model.proofs.Canonical.{IsLaidOut}
+use Rattle.art_model.proofs.InHole.{in_whole}
+use Rattle.art_model.proofs.Inserted.{ChildInserted}
+use Rattle.art_model.proofs.Leaves.{listed, length-listed}
+use Rattle.art_model.proofs.Lists.{in_either}
+use Rattle.art_model.proofs.Paths.{IsHole}
+use Rattle.art_model.proofs.Placed.{LeafPlaced, placed_was_free, placed_node, placed_pairs, placed_relinked, placed_touched}
+use Rattle.art_model.proofs.Slots.{put_child-new, kind_of-full}
+use Rattle.art_model.proofs.Stores.{IsParent, path_holds, parent_apart}
+use Rattle.art_model.proofs.Touches.{Touched, touches_at_most, footprint_of, touched_none, then_freed, then_placed}
+use Rattle.art_model.proofs.Writes.{inner_at, node_at-inner, same_but, parents, length-parents, parent_there, parent_written, then_parent, with_child_at-elsewhere, inner_name_one}
+
+-- A leaf is placed, and a larger node takes the place of the full one in the hole, with the leaf as a child under a byte that had none.
+pub record IntoFull {K V : Type 0} (bytes : K × V → List ℕ) (P : ℕ) (s t : Nodes K V) (fs : List (Frame OpaqueNodePtr (K × V))) (place : List ℕ) (m k : OpaqueNodePtr) (h : Header) (l r : Children OpaqueNodePtr (K × V)) (b : ℕ) (n : LeafPtr) (x : LeafNode K V) (full : Inner) : Type 0 where
+  pub hole : IsHole bytes P fs place (inner m h (join l r)) (bytes (pair_of x))
+  pub front : IsFront ((place ++ hole.radix.0) ++ b ∷ []) (bytes (pair_of x))
+  pub low : Each (λ c. c < b) (bytes_of l)
+  pub high : Each (λ c. b < c) (bytes_of r)
+  pub no_room : kind_capacity m.kind ≤ length (bytes_of (join l r))
+  pub not_last : m.kind ≢ Node256
+  pub kind : k.kind ≡ larger_kind m.kind
+  pub is_inner : k.kind ≢ Leaf
+  pub placed : LeafPlaced s t (plug fs (inner m h (join l r))) (leaves_before fs ++ leaf_names_below l) (leaf_names_below r ++ leaves_after fs) n x
+  pub was_free : get s.inners (as_inner k) ≡ None
+  pub here : get s.inners (as_inner m) ≡ Some full
+  pub inners : t.inners ≡ with_child_at (parent_of fs) k (insert (remove s.inners (as_inner m)) (as_inner k) (with_child b (leaf_name n) full))
+
+module _ {K V : Type 0} {bytes : K × V → List ℕ} {P : ℕ} {s t : Nodes K V} {root : OpaqueNodePtr} {pairs : List (K × V)} {fs : List (Frame OpaqueNodePtr (K × V))} {place : List ℕ} {m k : OpaqueNodePtr} {h : Header} {l r : Children OpaqueNodePtr (K × V)} {b : ℕ} {n : LeafPtr} {x : LeafNode K V} {full : Inner}
+    (old : IsLaidOut bytes P (node_at s) (links_at s) root pairs (plug fs (inner m h (join l r)))) (into : IntoFull bytes P s t fs place m k h l r b n x full) where
+  abbrev grown : Inner
+  grown = with_child b (leaf_name n) full
+
+  abbrev before_parent : Inners
+  before_parent = insert (remove s.inners (as_inner m)) (as_inner k) grown
+
+  -- the parent is another name than both
+  up_there : (q : OpaqueNodePtr) → IsParent fs q → (q.kind ≢ Leaf) × (get s.inners (as_inner q) ≢ None)
+  up_there = parent_there bytes P s fs m (path_holds (node_at s) fs (inner m h (join l r)) old.holds).0
+
+  not_parent : IsParent fs k → ⊥
+  not_parent is = (up_there k is).1 into.was_free
+
+  parent_not_old : (q : OpaqueNodePtr) → IsParent fs q → q ≢ m
+  parent_not_old q is e = parent_apart (node_at s) (node_at t) fs (inner m h (join l r)) old.holds old.distinct q is (inl (sym e))
+
+  -- names in use but the old node's have what they had before the parent is written
+  still : (q : OpaqueNodePtr) → q ≢ m → get s.inners (as_inner q) ≢ None → get before_parent (as_inner q) ≡ get s.inners (as_inner q)
+  still q off used =
+      inner_elsewhere (remove s.inners (as_inner m)) (as_inner k) (as_inner q) grown (λ e. used (ap (get s.inners) e ∙ into.was_free))
+      ∙ inner_gone_elsewhere s.inners (as_inner m) (as_inner q) (λ e. off (inner_name_one q m e))
+
+  others : (q : OpaqueNodePtr) → (IsParent fs q → ⊥) → q ≢ m → get s.inners (as_inner q) ≢ None → get t.inners (as_inner q) ≡ get s.inners (as_inner q)
+  others q up off used = ap (λ z. get z (as_inner q)) into.inners ∙ with_child_at-elsewhere fs k before_parent q up ∙ still q off used
+
+  own : (off : m.kind ≢ Leaf) × (node : Inner) × (get s.inners (as_inner m) ≡ Some node) × (header_at m.kind node ≡ h) × (node.children ≡ slots_of (join l r))
+  own = inner_at s m h (slots_of (join l r)) (path_holds (node_at s) fs (inner m h (join l r)) old.holds).1.0
+
+  own_head : header_at m.kind full ≡ h
+  own_head = let (off, node, got, head, kids) = own in let same : node ≡ full = let e : Some node ≡ Some full = sym got ∙ into.here in cc in ap (header_at m.kind) (sym same) ∙ head
+
+  own_slots : full.children ≡ slots_of (join l r)
+  own_slots = let (off, node, got, head, kids) = own in let same : node ≡ full = let e : Some node ≡ Some full = sym got ∙ into.here in cc in ap (λ z. z.children) (sym same) ∙ kids
+
+  new_there : get t.inners (as_inner k) ≡ Some grown
+  new_there = ap (λ z. get z (as_inner k)) into.inners ∙ with_child_at-elsewhere fs k before_parent k not_parent ∙ inner_here (remove s.inners (as_inner m)) (as_inner k) grown
+
+  k_was_free : node_at s k ≡ None
+  k_was_free = node_at-inner s k into.is_inner None into.was_free
+
+  -- the larger node has the place and one child more
+  pub full_inserted : ChildInserted bytes P (node_at s) (node_at t) (links_at s) (links_at t) fs place m k (leaf_name n) h l r b (pair_of x)
+  full_inserted =
+      let held = path_holds (node_at s) fs (inner m h (join l r)) old.holds in
+      let count = length (bytes_of (join l r)) in
+      let kind : m.kind ≡ kind_of count = ap (λ z. z.kind) (own_head ∙ into.hole.radix.1) in
+      let more : k.kind ≡ kind_of (suc count) = into.kind ∙ kind_of-larger m.kind count kind into.not_last into.no_room in
+      record {
+        hole = into.hole;
+        front = into.front;
+        low = into.low;
+        high = into.high;
+        named = inr k_was_free;
+        same_kind = λ e. absurd (kind_of-full m.kind count into.not_last into.no_room (ap (λ z. z.kind) own_head ∙ e));
+        leaf_was_free = placed_was_free old.holds old.distinct into.placed;
+        differ = λ e. into.is_inner (ap (λ (z : OpaqueNodePtr). z.kind) e);
+        there = node_at-inner t k into.is_inner (Some grown) new_there ∙ shown (grown_header into.hole.radix.0 count (suc count) (own_head ∙ into.hole.radix.1) more) (ap (λ z. put_child z b (leaf_name n)) own_slots ∙ put_child-new l r b (leaf (leaf_name n) (pair_of x)) into.low into.high);
+        new_leaf = placed_node old.holds old.distinct into.placed;
+        parent = parent_written bytes P s t before_parent fs place m k into.hole.path held.0 (λ q is. still q (parent_not_old q is) (up_there q is).1) (λ q is. ap (λ z. get z (as_inner q)) into.inners);
+        same = same_but s t fs (m ∷ []) (λ p i used. placed_pairs old.holds old.distinct into.placed p used)
+            (λ q inner_kind up i used. others q up (λ e. i (inl (sym e))) (λ e. used (node_at-inner s q inner_kind None e)));
+        relinked = placed_relinked old.holds old.distinct into.placed;
+      }
+    where
+      shown : {slots rest : List (ℕ × OpaqueNodePtr)} {g f : Header} → g ≡ f → slots ≡ rest → ◌≡◌ {A = Option (Node OpaqueNodePtr (K × V))} (Some (inner_node g slots)) (Some (inner_node f rest))
+      shown a e = cc
+
+      grown_header : (part : List ℕ) (count other : ℕ) → header_at m.kind full ≡ header_of P part count → k.kind ≡ kind_of other → header_at k.kind grown ≡ header_of P part other
+      grown_header part count other e kind = λ i. record { kind = kind i; length_of = (e i).length_of; stored = (e i).stored }
+
+  abbrev changed : List LeafPtr
+  changed = listed x.next ++ (listed x.previous ++ [])
+
+  full_leaves : Touched s.leaves t.leaves (n ∷ []) [] changed
+  full_leaves = placed_touched old.holds old.distinct into.placed
+
+  full_inners : Touched s.inners t.inners (as_inner k ∷ []) (as_inner m ∷ []) (parents fs ++ [])
+  full_inners =
+      let here : get s.inners (as_inner m) ≢ None = λ e. absurd (let g = into.here in cc) in
+      let apart : as_inner k ≢ as_inner m = λ e. here (ap (get s.inners) (sym e) ∙ into.was_free) in
+      let gone = then_freed inner_cmp_total inner_cmp-IsAntisymmetric (touched_none s.inners) (as_inner m) here (λ i. i) in
+      let free : get (remove s.inners (as_inner m)) (as_inner k) ≡ None = inner_gone_elsewhere s.inners (as_inner m) (as_inner k) apart ∙ into.was_free in
+      let there = then_placed inner_cmp_total inner_cmp-IsAntisymmetric gone (as_inner k) grown free (λ i. elim i [ inl e ↦ apart (sym e) | inr j ↦ j ]) in
+      subst (λ z. Touched s.inners z (as_inner k ∷ []) (as_inner m ∷ []) (parents fs ++ [])) (sym into.inners)
+      (then_parent there fs k (λ q is. (up_there q is).1) (λ q is e. (up_there q is).1 (sym (still q (parent_not_old q is) (up_there q is).1) ∙ e)))
+
+  parents_inner : Each (λ (p : InnerPtr). p.kind ≢ Leaf) (parents fs ++ [])
+  parents_inner = go fs up_there
+    where
+      go : (gs : List (Frame OpaqueNodePtr (K × V))) → ((q : OpaqueNodePtr) → IsParent gs q → (q.kind ≢ Leaf) × (get s.inners (as_inner q) ≢ None)) → Each (λ (p : InnerPtr). p.kind ≢ Leaf) (parents gs ++ [])
+      go [] up = tt
+      go (g ∷ gs) up = ((up g.mark refl).0, tt)
+
+  -- two names are placed, one is freed, and at most three are changed
+  pub full_touches : TouchesAtMost 2 1 3 s t
+  full_touches =
+      let a = length-listed x.next in let c = length-listed x.previous in let p = length-parents fs in
+      let e = length-append (listed x.next) (listed x.previous ++ []) in let f = length-append (listed x.previous) [] in let g = length-append (parents fs) [] in
+      touches_at_most s t 2 1 3 full_leaves full_inners (into.is_inner, tt) (own.0, tt) parents_inner (omega arith) (omega arith) (omega arith)
+
+  changed_in : (q : OpaqueNodePtr) → IsIn q (map leaf_name changed ++ map inner_name (parents fs ++ [])) → IsIn q (names_of (plug fs (inner m h (join l r))))
+  changed_in q i = elim (in_either q (map leaf_name changed) (map inner_name (parents fs ++ [])) i) [
+    | inl j ↦ beside_in into.placed q j
+    | inr j ↦ parent_in fs (inner m h (join l r)) q j
+  ]
+
+  -- the root is canonical for the pairs with the new one, and all nodes that stay keep their names
+  pub full_added : ChildAdded bytes P s t root pairs fs m k h l r b (leaf_name n) (pair_of x)
+  full_added = child_added old full_inserted (footprint_of s t full_leaves full_inners (into.is_inner, tt) (own.0, tt) parents_inner) (λ g. names_with_both fs m k h g l r b (leaf_name n) (pair_of x) changed_in)

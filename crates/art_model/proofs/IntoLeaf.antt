@@ -1,0 +1,105 @@
+-- A pair takes the place of one with an equal key in its leaf, from the equations of the store's maps: what is laid out then, and what is touched.
+use Rattle.std.proofs.Common.{◌≡◌, ◌≢◌, ℕ, ◌≤◌, List, [], ◌∷◌, length, Option, Some, None, refl, ap, sym, ◌∙◌, subst, arith, true, inl, inr}
+use Rattle.std.specs.Option.{option_map}
+use Rattle.std.specs.FinMap.{get}
+use Rattle.art_nodes.specs.Changes.{with_pair}
+use Rattle.art_nodes.specs.Names.{leaf_name}
+use Rattle.art_nodes.specs.Nodes.{Nodes, change}
+use Rattle.art_nodes.specs.declared.node.LeafPtr.{LeafPtr}
+use Rattle.art_nodes.specs.declared.node.LeafNode.{LeafNode}
+use Rattle.art_nodes.specs.declared.node.OpaqueNodePtr.{OpaqueNodePtr}
+use Rattle.art_nodes.proofs.NameLemmas.{leaf_cmp_total, leaf_cmp-IsAntisymmetric}
+use Rattle.art_nodes.proofs.StoreLaws.{leaf_changed_at, leaf_changed_elsewhere}
+use Rattle.art_model.specs.Keys.{are_same}
+use Rattle.art_model.specs.Pairs.{first_of, with_key, put, put_reply}
+use Rattle.art_model.specs.Trees.{leaf}
+use Rattle.art_model.specs.Radix.{pairs_of}
+use Rattle.art_model.specs.Paths.{Frame, plug}
+use Rattle.art_model.specs.Layouts.{leaf_node}
+use Rattle.art_model.specs.Stores.{node_at, links_at, pair_of}
+use Rattle.art_model.specs.Writes.{as_inner}
+use Rattle.art_model.specs.Footprints.{Footprint, TouchesAtMost}
+use Rattle.art_model.specs.Kept.{ChangesInPlace}
+use Rattle.art_model.proofs.Between.{put-between}
+use Rattle.art_model.proofs.Canonical.{IsLaidOut}
+use Rattle.art_model.proofs.Chains.{links_leaf, links_inner}
+use Rattle.art_model.proofs.InHole.{in_whole, names_in_hole, root_stays, with_key-hole}
+use Rattle.art_model.proofs.InPlace.{AreNames, in_place}
+use Rattle.art_model.proofs.Kept.{kept_leaf}
+use Rattle.art_model.proofs.Keys.{front_same}
+use Rattle.art_model.proofs.Leaves.{same_leaf}
+use Rattle.art_model.proofs.Overwritten.{LeafAlone, leaf_alone, leaf_alone_keeps, leaf_alone_keeps_leaves, linked_still}
+use Rattle.art_model.proofs.Paths.{IsHole}
+use Rattle.art_model.proofs.Stores.{IsParent, path_holds}
+use Rattle.art_model.proofs.Touches.{Touched, touched_none, then_changed, footprint_of}
+use Rattle.art_model.proofs.Views.{leaf_or}
+use Rattle.art_model.proofs.Writes.{node_at-leaf, node_at-inner, parent_there, parent_stays, same_but}
+
+-- The leaf in the hole has another pair, with an equal key.
+pub record IntoLeaf {K V : Type 0} (bytes : K × V → List ℕ) (P : ℕ) (s t : Nodes K V) (fs : List (Frame OpaqueNodePtr (K × V))) (place : List ℕ) (p : LeafPtr) (x : LeafNode K V) (new : K × V) : Type 0 where
+  pub hole : IsHole bytes P fs place (leaf (leaf_name p) (pair_of x)) (bytes new)
+  pub same : bytes (pair_of x) ≡ bytes new
+  pub here : get s.leaves p ≡ Some x
+  pub leaves : t.leaves ≡ change s.leaves p (with_pair new.0 new.1)
+  pub inners : t.inners ≡ s.inners
+
+module _ {K V : Type 0} {bytes : K × V → List ℕ} {P : ℕ} {s t : Nodes K V} {root : OpaqueNodePtr} {pairs : List (K × V)} {fs : List (Frame OpaqueNodePtr (K × V))} {place : List ℕ} {p : LeafPtr} {x : LeafNode K V} {new : K × V}
+    (old : IsLaidOut bytes P (node_at s) (links_at s) root pairs (plug fs (leaf (leaf_name p) (pair_of x)))) (into : IntoLeaf bytes P s t fs place p x new) where
+  leaf_then : get t.leaves p ≡ Some (with_pair new.0 new.1 x)
+  leaf_then = ap (λ z. get z p) into.leaves ∙ leaf_changed_at s.leaves p (with_pair new.0 new.1) ∙ ap (option_map (with_pair new.0 new.1)) into.here
+
+  other_leaf : (q : LeafPtr) → q ≢ p → get t.leaves q ≡ get s.leaves q
+  other_leaf q off = ap (λ z. get z q) into.leaves ∙ leaf_changed_elsewhere s.leaves p q (with_pair new.0 new.1) off
+
+  links_same : (k : OpaqueNodePtr) → links_at t k ≡ links_at s k
+  links_same k = elim (leaf_or k) [
+    | inl (q, e) ↦ subst (λ (z : OpaqueNodePtr). links_at t z ≡ links_at s z) (sym e) (elim (same_leaf q p) [
+      | inl here ↦ subst (λ z. links_at t (leaf_name z) ≡ links_at s (leaf_name z)) (sym here) (links_leaf t p (Some (with_pair new.0 new.1 x)) leaf_then ∙ sym (links_leaf s p (Some x) into.here))
+      | inr off ↦ links_leaf t q (get s.leaves q) (other_leaf q off)
+    ])
+    | inr off ↦ links_inner t k off ∙ sym (links_inner s k off)
+  ]
+
+  parent_same : (k : OpaqueNodePtr) → IsParent fs k → node_at t k ≡ node_at s k
+  parent_same k is =
+      let (off, there) = parent_there bytes P s fs (leaf_name p) (path_holds (node_at s) fs (leaf (leaf_name p) (pair_of x)) old.holds).0 k is in
+      node_at-inner t k off (get s.inners (as_inner k)) (ap (λ z. get z (as_inner k)) into.inners) ∙ sym (node_at-inner s k off (get s.inners (as_inner k)) refl)
+
+  alone : LeafAlone bytes P (node_at s) (node_at t) (links_at t) fs place (leaf (leaf_name p) (pair_of x)) (leaf_name p) new
+  alone = record {
+    hole = into.hole;
+    named = inl (inl refl);
+    there = node_at-leaf t p ∙ ap (λ o. option_map leaf_node (option_map pair_of o)) leaf_then;
+    parent = parent_stays (node_at s) (node_at t) fs (leaf_name p) (path_holds (node_at s) fs (leaf (leaf_name p) (pair_of x)) old.holds).0 (λ k is. parent_same k is);
+    same = same_but s t fs (leaf_name p ∷ []) (λ q off used. ap (option_map pair_of) (other_leaf q (λ e. off (inl (ap leaf_name (sym e)))))) (λ k kind up off used. ap (λ z. get z (as_inner k)) into.inners);
+    linked = linked_still fs (leaf_name p) (pair_of x) new old (λ k i. links_same k);
+  }
+
+  put_here : put bytes new (pair_of x ∷ []) ≡ new ∷ []
+  put_here = let same : are_same (bytes new) (bytes (pair_of x)) ≡ true = ap (are_same (bytes new)) into.same ∙ front_same (bytes new) in rw same refl
+
+  -- the same root is canonical for the pairs with the new one
+  pub leaf_inserted : IsLaidOut bytes P (node_at t) (links_at t) root (put bytes new pairs) (plug fs (leaf (leaf_name p) new))
+  leaf_inserted = subst (λ r. IsLaidOut bytes P (node_at t) (links_at t) r (put bytes new pairs) (plug fs (leaf (leaf_name p) new))) (root_stays fs (leaf (leaf_name p) (pair_of x)) old.named) (leaf_alone old alone (put bytes new) (put-between bytes new) put_here)
+
+  -- the old pair is the one with the key
+  pub leaf_reply : put_reply bytes new pairs ≡ Some (pair_of x)
+  leaf_reply =
+      let same : are_same (bytes new) (bytes (pair_of x)) ≡ true = ap (are_same (bytes new)) into.same ∙ front_same (bytes new) in
+      ap (λ xs. first_of (with_key bytes (bytes new) xs)) (sym old.pairs_are) ∙ ap first_of (with_key-hole bytes P fs place (bytes new) (leaf (leaf_name p) (pair_of x)) into.hole.path into.hole.front) ∙ rw same refl
+
+  leaf_print : Footprint s t [] [] (leaf_name p ∷ [])
+  leaf_print =
+      let used : get s.leaves p ≢ None = λ e. absurd (cc (into.here, e)) in
+      footprint_of s t (subst (λ z. Touched s.leaves z [] [] (p ∷ [])) (sym into.leaves) (then_changed leaf_cmp_total leaf_cmp-IsAntisymmetric (touched_none s.leaves) p (with_pair new.0 new.1) used used))
+      (subst (λ z. Touched s.inners z [] [] []) (sym into.inners) (touched_none s.inners)) tt tt tt
+
+  -- one name is changed
+  pub leaf_touches : TouchesAtMost 0 0 1 s t
+  leaf_touches = ([], [], leaf_name p ∷ [], leaf_print, omega arith, omega arith, omega arith)
+
+  -- and all nodes keep their names
+  pub leaf_kept : ChangesInPlace bytes s t (Some (plug fs (leaf (leaf_name p) (pair_of x)))) (Some (plug fs (leaf (leaf_name p) new)))
+  leaf_kept = in_place leaf_print P
+      (names_in_hole fs (leaf (leaf_name p) (pair_of x)) (leaf (leaf_name p) new) (λ k i. absurd i) (λ k i. absurd i) (λ k i. in_whole fs (leaf (leaf_name p) (pair_of x)) k i) (λ k i. inl i) (λ k i. inl i))
+      (leaf_alone_keeps_leaves old alone (put bytes new) (put-between bytes new) put_here (kept_leaf bytes P (leaf_name p) (pair_of x) new)) (leaf_alone_keeps old alone)

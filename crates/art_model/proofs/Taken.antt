@@ -1,0 +1,96 @@
+-- A leaf among those of a layout, before it goes: the leaves beside it.
+use Rattle.std.proofs.Common.{◌≡◌, List, [], ◌∷◌, ◌++◌, ℕ, ◌≤◌, length, arith, Option, Some, None, refl, ap, sym, ◌∙◌, subst, append_assoc, inl, inr}
+use Rattle.std.specs.List.{AllByRecursion as Each}
+use Rattle.std.specs.Option.{option_map}
+use Rattle.std.specs.FinMap.{get}
+use Rattle.art_nodes.specs.Names.{leaf_name}
+use Rattle.art_nodes.specs.Nodes.{Nodes}
+use Rattle.art_nodes.specs.declared.node.LeafPtr.{LeafPtr}
+use Rattle.art_nodes.specs.declared.node.LeafNode.{LeafNode}
+use Rattle.art_nodes.specs.declared.node.OpaqueNodePtr.{OpaqueNodePtr}
+use Rattle.art_model.specs.Trees.{Tree, leaf, inner, Children, child, no_child}
+use Rattle.art_model.specs.Radix.{IsRadix, bytes_of, pairs_of, pairs_below}
+use Rattle.art_model.specs.Layouts.{Links, leaf_names, leaf_names_below, names_of, Holds, HoldsBelow, AreLinked, first_or, last_or}
+use Rattle.art_model.specs.Stores.{node_at, links_at, pair_of}
+use Rattle.art_model.specs.Writes.{IsThere}
+use Rattle.art_model.specs.Footprints.{IsIn}
+use Rattle.art_model.proofs.Lists.{each_in, each_from, in_left, in_right, in_either, in_around}
+use Rattle.art_model.proofs.Names.{among, takes_leaves}
+use Rattle.art_model.proofs.Links.{last_in, first_in, link_of}
+use Rattle.art_model.proofs.Views.{leaf_there}
+use Rattle.art_model.proofs.Leaves.{listed}
+use Rattle.art_model.proofs.Chains.{AreThere, are_there, links_leaf, previous_there, next_there}
+
+module _ {K V : Type 0} (s : Nodes K V) where
+  mutual
+    -- a leaf of a layout is there, with one of the layout's pairs
+    pub leaf_at : (t : Tree OpaqueNodePtr (K × V)) → Holds (node_at s) t → (p : LeafPtr) → IsIn (leaf_name p) (leaf_names t) → (y : LeafNode K V) × (get s.leaves p ≡ Some y) × IsIn (pair_of y) (pairs_of t)
+    leaf_at (leaf k x) h p (inl e) = let (y, got, same) = leaf_there s p x (ap (node_at s) (sym e) ∙ h) in (y, got, inl (sym same))
+    leaf_at (leaf k x) h p (inr i) = absurd i
+    leaf_at (inner k head cs) holds p i = leaf_below cs holds.1 p i
+
+    leaf_below : (cs : Children OpaqueNodePtr (K × V)) → HoldsBelow (node_at s) cs → (p : LeafPtr) → IsIn (leaf_name p) (leaf_names_below cs) → (y : LeafNode K V) × (get s.leaves p ≡ Some y) × IsIn (pair_of y) (pairs_below cs)
+    leaf_below no_child h p i = absurd i
+    leaf_below (child b t cs) h p i = elim (in_either (leaf_name p) (leaf_names t) (leaf_names_below cs) i) [
+      | inl j ↦ let (y, got, among) = leaf_at t h.0 p j in (y, got, in_left (pair_of y) (pairs_of t) (pairs_below cs) among)
+      | inr j ↦ let (y, got, among) = leaf_below cs h.1 p j in (y, got, in_right (pair_of y) (pairs_of t) (pairs_below cs) among)
+    ]
+
+-- a radix tree has leaves
+pub some_leaf_name : {N A : Type 0} (bytes : A → List ℕ) (P : ℕ) (t : Tree N A) (place : List ℕ) → IsRadix bytes P place t → (k : N) × (ks : List N) × (leaf_names t ≡ k ∷ ks)
+some_leaf_name bytes P (leaf n x) place h = (n, [], refl)
+some_leaf_name bytes P (inner n head no_child) place (part, e, two, up, below) = absurd (omega arith)
+some_leaf_name bytes P (inner n head (child b t cs)) place (part, e, two, up, below) =
+    let (k, ks, is) = some_leaf_name bytes P t ((place ++ part) ++ b ∷ []) below.0 in
+    (k, ks ++ leaf_names_below cs, ap (λ z. z ++ leaf_names_below cs) is)
+
+-- the last of some names is one of them
+pub last_of_some : {N : Type 0} (k : N) (ks : List N) (o : Option N) → (j : N) × (last_or (k ∷ ks) o ≡ Some j) × IsIn j (k ∷ ks)
+last_of_some k [] o = (k, refl, inl refl)
+last_of_some k (l ∷ ks) o = let (j, e, i) = last_of_some l ks (Some k) in (j, e, inr i)
+
+-- The leaf stands between those of `xs` and those of `zs`, which with it are all of the layout's.
+pub record LeafAmong {K V : Type 0} (s : Nodes K V) (layout : Tree OpaqueNodePtr (K × V)) (xs zs : List OpaqueNodePtr) (n : LeafPtr) (x : LeafNode K V) : Type 0 where
+  pub list : leaf_names layout ≡ xs ++ leaf_name n ∷ zs
+  pub here : get s.leaves n ≡ Some x
+
+module _ {K V : Type 0} {s : Nodes K V} {layout : Tree OpaqueNodePtr (K × V)} {xs zs : List OpaqueNodePtr} {n : LeafPtr} {x : LeafNode K V}
+    (holds : Holds (node_at s) layout) (linked : AreLinked (links_at s) None (leaf_names layout) None) (is : LeafAmong s layout xs zs n x) where
+  own : ◌≡◌ {A = Links OpaqueNodePtr} (record { previous = option_map leaf_name x.previous; next = option_map leaf_name x.next }) (record { previous = last_or xs None; next = first_or zs None })
+  own = let e = sym (links_leaf s n (Some x) is.here) ∙ link_of (links_at s) xs zs (leaf_name n) None None (subst (λ ks. AreLinked (links_at s) None ks None) is.list linked) in cc
+
+  -- the leaf before it is the last of those before
+  pub previous_is : option_map leaf_name x.previous ≡ last_or xs None
+  previous_is = ap (λ z. z.previous) own
+
+  -- and the one after it the first of those after
+  pub next_is : option_map leaf_name x.next ≡ first_or zs None
+  next_is = ap (λ z. z.next) own
+
+  others_there : AreThere s (xs ++ zs)
+  others_there p i = subst (AreThere s) is.list (are_there s layout holds) p (subst (IsIn (leaf_name p)) (append_assoc xs (leaf_name n ∷ []) zs) (in_around (leaf_name p) xs (leaf_name n ∷ []) zs i))
+
+  -- both are there
+  pub before_there : IsThere s.leaves x.previous
+  before_there = previous_there s xs zs x.previous others_there previous_is
+
+  pub after_there : IsThere s.leaves x.next
+  after_there = next_there s xs zs x.next others_there next_is
+
+  is_listed : (o : Option LeafPtr) (p : LeafPtr) → IsIn p (listed o) → o ≡ Some p
+  is_listed None p i = absurd i
+  is_listed (Some q) p (inl e) = ap Some e
+  is_listed (Some q) p (inr i) = absurd i
+
+  -- and have names of the layout
+  pub beside_in : (p : LeafPtr) → IsIn p (listed x.next ++ (listed x.previous ++ [])) → IsIn (leaf_name p) (names_of layout)
+  beside_in p i = among_names (elim (in_either p (listed x.next) (listed x.previous ++ []) i) [
+    | inl j ↦ in_right (leaf_name p) xs (leaf_name n ∷ zs) (inr (first_in zs (leaf_name p) (sym next_is ∙ ap (option_map leaf_name) (is_listed x.next p j))))
+    | inr j ↦ elim (in_either p (listed x.previous) [] j) [
+      | inl k ↦ in_left (leaf_name p) xs (leaf_name n ∷ zs) (last_in xs (leaf_name p) (sym previous_is ∙ ap (option_map leaf_name) (is_listed x.previous p k)))
+      | inr k ↦ absurd k
+    ]
+  ])
+    where
+      among_names : IsIn (leaf_name p) (xs ++ leaf_name n ∷ zs) → IsIn (leaf_name p) (names_of layout)
+      among_names j = each_in (λ k. IsIn k (names_of layout)) (leaf_name p) (leaf_names layout) (among takes_leaves (λ k. IsIn k (names_of layout)) layout (each_from (λ k. IsIn k (names_of layout)) (names_of layout) (λ k m. m))) (subst (IsIn (leaf_name p)) (sym is.list) j)
