@@ -189,15 +189,15 @@ header_touches s k h slots header held =
 
 module _ {K V : Type 0} {bytes : K × V → List ℕ} {P : ℕ} {s t : Nodes K V} {root : OpaqueNodePtr} {pairs : List (K × V)} {fs : List (Frame OpaqueNodePtr (K × V))} {place : List ℕ} {m : InnerPtr} {n : LeafPtr} {part : List ℕ} {b c : ℕ} {x : LeafNode K V} where
   -- a leaf, which stays what it was
-  pub leaf_branched : {k : OpaqueNodePtr} {y : K × V} → IsLaidOut bytes P (node_at s) (links_at s) root pairs (plug fs (leaf k y)) → BranchStored bytes P s t fs place (leaf k y) m n part b c x s.inners [] → IsFront ((place ++ part) ++ b ∷ []) (bytes y) →
+  pub leaf_branched : {k : OpaqueNodePtr} {y : K × V} {mid : Inners} → IsLaidOut bytes P (node_at s) (links_at s) root pairs (plug fs (leaf k y)) → BranchStored bytes P s t fs place (leaf k y) m n part b c x mid [] → IsFront ((place ++ part) ++ b ∷ []) (bytes y) →
       BranchInserted bytes P (node_at s) (node_at t) (links_at s) (links_at t) fs place (leaf k y) (leaf k y) (inner_name m) (leaf_name n) part b c (pair_of x)
   leaf_branched {k} {y} old is front = split_leaf old is.hole front (branch_same old is) (branch_placed old is (leaf k y) refl)
 
   -- an inner node, whose prefix is the part, a byte and a rest: the rest is left to it
-  pub prefix_branched : {k : OpaqueNodePtr} {h : Header} {cs : Children OpaqueNodePtr (K × V)} (rest : List ℕ) → IsLaidOut bytes P (node_at s) (links_at s) root pairs (plug fs (inner k h cs)) →
-      (is : BranchStored bytes P s t fs place (inner k h cs) m n part b c x (change s.inners (as_inner k) (with_header (record { len = length rest; stored = take P rest }))) (as_inner k ∷ [])) → is.hole.radix.0 ≡ part ++ b ∷ rest →
+  pub prefix_branched : {k : OpaqueNodePtr} {h : Header} {cs : Children OpaqueNodePtr (K × V)} {mid : Inners} (rest : List ℕ) → mid ≡ change s.inners (as_inner k) (with_header (record { len = length rest; stored = take P rest })) → IsLaidOut bytes P (node_at s) (links_at s) root pairs (plug fs (inner k h cs)) →
+      (is : BranchStored bytes P s t fs place (inner k h cs) m n part b c x mid (as_inner k ∷ [])) → is.hole.radix.0 ≡ part ++ b ∷ rest →
       BranchInserted bytes P (node_at s) (node_at t) (links_at s) (links_at t) fs place (inner k h cs) (inner k (header_of P rest (length (bytes_of cs))) cs) (inner_name m) (leaf_name n) part b c (pair_of x)
-  prefix_branched {k} {h} {cs} rest old is prefix = trimmed_node rest old is.hole prefix (branch_same old is) there (branch_placed old is (inner k (header_of P rest (length (bytes_of cs))) cs) refl)
+  prefix_branched {k} {h} {cs} rest written old is prefix = trimmed_node rest old is.hole prefix (branch_same old is) there (branch_placed old is (inner k (header_of P rest (length (bytes_of cs))) cs) refl)
     where
       shown : (kind : NodeType) (slots : List (ℕ × OpaqueNodePtr)) → kind ≡ kind_of (length (bytes_of cs)) → slots ≡ slots_of cs → ◌≡◌ {A = Option (Node OpaqueNodePtr (K × V))} (Some (inner_node (record { kind = kind; length_of = length rest; stored = take P rest }) slots)) (Some (inner_node (header_of P rest (length (bytes_of cs))) (slots_of cs)))
       shown kind slots e f = cc
@@ -206,5 +206,5 @@ module _ {K V : Type 0} {bytes : K × V → List ℕ} {P : ℕ} {s t : Nodes K V
       there =
           let (off, node, found, head, below) = inner_at s k h (slots_of cs) (path_holds (node_at s) fs (inner k h cs) old.holds).1.0 in
           let f = with_header (record { len = length rest; stored = take P rest }) in
-          node_at-inner t k off (Some (f node)) (touched_is old is k off (inl refl) ∙ inner_changed_at s.inners (as_inner k) f ∙ ap (option_map f) found)
+          node_at-inner t k off (Some (f node)) (touched_is old is k off (inl refl) ∙ ap (λ z. get z (as_inner k)) written ∙ inner_changed_at s.inners (as_inner k) f ∙ ap (option_map f) found)
           ∙ shown k.kind node.children (ap (λ z. z.kind) head ∙ ap (λ z. z.kind) is.hole.radix.1) below

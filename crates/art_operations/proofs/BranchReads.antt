@@ -20,7 +20,7 @@ use Rattle.art_model.specs.Places.{depth_of, least_key, prefix_of}
 use Rattle.art_model.specs.Roots.{IsFullTree}
 use Rattle.art_model.specs.Radix.{IsRadix}
 use Rattle.art_model.specs.Stores.{links_at, links_of, held_leaf, node_at, pair_of}
-use Rattle.art_model.specs.Trees.{Tree, leaf, inner}
+use Rattle.art_model.specs.Trees.{Tree, leaf, inner, Children, Header}
 use Rattle.art_model.proofs.Links.{link_of, last_or-append, first_or-append}
 use Rattle.art_model.proofs.KeyLaws.{common_front_is_longest}
 use Rattle.art_model.proofs.Lists.{after_front}
@@ -35,7 +35,7 @@ use Rattle.art_operations.specs.Branches.{IsBeside, IsBranch}
 use Rattle.art_operations.specs.declared.insert.InsertKind.TheVariants.{SplitLeaf, MismatchPrefix}
 use Rattle.art_operations.specs.declared.path.ExplicitMismatch.{ExplicitMismatch}
 use Rattle.art_operations.specs.Matching.{shared_len}
-use Rattle.art_operations.specs.Points.{AnswersTo, IsKindOf, IsMismatch}
+use Rattle.art_operations.specs.Points.{AnswersTo, IsKindOf, IsMismatch, IsLeafForPrefix}
 use Rattle.art_operations.proofs.Branches.{end_laid, end_hole, end_depth}
 use Rattle.art_operations.proofs.Forks.{fork, unrelated_short}
 
@@ -196,6 +196,10 @@ module _ {K V : Type 0} {bytes : K × V → List ℕ} {P : ℕ} {s : Nodes K V} 
     pub leaf_named : name_of at.node ≡ leaf_name p
     leaf_named = let (start, (pair, is, rest)) = leaf_kind in ap name_of is
 
+    -- the node is the leaf
+    pub leaf_found : (pair : K × V) × (at.node ≡ leaf (leaf_name p) pair)
+    leaf_found = let (start, (pair, is, rest)) = leaf_kind in (pair, is)
+
     pub leaf_gone : None ≡ get s.leaves p → ⊥
     leaf_gone gone = no_leaf_gone s p at.node leaf_named (path_holds (node_at s) at.path at.node (end_laid by at).holds).1 gone
 
@@ -232,14 +236,22 @@ module _ {K V : Type 0} {bytes : K × V → List ℕ} {P : ℕ} {s : Nodes K V} 
     inner_kind : IsKindOf bytes P key at.node (depth_of at.path) point.key_bytes_used (MismatchPrefix mismatch p)
     inner_kind = subst (λ k. IsKindOf bytes P key at.node (depth_of at.path) point.key_bytes_used k) kind at.kind_is
 
-    inner_start : point.key_bytes_used ≡ depth_of at.path
+    pub inner_start : point.key_bytes_used ≡ depth_of at.path
     inner_start = inner_kind.0
 
     pub inner_named : name_of at.node ≡ inner_name p
     inner_named = let (start, (header, children, is, parts, long)) = inner_kind in ap name_of is
 
+    -- the node is the inner node
+    pub inner_found : (header : Header) × (children : Children OpaqueNodePtr (K × V)) × (at.node ≡ inner (inner_name p) header children)
+    inner_found = let (start, (header, children, is, parts, long)) = inner_kind in (header, children, is)
+
     parts : IsMismatch bytes P key at.node (depth_of at.path) mismatch
     parts = let (start, (header, children, is, parts, long)) = inner_kind in parts
+
+    -- the least leaf below, where the prefix is longer than what is stored
+    pub inner_least : IsLeafForPrefix P (prefix_of bytes (depth_of at.path) at.node) at.node mismatch.leaf_ptr
+    inner_least = parts.least_leaf
 
     inner_long : depth_of at.path + mismatch.matched_bytes < length key
     inner_long = let (start, (header, children, is, parts, long)) = inner_kind in long
@@ -248,14 +260,20 @@ module _ {K V : Type 0} {bytes : K × V → List ℕ} {P : ℕ} {s : Nodes K V} 
     pub inner_bounds : point.key_bytes_used + mismatch.matched_bytes < length key
     inner_bounds = let start = inner_start in let long = inner_long in omega arith
 
-    inner_ways : (ways : AreWays place key (least_key bytes at.node) (depth_of at.path + mismatch.matched_bytes)) × (ways.y ≡ get_or (prefix_of bytes (depth_of at.path) at.node) mismatch.matched_bytes 0)
-    inner_ways =
-        let (start, (header, children, is, parts, long)) = inner_kind in
+    -- the keys below go on with the prefix
+    pub prefix_way : IsFront (place ++ prefix_of bytes (depth_of at.path) at.node) (least_key bytes at.node)
+    prefix_way =
+        let (header, children, is) = inner_found in
         let radix : IsRadix bytes P place (inner (inner_name p) header children) = subst (IsRadix bytes P place) is (end_hole by at).radix in
         let prefix : prefix_of bytes (depth_of at.path) at.node ≡ radix.0 = ap₂ (prefix_of bytes) (end_depth by at) is ∙ prefix_is bytes P (inner_name p) header children place radix in
-        let way : IsFront (place ++ radix.0) (least_key bytes at.node) = subst (λ t. IsFront (place ++ radix.0) (least_key bytes t)) (sym is) (least_way_below bytes P children (place ++ radix.0) radix.2 radix.4) in
-        prefix_ways place (prefix_of bytes (depth_of at.path) at.node) key (least_key bytes at.node) (depth_of at.path) mismatch.matched_bytes (end_depth by at) (sym (take-append-drop (depth_of at.path) key))
-        (subst (λ z. IsFront (place ++ z) (least_key bytes at.node)) (sym prefix) way) parts.matched (slice_get_within (prefix_of bytes (depth_of at.path) at.node) mismatch.matched_bytes mismatch.prefix_byte parts.byte) long
+        subst (λ z. IsFront (place ++ z) (least_key bytes at.node)) (sym prefix) (subst (λ t. IsFront (place ++ radix.0) (least_key bytes t)) (sym is) (least_way_below bytes P children (place ++ radix.0) radix.2 radix.4))
+
+    -- which is longer than what the key has of it
+    pub prefix_inside : mismatch.matched_bytes < length (prefix_of bytes (depth_of at.path) at.node)
+    prefix_inside = slice_get_within (prefix_of bytes (depth_of at.path) at.node) mismatch.matched_bytes mismatch.prefix_byte parts.byte
+
+    inner_ways : (ways : AreWays place key (least_key bytes at.node) (depth_of at.path + mismatch.matched_bytes)) × (ways.y ≡ get_or (prefix_of bytes (depth_of at.path) at.node) mismatch.matched_bytes 0)
+    inner_ways = prefix_ways place (prefix_of bytes (depth_of at.path) at.node) key (least_key bytes at.node) (depth_of at.path) mismatch.matched_bytes (end_depth by at) (sym (take-append-drop (depth_of at.path) key)) prefix_way parts.matched prefix_inside inner_long
 
     pub inner_branch : {end : ℕ} {part : List ℕ} {branch : Branch P} {new_byte : ℕ} → end ≡ point.key_bytes_used + mismatch.matched_bytes → part ≡ take (end - point.key_bytes_used) (drop point.key_bytes_used key) → branch.header ≡ header_of P part → branch.old_byte ≡ mismatch.prefix_byte → branch.new_byte ≡ new_byte →
         new_byte ≡ get_or key end 0 → IsBeside s at.node (ltb mismatch.prefix_byte new_byte) branch.previous branch.next → IsBranch bytes key at.path at.node branch

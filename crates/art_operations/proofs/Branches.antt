@@ -6,8 +6,7 @@ use Rattle.std.specs.FinMap.{get, insert}
 use Rattle.art_nodes.specs.Changes.{with_child}
 use Rattle.art_nodes.specs.Inner.{Inner, Prefix, childless, child_at}
 use Rattle.art_nodes.specs.Names.{leaf_name, inner_name}
-use Rattle.art_nodes.specs.Nodes.{Nodes, Promise, covers, take_leaf, take_inner, no_promise}
-use Rattle.art_nodes.specs.declared.node.NodeType.{NodeType}
+use Rattle.art_nodes.specs.Nodes.{Nodes}
 use Rattle.art_nodes.specs.declared.node.InnerPtr.{InnerPtr}
 use Rattle.art_nodes.specs.declared.node.LeafPtr.{LeafPtr}
 use Rattle.art_nodes.specs.declared.node.LeafNode.{LeafNode}
@@ -49,7 +48,7 @@ use Rattle.art_operations.specs.declared.insert.InsertResult.{InsertResult}
 use Rattle.art_operations.specs.declared.insert.branch.Branch.{Branch}
 use Rattle.art_operations.specs.declared.path.TreePath.{TreePath}
 use Rattle.art_operations.specs.declared.path.TreePath.TheVariants.{Root, ChildOfRoot, Normal}
-use Rattle.art_operations.specs.Branches.{IsBranch, IsPlaced}
+use Rattle.art_operations.specs.Branches.{ForEnd, IsBranch, IsPlaced}
 use Rattle.art_operations.specs.Inserted.{IsInserted, HasInserted, IsChange, alone, root_after}
 use Rattle.art_operations.specs.Points.{AnswersTo, path_of, step_down}
 use Rattle.art_operations.specs.Writes.{HasChild, last_step, root_with}
@@ -62,7 +61,8 @@ pub child_stays : (m : Inners) (p : InnerPtr) (x : Inner) (step : Option (InnerP
 child_stays m p x None free h = h
 child_stays m p x (Some (q, b)) free h = subst (λ o. IsSomeAnd o (λ node. IsSome (child_at node.children b))) (sym (inner_elsewhere m p q x (λ e. subst (λ o. IsSomeAnd o (λ node. IsSome (child_at node.children b))) (ap (get m) e ∙ free) h))) h
 
-last_is : {A : Type 0} (fs : List (Frame OpaqueNodePtr A)) → last_step (path_of fs) ≡ parent_of fs
+-- the last step of a path is its parent
+pub last_is : {A : Type 0} (fs : List (Frame OpaqueNodePtr A)) → last_step (path_of fs) ≡ parent_of fs
 last_is [] = refl
 last_is (f ∷ fs) = go (path_of fs)
   where
@@ -85,17 +85,6 @@ root_told : (point : InsertPoint) (path : TreePath) (node : OpaqueNodePtr) (byte
 root_told point Root node byte = refl
 root_told point (ChildOfRoot parent b) node byte = refl
 root_told point (Normal grandparent above parent b) node byte = refl
-
--- ---- what is promised
-
--- a leaf and an inner node are taken from what a successful call promised of them
-pub promise_taken : (old new : Promise) (kind : NodeType) → (covers old 1 (Some kind) ≡ true → new ≡ old) → (covers old 1 (Some kind) ≡ false → new ≡ record { leaves = 1; inner = Some kind }) → take_inner kind (take_leaf (record { leaves = 1; inner = Some kind })) ≡ no_promise →
-    take_inner kind (take_leaf new) ≡ cond (covers old 1 (Some kind)) (take_inner kind (take_leaf old)) no_promise
-promise_taken old new kind kept made none = go (covers old 1 (Some kind)) kept made
-  where
-    go : (t : Bool) → (t ≡ true → new ≡ old) → (t ≡ false → new ≡ record { leaves = 1; inner = Some kind }) → take_inner kind (take_leaf new) ≡ cond t (take_inner kind (take_leaf old)) no_promise
-    go true kept made = ap (λ p. take_inner kind (take_leaf p)) (kept refl)
-    go false kept made = ap (λ p. take_inner kind (take_leaf p)) (made refl) ∙ none
 
 -- ---- the end of a point's path
 
@@ -143,6 +132,10 @@ module _ {K V : Type 0} {bytes : K × V → List ℕ} {P : ℕ} {s : Nodes K V} 
 
     pub next_is_there : IsThere s.leaves branch.next
     next_is_there = next_there s (leaves_before at.path ++ cond (ltb branch.old_byte branch.new_byte) (leaf_names at.node) []) (cond (ltb branch.old_byte branch.new_byte) [] (leaf_names at.node) ++ leaves_after at.path) branch.next ends_there is.next
+
+-- what is read is read for the key
+pub read_for : {K V : Type 0} {bytes : K × V → List ℕ} {P : ℕ} {s : Nodes K V} {point : InsertPoint} {text key : List ℕ} {branch : Branch P} → text ≡ key → ForEnd bytes P s text point (λ path node. IsBranch bytes text path node branch) → ForEnd bytes P s key point (λ path node. IsBranch bytes key path node branch)
+read_for {bytes = bytes} {P} {s} {point} {branch = branch} same read = subst (λ k. ForEnd bytes P s k point (λ path node. IsBranch bytes k path node branch)) same read
 
 -- ---- the branch is placed
 

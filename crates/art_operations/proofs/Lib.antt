@@ -20,6 +20,9 @@ pub mod DeletePoints
 pub mod Forks
 pub mod Branches
 pub mod BranchReads
+pub mod Reserved
+pub mod Trims
+pub mod Splits
 pub mod Applied
 pub mod Answered
 pub mod Replaced

@@ -3,7 +3,7 @@ use Rattle.std.proofs.Common.{◌≡◌, ◌≢◌, ℕ, ◌+◌, ◌-◌, ◌<�
 use Rattle.std.specs.Result.{IfOk, IfErr}
 use Rattle.std.proofs.lemmas.List.{take_all}
 use Rattle.std.specs.FinMap as map
-use Rattle.art_nodes.specs.Inner.{Inner, Prefix}
+use Rattle.art_nodes.specs.Inner.{Inner, Prefix, header_of as whole_header}
 use Rattle.art_nodes.specs.Names.{leaf_name, inner_name}
 use Rattle.art_nodes.specs.Nodes.{Nodes}
 use Rattle.art_nodes.specs.declared.node.NodeType.TheVariants.{Leaf}
@@ -11,6 +11,7 @@ use Rattle.art_nodes.specs.declared.node.LeafPtr.{LeafPtr}
 use Rattle.art_nodes.specs.declared.node.InnerPtr.{InnerPtr}
 use Rattle.art_nodes.specs.declared.node.OpaqueNodePtr.{OpaqueNodePtr}
 use Rattle.art_nodes.specs.declared.node.LeafNode.{LeafNode}
+use Rattle.art_nodes.proofs.HeaderLaws.{header_by_parts}
 use Rattle.art_model.specs.Keys.{IsFront}
 use Rattle.art_model.specs.Lookups.{HasFirstLeaf}
 use Rattle.art_model.specs.Pairs.{first_of}
@@ -79,6 +80,10 @@ module _ {K V : Type 0} {s : Nodes K V} {bytes : K × V → List ℕ} {P : ℕ} 
     len_is : shown.prefix.len ≡ length (prefix_of bytes depth node)
     len_is = ap (λ h. h.length_of) radix.1 ∙ ap length (sym whole_prefix)
 
+    -- the node's own header
+    pub header_is : shown.prefix ≡ whole_header P (prefix_of bytes depth node)
+    header_is = header_by_parts P (prefix_of bytes depth node) shown.prefix len_is (ap (λ h. h.stored) radix.1 ∙ ap (take P) (sym whole_prefix))
+
     -- a prefix that is stored whole
     stored_is : shown.prefix.len ≤ P → shown.prefix.stored ≡ prefix_of bytes depth node
     stored_is short = ap (λ h. h.stored) radix.1 ∙ take_all P radix.0 (let l = ap (λ h. h.length_of) radix.1 in omega arith) ∙ sym whole_prefix
@@ -117,7 +122,8 @@ module _ {K V : Type 0} {s : Nodes K V} {bytes : K × V → List ℕ} {P : ℕ} 
             let v = length-append part.place radix.0 in
             omega arith
 
-        prefix_read : take shown.prefix.len (drop depth (bytes (pair_of l))) ≡ prefix_of bytes depth node
+        -- the whole prefix is read from the leaf
+        pub prefix_read : take shown.prefix.len (drop depth (bytes (pair_of l))) ≡ prefix_of bytes depth node
         prefix_read = ap (λ k. take shown.prefix.len (drop depth k)) (sym least_bytes) ∙ ap (prefix_of bytes depth) (sym at.is)
 
         -- what the comparison with a prefix that is read from the leaf says

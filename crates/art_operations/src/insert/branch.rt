@@ -1,5 +1,5 @@
 //! A new node above a leaf and a new one, or above an inner node and a new leaf.
-ghost use Rattle.std.specs.Prelude.{◌≡◌, nat_lt, IsOk, IsTrue, IfOk, IfErr, OnOk, OnErr, Some};
+ghost use Rattle.std.specs.Prelude.{◌≡◌, ℕ, ◌+◌, nat_lt, drop, List, IsOk, IsTrue, IfOk, IfErr, OnOk, OnErr, Some};
 ghost use Rattle.art_nodes.specs.Changes.{with_child};
 ghost use Rattle.art_nodes.specs.Inner.{childless, header_of};
 ghost use Rattle.art_nodes.specs.Kinds.{any_kind, any_view};
@@ -7,6 +7,7 @@ ghost use Rattle.art_nodes.specs.Nodes.{covers, no_promise, take_inner, take_lea
 ghost use Rattle.art_nodes.specs.declared.node.NodeType.TheVariants.{Node4};
 ghost use Rattle.art_nodes.specs.declared.node.OpaqueNodePtr.{OpaqueNodePtr};
 ghost use Rattle.art_model.specs.Pairs.{of_key};
+ghost use Rattle.art_model.specs.Places.{depth_of, prefix_of};
 ghost use Rattle.art_model.specs.Promises.{is_covered, promise_after};
 ghost use Rattle.art_model.specs.Roots.{ForTree, IsFullTree};
 ghost use Rattle.art_model.specs.Trees.{Tree};
@@ -122,7 +123,8 @@ impl InsertPoint {
     ) -> Branch<P>
         requires point { self.insert_kind ≡ kinds.MismatchPrefix mismatch inner_node_ptr }
         requires answers { IsPointIn (of_key K.bytes) P store.now key_bytes.now self }
-        ensures { ForEnd (of_key K.bytes) P store.now key_bytes.now self (λ path node. IsBranch (of_key K.bytes) key_bytes.now path node result) }
+        ensures branch { ForEnd (of_key K.bytes) P store.now key_bytes.now self (λ path node. IsBranch (of_key K.bytes) key_bytes.now path node result) }
+        ensures len { result.header.len ≡ mismatch.matched_bytes }
     {
         let end = self.key_bytes_used + mismatch.matched_bytes;
         let part = &key_bytes[self.key_bytes_used..end];
@@ -134,6 +136,34 @@ impl InsertPoint {
             mismatch.prefix_byte,
             new_byte,
         )
+    }
+
+    // Reads the header that a split leaves to the old node: the rest of its prefix.
+    fn trimmed_header<K: AsBytes + Drop, V: Drop, const P: usize>(
+        self,
+        store: &NodeStore<K, V, P>,
+        mismatch: ExplicitMismatch,
+        inner_node_ptr: InnerPtr,
+    ) -> Header<P>
+        requires point { self.insert_kind ≡ kinds.MismatchPrefix mismatch inner_node_ptr }
+        requires answers { (key : List ℕ) × IsPointIn (of_key K.bytes) P store.now key self }
+        ensures { (key : List ℕ) → ForEnd (of_key K.bytes) P store.now key self (λ path node.
+            result ≡ header_of P (drop (mismatch.matched_bytes + 1) (prefix_of (of_key K.bytes) (depth_of path) node))) }
+    {
+        let Some(node) = store.inner(inner_node_ptr) else {
+            unreachable!()
+        };
+        let mut header = node.header();
+        let count = mismatch.matched_bytes + 1;
+        let Some(leaf_ptr) = mismatch.leaf_ptr else {
+            header.ltrim_by(count);
+            return header;
+        };
+        let Some(leaf) = store.leaf(leaf_ptr) else {
+            unreachable!()
+        };
+        header.ltrim_by_with_leaf(count, self.key_bytes_used, leaf.key.as_bytes());
+        header
     }
 
     // Places the leaf of a pair, and a node above it and the old one in the place of the old one.
@@ -237,6 +267,16 @@ impl InsertPoint {
         ensures inners { OnErr result (store.new.inners ≡ store.old.inners) }
         ensures void { OnErr result (store.new.promise ≡ no_promise) }
     {
-        unreachable!()
+        if store.reserve(1, Some(NodeType::Node4)).is_err() {
+            return Err(Refused { key, value });
+        }
+        let branch = self.branch_at_prefix(store, mismatch, inner_node_ptr, key.as_bytes());
+        let header = self.trimmed_header(store, mismatch, inner_node_ptr);
+        store.set_header(inner_node_ptr, header);
+        let old = inner_node_ptr.to_opaque();
+        Ok(self.place_branch(store, old, branch, key, value))
     }
 }
+
+#[cfg(test)]
+mod tests;

@@ -1,0 +1,185 @@
+ghost use Rattle.std.specs.Prelude.{IfOk, OnOk};
+ghost use Rattle.art_model.specs.Pairs.{of_key};
+ghost use Rattle.art_model.specs.Roots.{IsCanonicalRoot};
+
+use super::*;
+use crate::insert::{InsertKind, search_for_insert_point};
+use crate::test_nodes::{count_touched, nodes_seen};
+use crate::test_trees::{Key, keys, keys_of_zeros, plant};
+use art_nodes::node::InnerRef;
+use art_test_support::all_memory;
+use std::test::Fail;
+
+// Puts a key into a tree.
+fn insert<K: AsBytes + Drop, const P: usize>(
+    store: &mut NodeStore<K, u32, P>,
+    root: OpaqueNodePtr,
+    key: K,
+    value: u32,
+) -> Option<Result<InsertResult<K, u32>, Refused<K, u32>>>
+    requires { IsCanonicalRoot (of_key K.bytes) P store.old root }
+{
+    let point = search_for_insert_point(store, root, key.as_bytes()).ok()?;
+    Some(point.apply(store, key, value))
+}
+
+// What was inserted.
+fn inserted<T, E: Drop>(done: Option<Result<T, E>>) -> Result<T, Fail> {
+    Ok(done.ok_or("a point")?.ok().ok_or("memory")?)
+}
+
+// The inner node under a name.
+fn inner_node<const P: usize>(
+    store: &NodeStore<Key, u32, P>,
+    name: OpaqueNodePtr,
+) -> Option<InnerRef<'_, P>> {
+    store.inner(name.as_inner()?)
+}
+
+// The child of an inner node under a byte.
+fn child<const P: usize>(
+    store: &NodeStore<Key, u32, P>,
+    node: OpaqueNodePtr,
+    byte: u8,
+) -> Option<OpaqueNodePtr> {
+    inner_node(store, node)?.lookup_child(byte)
+}
+
+// Whether an inner node has this length of prefix, these bytes stored of it, and children under two bytes.
+fn is_branch<const P: usize>(
+    store: &NodeStore<Key, u32, P>,
+    name: OpaqueNodePtr,
+    len: usize,
+    stored: &[u8],
+    bytes: [u8; 2],
+) -> bool {
+    let Some(node) = inner_node(store, name) else {
+        return false;
+    };
+    name.kind == NodeType::Node4
+        && node.prefix_len() == len
+        && node.read_prefix() == stored
+        && node.num_children() == 2
+        && bytes.iter().all(|byte| node.lookup_child(*byte).is_some())
+}
+
+#[test]
+fn splits_the_root_leaf(rt: HostRuntime) -> Result<(), Fail> {
+    let alloc = rt.alloc();
+    let mut store: NodeStore<Key, u32, 16> = NodeStore::new(alloc);
+    let root = plant(
+        &mut store,
+        &mut NodeStore::new(alloc),
+        keys(alloc, &[&[1, 2, 3, 4]])?,
+    )?;
+    let before = nodes_seen(&store)?;
+    let key = [1, 2, 9].to_vec(alloc)?;
+    let done = inserted(insert(&mut store, root, key, 1))?;
+    let change = InsertParentNodeChange::NewParent {
+        new_parent_node: done.new_root,
+        leaf_node_key_byte: 9,
+    };
+    assert_eq!(rt; done.parent_node_change, change);
+    assert!(rt; done.existing_leaf.is_none());
+    assert!(rt; is_branch(&store, done.new_root, 2, &[1, 2], [3, 9]));
+    assert_eq!(rt; child(&store, done.new_root, 3), Some(root));
+    assert_eq!(rt; count_touched(&before, &nodes_seen(&store)?), (2, 0, 1));
+    Ok(())
+}
+
+#[test]
+fn splits_a_prefix_that_is_longer_than_stored(rt: HostRuntime) -> Result<(), Fail> {
+    let alloc = rt.alloc();
+    let mut store: NodeStore<Key, u32, 2> = NodeStore::new(alloc);
+    let root = plant(
+        &mut store,
+        &mut NodeStore::new(alloc),
+        keys(alloc, &[&[7, 1, 1, 1, 1, 5], &[7, 1, 1, 1, 1, 6]])?,
+    )?;
+    let before = nodes_seen(&store)?;
+    let key = [7, 1, 1, 9].to_vec(alloc)?;
+    let done = inserted(insert(&mut store, root, key, 2))?;
+    assert!(rt; is_branch(&store, done.new_root, 3, &[7, 1], [1, 9]));
+    assert!(rt; is_branch(&store, root, 1, &[1], [5, 6]));
+    assert_eq!(rt; child(&store, done.new_root, 1), Some(root));
+    assert_eq!(rt; count_touched(&before, &nodes_seen(&store)?), (2, 0, 2));
+    Ok(())
+}
+
+#[test]
+fn splits_the_prefix_of_a_child(rt: HostRuntime) -> Result<(), Fail> {
+    let alloc = rt.alloc();
+    let mut store: NodeStore<Key, u32, 16> = NodeStore::new(alloc);
+    let root = plant(
+        &mut store,
+        &mut NodeStore::new(alloc),
+        keys(alloc, &[&[0], &[1, 1, 1, 5], &[1, 1, 1, 6], &[2]])?,
+    )?;
+    let below = child(&store, root, 1).ok_or("a child")?;
+    let before = nodes_seen(&store)?;
+    let key = [1, 1, 9].to_vec(alloc)?;
+    let done = inserted(insert(&mut store, root, key, 4))?;
+    assert_eq!(rt; done.new_root, root);
+    let parent = child(&store, root, 1).ok_or("a child")?;
+    assert!(rt; is_branch(&store, parent, 1, &[1], [1, 9]));
+    assert!(rt; is_branch(&store, below, 0, &[], [5, 6]));
+    assert_eq!(rt; child(&store, parent, 1), Some(below));
+    assert_eq!(rt; count_touched(&before, &nodes_seen(&store)?), (2, 0, 4));
+    Ok(())
+}
+
+#[test]
+fn without_memory_a_reserved_split_is_made(rt: HostRuntime) -> Result<(), Fail> {
+    let alloc = rt.alloc();
+    let mut store: NodeStore<Key, u32, 16> = NodeStore::new(alloc);
+    let root = plant(
+        &mut store,
+        &mut NodeStore::new(alloc),
+        keys(alloc, &[&[1, 2, 3, 4]])?,
+    )?;
+    let key = [1, 2, 9].to_vec(alloc)?;
+    store.reserve(1, Some(NodeType::Node4))?;
+    let held = all_memory(alloc)?;
+    let done = insert(&mut store, root, key, 1);
+    drop(held);
+    let done = inserted(done)?;
+    assert!(rt; is_branch(&store, done.new_root, 2, &[1, 2], [3, 9]));
+    Ok(())
+}
+
+// Says the same with ample memory and with requests for memory refused.
+#[test]
+fn refused_splits_hand_the_pair_back(rt: HostRuntime) -> Result<(), Fail> {
+    let alloc = rt.alloc();
+    let mut store: NodeStore<Key, u32, 4> = NodeStore::new(alloc);
+    let mut second = NodeStore::new(alloc);
+    let (Ok(first), Ok(more)) = (keys(alloc, &[&[255]]), keys_of_zeros(alloc)) else {
+        return Ok(());
+    };
+    let Ok(mut root) = plant(&mut store, &mut second, first) else {
+        return Ok(());
+    };
+    let mut any_refused = false;
+    for key in more {
+        let (Ok(copy), Ok(before)) = (key.clone(), nodes_seen(&store)) else {
+            return Ok(());
+        };
+        match insert(&mut store, root, key, 7) {
+            None => return Ok(()),
+            Some(Ok(done)) => root = done.new_root,
+            Some(Err(refused)) => {
+                assert_eq!(rt; refused.key, copy);
+                assert_eq!(rt; refused.value, 7);
+                let Ok(after) = nodes_seen(&store) else {
+                    return Ok(());
+                };
+                assert_eq!(rt; count_touched(&before, &after), (0, 0, 0));
+                any_refused = true;
+            }
+        }
+    }
+    if any_refused {
+        println!(rt; "asserted")?;
+    }
+    Ok(())
+}
