@@ -15,3 +15,7 @@ pub mod Applied
 pub mod Answered
 pub mod Replaced
 pub mod Gaps
+pub mod Larger
+pub mod Entered
+pub mod Beside
+pub mod Reserved

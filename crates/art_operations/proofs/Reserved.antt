@@ -1,0 +1,41 @@
+-- what is reserved for a leaf and an inner node, and what is left of it
+use Rattle.std.proofs.Common.{◌≡◌, ℕ, zero, suc, ◌<◌, ◌≤◌, Bool, true, false, ◌&&◌, IsTrue, IsFalse, Option, Some, None, Result, Ok, Err, OnOk, refl, ap, ◌∙◌, leb, arith, eq-eqb}
+use Rattle.std.proofs.lemmas.Bool.{leb-true}
+use Rattle.art_nodes.specs.Nodes.{Nodes, Promise, covers, promises, kind_index, take_leaf}
+use Rattle.art_nodes.specs.declared.node.NodeType.{NodeType}
+use Rattle.art_model.specs.Promises.{inner_taken, promise_after}
+
+module _ (promise : Promise) where
+  -- a leaf is promised
+  pub leaf_promised : (o : Option NodeType) → IsTrue (covers promise 1 o) → 0 < promise.leaves
+  leaf_promised None h = let l = leb-true 1 promise.leaves h in omega arith
+  leaf_promised (Some kind) h = go (leb 1 promise.leaves) (promises promise.inner kind) refl h
+    where
+      go : (t u : Bool) → leb 1 promise.leaves ≡ t → IsTrue (t && u) → 0 < promise.leaves
+      go true u e h = let l = leb-true 1 promise.leaves e in omega arith
+      go false u e h = absurd cc
+
+  -- and the inner node still is when the leaf is placed
+  pub inner_promised : (kind : NodeType) → IsTrue (covers promise 1 (Some kind)) → IsTrue (promises (take_leaf promise).inner kind)
+  inner_promised kind h = go promise.leaves refl
+    where
+      both : (t u : Bool) → IsTrue (t && u) → IsTrue u
+      both true u h = h
+      both false u h = absurd cc
+
+      go : (n : ℕ) → promise.leaves ≡ n → IsTrue (promises (take_leaf promise).inner kind)
+      go zero e = let l = leaf_promised (Some kind) h in absurd (omega arith)
+      go (suc n) e = rw e (both (leb 1 promise.leaves) (promises promise.inner kind) h)
+
+-- what is left of a promise that was reserved, or was there
+pub after_reserve : {K V : Type 0} (s r : Nodes K V) (o : Option NodeType) → (IsTrue (covers s.promise 1 o) → r ≡ s) → (IsFalse (covers s.promise 1 o) → r.promise ≡ record { leaves = 1; inner = o }) →
+    inner_taken o (take_leaf r.promise) ≡ promise_after (record { leaves = 1; inner = o }) s.promise
+after_reserve s r o kept granted = go (covers s.promise 1 o) refl
+  where
+    all_taken : (p : Option NodeType) → inner_taken p (take_leaf (record { leaves = 1; inner = p })) ≡ record { leaves = 0; inner = None }
+    all_taken None = refl
+    all_taken (Some kind) = rw (eq-eqb (kind_index kind) (kind_index kind) refl) refl
+
+    go : (t : Bool) → covers s.promise 1 o ≡ t → inner_taken o (take_leaf r.promise) ≡ promise_after (record { leaves = 1; inner = o }) s.promise
+    go true e = rw e (ap (λ (z : Nodes _ _). inner_taken o (take_leaf z.promise)) (kept e))
+    go false e = rw e (ap (λ z. inner_taken o (take_leaf z)) (granted e) ∙ all_taken o)
