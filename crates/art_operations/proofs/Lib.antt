@@ -21,9 +21,15 @@ pub mod Forks
 pub mod Branches
 pub mod BranchReads
 pub mod Reserved
+pub mod Standing
 pub mod Trims
 pub mod Splits
 pub mod Applied
 pub mod Answered
 pub mod Replaced
 pub mod Gaps
+pub mod Larger
+pub mod Entered
+pub mod Beside
+pub mod Reserved
+pub mod Standing

@@ -1,25 +1,41 @@
--- A store with the same nodes under the same names, as it is once memory is reserved.
-use Rattle.std.proofs.Common.{ℕ, List, sym, subst}
-use Rattle.art_nodes.specs.Nodes.{Nodes}
-use Rattle.art_nodes.specs.declared.node.OpaqueNodePtr.{OpaqueNodePtr}
-use Rattle.art_model.specs.Canonical.{IsTree}
-use Rattle.art_model.specs.Stores.{node_at, links_at}
-use Rattle.art_model.specs.Trees.{Tree}
-use Rattle.art_model.specs.Writes.{Leaves, Inners}
-use Rattle.art_model.proofs.Canonical.{IsLaidOut, laid_out, canonical_from}
-use Rattle.art_model.proofs.StoreLaws.{has_one_map}
-use Rattle.art_operations.specs.Inserted.{IsPointIn}
-use Rattle.art_operations.specs.Points.{AnswersTo}
-use Rattle.art_operations.specs.Room.{SameNodes}
-use Rattle.art_operations.specs.declared.insert.InsertPoint.{InsertPoint}
+-- what is reserved for a leaf and an inner node, and what is left of it
+use Rattle.std.proofs.Common.{◌≡◌, ℕ, zero, suc, ◌<◌, ◌≤◌, Bool, true, false, ◌&&◌, IsTrue, IsFalse, Option, Some, None, Result, Ok, Err, OnOk, refl, ap, ◌∙◌, leb, arith, eq-eqb}
+use Rattle.std.proofs.lemmas.Bool.{leb-true}
+use Rattle.art_nodes.specs.Nodes.{Nodes, Promise, covers, promises, kind_index, take_leaf}
+use Rattle.art_nodes.specs.declared.node.NodeType.{NodeType}
+use Rattle.art_model.specs.Promises.{inner_taken, promise_after}
 
-module _ {K V : Type 0} {bytes : K × V → List ℕ} {P : ℕ} {s : Nodes K V} where
-  -- a canonical root stays one
-  pub tree_stays : {mid : Nodes K V} {root : OpaqueNodePtr} {pairs : List (K × V)} {layout : Tree OpaqueNodePtr (K × V)} → SameNodes s mid → IsTree bytes P s root pairs layout → IsTree bytes P mid root pairs layout
-  tree_stays {mid} {root} {pairs} {layout} same by =
-      let At : Leaves K V → Inners → Type 0 = λ leaves inners. let z : Nodes K V = record s { leaves = leaves; inners = inners } in IsLaidOut bytes P (node_at z) (links_at z) root pairs layout in
-      canonical_from (subst (λ leaves. At leaves mid.inners) (sym same.0) (subst (λ inners. At s.leaves inners) (sym same.1) (laid_out by)))
+module _ (promise : Promise) where
+  -- a leaf is promised
+  pub leaf_promised : (o : Option NodeType) → IsTrue (covers promise 1 o) → 0 < promise.leaves
+  leaf_promised None h = let l = leb-true 1 promise.leaves h in omega arith
+  leaf_promised (Some kind) h = go (leb 1 promise.leaves) (promises promise.inner kind) refl h
+    where
+      go : (t u : Bool) → leb 1 promise.leaves ≡ t → IsTrue (t && u) → 0 < promise.leaves
+      go true u e h = let l = leb-true 1 promise.leaves e in omega arith
+      go false u e h = absurd cc
 
-  -- the point answers to each layout of its root
-  pub answers_to : {key : List ℕ} {point : InsertPoint} {pairs : List (K × V)} {layout : Tree OpaqueNodePtr (K × V)} → IsPointIn bytes P s key point → IsTree bytes P s point.root pairs layout → AnswersTo bytes P layout key point
-  answers_to {key} {point} {pairs} {layout} (others, other, by, at) mine = subst (λ l. AnswersTo bytes P l key point) (has_one_map bytes P s point.root pairs others layout other mine by).1 at
+  -- and the inner node still is when the leaf is placed
+  pub inner_promised : (kind : NodeType) → IsTrue (covers promise 1 (Some kind)) → IsTrue (promises (take_leaf promise).inner kind)
+  inner_promised kind h = go promise.leaves refl
+    where
+      both : (t u : Bool) → IsTrue (t && u) → IsTrue u
+      both true u h = h
+      both false u h = absurd cc
+
+      go : (n : ℕ) → promise.leaves ≡ n → IsTrue (promises (take_leaf promise).inner kind)
+      go zero e = let l = leaf_promised (Some kind) h in absurd (omega arith)
+      go (suc n) e = rw e (both (leb 1 promise.leaves) (promises promise.inner kind) h)
+
+-- what is left of a promise that was reserved, or was there
+pub after_reserve : {K V : Type 0} (s r : Nodes K V) (o : Option NodeType) → (IsTrue (covers s.promise 1 o) → r ≡ s) → (IsFalse (covers s.promise 1 o) → r.promise ≡ record { leaves = 1; inner = o }) →
+    inner_taken o (take_leaf r.promise) ≡ promise_after (record { leaves = 1; inner = o }) s.promise
+after_reserve s r o kept granted = go (covers s.promise 1 o) refl
+  where
+    all_taken : (p : Option NodeType) → inner_taken p (take_leaf (record { leaves = 1; inner = p })) ≡ record { leaves = 0; inner = None }
+    all_taken None = refl
+    all_taken (Some kind) = rw (eq-eqb (kind_index kind) (kind_index kind) refl) refl
+
+    go : (t : Bool) → covers s.promise 1 o ≡ t → inner_taken o (take_leaf r.promise) ≡ promise_after (record { leaves = 1; inner = o }) s.promise
+    go true e = rw e (ap (λ (z : Nodes _ _). inner_taken o (take_leaf z.promise)) (kept e))
+    go false e = rw e (ap (λ z. inner_taken o (take_leaf z)) (granted e) ∙ all_taken o)

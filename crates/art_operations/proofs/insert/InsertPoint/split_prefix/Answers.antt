@@ -7,7 +7,7 @@ use Rattle.art_operations.specs.Points.{AnswersTo}
 use Rattle.art_operations.specs.Room.{SameNodes}
 use Rattle.art_operations.proofs.Branches.{previous_is_there, next_is_there, read_for}
 use Rattle.art_operations.proofs.LeafWrites.{some_there}
-use Rattle.art_operations.proofs.Reserved.{tree_stays, answers_to}
+use Rattle.art_operations.proofs.Standing.{tree_stays, answers_to}
 use Rattle.art_operations.proofs.Splits.{parent_stays, prefix_split, prefix_split_touches}
 use Rattle.art_operations.proofs.Trims.{inner_gone}
 use Rattle.art_operations.proofs.insert.InsertPoint.split_prefix.Goals as goal

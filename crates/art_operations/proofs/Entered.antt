@@ -1,0 +1,234 @@
+-- a leaf that comes below an inner node, as an insertion: the point's node, where the leaf stands, and what the writes leave
+use Rattle.std.proofs.Common.{◌≡◌, ◌≢◌, ℕ, suc, ◌+◌, ◌<◌, ◌≤◌, List, [], ◌∷◌, ◌++◌, length, drop, get_or, Option, Some, None, IsSome, IsSomeAnd, IfSome, refl, ap, sym, ◌∙◌, subst, arith, append_assoc, length-append, false, inl, inr}
+use Rattle.std.specs.List.{AllByRecursion as Each}
+use Rattle.std.specs.FinMap as map
+use Rattle.std.specs.Option.{option_map}
+use Rattle.art_nodes.specs.Changes.{with_child}
+use Rattle.art_nodes.specs.Inner.{Inner, child_at}
+use Rattle.art_nodes.specs.Names.{leaf_name, inner_name}
+use Rattle.art_nodes.specs.Nodes.{Nodes}
+use Rattle.art_nodes.specs.declared.node.NodeType.TheVariants.{Leaf}
+use Rattle.art_nodes.specs.declared.node.InnerPtr.{InnerPtr}
+use Rattle.art_nodes.specs.declared.node.LeafPtr.{LeafPtr}
+use Rattle.art_nodes.specs.declared.node.LeafNode.{LeafNode}
+use Rattle.art_nodes.specs.declared.node.OpaqueNodePtr.{OpaqueNodePtr}
+use Rattle.art_nodes.proofs.StoreLaws.{inner_gone_elsewhere}
+use Rattle.art_model.specs.Canonical.{IsTree}
+use Rattle.art_model.specs.Keys.{IsFront, are_related, are_same}
+use Rattle.art_model.specs.Kept.{ChangesInPlace}
+use Rattle.art_model.specs.Layouts.{Holds, slots_of, leaf_names, leaf_names_below, AreLinked, first_or, last_or}
+use Rattle.art_model.specs.Pairs.{first_of, with_key, put_reply}
+use Rattle.art_model.specs.Paths.{Frame, plug, leaves_before, leaves_after}
+use Rattle.art_model.specs.Places.{depth_of, prefix_of}
+use Rattle.art_model.specs.Radix.{IsRadix, AreRadix, bytes_of, join, pairs_of, pairs_below}
+use Rattle.art_model.specs.Stores.{node_at, links_at, pair_of}
+use Rattle.art_model.specs.Trees.{Tree, leaf, inner, Children, child, no_child, Header}
+use Rattle.art_model.specs.Writes.{parent_of}
+use Rattle.art_model.proofs.AddedChild.{ChildAdded, split_at}
+use Rattle.art_model.proofs.Canonical.{IsLaidOut, laid_out, canonical_from}
+use Rattle.art_model.proofs.InHole.{with_key-hole}
+use Rattle.art_model.proofs.Keys.{same_related}
+use Rattle.art_model.proofs.Lists.{Each-append, Each-weaker, after_front, filter_none}
+use Rattle.art_model.proofs.OnWay.{front_byte}
+use Rattle.art_model.proofs.Paths as paths
+use Rattle.art_model.proofs.Paths.{IsHole}
+use Rattle.art_model.proofs.Places.{prefix_is}
+use Rattle.art_model.proofs.Radix.{bytes_of-join}
+use Rattle.art_model.proofs.Rebuild.{radix_way}
+use Rattle.art_model.proofs.Slots.{length-slots_of}
+use Rattle.art_model.proofs.Stores.{IsParent, path_holds, hole_distinct, parent_apart}
+use Rattle.art_model.proofs.TreeLaws.{have_two_children, one_child}
+use Rattle.art_model.proofs.Writes.{inner_at, inner_name_one, parent_ready}
+use Rattle.art_operations.specs.declared.insert.InsertKind.TheVariants.{IntoExisting}
+use Rattle.art_operations.specs.declared.insert.InsertParentNodeChange.TheVariants.{NewParent}
+use Rattle.art_operations.specs.declared.insert.InsertPoint.{InsertPoint}
+use Rattle.art_operations.specs.declared.insert.InsertResult.{InsertResult}
+use Rattle.art_operations.specs.declared.path.TreePath.{TreePath}
+use Rattle.art_operations.specs.declared.path.TreePath.TheVariants.{Root, ChildOfRoot, Normal}
+use Rattle.art_operations.specs.Inserted.{IsChange, IsInserted, IsPointIn, alone, root_after}
+use Rattle.art_operations.specs.Points.{IsKindOf, path_of, step_down, as_inner}
+use Rattle.art_operations.specs.Writes.{HasChild, HasGap, last_step, root_with}
+use Rattle.art_operations.proofs.Answered.{answered}
+use Rattle.art_operations.proofs.Partings.{unrelated_after}
+
+-- ---- paths of code and of the model
+
+module _ {A : Type 0} where
+  -- the last step is the parent
+  pub last_step-path : (fs : List (Frame OpaqueNodePtr A)) → last_step (path_of fs) ≡ parent_of fs
+  last_step-path [] = refl
+  last_step-path (f ∷ fs) = go (path_of fs)
+    where
+      go : (path : TreePath) → last_step (step_down path (as_inner f.mark) f.byte) ≡ Some (as_inner f.mark, f.byte)
+      go Root = refl
+      go (ChildOfRoot parent b) = refl
+      go (Normal grandparent c parent b) = refl
+
+  -- the root, where another node stands at the end of the path
+  pub root_with-path : (fs : List (Frame OpaqueNodePtr A)) (root node : OpaqueNodePtr) → root_with (path_of fs) root node ≡ paths.root_with fs root node
+  root_with-path [] root node = refl
+  root_with-path (f ∷ fs) root node = go (path_of fs)
+    where
+      go : (path : TreePath) → root_with (step_down path (as_inner f.mark) f.byte) root node ≡ root
+      go Root = refl
+      go (ChildOfRoot parent b) = refl
+      go (Normal grandparent c parent b) = refl
+
+  -- the root that is told
+  root_told : (point : InsertPoint) (fs : List (Frame OpaqueNodePtr A)) (node : OpaqueNodePtr) (byte : ℕ) → point.path ≡ path_of fs → paths.root_with fs point.root node ≡ root_after point (NewParent node byte)
+  root_told point fs node byte path_is = subst (λ path. paths.root_with fs point.root node ≡ root_after (record point { path = path }) (NewParent node byte)) (sym path_is) (go fs)
+    where
+      step : (path : TreePath) (name : InnerPtr) (b : ℕ) → point.root ≡ root_after (record point { path = step_down path name b }) (NewParent node byte)
+      step Root name b = refl
+      step (ChildOfRoot parent c) name b = refl
+      step (Normal grandparent d parent c) name b = refl
+
+      go : (gs : List (Frame OpaqueNodePtr A)) → paths.root_with gs point.root node ≡ root_after (record point { path = path_of gs }) (NewParent node byte)
+      go [] = refl
+      go (g ∷ gs) = step (path_of gs) (as_inner g.mark) g.byte
+
+-- ---- the point's node
+
+-- the node that a key comes into, with the gap among its children at the key's byte
+pub record IsEntry {K V : Type 0} (bytes : K × V → List ℕ) (P : ℕ) (p : InnerPtr) (layout : Tree OpaqueNodePtr (K × V)) (key : List ℕ) (path : TreePath) (b : ℕ) : Type 0 where
+  pub frames : List (Frame OpaqueNodePtr (K × V))
+  pub place : List ℕ
+  pub header : Header
+  pub left : Children OpaqueNodePtr (K × V)
+  pub right : Children OpaqueNodePtr (K × V)
+  pub whole : plug frames (inner (inner_name p) header (join left right)) ≡ layout
+  pub hole : IsHole bytes P frames place (inner (inner_name p) header (join left right)) key
+  pub front : IsFront ((place ++ hole.radix.0) ++ b ∷ []) key
+  pub low : Each (λ c. c < b) (bytes_of left)
+  pub high : Each (λ c. b < c) (bytes_of right)
+  pub path_is : path ≡ path_of frames
+
+module _ {K V : Type 0} {bytes : K × V → List ℕ} {P : ℕ} {s : Nodes K V} {point : InsertPoint} {p : InnerPtr} {key : List ℕ} (answers : IsPointIn bytes P s key point) (into : point.insert_kind ≡ IntoExisting p) where
+  -- the key has a byte after the node's whole bytes
+  pub entry_long : point.key_bytes_used < length key
+  entry_long =
+      let (pairs, layout, by, own) = answers in
+      let (header, children, is, front, used, long, none) = subst (IsKindOf bytes P key own.node (depth_of own.path) point.key_bytes_used) into own.kind_is in
+      long
+
+  pub entry : {pairs : List (K × V)} {layout : Tree OpaqueNodePtr (K × V)} {b : ℕ} → b ≡ get_or key point.key_bytes_used 0 → IsTree bytes P s point.root pairs layout → IsEntry bytes P p layout key point.path b
+  entry {pairs} {layout} {b} byte by =
+      let a = answered answers by in
+      let fs = a.answers.path in
+      let node = a.answers.node in
+      let (header, children, is, front, used, long, none) = subst (IsKindOf bytes P key node (depth_of fs) point.key_bytes_used) into a.answers.kind_is in
+      let own = subst (IsRadix bytes P a.place) is a.hole.radix in
+      let split = split_at children b own.3 (ap (child_at (slots_of children)) byte ∙ none) in
+      let here : node ≡ inner (inner_name p) header (join split.left split.right) = is ∙ ap (inner (inner_name p) header) split.whole in
+      let hole : IsHole bytes P fs a.place (inner (inner_name p) header (join split.left split.right)) key = subst (λ z. IsHole bytes P fs a.place z key) here a.hole in
+      let part = hole.radix.0 in
+      let prefix : prefix_of bytes (depth_of fs) node ≡ part = ap (λ d. prefix_of bytes d node) a.deep ∙ ap (prefix_of bytes (length a.place)) here ∙ prefix_is bytes P (inner_name p) header (join split.left split.right) a.place hole.radix in
+      let (rest, key_is) = hole.front in
+      let (after, rest_is) = front in
+      let on_way : IsFront (a.place ++ part) key =
+      (after, key_is ∙ ap (λ z. a.place ++ z) (sym (after_front a.place key rest key_is) ∙ ap (λ d. drop d key) (sym a.deep) ∙ rest_is ∙ ap (λ z. z ++ after) prefix) ∙ sym (append_assoc a.place part after)) in
+      let deep = a.deep in
+      let count = ap length prefix in
+      let sum = length-append a.place part in
+      let used_is : point.key_bytes_used ≡ length (a.place ++ part) = omega arith in
+      record {
+        frames = fs;
+        place = a.place;
+        header = header;
+        left = split.left;
+        right = split.right;
+        whole = ap (plug fs) (sym here) ∙ a.answers.is_end.whole;
+        hole = hole;
+        front = subst (λ z. IsFront ((a.place ++ part) ++ z ∷ []) key) (ap (λ d. get_or key d 0) (sym used_is) ∙ sym byte) (front_byte (a.place ++ part) key on_way (omega arith));
+        low = split.low;
+        high = split.high;
+        path_is = a.answers.path_is;
+      }
+
+module _ {K V : Type 0} {bytes : K × V → List ℕ} {P : ℕ} {s : Nodes K V} {p : InnerPtr} {root : OpaqueNodePtr} {pairs : List (K × V)} {layout : Tree OpaqueNodePtr (K × V)} {key : List ℕ} {path : TreePath} {b : ℕ} (by : IsTree bytes P s root pairs layout) (e : IsEntry bytes P p layout key path b) where
+  abbrev entered : Tree OpaqueNodePtr (K × V)
+  entered = inner (inner_name p) e.header (join e.left e.right)
+
+  -- the tree as a path with the node in its hole
+  pub entry_laid : IsLaidOut bytes P (node_at s) (links_at s) root pairs (plug e.frames (inner (inner_name p) e.header (join e.left e.right)))
+  entry_laid = subst (IsLaidOut bytes P (node_at s) (links_at s) root pairs) (sym e.whole) (laid_out by)
+
+  own_node : (p.kind ≢ Leaf) × (node : Inner) × (map.get s.inners p ≡ Some node) × (node.children ≡ slots_of (join e.left e.right))
+  own_node =
+      let (off, node, got, head, kids) = inner_at s (inner_name p) e.header (slots_of (join e.left e.right)) (path_holds (node_at s) e.frames entered entry_laid.holds).1.0 in
+      (off, node, got, kids)
+
+  pub entry_inner : p.kind ≢ Leaf
+  entry_inner = own_node.0
+
+  pub entry_there : IsSome (map.get s.inners p)
+  entry_there = let (off, node, got, kids) = own_node in rw got refl
+
+  -- what is known of the number of its children
+  pub entry_count : (Q : ℕ → Type 0) → Q (length (bytes_of (join e.left e.right))) → IsSomeAnd (map.get s.inners p) (λ node. Q (length node.children))
+  entry_count Q q = let (off, node, got, kids) = own_node in rw got (subst Q (sym (ap length kids ∙ length-slots_of (join e.left e.right))) q)
+
+  -- it has a gap at the byte
+  pub entry_gap : HasGap s p b e.left e.right
+  entry_gap = record {
+    header = e.header;
+    full = (record { named = refl; holds = (path_holds (node_at s) e.frames entered entry_laid.holds).1; distinct = hole_distinct (node_at s) (node_at s) e.frames entered entry_laid.holds entry_laid.distinct }, one_child entered (have_two_children bytes P e.place entered e.hole.radix));
+    rising = e.hole.radix.3;
+    low = e.low;
+    high = e.high;
+  }
+
+  -- the parent is another node, and has the node as a child
+  pub entry_parent : HasChild (map.remove s.inners p) (last_step path)
+  entry_parent = subst (λ z. HasChild (map.remove s.inners p) (last_step z)) (sym e.path_is) (subst (HasChild (map.remove s.inners p)) (sym (last_step-path e.frames)) (go e.frames refl))
+    where
+      go : (fs : List (Frame OpaqueNodePtr (K × V))) → e.frames ≡ fs → HasChild (map.remove s.inners p) (parent_of fs)
+      go [] is = tt
+      go (f ∷ fs) is =
+          let up = subst (λ z. IsParent z f.mark) (sym is) refl in
+          let ready = subst (λ z. IfSome (parent_of z) (λ q. IsSomeAnd (map.get s.inners q.0) (λ node. child_at node.children q.1 ≡ Some (inner_name p)))) is (parent_ready bytes P s e.frames e.place (inner_name p) e.hole.path (path_holds (node_at s) e.frames entered entry_laid.holds).0) in
+          let off : as_inner f.mark ≢ p = λ same. parent_apart (node_at s) (node_at s) e.frames entered entry_laid.holds entry_laid.distinct f.mark up (inl (sym (inner_name_one f.mark (inner_name p) same))) in
+          subst (λ o. IsSomeAnd o (λ node. IsSome (child_at node.children f.byte))) (sym (inner_gone_elsewhere s.inners p (as_inner f.mark) off)) (some (map.get s.inners (as_inner f.mark)) ready)
+        where
+          some : (o : Option Inner) → IsSomeAnd o (λ node. child_at node.children f.byte ≡ Some (inner_name p)) → IsSomeAnd o (λ node. IsSome (child_at node.children f.byte))
+          some None h = h
+          some (Some node) h = rw h refl
+
+  -- no pair below has the key
+  unequal : (cs : Children OpaqueNodePtr (K × V)) → AreRadix bytes P (e.place ++ e.hole.radix.0) cs → Each (λ c. c ≢ b) (bytes_of cs) → Each (λ x. are_same key (bytes x) ≡ false) (pairs_below cs)
+  unequal no_child h off = tt
+  unequal (child c t cs) h off =
+      let front = e.place ++ e.hole.radix.0 in
+      Each-append (λ x. are_same key (bytes x) ≡ false) (pairs_of t) (pairs_below cs)
+      (Each-weaker (λ x. IsFront (front ++ c ∷ []) (bytes x)) (λ x. are_same key (bytes x) ≡ false) (λ x f. same_related key (bytes x) (unrelated_after front b c key (bytes x) e.front f (λ same. off.0 (sym same)))) (pairs_of t) (radix_way bytes P t (front ++ c ∷ []) h.0))
+      (unequal cs h.1 off.1)
+
+  -- so nothing gives way
+  pub entry_reply : first_of (with_key bytes key pairs) ≡ None
+  entry_reply =
+      let others = subst (Each (λ c. c ≢ b)) (sym (bytes_of-join e.left e.right)) (Each-append (λ c. c ≢ b) (bytes_of e.left) (bytes_of e.right)
+      (Each-weaker (λ c. c < b) (λ c. c ≢ b) (λ c l same. omega arith) (bytes_of e.left) e.low) (Each-weaker (λ c. b < c) (λ c. c ≢ b) (λ c l same. omega arith) (bytes_of e.right) e.high)) in
+      ap (λ xs. first_of (with_key bytes key xs)) (sym entry_laid.pairs_are) ∙ ap first_of (with_key-hole bytes P e.frames e.place key entered e.hole.path e.hole.front ∙ filter_none (λ x. are_same key (bytes x)) (pairs_below (join e.left e.right)) (unequal (join e.left e.right) e.hole.radix.4 others))
+
+-- ---- what is inserted
+
+module _ {K V : Type 0} {bytes : K × V → List ℕ} {P : ℕ} {s t : Nodes K V} {point : InsertPoint} {p k : InnerPtr} {pairs : List (K × V)} {layout : Tree OpaqueNodePtr (K × V)} {b : ℕ} {n : LeafPtr} {new : K × V} where
+  -- the node, or the larger one in its place, has the leaf as a child
+  pub entered_inserted : {root : OpaqueNodePtr} (by : IsTree bytes P s point.root pairs layout) (into : point.insert_kind ≡ IntoExisting p) (e : IsEntry bytes P p layout (bytes new) point.path b) →
+      ChildAdded bytes P s t point.root pairs e.frames (inner_name p) (inner_name k) e.header e.left e.right b (leaf_name n) new → root ≡ paths.root_with e.frames point.root (inner_name k) →
+      IsInserted bytes P s t point new pairs layout (record { leaf_node_ptr = n; existing_leaf = None; new_root = root; parent_node_change = NewParent (inner_name k) b })
+  entered_inserted {root} by into e added root_is =
+      let tree = plug e.frames (inner (inner_name k) added.header (join e.left (child b (leaf (leaf_name n) new) e.right))) in
+      let frame : Frame OpaqueNodePtr (K × V) = record { mark = inner_name k; header = added.header; left = e.left; byte = b; right = e.right } in
+      record {
+        tree = tree;
+        canonical = canonical_from (subst (λ r. IsLaidOut bytes P (node_at t) (links_at t) r _ tree) (sym root_is) added.laid);
+        inserted = record {
+          path = frame ∷ e.frames;
+          whole = refl;
+          change = subst (λ kind. IsChange kind (Some (k, b)) (NewParent (inner_name k) b)) (sym into) refl;
+          root = root_is ∙ root_told point e.frames (inner_name k) b e.path_is;
+        };
+        replaced = ap (option_map alone) (sym (entry_reply by e));
+        kept = subst (λ z. ChangesInPlace bytes s t (Some z) (Some tree)) e.whole added.kept;
+      }
