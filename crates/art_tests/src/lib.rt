@@ -2,6 +2,8 @@
 #![tactic(auto)]
 
 #[cfg(test)]
+mod mixed_calls;
+#[cfg(test)]
 mod refusals;
 #[cfg(test)]
 mod shapes;
