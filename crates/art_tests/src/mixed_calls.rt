@@ -1,9 +1,7 @@
 //! Mixed calls of a store, each compared with a plain list of names and nodes.
-ghost use Rattle.std.specs.Prelude.{◌<◌, IfSome, IsTrue, IsSomeAnd};
-ghost use Rattle.std.specs.FinMap as map;
-ghost use Rattle.art_nodes.specs.Inner.{HasPlace};
-ghost use Rattle.art_nodes.specs.Kinds.{kind_capacity};
+ghost use Rattle.std.specs.Prelude.{◌<◌, IfSome};
 
+use crate::by_hand::has_place;
 use art_nodes::node::{
     AnyInner, Header, InnerPtr, InnerRef, LeafNode, LeafPtr, NodeType, OpaqueNodePtr,
 };
@@ -152,16 +150,6 @@ struct Trial {
     leaves: Vec<(LeafPtr, PlainLeaf)>,
     inners: Vec<(InnerPtr, PlainInner)>,
     numbers: Numbers,
-}
-
-/// Whether a child can be put under a byte.
-fn has_place(store: &Store, name: InnerPtr, byte: u8) -> bool
-    ensures { IsTrue result → IsSomeAnd (map.get store.now.inners name) (λ node. HasPlace (kind_capacity name.kind) node.children byte) }
-{
-    match store.inner(name) {
-        Some(node) => !node.is_full() || node.lookup_child(byte).is_some(),
-        None => false,
-    }
 }
 
 impl Trial {
