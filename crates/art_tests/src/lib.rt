@@ -2,6 +2,12 @@
 #![tactic(auto)]
 
 #[cfg(test)]
+mod by_hand;
+#[cfg(test)]
+mod mixed_calls;
+#[cfg(test)]
+mod odd_trees;
+#[cfg(test)]
 mod refusals;
 #[cfg(test)]
 mod shapes;

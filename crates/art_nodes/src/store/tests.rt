@@ -225,22 +225,29 @@ fn a_reservation_past_all_numbers_is_refused(rt: HostRuntime) {
     assert!(rt; store.reserve(0, None).is_ok());
 }
 
-// Places leaves until one is refused, and answers its pair.
-fn refused_leaf(store: &mut Store) -> Option<([u8; 1], u32)> {
+// Places leaves that are linked behind this one until one is refused, and answers what is handed back.
+fn refused_leaf(store: &mut Store, last: LeafPtr) -> Option<LeafNode<[u8; 1], u32>> {
     for _ in 0..MORE_THAN_FIT {
-        if let Err((leaf, _)) = store.place_leaf(leaf_of(9, 90)) {
-            let key = leaf.key;
-            return Some((key, leaf.value));
+        let leaf = LeafNode {
+            key: [9],
+            value: 90,
+            previous: Some(last),
+            next: None,
+        };
+        if let Err((leaf, _)) = store.place_leaf(leaf) {
+            return Some(leaf);
         }
     }
     None
 }
 
-// Places inner nodes until one is refused, and answers its header.
-fn refused_header(store: &mut Store) -> Option<Header<2>> {
+// Places inner nodes with this child until one is refused, and answers what is handed back.
+fn refused_inner(store: &mut Store, child: OpaqueNodePtr) -> Option<AnyInner<2>> {
     for _ in 0..MORE_THAN_FIT {
-        if let Err((node, _)) = store.place_inner(node4(&[8, 9])) {
-            return Some(node.as_ref().header());
+        let mut node = node4(&[8, 9]);
+        node.write_child(7, child);
+        if let Err((node, _)) = store.place_inner(node) {
+            return Some(node);
         }
     }
     None
@@ -288,11 +295,17 @@ fn without_memory_placements_hand_the_node_back(rt: HostRuntime) -> Result<(), F
     let upper = place_above(&mut store, Header::new(&[5, 6], 2), 3, child)?;
 
     let held = all_memory(alloc)?;
-    let pair = refused_leaf(&mut store);
-    let header = refused_header(&mut store);
+    let leaf = refused_leaf(&mut store, first);
+    let inner = refused_inner(&mut store, child);
     drop(held);
-    assert_eq!(rt; pair, Some(([9], 90)));
-    assert!(rt; header.is_some_and(|header| header.read_prefix() == [8, 9].as_slice()));
+    let leaf = leaf.ok_or("a leaf is refused")?;
+    assert_eq!(rt; (leaf.key, leaf.value), ([9], 90));
+    assert_eq!(rt; (leaf.previous, leaf.next), (Some(first), None));
+    let inner = inner.ok_or("an inner node is refused")?;
+    assert_eq!(rt; inner.node_type(), NodeType::Node4);
+    assert_eq!(rt; inner.as_ref().read_prefix(), [8, 9].as_slice());
+    assert_eq!(rt; inner.as_ref().num_children(), 1);
+    assert_eq!(rt; inner.as_ref().lookup_child(7), Some(child));
     assert_eq!(rt; store.leaf(first).map(|leaf| leaf.value), Some(10));
     let seen = store.inner(upper).ok_or("the inner node")?;
     assert_eq!(rt; seen.lookup_child(3), Some(child));
