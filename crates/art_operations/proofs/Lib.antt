@@ -31,5 +31,3 @@ pub mod Gaps
 pub mod Larger
 pub mod Entered
 pub mod Beside
-pub mod Reserved
-pub mod Standing
