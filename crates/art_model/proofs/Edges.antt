@@ -19,7 +19,7 @@ use Rattle.art_model.specs.Roots.{IsFullTree}
 use Rattle.art_model.proofs.Stores.{HoldsBelow-right}
 use Rattle.art_model.proofs.Paths.{leaf_names-plug, pairs_of-plug}
 use Rattle.art_model.proofs.Heights.{height_is, enough_steps}
-use Rattle.art_model.proofs.Shown.{IsShown, no_leaf_gone, no_inner_gone, inner_shown, leaf_named}
+use Rattle.art_model.proofs.Shown.{IsShown, no_inner_gone, inner_shown, leaf_named}
 
 -- ---- paths along an edge
 module _ {N A : Type 0} where
@@ -103,9 +103,6 @@ module _ {K V : Type 0} (side : List (Frame OpaqueNodePtr (K × V)) → Type 0) 
   edge_start (is, full) along = record { path = []; node = tree; whole = refl; named = is.named; holds = is.holds; full = full; enough = enough_steps s tree is.holds is.distinct; along = along }
 
   module _ {name : OpaqueNodePtr} (d : IsAtEdge side s tree name) where
-    pub edge_leaf_there : {p : LeafPtr} → leaf_name p ≡ name → None ≡ map.get s.leaves p → ⊥
-    edge_leaf_there {p} is gone = no_leaf_gone s p d.node (d.named ∙ sym is) d.holds gone
-
     pub edge_inner_there : {p : InnerPtr} → p.kind ≢ Leaf → inner_name p ≡ name → None ≡ map.get s.inners p → ⊥
     edge_inner_there {p} proper is gone = no_inner_gone s p proper d.node (d.named ∙ sym is) d.holds gone
 
