@@ -13,3 +13,4 @@ pub mod Spots
 pub mod Prefixes
 pub mod Deletions
 pub mod Below
+pub mod Elsewhere
