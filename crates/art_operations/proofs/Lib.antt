@@ -31,3 +31,4 @@ pub mod Gaps
 pub mod Larger
 pub mod Entered
 pub mod Beside
+pub mod Elsewhere

@@ -22,7 +22,7 @@ last_step Root = None
 last_step (ChildOfRoot parent byte) = Some (parent, byte)
 last_step (Normal grandparent above parent byte) = Some (parent, byte)
 
--- the path one step further up, to the parent: the grandparent is its last node, whatever is above
+-- the path of the parent at the end of a path, as far as it is known
 abbrev pub up : TreePath → TreePath
 up Root = Root
 up (ChildOfRoot parent byte) = Root

@@ -48,7 +48,7 @@ impl TreePath {
         }
     }
 
-    /// The path to the parent of this path's node. It ends with the grandparent, whatever is above.
+    /// The path one step further up: that of the parent at the end of this path.
     pub(crate) fn up(self) -> TreePath
         ensures { result ≡ up self }
     {

@@ -91,3 +91,6 @@ fn next_smaller(kind: NodeType) -> NodeType
         NodeType::Leaf => NodeType::Leaf,
     }
 }
+
+#[cfg(test)]
+mod tests;

@@ -1,0 +1,46 @@
+-- A tree is as it was where the nodes in use hold what they held: writes beside it and reservations don't matter.
+use Rattle.std.proofs.Common.{◌≡◌, ◌≢◌, ℕ, List, ap, sym, subst, ◌∙◌, None, inl, inr}
+use Rattle.std.specs.List.{AllByRecursion as Each}
+use Rattle.std.specs.Option.{option_map, option_and_then}
+use Rattle.std.specs.FinMap.{get, insert}
+use Rattle.art_nodes.specs.Names.{leaf_name}
+use Rattle.art_nodes.specs.Nodes.{Nodes}
+use Rattle.art_nodes.specs.declared.node.LeafPtr.{LeafPtr}
+use Rattle.art_nodes.specs.declared.node.LeafNode.{LeafNode}
+use Rattle.art_nodes.specs.declared.node.OpaqueNodePtr.{OpaqueNodePtr}
+use Rattle.art_nodes.proofs.StoreLaws.{leaf_elsewhere as elsewhere}
+use Rattle.art_model.specs.Canonical.{IsTree}
+use Rattle.art_model.specs.Layouts.{names_of, leaf_names}
+use Rattle.art_model.specs.Stores.{held, held_leaf, held_inner, links_at, links_of, node_at, seen}
+use Rattle.art_model.specs.Trees.{Tree}
+use Rattle.art_model.proofs.Links.{linked-frame}
+use Rattle.art_model.proofs.Lists.{Each-weaker}
+use Rattle.art_model.proofs.Names.{IsTaken, all_taken, among, takes_leaves}
+use Rattle.art_model.proofs.Stores.{frame}
+use Rattle.art_model.proofs.Views.{held_in_inner, leaf_or}
+
+-- a leaf that is placed leaves what is in use
+pub leaf_elsewhere : {K V : Type 0} (s t : Nodes K V) (n : LeafPtr) (x : LeafNode K V) → get s.leaves n ≡ None → t.leaves ≡ insert s.leaves n x → t.inners ≡ s.inners → (k : OpaqueNodePtr) → held s k ≢ None → held t k ≡ held s k
+leaf_elsewhere s t n x free leaves inners k used = elim (leaf_or k) [
+  | inl (p, e) ↦ subst (λ (z : OpaqueNodePtr). held t z ≡ held s z) (sym e) (ap (option_map held_leaf) (ap (λ m. get m p) leaves ∙ elsewhere s.leaves n p x (λ f. used (ap (held s) e ∙ ap (λ q. held s (leaf_name q)) f ∙ ap (option_map held_leaf) free))))
+  | inr off ↦ held_in_inner t k.kind k.slot off ∙ ap (λ m. option_map held_inner (get m (record { kind = k.kind; slot = k.slot }))) inners ∙ sym (held_in_inner s k.kind k.slot off)
+]
+module _ {K V : Type 0} {bytes : K × V → List ℕ} {P : ℕ} {s t : Nodes K V} {root : OpaqueNodePtr} {pairs : List (K × V)} {layout : Tree OpaqueNodePtr (K × V)} where
+  pub tree_stays : IsTree bytes P s root pairs layout → ((k : OpaqueNodePtr) → held s k ≢ None → held t k ≡ held s k) → IsTree bytes P t root pairs layout
+  tree_stays by same = record {
+    is_map = by.is_map;
+    tree = by.tree;
+    is_tree = by.is_tree;
+    stands = (
+      record {
+        named = by.stands.0.named;
+        holds = frame (node_at s) (node_at t) layout (Each-weaker (λ k. held t k ≡ held s k) (λ k. node_at t k ≡ node_at s k) (λ k e. ap (option_map (seen k.kind)) e) (names_of layout) all_same) by.stands.0.holds;
+        distinct = by.stands.0.distinct;
+      },
+      by.stands.1,
+    );
+    linked = linked-frame (links_at s) (links_at t) (leaf_names layout) None None (Each-weaker (λ k. held t k ≡ held s k) (λ k. links_at t k ≡ links_at s k) (λ k e. ap (option_and_then links_of) e) (leaf_names layout) (among takes_leaves (λ k. held t k ≡ held s k) layout all_same)) by.linked;
+  }
+    where
+      all_same : Each (λ k. held t k ≡ held s k) (names_of layout)
+      all_same = Each-weaker (IsTaken (node_at s)) (λ k. held t k ≡ held s k) (λ k used. same k (λ e. used (ap (option_map (seen k.kind)) e))) (names_of layout) (all_taken (node_at s) layout by.stands.0.holds)

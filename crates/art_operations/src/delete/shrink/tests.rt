@@ -1,0 +1,340 @@
+ghost use Rattle.std.specs.Prelude.{IfOk, IfSome, ◌≢◌};
+ghost use Rattle.art_nodes.specs.declared.node.NodeType.TheVariants.{Leaf};
+ghost use Rattle.art_model.specs.Pairs.{of_key};
+ghost use Rattle.art_model.specs.Roots.{IsCanonicalRoot};
+ghost use Rattle.art_operations.specs.Deleted.{IsDeletePointIn};
+
+use super::*;
+use crate::delete::search_for_delete_point;
+use crate::run::{Command, run};
+use crate::test_trees::{Key, plant};
+use art_nodes::node::{LeafNode, NodePtr, OptionalLeafPtr};
+use art_test_support::all_memory;
+use std::alloc::{AllocError, Global};
+use std::test::Fail;
+
+// So many keys: some bytes and then one of 0, 1 and so on.
+fn keys_after(alloc: Global, front: &[u8], count: u16) -> Result<Vec<Key>, AllocError> {
+    let mut keys = Vec::new(alloc);
+    for number in 0..count {
+        let mut key = front.to_vec(alloc)?;
+        key.push(number.to_le_bytes()[0])?;
+        keys.push(key)?;
+    }
+    Ok(keys)
+}
+
+// The point of a key, if there is one.
+fn point_of<K: AsBytes + Drop, const P: usize>(
+    store: &NodeStore<K, u32, P>,
+    root: OpaqueNodePtr,
+    key_bytes: &[u8],
+) -> Option<DeletePoint>
+    requires { IsCanonicalRoot (of_key K.bytes) P store.now root }
+    ensures { IfSome result (λ point. IsDeletePointIn (of_key K.bytes) P store.now root point) }
+{
+    search_for_delete_point(store, root, key_bytes)
+}
+
+// Takes a key out, and answers the root that is left.
+fn take_out<K: AsBytes + Drop, const P: usize>(
+    store: &mut NodeStore<K, u32, P>,
+    root: OpaqueNodePtr,
+    key_bytes: &[u8],
+) -> Result<Option<OpaqueNodePtr>, Fail>
+    requires { IsCanonicalRoot (of_key K.bytes) P store.old root }
+    ensures { IfOk result (λ left. IfSome left (λ root. IsCanonicalRoot (of_key K.bytes) P store.new root)) }
+{
+    let point = point_of(store, root, key_bytes).ok_or("no such key")?;
+    match point.apply(store, root) {
+        Ok(done) => Ok(done.new_root),
+        Err(_) => Err("refused".into()),
+    }
+}
+
+// Places leaves beside a tree: so many, or until there is no memory for one more.
+fn crowd<const P: usize>(store: &mut NodeStore<Key, u32, P>, root: OpaqueNodePtr, count: u8)
+    requires { IsCanonicalRoot (of_key (λ key. key.items)) P store.old root }
+    ensures { IsCanonicalRoot (of_key (λ key. key.items)) P store.new root }
+{
+    for _ in 0..count {
+        let leaf = LeafNode::with_no_siblings(Vec::new(store.alloc()), 0);
+        if store.place_leaf(leaf).is_err() {
+            return;
+        }
+    }
+}
+
+// Takes memory for an inner node beside a tree.
+fn promise<K: AsBytes + Drop, const P: usize>(
+    store: &mut NodeStore<K, u32, P>,
+    root: OpaqueNodePtr,
+    kind: NodeType,
+) -> Result<(), AllocError>
+    requires inner { kind ≢ Leaf }
+    requires canonical { IsCanonicalRoot (of_key K.bytes) P store.old root }
+    ensures { IsCanonicalRoot (of_key K.bytes) P store.new root }
+{
+    store.reserve(0, Some(kind))
+}
+
+// A node as it was once.
+#[derive(Drop)]
+enum Seen {
+    Nothing,
+    Leaf(u32, OptionalLeafPtr, OptionalLeafPtr),
+    Inner(Vec<(u8, OpaqueNodePtr)>),
+}
+
+// The node under a name, if there is one.
+fn look<const P: usize>(
+    store: &NodeStore<Key, u32, P>,
+    name: OpaqueNodePtr,
+) -> Result<Seen, AllocError> {
+    match name.split() {
+        NodePtr::Leaf(name) => match store.leaf(name) {
+            None => Ok(Seen::Nothing),
+            Some(leaf) => Ok(Seen::Leaf(leaf.value, leaf.previous, leaf.next)),
+        },
+        NodePtr::Inner(name) => match store.inner(name) {
+            None => Ok(Seen::Nothing),
+            Some(node) => {
+                let mut children = Vec::new(store.alloc());
+                for child in node.iter() {
+                    children.push(child)?;
+                }
+                Ok(Seen::Inner(children))
+            }
+        },
+    }
+}
+
+// All names of the first slots, with the nodes under them.
+fn look_at_all<const P: usize>(
+    store: &NodeStore<Key, u32, P>,
+) -> Result<Vec<(OpaqueNodePtr, Seen)>, AllocError> {
+    let kinds = [
+        NodeType::Node4,
+        NodeType::Node16,
+        NodeType::Node48,
+        NodeType::Node256,
+        NodeType::Leaf,
+    ];
+    let mut all = Vec::new(store.alloc());
+    for kind in kinds {
+        for slot in 0..64usize {
+            let name = OpaqueNodePtr::from_parts(kind, slot);
+            all.push((name, look(store, name)?))?;
+        }
+    }
+    Ok(all)
+}
+
+// How the node under a name is another than it was.
+#[derive(Clone, Copy)]
+enum Change {
+    Came,
+    Went,
+    Changed,
+}
+
+// The change of the node under a name, if there is one.
+fn change_of<const P: usize>(
+    store: &NodeStore<Key, u32, P>,
+    name: OpaqueNodePtr,
+    before: &Seen,
+) -> Option<Change> {
+    let (there, same) = match name.split() {
+        NodePtr::Leaf(name) => {
+            let leaf = store.leaf(name);
+            let same = leaf.is_some_and(|leaf| matches!(before,
+                Seen::Leaf(value, previous, next) if *value == leaf.value && *previous == leaf.previous && *next == leaf.next));
+            (leaf.is_some(), same)
+        }
+        NodePtr::Inner(name) => {
+            let node = store.inner(name);
+            let same = node.is_some_and(|node| matches!(before,
+                Seen::Inner(children) if node.iter().eq(children.iter().copied())));
+            (node.is_some(), same)
+        }
+    };
+    match (before, there) {
+        (Seen::Nothing, true) => Some(Change::Came),
+        (Seen::Nothing, false) => None,
+        (_, false) => Some(Change::Went),
+        (_, true) => if same { None } else { Some(Change::Changed) },
+    }
+}
+
+// How many names came into use, went out of it, and have another node. It takes no memory.
+fn touched<const P: usize>(
+    store: &NodeStore<Key, u32, P>,
+    before: &[(OpaqueNodePtr, Seen)],
+) -> [usize; 3] {
+    let (mut came, mut went, mut changed) = (0usize, 0usize, 0usize);
+    for (name, seen) in before {
+        match change_of(store, *name, seen) {
+            None => {}
+            Some(Change::Came) => came = came.saturating_add(1),
+            Some(Change::Went) => went = went.saturating_add(1),
+            Some(Change::Changed) => changed = changed.saturating_add(1),
+        }
+    }
+    [came, went, changed]
+}
+
+// What the deletion of one of these keys touches.
+fn touched_by(alloc: Global, keys: Vec<Key>, key_bytes: &[u8]) -> Result<[usize; 3], Fail> {
+    let mut store: NodeStore<Key, u32, 4> = NodeStore::new(alloc);
+    let root = plant(&mut store, &mut NodeStore::new(alloc), keys)?;
+    let before = look_at_all(&store)?;
+    take_out(&mut store, root, key_bytes)?;
+    Ok(touched(&store, before.as_slice()))
+}
+
+// The kind of the root of so many keys of one byte.
+fn kind_for(count: usize) -> Option<NodeType> {
+    match count {
+        0 => None,
+        1 => Some(NodeType::Leaf),
+        2..=4 => Some(NodeType::Node4),
+        5..=16 => Some(NodeType::Node16),
+        17..=48 => Some(NodeType::Node48),
+        _ => Some(NodeType::Node256),
+    }
+}
+
+#[test]
+fn shrinks_through_every_kind(rt: HostRuntime) -> Result<(), Fail> {
+    let alloc = rt.alloc();
+    let mut store: NodeStore<Key, u32, 4> = NodeStore::new(alloc);
+    let all = keys_after(alloc, &[], 256)?;
+    let mut root = Some(plant(&mut store, &mut NodeStore::new(alloc), all)?);
+    for turn in 0..=255u8 {
+        // 77 is odd: each byte comes once, and few come in order.
+        let top = root.ok_or("a root")?;
+        root = take_out(&mut store, top, &[turn.wrapping_mul(77)])?;
+        let left = usize::from(255 - turn);
+        assert_eq!(rt; root.map(|root| root.node_type()), kind_for(left));
+    }
+    assert!(rt; root.is_none());
+    Ok(())
+}
+
+#[test]
+fn touches_no_more_than_it_must(rt: HostRuntime) -> Result<(), Fail> {
+    let alloc = rt.alloc();
+    // The leaf, with those beside it and the parent.
+    let six = keys_after(alloc, &[], 6)?;
+    assert_eq!(rt; touched_by(alloc, six, &[2])?, [0, 1, 3]);
+    let six = keys_after(alloc, &[], 6)?;
+    assert_eq!(rt; touched_by(alloc, six, &[5])?, [0, 1, 2]);
+    // The leaf and the parent, with the leaves beside it and a smaller node.
+    let five = keys_after(alloc, &[], 5)?;
+    assert_eq!(rt; touched_by(alloc, five, &[2])?, [1, 2, 2]);
+    // And the grandparent.
+    let mut below = keys_after(alloc, &[0], 17)?;
+    below.push([1].to_vec(alloc)?)?;
+    assert_eq!(rt; touched_by(alloc, below, &[0, 2])?, [1, 2, 3]);
+    Ok(())
+}
+
+#[test]
+fn without_memory_a_deletion_below_a_kept_parent_is_made(rt: HostRuntime) -> Result<(), Fail> {
+    let alloc = rt.alloc();
+    let mut store: NodeStore<Key, u32, 4> = NodeStore::new(alloc);
+    let four = keys_after(alloc, &[], 4)?;
+    let root = plant(&mut store, &mut NodeStore::new(alloc), four)?;
+    let point = point_of(&store, root, &[2]).ok_or("a point")?;
+    let held = all_memory(alloc)?;
+    let done = point.apply(&mut store, root);
+    drop(held);
+    let Ok(done) = done else {
+        panic!(rt; "refused");
+    };
+    assert_eq!(rt; done.deleted_leaf.value, 2);
+    assert_eq!(rt; done.new_root, Some(root));
+    Ok(())
+}
+
+#[test]
+fn without_memory_a_promised_shrink_is_made(rt: HostRuntime) -> Result<(), Fail> {
+    let alloc = rt.alloc();
+    let mut store: NodeStore<Key, u32, 4> = NodeStore::new(alloc);
+    let five = keys_after(alloc, &[], 5)?;
+    let root = plant(&mut store, &mut NodeStore::new(alloc), five)?;
+    promise(&mut store, root, NodeType::Node4)?;
+    let point = point_of(&store, root, &[2]).ok_or("a point")?;
+    let held = all_memory(alloc)?;
+    let done = point.apply(&mut store, root);
+    drop(held);
+    let Ok(done) = done else {
+        panic!(rt; "refused");
+    };
+    assert_eq!(rt; done.deleted_leaf.value, 2);
+    assert_eq!(rt; done.new_root.map(|root| root.node_type()), Some(NodeType::Node4));
+    Ok(())
+}
+
+#[test]
+fn without_memory_a_shrink_leaves_the_tree(rt: HostRuntime) -> Result<(), Fail> {
+    let alloc = rt.alloc();
+    let mut store: NodeStore<Key, u32, 4> = NodeStore::new(alloc);
+    let five = keys_after(alloc, &[], 5)?;
+    let root = plant(&mut store, &mut NodeStore::new(alloc), five)?;
+    let before = look_at_all(&store)?;
+    let held = all_memory(alloc)?;
+    crowd(&mut store, root, u8::MAX);
+    let point = point_of(&store, root, &[2]).ok_or("a point")?;
+    let done = point.apply(&mut store, root);
+    drop(held);
+    let Err(refused) = done else {
+        panic!(rt; "memory from nowhere");
+    };
+    assert!(rt; refused.point == point);
+    let [_, freed, changed] = touched(&store, before.as_slice());
+    assert_eq!(rt; [freed, changed], [0, 0]);
+    Ok(())
+}
+
+// The tree of these keys, if there is memory for it.
+fn plant_if_possible<const P: usize>(
+    store: &mut NodeStore<Key, u32, P>,
+    keys: Vec<Key>,
+) -> Option<OpaqueNodePtr>
+    ensures { IfSome result (λ root. IsCanonicalRoot (of_key (λ key. key.items)) P store.new root) }
+{
+    let mut commands = Vec::new(store.alloc());
+    for key in keys {
+        commands.push(Command::Insert(key, 0)).ok()?;
+    }
+    let mut second = NodeStore::new(store.alloc());
+    run(store, &mut second, None, commands).ok()?.root
+}
+
+// What the deletion of one of five keys touches where it is refused, beside so many other leaves.
+fn touched_by_refusal(alloc: Global, others: u8) -> Option<[usize; 3]> {
+    let mut store: NodeStore<Key, u32, 4> = NodeStore::new(alloc);
+    let five = keys_after(alloc, &[], 5).ok()?;
+    let root = plant_if_possible(&mut store, five)?;
+    crowd(&mut store, root, others);
+    let before = look_at_all(&store).ok()?;
+    let point = point_of(&store, root, &[2])?;
+    match point.apply(&mut store, root) {
+        Ok(_) => None,
+        Err(_) => Some(touched(&store, before.as_slice())),
+    }
+}
+
+// Says the same with ample memory and with requests for memory refused.
+#[test]
+fn refused_shrinks_leave_the_tree(rt: HostRuntime) -> Result<(), Fail> {
+    let alloc = rt.alloc();
+    for others in 0..12u8 {
+        if let Some(counts) = touched_by_refusal(alloc, others) {
+            assert_eq!(rt; counts, [0; 3]);
+            println!(rt; "asserted")?;
+        }
+    }
+    Ok(())
+}
