@@ -1,31 +1,46 @@
-ghost use Rattle.std.specs.Prelude.{IfOk, OnOk};
 ghost use Rattle.art_model.specs.Pairs.{of_key};
 ghost use Rattle.art_model.specs.Roots.{IsCanonicalRoot};
 
 use super::*;
-use crate::insert::{InsertKind, search_for_insert_point};
+use crate::insert::search_for_insert_point;
 use crate::test_nodes::{count_touched, nodes_seen};
-use crate::test_trees::{Key, keys, keys_of_zeros, plant};
+use crate::test_trees::{Key, child, keys, keys_of_zeros, plant, planted};
 use art_nodes::node::InnerRef;
 use art_test_support::all_memory;
 use std::test::Fail;
 
-// Puts a key into a tree.
+// Puts a key into a tree. Answers the root, and what came of the key where it has a point.
 fn insert<K: AsBytes + Drop, const P: usize>(
     store: &mut NodeStore<K, u32, P>,
     root: OpaqueNodePtr,
     key: K,
     value: u32,
-) -> Option<Result<InsertResult<K, u32>, Refused<K, u32>>>
+) -> (
+    OpaqueNodePtr,
+    Option<Result<InsertResult<K, u32>, Refused<K, u32>>>,
+)
     requires { IsCanonicalRoot (of_key K.bytes) P store.old root }
+    ensures { IsCanonicalRoot (of_key K.bytes) P store.new result.0 }
 {
-    let point = search_for_insert_point(store, root, key.as_bytes()).ok()?;
-    Some(point.apply(store, key, value))
+    let Ok(point) = search_for_insert_point(store, root, key.as_bytes()) else {
+        return (root, None);
+    };
+    match point.apply(store, key, value) {
+        Ok(done) => (done.new_root, Some(Ok(done))),
+        Err(refused) => (root, Some(Err(refused))),
+    }
 }
 
-// What was inserted.
-fn inserted<T, E: Drop>(done: Option<Result<T, E>>) -> Result<T, Fail> {
-    Ok(done.ok_or("a point")?.ok().ok_or("memory")?)
+// What the insertion of a key did.
+fn inserted<K: AsBytes + Drop, const P: usize>(
+    store: &mut NodeStore<K, u32, P>,
+    root: OpaqueNodePtr,
+    key: K,
+) -> Result<InsertResult<K, u32>, Fail>
+    requires { IsCanonicalRoot (of_key K.bytes) P store.old root }
+{
+    let done = insert(store, root, key, 9).1.ok_or("a point")?;
+    Ok(done.ok().ok_or("memory")?)
 }
 
 // The inner node under a name.
@@ -34,15 +49,6 @@ fn inner_node<const P: usize>(
     name: OpaqueNodePtr,
 ) -> Option<InnerRef<'_, P>> {
     store.inner(name.as_inner()?)
-}
-
-// The child of an inner node under a byte.
-fn child<const P: usize>(
-    store: &NodeStore<Key, u32, P>,
-    node: OpaqueNodePtr,
-    byte: u8,
-) -> Option<OpaqueNodePtr> {
-    inner_node(store, node)?.lookup_child(byte)
 }
 
 // Whether an inner node has this length of prefix, these bytes stored of it, and children under two bytes.
@@ -73,8 +79,7 @@ fn splits_the_root_leaf(rt: HostRuntime) -> Result<(), Fail> {
         keys(alloc, &[&[1, 2, 3, 4]])?,
     )?;
     let before = nodes_seen(&store)?;
-    let key = [1, 2, 9].to_vec(alloc)?;
-    let done = inserted(insert(&mut store, root, key, 1))?;
+    let done = inserted(&mut store, root, [1, 2, 9].to_vec(alloc)?)?;
     let change = InsertParentNodeChange::NewParent {
         new_parent_node: done.new_root,
         leaf_node_key_byte: 9,
@@ -97,8 +102,7 @@ fn splits_a_prefix_that_is_longer_than_stored(rt: HostRuntime) -> Result<(), Fai
         keys(alloc, &[&[7, 1, 1, 1, 1, 5], &[7, 1, 1, 1, 1, 6]])?,
     )?;
     let before = nodes_seen(&store)?;
-    let key = [7, 1, 1, 9].to_vec(alloc)?;
-    let done = inserted(insert(&mut store, root, key, 2))?;
+    let done = inserted(&mut store, root, [7, 1, 1, 9].to_vec(alloc)?)?;
     assert!(rt; is_branch(&store, done.new_root, 3, &[7, 1], [1, 9]));
     assert!(rt; is_branch(&store, root, 1, &[1], [5, 6]));
     assert_eq!(rt; child(&store, done.new_root, 1), Some(root));
@@ -117,8 +121,7 @@ fn splits_the_prefix_of_a_child(rt: HostRuntime) -> Result<(), Fail> {
     )?;
     let below = child(&store, root, 1).ok_or("a child")?;
     let before = nodes_seen(&store)?;
-    let key = [1, 1, 9].to_vec(alloc)?;
-    let done = inserted(insert(&mut store, root, key, 4))?;
+    let done = inserted(&mut store, root, [1, 1, 9].to_vec(alloc)?)?;
     assert_eq!(rt; done.new_root, root);
     let parent = child(&store, root, 1).ok_or("a child")?;
     assert!(rt; is_branch(&store, parent, 1, &[1], [1, 9]));
@@ -140,10 +143,10 @@ fn without_memory_a_reserved_split_is_made(rt: HostRuntime) -> Result<(), Fail> 
     let key = [1, 2, 9].to_vec(alloc)?;
     store.reserve(1, Some(NodeType::Node4))?;
     let held = all_memory(alloc)?;
-    let done = insert(&mut store, root, key, 1);
+    let (root, done) = insert(&mut store, root, key, 1);
     drop(held);
-    let done = inserted(done)?;
-    assert!(rt; is_branch(&store, done.new_root, 2, &[1, 2], [3, 9]));
+    assert!(rt; done.is_some_and(|done| done.is_ok()));
+    assert!(rt; is_branch(&store, root, 2, &[1, 2], [3, 9]));
     Ok(())
 }
 
@@ -153,29 +156,31 @@ fn refused_splits_hand_the_pair_back(rt: HostRuntime) -> Result<(), Fail> {
     let alloc = rt.alloc();
     let mut store: NodeStore<Key, u32, 4> = NodeStore::new(alloc);
     let mut second = NodeStore::new(alloc);
-    let (Ok(first), Ok(more)) = (keys(alloc, &[&[255]]), keys_of_zeros(alloc)) else {
+    let Ok(mut all) = keys_of_zeros(alloc) else {
         return Ok(());
     };
-    let Ok(mut root) = plant(&mut store, &mut second, first) else {
+    let Ok(rest) = all.split_off(1) else {
+        return Ok(());
+    };
+    let Ok(Some(mut root)) = planted(&mut store, &mut second, all) else {
         return Ok(());
     };
     let mut any_refused = false;
-    for key in more {
-        let (Ok(copy), Ok(before)) = (key.clone(), nodes_seen(&store)) else {
+    for key in rest {
+        let copy: Result<_, _> = key.clone();
+        let (Ok(copy), Ok(before)) = (copy, nodes_seen(&store)) else {
             return Ok(());
         };
-        match insert(&mut store, root, key, 7) {
-            None => return Ok(()),
-            Some(Ok(done)) => root = done.new_root,
-            Some(Err(refused)) => {
-                assert_eq!(rt; refused.key, copy);
-                assert_eq!(rt; refused.value, 7);
-                let Ok(after) = nodes_seen(&store) else {
-                    return Ok(());
-                };
-                assert_eq!(rt; count_touched(&before, &after), (0, 0, 0));
-                any_refused = true;
-            }
+        let (new_root, done) = insert(&mut store, root, key, 7);
+        root = new_root;
+        if let Some(Err(refused)) = done {
+            assert_eq!(rt; refused.key, copy);
+            assert_eq!(rt; refused.value, 7);
+            let Ok(after) = nodes_seen(&store) else {
+                return Ok(());
+            };
+            assert_eq!(rt; count_touched(&before, &after), (0, 0, 0));
+            any_refused = true;
         }
     }
     if any_refused {
