@@ -244,7 +244,7 @@ fn refused_leaf(store: &mut Store, last: LeafPtr) -> Option<LeafNode<[u8; 1], u3
 // Places inner nodes with this child until one is refused, and answers what is handed back.
 fn refused_inner(store: &mut Store, child: OpaqueNodePtr) -> Option<AnyInner<2>> {
     for _ in 0..MORE_THAN_FIT {
-        let mut node = node4(&[8, 9]);
+        let mut node = AnyInner::from_header(NodeType::Node4, Header::new(&[8, 9], 2));
         node.write_child(7, child);
         if let Err((node, _)) = store.place_inner(node) {
             return Some(node);
@@ -299,7 +299,8 @@ fn without_memory_placements_hand_the_node_back(rt: HostRuntime) -> Result<(), F
     let inner = refused_inner(&mut store, child);
     drop(held);
     let leaf = leaf.ok_or("a leaf is refused")?;
-    assert_eq!(rt; (leaf.key, leaf.value), ([9], 90));
+    let key = leaf.key;
+    assert_eq!(rt; (key, leaf.value), ([9], 90));
     assert_eq!(rt; (leaf.previous, leaf.next), (Some(first), None));
     let inner = inner.ok_or("an inner node is refused")?;
     assert_eq!(rt; inner.node_type(), NodeType::Node4);
