@@ -1,7 +1,5 @@
 pub mod Examples
 pub mod Chains
-pub mod Lengths
-pub mod Kept
 pub mod Rests
 pub mod Outcomes
 pub mod OnWay
