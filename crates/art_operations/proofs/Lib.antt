@@ -1,5 +1,10 @@
 pub mod Examples
 pub mod Chains
+pub mod Moves
+pub mod Found
+pub mod Planted
+pub mod Needed
+pub mod Stepped
 pub mod Rests
 pub mod Outcomes
 pub mod OnWay
