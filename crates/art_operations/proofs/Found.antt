@@ -34,7 +34,7 @@ use Rattle.art_operations.proofs.Partings.{no_conflict}
 
 module _ {A : Type 0} (test : A → Bool) where
   -- something passes a test exactly where the first that passes is there
-  any_first : (xs : List A) → list_any test xs ≡ is_some (first_of (filter test xs))
+  pub any_first : (xs : List A) → list_any test xs ≡ is_some (first_of (filter test xs))
   any_first [] = refl
   any_first (x ∷ xs) = go (any_first xs) (test x) refl
     where

@@ -1,25 +1,95 @@
 -- What applied points place is what their commands need.
-use Rattle.std.proofs.Common.{◌≡◌, ℕ, List, Some}
-use Rattle.art_nodes.specs.Nodes.{Nodes}
+use Rattle.std.proofs.Common.{◌≡◌, ◌≢◌, ℕ, suc, ◌+◌, ◌<◌, ◌≤◌, List, [], ◌∷◌, ◌++◌, length, drop, cond, ltb, leb, get_or, Bool, true, false, refl, ap, ap₂, sym, ◌∙◌, subst, arith, append_assoc, append-nil, length-append, Option, Some, None, IfSome, ◌⊎◌, inl, inr}
+use Rattle.std.proofs.lemmas.Bool.{true≢false, cases_lt, cases_Bool, leb-true, leb-false, cases_order, ne_eqb}
+use Rattle.std.proofs.Math.Seq.{get_or-append_seam}
+use Rattle.std.specs.FinMap.{get}
+use Rattle.std.specs.List.{AllByRecursion as Each}
+use Rattle.std.specs.Option.{is_some}
+use Rattle.art_nodes.specs.Inner.{Inner, child_at}
+use Rattle.art_nodes.specs.Kinds.{kind_capacity, larger_kind, kind_least, smaller_kind}
+use Rattle.art_nodes.specs.Names.{leaf_name, inner_name}
+use Rattle.art_nodes.specs.Nodes.{Nodes, Promise}
+use Rattle.art_nodes.specs.declared.node.InnerPtr.{InnerPtr}
+use Rattle.art_nodes.specs.declared.node.NodeType.{NodeType}
+use Rattle.art_nodes.specs.declared.node.NodeType.TheVariants.{Node4, Node16, Node48, Node256, Leaf}
 use Rattle.art_nodes.specs.declared.node.OpaqueNodePtr.{OpaqueNodePtr}
 use Rattle.art_model.specs.Canonical.{IsTree}
-use Rattle.art_model.specs.Pairs.{of_key, remove_key}
-use Rattle.art_model.specs.Radix.{pairs_of}
-use Rattle.art_model.specs.Trees.{Tree}
+use Rattle.art_model.specs.Keys.{IsFront, are_related, are_same}
+use Rattle.art_model.specs.Layouts.{name_of, slots_of, Holds}
+use Rattle.art_model.specs.Pairs.{of_key, first_of, has_key, with_key, put, remove_key}
+use Rattle.art_model.specs.Paths.{Frame, plug, pairs_before, pairs_after}
+use Rattle.art_model.specs.Places.{depth_of, least_key, prefix_of}
+use Rattle.art_model.specs.Radix.{IsRadix, IsRising, join, bytes_of, pairs_of, pairs_below}
+use Rattle.art_model.specs.Stores.{node_at}
+use Rattle.art_model.specs.Trees.{Tree, leaf, inner, Children, child, no_child, Header, header_of, kind_of}
+use Rattle.art_model.proofs.Between.{put-between, remove_key-between}
+use Rattle.art_model.proofs.Canonical.{tree_radix}
+use Rattle.art_model.proofs.Changes.{two_children, branch, trimmed, with_child, exact}
+use Rattle.art_model.proofs.Keys.{front_related, related_sym}
+use Rattle.art_model.proofs.Lists.{Each-weaker}
+use Rattle.art_model.proofs.MapLaws.{put_counts}
+use Rattle.art_model.proofs.Paths.{IsHole, radix_plug, changed_at, pairs_of-plug}
+use Rattle.art_model.proofs.PlaceLaws.{depth_is}
+use Rattle.art_model.proofs.Places.{place_is, prefix_is}
+use Rattle.art_model.proofs.Radix.{pairs_below-join}
+use Rattle.art_model.proofs.Slots.{IsInRange, kind_of-range, range_of_kind, kind_of-room, kind_of-full, length-slots_of}
+use Rattle.art_model.proofs.Stores.{path_holds}
+use Rattle.art_model.proofs.Writes.{inner_at}
 use Rattle.art_operations.specs.Answers.{Answers}
-use Rattle.art_operations.specs.Inserted.{placed_for}
+use Rattle.art_operations.specs.Inserted.{placed_for, is_full, HasByteLeft}
 use Rattle.art_operations.specs.Deleted.{LeadsTo, placed_for_deletion}
-use Rattle.art_operations.specs.Needs.{needs}
-use Rattle.art_operations.specs.Points.{AnswersTo}
+use Rattle.art_operations.specs.Matching.{shared_len}
+use Rattle.art_operations.specs.Needs.{needs, count_of, count_below, more_of, inner_count}
+use Rattle.art_operations.specs.Points.{AnswersTo, IsKindOf}
 use Rattle.art_operations.specs.declared.delete.DeletePoint.{DeletePoint}
+use Rattle.art_operations.specs.declared.insert.InsertKind.{InsertKind}
+use Rattle.art_operations.specs.declared.insert.InsertKind.TheVariants.{MismatchPrefix, SplitLeaf, Exact, IntoExisting}
 use Rattle.art_operations.specs.declared.insert.InsertPoint.{InsertPoint}
 use Rattle.art_operations.specs.declared.run.Command.{Command}
 use Rattle.art_operations.specs.declared.run.Command.TheVariants.{Insert}
 use Rattle.art_operations.specs.declared.run.Reply.TheVariants.{Deleted}
+use Rattle.art_operations.proofs.Counts.{one, count-join, more_in_hole, fewer_in_hole, gains, loses}
+use Rattle.art_operations.proofs.Found.{any_first}
+use Rattle.art_operations.proofs.Partings.{ArePart, part_where, front_left, front_right}
+
+-- ---- a key that is new, or not
+
+module _ {A : Type 0} (bytes : A → List ℕ) (new : A) (pairs : List A) where
+  key_by_length : (n : ℕ) → length (put bytes new pairs) ≡ length pairs + n → cond (has_key bytes (bytes new) pairs) 0 1 ≡ n
+  key_by_length n e = go (with_key bytes (bytes new) pairs) refl (let c = put_counts bytes new pairs in omega arith)
+    where
+      go : (found : List A) → with_key bytes (bytes new) pairs ≡ found → n + length (with_key bytes (bytes new) pairs) ≡ 1 → cond (has_key bytes (bytes new) pairs) 0 1 ≡ n
+      go [] is c =
+          let one_is : 1 ≡ n = let l = ap length is in omega arith in
+          ap (λ b. cond b 0 1) (any_first (λ x. are_same (bytes new) (bytes x)) pairs ∙ ap (λ xs. is_some (first_of xs)) is) ∙ one_is
+      go (x ∷ xs) is c =
+          let none_is : 0 ≡ n = let l = ap length is in omega arith in
+          ap (λ b. cond b 0 1) (any_first (λ y. are_same (bytes new) (bytes y)) pairs ∙ ap (λ ys. is_some (first_of ys)) is) ∙ none_is
+
+-- ---- insertion
+
+module _ {K V : Type 0} (bytes : K → List ℕ) (P : ℕ) (k : K) (v : V) {fs : List (Frame OpaqueNodePtr (K × V))} {place : List ℕ} {t : Tree OpaqueNodePtr (K × V)} (hole : IsHole (of_key bytes) P fs place t (bytes k)) (was : IsRadix (of_key bytes) P [] (plug fs t)) where
+  -- what is needed for another tree in the hole
+  module _ (u : Tree OpaqueNodePtr (K × V)) (radix : IsRadix (of_key bytes) P place u) (its : pairs_of u ≡ put (of_key bytes) (k, v) (pairs_of t)) where
+    all : IsRadix (of_key bytes) P [] (plug fs u) × (pairs_of (plug fs u) ≡ put (of_key bytes) (k, v) (pairs_of (plug fs t)))
+    all = changed_at (of_key bytes) P fs place hole.path t u radix (bytes k) (put (of_key bytes) (k, v)) (put-between (of_key bytes) (k, v)) hole.front its
+
+    leaves_needed : (n : ℕ) → length (pairs_of u) ≡ length (pairs_of t) + n → n ≡ (needs bytes P (Insert k v) (pairs_of (plug fs t))).leaves
+    leaves_needed n e =
+        let a = ap length (pairs_of-plug fs u) in
+        let b = ap length (pairs_of-plug fs t) in
+        let longer : length (pairs_of (plug fs u)) ≡ length (pairs_of (plug fs t)) + n = omega (arith, simp length-append at a, simp length-append at b) in
+        sym (key_by_length (of_key bytes) (k, v) (pairs_of (plug fs t)) n (ap length (sym all.1) ∙ longer))
+
+    pub needs_some : (n : ℕ) (a : NodeType) (goes : NodeType → ℕ) → length (pairs_of u) ≡ length (pairs_of t) + n → a ≢ Leaf → goes a ≡ 0 → ((kind : NodeType) → count_of kind u + goes kind ≡ count_of kind t + one kind a) → ◌≡◌ {A = Promise} (record { leaves = n; inner = Some a }) (needs bytes P (Insert k v) (pairs_of (plug fs t)))
+    needs_some n a goes longer proper off h = ap₂ (λ x y. record { leaves = x; inner = y }) (leaves_needed n longer) (sym (ap (λ ps. more_of (inner_count bytes P (pairs_of (plug fs t))) (inner_count bytes P ps)) (sym all.1) ∙ gains bytes P (plug fs t) (plug fs u) was all.0 a goes proper off (λ kind. more_in_hole fs t u kind (goes kind) (one kind a) (h kind))))
+
+    pub needs_none : (n : ℕ) → length (pairs_of u) ≡ length (pairs_of t) + n → ((kind : NodeType) → count_of kind u ≤ count_of kind t) → ◌≡◌ {A = Promise} (record { leaves = n; inner = None }) (needs bytes P (Insert k v) (pairs_of (plug fs t)))
+    needs_none n longer h = ap₂ (λ x y. record { leaves = x; inner = y }) (leaves_needed n longer) (sym (ap (λ ps. more_of (inner_count bytes P (pairs_of (plug fs t))) (inner_count bytes P ps)) (sym all.1) ∙ loses bytes P (plug fs t) (plug fs u) was all.0 (λ kind. fewer_in_hole fs t u kind (h kind))))
 
 module _ {K V : Type 0} (bytes : K → List ℕ) (P : ℕ) {s : Nodes K V} {root : OpaqueNodePtr} {layout : Tree OpaqueNodePtr (K × V)} (by : IsTree (of_key bytes) P s root (pairs_of layout) layout) where
-  pub needs_inserted : (k : K) (v : V) (point : InsertPoint) → AnswersTo (of_key bytes) P layout (bytes k) point → placed_for s point.insert_kind ≡ needs bytes P (Insert k v) (pairs_of layout)
-  needs_inserted k v point answers = ?
+  pub needs_inserted : (k : K) (v : V) (point : InsertPoint) → AnswersTo (of_key bytes) P layout (bytes k) point → HasByteLeft s point.insert_kind → placed_for s point.insert_kind ≡ needs bytes P (Insert k v) (pairs_of layout)
+  needs_inserted k v point answers left = ?
 
   pub needs_deleted : (c : Command K V) (x : K × V) (point : DeletePoint) → LeadsTo layout x point → Answers bytes (pairs_of layout) c (Deleted (Some x)) (remove_key (of_key bytes) (bytes x.0) (pairs_of layout)) → placed_for_deletion s point.path ≡ needs bytes P c (pairs_of layout)
   needs_deleted c x point leads answers = ?

@@ -23,7 +23,7 @@ use Rattle.art_model.proofs.Views.{leaf_there}
 use Rattle.art_model.proofs.Canonical.{tree_radix}
 use Rattle.art_operations.specs.Answers.{Answers}
 use Rattle.art_operations.specs.Deleted.{TouchesFor, ParentChange, no_parent, keeps, shrinks, is_compressed, parent_change, LeadsTo, placed_for_deletion}
-use Rattle.art_operations.specs.Inserted.{IsPointIn, Touches, alone, is_full, placed_for}
+use Rattle.art_operations.specs.Inserted.{IsPointIn, HasByteLeft, Touches, alone, is_full, placed_for}
 use Rattle.art_operations.specs.Needs.{needs, new_leaves}
 use Rattle.art_operations.specs.Points.{AnswersTo}
 use Rattle.art_operations.specs.Steps.{SameNodes, MayRefuse, Promises}
@@ -112,8 +112,8 @@ module _ {K V : Type 0} (bytes : K → List ℕ) (P : ℕ) {s : Nodes K V} {root
   -- ---- insertion
 
   -- what is refused is not covered, so the key is not stored
-  free_key : (k : K) (v : V) (point : InsertPoint) → AnswersTo (of_key bytes) P layout (bytes k) point → (is_covered (placed_for s point.insert_kind) s.promise ≡ true → ⊥) → has_key (of_key bytes) (bytes k) (pairs_of layout) ≡ false
-  free_key k v point at uncovered = go point.insert_kind (has_key (of_key bytes) (bytes k) (pairs_of layout)) refl uncovered (ap (λ placed. placed.leaves) (needs_inserted bytes P by k v point at))
+  free_key : (k : K) (v : V) (point : InsertPoint) → AnswersTo (of_key bytes) P layout (bytes k) point → HasByteLeft s point.insert_kind → (is_covered (placed_for s point.insert_kind) s.promise ≡ true → ⊥) → has_key (of_key bytes) (bytes k) (pairs_of layout) ≡ false
+  free_key k v point at left uncovered = go point.insert_kind (has_key (of_key bytes) (bytes k) (pairs_of layout)) refl uncovered (ap (λ placed. placed.leaves) (needs_inserted bytes P by k v point at left))
     where
       go : (kind : InsertKind) (stored : Bool) → has_key (of_key bytes) (bytes k) (pairs_of layout) ≡ stored → (is_covered (placed_for s kind) s.promise ≡ true → ⊥) → (placed_for s kind).leaves ≡ cond stored 0 1 → stored ≡ false
       go kind false e off leaves = refl
@@ -122,7 +122,7 @@ module _ {K V : Type 0} (bytes : K → List ℕ) (P : ℕ) {s : Nodes K V} {root
       go (IntoExisting p) true e off leaves = absurd cc
       go (MismatchPrefix mismatch p) true e off leaves = absurd cc
 
-  module _ {t : Nodes K V} {k : K} {v : V} {point : InsertPoint} (z : Nodes K V) (free : is_conflict (of_key bytes) (bytes k) (pairs_of layout) ≡ false) (at : AnswersTo (of_key bytes) P layout (bytes k) point) where
+  module _ {t : Nodes K V} {k : K} {v : V} {point : InsertPoint} (z : Nodes K V) (free : is_conflict (of_key bytes) (bytes k) (pairs_of layout) ≡ false) (at : AnswersTo (of_key bytes) P layout (bytes k) point) (left : HasByteLeft s point.insert_kind) where
     pub inserted_step : {after : OpaqueNodePtr} {existing : Option (LeafNode K V)} → HasApplied bytes P s t layout (k, v) point after existing → StepFrom bytes P s t z (Some layout) (Insert k v) (Inserted (option_map pair_of existing)) (Some after)
     inserted_step {after} {existing} is =
         let (new, by_new) = is.canonical in
@@ -131,13 +131,13 @@ module _ {K V : Type 0} (bytes : K → List ℕ) (P : ℕ) {s : Nodes K V} {root
           refuses = tt;
           sound = own_pairs bytes P by_new;
           changes = record { side = refl; kept = is.kept (put (of_key bytes) (k, v) (pairs_of layout)) new by_new; touches = insertion_touches point.insert_kind is.touches; other = refl };
-          promises = is.promise ∙ ap (λ placed. promise_after placed s.promise) (needs_inserted bytes P by k v point at);
+          promises = is.promise ∙ ap (λ placed. promise_after placed s.promise) (needs_inserted bytes P by k v point at left);
         })
 
     pub refused_step : {pair : K × V} → pair ≡ (k, v) → IsRefused s t (placed_for s point.insert_kind) → StepFrom bytes P s t z (Some layout) (Insert k v) (NoMemory (Some pair)) (Some root)
     refused_step handed is = (Some layout, ap Some by.stands.0.named, record {
-      answers = (free_key k v point at is.uncovered, ap Some handed, refl);
-      refuses = inr (λ promised. is.uncovered (ap (λ placed. is_covered placed s.promise) (needs_inserted bytes P by k v point at) ∙ promised));
+      answers = (free_key k v point at left is.uncovered, ap Some handed, refl);
+      refuses = inr (λ promised. is.uncovered (ap (λ placed. is_covered placed s.promise) (needs_inserted bytes P by k v point at left) ∙ promised));
       sound = own_pairs bytes P (same_tree bytes P is.same by);
       changes = nothing z (Some layout) is.same;
       promises = rw free (inr is.void);

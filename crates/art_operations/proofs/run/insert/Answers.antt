@@ -41,7 +41,7 @@ returns-in-Ok-apply g c second =
       let free = subst (λ key. is_conflict (of_key bytes) key (pairs_of layout) ≡ false) c.as_bytes.ensures ((c.in-Ok.ensures.accepted (pairs_of layout) layout by).0 refl) in
       let here = at_root bytes g.row.P by at.root_is in
       let reply : c.map.result ≡ option_map pair_of c.in-Ok-apply.done.existing_leaf = search rules in
-      rw reply (inserted_step bytes g.row.P by second free at (record {
+      rw reply (inserted_step bytes g.row.P by second free at c.in-Ok-apply.ensures.byte_left (record {
         canonical = c.in-Ok-apply.ensures.canonical (pairs_of layout) layout here;
         replaced = c.in-Ok-apply.ensures.replaced (pairs_of layout) layout here;
         kept = c.in-Ok-apply.ensures.kept (pairs_of layout) layout here;
@@ -55,7 +55,7 @@ returns-in-Err g c second =
     from_kept_root bytes g.row.P second c.in-Some.is (λ layout by.
       let at = subst (λ key. AnswersTo (of_key bytes) g.row.P layout key c.in-Ok.point) c.as_bytes.ensures (c.in-Ok.ensures.point (pairs_of layout) layout by) in
       let free = subst (λ key. is_conflict (of_key bytes) key (pairs_of layout) ≡ false) c.as_bytes.ensures ((c.in-Ok.ensures.accepted (pairs_of layout) layout by).0 refl) in
-      refused_step bytes g.row.P by second free at (ap₂ (λ a b. (a, b)) c.in-Err.ensures.handed_back.0 c.in-Err.ensures.handed_back.1) (record {
+      refused_step bytes g.row.P by second free at c.in-Err.ensures.byte_left (ap₂ (λ a b. (a, b)) c.in-Err.ensures.handed_back.0 c.in-Err.ensures.handed_back.1) (record {
         same = (c.in-Err.ensures.leaves, c.in-Err.ensures.inners);
         void = c.in-Err.ensures.void;
         uncovered = λ covered. absurd (false≢true (c.in-Err.ensures.succeeds covered));
