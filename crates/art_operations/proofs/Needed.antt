@@ -1,5 +1,7 @@
 -- What applied points place is what their commands need.
-use Rattle.std.proofs.Common.{◌≡◌, ◌≢◌, ℕ, suc, ◌+◌, ◌<◌, ◌≤◌, List, [], ◌∷◌, ◌++◌, length, drop, cond, ltb, leb, get_or, Bool, true, false, refl, ap, ap₂, sym, ◌∙◌, subst, arith, append_assoc, append-nil, length-append, Option, Some, None, IfSome, ◌⊎◌, inl, inr}
+use Rattle.std.proofs.Common.{◌≡◌, ◌≢◌, ℕ, suc, ◌+◌, ◌<◌, ◌≤◌, List, [], ◌∷◌, ◌++◌, length, drop, cond, ltb, leb, eq-eqb, get_or, Bool, true, false, refl, ap, ap₂, sym, ◌∙◌, subst, arith, append_assoc, append-nil, length-append, Option, Some, None, IfSome, ◌⊎◌, inl, inr}
+use Rattle.art_nodes.proofs.NameLemmas.{same_kind}
+use Rattle.art_nodes.specs.Nodes.{kind_index}
 use Rattle.std.proofs.lemmas.Bool.{true≢false, cases_lt, cases_Bool, leb-true, leb-false, cases_order, ne_eqb}
 use Rattle.std.proofs.Math.Seq.{get_or-append_seam}
 use Rattle.std.specs.FinMap.{get}
@@ -86,6 +88,82 @@ module _ {K V : Type 0} (bytes : K → List ℕ) (P : ℕ) (k : K) (v : V) {fs :
 
     pub needs_none : (n : ℕ) → length (pairs_of u) ≡ length (pairs_of t) + n → ((kind : NodeType) → count_of kind u ≤ count_of kind t) → ◌≡◌ {A = Promise} (record { leaves = n; inner = None }) (needs bytes P (Insert k v) (pairs_of (plug fs t)))
     needs_none n longer h = ap₂ (λ x y. record { leaves = x; inner = y }) (leaves_needed n longer) (sym (ap (λ ps. more_of (inner_count bytes P (pairs_of (plug fs t))) (inner_count bytes P ps)) (sym all.1) ∙ loses bytes P (plug fs t) (plug fs u) was all.0 (λ kind. fewer_in_hole fs t u kind (h kind))))
+
+-- keys that are not related after a place part at a byte
+apart_after : (place a b : List ℕ) → are_related (place ++ a) (place ++ b) ≡ false → ArePart a b
+apart_after place a b off = go (cases_lt (shared_len a b) (length a)) (cases_lt (shared_len a b) (length b))
+  where
+    go : (shared_len a b < length a) ⊎ (length a ≤ shared_len a b) → (shared_len a b < length b) ⊎ (length b ≤ shared_len a b) → ArePart a b
+    go (inl x) (inl y) = part_where a b x y
+    go (inr x) y =
+        let (q, e) = front_left a b x in
+        absurd (true≢false (sym (front_related (place ++ a) (place ++ b) (q, ap (λ z. place ++ z) e ∙ sym (append_assoc place a q))) ∙ off))
+    go (inl x) (inr y) =
+        let (q, e) = front_right a b y in
+        absurd (true≢false (sym (related_sym (place ++ a) (place ++ b) ∙ front_related (place ++ b) (place ++ a) (q, ap (λ z. place ++ z) e ∙ sym (append_assoc place b q))) ∙ off))
+
+-- the children under lesser bytes than one that has none, and those under greater ones
+record IsSplit {A : Type 0} (cs : Children OpaqueNodePtr A) (b : ℕ) : Type 0 where
+  left : Children OpaqueNodePtr A
+  right : Children OpaqueNodePtr A
+  whole : cs ≡ join left right
+  low : Each (λ c. c < b) (bytes_of left)
+  high : Each (λ c. b < c) (bytes_of right)
+
+split_at : {A : Type 0} (cs : Children OpaqueNodePtr A) (b : ℕ) → IsRising (bytes_of cs) → child_at (slots_of cs) b ≡ None → IsSplit cs b
+split_at no_child b up none = record { left = no_child; right = no_child; whole = refl; low = tt; high = tt }
+split_at (child c t cs) b up none = elim (cases_order c b) [
+  | inl e ↦ let there : child_at (slots_of (child c t cs)) b ≡ Some (name_of t) = rw (eq-eqb c b e) refl in absurd cc
+  | inr (inl l) ↦
+      let later : child_at (slots_of (child c t cs)) b ≡ child_at (slots_of cs) b = rw (ne_eqb c b (λ e. omega arith)) refl in
+      let s = split_at cs b up.1 (sym later ∙ none) in
+      record { left = child c t s.left; right = s.right; whole = ap (child c t) s.whole; low = (l, s.low); high = s.high }
+  | inr (inr g) ↦ record { left = no_child; right = child c t cs; whole = refl; low = tt; high = (g, Each-weaker (λ d. c < d) (λ d. b < d) (λ d l. omega arith) (bytes_of cs) up.0) }
+]
+
+-- a full node that gets a child more has the next kind
+kind_of-larger : (kind : NodeType) (n : ℕ) → kind ≡ kind_of n → kind ≢ Node256 → kind_capacity kind ≤ n → larger_kind kind ≡ kind_of (suc n)
+kind_of-larger kind n e not_last full = sym (kind_of-range (larger_kind kind) (suc n) (more kind (subst (λ k. IsInRange k n) (sym e) (range_of_kind n)) not_last full))
+  where
+    more : (k : NodeType) → IsInRange k n → k ≢ Node256 → kind_capacity k ≤ n → IsInRange (larger_kind k) (suc n)
+    more Node4 h off f = (omega arith, omega arith)
+    more Node16 h off f = (omega arith, let a = h.1 in omega arith)
+    more Node48 h off f = let a = h.1 in omega arith
+    more Node256 h off f = absurd (off refl)
+    more Leaf h off f = absurd h
+
+-- no number of children has the kind of a leaf
+kind_of-proper : (n : ℕ) → kind_of n ≢ Leaf
+kind_of-proper n e = subst (λ k. IsInRange k n) e (range_of_kind n)
+
+-- other kinds are counted apart
+one_off : (a b : NodeType) → a ≢ b → one a b ≡ 0
+one_off a b off = ap (λ t. cond t 1 0) (ne_eqb (kind_index a) (kind_index b) (λ e. off (same_kind a b e)))
+
+module _ {K V : Type 0} (bytes : K → List ℕ) (P : ℕ) (k : K) (v : V) {fs : List (Frame OpaqueNodePtr (K × V))} {place : List ℕ} {t : Tree OpaqueNodePtr (K × V)} (hole : IsHole (of_key bytes) P fs place t (bytes k)) (was : IsRadix (of_key bytes) P [] (plug fs t)) where
+  abbrev Branch : Promise
+  Branch = record { leaves = 1; inner = Some Node4 }
+
+  -- a branch over the tree and a new leaf, which part after the place
+  branch_needs : (u : Tree OpaqueNodePtr (K × V)) (old : List ℕ) (part : ArePart old hole.front.0) → IsRadix (of_key bytes) P ((place ++ part.front) ++ part.x ∷ []) u → pairs_of u ≡ pairs_of t → ((kind : NodeType) → count_of kind u ≡ count_of kind t) → Branch ≡ needs bytes P (Insert k v) (pairs_of (plug fs t))
+  branch_needs u old part below same counts =
+      let new_front : IsFront ((place ++ part.front) ++ part.y ∷ []) (bytes k) = (part.s, hole.front.1 ∙ ap (λ z. place ++ z) part.b_is ∙ simp append_assoc) in
+      let (radix, its) = branch (of_key bytes) P place part.front part.x part.y u (name_of u) (name_of u) (k, v) below new_front part.differ in
+      needs_some bytes P k v hole was (inner (name_of u) (header_of P part.front 2) (two_children part.x u part.y (leaf (name_of u) (k, v)))) radix (its ∙ ap (put (of_key bytes) (k, v)) same) 1 Node4 (λ kind. 0)
+      (longer (ltb part.x part.y) ∙ ap (λ z. length z + 1) same) (λ e. absurd cc) refl (λ kind. more kind (ltb part.x part.y) (counts kind))
+    where
+      longer : (first : Bool) → length (pairs_below (cond first (child part.x u (child part.y (leaf (name_of u) (k, v)) no_child)) (child part.y (leaf (name_of u) (k, v)) (child part.x u no_child)))) ≡ length (pairs_of u) + 1
+      longer true = length-append (pairs_of u) ((k, v) ∷ [])
+      longer false = let e = length-append (pairs_of u) [] in omega arith
+
+      more : (kind : NodeType) (first : Bool) → count_of kind u ≡ count_of kind t → one kind Node4 + count_below kind (cond first (child part.x u (child part.y (leaf (name_of u) (k, v)) no_child)) (child part.y (leaf (name_of u) (k, v)) (child part.x u no_child))) + 0 ≡ count_of kind t + one kind Node4
+      more kind true e = omega arith
+      more kind false e = omega arith
+
+  -- a leaf in the place of one with its key
+  same_needs : (pair : K × V) → t ≡ leaf (name_of t) pair → bytes pair.0 ≡ bytes k → ◌≡◌ {A = Promise} (record { leaves = 0; inner = None }) (needs bytes P (Insert k v) (pairs_of (plug fs t)))
+  same_needs pair is same = needs_none bytes P k v hole was (leaf (name_of t) (k, v)) hole.front (sym (ap (λ z. put (of_key bytes) (k, v) (pairs_of z)) is ∙ exact (of_key bytes) (k, v) pair (sym same))) 0
+      (let e : length (pairs_of t) ≡ 1 = ap (λ z. length (pairs_of z)) is in omega arith) (λ kind. let none : 0 ≤ count_of kind t = omega arith in none)
 
 module _ {K V : Type 0} (bytes : K → List ℕ) (P : ℕ) {s : Nodes K V} {root : OpaqueNodePtr} {layout : Tree OpaqueNodePtr (K × V)} (by : IsTree (of_key bytes) P s root (pairs_of layout) layout) where
   pub needs_inserted : (k : K) (v : V) (point : InsertPoint) → AnswersTo (of_key bytes) P layout (bytes k) point → HasByteLeft s point.insert_kind → placed_for s point.insert_kind ≡ needs bytes P (Insert k v) (pairs_of layout)
