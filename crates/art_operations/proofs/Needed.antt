@@ -1,8 +1,9 @@
 -- What applied points place is what their commands need.
-use Rattle.std.proofs.Common.{◌≡◌, ◌≢◌, ℕ, suc, ◌+◌, ◌<◌, ◌≤◌, List, [], ◌∷◌, ◌++◌, length, drop, cond, ltb, leb, eq-eqb, get_or, Bool, true, false, refl, ap, ap₂, sym, ◌∙◌, subst, arith, append_assoc, append-nil, length-append, Option, Some, None, IfSome, ◌⊎◌, inl, inr}
+use Rattle.std.proofs.Common.{◌≡◌, ◌≢◌, ℕ, suc, ◌+◌, ◌<◌, ◌≤◌, List, [], ◌∷◌, ◌++◌, length, drop, cond, ltb, leb, eq-eqb, get_or, slice_get, Bool, true, false, refl, ap, ap₂, sym, ◌∙◌, subst, arith, append_assoc, append-nil, length-append, Option, Some, None, IfSome, ◌⊎◌, inl, inr}
 use Rattle.art_nodes.proofs.NameLemmas.{same_kind}
 use Rattle.art_nodes.specs.Nodes.{kind_index}
 use Rattle.std.proofs.lemmas.Bool.{true≢false, cases_lt, cases_Bool, leb-true, leb-false, cases_order, ne_eqb}
+use Rattle.std.proofs.lemmas.Option.{slice_get_within}
 use Rattle.std.proofs.Math.Seq.{get_or-append_seam}
 use Rattle.std.specs.FinMap.{get}
 use Rattle.std.specs.List.{AllByRecursion as Each}
@@ -21,14 +22,14 @@ use Rattle.art_model.specs.Layouts.{name_of, slots_of, Holds}
 use Rattle.art_model.specs.Pairs.{of_key, first_of, has_key, with_key, put, remove_key}
 use Rattle.art_model.specs.Paths.{Frame, plug, pairs_before, pairs_after}
 use Rattle.art_model.specs.Places.{depth_of, least_key, prefix_of}
-use Rattle.art_model.specs.Radix.{IsRadix, IsRising, join, bytes_of, pairs_of, pairs_below}
+use Rattle.art_model.specs.Radix.{IsRadix, AreRadix, IsRising, join, bytes_of, pairs_of, pairs_below}
 use Rattle.art_model.specs.Stores.{node_at}
 use Rattle.art_model.specs.Trees.{Tree, leaf, inner, Children, child, no_child, Header, header_of, kind_of}
 use Rattle.art_model.proofs.Between.{put-between, remove_key-between}
 use Rattle.art_model.proofs.Canonical.{tree_radix}
 use Rattle.art_model.proofs.Changes.{two_children, branch, trimmed, with_child, exact}
 use Rattle.art_model.proofs.Keys.{front_related, related_sym}
-use Rattle.art_model.proofs.Lists.{Each-weaker}
+use Rattle.art_model.proofs.Lists.{Each-weaker, after_front}
 use Rattle.art_model.proofs.MapLaws.{put_counts}
 use Rattle.art_model.proofs.Paths.{IsHole, radix_plug, changed_at, pairs_of-plug}
 use Rattle.art_model.proofs.PlaceLaws.{depth_is}
@@ -164,6 +165,53 @@ module _ {K V : Type 0} (bytes : K → List ℕ) (P : ℕ) (k : K) (v : V) {fs :
   same_needs : (pair : K × V) → t ≡ leaf (name_of t) pair → bytes pair.0 ≡ bytes k → ◌≡◌ {A = Promise} (record { leaves = 0; inner = None }) (needs bytes P (Insert k v) (pairs_of (plug fs t)))
   same_needs pair is same = needs_none bytes P k v hole was (leaf (name_of t) (k, v)) hole.front (sym (ap (λ z. put (of_key bytes) (k, v) (pairs_of z)) is ∙ exact (of_key bytes) (k, v) pair (sym same))) 0
       (let e : length (pairs_of t) ≡ 1 = ap (λ z. length (pairs_of z)) is in omega arith) (λ kind. let none : 0 ≤ count_of kind t = omega arith in none)
+
+  -- a leaf whose key is not related is split
+  leaf_needs : (pair : K × V) → t ≡ leaf (name_of t) pair → are_related (bytes k) (bytes pair.0) ≡ false → Branch ≡ needs bytes P (Insert k v) (pairs_of (plug fs t))
+  leaf_needs pair is off =
+      let (old, below) : IsFront place (bytes pair.0) = subst (IsRadix (of_key bytes) P place) is hole.radix in
+      let apart : are_related (place ++ old) (place ++ hole.front.0) ≡ false = sym (ap₂ are_related below hole.front.1) ∙ related_sym (bytes pair.0) (bytes k) ∙ off in
+      let part = apart_after place old hole.front.0 apart in
+      branch_needs t old part (subst (IsRadix (of_key bytes) P ((place ++ part.front) ++ part.x ∷ [])) (sym is) (part.r, below ∙ ap (λ z. place ++ z) part.a_is ∙ simp append_assoc)) refl (λ kind. refl)
+
+  module _ (header : Header) (cs : Children OpaqueNodePtr (K × V)) (is : t ≡ inner (name_of t) header cs) where
+    radix_here : IsRadix (of_key bytes) P place (inner (name_of t) header cs)
+    radix_here = subst (IsRadix (of_key bytes) P place) is hole.radix
+
+    prefix_here : prefix_of (of_key bytes) (length place) t ≡ radix_here.0
+    prefix_here = ap (prefix_of (of_key bytes) (length place)) is ∙ prefix_is (of_key bytes) P (name_of t) header cs place radix_here
+
+    rest_here : drop (length place) (bytes k) ≡ hole.front.0
+    rest_here = after_front place (bytes k) hole.front.0 hole.front.1
+
+    -- a prefix that the key parts from is split
+    prefix_needs : (m : ℕ) (byte : ℕ) → m ≡ shared_len (prefix_of (of_key bytes) (length place) t) (drop (length place) (bytes k)) → slice_get (prefix_of (of_key bytes) (length place) t) m ≡ Some byte → length place + m < length (bytes k) → Branch ≡ needs bytes P (Insert k v) (pairs_of (plug fs t))
+    prefix_needs m byte shared at short =
+        let same : m ≡ shared_len radix_here.0 hole.front.0 = shared ∙ ap₂ shared_len prefix_here rest_here in
+        let inside : m < length radix_here.0 = subst (λ z. m < length z) prefix_here (slice_get_within (prefix_of (of_key bytes) (length place) t) m byte at) in
+        let long = ap length hole.front.1 in
+        let part = part_where radix_here.0 hole.front.0 (omega arith) (omega (arith, simp length-append at long)) in
+        let count = length (bytes_of cs) in
+        branch_needs (inner (name_of t) (header_of P part.r count) cs) radix_here.0 part
+        (trimmed (of_key bytes) P place part.front part.r part.x (name_of t) header cs radix_here.2 radix_here.3 (subst (λ z. AreRadix (of_key bytes) P (place ++ z) cs) part.a_is radix_here.4))
+        (ap pairs_of (sym is)) (λ kind. ap (λ h. one kind h + count_below kind cs) (sym (ap (λ h. h.kind) radix_here.1)) ∙ ap (count_of kind) (sym is))
+
+    -- a node takes the leaf as its child under a byte that has none
+    module _ (b : ℕ) (none : child_at (slots_of cs) b ≡ None) (front : IsFront ((place ++ radix_here.0) ++ b ∷ []) (bytes k)) where
+      split : IsSplit cs b
+      split = split_at cs b radix_here.3 none
+
+      abbrev count : ℕ
+      count = length (bytes_of (join split.left split.right))
+
+      grown : Tree OpaqueNodePtr (K × V)
+      grown = inner (name_of t) (header_of P radix_here.0 (suc count)) (join split.left (child b (leaf (name_of t) (k, v)) split.right))
+
+      grown_is : IsRadix (of_key bytes) P place grown × (pairs_of grown ≡ put (of_key bytes) (k, v) (pairs_below (join split.left split.right)))
+      unfolding grown
+      grown_is =
+          with_child (of_key bytes) P place radix_here.0 split.left split.right b (name_of t) (name_of t) (k, v) (subst (λ z. IsRising (bytes_of z)) split.whole radix_here.3) split.low split.high
+          (let two = subst (λ z. 2 ≤ length (bytes_of z)) split.whole radix_here.2 in omega arith) (subst (AreRadix (of_key bytes) P (place ++ radix_here.0)) split.whole radix_here.4) front
 
 module _ {K V : Type 0} (bytes : K → List ℕ) (P : ℕ) {s : Nodes K V} {root : OpaqueNodePtr} {layout : Tree OpaqueNodePtr (K × V)} (by : IsTree (of_key bytes) P s root (pairs_of layout) layout) where
   pub needs_inserted : (k : K) (v : V) (point : InsertPoint) → AnswersTo (of_key bytes) P layout (bytes k) point → HasByteLeft s point.insert_kind → placed_for s point.insert_kind ≡ needs bytes P (Insert k v) (pairs_of layout)
