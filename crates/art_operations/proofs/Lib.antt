@@ -3,6 +3,12 @@ pub mod Chains
 pub mod LeafWrites
 pub mod Lengths
 pub mod Kept
+pub mod Moves
+pub mod Found
+pub mod Planted
+pub mod Counts
+pub mod Needed
+pub mod Stepped
 pub mod Rests
 pub mod Outcomes
 pub mod OnWay

@@ -1,5 +1,5 @@
 -- What an applied insert point places and touches, and what it leaves.
-use Rattle.std.specs.Prelude.{◌≡◌, ℕ, Bool, false, cond, leb, List, length, Option, Some, None}
+use Rattle.std.specs.Prelude.{◌≡◌, ◌<◌, ℕ, IfSome, Bool, false, cond, leb, List, length, Option, Some, None}
 use Rattle.std.specs.Option.{option_map}
 use Rattle.std.specs.FinMap as map
 use Rattle.art_nodes.specs.Kinds.{kind_capacity, larger_kind}
@@ -50,6 +50,11 @@ module _ {K V : Type 0} where
   Touches (SplitLeaf p used) s t = TouchesAtMost 2 0 3 s t
   Touches (IntoExisting p) s t = cond (is_full s p) (TouchesAtMost 2 1 3 s t) (TouchesAtMost 1 0 3 s t)
   Touches (MismatchPrefix mismatch p) s t = TouchesAtMost 2 0 4 s t
+
+  -- the node that gets a child more has fewer children than there are bytes
+  abbrev pub HasByteLeft : Nodes K V → InsertKind → Type 0
+  HasByteLeft s (IntoExisting p) = IfSome (map.get s.inners p) (λ node. length node.children < 256)
+  HasByteLeft s kind = Unit {0}
 
 -- what is told of the leaf's parent: nothing where a pair was replaced, and else its name and the leaf's byte there
 abbrev pub IsChange : InsertKind → Option (InnerPtr × ℕ) → InsertParentNodeChange → Type 0

@@ -1,6 +1,7 @@
 pub mod Answers
+pub mod Needs
+pub mod Steps
 pub mod Runs
-pub mod Room
 pub mod Matching
 pub mod Walks
 pub mod Points

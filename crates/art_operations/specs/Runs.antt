@@ -1,14 +1,17 @@
 -- Runs of commands.
-use Rattle.std.specs.Prelude.{◌≡◌, ℕ, List, [], ◌∷◌, Option, None}
+use Rattle.std.specs.Prelude.{◌≡◌, ℕ, List, [], ◌∷◌, Option, Some}
 use Rattle.art_nodes.specs.Nodes.{Nodes}
 use Rattle.art_nodes.specs.declared.node.OpaqueNodePtr.{OpaqueNodePtr}
-use Rattle.art_model.specs.Pairs.{of_key}
-use Rattle.art_model.specs.Canonical.{IsCanonical}
-use Rattle.art_model.specs.Stores.{held}
-use Rattle.art_oracle.specs.Built.{AddsTree, IsInTree}
+use Rattle.art_model.specs.Pairs.{of_key, remove_key}
+use Rattle.art_model.specs.Roots.{ForTree}
 use Rattle.art_operations.specs.Answers.{Answers}
+use Rattle.art_operations.specs.Deleted.{LeadsTo}
+use Rattle.art_operations.specs.Steps.{State, Step, IsSound, root_in}
+use Rattle.art_operations.specs.declared.delete.DeletePoint.{DeletePoint}
 use Rattle.art_operations.specs.declared.run.Command.{Command}
 use Rattle.art_operations.specs.declared.run.Reply.{Reply}
+use Rattle.art_operations.specs.declared.run.Reply.TheVariants.{Deleted}
+use Rattle.art_operations.specs.declared.run.Side.{Side}
 
 -- one step after another, for each command in order, with one reply each
 abbrev pub Chain : {S C R : Type 0} → (S → C → R → S → Type 0) → S → List C → List R → S → Type 0
@@ -17,11 +20,36 @@ Chain {S} Step old (c ∷ cs) (r ∷ rs) new = (mid : S) × Step old c r mid × 
 Chain Step old [] (r ∷ rs) new = ⊥
 Chain Step old (c ∷ cs) [] new = ⊥
 
--- From no pairs the commands get these replies and leave these pairs. The root is canonical for them, its tree stands
--- under names that were free, and no other name came into use.
-pub record IsFirstRun {K V : Type 0} (bytes : K → List ℕ) (P : ℕ) (commands : List (Command K V)) (replies : List (Reply K V)) (old new : Nodes K V) (root : Option OpaqueNodePtr) : Type 0 where
-  pub pairs : List (K × V)
-  pub steps : Chain (Answers bytes) [] commands replies pairs
-  pub canonical : IsCanonical (of_key bytes) P new root pairs
-  pub names : AddsTree (of_key bytes) P old new root pairs
-  pub fresh : (name : OpaqueNodePtr) → IsInTree (of_key bytes) P new root pairs name → held old name ≡ None
+-- what a caller has of a state: the stores, the side that the tree is on, and the root
+pub record Shown (K V : Type 0) : Type 0 where
+  pub first : Nodes K V
+  pub second : Nodes K V
+  pub side : Side
+  pub root : Option OpaqueNodePtr
+
+-- a root on a side of two stores
+abbrev pub on : {K V : Type 0} → Side → Nodes K V → Nodes K V → Option OpaqueNodePtr → Shown K V
+on side first second root = record { first = first; second = second; side = side; root = root }
+
+-- what is shown of a state
+abbrev pub shown : {K V : Type 0} → State K V → Shown K V
+shown state = on state.side state.first state.second (root_in state)
+
+module _ {K V : Type 0} (bytes : K → List ℕ) (P : ℕ) where
+  -- The commands get these replies, a step each, on the way from a state with a canonical root to the last one.
+  pub record IsRun (from : Shown K V) (commands : List (Command K V)) (replies : List (Reply K V)) (to : Shown K V) : Type 0 where
+    pub start : State K V
+    pub end : State K V
+    pub starts : shown start ≡ from
+    pub ends : shown end ≡ to
+    pub start_sound : IsSound bytes P start
+    pub end_sound : IsSound bytes P end
+    pub steps : Chain (Step bytes P) start commands replies end
+
+  -- a step is made, whatever state is shown so
+  abbrev pub MakesStep : Shown K V → Command K V → Reply K V → Shown K V → Type 0
+  MakesStep from command reply to = (old : State K V) → shown old ≡ from → IsSound bytes P old → (new : State K V) × (shown new ≡ to) × Step bytes P old command reply new
+
+  -- of all trees of the root: the point leads to a pair that the command takes out
+  abbrev pub IsDeletionAt : Nodes K V → OpaqueNodePtr → DeletePoint → Command K V → Type 0
+  IsDeletionAt s root point command = ForTree (of_key bytes) P s root (λ pairs layout. (x : K × V) × LeadsTo layout x point × Answers bytes pairs command (Deleted (Some x)) (remove_key (of_key bytes) (bytes x.0) pairs))

@@ -4,7 +4,7 @@ ghost use Rattle.art_nodes.specs.Nodes.{no_promise};
 ghost use Rattle.art_model.specs.Pairs.{of_key};
 ghost use Rattle.art_model.specs.Promises.{is_covered, promise_after};
 ghost use Rattle.art_model.specs.Roots.{ForTree};
-ghost use Rattle.art_operations.specs.Inserted.{IsInserted, IsPointIn, Touches, placed_for};
+ghost use Rattle.art_operations.specs.Inserted.{HasByteLeft, IsInserted, IsPointIn, Touches, placed_for};
 ghost use Rattle.art_operations.specs.declared.insert.InsertKind.TheVariants as kinds;
 
 use super::{InsertParentNodeChange, InsertPoint, InsertResult, Refused};
@@ -54,6 +54,7 @@ impl InsertPoint {
             IsInserted (of_key K.bytes) P store.old store.new self (key, value) pairs layout done)) }
         ensures touches { OnOk result (Touches self.insert_kind store.old store.new) }
         ensures promise { OnOk result (store.new.promise ≡ promise_after (placed_for store.old self.insert_kind) store.old.promise) }
+        ensures byte_left { HasByteLeft store.old self.insert_kind }
 
         ensures succeeds { IsTrue (is_covered (placed_for store.old self.insert_kind) store.old.promise) → IsOk result }
         ensures handed_back { IfErr result (λ refused. (refused.key ≡ key) × (refused.value ≡ value)) }

@@ -1,6 +1,8 @@
 use super::*;
-use art_nodes::node::LeafNode;
+use crate::test_trees::plant;
 use art_test_support::all_memory;
+use std::alloc::Global;
+use std::boxed::BoxedSlice;
 use std::test::Fail;
 
 type Key = Vec<u8>;
@@ -124,46 +126,122 @@ fn without_memory_a_run_hands_the_commands_back(rt: HostRuntime) -> Result<(), F
 }
 
 #[test]
+fn inserts_into_a_tree_in_place(rt: HostRuntime) -> Result<(), Fail> {
+    let alloc = rt.alloc();
+    let mut first: NodeStore<Key, u32, 16> = NodeStore::new(alloc);
+    let mut second = NodeStore::new(alloc);
+    let mut keys = Vec::new(alloc);
+    for a in 0..51u8 {
+        for b in 0..2u8 {
+            for c in 0..3u8 {
+                keys.push([a, b, c].to_vec(alloc)?)?;
+            }
+        }
+    }
+    let mut asked = Vec::new(alloc);
+    for key in &keys {
+        asked.push(key.clone()?)?;
+    }
+    let root = plant(&mut first, &mut second, keys)?;
+    let mut names = Vec::new(alloc);
+    for key in &asked {
+        names.push(search_unchecked(&first, root, key).ok_or("a leaf")?)?;
+    }
+    let mut commands = Vec::new(alloc);
+    commands.push(insertion(alloc, &[60, 0, 0], 7)?)?;
+    let done = run(&mut first, &mut second, Some(root), commands).map_err(|refused| refused.1)?;
+    assert!(rt; matches!(done.replies.as_slice(), [Reply::Inserted(None)]));
+    let root = done.root.ok_or("no root")?;
+    for (key, name) in asked.iter().zip(names.iter()) {
+        assert_eq!(rt; search_unchecked(&first, root, key), Some(*name));
+    }
+    assert!(rt; search_unchecked(&first, root, &[60, 0, 0]).is_some());
+    Ok(())
+}
+
+#[test]
+fn measures_the_longest_match(rt: HostRuntime) -> Result<(), Fail> {
+    let alloc = rt.alloc();
+    let mut first: NodeStore<Key, u32, 4> = NodeStore::new(alloc);
+    let mut second = NodeStore::new(alloc);
+    let mut commands = Vec::new(alloc);
+    commands.push(Command::LongestMatch([1, 2, 3, 4].to_vec(alloc)?))?;
+    commands.push(insertion(alloc, &[1, 2, 3], 10)?)?;
+    commands.push(Command::LongestMatch([1, 2, 3, 4].to_vec(alloc)?))?;
+    commands.push(Command::LongestMatch([1, 2].to_vec(alloc)?))?;
+    let done = run(&mut first, &mut second, None, commands).map_err(|refused| refused.1)?;
+    let [none, _, three, short] = done.replies.as_slice() else {
+        panic!(rt; "other replies");
+    };
+    assert!(rt; matches!(none, Reply::MatchLen(None)));
+    assert!(rt; matches!(three, Reply::MatchLen(Some(3))));
+    assert!(rt; matches!(short, Reply::MatchLen(None)));
+    Ok(())
+}
+
+#[test]
+fn deletes_at_the_ends(rt: HostRuntime) -> Result<(), Fail> {
+    let alloc = rt.alloc();
+    let mut first: NodeStore<Key, u32, 4> = NodeStore::new(alloc);
+    let mut second = NodeStore::new(alloc);
+    let mut commands = Vec::new(alloc);
+    for byte in 1..6u8 {
+        commands.push(insertion(alloc, &[byte], u32::from(byte))?)?;
+    }
+    commands.push(Command::DeleteMin)?;
+    for _ in 0..5 {
+        commands.push(Command::DeleteMax)?;
+    }
+    let done = run(&mut first, &mut second, None, commands).map_err(|refused| refused.1)?;
+    let deleted = done.replies.as_slice().get(5..).ok_or("replies")?;
+    let [min, a, b, c, d, none] = deleted else {
+        panic!(rt; "other replies");
+    };
+    assert!(rt; matches!(min, Reply::Deleted(Some((_, 1)))));
+    assert!(rt; matches!(a, Reply::Deleted(Some((_, 5)))));
+    assert!(rt; matches!(b, Reply::Deleted(Some((_, 4)))));
+    assert!(rt; matches!(c, Reply::Deleted(Some((_, 3)))));
+    assert!(rt; matches!(d, Reply::Deleted(Some((_, 2)))));
+    assert!(rt; matches!(none, Reply::Deleted(None)));
+    assert!(rt; done.root.is_none());
+    Ok(())
+}
+
+#[test]
 fn without_memory_an_insertion_leaves_the_pairs(rt: HostRuntime) -> Result<(), Fail> {
     let alloc = rt.alloc();
-    let mut pairs = Vec::new(alloc);
     let mut store: NodeStore<Key, u32, 4> = NodeStore::new(alloc);
-    let mut names = Vec::new(alloc);
+    let mut root = None;
     let command = insertion(alloc, &[1], 10)?;
     let held = all_memory(alloc)?;
-    let reply = answer(&mut pairs, &mut store, &mut names, command);
+    let reply = answer(&mut store, &mut root, command);
     drop(held);
     assert!(rt; matches!(reply, Reply::NoMemory(Some((_, 10)))));
-    assert!(rt; pairs.is_empty());
+    assert!(rt; root.is_none());
     Ok(())
 }
 
 #[test]
 fn without_memory_a_conflict_leaves_the_pairs(rt: HostRuntime) -> Result<(), Fail> {
     let alloc = rt.alloc();
-    let mut pairs = Vec::new(alloc);
     let mut store: NodeStore<Key, u32, 4> = NodeStore::new(alloc);
-    let mut names = Vec::new(alloc);
-    let stored = answer(
-        &mut pairs,
-        &mut store,
-        &mut names,
-        insertion(alloc, &[1], 10)?,
-    );
+    let mut root = None;
+    let stored = answer(&mut store, &mut root, insertion(alloc, &[1], 10)?);
     let related = insertion(alloc, &[1, 2], 12)?;
     let equal = insertion(alloc, &[1], 11)?;
     let known = question(alloc, &[1])?;
     let gone = deletion(alloc, &[1])?;
     let held = all_memory(alloc)?;
-    let conflict = answer(&mut pairs, &mut store, &mut names, related);
-    let replaced = answer(&mut pairs, &mut store, &mut names, equal);
-    let found = answer(&mut pairs, &mut store, &mut names, known);
-    let deleted = answer(&mut pairs, &mut store, &mut names, gone);
+    let conflict = answer(&mut store, &mut root, related);
+    let replaced = answer(&mut store, &mut root, equal);
+    let found = answer(&mut store, &mut root, known);
+    let deleted = answer(&mut store, &mut root, gone);
     drop(held);
     assert!(rt; matches!(stored, Reply::Inserted(None)));
     assert!(rt; matches!(conflict, Reply::NoMemory(Some((_, 12)))));
     assert!(rt; matches!(replaced, Reply::Inserted(Some((_, 10)))));
     assert!(rt; matches!(found, Reply::Found(true)));
     assert!(rt; matches!(deleted, Reply::Deleted(Some((_, 11)))));
+    assert!(rt; root.is_none());
     Ok(())
 }

@@ -1,9 +1,23 @@
-use Rattle.std.proofs.Common.{arith, ap, length}
-use Rattle.art_model.specs.Pairs.{of_key}
-use Rattle.art_operations.proofs.Lengths.{fewer_removed, room_for_fewer}
+use Rattle.std.proofs.Common.{rules, ◌∙◌, ap, refl}
+use Rattle.art_operations.proofs.Moves.{asked, found_step, match_step}
 use Rattle.art_operations.proofs.run.answer.Goals as goal
 
-pub returns-in-Delete-clause-room : goal.returns-in-Delete-clause-room
-returns-in-Delete-clause-room g c =
-    room_for_fewer _ _ _ _ c.requires.room
-    (omega (arith, ap length c.remove.ensures.pairs, fewer_removed (of_key g.K.AsBytes.bytes) c.deref.result.now c.args.pairs.now.items))
+pub returns-in-Insert : goal.returns-in-Insert
+returns-in-Insert g c second = rw c.in-Insert.is (c.insert.ensures second)
+
+pub returns-in-Delete : goal.returns-in-Delete
+returns-in-Delete g c second = rw c.in-Delete.is (c.delete.ensures second)
+
+pub returns-in-DeleteMin : goal.returns-in-DeleteMin
+returns-in-DeleteMin g c second = rw c.in-DeleteMin.is (c.delete_min.ensures second)
+
+pub returns-in-DeleteMax : goal.returns-in-DeleteMax
+returns-in-DeleteMax g c second = rw c.in-DeleteMax.is (c.delete_max.ensures second)
+
+pub returns-in-Contains : goal.returns-in-Contains
+returns-in-Contains g c second = rw c.in-Contains.is (asked g.K.AsBytes.bytes g.row.P second (λ tree answers sound. found_step g.K.AsBytes.bytes g.row.P second tree answers sound)
+  (λ pairs tree is. (rw c.deref.ensures.value at (c.contains.ensures pairs tree is), refl)))
+
+pub returns-in-LongestMatch : goal.returns-in-LongestMatch
+returns-in-LongestMatch g c second = rw c.in-LongestMatch.is (asked g.K.AsBytes.bytes g.row.P second (λ tree answers sound. match_step g.K.AsBytes.bytes g.row.P second tree answers sound)
+  (λ pairs tree is. (rw c.deref-in-LongestMatch.ensures.value at (c.longest_match.ensures pairs tree is), refl)))

@@ -1,21 +1,62 @@
-use Rattle.std.proofs.Common.{◌≡◌, ◌∙◌, ◌+◌, ◌*◌, ◌≤◌, arith, ap, length, suc, rules}
-use Rattle.std.specs.Vec.{vec_capacity}
-use Rattle.art_model.specs.Pairs.{of_key}
-use Rattle.art_operations.proofs.Lengths.{length-put, room_for_fewer}
+use Rattle.std.proofs.Common.{◌≡◌, rules, ap, ap₂, refl, sym, ◌∙◌, subst, Some, true, false}
+use Rattle.std.proofs.lemmas.Bool.{false≢true}
+use Rattle.std.specs.Option.{option_map}
+use Rattle.art_model.specs.Pairs.{of_key, is_conflict}
+use Rattle.art_model.specs.Radix.{pairs_of}
+use Rattle.art_model.specs.Stores.{pair_of}
+use Rattle.art_operations.specs.Points.{AnswersTo}
+use Rattle.art_operations.proofs.Moves.{from_root, from_kept_root}
+use Rattle.art_operations.proofs.Stepped.{inserted_step, refused_step, conflict_step, no_bytes_step, at_root, is_point, not_false}
 use Rattle.art_operations.proofs.run.insert.Goals as goal
 
-pub returns-in-Ok-clause-room : goal.returns-in-Ok-clause-room
-returns-in-Ok-clause-room g c =
-    room_for_fewer _ _ _ _ c.requires.room
-    (omega (arith, ap length c.replace_at.ensures.pairs, ap length c.replace_at.ensures.old, length-put (of_key g.K.AsBytes.bytes) (c.args.key, c.args.value) c.args.pairs.now.items))
+pub returns-in_default : goal.returns-in_default
+returns-in_default g c second = rw c.in_default.is (c.plant.ensures second)
 
-pub returns-in-Ok-insert_at-clause-room : goal.returns-in-Ok-insert_at-clause-room
-returns-in-Ok-insert_at-clause-room g c =
-    let nodes : 2 * (c.len.result + 1) ≤ c.reserve.new.store.room = search rules in
-    let names : c.len.result + 1 ≤ vec_capacity c.reserve.new.names = search rules in
-    let count : length c.insert_at.new.pairs.items ≡ suc (length c.args.pairs.now.items) = ap length c.in-Ok-insert_at.ensures.pairs ∙ (omega (arith, ap length c.insert_at.ensures.old, length-put (of_key g.K.AsBytes.bytes) (c.args.key, c.args.value) c.args.pairs.now.items)) in
-    record {
-      nodes = omega (arith, c.len.ensures);
-      empty = c.reserve.ensures.names ∙ c.requires.room.empty;
-      capacity = omega (arith, c.len.ensures);
-    }
+pub returns-in-Err-Prefix : goal.returns-in-Err-Prefix
+returns-in-Err-Prefix g c second =
+    let bytes = g.K.AsBytes.bytes in
+    from_kept_root bytes g.row.P second c.in-Some.is (λ layout by.
+      let accepted = c.in-Err-Prefix.ensures.accepted (pairs_of layout) layout by in
+      let related = not_false (is_conflict (of_key bytes) c.as_bytes.result.now (pairs_of layout)) (λ free. absurd (false≢true (accepted.1 free))) in
+      conflict_step bytes g.row.P by second (subst (λ key. is_conflict (of_key bytes) key (pairs_of layout) ≡ true) c.as_bytes.ensures related) c.in-Err-Prefix.error ((rw c.in-Err-Prefix.field-0-is at c.in-Err-Prefix.ensures.refused) ∙ c.as_bytes.ensures))
+
+pub returns-in-Err-Memory : goal.returns-in-Err-Memory
+returns-in-Err-Memory g c second =
+    let bytes = g.K.AsBytes.bytes in
+    from_kept_root bytes g.row.P second c.in-Some.is (λ layout by.
+      let accepted = c.in-Err-Memory.ensures.accepted (pairs_of layout) layout by in
+      let related = not_false (is_conflict (of_key bytes) c.as_bytes.result.now (pairs_of layout)) (λ free. absurd (false≢true (accepted.1 free))) in
+      no_bytes_step bytes g.row.P by second (subst (λ key. is_conflict (of_key bytes) key (pairs_of layout) ≡ true) c.as_bytes.ensures related))
+
+pub apply-requires : goal.apply-requires
+apply-requires g c =
+    let (layout, by) = (rw c.in-Some.is at c.requires.1) in
+    (search rules, is_point g.K.AsBytes.bytes g.row.P by (subst (λ key. AnswersTo (of_key g.K.AsBytes.bytes) g.row.P layout key c.in-Ok.point) c.as_bytes.ensures (c.in-Ok.ensures.point c.requires.0 layout by)))
+
+pub returns-in-Ok-apply : goal.returns-in-Ok-apply
+returns-in-Ok-apply g c second =
+    let bytes = g.K.AsBytes.bytes in
+    from_root bytes g.row.P second c.in-Some.is (λ layout by.
+      let at = subst (λ key. AnswersTo (of_key bytes) g.row.P layout key c.in-Ok.point) c.as_bytes.ensures (c.in-Ok.ensures.point (pairs_of layout) layout by) in
+      let free = subst (λ key. is_conflict (of_key bytes) key (pairs_of layout) ≡ false) c.as_bytes.ensures ((c.in-Ok.ensures.accepted (pairs_of layout) layout by).0 refl) in
+      let here = at_root bytes g.row.P by at.root_is in
+      let reply : c.map.result ≡ option_map pair_of c.in-Ok-apply.done.existing_leaf = search rules in
+      rw reply (inserted_step bytes g.row.P by second free at c.in-Ok-apply.ensures.byte_left (record {
+        canonical = c.in-Ok-apply.ensures.canonical (pairs_of layout) layout here;
+        replaced = c.in-Ok-apply.ensures.replaced (pairs_of layout) layout here;
+        kept = c.in-Ok-apply.ensures.kept (pairs_of layout) layout here;
+        touches = c.in-Ok-apply.ensures.touches;
+        promise = c.in-Ok-apply.ensures.promise;
+      })))
+
+pub returns-in-Err : goal.returns-in-Err
+returns-in-Err g c second =
+    let bytes = g.K.AsBytes.bytes in
+    from_kept_root bytes g.row.P second c.in-Some.is (λ layout by.
+      let at = subst (λ key. AnswersTo (of_key bytes) g.row.P layout key c.in-Ok.point) c.as_bytes.ensures (c.in-Ok.ensures.point (pairs_of layout) layout by) in
+      let free = subst (λ key. is_conflict (of_key bytes) key (pairs_of layout) ≡ false) c.as_bytes.ensures ((c.in-Ok.ensures.accepted (pairs_of layout) layout by).0 refl) in
+      refused_step bytes g.row.P by second free at c.in-Err.ensures.byte_left (ap₂ (λ a b. (a, b)) c.in-Err.ensures.handed_back.0 c.in-Err.ensures.handed_back.1) (record {
+        same = (c.in-Err.ensures.leaves, c.in-Err.ensures.inners);
+        void = c.in-Err.ensures.void;
+        uncovered = λ covered. absurd (false≢true (c.in-Err.ensures.succeeds covered));
+      }))

@@ -1,0 +1,135 @@
+-- Steps from a tree in the first store, whatever the second one holds.
+use Rattle.std.proofs.Common.{◌≡◌, ℕ, List, [], ◌∷◌, ◌++◌, refl, ap, ap₂, sym, ◌∙◌, subst, Option, Some, None, Bool}
+use Rattle.std.specs.Option.{option_map}
+use Rattle.art_nodes.specs.Nodes.{Nodes}
+use Rattle.art_nodes.specs.declared.node.OpaqueNodePtr.{OpaqueNodePtr}
+use Rattle.art_model.specs.Canonical.{IsTree, IsCanonical}
+use Rattle.art_model.specs.Layouts.{name_of}
+use Rattle.art_model.specs.Pairs.{of_key}
+use Rattle.art_model.specs.Radix.{pairs_of}
+use Rattle.art_model.specs.Roots.{IsRootOf}
+use Rattle.art_model.specs.Stores.{node_at, links_at}
+use Rattle.art_model.specs.Trees.{Tree}
+use Rattle.art_model.proofs.Canonical.{IsLaidOut, laid_out, canonical_from, tree_radix}
+use Rattle.art_operations.specs.Answers.{Answers}
+use Rattle.art_operations.specs.Steps.{State, SameNodes, NothingChanged, IsSound, Step, pairs_in}
+use Rattle.art_operations.specs.Runs.{Shown, on, shown, MakesStep}
+use Rattle.art_operations.specs.declared.run.Command.{Command}
+use Rattle.art_operations.specs.declared.run.Reply.{Reply}
+use Rattle.art_operations.specs.declared.run.Reply.TheVariants.{Deleted, Found, MatchLen}
+use Rattle.art_operations.specs.declared.run.Side.TheVariants.{First}
+
+abbrev pub Layout : Type 0 → Type 0 → Type 0
+Layout K V = Tree OpaqueNodePtr (K × V)
+
+module _ {K V : Type 0} where
+  -- a state whose tree is in the first store
+  abbrev pub in_first : Nodes K V → Nodes K V → Option (Layout K V) → State K V
+  in_first first second tree = record { first = first; second = second; side = First; tree = tree }
+
+  state_is : (old : State K V) (s z : Nodes K V) (root : Option OpaqueNodePtr) → shown old ≡ on First s z root → (old ≡ in_first s z old.tree) × (option_map name_of old.tree ≡ root)
+  state_is old s z root is =
+      (
+        subst (λ q. old ≡ in_first q z old.tree) (ap (λ q. q.first) is)
+        (subst (λ q. old ≡ in_first old.first q old.tree) (ap (λ q. q.second) is)
+        (subst (λ q. old ≡ record { first = old.first; second = old.second; side = q; tree = old.tree }) (ap (λ q. q.side) is) refl)),
+        ap (λ q. q.root) is,
+      )
+
+  -- a store with the same nodes is the same to a tree
+  pub nothing : {s t : Nodes K V} (z : Nodes K V) (tree : Option (Layout K V)) → SameNodes s t → NothingChanged (in_first s z tree) (in_first t z tree)
+  nothing z tree same = record { side = refl; tree = refl; nodes = same; other = refl }
+
+module _ {K V : Type 0} (bytes : K → List ℕ) (P : ℕ) where
+  -- a root that is canonical for its layout's pairs
+  pub own_pairs : {s : Nodes K V} {root : OpaqueNodePtr} {pairs : List (K × V)} {layout : Layout K V} → IsTree (of_key bytes) P s root pairs layout → IsTree (of_key bytes) P s (name_of layout) (pairs_of layout) layout
+  own_pairs {s} {root} {pairs} {layout} by = subst (λ n. IsTree (of_key bytes) P s n (pairs_of layout) layout) (sym by.stands.0.named) (subst (λ xs. IsTree (of_key bytes) P s root xs layout) (sym (tree_radix by).1) by)
+
+  pub same_tree : {s t : Nodes K V} {root : OpaqueNodePtr} {pairs : List (K × V)} {layout : Layout K V} → SameNodes s t → IsTree (of_key bytes) P s root pairs layout → IsTree (of_key bytes) P t root pairs layout
+  same_tree {s} {t} {root} {pairs} {layout} same by =
+      let nodes : node_at t ≡ node_at s = ap₂ (λ leaves inners. node_at (record t { leaves = leaves; inners = inners })) same.0 same.1 in
+      let links : links_at t ≡ links_at s = ap₂ (λ leaves inners. links_at (record t { leaves = leaves; inners = inners })) same.0 same.1 in
+      canonical_from (subst (λ at. IsLaidOut (of_key bytes) P at (links_at t) root pairs layout) (sym nodes) (subst (λ at. IsLaidOut (of_key bytes) P (node_at s) at root pairs layout) (sym links) (laid_out by)))
+
+  -- a root is canonical for the pairs of a state that shows it
+  pub sound_canonical : (old : State K V) (s z : Nodes K V) (root : Option OpaqueNodePtr) → shown old ≡ on First s z root → IsSound bytes P old → (pairs : List (K × V)) × IsCanonical (of_key bytes) P s root pairs
+  sound_canonical old s z root is sound =
+      let (same, named) = state_is old s z root is in
+      go old.tree named (subst (IsSound bytes P) same sound)
+    where
+      go : (tree : Option (Layout K V)) → option_map name_of tree ≡ root → IsSound bytes P (in_first s z tree) → (pairs : List (K × V)) × IsCanonical (of_key bytes) P s root pairs
+      go None e h = subst (λ r. (pairs : List (K × V)) × IsCanonical (of_key bytes) P s r pairs) e ([], refl)
+      go (Some layout) e h = subst (λ r. (pairs : List (K × V)) × IsCanonical (of_key bytes) P s r pairs) e (pairs_of layout, (layout, h))
+
+  -- some state shows a canonical root, and is sound
+  pub canonical_sound : (s z : Nodes K V) (root : Option OpaqueNodePtr) (pairs : List (K × V)) → IsCanonical (of_key bytes) P s root pairs → (old : State K V) × (shown old ≡ on First s z root) × IsSound bytes P old
+  canonical_sound s z None pairs h = (in_first s z None, refl, refl)
+  canonical_sound s z (Some name) pairs (layout, by) = (in_first s z (Some layout), ap (λ n. on First s z (Some n)) by.stands.0.named, own_pairs by)
+
+  -- a canonical root with its tree
+  pub record HasTree (s : Nodes K V) (root : Option OpaqueNodePtr) (pairs : List (K × V)) : Type 0 where
+    pub tree : Option (Layout K V)
+    pub shows : option_map name_of tree ≡ root
+    pub pairs_are : pairs_in tree ≡ pairs
+    pub is_root : IsRootOf (of_key bytes) P s root pairs tree
+    pub sound : IsRootOf (of_key bytes) P s (option_map name_of tree) (pairs_in tree) tree
+
+  pub has_tree : (s : Nodes K V) (root : Option OpaqueNodePtr) (pairs : List (K × V)) → IsCanonical (of_key bytes) P s root pairs → HasTree s root pairs
+  has_tree s None pairs none = record { tree = None; shows = refl; pairs_are = sym none; is_root = none; sound = refl }
+  has_tree s (Some name) pairs (layout, by) = record { tree = Some layout; shows = ap Some by.stands.0.named; pairs_are = (tree_radix by).1; is_root = by; sound = own_pairs by }
+
+  -- what a step from a tree in the first store comes to
+  abbrev pub StepFrom : Nodes K V → Nodes K V → Nodes K V → Option (Layout K V) → Command K V → Reply K V → Option OpaqueNodePtr → Type 0
+  StepFrom s t z tree c r after = (new : Option (Layout K V)) × (option_map name_of new ≡ after) × Step bytes P (in_first s z tree) c r (in_first t z new)
+
+  module _ {s t : Nodes K V} {c : Command K V} {r : Reply K V} (z : Nodes K V) where
+    pub makes_step : {root after : Option OpaqueNodePtr} → ((tree : Option (Layout K V)) → option_map name_of tree ≡ root → IsSound bytes P (in_first s z tree) → StepFrom s t z tree c r after) → MakesStep bytes P (on First s z root) c r (on First t z after)
+    makes_step {root} {after} step old is sound =
+        let (same, named) = state_is old s z root is in
+        let (new, shows, made) = step old.tree named (subst (IsSound bytes P) same sound) in
+        (in_first t z new, ap (on First t z) shows, subst (λ q. Step bytes P q c r (in_first t z new)) (sym same) made)
+
+    -- a step from no tree
+    pub from_none : {root after : Option OpaqueNodePtr} → root ≡ None → StepFrom s t z None c r after → MakesStep bytes P (on First s z root) c r (on First t z after)
+    from_none {root} {after} none step = makes_step (λ tree named sound. go tree (named ∙ none))
+      where
+        go : (tree : Option (Layout K V)) → option_map name_of tree ≡ None → StepFrom s t z tree c r after
+        go None e = step
+        go (Some layout) e = absurd cc
+
+    -- a step from the tree of a canonical root
+    pub from_root : {root after : Option OpaqueNodePtr} {name : OpaqueNodePtr} → root ≡ Some name → ((layout : Layout K V) → IsTree (of_key bytes) P s name (pairs_of layout) layout → StepFrom s t z (Some layout) c r after) → MakesStep bytes P (on First s z root) c r (on First t z after)
+    from_root {root} {after} {name} is step = makes_step (λ tree named sound. go tree (named ∙ is) sound)
+      where
+        go : (tree : Option (Layout K V)) → option_map name_of tree ≡ Some name → IsSound bytes P (in_first s z tree) → StepFrom s t z tree c r after
+        go None e h = absurd cc
+        go (Some layout) e h =
+            let n : name_of layout ≡ name = cc in
+            step layout (subst (λ m. IsTree (of_key bytes) P s m (pairs_of layout) layout) n h)
+
+    -- a step that leaves the root
+    pub from_kept_root : {root : Option OpaqueNodePtr} {name : OpaqueNodePtr} → root ≡ Some name → ((layout : Layout K V) → IsTree (of_key bytes) P s name (pairs_of layout) layout → StepFrom s t z (Some layout) c r (Some name)) → MakesStep bytes P (on First s z root) c r (on First t z root)
+    from_kept_root is step = from_root is (λ layout by. subst (λ after. StepFrom s t z (Some layout) c r after) (sym is) (step layout by))
+
+  -- ---- commands that only read, and deletions that find nothing
+
+  module _ {s : Nodes K V} {root : Option OpaqueNodePtr} {c : Command K V} (z : Nodes K V) where
+    -- what is asked of every tree of the root is answered by a step
+    pub asked : {r : Reply K V} → ((tree : Option (Layout K V)) → Answers bytes (pairs_in tree) c r (pairs_in tree) → IsSound bytes P (in_first s z tree) → Step bytes P (in_first s z tree) c r (in_first s z tree)) →
+        ((pairs : List (K × V)) (tree : Option (Layout K V)) → IsRootOf (of_key bytes) P s root pairs tree → Answers bytes pairs c r pairs) → MakesStep bytes P (on First s z root) c r (on First s z root)
+    asked step answers = makes_step z (λ tree named sound. (tree, named, step tree (answers (pairs_in tree) tree (subst (λ n. IsRootOf (of_key bytes) P s n (pairs_in tree) tree) named sound)) sound))
+
+  module _ {s : Nodes K V} {c : Command K V} (z : Nodes K V) (tree : Option (Layout K V)) where
+    pub found_step : {found : Bool} → Answers bytes (pairs_in tree) c (Found found) (pairs_in tree) → IsSound bytes P (in_first s z tree) → Step bytes P (in_first s z tree) c (Found found) (in_first s z tree)
+    found_step answers sound = record { answers = answers; refuses = tt; sound = sound; changes = nothing z tree (refl, refl); promises = refl }
+
+    pub match_step : {len : Option ℕ} → Answers bytes (pairs_in tree) c (MatchLen len) (pairs_in tree) → IsSound bytes P (in_first s z tree) → Step bytes P (in_first s z tree) c (MatchLen len) (in_first s z tree)
+    match_step answers sound = record { answers = answers; refuses = tt; sound = sound; changes = nothing z tree (refl, refl); promises = refl }
+
+  -- a deletion that finds nothing, in no tree and in the tree of a root
+  module _ {s : Nodes K V} {c : Command K V} (z : Nodes K V) where
+    pub absent : Answers bytes [] c (Deleted None) [] → StepFrom s s z None c (Deleted None) None
+    absent answers = (None, refl, record { answers = answers; refuses = tt; sound = refl; changes = nothing z None (refl, refl); promises = refl })
+
+    pub absent_at : {root : OpaqueNodePtr} {layout : Layout K V} → IsTree (of_key bytes) P s root (pairs_of layout) layout → Answers bytes (pairs_of layout) c (Deleted None) (pairs_of layout) → StepFrom s s z (Some layout) c (Deleted None) (Some root)
+    absent_at {root} {layout} by answers = (Some layout, ap Some by.stands.0.named, record { answers = answers; refuses = tt; sound = own_pairs by; changes = nothing z (Some layout) (refl, refl); promises = refl })

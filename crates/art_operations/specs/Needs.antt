@@ -1,0 +1,41 @@
+-- What a command has placed in a store, as its pairs tell: a leaf, and an inner node of the kind of which the tree then has more.
+use Rattle.std.specs.Prelude.{ℕ, ◌+◌, cond, eqb, ltb, List, Option, Some, None}
+use Rattle.art_nodes.specs.Nodes.{Promise, kind_index}
+use Rattle.art_nodes.specs.declared.node.NodeType.{NodeType}
+use Rattle.art_nodes.specs.declared.node.NodeType.TheVariants.{Node4, Node16, Node48, Node256}
+use Rattle.art_model.specs.Pairs.{of_key, has_key}
+use Rattle.art_model.specs.Trees.{Tree, leaf, inner, Children, child, no_child, tree_of}
+use Rattle.art_operations.specs.Answers.{pairs_after}
+use Rattle.art_operations.specs.declared.run.Command.{Command}
+use Rattle.art_operations.specs.declared.run.Command.TheVariants.{Insert}
+
+module _ {N A : Type 0} (kind : NodeType) where
+  -- how many inner nodes of this kind a tree has
+  abbrev mutual
+    pub count_of : Tree N A → ℕ
+    count_of (leaf n x) = 0
+    count_of (inner n h cs) = cond (eqb (kind_index kind) (kind_index h.kind)) 1 0 + count_below cs
+
+    pub count_below : Children N A → ℕ
+    count_below no_child = 0
+    count_below (child b t cs) = count_of t + count_below cs
+
+-- the first kind of which there are more than before, by the number of each kind before and after
+abbrev pub more_of : (NodeType → ℕ) → (NodeType → ℕ) → Option NodeType
+more_of old new =
+    cond (ltb (old Node4) (new Node4)) (Some Node4) (cond (ltb (old Node16) (new Node16)) (Some Node16)
+    (cond (ltb (old Node48) (new Node48)) (Some Node48) (cond (ltb (old Node256) (new Node256)) (Some Node256) None)))
+
+module _ {K V : Type 0} (bytes : K → List ℕ) (P : ℕ) where
+  -- how many inner nodes of a kind the tree of these pairs has
+  abbrev pub inner_count : List (K × V) → NodeType → ℕ
+  inner_count pairs kind = elim (tree_of (of_key bytes) pairs P 0) [ None ↦ 0 | Some tree ↦ count_of kind tree ]
+
+  -- a pair that takes no other's place needs a leaf
+  abbrev pub new_leaves : Command K V → List (K × V) → ℕ
+  new_leaves (Insert k v) pairs = cond (has_key (of_key bytes) (bytes k) pairs) 0 1
+  new_leaves command pairs = 0
+
+  -- what a command places where these are the pairs
+  abbrev pub needs : Command K V → List (K × V) → Promise
+  needs command pairs = record { leaves = new_leaves command pairs; inner = more_of (inner_count pairs) (inner_count (pairs_after bytes command pairs)) }
