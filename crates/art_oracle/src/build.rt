@@ -1,9 +1,8 @@
 //! The radix tree of a map, built in a store at one go.
-ghost use Rattle.std.specs.Prelude.{◌≡◌, ◌≢◌, ℕ, ◌+◌, ◌*◌, ◌^◌, ◌<◌, ◌≤◌, List, [], length, get_or, Some, None, IsSome};
+ghost use Rattle.std.specs.Prelude.{◌≡◌, ◌≢◌, ℕ, ◌+◌, ◌*◌, ◌^◌, ◌<◌, ◌≤◌, List, [], length, get_or, Some, None, IsSome, IfOk, OnOk};
 ghost use Rattle.std.specs.Prelude.{map as list_map};
 ghost use Rattle.std.specs.FinMap as map;
 ghost use Rattle.std.specs.List.{AllByRecursion as Each};
-ghost use Rattle.std.specs.Vec.{vec_capacity};
 ghost use Rattle.art_nodes.specs.Names.{leaf_name};
 ghost use Rattle.art_nodes.specs.Inner.{Inner};
 ghost use Rattle.art_nodes.specs.Kinds.{any_kind, any_view, kind_capacity};
@@ -22,6 +21,7 @@ use art_nodes::node::{
     AnyInner, AsBytes, Header, InnerPtr, LeafNode, LeafPtr, NodeType, OpaqueNodePtr,
 };
 use art_nodes::store::NodeStore;
+use std::alloc::AllocError;
 
 /// How many bytes two keys have in common in front.
 fn common_len(a: &[u8], b: &[u8]) -> usize
@@ -146,21 +146,19 @@ fn place_node<K: AsBytes + Drop, V: Drop, const P: usize>(
     store: &mut NodeStore<K, V, P>,
     leaves: &[LeafPtr],
     depth: usize,
-) -> (usize, InnerPtr)
+) -> Result<(usize, InnerPtr), AllocError>
     requires two { 2 ≤ length leaves.now }
     requires ready { (way : List ℕ) × Ready K.bytes store.old.leaves way leaves.now depth }
-    requires room { 0 < store.old.room }
-    ensures placed { (node : Inner) × (store.new.inners ≡ map.insert store.old.inners result.1 node) × ((way : List ℕ) → Ready K.bytes store.old.leaves way leaves.now depth → Starts K.bytes P store.old.leaves way leaves.now depth result.0 node) }
-    ensures fresh { map.get store.old.inners result.1 ≡ None }
-    ensures leaves { store.new.leaves ≡ store.old.leaves }
-    ensures kind { result.1.kind ≡ kind_of (count_groups K.bytes store.old.leaves leaves.now result.0) }
-    ensures capacity { count_groups K.bytes store.old.leaves leaves.now result.0 ≤ kind_capacity result.1.kind }
-    ensures room { store.old.room ≤ store.new.room + 1 }
+    ensures placed { IfOk result (λ placed. (node : Inner) × (store.new.inners ≡ map.insert store.old.inners placed.1 node) × ((way : List ℕ) → Ready K.bytes store.old.leaves way leaves.now depth → Starts K.bytes P store.old.leaves way leaves.now depth placed.0 node)) }
+    ensures fresh { IfOk result (λ placed. map.get store.old.inners placed.1 ≡ None) }
+    ensures leaves { OnOk result (store.new.leaves ≡ store.old.leaves) }
+    ensures kind { IfOk result (λ placed. placed.1.kind ≡ kind_of (count_groups K.bytes store.old.leaves leaves.now placed.0)) }
+    ensures capacity { IfOk result (λ placed. count_groups K.bytes store.old.leaves leaves.now placed.0 ≤ kind_capacity placed.1.kind) }
 {
     let (at, node) = start_node(store, leaves, depth);
     match store.place_inner(node) {
-        Ok(name) => (at, name),
-        Err(_) => unreachable!(),
+        Ok(name) => Ok((at, name)),
+        Err((_, error)) => Err(error),
     }
 }
 
@@ -170,21 +168,19 @@ fn build_node<K: AsBytes + Drop, V: Drop, const P: usize>(
     store: &mut NodeStore<K, V, P>,
     leaves: &[LeafPtr],
     depth: usize,
-) -> OpaqueNodePtr
+) -> Result<OpaqueNodePtr, AllocError>
     requires some { 1 ≤ length leaves.now }
     requires ready { (way : List ℕ) × Ready K.bytes store.old.leaves way leaves.now depth }
-    requires room { length leaves.now ≤ store.old.room + 1 }
-    ensures built { (way : List ℕ) → Ready K.bytes store.old.leaves way leaves.now depth → Built K.bytes P way leaves.now store.old store.new result }
-    ensures leaves { store.new.leaves ≡ store.old.leaves }
-    ensures kept { KeepsNodes store.old store.new }
-    ensures room { store.old.room + 1 ≤ store.new.room + length leaves.now }
+    ensures built { IfOk result (λ name. (way : List ℕ) → Ready K.bytes store.old.leaves way leaves.now depth → Built K.bytes P way leaves.now store.old store.new name) }
+    ensures leaves { OnOk result (store.new.leaves ≡ store.old.leaves) }
+    ensures kept { OnOk result (KeepsNodes store.old store.new) }
 {
     if leaves.len() == 1 {
-        return leaves[0].to_opaque();
+        return Ok(leaves[0].to_opaque());
     }
-    let (at, name) = place_node(store, leaves, depth);
-    build_below(store, leaves, at, name);
-    name.to_opaque()
+    let (at, name) = place_node(store, leaves, depth)?;
+    build_below(store, leaves, at, name)?;
+    Ok(name.to_opaque())
 }
 
 /// Builds the children of a node from sorted leaves, whose keys have the same bytes up to a depth and a byte there.
@@ -194,45 +190,41 @@ fn build_below<K: AsBytes + Drop, V: Drop, const P: usize>(
     leaves: &[LeafPtr],
     at: usize,
     parent: InnerPtr,
-)
+) -> Result<(), AllocError>
     requires ready { (front : List ℕ) × ReadyBelow K.bytes store.old.leaves front leaves.now at }
     requires parent { (node : Inner) × (map.get store.old.inners parent ≡ Some node) × AreBelow K.bytes store.old.leaves leaves.now at node × (length node.children + count_groups K.bytes store.old.leaves leaves.now at ≤ kind_capacity parent.kind) }
     requires inner { parent.kind ≢ Leaf }
-    requires room { length leaves.now ≤ store.old.room + count_groups K.bytes store.old.leaves leaves.now at }
-    ensures built { (front : List ℕ) (node : Inner) → ReadyBelow K.bytes store.old.leaves front leaves.now at → map.get store.old.inners parent ≡ Some node → AreBelow K.bytes store.old.leaves leaves.now at node → BuiltUnder K.bytes P front leaves.now store.old store.new parent node }
-    ensures leaves { store.new.leaves ≡ store.old.leaves }
-    ensures kept { KeepsOthers store.old store.new parent }
-    ensures room { store.old.room + count_groups K.bytes store.old.leaves leaves.now at ≤ store.new.room + length leaves.now }
+    ensures built { OnOk result ((front : List ℕ) (node : Inner) → ReadyBelow K.bytes store.old.leaves front leaves.now at → map.get store.old.inners parent ≡ Some node → AreBelow K.bytes store.old.leaves leaves.now at node → BuiltUnder K.bytes P front leaves.now store.old store.new parent node) }
+    ensures leaves { OnOk result (store.new.leaves ≡ store.old.leaves) }
+    ensures kept { OnOk result (KeepsOthers store.old store.new parent) }
 {
     if leaves.is_empty() {
-        return;
+        return Ok(());
     }
     let byte = byte_of(store, leaves[0], at);
     let (group, others) = leaves.split_at(group_end(store, leaves, at, byte));
-    let child = build_node(store, group, at + 1);
+    let child = build_node(store, group, at + 1)?;
     store.write_child(parent, byte, child);
-    build_below(store, others, at, parent);
+    build_below(store, others, at, parent)?;
+    Ok(())
 }
 
 /// Places a leaf for each pair, in order, and lists the names.
 fn place_leaves<K: AsBytes + Drop, V: Drop, const P: usize>(
     store: &mut NodeStore<K, V, P>,
     pairs: Vec<(K, V)>,
-    names: &mut Vec<LeafPtr>,
-)
-    requires empty { names.old.items ≡ [] }
-    requires capacity { length pairs.items ≤ vec_capacity names.old }
-    requires room { length pairs.items ≤ store.old.room }
-    ensures placed { IsPlaced store.old.leaves store.new.leaves names.new.items pairs.items }
-    ensures inners { store.new.inners ≡ store.old.inners }
-    ensures room { store.old.room ≤ store.new.room + length pairs.items }
+) -> Result<Vec<LeafPtr>, AllocError>
+    ensures placed { IfOk result (λ names. IsPlaced store.old.leaves store.new.leaves names.items pairs.items) }
+    ensures inners { OnOk result (store.new.inners ≡ store.old.inners) }
 {
+    let mut names = Vec::with_capacity(store.alloc(), pairs.len())?;
     for (key, value) in pairs {
         match store.place_leaf(LeafNode::with_no_siblings(key, value)) {
             Ok(name) => names.push_reserved(name),
-            Err(_) => unreachable!(),
+            Err((_, error)) => return Err(error),
         }
     }
+    Ok(names)
 }
 
 /// Links the leaves of a list, each to the one before it and the one after it.
@@ -245,7 +237,6 @@ fn link_leaves<K: AsBytes + Drop, V: Drop, const P: usize>(
     ensures linked { AreLinked (links_at store.new) None (list_map leaf_name names.now) None }
     ensures keeps { KeepsPairs store.old.leaves store.new.leaves names.now }
     ensures inners { store.new.inners ≡ store.old.inners }
-    ensures room { store.new.room ≡ store.old.room }
 {
     let mut previous = None;
     for i in 0..names.len() {
@@ -256,28 +247,25 @@ fn link_leaves<K: AsBytes + Drop, V: Drop, const P: usize>(
 
 /// Builds the canonical tree of a map in a store, and answers its root: none where there are no pairs.
 ///
-/// It takes no memory: `names` is where it lists the leaves. The time is that of reading each key once
-/// for each inner node on the way to its leaf.
+/// An `Err` leaves the nodes that were placed so far in the store. The time is that of reading each key
+/// once for each inner node on the way to its leaf.
 pub fn build<K: AsBytes + Drop, V: Drop, const P: usize>(
     store: &mut NodeStore<K, V, P>,
     pairs: Vec<(K, V)>,
-    mut names: Vec<LeafPtr>,
-) -> Option<OpaqueNodePtr>
-    requires map { IsMap (of_key K.bytes) pairs.items }
-    requires room { 2 * length pairs.items ≤ store.old.room }
-    requires empty { names.items ≡ [] }
-    requires capacity { length pairs.items ≤ vec_capacity names }
-    ensures canonical { IsCanonical (of_key K.bytes) P store.new result pairs.items }
-    ensures kept { KeepsNodes store.old store.new }
-    ensures names { AddsTree (of_key K.bytes) P store.old store.new result pairs.items }
-    ensures fresh { (name : OpaqueNodePtr) → IsInTree (of_key K.bytes) P store.new result pairs.items name → held store.old name ≡ None }
+) -> Result<Option<OpaqueNodePtr>, AllocError>
+    requires { IsMap (of_key K.bytes) pairs.items }
+    ensures canonical { IfOk result (λ root. IsCanonical (of_key K.bytes) P store.new root pairs.items) }
+    ensures kept { OnOk result (KeepsNodes store.old store.new) }
+    ensures names { IfOk result (λ root. AddsTree (of_key K.bytes) P store.old store.new root pairs.items) }
+    ensures fresh { IfOk result (λ root. (name : OpaqueNodePtr) → IsInTree (of_key K.bytes) P store.new root pairs.items name → held store.old name ≡ None) }
 {
-    place_leaves(store, pairs, &mut names);
+    let names = place_leaves(store, pairs)?;
     if names.is_empty() {
-        return None;
+        return Ok(None);
     }
     link_leaves(store, names.as_slice());
-    Some(build_node(store, names.as_slice(), 0))
+    let root = build_node(store, names.as_slice(), 0)?;
+    Ok(Some(root))
 }
 
 #[cfg(test)]

@@ -127,22 +127,6 @@ fn place_promised<K: AsBytes + Drop, V: Drop, const P: usize>(
     Ok((first, upper, second))
 }
 
-// A caller: no placement is refused for which there is room.
-fn place_with_room<K: AsBytes + Drop, V: Drop, const P: usize>(
-    store: &mut NodeStore<K, V, P>,
-    leaf: LeafNode<K, V>,
-    header: Header<P>,
-) -> Result<(LeafPtr, InnerPtr), AllocError> {
-    store.reserve_any(2)?;
-    let node = AnyInner::from_header(NodeType::Node48, header);
-    let upper = store
-        .place_inner(node)
-        .map_err(|refused| refused.1)
-        .unwrap();
-    let lower = store.place_leaf(leaf).map_err(|refused| refused.1).unwrap();
-    Ok((lower, upper))
-}
-
 #[test]
 fn an_empty_store_has_no_node(rt: HostRuntime) {
     let store = Store::new(rt.alloc());
@@ -221,7 +205,6 @@ fn a_child_is_cut_off(rt: HostRuntime) -> Result<(), Fail> {
 fn a_reservation_past_all_numbers_is_refused(rt: HostRuntime) {
     let mut store = Store::new(rt.alloc());
     assert!(rt; store.reserve(usize::MAX, Some(NodeType::Node4)).is_err());
-    assert!(rt; store.reserve_any(usize::MAX).is_err());
     assert!(rt; store.reserve(0, None).is_ok());
 }
 
@@ -322,12 +305,9 @@ fn without_memory_reservations_leave_the_nodes(rt: HostRuntime) -> Result<(), Fa
         .map_err(|refused| refused.1)?;
 
     let held = all_memory(alloc)?;
-    let refused = [
-        store.reserve(1 << 20, None).is_err(),
-        store.reserve_any(1 << 20).is_err(),
-    ];
+    let refused = store.reserve(1 << 20, None).is_err();
     drop(held);
-    assert_eq!(rt; refused, [true; 2]);
+    assert!(rt; refused);
     assert_eq!(rt; store.leaf(first).map(|leaf| leaf.value), Some(10));
     Ok(())
 }
@@ -344,24 +324,6 @@ fn without_memory_the_promise_is_kept(rt: HostRuntime) -> Result<(), Fail> {
         store.reserve(1, Some(NodeType::Node4)).is_ok(),
         store.place_inner(node4(&[8, 9])).is_ok(),
         store.place_leaf(leaf_of(2, 20)).is_ok(),
-    ];
-    drop(held);
-    assert_eq!(rt; placed, [true; 4]);
-    Ok(())
-}
-
-#[test]
-fn without_memory_the_room_is_kept(rt: HostRuntime) -> Result<(), Fail> {
-    let alloc = rt.alloc();
-    let mut store = Store::new(alloc);
-    store.reserve_any(3)?;
-
-    let held = all_memory(alloc)?;
-    let placed = [
-        store.place_leaf(leaf_of(1, 10)).is_ok(),
-        store.place_inner(node4(&[8, 9])).is_ok(),
-        store.reserve_any(1).is_ok(),
-        store.place_inner(node4(&[5, 6])).is_ok(),
     ];
     drop(held);
     assert_eq!(rt; placed, [true; 4]);

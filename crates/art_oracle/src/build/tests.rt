@@ -25,22 +25,6 @@ fn insert_apart<K: AsBytes + Drop, V: Drop>(
     }
 }
 
-// A caller: takes the memory for a map's tree, and builds it.
-fn build_in<K: AsBytes + Drop, V: Drop, const P: usize>(
-    store: &mut NodeStore<K, V, P>,
-    alloc: Global,
-    pairs: Vec<(K, V)>,
-) -> Result<Option<OpaqueNodePtr>, AllocError>
-    requires { IsMap (of_key K.bytes) pairs.items }
-    ensures canonical { IfOk result (λ root. IsCanonical (of_key K.bytes) P store.new root pairs.items) }
-    ensures kept { KeepsNodes store.old store.new }
-{
-    let nodes = pairs.len().checked_mul(2).ok_or(AllocError)?;
-    let names = Vec::with_capacity(alloc, pairs.len())?;
-    store.reserve_any(nodes)?;
-    Ok(build(store, pairs, names))
-}
-
 // So many keys of one byte.
 fn one_byte_keys(alloc: Global, count: u8) -> Result<Vec<([u8; 1], u32)>, AllocError>
     ensures { IfOk result (λ pairs. IsMap (of_key ⟦<[u8; 1] as AsBytes>⟧.bytes) pairs.items) }
@@ -73,7 +57,7 @@ fn stored_prefix<const P: usize>(
     let mut pairs = Vec::new(alloc);
     insert_apart(&mut pairs, [7, 1, 1, 1, 1, 6], 6)?;
     insert_apart(&mut pairs, [7, 1, 1, 1, 1, 5], 5)?;
-    let root = build_in(store, alloc, pairs)?.ok_or("a root")?;
+    let root = build(store, pairs)?.ok_or("a root")?;
     let name = root.as_inner().ok_or("an inner node")?;
     let node = store.inner(name).ok_or("a node")?;
     if node.node_type() != NodeType::Node4 || node.prefix_len() != 5 || node.num_children() != 2 {
@@ -113,7 +97,7 @@ fn takes_the_kind_for_the_number_of_children(rt: HostRuntime) -> Result<(), Fail
     for &(count, kind) in &kinds {
         let mut store: NodeStore<[u8; 1], u32, 16> = NodeStore::new(alloc);
         let pairs = one_byte_keys(alloc, count)?;
-        let root = build_in(&mut store, alloc, pairs)?.ok_or("a root")?;
+        let root = build(&mut store, pairs)?.ok_or("a root")?;
         assert_eq!(rt; root.node_type(), kind);
     }
     Ok(())
@@ -124,7 +108,7 @@ fn builds_no_tree_of_no_pairs(rt: HostRuntime) -> Result<(), Fail> {
     let alloc = rt.alloc();
     let mut store: NodeStore<[u8; 1], u32, 16> = NodeStore::new(alloc);
     let pairs = one_byte_keys(alloc, 0)?;
-    assert!(rt; build_in(&mut store, alloc, pairs)?.is_none());
+    assert!(rt; build(&mut store, pairs)?.is_none());
     Ok(())
 }
 
@@ -133,7 +117,7 @@ fn builds_a_chain_of_small_nodes(rt: HostRuntime) -> Result<(), Fail> {
     let alloc = rt.alloc();
     let mut store: NodeStore<Vec<u8>, u32, 4> = NodeStore::new(alloc);
     let pairs = chain(alloc, 12)?;
-    let mut name = build_in(&mut store, alloc, pairs)?.ok_or("a root")?;
+    let mut name = build(&mut store, pairs)?.ok_or("a root")?;
     for _ in 0..11 {
         let node = store
             .inner(name.as_inner().ok_or("an inner node")?)

@@ -16,8 +16,8 @@ pub build_below-returns-then-is_empty-clause-built : goal.build_below-returns-th
 build_below-returns-then-is_empty-clause-built g t c front node ready there below =
     record { to = node; there = there; below = empty_below g.K.AsBytes.bytes g.row.P c.args.store.now front node c.args.leaves.now (grind (arith, common_steps)) }
 
-pub build_below-build_node-child-requires : goal.build_below-build_node-child-requires
-build_below-build_node-child-requires g t c κs within =
+pub build_below-build_node-requires : goal.build_below-build_node-requires
+build_below-build_node-requires g t c κs within =
     let (front, ready) = c.requires.ready in
     let long : 0 < length c.args.leaves.now = grind (arith, common_steps) in
     let G = grouped ready c.group_end.ensures (record { slot = 0 }) long (sym c.byte_of-byte.ensures.byte) in
@@ -26,31 +26,9 @@ build_below-build_node-child-requires g t c κs within =
     let rest : length c.split_at.result.1.now + c.group_end.result ≡ length c.args.leaves.now = c.split_at.ensures.back_len in
     let fits : c.group_end.result ≤ length c.args.leaves.now = c.group_end.ensures.within in
     let others : length c.split_at.result.1.now ≡ length (drop c.group_end.result c.args.leaves.now) = ap length c.split_at.ensures.back in
-    let few = count_few g.K.AsBytes.bytes c.args.store.now.leaves (drop c.group_end.result c.args.leaves.now) c.args.at in (
-      omega (arith, c.decreases),
-      (
-        within.0,
-        (
-          within.1,
-          (
-            search rules,
-            (
-              search rules,
-              (
-                omega arith,
-                (
-                  (
-                    front ++ c.byte_of-byte.result ∷ [],
-                    subst (λ l. Ready g.K.AsBytes.bytes c.args.store.now.leaves (front ++ c.byte_of-byte.result ∷ []) l (c.args.at + 1)) (sym c.split_at.ensures.front) (group_ready G),
-                  ),
-                  omega (arith, c.requires.room, count_split G),
-                ),
-              ),
-            ),
-          ),
-        ),
-      ),
-    )
+    let few = count_few g.K.AsBytes.bytes c.args.store.now.leaves (drop c.group_end.result c.args.leaves.now) c.args.at in
+    let ready_group = subst (λ l. Ready g.K.AsBytes.bytes c.args.store.now.leaves (front ++ c.byte_of-byte.result ∷ []) l (c.args.at + 1)) (sym c.split_at.ensures.front) (group_ready G) in
+    (omega (arith, c.decreases), (within.0, (within.1, (search rules, (search rules, (omega arith, (front ++ c.byte_of-byte.result ∷ [], ready_group)))))))
 
 pub build_below-write_child-requires : goal.build_below-write_child-requires
 build_below-write_child-requires g t c =
@@ -58,7 +36,7 @@ build_below-write_child-requires g t c =
     let (node, there, below, place) = c.requires.parent in
     let long : 0 < length c.args.leaves.now = grind (arith, common_steps) in
     let G = grouped ready c.group_end.ensures (record { slot = 0 }) long (sym c.byte_of-byte.ensures.byte) in
-    (search rules, rw (inner_kept c.args.store.now c.build_node-child.new.store c.args.parent node c.requires.inner c.build_node-child.ensures.kept there) (inl (omega (arith, place, count_split G))))
+    (search rules, rw (inner_kept c.args.store.now c.build_node.new.store c.args.parent node c.requires.inner c.in_ok-child.ensures.kept there) (inl (omega (arith, place, count_split G))))
 
 pub build_below-build_below-requires : goal.build_below-build_below-requires
 build_below-build_below-requires g t c κs within =
@@ -73,19 +51,19 @@ build_below-build_below-requires g t c κs within =
     let some : 1 ≤ n = one_in_group G in
     let taken : length c.split_at.result.0.now ≡ n = c.split_at.ensures.front_len in
     let rest : length others + n ≡ length c.args.leaves.now = c.split_at.ensures.back_len in
-    let next = with_child c.byte_of-byte.result c.build_node-child.result node in
-    let ready' : ReadyBelow bytes written.leaves front others c.args.at = rw (c.write_child.ensures.leaves, c.build_node-child.ensures.leaves, c.split_at.ensures.back) (others_ready G) in
-    let low : AreBelow bytes written.leaves others c.args.at next = rw (c.write_child.ensures.leaves, c.build_node-child.ensures.leaves, c.split_at.ensures.back) (below_others G node below c.build_node-child.result) in
-    let now = parent_written c.args.store.now c.build_node-child.new.store written c.args.parent (with_child c.byte_of-byte.result c.build_node-child.result) node c.requires.inner there c.build_node-child.ensures.kept c.write_child.ensures.leaves c.write_child.ensures.inners in
-    let more : length next.children ≡ length node.children + 1 = length-drafted G node below c.build_node-child.result in
-    let fewer : count_groups bytes c.args.store.now.leaves c.args.leaves.now c.args.at ≡ 1 + count_groups bytes written.leaves others c.args.at = rw (c.write_child.ensures.leaves, c.build_node-child.ensures.leaves, c.split_at.ensures.back) (count_split G ∙ omega arith) in
-    (omega (arith, c.decreases), (within.0, (within.1, (search rules, (search rules, ((front, ready'), ((next, now, low, omega (arith, place)), (c.requires.inner, omega (arith, c.requires.room, c.build_node-child.ensures.room, c.write_child.ensures.room)))))))))
+    let next = with_child c.byte_of-byte.result c.in_ok-child.child node in
+    let ready' : ReadyBelow bytes written.leaves front others c.args.at = rw (c.write_child.ensures.leaves, c.in_ok-child.ensures.leaves, c.split_at.ensures.back) (others_ready G) in
+    let low : AreBelow bytes written.leaves others c.args.at next = rw (c.write_child.ensures.leaves, c.in_ok-child.ensures.leaves, c.split_at.ensures.back) (below_others G node below c.in_ok-child.child) in
+    let now = parent_written c.args.store.now c.build_node.new.store written c.args.parent (with_child c.byte_of-byte.result c.in_ok-child.child) node c.requires.inner there c.in_ok-child.ensures.kept c.write_child.ensures.leaves c.write_child.ensures.inners in
+    let more : length next.children ≡ length node.children + 1 = length-drafted G node below c.in_ok-child.child in
+    let fewer : count_groups bytes c.args.store.now.leaves c.args.leaves.now c.args.at ≡ 1 + count_groups bytes written.leaves others c.args.at = rw (c.write_child.ensures.leaves, c.in_ok-child.ensures.leaves, c.split_at.ensures.back) (count_split G ∙ omega arith) in
+    (omega (arith, c.decreases), (within.0, (within.1, (search rules, (search rules, ((front, ready'), ((next, now, low, omega (arith, place)), c.requires.inner)))))))
 
 pub build_below-returns-clause-built : goal.build_below-returns-clause-built
 build_below-returns-clause-built g t c front node ready there below =
     let bytes = g.K.AsBytes.bytes in
     let old = c.args.store.now in
-    let mid = c.build_node-child.new.store in
+    let mid = c.build_node.new.store in
     let written = c.write_child.new.self in
     let new = c.build_below.new.store in
     let leaves = c.args.leaves.now in
@@ -93,29 +71,18 @@ build_below-returns-clause-built g t c front node ready there below =
     let byte = c.byte_of-byte.result in
     let long : 0 < length c.args.leaves.now = grind (arith, common_steps) in
     let G = grouped ready c.group_end.ensures (record { slot = 0 }) long (sym c.byte_of-byte.ensures.byte) in
-    let first : Built bytes g.row.P (front ++ byte ∷ []) (take n leaves) old mid c.build_node-child.result = subst (λ l. Built bytes g.row.P (front ++ byte ∷ []) l old mid c.build_node-child.result) c.split_at.ensures.front
-    (c.build_node-child.ensures.built (front ++ byte ∷ []) (subst (λ l. Ready bytes old.leaves (front ++ byte ∷ []) l (c.args.at + 1)) (sym c.split_at.ensures.front) (group_ready G))) in
-    let next : ReadyBelow bytes written.leaves front c.split_at.result.1.now c.args.at = rw (c.write_child.ensures.leaves, c.build_node-child.ensures.leaves, c.split_at.ensures.back) (others_ready G) in
-    let low : AreBelow bytes written.leaves c.split_at.result.1.now c.args.at (with_child byte c.build_node-child.result node) = rw (c.write_child.ensures.leaves, c.build_node-child.ensures.leaves, c.split_at.ensures.back) (below_others G node below c.build_node-child.result) in
-    let now = parent_written old mid written c.args.parent (with_child byte c.build_node-child.result) node c.requires.inner there c.build_node-child.ensures.kept c.write_child.ensures.leaves c.write_child.ensures.inners in
-    let rest : BuiltUnder bytes g.row.P front (drop n leaves) written new c.args.parent (with_child byte c.build_node-child.result node) = subst (λ l. BuiltUnder bytes g.row.P front l written new c.args.parent (with_child byte c.build_node-child.result node)) c.split_at.ensures.back (c.build_below.ensures.built front (with_child byte c.build_node-child.result node) next now low) in
-    record { to = rest.to; there = rest.there; below = compose g.row.P old mid written new G c.build_node-child.result c.args.parent node rest.to c.requires.inner there below c.build_node-child.ensures.kept c.build_node-child.ensures.leaves c.write_child.ensures.leaves c.write_child.ensures.inners c.build_below.ensures.kept first rest.below }
+    let first : Built bytes g.row.P (front ++ byte ∷ []) (take n leaves) old mid c.in_ok-child.child = subst (λ l. Built bytes g.row.P (front ++ byte ∷ []) l old mid c.in_ok-child.child) c.split_at.ensures.front
+    (c.in_ok-child.ensures.built (front ++ byte ∷ []) (subst (λ l. Ready bytes old.leaves (front ++ byte ∷ []) l (c.args.at + 1)) (sym c.split_at.ensures.front) (group_ready G))) in
+    let next : ReadyBelow bytes written.leaves front c.split_at.result.1.now c.args.at = rw (c.write_child.ensures.leaves, c.in_ok-child.ensures.leaves, c.split_at.ensures.back) (others_ready G) in
+    let low : AreBelow bytes written.leaves c.split_at.result.1.now c.args.at (with_child byte c.in_ok-child.child node) = rw (c.write_child.ensures.leaves, c.in_ok-child.ensures.leaves, c.split_at.ensures.back) (below_others G node below c.in_ok-child.child) in
+    let now = parent_written old mid written c.args.parent (with_child byte c.in_ok-child.child) node c.requires.inner there c.in_ok-child.ensures.kept c.write_child.ensures.leaves c.write_child.ensures.inners in
+    let rest : BuiltUnder bytes g.row.P front (drop n leaves) written new c.args.parent (with_child byte c.in_ok-child.child node) = subst (λ l. BuiltUnder bytes g.row.P front l written new c.args.parent (with_child byte c.in_ok-child.child node)) c.split_at.ensures.back (c.in_ok-build_below.ensures.built front (with_child byte c.in_ok-child.child node) next now low) in
+    record { to = rest.to; there = rest.there; below = compose g.row.P old mid written new G c.in_ok-child.child c.args.parent node rest.to c.requires.inner there below c.in_ok-child.ensures.kept c.in_ok-child.ensures.leaves c.write_child.ensures.leaves c.write_child.ensures.inners c.in_ok-build_below.ensures.kept first rest.below }
 
 pub build_below-returns-clause-kept : goal.build_below-returns-clause-kept
 build_below-returns-clause-kept g t c =
     let (node, there, below, place) = c.requires.parent in
-    others_kept c.args.store.now c.build_node-child.new.store c.write_child.new.self c.args.parent (with_child c.byte_of-byte.result c.build_node-child.result) node c.requires.inner there c.build_node-child.ensures.kept c.write_child.ensures.leaves c.write_child.ensures.inners c.build_below.new.store c.build_below.ensures.kept
-
-pub build_below-returns-clause-room : goal.build_below-returns-clause-room
-build_below-returns-clause-room g t c =
-    let (front, ready) = c.requires.ready in
-    let bytes = g.K.AsBytes.bytes in
-    let long : 0 < length c.args.leaves.now = grind (arith, common_steps) in
-    let G = grouped ready c.group_end.ensures (record { slot = 0 }) long (sym c.byte_of-byte.ensures.byte) in
-    let fewer : count_groups bytes c.args.store.now.leaves c.args.leaves.now c.args.at ≡ 1 + count_groups bytes c.write_child.new.self.leaves c.split_at.result.1.now c.args.at = rw (c.write_child.ensures.leaves, c.build_node-child.ensures.leaves, c.split_at.ensures.back) (count_split G ∙ omega arith) in
-    let taken : length c.split_at.result.0.now ≡ c.group_end.result = c.split_at.ensures.front_len in
-    let rest : length c.split_at.result.1.now + c.group_end.result ≡ length c.args.leaves.now = c.split_at.ensures.back_len in
-    omega (arith, c.build_node-child.ensures.room, c.write_child.ensures.room, c.build_below.ensures.room)
+    others_kept c.args.store.now c.build_node.new.store c.write_child.new.self c.args.parent (with_child c.byte_of-byte.result c.in_ok-child.child) node c.requires.inner there c.in_ok-child.ensures.kept c.write_child.ensures.leaves c.write_child.ensures.inners c.build_below.new.store c.in_ok-build_below.ensures.kept
 
 pub build_node-returns-then-leaves-eq1-clause-built : goal.build_node-returns-then-leaves-eq1-clause-built
 build_node-returns-then-leaves-eq1-clause-built g t c way ready = leaf_built g.K.AsBytes.bytes g.row.P c.args.store.now way c.args.leaves.now c.args.depth (record { slot = 0 }) c.to_opaque.result ready c.if-leaves-eq1.true c.to_opaque.ensures
@@ -125,12 +92,12 @@ build_node-build_below-requires g t c κs within =
     let (way, ready) = c.requires.ready in
     let bytes = g.K.AsBytes.bytes in
     let old = c.args.store.now in
-    let mid = c.place_node-at.new.store in
+    let mid = c.place_node.new.store in
     let leaves = c.args.leaves.now in
-    let at = c.place_node-at.result.0 in
-    let name = c.place_node-at.result.1 in
-    let same = c.place_node-at.ensures.leaves in
-    let (node, placed, starts) = c.place_node-at.ensures.placed in
+    let at = c.in_ok-at.at in
+    let name = c.in_ok-at.name in
+    let same = c.in_ok-at.ensures.leaves in
+    let (node, placed, starts) = c.in_ok-at.ensures.placed in
     let s = starts way ready in
     let two : 2 ≤ count_groups bytes old.leaves leaves (length (way ++ s.part)) = rw s.pairs_are (two_groups (byte_at (of_key bytes) (length (way ++ s.part))) s.x (s.y ∷ s.ys) s.differ) in
     let there : finite.get mid.inners name ≡ Some node = ap (λ m. finite.get m name) placed ∙ inner_here old.inners name node in
@@ -141,60 +108,43 @@ build_node-build_below-requires g t c κs within =
     let count : count_groups bytes mid.leaves leaves at ≡ n = ap (λ m. count_groups bytes m leaves at) same in
     let none : length node.children ≡ 0 = ap (λ d. length d.children) s.node_is in
     let deeper = s.at_is in
-    (omega (arith, c.decreases, deeper), (within.0, (within.1, (search rules, (search rules, ((way ++ s.part, ready'), ((node, there, low, omega (arith, c.place_node-at.ensures.capacity)), ((λ e. kind_not_leaf n (sym c.place_node-at.ensures.kind ∙ e)), omega (arith, c.requires.room, c.place_node-at.ensures.room)))))))))
+    (omega (arith, c.decreases, deeper), (within.0, (within.1, (search rules, (search rules, ((way ++ s.part, ready'), ((node, there, low, omega (arith, c.in_ok-at.ensures.capacity)), (λ e. kind_not_leaf n (sym c.in_ok-at.ensures.kind ∙ e)))))))))
 
 pub build_node-returns-clause-built : goal.build_node-returns-clause-built
 build_node-returns-clause-built g t c way ready =
     let bytes = g.K.AsBytes.bytes in
     let old = c.args.store.now in
-    let mid = c.place_node-at.new.store in
+    let mid = c.place_node.new.store in
     let leaves = c.args.leaves.now in
-    let at = c.place_node-at.result.0 in
-    let name = c.place_node-at.result.1 in
-    let same = c.place_node-at.ensures.leaves in
-    let (node, placed, starts) = c.place_node-at.ensures.placed in
+    let at = c.in_ok-at.at in
+    let name = c.in_ok-at.name in
+    let same = c.in_ok-at.ensures.leaves in
+    let (node, placed, starts) = c.in_ok-at.ensures.placed in
     let s = starts way ready in
     let two : 2 ≤ count_groups bytes old.leaves leaves (length (way ++ s.part)) = rw s.pairs_are (two_groups (byte_at (of_key bytes) (length (way ++ s.part))) s.x (s.y ∷ s.ys) s.differ) in
     let there : finite.get mid.inners name ≡ Some node = ap (λ m. finite.get m name) placed ∙ inner_here old.inners name node in
     let low : AreBelow bytes mid.leaves leaves at node = rw s.node_is tt in
     let ready' : ReadyBelow bytes mid.leaves (way ++ s.part) leaves at = rw same s.below in
-    let kind : name.kind ≡ kind_of (count_groups bytes old.leaves leaves (length (way ++ s.part))) = c.place_node-at.ensures.kind ∙ ap (λ m. kind_of (count_groups bytes old.leaves leaves m)) (sym s.below.depth_is) in
-    let b : BuiltUnder bytes g.row.P (way ++ s.part) leaves mid c.build_below.new.store name (started g.row.P s.part) = subst (λ d. BuiltUnder bytes g.row.P (way ++ s.part) leaves mid c.build_below.new.store name d) s.node_is (c.build_below.ensures.built (way ++ s.part) node ready' there low) in
-    rw c.to_opaque-2.ensures (node_built bytes g.row.P old mid c.build_below.new.store way s.part leaves name same (placed ∙ ap (finite.insert old.inners name) s.node_is) c.place_node-at.ensures.fresh kind two c.build_below.ensures.kept b)
+    let kind : name.kind ≡ kind_of (count_groups bytes old.leaves leaves (length (way ++ s.part))) = c.in_ok-at.ensures.kind ∙ ap (λ m. kind_of (count_groups bytes old.leaves leaves m)) (sym s.below.depth_is) in
+    let b : BuiltUnder bytes g.row.P (way ++ s.part) leaves mid c.build_below.new.store name (started g.row.P s.part) = subst (λ d. BuiltUnder bytes g.row.P (way ++ s.part) leaves mid c.build_below.new.store name d) s.node_is (c.in_ok-build_below.ensures.built (way ++ s.part) node ready' there low) in
+    rw c.to_opaque-2.ensures (node_built bytes g.row.P old mid c.build_below.new.store way s.part leaves name same (placed ∙ ap (finite.insert old.inners name) s.node_is) c.in_ok-at.ensures.fresh kind two c.in_ok-build_below.ensures.kept b)
 
 pub build_node-returns-clause-kept : goal.build_node-returns-clause-kept
 build_node-returns-clause-kept g t c =
     let (way, ready) = c.requires.ready in
     let bytes = g.K.AsBytes.bytes in
     let old = c.args.store.now in
-    let mid = c.place_node-at.new.store in
+    let mid = c.place_node.new.store in
     let leaves = c.args.leaves.now in
-    let at = c.place_node-at.result.0 in
-    let name = c.place_node-at.result.1 in
-    let same = c.place_node-at.ensures.leaves in
-    let (node, placed, starts) = c.place_node-at.ensures.placed in
+    let at = c.in_ok-at.at in
+    let name = c.in_ok-at.name in
+    let same = c.in_ok-at.ensures.leaves in
+    let (node, placed, starts) = c.in_ok-at.ensures.placed in
     let s = starts way ready in
     let two : 2 ≤ count_groups bytes old.leaves leaves (length (way ++ s.part)) = rw s.pairs_are (two_groups (byte_at (of_key bytes) (length (way ++ s.part))) s.x (s.y ∷ s.ys) s.differ) in
     let there : finite.get mid.inners name ≡ Some node = ap (λ m. finite.get m name) placed ∙ inner_here old.inners name node in
     let low : AreBelow bytes mid.leaves leaves at node = rw s.node_is tt in
     let ready' : ReadyBelow bytes mid.leaves (way ++ s.part) leaves at = rw same s.below in
-    let kind : name.kind ≡ kind_of (count_groups bytes old.leaves leaves (length (way ++ s.part))) = c.place_node-at.ensures.kind ∙ ap (λ m. kind_of (count_groups bytes old.leaves leaves m)) (sym s.below.depth_is) in
-    let b : BuiltUnder bytes g.row.P (way ++ s.part) leaves mid c.build_below.new.store name (started g.row.P s.part) = subst (λ d. BuiltUnder bytes g.row.P (way ++ s.part) leaves mid c.build_below.new.store name d) s.node_is (c.build_below.ensures.built (way ++ s.part) node ready' there low) in
-    node_kept bytes g.row.P old mid c.build_below.new.store way s.part leaves name same (placed ∙ ap (finite.insert old.inners name) s.node_is) c.place_node-at.ensures.fresh kind two c.build_below.ensures.kept b
-
-pub build_node-returns-clause-room : goal.build_node-returns-clause-room
-build_node-returns-clause-room g t c =
-    let (way, ready) = c.requires.ready in
-    let bytes = g.K.AsBytes.bytes in
-    let old = c.args.store.now in
-    let mid = c.place_node-at.new.store in
-    let leaves = c.args.leaves.now in
-    let at = c.place_node-at.result.0 in
-    let name = c.place_node-at.result.1 in
-    let same = c.place_node-at.ensures.leaves in
-    let (node, placed, starts) = c.place_node-at.ensures.placed in
-    let s = starts way ready in
-    let two : 2 ≤ count_groups bytes old.leaves leaves (length (way ++ s.part)) = rw s.pairs_are (two_groups (byte_at (of_key bytes) (length (way ++ s.part))) s.x (s.y ∷ s.ys) s.differ) in
-    let two_at : 2 ≤ count_groups bytes old.leaves leaves at = subst (λ m. 2 ≤ count_groups bytes old.leaves leaves m) s.below.depth_is two in
-    let count : count_groups bytes mid.leaves leaves at ≡ count_groups bytes old.leaves leaves at = ap (λ m. count_groups bytes m leaves at) same in
-    omega (arith, c.place_node-at.ensures.room, c.build_below.ensures.room)
+    let kind : name.kind ≡ kind_of (count_groups bytes old.leaves leaves (length (way ++ s.part))) = c.in_ok-at.ensures.kind ∙ ap (λ m. kind_of (count_groups bytes old.leaves leaves m)) (sym s.below.depth_is) in
+    let b : BuiltUnder bytes g.row.P (way ++ s.part) leaves mid c.build_below.new.store name (started g.row.P s.part) = subst (λ d. BuiltUnder bytes g.row.P (way ++ s.part) leaves mid c.build_below.new.store name d) s.node_is (c.in_ok-build_below.ensures.built (way ++ s.part) node ready' there low) in
+    node_kept bytes g.row.P old mid c.build_below.new.store way s.part leaves name same (placed ∙ ap (finite.insert old.inners name) s.node_is) c.in_ok-at.ensures.fresh kind two c.in_ok-build_below.ensures.kept b

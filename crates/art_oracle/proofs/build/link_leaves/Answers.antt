@@ -9,5 +9,4 @@ loop-i-preserved g c =
       links = linked_more c.args.store.now c.loop-i.store c.set_links.new.self c.args.names.now c.loop-i.i c.loop-i.previous c.copied.result (record { slot = 0 }) c.loop-i-test.true so_far.links
           c.requires.there c.requires.distinct (c.copied.ensures ∙ copied_is c.args.names.now (c.loop-i.i + 1) c.get.result c.get.ensures.lookup) c.set_links.ensures.leaves;
       inners = c.set_links.ensures.inners ∙ so_far.inners;
-      room = c.set_links.ensures.room ∙ so_far.room;
     }

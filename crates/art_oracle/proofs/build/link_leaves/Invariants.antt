@@ -7,5 +7,4 @@ abbrev pub invariant-loop-i : goal.invariant-loop-i
 invariant-loop-i g l = record {
   links : IsLinkedTo l.fn.store l.store l.names l.i l.previous;
   inners : l.store.inners ≡ l.fn.store.inners;
-  room : l.store.room ≡ l.fn.store.room;
 }
