@@ -19,3 +19,4 @@ pub mod Larger
 pub mod Entered
 pub mod Beside
 pub mod Reserved
+pub mod LeafAdded
