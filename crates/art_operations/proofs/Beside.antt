@@ -71,5 +71,5 @@ module _ {K V : Type 0} (s : Nodes K V) (before after : List OpaqueNodePtr) (pre
       let xs : before ++ leaf_names_below l ≡ (before ++ leaf_names_below others ++ ys) ++ leaf_name p ∷ [] = ap (λ z. before ++ z) below ∙ sym (append_assoc before (leaf_names_below others) (ys ++ leaf_name p ∷ [])) ∙ sym (append_assoc (before ++ leaf_names_below others) ys (leaf_name p ∷ [])) in
       (
         ap (option_map leaf_name) previous_is ∙ sym (ap (λ z. last_or z None) xs ∙ last_or-push (before ++ leaf_names_below others ++ ys) (leaf_name p) None),
-        after_last s (before ++ leaf_names_below l) (leaf_names_below no_child ++ after) linked p (before ++ leaf_names_below others ++ ys) next xs next_is,
+        after_last s (before ++ leaf_names_below l) after linked p (before ++ leaf_names_below others ++ ys) next xs next_is,
       )

@@ -1,10 +1,11 @@
 -- a leaf that comes below an inner node, as an insertion: the point's node, where the leaf stands, and what the writes leave
-use Rattle.std.proofs.Common.{◌≡◌, ◌≢◌, ℕ, suc, ◌+◌, ◌<◌, ◌≤◌, List, [], ◌∷◌, ◌++◌, length, drop, get_or, Option, Some, None, IsSome, IsSomeAnd, IfSome, refl, ap, sym, ◌∙◌, subst, arith, append_assoc, length-append, false, inl, inr}
+use Rattle.std.proofs.Common.{◌≡◌, ◌≢◌, ℕ, suc, ◌+◌, ◌<◌, ◌≤◌, List, [], ◌∷◌, ◌++◌, length, drop, get_or, Option, Some, None, IsSome, IsSomeAnd, IfSome, refl, leb, ap, sym, ◌∙◌, subst, arith, append_assoc, length-append, false, inl, inr}
 use Rattle.std.specs.List.{AllByRecursion as Each}
 use Rattle.std.specs.FinMap as map
 use Rattle.std.specs.Option.{option_map}
 use Rattle.art_nodes.specs.Changes.{with_child}
 use Rattle.art_nodes.specs.Inner.{Inner, child_at}
+use Rattle.art_nodes.specs.Kinds.{kind_capacity}
 use Rattle.art_nodes.specs.Names.{leaf_name, inner_name}
 use Rattle.art_nodes.specs.Nodes.{Nodes}
 use Rattle.art_nodes.specs.declared.node.NodeType.TheVariants.{Leaf}
@@ -17,12 +18,12 @@ use Rattle.art_model.specs.Canonical.{IsTree}
 use Rattle.art_model.specs.Keys.{IsFront, are_related, are_same}
 use Rattle.art_model.specs.Kept.{ChangesInPlace}
 use Rattle.art_model.specs.Layouts.{Holds, slots_of, leaf_names, leaf_names_below, AreLinked, first_or, last_or}
-use Rattle.art_model.specs.Pairs.{first_of, with_key, put_reply}
+use Rattle.art_model.specs.Pairs.{first_of, with_key, put}
 use Rattle.art_model.specs.Paths.{Frame, plug, leaves_before, leaves_after}
 use Rattle.art_model.specs.Places.{depth_of, prefix_of}
 use Rattle.art_model.specs.Radix.{IsRadix, AreRadix, bytes_of, join, pairs_of, pairs_below}
 use Rattle.art_model.specs.Stores.{node_at, links_at, pair_of}
-use Rattle.art_model.specs.Trees.{Tree, leaf, inner, Children, child, no_child, Header}
+use Rattle.art_model.specs.Trees.{Tree, leaf, inner, Children, child, no_child, Header, kind_of}
 use Rattle.art_model.specs.Writes.{parent_of}
 use Rattle.art_model.proofs.AddedChild.{ChildAdded, split_at}
 use Rattle.art_model.proofs.Canonical.{IsLaidOut, laid_out, canonical_from}
@@ -45,7 +46,7 @@ use Rattle.art_operations.specs.declared.insert.InsertPoint.{InsertPoint}
 use Rattle.art_operations.specs.declared.insert.InsertResult.{InsertResult}
 use Rattle.art_operations.specs.declared.path.TreePath.{TreePath}
 use Rattle.art_operations.specs.declared.path.TreePath.TheVariants.{Root, ChildOfRoot, Normal}
-use Rattle.art_operations.specs.Inserted.{IsChange, IsInserted, IsPointIn, alone, root_after}
+use Rattle.art_operations.specs.Inserted.{IsChange, IsInserted, IsPointIn, alone, is_full, root_after}
 use Rattle.art_operations.specs.Points.{IsKindOf, path_of, step_down, as_inner}
 use Rattle.art_operations.specs.Writes.{HasChild, HasGap, last_step, root_with}
 use Rattle.art_operations.proofs.Answered.{answered}
@@ -158,6 +159,16 @@ module _ {K V : Type 0} {bytes : K × V → List ℕ} {P : ℕ} {s : Nodes K V} 
       let (off, node, got, head, kids) = inner_at s (inner_name p) e.header (slots_of (join e.left e.right)) (path_holds (node_at s) e.frames entered entry_laid.holds).1.0 in
       (off, node, got, kids)
 
+  -- its kind is that of the number of its children
+  pub entry_kind : p.kind ≡ kind_of (length (bytes_of (join e.left e.right)))
+  entry_kind =
+      let (off, node, got, head, kids) = inner_at s (inner_name p) e.header (slots_of (join e.left e.right)) (path_holds (node_at s) e.frames entered entry_laid.holds).1.0 in
+      ap (λ (z : Header). z.kind) (head ∙ e.hole.radix.1)
+
+  -- whether it is full
+  pub entry_full : is_full s p ≡ leb (kind_capacity p.kind) (length (bytes_of (join e.left e.right)))
+  entry_full = let (off, node, got, kids) = own_node in rw (got, is_full) (ap (leb (kind_capacity p.kind)) (ap length kids ∙ length-slots_of (join e.left e.right)))
+
   pub entry_inner : p.kind ≢ Leaf
   entry_inner = own_node.0
 
@@ -214,15 +225,15 @@ module _ {K V : Type 0} {bytes : K × V → List ℕ} {P : ℕ} {s : Nodes K V} 
 
 module _ {K V : Type 0} {bytes : K × V → List ℕ} {P : ℕ} {s t : Nodes K V} {point : InsertPoint} {p k : InnerPtr} {pairs : List (K × V)} {layout : Tree OpaqueNodePtr (K × V)} {b : ℕ} {n : LeafPtr} {new : K × V} where
   -- the node, or the larger one in its place, has the leaf as a child
-  pub entered_inserted : {root : OpaqueNodePtr} (by : IsTree bytes P s point.root pairs layout) (into : point.insert_kind ≡ IntoExisting p) (e : IsEntry bytes P p layout (bytes new) point.path b) →
+  pub entered_inserted : {root : OpaqueNodePtr} {done : InsertResult K V} (by : IsTree bytes P s point.root pairs layout) (into : point.insert_kind ≡ IntoExisting p) (e : IsEntry bytes P p layout (bytes new) point.path b) →
       ChildAdded bytes P s t point.root pairs e.frames (inner_name p) (inner_name k) e.header e.left e.right b (leaf_name n) new → root ≡ paths.root_with e.frames point.root (inner_name k) →
-      IsInserted bytes P s t point new pairs layout (record { leaf_node_ptr = n; existing_leaf = None; new_root = root; parent_node_change = NewParent (inner_name k) b })
-  entered_inserted {root} by into e added root_is =
+      done ≡ record { leaf_node_ptr = n; existing_leaf = None; new_root = root; parent_node_change = NewParent (inner_name k) b } → IsInserted bytes P s t point new pairs layout done
+  entered_inserted {root} by into e added root_is done_is =
       let tree = plug e.frames (inner (inner_name k) added.header (join e.left (child b (leaf (leaf_name n) new) e.right))) in
       let frame : Frame OpaqueNodePtr (K × V) = record { mark = inner_name k; header = added.header; left = e.left; byte = b; right = e.right } in
-      record {
+      subst (IsInserted bytes P s t point new pairs layout) (sym done_is) (record {
         tree = tree;
-        canonical = canonical_from (subst (λ r. IsLaidOut bytes P (node_at t) (links_at t) r _ tree) (sym root_is) added.laid);
+        canonical = canonical_from (subst (λ r. IsLaidOut bytes P (node_at t) (links_at t) r (put bytes new pairs) tree) (sym root_is) added.laid);
         inserted = record {
           path = frame ∷ e.frames;
           whole = refl;
@@ -231,4 +242,4 @@ module _ {K V : Type 0} {bytes : K × V → List ℕ} {P : ℕ} {s t : Nodes K V
         };
         replaced = ap (option_map alone) (sym (entry_reply by e));
         kept = subst (λ z. ChangesInPlace bytes s t (Some z) (Some tree)) e.whole added.kept;
-      }
+      })

@@ -38,3 +38,5 @@ pub mod Larger
 pub mod Entered
 pub mod Beside
 pub mod Elsewhere
+pub mod Reserved
+pub mod LeafAdded

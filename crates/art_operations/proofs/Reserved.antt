@@ -1,5 +1,5 @@
 -- what is reserved for a leaf and an inner node, and what is left of it
-use Rattle.std.proofs.Common.{◌≡◌, ℕ, zero, suc, ◌<◌, ◌≤◌, Bool, true, false, ◌&&◌, IsTrue, IsFalse, Option, Some, None, Result, Ok, Err, OnOk, refl, ap, ◌∙◌, leb, arith, eq-eqb}
+use Rattle.std.proofs.Common.{◌≡◌, ℕ, zero, suc, ◌<◌, ◌≤◌, Bool, true, false, ◌&&◌, IsTrue, IsFalse, Option, Some, None, Result, Ok, Err, OnOk, is_err, refl, ap, ◌∙◌, leb, arith, eq-eqb}
 use Rattle.std.proofs.lemmas.Bool.{leb-true}
 use Rattle.art_nodes.specs.Nodes.{Nodes, Promise, covers, promises, kind_index, take_leaf}
 use Rattle.art_nodes.specs.declared.node.NodeType.{NodeType}
@@ -39,3 +39,8 @@ after_reserve s r o kept granted = go (covers s.promise 1 o) refl
     go : (t : Bool) → covers s.promise 1 o ≡ t → inner_taken o (take_leaf r.promise) ≡ promise_after (record { leaves = 1; inner = o }) s.promise
     go true e = rw e (ap (λ (z : Nodes _ _). inner_taken o (take_leaf z.promise)) (kept e))
     go false e = rw e (ap (λ z. inner_taken o (take_leaf z)) (granted e) ∙ all_taken o)
+
+-- what holds where a call was not refused
+pub not_refused : {X E Q : Type 0} (r : Result X E) → is_err r ≡ false → OnOk r Q → Q
+not_refused (Ok x) e h = h
+not_refused (Err y) e h = absurd cc

@@ -76,21 +76,13 @@ impl InsertPoint {
         };
         let leaf_node_ptr = place_between(store, leaf);
         let child = leaf_node_ptr.to_opaque();
-        let (parent, new_root) = if larger.is_some() {
-            put_larger(store, self.path, self.root, inner_node_ptr, byte, child)
-        } else {
-            store.write_child(inner_node_ptr, byte, child);
-            (inner_node_ptr, self.root)
-        };
-        Ok(InsertResult {
-            leaf_node_ptr,
-            existing_leaf: None,
-            new_root,
-            parent_node_change: InsertParentNodeChange::NewParent {
-                new_parent_node: parent.to_opaque(),
-                leaf_node_key_byte: byte,
-            },
-        })
+        if larger.is_some() {
+            let (parent, new_root) =
+                put_larger(store, self.path, self.root, inner_node_ptr, byte, child);
+            return Ok(new_child(leaf_node_ptr, parent, byte, new_root));
+        }
+        store.write_child(inner_node_ptr, byte, child);
+        Ok(new_child(leaf_node_ptr, inner_node_ptr, byte, self.root))
     }
 }
 
@@ -105,7 +97,28 @@ ghost use Rattle.art_nodes.specs.declared.node.NodeType.TheVariants.{Leaf, Node2
 ghost use Rattle.art_nodes.specs.declared.node.OpaqueNodePtr.{OpaqueNodePtr};
 ghost use Rattle.art_model.specs.Trees.{Children};
 ghost use Rattle.art_model.specs.Writes.{with_child_at};
+ghost use Rattle.art_operations.specs.declared.insert.InsertParentNodeChange.TheVariants.{NewParent};
 ghost use Rattle.art_operations.specs.Writes.{ComesBetween, HasChild, HasGap, last_step, root_with};
+
+// What an insertion did that put a leaf below a node.
+fn new_child<K, V>(
+    leaf_node_ptr: LeafPtr,
+    parent: InnerPtr,
+    byte: u8,
+    new_root: OpaqueNodePtr,
+) -> InsertResult<K, V>
+    ensures { result ≡ record { leaf_node_ptr = leaf_node_ptr; existing_leaf = None; new_root = new_root; parent_node_change = NewParent (inner_name parent) byte } }
+{
+    InsertResult {
+        leaf_node_ptr,
+        existing_leaf: None,
+        new_root,
+        parent_node_change: InsertParentNodeChange::NewParent {
+            new_parent_node: parent.to_opaque(),
+            leaf_node_key_byte: byte,
+        },
+    }
+}
 
 // The kind with room for more children; the largest is its own.
 fn larger_kind(kind: NodeType) -> NodeType
