@@ -1,5 +1,7 @@
 //! Lines in, replies out.
 
+ghost use Rattle.std.specs.Prelude.{◌≤◌};
+
 use crate::history::History;
 use crate::line::Request;
 use crate::print::{write_no_memory, write_reply};
@@ -17,7 +19,9 @@ enum End {
 /// Answers each line of the input on the output. The status is 0 at the end of the input, 2 after a line that asks for
 /// nothing that there is, and 1 where the input can't be read, the output can't be written, or there is no memory for a
 /// line.
-pub fn serve(alloc: Global, mut input: impl BufRead + Drop, mut output: impl Write + Drop) -> u8 {
+pub fn serve(alloc: Global, mut input: impl BufRead + Drop, mut output: impl Write + Drop) -> u8
+    ensures { result ≤ 2 }
+{
     match answer_lines(alloc, &mut input, &mut output) {
         Ok(End::Input) => 0,
         Ok(End::BadLine) => 2,

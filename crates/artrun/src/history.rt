@@ -1,5 +1,5 @@
 //! The commands of the lines so far, and the tree that they leave.
-ghost use Rattle.std.specs.Prelude.{◌≡◌, ◌++◌, ◌∷◌, [], OnOk, OnErr};
+ghost use Rattle.std.specs.Prelude.{◌≡◌, ◌++◌, ◌∷◌, [], None, OnOk, OnErr};
 ghost use Rattle.artrun.specs.Trees.{HasCanonicalTree};
 
 use crate::print::write_nodes;
@@ -26,7 +26,10 @@ impl History {
     ghost use Rattle.artrun.specs.Histories.{accepted, tree};
 
     /// No commands, and no tree.
-    pub fn new(alloc: Global) -> Self {
+    pub fn new(alloc: Global) -> Self
+        ensures accepted { accepted result ≡ [] }
+        ensures root { (tree result).1 ≡ None }
+    {
         History {
             commands: Vec::new(alloc),
             store: NodeStore::new(alloc),
