@@ -178,7 +178,7 @@ module _ {K V : Type 0} {bytes : K × V → List ℕ} {P : ℕ} {s : Nodes K V} 
         let front = take (depth_of at.path) key ++ is.part in
         let ways : Each (λ y. IsFront (front ++ branch.old_byte ∷ []) (bytes y)) (pairs_of at.node) = subst (Each (λ y. IsFront (front ++ branch.old_byte ∷ []) (bytes y))) (same_pairs_of at.node u new.same_entries) (radix_way bytes P u (front ++ branch.old_byte ∷ []) new.radix) in
         let none : related_to bytes key (pairs_of at.node) ≡ [] = filter_none (λ y. are_related key (bytes y)) (pairs_of at.node)
-            (Each-weaker (λ y. IsFront (front ++ branch.old_byte ∷ []) (bytes y)) (λ y. are_related key (bytes y) ≡ false) (λ y way. unrelated_after front branch.new_byte branch.old_byte key (bytes y) is.new_way way (λ e. is.apart (sym e))) (pairs_of at.node) ways) in
+        (Each-weaker (λ y. IsFront (front ++ branch.old_byte ∷ []) (bytes y)) (λ y. are_related key (bytes y) ≡ false) (λ y way. unrelated_after front branch.new_byte branch.old_byte key (bytes y) is.new_way way (λ e. is.apart (sym e))) (pairs_of at.node) ways) in
         let whole : related_to bytes key pairs ≡ [] = ap (related_to bytes key) (sym (end_laid by at).pairs_are) ∙ related_at bytes P at.path (take (depth_of at.path) key) key at.node (end_hole by at).path (end_hole by at).front ∙ none in
         ap first_of (sym (filter_filter (λ y. are_same key (bytes y)) (λ y. are_related key (bytes y)) (λ y e. both key (bytes y) e) pairs) ∙ ap (with_key bytes key) whole)
       where

@@ -1,5 +1,5 @@
 -- A store with the same nodes under the same names, as it is once memory is reserved.
-use Rattle.std.proofs.Common.{ℕ, List, sym, subst}
+use Rattle.std.proofs.Common.{◌≡◌, ℕ, List, sym, ◌∙◌, subst}
 use Rattle.art_nodes.specs.Nodes.{Nodes}
 use Rattle.art_nodes.specs.declared.node.OpaqueNodePtr.{OpaqueNodePtr}
 use Rattle.art_model.specs.Canonical.{IsTree}
@@ -23,3 +23,7 @@ module _ {K V : Type 0} {bytes : K × V → List ℕ} {P : ℕ} {s : Nodes K V} 
   -- the point answers to each layout of its root
   pub answers_to : {key : List ℕ} {point : InsertPoint} {pairs : List (K × V)} {layout : Tree OpaqueNodePtr (K × V)} → IsPointIn bytes P s key point → IsTree bytes P s point.root pairs layout → AnswersTo bytes P layout key point
   answers_to {key} {point} {pairs} {layout} (others, other, by, at) mine = subst (λ l. AnswersTo bytes P l key point) (has_one_map bytes P s point.root pairs others layout other mine by).1 at
+
+  -- a point that was found for a root is one in the store
+  pub point_in : {root : OpaqueNodePtr} {text key : List ℕ} {point : InsertPoint} {pairs : List (K × V)} {layout : Tree OpaqueNodePtr (K × V)} → IsTree bytes P s root pairs layout → text ≡ key → AnswersTo bytes P layout text point → IsPointIn bytes P s key point
+  point_in {key = key} {point} {pairs} {layout} by same at = (pairs, layout, subst (λ r. IsTree bytes P s r pairs layout) (sym (at.root_is ∙ by.stands.0.named)) by, subst (λ k. AnswersTo bytes P layout k point) same at)

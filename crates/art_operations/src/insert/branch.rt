@@ -104,13 +104,7 @@ impl InsertPoint {
         let part = &key_bytes[self.key_bytes_used..new_key_bytes_used];
         let old_byte = leaf.key.as_bytes()[new_key_bytes_used];
         let new_byte = key_bytes[new_key_bytes_used];
-        branch_above(
-            store,
-            leaf_node_ptr.to_opaque(),
-            part,
-            old_byte,
-            new_byte,
-        )
+        branch_above(store, leaf_node_ptr.to_opaque(), part, old_byte, new_byte)
     }
 
     // Reads what splits a prefix.
@@ -239,8 +233,7 @@ impl InsertPoint {
         if store.reserve(1, Some(NodeType::Node4)).is_err() {
             return Err(Refused { key, value });
         }
-        let branch =
-            self.branch_at_leaf(store, leaf_node_ptr, new_key_bytes_used, key.as_bytes());
+        let branch = self.branch_at_leaf(store, leaf_node_ptr, new_key_bytes_used, key.as_bytes());
         let old = leaf_node_ptr.to_opaque();
         Ok(self.place_branch(store, old, branch, key, value))
     }

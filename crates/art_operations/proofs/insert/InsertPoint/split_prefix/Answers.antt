@@ -31,11 +31,19 @@ pub place_branch-requires : goal.place_branch-requires
 place_branch-requires g c =
     let (pairs, layout, by, at) = c.requires.answers in
     let same : SameNodes c.args.store.now c.reserve.new.self = (c.reserve.ensures.leaves, c.reserve.ensures.inners) in
-    let is = read_for c.as_bytes.ensures c.branch_at_prefix-branch.ensures.branch pairs layout (tree_stays same by) at in
-    (search rules, (search rules, (search rules, (
-      subst (λ m. IsThere m c.branch_at_prefix-branch.result.previous) (sym c.set_header.ensures.leaves) (previous_is_there (tree_stays {mid = c.reserve.new.self} same by) at is),
-      (subst (λ m. IsThere m c.branch_at_prefix-branch.result.next) (sym c.set_header.ensures.leaves) (next_is_there (tree_stays {mid = c.reserve.new.self} same by) at is), parent_stays (tree_stays {mid = c.reserve.new.self} same by) at c.trimmed_header-header.result c.requires.point c.set_header.ensures.inners),
-    ))))
+    let is = read_for c.as_bytes.ensures c.branch_at_prefix-branch.ensures.branch pairs layout (tree_stays same by) at in (
+      search rules,
+      (
+        search rules,
+        (
+          search rules,
+          (
+            subst (λ m. IsThere m c.branch_at_prefix-branch.result.previous) (sym c.set_header.ensures.leaves) (previous_is_there (tree_stays {mid = c.reserve.new.self} same by) at is),
+            (subst (λ m. IsThere m c.branch_at_prefix-branch.result.next) (sym c.set_header.ensures.leaves) (next_is_there (tree_stays {mid = c.reserve.new.self} same by) at is), parent_stays (tree_stays {mid = c.reserve.new.self} same by) at c.trimmed_header-header.result c.requires.point c.set_header.ensures.inners),
+          ),
+        ),
+      ),
+    )
 
 pub returns-clause-inserted : goal.returns-clause-inserted
 returns-clause-inserted g c pairs layout by =
