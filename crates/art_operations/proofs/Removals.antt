@@ -48,7 +48,7 @@ use Rattle.art_model.proofs.Stores.{IsParent, path_holds}
 use Rattle.art_model.proofs.Taken.{LeafAmong, previous_is, next_is, before_there, after_there, leaf_at, some_leaf_name, last_of_some}
 use Rattle.art_model.proofs.Views.{leaf_there, leaf_or, inner_name_is}
 use Rattle.art_model.proofs.Writes.{inner_at, parent_ready, inner_name_one}
-use Rattle.art_operations.specs.Deleted.{IsDeleted, IsRootAfter, LeadsTo, TouchesFor, ParentChange, change_of, parent_change, no_parent, keeps, shrinks, is_compressed}
+use Rattle.art_operations.specs.Deleted.{IsDeleted, IsDeletePoint, IsRootAfter, LeadsTo, TouchesFor, ParentChange, change_of, parent_change, no_parent, keeps, shrinks, is_compressed}
 use Rattle.art_operations.specs.Inserted.{alone}
 use Rattle.art_operations.specs.Points.{path_of, step_down}
 use Rattle.art_operations.specs.Writes.{HasChild, LinksAreThere, last_step, up, root_with}
@@ -60,6 +60,11 @@ use Rattle.art_operations.specs.declared.path.TreePath.TheVariants.{Root, ChildO
 -- the same value is there
 some_same : {X : Type 0} {x y : X} → ◌≡◌ {A = Option X} (Some x) (Some y) → x ≡ y
 some_same e = cc
+
+-- a point that is found leads to a pair
+pub found_point : {A : Type 0} (tree : Tree OpaqueNodePtr A) (pair : Option A) (point : DeletePoint) → IsDeletePoint tree pair (Some point) → (x : A) × LeadsTo tree x point
+found_point tree None point is = absurd is
+found_point tree (Some x) point is = (x, is)
 
 -- ---- the last steps of a path
 

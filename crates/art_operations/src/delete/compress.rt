@@ -79,9 +79,7 @@ fn leaf_beside<K: AsBytes + Drop, V: Drop, const P: usize>(
         unreachable!()
     };
     let beside = if after { leaf.next } else { leaf.previous };
-    let Some(beside) = beside else {
-        unreachable!()
-    };
+    let Some(beside) = beside else { unreachable!() };
     beside
 }
 

@@ -6,7 +6,7 @@ use crate::delete::search_for_delete_point;
 use crate::test_trees::{Key, keys, plant};
 use art_nodes::node::{NodePtr, NodeType, OptionalLeafPtr};
 use art_test_support::all_memory;
-use std::alloc::{AllocError, Global};
+use std::alloc::AllocError;
 use std::test::Fail;
 
 // What a slot holds.
@@ -214,37 +214,56 @@ fn merges_a_prefix_that_is_not_stored_whole(rt: HostRuntime) -> Result<(), Fail>
 
 // How many slots a deletion of an inserted key places, frees and changes, and whether the tree is
 // the one of the other keys.
-fn undone<const P: usize>(alloc: Global) -> Result<((usize, usize, usize), bool), Fail> {
-    let mut store: NodeStore<Key, u32, P> = NodeStore::new(alloc);
-    let mut second = NodeStore::new(alloc);
+fn undone<const P: usize>(
+    store: &mut NodeStore<Key, u32, P>,
+    other: &mut NodeStore<Key, u32, P>,
+    second: &mut NodeStore<Key, u32, P>,
+) -> Result<((usize, usize, usize), bool), Fail> {
+    let alloc = store.alloc();
     let root = plant(
-        &mut store,
-        &mut second,
+        store,
+        second,
         keys(
             alloc,
             &[&[0], &[1, 1, 1, 5], &[1, 1, 1, 6], &[2], &[1, 1, 9]],
         )?,
     )?;
-    let mut other: NodeStore<Key, u32, P> = NodeStore::new(alloc);
     let other_root = plant(
-        &mut other,
-        &mut second,
+        other,
+        second,
         keys(alloc, &[&[0], &[1, 1, 1, 5], &[1, 1, 1, 6], &[2]])?,
     )?;
-    let before = all_held(&store)?;
-    let done = delete(&mut store, root, &[1, 1, 9]).ok_or("a deletion")?;
-    let after = all_held(&store)?;
+    let before = all_held(store)?;
+    let done = delete(store, root, &[1, 1, 9]).ok_or("a deletion")?;
+    let after = all_held(store)?;
     let new_root = done.new_root.ok_or("a root")?;
-    let same = are_alike(&store, new_root, &other, other_root)?;
+    let same = are_alike(store, new_root, other, other_root)?;
     Ok((counts(&before, &after), same && new_root == root))
 }
 
 #[test]
 fn undoes_an_insertion(rt: HostRuntime) -> Result<(), Fail> {
     let alloc = rt.alloc();
-    assert_eq!(rt; undone::<0>(alloc)?, ((0, 2, 4), true));
-    assert_eq!(rt; undone::<4>(alloc)?, ((0, 2, 4), true));
-    assert_eq!(rt; undone::<16>(alloc)?, ((0, 2, 4), true));
+    let at_each_length = [
+        undone::<0>(
+            &mut NodeStore::new(alloc),
+            &mut NodeStore::new(alloc),
+            &mut NodeStore::new(alloc),
+        )?,
+        undone::<4>(
+            &mut NodeStore::new(alloc),
+            &mut NodeStore::new(alloc),
+            &mut NodeStore::new(alloc),
+        )?,
+        undone::<16>(
+            &mut NodeStore::new(alloc),
+            &mut NodeStore::new(alloc),
+            &mut NodeStore::new(alloc),
+        )?,
+    ];
+    for done in at_each_length {
+        assert_eq!(rt; done, ((0, 2, 4), true));
+    }
     Ok(())
 }
 
