@@ -25,6 +25,7 @@ leaf_elsewhere s t n x free leaves inners k used = elim (leaf_or k) [
   | inl (p, e) ↦ subst (λ (z : OpaqueNodePtr). held t z ≡ held s z) (sym e) (ap (option_map held_leaf) (ap (λ m. get m p) leaves ∙ elsewhere s.leaves n p x (λ f. used (ap (held s) e ∙ ap (λ q. held s (leaf_name q)) f ∙ ap (option_map held_leaf) free))))
   | inr off ↦ held_in_inner t k.kind k.slot off ∙ ap (λ m. option_map held_inner (get m (record { kind = k.kind; slot = k.slot }))) inners ∙ sym (held_in_inner s k.kind k.slot off)
 ]
+
 -- and so does one that is refused
 pub placement_elsewhere : {K V E : Type 0} (s t : Nodes K V) (x : LeafNode K V) (result : Result LeafPtr E) → IfOk result (λ n. t.leaves ≡ insert s.leaves n x) → IfOk result (λ n. get s.leaves n ≡ None) → t.inners ≡ s.inners → OnErr result (t ≡ s) → (k : OpaqueNodePtr) → held s k ≢ None → held t k ≡ held s k
 placement_elsewhere s t x (Ok n) leaves free inners same k used = leaf_elsewhere s t n x free leaves inners k used
