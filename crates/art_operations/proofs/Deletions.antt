@@ -12,7 +12,7 @@ use Rattle.art_model.specs.Kept.{ChangesInPlace}
 use Rattle.art_model.specs.Layouts.{leaf_node, Node, Holds, name_of}
 use Rattle.art_model.specs.Pairs.{of_key, remove_key}
 use Rattle.art_model.specs.Paths.{Frame, plug, HoldsPath}
-use Rattle.art_model.specs.Roots.{ForRoot, ForTree, IsRootOf}
+use Rattle.art_model.specs.Roots.{ForRoot, ForTree, IsCanonicalRoot, IsRootOf}
 use Rattle.art_model.specs.Stores.{node_at, pair_of}
 use Rattle.art_model.specs.Trees.{Tree, leaf}
 use Rattle.art_model.specs.Writes.{as_inner, parent_of}
@@ -24,7 +24,7 @@ use Rattle.art_operations.specs.declared.delete.DeleteRefused.{DeleteRefused}
 use Rattle.art_operations.specs.declared.delete.DeleteResult.{DeleteResult}
 use Rattle.art_operations.specs.declared.path.TreePath.{TreePath}
 use Rattle.art_operations.specs.declared.path.TreePath.TheVariants.{Root, ChildOfRoot, Normal}
-use Rattle.art_operations.specs.Deleted.{IsDeleted, IsDeletePointIn, IsRootAfter, LeadsTo}
+use Rattle.art_operations.specs.Deleted.{IsDeleted, IsDeletePoint, IsDeletePointIn, IsRootAfter, LeadsTo}
 use Rattle.art_operations.specs.Inserted.{alone}
 use Rattle.art_operations.specs.Points.{path_of, step_down}
 use Rattle.art_operations.specs.Writes.{last_step}
@@ -118,3 +118,15 @@ module _ {K V : Type 0} (bytes : K → List ℕ) (P : ℕ) (s t : Nodes K V) (ro
       one_tree rest after None None (Some new) one two = absurd two
       one_tree rest after (Some name) None new one two = absurd one
       one_tree rest after (Some name) (Some tree) None one two = absurd two
+
+module _ {K V : Type 0} {bytes : K × V → List ℕ} {P : ℕ} {s : Nodes K V} where
+  -- a point that was found answers to the store
+  pub point_in : {root : OpaqueNodePtr} {pairs : List (K × V)} {layout : Tree OpaqueNodePtr (K × V)} → IsTree bytes P s root pairs layout → (pair : Option (K × V)) (point : Option DeletePoint) → IsDeletePoint layout pair point → IfSome point (IsDeletePointIn bytes P s root)
+  point_in by pair None is = tt
+  point_in by None (Some point) is = absurd is
+  point_in {pairs = pairs} {layout = layout} by (Some x) (Some point) leads = (pairs, layout, x, by, leads)
+
+-- a root that is left is canonical
+pub some_root : {K V : Type 0} (bytes : K × V → List ℕ) (P : ℕ) (s : Nodes K V) (root : Option OpaqueNodePtr) (pairs : List (K × V)) → IsCanonical bytes P s root pairs → IfSome root (IsCanonicalRoot bytes P s)
+some_root bytes P s None pairs is = tt
+some_root bytes P s (Some root) pairs (layout, by) = (pairs, layout, by)

@@ -1,5 +1,5 @@
 -- A tree is as it was where the nodes in use hold what they held: writes beside it and reservations don't matter.
-use Rattle.std.proofs.Common.{◌≡◌, ◌≢◌, ℕ, List, ap, sym, subst, ◌∙◌, None, inl, inr}
+use Rattle.std.proofs.Common.{◌≡◌, ◌≢◌, ℕ, List, ap, sym, subst, ◌∙◌, None, Result, Ok, Err, IfOk, OnErr, inl, inr}
 use Rattle.std.specs.List.{AllByRecursion as Each}
 use Rattle.std.specs.Option.{option_map, option_and_then}
 use Rattle.std.specs.FinMap.{get, insert}
@@ -25,6 +25,12 @@ leaf_elsewhere s t n x free leaves inners k used = elim (leaf_or k) [
   | inl (p, e) ↦ subst (λ (z : OpaqueNodePtr). held t z ≡ held s z) (sym e) (ap (option_map held_leaf) (ap (λ m. get m p) leaves ∙ elsewhere s.leaves n p x (λ f. used (ap (held s) e ∙ ap (λ q. held s (leaf_name q)) f ∙ ap (option_map held_leaf) free))))
   | inr off ↦ held_in_inner t k.kind k.slot off ∙ ap (λ m. option_map held_inner (get m (record { kind = k.kind; slot = k.slot }))) inners ∙ sym (held_in_inner s k.kind k.slot off)
 ]
+
+-- and so does one that is refused
+pub placement_elsewhere : {K V E : Type 0} (s t : Nodes K V) (x : LeafNode K V) (result : Result LeafPtr E) → IfOk result (λ n. t.leaves ≡ insert s.leaves n x) → IfOk result (λ n. get s.leaves n ≡ None) → t.inners ≡ s.inners → OnErr result (t ≡ s) → (k : OpaqueNodePtr) → held s k ≢ None → held t k ≡ held s k
+placement_elsewhere s t x (Ok n) leaves free inners same k used = leaf_elsewhere s t n x free leaves inners k used
+placement_elsewhere s t x (Err e) leaves free inners same k used = ap (λ m. held m k) same
+
 module _ {K V : Type 0} {bytes : K × V → List ℕ} {P : ℕ} {s t : Nodes K V} {root : OpaqueNodePtr} {pairs : List (K × V)} {layout : Tree OpaqueNodePtr (K × V)} where
   pub tree_stays : IsTree bytes P s root pairs layout → ((k : OpaqueNodePtr) → held s k ≢ None → held t k ≡ held s k) → IsTree bytes P t root pairs layout
   tree_stays by same = record {

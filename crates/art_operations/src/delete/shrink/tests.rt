@@ -272,7 +272,10 @@ fn without_memory_a_promised_shrink_is_made(rt: HostRuntime) -> Result<(), Fail>
         panic!(rt; "refused");
     };
     assert_eq!(rt; done.deleted_leaf.value, 2);
-    assert_eq!(rt; done.new_root.map(|root| root.node_type()), Some(NodeType::Node4));
+    assert_eq!(rt;
+        done.new_root.map(|root| root.node_type()),
+        Some(NodeType::Node4)
+    );
     Ok(())
 }
 

@@ -23,9 +23,11 @@ shrink-requires g c =
     let (pairs, layout, x, by, leads) = c.requires.answers in
     let taken : IsTaken c.args.store.now c.take_from_between-deleted_leaf.new.store c.args.self.leaf_node_ptr c.take_from_between-deleted_leaf.result =
     taken_since {r = c.reserve.new.self} c.reserve.ensures.leaves c.reserve.ensures.inners (record { leaf = c.take_from_between-deleted_leaf.ensures.leaf; leaves = c.take_from_between-deleted_leaf.ensures.leaves; inners = c.take_from_between-deleted_leaf.ensures.inners }) in
-    let (larger, fit) = shrinks_fit (is_below by leads c.requires.parent) taken (smaller_kind c.args.parent.kind) c.requires.parent c.requires.shrinks c.free_inner-node.ensures.node in
-    (search rules, subst (λ kind. (kind ≢ Node4) × (length (any_view c.remove_child.new.self).children ≤ kind_capacity (smaller_kind kind))) (sym (c.remove_child.ensures.kind ∙ c.free_inner-node.ensures.kind))
-        (larger, subst (λ (node : Inner). length node.children ≤ kind_capacity (smaller_kind c.args.parent.kind)) (sym c.remove_child.ensures.rest) fit))
+    let (larger, fit) = shrinks_fit (is_below by leads c.requires.parent) taken (smaller_kind c.args.parent.kind) c.requires.parent c.requires.shrinks c.free_inner-node.ensures.node in (
+      search rules,
+      subst (λ kind. (kind ≢ Node4) × (length (any_view c.remove_child.new.self).children ≤ kind_capacity (smaller_kind kind))) (sym (c.remove_child.ensures.kind ∙ c.free_inner-node.ensures.kind))
+          (larger, subst (λ (node : Inner). length node.children ≤ kind_capacity (smaller_kind c.args.parent.kind)) (sym c.remove_child.ensures.rest) fit),
+    )
 
 pub replace_at-new_root-requires : goal.replace_at-new_root-requires
 replace_at-new_root-requires g c =
@@ -60,7 +62,7 @@ returns-clause-deleted g c pairs layout by x leads =
           ∙ ap (λ name. with_child_at (last_step (up c.args.self.path)) name c.place_inner.new.self.inners) c.to_opaque.ensures;
     } in
     parent_deleted (is_below by leads c.requires.parent) taken (smaller_kind c.args.parent.kind) c.requires.parent c.requires.shrinks smaller last
-        (c.replace_at-new_root.ensures.root ∙ ap (λ path. root_with path c.args.root c.to_opaque.result) c.up.ensures ∙ ap (root_with (up c.args.self.path) c.args.root) c.to_opaque.ensures)
+    (c.replace_at-new_root.ensures.root ∙ ap (λ path. root_with path c.args.root c.to_opaque.result) c.up.ensures ∙ ap (root_with (up c.args.self.path) c.args.root) c.to_opaque.ensures)
 
 pub returns-clause-touches : goal.returns-clause-touches
 returns-clause-touches g c =
