@@ -1,12 +1,12 @@
 //! Trees for the tests of look-ups, made by runs of insertions.
-ghost use Rattle.std.specs.Prelude.{IfOk};
+ghost use Rattle.std.specs.Prelude.{IfOk, IfSome};
 ghost use Rattle.art_model.specs.Pairs.{of_key};
 ghost use Rattle.art_model.specs.Roots.{IsCanonicalRoot};
 
 use crate::run::{Command, run};
 use art_nodes::node::{AsBytes, LeafPtr, OpaqueNodePtr};
 use art_nodes::store::NodeStore;
-use std::alloc::Global;
+use std::alloc::{AllocError, Global};
 use std::test::Fail;
 
 /// The keys of the tests.
@@ -20,6 +20,17 @@ pub fn plant<K: AsBytes + Drop, const P: usize>(
 ) -> Result<OpaqueNodePtr, Fail>
     ensures { IfOk result (λ root. IsCanonicalRoot (of_key K.bytes) P store.new root) }
 {
+    Ok(planted(store, second, keys)?.ok_or("no key")?)
+}
+
+/// The same, where no key has no tree.
+pub fn planted<K: AsBytes + Drop, const P: usize>(
+    store: &mut NodeStore<K, u32, P>,
+    second: &mut NodeStore<K, u32, P>,
+    keys: Vec<K>,
+) -> Result<Option<OpaqueNodePtr>, AllocError>
+    ensures { IfOk result (λ root. IfSome root (λ root. IsCanonicalRoot (of_key K.bytes) P store.new root)) }
+{
     let mut commands = Vec::new(store.alloc());
     let mut value = 0u32;
     for key in keys {
@@ -27,8 +38,8 @@ pub fn plant<K: AsBytes + Drop, const P: usize>(
         value = value.wrapping_add(1);
     }
     match run(store, second, None, commands) {
-        Ok(done) => Ok(done.root.ok_or("no key")?),
-        Err((_, error)) => Err(error.into()),
+        Ok(done) => Ok(done.root),
+        Err((_, error)) => Err(error),
     }
 }
 
@@ -42,7 +53,7 @@ pub fn keys(alloc: Global, slices: &[&[u8]]) -> Result<Vec<Key>, Fail> {
 }
 
 /// Twelve keys: so many zeros from none to eleven, and then 255.
-pub fn keys_of_zeros(alloc: Global) -> Result<Vec<Key>, Fail> {
+pub fn keys_of_zeros(alloc: Global) -> Result<Vec<Key>, AllocError> {
     let mut keys = Vec::new(alloc);
     for count in 0..12usize {
         let mut key = Vec::new(alloc);
@@ -53,6 +64,28 @@ pub fn keys_of_zeros(alloc: Global) -> Result<Vec<Key>, Fail> {
         keys.push(key)?;
     }
     Ok(keys)
+}
+
+/// All keys of three bytes, each byte less than its limit.
+pub fn keys_of_three(alloc: Global, limits: [u8; 3]) -> Result<Vec<Key>, Fail> {
+    let mut keys = Vec::new(alloc);
+    for a in 0..limits[0] {
+        for b in 0..limits[1] {
+            for c in 0..limits[2] {
+                keys.push([a, b, c].to_vec(alloc)?)?;
+            }
+        }
+    }
+    Ok(keys)
+}
+
+/// The child of an inner node under a byte.
+pub fn child<K: AsBytes + Drop, const P: usize>(
+    store: &NodeStore<K, u32, P>,
+    node: OpaqueNodePtr,
+    byte: u8,
+) -> Option<OpaqueNodePtr> {
+    store.inner(node.as_inner()?)?.lookup_child(byte)
 }
 
 /// The value of a leaf.

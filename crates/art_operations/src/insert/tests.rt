@@ -2,7 +2,7 @@ ghost use Rattle.art_model.specs.Pairs.{of_key};
 ghost use Rattle.art_model.specs.Roots.{IsCanonicalRoot};
 
 use super::*;
-use crate::test_trees::{Key, keys, plant, value_of};
+use crate::test_trees::{Key, child, keys, plant, value_of};
 use art_test_support::all_memory;
 use std::test::Fail;
 
@@ -29,15 +29,6 @@ fn refused_bytes<K: AsBytes + Drop, const P: usize>(
         Err(InsertSearchError::Prefix(error)) => Some(error.byte_repr),
         _ => None,
     }
-}
-
-// The child of an inner node under a byte.
-fn child<const P: usize>(
-    store: &NodeStore<Key, u32, P>,
-    node: OpaqueNodePtr,
-    byte: u8,
-) -> Option<OpaqueNodePtr> {
-    store.inner(node.as_inner()?)?.lookup_child(byte)
 }
 
 #[test]
