@@ -16,7 +16,9 @@ pub enum Seen {
 }
 
 /// The nodes by their slots.
-pub fn nodes_seen<const P: usize>(store: &NodeStore<Key, u32, P>) -> Result<Vec<Seen>, AllocError> {
+pub fn nodes_seen<const P: usize>(
+    store: &NodeStore<Key, u32, P>,
+) -> Result<Vec<Seen>, AllocError> {
     let mut nodes = Vec::new(store.alloc());
     for slot in 0..SLOTS {
         nodes.push(node_seen(store, slot)?)?;
@@ -50,7 +52,8 @@ fn node_seen<const P: usize>(
     Ok(Seen::Nothing)
 }
 
-/// How many slots came into use, went out of it, and have another node.
+/// How many names came into use, went out of it, and have another node. A slot whose node is of another
+/// kind has another name.
 pub fn count_touched(before: &[Seen], after: &[Seen]) -> (usize, usize, usize) {
     let mut placed = 0usize;
     let mut freed = 0usize;
@@ -60,6 +63,10 @@ pub fn count_touched(before: &[Seen], after: &[Seen]) -> (usize, usize, usize) {
             (Seen::Nothing, Seen::Nothing) => {}
             (Seen::Nothing, _) => placed = placed.saturating_add(1),
             (_, Seen::Nothing) => freed = freed.saturating_add(1),
+            (Seen::Inner(old_kind, ..), Seen::Inner(new_kind, ..)) if old_kind != new_kind => {
+                placed = placed.saturating_add(1);
+                freed = freed.saturating_add(1);
+            }
             _ => {
                 if old != new {
                     changed = changed.saturating_add(1);

@@ -1,6 +1,6 @@
 use Rattle.std.proofs.Common.{rules}
 use Rattle.art_model.specs.Pairs.{of_key, put}
-use Rattle.art_operations.proofs.Reserved.{tree_stays, point_in}
+use Rattle.art_operations.proofs.Standing.{tree_stays, point_in}
 use Rattle.art_operations.proofs.insert.branch.tests.insert.Goals as goal
 
 pub apply-requires : goal.apply-requires
