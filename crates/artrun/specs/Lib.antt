@@ -1,4 +1,4 @@
 pub mod Keys
 pub mod Lines
 pub mod Trees
-pub mod Histories
+pub mod KeptTrees

@@ -17,6 +17,10 @@ IsTreeIn {K} {V} s root = ∥ ((layout : Tree OpaqueNodePtr (K × V)) × IsLayou
 abbrev pub Key : Type 0
 Key = Vec ℕ Global
 
+-- the bytes of a key
+abbrev pub key_bytes : Key → List ℕ
+key_bytes key = key.items
+
 -- the root is the canonical tree of some pairs
 abbrev pub HasCanonicalTree : Nodes Key ℕ → Option OpaqueNodePtr → Type 0
-HasCanonicalTree s root = ∥ ((pairs : List (Key × ℕ)) × IsCanonical (of_key (λ key. key.items)) 4 s root pairs) ∥₁
+HasCanonicalTree s root = ∥ ((pairs : List (Key × ℕ)) × IsCanonical (of_key key_bytes) 4 s root pairs) ∥₁

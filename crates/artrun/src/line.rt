@@ -1,5 +1,5 @@
 //! What a line of input asks for.
-ghost use Rattle.std.specs.Prelude.{◌≡◌, ◌≢◌, ◌==◌, ◌++◌, ◌∷◌, List, All, ◌↔◌, ◌<◌, ◌^◌, ℕ, IsTrue, IfSome, IfNone, IfOk, map};
+ghost use Rattle.std.specs.Prelude.{◌≡◌, ◌≢◌, ◌==◌, ◌++◌, ◌∷◌, List, All, ◌↔◌, ◌<◌, ◌^◌, ℕ, IsTrue, IfSome, IfNone, IfOk, codes, map};
 ghost use Rattle.std.specs.Fmt.{decimal};
 ghost use Rattle.std.specs.List.{slice_split};
 ghost use Rattle.artrun.specs.Keys.{IsByteWord, IsKeyWord, key_word};
@@ -20,7 +20,10 @@ pub struct KeyWord<'a> {
 pub enum Request<'a> {
     Insert(KeyWord<'a>, u32),
     Delete(KeyWord<'a>),
+    First,
+    Last,
     Find(KeyWord<'a>),
+    Longest(KeyWord<'a>),
     Nodes,
 }
 
@@ -57,8 +60,8 @@ impl<'a> Request<'a> {
         ensures line { IfSome result (λ request. line.now ≡ line_of request) }
         ensures none { IfNone result ((request : Request) → HasSmallValue request → line.now ≢ line_of request) }
     {
-        if line == b"nodes".as_slice() {
-            return Some(Request::Nodes);
+        if let Some(request) = Self::parse_word(line) {
+            return Some(request);
         }
         if let Some(arguments) = strip(line, b"insert ") {
             let (key, value) = parse_pair(arguments)?;
@@ -67,8 +70,28 @@ impl<'a> Request<'a> {
         if let Some(key) = strip(line, b"delete ") {
             return Some(Request::Delete(KeyWord::parse(key)?));
         }
+        if let Some(key) = strip(line, b"longest ") {
+            return Some(Request::Longest(KeyWord::parse(key)?));
+        }
         let key = strip(line, b"find ")?;
         Some(Request::Find(KeyWord::parse(key)?))
+    }
+
+    // What a line of one word asks for.
+    fn parse_word(line: &[u8]) -> Option<Self>
+        ensures line { IfSome result (λ request. line.now ≡ line_of request) }
+        ensures none { IfNone result ((line.now ≢ codes "first") × (line.now ≢ codes "last") × (line.now ≢ codes "nodes")) }
+    {
+        if line == b"first".as_slice() {
+            return Some(Request::First);
+        }
+        if line == b"last".as_slice() {
+            return Some(Request::Last);
+        }
+        if line == b"nodes".as_slice() {
+            return Some(Request::Nodes);
+        }
+        None
     }
 }
 

@@ -89,6 +89,16 @@ fn formats(rt: HostRuntime) {
             0,
         ),
         (b"find -\ninsert - 1\nfind -", b"no\ninserted\nyes\n", 0),
+        (
+            b"longest 1\ninsert 1.2.3 4\nlongest 1.2.3.4\nlongest 1.2\nlongest 1.2.3",
+            b"none\ninserted\nmatch 3\nnone\nmatch 3\n",
+            0,
+        ),
+        (
+            b"first\nlast\ninsert 2 2\ninsert 1 1\ninsert 3 3\nfirst\nlast\nnodes\nlast\nfirst\n",
+            b"absent\nabsent\ninserted\ninserted\ninserted\ndeleted 1 1\ndeleted 3 3\n*: Leaf 2=2\ndeleted 2 2\nabsent\n",
+            0,
+        ),
         (b"find 1\n\n", b"no\nline 2: refused\n", 2),
         (
             b"insert 1 1\nnodes \nfind 1",
@@ -117,6 +127,10 @@ fn refuses_bad_lines(rt: HostRuntime) {
         b"nodes ",
         b"nodes\r",
         b"Insert 1 1",
+        b"first ",
+        b"last 1",
+        b"longest",
+        b"longest 1.",
         b"find +1",
         b"find \xc2\xb2",
     ] {

@@ -1,6 +1,6 @@
 use Rattle.std.proofs.Common.{◌≡◌, Result, Ok, Err, subst}
 use Rattle.std.specs.Result.{MatchResult, IfOk, IsErrAnd}
-use Rattle.artrun.proofs.history.History.answer.Goals as goal
+use Rattle.artrun.proofs.tree.KeptTree.answer.Goals as goal
 
 -- what holds of an `Ok` holds where its error was mapped
 after_map_err : {T E D : Type 0} (P : T → Type 0) (G : E → D → Type 0) (r : Result T E) (s : Result T D) (x : T) → s ≡ Ok x → MatchResult r (λ y. s ≡ Ok y) (λ e. IsErrAnd s (G e)) → IfOk r P → P x

@@ -1,0 +1,10 @@
+-- What is seen of the tree that the program keeps.
+use Rattle.std.specs.Prelude.{ℕ}
+use Rattle.art_operations.specs.Runs.{Shown, on}
+use Rattle.art_operations.specs.declared.run.Side.TheVariants.{First}
+use Rattle.artrun.specs.Trees.{Key}
+use Rattle.artrun.specs.declared.tree.KeptTree.{KeptTree}
+
+-- the stores and the root
+abbrev pub seen : KeptTree → Shown Key ℕ
+seen kept = on First kept.first kept.second kept.root

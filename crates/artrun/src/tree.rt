@@ -1,0 +1,65 @@
+//! The tree that the lines so far have left, and the stores that it lives in.
+ghost use Rattle.std.specs.Prelude.{◌≡◌, ◌∷◌, [], None, IfOk, OnErr};
+ghost use Rattle.art_operations.specs.Runs.{IsRun, on};
+ghost use Rattle.art_operations.specs.declared.run.Side.TheVariants.{First};
+ghost use Rattle.artrun.specs.Trees.{HasCanonicalTree, key_bytes};
+
+use crate::print::write_nodes;
+use art_nodes::node::OpaqueNodePtr;
+use art_nodes::store::NodeStore;
+use art_operations::run::{Command, Reply, run};
+use std::alloc::{AllocError, Global};
+use std::io;
+use std::io::Write;
+
+/// How many bytes of its prefix an inner node stores.
+pub const PREFIX_LEN: usize = 4;
+
+/// The tree that the commands so far have left.
+#[derive(Drop)]
+pub struct KeptTree {
+    first: NodeStore<Vec<u8>, u32, PREFIX_LEN>,
+    second: NodeStore<Vec<u8>, u32, PREFIX_LEN>,
+    root: Option<OpaqueNodePtr>,
+    ghost canonical: { HasCanonicalTree first root },
+}
+
+impl KeptTree {
+    ghost use Rattle.artrun.specs.KeptTrees.{seen};
+
+    /// No tree.
+    pub fn new(alloc: Global) -> Self
+        ensures { (seen result).root ≡ None }
+    {
+        KeptTree {
+            first: NodeStore::new(alloc),
+            second: NodeStore::new(alloc),
+            root: None,
+        }
+    }
+
+    /// Writes the nodes of the tree, a line each.
+    pub fn write_nodes(&self, output: &mut impl Write) -> io::Result<()> {
+        write_nodes(output, &self.first, self.root)
+    }
+
+    /// Answers one more command, by a run of it alone. An `Err` leaves the tree as it is.
+    pub fn answer(
+        &mut self,
+        command: Command<Vec<u8>, u32>,
+    ) -> Result<Reply<Vec<u8>, u32>, AllocError>
+        ensures run { IfOk result (λ reply. IsRun key_bytes 4 (seen self.old) (command ∷ []) (reply ∷ []) (seen self.new)) }
+        ensures kept { OnErr result (seen self.new ≡ seen self.old) }
+    {
+        let mut commands = Vec::with_capacity(self.first.alloc(), 1)?;
+        commands.push_reserved(command);
+        let done = run(&mut self.first, &mut self.second, self.root, commands)
+            .map_err(|refused| refused.1)?;
+        self.root = done.root;
+        let mut replies = done.replies;
+        let Some(reply) = replies.pop() else {
+            unreachable!()
+        };
+        Ok(reply)
+    }
+}
