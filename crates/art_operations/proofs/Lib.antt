@@ -1,8 +1,6 @@
 pub mod Examples
 pub mod Chains
 pub mod LeafWrites
-pub mod Lengths
-pub mod Kept
 pub mod Moves
 pub mod Found
 pub mod Planted

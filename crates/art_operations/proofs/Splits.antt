@@ -36,7 +36,7 @@ use Rattle.art_operations.specs.declared.path.ExplicitMismatch.{ExplicitMismatch
 use Rattle.art_operations.specs.Branches.{IsBranch, IsPlaced}
 use Rattle.art_operations.specs.Inserted.{IsInserted, IsChange, Touches}
 use Rattle.art_operations.specs.Points.{AnswersTo, IsKindOf}
-use Rattle.art_operations.specs.Room.{SameNodes}
+use Rattle.art_operations.specs.Steps.{SameNodes}
 use Rattle.art_operations.specs.Writes.{HasChild, last_step}
 use Rattle.art_operations.proofs.Branches.{end_laid, end_depth, end_parent, last_is, branch_stored, branch_done}
 use Rattle.art_operations.proofs.BranchReads.{leaf_found, leaf_named, inner_found, inner_named, prefix_way, prefix_inside}

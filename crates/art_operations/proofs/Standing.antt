@@ -10,7 +10,7 @@ use Rattle.art_model.proofs.Canonical.{IsLaidOut, laid_out, canonical_from}
 use Rattle.art_model.proofs.StoreLaws.{has_one_map}
 use Rattle.art_operations.specs.Inserted.{IsPointIn}
 use Rattle.art_operations.specs.Points.{AnswersTo}
-use Rattle.art_operations.specs.Room.{SameNodes}
+use Rattle.art_operations.specs.Steps.{SameNodes}
 use Rattle.art_operations.specs.declared.insert.InsertPoint.{InsertPoint}
 
 module _ {K V : Type 0} {bytes : K × V → List ℕ} {P : ℕ} {s : Nodes K V} where

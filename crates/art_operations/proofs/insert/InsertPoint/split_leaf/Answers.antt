@@ -1,7 +1,7 @@
 use Rattle.std.proofs.Common.{rules, sym, subst}
 use Rattle.art_model.specs.Pairs.{of_key}
 use Rattle.art_operations.specs.Points.{AnswersTo}
-use Rattle.art_operations.specs.Room.{SameNodes}
+use Rattle.art_operations.specs.Steps.{SameNodes}
 use Rattle.art_operations.proofs.Branches.{end_parent, previous_is_there, next_is_there, read_for}
 use Rattle.art_operations.proofs.Standing.{tree_stays, answers_to}
 use Rattle.art_operations.proofs.Splits.{leaf_split, leaf_split_touches}

@@ -4,7 +4,7 @@ use Rattle.art_nodes.specs.Nodes.{change}
 use Rattle.art_model.specs.Pairs.{of_key}
 use Rattle.art_model.specs.Writes.{IsThere}
 use Rattle.art_operations.specs.Points.{AnswersTo}
-use Rattle.art_operations.specs.Room.{SameNodes}
+use Rattle.art_operations.specs.Steps.{SameNodes}
 use Rattle.art_operations.proofs.Branches.{previous_is_there, next_is_there, read_for}
 use Rattle.art_operations.proofs.LeafWrites.{some_there}
 use Rattle.art_operations.proofs.Standing.{tree_stays, answers_to}
