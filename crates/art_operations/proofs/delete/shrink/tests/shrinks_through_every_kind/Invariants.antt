@@ -5,4 +5,4 @@ use Rattle.art_operations.proofs.delete.shrink.tests.shrinks_through_every_kind.
 
 -- there is a tree, or none is left
 abbrev pub invariant-loop-turn : goal.invariant-loop-turn
-invariant-loop-turn l = IfSome l.root (λ root. IsCanonicalRoot (of_key (λ key. key.items)) 4 l.store root)
+invariant-loop-turn g l = IfSome l.root (λ root. IsCanonicalRoot (of_key (λ key. key.items)) 4 l.store root)
