@@ -36,5 +36,4 @@ pub mod Larger
 pub mod Entered
 pub mod Beside
 pub mod Elsewhere
-pub mod Reserved
 pub mod LeafAdded
