@@ -60,16 +60,14 @@ module _ {K V : Type 0} (s : Nodes K V) (before after : List OpaqueNodePtr) (pre
       (option_map leaf_name previous ≡ last_or (before ++ leaf_names_below l) None) × (option_map leaf_name next ≡ first_or (leaf_names_below r ++ after) None)
   between_links l (child c t r) linked (p, has, next_is, previous_is) =
       let (rest, is) = first_is (leaf_name p) (leaf_names t) has.0 in
-      let zs : leaf_names_below (child c t r) ++ after ≡ leaf_name p ∷ ((rest ++ leaf_names_below r) ++ after) = ap (λ z. (z ++ leaf_names_below r) ++ after) is in
-      (
+      let zs : leaf_names_below (child c t r) ++ after ≡ leaf_name p ∷ ((rest ++ leaf_names_below r) ++ after) = ap (λ z. (z ++ leaf_names_below r) ++ after) is in (
         before_first s (before ++ leaf_names_below l) (leaf_names_below (child c t r) ++ after) linked p ((rest ++ leaf_names_below r) ++ after) previous zs previous_is,
         ap (option_map leaf_name) next_is ∙ sym (ap (λ z. first_or z None) zs),
       )
   between_links l no_child linked (others, c, t, whole, (p, has, previous_is, next_is)) =
       let (ys, is) = last_is (leaf_name p) (leaf_names t) has.0 in
       let below : leaf_names_below l ≡ leaf_names_below others ++ (ys ++ leaf_name p ∷ []) = ap leaf_names_below whole ∙ leaf_names_below-join others (child c t no_child) ∙ ap (λ z. leaf_names_below others ++ z) (append-nil (leaf_names t) ∙ is) in
-      let xs : before ++ leaf_names_below l ≡ (before ++ leaf_names_below others ++ ys) ++ leaf_name p ∷ [] = ap (λ z. before ++ z) below ∙ sym (append_assoc before (leaf_names_below others) (ys ++ leaf_name p ∷ [])) ∙ sym (append_assoc (before ++ leaf_names_below others) ys (leaf_name p ∷ [])) in
-      (
+      let xs : before ++ leaf_names_below l ≡ (before ++ leaf_names_below others ++ ys) ++ leaf_name p ∷ [] = ap (λ z. before ++ z) below ∙ sym (append_assoc before (leaf_names_below others) (ys ++ leaf_name p ∷ [])) ∙ sym (append_assoc (before ++ leaf_names_below others) ys (leaf_name p ∷ [])) in (
         ap (option_map leaf_name) previous_is ∙ sym (ap (λ z. last_or z None) xs ∙ last_or-push (before ++ leaf_names_below others ++ ys) (leaf_name p) None),
         after_last s (before ++ leaf_names_below l) after linked p (before ++ leaf_names_below others ++ ys) next xs next_is,
       )

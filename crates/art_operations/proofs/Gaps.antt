@@ -31,8 +31,7 @@ use Rattle.art_operations.specs.Writes.{ComesAfter, ComesBefore, ComesBetween, H
 full_child : {K V : Type 0} (s : Nodes K V) {name m to : OpaqueNodePtr} {h : Header} (l r : Children OpaqueNodePtr (K × V)) (c : ℕ) (t : Tree OpaqueNodePtr (K × V)) → IsFullTree s name (inner m h (join l (child c t r))) → name_of t ≡ to → IsFullTree s to t
 full_child s l r c t (is, full) named =
     let below = HoldsBelow-right (node_at s) l (child c t r) is.holds.1 in
-    let distinct = subst AreDistinct (names_below-join l (child c t r)) is.distinct.1 in
-    (
+    let distinct = subst AreDistinct (names_below-join l (child c t r)) is.distinct.1 in (
       record { named = named; holds = below.0; distinct = Pairwise-left (λ n k. n ≢ k) (names_of t) (names_below r) (Pairwise-right (λ n k. n ≢ k) (names_below l) (names_of t ++ names_below r) distinct) },
       (children_right 1 l (child c t r) full.1).0,
     )
@@ -84,7 +83,7 @@ module _ {K V : Type 0} {s : Nodes K V} {p : InnerPtr} {b : ℕ} {l r : Children
         let all = subst (Each (λ c. c ≤ greatest)) joined all_most in
         let left = count_between 0 b (bytes_of l) (Pairwise-left (λ x y. x < y) (bytes_of l) (bytes_of r) up) (Each-weaker (λ c. c < b) (λ c. 0 ≤ c) (λ c h. omega arith) (bytes_of l) gap.low) gap.low (omega arith) in
         let right = count_between (suc b) 256 (bytes_of r) (Pairwise-right (λ x y. x < y) (bytes_of l) (bytes_of r) up) (Each-weaker (λ c. b < c) (λ c. suc b ≤ c) (λ c h. omega arith) (bytes_of r) gap.high)
-            (Each-weaker (λ c. c ≤ greatest) (λ c. c < 256) (λ c h. omega arith) (bytes_of r) (Each-right (λ c. c ≤ greatest) (bytes_of l) (bytes_of r) all)) (omega arith) in
+        (Each-weaker (λ c. c ≤ greatest) (λ c. c < 256) (λ c h. omega arith) (bytes_of r) (Each-right (λ c. c ≤ greatest) (bytes_of l) (bytes_of r) all)) (omega arith) in
         let n = ap length gap_slots in let m = length-slots_of (join l r) in let j = ap length joined in let k = length-append (bytes_of l) (bytes_of r) in
         subst (λ o. IfSome o (λ node. length node.children < 256)) there (omega arith)
 

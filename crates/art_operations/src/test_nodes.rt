@@ -16,9 +16,7 @@ pub enum Seen {
 }
 
 /// The nodes by their slots.
-pub fn nodes_seen<const P: usize>(
-    store: &NodeStore<Key, u32, P>,
-) -> Result<Vec<Seen>, AllocError> {
+pub fn nodes_seen<const P: usize>(store: &NodeStore<Key, u32, P>) -> Result<Vec<Seen>, AllocError> {
     let mut nodes = Vec::new(store.alloc());
     for slot in 0..SLOTS {
         nodes.push(node_seen(store, slot)?)?;

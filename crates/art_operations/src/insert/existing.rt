@@ -77,8 +77,14 @@ impl InsertPoint {
         let leaf_node_ptr = place_between(store, leaf);
         let child = leaf_node_ptr.to_opaque();
         if larger.is_some() {
-            let (parent, new_root) =
-                put_larger(store, self.path, self.root, inner_node_ptr, byte, child);
+            let (parent, new_root) = put_larger(
+                store,
+                self.path,
+                self.root,
+                inner_node_ptr,
+                byte,
+                child,
+            );
             return Ok(new_child(leaf_node_ptr, parent, byte, new_root));
         }
         store.write_child(inner_node_ptr, byte, child);

@@ -96,7 +96,10 @@ fn puts_a_larger_root_in_the_place_of_a_full_one(rt: HostRuntime) -> Result<(), 
     assert_eq!(rt; done.parent_node_change, change);
     assert_eq!(rt; done.new_root.kind, NodeType::Node16);
     assert_eq!(rt; child(&store, root, 4), None);
-    assert_eq!(rt; child(&store, done.new_root, 5), Some(done.leaf_node_ptr.to_opaque()));
+    assert_eq!(rt;
+        child(&store, done.new_root, 5),
+        Some(done.leaf_node_ptr.to_opaque())
+    );
     assert_eq!(rt; count_touched(&before, &nodes_seen(&store)?), (2, 1, 1));
     Ok(())
 }
@@ -136,7 +139,10 @@ fn grows_to_each_kind(rt: HostRuntime) -> Result<(), Fail> {
         )?;
         let done = inserted(&mut store, root, [count].to_vec(alloc)?, 9)?;
         assert_eq!(rt; done.new_root.kind, kind);
-        assert_eq!(rt; child(&store, done.new_root, count), Some(done.leaf_node_ptr.to_opaque()));
+        assert_eq!(rt;
+            child(&store, done.new_root, count),
+            Some(done.leaf_node_ptr.to_opaque())
+        );
     }
     Ok(())
 }

@@ -33,8 +33,7 @@ place_between-leaf_node_ptr-requires g c =
     let (pairs, layout, by, own) = c.requires.answers in
     let e = entry c.requires.answers c.requires.point (ap (λ l. get_or l c.args.self.key_bytes_used 0) c.as_bytes.ensures) by in
     let beside = c.links_below-previous.ensures.beside e.left e.right (entry_gap by e) in
-    let same = sym c.reserve.ensures.leaves in
-    (
+    let same = sym c.reserve.ensures.leaves in (
       search rules,
       (
         leaf_promised c.reserve.new.self.promise c.kind_if_full-larger.result (not_refused c.reserve.result (sym c.is_err.ensures.value ∙ c.if-is_err.false) c.reserve.ensures.reserved),
@@ -54,8 +53,7 @@ put_larger-requires g c =
     let full = (asked_some p.kind (is_full c.args.store.now p) c.kind_if_full-larger.ensures (sym c.is_some.ensures ∙ c.if-is_some.true)).0 in
     let last = not_of_last c.args.self (c.args.key, c.args.value) by e full c.links_below-previous.ensures.few in
     let asked = (asked_some p.kind (is_full c.args.store.now p) c.kind_if_full-larger.ensures (sym c.is_some.ensures ∙ c.if-is_some.true)).1 in
-    let covered = not_refused c.reserve.result (sym c.is_err.ensures.value ∙ c.if-is_err.false) c.reserve.ensures.reserved in
-    (
+    let covered = not_refused c.reserve.result (sym c.is_err.ensures.value ∙ c.if-is_err.false) c.reserve.ensures.reserved in (
       search rules,
       (
         last,
