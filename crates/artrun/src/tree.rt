@@ -53,8 +53,9 @@ impl KeptTree {
     {
         let mut commands = Vec::with_capacity(self.first.alloc(), 1)?;
         commands.push_reserved(command);
-        let done = run(&mut self.first, &mut self.second, self.root, commands)
-            .map_err(|refused| refused.1)?;
+        let done = run(&mut self.first, &mut self.second, self.root, commands).map_err(
+            |refused| refused.1,
+        )?;
         self.root = done.root;
         let mut replies = done.replies;
         let Some(reply) = replies.pop() else {

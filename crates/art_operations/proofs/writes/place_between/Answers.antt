@@ -11,9 +11,11 @@ set_next-requires g c =
 
 pub set_previous-requires : goal.set_previous-requires
 set_previous-requires g c =
-    let ensured = c.in-Ok.ensures in
-    (search rules, subst (λ m. IsThere m c.args.leaf.next) (sym (c.set_next.ensures.leaves ∙ ap (λ m. change_some m c.args.leaf.previous (with_next (Some c.in-Ok.name))) ensured.placed))
-        (there_changed _ c.args.leaf.previous c.args.leaf.next (with_next (Some c.in-Ok.name)) (there_placed c.args.store.now.leaves c.in-Ok.name c.args.leaf c.args.leaf.next c.requires.next)))
+    let ensured = c.in-Ok.ensures in (
+      search rules,
+      subst (λ m. IsThere m c.args.leaf.next) (sym (c.set_next.ensures.leaves ∙ ap (λ m. change_some m c.args.leaf.previous (with_next (Some c.in-Ok.name))) ensured.placed))
+          (there_changed _ c.args.leaf.previous c.args.leaf.next (with_next (Some c.in-Ok.name)) (there_placed c.args.store.now.leaves c.in-Ok.name c.args.leaf c.args.leaf.next c.requires.next)),
+    )
 
 pub returns-clause-leaves : goal.returns-clause-leaves
 unfolding with_leaf
