@@ -28,13 +28,12 @@ module _ {K V : Type 0} where
   in_first first second tree = record { first = first; second = second; side = First; tree = tree }
 
   state_is : (old : State K V) (s z : Nodes K V) (root : Option OpaqueNodePtr) → shown old ≡ on First s z root → (old ≡ in_first s z old.tree) × (option_map name_of old.tree ≡ root)
-  state_is old s z root is =
-      (
-        subst (λ q. old ≡ in_first q z old.tree) (ap (λ q. q.first) is)
+  state_is old s z root is = (
+    subst (λ q. old ≡ in_first q z old.tree) (ap (λ q. q.first) is)
         (subst (λ q. old ≡ in_first old.first q old.tree) (ap (λ q. q.second) is)
         (subst (λ q. old ≡ record { first = old.first; second = old.second; side = q; tree = old.tree }) (ap (λ q. q.side) is) refl)),
-        ap (λ q. q.root) is,
-      )
+    ap (λ q. q.root) is,
+  )
 
   -- a store with the same nodes is the same to a tree
   pub nothing : {s t : Nodes K V} (z : Nodes K V) (tree : Option (Layout K V)) → SameNodes s t → NothingChanged (in_first s z tree) (in_first t z tree)

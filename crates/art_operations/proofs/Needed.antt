@@ -399,10 +399,10 @@ module _ {K V : Type 0} (bytes : K → List ℕ) (P : ℕ) (x : K × V) (n : Opa
         go : (c : ℕ) (v : Tree OpaqueNodePtr (K × V)) → join f.left f.right ≡ child c v no_child → IsRadix (of_key bytes) P ((place ++ own.0) ++ c ∷ []) v → pairs_of v ≡ remove_key (of_key bytes) (bytes x.0) (pairs_of whole) → None ≡ More
         go c (leaf k y) is radix its = none_comes (leaf k y) (raised (of_key bytes) P place own.0 c k y radix) its (λ kind. let z : 0 ≤ count_of kind whole = omega arith in z)
         go c (inner k h cs) is (q, e, two, up, below) its = none_comes (inner k (header_of P (own.0 ++ c ∷ q) (length (bytes_of cs))) cs) (merged (of_key bytes) P place own.0 c q k cs two up below) its (λ kind.
-          let a = below_count kind in
-          let b : count_below kind (join f.left f.right) ≡ one kind h.kind + count_below kind cs + 0 = ap (count_below kind) is in
-          let d : one kind (kind_of (length (bytes_of cs))) ≡ one kind h.kind = ap (λ z. one kind z.kind) (sym e) in
-          omega arith)
+            let a = below_count kind in
+            let b : count_below kind (join f.left f.right) ≡ one kind h.kind + count_below kind cs + 0 = ap (count_below kind) is in
+            let d : one kind (kind_of (length (bytes_of cs))) ≡ one kind h.kind = ap (λ z. one kind z.kind) (sym e) in
+            omega arith)
 
   -- where the parent is in the store
   parent_places : (s : Nodes K V) → Holds (node_at s) (plug fs whole) → placed_for_deletion s (path_of (f ∷ fs)) ≡ record { leaves = 0; inner = More }

@@ -70,23 +70,31 @@ module _ {K V : Type 0} (bytes : K → List ℕ) (P : ℕ) {s t : Nodes K V} (z 
     }
 
     pub planted_step : StepFrom bytes P s t z None (Insert x.0 x.1) (Inserted None) (Some (leaf_name n))
-    planted_step = (Some (leaf (leaf_name n) x), refl, record {
-      answers = (refl, refl, refl);
-      refuses = tt;
-      sound = planted;
-      changes = record { side = refl; kept = in_place; touches = touches_at_most s t 2 2 4 leaves_touched inners_touched tt tt tt (omega arith) (omega arith) (omega arith); other = refl };
-      promises = is.promise ∙ leaf_taken s.promise;
-    })
+    planted_step = (
+      Some (leaf (leaf_name n) x),
+      refl,
+      record {
+        answers = (refl, refl, refl);
+        refuses = tt;
+        sound = planted;
+        changes = record { side = refl; kept = in_place; touches = touches_at_most s t 2 2 4 leaves_touched inners_touched tt tt tt (omega arith) (omega arith) (omega arith); other = refl };
+        promises = is.promise ∙ leaf_taken s.promise;
+      },
+    )
 
   -- or there is no memory for it
   pub unplanted_step : {k : K} {v : V} {pair : K × V} {root : Option OpaqueNodePtr} → root ≡ None → t ≡ s → pair ≡ (k, v) → (0 < s.promise.leaves → ⊥) → StepFrom bytes P s t z None (Insert k v) (NoMemory (Some pair)) root
-  unplanted_step {k} {v} empty same handed none = (None, sym empty, record {
-    answers = (refl, ap Some handed, refl);
-    refuses = inr (λ promised. none (positive s.promise.leaves promised));
-    sound = refl;
-    changes = nothing z None (ap (λ m. m.leaves) same, ap (λ m. m.inners) same);
-    promises = inl (ap (λ m. m.promise) same);
-  })
+  unplanted_step {k} {v} empty same handed none = (
+    None,
+    sym empty,
+    record {
+      answers = (refl, ap Some handed, refl);
+      refuses = inr (λ promised. none (positive s.promise.leaves promised));
+      sound = refl;
+      changes = nothing z None (ap (λ m. m.leaves) same, ap (λ m. m.inners) same);
+      promises = inl (ap (λ m. m.promise) same);
+    },
+  )
     where
       positive : (count : ℕ) → leb 1 count ≡ true → 0 < count
       positive count e = leb-true 1 count e

@@ -125,66 +125,88 @@ module _ {K V : Type 0} (bytes : K → List ℕ) (P : ℕ) {s : Nodes K V} {root
   module _ {t : Nodes K V} {k : K} {v : V} {point : InsertPoint} (z : Nodes K V) (free : is_conflict (of_key bytes) (bytes k) (pairs_of layout) ≡ false) (at : AnswersTo (of_key bytes) P layout (bytes k) point) (left : HasByteLeft s point.insert_kind) where
     pub inserted_step : {after : OpaqueNodePtr} {existing : Option (LeafNode K V)} → HasApplied bytes P s t layout (k, v) point after existing → StepFrom bytes P s t z (Some layout) (Insert k v) (Inserted (option_map pair_of existing)) (Some after)
     inserted_step {after} {existing} is =
-        let (new, by_new) = is.canonical in
-        (Some new, ap Some by_new.stands.0.named, record {
-          answers = (free, ap (option_map pair_of) is.replaced ∙ pairs_back (put_reply (of_key bytes) (k, v) (pairs_of layout)), (tree_radix by_new).1);
-          refuses = tt;
-          sound = own_pairs bytes P by_new;
-          changes = record { side = refl; kept = is.kept (put (of_key bytes) (k, v) (pairs_of layout)) new by_new; touches = insertion_touches point.insert_kind is.touches; other = refl };
-          promises = is.promise ∙ ap (λ placed. promise_after placed s.promise) (needs_inserted bytes P by k v point at left);
-        })
+        let (new, by_new) = is.canonical in (
+          Some new,
+          ap Some by_new.stands.0.named,
+          record {
+            answers = (free, ap (option_map pair_of) is.replaced ∙ pairs_back (put_reply (of_key bytes) (k, v) (pairs_of layout)), (tree_radix by_new).1);
+            refuses = tt;
+            sound = own_pairs bytes P by_new;
+            changes = record { side = refl; kept = is.kept (put (of_key bytes) (k, v) (pairs_of layout)) new by_new; touches = insertion_touches point.insert_kind is.touches; other = refl };
+            promises = is.promise ∙ ap (λ placed. promise_after placed s.promise) (needs_inserted bytes P by k v point at left);
+          },
+        )
 
     pub refused_step : {pair : K × V} → pair ≡ (k, v) → IsRefused s t (placed_for s point.insert_kind) → StepFrom bytes P s t z (Some layout) (Insert k v) (NoMemory (Some pair)) (Some root)
-    refused_step handed is = (Some layout, ap Some by.stands.0.named, record {
-      answers = (free_key k v point at left is.uncovered, ap Some handed, refl);
-      refuses = inr (λ promised. is.uncovered (ap (λ placed. is_covered placed s.promise) (needs_inserted bytes P by k v point at left) ∙ promised));
-      sound = own_pairs bytes P (same_tree bytes P is.same by);
-      changes = nothing z (Some layout) is.same;
-      promises = rw free (inr is.void);
-    })
+    refused_step handed is = (
+      Some layout,
+      ap Some by.stands.0.named,
+      record {
+        answers = (free_key k v point at left is.uncovered, ap Some handed, refl);
+        refuses = inr (λ promised. is.uncovered (ap (λ placed. is_covered placed s.promise) (needs_inserted bytes P by k v point at left) ∙ promised));
+        sound = own_pairs bytes P (same_tree bytes P is.same by);
+        changes = nothing z (Some layout) is.same;
+        promises = rw free (inr is.void);
+      },
+    )
 
   -- a key in conflict, with its bytes or without memory for them
   module _ {k : K} {v : V} (z : Nodes K V) (related : is_conflict (of_key bytes) (bytes k) (pairs_of layout) ≡ true) where
     pub conflict_step : (error : InsertPrefixError) → boxed_slice_items error.byte_repr ≡ bytes k → StepFrom bytes P s s z (Some layout) (Insert k v) (Conflict k v error) (Some root)
-    conflict_step error repr = (Some layout, ap Some by.stands.0.named, record {
-      answers = (related, refl, refl, repr, refl);
-      refuses = tt;
-      sound = own_pairs bytes P by;
-      changes = nothing z (Some layout) (refl, refl);
-      promises = refl;
-    })
+    conflict_step error repr = (
+      Some layout,
+      ap Some by.stands.0.named,
+      record {
+        answers = (related, refl, refl, repr, refl);
+        refuses = tt;
+        sound = own_pairs bytes P by;
+        changes = nothing z (Some layout) (refl, refl);
+        promises = refl;
+      },
+    )
 
     pub no_bytes_step : StepFrom bytes P s s z (Some layout) (Insert k v) (NoMemory (Some (k, v))) (Some root)
-    no_bytes_step = (Some layout, ap Some by.stands.0.named, record {
-      answers = (conflict_new (of_key bytes) (bytes k) (pairs_of layout) by.is_map related, refl, refl);
-      refuses = inl related;
-      sound = own_pairs bytes P by;
-      changes = nothing z (Some layout) (refl, refl);
-      promises = rw related refl;
-    })
+    no_bytes_step = (
+      Some layout,
+      ap Some by.stands.0.named,
+      record {
+        answers = (conflict_new (of_key bytes) (bytes k) (pairs_of layout) by.is_map related, refl, refl);
+        refuses = inl related;
+        sound = own_pairs bytes P by;
+        changes = nothing z (Some layout) (refl, refl);
+        promises = rw related refl;
+      },
+    )
 
   -- ---- deletion
 
   module _ {t : Nodes K V} {c : Command K V} {x : K × V} {point : DeletePoint} (z : Nodes K V) (leads : LeadsTo layout x point) (takes : Answers bytes (pairs_of layout) c (Deleted (Some x)) (remove_key (of_key bytes) (bytes x.0) (pairs_of layout))) where
     pub deleted_step : {after : Option OpaqueNodePtr} → HasDeleted bytes P s t layout x point after → StepFrom bytes P s t z (Some layout) c (Deleted (Some x)) after
     deleted_step {after} is =
-        let has = has_tree bytes P t after (remove_key (of_key bytes) (bytes x.0) (pairs_of layout)) is.canonical in
-        (has.tree, has.shows, record {
-          answers = subst (λ new. Answers bytes (pairs_of layout) c (Deleted (Some x)) new) (sym has.pairs_are) takes;
-          refuses = tt;
-          sound = has.sound;
-          changes = record { side = refl; kept = is.kept (remove_key (of_key bytes) (bytes x.0) (pairs_of layout)) has.tree has.is_root; touches = deletion_touches (parent_change s point.path) is.touches; other = refl };
-          promises = is.promise ∙ ap (λ placed. promise_after placed s.promise) (needs_deleted bytes P by c x point leads takes);
-        })
+        let has = has_tree bytes P t after (remove_key (of_key bytes) (bytes x.0) (pairs_of layout)) is.canonical in (
+          has.tree,
+          has.shows,
+          record {
+            answers = subst (λ new. Answers bytes (pairs_of layout) c (Deleted (Some x)) new) (sym has.pairs_are) takes;
+            refuses = tt;
+            sound = has.sound;
+            changes = record { side = refl; kept = is.kept (remove_key (of_key bytes) (bytes x.0) (pairs_of layout)) has.tree has.is_root; touches = deletion_touches (parent_change s point.path) is.touches; other = refl };
+            promises = is.promise ∙ ap (λ placed. promise_after placed s.promise) (needs_deleted bytes P by c x point leads takes);
+          },
+        )
 
     pub kept_step : IsRefused s t (placed_for_deletion s point.path) → StepFrom bytes P s t z (Some layout) c (NoMemory None) (Some root)
-    kept_step is = (Some layout, ap Some by.stands.0.named, record {
-      answers = answers c takes;
-      refuses = refuses c takes (λ promised. is.uncovered (ap (λ placed. is_covered placed s.promise) (needs_deleted bytes P by c x point leads takes) ∙ promised));
-      sound = own_pairs bytes P (same_tree bytes P is.same by);
-      changes = nothing z (Some layout) is.same;
-      promises = promises c takes is.void;
-    })
+    kept_step is = (
+      Some layout,
+      ap Some by.stands.0.named,
+      record {
+        answers = answers c takes;
+        refuses = refuses c takes (λ promised. is.uncovered (ap (λ placed. is_covered placed s.promise) (needs_deleted bytes P by c x point leads takes) ∙ promised));
+        sound = own_pairs bytes P (same_tree bytes P is.same by);
+        changes = nothing z (Some layout) is.same;
+        promises = promises c takes is.void;
+      },
+    )
       where
         answers : (d : Command K V) → Answers bytes (pairs_of layout) d (Deleted (Some x)) (remove_key (of_key bytes) (bytes x.0) (pairs_of layout)) → Answers bytes (pairs_of layout) d (NoMemory None) (pairs_of layout)
         answers (Insert k v) h = absurd h
@@ -209,4 +231,3 @@ module _ {K V : Type 0} (bytes : K → List ℕ) (P : ℕ) {s : Nodes K V} {root
         promises DeleteMax h void = inr void
         promises (Contains key) h void = absurd h
         promises (LongestMatch key) h void = absurd h
-

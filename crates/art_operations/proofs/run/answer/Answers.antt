@@ -16,8 +16,8 @@ returns-in-DeleteMax g c second = rw c.in-DeleteMax.is (c.delete_max.ensures sec
 
 pub returns-in-Contains : goal.returns-in-Contains
 returns-in-Contains g c second = rw c.in-Contains.is (asked g.K.AsBytes.bytes g.row.P second (λ tree answers sound. found_step g.K.AsBytes.bytes g.row.P second tree answers sound)
-  (λ pairs tree is. (rw c.deref.ensures.value at (c.contains.ensures pairs tree is), refl)))
+    (λ pairs tree is. (rw c.deref.ensures.value at (c.contains.ensures pairs tree is), refl)))
 
 pub returns-in-LongestMatch : goal.returns-in-LongestMatch
 returns-in-LongestMatch g c second = rw c.in-LongestMatch.is (asked g.K.AsBytes.bytes g.row.P second (λ tree answers sound. match_step g.K.AsBytes.bytes g.row.P second tree answers sound)
-  (λ pairs tree is. (rw c.deref-in-LongestMatch.ensures.value at (c.longest_match.ensures pairs tree is), refl)))
+    (λ pairs tree is. (rw c.deref-in-LongestMatch.ensures.value at (c.longest_match.ensures pairs tree is), refl)))

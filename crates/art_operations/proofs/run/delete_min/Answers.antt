@@ -15,5 +15,5 @@ delete_at-requires g c =
 
 pub returns : goal.returns
 returns g c second = rw c.in-Some.is (c.delete_at.ensures second _ (λ pairs layout by.
-  let (x, e, leads) = point_some layout c.find_minimum_to_delete-point.result (first_of pairs) (c.find_minimum_to_delete-point.ensures pairs layout by) in
-  (x, leads, takes_first g.K.AsBytes.bytes pairs x by.is_map e)))
+    let (x, e, leads) = point_some layout c.find_minimum_to_delete-point.result (first_of pairs) (c.find_minimum_to_delete-point.ensures pairs layout by) in
+    (x, leads, takes_first g.K.AsBytes.bytes pairs x by.is_map e)))

@@ -16,17 +16,17 @@ pub returns-in-Err-Prefix : goal.returns-in-Err-Prefix
 returns-in-Err-Prefix g c second =
     let bytes = g.K.AsBytes.bytes in
     from_kept_root bytes g.row.P second c.in-Some.is (λ layout by.
-      let accepted = c.in-Err-Prefix.ensures.accepted (pairs_of layout) layout by in
-      let related = not_false (is_conflict (of_key bytes) c.as_bytes.result.now (pairs_of layout)) (λ free. absurd (false≢true (accepted.1 free))) in
-      conflict_step bytes g.row.P by second (subst (λ key. is_conflict (of_key bytes) key (pairs_of layout) ≡ true) c.as_bytes.ensures related) c.in-Err-Prefix.error ((rw c.in-Err-Prefix.field-0-is at c.in-Err-Prefix.ensures.refused) ∙ c.as_bytes.ensures))
+    let accepted = c.in-Err-Prefix.ensures.accepted (pairs_of layout) layout by in
+    let related = not_false (is_conflict (of_key bytes) c.as_bytes.result.now (pairs_of layout)) (λ free. absurd (false≢true (accepted.1 free))) in
+    conflict_step bytes g.row.P by second (subst (λ key. is_conflict (of_key bytes) key (pairs_of layout) ≡ true) c.as_bytes.ensures related) c.in-Err-Prefix.error ((rw c.in-Err-Prefix.field-0-is at c.in-Err-Prefix.ensures.refused) ∙ c.as_bytes.ensures))
 
 pub returns-in-Err-Memory : goal.returns-in-Err-Memory
 returns-in-Err-Memory g c second =
     let bytes = g.K.AsBytes.bytes in
     from_kept_root bytes g.row.P second c.in-Some.is (λ layout by.
-      let accepted = c.in-Err-Memory.ensures.accepted (pairs_of layout) layout by in
-      let related = not_false (is_conflict (of_key bytes) c.as_bytes.result.now (pairs_of layout)) (λ free. absurd (false≢true (accepted.1 free))) in
-      no_bytes_step bytes g.row.P by second (subst (λ key. is_conflict (of_key bytes) key (pairs_of layout) ≡ true) c.as_bytes.ensures related))
+    let accepted = c.in-Err-Memory.ensures.accepted (pairs_of layout) layout by in
+    let related = not_false (is_conflict (of_key bytes) c.as_bytes.result.now (pairs_of layout)) (λ free. absurd (false≢true (accepted.1 free))) in
+    no_bytes_step bytes g.row.P by second (subst (λ key. is_conflict (of_key bytes) key (pairs_of layout) ≡ true) c.as_bytes.ensures related))
 
 pub apply-requires : goal.apply-requires
 apply-requires g c =
@@ -37,26 +37,26 @@ pub returns-in-Ok-apply : goal.returns-in-Ok-apply
 returns-in-Ok-apply g c second =
     let bytes = g.K.AsBytes.bytes in
     from_root bytes g.row.P second c.in-Some.is (λ layout by.
-      let at = subst (λ key. AnswersTo (of_key bytes) g.row.P layout key c.in-Ok.point) c.as_bytes.ensures (c.in-Ok.ensures.point (pairs_of layout) layout by) in
-      let free = subst (λ key. is_conflict (of_key bytes) key (pairs_of layout) ≡ false) c.as_bytes.ensures ((c.in-Ok.ensures.accepted (pairs_of layout) layout by).0 refl) in
-      let here = at_root bytes g.row.P by at.root_is in
-      let reply : c.map.result ≡ option_map pair_of c.in-Ok-apply.done.existing_leaf = search rules in
-      rw reply (inserted_step bytes g.row.P by second free at c.in-Ok-apply.ensures.byte_left (record {
-        canonical = c.in-Ok-apply.ensures.canonical (pairs_of layout) layout here;
-        replaced = c.in-Ok-apply.ensures.replaced (pairs_of layout) layout here;
-        kept = c.in-Ok-apply.ensures.kept (pairs_of layout) layout here;
-        touches = c.in-Ok-apply.ensures.touches;
-        promise = c.in-Ok-apply.ensures.promise;
-      })))
+    let at = subst (λ key. AnswersTo (of_key bytes) g.row.P layout key c.in-Ok.point) c.as_bytes.ensures (c.in-Ok.ensures.point (pairs_of layout) layout by) in
+    let free = subst (λ key. is_conflict (of_key bytes) key (pairs_of layout) ≡ false) c.as_bytes.ensures ((c.in-Ok.ensures.accepted (pairs_of layout) layout by).0 refl) in
+    let here = at_root bytes g.row.P by at.root_is in
+    let reply : c.map.result ≡ option_map pair_of c.in-Ok-apply.done.existing_leaf = search rules in
+    rw reply (inserted_step bytes g.row.P by second free at c.in-Ok-apply.ensures.byte_left (record {
+      canonical = c.in-Ok-apply.ensures.canonical (pairs_of layout) layout here;
+      replaced = c.in-Ok-apply.ensures.replaced (pairs_of layout) layout here;
+      kept = c.in-Ok-apply.ensures.kept (pairs_of layout) layout here;
+      touches = c.in-Ok-apply.ensures.touches;
+      promise = c.in-Ok-apply.ensures.promise;
+    })))
 
 pub returns-in-Err : goal.returns-in-Err
 returns-in-Err g c second =
     let bytes = g.K.AsBytes.bytes in
     from_kept_root bytes g.row.P second c.in-Some.is (λ layout by.
-      let at = subst (λ key. AnswersTo (of_key bytes) g.row.P layout key c.in-Ok.point) c.as_bytes.ensures (c.in-Ok.ensures.point (pairs_of layout) layout by) in
-      let free = subst (λ key. is_conflict (of_key bytes) key (pairs_of layout) ≡ false) c.as_bytes.ensures ((c.in-Ok.ensures.accepted (pairs_of layout) layout by).0 refl) in
-      refused_step bytes g.row.P by second free at c.in-Err.ensures.byte_left (ap₂ (λ a b. (a, b)) c.in-Err.ensures.handed_back.0 c.in-Err.ensures.handed_back.1) (record {
-        same = (c.in-Err.ensures.leaves, c.in-Err.ensures.inners);
-        void = c.in-Err.ensures.void;
-        uncovered = λ covered. absurd (false≢true (c.in-Err.ensures.succeeds covered));
-      }))
+    let at = subst (λ key. AnswersTo (of_key bytes) g.row.P layout key c.in-Ok.point) c.as_bytes.ensures (c.in-Ok.ensures.point (pairs_of layout) layout by) in
+    let free = subst (λ key. is_conflict (of_key bytes) key (pairs_of layout) ≡ false) c.as_bytes.ensures ((c.in-Ok.ensures.accepted (pairs_of layout) layout by).0 refl) in
+    refused_step bytes g.row.P by second free at c.in-Err.ensures.byte_left (ap₂ (λ a b. (a, b)) c.in-Err.ensures.handed_back.0 c.in-Err.ensures.handed_back.1) (record {
+      same = (c.in-Err.ensures.leaves, c.in-Err.ensures.inners);
+      void = c.in-Err.ensures.void;
+      uncovered = λ covered. absurd (false≢true (c.in-Err.ensures.succeeds covered));
+    }))
