@@ -1,4 +1,3 @@
 pub mod Keys
 pub mod Lines
 pub mod Trees
-pub mod Histories

@@ -4,14 +4,15 @@ use Rattle.std.specs.declared.alloc.Global.{Global}
 use Rattle.art_nodes.specs.Nodes.{Nodes}
 use Rattle.art_nodes.specs.declared.node.OpaqueNodePtr.{OpaqueNodePtr}
 use Rattle.art_model.specs.Pairs.{of_key}
-use Rattle.art_model.specs.Trees.{Tree}
+use Rattle.art_model.specs.Trees as model
 use Rattle.art_model.specs.Layouts.{IsLayout}
 use Rattle.art_model.specs.Stores.{node_at}
 use Rattle.art_model.specs.Canonical.{IsCanonical}
+use Rattle.artrun.specs.declared.tree.Tree.{Tree}
 
 -- the name stands for a tree in the store
 abbrev pub IsTreeIn : {K V : Type 0} → Nodes K V → OpaqueNodePtr → Type 0
-IsTreeIn {K} {V} s root = ∥ ((layout : Tree OpaqueNodePtr (K × V)) × IsLayout (node_at s) root layout) ∥₁
+IsTreeIn {K} {V} s root = ∥ ((layout : model.Tree OpaqueNodePtr (K × V)) × IsLayout (node_at s) root layout) ∥₁
 
 -- a key as a vector of bytes
 abbrev pub Key : Type 0
@@ -20,3 +21,7 @@ Key = Vec ℕ Global
 -- the root is the canonical tree of some pairs
 abbrev pub HasCanonicalTree : Nodes Key ℕ → Option OpaqueNodePtr → Type 0
 HasCanonicalTree s root = ∥ ((pairs : List (Key × ℕ)) × IsCanonical (of_key (λ key. key.items)) 4 s root pairs) ∥₁
+
+-- the store and the root of the tree
+abbrev pub tree : Tree → Nodes Key ℕ × Option OpaqueNodePtr
+tree t = (t.first, t.root)

@@ -1,8 +1,8 @@
 //! Lines in, replies out.
 
-use crate::history::History;
 use crate::line::Request;
 use crate::print::{write_no_memory, write_reply};
+use crate::tree::Tree;
 use art_operations::run::Command;
 use std::alloc::{AllocError, Global};
 use std::io;
@@ -30,7 +30,7 @@ fn answer_lines(
     input: &mut impl BufRead,
     output: &mut impl Write,
 ) -> io::Result<End> {
-    let mut history = History::new(alloc);
+    let mut tree = Tree::new(alloc);
     let mut line = Vec::new(alloc);
     for number in 1..u64::MAX {
         line.clear();
@@ -45,7 +45,7 @@ fn answer_lines(
             output.flush()?;
             return Ok(End::BadLine);
         };
-        answer(alloc, &mut history, request, output)?;
+        answer(alloc, &mut tree, request, output)?;
         output.flush()?;
     }
     Ok(End::Input)
@@ -53,17 +53,20 @@ fn answer_lines(
 
 fn answer(
     alloc: Global,
-    history: &mut History,
+    tree: &mut Tree,
     request: Request<'_>,
     output: &mut impl Write,
 ) -> io::Result<()> {
     let command = match request {
         Request::Insert(key, value) => key.copy(alloc).map(|key| Command::Insert(key, value)),
         Request::Delete(key) => key.copy(alloc).map(Command::Delete),
+        Request::First => Ok(Command::DeleteMin),
+        Request::Last => Ok(Command::DeleteMax),
         Request::Find(key) => key.copy(alloc).map(Command::Contains),
-        Request::Nodes => return history.write_nodes(output),
+        Request::Longest(key) => key.copy(alloc).map(Command::LongestMatch),
+        Request::Nodes => return tree.write_nodes(output),
     };
-    match command.and_then(|command| history.answer(command)) {
+    match command.and_then(|command| tree.answer(command)) {
         Ok(reply) => write_reply(output, &reply),
         Err(AllocError) => write_no_memory(output),
     }

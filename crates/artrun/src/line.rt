@@ -20,7 +20,10 @@ pub struct KeyWord<'a> {
 pub enum Request<'a> {
     Insert(KeyWord<'a>, u32),
     Delete(KeyWord<'a>),
+    First,
+    Last,
     Find(KeyWord<'a>),
+    Longest(KeyWord<'a>),
     Nodes,
 }
 
@@ -60,12 +63,21 @@ impl<'a> Request<'a> {
         if line == b"nodes".as_slice() {
             return Some(Request::Nodes);
         }
+        if line == b"first".as_slice() {
+            return Some(Request::First);
+        }
+        if line == b"last".as_slice() {
+            return Some(Request::Last);
+        }
         if let Some(arguments) = strip(line, b"insert ") {
             let (key, value) = parse_pair(arguments)?;
             return Some(Request::Insert(key, value));
         }
         if let Some(key) = strip(line, b"delete ") {
             return Some(Request::Delete(KeyWord::parse(key)?));
+        }
+        if let Some(key) = strip(line, b"longest ") {
+            return Some(Request::Longest(KeyWord::parse(key)?));
         }
         let key = strip(line, b"find ")?;
         Some(Request::Find(KeyWord::parse(key)?))

@@ -2,9 +2,9 @@
 #![tactic(auto)]
 
 mod engine;
-mod history;
 mod line;
 mod print;
+mod tree;
 
 use std::io;
 use std::io::{BufReader, BufWriter};

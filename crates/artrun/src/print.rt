@@ -55,6 +55,8 @@ pub fn write_reply(output: &mut impl Write, reply: &Reply<Vec<u8>, u32>) -> io::
         Reply::Deleted(Some((key, value))) => writeln!(output, "deleted {} {value}", Key(key)),
         Reply::Found(true) => writeln!(output, "yes"),
         Reply::Found(false) => writeln!(output, "no"),
+        Reply::MatchLen(Some(len)) => writeln!(output, "match {len}"),
+        Reply::MatchLen(None) => writeln!(output, "none"),
         Reply::NoMemory(_) => write_no_memory(output),
     }
 }

@@ -1,4 +1,4 @@
-use Rattle.artrun.proofs.Requests.{no_insert, no_delete, no_find}
+use Rattle.artrun.proofs.Requests.{no_insert, no_delete, no_find, no_longest}
 use Rattle.artrun.proofs.line.Request.parse.Goals as goal
 
 pub returns-in_err-key-clause-none : goal.returns-in_err-key-clause-none

@@ -1,0 +1,6 @@
+use Rattle.std.proofs.Common.{rules}
+use Rattle.artrun.proofs.Subtrees.{canonical_is_tree}
+use Rattle.artrun.proofs.tree.Tree.write_nodes.Goals as goal
+
+pub write_nodes-requires : goal.write_nodes-requires
+write_nodes-requires g c = (search rules, canonical_is_tree c.args.self.now.first c.args.self.now.root c.args.self.now.canonical)
