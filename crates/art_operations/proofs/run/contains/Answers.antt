@@ -1,6 +1,5 @@
-use Rattle.std.proofs.Common.{rules, ◌∙◌, Some, None}
+use Rattle.std.proofs.Common.{◌∙◌}
 use Rattle.art_model.specs.Pairs.{of_key}
-use Rattle.art_model.specs.Roots.{IsRootOf}
 use Rattle.art_operations.proofs.Found.{found_stored, root_tree}
 use Rattle.art_operations.proofs.run.contains.Goals as goal
 

@@ -1,4 +1,4 @@
-use Rattle.std.proofs.Common.{refl, ap, ap₂, ◌∙◌, Some, None}
+use Rattle.std.proofs.Common.{refl, ap, ap₂, ◌∙◌}
 use Rattle.std.proofs.lemmas.Bool.{false≢true}
 use Rattle.std.specs.FinMap.{insert}
 use Rattle.art_operations.proofs.Moves.{from_none}
