@@ -3,3 +3,4 @@ pub mod Numbers
 pub mod Requests
 pub mod Subtrees
 pub mod Words
+pub mod Replies

@@ -3,7 +3,7 @@ use Rattle.std.proofs.Common.{◌≡◌, ◌≢◌, ℕ, ◌<◌, [], ◌∷◌,
 use Rattle.std.specs.List.{All}
 use Rattle.std.specs.Option.{IfSome}
 use Rattle.std.specs.FinMap as map
-use Rattle.std.proofs.Math.Logic.{∥∥₁_elim, ∥∥₁_map, ∥∥₁_prop}
+use Rattle.std.proofs.Math.Logic.{∥∥₁_elim, ∥∥₁_prop}
 use Rattle.std.proofs.Math.Bridge.{le_prop}
 use Rattle.std.proofs.lemmas.List.Elements.{All-cons}
 use Rattle.art_nodes.specs.Inner.{Inner}
@@ -75,4 +75,4 @@ module _ {K V : Type 0} (s : Nodes K V) where
 -- a canonical root stands for a tree
 pub canonical_is_tree : (s : Nodes Key ℕ) (root : Option OpaqueNodePtr) → HasCanonicalTree s root → IfSome root (IsTreeIn s)
 canonical_is_tree s None h = tt
-canonical_is_tree s (Some root) h = ∥∥₁_map h (λ found. (found.1.0, found.1.1.stands.0))
+canonical_is_tree s (Some root) h = ∣ (h.1.0, h.1.1.stands.0) ∣₁

@@ -2,9 +2,13 @@
 use Rattle.std.specs.Prelude.{ℕ}
 use Rattle.art_operations.specs.Runs.{Shown, on}
 use Rattle.art_operations.specs.declared.run.Side.TheVariants.{First}
-use Rattle.artrun.specs.Trees.{Key}
+use Rattle.artrun.specs.Trees.{Key, HasCanonicalTree}
 use Rattle.artrun.specs.declared.tree.KeptTree.{KeptTree}
 
 -- the stores and the root
 abbrev pub seen : KeptTree → Shown Key ℕ
 seen kept = on First kept.first kept.second kept.root
+
+-- the root is canonical in the first store
+abbrev pub IsKept : KeptTree → Type 0
+IsKept kept = HasCanonicalTree kept.first kept.root

@@ -23,4 +23,4 @@ key_bytes key = key.items
 
 -- the root is the canonical tree of some pairs
 abbrev pub HasCanonicalTree : Nodes Key ℕ → Option OpaqueNodePtr → Type 0
-HasCanonicalTree s root = ∥ ((pairs : List (Key × ℕ)) × IsCanonical (of_key key_bytes) 4 s root pairs) ∥₁
+HasCanonicalTree s root = (pairs : List (Key × ℕ)) × IsCanonical (of_key key_bytes) 4 s root pairs

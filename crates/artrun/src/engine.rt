@@ -1,6 +1,7 @@
 //! Lines in, replies out.
 
 ghost use Rattle.std.specs.Prelude.{◌≤◌};
+ghost use Rattle.artrun.specs.KeptTrees.{IsKept};
 
 use crate::line::Request;
 use crate::print::{write_no_memory, write_reply};
@@ -60,7 +61,10 @@ fn answer(
     tree: &mut KeptTree,
     request: Request<'_>,
     output: &mut impl Write,
-) -> io::Result<()> {
+) -> io::Result<()>
+    requires { IsKept tree.old }
+    ensures { IsKept tree.new }
+{
     let command = match request {
         Request::Insert(key, value) => key.copy(alloc).map(|key| Command::Insert(key, value)),
         Request::Delete(key) => key.copy(alloc).map(Command::Delete),
@@ -70,7 +74,10 @@ fn answer(
         Request::Longest(key) => key.copy(alloc).map(Command::LongestMatch),
         Request::Nodes => return tree.write_nodes(output),
     };
-    match command.and_then(|command| tree.answer(command)) {
+    let Ok(command) = command else {
+        return write_no_memory(output);
+    };
+    match tree.answer(command) {
         Ok(reply) => write_reply(output, &reply),
         Err(AllocError) => write_no_memory(output),
     }

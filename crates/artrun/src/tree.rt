@@ -2,7 +2,7 @@
 ghost use Rattle.std.specs.Prelude.{◌≡◌, ◌∷◌, [], None, IfOk, OnErr};
 ghost use Rattle.art_operations.specs.Runs.{IsRun, on};
 ghost use Rattle.art_operations.specs.declared.run.Side.TheVariants.{First};
-ghost use Rattle.artrun.specs.Trees.{HasCanonicalTree, key_bytes};
+ghost use Rattle.artrun.specs.Trees.{key_bytes};
 
 use crate::print::write_nodes;
 use art_nodes::node::OpaqueNodePtr;
@@ -21,15 +21,15 @@ pub struct KeptTree {
     first: NodeStore<Vec<u8>, u32, PREFIX_LEN>,
     second: NodeStore<Vec<u8>, u32, PREFIX_LEN>,
     root: Option<OpaqueNodePtr>,
-    ghost canonical: { HasCanonicalTree first root },
 }
 
 impl KeptTree {
-    ghost use Rattle.artrun.specs.KeptTrees.{seen};
+    ghost use Rattle.artrun.specs.KeptTrees.{IsKept, seen};
 
     /// No tree.
     pub fn new(alloc: Global) -> Self
-        ensures { (seen result).root ≡ None }
+        ensures kept { IsKept result }
+        ensures root { (seen result).root ≡ None }
     {
         KeptTree {
             first: NodeStore::new(alloc),
@@ -39,7 +39,9 @@ impl KeptTree {
     }
 
     /// Writes the nodes of the tree, a line each.
-    pub fn write_nodes(&self, output: &mut impl Write) -> io::Result<()> {
+    pub fn write_nodes(&self, output: &mut impl Write) -> io::Result<()>
+        requires { IsKept self.now }
+    {
         write_nodes(output, &self.first, self.root)
     }
 
@@ -48,19 +50,23 @@ impl KeptTree {
         &mut self,
         command: Command<Vec<u8>, u32>,
     ) -> Result<Reply<Vec<u8>, u32>, AllocError>
+        requires { IsKept self.old }
+        ensures kept { IsKept self.new }
         ensures run { IfOk result (λ reply. IsRun key_bytes 4 (seen self.old) (command ∷ []) (reply ∷ []) (seen self.new)) }
-        ensures kept { OnErr result (seen self.new ≡ seen self.old) }
+        ensures refused { OnErr result (seen self.new ≡ seen self.old) }
     {
         let mut commands = Vec::with_capacity(self.first.alloc(), 1)?;
         commands.push_reserved(command);
-        let done = run(&mut self.first, &mut self.second, self.root, commands).map_err(
-            |refused| refused.1,
-        )?;
-        self.root = done.root;
-        let mut replies = done.replies;
-        let Some(reply) = replies.pop() else {
-            unreachable!()
-        };
-        Ok(reply)
+        match run(&mut self.first, &mut self.second, self.root, commands) {
+            Ok(done) => {
+                self.root = done.root;
+                let mut replies = done.replies;
+                let Some(reply) = replies.pop() else {
+                    unreachable!()
+                };
+                Ok(reply)
+            }
+            Err((_, error)) => Err(error),
+        }
     }
 }

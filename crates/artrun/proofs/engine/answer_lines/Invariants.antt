@@ -1,0 +1,6 @@
+use Rattle.artrun.specs.KeptTrees.{IsKept}
+use Rattle.artrun.proofs.engine.answer_lines.Given as goal
+
+-- the root is canonical
+abbrev pub invariant-loop-number : goal.invariant-loop-number
+invariant-loop-number g l = IsKept l.tree
