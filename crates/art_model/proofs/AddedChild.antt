@@ -1,5 +1,5 @@
 -- A leaf more among the children of the node in the hole: where it comes, and the names of the whole trees before and after.
-use Rattle.std.proofs.Common.{◌≡◌, ◌≢◌, ℕ, suc, ◌+◌, ◌<◌, ◌≤◌, List, [], ◌∷◌, ◌++◌, length, map, Option, Some, None, refl, ap, sym, ◌∙◌, subst, arith, eq-eqb, append_assoc, append-nil, ◌⊎◌, inl, inr}
+use Rattle.std.proofs.Common.{◌≡◌, ◌≢◌, ℕ, suc, ◌<◌, ◌≤◌, List, [], ◌∷◌, ◌++◌, length, map, Option, Some, None, refl, ap, sym, ◌∙◌, subst, arith, eq-eqb, ◌⊎◌, inl, inr}
 use Rattle.std.specs.List.{AllByRecursion as Each}
 use Rattle.std.specs.Option.{option_map}
 use Rattle.std.proofs.lemmas.Bool.{cases_order, ne_eqb}
@@ -7,7 +7,6 @@ use Rattle.art_nodes.specs.Inner.{child_at}
 use Rattle.art_nodes.specs.Kinds.{kind_capacity, larger_kind}
 use Rattle.art_nodes.specs.Names.{leaf_name, inner_name}
 use Rattle.art_nodes.specs.Nodes.{Nodes}
-use Rattle.art_nodes.specs.declared.node.InnerPtr.{InnerPtr}
 use Rattle.art_nodes.specs.declared.node.LeafNode.{LeafNode}
 use Rattle.art_nodes.specs.declared.node.LeafPtr.{LeafPtr}
 use Rattle.art_nodes.specs.declared.node.NodeType.{NodeType}
@@ -22,12 +21,12 @@ use Rattle.art_model.specs.Pairs.{put}
 use Rattle.art_model.specs.Kept.{ChangesInPlace}
 use Rattle.art_model.specs.Footprints.{IsIn, Footprint}
 use Rattle.art_model.proofs.Canonical.{IsLaidOut}
-use Rattle.art_model.proofs.InHole.{in_whole, names_in_hole}
+use Rattle.art_model.proofs.InHole.{names_in_hole}
 use Rattle.art_model.proofs.InPlace.{AreNames, in_place}
 use Rattle.art_model.proofs.Inserted.{ChildInserted, child_inserted, child_keeps, child_keeps_leaves}
 use Rattle.art_model.proofs.Leaves.{listed}
 use Rattle.art_model.proofs.Links.{last_in, first_in}
-use Rattle.art_model.proofs.Lists.{Each-weaker, each_in, each_from, in_left, in_right, in_either, in_around}
+use Rattle.art_model.proofs.Lists.{Each-weaker, each_in, each_from, in_left, in_right, in_either}
 use Rattle.art_model.proofs.Names.{among, takes_leaves}
 use Rattle.art_model.proofs.Paths.{root_with, names_below-join, names_of-plug}
 use Rattle.art_model.proofs.Placed.{LeafPlaced}

@@ -1,5 +1,5 @@
 -- A branch is placed, from the equations of the store's maps: a leaf and a node above it and the tree in the hole, which may be touched itself.
-use Rattle.std.proofs.Common.{◌≡◌, ◌≢◌, ℕ, ◌+◌, ◌≤◌, List, [], ◌∷◌, ◌++◌, length, take, Option, Some, None, refl, ap, ap₂, sym, ◌∙◌, subst, map, arith, length-append, cond, ltb, Bool, true, false, ◌⊎◌, inl, inr}
+use Rattle.std.proofs.Common.{◌≡◌, ◌≢◌, ℕ, ◌+◌, ◌≤◌, List, [], ◌∷◌, ◌++◌, length, take, Option, Some, None, refl, ap, sym, ◌∙◌, subst, map, arith, length-append, cond, ltb, Bool, true, false, ◌⊎◌, inl, inr}
 use Rattle.std.specs.List.{AllByRecursion as Each}
 use Rattle.std.proofs.lemmas.List.{map-append}
 use Rattle.std.specs.Option.{option_map}
@@ -21,7 +21,7 @@ use Rattle.art_model.specs.Trees.{Tree, leaf, inner, Children, child, no_child, 
 use Rattle.art_model.specs.Radix.{bytes_of}
 use Rattle.art_model.specs.Paths.{Frame, plug, leaves_before, leaves_after}
 use Rattle.art_model.specs.Layouts.{Node, inner_node, name_of, slots_of, names_of, leaf_names}
-use Rattle.art_model.specs.Stores.{node_at, links_at, pair_of, header_at}
+use Rattle.art_model.specs.Stores.{node_at, links_at, pair_of}
 use Rattle.art_model.specs.Writes.{Inners, as_inner, parent_of, with_child_at}
 use Rattle.art_model.specs.Kept.{ChangesInPlace}
 use Rattle.art_model.specs.Footprints.{IsIn, Footprint, TouchesAtMost}
@@ -29,7 +29,7 @@ use Rattle.art_model.proofs.Lists.{each_in, each_from, each_map, in_map, in_left
 use Rattle.art_model.proofs.Canonical.{IsLaidOut}
 use Rattle.art_model.proofs.Changes.{two_children}
 use Rattle.art_model.proofs.Paths.{IsHole}
-use Rattle.art_model.proofs.Stores.{IsParent, ParentHas, SameBut, path_holds, parent_apart}
+use Rattle.art_model.proofs.Stores.{IsParent, SameBut, path_holds, parent_apart}
 use Rattle.art_model.proofs.Inserted.{BranchPlaced, BranchInserted, branch_keeps, branch_keeps_leaves, split_leaf, trimmed_node}
 use Rattle.art_model.proofs.Touches.{Touched, IsInner, both_names, footprint_of, touches_at_most, touched_none, then_placed, then_changed}
 use Rattle.art_model.proofs.Leaves.{listed, length-listed}

@@ -1,5 +1,5 @@
 -- A tree that is one leaf loses it, from the equations of the store's maps.
-use Rattle.std.proofs.Common.{◌≡◌, ◌≢◌, ℕ, List, [], ◌∷◌, ◌++◌, Option, Some, None, refl, ap, ap₂, sym, ◌∙◌, subst, arith, inl, inr}
+use Rattle.std.proofs.Common.{◌≡◌, ℕ, List, [], ◌∷◌, ◌++◌, Option, Some, None, refl, ap₂, sym, subst, arith, inr}
 use Rattle.std.specs.Option.{option_map}
 use Rattle.art_nodes.specs.Names.{leaf_name}
 use Rattle.art_nodes.specs.Nodes.{Nodes}
@@ -9,7 +9,7 @@ use Rattle.art_nodes.specs.declared.node.OpaqueNodePtr.{OpaqueNodePtr}
 use Rattle.art_model.specs.Trees.{leaf}
 use Rattle.art_model.specs.Stores.{node_at, links_at, pair_of}
 use Rattle.art_model.specs.Kept.{ChangesInPlace}
-use Rattle.art_model.specs.Footprints.{Footprint, TouchesAtMost}
+use Rattle.art_model.specs.Footprints.{TouchesAtMost}
 use Rattle.art_model.proofs.Canonical.{IsLaidOut}
 use Rattle.art_model.proofs.InPlace.{in_place}
 use Rattle.art_model.proofs.Touches.{Touched, footprint_of, touches_at_most, touched_none}

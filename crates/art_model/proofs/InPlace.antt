@@ -1,12 +1,8 @@
 -- What a change in place keeps, from the lists of names that it touches and from the model's lists of nodes.
-use Rattle.std.proofs.Common.{◌≡◌, ◌≢◌, ℕ, List, refl, ap, sym, ◌∙◌, Option, Some, None, ◌⊎◌, inl, inr}
-use Rattle.std.specs.List.{AllByRecursion as Each}
+use Rattle.std.proofs.Common.{◌≡◌, ℕ, List, refl, sym, Option, None, ◌⊎◌, inl, inr}
 use Rattle.art_nodes.specs.Nodes.{Nodes}
-use Rattle.art_nodes.specs.declared.node.NodeType.{NodeType}
 use Rattle.art_nodes.specs.declared.node.OpaqueNodePtr.{OpaqueNodePtr}
 use Rattle.art_model.specs.Trees.{Tree}
-use Rattle.art_model.specs.Layouts.{leaves_of}
-use Rattle.art_model.specs.Places.{inner_nodes}
 use Rattle.art_model.specs.Stores.{held, IsUsed}
 use Rattle.art_model.specs.Footprints.{IsIn, Footprint}
 use Rattle.art_model.specs.Kept.{names_in, leaves_in, inners_in, KeepsOthers, ChangesInPlace}

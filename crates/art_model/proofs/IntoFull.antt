@@ -24,7 +24,6 @@ use Rattle.art_model.specs.Writes.{Inners, as_inner, parent_of, with_child_at}
 use Rattle.art_model.specs.Footprints.{IsIn, TouchesAtMost}
 use Rattle.art_model.proofs.AddedChild.{ChildAdded, child_added, kind_of-larger, names_with_both, beside_in, parent_in}
 use Rattle.art_model.proofs.Canonical.{IsLaidOut}
-use Rattle.art_model.proofs.InHole.{in_whole}
 use Rattle.art_model.proofs.Inserted.{ChildInserted}
 use Rattle.art_model.proofs.Leaves.{listed, length-listed}
 use Rattle.art_model.proofs.Lists.{in_either}

@@ -1,5 +1,5 @@
 -- A pair takes the place of one with an equal key in its leaf, from the equations of the store's maps: what is laid out then, and what is touched.
-use Rattle.std.proofs.Common.{◌≡◌, ◌≢◌, ℕ, ◌≤◌, List, [], ◌∷◌, length, Option, Some, None, refl, ap, sym, ◌∙◌, subst, arith, true, inl, inr}
+use Rattle.std.proofs.Common.{◌≡◌, ◌≢◌, ℕ, List, [], ◌∷◌, Some, None, refl, ap, sym, ◌∙◌, subst, arith, true, inl, inr}
 use Rattle.std.specs.Option.{option_map}
 use Rattle.std.specs.FinMap.{get}
 use Rattle.art_nodes.specs.Changes.{with_pair}
@@ -13,7 +13,6 @@ use Rattle.art_nodes.proofs.StoreLaws.{leaf_changed_at, leaf_changed_elsewhere}
 use Rattle.art_model.specs.Keys.{are_same}
 use Rattle.art_model.specs.Pairs.{first_of, with_key, put, put_reply}
 use Rattle.art_model.specs.Trees.{leaf}
-use Rattle.art_model.specs.Radix.{pairs_of}
 use Rattle.art_model.specs.Paths.{Frame, plug}
 use Rattle.art_model.specs.Layouts.{leaf_node}
 use Rattle.art_model.specs.Stores.{node_at, links_at, pair_of}
@@ -24,7 +23,7 @@ use Rattle.art_model.proofs.Between.{put-between}
 use Rattle.art_model.proofs.Canonical.{IsLaidOut}
 use Rattle.art_model.proofs.Chains.{links_leaf, links_inner}
 use Rattle.art_model.proofs.InHole.{in_whole, names_in_hole, root_stays, with_key-hole}
-use Rattle.art_model.proofs.InPlace.{AreNames, in_place}
+use Rattle.art_model.proofs.InPlace.{in_place}
 use Rattle.art_model.proofs.Kept.{kept_leaf}
 use Rattle.art_model.proofs.Keys.{front_same}
 use Rattle.art_model.proofs.Leaves.{same_leaf}

@@ -1,6 +1,5 @@
 -- A leaf among those of a layout, before it goes: the leaves beside it.
-use Rattle.std.proofs.Common.{◌≡◌, List, [], ◌∷◌, ◌++◌, ℕ, ◌≤◌, length, arith, Option, Some, None, refl, ap, sym, ◌∙◌, subst, append_assoc, inl, inr}
-use Rattle.std.specs.List.{AllByRecursion as Each}
+use Rattle.std.proofs.Common.{◌≡◌, List, [], ◌∷◌, ◌++◌, ℕ, arith, Option, Some, None, refl, ap, sym, ◌∙◌, subst, append_assoc, inl, inr}
 use Rattle.std.specs.Option.{option_map}
 use Rattle.std.specs.FinMap.{get}
 use Rattle.art_nodes.specs.Names.{leaf_name}
@@ -9,7 +8,7 @@ use Rattle.art_nodes.specs.declared.node.LeafPtr.{LeafPtr}
 use Rattle.art_nodes.specs.declared.node.LeafNode.{LeafNode}
 use Rattle.art_nodes.specs.declared.node.OpaqueNodePtr.{OpaqueNodePtr}
 use Rattle.art_model.specs.Trees.{Tree, leaf, inner, Children, child, no_child}
-use Rattle.art_model.specs.Radix.{IsRadix, bytes_of, pairs_of, pairs_below}
+use Rattle.art_model.specs.Radix.{IsRadix, pairs_of, pairs_below}
 use Rattle.art_model.specs.Layouts.{Links, leaf_names, leaf_names_below, names_of, Holds, HoldsBelow, AreLinked, first_or, last_or}
 use Rattle.art_model.specs.Stores.{node_at, links_at, pair_of}
 use Rattle.art_model.specs.Writes.{IsThere}

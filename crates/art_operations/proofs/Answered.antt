@@ -4,7 +4,6 @@ use Rattle.art_nodes.specs.Nodes.{Nodes}
 use Rattle.art_nodes.specs.declared.node.OpaqueNodePtr.{OpaqueNodePtr}
 use Rattle.art_model.specs.Canonical.{IsTree}
 use Rattle.art_model.specs.Keys.{IsFront}
-use Rattle.art_model.specs.Paths.{plug}
 use Rattle.art_model.specs.Places.{depth_of, place_of}
 use Rattle.art_model.specs.Radix.{IsRadix}
 use Rattle.art_model.specs.Trees.{Tree}

@@ -1,10 +1,10 @@
 -- what an applied insert point leaves, read off the whole record of it: for whatever layout of the new root
-use Rattle.std.proofs.Common.{◌≡◌, ℕ, List, Option, Some, Result, IfOk, sym, subst}
+use Rattle.std.proofs.Common.{◌≡◌, ℕ, List, Some, Result, IfOk, sym, subst}
 use Rattle.std.specs.Option.{option_map}
 use Rattle.std.proofs.lemmas.Result.{IfOk-weaker}
 use Rattle.art_nodes.specs.Nodes.{Nodes}
 use Rattle.art_nodes.specs.declared.node.OpaqueNodePtr.{OpaqueNodePtr}
-use Rattle.art_model.specs.Canonical.{IsTree, IsCanonical}
+use Rattle.art_model.specs.Canonical.{IsCanonical}
 use Rattle.art_model.specs.Kept.{ChangesInPlace}
 use Rattle.art_model.specs.Pairs.{put, put_reply}
 use Rattle.art_model.specs.Roots.{ForTree}

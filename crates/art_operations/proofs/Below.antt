@@ -1,5 +1,5 @@
 -- The leaf of a delete point below its parent, and what the writes that take it out leave.
-use Rattle.std.proofs.Common.{◌≡◌, ◌≢◌, ℕ, suc, ◌<◌, ◌≤◌, List, [], ◌∷◌, length, Bool, true, false, cond, leb, refl, ap, sym, ◌∙◌, subst, arith, Option, Some, None, IsSome, is_some, IfSome, IsSomeAnd, inl, inr}
+use Rattle.std.proofs.Common.{◌≡◌, ◌≢◌, ℕ, suc, ◌<◌, ◌≤◌, List, [], ◌∷◌, length, Bool, true, false, cond, leb, refl, ap, sym, ◌∙◌, subst, arith, Option, Some, None, IsSome, is_some, IfSome, IsSomeAnd}
 use Rattle.std.specs.FinMap.{get, insert, remove}
 use Rattle.std.proofs.lemmas.Bool.{leb-true, leb-false}
 use Rattle.art_nodes.specs.Changes.{without_child}
@@ -14,7 +14,6 @@ use Rattle.art_nodes.specs.declared.node.LeafPtr.{LeafPtr}
 use Rattle.art_nodes.specs.declared.node.LeafNode.{LeafNode}
 use Rattle.art_nodes.specs.declared.node.OpaqueNodePtr.{OpaqueNodePtr}
 use Rattle.art_model.specs.Canonical.{IsTree}
-use Rattle.art_model.specs.Footprints.{TouchesAtMost}
 use Rattle.art_model.specs.Kept.{ChangesInPlace}
 use Rattle.art_model.specs.Layouts.{name_of}
 use Rattle.art_model.specs.Pairs.{remove_key}
@@ -22,7 +21,7 @@ use Rattle.art_model.specs.Paths.{Frame, plug}
 use Rattle.art_model.specs.Radix.{bytes_of, join}
 use Rattle.art_model.specs.Stores.{node_at, links_at, pair_of}
 use Rattle.art_model.specs.Trees.{Tree, leaf, child}
-use Rattle.art_model.specs.Writes.{Inners, as_inner, parent_of, with_child_at, without_leaf, IsThere}
+use Rattle.art_model.specs.Writes.{as_inner, parent_of, with_child_at, without_leaf}
 use Rattle.art_model.proofs.Canonical.{IsLaidOut, laid_out, canonical_from}
 use Rattle.art_model.proofs.OutOf.{smaller_inner, HasLeafBelow, LeafGoes, ParentStays, ParentShrinks, with_leaf_in, links_there, parent_is, one_more, slots_left, room_in_smaller, above_same, above_holds, hole, left_out, stays_laid_out, stays_in_place, stays_touches, shrunk, shrinks_laid_out, shrinks_in_place, shrinks_touches}
 use Rattle.art_model.proofs.Paths.{root_with as root_of}
@@ -30,7 +29,6 @@ use Rattle.art_model.proofs.Slots.{length-slots_of}
 use Rattle.art_model.proofs.Stores.{IsParent}
 use Rattle.art_model.proofs.Writes.{parent_ready}
 use Rattle.art_operations.specs.declared.delete.DeletePoint.{DeletePoint}
-use Rattle.art_operations.specs.declared.delete.DeleteResult.{DeleteResult}
 use Rattle.art_operations.specs.declared.path.TreePath.{TreePath}
 use Rattle.art_operations.specs.declared.path.TreePath.TheVariants.{Root, ChildOfRoot, Normal}
 use Rattle.art_operations.specs.Deleted.{IsDeleted, IsRootAfter, LeadsTo, TouchesFor, ParentChange, change_of, parent_change, no_parent, keeps, shrinks, is_compressed}

@@ -9,7 +9,6 @@ use Rattle.art_nodes.specs.declared.node.LeafPtr.{LeafPtr}
 use Rattle.art_nodes.specs.declared.node.OpaqueNodePtr.{OpaqueNodePtr}
 use Rattle.art_model.specs.Layouts.{AreLinked, Links, first_or, last_or, leaf_names, leaf_names_below}
 use Rattle.art_model.specs.Pairs.{first_of, last_of}
-use Rattle.art_model.specs.Radix.{join}
 use Rattle.art_model.specs.Stores.{links_at}
 use Rattle.art_model.specs.Trees.{Children, child, no_child}
 use Rattle.art_model.proofs.Chains.{links_leaf}

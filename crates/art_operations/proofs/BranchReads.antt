@@ -1,5 +1,5 @@
 -- What is read before a branch is placed: where the key parts from those below the end of its way, and the leaves beside the new one.
-use Rattle.std.proofs.Common.{◌≡◌, ◌≢◌, ℕ, ◌+◌, ◌-◌, ◌<◌, ◌≤◌, List, [], ◌∷◌, ◌++◌, length, take, drop, get_or, slice_get, Option, Some, None, IsSomeAnd, refl, ap, ap₂, sym, ◌∙◌, subst, arith, cond, ltb, Bool, true, false, append_assoc, append-nil, length-append, take_at, drop_at}
+use Rattle.std.proofs.Common.{◌≡◌, ◌≢◌, ℕ, ◌+◌, ◌-◌, ◌<◌, ◌≤◌, List, [], ◌∷◌, ◌++◌, length, take, drop, get_or, Option, Some, None, IsSomeAnd, refl, ap, ap₂, sym, ◌∙◌, subst, arith, cond, ltb, Bool, true, false, append_assoc, append-nil, length-append, take_at}
 use Rattle.std.proofs.lemmas.List.{get_or_at, take-append-drop}
 use Rattle.std.proofs.lemmas.Option.{slice_get_within, get_or_from_slice_get}
 use Rattle.std.specs.Option.{option_map, option_and_then}
@@ -21,7 +21,7 @@ use Rattle.art_model.specs.Roots.{IsFullTree}
 use Rattle.art_model.specs.Radix.{IsRadix}
 use Rattle.art_model.specs.Stores.{links_at, links_of, held_leaf, node_at, pair_of}
 use Rattle.art_model.specs.Trees.{Tree, leaf, inner, Children, Header}
-use Rattle.art_model.proofs.Links.{link_of, last_or-append, first_or-append}
+use Rattle.art_model.proofs.Links.{link_of, last_or-append}
 use Rattle.art_model.proofs.KeyLaws.{common_front_is_longest}
 use Rattle.art_model.proofs.Lists.{after_front}
 use Rattle.art_model.proofs.Paths.{leaf_names-plug}

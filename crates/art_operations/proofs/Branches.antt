@@ -1,5 +1,5 @@
 -- A branch at the end of a point's path: what a store has there, and what it is when the branch is placed.
-use Rattle.std.proofs.Common.{◌≡◌, ◌≢◌, ℕ, ◌+◌, ◌<◌, ◌≤◌, List, [], ◌∷◌, ◌++◌, length, take, drop, Option, Some, None, IsSome, IsSomeAnd, IfSome, is_some, refl, ap, ap₂, sym, ◌∙◌, subst, cond, ltb, Bool, true, false, append_assoc, append-nil}
+use Rattle.std.proofs.Common.{◌≡◌, ◌≢◌, ℕ, List, [], ◌∷◌, ◌++◌, length, take, Option, Some, None, IsSome, IsSomeAnd, IfSome, is_some, refl, ap, ap₂, sym, ◌∙◌, subst, cond, ltb, Bool, true, false, append_assoc, append-nil}
 use Rattle.std.specs.List.{AllByRecursion as Each}
 use Rattle.std.specs.Option.{option_map}
 use Rattle.std.specs.FinMap.{get, insert}
@@ -8,7 +8,6 @@ use Rattle.art_nodes.specs.Inner.{Inner, Prefix, childless, child_at}
 use Rattle.art_nodes.specs.Names.{leaf_name, inner_name}
 use Rattle.art_nodes.specs.Nodes.{Nodes}
 use Rattle.art_nodes.specs.declared.node.InnerPtr.{InnerPtr}
-use Rattle.art_nodes.specs.declared.node.LeafPtr.{LeafPtr}
 use Rattle.art_nodes.specs.declared.node.LeafNode.{LeafNode}
 use Rattle.art_nodes.specs.declared.node.OpaqueNodePtr.{OpaqueNodePtr}
 use Rattle.art_nodes.proofs.StoreLaws.{inner_elsewhere}
@@ -21,7 +20,7 @@ use Rattle.art_model.specs.Pairs.{with_key, put, put_reply, related_to, first_of
 use Rattle.art_model.specs.Paths.{Frame, plug, fill, leaves_before, leaves_after}
 use Rattle.art_model.specs.Places.{depth_of, least_key}
 use Rattle.art_model.specs.Radix.{pairs_of}
-use Rattle.art_model.specs.Stores.{node_at, links_at, pair_of}
+use Rattle.art_model.specs.Stores.{node_at, links_at}
 use Rattle.art_model.specs.Trees.{Tree, leaf, inner, child, no_child, header_of}
 use Rattle.art_model.specs.Writes.{Inners, IsThere, with_child_at, with_leaf, parent_of}
 use Rattle.art_model.proofs.Branches.{BranchStored, branch_in_place}
@@ -49,7 +48,7 @@ use Rattle.art_operations.specs.declared.insert.branch.Branch.{Branch}
 use Rattle.art_operations.specs.declared.path.TreePath.{TreePath}
 use Rattle.art_operations.specs.declared.path.TreePath.TheVariants.{Root, ChildOfRoot, Normal}
 use Rattle.art_operations.specs.Branches.{ForEnd, IsBranch, IsPlaced}
-use Rattle.art_operations.specs.Inserted.{IsInserted, HasInserted, IsChange, alone, root_after}
+use Rattle.art_operations.specs.Inserted.{IsInserted, IsChange, alone, root_after}
 use Rattle.art_operations.specs.Points.{AnswersTo, path_of, step_down}
 use Rattle.art_operations.specs.Writes.{HasChild, last_step, root_with}
 use Rattle.art_operations.proofs.Partings.{unrelated_after}

@@ -1,6 +1,6 @@
 -- A node goes with one of its two children, and the other takes its place.
-use Rattle.std.proofs.Common.{◌≡◌, ℕ, ◌+◌, List, [], ◌∷◌, ◌++◌, length, take, min, refl, ap, sym, ◌∙◌, arith, append_assoc}
-use Rattle.std.proofs.lemmas.List.{take-take, take_all}
+use Rattle.std.proofs.Common.{◌≡◌, ℕ, ◌+◌, List, [], ◌∷◌, ◌++◌, length, take, min, refl, ap, ◌∙◌, arith, append_assoc}
+use Rattle.std.proofs.lemmas.List.{take-take}
 use Rattle.art_nodes.specs.Inner.{Prefix, header_of}
 use Rattle.art_nodes.proofs.HeaderLaws.{extended_header, len_of_header, stored_of_header}
 

@@ -1,5 +1,5 @@
 -- How many inner nodes of each kind there are: in trees, with another tree in the hole of a path, and in the tree of pairs.
-use Rattle.std.proofs.Common.{◌≡◌, ◌≢◌, ℕ, ◌+◌, ◌<◌, ◌≤◌, List, [], ◌∷◌, length, cond, eqb, ltb, refl, ap, ap₂, sym, ◌∙◌, arith, Option, Some, None}
+use Rattle.std.proofs.Common.{◌≡◌, ◌≢◌, ℕ, ◌+◌, ◌≤◌, List, [], ◌∷◌, cond, eqb, refl, ap, ap₂, sym, ◌∙◌, arith, Option, Some, None}
 use Rattle.std.proofs.lemmas.Bool.{lt-ltb, le-ltb}
 use Rattle.art_nodes.specs.Nodes.{kind_index}
 use Rattle.art_nodes.specs.declared.node.NodeType.{NodeType}

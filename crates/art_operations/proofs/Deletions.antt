@@ -9,7 +9,7 @@ use Rattle.art_nodes.specs.declared.node.LeafNode.{LeafNode}
 use Rattle.art_nodes.specs.declared.node.OpaqueNodePtr.{OpaqueNodePtr}
 use Rattle.art_model.specs.Canonical.{IsTree, IsCanonical}
 use Rattle.art_model.specs.Kept.{ChangesInPlace}
-use Rattle.art_model.specs.Layouts.{leaf_node, Node, Holds, name_of}
+use Rattle.art_model.specs.Layouts.{leaf_node, Node, Holds}
 use Rattle.art_model.specs.Pairs.{of_key, remove_key}
 use Rattle.art_model.specs.Paths.{Frame, plug, HoldsPath}
 use Rattle.art_model.specs.Roots.{ForRoot, ForTree, IsCanonicalRoot, IsRootOf}

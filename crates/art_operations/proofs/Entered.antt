@@ -1,9 +1,8 @@
 -- a leaf that comes below an inner node, as an insertion: the point's node, where the leaf stands, and what the writes leave
-use Rattle.std.proofs.Common.{◌≡◌, ◌≢◌, ℕ, suc, ◌+◌, ◌<◌, ◌≤◌, List, [], ◌∷◌, ◌++◌, length, drop, get_or, Option, Some, None, IsSome, IsSomeAnd, IfSome, refl, leb, ap, sym, ◌∙◌, subst, arith, append_assoc, length-append, false, inl, inr}
+use Rattle.std.proofs.Common.{◌≡◌, ◌≢◌, ℕ, ◌<◌, List, [], ◌∷◌, ◌++◌, length, drop, get_or, Option, Some, None, IsSome, IsSomeAnd, IfSome, refl, leb, ap, sym, ◌∙◌, subst, arith, append_assoc, length-append, false, inl}
 use Rattle.std.specs.List.{AllByRecursion as Each}
 use Rattle.std.specs.FinMap as map
 use Rattle.std.specs.Option.{option_map}
-use Rattle.art_nodes.specs.Changes.{with_child}
 use Rattle.art_nodes.specs.Inner.{Inner, child_at}
 use Rattle.art_nodes.specs.Kinds.{kind_capacity}
 use Rattle.art_nodes.specs.Names.{leaf_name, inner_name}
@@ -11,18 +10,17 @@ use Rattle.art_nodes.specs.Nodes.{Nodes}
 use Rattle.art_nodes.specs.declared.node.NodeType.TheVariants.{Leaf}
 use Rattle.art_nodes.specs.declared.node.InnerPtr.{InnerPtr}
 use Rattle.art_nodes.specs.declared.node.LeafPtr.{LeafPtr}
-use Rattle.art_nodes.specs.declared.node.LeafNode.{LeafNode}
 use Rattle.art_nodes.specs.declared.node.OpaqueNodePtr.{OpaqueNodePtr}
 use Rattle.art_nodes.proofs.StoreLaws.{inner_gone_elsewhere}
 use Rattle.art_model.specs.Canonical.{IsTree}
-use Rattle.art_model.specs.Keys.{IsFront, are_related, are_same}
+use Rattle.art_model.specs.Keys.{IsFront, are_same}
 use Rattle.art_model.specs.Kept.{ChangesInPlace}
-use Rattle.art_model.specs.Layouts.{Holds, slots_of, leaf_names, leaf_names_below, AreLinked, first_or, last_or}
+use Rattle.art_model.specs.Layouts.{slots_of}
 use Rattle.art_model.specs.Pairs.{first_of, with_key, put}
-use Rattle.art_model.specs.Paths.{Frame, plug, leaves_before, leaves_after}
+use Rattle.art_model.specs.Paths.{Frame, plug}
 use Rattle.art_model.specs.Places.{depth_of, prefix_of}
 use Rattle.art_model.specs.Radix.{IsRadix, AreRadix, bytes_of, join, pairs_of, pairs_below}
-use Rattle.art_model.specs.Stores.{node_at, links_at, pair_of}
+use Rattle.art_model.specs.Stores.{node_at, links_at}
 use Rattle.art_model.specs.Trees.{Tree, leaf, inner, Children, child, no_child, Header, kind_of}
 use Rattle.art_model.specs.Writes.{parent_of}
 use Rattle.art_model.proofs.AddedChild.{ChildAdded, split_at}

@@ -1,5 +1,5 @@
 -- keys that part at a byte right after the bytes that they share
-use Rattle.std.proofs.Common.{◌≡◌, ◌≢◌, ℕ, ◌<◌, ◌≤◌, List, [], ◌∷◌, ◌++◌, length, ap, sym, ◌∙◌, arith, append_assoc, length-append, false, ◌⊎◌, inl, inr}
+use Rattle.std.proofs.Common.{◌≡◌, ◌≢◌, ℕ, ◌<◌, ◌≤◌, List, [], ◌∷◌, ◌++◌, length, ap, sym, ◌∙◌, arith, append_assoc, length-append, false, inl, inr}
 use Rattle.std.proofs.lemmas.Bool.{cases_order, true≢false}
 use Rattle.art_model.specs.Keys.{IsFront, are_related, common_front}
 use Rattle.art_model.proofs.Lists.{common_front_left, common_front_right}

@@ -1,5 +1,5 @@
 -- What is found under a key, and which pair a command takes out.
-use Rattle.std.proofs.Common.{◌≡◌, ◌≢◌, ℕ, List, [], ◌∷◌, length, map, filter, refl, ap, ap₂, sym, ◌&&◌, ◌||◌, ◌∙◌, subst, Option, Some, None, Bool, true, false, not}
+use Rattle.std.proofs.Common.{◌≡◌, ℕ, List, [], ◌∷◌, length, map, filter, refl, ap, ap₂, sym, ◌&&◌, ◌||◌, ◌∙◌, subst, Option, Some, None, Bool, true, false, not}
 use Rattle.std.specs.List.{AllByRecursion as Each, list_any}
 use Rattle.std.specs.Global.{Vec}
 use Rattle.std.specs.Option.{is_some}
@@ -16,7 +16,7 @@ use Rattle.art_model.specs.Keys.{are_related, are_same, Precedes}
 use Rattle.art_model.specs.Layouts.{Holds}
 use Rattle.art_model.specs.Lookups.{FindsLeaf, HasLeaf}
 use Rattle.art_model.specs.Stores.{node_at, pair_of}
-use Rattle.art_model.specs.Pairs.{first_of, last_of, without_first, IsMap, with_key, has_key, is_conflict, of_key, remove_key, remove_reply}
+use Rattle.art_model.specs.Pairs.{first_of, last_of, IsMap, with_key, has_key, is_conflict, of_key, remove_key, remove_reply}
 use Rattle.art_model.specs.Trees.{Tree, leaf}
 use Rattle.art_model.proofs.Stores.{path_holds}
 use Rattle.art_model.proofs.Views.{leaf_there}

@@ -17,7 +17,7 @@ use Rattle.art_model.specs.Roots.{IsFullTree}
 use Rattle.art_model.specs.Stores.{node_at}
 use Rattle.art_model.specs.Trees.{Tree, inner, Children, child, no_child, Header}
 use Rattle.art_model.proofs.Edges.{children_right, last_child}
-use Rattle.art_model.proofs.Lists.{Each-left, Each-right, Each-weaker}
+use Rattle.art_model.proofs.Lists.{Each-right, Each-weaker}
 use Rattle.art_model.proofs.Pairwises.{Pairwise-left, Pairwise-right}
 use Rattle.art_model.proofs.Paths.{names_below-join}
 use Rattle.art_model.proofs.PlaceLaws.{join_none}

@@ -1,5 +1,5 @@
 -- a leaf that is placed below the node of a point, which has room or gives way to a larger one
-use Rattle.std.proofs.Common.{◌≡◌, ◌≢◌, ℕ, suc, ◌<◌, ◌≤◌, List, [], ◌∷◌, ◌++◌, length, Bool, true, false, cond, leb, Option, Some, None, IsSomeAnd, IfSome, is_some, refl, ap, ap₂, sym, ◌∙◌, subst, arith, append_assoc, inl}
+use Rattle.std.proofs.Common.{◌≡◌, ◌≢◌, ℕ, ◌<◌, ◌≤◌, List, ◌++◌, length, Bool, true, false, cond, Option, Some, None, IsSomeAnd, IfSome, is_some, refl, ap, ap₂, sym, ◌∙◌, subst, arith, append_assoc, inl}
 use Rattle.std.proofs.lemmas.Bool.{leb-true, leb-false}
 use Rattle.std.specs.FinMap as map
 use Rattle.std.specs.Option.{option_map}
@@ -19,14 +19,13 @@ use Rattle.art_model.specs.Footprints.{TouchesAtMost}
 use Rattle.art_model.specs.Layouts.{AreLinked, leaf_names, leaf_names_below, first_or, last_or}
 use Rattle.art_model.specs.Paths.{plug, leaves_before, leaves_after}
 use Rattle.art_model.specs.Radix.{bytes_of, join}
-use Rattle.art_model.specs.Stores.{node_at, links_at}
+use Rattle.art_model.specs.Stores.{links_at}
 use Rattle.art_model.specs.Trees.{Tree, inner, kind_of}
-use Rattle.art_model.specs.Writes.{Inners, IsThere, parent_of, with_child_at, with_leaf}
+use Rattle.art_model.specs.Writes.{Inners, IsThere, with_child_at, with_leaf}
 use Rattle.art_model.proofs.Chains.{AreThere, are_there, previous_there, next_there}
 use Rattle.art_model.proofs.InHole.{root_stays}
 use Rattle.art_model.proofs.IntoFull.{IntoFull, full_added, full_touches}
 use Rattle.art_model.proofs.IntoRoom.{IntoRoom, room_added, room_touches}
-use Rattle.art_model.proofs.Paths as paths
 use Rattle.art_model.proofs.Paths.{leaf_names-plug, leaf_names_below-join}
 use Rattle.art_model.proofs.Placed.{LeafPlaced}
 use Rattle.art_model.proofs.Slots.{IsInRange, range_of_kind}

@@ -3,7 +3,7 @@ use Rattle.std.proofs.Common.{◌≡◌, ◌≢◌, Option, Some, None, IsSome, 
 use Rattle.std.specs.Option.{option_map}
 use Rattle.std.specs.FinMap.{get, insert}
 use Rattle.art_nodes.specs.Names.{leaf_name}
-use Rattle.art_nodes.specs.Nodes.{Nodes, leaf_cmp, change}
+use Rattle.art_nodes.specs.Nodes.{Nodes, change}
 use Rattle.art_nodes.specs.declared.node.LeafPtr.{LeafPtr}
 use Rattle.art_nodes.specs.declared.node.LeafNode.{LeafNode}
 use Rattle.art_nodes.specs.declared.node.OpaqueNodePtr.{OpaqueNodePtr}
@@ -13,7 +13,7 @@ use Rattle.art_model.specs.Layouts.{Holds}
 use Rattle.art_model.specs.Lookups.{HasLeaf}
 use Rattle.art_model.specs.Stores.{node_at, pair_of}
 use Rattle.art_model.specs.Trees.{Tree, leaf}
-use Rattle.art_model.specs.Writes.{Leaves, IsThere, change_some, joined, with_next, with_previous}
+use Rattle.art_model.specs.Writes.{Leaves, IsThere, joined}
 use Rattle.art_model.proofs.Touches.{still_placed}
 use Rattle.art_model.proofs.Leaves.{joined_pair}
 use Rattle.art_model.proofs.Shown.{no_leaf_gone}

@@ -1,5 +1,5 @@
 -- Steps from a tree in the first store, whatever the second one holds.
-use Rattle.std.proofs.Common.{◌≡◌, ℕ, List, [], ◌∷◌, ◌++◌, refl, ap, ap₂, sym, ◌∙◌, subst, Option, Some, None, Bool}
+use Rattle.std.proofs.Common.{◌≡◌, ℕ, List, [], refl, ap, ap₂, sym, ◌∙◌, subst, Option, Some, None, Bool}
 use Rattle.std.specs.Option.{option_map}
 use Rattle.art_nodes.specs.Nodes.{Nodes}
 use Rattle.art_nodes.specs.declared.node.OpaqueNodePtr.{OpaqueNodePtr}
@@ -13,7 +13,7 @@ use Rattle.art_model.specs.Trees.{Tree}
 use Rattle.art_model.proofs.Canonical.{IsLaidOut, laid_out, canonical_from, tree_radix}
 use Rattle.art_operations.specs.Answers.{Answers}
 use Rattle.art_operations.specs.Steps.{State, SameNodes, NothingChanged, IsSound, Step, pairs_in}
-use Rattle.art_operations.specs.Runs.{Shown, on, shown, MakesStep}
+use Rattle.art_operations.specs.Runs.{on, shown, MakesStep}
 use Rattle.art_operations.specs.declared.run.Command.{Command}
 use Rattle.art_operations.specs.declared.run.Reply.{Reply}
 use Rattle.art_operations.specs.declared.run.Reply.TheVariants.{Deleted, Found, MatchLen}

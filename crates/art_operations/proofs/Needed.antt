@@ -1,5 +1,5 @@
 -- What applied points place is what their commands need.
-use Rattle.std.proofs.Common.{◌≡◌, ◌≢◌, ℕ, suc, ◌+◌, ◌<◌, ◌≤◌, List, [], ◌∷◌, ◌++◌, length, drop, take, cond, ltb, leb, eq-eqb, get_or, slice_get, Bool, true, false, refl, ap, ap₂, sym, ◌∙◌, subst, arith, append_assoc, append-nil, length-append, Option, Some, None, IfSome, ◌⊎◌, inl, inr}
+use Rattle.std.proofs.Common.{◌≡◌, ◌≢◌, ℕ, suc, ◌+◌, ◌<◌, ◌≤◌, List, [], ◌∷◌, ◌++◌, length, drop, take, cond, ltb, leb, eq-eqb, get_or, slice_get, Bool, true, false, refl, ap, ap₂, sym, ◌∙◌, subst, arith, append_assoc, length-append, Option, Some, None, IfSome, ◌⊎◌, inl, inr}
 use Rattle.art_nodes.proofs.NameLemmas.{same_kind}
 use Rattle.art_nodes.specs.Nodes.{kind_index}
 use Rattle.std.proofs.lemmas.Bool.{true≢false, cases_lt, cases_Bool, leb-true, leb-false, cases_order, ne_eqb}
@@ -21,7 +21,7 @@ use Rattle.art_model.specs.Keys.{IsFront, are_related, are_same}
 use Rattle.art_model.specs.Layouts.{name_of, slots_of, Holds}
 use Rattle.art_model.specs.Pairs.{of_key, first_of, has_key, with_key, put, remove_key}
 use Rattle.art_model.specs.Paths.{Frame, plug, IsPath}
-use Rattle.art_model.specs.Places.{depth_of, least_key, prefix_of}
+use Rattle.art_model.specs.Places.{least_key, prefix_of}
 use Rattle.art_model.specs.Radix.{IsRadix, AreRadix, IsRising, join, bytes_of, pairs_of, pairs_below}
 use Rattle.art_model.specs.Stores.{node_at}
 use Rattle.art_model.specs.Trees.{Tree, leaf, inner, Children, child, no_child, Header, header_of, kind_of}
@@ -41,7 +41,7 @@ use Rattle.art_model.specs.Writes.{as_inner}
 use Rattle.art_model.proofs.Writes.{inner_at}
 use Rattle.art_operations.specs.Answers.{Answers}
 use Rattle.art_operations.specs.Inserted.{placed_for, is_full, HasByteLeft}
-use Rattle.art_operations.specs.Deleted.{LeadsTo, ParentChange, no_parent, keeps, shrinks, is_compressed, change_of, parent_change, placed_for_deletion}
+use Rattle.art_operations.specs.Deleted.{LeadsTo, ParentChange, no_parent, keeps, shrinks, change_of, parent_change, placed_for_deletion}
 use Rattle.art_operations.specs.Matching.{shared_len}
 use Rattle.art_operations.specs.Needs.{needs, count_of, count_below, more_of, inner_count}
 use Rattle.art_operations.specs.Points.{AnswersTo, IsKindOf, path_of, step_down}

@@ -1,5 +1,5 @@
 -- A tree of one leaf, where there was no tree.
-use Rattle.std.proofs.Common.{◌≡◌, ℕ, ◌<◌, List, [], ◌∷◌, refl, ap, sym, ◌∙◌, subst, arith, Option, Some, None, IsOk, Bool, true, false, cond, leb, zero, suc, inl, inr}
+use Rattle.std.proofs.Common.{◌≡◌, ℕ, ◌<◌, List, [], ◌∷◌, refl, ap, sym, ◌∙◌, subst, arith, Option, Some, None, true, leb, zero, suc, inl, inr}
 use Rattle.std.proofs.lemmas.Bool.{le-leb, leb-true}
 use Rattle.std.specs.Option.{option_map, option_and_then}
 use Rattle.std.specs.FinMap.{get, insert}
@@ -11,7 +11,6 @@ use Rattle.art_nodes.specs.declared.node.NodeType.TheVariants.{Leaf}
 use Rattle.art_nodes.proofs.NameLemmas.{leaf_cmp_total, leaf_cmp-IsAntisymmetric}
 use Rattle.art_nodes.proofs.StoreLaws.{leaf_here}
 use Rattle.art_model.specs.Canonical.{IsTree}
-use Rattle.art_model.specs.Footprints.{Footprint, TouchesAtMost}
 use Rattle.art_model.specs.Kept.{ChangesInPlace}
 use Rattle.art_model.specs.Pairs.{of_key}
 use Rattle.art_model.specs.Promises.{promise_after}
@@ -21,7 +20,6 @@ use Rattle.art_model.proofs.Canonical.{canonical_from}
 use Rattle.art_model.proofs.InPlace.{others_kept}
 use Rattle.art_model.proofs.Touches.{Touched, touched_none, then_placed, footprint_of, touches_at_most}
 use Rattle.art_operations.specs.Inserted.{alone}
-use Rattle.art_operations.specs.Steps.{MayVoid}
 use Rattle.art_operations.specs.declared.run.Command.TheVariants.{Insert}
 use Rattle.art_operations.specs.declared.run.Reply.TheVariants.{Inserted, NoMemory}
 use Rattle.art_operations.proofs.Moves.{StepFrom, nothing}

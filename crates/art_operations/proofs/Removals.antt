@@ -1,5 +1,5 @@
 -- A leaf goes that is the root, or that stands below a node with one other child.
-use Rattle.std.proofs.Common.{◌≡◌, ◌≢◌, ℕ, suc, ◌+◌, ◌≤◌, ◌<◌, Bool, true, false, cond, leb, nat_lt, List, [], ◌∷◌, ◌++◌, length, take, Option, Some, None, IsSome, IfSome, IsSomeAnd, slice_get, refl, ap, ap₂, sym, ◌∙◌, subst, arith, append-nil, append_assoc, length-append, ◌⊎◌, inl, inr}
+use Rattle.std.proofs.Common.{◌≡◌, ◌≢◌, ℕ, ◌+◌, ◌≤◌, ◌<◌, Bool, true, false, cond, leb, nat_lt, List, [], ◌∷◌, ◌++◌, length, Option, Some, None, IsSome, IfSome, IsSomeAnd, slice_get, refl, ap, ap₂, sym, ◌∙◌, subst, arith, append-nil, append_assoc, length-append, ◌⊎◌, inl, inr}
 use Rattle.std.specs.List.{AllByRecursion as Each}
 use Rattle.std.specs.Option.{option_map}
 use Rattle.std.specs.FinMap.{get, remove}
@@ -18,42 +18,41 @@ use Rattle.art_nodes.specs.declared.node.OpaqueNodePtr.{OpaqueNodePtr}
 use Rattle.art_nodes.proofs.HeaderLaws.{header_by_parts}
 use Rattle.art_nodes.proofs.StoreLaws.{inner_gone_elsewhere}
 use Rattle.art_model.specs.Canonical.{IsTree}
-use Rattle.art_model.specs.Footprints.{IsIn, TouchesAtMost}
+use Rattle.art_model.specs.Footprints.{IsIn}
 use Rattle.art_model.specs.Kept.{ChangesInPlace}
 use Rattle.art_model.specs.Keys.{IsFront}
 use Rattle.art_model.specs.Layouts.{slots_of, name_of, leaf_names, leaf_names_below, Holds, last_or, first_or}
 use Rattle.art_model.specs.Pairs.{remove_key}
-use Rattle.art_model.specs.Paths.{Frame, fill, plug, leaves_before, leaves_after}
+use Rattle.art_model.specs.Paths.{Frame, plug, leaves_before, leaves_after}
 use Rattle.art_model.specs.Radix.{IsRadix, IsRising, bytes_of, join, pairs_of, pairs_below}
 use Rattle.art_model.specs.Stores.{node_at, links_at, header_at, pair_of}
-use Rattle.art_model.specs.Trees.{Tree, leaf, inner, Children, child, no_child, Header, header_of}
-use Rattle.art_model.specs.Writes.{Leaves, Inners, IsThere, as_inner, parent_of, without_leaf, with_child_at}
+use Rattle.art_model.specs.Trees.{Tree, leaf, inner, Children, child, no_child}
+use Rattle.art_model.specs.Writes.{Leaves, Inners, as_inner, parent_of, without_leaf, with_child_at}
 use Rattle.art_model.proofs.Canonical.{IsLaidOut, laid_out, canonical_from}
 use Rattle.art_model.proofs.Changes.{child_left}
 use Rattle.art_model.proofs.Changes as changes
 use Rattle.art_model.proofs.Compressed.{Compressed, with_prefix, prefix_written, prefix_at, compressed, compressed_touches, compressed_in_place, above_same, off_node, own_name, v_held}
 use Rattle.art_model.proofs.Emptied.{emptied_touches, emptied_in_place}
 use Rattle.art_model.proofs.Lists.{each_in, in_right}
-use Rattle.art_model.proofs.Links.{first_or-append, last_or-append}
+use Rattle.art_model.proofs.Links.{last_or-append}
 use Rattle.art_model.proofs.Leaves.{named_leaf}
 use Rattle.art_model.proofs.Pairwises.{Pairwise-before, Pairwise-after}
 use Rattle.art_model.proofs.Paths.{IsHole, hole_of, leaf_names_below-three}
 use Rattle.art_model.proofs.Paths as paths
 use Rattle.art_model.proofs.Placed.{LeafTaken}
 use Rattle.art_model.proofs.Radix.{bytes_of-join, pairs_below-join}
-use Rattle.art_model.proofs.Rebuild.{radix_way, radix_below}
+use Rattle.art_model.proofs.Rebuild.{radix_below}
 use Rattle.art_model.proofs.Replaced.{leaf_names-parts}
 use Rattle.art_model.proofs.Slots.{length-slots_of}
 use Rattle.art_model.proofs.Stores.{IsParent, path_holds}
 use Rattle.art_model.proofs.Taken.{LeafAmong, previous_is, next_is, before_there, after_there, leaf_at, some_leaf_name, last_of_some}
 use Rattle.art_model.proofs.Views.{leaf_there, leaf_or, inner_name_is}
 use Rattle.art_model.proofs.Writes.{inner_at, parent_ready, inner_name_one}
-use Rattle.art_operations.specs.Deleted.{IsDeleted, IsDeletePoint, IsRootAfter, LeadsTo, TouchesFor, ParentChange, change_of, parent_change, no_parent, keeps, shrinks, is_compressed}
+use Rattle.art_operations.specs.Deleted.{IsDeleted, IsDeletePoint, IsRootAfter, LeadsTo, TouchesFor, change_of, parent_change, no_parent, keeps, shrinks, is_compressed}
 use Rattle.art_operations.specs.Inserted.{alone}
 use Rattle.art_operations.specs.Points.{path_of, step_down}
 use Rattle.art_operations.specs.Writes.{HasChild, LinksAreThere, last_step, up, root_with}
 use Rattle.art_operations.specs.declared.delete.DeletePoint.{DeletePoint}
-use Rattle.art_operations.specs.declared.delete.DeleteResult.{DeleteResult}
 use Rattle.art_operations.specs.declared.path.TreePath.{TreePath}
 use Rattle.art_operations.specs.declared.path.TreePath.TheVariants.{Root, ChildOfRoot, Normal}
 

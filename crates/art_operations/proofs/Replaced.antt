@@ -1,5 +1,5 @@
 -- a pair that takes the place of another in its leaf, as an insertion
-use Rattle.std.proofs.Common.{◌≡◌, ℕ, List, Option, Some, None, IsSome, IfSome, refl, ap, sym, ◌∙◌, subst}
+use Rattle.std.proofs.Common.{◌≡◌, ℕ, List, Some, IsSome, IfSome, refl, ap, sym, ◌∙◌, subst}
 use Rattle.std.specs.FinMap as map
 use Rattle.std.specs.Option.{option_map}
 use Rattle.art_nodes.specs.Changes.{with_pair}
@@ -9,7 +9,6 @@ use Rattle.art_nodes.specs.declared.node.LeafNode.{LeafNode}
 use Rattle.art_nodes.specs.declared.node.LeafPtr.{LeafPtr}
 use Rattle.art_nodes.specs.declared.node.OpaqueNodePtr.{OpaqueNodePtr}
 use Rattle.art_model.specs.Canonical.{IsTree}
-use Rattle.art_model.specs.Footprints.{TouchesAtMost}
 use Rattle.art_model.specs.Kept.{ChangesInPlace}
 use Rattle.art_model.specs.Layouts.{Holds}
 use Rattle.art_model.specs.Paths.{Frame, plug}
@@ -25,7 +24,6 @@ use Rattle.art_model.proofs.Views as views
 use Rattle.art_operations.specs.declared.insert.InsertKind.TheVariants.{Exact}
 use Rattle.art_operations.specs.declared.insert.InsertParentNodeChange.TheVariants.{NoChange}
 use Rattle.art_operations.specs.declared.insert.InsertPoint.{InsertPoint}
-use Rattle.art_operations.specs.declared.insert.InsertResult.{InsertResult}
 use Rattle.art_operations.specs.Inserted.{IsChange, IsInserted, IsPointIn, Touches, alone}
 use Rattle.art_operations.specs.Points.{IsKindOf}
 use Rattle.art_operations.proofs.Answered.{answered}

@@ -1,5 +1,5 @@
 -- A leaf or a prefix is split: what is inserted then, and what is touched.
-use Rattle.std.proofs.Common.{◌≡◌, ℕ, ◌+◌, ◌<◌, List, [], ◌∷◌, ◌++◌, length, take, drop, refl, ap, ap₂, sym, ◌∙◌, subst, arith, append_assoc, length-append, take_at, inl, inr, Some, IsSome, IsSomeAnd, ◌≢◌}
+use Rattle.std.proofs.Common.{◌≡◌, ℕ, ◌+◌, ◌<◌, List, [], ◌∷◌, ◌++◌, length, take, drop, refl, ap, sym, ◌∙◌, subst, arith, append_assoc, length-append, take_at, inl, inr, Some, IsSome, IsSomeAnd, ◌≢◌}
 use Rattle.std.proofs.lemmas.List.{take-append-drop, take-append-le, append_cancel_left}
 use Rattle.std.specs.FinMap.{get}
 use Rattle.art_nodes.specs.Changes.{with_header}
@@ -35,7 +35,7 @@ use Rattle.art_model.proofs.Writes.{inner_at, inner_name_one}
 use Rattle.art_operations.specs.declared.path.ExplicitMismatch.{ExplicitMismatch}
 use Rattle.art_operations.specs.Branches.{IsBranch, IsPlaced}
 use Rattle.art_operations.specs.Inserted.{IsInserted, IsChange, Touches}
-use Rattle.art_operations.specs.Points.{AnswersTo, IsKindOf}
+use Rattle.art_operations.specs.Points.{AnswersTo}
 use Rattle.art_operations.specs.Steps.{SameNodes}
 use Rattle.art_operations.specs.Writes.{HasChild, last_step}
 use Rattle.art_operations.proofs.Branches.{end_laid, end_depth, end_parent, last_is, branch_stored, branch_done}

@@ -1,5 +1,5 @@
 -- Applied points make steps: from what an application leaves to the parts of a step.
-use Rattle.std.proofs.Common.{◌≡◌, ℕ, ◌≤◌, List, [], length, refl, ap, sym, ◌∙◌, subst, arith, Option, Some, None, Bool, true, false, cond, inl, inr, IfSome}
+use Rattle.std.proofs.Common.{◌≡◌, ℕ, ◌≤◌, List, refl, ap, sym, ◌∙◌, subst, arith, Option, Some, None, Bool, true, false, cond, inl, inr, IfSome}
 use Rattle.std.proofs.Math.Dec.{leb-zero}
 use Rattle.std.specs.Option.{option_map}
 use Rattle.std.specs.Box.{boxed_slice_items}
@@ -24,7 +24,7 @@ use Rattle.art_model.proofs.Canonical.{tree_radix}
 use Rattle.art_operations.specs.Answers.{Answers}
 use Rattle.art_operations.specs.Deleted.{TouchesFor, ParentChange, no_parent, keeps, shrinks, is_compressed, parent_change, LeadsTo, placed_for_deletion}
 use Rattle.art_operations.specs.Inserted.{IsPointIn, HasByteLeft, Touches, alone, is_full, placed_for}
-use Rattle.art_operations.specs.Needs.{needs, new_leaves}
+use Rattle.art_operations.specs.Needs.{needs}
 use Rattle.art_operations.specs.Points.{AnswersTo}
 use Rattle.art_operations.specs.Steps.{SameNodes, MayRefuse, Promises}
 use Rattle.art_operations.specs.declared.delete.DeletePoint.{DeletePoint}
@@ -35,7 +35,7 @@ use Rattle.art_operations.specs.declared.insert.InsertPrefixError.{InsertPrefixE
 use Rattle.art_operations.specs.declared.run.Command.{Command}
 use Rattle.art_operations.specs.declared.run.Command.TheVariants.{Insert, Delete, DeleteMin, DeleteMax, Contains, LongestMatch}
 use Rattle.art_operations.specs.declared.run.Reply.TheVariants.{Inserted, Conflict, Deleted, NoMemory}
-use Rattle.art_operations.proofs.Moves.{Layout, StepFrom, HasTree, has_tree, same_tree, own_pairs, nothing, in_first}
+use Rattle.art_operations.proofs.Moves.{Layout, StepFrom, has_tree, same_tree, own_pairs, nothing, in_first}
 use Rattle.art_operations.proofs.Found.{conflict_new}
 use Rattle.art_operations.proofs.Needed.{needs_inserted, needs_deleted}
 

@@ -1,5 +1,5 @@
 -- The header that a split prefix leaves to its node, from what is stored of the prefix, or from the least leaf below.
-use Rattle.std.proofs.Common.{◌≡◌, ◌≢◌, ℕ, ◌+◌, ◌-◌, ◌<◌, ◌≤◌, min, List, length, take, drop, Option, Some, None, ap, sym, ◌∙◌, subst, arith}
+use Rattle.std.proofs.Common.{◌≡◌, ◌≢◌, ℕ, ◌+◌, ◌-◌, ◌<◌, ◌≤◌, min, List, length, take, drop, Some, None, ap, sym, ◌∙◌, subst, arith}
 use Rattle.std.specs.FinMap.{get}
 use Rattle.art_nodes.specs.Inner.{Inner, Prefix, header_of}
 use Rattle.art_nodes.specs.Names.{leaf_name, inner_name}
@@ -11,7 +11,7 @@ use Rattle.art_nodes.specs.declared.node.LeafNode.{LeafNode}
 use Rattle.art_nodes.specs.declared.node.OpaqueNodePtr.{OpaqueNodePtr}
 use Rattle.art_nodes.proofs.HeaderLaws.{trimmed_header, trimmed_by_leaf, len_of_header}
 use Rattle.art_model.specs.Canonical.{IsTree}
-use Rattle.art_model.specs.Layouts.{inner_node, slots_of, Holds}
+use Rattle.art_model.specs.Layouts.{slots_of, Holds}
 use Rattle.art_model.specs.Lookups.{HasFirstLeaf}
 use Rattle.art_model.specs.Places.{depth_of, prefix_of}
 use Rattle.art_model.specs.Stores.{node_at, pair_of}

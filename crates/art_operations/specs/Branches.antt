@@ -3,7 +3,7 @@ use Rattle.std.specs.Prelude.{◌≡◌, ◌≢◌, ℕ, cond, ltb, List, [], �
 use Rattle.std.specs.Option.{option_map}
 use Rattle.std.specs.FinMap as map
 use Rattle.art_nodes.specs.Changes.{with_child}
-use Rattle.art_nodes.specs.Inner.{Prefix, childless, header_of}
+use Rattle.art_nodes.specs.Inner.{childless, header_of}
 use Rattle.art_nodes.specs.Names.{leaf_name, inner_name}
 use Rattle.art_nodes.specs.Nodes.{Nodes}
 use Rattle.art_nodes.specs.declared.node.InnerPtr.{InnerPtr}
@@ -14,7 +14,7 @@ use Rattle.art_model.specs.Canonical.{IsTree}
 use Rattle.art_model.specs.Keys.{IsFront}
 use Rattle.art_model.specs.Layouts.{leaf_names, first_or, last_or}
 use Rattle.art_model.specs.Paths.{Frame, leaves_before, leaves_after}
-use Rattle.art_model.specs.Places.{depth_of, least_key, prefix_of}
+use Rattle.art_model.specs.Places.{depth_of, least_key}
 use Rattle.art_model.specs.Trees.{Tree}
 use Rattle.art_model.specs.Writes.{with_child_at, with_leaf}
 use Rattle.art_operations.specs.declared.insert.InsertParentNodeChange.TheVariants.{NewParent}

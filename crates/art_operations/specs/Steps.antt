@@ -1,5 +1,5 @@
 -- The states that a run goes through, and what a command leaves of one.
-use Rattle.std.specs.Prelude.{◌≡◌, ℕ, cond, List, [], Option, Some, None, true, false, ◌⊎◌}
+use Rattle.std.specs.Prelude.{◌≡◌, ℕ, cond, List, [], Option, Some, None, true, ◌⊎◌}
 use Rattle.std.specs.Option.{option_map}
 use Rattle.art_nodes.specs.Nodes.{Nodes, Promise, no_promise}
 use Rattle.art_nodes.specs.declared.node.OpaqueNodePtr.{OpaqueNodePtr}

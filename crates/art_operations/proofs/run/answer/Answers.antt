@@ -1,4 +1,4 @@
-use Rattle.std.proofs.Common.{rules, ◌∙◌, ap, refl}
+use Rattle.std.proofs.Common.{refl}
 use Rattle.art_operations.proofs.Moves.{asked, found_step, match_step}
 use Rattle.art_operations.proofs.run.answer.Goals as goal
 

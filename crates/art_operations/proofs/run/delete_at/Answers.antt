@@ -1,4 +1,4 @@
-use Rattle.std.proofs.Common.{◌≡◌, refl, sym, ap, ◌∙◌, subst, Some, None}
+use Rattle.std.proofs.Common.{refl, sym, subst, Some, None}
 use Rattle.std.proofs.lemmas.Bool.{false≢true}
 use Rattle.art_model.specs.Canonical.{IsCanonical}
 use Rattle.art_model.specs.Pairs.{of_key, remove_key}

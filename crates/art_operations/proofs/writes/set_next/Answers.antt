@@ -1,4 +1,4 @@
-use Rattle.std.proofs.Common.{Some, ap, sym, ◌∙◌, refl}
+use Rattle.std.proofs.Common.{ap, sym, ◌∙◌, refl}
 use Rattle.std.specs.Prelude.{option_copied}
 use Rattle.art_model.specs.Writes.{change_some, with_next}
 use Rattle.art_operations.proofs.LeafWrites.{change_as}

@@ -1,4 +1,4 @@
-use Rattle.std.proofs.Common.{◌≡◌, Some, IsSomeAnd, ap, sym, ◌∙◌, subst, rules}
+use Rattle.std.proofs.Common.{◌≡◌, IsSomeAnd, ap, sym, ◌∙◌, subst, rules}
 use Rattle.std.specs.Prelude.{option_copied}
 use Rattle.std.specs.FinMap.{get, remove}
 use Rattle.art_model.specs.Writes.{IsThere, change_some, with_next, with_previous, without_leaf}

@@ -1,4 +1,4 @@
-use Rattle.std.proofs.Common.{rules, ◌≡◌, [], ◌∷◌, ap, sym, ◌∙◌, subst, length, arith, IsSome, IsSomeAnd}
+use Rattle.std.proofs.Common.{rules, ◌≡◌, ap, sym, ◌∙◌, subst, length, arith, IsSome, IsSomeAnd}
 use Rattle.std.specs.FinMap.{get}
 use Rattle.art_nodes.specs.Kinds.{any_view, ref_view}
 use Rattle.art_model.specs.Writes.{without_leaf}

@@ -1,7 +1,7 @@
 use Rattle.std.proofs.Common.{rules, ◌≢◌, ◌≤◌, ◌∙◌, ap, length, subst, sym}
 use Rattle.std.specs.FinMap.{get, insert, remove}
 use Rattle.art_nodes.specs.Inner.{Inner}
-use Rattle.art_nodes.specs.Kinds.{any_kind, any_view, kind_capacity, smaller_kind}
+use Rattle.art_nodes.specs.Kinds.{any_view, kind_capacity, smaller_kind}
 use Rattle.art_nodes.specs.declared.node.NodeType.TheVariants.{Node4}
 use Rattle.art_model.specs.Writes.{with_child_at}
 use Rattle.art_operations.specs.Writes.{last_step, root_with, up}

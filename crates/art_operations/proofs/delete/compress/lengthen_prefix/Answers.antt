@@ -1,4 +1,4 @@
-use Rattle.std.proofs.Common.{rules, ◌≡◌, ◌+◌, ◌++◌, take, IfSome, ap, ap₂, sym, ◌∙◌, subst}
+use Rattle.std.proofs.Common.{◌≡◌, ◌+◌, ◌++◌, take, IfSome, ap, ap₂, sym, ◌∙◌, subst}
 use Rattle.std.specs.FinMap as map
 use Rattle.art_nodes.specs.Changes.{with_header}
 use Rattle.art_nodes.specs.Inner.{header_of}

@@ -1,4 +1,4 @@
-use Rattle.std.proofs.Common.{rules, ◌≡◌, ◌∙◌, ap, sym, refl, subst, get_or, Some, IsTrue}
+use Rattle.std.proofs.Common.{rules, ◌∙◌, ap, sym, refl, subst, get_or, Some, IsTrue}
 use Rattle.std.specs.FinMap as map
 use Rattle.art_nodes.specs.Kinds.{larger_kind}
 use Rattle.art_nodes.specs.Nodes.{covers, promises, take_leaf}

@@ -1,4 +1,4 @@
-use Rattle.std.proofs.Common.{rules, ap, sym, ◌∙◌, subst}
+use Rattle.std.proofs.Common.{rules, sym, subst}
 use Rattle.art_operations.specs.Writes.{HasChild, last_step}
 use Rattle.art_operations.proofs.Branches.{child_stays}
 use Rattle.art_operations.proofs.insert.InsertPoint.place_branch.Goals as goal

@@ -1,4 +1,4 @@
-use Rattle.std.proofs.Common.{rules, ◌+◌, refl, sym, ◌∙◌, arith}
+use Rattle.std.proofs.Common.{rules, arith}
 use Rattle.art_operations.proofs.Trims.{inner_gone, trim_inside, trim_whole, trim_stored, least_gone, trim_given, trim_read}
 use Rattle.art_operations.proofs.insert.InsertPoint.trimmed_header.Goals as goal
 

@@ -1,4 +1,4 @@
-use Rattle.std.proofs.Common.{rules, ◌≡◌, ◌∙◌, sym, ap, subst}
+use Rattle.std.proofs.Common.{rules, ◌∙◌, sym, ap, subst}
 use Rattle.std.specs.FinMap as map
 use Rattle.art_nodes.specs.Kinds.{larger_kind}
 use Rattle.art_operations.specs.Writes.{HasChild, last_step}
