@@ -1,10 +1,11 @@
 //! Trees for the tests of look-ups, made by runs of insertions.
-ghost use Rattle.std.specs.Prelude.{IfOk, IfSome};
+ghost use Rattle.std.specs.Prelude.{◌≢◌, IfOk, IfSome};
+ghost use Rattle.art_nodes.specs.declared.node.NodeType.TheVariants.{Leaf};
 ghost use Rattle.art_model.specs.Pairs.{of_key};
 ghost use Rattle.art_model.specs.Roots.{IsCanonicalRoot};
 
 use crate::run::{Command, run};
-use art_nodes::node::{AsBytes, LeafPtr, OpaqueNodePtr};
+use art_nodes::node::{AsBytes, LeafPtr, NodeType, OpaqueNodePtr};
 use art_nodes::store::NodeStore;
 use std::alloc::{AllocError, Global};
 use std::test::Fail;
@@ -23,7 +24,21 @@ pub fn plant<K: AsBytes + Drop, const P: usize>(
     Ok(planted(store, second, keys)?.ok_or("no key")?)
 }
 
-/// The same, where no key has no tree.
+/// Takes memory for leaves and an inner node beside a tree.
+pub fn promise<K: AsBytes + Drop, const P: usize>(
+    store: &mut NodeStore<K, u32, P>,
+    root: OpaqueNodePtr,
+    leaves: usize,
+    kind: NodeType,
+) -> Result<(), AllocError>
+    requires inner { kind ≢ Leaf }
+    requires canonical { IsCanonicalRoot (of_key K.bytes) P store.old root }
+    ensures { IsCanonicalRoot (of_key K.bytes) P store.new root }
+{
+    store.reserve(leaves, Some(kind))
+}
+
+/// The same as `plant`, where no key has no tree.
 pub fn planted<K: AsBytes + Drop, const P: usize>(
     store: &mut NodeStore<K, u32, P>,
     second: &mut NodeStore<K, u32, P>,

@@ -1,5 +1,10 @@
+ghost use Rattle.std.specs.Prelude.{ℕ, List};
+ghost use Rattle.art_model.specs.Canonical.{IsCanonical};
+ghost use Rattle.art_model.specs.Pairs.{of_key};
+
 use super::*;
 use crate::test_trees::plant;
+use art_nodes::node::OptionalLeafPtr;
 use art_test_support::all_memory;
 use std::alloc::Global;
 use std::boxed::BoxedSlice;
@@ -125,6 +130,29 @@ fn without_memory_a_run_hands_the_commands_back(rt: HostRuntime) -> Result<(), F
     Ok(())
 }
 
+// The leaf of a key in the tree of a root, if there is one.
+fn leaf_of<K: AsBytes + Drop, const P: usize>(
+    store: &NodeStore<K, u32, P>,
+    root: Option<OpaqueNodePtr>,
+    key_bytes: &[u8],
+) -> OptionalLeafPtr
+    requires { (pairs : List (K × ℕ)) × IsCanonical (of_key K.bytes) P store.now root pairs }
+{
+    search_unchecked(store, root?, key_bytes)
+}
+
+// The reply to a command.
+fn ask<K: AsBytes + Drop, const P: usize>(
+    store: &mut NodeStore<K, u32, P>,
+    root: &mut Option<OpaqueNodePtr>,
+    command: Command<K, u32>,
+) -> Reply<K, u32>
+    requires { (pairs : List (K × ℕ)) × IsCanonical (of_key K.bytes) P store.old root.old pairs }
+    ensures { (pairs : List (K × ℕ)) × IsCanonical (of_key K.bytes) P store.new root.new pairs }
+{
+    answer(store, root, command)
+}
+
 #[test]
 fn inserts_into_a_tree_in_place(rt: HostRuntime) -> Result<(), Fail> {
     let alloc = rt.alloc();
@@ -151,11 +179,10 @@ fn inserts_into_a_tree_in_place(rt: HostRuntime) -> Result<(), Fail> {
     commands.push(insertion(alloc, &[60, 0, 0], 7)?)?;
     let done = run(&mut first, &mut second, Some(root), commands).map_err(|refused| refused.1)?;
     assert!(rt; matches!(done.replies.as_slice(), [Reply::Inserted(None)]));
-    let root = done.root.ok_or("no root")?;
     for (key, name) in asked.iter().zip(names.iter()) {
-        assert_eq!(rt; search_unchecked(&first, root, key), Some(*name));
+        assert_eq!(rt; leaf_of(&first, done.root, key), Some(*name));
     }
-    assert!(rt; search_unchecked(&first, root, &[60, 0, 0]).is_some());
+    assert!(rt; leaf_of(&first, done.root, &[60, 0, 0]).is_some());
     Ok(())
 }
 
@@ -226,16 +253,16 @@ fn without_memory_a_conflict_leaves_the_pairs(rt: HostRuntime) -> Result<(), Fai
     let alloc = rt.alloc();
     let mut store: NodeStore<Key, u32, 4> = NodeStore::new(alloc);
     let mut root = None;
-    let stored = answer(&mut store, &mut root, insertion(alloc, &[1], 10)?);
+    let stored = ask(&mut store, &mut root, insertion(alloc, &[1], 10)?);
     let related = insertion(alloc, &[1, 2], 12)?;
     let equal = insertion(alloc, &[1], 11)?;
     let known = question(alloc, &[1])?;
     let gone = deletion(alloc, &[1])?;
     let held = all_memory(alloc)?;
-    let conflict = answer(&mut store, &mut root, related);
-    let replaced = answer(&mut store, &mut root, equal);
-    let found = answer(&mut store, &mut root, known);
-    let deleted = answer(&mut store, &mut root, gone);
+    let conflict = ask(&mut store, &mut root, related);
+    let replaced = ask(&mut store, &mut root, equal);
+    let found = ask(&mut store, &mut root, known);
+    let deleted = ask(&mut store, &mut root, gone);
     drop(held);
     assert!(rt; matches!(stored, Reply::Inserted(None)));
     assert!(rt; matches!(conflict, Reply::NoMemory(Some((_, 12)))));

@@ -7,7 +7,7 @@ ghost use Rattle.art_operations.specs.Deleted.{IsDeletePointIn};
 use super::*;
 use crate::delete::search_for_delete_point;
 use crate::run::{Command, run};
-use crate::test_trees::{Key, plant};
+use crate::test_trees::{Key, plant, promise};
 use art_nodes::node::{LeafNode, NodePtr, OptionalLeafPtr};
 use art_test_support::all_memory;
 use std::alloc::{AllocError, Global};
@@ -63,19 +63,6 @@ fn crowd<const P: usize>(store: &mut NodeStore<Key, u32, P>, root: OpaqueNodePtr
             return;
         }
     }
-}
-
-// Takes memory for an inner node beside a tree.
-fn promise<K: AsBytes + Drop, const P: usize>(
-    store: &mut NodeStore<K, u32, P>,
-    root: OpaqueNodePtr,
-    kind: NodeType,
-) -> Result<(), AllocError>
-    requires inner { kind ≢ Leaf }
-    requires canonical { IsCanonicalRoot (of_key K.bytes) P store.old root }
-    ensures { IsCanonicalRoot (of_key K.bytes) P store.new root }
-{
-    store.reserve(0, Some(kind))
 }
 
 // A node as it was once.
@@ -263,7 +250,7 @@ fn without_memory_a_promised_shrink_is_made(rt: HostRuntime) -> Result<(), Fail>
     let mut store: NodeStore<Key, u32, 4> = NodeStore::new(alloc);
     let five = keys_after(alloc, &[], 5)?;
     let root = plant(&mut store, &mut NodeStore::new(alloc), five)?;
-    promise(&mut store, root, NodeType::Node4)?;
+    promise(&mut store, root, 0, NodeType::Node4)?;
     let point = point_of(&store, root, &[2]).ok_or("a point")?;
     let held = all_memory(alloc)?;
     let done = point.apply(&mut store, root);

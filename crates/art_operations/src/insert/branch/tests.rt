@@ -4,7 +4,7 @@ ghost use Rattle.art_model.specs.Roots.{IsCanonicalRoot};
 use super::*;
 use crate::insert::search_for_insert_point;
 use crate::test_nodes::{count_touched, nodes_seen};
-use crate::test_trees::{Key, child, keys, keys_of_zeros, plant, planted};
+use crate::test_trees::{Key, child, keys, keys_of_zeros, plant, planted, promise};
 use art_nodes::node::InnerRef;
 use art_test_support::all_memory;
 use std::test::Fail;
@@ -141,7 +141,7 @@ fn without_memory_a_reserved_split_is_made(rt: HostRuntime) -> Result<(), Fail> 
         keys(alloc, &[&[1, 2, 3, 4]])?,
     )?;
     let key = [1, 2, 9].to_vec(alloc)?;
-    store.reserve(1, Some(NodeType::Node4))?;
+    promise(&mut store, root, 1, NodeType::Node4)?;
     let held = all_memory(alloc)?;
     let (root, done) = insert(&mut store, root, key, 1);
     drop(held);
@@ -150,41 +150,44 @@ fn without_memory_a_reserved_split_is_made(rt: HostRuntime) -> Result<(), Fail> 
     Ok(())
 }
 
-// Says the same with ample memory and with requests for memory refused.
+// The pair that was handed back, where an insertion was refused.
+fn refused_pair<K: Drop>(
+    done: Option<Result<InsertResult<K, u32>, Refused<K, u32>>>,
+) -> Option<Refused<K, u32>> {
+    match done? {
+        Ok(_done) => None,
+        Err(refused) => Some(refused),
+    }
+}
+
+// Asserts something where a request for memory of the insertion is refused.
 #[test]
 fn refused_splits_hand_the_pair_back(rt: HostRuntime) -> Result<(), Fail> {
     let alloc = rt.alloc();
     let mut store: NodeStore<Key, u32, 4> = NodeStore::new(alloc);
-    let mut second = NodeStore::new(alloc);
     let Ok(mut all) = keys_of_zeros(alloc) else {
         return Ok(());
     };
-    let Ok(rest) = all.split_off(1) else {
+    let Some(key) = all.pop() else {
         return Ok(());
     };
-    let Ok(Some(mut root)) = planted(&mut store, &mut second, all) else {
+    let Ok(Some(root)) = planted(&mut store, &mut NodeStore::new(alloc), all) else {
         return Ok(());
     };
-    let mut any_refused = false;
-    for key in rest {
-        let copy: Result<_, _> = key.clone();
-        let (Ok(copy), Ok(before)) = (copy, nodes_seen(&store)) else {
-            return Ok(());
-        };
-        let (new_root, done) = insert(&mut store, root, key, 7);
-        root = new_root;
-        if let Some(Err(refused)) = done {
-            assert_eq!(rt; refused.key, copy);
-            assert_eq!(rt; refused.value, 7);
-            let Ok(after) = nodes_seen(&store) else {
-                return Ok(());
-            };
-            assert_eq!(rt; count_touched(&before, &after), (0, 0, 0));
-            any_refused = true;
-        }
-    }
-    if any_refused {
-        println!(rt; "asserted")?;
-    }
+    let copy: Result<_, _> = key.clone();
+    let (Ok(copy), Ok(before)) = (copy, nodes_seen(&store)) else {
+        return Ok(());
+    };
+    let (_root, done) = insert(&mut store, root, key, 7);
+    let Some(refused) = refused_pair(done) else {
+        return Ok(());
+    };
+    assert_eq!(rt; refused.key, copy);
+    assert_eq!(rt; refused.value, 7);
+    let Ok(after) = nodes_seen(&store) else {
+        return Ok(());
+    };
+    assert_eq!(rt; count_touched(&before, &after), (0, 0, 0));
+    println!(rt; "asserted")?;
     Ok(())
 }
