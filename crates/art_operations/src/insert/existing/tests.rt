@@ -233,10 +233,10 @@ fn refused_children_hand_the_pair_back(rt: HostRuntime) -> Result<(), Fail> {
     };
     assert_eq!(rt; refused.key, copy);
     assert_eq!(rt; refused.value, 7);
+    println!(rt; "asserted")?;
     let Ok(after) = nodes_seen(&store) else {
         return Ok(());
     };
     assert_eq!(rt; count_touched(&before, &after), (0, 0, 0));
-    println!(rt; "asserted")?;
     Ok(())
 }
