@@ -3,7 +3,7 @@ use Rattle.std.proofs.Common.{◌≡◌, ℕ, List, [], ◌∷◌, ◌++◌, ref
 use Rattle.std.specs.List.{AllByRecursion as Each}
 use Rattle.std.proofs.lemmas.List.Elements.{filter-append}
 use Rattle.art_model.specs.Keys.{Precedes, are_related, are_same, is_before}
-use Rattle.art_model.specs.Pairs.{add_in_order, put, overwrite, remove_key, remove_related}
+use Rattle.art_model.specs.Pairs.{add_in_order, put, remove_key}
 use Rattle.art_model.proofs.Lists.{Each-weaker}
 use Rattle.art_model.proofs.Filters.{filter_all}
 use Rattle.art_model.proofs.Keys.{precedes_apart, related_sym, same_related}
@@ -31,9 +31,6 @@ module _ {A : Type 0} (bytes : A → List ℕ) where
       go e true = refl
       go e false = ap (λ l. y ∷ l) e
 
-  unrelated : (key : List ℕ) (xs : List A) → Each (λ x. are_related key (bytes x) ≡ false) xs → remove_related bytes key xs ≡ xs
-  unrelated key xs h = filter_all (λ x. not (are_related key (bytes x))) xs (Each-weaker (λ x. are_related key (bytes x) ≡ false) (λ x. not (are_related key (bytes x)) ≡ true) (λ x e. ap not e) xs h)
-
   unequal : (key : List ℕ) (xs : List A) → Each (λ x. are_related key (bytes x) ≡ false) xs → remove_key bytes key xs ≡ xs
   unequal key xs h = filter_all (λ x. not (are_same key (bytes x))) xs (Each-weaker (λ x. are_related key (bytes x) ≡ false) (λ x. not (are_same key (bytes x)) ≡ true) (λ x e. ap not (same_related key (bytes x) e)) xs h)
 
@@ -43,10 +40,6 @@ module _ {A : Type 0} (bytes : A → List ℕ) where
 
     high_apart : Each (λ x. are_related key (bytes x) ≡ false) zs
     high_apart = Each-weaker (λ x. Precedes key (bytes x)) (λ x. are_related key (bytes x) ≡ false) (λ x h. h.1) zs high
-
-    -- related pairs go from the middle alone
-    pub remove_related-between : remove_related bytes key (xs ++ ys ++ zs) ≡ xs ++ remove_related bytes key ys ++ zs
-    remove_related-between = simp (filter-append, unrelated key xs low_apart, unrelated key zs high_apart)
 
     -- a pair with the key goes from the middle alone
     pub remove_key-between : remove_key bytes key (xs ++ ys ++ zs) ≡ xs ++ remove_key bytes key ys ++ zs
@@ -59,7 +52,3 @@ module _ {A : Type 0} (bytes : A → List ℕ) where
     -- a put is one into the middle
     pub put-between : put bytes new (xs ++ ys ++ zs) ≡ xs ++ put bytes new ys ++ zs
     put-between = ap (add_in_order bytes new) (remove_key-between (bytes new) xs ys zs low high) ∙ add_in_order-between (remove_key bytes (bytes new) ys)
-
-    -- an overwrite is one of the middle
-    pub overwrite-between : overwrite bytes new (xs ++ ys ++ zs) ≡ xs ++ overwrite bytes new ys ++ zs
-    overwrite-between = ap (add_in_order bytes new) (remove_related-between (bytes new) xs ys zs low high) ∙ add_in_order-between (remove_related bytes (bytes new) ys)

@@ -1,7 +1,6 @@
 -- A branch is placed, from the equations of the store's maps: a leaf and a node above it and the tree in the hole, which may be touched itself.
-use Rattle.std.proofs.Common.{◌≡◌, ◌≢◌, ℕ, ◌+◌, ◌≤◌, List, [], ◌∷◌, ◌++◌, length, take, Option, Some, None, refl, ap, sym, ◌∙◌, subst, map, arith, length-append, cond, ltb, Bool, true, false, ◌⊎◌, inl, inr}
+use Rattle.std.proofs.Common.{◌≡◌, ◌≢◌, ℕ, ◌+◌, ◌≤◌, List, [], ◌∷◌, ◌++◌, length, take, Option, Some, None, refl, ap, sym, ◌∙◌, subst, map, arith, cond, ltb, Bool, true, false, ◌⊎◌, inl, inr}
 use Rattle.std.specs.List.{AllByRecursion as Each}
-use Rattle.std.proofs.lemmas.List.{map-append}
 use Rattle.std.specs.Option.{option_map}
 use Rattle.std.specs.FinMap.{get, insert}
 use Rattle.art_nodes.specs.Inner.{Inner, Prefix, childless, put_child}
@@ -25,19 +24,19 @@ use Rattle.art_model.specs.Stores.{node_at, links_at, pair_of}
 use Rattle.art_model.specs.Writes.{Inners, as_inner, parent_of, with_child_at}
 use Rattle.art_model.specs.Kept.{ChangesInPlace}
 use Rattle.art_model.specs.Footprints.{IsIn, Footprint, TouchesAtMost}
-use Rattle.art_model.proofs.Lists.{each_in, each_from, each_map, in_map, in_left, in_right, in_either}
+use Rattle.art_model.proofs.Lists.{each_in, in_map, in_left, in_right, in_either}
 use Rattle.art_model.proofs.Canonical.{IsLaidOut}
 use Rattle.art_model.proofs.Changes.{two_children}
 use Rattle.art_model.proofs.Paths.{IsHole}
 use Rattle.art_model.proofs.Stores.{IsParent, SameBut, path_holds, parent_apart}
 use Rattle.art_model.proofs.Inserted.{BranchPlaced, BranchInserted, branch_keeps, branch_keeps_leaves, split_leaf, trimmed_node}
 use Rattle.art_model.proofs.Touches.{Touched, IsInner, both_names, footprint_of, touches_at_most, touched_none, then_placed, then_changed}
-use Rattle.art_model.proofs.Leaves.{listed, length-listed}
-use Rattle.art_model.proofs.Placed.{LeafPlaced, placed_was_free, placed_node, placed_pairs, placed_relinked, placed_touched}
+use Rattle.art_model.proofs.Leaves.{listed, length-beside}
+use Rattle.art_model.proofs.Placed.{LeafPlaced, placed_was_free, placed_node, placed_pairs, placed_relinked, placed_beside, placed_touched}
 use Rattle.art_model.proofs.InPlace.{AreNames, in_place}
-use Rattle.art_model.proofs.Around.{in_hole, names_around, parents_in, beside_in}
+use Rattle.art_model.proofs.InHole.{both_in, names_around, parents_in}
 use Rattle.art_model.proofs.Slots.{put_child-two}
-use Rattle.art_model.proofs.Writes.{node_at-inner, inner_at, same_but, inner_name_one, with_child_at-elsewhere, parents, length-parents, then_parent, parent_there, parent_written}
+use Rattle.art_model.proofs.Writes.{parents_inner, node_at-inner, inner_at, same_but, inner_name_one, with_child_at-elsewhere, parents, length-parents, then_parent, parent_there, parent_written}
 
 -- A leaf and a Node4 above it and the tree are placed, and the parent has the Node4 in its hole. The inner nodes were those of `mid` then, where these of the tree were touched.
 pub record BranchStored {K V : Type 0} (bytes : K × V → List ℕ) (P : ℕ) (s t : Nodes K V) (fs : List (Frame OpaqueNodePtr (K × V))) (place : List ℕ) (tree : Tree OpaqueNodePtr (K × V)) (m : InnerPtr) (n : LeafPtr) (part : List ℕ) (b c : ℕ) (x : LeafNode K V) (mid : Inners) (touched : List InnerPtr) : Type 0 where
@@ -111,11 +110,7 @@ module _ {K V : Type 0} {bytes : K × V → List ℕ} {P : ℕ} {s t : Nodes K V
       (then_parent (then_placed inner_cmp_total inner_cmp-IsAntisymmetric is.touches m node mid_free (λ i. i)) fs (inner_name m) (λ k up. parent_used k up) (λ k up e. parent_used k up (sym (parent_same k up) ∙ e)))
 
   are_inners : Each IsInner (parents fs ++ touched)
-  are_inners = go fs (λ k up. (parent_there bytes P s fs (name_of tree) (path_holds (node_at s) fs tree old.holds).0 k up).0)
-    where
-      go : (gs : List (Frame OpaqueNodePtr (K × V))) → ((k : OpaqueNodePtr) → IsParent gs k → k.kind ≢ Leaf) → Each IsInner (parents gs ++ touched)
-      go [] kind = is.are_inner
-      go (g ∷ gs) kind = (kind g.mark refl, is.are_inner)
+  are_inners = parents_inner bytes P s fs (name_of tree) (path_holds (node_at s) fs tree old.holds).0 touched is.are_inner
 
   -- what is placed, and what is changed
   pub branch_print : Footprint s t (both_names (n ∷ []) (m ∷ [])) (both_names [] []) (both_names (listed x.next ++ (listed x.previous ++ [])) (parents fs ++ touched))
@@ -130,18 +125,11 @@ module _ {K V : Type 0} {bytes : K × V → List ℕ} {P : ℕ} {s t : Nodes K V
   -- two names are placed, and three are changed and those that were touched
   pub branch_touches : (most : ℕ) → 3 + length touched ≤ most → TouchesAtMost 2 0 most s t
   branch_touches most few =
-      let a = length-listed x.next in let d = length-listed x.previous in let up = length-parents fs in
-      let e = length-append (listed x.next) (listed x.previous ++ []) in let f = length-append (listed x.previous) [] in let g = length-append (parents fs) touched in
+      let beside = length-beside x.next x.previous in let above = length-parents fs touched in
       touches_at_most s t 2 0 most touched_leaves touched_inners (off, tt) tt are_inners (omega arith) (omega arith) (omega arith)
 
   changed_in : (k : OpaqueNodePtr) → IsIn k (both_names (listed x.next ++ (listed x.previous ++ [])) (parents fs ++ touched)) → IsIn k (names_of (plug fs tree))
-  changed_in k i = elim (in_either k (map leaf_name (listed x.next ++ (listed x.previous ++ []))) (map inner_name (parents fs ++ touched)) i) [
-    | inl beside ↦ beside_in is.placed k beside
-    | inr inner_one ↦ elim (in_either k (map inner_name (parents fs)) (map inner_name touched) (subst (IsIn k) (map-append inner_name (parents fs) touched) inner_one)) [
-      | inl up ↦ parents_in fs tree k up
-      | inr own ↦ in_hole fs tree k (each_in (λ z. IsIn z (names_of tree)) k (map inner_name touched) (each_map inner_name (λ z. IsIn z (names_of tree)) touched (each_from (λ z. IsIn (inner_name z) (names_of tree)) touched is.in_tree)) own)
-    ]
-  ]
+  changed_in = both_in (names_of (plug fs tree)) (listed x.next ++ (listed x.previous ++ [])) (parents fs ++ touched) (placed_beside old.holds old.distinct is.placed) (parents_in fs tree touched is.in_tree)
 
   module _ {u : Tree OpaqueNodePtr (K × V)} (done : BranchInserted bytes P (node_at s) (node_at t) (links_at s) (links_at t) fs place tree u (inner_name m) (leaf_name n) part b c (pair_of x)) where
     abbrev grown : Tree OpaqueNodePtr (K × V)

@@ -16,11 +16,11 @@ use Rattle.art_model.specs.Footprints.{IsIn}
 use Rattle.art_model.proofs.Lists.{each_in, in_left, in_right, in_either}
 use Rattle.art_model.proofs.Pairwises.{Pairwise-without, Pairwise-before}
 use Rattle.art_model.proofs.Names.{apart_after, IsTaken, all_taken, among, takes_leaves}
-use Rattle.art_model.proofs.Links.{Relinked, last_in, first_in, last_not_first, link_of}
+use Rattle.art_model.proofs.Links.{Relinked, last_in, first_in, last_not_first}
 use Rattle.art_model.specs.Trees.{Tree}
 use Rattle.art_model.proofs.Writes.{node_at-leaf}
 use Rattle.art_model.proofs.Views.{held_in_inner, leaf_or}
-use Rattle.art_model.proofs.Leaves.{named_leaf, joined_before, joined_after, joined_elsewhere, with_leaf_here, with_leaf_elsewhere, without_leaf_elsewhere}
+use Rattle.art_model.proofs.Leaves.{listed, in_listed, named_leaf, joined_before, joined_after, joined_elsewhere, with_leaf_here, with_leaf_elsewhere, without_leaf_elsewhere}
 
 module _ {K V : Type 0} where
   -- the links of a leaf are those that it names
@@ -114,22 +114,17 @@ module _ {K V : Type 0} (s t : Nodes K V) (xs zs : List OpaqueNodePtr) (n : Leaf
       among p i = elim (in_either (leaf_name p) xs zs i) [ inl j ↦ in_left (leaf_name p) xs (leaf_name n ∷ zs) j | inr j ↦ in_right (leaf_name p) xs (leaf_name n ∷ zs) (inr j) ]
 
   -- The leaf between those of `xs` and those of `zs` goes.
-  pub leaf_goes : AreDistinct (xs ++ leaf_name n ∷ zs) → AreLinked (links_at s) None (xs ++ leaf_name n ∷ zs) None → get s.leaves n ≡ Some x →
+  pub leaf_goes : AreDistinct (xs ++ leaf_name n ∷ zs) → option_map leaf_name x.previous ≡ last_or xs None → option_map leaf_name x.next ≡ first_or zs None →
       ((p : LeafPtr) → IsIn (leaf_name p) (xs ++ zs) → get t.leaves p ≡ get (without_leaf s.leaves n x) p) → AreBeside s t xs [] zs x.previous x.next x.next x.previous
-  leaf_goes distinct linked here leaves =
-      let own : ◌≡◌ {A = Links OpaqueNodePtr} (record { previous = option_map leaf_name x.previous; next = option_map leaf_name x.next }) (record { previous = last_or xs None; next = first_or zs None }) =
-      let e = sym (links_leaf s n (Some x) here) ∙ link_of (links_at s) xs zs (leaf_name n) None None linked in cc in
-      let last : option_map leaf_name x.previous ≡ last_or xs None = ap (λ z. z.previous) own in
-      let first : option_map leaf_name x.next ≡ first_or zs None = ap (λ z. z.next) own in
-      record {
-        distinct = Pairwise-without ◌≢◌ xs zs (leaf_name n) distinct;
-        before_is = last;
-        after_is = first;
-        next_is = first;
-        previous_is = last;
-        inside = tt;
-        leaves = λ p i. leaves p i ∙ without_leaf_elsewhere s.leaves n x p (λ e. not_here p i (ap leaf_name e));
-      }
+  leaf_goes distinct last first leaves = record {
+    distinct = Pairwise-without ◌≢◌ xs zs (leaf_name n) distinct;
+    before_is = last;
+    after_is = first;
+    next_is = first;
+    previous_is = last;
+    inside = tt;
+    leaves = λ p i. leaves p i ∙ without_leaf_elsewhere s.leaves n x p (λ e. not_here p i (ap leaf_name e));
+  }
     where
       not_here : (p : LeafPtr) → IsIn (leaf_name p) (xs ++ zs) → leaf_name p ≡ leaf_name n → ⊥
       not_here p i e = elim (in_either (leaf_name p) xs zs i) [
@@ -148,3 +143,14 @@ module _ {K V : Type 0} (s : Nodes K V) where
 
   pub next_there : (xs zs : List OpaqueNodePtr) (o : Option LeafPtr) → AreThere s (xs ++ zs) → option_map leaf_name o ≡ first_or zs None → IsThere s.leaves o
   next_there xs zs o are e p is = are p (in_right (leaf_name p) xs zs (first_in zs (leaf_name p) (sym e ∙ ap (option_map leaf_name) is)))
+
+-- the leaves beside a place are those around it
+pub beside_place : (xs zs : List OpaqueNodePtr) (next previous : Option LeafPtr) → option_map leaf_name next ≡ first_or zs None → option_map leaf_name previous ≡ last_or xs None →
+    (p : LeafPtr) → IsIn p (listed next ++ (listed previous ++ [])) → IsIn (leaf_name p) (xs ++ zs)
+beside_place xs zs next previous first last p i = elim (in_either p (listed next) (listed previous ++ []) i) [
+  | inl j ↦ in_right (leaf_name p) xs zs (first_in zs (leaf_name p) (sym first ∙ ap (option_map leaf_name) (in_listed next p j)))
+  | inr j ↦ elim (in_either p (listed previous) [] j) [
+    | inl k ↦ in_left (leaf_name p) xs zs (last_in xs (leaf_name p) (sym last ∙ ap (option_map leaf_name) (in_listed previous p k)))
+    | inr k ↦ absurd k
+  ]
+]

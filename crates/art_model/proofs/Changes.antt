@@ -1,17 +1,17 @@
 -- What each change makes of the tree in the hole: a radix tree again, with the pairs that the map's operation leaves.
-use Rattle.std.proofs.Common.{◌≡◌, ℕ, suc, ◌<◌, ◌≤◌, List, [], ◌∷◌, ◌++◌, length, refl, ap, sym, ◌∙◌, append_assoc, append-nil, arith, length-append, subst, cond, ltb, ◌⊎◌, inl, inr, true}
+use Rattle.std.proofs.Common.{◌≡◌, ℕ, suc, ◌<◌, ◌≤◌, List, [], ◌∷◌, ◌++◌, length, refl, ap, sym, ◌∙◌, append_assoc, append-nil, arith, length-append, subst, cond, ltb, ◌⊎◌, inl, inr}
 use Rattle.std.specs.List.{AllByRecursion as Each}
 use Rattle.std.proofs.lemmas.Bool.{cases_order, le-ltb, lt-ltb}
-use Rattle.art_model.specs.Keys.{IsFront, Precedes, are_related}
+use Rattle.art_model.specs.Keys.{IsFront, Precedes}
 use Rattle.art_model.specs.Trees.{Tree, leaf, inner, Children, child, no_child, header_of, Header}
 use Rattle.art_model.specs.Radix.{IsRadix, AreRadix, IsRising, bytes_of, pairs_of, pairs_below, join}
-use Rattle.art_model.specs.Pairs.{add_in_order, put, overwrite, remove_key, remove_related}
+use Rattle.art_model.specs.Pairs.{put, remove_key}
 use Rattle.art_model.proofs.Lists.{front_cut, Each-weaker}
 use Rattle.art_model.proofs.Rebuild.{radix_way}
 use Rattle.art_model.proofs.Radix.{bytes_of-join, pairs_below-join, AreRadix-join, AreRadix-left, AreRadix-right, parts, PartsBelow, PartsAbove, all_below, all_above}
 use Rattle.art_model.proofs.Pairwises.{Pairwise-before, Pairwise-after, Pairwise-without, Pairwise-with}
 use Rattle.art_model.proofs.Between.{put-between, remove_key-between}
-use Rattle.art_model.proofs.Keys.{front_related, front_same}
+use Rattle.art_model.proofs.Keys.{front_same}
 
 module _ {N A : Type 0} where
   -- two children in the order of their bytes
@@ -124,15 +124,3 @@ module _ {A : Type 0} (bytes : A → List ℕ) where
   -- the only pair goes
   pub alone : (x : A) → remove_key bytes (bytes x) (x ∷ []) ≡ []
   alone x = rw (front_same (bytes x)) refl
-
-  -- a pair whose key is a front of the keys below takes their place
-  pub overwritten : (new : A) (xs : List A) → Each (λ x. IsFront (bytes new) (bytes x)) xs → overwrite bytes new xs ≡ new ∷ []
-  overwritten new xs h = ap (add_in_order bytes new) (all_gone xs h)
-    where
-      all_gone : (ys : List A) → Each (λ x. IsFront (bytes new) (bytes x)) ys → remove_related bytes (bytes new) ys ≡ []
-      all_gone [] k = refl
-      all_gone (y ∷ ys) k = rw (front_related (bytes new) (bytes y) k.0) (all_gone ys k.1)
-
-  -- a pair whose key is related to that of the only pair takes its place
-  pub overwritten_one : (new x : A) → are_related (bytes new) (bytes x) ≡ true → overwrite bytes new (x ∷ []) ≡ new ∷ []
-  overwritten_one new x e = rw e refl

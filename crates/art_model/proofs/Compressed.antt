@@ -1,5 +1,5 @@
 -- A deletion that leaves a node one child, from the equations of the store's maps: the child takes the node's place, with a longer prefix where it is an inner node.
-use Rattle.std.proofs.Common.{◌≡◌, ◌≢◌, ℕ, ◌≤◌, List, [], ◌∷◌, ◌++◌, length, take, map, Option, Some, None, refl, ap, sym, ◌∙◌, subst, arith, length-append, append-nil, append_assoc, ◌⊎◌, inl, inr}
+use Rattle.std.proofs.Common.{◌≡◌, ◌≢◌, ℕ, ◌≤◌, List, [], ◌∷◌, ◌++◌, length, take, map, Option, Some, None, refl, ap, sym, ◌∙◌, subst, arith, append-nil, ◌⊎◌, inl, inr}
 use Rattle.std.specs.List.{AllByRecursion as Each}
 use Rattle.std.specs.Option.{option_map}
 use Rattle.std.specs.FinMap.{get, remove}
@@ -18,7 +18,7 @@ use Rattle.art_nodes.proofs.StoreLaws.{inner_changed_at, inner_changed_elsewhere
 use Rattle.art_model.specs.Trees.{Tree, leaf, inner, Children, child, no_child, Header, header_of}
 use Rattle.art_model.specs.Radix.{IsRadix, bytes_of, join}
 use Rattle.art_model.specs.Pairs.{remove_key}
-use Rattle.art_model.specs.Paths.{Frame, plug, names_before, names_after, leaves_before, leaves_after, HoldsPath}
+use Rattle.art_model.specs.Paths.{Frame, plug, leaves_before, leaves_after, HoldsPath}
 use Rattle.art_model.specs.Layouts.{Node, inner_node, name_of, slots_of, names_of, names_below, leaf_names_below, Holds}
 use Rattle.art_model.specs.Stores.{node_at, links_at, pair_of}
 use Rattle.art_model.specs.Writes.{Inners, as_inner, parent_of, with_child_at}
@@ -26,17 +26,19 @@ use Rattle.art_model.specs.Kept.{ChangesInPlace}
 use Rattle.art_model.specs.Footprints.{IsIn, TouchesAtMost}
 use Rattle.art_model.proofs.Canonical.{IsLaidOut}
 use Rattle.art_model.proofs.InPlace.{AreNames, in_place}
-use Rattle.art_model.proofs.Lists.{Each-append, each_in, each_from, each_map, in_left, in_right, in_either, in_around}
-use Rattle.art_model.proofs.Paths.{IsHole, root_with, names_of-plug, names_below-join}
-use Rattle.art_model.proofs.Stores.{IsParent, ParentHas, SameBut, path_holds, parent_apart, parent_before, hole_distinct}
+use Rattle.art_model.proofs.Lists.{each_in, in_left, in_right}
+use Rattle.art_model.proofs.Paths.{IsHole, root_with}
+use Rattle.art_model.proofs.Stores.{IsParent, ParentHas, SameBut, path_holds, parent_apart, hole_distinct}
 use Rattle.art_model.proofs.Regrown.{left_child_held}
 use Rattle.art_model.proofs.Links.{Relinked}
 use Rattle.art_model.proofs.Removed.{NodeRemoved, node_removed, node_removed_keeps, node_removed_keeps_leaves, raised_leaf, merged_node}
 use Rattle.art_model.proofs.Touches.{Touched, IsInner, both_names, footprint_of, touches_at_most, touched_none, then_freed, then_changed}
-use Rattle.art_model.proofs.Leaves.{listed, length-listed}
+use Rattle.art_model.proofs.Leaves.{listed, length-beside}
 use Rattle.art_model.proofs.Placed.{LeafTaken, taken_pairs, taken_relinked, taken_touched}
 use Rattle.art_model.proofs.Taken.{beside_in}
-use Rattle.art_model.proofs.Writes.{inner_at, node_at-inner, same_but, parent_written, parent_there, parents, length-parents, then_parent, with_child_at-elsewhere, inner_name_one}
+use Rattle.art_model.proofs.InHole.{both_in, names_around, parents_in}
+use Rattle.art_model.proofs.LeafChild.{leaf_below, leaf_or_other, others_below}
+use Rattle.art_model.proofs.Writes.{parents_inner, inner_at, node_at-inner, same_but, parent_written, parent_there, parents, length-parents, then_parent, with_child_at-elsewhere, inner_name_one}
 
 -- ---- a subtree with a longer prefix
 
@@ -68,40 +70,6 @@ pub record Compressed {K V : Type 0} (bytes : K × V → List ℕ) (P : ℕ) (s 
   pub radix : IsRadix bytes P ((place ++ hole.radix.0) ++ c ∷ []) v
   pub taken : LeafTaken s t (plug fs (inner m h (join l (child b (leaf (leaf_name n) (pair_of x)) r)))) (leaves_before fs ++ leaf_names_below l) (leaf_names_below r ++ leaves_after fs) n x
   pub inners : t.inners ≡ with_child_at (parent_of fs) (name_of v) (prefix_written P (hole.radix.0 ++ c ∷ prefix_at bytes P ((place ++ hole.radix.0) ++ c ∷ []) v radix) v (remove s.inners (as_inner m)))
-
--- ---- the names around a hole
-
-module _ {N A : Type 0} (fs : List (Frame N A)) where
-  -- a name of the hole is one of the whole
-  pub in_hole : (t : Tree N A) (k : N) → IsIn k (names_of t) → IsIn k (names_of (plug fs t))
-  in_hole t k i = subst (IsIn k) (sym (names_of-plug fs t)) (in_left k (names_before fs ++ names_of t) (names_after fs) (in_right k (names_before fs) (names_of t) i))
-
-  -- and so is the parent's
-  pub parent_in : (t : Tree N A) (k : N) → IsParent fs k → IsIn k (names_of (plug fs t))
-  parent_in t k is = subst (IsIn k) (sym (names_of-plug fs t)) (in_left k (names_before fs ++ names_of t) (names_after fs) (in_left k (names_before fs) (names_of t) (parent_before fs k is)))
-
-  -- A name of the whole stays, but for one of the hole that doesn't.
-  pub around_hole : (t u : Tree N A) (Q : Type 0) (k : N) → (IsIn k (names_of t) → IsIn k (names_of u) ⊎ Q) → IsIn k (names_of (plug fs t)) → IsIn k (names_of (plug fs u)) ⊎ Q
-  around_hole t u Q k f i = elim (in_either k (names_before fs ++ names_of t) (names_after fs) (subst (IsIn k) (names_of-plug fs t) i)) [
-    | inl j ↦ elim (in_either k (names_before fs) (names_of t) j) [
-      | inl a ↦ inl (back (in_left k (names_before fs ++ names_of u) (names_after fs) (in_left k (names_before fs) (names_of u) a)))
-      | inr a ↦ elim (f a) [ inl e ↦ inl (in_hole u k e) | inr q ↦ inr q ]
-    ]
-    | inr j ↦ inl (back (in_right k (names_before fs ++ names_of u) (names_after fs) j))
-  ]
-    where
-      back : IsIn k (names_before fs ++ names_of u ++ names_after fs) → IsIn k (names_of (plug fs u))
-      back = subst (IsIn k) (sym (names_of-plug fs u))
-
--- parents are inner nodes
-parents_inner : {A : Type 0} (fs : List (Frame OpaqueNodePtr A)) → ((k : OpaqueNodePtr) → IsParent fs k → k.kind ≢ Leaf) → Each IsInner (parents fs)
-parents_inner [] h = tt
-parents_inner (f ∷ fs) h = (h f.mark refl, tt)
-
--- and stand for names of the whole
-parents_each : {A : Type 0} (Q : OpaqueNodePtr → Type 0) (fs : List (Frame OpaqueNodePtr A)) → ((k : OpaqueNodePtr) → IsParent fs k → Q k) → Each (λ p. Q (inner_name p)) (parents fs)
-parents_each Q [] h = tt
-parents_each Q (f ∷ fs) h = (h f.mark refl, tt)
 
 module _ {A : Type 0} where
   -- the node that is written is one of the subtree
@@ -151,22 +119,16 @@ module _ {K V : Type 0} {bytes : K × V → List ℕ} {P : ℕ} {s t : Nodes K V
 
   -- ---- which names are which
 
-  left_names : names_of v ≡ names_below l ++ names_below r
-  left_names = sym (ap names_below is.one ∙ append-nil (names_of v)) ∙ names_below-join l r
-
-  below_is : below ≡ names_below l ++ leaf_name n ∷ names_below r
-  below_is = names_below-join l (child b (leaf (leaf_name n) (pair_of x)) r)
+  left_names : names_of v ≡ names_below (join l r)
+  left_names = sym (append-nil (names_of v)) ∙ sym (ap names_below is.one)
 
   -- a name of the child that is left is one below the node
   pub left_in : (k : OpaqueNodePtr) → IsIn k (names_of v) → IsIn k below
-  left_in k i = subst (IsIn k) (sym below_is) (subst (IsIn k) (append_assoc (names_below l) (leaf_name n ∷ []) (names_below r)) (in_around k (names_below l) (leaf_name n ∷ []) (names_below r) (subst (IsIn k) left_names i)))
+  left_in k i = others_below l r b (leaf_name n) (pair_of x) k (subst (IsIn k) left_names i)
 
   of_hole : (k : OpaqueNodePtr) → IsIn k (names_of gone) → IsIn k (names_of v) ⊎ IsIn k (leaf_name n ∷ m ∷ [])
   of_hole k (inl e) = inr (inr (inl e))
-  of_hole k (inr i) = elim (in_either k (names_below l) (leaf_name n ∷ names_below r) (subst (IsIn k) below_is i)) [
-    | inl j ↦ inl (subst (IsIn k) (sym left_names) (in_left k (names_below l) (names_below r) j))
-    | inr j ↦ elim j [ inl e ↦ inr (inl e) | inr a ↦ inl (subst (IsIn k) (sym left_names) (in_right k (names_below l) (names_below r) a)) ]
-  ]
+  of_hole k (inr i) = elim (leaf_or_other l r b (leaf_name n) (pair_of x) k i) [ inl j ↦ inl (subst (IsIn k) (sym left_names) j) | inr e ↦ inr (inl e) ]
 
   -- and not the node's
   pub off_node : (k : OpaqueNodePtr) → IsIn k (names_of v) → k ≢ m
@@ -262,43 +224,31 @@ module _ {K V : Type 0} {bytes : K × V → List ℕ} {P : ℕ} {s t : Nodes K V
       (then_parent touched_middle fs (name_of v) (λ k up. (parent_there bytes P s fs m held.0 k up).1) (λ k up e. (parent_there bytes P s fs m held.0 k up).1 (sym (above_same k up) ∙ e)))
 
   inner_kinds : Each IsInner (parents fs ++ map as_inner (rewritten v))
-  inner_kinds = Each-append IsInner (parents fs) (map as_inner (rewritten v)) (parents_inner fs (λ k up. (parent_there bytes P s fs m held.0 k up).0)) (rewritten_each IsInner v (λ k i. (rewritten_there k i).0))
+  inner_kinds = parents_inner bytes P s fs m held.0 (map as_inner (rewritten v)) (rewritten_each IsInner v (λ k i. (rewritten_there k i).0))
 
   -- two names are freed, and at most four are changed
   pub compressed_touches : TouchesAtMost 0 2 4 s t
   compressed_touches =
-      let a = length-listed x.next in let d = length-listed x.previous in let p = length-parents fs in let q = length-rewritten v in
-      let e = length-append (listed x.next) (listed x.previous ++ []) in let f = length-append (listed x.previous) [] in let g = length-append (parents fs) (map as_inner (rewritten v)) in
+      let beside = length-beside x.next x.previous in let above = length-parents fs (map as_inner (rewritten v)) in let own = length-rewritten v in
       touches_at_most s t 0 2 4 (taken_touched old.holds old.distinct old.linked is.taken) touched_inners tt (node_there.0, tt) inner_kinds (omega arith) (omega arith) (omega arith)
 
   -- ---- what is kept
 
   names_are : AreNames (names_of (plug fs gone)) (names_of (plug fs (with_prefix P (is.hole.radix.0 ++ c ∷ prefix_at bytes P ((place ++ is.hole.radix.0) ++ c ∷ []) v is.radix) v))) []
       (both_names (n ∷ []) (as_inner m ∷ [])) (both_names (listed x.next ++ (listed x.previous ++ [])) (parents fs ++ map as_inner (rewritten v)))
-  names_are = record {
-    placed_in = λ k i. absurd i;
-    freed_in = λ k i. in_hole fs gone k (in_gone k i);
-    changed_in = λ k i. each_in Old k (both_names (listed x.next ++ (listed x.previous ++ [])) (parents fs ++ map as_inner (rewritten v))) changed_old i;
-    old_stays = λ k i. around_hole fs gone kept (IsIn k (leaf_name n ∷ m ∷ [])) k (λ j. elim (of_hole k j) [ inl a ↦ inl (subst (IsIn k) (sym removed.same_names) a) | inr a ↦ inr a ]) i;
-    new_comes = λ k i. around_hole fs kept gone (IsIn k []) k (λ j. inl (inr (left_in k (subst (IsIn k) removed.same_names j)))) i;
-  }
+  names_are = names_around fs gone kept [] (leaf_name n ∷ m ∷ []) (both_names (listed x.next ++ (listed x.previous ++ [])) (parents fs ++ map as_inner (rewritten v)))
+      (record {
+        placed_in = λ k i. absurd i;
+        freed_in = λ k i. elim i [ inl e ↦ inr (leaf_below l r b (leaf_name n) (pair_of x) k e) | inr (inl e) ↦ inl e | inr (inr j) ↦ absurd j ];
+        changed_in = λ k i. absurd i;
+        old_stays = λ k i. elim (of_hole k i) [ inl a ↦ inl (subst (IsIn k) (sym removed.same_names) a) | inr a ↦ inr a ];
+        new_comes = λ k i. inl (inr (left_in k (subst (IsIn k) removed.same_names i)));
+      })
+      (both_in (names_of (plug fs gone)) (listed x.next ++ (listed x.previous ++ [])) (parents fs ++ map as_inner (rewritten v)) (beside_in old.holds old.linked is.taken.among)
+      (parents_in fs gone (map as_inner (rewritten v)) (λ p i. each_in (λ q. IsIn (inner_name q) (names_of gone)) p (map as_inner (rewritten v)) (rewritten_each (λ q. IsIn (inner_name q) (names_of gone)) v (λ k j. inr (left_in k (rewritten_in v k j)))) i)))
     where
       kept : Tree OpaqueNodePtr (K × V)
       kept = with_prefix P (is.hole.radix.0 ++ c ∷ prefix_at bytes P ((place ++ is.hole.radix.0) ++ c ∷ []) v is.radix) v
-
-      Old : OpaqueNodePtr → Type 0
-      Old k = IsIn k (names_of (plug fs gone))
-
-      in_gone : (k : OpaqueNodePtr) → IsIn k (leaf_name n ∷ m ∷ []) → IsIn k (names_of gone)
-      in_gone k (inl e) = inr (subst (IsIn k) (sym below_is) (in_right k (names_below l) (leaf_name n ∷ names_below r) (inl e)))
-      in_gone k (inr (inl e)) = inl e
-      in_gone k (inr (inr i)) = absurd i
-
-      changed_old : Each Old (both_names (listed x.next ++ (listed x.previous ++ [])) (parents fs ++ map as_inner (rewritten v)))
-      changed_old = Each-append Old (map leaf_name (listed x.next ++ (listed x.previous ++ []))) (map inner_name (parents fs ++ map as_inner (rewritten v)))
-          (each_map leaf_name Old (listed x.next ++ (listed x.previous ++ [])) (each_from (λ p. Old (leaf_name p)) (listed x.next ++ (listed x.previous ++ [])) (λ p i. beside_in {s = s} old.holds old.linked (record { list = is.taken.list; here = is.taken.here }) p i)))
-          (each_map inner_name Old (parents fs ++ map as_inner (rewritten v)) (Each-append (λ p. Old (inner_name p)) (parents fs) (map as_inner (rewritten v))
-          (parents_each Old fs (λ k up. parent_in fs gone k up)) (rewritten_each (λ p. Old (inner_name p)) v (λ k i. in_hole fs gone k (inr (left_in k (rewritten_in v k i)))))))
 
   -- and the rest stays
   pub compressed_in_place : ChangesInPlace bytes s t (Some (plug fs (inner m h (join l (child b (leaf (leaf_name n) (pair_of x)) r))))) (Some (plug fs (with_prefix P (is.hole.radix.0 ++ c ∷ prefix_at bytes P ((place ++ is.hole.radix.0) ++ c ∷ []) v is.radix) v)))

@@ -1,21 +1,6 @@
 -- how many bytes two keys share in front
-use Rattle.std.proofs.Common.{◌≡◌, ◌≢◌, ℕ, suc, zero, ◌<◌, ◌≤◌, List, [], ◌∷◌, ◌++◌, length, drop, get_or, refl, ap, ap₂, sym, arith, eqb, eq-eqb, eqb-true, cond, Bool, true, false, ◌⊎◌, inl, inr}
-use Rattle.std.proofs.lemmas.Bool.{ne_eqb}
+use Rattle.std.proofs.Common.{◌≡◌, ℕ, suc, zero, ◌≤◌, List, [], ◌∷◌, ◌++◌, length, drop, refl, ap, ap₂, sym, arith, eqb, eq-eqb, eqb-true, cond, Bool, true, false, ◌⊎◌, inl, inr}
 use Rattle.art_model.specs.Keys.{common_front, IsFront}
-
--- where the bytes at a place are the same, the keys share one byte more than after it
-pub shared_same : (i : ℕ) (a b : List ℕ) → i < length a → i < length b → get_or a i 0 ≡ get_or b i 0 → length (common_front (drop i a) (drop i b)) ≡ suc (length (common_front (drop (suc i) a) (drop (suc i) b)))
-shared_same i [] b h k e = absurd (omega arith)
-shared_same i (x ∷ a) [] h k e = absurd (omega arith)
-shared_same zero (x ∷ a) (y ∷ b) h k e = rw (eq-eqb x y e) refl
-shared_same (suc i) (x ∷ a) (y ∷ b) h k e = shared_same i a b (omega arith) (omega arith) e
-
--- where they differ, the keys share no byte from there on
-pub shared_differ : (i : ℕ) (a b : List ℕ) → i < length a → i < length b → get_or a i 0 ≢ get_or b i 0 → length (common_front (drop i a) (drop i b)) ≡ 0
-shared_differ i [] b h k e = absurd (omega arith)
-shared_differ i (x ∷ a) [] h k e = absurd (omega arith)
-shared_differ zero (x ∷ a) (y ∷ b) h k e = rw (ne_eqb x y e) refl
-shared_differ (suc i) (x ∷ a) (y ∷ b) h k e = shared_differ i a b (omega arith) (omega arith) e
 
 -- nor where one of them has ended
 pub shared_end : (i : ℕ) (a b : List ℕ) → (length a ≤ i) ⊎ (length b ≤ i) → length (common_front (drop i a) (drop i b)) ≡ 0

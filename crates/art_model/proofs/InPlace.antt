@@ -1,5 +1,5 @@
 -- What a change in place keeps, from the lists of names that it touches and from the model's lists of nodes.
-use Rattle.std.proofs.Common.{◌≡◌, ℕ, List, refl, sym, Option, None, ◌⊎◌, inl, inr}
+use Rattle.std.proofs.Common.{◌≡◌, ℕ, List, [], refl, sym, Option, None, ◌⊎◌, inl, inr}
 use Rattle.art_nodes.specs.Nodes.{Nodes}
 use Rattle.art_nodes.specs.declared.node.OpaqueNodePtr.{OpaqueNodePtr}
 use Rattle.art_model.specs.Trees.{Tree}
@@ -17,6 +17,10 @@ pub record AreNames {N : Type 0} (old new placed freed changed : List N) : Type 
   pub changed_in : (n : N) → IsIn n changed → IsIn n old
   pub old_stays : (n : N) → IsIn n old → IsIn n new ⊎ IsIn n freed
   pub new_comes : (n : N) → IsIn n new → IsIn n old ⊎ IsIn n placed
+
+-- the other way round
+pub names_back : {N : Type 0} {old new placed freed : List N} → AreNames old new placed freed [] → AreNames new old freed placed []
+names_back names = record { placed_in = names.freed_in; freed_in = names.placed_in; changed_in = λ n i. absurd i; old_stays = names.new_comes; new_comes = names.old_stays }
 
 module _ {K V : Type 0} {s t : Nodes K V} {placed freed changed : List OpaqueNodePtr} (print : Footprint s t placed freed changed) where
   -- nodes beside the tree are as they were

@@ -1,14 +1,13 @@
 -- An insertion into a node that is full, from the equations of the store's maps: a larger node takes its place, and what is laid out then, and what is touched.
-use Rattle.std.proofs.Common.{◌≡◌, ◌≢◌, ℕ, suc, ◌<◌, ◌≤◌, List, [], ◌∷◌, ◌++◌, length, map, Option, Some, None, refl, ap, sym, ◌∙◌, subst, arith, length-append, inl, inr}
+use Rattle.std.proofs.Common.{◌≡◌, ◌≢◌, ℕ, suc, ◌<◌, ◌≤◌, List, [], ◌∷◌, ◌++◌, length, Some, None, ap, sym, ◌∙◌, subst, arith, inl, inr}
 use Rattle.std.specs.List.{AllByRecursion as Each}
 use Rattle.std.specs.FinMap.{get, insert, remove}
 use Rattle.art_nodes.specs.Inner.{Inner, put_child}
 use Rattle.art_nodes.specs.Kinds.{kind_capacity, larger_kind}
 use Rattle.art_nodes.specs.Changes.{with_child}
-use Rattle.art_nodes.specs.Names.{leaf_name, inner_name}
+use Rattle.art_nodes.specs.Names.{leaf_name}
 use Rattle.art_nodes.specs.Nodes.{Nodes}
 use Rattle.art_nodes.specs.declared.node.NodeType.TheVariants.{Node256, Leaf}
-use Rattle.art_nodes.specs.declared.node.InnerPtr.{InnerPtr}
 use Rattle.art_nodes.specs.declared.node.LeafPtr.{LeafPtr}
 use Rattle.art_nodes.specs.declared.node.LeafNode.{LeafNode}
 use Rattle.art_nodes.specs.declared.node.OpaqueNodePtr.{OpaqueNodePtr}
@@ -18,21 +17,22 @@ use Rattle.art_model.specs.Keys.{IsFront}
 use Rattle.art_model.specs.Trees.{leaf, inner, Children, Header, header_of, kind_of}
 use Rattle.art_model.specs.Radix.{bytes_of, join}
 use Rattle.art_model.specs.Paths.{Frame, plug, leaves_before, leaves_after}
-use Rattle.art_model.specs.Layouts.{Node, inner_node, names_of, slots_of, leaf_names_below}
+use Rattle.art_model.specs.Layouts.{names_of, slots_of, leaf_names_below}
 use Rattle.art_model.specs.Stores.{header_at, node_at, links_at, pair_of}
 use Rattle.art_model.specs.Writes.{Inners, as_inner, parent_of, with_child_at}
 use Rattle.art_model.specs.Footprints.{IsIn, TouchesAtMost}
-use Rattle.art_model.proofs.AddedChild.{ChildAdded, child_added, kind_of-larger, names_with_both, beside_in, parent_in}
+use Rattle.art_model.proofs.AddedChild.{ChildAdded, child_added, kind_of-larger}
+use Rattle.art_model.proofs.InHole.{both_in, parents_in}
+use Rattle.art_model.proofs.LeafChild.{names_with_both}
 use Rattle.art_model.proofs.Canonical.{IsLaidOut}
 use Rattle.art_model.proofs.Inserted.{ChildInserted}
-use Rattle.art_model.proofs.Leaves.{listed, length-listed}
-use Rattle.art_model.proofs.Lists.{in_either}
+use Rattle.art_model.proofs.Leaves.{listed, length-beside}
 use Rattle.art_model.proofs.Paths.{IsHole}
-use Rattle.art_model.proofs.Placed.{LeafPlaced, placed_was_free, placed_node, placed_pairs, placed_relinked, placed_touched}
+use Rattle.art_model.proofs.Placed.{LeafPlaced, placed_was_free, placed_node, placed_pairs, placed_relinked, placed_beside, placed_touched}
 use Rattle.art_model.proofs.Slots.{put_child-new, kind_of-full}
 use Rattle.art_model.proofs.Stores.{IsParent, path_holds, parent_apart}
-use Rattle.art_model.proofs.Touches.{Touched, touches_at_most, footprint_of, touched_none, then_freed, then_placed}
-use Rattle.art_model.proofs.Writes.{inner_at, node_at-inner, same_but, parents, length-parents, parent_there, parent_written, then_parent, with_child_at-elsewhere, inner_name_one}
+use Rattle.art_model.proofs.Touches.{Touched, IsInner, both_names, touches_at_most, footprint_of, touched_none, then_freed, then_placed}
+use Rattle.art_model.proofs.Writes.{shown, parents_inner, inner_at, node_at-inner, same_but, parents, length-parents, parent_there, parent_written, then_parent, with_child_at-elsewhere, inner_name_one}
 
 -- A leaf is placed, and a larger node takes the place of the full one in the hole, with the leaf as a child under a byte that had none.
 pub record IntoFull {K V : Type 0} (bytes : K × V → List ℕ) (P : ℕ) (s t : Nodes K V) (fs : List (Frame OpaqueNodePtr (K × V))) (place : List ℕ) (m k : OpaqueNodePtr) (h : Header) (l r : Children OpaqueNodePtr (K × V)) (b : ℕ) (n : LeafPtr) (x : LeafNode K V) (full : Inner) : Type 0 where
@@ -115,9 +115,6 @@ module _ {K V : Type 0} {bytes : K × V → List ℕ} {P : ℕ} {s t : Nodes K V
         relinked = placed_relinked old.holds old.distinct into.placed;
       }
     where
-      shown : {slots rest : List (ℕ × OpaqueNodePtr)} {g f : Header} → g ≡ f → slots ≡ rest → ◌≡◌ {A = Option (Node OpaqueNodePtr (K × V))} (Some (inner_node g slots)) (Some (inner_node f rest))
-      shown a e = cc
-
       grown_header : (part : List ℕ) (count other : ℕ) → header_at m.kind full ≡ header_of P part count → k.kind ≡ kind_of other → header_at k.kind grown ≡ header_of P part other
       grown_header part count other e kind = λ i. record { kind = kind i; length_of = (e i).length_of; stored = (e i).stored }
 
@@ -137,26 +134,18 @@ module _ {K V : Type 0} {bytes : K × V → List ℕ} {P : ℕ} {s t : Nodes K V
       subst (λ z. Touched s.inners z (as_inner k ∷ []) (as_inner m ∷ []) (parents fs ++ [])) (sym into.inners)
       (then_parent there fs k (λ q is. (up_there q is).1) (λ q is e. (up_there q is).1 (sym (still q (parent_not_old q is) (up_there q is).1) ∙ e)))
 
-  parents_inner : Each (λ (p : InnerPtr). p.kind ≢ Leaf) (parents fs ++ [])
-  parents_inner = go fs up_there
-    where
-      go : (gs : List (Frame OpaqueNodePtr (K × V))) → ((q : OpaqueNodePtr) → IsParent gs q → (q.kind ≢ Leaf) × (get s.inners (as_inner q) ≢ None)) → Each (λ (p : InnerPtr). p.kind ≢ Leaf) (parents gs ++ [])
-      go [] up = tt
-      go (g ∷ gs) up = ((up g.mark refl).0, tt)
+  all_inner : Each IsInner (parents fs ++ [])
+  all_inner = parents_inner bytes P s fs m (path_holds (node_at s) fs (inner m h (join l r)) old.holds).0 [] tt
 
   -- two names are placed, one is freed, and at most three are changed
   pub full_touches : TouchesAtMost 2 1 3 s t
   full_touches =
-      let a = length-listed x.next in let c = length-listed x.previous in let p = length-parents fs in
-      let e = length-append (listed x.next) (listed x.previous ++ []) in let f = length-append (listed x.previous) [] in let g = length-append (parents fs) [] in
-      touches_at_most s t 2 1 3 full_leaves full_inners (into.is_inner, tt) (own.0, tt) parents_inner (omega arith) (omega arith) (omega arith)
+      let beside = length-beside x.next x.previous in let above = length-parents fs [] in
+      touches_at_most s t 2 1 3 full_leaves full_inners (into.is_inner, tt) (own.0, tt) all_inner (omega arith) (omega arith) (omega arith)
 
-  changed_in : (q : OpaqueNodePtr) → IsIn q (map leaf_name changed ++ map inner_name (parents fs ++ [])) → IsIn q (names_of (plug fs (inner m h (join l r))))
-  changed_in q i = elim (in_either q (map leaf_name changed) (map inner_name (parents fs ++ [])) i) [
-    | inl j ↦ beside_in into.placed q j
-    | inr j ↦ parent_in fs (inner m h (join l r)) q j
-  ]
+  changed_in : (q : OpaqueNodePtr) → IsIn q (both_names changed (parents fs ++ [])) → IsIn q (names_of (plug fs (inner m h (join l r))))
+  changed_in = both_in (names_of (plug fs (inner m h (join l r)))) changed (parents fs ++ []) (placed_beside old.holds old.distinct into.placed) (parents_in fs (inner m h (join l r)) [] (λ p i. absurd i))
 
   -- the root is canonical for the pairs with the new one, and all nodes that stay keep their names
   pub full_added : ChildAdded bytes P s t root pairs fs m k h l r b (leaf_name n) (pair_of x)
-  full_added = child_added old full_inserted (footprint_of s t full_leaves full_inners (into.is_inner, tt) (own.0, tt) parents_inner) (λ g. names_with_both fs m k h g l r b (leaf_name n) (pair_of x) changed_in)
+  full_added = child_added old full_inserted (footprint_of s t full_leaves full_inners (into.is_inner, tt) (own.0, tt) all_inner) (names_with_both l r b (leaf_name n) (pair_of x) m k h) changed_in

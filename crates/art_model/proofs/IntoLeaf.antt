@@ -13,7 +13,7 @@ use Rattle.art_nodes.proofs.StoreLaws.{leaf_changed_at, leaf_changed_elsewhere}
 use Rattle.art_model.specs.Keys.{are_same}
 use Rattle.art_model.specs.Pairs.{first_of, with_key, put, put_reply}
 use Rattle.art_model.specs.Trees.{leaf}
-use Rattle.art_model.specs.Paths.{Frame, plug}
+use Rattle.art_model.specs.Paths.{Frame, plug, HoldsPath}
 use Rattle.art_model.specs.Layouts.{leaf_node}
 use Rattle.art_model.specs.Stores.{node_at, links_at, pair_of}
 use Rattle.art_model.specs.Writes.{as_inner}
@@ -22,17 +22,17 @@ use Rattle.art_model.specs.Kept.{ChangesInPlace}
 use Rattle.art_model.proofs.Between.{put-between}
 use Rattle.art_model.proofs.Canonical.{IsLaidOut}
 use Rattle.art_model.proofs.Chains.{links_leaf, links_inner}
-use Rattle.art_model.proofs.InHole.{in_whole, names_in_hole, root_stays, with_key-hole}
+use Rattle.art_model.proofs.InHole.{in_hole, names_around, root_stays, with_key-hole}
 use Rattle.art_model.proofs.InPlace.{in_place}
 use Rattle.art_model.proofs.Kept.{kept_leaf}
 use Rattle.art_model.proofs.Keys.{front_same}
 use Rattle.art_model.proofs.Leaves.{same_leaf}
 use Rattle.art_model.proofs.Overwritten.{LeafAlone, leaf_alone, leaf_alone_keeps, leaf_alone_keeps_leaves, linked_still}
 use Rattle.art_model.proofs.Paths.{IsHole}
-use Rattle.art_model.proofs.Stores.{IsParent, path_holds}
+use Rattle.art_model.proofs.Stores.{path_holds}
 use Rattle.art_model.proofs.Touches.{Touched, touched_none, then_changed, footprint_of}
 use Rattle.art_model.proofs.Views.{leaf_or}
-use Rattle.art_model.proofs.Writes.{node_at-leaf, node_at-inner, parent_there, parent_stays, same_but}
+use Rattle.art_model.proofs.Writes.{node_at-leaf, parent_there, parent_stays, same_but, same_inner}
 
 -- The leaf in the hole has another pair, with an equal key.
 pub record IntoLeaf {K V : Type 0} (bytes : K × V → List ℕ) (P : ℕ) (s t : Nodes K V) (fs : List (Frame OpaqueNodePtr (K × V))) (place : List ℕ) (p : LeafPtr) (x : LeafNode K V) (new : K × V) : Type 0 where
@@ -59,17 +59,15 @@ module _ {K V : Type 0} {bytes : K × V → List ℕ} {P : ℕ} {s t : Nodes K V
     | inr off ↦ links_inner t k off ∙ sym (links_inner s k off)
   ]
 
-  parent_same : (k : OpaqueNodePtr) → IsParent fs k → node_at t k ≡ node_at s k
-  parent_same k is =
-      let (off, there) = parent_there bytes P s fs (leaf_name p) (path_holds (node_at s) fs (leaf (leaf_name p) (pair_of x)) old.holds).0 k is in
-      node_at-inner t k off (get s.inners (as_inner k)) (ap (λ z. get z (as_inner k)) into.inners) ∙ sym (node_at-inner s k off (get s.inners (as_inner k)) refl)
+  above : HoldsPath (node_at s) (leaf_name p) fs
+  above = (path_holds (node_at s) fs (leaf (leaf_name p) (pair_of x)) old.holds).0
 
   alone : LeafAlone bytes P (node_at s) (node_at t) (links_at t) fs place (leaf (leaf_name p) (pair_of x)) (leaf_name p) new
   alone = record {
     hole = into.hole;
     named = inl (inl refl);
     there = node_at-leaf t p ∙ ap (λ o. option_map leaf_node (option_map pair_of o)) leaf_then;
-    parent = parent_stays (node_at s) (node_at t) fs (leaf_name p) (path_holds (node_at s) fs (leaf (leaf_name p) (pair_of x)) old.holds).0 (λ k is. parent_same k is);
+    parent = parent_stays (node_at s) (node_at t) fs (leaf_name p) above (λ k is. same_inner s t k (parent_there bytes P s fs (leaf_name p) above k is).0 (ap (λ z. get z (as_inner k)) into.inners));
     same = same_but s t fs (leaf_name p ∷ []) (λ q off used. ap (option_map pair_of) (other_leaf q (λ e. off (inl (ap leaf_name (sym e)))))) (λ k kind up off used. ap (λ z. get z (as_inner k)) into.inners);
     linked = linked_still fs (leaf_name p) (pair_of x) new old (λ k i. links_same k);
   }
@@ -100,5 +98,5 @@ module _ {K V : Type 0} {bytes : K × V → List ℕ} {P : ℕ} {s t : Nodes K V
   -- and all nodes keep their names
   pub leaf_kept : ChangesInPlace bytes s t (Some (plug fs (leaf (leaf_name p) (pair_of x)))) (Some (plug fs (leaf (leaf_name p) new)))
   leaf_kept = in_place leaf_print P
-      (names_in_hole fs (leaf (leaf_name p) (pair_of x)) (leaf (leaf_name p) new) (λ k i. absurd i) (λ k i. absurd i) (λ k i. in_whole fs (leaf (leaf_name p) (pair_of x)) k i) (λ k i. inl i) (λ k i. inl i))
+      (names_around fs (leaf (leaf_name p) (pair_of x)) (leaf (leaf_name p) new) [] [] (leaf_name p ∷ []) (record { placed_in = λ k i. absurd i; freed_in = λ k i. absurd i; changed_in = λ k i. absurd i; old_stays = λ k i. inl i; new_comes = λ k i. inl i }) (in_hole fs (leaf (leaf_name p) (pair_of x))))
       (leaf_alone_keeps_leaves old alone (put bytes new) (put-between bytes new) put_here (kept_leaf bytes P (leaf_name p) (pair_of x) new)) (leaf_alone_keeps old alone)

@@ -1,12 +1,12 @@
 -- An insertion into a node that has room, from the equations of the store's maps: what is laid out then, and what is touched.
-use Rattle.std.proofs.Common.{◌≡◌, ◌≢◌, ℕ, suc, ◌<◌, List, [], ◌∷◌, ◌++◌, length, map, Option, Some, None, refl, ap, sym, ◌∙◌, subst, arith, length-append, inl, inr}
+use Rattle.std.proofs.Common.{◌≡◌, ◌≢◌, ℕ, suc, ◌<◌, List, [], ◌∷◌, ◌++◌, length, Some, None, refl, ap, sym, ◌∙◌, subst, arith, inl, inr}
 use Rattle.std.specs.List.{AllByRecursion as Each}
 use Rattle.std.specs.Option.{option_map}
 use Rattle.std.specs.FinMap.{get}
 use Rattle.art_nodes.specs.Inner.{put_child}
 use Rattle.art_nodes.specs.Kinds.{kind_capacity}
 use Rattle.art_nodes.specs.Changes.{with_child}
-use Rattle.art_nodes.specs.Names.{leaf_name}
+use Rattle.art_nodes.specs.Names.{leaf_name, inner_name}
 use Rattle.art_nodes.specs.Nodes.{Nodes, change}
 use Rattle.art_nodes.specs.declared.node.NodeType.TheVariants.{Leaf}
 use Rattle.art_nodes.specs.declared.node.LeafPtr.{LeafPtr}
@@ -18,22 +18,22 @@ use Rattle.art_model.specs.Keys.{IsFront}
 use Rattle.art_model.specs.Trees.{leaf, inner, Children, Header, kind_of}
 use Rattle.art_model.specs.Radix.{bytes_of, join}
 use Rattle.art_model.specs.Paths.{Frame, plug, leaves_before, leaves_after}
-use Rattle.art_model.specs.Layouts.{Node, inner_node, names_of, slots_of, leaf_names_below}
+use Rattle.art_model.specs.Layouts.{names_of, slots_of, leaf_names_below}
 use Rattle.art_model.specs.Stores.{node_at, links_at, pair_of}
 use Rattle.art_model.specs.Writes.{as_inner}
 use Rattle.art_model.specs.Footprints.{IsIn, TouchesAtMost}
 use Rattle.art_model.proofs.Canonical.{IsLaidOut}
 use Rattle.art_model.proofs.Paths.{IsHole}
-use Rattle.art_model.proofs.Stores.{IsParent, path_holds, parent_apart}
+use Rattle.art_model.proofs.Stores.{path_holds, parent_apart}
 use Rattle.art_model.proofs.Inserted.{ChildInserted}
-use Rattle.art_model.proofs.Touches.{Touched, touches_at_most, footprint_of, touched_none, then_changed}
-use Rattle.art_model.proofs.AddedChild.{ChildAdded, child_added, names_with_leaf, beside_in}
-use Rattle.art_model.proofs.InHole.{in_whole}
-use Rattle.art_model.proofs.Lists.{in_either}
-use Rattle.art_model.proofs.Leaves.{listed, length-listed}
-use Rattle.art_model.proofs.Placed.{LeafPlaced, placed_was_free, placed_node, placed_pairs, placed_relinked, placed_touched}
+use Rattle.art_model.proofs.Touches.{Touched, both_names, touches_at_most, footprint_of, touched_none, then_changed}
+use Rattle.art_model.proofs.AddedChild.{ChildAdded, child_added}
+use Rattle.art_model.proofs.InHole.{both_in, in_hole}
+use Rattle.art_model.proofs.LeafChild.{names_with_leaf}
+use Rattle.art_model.proofs.Leaves.{listed, length-beside}
+use Rattle.art_model.proofs.Placed.{LeafPlaced, placed_was_free, placed_node, placed_pairs, placed_relinked, placed_beside, placed_touched}
 use Rattle.art_model.proofs.Slots.{put_child-new, kind_of-room}
-use Rattle.art_model.proofs.Writes.{inner_at, node_at-inner, same_but, parent_stays, parent_there, inner_name_one, header_with}
+use Rattle.art_model.proofs.Writes.{inner_at, node_at-inner, same_but, same_inner, shown, parent_stays, parent_there, inner_name_one, header_with}
 
 -- A leaf is placed, and the node in the hole, which has room, takes it as a child under a byte that had none.
 pub record IntoRoom {K V : Type 0} (bytes : K × V → List ℕ) (P : ℕ) (s t : Nodes K V) (fs : List (Frame OpaqueNodePtr (K × V))) (place : List ℕ) (m : OpaqueNodePtr) (h : Header) (l r : Children OpaqueNodePtr (K × V)) (b : ℕ) (n : LeafPtr) (x : LeafNode K V) : Type 0 where
@@ -70,18 +70,10 @@ module _ {K V : Type 0} {bytes : K × V → List ℕ} {P : ℕ} {s t : Nodes K V
         differ = λ e. off (ap (λ (z : OpaqueNodePtr). z.kind) e);
         there = node_at-inner t m off (Some (with_child b (leaf_name n) node)) is ∙ shown (head ∙ header_with P into.hole.radix.0 count (suc count) h into.hole.radix.1 more) (ap (λ z. put_child z b (leaf_name n)) kids ∙ put_child-new l r b (leaf (leaf_name n) (pair_of x)) into.low into.high);
         new_leaf = placed_node old.holds old.distinct into.placed;
-        parent = parent_stays (node_at s) (node_at t) fs m held.0 (λ k is. parent_same k is);
+        parent = parent_stays (node_at s) (node_at t) fs m held.0 (λ k is. same_inner s t k (parent_there bytes P s fs m held.0 k is).0 (others k (λ e. parent_apart (node_at s) (node_at t) fs (inner m h (join l r)) old.holds old.distinct k is (inl (sym e)))));
         same = same_but s t fs (m ∷ []) (λ p i used. placed_pairs old.holds old.distinct into.placed p used) (λ k inner_kind up i used. others k (λ e. i (inl (sym e))));
         relinked = placed_relinked old.holds old.distinct into.placed;
       }
-    where
-      shown : {slots rest : List (ℕ × OpaqueNodePtr)} {g f : Header} → g ≡ f → slots ≡ rest → ◌≡◌ {A = Option (Node OpaqueNodePtr (K × V))} (Some (inner_node g slots)) (Some (inner_node f rest))
-      shown a e = cc
-
-      parent_same : (k : OpaqueNodePtr) → IsParent fs k → node_at t k ≡ node_at s k
-      parent_same k is =
-          let (off, there) = parent_there bytes P s fs m (path_holds (node_at s) fs (inner m h (join l r)) old.holds).0 k is in
-          node_at-inner t k off (get s.inners (as_inner k)) (others k (λ e. parent_apart (node_at s) (node_at t) fs (inner m h (join l r)) old.holds old.distinct k is (inl (sym e)))) ∙ sym (node_at-inner s k off (get s.inners (as_inner k)) refl)
 
   abbrev changed : List LeafPtr
   changed = listed x.next ++ (listed x.previous ++ [])
@@ -101,17 +93,13 @@ module _ {K V : Type 0} {bytes : K × V → List ℕ} {P : ℕ} {s t : Nodes K V
   -- one name is placed, and at most three are changed
   pub room_touches : TouchesAtMost 1 0 3 s t
   room_touches =
-      let a = length-listed x.next in let c = length-listed x.previous in
-      let e = length-append (listed x.next) (listed x.previous ++ []) in let f = length-append (listed x.previous) [] in
+      let beside = length-beside x.next x.previous in
       touches_at_most s t 1 0 3 room_leaves room_inners tt tt (is_inner, tt) (omega arith) (omega arith) (omega arith)
 
-  changed_in : (q : OpaqueNodePtr) → IsIn q (map leaf_name changed ++ m ∷ []) → IsIn q (names_of (plug fs (inner m h (join l r))))
-  changed_in q i = elim (in_either q (map leaf_name changed) (m ∷ []) i) [
-    | inl j ↦ beside_in into.placed q j
-    | inr (inl e) ↦ in_whole fs (inner m h (join l r)) q (inl e)
-    | inr (inr j) ↦ absurd j
-  ]
+  changed_in : (q : OpaqueNodePtr) → IsIn q (both_names changed (as_inner m ∷ [])) → IsIn q (names_of (plug fs (inner m h (join l r))))
+  changed_in = both_in (names_of (plug fs (inner m h (join l r)))) changed (as_inner m ∷ []) (placed_beside old.holds old.distinct into.placed)
+      (λ p i. elim i [ inl e ↦ in_hole fs (inner m h (join l r)) (inner_name p) (inl (ap inner_name e)) | inr j ↦ absurd j ])
 
   -- the root is canonical for the pairs with the new one, and all nodes that stay keep their names
   pub room_added : ChildAdded bytes P s t root pairs fs m m h l r b (leaf_name n) (pair_of x)
-  room_added = child_added old room_inserted (footprint_of s t room_leaves room_inners tt tt (is_inner, tt)) (λ g. names_with_leaf fs m m h g l r b (leaf_name n) (pair_of x) changed_in refl)
+  room_added = child_added old room_inserted (footprint_of s t room_leaves room_inners tt tt (is_inner, tt)) (names_with_leaf l r b (leaf_name n) (pair_of x) m h) changed_in

@@ -1,16 +1,15 @@
 -- The nodes that stay at each change keep their names: those in the hole, and so all, inner nodes and leaves.
 use Rattle.std.proofs.Common.{◌≡◌, ◌≢◌, ℕ, ◌+◌, List, [], ◌∷◌, ◌++◌, length, take, map, refl, ap, ap₂, sym, ◌∙◌, subst, append-nil, true, false, Bool, cond, ltb, inl, inr}
-use Rattle.std.specs.List.{AllByRecursion as Each}
 use Rattle.std.proofs.lemmas.Bool.{true≢false}
 use Rattle.art_model.specs.Keys.{Precedes}
 use Rattle.art_model.specs.Pairs.{Pairwise, IsMap}
 use Rattle.art_model.specs.Trees.{Tree, leaf, inner, Children, child, no_child, Header}
-use Rattle.art_model.specs.Radix.{IsRadix, bytes_of, join, pairs_of}
+use Rattle.art_model.specs.Radix.{IsRadix, bytes_of, join}
 use Rattle.art_model.specs.Layouts.{leaves_of}
 use Rattle.art_model.specs.Paths.{Frame, plug}
 use Rattle.art_model.specs.Places.{least_below, inner_nodes, inner_nodes_below}
 use Rattle.art_model.specs.Footprints.{IsIn}
-use Rattle.art_model.proofs.Lists.{Each-weaker, each_in, each_unmap, in_left}
+use Rattle.art_model.proofs.Lists.{Each-weaker, each_unmap, in_left}
 use Rattle.art_model.proofs.Keys.{front_related}
 use Rattle.art_model.proofs.Radix.{radix_map}
 use Rattle.art_model.proofs.Paths.{entries_before, entries_after, leaves_of-plug, pairs_of-leaves}
@@ -104,8 +103,3 @@ module _ {N A : Type 0} (bytes : A → List ℕ) (P : ℕ) where
   kept_leaf n x new e f (inl i) (inl j) alike same = ap (λ z. z.1) (sym i) ∙ ap (λ z. z.1) j
   kept_leaf n x new e f (inl i) (inr j) alike same = absurd j
   kept_leaf n x new e f (inr i) j alike same = absurd i
-
-  -- a leaf in the place of others, none of which has its key
-  pub kept_over : (t : Tree N A) (n : N) (new : A) → Each (λ x. bytes x ≢ bytes new) (pairs_of t) → KeepLeaves (leaves_of t) (leaves_of (leaf n new))
-  kept_over t n new off e f i (inl j) alike same = absurd (each_in (λ z. bytes z.0 ≢ bytes new) e (leaves_of t) (each_unmap (λ z. z.0) (λ x. bytes x ≢ bytes new) (leaves_of t) (subst (Each (λ x. bytes x ≢ bytes new)) (sym (pairs_of-leaves t)) off)) i (same ∙ ap (λ z. bytes z.0) (sym j)))
-  kept_over t n new off e f i (inr j) alike same = absurd j

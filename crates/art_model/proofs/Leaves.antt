@@ -8,7 +8,7 @@ use Rattle.art_nodes.specs.declared.node.LeafPtr.{LeafPtr}
 use Rattle.art_nodes.specs.declared.node.OpaqueNodePtr.{OpaqueNodePtr}
 use Rattle.art_nodes.specs.declared.node.LeafNode.{LeafNode}
 use Rattle.art_nodes.proofs.NameLemmas.{leaf_cmp_total, leaf_cmp-IsAntisymmetric}
-use Rattle.art_nodes.proofs.StoreLaws.{leaf_here, leaf_elsewhere, leaf_gone, leaf_gone_elsewhere, leaf_changed_at, leaf_changed_elsewhere}
+use Rattle.art_nodes.proofs.StoreLaws.{leaf_here, leaf_elsewhere, leaf_gone_elsewhere, leaf_changed_at, leaf_changed_elsewhere}
 use Rattle.art_model.specs.Stores.{pair_of}
 use Rattle.art_model.specs.Writes.{IsThere, Leaves, with_next, with_previous, change_some, joined, with_leaf, without_leaf}
 use Rattle.art_model.specs.Footprints.{IsIn}
@@ -21,10 +21,6 @@ same_leaf p q = elim (cases_eq p.slot q.slot) [
   | inl e ↦ inl (ap (λ (n : ℕ). let r : LeafPtr = record { slot = n } in r) e)
   | inr n ↦ inr (λ e. n (ap (λ (z : LeafPtr). z.slot) e))
 ]
-
--- leaves' names tell leaves apart
-pub leaf_name_one : (p q : LeafPtr) → leaf_name p ≡ leaf_name q → p ≡ q
-leaf_name_one p q e = λ i. record { slot = (e i).slot }
 
 -- an optional name is this one, or not
 some_leaf : (o : Option LeafPtr) (q : LeafPtr) → (o ≡ Some q) ⊎ (o ≡ Some q → ⊥)
@@ -103,11 +99,6 @@ module _ {K V : Type 0} where
     unfolding with_leaf
     with_leaf_pair q off = joined_pair (insert m n x) x.previous x.next (Some n) (Some n) q ∙ ap (option_map pair_of) (leaf_elsewhere m n q x off)
 
-    -- the leaf is gone
-    pub without_leaf_here : get (without_leaf m n x) n ≡ None
-    unfolding without_leaf
-    without_leaf_here = leaf_gone (joined m x.previous x.next x.next x.previous) n
-
     -- leaves beside it and elsewhere
     pub without_leaf_elsewhere : (q : LeafPtr) → q ≢ n → get (without_leaf m n x) q ≡ get (joined m x.previous x.next x.next x.previous) q
     unfolding without_leaf
@@ -125,10 +116,17 @@ abbrev pub listed : Option LeafPtr → List LeafPtr
 listed None = []
 listed (Some p) = p ∷ []
 
--- at most one
-pub length-listed : (o : Option LeafPtr) → length (listed o) ≤ 1
-length-listed None = omega arith
-length-listed (Some p) = omega arith
+pub in_listed : (o : Option LeafPtr) (p : LeafPtr) → IsIn p (listed o) → o ≡ Some p
+in_listed None p i = absurd i
+in_listed (Some q) p (inl e) = ap Some e
+in_listed (Some q) p (inr i) = absurd i
+
+-- at most two leaves stand beside a place
+pub length-beside : (next previous : Option LeafPtr) → length (listed next ++ (listed previous ++ [])) ≤ 2
+length-beside None None = omega arith
+length-beside None (Some p) = omega arith
+length-beside (Some n) None = omega arith
+length-beside (Some n) (Some p) = omega arith
 
 module _ {K V : Type 0} where
   then_change_some : {old new : Leaves K V} {placed freed changed : List LeafPtr} → Touched old new placed freed changed → (o : Option LeafPtr) (f : LeafNode K V → LeafNode K V) → IsThere old o → IsThere new o → Touched old (change_some new o f) placed freed (listed o ++ changed)
@@ -157,11 +155,6 @@ module _ {K V : Type 0} where
     pub touched_without_leaf : get m n ≢ None → (x.previous ≡ Some n → ⊥) → (x.next ≡ Some n → ⊥) → Touched m (without_leaf m n x) [] (n ∷ []) (listed x.next ++ (listed x.previous ++ []))
     unfolding without_leaf
     touched_without_leaf here not_before not_after = then_freed leaf_cmp_total leaf_cmp-IsAntisymmetric (then_joined (touched_none m) x.previous x.next x.next x.previous before after before after) n here (λ i. elim (in_either n (listed x.next) (listed x.previous ++ []) i) [
-      | inl j ↦ not_after (in_listed x.next j)
-      | inr j ↦ elim (in_either n (listed x.previous) [] j) [ inl k ↦ not_before (in_listed x.previous k) | inr k ↦ k ]
+      | inl j ↦ not_after (in_listed x.next n j)
+      | inr j ↦ elim (in_either n (listed x.previous) [] j) [ inl k ↦ not_before (in_listed x.previous n k) | inr k ↦ k ]
     ])
-      where
-        in_listed : (o : Option LeafPtr) → IsIn n (listed o) → o ≡ Some n
-        in_listed None i = absurd i
-        in_listed (Some p) (inl e) = ap Some e
-        in_listed (Some p) (inr i) = absurd i

@@ -36,6 +36,10 @@ module _ {N A : Type 0} {part : Tree N A → List N} {parts : Children N A → L
     among_below Q no_child h = subst (Each Q) (sym takes.of_none) tt
     among_below Q (child b t cs) h = subst (Each Q) (sym (takes.of_child b t cs)) (Each-append Q (part t) (parts cs) (among Q t (Each-left Q (names_of t) (names_below cs) h)) (among_below Q cs (Each-right Q (names_of t) (names_below cs) h)))
 
+  -- so those that are taken are names of the tree
+  pub taken_in : (t : Tree N A) (k : N) → IsIn k (part t) → IsIn k (names_of t)
+  taken_in t k i = each_in (λ n. IsIn n (names_of t)) k (part t) (among (λ n. IsIn n (names_of t)) t (each_from (λ n. IsIn n (names_of t)) (names_of t) (λ n j. j))) i
+
   mutual
     -- of distinct names those that are taken are distinct
     pub taken_distinct : (t : Tree N A) → AreDistinct (names_of t) → AreDistinct (part t)

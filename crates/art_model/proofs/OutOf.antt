@@ -1,5 +1,5 @@
 -- A deletion below a node that keeps two or more children, from the equations of the store's maps: what is laid out then, which names stay, and what is touched.
-use Rattle.std.proofs.Common.{◌≡◌, ◌≢◌, ℕ, suc, ◌<◌, ◌≤◌, List, [], ◌∷◌, ◌++◌, length, map, Option, Some, None, refl, ap, sym, ◌∙◌, subst, append_assoc, append-nil, arith, length-append, eq-eqb, ◌⊎◌, inl, inr}
+use Rattle.std.proofs.Common.{◌≡◌, ◌≢◌, ℕ, suc, ◌<◌, ◌≤◌, List, [], ◌∷◌, ◌++◌, length, Some, None, refl, ap, sym, ◌∙◌, subst, append_assoc, arith, length-append, eq-eqb, inl, inr}
 use Rattle.std.specs.List.{AllByRecursion as Each}
 use Rattle.std.specs.Option.{option_map}
 use Rattle.std.specs.FinMap.{get, insert, remove}
@@ -17,32 +17,31 @@ use Rattle.art_nodes.specs.declared.node.LeafNode.{LeafNode}
 use Rattle.art_nodes.specs.declared.node.OpaqueNodePtr.{OpaqueNodePtr}
 use Rattle.art_nodes.proofs.NameLemmas.{inner_cmp_total, inner_cmp-IsAntisymmetric}
 use Rattle.art_nodes.proofs.StoreLaws.{inner_here, inner_elsewhere, inner_gone_elsewhere, inner_changed_at, inner_changed_elsewhere}
-use Rattle.art_model.specs.Trees.{Tree, leaf, inner, Children, child, no_child, Header, header_of, kind_of}
+use Rattle.art_model.specs.Trees.{Tree, leaf, inner, Children, child, no_child, header_of, kind_of}
 use Rattle.art_model.specs.Radix.{bytes_of, join, pairs_below, IsRising}
 use Rattle.art_model.specs.Pairs.{remove_key}
 use Rattle.art_model.specs.Paths.{Frame, fill, plug, leaves_before, leaves_after, HoldsPath}
-use Rattle.art_model.specs.Layouts.{Node, inner_node, name_of, slots_of, names_of, names_below, leaf_names, first_or, last_or}
+use Rattle.art_model.specs.Layouts.{name_of, slots_of, names_of}
 use Rattle.art_model.specs.Stores.{node_at, links_at, pair_of, header_at}
 use Rattle.art_model.specs.Writes.{Inners, as_inner, parent_of, with_child_at, without_leaf, IsThere}
 use Rattle.art_model.specs.Footprints.{IsIn, TouchesAtMost}
 use Rattle.art_model.specs.Kept.{ChangesInPlace}
-use Rattle.art_model.proofs.Around.{in_hole, names_around, parents_in}
+use Rattle.art_model.proofs.InHole.{both_in, in_hole, names_around, parents_in}
 use Rattle.art_model.proofs.Canonical.{IsLaidOut}
-use Rattle.art_model.proofs.Chains.{are_there}
-use Rattle.art_model.proofs.InPlace.{AreNames, in_place}
-use Rattle.art_model.proofs.Leaves.{listed, length-listed}
-use Rattle.art_model.proofs.Links.{first_in, last_in}
-use Rattle.art_model.proofs.Lists.{each_in, each_from, in_left, in_right, in_either, in_around, in_map}
-use Rattle.art_model.proofs.Names.{among, takes_leaves}
+use Rattle.art_model.proofs.InPlace.{AreNames, in_place, names_back}
+use Rattle.art_model.proofs.LeafChild.{names_with_both, names_with_leaf}
+use Rattle.art_model.proofs.Leaves.{listed, length-beside}
+use Rattle.art_model.proofs.Lists.{in_right}
 use Rattle.art_model.proofs.Pairwises.{Pairwise-before, Pairwise-after}
-use Rattle.art_model.proofs.Paths.{IsHole, hole_of, root_with, leaf_names-plug, names_below-join}
-use Rattle.art_model.proofs.Placed.{LeafTaken, beside, taken_pairs, taken_relinked, taken_touched}
+use Rattle.art_model.proofs.Paths.{IsHole, hole_of, root_with, leaf_names-plug}
+use Rattle.art_model.proofs.Placed.{LeafTaken, taken_pairs, taken_relinked, taken_touched}
 use Rattle.art_model.proofs.Radix.{bytes_of-join, pairs_below-join}
 use Rattle.art_model.proofs.Removed.{ChildRemoved, child_removed_from, child_removed_keeps, child_removed_keeps_leaves}
 use Rattle.art_model.proofs.Slots.{IsInRange, kind_of-range, range_of_kind, kind_of-spare, kind_of-least}
 use Rattle.art_model.proofs.Stores.{IsParent, path_holds, parent_apart}
+use Rattle.art_model.proofs.Taken.{before_there, after_there, beside_in}
 use Rattle.art_model.proofs.Touches.{Touched, IsInner, both_names, footprint_of, touches_at_most, touched_none, then_changed, then_placed, then_freed}
-use Rattle.art_model.proofs.Writes.{inner_at, node_at-inner, same_but, parent_stays, parent_there, parent_written, inner_name_one, parents, length-parents, then_parent, with_child_at-elsewhere}
+use Rattle.art_model.proofs.Writes.{shown, same_inner, parents_inner, inner_at, node_at-inner, same_but, parent_stays, parent_there, parent_written, inner_name_one, parents, length-parents, then_parent, with_child_at-elsewhere}
 
 -- ---- the node without the child, and its kind
 
@@ -105,65 +104,6 @@ smaller_inner Node16 end e = absurd cc
 smaller_inner Node48 end e = absurd cc
 smaller_inner Node256 end e = absurd cc
 smaller_inner Leaf end e = end refl
-
-shown : {A : Type 0} {slots rest : List (ℕ × OpaqueNodePtr)} {g h : Header} → g ≡ h → slots ≡ rest → ◌≡◌ {A = Option (Node OpaqueNodePtr A)} (Some (inner_node g slots)) (Some (inner_node h rest))
-shown a e = cc
-
--- ---- the names of both trees
-
-listed_in : (o : Option LeafPtr) (k : OpaqueNodePtr) → IsIn k (map leaf_name (listed o)) → option_map leaf_name o ≡ Some k
-listed_in None k i = absurd i
-listed_in (Some p) k (inl e) = ap Some e
-listed_in (Some p) k (inr i) = absurd i
-
--- the leaf before a list's end and the leaf after it are in it
-pub beside_in : (xs zs : List OpaqueNodePtr) (next previous : Option LeafPtr) → option_map leaf_name next ≡ first_or zs None → option_map leaf_name previous ≡ last_or xs None →
-    (k : OpaqueNodePtr) → IsIn k (map leaf_name (listed next ++ (listed previous ++ []))) → IsIn k (xs ++ zs)
-beside_in xs zs None previous first last k i = in_left k xs zs (last_in xs k (sym last ∙ listed_in previous k (subst (λ ps. IsIn k (map leaf_name ps)) (append-nil (listed previous)) i)))
-beside_in xs zs (Some p) previous first last k (inl e) = in_right k xs zs (first_in zs k (sym first ∙ ap Some e))
-beside_in xs zs (Some p) previous first last k (inr i) = in_left k xs zs (last_in xs k (sym last ∙ listed_in previous k (subst (λ ps. IsIn k (map leaf_name ps)) (append-nil (listed previous)) i)))
-
--- the name of a leaf is one of the tree
-leaf_among : {N A : Type 0} (t : Tree N A) (k : N) → IsIn k (leaf_names t) → IsIn k (names_of t)
-leaf_among t k i = each_in (λ n. IsIn n (names_of t)) k (leaf_names t) (among takes_leaves (λ n. IsIn n (names_of t)) t (each_from (λ n. IsIn n (names_of t)) (names_of t) (λ n j. j))) i
-
-module _ {N A : Type 0} (f : Frame N A) (n : N) (x : A) where
-  -- the names below the node without the leaf
-  abbrev pub others : Children N A
-  others = join f.left f.right
-
-  below_stays : (k : N) → IsIn k (names_below (join f.left (child f.byte (leaf n x) f.right))) → IsIn k (names_below others) ⊎ (n ≡ k)
-  below_stays k i = elim (in_either k (names_below f.left) (n ∷ names_below f.right) (subst (IsIn k) (names_below-join f.left (child f.byte (leaf n x) f.right)) i)) [
-    | inl left ↦ inl (subst (IsIn k) (sym (names_below-join f.left f.right)) (in_left k (names_below f.left) (names_below f.right) left))
-    | inr (inl e) ↦ inr e
-    | inr (inr right) ↦ inl (subst (IsIn k) (sym (names_below-join f.left f.right)) (in_right k (names_below f.left) (names_below f.right) right))
-  ]
-
-  below_was : (k : N) → IsIn k (names_below others) → IsIn k (names_below (join f.left (child f.byte (leaf n x) f.right)))
-  below_was k i = subst (IsIn k) (append_assoc (names_below f.left) (n ∷ []) (names_below f.right) ∙ sym (names_below-join f.left (child f.byte (leaf n x) f.right))) (in_around k (names_below f.left) (n ∷ []) (names_below f.right) (subst (IsIn k) (names_below-join f.left f.right) i))
-
-  leaf_was : IsIn n (names_below (join f.left (child f.byte (leaf n x) f.right)))
-  leaf_was = subst (IsIn n) (sym (names_below-join f.left (child f.byte (leaf n x) f.right))) (in_right n (names_below f.left) (n ∷ names_below f.right) (inl refl))
-
-  -- the node stays: the leaf's name is freed
-  pub names_staying : (h : Header) → AreNames (names_of (fill f (leaf n x))) (names_of (inner f.mark h others)) [] (n ∷ []) []
-  names_staying h = record {
-    placed_in = λ k i. absurd i;
-    freed_in = λ k i. elim i [ inl e ↦ inr (subst (λ z. IsIn z (names_below (join f.left (child f.byte (leaf n x) f.right)))) e leaf_was) | inr i ↦ absurd i ];
-    changed_in = λ k i. absurd i;
-    old_stays = λ k i. elim i [ inl e ↦ inl (inl e) | inr below ↦ elim (below_stays k below) [ inl stays ↦ inl (inr stays) | inr e ↦ inr (inl e) ] ];
-    new_comes = λ k i. elim i [ inl e ↦ inl (inl e) | inr below ↦ inl (inr (below_was k below)) ];
-  }
-
-  -- another node takes its place: both names are freed, and one is placed
-  pub names_giving_way : (node : N) (h : Header) → AreNames (names_of (fill f (leaf n x))) (names_of (inner node h others)) (node ∷ []) (n ∷ f.mark ∷ []) []
-  names_giving_way node h = record {
-    placed_in = λ k i. elim i [ inl e ↦ inl e | inr i ↦ absurd i ];
-    freed_in = λ k i. elim i [ inl e ↦ inr (subst (λ z. IsIn z (names_below (join f.left (child f.byte (leaf n x) f.right)))) e leaf_was) | inr (inl e) ↦ inl e | inr (inr i) ↦ absurd i ];
-    changed_in = λ k i. absurd i;
-    old_stays = λ k i. elim i [ inl e ↦ inr (inr (inl e)) | inr below ↦ elim (below_stays k below) [ inl stays ↦ inl (inr stays) | inr e ↦ inr (inl e) ] ];
-    new_comes = λ k i. elim i [ inl e ↦ inr (inl e) | inr below ↦ inl (inr (below_was k below)) ];
-  }
 
 -- ---- the leaf at the end of a path goes
 
@@ -241,32 +181,19 @@ module _ {K V : Type 0} {bytes : K × V → List ℕ} {P : ℕ} {s : Nodes K V} 
 
   module _ {t : Nodes K V} (goes : LeafGoes s t n x) where
     taken : LeafTaken s t (plug fs (with_leaf_in f n x)) (leaves_before (f ∷ fs)) (leaves_after (f ∷ fs)) n x
-    taken = record { list = leaf_names-plug (f ∷ fs) (leaf (leaf_name n) (pair_of x)) ∙ append_assoc (leaves_before (f ∷ fs)) (leaf_name n ∷ []) (leaves_after (f ∷ fs)); here = goes.here; leaves = goes.leaves }
+    taken = record { among = record { list = leaf_names-plug (f ∷ fs) (leaf (leaf_name n) (pair_of x)) ∙ append_assoc (leaves_before (f ∷ fs)) (leaf_name n ∷ []) (leaves_after (f ∷ fs)); here = goes.here }; leaves = goes.leaves }
 
     -- other leaves keep their pairs
     pairs_stay : (p : LeafPtr) → (IsIn (leaf_name p) (f.mark ∷ leaf_name n ∷ []) → ⊥) → option_map pair_of (get t.leaves p) ≡ option_map pair_of (get s.leaves p)
     pairs_stay p off = taken_pairs old.laid.holds old.laid.distinct old.laid.linked taken p (λ e. off (inr (inl (ap leaf_name (sym e)))))
 
-    -- the leaves beside it are among those of the tree
-    beside_leaves : (k : OpaqueNodePtr) → IsIn k (map leaf_name (listed x.next ++ (listed x.previous ++ []))) → IsIn k (leaf_names (plug fs (with_leaf_in f n x)))
-    beside_leaves k i =
-        let xs = leaves_before (f ∷ fs) in
-        let zs = leaves_after (f ∷ fs) in
-        let links = beside old.laid.holds old.laid.distinct old.laid.linked taken in
-        subst (IsIn k) (sym (leaf_names-plug (f ∷ fs) (leaf (leaf_name n) (pair_of x)))) (in_around k xs (leaf_name n ∷ []) zs (beside_in xs zs x.next x.previous links.after_is links.before_is k i))
-
-    beside_stay : (k : OpaqueNodePtr) → IsIn k (map leaf_name (listed x.next ++ (listed x.previous ++ []))) → IsIn k (names_of (plug fs (with_leaf_in f n x)))
-    beside_stay k i = leaf_among (plug fs (with_leaf_in f n x)) k (beside_leaves k i)
-
-    -- and so they are there
+    -- the leaves beside it are there
     pub links_there : IsThere s.leaves x.previous × IsThere s.leaves x.next
-    links_there = (
-      (λ p e. there p (in_right p (listed x.next) (listed x.previous ++ []) (in_left p (listed x.previous) [] (subst (λ o. IsIn p (listed o)) (sym e) (inl refl))))),
-      (λ p e. there p (in_left p (listed x.next) (listed x.previous ++ []) (subst (λ o. IsIn p (listed o)) (sym e) (inl refl)))),
-    )
-      where
-        there : (p : LeafPtr) → IsIn p (listed x.next ++ (listed x.previous ++ [])) → get s.leaves p ≢ None
-        there p i = are_there s (plug fs (with_leaf_in f n x)) old.laid.holds p (beside_leaves (leaf_name p) (in_map leaf_name p (listed x.next ++ (listed x.previous ++ [])) i))
+    links_there = (before_there old.laid.holds old.laid.linked taken.among, after_there old.laid.holds old.laid.linked taken.among)
+
+    -- and among those of the tree
+    beside_stay : (p : LeafPtr) → IsIn p (listed x.next ++ (listed x.previous ++ [])) → IsIn (leaf_name p) (names_of (plug fs (with_leaf_in f n x)))
+    beside_stay = beside_in old.laid.holds old.laid.linked taken.among
 
     leaves_touched : Touched s.leaves t.leaves [] (n ∷ []) (listed x.next ++ (listed x.previous ++ []))
     leaves_touched = taken_touched old.laid.holds old.laid.distinct old.laid.linked taken
@@ -278,9 +205,7 @@ module _ {K V : Type 0} {bytes : K × V → List ℕ} {P : ℕ} {s : Nodes K V} 
     rest_stays k off = ap (λ z. get z (as_inner k)) stays.inners ∙ inner_changed_elsewhere s.inners (as_inner f.mark) (as_inner k) (without_child f.byte) (λ e. off (inner_name_one k f.mark e))
 
     above_stays : (k : OpaqueNodePtr) → IsParent fs k → node_at t k ≡ node_at s k
-    above_stays k is =
-        let (off, there) = parent_there bytes P s fs f.mark above_holds k is in
-        node_at-inner t k off (get s.inners (as_inner k)) (rest_stays k (λ e. parent_apart (node_at s) (node_at t) fs (with_leaf_in f n x) old.laid.holds old.laid.distinct k is (inl (sym e)))) ∙ sym (node_at-inner s k off (get s.inners (as_inner k)) refl)
+    above_stays k is = same_inner s t k (parent_there bytes P s fs f.mark above_holds k is).0 (rest_stays k (λ e. parent_apart (node_at s) (node_at t) fs (with_leaf_in f n x) old.laid.holds old.laid.distinct k is (inl (sym e))))
 
     -- the node has one child fewer
     pub child_out : ChildRemoved bytes P (node_at s) (node_at t) (links_at s) (links_at t) fs hole.0 f.mark f.mark (leaf_name n) f.header f.left f.right f.byte (pair_of x)
@@ -313,12 +238,9 @@ module _ {K V : Type 0} {bytes : K × V → List ℕ} {P : ℕ} {s : Nodes K V} 
 
     are_names : AreNames (names_of (plug fs (with_leaf_in f n x))) (names_of (plug fs left_out)) [] (leaf_name n ∷ []) (both_names (listed x.next ++ (listed x.previous ++ [])) (as_inner f.mark ∷ []))
     are_names = names_around fs (with_leaf_in f n x) left_out [] (leaf_name n ∷ []) (both_names (listed x.next ++ (listed x.previous ++ [])) (as_inner f.mark ∷ []))
-        (names_staying f (leaf_name n) (pair_of x) (header_of P hole.1.radix.0 (length (bytes_of (join f.left f.right)))))
-        (λ k i. elim (in_either k (map leaf_name (listed x.next ++ (listed x.previous ++ []))) (f.mark ∷ []) i) [
-          | inl j ↦ beside_stay stays.goes k j
-          | inr (inl e) ↦ in_hole fs (with_leaf_in f n x) k (inl e)
-          | inr (inr j) ↦ absurd j
-        ])
+        (names_back (names_with_leaf f.left f.right f.byte (leaf_name n) (pair_of x) f.mark (header_of P hole.1.radix.0 (length (bytes_of (join f.left f.right)))) f.header))
+        (both_in (names_of (plug fs (with_leaf_in f n x))) (listed x.next ++ (listed x.previous ++ [])) (as_inner f.mark ∷ []) (beside_stay stays.goes)
+        (λ p i. elim i [ inl e ↦ in_hole fs (with_leaf_in f n x) (inner_name p) (inl (ap inner_name e)) | inr j ↦ absurd j ]))
 
     -- in place
     pub stays_in_place : ChangesInPlace bytes s t (Some (plug fs (with_leaf_in f n x))) (Some (plug fs left_out))
@@ -328,8 +250,7 @@ module _ {K V : Type 0} {bytes : K × V → List ℕ} {P : ℕ} {s : Nodes K V} 
     -- one name is freed, and at most three are changed
     pub stays_touches : TouchesAtMost 0 1 3 s t
     stays_touches =
-        let a = length-listed x.next in let c = length-listed x.previous in
-        let e = length-append (listed x.next) (listed x.previous ++ []) in let g = length-append (listed x.previous) [] in
+        let beside = length-beside x.next x.previous in
         touches_at_most s t 0 1 3 (leaves_touched stays.goes) inners_touched tt tt (parent_is.0, tt) (omega arith) (omega arith) (omega arith)
 
   -- ---- a smaller node takes the place of the parent
@@ -404,19 +325,12 @@ module _ {K V : Type 0} {bytes : K × V → List ℕ} {P : ℕ} {s : Nodes K V} 
         (λ i. elim i [ inl e ↦ not_old (sym e) | inr j ↦ j ])) fs (inner_name q) above_used (λ k up e. above_used k up (sym (above_same k up) ∙ e)))
 
     above_inner : Each IsInner (parents fs ++ [])
-    above_inner = go fs (λ k up. (parent_there bytes P s fs f.mark above_holds k up).0)
-      where
-        go : (gs : List (Frame OpaqueNodePtr (K × V))) → ((k : OpaqueNodePtr) → IsParent gs k → k.kind ≢ Leaf) → Each IsInner (parents gs ++ [])
-        go [] kind = tt
-        go (g ∷ gs) kind = (kind g.mark refl, tt)
+    above_inner = parents_inner bytes P s fs f.mark above_holds [] tt
 
     smaller_names : AreNames (names_of (plug fs (with_leaf_in f n x))) (names_of (plug fs shrunk)) (inner_name q ∷ []) (leaf_name n ∷ f.mark ∷ []) (both_names (listed x.next ++ (listed x.previous ++ [])) (parents fs ++ []))
     smaller_names = names_around fs (with_leaf_in f n x) shrunk (inner_name q ∷ []) (leaf_name n ∷ f.mark ∷ []) (both_names (listed x.next ++ (listed x.previous ++ [])) (parents fs ++ []))
-        (names_giving_way f (leaf_name n) (pair_of x) (inner_name q) (header_of P hole.1.radix.0 (length (bytes_of (join f.left f.right)))))
-        (λ k i. elim (in_either k (map leaf_name (listed x.next ++ (listed x.previous ++ []))) (map inner_name (parents fs ++ [])) i) [
-          | inl j ↦ beside_stay shrinks.goes k j
-          | inr j ↦ parents_in fs (with_leaf_in f n x) k (subst (λ ps. IsIn k (map inner_name ps)) (append-nil (parents fs)) j)
-        ])
+        (names_back (names_with_both f.left f.right f.byte (leaf_name n) (pair_of x) (inner_name q) f.mark (header_of P hole.1.radix.0 (length (bytes_of (join f.left f.right)))) f.header))
+        (both_in (names_of (plug fs (with_leaf_in f n x))) (listed x.next ++ (listed x.previous ++ [])) (parents fs ++ []) (beside_stay shrinks.goes) (parents_in fs (with_leaf_in f n x) [] (λ p i. absurd i)))
 
     -- in place
     pub shrinks_in_place : ChangesInPlace bytes s t (Some (plug fs (with_leaf_in f n x))) (Some (plug fs shrunk))
@@ -426,6 +340,5 @@ module _ {K V : Type 0} {bytes : K × V → List ℕ} {P : ℕ} {s : Nodes K V} 
     -- one name is placed, two are freed, and at most three are changed
     pub shrinks_touches : TouchesAtMost 1 2 3 s t
     shrinks_touches =
-        let a = length-listed x.next in let c = length-listed x.previous in let up = length-parents fs in
-        let e = length-append (listed x.next) (listed x.previous ++ []) in let g = length-append (listed x.previous) [] in let j = length-append (parents fs) [] in
+        let beside = length-beside x.next x.previous in let above = length-parents fs [] in
         touches_at_most s t 1 2 3 (leaves_touched shrinks.goes) parent_touched (off, tt) (parent_is.0, tt) above_inner (omega arith) (omega arith) (omega arith)

@@ -1,8 +1,8 @@
--- A leaf takes the place of all that is in the hole: a pair is replaced in place, or a subtree is overwritten.
-use Rattle.std.proofs.Common.{◌≡◌, ℕ, List, [], ◌∷◌, refl, sym, ◌∙◌, append-nil, subst, Option, Some, None, ◌⊎◌}
+-- A leaf takes the place of all that is in the hole.
+use Rattle.std.proofs.Common.{◌≡◌, ℕ, List, [], ◌∷◌, sym, ◌∙◌, subst, Option, Some, None, ◌⊎◌}
 use Rattle.art_model.specs.Trees.{Tree, leaf}
 use Rattle.art_model.specs.Radix.{pairs_of}
-use Rattle.art_model.specs.Paths.{Frame, plug, leaves_before, leaves_after}
+use Rattle.art_model.specs.Paths.{Frame, plug}
 use Rattle.art_model.specs.Places.{inner_nodes}
 use Rattle.art_model.specs.Layouts.{Node, leaf_node, names_of, leaf_names, AreLinked, Links, leaves_of}
 use Rattle.art_model.specs.Footprints.{IsIn}
@@ -11,11 +11,11 @@ use Rattle.art_model.proofs.Paths.{IsHole, root_with, leaf_names-plug}
 use Rattle.art_model.proofs.Kept.{KeepLeaves, kept_leaves}
 use Rattle.art_model.proofs.Wholes.{KeepNames, kept}
 use Rattle.art_model.proofs.Stores.{SameBut, ParentHas}
-use Rattle.art_model.proofs.Links.{Relinked, linked-frame}
+use Rattle.art_model.proofs.Links.{linked-frame}
 use Rattle.art_model.proofs.Lists.{each_from}
 use Rattle.art_model.proofs.Canonical.{IsLaidOut}
 use Rattle.art_model.proofs.Regrown.{leaf_regrown}
-use Rattle.art_model.proofs.Replaced.{replaced, linked_in_hole}
+use Rattle.art_model.proofs.Replaced.{replaced}
 
 -- All in the hole gave way to one leaf, which has an old name or one that was free.
 pub record LeafAlone {N A : Type 0} (bytes : A → List ℕ) (P : ℕ) (at to : N → Option (Node N A)) (links : N → Option (Links N)) (fs : List (Frame N A)) (place : List ℕ) (t : Tree N A) (n : N) (new : A) : Type 0 where
@@ -47,7 +47,7 @@ module _ {N A : Type 0} {bytes : A → List ℕ} {P : ℕ} {at to : N → Option
   pub leaf_alone_keeps_leaves : (F : List A → List A) → IsLocal bytes (bytes new) F → F (pairs_of t) ≡ new ∷ [] → KeepLeaves bytes P (leaves_of t) (leaves_of (leaf n new)) → KeepLeaves bytes P (leaves_of (plug fs t)) (leaves_of (plug fs (leaf n new)))
   leaf_alone_keeps_leaves F local its kept_here = kept_leaves bytes P fs t (leaf n new) old.radix (leaf_alone F local its).radix kept_here
 
--- ---- the chain: as it was where a pair is replaced in place, and with one leaf for many where a subtree is overwritten
+-- ---- the chain, where a pair is replaced in its leaf
 
 module _ {N A : Type 0} {bytes : A → List ℕ} {P : ℕ} {at : N → Option (Node N A)} {before links : N → Option (Links N)} {root : N} {pairs : List A} (fs : List (Frame N A)) where
   -- where no link of a leaf changed
@@ -55,8 +55,3 @@ module _ {N A : Type 0} {bytes : A → List ℕ} {P : ℕ} {at : N → Option (N
   linked_still n x new old same =
       let names : leaf_names (plug fs (leaf n x)) ≡ leaf_names (plug fs (leaf n new)) = leaf_names-plug fs (leaf n x) ∙ sym (leaf_names-plug fs (leaf n new)) in
       subst (λ ks. AreLinked links None ks None) names (linked-frame before links (leaf_names (plug fs (leaf n x))) None None (each_from (λ k. links k ≡ before k) (leaf_names (plug fs (leaf n x))) same) old.linked)
-
-  -- where one leaf took the place of those in the hole
-  pub linked_over : (t : Tree N A) {n : N} (new : A) → IsLaidOut bytes P at before root pairs (plug fs t) → Relinked before links (leaves_before fs) (n ∷ []) (leaves_after fs) → AreLinked links None (leaf_names (plug fs (leaf n new))) None
-  linked_over t {n} new old change = linked_in_hole fs before links t (leaf n new) [] (leaf_names t) (n ∷ []) [] old.distinct old.linked (sym (append-nil (leaf_names t))) refl
-      (subst (λ z. Relinked before links z (n ∷ []) (leaves_after fs)) (sym (append-nil (leaves_before fs))) change)

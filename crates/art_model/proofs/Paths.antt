@@ -1,15 +1,18 @@
 -- Paths: what stands before the hole, in it and after it, and what a change in the hole makes of the whole tree.
-use Rattle.std.proofs.Common.{◌≡◌, ℕ, ◌<◌, ◌≤◌, List, [], ◌∷◌, ◌++◌, length, refl, ap, sym, ◌∙◌, append_assoc, append-nil, arith, length-append, subst, map, ap₂}
+use Rattle.std.proofs.Common.{◌≡◌, ℕ, ◌<◌, ◌≤◌, List, [], ◌∷◌, ◌++◌, length, refl, ap, sym, ◌∙◌, append_assoc, append-nil, arith, length-append, subst, map, ap₂, false}
 use Rattle.std.specs.List.{AllByRecursion as Each}
 use Rattle.std.proofs.lemmas.List.{map-append}
-use Rattle.art_model.specs.Keys.{IsFront, Precedes}
+use Rattle.std.proofs.lemmas.List.Elements.{filter-append}
+use Rattle.art_model.specs.Keys.{IsFront, Precedes, are_related}
+use Rattle.art_model.specs.Pairs.{related_to}
 use Rattle.art_model.specs.Trees.{Tree, leaf, inner, Children, child, no_child, header_of}
 use Rattle.art_model.specs.Radix.{IsRadix, IsRising, bytes_of, join, pairs_of, pairs_below}
 use Rattle.art_model.specs.Layouts.{name_of, slots_of, names_of, names_below, leaf_names, leaf_names_below, leaves_of, leaves_below}
 use Rattle.art_model.specs.Paths.{Frame, fill, plug, pairs_before, pairs_after, names_before, names_after, leaves_before, leaves_after, IsPath}
 use Rattle.art_model.specs.Footprints.{IsIn}
 use Rattle.art_model.proofs.Rebuild.{radix_way}
-use Rattle.art_model.proofs.Lists.{each_in, Each-append, front_cut, Each-weaker}
+use Rattle.art_model.proofs.Lists.{each_in, Each-append, filter_none, front_cut, Each-weaker}
+use Rattle.art_model.proofs.Keys.{related_sym}
 use Rattle.art_model.proofs.Pairwises.{Pairwise-before, Pairwise-after}
 use Rattle.art_model.proofs.Between.{IsLocal}
 use Rattle.art_model.proofs.Radix.{bytes_of-join, pairs_below-join, AreRadix-join, AreRadix-left, AreRadix-right, parts, PartsBelow, PartsAbove, all_below, all_above}
@@ -164,6 +167,13 @@ module _ {N A : Type 0} (bytes : A → List ℕ) (P : ℕ) where
       Each-append (λ x. Precedes key (bytes x)) (pairs_below f.right) (pairs_after fs)
       (Each-weaker (PartsAbove bytes (outer ++ part) f.byte) (λ x. Precedes key (bytes x)) (λ x g. parts bytes (outer ++ part) f.byte g.0 key (bytes x) k' g.2 g.1) (pairs_below f.right) (all_above bytes P (outer ++ part) f.byte f.right r (Pairwise-after ◌<◌ (bytes_of f.left) (bytes_of f.right) f.byte up)))
       (path_after fs outer key path (front_cut outer part key (front_cut (outer ++ part) (f.byte ∷ []) key k')))
+
+  -- so the pairs that are related to the key are in the hole
+  pub related_at : (fs : List (Frame N A)) (place key : List ℕ) (t : Tree N A) → IsPath bytes P place fs → IsFront place key → related_to bytes key (pairs_of (plug fs t)) ≡ related_to bytes key (pairs_of t)
+  related_at fs place key t path front =
+      let before = filter_none (λ x. are_related key (bytes x)) (pairs_before fs) (Each-weaker (λ x. Precedes (bytes x) key) (λ x. are_related key (bytes x) ≡ false) (λ x h. related_sym key (bytes x) ∙ h.1) (pairs_before fs) (path_before fs place key path front)) in
+      let after = filter_none (λ x. are_related key (bytes x)) (pairs_after fs) (Each-weaker (λ x. Precedes key (bytes x)) (λ x. are_related key (bytes x) ≡ false) (λ x h. h.1) (pairs_after fs) (path_after fs place key path front)) in
+      rw pairs_of-plug (simp (filter-append, before, after) (append-nil (related_to bytes key (pairs_of t))))
 
   -- what such a tree is: a radix tree in the hole of a path
   pub radix_plug : (fs : List (Frame N A)) (t : Tree N A) → IsRadix bytes P [] (plug fs t) → (place : List ℕ) × IsPath bytes P place fs × IsRadix bytes P place t

@@ -12,13 +12,14 @@ use Rattle.art_model.specs.Layouts.{leaf_node, leaf_names, Holds, AreDistinct, A
 use Rattle.art_model.specs.Stores.{node_at, links_at, pair_of}
 use Rattle.art_model.specs.Writes.{IsThere, with_leaf, without_leaf}
 use Rattle.art_model.specs.Footprints.{IsIn}
-use Rattle.art_model.proofs.Lists.{in_around, in_right}
-use Rattle.art_model.proofs.Names.{apart_in, taken_distinct, takes_leaves}
+use Rattle.art_model.proofs.Lists.{in_right}
+use Rattle.art_model.proofs.Names.{apart_in, taken_distinct, taken_in, takes_leaves}
 use Rattle.art_model.proofs.Links.{Relinked, last_in, first_in}
 use Rattle.art_model.proofs.Touches.{Touched}
 use Rattle.art_model.proofs.Leaves.{listed, with_leaf_here, with_leaf_pair, without_leaf_pair, touched_with_leaf, touched_without_leaf}
 use Rattle.art_model.proofs.Writes.{node_at-leaf}
-use Rattle.art_model.proofs.Chains.{AreBeside, AreThere, are_there, previous_there, next_there, leaf_comes, leaf_goes, relinked_beside}
+use Rattle.art_model.proofs.Chains.{AreThere, are_there, beside_place, previous_there, next_there, leaf_comes, leaf_goes, relinked_beside}
+use Rattle.art_model.proofs.Taken.{LeafAmong, previous_is, next_is, before_there, after_there}
 
 -- A leaf is placed between those of `xs` and those of `zs`, which are all of the layout's.
 pub record LeafPlaced {K V : Type 0} (s t : Nodes K V) (layout : Tree OpaqueNodePtr (K × V)) (xs zs : List OpaqueNodePtr) (n : LeafPtr) (x : LeafNode K V) : Type 0 where
@@ -28,10 +29,9 @@ pub record LeafPlaced {K V : Type 0} (s t : Nodes K V) (layout : Tree OpaqueNode
   pub fresh : get s.leaves n ≡ None
   pub leaves : t.leaves ≡ with_leaf s.leaves n x
 
--- A leaf is taken from between those of `xs` and those of `zs`, which with it are all of the layout's.
+-- A leaf is taken from between those of `xs` and those of `zs`.
 pub record LeafTaken {K V : Type 0} (s t : Nodes K V) (layout : Tree OpaqueNodePtr (K × V)) (xs zs : List OpaqueNodePtr) (n : LeafPtr) (x : LeafNode K V) : Type 0 where
-  pub list : leaf_names layout ≡ xs ++ leaf_name n ∷ zs
-  pub here : get s.leaves n ≡ Some x
+  pub among : LeafAmong s layout xs zs n x
   pub leaves : t.leaves ≡ without_leaf s.leaves n x
 
 module _ {K V : Type 0} {s t : Nodes K V} {layout : Tree OpaqueNodePtr (K × V)} {xs zs : List OpaqueNodePtr} {n : LeafPtr} {x : LeafNode K V} (holds : Holds (node_at s) layout) (distinct : AreDistinct (names_of layout)) where
@@ -61,32 +61,29 @@ module _ {K V : Type 0} {s t : Nodes K V} {layout : Tree OpaqueNodePtr (K × V)}
     pub placed_relinked : Relinked (links_at s) (links_at t) xs (leaf_name n ∷ []) zs
     placed_relinked = relinked_beside (leaf_comes s t xs zs n x (subst AreDistinct is.list (taken_distinct takes_leaves layout distinct)) others_there is.fresh is.last is.first (λ p i. ap (λ z. get z p) is.leaves))
 
-    -- and at most the leaves beside it are changed
+    -- the leaves beside it have names of the layout
+    pub placed_beside : (p : LeafPtr) → IsIn p (listed x.next ++ (listed x.previous ++ [])) → IsIn (leaf_name p) (names_of layout)
+    placed_beside p i = taken_in takes_leaves layout (leaf_name p) (subst (IsIn (leaf_name p)) (sym is.list) (beside_place xs zs x.next x.previous is.first is.last p i))
+
+    -- and at most they are changed
     pub placed_touched : Touched s.leaves t.leaves (n ∷ []) [] (listed x.next ++ (listed x.previous ++ []))
     placed_touched = subst (λ z. Touched s.leaves z (n ∷ []) [] (listed x.next ++ (listed x.previous ++ []))) (sym is.leaves) (touched_with_leaf s.leaves n x placed_after placed_before is.fresh)
 
   module _ (linked : AreLinked (links_at s) None (leaf_names layout) None) (is : LeafTaken s t layout xs zs n x) where
     list_distinct : AreDistinct (xs ++ leaf_name n ∷ zs)
-    list_distinct = subst AreDistinct is.list (taken_distinct takes_leaves layout distinct)
+    list_distinct = subst AreDistinct is.among.list (taken_distinct takes_leaves layout distinct)
 
     -- other leaves keep their pairs
     pub taken_pairs : (p : LeafPtr) → p ≢ n → option_map pair_of (get t.leaves p) ≡ option_map pair_of (get s.leaves p)
     taken_pairs p off = ap (λ z. option_map pair_of (get z p)) is.leaves ∙ without_leaf_pair s.leaves n x p off
 
-    -- it stood between these two
-    pub beside : AreBeside s t xs [] zs x.previous x.next x.next x.previous
-    beside = leaf_goes s t xs zs n x list_distinct (subst (λ ks. AreLinked (links_at s) None ks None) is.list linked) is.here (λ p i. ap (λ z. get z p) is.leaves)
-
     -- the chain knows it
     pub taken_relinked : Relinked (links_at s) (links_at t) xs [] zs
-    taken_relinked = relinked_beside beside
-
-    all_there : AreThere s (xs ++ zs)
-    all_there p i = subst (AreThere s) is.list (are_there s layout holds) p (subst (IsIn (leaf_name p)) (append_assoc xs (leaf_name n ∷ []) zs) (in_around (leaf_name p) xs (leaf_name n ∷ []) zs i))
+    taken_relinked = relinked_beside (leaf_goes s t xs zs n x list_distinct (previous_is holds linked is.among) (next_is holds linked is.among) (λ p i. ap (λ z. get z p) is.leaves))
 
     -- and at most the leaves beside it are changed
     pub taken_touched : Touched s.leaves t.leaves [] (n ∷ []) (listed x.next ++ (listed x.previous ++ []))
     taken_touched = subst (λ z. Touched s.leaves z [] (n ∷ []) (listed x.next ++ (listed x.previous ++ []))) (sym is.leaves)
-        (touched_without_leaf s.leaves n x (previous_there s xs zs x.previous all_there beside.before_is) (next_there s xs zs x.next all_there beside.after_is) (λ e. absurd (cc (is.here, e)))
-        (λ e. apart_in xs (leaf_name n ∷ zs) (leaf_name n) list_distinct (last_in xs (leaf_name n) (sym beside.before_is ∙ ap (option_map leaf_name) e)) (inl refl))
-        (λ e. apart_in (xs ++ leaf_name n ∷ []) zs (leaf_name n) (subst AreDistinct (sym (append_assoc xs (leaf_name n ∷ []) zs)) list_distinct) (in_right (leaf_name n) xs (leaf_name n ∷ []) (inl refl)) (first_in zs (leaf_name n) (sym beside.after_is ∙ ap (option_map leaf_name) e))))
+        (touched_without_leaf s.leaves n x (before_there holds linked is.among) (after_there holds linked is.among) (λ e. absurd (let here = is.among.here in cc))
+        (λ e. apart_in xs (leaf_name n ∷ zs) (leaf_name n) list_distinct (last_in xs (leaf_name n) (sym (previous_is holds linked is.among) ∙ ap (option_map leaf_name) e)) (inl refl))
+        (λ e. apart_in (xs ++ leaf_name n ∷ []) zs (leaf_name n) (subst AreDistinct (sym (append_assoc xs (leaf_name n ∷ []) zs)) list_distinct) (in_right (leaf_name n) xs (leaf_name n ∷ []) (inl refl)) (first_in zs (leaf_name n) (sym (next_is holds linked is.among) ∙ ap (option_map leaf_name) e))))

@@ -5,12 +5,13 @@ use Rattle.art_model.specs.Radix.{IsRadix, bytes_of, join, pairs_of}
 use Rattle.art_model.specs.Pairs.{remove_key}
 use Rattle.art_model.specs.Paths.{Frame, plug, leaves_before, leaves_after}
 use Rattle.art_model.specs.Places.{inner_nodes}
-use Rattle.art_model.specs.Layouts.{Node, inner_node, name_of, slots_of, names_of, names_below, leaf_names, leaf_names_below, Holds, Links, leaves_of, leaves_below}
+use Rattle.art_model.specs.Layouts.{Node, inner_node, name_of, slots_of, names_of, leaf_names, leaf_names_below, Holds, Links, leaves_of, leaves_below}
 use Rattle.art_model.specs.Footprints.{IsIn}
-use Rattle.art_model.proofs.Lists.{in_right, in_around}
+use Rattle.art_model.proofs.Lists.{in_around}
 use Rattle.art_model.proofs.Between.{remove_key-between}
-use Rattle.art_model.proofs.Paths.{IsHole, root_with, leaf_names_below-three, leaves_below-three, leaves_below-join, same_pairs_of, same_leaf_names, names_below-join}
+use Rattle.art_model.proofs.Paths.{IsHole, root_with, leaf_names_below-three, leaves_below-three, leaves_below-join, same_pairs_of, same_leaf_names}
 use Rattle.art_model.proofs.Changes.{child_removed, child_left, merged, raised}
+use Rattle.art_model.proofs.LeafChild.{leaf_below}
 use Rattle.art_model.proofs.Wholes.{KeepNames, kept}
 use Rattle.art_model.proofs.Kept.{KeepLeaves, kept_leaves, kept_leaves_fewer, kept_children, kept_lifted, inner_nodes-leaf, inner_nodes-moved}
 use Rattle.art_model.proofs.Stores.{SameBut, ParentHas}
@@ -48,10 +49,6 @@ module _ {N A : Type 0} (bytes : A → List ℕ) (P : ℕ) (at to : N → Option
 fewer : {N A : Type 0} (l r : Children N A) (b : ℕ) (n : N) (x : A) (e : A × N) → IsIn e (leaves_below (join l r)) → IsIn e (leaves_below (join l (child b (leaf n x) r)))
 fewer l r b n x e i = subst (IsIn e) (sym (leaves_below-three l (child b (leaf n x) no_child) r)) (in_around e (leaves_below l) ((x, n) ∷ []) (leaves_below r) (subst (IsIn e) (leaves_below-join l r) i))
 
--- the leaf's name is one of the hole's
-leaf_in : {N A : Type 0} (m n : N) (h : Header) (l r : Children N A) (b : ℕ) (x : A) (k : N) → n ≡ k → IsIn k (names_of (inner m h (join l (child b (leaf n x) r))))
-leaf_in m n h l r b x k e = inr (subst (IsIn k) (sym (names_below-join l (child b (leaf n x) r))) (in_right k (names_below l) (n ∷ names_below r) (inl e)))
-
 module _ {N A : Type 0} {bytes : A → List ℕ} {P : ℕ} {at to : N → Option (Node N A)} {before links : N → Option (Links N)} {fs : List (Frame N A)} {place : List ℕ} {root : N} {pairs : List A} {m n : N} {h : Header} {l r : Children N A} {b : ℕ} {x : A}
     (old : IsLaidOut bytes P at before root pairs (plug fs (inner m h (join l (child b (leaf n x) r))))) where
   module _ {node : N} (is : ChildRemoved bytes P at to before links fs place m node n h l r b x) where
@@ -69,7 +66,7 @@ module _ {N A : Type 0} {bytes : A → List ℕ} {P : ℕ} {at to : N → Option
       parent = is.parent;
       regrown = children_regrown at to fs m h l (child b (leaf n x) no_child) r old.holds old.distinct node (header_of P is.hole.radix.0 (length (bytes_of (join l r)))) no_child
           (record { named = is.named; were_free = tt; distinct = tt; apart = tt; there = is.there; below = tt }) is.same;
-      same = λ k up out used. is.same k up (λ i. elim i [ inl e ↦ out (inl e) | inr j ↦ elim j [ inl e ↦ out (leaf_in m n h l r b x k e) | inr j ↦ j ] ]) used;
+      same = λ k up out used. is.same k up (λ i. elim i [ inl e ↦ out (inl e) | inr j ↦ elim j [ inl e ↦ out (inr (leaf_below l r b n x k e)) | inr j ↦ j ] ]) used;
       linked = linked_in_hole fs before links (inner m h (join l (child b (leaf n x) r))) less (leaf_names_below l) (n ∷ []) [] (leaf_names_below r) old.distinct old.linked (leaf_names_below-three l (child b (leaf n x) no_child) r) (leaf_names_below-three l no_child r) is.relinked;
     }) (bytes x) (remove_key bytes (bytes x)) (remove_key-between bytes (bytes x)) is.hole.front without_leaf.1
 
@@ -121,7 +118,7 @@ module _ {N A : Type 0} {bytes : A → List ℕ} {P : ℕ} {at to : N → Option
       same_inners = refl;
       below = left_child_holds at to fs m h l (child b (leaf n x) no_child) r old.holds old.distinct c (leaf k y) one same;
       parent = parent;
-      same = λ j up out used. same j up (λ i. elim i [ inl e ↦ out (inl e) | inr i ↦ elim i [ inl e ↦ out (leaf_in m n h l r b x j e) | inr i ↦ i ] ]) used;
+      same = λ j up out used. same j up (λ i. elim i [ inl e ↦ out (inl e) | inr i ↦ elim i [ inl e ↦ out (inr (leaf_below l r b n x j e)) | inr i ↦ i ] ]) used;
       relinked = relinked;
     }
 
@@ -145,7 +142,7 @@ module _ {N A : Type 0} {bytes : A → List ℕ} {P : ℕ} {at to : N → Option
           same_inners = inner_nodes-moved bytes (length place + h.length_of + 1) (length place) k head merged_head cs (sym (ap (λ z. z.kind) e)) (omega arith);
           below = (there, left_child_below at to fs m h l (child b (leaf n x) no_child) r old.holds old.distinct c k head cs one same);
           parent = parent;
-          same = λ j up out used. same j up (λ i. elim i [ inl e ↦ out (child_in j e) | inr i ↦ elim i [ inl e ↦ out (inl e) | inr i ↦ elim i [ inl e ↦ out (leaf_in m n h l r b x j e) | inr i ↦ i ] ] ]) used;
+          same = λ j up out used. same j up (λ i. elim i [ inl e ↦ out (child_in j e) | inr i ↦ elim i [ inl e ↦ out (inl e) | inr i ↦ elim i [ inl e ↦ out (inr (leaf_below l r b n x j e)) | inr i ↦ i ] ] ]) used;
           relinked = relinked;
         }
       where

@@ -1,5 +1,5 @@
 -- A layout's children as a store writes them: a child put under a byte, and the kind by their number.
-use Rattle.std.proofs.Common.{◌≡◌, ◌≢◌, ℕ, suc, ◌<◌, ◌≤◌, List, [], ◌∷◌, ◌++◌, length, Some, false, refl, ap, ap₂, sym, arith, leb, eq-eqb, subst, inl, inr}
+use Rattle.std.proofs.Common.{◌≡◌, ◌≢◌, ℕ, suc, ◌<◌, ◌≤◌, List, [], ◌∷◌, ◌++◌, length, Some, false, refl, ap, sym, arith, leb, eq-eqb, subst, inl, inr}
 use Rattle.std.specs.List.{AllByRecursion as Each}
 use Rattle.std.proofs.lemmas.Bool.{cases_Bool, cases_order, le-ltb, lt-ltb, ne_eqb, le-leb, leb-true, leb-false}
 use Rattle.art_nodes.specs.Inner.{put_child, child_at}
@@ -17,20 +17,6 @@ module _ {N A : Type 0} where
   pub length-slots_of : (cs : Children N A) → length (slots_of cs) ≡ length (bytes_of cs)
   length-slots_of no_child = refl
   length-slots_of (child b t cs) = ap suc (length-slots_of cs)
-
-  -- the children around a slot
-  pub split_children : (cs : Children N A) (xs ys : List (ℕ × N)) (b : ℕ) (n : N) → slots_of cs ≡ xs ++ (b, n) ∷ ys →
-      (l : Children N A) × (t : Tree N A) × (r : Children N A) × (cs ≡ join l (child b t r)) × (slots_of l ≡ xs) × (name_of t ≡ n) × (slots_of r ≡ ys)
-  split_children no_child [] ys b n e = absurd cc
-  split_children no_child (x ∷ xs) ys b n e = absurd cc
-  split_children (child c t cs) [] ys b n e =
-      let heads : ◌≡◌ {A = ℕ × N} (c, name_of t) (b, n) = cc in
-      (no_child, t, cs, ap (λ z. child z t cs) (ap (λ p. p.0) heads), refl, ap (λ p. p.1) heads, cc)
-  split_children (child c t cs) ((d, k) ∷ xs) ys b n e =
-      let rest : slots_of cs ≡ xs ++ (b, n) ∷ ys = cc in
-      let head : ◌≡◌ {A = ℕ × N} (c, name_of t) (d, k) = cc in
-      let (l, u, r, whole, left, named, right) = split_children cs xs ys b n rest in
-      (child c t l, u, r, ap (child c t) whole, ap₂ (λ z s. z ∷ s) head left, named, right)
 
 module _ {A : Type 0} where
   -- a byte that has a child has another one

@@ -13,12 +13,12 @@ use Rattle.art_model.specs.Layouts.{Links, leaf_names, leaf_names_below, names_o
 use Rattle.art_model.specs.Stores.{node_at, links_at, pair_of}
 use Rattle.art_model.specs.Writes.{IsThere}
 use Rattle.art_model.specs.Footprints.{IsIn}
-use Rattle.art_model.proofs.Lists.{each_in, each_from, in_left, in_right, in_either, in_around}
-use Rattle.art_model.proofs.Names.{among, takes_leaves}
-use Rattle.art_model.proofs.Links.{last_in, first_in, link_of}
+use Rattle.art_model.proofs.Lists.{in_left, in_right, in_either, in_around}
+use Rattle.art_model.proofs.Names.{taken_in, takes_leaves}
+use Rattle.art_model.proofs.Links.{link_of}
 use Rattle.art_model.proofs.Views.{leaf_there}
 use Rattle.art_model.proofs.Leaves.{listed}
-use Rattle.art_model.proofs.Chains.{AreThere, are_there, links_leaf, previous_there, next_there}
+use Rattle.art_model.proofs.Chains.{AreThere, are_there, beside_place, links_leaf, previous_there, next_there}
 
 module _ {K V : Type 0} (s : Nodes K V) where
   mutual
@@ -66,8 +66,11 @@ module _ {K V : Type 0} {s : Nodes K V} {layout : Tree OpaqueNodePtr (K × V)} {
   pub next_is : option_map leaf_name x.next ≡ first_or zs None
   next_is = ap (λ z. z.next) own
 
+  others_in : (k : OpaqueNodePtr) → IsIn k (xs ++ zs) → IsIn k (leaf_names layout)
+  others_in k i = subst (IsIn k) (sym is.list) (subst (IsIn k) (append_assoc xs (leaf_name n ∷ []) zs) (in_around k xs (leaf_name n ∷ []) zs i))
+
   others_there : AreThere s (xs ++ zs)
-  others_there p i = subst (AreThere s) is.list (are_there s layout holds) p (subst (IsIn (leaf_name p)) (append_assoc xs (leaf_name n ∷ []) zs) (in_around (leaf_name p) xs (leaf_name n ∷ []) zs i))
+  others_there p i = are_there s layout holds p (others_in (leaf_name p) i)
 
   -- both are there
   pub before_there : IsThere s.leaves x.previous
@@ -76,20 +79,6 @@ module _ {K V : Type 0} {s : Nodes K V} {layout : Tree OpaqueNodePtr (K × V)} {
   pub after_there : IsThere s.leaves x.next
   after_there = next_there s xs zs x.next others_there next_is
 
-  is_listed : (o : Option LeafPtr) (p : LeafPtr) → IsIn p (listed o) → o ≡ Some p
-  is_listed None p i = absurd i
-  is_listed (Some q) p (inl e) = ap Some e
-  is_listed (Some q) p (inr i) = absurd i
-
   -- and have names of the layout
   pub beside_in : (p : LeafPtr) → IsIn p (listed x.next ++ (listed x.previous ++ [])) → IsIn (leaf_name p) (names_of layout)
-  beside_in p i = among_names (elim (in_either p (listed x.next) (listed x.previous ++ []) i) [
-    | inl j ↦ in_right (leaf_name p) xs (leaf_name n ∷ zs) (inr (first_in zs (leaf_name p) (sym next_is ∙ ap (option_map leaf_name) (is_listed x.next p j))))
-    | inr j ↦ elim (in_either p (listed x.previous) [] j) [
-      | inl k ↦ in_left (leaf_name p) xs (leaf_name n ∷ zs) (last_in xs (leaf_name p) (sym previous_is ∙ ap (option_map leaf_name) (is_listed x.previous p k)))
-      | inr k ↦ absurd k
-    ]
-  ])
-    where
-      among_names : IsIn (leaf_name p) (xs ++ leaf_name n ∷ zs) → IsIn (leaf_name p) (names_of layout)
-      among_names j = each_in (λ k. IsIn k (names_of layout)) (leaf_name p) (leaf_names layout) (among takes_leaves (λ k. IsIn k (names_of layout)) layout (each_from (λ k. IsIn k (names_of layout)) (names_of layout) (λ k m. m))) (subst (IsIn (leaf_name p)) (sym is.list) j)
+  beside_in p i = taken_in takes_leaves layout (leaf_name p) (others_in (leaf_name p) (beside_place xs zs x.next x.previous next_is previous_is p i))

@@ -1,5 +1,5 @@
 -- Footprints: what each write to a map touches, one write after another, and what the writes to both maps of a store touch together.
-use Rattle.std.proofs.Common.{◌≡◌, ◌≢◌, ℕ, ◌+◌, ◌≤◌, List, [], ◌∷◌, ◌++◌, length, map, Bool, true, false, cond, Option, Some, None, IsSome, refl, ap, ap₂, sym, ◌∙◌, subst, length-append, ◌⊎◌, inl, inr}
+use Rattle.std.proofs.Common.{◌≡◌, ◌≢◌, ℕ, ◌+◌, ◌≤◌, List, [], ◌∷◌, ◌++◌, length, map, Bool, true, false, cond, Option, Some, None, IsSome, refl, ap, ap₂, sym, ◌∙◌, subst, length-append, inl, inr}
 use Rattle.std.specs.List.{AllByRecursion as Each}
 use Rattle.std.proofs.lemmas.List.{length-map}
 use Rattle.std.specs.Option.{option_map}
@@ -62,9 +62,6 @@ module _ {N X : Type 0} {R : N → N → Ordering} (order : IsTotalOrder R) (sam
   still_gone m n k h = get-remove order m n k ∙ none_or (eq_by_cmp R k n) (get m k) h
 
   module _ {old new : FinMap R X} {placed freed changed : List N} (so_far : Touched old new placed freed changed) where
-    Used : N → Type 0
-    Used k = get new k ≢ None
-
     -- a name that is placed: it was free, and was not freed before
     pub then_placed : (n : N) (x : X) → get new n ≡ None → (IsIn n freed → ⊥) → Touched old (insert new n x) (n ∷ placed) freed changed
     then_placed n x free fresh =
@@ -76,34 +73,13 @@ module _ {N X : Type 0} {R : N → N → Ordering} (order : IsTotalOrder R) (sam
           others = λ k p f c. elsewhere order same new n k x (λ e. p (inl (sym e))) ∙ so_far.others k (λ i. p (inr i)) f c;
         }
 
-    changed_placed : (n : N) (g : X → X) → Each (λ k. (get old k ≡ None) × (get (change new n g) k ≢ None)) placed
-    changed_placed n g = Each-weaker (λ k. (get old k ≡ None) × (get new k ≢ None)) (λ k. (get old k ≡ None) × (get (change new n g) k ≢ None)) (λ k h. (h.0, still_changed new n k g h.1)) placed so_far.are_placed
-
-    changed_changed : (n : N) (g : X → X) → Each (λ k. (get old k ≢ None) × (get (change new n g) k ≢ None)) changed
-    changed_changed n g = Each-weaker (λ k. (get old k ≢ None) × (get new k ≢ None)) (λ k. (get old k ≢ None) × (get (change new n g) k ≢ None)) (λ k h. (h.0, still_changed new n k g h.1)) changed so_far.are_changed
-
-    changed_freed : (n : N) (g : X → X) → get new n ≢ None → Each (λ k. (get old k ≢ None) × (get (change new n g) k ≡ None)) freed
-    changed_freed n g here = Each-weaker (λ k. (get old k ≢ None) × (get new k ≡ None)) (λ k. (get old k ≢ None) × (get (change new n g) k ≡ None)) (λ k h. (h.0, changed_elsewhere order same new n k g (λ e. here (ap (get new) (sym e) ∙ h.1)) ∙ h.1)) freed so_far.are_freed
-
     -- a name that is changed: it was there, and is
     pub then_changed : (n : N) (g : X → X) → get old n ≢ None → get new n ≢ None → Touched old (change new n g) placed freed (n ∷ changed)
     then_changed n g was is = record {
-      are_placed = changed_placed n g;
-      are_freed = changed_freed n g is;
-      are_changed = ((was, still_changed new n n g is), changed_changed n g);
+      are_placed = Each-weaker (λ k. (get old k ≡ None) × (get new k ≢ None)) (λ k. (get old k ≡ None) × (get (change new n g) k ≢ None)) (λ k h. (h.0, still_changed new n k g h.1)) placed so_far.are_placed;
+      are_freed = Each-weaker (λ k. (get old k ≢ None) × (get new k ≡ None)) (λ k. (get old k ≢ None) × (get (change new n g) k ≡ None)) (λ k h. (h.0, changed_elsewhere order same new n k g (λ e. is (ap (get new) (sym e) ∙ h.1)) ∙ h.1)) freed so_far.are_freed;
+      are_changed = ((was, still_changed new n n g is), Each-weaker (λ k. (get old k ≢ None) × (get new k ≢ None)) (λ k. (get old k ≢ None) × (get (change new n g) k ≢ None)) (λ k h. (h.0, still_changed new n k g h.1)) changed so_far.are_changed);
       others = λ k p f c. changed_elsewhere order same new n k g (λ e. c (inl (sym e))) ∙ so_far.others k p f (λ i. c (inr i));
-    }
-
-    -- a name that was placed or changed before, and is changed again
-    pub then_again : (n : N) (g : X → X) → IsIn n placed ⊎ IsIn n changed → Touched old (change new n g) placed freed changed
-    then_again n g listed = record {
-      are_placed = changed_placed n g;
-      are_freed = changed_freed n g (elim listed [
-        | inl i ↦ (each_in (λ k. (get old k ≡ None) × (get new k ≢ None)) n placed so_far.are_placed i).1
-        | inr i ↦ (each_in (λ k. (get old k ≢ None) × (get new k ≢ None)) n changed so_far.are_changed i).1
-      ]);
-      are_changed = changed_changed n g;
-      others = λ k p f c. changed_elsewhere order same new n k g (λ e. elim listed [ inl i ↦ p (subst (λ z. IsIn z placed) (sym e) i) | inr i ↦ c (subst (λ z. IsIn z changed) (sym e) i) ]) ∙ so_far.others k p f c;
     }
 
     -- a name that is freed: it was there at first, and was not changed before
@@ -114,20 +90,6 @@ module _ {N X : Type 0} {R : N → N → Ordering} (order : IsTotalOrder R) (sam
       are_changed = each_from (λ k. (get old k ≢ None) × (get (remove new n) k ≢ None)) changed (λ k i. let h = each_in (λ k. (get old k ≢ None) × (get new k ≢ None)) k changed so_far.are_changed i in (h.0, λ e. h.1 (sym (gone_elsewhere order same new n k (λ f. fresh (subst (λ z. IsIn z changed) f i))) ∙ e)));
       others = λ k p f c. gone_elsewhere order same new n k (λ e. f (inl (sym e))) ∙ so_far.others k p (λ i. f (inr i)) c;
     }
-
-    -- names that go together: they were there at first, and were neither changed nor freed before
-    pub then_gone : {newer : FinMap R X} (gone_names : List N) → Each (λ k. get old k ≢ None) gone_names → ((k : N) → IsIn k gone_names → IsIn k changed → ⊥) → ((k : N) → IsIn k gone_names → IsIn k freed → ⊥) →
-        ((k : N) → IsIn k gone_names → get newer k ≡ None) → ((k : N) → (IsIn k gone_names → ⊥) → get newer k ≡ get new k) → Touched old newer placed (gone_names ++ freed) changed
-    then_gone {newer} ns were not_changed not_freed absent rest =
-        let kept = λ (k : N) (off : IsIn k ns → ⊥) (used : get new k ≢ None) (e : get newer k ≡ None). used (sym (rest k off) ∙ e) in
-        record {
-          are_placed = each_from (λ k. (get old k ≡ None) × (get newer k ≢ None)) placed (λ k i. let h = each_in (λ k. (get old k ≡ None) × (get new k ≢ None)) k placed so_far.are_placed i in (h.0, kept k (λ j. each_in (λ k. get old k ≢ None) k ns were j h.0) h.1));
-          are_freed = Each-append (λ k. (get old k ≢ None) × (get newer k ≡ None)) ns freed
-              (each_from (λ k. (get old k ≢ None) × (get newer k ≡ None)) ns (λ k i. (each_in (λ k. get old k ≢ None) k ns were i, absent k i)))
-              (each_from (λ k. (get old k ≢ None) × (get newer k ≡ None)) freed (λ k i. let h = each_in (λ k. (get old k ≢ None) × (get new k ≡ None)) k freed so_far.are_freed i in (h.0, rest k (λ j. not_freed k j i) ∙ h.1)));
-          are_changed = each_from (λ k. (get old k ≢ None) × (get newer k ≢ None)) changed (λ k i. let h = each_in (λ k. (get old k ≢ None) × (get new k ≢ None)) k changed so_far.are_changed i in (h.0, kept k (λ j. not_changed k j i) h.1));
-          others = λ k p f c. rest k (λ i. f (in_left k ns freed i)) ∙ so_far.others k p (λ i. f (in_right k ns freed i)) c;
-        }
 
 -- ---- both maps of a store
 

@@ -1,5 +1,6 @@
 -- Writes of a store as a change in the hole of a path: which names keep their nodes, and what the parent has.
-use Rattle.std.proofs.Common.{◌≡◌, ◌≢◌, ℕ, ◌<◌, ◌≤◌, List, [], ◌∷◌, ◌++◌, length, Option, Some, None, IsSomeAnd, IfSome, refl, ap, sym, ◌∙◌, subst, arith, inl, inr}
+use Rattle.std.proofs.Common.{◌≡◌, ◌≢◌, ℕ, ◌+◌, ◌<◌, ◌≤◌, List, [], ◌∷◌, ◌++◌, length, Option, Some, None, IsSomeAnd, IfSome, refl, ap, sym, ◌∙◌, subst, arith, inl, inr}
+use Rattle.std.specs.List.{AllByRecursion as Each}
 use Rattle.std.specs.Option.{option_map}
 use Rattle.std.specs.FinMap.{get}
 use Rattle.art_nodes.specs.Inner.{Inner, put_child, child_at}
@@ -23,7 +24,7 @@ use Rattle.art_model.specs.Footprints.{IsIn}
 use Rattle.art_model.proofs.Pairwises.{Pairwise-before}
 use Rattle.art_model.proofs.Slots.{put_child-there, child_at-there}
 use Rattle.art_model.proofs.Stores.{IsParent, ParentHas, SameBut}
-use Rattle.art_model.proofs.Touches.{Touched, then_changed}
+use Rattle.art_model.proofs.Touches.{Touched, IsInner, then_changed}
 use Rattle.art_model.proofs.Views.{seen_no_inner, seen_inner, held_in_inner, leaf_or}
 
 -- inner nodes' names tell them apart
@@ -50,7 +51,15 @@ module _ {K V : Type 0} (s : Nodes K V) where
     | inr off ↦ let (node, there, head, below) = seen_inner k.kind (get s.inners (as_inner k)) h slots (sym (node_at-inner k off (get s.inners (as_inner k)) refl) ∙ e) in (off, node, there, head, below)
   ]
 
+-- an inner node as a tree sees it, by parts
+pub shown : {A : Type 0} {slots rest : List (ℕ × OpaqueNodePtr)} {g h : Header} → g ≡ h → slots ≡ rest → ◌≡◌ {A = Option (Node OpaqueNodePtr A)} (Some (inner_node g slots)) (Some (inner_node h rest))
+shown a e = cc
+
 module _ {K V : Type 0} (s t : Nodes K V) where
+  -- the same inner node is seen as the same
+  pub same_inner : (k : OpaqueNodePtr) → k.kind ≢ Leaf → get t.inners (as_inner k) ≡ get s.inners (as_inner k) → node_at t k ≡ node_at s k
+  same_inner k off same = node_at-inner t k off (get s.inners (as_inner k)) same ∙ sym (node_at-inner s k off (get s.inners (as_inner k)) refl)
+
   -- Leaves that keep their pairs, and inner nodes that keep all, but for the parent and the touched ones: nothing else is seen by a tree.
   pub same_but : (fs : List (Frame OpaqueNodePtr (K × V))) (touched : List OpaqueNodePtr) →
       ((p : LeafPtr) → (IsIn (leaf_name p) touched → ⊥) → get s.leaves p ≢ None → option_map pair_of (get t.leaves p) ≡ option_map pair_of (get s.leaves p)) →
@@ -58,7 +67,7 @@ module _ {K V : Type 0} (s t : Nodes K V) where
   same_but fs touched leaves inners k up off used = elim (leaf_or k) [
     | inl (p, e) ↦ subst (λ z. node_at t z ≡ node_at s z) (sym e)
         (node_at-leaf t p ∙ ap (option_map leaf_node) (leaves p (λ i. off (subst (λ z. IsIn z touched) (sym e) i)) (λ free. used (ap (node_at s) e ∙ node_at-leaf s p ∙ ap (λ o. option_map leaf_node (option_map pair_of o)) free))) ∙ sym (node_at-leaf s p))
-    | inr kind ↦ node_at-inner t k kind (get s.inners (as_inner k)) (inners k kind up off used) ∙ sym (node_at-inner s k kind (get s.inners (as_inner k)) refl)
+    | inr kind ↦ same_inner k kind (inners k kind up off used)
   ]
 
 -- a header with the kind for another number of children
@@ -79,9 +88,9 @@ module _ {A : Type 0} where
   parents (f ∷ fs) = as_inner f.mark ∷ []
 
   -- at most one
-  pub length-parents : (fs : List (Frame OpaqueNodePtr A)) → length (parents fs) ≤ 1
-  length-parents [] = omega arith
-  length-parents (f ∷ fs) = omega arith
+  pub length-parents : (fs : List (Frame OpaqueNodePtr A)) (touched : List InnerPtr) → length (parents fs ++ touched) ≤ 1 + length touched
+  length-parents [] touched = omega arith
+  length-parents (f ∷ fs) touched = omega arith
 
   -- the parent is changed
   pub then_parent : {old new : Inners} {placed freed changed : List InnerPtr} → Touched old new placed freed changed → (fs : List (Frame OpaqueNodePtr A)) (name : OpaqueNodePtr) →
@@ -96,6 +105,11 @@ module _ {K V : Type 0} (bytes : K × V → List ℕ) (P : ℕ) (s : Nodes K V) 
   parent_there (f ∷ fs) hole holds k is =
       let (off, node, there, head, below) = inner_at s f.mark f.header (slots_of f.left ++ (f.byte, hole) ∷ slots_of f.right) holds.0 in
       ((λ e. off (sym (ap (λ (z : OpaqueNodePtr). z.kind) is) ∙ e)), (λ e. let g = sym there ∙ ap (λ z. get s.inners (as_inner z)) (sym is) ∙ e in absurd cc))
+
+  -- so it is among inner nodes
+  pub parents_inner : (fs : List (Frame OpaqueNodePtr (K × V))) (hole : OpaqueNodePtr) → HoldsPath (node_at s) hole fs → (touched : List InnerPtr) → Each IsInner touched → Each IsInner (parents fs ++ touched)
+  parents_inner [] hole holds touched inner = inner
+  parents_inner (f ∷ fs) hole holds touched inner = ((parent_there (f ∷ fs) hole holds f.mark refl).0, inner)
 
   -- and has the hole as the child under its byte
   pub parent_ready : (fs : List (Frame OpaqueNodePtr (K × V))) (place : List ℕ) (hole : OpaqueNodePtr) → IsPath bytes P place fs → HoldsPath (node_at s) hole fs → IfSome (parent_of fs) (λ p. IsSomeAnd (get s.inners p.0) (λ node. child_at node.children p.1 ≡ Some hole))
@@ -113,10 +127,7 @@ module _ {K V : Type 0} (bytes : K × V → List ℕ) (P : ℕ) (s : Nodes K V) 
       let put : put_child node.children f.byte name ≡ slots_of f.left ++ (f.byte, name) ∷ slots_of f.right = ap (λ z. put_child z f.byte name) below ∙ put_child-there f.left f.byte hole name (slots_of f.right) (Pairwise-before ◌<◌ (bytes_of f.left) (bytes_of f.right) f.byte up) in
       let got : get t.inners (as_inner f.mark) ≡ Some (with_child f.byte name node) =
       after f.mark refl ∙ inner_changed_at m (as_inner f.mark) (with_child f.byte name) ∙ ap (option_map (with_child f.byte name)) (before f.mark refl ∙ there) in
-      node_at-inner t f.mark off (Some (with_child f.byte name node)) got ∙ shown (header_at f.mark.kind node) header put
-    where
-      shown : {slots rest : List (ℕ × OpaqueNodePtr)} (g : Header) → g ≡ f.header → slots ≡ rest → ◌≡◌ {A = Option (Node OpaqueNodePtr (K × V))} (Some (inner_node g slots)) (Some (inner_node f.header rest))
-      shown g a b = cc
+      node_at-inner t f.mark off (Some (with_child f.byte name node)) got ∙ shown header put
 
 -- a parent that is not written has the same name in its hole
 pub parent_stays : {N A : Type 0} (at to : N → Option (Node N A)) (fs : List (Frame N A)) (hole : N) → HoldsPath at hole fs → ((k : N) → IsParent fs k → to k ≡ at k) → ParentHas to fs hole

@@ -32,13 +32,12 @@ use Rattle.art_model.proofs.Inserted.{BranchInserted, branch_inserted}
 use Rattle.art_model.proofs.Keys.{front_related, same_equal}
 use Rattle.art_model.proofs.Lists.{Each-weaker, each_in, filter_none}
 use Rattle.art_model.proofs.Paths as paths
-use Rattle.art_model.proofs.Paths.{IsHole, radix_plug, leaf_names-plug, same_pairs_of}
+use Rattle.art_model.proofs.Paths.{IsHole, radix_plug, leaf_names-plug, same_pairs_of, related_at}
 use Rattle.art_model.proofs.PlaceLaws.{depth_is}
 use Rattle.art_model.proofs.Places.{place_is, taken}
 use Rattle.art_model.proofs.Rebuild.{radix_way}
 use Rattle.art_model.proofs.Stores.{path_holds}
 use Rattle.art_model.proofs.Touches.{Touched, IsInner}
-use Rattle.art_model.proofs.Walk.{related_at}
 use Rattle.art_model.proofs.Writes.{parent_ready}
 use Rattle.art_operations.specs.declared.insert.InsertParentNodeChange.{InsertParentNodeChange}
 use Rattle.art_operations.specs.declared.insert.InsertParentNodeChange.TheVariants.{NewParent}

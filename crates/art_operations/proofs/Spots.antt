@@ -24,13 +24,12 @@ use Rattle.art_model.proofs.Lists.{Each-append, Each-weaker, common_front_right,
 use Rattle.art_model.proofs.Keys.{front_related}
 use Rattle.art_model.proofs.Canonical.{tree_radix}
 use Rattle.art_model.proofs.Pairwises.{Pairwise-left, Pairwise-right}
-use Rattle.art_model.proofs.Paths.{path_down, names_of-plug}
+use Rattle.art_model.proofs.Paths.{path_down, names_of-plug, related_at}
 use Rattle.art_model.proofs.Places.{place_is, prefix_is, beside, deeper}
 use Rattle.art_model.proofs.PlaceLaws.{depth_is, ends_at}
 use Rattle.art_model.proofs.Rebuild.{radix_way, radix_below, radix_some}
 use Rattle.art_model.proofs.OnWay.{AreAside, aside_others, aside_off, child_under, no_child_under, front_byte}
 use Rattle.art_model.proofs.Shown.{IsShown, no_leaf_gone, leaf_shown, no_inner_gone, inner_shown}
-use Rattle.art_model.proofs.Walk.{related_at}
 use Rattle.art_model.proofs.Stores.{path_holds}
 use Rattle.art_operations.specs.declared.insert.InsertKind.{InsertKind}
 use Rattle.art_operations.specs.declared.insert.InsertKind.TheVariants.{MismatchPrefix, SplitLeaf, Exact, IntoExisting}
