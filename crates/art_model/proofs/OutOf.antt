@@ -39,7 +39,7 @@ use Rattle.art_model.proofs.Radix.{bytes_of-join, pairs_below-join}
 use Rattle.art_model.proofs.Removed.{ChildRemoved, child_removed_from, child_removed_keeps, child_removed_keeps_leaves}
 use Rattle.art_model.proofs.Slots.{IsInRange, kind_of-range, range_of_kind, kind_of-spare, kind_of-least}
 use Rattle.art_model.proofs.Stores.{IsParent, path_holds, parent_apart}
-use Rattle.art_model.proofs.Taken.{before_there, after_there, beside_in}
+use Rattle.art_model.proofs.Taken.{LeafAmong, before_there, after_there, beside_in}
 use Rattle.art_model.proofs.Touches.{Touched, IsInner, both_names, footprint_of, touches_at_most, touched_none, then_changed, then_placed, then_freed}
 use Rattle.art_model.proofs.Writes.{shown, same_inner, parents_inner, inner_at, node_at-inner, same_but, parent_stays, parent_there, parent_written, inner_name_one, parents, length-parents, then_parent, with_child_at-elsewhere}
 
@@ -156,8 +156,15 @@ module _ {K V : Type 0} {bytes : K × V → List ℕ} {P : ℕ} {s : Nodes K V} 
       let a = ap length bytes_are in let b = length-append (bytes_of f.left) (f.byte ∷ bytes_of f.right) in
       let c = ap length (bytes_of-join f.left f.right) in let d = length-append (bytes_of f.left) (bytes_of f.right) in omega arith
 
+  -- the bytes on both sides of the leaf's
+  pub low : Each (λ c. c < f.byte) (bytes_of f.left)
+  low = Pairwise-before ◌<◌ (bytes_of f.left) (bytes_of f.right) f.byte rising
+
+  pub high : Each (λ c. f.byte < c) (bytes_of f.right)
+  high = Pairwise-after ◌<◌ (bytes_of f.left) (bytes_of f.right) f.byte rising
+
   pub slots_left : (slots : List (ℕ × OpaqueNodePtr)) → slots ≡ slots_of (join f.left (child f.byte (leaf (leaf_name n) (pair_of x)) f.right)) → remove_child slots f.byte ≡ slots_of (join f.left f.right)
-  slots_left slots e = ap (λ z. remove_child z f.byte) e ∙ remove_child-there f.left f.right f.byte (leaf (leaf_name n) (pair_of x)) (Pairwise-before ◌<◌ (bytes_of f.left) (bytes_of f.right) f.byte rising) (Pairwise-after ◌<◌ (bytes_of f.left) (bytes_of f.right) f.byte rising)
+  slots_left slots e = ap (λ z. remove_child z f.byte) e ∙ remove_child-there f.left f.right f.byte (leaf (leaf_name n) (pair_of x)) low high
 
   -- the parent as the store has it
   pub parent_is : (f.mark.kind ≢ Leaf) × (node : Inner) × (get s.inners (as_inner f.mark) ≡ Some node) × (header_at f.mark.kind node ≡ f.header) × (node.children ≡ slots_of (join f.left (child f.byte (leaf (leaf_name n) (pair_of x)) f.right)))
@@ -179,19 +186,22 @@ module _ {K V : Type 0} {bytes : K × V → List ℕ} {P : ℕ} {s : Nodes K V} 
 
   -- ---- the leaf
 
+  -- it is among those of the tree
+  pub leaf_among : get s.leaves n ≡ Some x → LeafAmong s (plug fs (with_leaf_in f n x)) (leaves_before (f ∷ fs)) (leaves_after (f ∷ fs)) n x
+  leaf_among here = record { list = leaf_names-plug (f ∷ fs) (leaf (leaf_name n) (pair_of x)) ∙ append_assoc (leaves_before (f ∷ fs)) (leaf_name n ∷ []) (leaves_after (f ∷ fs)); here = here }
+
+  -- and the leaves beside it are there
+  pub links_there : get s.leaves n ≡ Some x → IsThere s.leaves x.previous × IsThere s.leaves x.next
+  links_there here = (before_there old.laid.holds old.laid.linked (leaf_among here), after_there old.laid.holds old.laid.linked (leaf_among here))
+
   module _ {t : Nodes K V} (goes : LeafGoes s t n x) where
     taken : LeafTaken s t (plug fs (with_leaf_in f n x)) (leaves_before (f ∷ fs)) (leaves_after (f ∷ fs)) n x
-    taken = record { among = record { list = leaf_names-plug (f ∷ fs) (leaf (leaf_name n) (pair_of x)) ∙ append_assoc (leaves_before (f ∷ fs)) (leaf_name n ∷ []) (leaves_after (f ∷ fs)); here = goes.here }; leaves = goes.leaves }
+    taken = record { among = leaf_among goes.here; leaves = goes.leaves }
 
     -- other leaves keep their pairs
     pairs_stay : (p : LeafPtr) → (IsIn (leaf_name p) (f.mark ∷ leaf_name n ∷ []) → ⊥) → option_map pair_of (get t.leaves p) ≡ option_map pair_of (get s.leaves p)
     pairs_stay p off = taken_pairs old.laid.holds old.laid.distinct old.laid.linked taken p (λ e. off (inr (inl (ap leaf_name (sym e)))))
 
-    -- the leaves beside it are there
-    pub links_there : IsThere s.leaves x.previous × IsThere s.leaves x.next
-    links_there = (before_there old.laid.holds old.laid.linked taken.among, after_there old.laid.holds old.laid.linked taken.among)
-
-    -- and among those of the tree
     beside_stay : (p : LeafPtr) → IsIn p (listed x.next ++ (listed x.previous ++ [])) → IsIn (leaf_name p) (names_of (plug fs (with_leaf_in f n x)))
     beside_stay = beside_in old.laid.holds old.laid.linked taken.among
 

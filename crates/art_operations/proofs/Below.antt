@@ -21,21 +21,21 @@ use Rattle.art_model.specs.Paths.{Frame, plug}
 use Rattle.art_model.specs.Radix.{bytes_of, join}
 use Rattle.art_model.specs.Stores.{node_at, links_at, pair_of}
 use Rattle.art_model.specs.Trees.{Tree, leaf, child}
-use Rattle.art_model.specs.Writes.{as_inner, parent_of, with_child_at, without_leaf}
+use Rattle.art_model.specs.Writes.{Inners, as_inner, parent_of, with_child_at, without_leaf}
 use Rattle.art_model.proofs.Canonical.{IsLaidOut, laid_out, canonical_from}
-use Rattle.art_model.proofs.OutOf.{smaller_inner, HasLeafBelow, LeafGoes, ParentStays, ParentShrinks, with_leaf_in, links_there, parent_is, one_more, slots_left, room_in_smaller, above_same, above_holds, hole, left_out, stays_laid_out, stays_in_place, stays_touches, shrunk, shrinks_laid_out, shrinks_in_place, shrinks_touches}
+use Rattle.art_model.proofs.OutOf.{smaller_inner, HasLeafBelow, ParentStays, ParentShrinks, with_leaf_in, links_there, parent_is, one_more, slots_left, room_in_smaller, above_same, above_holds, hole, left_out, stays_laid_out, stays_in_place, stays_touches, shrunk, shrinks_laid_out, shrinks_in_place, shrinks_touches}
 use Rattle.art_model.proofs.Paths.{root_with as root_of}
 use Rattle.art_model.proofs.Slots.{length-slots_of}
 use Rattle.art_model.proofs.Stores.{IsParent}
 use Rattle.art_model.proofs.Writes.{parent_ready}
 use Rattle.art_operations.specs.declared.delete.DeletePoint.{DeletePoint}
 use Rattle.art_operations.specs.declared.path.TreePath.{TreePath}
-use Rattle.art_operations.specs.declared.path.TreePath.TheVariants.{Root, ChildOfRoot, Normal}
 use Rattle.art_operations.specs.Deleted.{IsDeleted, IsRootAfter, LeadsTo, TouchesFor, ParentChange, change_of, parent_change, no_parent, keeps, shrinks, is_compressed}
 use Rattle.art_operations.specs.Inserted.{alone}
-use Rattle.art_operations.specs.Points.{path_of, step_down}
+use Rattle.art_operations.specs.Points.{path_of}
 use Rattle.art_operations.specs.Writes.{HasChild, LinksAreThere, last_step, root_with, up}
-use Rattle.art_operations.proofs.Deletions.{last_step-path_of, leaf_at, some_same}
+use Rattle.art_operations.proofs.Deletions.{leaf_at, some_same}
+use Rattle.art_operations.proofs.Ways.{last_step-path_of, last_step-up, root_with-up, root_after_at}
 
 -- ---- what a parent's change tells of its number of children
 
@@ -46,6 +46,10 @@ refused false a b off e = refl
 passed : {X : Type 0} (t : Bool) (a b c : X) → b ≢ c → cond t a b ≡ c → t ≡ true
 passed true a b c off e = refl
 passed false a b c off e = absurd (off e)
+
+neither : {X : Type 0} (t : Bool) (a b c : X) → a ≢ c → b ≢ c → cond t a b ≡ c → ⊥
+neither true a b c off non e = off e
+neither false a b c off non e = non e
 
 -- a parent that keeps its kind has more children than the kind has at least
 pub keeps_spare : (kind : NodeType) (count : ℕ) → change_of kind count ≡ keeps → kind_least kind < count
@@ -63,42 +67,26 @@ shrinks_least Node48 to count e = ((λ f. absurd cc), leb-true count 17 (passed 
 shrinks_least Node256 to count e = ((λ f. absurd cc), leb-true count 49 (passed (leb count 49) (shrinks Node48) keeps (shrinks to) (λ f. absurd cc) e))
 shrinks_least Leaf to count e = ((λ f. absurd cc), leb-true count 0 (passed (leb count 0) (shrinks Leaf) keeps (shrinks to) (λ f. absurd cc) e))
 
--- ---- paths
+-- a node that is compressed has at most two children
+pub compressed_most : (kind : NodeType) (count : ℕ) → change_of kind count ≡ is_compressed → count ≤ 2
+compressed_most Node4 count e = leb-true count 2 (passed (leb count 2) is_compressed keeps is_compressed (λ f. absurd cc) e)
+compressed_most Node16 count e = absurd (neither (leb count 5) (shrinks Node4) keeps is_compressed (λ f. absurd cc) (λ f. absurd cc) e)
+compressed_most Node48 count e = absurd (neither (leb count 17) (shrinks Node16) keeps is_compressed (λ f. absurd cc) (λ f. absurd cc) e)
+compressed_most Node256 count e = absurd (neither (leb count 49) (shrinks Node48) keeps is_compressed (λ f. absurd cc) (λ f. absurd cc) e)
+compressed_most Leaf count e = absurd (neither (leb count 0) (shrinks Leaf) keeps is_compressed (λ f. absurd cc) (λ f. absurd cc) e)
 
--- one step up from below a node is the path to it, as far as its last step
-pub last_step-up : {A : Type 0} (f : Frame OpaqueNodePtr A) (fs : List (Frame OpaqueNodePtr A)) → last_step (up (path_of (f ∷ fs))) ≡ parent_of fs
-last_step-up f [] = refl
-last_step-up f (g ∷ gs) = above (path_of gs)
-  where
-    above : (path : TreePath) → last_step (up (step_down (step_down path (as_inner g.mark) g.byte) (as_inner f.mark) f.byte)) ≡ Some (as_inner g.mark, g.byte)
-    above Root = refl
-    above (ChildOfRoot parent b) = refl
-    above (Normal grandparent c parent b) = refl
-
--- and the root is another one exactly where that node is the root
-pub root_with-up : {A : Type 0} (f : Frame OpaqueNodePtr A) (fs : List (Frame OpaqueNodePtr A)) (root node : OpaqueNodePtr) → root_with (up (path_of (f ∷ fs))) root node ≡ root_of fs root node
-root_with-up f [] root node = refl
-root_with-up f (g ∷ gs) root node = above (path_of gs)
-  where
-    above : (path : TreePath) → root_with (up (step_down (step_down path (as_inner g.mark) g.byte) (as_inner f.mark) f.byte)) root node ≡ root
-    above Root = refl
-    above (ChildOfRoot parent b) = refl
-    above (Normal grandparent c parent b) = refl
-
--- the root that is answered, below the root or further down
-pub root_after_at : {A : Type 0} (f : Frame OpaqueNodePtr A) (fs : List (Frame OpaqueNodePtr A)) (root node : OpaqueNodePtr) → IsRootAfter (path_of (f ∷ fs)) root (Some (root_of fs root node))
-root_after_at f [] root node = (node, refl)
-root_after_at f (g ∷ gs) root node = above (path_of gs)
-  where
-    above : (path : TreePath) → IsRootAfter (step_down (step_down path (as_inner g.mark) g.byte) (as_inner f.mark) f.byte) root (Some root)
-    above Root = refl
-    above (ChildOfRoot parent b) = refl
-    above (Normal grandparent c parent b) = refl
+-- ---- the parent's child
 
 -- a node that has this child has one
 some_child : (name : OpaqueNodePtr) (b : ℕ) (o : Option Inner) → IsSomeAnd o (λ node. child_at node.children b ≡ Some name) → IsSomeAnd o (λ node. IsSome (child_at node.children b))
 some_child name b None has = has
 some_child name b (Some node) has = ap is_some has
+
+-- the innermost node of a path that is as it was has a child where it had the hole
+pub has_child : {A : Type 0} (old new : Inners) (name : OpaqueNodePtr) (fs : List (Frame OpaqueNodePtr A)) → IfSome (parent_of fs) (λ p. IsSomeAnd (get old p.0) (λ node. child_at node.children p.1 ≡ Some name)) →
+    ((k : OpaqueNodePtr) → IsParent fs k → get new (as_inner k) ≡ get old (as_inner k)) → HasChild new (parent_of fs)
+has_child old new name [] has same = tt
+has_child old new name (f ∷ fs) has same = subst (λ o. IsSomeAnd o (λ node. IsSome (child_at node.children f.byte))) (sym (same f.mark refl)) (some_child name f.byte (get old (as_inner f.mark)) has)
 
 -- ---- the leaf below its parent
 
@@ -173,9 +161,7 @@ module _ {K V : Type 0} {bytes : K × V → List ℕ} {P : ℕ} {s : Nodes K V} 
   module _ (at : IsBelow bytes P s root pairs layout x point parent byte) where
     -- the leaves beside it are there
     pub leaf_ready : IsSome (get s.leaves point.leaf_node_ptr) × LinksAreThere s.leaves point.leaf_node_ptr
-    leaf_ready =
-        let goes : LeafGoes s (record s { leaves = without_leaf s.leaves point.leaf_node_ptr at.node }) point.leaf_node_ptr at.node = record { here = at.here; leaves = refl } in
-        rw at.here (refl, links_there at.below goes)
+    leaf_ready = rw at.here (refl, links_there at.below at.here)
 
     -- the parent as the store has it
     pub parent_there : (node : Inner) × (get s.inners parent ≡ Some node) × (parent.kind ≢ Leaf) × (length node.children ≡ suc (length (bytes_of (join at.frame.left at.frame.right))))
@@ -191,7 +177,8 @@ module _ {K V : Type 0} {bytes : K × V → List ℕ} {P : ℕ} {s : Nodes K V} 
     pub smaller_is_inner : {smaller : NodeType} → smaller ≡ smaller_kind parent.kind → Some smaller ≢ Some Leaf
     smaller_is_inner is e = smaller_inner parent.kind parent_there.2 (sym is ∙ some_same e)
 
-    change_is : (to : ParentChange) → last_step point.path ≡ Some (parent, byte) → parent_change s point.path ≡ to → change_of at.frame.mark.kind (suc (length (bytes_of (join at.frame.left at.frame.right)))) ≡ to
+    -- what becomes of the parent is told by its number of children
+    pub change_is : (to : ParentChange) → last_step point.path ≡ Some (parent, byte) → parent_change s point.path ≡ to → change_of at.frame.mark.kind (suc (length (bytes_of (join at.frame.left at.frame.right)))) ≡ to
     change_is to step is =
         let (node, got, off, count) = parent_there in
         let told : parent_change s point.path ≡ change_of parent.kind (length node.children) =
@@ -277,18 +264,13 @@ module _ {K V : Type 0} {bytes : K × V → List ℕ} {P : ℕ} {s : Nodes K V} 
           inners = last.inners ∙ ap (λ path. with_child_at (last_step (up path)) (inner_name q) v.inners) at.path_is ∙ ap (λ above. with_child_at above (inner_name q) v.inners) (last_step-up at.frame at.above) ∙ ap (with_child_at (parent_of at.above) (inner_name q)) inners_are;
         }
 
-        has_child : (fs : List (Frame OpaqueNodePtr (K × V))) → IfSome (parent_of fs) (λ p. IsSomeAnd (get s.inners p.0) (λ node. child_at node.children p.1 ≡ Some at.frame.mark)) →
-            ((k : OpaqueNodePtr) → IsParent fs k → get v.inners (as_inner k) ≡ get s.inners (as_inner k)) → HasChild v.inners (parent_of fs)
-        has_child [] has same = tt
-        has_child (g ∷ gs) has same = subst (λ o. IsSomeAnd o (λ node. IsSome (child_at node.children g.byte))) (sym (same g.mark refl)) (some_child at.frame.mark g.byte (get s.inners (as_inner g.mark)) has)
-
         -- before it is written, the grandparent has a child under its byte
         pub above_ready : HasChild v.inners (last_step (up point.path))
         above_ready =
             let t : Nodes K V = record v { inners = with_child_at (last_step (up point.path)) (inner_name q) v.inners } in
             let last : IsInPlace v t point.path q = record { leaves = refl; inners = refl } in
             subst (HasChild v.inners) (sym (ap (λ path. last_step (up path)) at.path_is ∙ last_step-up at.frame at.above))
-            (has_child at.above (parent_ready bytes P s at.above (hole at.below).0 at.frame.mark (hole at.below).1.path (above_holds at.below))
+            (has_child s.inners v.inners at.frame.mark at.above (parent_ready bytes P s at.above (hole at.below).0 at.frame.mark (hole at.below).1.path (above_holds at.below))
             (λ k above. ap (λ m. get m (as_inner k)) inners_are ∙ above_same at.below (parent_shrinks last) k above))
 
         module _ {t : Nodes K V} (last : IsInPlace v t point.path q) where

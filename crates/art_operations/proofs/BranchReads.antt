@@ -12,7 +12,7 @@ use Rattle.art_nodes.specs.declared.node.LeafPtr.{LeafPtr}
 use Rattle.art_nodes.specs.declared.node.LeafNode.{LeafNode}
 use Rattle.art_nodes.specs.declared.node.OpaqueNodePtr.{OpaqueNodePtr}
 use Rattle.art_model.specs.Canonical.{IsTree}
-use Rattle.art_model.specs.Keys.{IsFront, are_related, common_front}
+use Rattle.art_model.specs.Keys.{IsFront, are_related}
 use Rattle.art_model.specs.Layouts.{Links, AreLinked, name_of, leaf_names, first_or, last_or}
 use Rattle.art_model.specs.Pairs.{first_of, last_of}
 use Rattle.art_model.specs.Paths.{plug, leaves_before, leaves_after, Frame}
@@ -21,6 +21,7 @@ use Rattle.art_model.specs.Roots.{IsFullTree}
 use Rattle.art_model.specs.Radix.{IsRadix}
 use Rattle.art_model.specs.Stores.{links_at, links_of, held_leaf, node_at, pair_of}
 use Rattle.art_model.specs.Trees.{Tree, leaf, inner, Children, Header}
+use Rattle.art_model.proofs.Fronts.{part_where, unrelated_part}
 use Rattle.art_model.proofs.Links.{link_of, last_or-append}
 use Rattle.art_model.proofs.KeyLaws.{common_front_is_longest}
 use Rattle.art_model.proofs.Lists.{after_front}
@@ -37,7 +38,6 @@ use Rattle.art_operations.specs.declared.path.ExplicitMismatch.{ExplicitMismatch
 use Rattle.art_operations.specs.Matching.{shared_len}
 use Rattle.art_operations.specs.Points.{AnswersTo, IsKindOf, IsMismatch, IsLeafForPrefix}
 use Rattle.art_operations.proofs.Branches.{end_laid, end_hole, end_depth}
-use Rattle.art_operations.proofs.Forks.{fork, unrelated_short}
 
 -- ---- the leaves beside
 
@@ -117,17 +117,17 @@ pub record AreWays (place key other : List ℕ) (used : ℕ) : Type 0 where
 -- keys that are not related part after what they share
 pub unrelated_ways : (place key other : List ℕ) (used : ℕ) → IsFront place key → IsFront place other → are_related key other ≡ false → used ≡ shared_len key other → AreWays place key other used
 unrelated_ways place key other used front fronts apart shared =
-    let short = unrelated_short key other apart in
-    let f = fork key other short.0 short.1 in
+    let f = unrelated_part key other apart in
     let (part, e) = (common_front_is_longest key other).2 place front fronts in
+    let front_is = f.is_shared ∙ e in
     record {
       part = part;
       x = f.x;
       y = f.y;
       r = f.r;
       q = f.s;
-      key_is = f.a_is ∙ ap (λ z. z ++ f.x ∷ f.r) e ∙ append_assoc place part (f.x ∷ f.r);
-      other_is = f.b_is ∙ ap (λ z. z ++ f.y ∷ f.s) e ∙ append_assoc place part (f.y ∷ f.s);
+      key_is = f.a_is ∙ ap (λ z. z ++ f.x ∷ f.r) front_is ∙ append_assoc place part (f.x ∷ f.r);
+      other_is = f.b_is ∙ ap (λ z. z ++ f.y ∷ f.s) front_is ∙ append_assoc place part (f.y ∷ f.s);
       differ = λ same. f.differ (sym same);
       used_is = shared ∙ ap length e ∙ length-append place part;
     }
@@ -138,8 +138,9 @@ pub prefix_ways : (place prefix key other : List ℕ) (depth matched : ℕ) → 
 prefix_ways place prefix key other depth matched deep is (rest, whole) shared inside long =
     let l = ap length is in
     let m = length-append place (drop depth key) in
-    let f = fork prefix (drop depth key) (omega arith) (omega arith) in
-    let part = common_front prefix (drop depth key) in (
+    let f = part_where prefix (drop depth key) (omega arith) (omega arith) in
+    let part = f.front in
+    let matched_is : length part ≡ matched = ap length f.is_shared ∙ sym shared in (
       record {
         part = part;
         x = f.y;
@@ -151,7 +152,7 @@ prefix_ways place prefix key other depth matched deep is (rest, whole) shared in
         differ = f.differ;
         used_is = omega arith;
       },
-      sym (ap (λ z. get_or z matched 0) f.a_is ∙ get_or_at part f.x f.r 0 matched (sym shared)),
+      sym (ap (λ z. get_or z matched 0) f.a_is ∙ get_or_at part f.x f.r 0 matched matched_is),
     )
 
 module _ {K V : Type 0} {bytes : K × V → List ℕ} {P : ℕ} {s : Nodes K V} {key : List ℕ} {point : InsertPoint} {pairs : List (K × V)} {layout : Tree OpaqueNodePtr (K × V)} (by : IsTree bytes P s point.root pairs layout) (at : AnswersTo bytes P layout key point) where
@@ -255,10 +256,6 @@ module _ {K V : Type 0} {bytes : K × V → List ℕ} {P : ℕ} {s : Nodes K V} 
 
     inner_long : depth_of at.path + mismatch.matched_bytes < length key
     inner_long = let (start, (header, children, is, parts, long)) = inner_kind in long
-
-    -- the bytes are there
-    pub inner_bounds : point.key_bytes_used + mismatch.matched_bytes < length key
-    inner_bounds = let start = inner_start in let long = inner_long in omega arith
 
     -- the keys below go on with the prefix
     pub prefix_way : IsFront (place ++ prefix_of bytes (depth_of at.path) at.node) (least_key bytes at.node)

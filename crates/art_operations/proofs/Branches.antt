@@ -10,7 +10,6 @@ use Rattle.art_nodes.specs.Nodes.{Nodes}
 use Rattle.art_nodes.specs.declared.node.InnerPtr.{InnerPtr}
 use Rattle.art_nodes.specs.declared.node.LeafNode.{LeafNode}
 use Rattle.art_nodes.specs.declared.node.OpaqueNodePtr.{OpaqueNodePtr}
-use Rattle.art_nodes.proofs.StoreLaws.{inner_elsewhere}
 use Rattle.art_model.specs.Canonical.{IsTree}
 use Rattle.art_model.specs.Footprints.{IsIn}
 use Rattle.art_model.specs.Kept.{ChangesInPlace}
@@ -22,7 +21,7 @@ use Rattle.art_model.specs.Places.{depth_of, least_key}
 use Rattle.art_model.specs.Radix.{pairs_of}
 use Rattle.art_model.specs.Stores.{node_at, links_at}
 use Rattle.art_model.specs.Trees.{Tree, leaf, inner, child, no_child, header_of}
-use Rattle.art_model.specs.Writes.{Inners, IsThere, with_child_at, with_leaf, parent_of}
+use Rattle.art_model.specs.Writes.{IsThere, with_child_at, with_leaf, parent_of}
 use Rattle.art_model.proofs.Branches.{BranchStored, branch_in_place}
 use Rattle.art_model.proofs.Canonical.{IsLaidOut, laid_out, canonical_from}
 use Rattle.art_model.proofs.Chains.{AreThere, are_there, previous_there, next_there}
@@ -44,45 +43,12 @@ use Rattle.art_operations.specs.declared.insert.InsertParentNodeChange.TheVarian
 use Rattle.art_operations.specs.declared.insert.InsertPoint.{InsertPoint}
 use Rattle.art_operations.specs.declared.insert.InsertResult.{InsertResult}
 use Rattle.art_operations.specs.declared.insert.branch.Branch.{Branch}
-use Rattle.art_operations.specs.declared.path.TreePath.{TreePath}
-use Rattle.art_operations.specs.declared.path.TreePath.TheVariants.{Root, ChildOfRoot, Normal}
 use Rattle.art_operations.specs.Branches.{ForEnd, IsBranch, IsPlaced}
 use Rattle.art_operations.specs.Inserted.{IsInserted, IsChange, alone, root_after}
-use Rattle.art_operations.specs.Points.{AnswersTo, path_of, step_down}
+use Rattle.art_operations.specs.Points.{AnswersTo}
 use Rattle.art_operations.specs.Writes.{HasChild, last_step, root_with}
 use Rattle.art_operations.proofs.Partings.{unrelated_after}
-
--- ---- the parent
-
--- another node that is placed leaves the parent's child there
-pub child_stays : (m : Inners) (p : InnerPtr) (x : Inner) (step : Option (InnerPtr × ℕ)) → get m p ≡ None → HasChild m step → HasChild (insert m p x) step
-child_stays m p x None free h = h
-child_stays m p x (Some (q, b)) free h = subst (λ o. IsSomeAnd o (λ node. IsSome (child_at node.children b))) (sym (inner_elsewhere m p q x (λ e. subst (λ o. IsSomeAnd o (λ node. IsSome (child_at node.children b))) (ap (get m) e ∙ free) h))) h
-
--- the last step of a path is its parent
-pub last_is : {A : Type 0} (fs : List (Frame OpaqueNodePtr A)) → last_step (path_of fs) ≡ parent_of fs
-last_is [] = refl
-last_is (f ∷ fs) = go (path_of fs)
-  where
-    go : (path : TreePath) → last_step (step_down path (record { kind = f.mark.kind; slot = f.mark.slot }) f.byte) ≡ Some (record { kind = f.mark.kind; slot = f.mark.slot }, f.byte)
-    go Root = refl
-    go (ChildOfRoot parent byte) = refl
-    go (Normal grandparent above parent byte) = refl
-
-root_is : {A : Type 0} (fs : List (Frame OpaqueNodePtr A)) (root node : OpaqueNodePtr) → paths.root_with fs root node ≡ root_with (path_of fs) root node
-root_is [] root node = refl
-root_is (f ∷ fs) root node = go (path_of fs)
-  where
-    go : (path : TreePath) → root ≡ root_with (step_down path (record { kind = f.mark.kind; slot = f.mark.slot }) f.byte) root node
-    go Root = refl
-    go (ChildOfRoot parent byte) = refl
-    go (Normal grandparent above parent byte) = refl
-
--- the root by the point's path is the root by what is told of the parent
-root_told : (point : InsertPoint) (path : TreePath) (node : OpaqueNodePtr) (byte : ℕ) → root_with path point.root node ≡ root_after (record point { path = path }) (NewParent node byte)
-root_told point Root node byte = refl
-root_told point (ChildOfRoot parent b) node byte = refl
-root_told point (Normal grandparent above parent b) node byte = refl
+use Rattle.art_operations.proofs.Ways.{last_step-path_of, root_with-path_of, root_told}
 
 -- ---- the end of a point's path
 
@@ -110,7 +76,7 @@ module _ {K V : Type 0} {bytes : K × V → List ℕ} {P : ℕ} {s : Nodes K V} 
 
   -- the parent has a child under its byte
   pub end_parent : HasChild s.inners (last_step point.path)
-  end_parent = subst (HasChild s.inners) (sym (ap last_step at.path_is ∙ last_is at.path)) (has (parent_of at.path) (parent_ready bytes P s at.path (take (depth_of at.path) key) (name_of at.node) end_hole.path (path_holds (node_at s) at.path at.node end_laid.holds).0))
+  end_parent = subst (HasChild s.inners) (sym (ap last_step at.path_is ∙ last_step-path_of at.path)) (has (parent_of at.path) (parent_ready bytes P s at.path (take (depth_of at.path) key) (name_of at.node) end_hole.path (path_holds (node_at s) at.path at.node end_laid.holds).0))
     where
       some : (o : Option Inner) (b : ℕ) → IsSomeAnd o (λ node. child_at node.children b ≡ Some (name_of at.node)) → IsSomeAnd o (λ node. IsSome (child_at node.children b))
       some None b h = h
@@ -161,7 +127,7 @@ module _ {K V : Type 0} {bytes : K × V → List ℕ} {P : ℕ} {s : Nodes K V} 
     touches = touches;
     are_inner = kinds;
     in_tree = in_node;
-    inners = placed.inners ∙ ap₂ (λ step node. with_child_at step (inner_name placed.node) (insert mid.inners placed.node node)) (ap last_step at.path_is ∙ last_is at.path)
+    inners = placed.inners ∙ ap₂ (λ step node. with_child_at step (inner_name placed.node) (insert mid.inners placed.node node)) (ap last_step at.path_is ∙ last_step-path_of at.path)
         (ap₂ (λ (name : OpaqueNodePtr) (header : Prefix). with_child branch.new_byte (leaf_name done.leaf_node_ptr) (with_child branch.old_byte name (childless header))) (sym named) is.header);
   }
 
@@ -205,7 +171,7 @@ module _ {K V : Type 0} {bytes : K × V → List ℕ} {P : ℕ} {s : Nodes K V} 
     }
       where
         root : paths.root_with at.path point.root (inner_name placed.node) ≡ done.new_root
-        root = root_is at.path point.root (inner_name placed.node) ∙ ap (λ path. root_with path point.root (inner_name placed.node)) (sym at.path_is) ∙ sym placed.root
+        root = sym (root_with-path_of at.path point.root (inner_name placed.node)) ∙ ap (λ path. root_with path point.root (inner_name placed.node)) (sym at.path_is) ∙ sym placed.root
 
         filled : (first : Bool) → fill (leaf_frame first) (leaf (leaf_name done.leaf_node_ptr) pair) ≡ inner (inner_name placed.node) (header_of P is.part 2) (cond first (child branch.old_byte u (child branch.new_byte (leaf (leaf_name done.leaf_node_ptr) pair) no_child)) (child branch.new_byte (leaf (leaf_name done.leaf_node_ptr) pair) (child branch.old_byte u no_child)))
         filled true = refl

@@ -22,22 +22,10 @@ use Rattle.art_model.proofs.Writes.{node_at-leaf, parent_there}
 use Rattle.art_operations.specs.declared.delete.DeletePoint.{DeletePoint}
 use Rattle.art_operations.specs.declared.delete.DeleteRefused.{DeleteRefused}
 use Rattle.art_operations.specs.declared.delete.DeleteResult.{DeleteResult}
-use Rattle.art_operations.specs.declared.path.TreePath.{TreePath}
-use Rattle.art_operations.specs.declared.path.TreePath.TheVariants.{Root, ChildOfRoot, Normal}
 use Rattle.art_operations.specs.Deleted.{IsDeleted, IsDeletePoint, IsDeletePointIn, IsRootAfter, LeadsTo}
 use Rattle.art_operations.specs.Inserted.{alone}
-use Rattle.art_operations.specs.Points.{path_of, step_down}
 use Rattle.art_operations.specs.Writes.{last_step}
-
--- the last step of a path goes down from its innermost node
-pub last_step-path_of : {A : Type 0} (fs : List (Frame OpaqueNodePtr A)) → last_step (path_of fs) ≡ parent_of fs
-last_step-path_of [] = refl
-last_step-path_of (f ∷ fs) = down (path_of fs)
-  where
-    down : (path : TreePath) → last_step (step_down path (as_inner f.mark) f.byte) ≡ Some (as_inner f.mark, f.byte)
-    down Root = refl
-    down (ChildOfRoot parent b) = refl
-    down (Normal grandparent c parent b) = refl
+use Rattle.art_operations.proofs.Ways.{last_step-path_of}
 
 -- the same value is there
 pub some_same : {X : Type 0} {x y : X} → ◌≡◌ {A = Option X} (Some x) (Some y) → x ≡ y

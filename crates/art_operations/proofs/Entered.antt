@@ -22,7 +22,7 @@ use Rattle.art_model.specs.Places.{depth_of, prefix_of}
 use Rattle.art_model.specs.Radix.{IsRadix, AreRadix, bytes_of, join, pairs_of, pairs_below}
 use Rattle.art_model.specs.Stores.{node_at, links_at}
 use Rattle.art_model.specs.Trees.{Tree, leaf, inner, Children, child, no_child, Header, kind_of}
-use Rattle.art_model.specs.Writes.{parent_of}
+use Rattle.art_model.specs.Writes.{as_inner, parent_of}
 use Rattle.art_model.proofs.AddedChild.{ChildAdded, split_at}
 use Rattle.art_model.proofs.Canonical.{IsLaidOut, laid_out, canonical_from}
 use Rattle.art_model.proofs.InHole.{with_key-hole}
@@ -43,48 +43,12 @@ use Rattle.art_operations.specs.declared.insert.InsertParentNodeChange.TheVarian
 use Rattle.art_operations.specs.declared.insert.InsertPoint.{InsertPoint}
 use Rattle.art_operations.specs.declared.insert.InsertResult.{InsertResult}
 use Rattle.art_operations.specs.declared.path.TreePath.{TreePath}
-use Rattle.art_operations.specs.declared.path.TreePath.TheVariants.{Root, ChildOfRoot, Normal}
-use Rattle.art_operations.specs.Inserted.{IsChange, IsInserted, IsPointIn, alone, is_full, root_after}
-use Rattle.art_operations.specs.Points.{IsKindOf, path_of, step_down, as_inner}
+use Rattle.art_operations.specs.Inserted.{IsChange, IsInserted, IsPointIn, alone, is_full}
+use Rattle.art_operations.specs.Points.{IsKindOf, path_of}
 use Rattle.art_operations.specs.Writes.{HasChild, HasGap, last_step, root_with}
 use Rattle.art_operations.proofs.Answered.{answered}
 use Rattle.art_operations.proofs.Partings.{unrelated_after}
-
--- ---- paths of code and of the model
-
-module _ {A : Type 0} where
-  -- the last step is the parent
-  pub last_step-path : (fs : List (Frame OpaqueNodePtr A)) → last_step (path_of fs) ≡ parent_of fs
-  last_step-path [] = refl
-  last_step-path (f ∷ fs) = go (path_of fs)
-    where
-      go : (path : TreePath) → last_step (step_down path (as_inner f.mark) f.byte) ≡ Some (as_inner f.mark, f.byte)
-      go Root = refl
-      go (ChildOfRoot parent b) = refl
-      go (Normal grandparent c parent b) = refl
-
-  -- the root, where another node stands at the end of the path
-  pub root_with-path : (fs : List (Frame OpaqueNodePtr A)) (root node : OpaqueNodePtr) → root_with (path_of fs) root node ≡ paths.root_with fs root node
-  root_with-path [] root node = refl
-  root_with-path (f ∷ fs) root node = go (path_of fs)
-    where
-      go : (path : TreePath) → root_with (step_down path (as_inner f.mark) f.byte) root node ≡ root
-      go Root = refl
-      go (ChildOfRoot parent b) = refl
-      go (Normal grandparent c parent b) = refl
-
-  -- the root that is told
-  root_told : (point : InsertPoint) (fs : List (Frame OpaqueNodePtr A)) (node : OpaqueNodePtr) (byte : ℕ) → point.path ≡ path_of fs → paths.root_with fs point.root node ≡ root_after point (NewParent node byte)
-  root_told point fs node byte path_is = subst (λ path. paths.root_with fs point.root node ≡ root_after (record point { path = path }) (NewParent node byte)) (sym path_is) (go fs)
-    where
-      step : (path : TreePath) (name : InnerPtr) (b : ℕ) → point.root ≡ root_after (record point { path = step_down path name b }) (NewParent node byte)
-      step Root name b = refl
-      step (ChildOfRoot parent c) name b = refl
-      step (Normal grandparent d parent c) name b = refl
-
-      go : (gs : List (Frame OpaqueNodePtr A)) → paths.root_with gs point.root node ≡ root_after (record point { path = path_of gs }) (NewParent node byte)
-      go [] = refl
-      go (g ∷ gs) = step (path_of gs) (as_inner g.mark) g.byte
+use Rattle.art_operations.proofs.Ways.{last_step-path_of, root_with-path_of, root_told}
 
 -- ---- the point's node
 
@@ -103,13 +67,6 @@ pub record IsEntry {K V : Type 0} (bytes : K × V → List ℕ) (P : ℕ) (p : I
   pub path_is : path ≡ path_of frames
 
 module _ {K V : Type 0} {bytes : K × V → List ℕ} {P : ℕ} {s : Nodes K V} {point : InsertPoint} {p : InnerPtr} {key : List ℕ} (answers : IsPointIn bytes P s key point) (into : point.insert_kind ≡ IntoExisting p) where
-  -- the key has a byte after the node's whole bytes
-  pub entry_long : point.key_bytes_used < length key
-  entry_long =
-      let (pairs, layout, by, own) = answers in
-      let (header, children, is, front, used, long, none) = subst (IsKindOf bytes P key own.node (depth_of own.path) point.key_bytes_used) into own.kind_is in
-      long
-
   pub entry : {pairs : List (K × V)} {layout : Tree OpaqueNodePtr (K × V)} {b : ℕ} → b ≡ get_or key point.key_bytes_used 0 → IsTree bytes P s point.root pairs layout → IsEntry bytes P p layout key point.path b
   entry {pairs} {layout} {b} byte by =
       let a = answered answers by in
@@ -189,7 +146,7 @@ module _ {K V : Type 0} {bytes : K × V → List ℕ} {P : ℕ} {s : Nodes K V} 
 
   -- the parent is another node, and has the node as a child
   pub entry_parent : HasChild (map.remove s.inners p) (last_step path)
-  entry_parent = subst (λ z. HasChild (map.remove s.inners p) (last_step z)) (sym e.path_is) (subst (HasChild (map.remove s.inners p)) (sym (last_step-path e.frames)) (go e.frames refl))
+  entry_parent = subst (λ z. HasChild (map.remove s.inners p) (last_step z)) (sym e.path_is) (subst (HasChild (map.remove s.inners p)) (sym (last_step-path_of e.frames)) (go e.frames refl))
     where
       go : (fs : List (Frame OpaqueNodePtr (K × V))) → e.frames ≡ fs → HasChild (map.remove s.inners p) (parent_of fs)
       go [] is = tt
@@ -236,7 +193,7 @@ module _ {K V : Type 0} {bytes : K × V → List ℕ} {P : ℕ} {s t : Nodes K V
           path = frame ∷ e.frames;
           whole = refl;
           change = subst (λ kind. IsChange kind (Some (k, b)) (NewParent (inner_name k) b)) (sym into) refl;
-          root = root_is ∙ root_told point e.frames (inner_name k) b e.path_is;
+          root = root_is ∙ sym (ap (λ path. root_with path point.root (inner_name k)) e.path_is ∙ root_with-path_of e.frames point.root (inner_name k)) ∙ root_told point point.path (inner_name k) b;
         };
         replaced = ap (option_map alone) (sym (entry_reply by e));
         kept = subst (λ z. ChangesInPlace bytes s t (Some z) (Some tree)) e.whole added.kept;

@@ -36,7 +36,8 @@ use Rattle.art_operations.specs.declared.insert.InsertResult.{InsertResult}
 use Rattle.art_operations.specs.Inserted.{IsInserted, Touches, is_full}
 use Rattle.art_operations.specs.Writes.{ComesBetween, last_step, root_with}
 use Rattle.art_operations.proofs.Beside.{between_links}
-use Rattle.art_operations.proofs.Entered.{IsEntry, entry_laid, entry_kind, entry_full, entry_inner, entry_count, entered_inserted, last_step-path, root_with-path}
+use Rattle.art_operations.proofs.Entered.{IsEntry, entry_laid, entry_kind, entry_full, entry_inner, entry_count, entered_inserted}
+use Rattle.art_operations.proofs.Ways.{last_step-path_of, root_with-path_of}
 
 -- the next kind is an inner one, with more room
 pub larger_inner : (kind : NodeType) → kind ≢ Leaf → larger_kind kind ≢ Leaf
@@ -156,13 +157,13 @@ module _ {K V : Type 0} {bytes : K × V → List ℕ} {P : ℕ} {s : Nodes K V} 
           placed = placed;
           was_free = ap (λ m. map.get m k) (sym (q_inners ∙ r_inners)) ∙ was_free;
           here = own.1;
-          inners = own.2 ∙ ap (λ step. with_child_at step (inner_name k) (map.insert (map.remove s.inners p) k (with_child b (leaf_name n) own.0))) (ap last_step e.path_is ∙ last_step-path e.frames);
+          inners = own.2 ∙ ap (λ step. with_child_at step (inner_name k) (map.insert (map.remove s.inners p) k (with_child b (leaf_name n) own.0))) (ap last_step e.path_is ∙ last_step-path_of e.frames);
         }
 
         pub full_inserted : point.insert_kind ≡ IntoExisting p → {root : OpaqueNodePtr} → root ≡ root_with point.path point.root (inner_name k) → (done : InsertResult K V) →
             done ≡ record { leaf_node_ptr = n; existing_leaf = None; new_root = root; parent_node_change = NewParent (inner_name k) b } → IsInserted bytes P s t point new pairs layout done
         full_inserted into root_is done is =
-            entered_inserted by into e (full_added (entry_laid by e) into_full) (root_is ∙ ap (λ path. root_with path point.root (inner_name k)) e.path_is ∙ root_with-path e.frames point.root (inner_name k)) is
+            entered_inserted by into e (full_added (entry_laid by e) into_full) (root_is ∙ ap (λ path. root_with path point.root (inner_name k)) e.path_is ∙ root_with-path_of e.frames point.root (inner_name k)) is
 
         pub full_touched : point.insert_kind ≡ IntoExisting p → Touches point.insert_kind s t
         full_touched into = subst (λ kind. Touches kind s t) (sym into) (subst (λ full. cond full (TouchesAtMost 2 1 3 s t) (TouchesAtMost 1 0 3 s t)) (sym full) (full_touches (entry_laid by e) into_full))

@@ -1,5 +1,6 @@
 pub mod Examples
 pub mod Chains
+pub mod Ways
 pub mod LeafWrites
 pub mod Moves
 pub mod Found
@@ -21,10 +22,10 @@ pub mod Compressions
 pub mod Removals
 pub mod Along
 pub mod DeletePoints
-pub mod Forks
 pub mod Branches
 pub mod BranchReads
 pub mod Reserved
+pub mod Elsewhere
 pub mod Standing
 pub mod Trims
 pub mod Splits
@@ -35,5 +36,4 @@ pub mod Gaps
 pub mod Larger
 pub mod Entered
 pub mod Beside
-pub mod Elsewhere
 pub mod LeafAdded

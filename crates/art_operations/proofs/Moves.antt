@@ -1,5 +1,5 @@
 -- Steps from a tree in the first store, whatever the second one holds.
-use Rattle.std.proofs.Common.{◌≡◌, ℕ, List, [], refl, ap, ap₂, sym, ◌∙◌, subst, Option, Some, None, Bool}
+use Rattle.std.proofs.Common.{◌≡◌, ℕ, List, [], refl, ap, sym, ◌∙◌, subst, Option, Some, None, Bool}
 use Rattle.std.specs.Option.{option_map}
 use Rattle.art_nodes.specs.Nodes.{Nodes}
 use Rattle.art_nodes.specs.declared.node.OpaqueNodePtr.{OpaqueNodePtr}
@@ -8,9 +8,8 @@ use Rattle.art_model.specs.Layouts.{name_of}
 use Rattle.art_model.specs.Pairs.{of_key}
 use Rattle.art_model.specs.Radix.{pairs_of}
 use Rattle.art_model.specs.Roots.{IsRootOf}
-use Rattle.art_model.specs.Stores.{node_at, links_at}
 use Rattle.art_model.specs.Trees.{Tree}
-use Rattle.art_model.proofs.Canonical.{IsLaidOut, laid_out, canonical_from, tree_radix}
+use Rattle.art_model.proofs.Canonical.{tree_radix}
 use Rattle.art_operations.specs.Answers.{Answers}
 use Rattle.art_operations.specs.Steps.{State, SameNodes, NothingChanged, IsSound, Step, pairs_in}
 use Rattle.art_operations.specs.Runs.{on, shown, MakesStep}
@@ -43,12 +42,6 @@ module _ {K V : Type 0} (bytes : K → List ℕ) (P : ℕ) where
   -- a root that is canonical for its layout's pairs
   pub own_pairs : {s : Nodes K V} {root : OpaqueNodePtr} {pairs : List (K × V)} {layout : Layout K V} → IsTree (of_key bytes) P s root pairs layout → IsTree (of_key bytes) P s (name_of layout) (pairs_of layout) layout
   own_pairs {s} {root} {pairs} {layout} by = subst (λ n. IsTree (of_key bytes) P s n (pairs_of layout) layout) (sym by.stands.0.named) (subst (λ xs. IsTree (of_key bytes) P s root xs layout) (sym (tree_radix by).1) by)
-
-  pub same_tree : {s t : Nodes K V} {root : OpaqueNodePtr} {pairs : List (K × V)} {layout : Layout K V} → SameNodes s t → IsTree (of_key bytes) P s root pairs layout → IsTree (of_key bytes) P t root pairs layout
-  same_tree {s} {t} {root} {pairs} {layout} same by =
-      let nodes : node_at t ≡ node_at s = ap₂ (λ leaves inners. node_at (record t { leaves = leaves; inners = inners })) same.0 same.1 in
-      let links : links_at t ≡ links_at s = ap₂ (λ leaves inners. links_at (record t { leaves = leaves; inners = inners })) same.0 same.1 in
-      canonical_from (subst (λ at. IsLaidOut (of_key bytes) P at (links_at t) root pairs layout) (sym nodes) (subst (λ at. IsLaidOut (of_key bytes) P (node_at s) at root pairs layout) (sym links) (laid_out by)))
 
   -- a root is canonical for the pairs of a state that shows it
   pub sound_canonical : (old : State K V) (s z : Nodes K V) (root : Option OpaqueNodePtr) → shown old ≡ on First s z root → IsSound bytes P old → (pairs : List (K × V)) × IsCanonical (of_key bytes) P s root pairs

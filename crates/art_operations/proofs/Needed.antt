@@ -1,12 +1,11 @@
 -- What applied points place is what their commands need.
-use Rattle.std.proofs.Common.{◌≡◌, ◌≢◌, ℕ, suc, ◌+◌, ◌<◌, ◌≤◌, List, [], ◌∷◌, ◌++◌, length, drop, take, cond, ltb, leb, eq-eqb, get_or, slice_get, Bool, true, false, refl, ap, ap₂, sym, ◌∙◌, subst, arith, append_assoc, length-append, Option, Some, None, IfSome, ◌⊎◌, inl, inr}
+use Rattle.std.proofs.Common.{◌≡◌, ◌≢◌, ℕ, suc, ◌+◌, ◌<◌, ◌≤◌, List, [], ◌∷◌, ◌++◌, length, drop, take, cond, ltb, leb, get_or, slice_get, Bool, true, false, refl, ap, ap₂, sym, ◌∙◌, subst, arith, append_assoc, length-append, Option, Some, None, IfSome, inl, inr}
 use Rattle.art_nodes.proofs.NameLemmas.{same_kind}
 use Rattle.art_nodes.specs.Nodes.{kind_index}
-use Rattle.std.proofs.lemmas.Bool.{true≢false, cases_lt, cases_Bool, leb-true, leb-false, cases_order, ne_eqb}
+use Rattle.std.proofs.lemmas.Bool.{cases_Bool, leb-true, leb-false, ne_eqb}
 use Rattle.std.proofs.lemmas.Option.{slice_get_within}
 use Rattle.std.proofs.Math.Seq.{get_or-append_seam}
 use Rattle.std.specs.FinMap.{get}
-use Rattle.std.specs.List.{AllByRecursion as Each}
 use Rattle.std.specs.Option.{is_some}
 use Rattle.art_nodes.specs.Inner.{Inner, child_at}
 use Rattle.art_nodes.specs.Kinds.{kind_capacity, larger_kind, kind_least, smaller_kind}
@@ -25,17 +24,20 @@ use Rattle.art_model.specs.Places.{least_key, prefix_of}
 use Rattle.art_model.specs.Radix.{IsRadix, AreRadix, IsRising, join, bytes_of, pairs_of, pairs_below}
 use Rattle.art_model.specs.Stores.{node_at}
 use Rattle.art_model.specs.Trees.{Tree, leaf, inner, Children, child, no_child, Header, header_of, kind_of}
+use Rattle.art_model.proofs.AddedChild.{IsSplit, kind_of-larger, split_at}
 use Rattle.art_model.proofs.Between.{put-between, remove_key-between}
 use Rattle.art_model.proofs.Canonical.{tree_radix}
 use Rattle.art_model.proofs.Changes.{two_children, branch, trimmed, with_child, exact, alone, raised, merged, child_removed, child_left}
-use Rattle.art_model.proofs.Keys.{front_related, related_sym}
-use Rattle.art_model.proofs.Lists.{Each-weaker, after_front, front_cut}
+use Rattle.art_model.proofs.Fronts.{ArePart, part_where, related_after, unrelated_part}
+use Rattle.art_model.proofs.Keys.{related_sym}
+use Rattle.art_model.proofs.Lists.{after_front, front_cut}
 use Rattle.art_model.proofs.MapLaws.{put_counts}
+use Rattle.art_model.proofs.OutOf.{kind_of-smaller}
 use Rattle.art_model.proofs.Paths.{IsHole, radix_plug, changed_at, pairs_of-plug}
 use Rattle.art_model.proofs.PlaceLaws.{depth_is}
 use Rattle.art_model.proofs.Places.{place_is, prefix_is}
-use Rattle.art_model.proofs.Radix.{pairs_below-join, bytes_of-join, AreRadix-right}
-use Rattle.art_model.proofs.Slots.{IsInRange, kind_of-range, range_of_kind, kind_of-room, kind_of-full, kind_of-spare, kind_of-least, length-slots_of}
+use Rattle.art_model.proofs.Radix.{only_child, pairs_below-join, bytes_of-join, AreRadix-right}
+use Rattle.art_model.proofs.Slots.{IsInRange, range_of_kind, kind_of-room, kind_of-full, kind_of-spare, kind_of-least, length-slots_of}
 use Rattle.art_model.proofs.Stores.{path_holds}
 use Rattle.art_model.specs.Writes.{as_inner}
 use Rattle.art_model.proofs.Writes.{inner_at}
@@ -44,10 +46,7 @@ use Rattle.art_operations.specs.Inserted.{placed_for, is_full, HasByteLeft}
 use Rattle.art_operations.specs.Deleted.{LeadsTo, ParentChange, no_parent, keeps, shrinks, change_of, parent_change, placed_for_deletion}
 use Rattle.art_operations.specs.Matching.{shared_len}
 use Rattle.art_operations.specs.Needs.{needs, count_of, count_below, more_of, inner_count}
-use Rattle.art_operations.specs.Points.{AnswersTo, IsKindOf, path_of, step_down}
-use Rattle.art_operations.specs.Writes.{last_step}
-use Rattle.art_operations.specs.declared.path.TreePath.{TreePath}
-use Rattle.art_operations.specs.declared.path.TreePath.TheVariants.{Root, ChildOfRoot, Normal}
+use Rattle.art_operations.specs.Points.{AnswersTo, IsKindOf, path_of}
 use Rattle.art_operations.specs.declared.delete.DeletePoint.{DeletePoint}
 use Rattle.art_operations.specs.declared.insert.InsertKind.{InsertKind}
 use Rattle.art_operations.specs.declared.insert.InsertKind.TheVariants.{MismatchPrefix, SplitLeaf, Exact, IntoExisting}
@@ -57,7 +56,7 @@ use Rattle.art_operations.specs.declared.run.Command.TheVariants.{Insert, Delete
 use Rattle.art_operations.specs.declared.run.Reply.TheVariants.{Deleted}
 use Rattle.art_operations.proofs.Counts.{one, count-join, more_in_hole, fewer_in_hole, gains, loses}
 use Rattle.art_operations.proofs.Found.{any_first}
-use Rattle.art_operations.proofs.Partings.{ArePart, part_where, front_left, front_right}
+use Rattle.art_operations.proofs.Ways.{last_step-path_of}
 
 -- ---- a key that is new, or not
 
@@ -93,49 +92,6 @@ module _ {K V : Type 0} (bytes : K → List ℕ) (P : ℕ) (k : K) (v : V) {fs :
 
     pub needs_none : (n : ℕ) → length (pairs_of u) ≡ length (pairs_of t) + n → ((kind : NodeType) → count_of kind u ≤ count_of kind t) → ◌≡◌ {A = Promise} (record { leaves = n; inner = None }) (needs bytes P (Insert k v) (pairs_of (plug fs t)))
     needs_none n longer h = ap₂ (λ x y. record { leaves = x; inner = y }) (leaves_needed n longer) (sym (ap (λ ps. more_of (inner_count bytes P (pairs_of (plug fs t))) (inner_count bytes P ps)) (sym all.1) ∙ loses bytes P (plug fs t) (plug fs u) was all.0 (λ kind. fewer_in_hole fs t u kind (h kind))))
-
--- keys that are not related after a place part at a byte
-apart_after : (place a b : List ℕ) → are_related (place ++ a) (place ++ b) ≡ false → ArePart a b
-apart_after place a b off = go (cases_lt (shared_len a b) (length a)) (cases_lt (shared_len a b) (length b))
-  where
-    go : (shared_len a b < length a) ⊎ (length a ≤ shared_len a b) → (shared_len a b < length b) ⊎ (length b ≤ shared_len a b) → ArePart a b
-    go (inl x) (inl y) = part_where a b x y
-    go (inr x) y =
-        let (q, e) = front_left a b x in
-        absurd (true≢false (sym (front_related (place ++ a) (place ++ b) (q, ap (λ z. place ++ z) e ∙ sym (append_assoc place a q))) ∙ off))
-    go (inl x) (inr y) =
-        let (q, e) = front_right a b y in
-        absurd (true≢false (sym (related_sym (place ++ a) (place ++ b) ∙ front_related (place ++ b) (place ++ a) (q, ap (λ z. place ++ z) e ∙ sym (append_assoc place b q))) ∙ off))
-
--- the children under lesser bytes than one that has none, and those under greater ones
-record IsSplit {A : Type 0} (cs : Children OpaqueNodePtr A) (b : ℕ) : Type 0 where
-  left : Children OpaqueNodePtr A
-  right : Children OpaqueNodePtr A
-  whole : cs ≡ join left right
-  low : Each (λ c. c < b) (bytes_of left)
-  high : Each (λ c. b < c) (bytes_of right)
-
-split_at : {A : Type 0} (cs : Children OpaqueNodePtr A) (b : ℕ) → IsRising (bytes_of cs) → child_at (slots_of cs) b ≡ None → IsSplit cs b
-split_at no_child b up none = record { left = no_child; right = no_child; whole = refl; low = tt; high = tt }
-split_at (child c t cs) b up none = elim (cases_order c b) [
-  | inl e ↦ let there : child_at (slots_of (child c t cs)) b ≡ Some (name_of t) = rw (eq-eqb c b e) refl in absurd cc
-  | inr (inl l) ↦
-      let later : child_at (slots_of (child c t cs)) b ≡ child_at (slots_of cs) b = rw (ne_eqb c b (λ e. omega arith)) refl in
-      let s = split_at cs b up.1 (sym later ∙ none) in
-      record { left = child c t s.left; right = s.right; whole = ap (child c t) s.whole; low = (l, s.low); high = s.high }
-  | inr (inr g) ↦ record { left = no_child; right = child c t cs; whole = refl; low = tt; high = (g, Each-weaker (λ d. c < d) (λ d. b < d) (λ d l. omega arith) (bytes_of cs) up.0) }
-]
-
--- a full node that gets a child more has the next kind
-kind_of-larger : (kind : NodeType) (n : ℕ) → kind ≡ kind_of n → kind ≢ Node256 → kind_capacity kind ≤ n → larger_kind kind ≡ kind_of (suc n)
-kind_of-larger kind n e not_last full = sym (kind_of-range (larger_kind kind) (suc n) (more kind (subst (λ k. IsInRange k n) (sym e) (range_of_kind n)) not_last full))
-  where
-    more : (k : NodeType) → IsInRange k n → k ≢ Node256 → kind_capacity k ≤ n → IsInRange (larger_kind k) (suc n)
-    more Node4 h off f = (omega arith, omega arith)
-    more Node16 h off f = (omega arith, let a = h.1 in omega arith)
-    more Node48 h off f = let a = h.1 in omega arith
-    more Node256 h off f = absurd (off refl)
-    more Leaf h off f = absurd h
 
 -- no number of children has the kind of a leaf
 kind_of-proper : (n : ℕ) → kind_of n ≢ Leaf
@@ -175,7 +131,7 @@ module _ {K V : Type 0} (bytes : K → List ℕ) (P : ℕ) (k : K) (v : V) {fs :
   leaf_needs pair is off =
       let (old, below) : IsFront place (bytes pair.0) = subst (IsRadix (of_key bytes) P place) is hole.radix in
       let apart : are_related (place ++ old) (place ++ hole.front.0) ≡ false = sym (ap₂ are_related below hole.front.1) ∙ related_sym (bytes pair.0) (bytes k) ∙ off in
-      let part = apart_after place old hole.front.0 apart in
+      let part = unrelated_part old hole.front.0 (sym (related_after place old hole.front.0) ∙ apart) in
       branch_needs t old part (subst (IsRadix (of_key bytes) P ((place ++ part.front) ++ part.x ∷ [])) (sym is) (part.r, below ∙ ap (λ z. place ++ z) part.a_is ∙ simp append_assoc)) refl (λ kind. refl)
 
   module _ (header : Header) (cs : Children OpaqueNodePtr (K × V)) (is : t ≡ inner (name_of t) header cs) where
@@ -283,17 +239,6 @@ module _ {K V : Type 0} (bytes : K → List ℕ) (P : ℕ) (k : K) (v : V) {fs :
 abbrev placed_of : ParentChange → Promise
 placed_of change = elim change as (λ _. Promise) [ shrinks kind ↦ record { leaves = 0; inner = Some kind } | _ ↦ record { leaves = 0; inner = None } ]
 
--- a node with as many children as its kind has at least becomes a smaller one when one goes
-kind_of-smaller : (kind : NodeType) (n : ℕ) → kind ≢ Node4 → kind ≡ kind_of (suc n) → suc n ≤ kind_least kind → smaller_kind kind ≡ kind_of n
-kind_of-smaller kind n not_first own least = under kind not_first least (subst (λ z. IsInRange z (suc n)) (sym own) (range_of_kind (suc n)))
-  where
-    under : (z : NodeType) → z ≢ Node4 → suc n ≤ kind_least z → IsInRange z (suc n) → smaller_kind z ≡ kind_of n
-    under Node4 off l h = absurd (off refl)
-    under Node16 off l h = sym (kind_of-range Node4 n (omega arith))
-    under Node48 off l h = sym (kind_of-range Node16 n (let a = h.0 in omega arith, omega arith))
-    under Node256 off l h = sym (kind_of-range Node48 n (omega arith, omega arith))
-    under Leaf off l h = absurd h
-
 -- what becomes of the parent says which inner node comes
 change_places : (kind : NodeType) (n : ℕ) (more : Option NodeType) → kind ≡ kind_of (suc n) → 1 ≤ n → (n ≡ 1 → None ≡ more) → (2 ≤ n → kind_of n ≡ kind_of (suc n) → None ≡ more) → (2 ≤ n → kind_of n ≢ kind_of (suc n) → Some (kind_of n) ≡ more) →
     placed_of (change_of kind (suc n)) ≡ record { leaves = 0; inner = more }
@@ -304,7 +249,7 @@ change_places kind n more own some compress keep shrink = go kind own
 
     other : (z : NodeType) → z ≢ Node4 → z ≡ kind_of (suc n) → 2 ≤ n → placed_of (cond (leb (suc n) (kind_least z)) (shrinks (smaller_kind z)) keeps) ≡ record { leaves = 0; inner = more }
     other z off is two = elim (cases_Bool (leb (suc n) (kind_least z))) [
-      | inl e ↦ rw e (told (ap Some (kind_of-smaller z n off is (leb-true (suc n) (kind_least z) e)) ∙ shrink two (λ same. let l = leb-true (suc n) (kind_least z) e in kind_of-least z n off (omega arith) (is ∙ sym same))))
+      | inl e ↦ rw e (told (ap Some (kind_of-smaller z n off is (let l = leb-true (suc n) (kind_least z) e in omega arith)) ∙ shrink two (λ same. let l = leb-true (suc n) (kind_least z) e in kind_of-least z n off (omega arith) (is ∙ sym same))))
       | inr e ↦ rw e (told (keep two (let l = leb-false (suc n) (kind_least z) e in sym (kind_of-spare z n is (omega arith)) ∙ is)))
     ]
 
@@ -319,19 +264,6 @@ change_places kind n more own some compress keep shrink = go kind own
     go Leaf is = absurd (kind_of-proper (suc n) (sym is))
 
 -- one child alone
-only_child : {N A : Type 0} (cs : Children N A) → length (bytes_of cs) ≡ 1 → (c : ℕ) × (v : Tree N A) × (cs ≡ child c v no_child)
-only_child no_child e = absurd (omega arith)
-only_child (child c v no_child) e = (c, v, refl)
-only_child (child c v (child d w ds)) e = absurd (omega arith)
-
-last_is : {A : Type 0} (f : Frame OpaqueNodePtr A) (fs : List (Frame OpaqueNodePtr A)) → last_step (path_of (f ∷ fs)) ≡ Some (as_inner f.mark, f.byte)
-last_is f fs = go (path_of fs)
-  where
-    go : (path : TreePath) → last_step (step_down path (as_inner f.mark) f.byte) ≡ Some (as_inner f.mark, f.byte)
-    go Root = refl
-    go (ChildOfRoot parent byte) = refl
-    go (Normal grandparent above parent byte) = refl
-
 module _ {K V : Type 0} (bytes : K → List ℕ) (P : ℕ) (x : K × V) (n : OpaqueNodePtr) (f : Frame OpaqueNodePtr (K × V)) (fs : List (Frame OpaqueNodePtr (K × V))) (was : IsRadix (of_key bytes) P [] (plug (f ∷ fs) (leaf n x))) where
   abbrev whole : Tree OpaqueNodePtr (K × V)
   whole = inner f.mark f.header (join f.left (child f.byte (leaf n x) f.right))
@@ -412,7 +344,7 @@ module _ {K V : Type 0} (bytes : K → List ℕ) (P : ℕ) (x : K × V) (n : Opa
       let number : length node.children ≡ suc left_over = ap length kids ∙ length-slots_of (join f.left (child f.byte (leaf n x) f.right)) ∙ one_more in
       let kind : f.mark.kind ≡ kind_of (suc left_over) = ap (λ h. h.kind) head ∙ header_kind place path own in
       let change : parent_change s (path_of (f ∷ fs)) ≡ change_of f.mark.kind (suc left_over) =
-      subst (λ (o : Option (InnerPtr × ℕ)). elim o as (λ _. ParentChange) [ None ↦ no_parent | Some (parent, byte) ↦ elim (get s.inners parent) as (λ _. ParentChange) [ None ↦ no_parent | Some z ↦ change_of parent.kind (length z.children) ] ] ≡ change_of f.mark.kind (suc left_over)) (sym (last_is f fs))
+      subst (λ (o : Option (InnerPtr × ℕ)). elim o as (λ _. ParentChange) [ None ↦ no_parent | Some (parent, byte) ↦ elim (get s.inners parent) as (λ _. ParentChange) [ None ↦ no_parent | Some z ↦ change_of parent.kind (length z.children) ] ] ≡ change_of f.mark.kind (suc left_over)) (sym (last_step-path_of (f ∷ fs)))
       (subst (λ (o : Option Inner). elim o as (λ _. ParentChange) [ None ↦ no_parent | Some z ↦ change_of f.mark.kind (length z.children) ] ≡ change_of f.mark.kind (suc left_over)) (sym got) (ap (change_of f.mark.kind) number)) in
       let two : 2 ≤ suc left_over = subst (λ z. 2 ≤ z) one_more own.2 in
       ap placed_of change ∙ change_places f.mark.kind left_over More kind (omega arith) (compress_places place path own) (keep_places place path own) (shrink_places place path own)

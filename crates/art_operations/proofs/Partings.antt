@@ -1,35 +1,13 @@
 -- keys that part at a byte, and keys that are related
-use Rattle.std.proofs.Common.{◌≡◌, ◌≢◌, ℕ, suc, ◌<◌, ◌≤◌, List, [], ◌∷◌, ◌++◌, length, refl, ap, ap₂, sym, ◌∙◌, subst, arith, append_assoc, append-nil, length-append, eqb, eqb-true, cond, Bool, true, false, ◌||◌, ◌&&◌, not, ◌⊎◌, inl, inr}
+use Rattle.std.proofs.Common.{◌≡◌, ◌≢◌, ℕ, ◌<◌, ◌≤◌, List, [], ◌∷◌, ◌++◌, length, refl, ap, sym, ◌∙◌, subst, arith, append_assoc, append-nil, length-append, Bool, true, false, ◌||◌, ◌&&◌, not, ◌⊎◌, inl, inr}
 use Rattle.std.specs.List.{AllByRecursion as Each}
-use Rattle.std.proofs.lemmas.Bool.{eqb-false, cases_order}
-use Rattle.art_model.specs.Keys.{IsFront, are_related, are_same, common_front}
+use Rattle.std.proofs.lemmas.Bool.{cases_order}
+use Rattle.art_model.specs.Keys.{IsFront, are_related, are_same}
 use Rattle.art_model.specs.Pairs.{is_conflict, related_to}
-use Rattle.art_model.proofs.Lists.{common_front_left, common_front_right}
+use Rattle.art_model.proofs.Lists.{common_front_left}
 use Rattle.art_model.proofs.Keys.{related_sym, front_related, front_same, same_equal, precedes_at}
-use Rattle.art_model.proofs.Fronts.{shared_whole}
+use Rattle.art_model.proofs.Fronts.{ArePart, front_right, part_where, shared_whole}
 use Rattle.art_operations.specs.Matching.{shared_len}
-
--- after a common front the keys go on with different bytes
-pub record ArePart (a b : List ℕ) : Type 0 where
-  pub front : List ℕ
-  pub x : ℕ
-  pub y : ℕ
-  pub r : List ℕ
-  pub s : List ℕ
-  pub a_is : a ≡ front ++ x ∷ r
-  pub b_is : b ≡ front ++ y ∷ s
-  pub differ : x ≢ y
-
-pub part_where : (a b : List ℕ) → shared_len a b < length a → shared_len a b < length b → ArePart a b
-part_where [] b h k = absurd (omega arith)
-part_where (x ∷ a) [] h k = absurd (omega arith)
-part_where (x ∷ a) (y ∷ b) h k = go (λ h k. part_where a b h k) (eqb x y) refl h k
-  where
-    go : (shared_len a b < length a → shared_len a b < length b → ArePart a b) → (t : Bool) → eqb x y ≡ t → length (cond t (x ∷ common_front a b) []) < suc (length a) → length (cond t (x ∷ common_front a b) []) < suc (length b) → ArePart (x ∷ a) (y ∷ b)
-    go ih true e h k =
-        let p = ih (omega arith) (omega arith) in
-        record { front = x ∷ p.front; x = p.x; y = p.y; r = p.r; s = p.s; a_is = ap (λ l. x ∷ l) p.a_is; b_is = ap₂ (λ z l. z ∷ l) (sym (eqb-true x y e)) p.b_is; differ = p.differ }
-    go ih false e h k = record { front = []; x = x; y = y; r = a; s = b; a_is = refl; b_is = refl; differ = eqb-false x y e }
 
 -- keys that go on after a front with different bytes are not related
 pub unrelated_after : (front : List ℕ) (x y : ℕ) (a b : List ℕ) → IsFront (front ++ x ∷ []) a → IsFront (front ++ y ∷ []) b → x ≢ y → are_related a b ≡ false
@@ -43,36 +21,25 @@ unrelated_after front x y a b f g differ = go (cases_order x y)
 pub parted_unrelated : {a b : List ℕ} → ArePart a b → are_related a b ≡ false
 parted_unrelated {a} {b} p = unrelated_after p.front p.x p.y a b (p.r, p.a_is ∙ sym (append_assoc p.front (p.x ∷ []) p.r)) (p.s, p.b_is ∙ sym (append_assoc p.front (p.y ∷ []) p.s)) p.differ
 
--- where all of one key is shared, it is a front of the other
-pub front_left : (a b : List ℕ) → length a ≤ shared_len a b → IsFront a b
-front_left a b h = shared_whole a b h
-
-pub front_right : (a b : List ℕ) → length b ≤ shared_len a b → IsFront b a
-front_right a b h = go (common_front_left a b) (common_front_right a b)
-  where
-    go : IsFront (common_front a b) a → IsFront (common_front a b) b → IsFront b a
-    go (r, e) ([], f) = (r, e ∙ ap (λ l. l ++ r) (sym (f ∙ append-nil (common_front a b))))
-    go (r, e) (x ∷ s, f) = absurd (let l = ap length f in omega (arith, simp length-append at l))
-
 -- as many as all of the first key's bytes are shared
 pub all_shared : (a b : List ℕ) (n : ℕ) → n ≡ shared_len a b → length a ≤ n → (n ≡ length a) × IsFront a b
 all_shared a b n e h =
     let (r, f) = common_front_left a b in
     let l = ap length f in
-    (omega (arith, simp length-append at l), front_left a b (omega arith))
+    (omega (arith, simp length-append at l), shared_whole a b (omega arith))
 
 pub whole_same : (a b : List ℕ) → IsFront a b → length a ≡ length b → b ≡ a
 whole_same a b ([], e) same = e ∙ append-nil a
 whole_same a b (x ∷ r, e) same = absurd (let l = ap length e in omega (arith, simp length-append at l))
 
 pub some_related : (a b : List ℕ) → (length a ≤ shared_len a b) ⊎ (length b ≤ shared_len a b) → are_related a b ≡ true
-some_related a b (inl h) = front_related a b (front_left a b h)
+some_related a b (inl h) = front_related a b (shared_whole a b h)
 some_related a b (inr h) = related_sym a b ∙ front_related b a (front_right a b h)
 
 -- equal keys share all bytes
 pub some_equal : (a b : List ℕ) → (length a ≤ shared_len a b) ⊎ (length b ≤ shared_len a b) → length a ≡ length b → b ≡ a
-some_equal a b (inl h) same = whole_same a b (front_left a b h) same
-some_equal a b (inr h) same = whole_same a b (front_left a b (omega arith)) same
+some_equal a b (inl h) same = whole_same a b (shared_whole a b h) same
+some_equal a b (inr h) same = whole_same a b (shared_whole a b (omega arith)) same
 
 -- what the comparison of lengths with what is shared tells, where the second key was read as `c`
 module _ (a b c : List ℕ) (n : ℕ) (shared : n ≡ shared_len a c) (same : c ≡ b) where

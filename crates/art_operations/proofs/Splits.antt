@@ -38,7 +38,8 @@ use Rattle.art_operations.specs.Inserted.{IsInserted, IsChange, Touches}
 use Rattle.art_operations.specs.Points.{AnswersTo}
 use Rattle.art_operations.specs.Steps.{SameNodes}
 use Rattle.art_operations.specs.Writes.{HasChild, last_step}
-use Rattle.art_operations.proofs.Branches.{end_laid, end_depth, end_parent, last_is, branch_stored, branch_done}
+use Rattle.art_operations.proofs.Ways.{last_step-path_of}
+use Rattle.art_operations.proofs.Branches.{end_laid, end_depth, end_parent, branch_stored, branch_done}
 use Rattle.art_operations.proofs.BranchReads.{leaf_found, leaf_named, inner_found, inner_named, prefix_way, prefix_inside}
 
 module _ {K V : Type 0} {bytes : K × V → List ℕ} {P : ℕ} {s t : Nodes K V} {root : OpaqueNodePtr} {pairs : List (K × V)} {fs : List (Frame OpaqueNodePtr (K × V))} {place : List ℕ} {m : InnerPtr} {n : LeafPtr} {part : List ℕ} {b c : ℕ} {x : LeafNode K V} {mid : Inners} where
@@ -124,7 +125,7 @@ module _ {K V : Type 0} {bytes : K × V → List ℕ} {P : ℕ} {s : Nodes K V} 
   -- the parent has a child under its byte when the node's header is written
   pub parent_stays : {after : Inners} {p : InnerPtr} {mismatch : ExplicitMismatch} (header : Prefix) → point.insert_kind ≡ MismatchPrefix mismatch p → after ≡ change s.inners p (with_header header) → HasChild after (last_step point.path)
   parent_stays {after} {p} header kind written =
-      let steps = ap last_step at.path_is ∙ last_is at.path in
+      let steps = ap last_step at.path_is ∙ last_step-path_of at.path in
       let (h, cs, found) = inner_found by at kind in
       let own : IsIn (inner_name p) (names_of at.node) = subst (λ t. IsIn (inner_name p) (names_of t)) (sym found) (inl refl) in
       subst (HasChild after) (sym steps) (go at.path (subst (HasChild s.inners) steps (end_parent by at))

@@ -11,7 +11,7 @@ use Rattle.art_nodes.specs.declared.node.LeafPtr.{LeafPtr}
 use Rattle.art_nodes.specs.declared.node.InnerPtr.{InnerPtr}
 use Rattle.art_nodes.specs.declared.node.OpaqueNodePtr.{OpaqueNodePtr}
 use Rattle.art_nodes.specs.declared.node.LeafNode.{LeafNode}
-use Rattle.art_model.specs.Keys.{IsFront, are_related}
+use Rattle.art_model.specs.Keys.{IsFront, are_related, common_front}
 use Rattle.art_model.specs.Pairs.{is_conflict}
 use Rattle.art_model.specs.Trees.{Tree, leaf, inner, Children, child, no_child, header_of}
 use Rattle.art_model.specs.Radix.{IsRadix, AreRadix, bytes_of, pairs_of, pairs_below}
@@ -20,7 +20,8 @@ use Rattle.art_model.specs.Stores.{node_at, header_at, pair_of}
 use Rattle.art_model.specs.Paths.{Frame, plug, fill, names_before, names_after}
 use Rattle.art_model.specs.Places.{places, depth_of, prefix_of, IsEndNode}
 use Rattle.art_model.specs.Canonical.{IsTree}
-use Rattle.art_model.proofs.Lists.{Each-append, Each-weaker, common_front_right, front_trans, after_front}
+use Rattle.art_model.proofs.Fronts.{ArePart, front_right, part_where}
+use Rattle.art_model.proofs.Lists.{Each-append, Each-weaker, common_front_right, front_trans, after_front, common_front-append}
 use Rattle.art_model.proofs.Keys.{front_related}
 use Rattle.art_model.proofs.Canonical.{tree_radix}
 use Rattle.art_model.proofs.Pairwises.{Pairwise-left, Pairwise-right}
@@ -39,7 +40,7 @@ use Rattle.art_operations.specs.declared.path.TreePath.{TreePath}
 use Rattle.art_operations.specs.declared.path.TreePath.TheVariants.{Root}
 use Rattle.art_operations.specs.Matching.{shared_len}
 use Rattle.art_operations.specs.Points.{IsAt, step_down, AnswersTo, IsPointFor, IsKindFor, IsKindAtLeaf, IsKindOf, IsCompared, IsMismatch, IsPart}
-use Rattle.art_operations.proofs.Partings.{ArePart, part_where, parted_unrelated, unrelated_after, front_right, conflict-related, no_conflict, first_conflict, same_conflict}
+use Rattle.art_operations.proofs.Partings.{parted_unrelated, unrelated_after, conflict-related, no_conflict, first_conflict, same_conflict}
 
 -- as much of the key was used as it has
 module _ {A : Type 0} (bytes : A → List ℕ) (P : ℕ) (key : List ℕ) (node : Tree OpaqueNodePtr A) {depth : ℕ} (short : depth ≤ length key) where
@@ -275,7 +276,7 @@ module _ {K V : Type 0} {s : Nodes K V} {bytes : K × V → List ℕ} {P : ℕ} 
               let k = ap length key_is in
               let n = d.depth_is in
               let a = part_where radix.0 (drop depth key) (omega arith) (omega (arith, simp length-append at k)) in
-              record { front = d.place ++ a.front; x = a.x; y = a.y; r = a.r; s = a.s; a_is = ap (λ l. d.place ++ l) a.a_is ∙ sym (append_assoc d.place a.front (a.x ∷ a.r)); b_is = key_is ∙ ap (λ l. d.place ++ l) a.b_is ∙ sym (append_assoc d.place a.front (a.y ∷ a.s)); differ = a.differ }
+              record { front = d.place ++ a.front; is_shared = ap (λ l. d.place ++ l) a.is_shared ∙ sym (ap (common_front front) key_is ∙ common_front-append d.place radix.0 (drop depth key)); x = a.x; y = a.y; r = a.r; s = a.s; a_is = ap (λ l. d.place ++ l) a.a_is ∙ sym (append_assoc d.place a.front (a.x ∷ a.r)); b_is = key_is ∙ ap (λ l. d.place ++ l) a.b_is ∙ sym (append_assoc d.place a.front (a.y ∷ a.s)); differ = a.differ }
 
           unrelated_below : Each (λ x. are_related key (bytes x) ≡ false) (pairs_below at.children)
           unrelated_below =

@@ -1,13 +1,12 @@
 -- A store with the same nodes under the same names, as it is once memory is reserved.
-use Rattle.std.proofs.Common.{◌≡◌, ℕ, List, sym, ◌∙◌, subst}
+use Rattle.std.proofs.Common.{◌≡◌, ℕ, List, ap₂, sym, ◌∙◌, subst}
 use Rattle.art_nodes.specs.Nodes.{Nodes}
 use Rattle.art_nodes.specs.declared.node.OpaqueNodePtr.{OpaqueNodePtr}
 use Rattle.art_model.specs.Canonical.{IsTree}
-use Rattle.art_model.specs.Stores.{node_at, links_at}
+use Rattle.art_model.specs.Stores.{held}
 use Rattle.art_model.specs.Trees.{Tree}
-use Rattle.art_model.specs.Writes.{Leaves, Inners}
-use Rattle.art_model.proofs.Canonical.{IsLaidOut, laid_out, canonical_from}
 use Rattle.art_model.proofs.StoreLaws.{has_one_map}
+use Rattle.art_operations.proofs.Elsewhere as elsewhere
 use Rattle.art_operations.specs.Inserted.{IsPointIn}
 use Rattle.art_operations.specs.Points.{AnswersTo}
 use Rattle.art_operations.specs.Steps.{SameNodes}
@@ -16,9 +15,7 @@ use Rattle.art_operations.specs.declared.insert.InsertPoint.{InsertPoint}
 module _ {K V : Type 0} {bytes : K × V → List ℕ} {P : ℕ} {s : Nodes K V} where
   -- a canonical root stays one
   pub tree_stays : {mid : Nodes K V} {root : OpaqueNodePtr} {pairs : List (K × V)} {layout : Tree OpaqueNodePtr (K × V)} → SameNodes s mid → IsTree bytes P s root pairs layout → IsTree bytes P mid root pairs layout
-  tree_stays {mid} {root} {pairs} {layout} same by =
-      let At : Leaves K V → Inners → Type 0 = λ leaves inners. let z : Nodes K V = record s { leaves = leaves; inners = inners } in IsLaidOut bytes P (node_at z) (links_at z) root pairs layout in
-      canonical_from (subst (λ leaves. At leaves mid.inners) (sym same.0) (subst (λ inners. At s.leaves inners) (sym same.1) (laid_out by)))
+  tree_stays {mid} same by = elsewhere.tree_stays by (λ k used. ap₂ (λ leaves inners. held (record mid { leaves = leaves; inners = inners }) k) same.0 same.1)
 
   -- the point answers to each layout of its root
   pub answers_to : {key : List ℕ} {point : InsertPoint} {pairs : List (K × V)} {layout : Tree OpaqueNodePtr (K × V)} → IsPointIn bytes P s key point → IsTree bytes P s point.root pairs layout → AnswersTo bytes P layout key point

@@ -35,7 +35,8 @@ use Rattle.art_operations.specs.declared.insert.InsertPrefixError.{InsertPrefixE
 use Rattle.art_operations.specs.declared.run.Command.{Command}
 use Rattle.art_operations.specs.declared.run.Command.TheVariants.{Insert, Delete, DeleteMin, DeleteMax, Contains, LongestMatch}
 use Rattle.art_operations.specs.declared.run.Reply.TheVariants.{Inserted, Conflict, Deleted, NoMemory}
-use Rattle.art_operations.proofs.Moves.{Layout, StepFrom, has_tree, same_tree, own_pairs, nothing, in_first}
+use Rattle.art_operations.proofs.Standing.{tree_stays}
+use Rattle.art_operations.proofs.Moves.{Layout, StepFrom, has_tree, own_pairs, nothing, in_first}
 use Rattle.art_operations.proofs.Found.{conflict_new}
 use Rattle.art_operations.proofs.Needed.{needs_inserted, needs_deleted}
 
@@ -144,7 +145,7 @@ module _ {K V : Type 0} (bytes : K → List ℕ) (P : ℕ) {s : Nodes K V} {root
       record {
         answers = (free_key k v point at left is.uncovered, ap Some handed, refl);
         refuses = inr (λ promised. is.uncovered (ap (λ placed. is_covered placed s.promise) (needs_inserted bytes P by k v point at left) ∙ promised));
-        sound = own_pairs bytes P (same_tree bytes P is.same by);
+        sound = own_pairs bytes P (tree_stays is.same by);
         changes = nothing z (Some layout) is.same;
         promises = rw free (inr is.void);
       },
@@ -202,7 +203,7 @@ module _ {K V : Type 0} (bytes : K → List ℕ) (P : ℕ) {s : Nodes K V} {root
       record {
         answers = answers c takes;
         refuses = refuses c takes (λ promised. is.uncovered (ap (λ placed. is_covered placed s.promise) (needs_deleted bytes P by c x point leads takes) ∙ promised));
-        sound = own_pairs bytes P (same_tree bytes P is.same by);
+        sound = own_pairs bytes P (tree_stays is.same by);
         changes = nothing z (Some layout) is.same;
         promises = promises c takes is.void;
       },

@@ -16,6 +16,7 @@ use Rattle.art_model.specs.Places.{depth_of, prefix_of, IsEndNode}
 use Rattle.art_model.specs.Radix.{IsRadix}
 use Rattle.art_model.specs.Stores.{node_at}
 use Rattle.art_model.specs.Trees.{Tree, leaf, inner, Children, Header}
+use Rattle.art_model.specs.Writes.{as_inner}
 use Rattle.art_operations.specs.declared.insert.InsertKind.{InsertKind}
 use Rattle.art_operations.specs.declared.insert.InsertKind.TheVariants.{MismatchPrefix, SplitLeaf, Exact, IntoExisting}
 use Rattle.art_operations.specs.declared.insert.InsertPoint.{InsertPoint}
@@ -35,10 +36,6 @@ abbrev pub step_down : TreePath → InnerPtr → ℕ → TreePath
 step_down Root node byte = ChildOfRoot node byte
 step_down (ChildOfRoot parent b) node byte = Normal parent b node byte
 step_down (Normal grandparent c parent b) node byte = Normal parent b node byte
-
--- the name of a node that is inner
-abbrev pub as_inner : OpaqueNodePtr → InnerPtr
-as_inner n = record { kind = n.kind; slot = n.slot }
 
 -- the last steps of a path: the parent and the grandparent, with the bytes that lead down
 abbrev pub path_of : {A : Type 0} → List (Frame OpaqueNodePtr A) → TreePath

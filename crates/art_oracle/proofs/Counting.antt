@@ -1,10 +1,8 @@
 -- how many groups sorted leaves make, counted from leaf to leaf
-use Rattle.std.proofs.Common.{◌≡◌, ◌≢◌, ℕ, suc, ◌+◌, ◌<◌, ◌≤◌, List, [], ◌∷◌, ◌++◌, length, drop, get_or, refl, ap, sym, ◌∙◌, arith, true, false, Bool, cond, eqb, eq-eqb, subst, Option, Some, None, IsSome}
+use Rattle.std.proofs.Common.{◌≡◌, ℕ, suc, ◌+◌, ◌<◌, ◌≤◌, List, [], ◌∷◌, ◌++◌, length, drop, get_or, refl, ap, ◌∙◌, arith, true, false, Bool, cond, eqb, subst, Option, Some, None, IsSome}
 use Rattle.std.specs.List.{AllByRecursion as Each, All}
 use Rattle.std.specs.FinMap as finite
-use Rattle.std.proofs.lemmas.Bool.{ne_eqb}
 use Rattle.std.proofs.lemmas.List.Elements.{All-tail}
-use Rattle.std.proofs.Math.Seq.{drop-cons}
 use Rattle.art_nodes.specs.Nodes.{leaf_cmp}
 use Rattle.art_nodes.specs.declared.node.LeafPtr.{LeafPtr}
 use Rattle.art_nodes.specs.declared.node.LeafNode.{LeafNode}
@@ -109,19 +107,3 @@ module _ {K V : Type 0} (bytes : K → List ℕ) (store : finite.FinMap leaf_cmp
         byte = small;
         rises = rises_from p ps ready.there (subst (λ n. IsSortedAt (byte_at (of_key bytes) n) (pairs_at store (p ∷ ps))) ready.depth_is (sorted_at (of_key bytes) front (pairs_at store (p ∷ ps)) ready.map ready.ways));
       }
-
-  module _ (leaves : List LeafPtr) (n last count byte : ℕ) (d : LeafPtr) (within : n < length leaves) (is : byte ≡ leaf_byte (get_or leaves n d)) (small : byte < 256) (so_far : IsCount leaves n last count) where
-    next_is : drop n leaves ≡ get_or leaves n d ∷ drop (suc n) leaves
-    next_is = drop-cons leaves n d within
-
-    rest : count + (cond (eqb last byte) 0 1 + changes byte (drop (suc n) leaves)) ≡ count_groups bytes store leaves at
-    rest = subst (λ b. count + (cond (eqb last b) 0 1 + changes b (drop (suc n) leaves)) ≡ count_groups bytes store leaves at) (sym is) (subst (λ l. count + changes last l ≡ count_groups bytes store leaves at) next_is so_far.whole)
-
-    up : (last ≤ byte) × Rises byte (drop (suc n) leaves)
-    up = subst (λ b. (last ≤ b) × Rises b (drop (suc n) leaves)) (sym is) (subst (Rises last) next_is so_far.rises)
-
-    pub count_same : byte ≡ last → IsCount leaves (suc n) byte count
-    count_same e = let r = rw (eq-eqb last byte (sym e)) at rest in record { whole = omega (arith, r); low = omega (arith, so_far.low); byte = small; rises = up.1 }
-
-    pub count_next : byte ≢ last → IsCount leaves (suc n) byte (count + 1)
-    count_next e = let r = rw (ne_eqb last byte (λ f. e (sym f))) at rest in let l : last ≤ byte = up.0 in record { whole = omega (arith, r); low = omega (arith, so_far.low, l, e); byte = small; rises = up.1 }

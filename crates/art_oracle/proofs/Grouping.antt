@@ -19,7 +19,7 @@ use Rattle.art_model.specs.Trees.{child, no_child, byte_at, groups, add_to_group
 use Rattle.art_model.specs.Layouts.{slots_of, names_of, inner_names, inner_names_below}
 use Rattle.art_model.specs.Stores.{node_at, held, IsUsed}
 use Rattle.art_model.specs.Footprints.{IsIn}
-use Rattle.art_model.proofs.Lists.{Each-append, Each-left, Each-right, Each-weaker}
+use Rattle.art_model.proofs.Lists.{Each-append, Each-left, Each-right, Each-weaker, each_map}
 use Rattle.art_model.proofs.Keys.{IsMap-left, IsMap-right}
 use Rattle.art_model.proofs.Groups.{groups-block, StartsApart}
 use Rattle.art_model.proofs.Build.{IsSortedAt, with_byte, sorted_at}
@@ -27,7 +27,7 @@ use Rattle.art_model.proofs.Lists.{in_left, in_right}
 use Rattle.art_model.proofs.Pairwises.{Pairwise-append}
 use Rattle.art_oracle.specs.Build.{pairs_at, leaf_pair, leaf_key, Ready, ReadyBelow, Built, BuiltBelow, IsGroup, AreBelow, GoesOn, count_groups, KeepsOthers}
 use Rattle.art_oracle.specs.Built.{KeepsNodes}
-use Rattle.art_oracle.proofs.Kept.{node_used, was_free, inner_used, names_each, each_map}
+use Rattle.art_oracle.proofs.Kept.{node_used, was_free, inner_used, names_each}
 use Rattle.art_oracle.proofs.Written.{inner_is_used, free_written, used_written, held_still}
 
 pub map-append : {A B : Type 0} (f : A → B) (xs ys : List A) → map f (xs ++ ys) ≡ map f xs ++ map f ys

@@ -1,5 +1,5 @@
 -- what a store that keeps its nodes keeps, and what holds of each name of a layout
-use Rattle.std.proofs.Common.{map, ◌≡◌, ◌≢◌, ℕ, List, [], ◌∷◌, refl, ap, ap₂, sym, ◌∙◌, Bool, true, false, eqb, eqb-true, ◌⊎◌, inl, inr, Option, Some, None}
+use Rattle.std.proofs.Common.{◌≡◌, ◌≢◌, ℕ, List, [], ◌∷◌, refl, ap, ap₂, sym, ◌∙◌, Bool, true, false, eqb, eqb-true, ◌⊎◌, inl, inr, Option, Some, None}
 use Rattle.std.proofs.lemmas.Bool.{eqb-false}
 use Rattle.std.specs.Option.{option_map}
 use Rattle.std.specs.List.{AllByRecursion as Each}
@@ -65,7 +65,3 @@ module _ {N A : Type 0} where
     names_each_below Q (child b t cs) l i = Each-append Q (names_of t) (names_below cs)
         (names_each Q t (Each-left Q (leaf_names t) (leaf_names_below cs) l) (Each-left Q (inner_names t) (inner_names_below cs) i))
         (names_each_below Q cs (Each-right Q (leaf_names t) (leaf_names_below cs) l) (Each-right Q (inner_names t) (inner_names_below cs) i))
-
-pub each_map : {X Y : Type 0} (f : X → Y) (Q : Y → Type 0) (xs : List X) → Each (λ x. Q (f x)) xs → Each Q (map f xs)
-each_map f Q [] h = tt
-each_map f Q (x ∷ xs) h = (h.0, each_map f Q xs h.1)

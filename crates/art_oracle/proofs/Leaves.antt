@@ -1,11 +1,10 @@
 -- the leaves of a map: placed in order, and linked
-use Rattle.std.proofs.Common.{◌≡◌, ◌≢◌, ℕ, zero, suc, ◌+◌, ◌<◌, List, [], ◌∷◌, ◌++◌, length, take, drop, get_or, map, refl, ap, ap₂, sym, ◌∙◌, add-one, true, false, Bool, eqb, eqb-true, ◌⊎◌, inl, inr, subst, Option, Some, None, IsSome, slice_get, Bor}
+use Rattle.std.proofs.Common.{◌≡◌, ◌≢◌, ℕ, zero, suc, ◌+◌, ◌<◌, List, [], ◌∷◌, ◌++◌, length, take, drop, get_or, map, refl, ap, ap₂, sym, ◌∙◌, add-one, ◌⊎◌, inl, inr, subst, Option, Some, None, IsSome, slice_get, Bor}
 use Rattle.std.specs.Option.{option_map, option_and_then, option_copied}
 use Rattle.std.specs.Slice.{IsItemAt}
 use Rattle.std.proofs.lemmas.Option.{slice_get_past, slice_get-get_or}
 use Rattle.std.specs.List.{AllByRecursion as Each, All}
 use Rattle.std.specs.FinMap as finite
-use Rattle.std.proofs.lemmas.Bool.{eqb-false}
 use Rattle.std.proofs.lemmas.List.{take-append-drop}
 use Rattle.std.proofs.lemmas.List.Elements.{All-cons, All-nil}
 use Rattle.std.proofs.Math.Seq.{drop-cons, take-suc}
@@ -19,24 +18,18 @@ use Rattle.art_nodes.proofs.StoreLaws.{leaf_here, leaf_elsewhere, leaf_changed_a
 use Rattle.art_model.specs.Layouts.{Links, AreDistinct, AreLinked, first_or, last_or}
 use Rattle.art_model.specs.Stores.{links_at, links_of, held_leaf, pair_of}
 use Rattle.art_model.specs.Footprints.{IsIn}
-use Rattle.art_model.proofs.Lists.{Each-append, Each-weaker}
+use Rattle.art_model.proofs.Leaves.{same_leaf}
+use Rattle.art_model.proofs.Lists.{Each-append, Each-weaker, each_map}
 use Rattle.art_model.proofs.Links.{linked-append, linked-frame, last_or-push}
 use Rattle.art_model.proofs.Pairwises.{Pairwise-append, Pairwise-before}
 use Rattle.art_model.proofs.Lists.{in_left, in_right, each_in}
 use Rattle.art_oracle.specs.Build.{pairs_at, leaf_pair, IsPlaced, KeepsPairs}
 use Rattle.art_oracle.proofs.Grouping.{pairs_at-append, map-append}
-use Rattle.art_oracle.proofs.Kept.{each_map}
+use Rattle.art_oracle.proofs.Kept.{both}
 
 pub all_from : {X : Type 0} (P : X → Type 0) (xs : List X) → Each P xs → All P xs
 all_from P [] h = All-nil P
 all_from P (x ∷ xs) h = All-cons P x xs h.0 (all_from P xs h.1)
-
-pub leaf_cases : (p q : LeafPtr) → (p ≡ q) ⊎ (p ≢ q)
-leaf_cases p q = go (eqb p.slot q.slot) refl
-  where
-    go : (t : Bool) → eqb p.slot q.slot ≡ t → (p ≡ q) ⊎ (p ≢ q)
-    go true e = inl (ap (λ n. let r : LeafPtr = record { slot = n } in r) (eqb-true p.slot q.slot e))
-    go false e = inr (λ same. absurd (eqb-false p.slot q.slot e (ap (λ r. r.slot) same)))
 
 next_name : (ps : List LeafPtr) (n : ℕ) → option_map leaf_name (slice_get ps n) ≡ first_or (map leaf_name (drop n ps)) None
 next_name [] zero = refl
@@ -75,9 +68,6 @@ module _ {K V : Type 0} where
       go None f s = absurd cc
       go (Some x) f s = absurd (let g = ap (finite.get m) e ∙ free in cc)
 
-  pub placed_none : (old : finite.FinMap leaf_cmp (LeafNode K V)) → IsPlaced old old [] []
-  placed_none old = record { there = tt; its = refl; distinct = tt; fresh = tt; others = λ p. inr refl }
-
   -- one leaf more
   module _ (old mid : finite.FinMap leaf_cmp (LeafNode K V)) (names : List LeafPtr) (pairs : List (K × V)) (so_far : IsPlaced old mid names pairs) (q : LeafPtr) (leaf : LeafNode K V) (free : finite.get mid q ≡ None) where
     abbrev new : finite.FinMap leaf_cmp (LeafNode K V)
@@ -96,20 +86,16 @@ module _ {K V : Type 0} where
     pub placed_more : IsPlaced old new (names ++ q ∷ []) (pairs ++ pair_of leaf ∷ [])
     placed_more = record {
       there = Each-append (λ p. IsSome (finite.get new p)) names (q ∷ [])
-          (Each-weaker (λ p. IsSome (finite.get mid p) × (p ≢ q)) (λ p. IsSome (finite.get new p)) (λ p h. rw (leaf_elsewhere mid q p leaf h.1) h.0) names (both names so_far.there apart))
+          (Each-weaker (λ p. IsSome (finite.get mid p) × (p ≢ q)) (λ p. IsSome (finite.get new p)) (λ p h. rw (leaf_elsewhere mid q p leaf h.1) h.0) names (both (λ p. IsSome (finite.get mid p)) (λ p. p ≢ q) names so_far.there apart))
           (here_some, tt);
       its = pairs_at-append new names (q ∷ []) ∙ ap₂ (λ (a b : List (K × V)). a ++ b)
           (pairs_at-same mid new names (Each-weaker (λ p. p ≢ q) (λ p. option_map pair_of (finite.get new p) ≡ option_map pair_of (finite.get mid p)) (λ p n. ap (option_map pair_of) (leaf_elsewhere mid q p leaf n)) names apart) ∙ so_far.its)
           (ap (λ o. leaf_pair o ++ []) (leaf_here mid q leaf));
       distinct = Pairwise-append ◌≢◌ names (q ∷ []) so_far.distinct (tt, tt) (Each-weaker (λ p. p ≢ q) (λ p. Each (λ r. p ≢ r) (q ∷ [])) (λ p n. (n, tt)) names apart);
       fresh = Each-append (λ p. finite.get old p ≡ None) names (q ∷ []) so_far.fresh (was_free (so_far.others q), tt);
-      others = λ p. by_name p (leaf_cases p q);
+      others = λ p. by_name p (same_leaf p q);
     }
       where
-        both : (ps : List LeafPtr) → Each (λ p. IsSome (finite.get mid p)) ps → Each (λ p. p ≢ q) ps → Each (λ p. IsSome (finite.get mid p) × (p ≢ q)) ps
-        both [] h k = tt
-        both (p ∷ ps) h k = ((h.0, k.0), both ps h.1 k.1)
-
         from_old : (p : LeafPtr) → p ≢ q → IsIn p names ⊎ (finite.get mid p ≡ finite.get old p) → IsIn p (names ++ q ∷ []) ⊎ (finite.get new p ≡ finite.get old p)
         from_old p n (inl i) = inl (in_left p names (q ∷ []) i)
         from_old p n (inr e) = inr (leaf_elsewhere mid q p leaf n ∙ e)
@@ -125,9 +111,6 @@ pub record IsLinkedTo {K V : Type 0} (old new : Nodes K V) (names : List LeafPtr
   pub keeps : KeepsPairs old.leaves new.leaves names
 
 module _ {K V : Type 0} where
-  pub linked_none : (s : Nodes K V) (names : List LeafPtr) → IsLinkedTo s s names 0 None
-  linked_none s names = record { previous_is = refl; linked = tt; keeps = record { its = λ p. refl; others = λ p. inr refl } }
-
   -- the links of a leaf that is there, or none
   abbrev links_in : finite.FinMap leaf_cmp (LeafNode K V) → LeafPtr → Option (Links OpaqueNodePtr)
   links_in m p = option_and_then links_of (option_map held_leaf (finite.get m p))
@@ -187,7 +170,7 @@ module _ {K V : Type 0} where
       previous_is = sym (last_or-push (map leaf_name (take i names)) (leaf_name q) None) ∙ ap (λ l. last_or l None) (sym named);
       linked = subst (λ l. AreLinked (links_at new) None l (first_or (map leaf_name (drop (suc i) names)) None)) (sym named)
           (linked-append (links_at new) (map leaf_name (take i names)) (leaf_name q ∷ []) None (first_or (map leaf_name (drop (suc i) names)) None) front_linked (q_linked, tt));
-      keeps = record { its = λ p. pairs p (leaf_cases p q); others = λ p. by_name p (leaf_cases p q) };
+      keeps = record { its = λ p. pairs p (same_leaf p q); others = λ p. by_name p (same_leaf p q) };
     })
       where
         named : map leaf_name (take (suc i) names) ≡ map leaf_name (take i names) ++ leaf_name q ∷ []

@@ -33,7 +33,8 @@ use Rattle.art_oracle.specs.Built.{KeepsNodes}
 use Rattle.art_oracle.proofs.Kept.{name_cases, was_free}
 use Rattle.art_oracle.proofs.Written.{inner_is_used}
 use Rattle.art_oracle.proofs.Counting.{length_added}
-use Rattle.art_oracle.proofs.SharedParts.{common_between, common_fits, parts, Parts}
+use Rattle.art_oracle.proofs.SharedParts.{common_between, common_fits}
+use Rattle.art_model.proofs.Fronts.{ArePart, unrelated_part}
 
 before-append : (p a b : List ℕ) → is_before (p ++ a) (p ++ b) ≡ is_before a b
 before-append p a b = ap is_lt (cmp-append p a b)
@@ -76,8 +77,8 @@ module _ {A : Type 0} (bytes : A → List ℕ) where
       go (z ∷ zs) w b a = (one z w.0 b.0 a.0, go zs w.1 b.1 a.1)
 
   -- the first and the last part after it
-  pub part_ways : (way rf rl : List ℕ) (x y : A) (ys : List A) → IsMap bytes (x ∷ y ∷ ys) → bytes x ≡ way ++ rf → bytes (last_from y ys) ≡ way ++ rl → Parts rf rl
-  part_ways way rf rl x y ys map e f = parts rf rl (precedes_rest way rf rl (rw (e, f) at (last_each (λ z. Precedes (bytes x) (bytes z)) y ys map.0))).1
+  pub part_ways : (way rf rl : List ℕ) (x y : A) (ys : List A) → IsMap bytes (x ∷ y ∷ ys) → bytes x ≡ way ++ rf → bytes (last_from y ys) ≡ way ++ rl → ArePart rf rl
+  part_ways way rf rl x y ys map e f = unrelated_part rf rl (precedes_rest way rf rl (rw (e, f) at (last_each (λ z. Precedes (bytes x) (bytes z)) y ys map.0))).1
 
 -- elements whose first and last have different bytes make two groups
 module _ {A : Type 0} (byte : A → ℕ) where
@@ -272,19 +273,21 @@ module _ {K V : Type 0} (bytes : K → List ℕ) (store : finite.FinMap leaf_cmp
       let first : bytes e.x.0 ≡ way ++ drop depth kf = after way (bytes e.x.0) kf depth ready.depth_is ways'.0 e.first_is in
       let last : bytes (last_from e.y e.ys).0 ≡ way ++ drop depth kl = after way (bytes (last_from e.y e.ys).0) kl depth ready.depth_is (last_each (λ z. IsFront way (of_key bytes z)) e.y e.ys ways'.1) e.last_is in
       let p = part_ways (of_key bytes) way (drop depth kf) (drop depth kl) e.x e.y e.ys map' first last in
+      let low_is : drop depth kf ≡ part_of ++ p.x ∷ p.r = p.a_is ∙ ap (λ z. z ++ p.x ∷ p.r) p.is_shared in
+      let high_is : drop depth kl ≡ part_of ++ p.y ∷ p.s = p.b_is ∙ ap (λ z. z ++ p.y ∷ p.s) p.is_shared in
       let shared = share (of_key bytes) way (drop depth kf) (drop depth kl) e.x (e.y ∷ e.ys) map' ways' first last in
       let on = subst (Each (λ z. GoesOn (way ++ part_of) (of_key bytes z))) (sym e.pairs_are) (go_on (of_key bytes) (way ++ part_of) e.x e.y e.ys map' shared) in
       let at : length (way ++ part_of) ≡ depth + length part_of = length-append way part_of ∙ ap (λ m. m + length part_of) ready.depth_is in
       let lf : length kf ≡ depth + length (drop depth kf) = ap length (sym e.first_is ∙ first) ∙ length-append way (drop depth kf) ∙ ap (λ m. m + length (drop depth kf)) ready.depth_is in
       let ll : length kl ≡ depth + length (drop depth kl) = ap length (sym e.last_is ∙ last) ∙ length-append way (drop depth kl) ∙ ap (λ m. m + length (drop depth kl)) ready.depth_is in
-      let lp : length (drop depth kf) ≡ length part_of + length (p.left ∷ p.left_rest) = ap length p.left_is ∙ length-append part_of (p.left ∷ p.left_rest) in
-      let byte_f : byte_at (of_key bytes) (length (way ++ part_of)) e.x ≡ p.left = at_byte (of_key bytes) (way ++ part_of) e.x p.left p.left_rest (first ∙ ap (λ l. way ++ l) p.left_is ∙ sym (append_assoc way part_of (p.left ∷ p.left_rest))) in
-      let byte_l : byte_at (of_key bytes) (length (way ++ part_of)) (last_from e.y e.ys) ≡ p.right = at_byte (of_key bytes) (way ++ part_of) (last_from e.y e.ys) p.right p.right_rest (last ∙ ap (λ l. way ++ l) p.right_is ∙ sym (append_assoc way part_of (p.right ∷ p.right_rest))) in
+      let lp : length (drop depth kf) ≡ length part_of + length (p.x ∷ p.r) = ap length low_is ∙ length-append part_of (p.x ∷ p.r) in
+      let byte_f : byte_at (of_key bytes) (length (way ++ part_of)) e.x ≡ p.x = at_byte (of_key bytes) (way ++ part_of) e.x p.x p.r (first ∙ ap (λ l. way ++ l) low_is ∙ sym (append_assoc way part_of (p.x ∷ p.r))) in
+      let byte_l : byte_at (of_key bytes) (length (way ++ part_of)) (last_from e.y e.ys) ≡ p.y = at_byte (of_key bytes) (way ++ part_of) (last_from e.y e.ys) p.y p.s (last ∙ ap (λ l. way ++ l) high_is ∙ sym (append_assoc way part_of (p.y ∷ p.s))) in
       record {
         in_first = omega arith;
         in_last = omega arith;
         at_in_first = omega arith;
-        part_is = ap (take (length part_of)) p.left_is ∙ take_at part_of (p.left ∷ p.left_rest) (length part_of) refl;
+        part_is = ap (take (length part_of)) low_is ∙ take_at part_of (p.x ∷ p.r) (length part_of) refl;
         below = record { there = ready.there; longer = subst (λ m. All (λ q. m < length (leaf_key bytes (finite.get store q))) leaves) at (leaves_go_on bytes store (way ++ part_of) leaves ready.there on); map = ready.map; ways = on; depth_is = at };
         differ = λ same. p.differ (sym byte_f ∙ same ∙ byte_l);
       }

@@ -1,5 +1,5 @@
 -- the whole tree: its leaves, then its inner nodes
-use Rattle.std.proofs.Common.{◌≡◌, ◌≢◌, ℕ, List, [], ◌∷◌, ◌++◌, map, refl, ap, sym, ◌∙◌, ◌⊎◌, inl, inr, subst, Option, Some, None, IsSome}
+use Rattle.std.proofs.Common.{◌≡◌, ◌≢◌, ℕ, List, [], ◌∷◌, map, refl, ap, sym, ◌∙◌, ◌⊎◌, inl, inr, subst, Option, Some, None, IsSome}
 use Rattle.std.specs.Option.{option_map, option_and_then}
 use Rattle.std.specs.List.{AllByRecursion as Each}
 use Rattle.std.specs.FinMap as finite
@@ -17,22 +17,17 @@ use Rattle.art_model.specs.Layouts.{names_of, names_below, leaf_names, leaf_name
 use Rattle.art_model.specs.Stores.{node_at, links_at, held, held_in, held_leaf, held_inner, links_of, IsUsed}
 use Rattle.art_model.specs.Canonical.{IsTree}
 use Rattle.art_model.specs.Footprints.{IsIn}
-use Rattle.art_model.proofs.Lists.{Each-left, Each-right, Each-weaker}
+use Rattle.art_model.proofs.Lists.{Each-left, Each-right, Each-weaker, each_map}
+use Rattle.art_model.proofs.Names.{taken_in, takes_inners, takes_leaves}
 use Rattle.art_model.proofs.Pairwises.{Pairwise-across, Pairwise-left, Pairwise-right, Pairwise-append}
-use Rattle.art_model.proofs.Lists.{in_left, in_right, each_in}
+use Rattle.art_model.proofs.Lists.{each_in}
 use Rattle.art_model.proofs.Links.{linked-frame}
 use Rattle.art_model.proofs.Canonical.{canonical_from}
 use Rattle.art_model.proofs.StoreLaws.{has_one_layout}
 use Rattle.art_oracle.specs.Build.{pairs_at, Ready, Built, IsPlaced, KeepsPairs}
 use Rattle.art_oracle.specs.Built.{KeepsNodes, AddsTree, IsInTree}
-use Rattle.art_oracle.proofs.Kept.{keeps-trans, was_free, both, names_each, names_each_below, each_map}
+use Rattle.art_oracle.proofs.Kept.{keeps-trans, was_free, both, names_each, names_each_below}
 use Rattle.art_oracle.proofs.Leaves.{all_from, placed_kept}
-
--- a name in two lists joined, where each is within another
-in_both : {N : Type 0} (n : N) (xs ys us vs : List N) → (IsIn n xs → IsIn n us) → (IsIn n ys → IsIn n vs) → IsIn n (xs ++ ys) → IsIn n (us ++ vs)
-in_both n [] ys us vs f g i = in_right n us vs (g i)
-in_both n (x ∷ xs) ys us vs f g (inl e) = in_left n us vs (f (inl e))
-in_both n (x ∷ xs) ys us vs f g (inr i) = in_both n xs ys us vs (λ j. f (inr j)) g i
 
 -- leaves and inner nodes have different names
 module _ {N A : Type 0} (L M : N → Type 0) (apart : (x y : N) → L x → M y → x ≢ y) where
@@ -56,26 +51,6 @@ module _ {N A : Type 0} (L M : N → Type 0) (apart : (x y : N) → L x → M y 
         (both (λ x. Each (λ y. x ≢ y) (leaf_names_below cs)) L (leaf_names t) (Pairwise-across ◌≢◌ (leaf_names t) (leaf_names_below cs) dl) ll))
         (Each-weaker (λ x. Each (λ y. x ≢ y) (inner_names_below cs) × M x) (λ x. Each (λ y. x ≢ y) (names_below cs)) (λ x (d, mx). names_each_below (λ y. x ≢ y) cs (Each-weaker L (λ y. x ≢ y) (λ y ly e. apart y x ly mx (sym e)) (leaf_names_below cs) lr) d) (inner_names t)
         (both (λ x. Each (λ y. x ≢ y) (inner_names_below cs)) M (inner_names t) (Pairwise-across ◌≢◌ (inner_names t) (inner_names_below cs) di) ml)))
-
-module _ {N A : Type 0} (n : N) where
-  mutual
-    leaf_in : (t : Tree N A) → IsIn n (leaf_names t) → IsIn n (names_of t)
-    leaf_in (leaf m x) i = i
-    leaf_in (inner m h cs) i = inr (leaf_in_below cs i)
-
-    leaf_in_below : (cs : Children N A) → IsIn n (leaf_names_below cs) → IsIn n (names_below cs)
-    leaf_in_below no_child i = i
-    leaf_in_below (child b t cs) i = in_both n (leaf_names t) (leaf_names_below cs) (names_of t) (names_below cs) (leaf_in t) (leaf_in_below cs) i
-
-  mutual
-    inner_in : (t : Tree N A) → IsIn n (inner_names t) → IsIn n (names_of t)
-    inner_in (leaf m x) i = absurd i
-    inner_in (inner m h cs) (inl e) = inl e
-    inner_in (inner m h cs) (inr i) = inr (inner_in_below cs i)
-
-    inner_in_below : (cs : Children N A) → IsIn n (inner_names_below cs) → IsIn n (names_below cs)
-    inner_in_below no_child i = i
-    inner_in_below (child b t cs) i = in_both n (inner_names t) (inner_names_below cs) (names_of t) (names_below cs) (inner_in t) (inner_in_below cs) i
 
 -- the leaves of a map, placed and linked
 pub record HasLeaves {K V : Type 0} (old new : Nodes K V) (names : List LeafPtr) (pairs : List (K × V)) : Type 0 where
@@ -178,11 +153,11 @@ module _ {K V : Type 0} {bytes : K → List ℕ} {P : ℕ} {old mid new : Nodes 
     where
       in_leaves : IsUsed old name ⊎ IsIn name (map leaf_name names) → IsUsed old name ⊎ IsInTree (of_key bytes) P new (Some root) pairs name
       in_leaves (inl u) = inl u
-      in_leaves (inr i) = inr (b.tree, whole_tree, leaf_in name b.tree (subst (IsIn name) (sym b.leaves_are) i))
+      in_leaves (inr i) = inr (b.tree, whole_tree, taken_in takes_leaves b.tree name (subst (IsIn name) (sym b.leaves_are) i))
 
       from_mid : IsUsed mid name ⊎ IsIn name (inner_names b.tree) → IsUsed old name ⊎ IsInTree (of_key bytes) P new (Some root) pairs name
       from_mid (inl u) = in_leaves (leaves_added H name u)
-      from_mid (inr i) = inr (b.tree, whole_tree, inner_in name b.tree i)
+      from_mid (inr i) = inr (b.tree, whole_tree, taken_in takes_inners b.tree name i)
 
   pub whole_fresh : (name : OpaqueNodePtr) → IsInTree (of_key bytes) P new (Some root) pairs name → held old name ≡ None
   whole_fresh name (layout, is, i) = each_in (λ n. held old n ≡ None) name (names_of b.tree) free (subst (λ t. IsIn name (names_of t)) (has_one_layout (node_at new) root b.tree layout whole_tree.stands.0 is.stands.0) i)

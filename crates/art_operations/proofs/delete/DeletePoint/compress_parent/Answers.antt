@@ -4,7 +4,8 @@ use Rattle.art_nodes.specs.Kinds.{any_view, ref_view}
 use Rattle.art_model.specs.Writes.{without_leaf}
 use Rattle.art_operations.specs.Inserted.{alone}
 use Rattle.art_operations.specs.Writes.{LinksAreThere}
-use Rattle.art_operations.proofs.Removals.{is_one_of_two, other_left, least_left, own_header, two_ready, beside_ready, beside_found, may_lengthen, lengthened_is, above_ready, two_touches, two_deleted}
+use Rattle.art_operations.proofs.Below.{is_below, leaf_ready}
+use Rattle.art_operations.proofs.Removals.{is_one_of_two, other_left, least_left, own_header, beside_ready, beside_found, may_lengthen, lengthened_is, above_ready, two_touches, two_deleted}
 use Rattle.art_operations.proofs.delete.DeletePoint.compress_parent.Goals as goal
 
 pub min-other_byte-requires : goal.min-other_byte-requires
@@ -44,7 +45,7 @@ pub take_from_between-requires : goal.take_from_between-requires
 take_from_between-requires g c =
     let (pairs, layout, x, by, leads) = c.requires.answers in
     let leaves = c.replace_at.ensures.leaves ∙ c.lengthen_prefix.ensures.leaves ∙ c.free_inner-node.ensures.leaves in
-    (search rules, subst (λ z. IsSome (get z c.args.self.leaf_node_ptr) × LinksAreThere z c.args.self.leaf_node_ptr) (sym leaves) (two_ready (is_one_of_two by leads c.requires.parent c.requires.compressed)))
+    (search rules, subst (λ z. IsSome (get z c.args.self.leaf_node_ptr) × LinksAreThere z c.args.self.leaf_node_ptr) (sym leaves) (leaf_ready (is_below by leads c.requires.parent)))
 
 pub returns-clause-deleted : goal.returns-clause-deleted
 returns-clause-deleted g c pairs layout by x leads =

@@ -1,6 +1,6 @@
 use Rattle.std.proofs.Common.{rules, sym, subst}
 use Rattle.art_operations.specs.Writes.{HasChild, last_step}
-use Rattle.art_operations.proofs.Branches.{child_stays}
+use Rattle.art_operations.proofs.Larger.{child_stays}
 use Rattle.art_operations.proofs.insert.InsertPoint.place_branch.Goals as goal
 
 pub replace_at-new_root-requires : goal.replace_at-new_root-requires
