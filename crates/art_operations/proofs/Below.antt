@@ -35,7 +35,7 @@ use Rattle.art_operations.specs.Inserted.{alone}
 use Rattle.art_operations.specs.Points.{path_of}
 use Rattle.art_operations.specs.Writes.{HasChild, LinksAreThere, last_step, root_with, up}
 use Rattle.art_operations.proofs.Deletions.{leaf_at, some_same}
-use Rattle.art_operations.proofs.Ways.{last_step-path_of, last_step-up, root_with-up, root_after_at}
+use Rattle.art_operations.proofs.Ways.{last_step-path_of, last_step-up, root_with-up, root_after_at, root_kept_at}
 
 -- ---- what a parent's change tells of its number of children
 
@@ -218,7 +218,7 @@ module _ {K V : Type 0} {bytes : K × V → List ℕ} {P : ℕ} {s : Nodes K V} 
             canonical = canonical_from (subst (λ r. IsLaidOut bytes P (node_at t) (links_at t) r (remove_key bytes (bytes x) pairs) tree) same
                 (subst (λ y. IsLaidOut bytes P (node_at t) (links_at t) (root_of at.above root at.frame.mark) (remove_key bytes (bytes y) pairs) tree) at.pair (stays_laid_out at.below parent_stays)));
             deleted = pair_alone;
-            root_is = subst (λ path. IsRootAfter path root (Some root)) (sym at.path_is) (subst (λ r. IsRootAfter (path_of (at.frame ∷ at.above)) root (Some r)) same (root_after_at at.frame at.above root at.frame.mark));
+            root_is = subst (λ to. IsRootAfter to point.path root (Some root)) (sym is) (subst (λ path. IsRootAfter keeps path root (Some root)) (sym at.path_is) (root_kept_at at.frame at.above root));
             kept = subst (λ l. ChangesInPlace bytes s t (Some l) (Some tree)) at.whole (stays_in_place at.below parent_stays);
           }
 
@@ -284,7 +284,7 @@ module _ {K V : Type 0} {bytes : K × V → List ℕ} {P : ℕ} {s : Nodes K V} 
                 canonical = canonical_from (subst (λ r. IsLaidOut bytes P (node_at t) (links_at t) r (remove_key bytes (bytes x) pairs) tree) (sym answered)
                     (subst (λ y. IsLaidOut bytes P (node_at t) (links_at t) (root_of at.above root (inner_name q)) (remove_key bytes (bytes y) pairs) tree) at.pair (shrinks_laid_out at.below (parent_shrinks last))));
                 deleted = pair_alone;
-                root_is = subst (λ path. IsRootAfter path root (Some new)) (sym at.path_is) (subst (λ r. IsRootAfter (path_of (at.frame ∷ at.above)) root (Some r)) (sym answered) (root_after_at at.frame at.above root (inner_name q)));
+                root_is = subst (λ change. IsRootAfter change point.path root (Some new)) (sym is) (subst (λ path. IsRootAfter (shrinks to) path root (Some new)) (sym at.path_is) (subst (λ r. IsRootAfter (shrinks to) (path_of (at.frame ∷ at.above)) root (Some r)) (sym answered) (root_after_at at.frame (shrinks to) at.above root (inner_name q) (λ e. absurd cc))));
                 kept = subst (λ l. ChangesInPlace bytes s t (Some l) (Some tree)) at.whole (shrinks_in_place at.below (parent_shrinks last));
               }
 

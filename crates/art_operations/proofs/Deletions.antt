@@ -22,7 +22,7 @@ use Rattle.art_model.proofs.Writes.{node_at-leaf, parent_there}
 use Rattle.art_operations.specs.declared.delete.DeletePoint.{DeletePoint}
 use Rattle.art_operations.specs.declared.delete.DeleteRefused.{DeleteRefused}
 use Rattle.art_operations.specs.declared.delete.DeleteResult.{DeleteResult}
-use Rattle.art_operations.specs.Deleted.{IsDeleted, IsDeletePoint, IsDeletePointIn, IsRootAfter, LeadsTo}
+use Rattle.art_operations.specs.Deleted.{IsDeleted, IsDeletePoint, IsDeletePointIn, IsRootAfter, LeadsTo, parent_change}
 use Rattle.art_operations.specs.Inserted.{alone}
 use Rattle.art_operations.specs.Writes.{last_step}
 use Rattle.art_operations.proofs.Ways.{last_step-path_of}
@@ -92,7 +92,7 @@ module _ {K V : Type 0} (bytes : K → List ℕ) (P : ℕ) (s t : Nodes K V) (ro
       subst (λ o. IfSome o (λ leaf. done.deleted_leaf ≡ alone (pair_of leaf))) (sym here) (d.deleted ∙ ap alone (sym pair)))
 
   -- the root that is answered is the one that the path tells
-  pub root_deleted : IfOk result (λ done. IsRootAfter point.path root done.new_root)
+  pub root_deleted : IfOk result (λ done. IsRootAfter (parent_change s point.path) point.path root done.new_root)
   root_deleted = when_ok result (λ done ok. (deleted_for done ok answers.0 answers.1 answers.3).root_is)
 
   -- and nodes that stay keep their names, whichever way the new root is canonical

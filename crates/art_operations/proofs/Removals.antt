@@ -326,16 +326,16 @@ module _ {K V : Type 0} {bytes : K × V → List ℕ} {P : ℕ} {s : Nodes K V} 
       two_touches told = subst (λ change. TouchesFor change s t) (sym told) (compressed_touches at.below.laid done)
 
       -- the tree without the leaf
-      pub two_deleted : {gone : LeafNode K V} (new_root : OpaqueNodePtr) → IsSomeAnd (get s.leaves point.leaf_node_ptr) (λ leaf. gone ≡ alone (leaf.key, leaf.value)) → new_root ≡ root_with path root other →
+      pub two_deleted : {gone : LeafNode K V} (new_root : OpaqueNodePtr) → parent_change s point.path ≡ is_compressed → IsSomeAnd (get s.leaves point.leaf_node_ptr) (λ leaf. gone ≡ alone (leaf.key, leaf.value)) → new_root ≡ root_with path root other →
           IsDeleted bytes P s t root point x pairs layout (record { new_root = Some new_root; deleted_leaf = gone })
       unfolding done is_compressed_to
-      two_deleted {gone} new_root pair root_is =
+      two_deleted {gone} new_root told pair root_is =
           let same : new_root ≡ paths.root_with at.above root (name_of two.v) = root_is ∙ ap₂ (λ q k. root_with q root k) (path_up ∙ ap up at.path_is) is ∙ root_with-up at.frame at.above root (name_of two.v) in
           let tree = plug at.above (with_prefix P (two.hole.radix.0 ++ two.c ∷ prefix_at bytes P ((two.place ++ two.hole.radix.0) ++ two.c ∷ []) two.v left_radix) two.v) in
           record {
             tree = Some tree;
             canonical = subst (λ r. IsTree bytes P t r (remove_key bytes (bytes x) pairs) tree) (sym same) (subst (λ y. IsTree bytes P t (paths.root_with at.above root (name_of two.v)) (remove_key bytes (bytes y) pairs) tree) at.pair (canonical_from (compressed at.below.laid done)));
             deleted = rw at.here at pair ∙ ap alone at.pair;
-            root_is = subst (λ q. IsRootAfter q root (Some new_root)) (sym at.path_is) (subst (λ r. IsRootAfter (path_of (at.frame ∷ at.above)) root (Some r)) (sym same) (root_after_at at.frame at.above root (name_of two.v)));
+            root_is = subst (λ change. IsRootAfter change point.path root (Some new_root)) (sym told) (subst (λ q. IsRootAfter is_compressed q root (Some new_root)) (sym at.path_is) (subst (λ r. IsRootAfter is_compressed (path_of (at.frame ∷ at.above)) root (Some r)) (sym same) (root_after_at at.frame is_compressed at.above root (name_of two.v) (λ e. absurd cc))));
             kept = subst (λ old. ChangesInPlace bytes s t (Some old) (Some tree)) at.whole (compressed_in_place at.below.laid done);
           }

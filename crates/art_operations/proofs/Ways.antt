@@ -1,10 +1,10 @@
 -- Paths of code and of the model: the last step, the roots that are told, and the same one step up.
-use Rattle.std.proofs.Common.{◌≡◌, ℕ, List, [], ◌∷◌, Some, refl}
+use Rattle.std.proofs.Common.{◌≡◌, ◌≢◌, ℕ, List, [], ◌∷◌, Some, refl}
 use Rattle.art_nodes.specs.declared.node.OpaqueNodePtr.{OpaqueNodePtr}
 use Rattle.art_model.specs.Paths.{Frame}
 use Rattle.art_model.specs.Writes.{as_inner, parent_of}
 use Rattle.art_model.proofs.Paths as paths
-use Rattle.art_operations.specs.Deleted.{IsRootAfter}
+use Rattle.art_operations.specs.Deleted.{IsRootAfter, IsTopAfter, ParentChange, no_parent, keeps, shrinks, is_compressed}
 use Rattle.art_operations.specs.Inserted.{root_after}
 use Rattle.art_operations.specs.Points.{path_of, step_down}
 use Rattle.art_operations.specs.Writes.{last_step, root_with, up}
@@ -63,12 +63,23 @@ module _ {A : Type 0} (f : Frame OpaqueNodePtr A) where
       above (ChildOfRoot parent b) = refl
       above (Normal grandparent c parent b) = refl
 
-  -- and that is the one that a deletion answers
-  pub root_after_at : (fs : List (Frame OpaqueNodePtr A)) (root node : OpaqueNodePtr) → IsRootAfter (path_of (f ∷ fs)) root (Some (paths.root_with fs root node))
-  root_after_at [] root node = (node, refl)
-  root_after_at (g ∷ gs) root node = above (path_of gs)
+  above_root : (change : ParentChange) (g : Frame OpaqueNodePtr A) (root : OpaqueNodePtr) (path : TreePath) → IsRootAfter change (step_down (step_down path (as_inner g.mark) g.byte) (as_inner f.mark) f.byte) root (Some root)
+  above_root change g root Root = refl
+  above_root change g root (ChildOfRoot parent b) = refl
+  above_root change g root (Normal grandparent c parent b) = refl
+
+  -- and that is the one that a deletion answers where the parent gives way
+  pub root_after_at : (change : ParentChange) (fs : List (Frame OpaqueNodePtr A)) (root node : OpaqueNodePtr) → change ≢ keeps → IsRootAfter change (path_of (f ∷ fs)) root (Some (paths.root_with fs root node))
+  root_after_at change [] root node gives_way = top change gives_way
     where
-      above : (path : TreePath) → IsRootAfter (step_down (step_down path (as_inner g.mark) g.byte) (as_inner f.mark) f.byte) root (Some root)
-      above Root = refl
-      above (ChildOfRoot parent b) = refl
-      above (Normal grandparent c parent b) = refl
+      top : (change : ParentChange) → change ≢ keeps → IsTopAfter change root (Some node)
+      top keeps gives_way = absurd (gives_way refl)
+      top no_parent gives_way = (node, refl)
+      top (shrinks to) gives_way = (node, refl)
+      top is_compressed gives_way = (node, refl)
+  root_after_at change (g ∷ gs) root node gives_way = above_root change g root (path_of gs)
+
+  -- where the parent stays it is the old one
+  pub root_kept_at : (fs : List (Frame OpaqueNodePtr A)) (root : OpaqueNodePtr) → IsRootAfter keeps (path_of (f ∷ fs)) root (Some root)
+  root_kept_at [] root = refl
+  root_kept_at (g ∷ gs) root = above_root keeps g root (path_of gs)

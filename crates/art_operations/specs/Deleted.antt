@@ -69,16 +69,21 @@ module _ {K V : Type 0} where
   TouchesFor (shrinks kind) s t = TouchesAtMost 1 2 3 s t
   TouchesFor is_compressed s t = TouchesAtMost 0 2 4 s t
 
+-- the root after a deletion below it: the same where it keeps its kind, and else the node in its place
+abbrev pub IsTopAfter : ParentChange → OpaqueNodePtr → Option OpaqueNodePtr → Type 0
+IsTopAfter keeps root new = new ≡ Some root
+IsTopAfter change root new = (name : OpaqueNodePtr) × (new ≡ Some name)
+
 -- the root after a deletion: none where the leaf was the root, and the old one where the leaf's parent was not the root
-abbrev pub IsRootAfter : TreePath → OpaqueNodePtr → Option OpaqueNodePtr → Type 0
-IsRootAfter Root root new = new ≡ None
-IsRootAfter (ChildOfRoot parent byte) root new = (name : OpaqueNodePtr) × (new ≡ Some name)
-IsRootAfter (Normal grandparent above parent byte) root new = new ≡ Some root
+abbrev pub IsRootAfter : ParentChange → TreePath → OpaqueNodePtr → Option OpaqueNodePtr → Type 0
+IsRootAfter change Root root new = new ≡ None
+IsRootAfter change (ChildOfRoot parent byte) root new = IsTopAfter change root new
+IsRootAfter change (Normal grandparent above parent byte) root new = new ≡ Some root
 
 -- The root is canonical for the pairs without the one of the point; its pair is answered as a leaf alone; the rest stays.
 pub record IsDeleted {K V : Type 0} (bytes : K × V → List ℕ) (P : ℕ) (s t : Nodes K V) (root : OpaqueNodePtr) (point : DeletePoint) (x : K × V) (pairs : List (K × V)) (layout : Tree OpaqueNodePtr (K × V)) (done : DeleteResult K V) : Type 0 where
   pub tree : Option (Tree OpaqueNodePtr (K × V))
   pub canonical : IsRootOf bytes P t done.new_root (remove_key bytes (bytes x) pairs) tree
   pub deleted : done.deleted_leaf ≡ alone x
-  pub root_is : IsRootAfter point.path root done.new_root
+  pub root_is : IsRootAfter (parent_change s point.path) point.path root done.new_root
   pub kept : ChangesInPlace bytes s t (Some layout) tree

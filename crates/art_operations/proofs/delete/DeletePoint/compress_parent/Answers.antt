@@ -56,7 +56,7 @@ returns-clause-deleted g c pairs layout by x leads =
     let leaves = c.replace_at.ensures.leaves ∙ c.lengthen_prefix.ensures.leaves ∙ c.free_inner-node.ensures.leaves in
     two_deleted at c.take_from_between.new.store c.up.result c.min-other_byte.result.1 c.lengthen_prefix.new.store.inners
     (subst (λ z. IsSomeAnd (get z c.args.self.leaf_node_ptr) (λ leaf. c.take_from_between.new.store.leaves ≡ without_leaf z c.args.self.leaf_node_ptr leaf)) leaves c.take_from_between.ensures.leaves)
-    c.up.ensures (ap (λ z. z.1) least) lengthened (c.take_from_between.ensures.inners ∙ c.replace_at.ensures.inners) c.replace_at.result
+    c.up.ensures (ap (λ z. z.1) least) lengthened (c.take_from_between.ensures.inners ∙ c.replace_at.ensures.inners) c.replace_at.result c.requires.compressed
     (subst (λ z. IsSomeAnd (get z c.args.self.leaf_node_ptr) (λ leaf. c.take_from_between.result ≡ alone (leaf.key, leaf.value))) leaves c.take_from_between.ensures.leaf)
     c.replace_at.ensures.root
 
