@@ -2,14 +2,24 @@
 #![tactic(auto)]
 
 #[cfg(test)]
+mod against_oracle;
+#[cfg(test)]
 mod by_hand;
 #[cfg(test)]
+mod by_list;
+#[cfg(test)]
+mod drawn;
+#[cfg(test)]
 mod mixed_calls;
+#[cfg(test)]
+mod numbers;
 #[cfg(test)]
 mod odd_trees;
 #[cfg(test)]
 mod refusals;
 #[cfg(test)]
 mod shapes;
+#[cfg(test)]
+mod side_by_side;
 #[cfg(test)]
 mod trees;

@@ -1,7 +1,8 @@
 //! Mixed calls of a store, each compared with a plain list of names and nodes.
-ghost use Rattle.std.specs.Prelude.{◌<◌, IfSome};
 
 use crate::by_hand::has_place;
+use crate::numbers::Numbers;
+use crate::trees::count_nodes;
 use art_nodes::node::{
     AnyInner, Header, InnerPtr, InnerRef, LeafNode, LeafPtr, NodeType, OpaqueNodePtr,
 };
@@ -17,43 +18,7 @@ const STEPS: usize = 10_000;
 // No name has a slot past this one: there are never so many nodes at a time.
 const LAST_SLOT: usize = 400;
 
-/// Numbers without an evident order. The same seed gives the same numbers.
-#[derive(Drop)]
-struct Numbers {
-    state: u64,
-}
-
 impl Numbers {
-    fn below(&mut self, end: usize) -> usize
-        requires { 0 < end }
-        ensures { result < end }
-    {
-        self.state = self
-            .state
-            .wrapping_mul(6_364_136_223_846_793_005)
-            .wrapping_add(1_442_695_040_888_963_407);
-        (self.state >> 33) as usize % end
-    }
-
-    fn is_heads(&mut self) -> bool {
-        self.below(2) == 0
-    }
-
-    fn byte(&mut self) -> u8 {
-        self.below(256) as u8
-    }
-
-    /// A place in a list of so many, if it has any.
-    fn place_in(&mut self, count: usize) -> Option<usize>
-        ensures { IfSome result (λ at. at < count) }
-    {
-        if count == 0 {
-            None
-        } else {
-            Some(self.below(count))
-        }
-    }
-
     fn inner_kind(&mut self) -> NodeType {
         match self.below(4) {
             0 => NodeType::Node4,
@@ -78,7 +43,7 @@ impl Numbers {
     }
 
     fn pair(&mut self) -> ([u8; 2], u32) {
-        ([self.byte(), self.byte()], self.below(1_000_000) as u32)
+        ([self.byte(), self.byte()], self.value())
     }
 
     /// A prefix: bytes of which the front is stored, and a length.
@@ -312,26 +277,8 @@ impl Trial {
                 assert_inner(rt, node, want);
             }
         }
-        assert_eq!(rt; self.count_nodes(), (self.leaves.len(), self.inners.len()));
-    }
-
-    /// How many leaves and inner nodes the store has.
-    fn count_nodes(&self) -> (usize, usize) {
-        let kinds = [
-            NodeType::Node4,
-            NodeType::Node16,
-            NodeType::Node48,
-            NodeType::Node256,
-        ];
-        let names = (0..=LAST_SLOT).map(LeafPtr::from_slot);
-        let leaves = names.filter(|name| self.store.leaf(*name).is_some());
-        let mut inners = 0usize;
-        for kind in kinds {
-            let names = (0..=LAST_SLOT).map(|slot| InnerPtr { kind, slot });
-            let found = names.filter(|name| self.store.inner(*name).is_some());
-            inners = inners.saturating_add(found.count());
-        }
-        (leaves.count(), inners)
+        let counts = (self.leaves.len(), self.inners.len());
+        assert_eq!(rt; count_nodes(&self.store, LAST_SLOT), counts);
     }
 }
 
@@ -342,7 +289,7 @@ fn mixed_calls_change_what_they_name(rt: HostRuntime) -> Result<(), Fail> {
         store: Store::new(alloc),
         leaves: Vec::new(alloc),
         inners: Vec::new(alloc),
-        numbers: Numbers { state: 1 },
+        numbers: Numbers::new(1),
     };
     for step in 0..STEPS {
         trial.step(&rt, step / 1_000 % 2 == 0)?;

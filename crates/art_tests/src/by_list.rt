@@ -1,0 +1,89 @@
+//! What commands do to a plain sorted list of pairs.
+ghost use Rattle.std.specs.Prelude.{IfOk};
+ghost use Rattle.art_model.specs.Pairs.{IsMap, of_key};
+
+use crate::trees::Key;
+use art_nodes::node::AsBytes;
+use art_operations::insert::InsertPrefixError;
+use art_operations::run::{Command, Reply};
+use art_oracle::pairs::{contains, has_related, insert_at, remove, replace_at, search};
+use std::alloc::{AllocError, Global};
+use std::boxed::BoxedSlice;
+
+/// Carries a command out, and answers as is to be replied to it.
+pub fn answer<K: AsBytes + Drop>(
+    alloc: Global,
+    pairs: &mut Vec<(K, u32)>,
+    command: Command<K, u32>,
+) -> Result<Reply<K, u32>, AllocError>
+    requires { IsMap (of_key K.bytes) pairs.old.items }
+    ensures { IsMap (of_key K.bytes) pairs.new.items }
+{
+    match command {
+        Command::Insert(key, value) => insert(alloc, pairs, key, value),
+        Command::Delete(key) => Ok(Reply::Deleted(remove(pairs, &key))),
+        Command::DeleteMin => delete_listed(alloc, pairs, 0),
+        Command::DeleteMax => delete_listed(alloc, pairs, pairs.len().saturating_sub(1)),
+        Command::Contains(key) => Ok(Reply::Found(contains(pairs, &key))),
+        Command::LongestMatch(key) => Ok(Reply::MatchLen(match_len(pairs, &key))),
+    }
+}
+
+fn insert<K: AsBytes + Drop>(
+    alloc: Global,
+    pairs: &mut Vec<(K, u32)>,
+    key: K,
+    value: u32,
+) -> Result<Reply<K, u32>, AllocError>
+    requires { IsMap (of_key K.bytes) pairs.old.items }
+    ensures { IsMap (of_key K.bytes) pairs.new.items }
+{
+    match search(pairs, key.as_bytes()) {
+        Ok(at) => Ok(Reply::Inserted(Some(replace_at(pairs, at, key, value)))),
+        Err(at) if has_related(pairs, at, key.as_bytes()) => {
+            let byte_repr = BoxedSlice::from_slice(alloc, key.as_bytes())?;
+            Ok(Reply::Conflict(key, value, InsertPrefixError { byte_repr }))
+        }
+        Err(at) => match insert_at(pairs, at, key, value) {
+            Ok(()) => Ok(Reply::Inserted(None)),
+            Err(_) => Err(AllocError),
+        },
+    }
+}
+
+/// Takes out the pair at a place of the list, if there is one.
+fn delete_listed<K: AsBytes + Drop>(
+    alloc: Global,
+    pairs: &mut Vec<(K, u32)>,
+    at: usize,
+) -> Result<Reply<K, u32>, AllocError>
+    requires { IsMap (of_key K.bytes) pairs.old.items }
+    ensures { IsMap (of_key K.bytes) pairs.new.items }
+{
+    let Some((key, _)) = pairs.get(at) else {
+        return Ok(Reply::Deleted(None));
+    };
+    let key = key.as_bytes().to_vec(alloc)?;
+    Ok(Reply::Deleted(remove(pairs, &key)))
+}
+
+/// The length of the stored key that is a front of these bytes.
+fn match_len<K: AsBytes>(pairs: &[(K, u32)], query: &[u8]) -> Option<usize> {
+    for (key, _) in pairs {
+        if query.starts_with(key.as_bytes()) {
+            return Some(key.as_bytes().len());
+        }
+    }
+    None
+}
+
+/// The same pairs once more.
+pub fn copy(alloc: Global, pairs: &[(Key, u32)]) -> Result<Vec<(Key, u32)>, AllocError>
+    ensures { IfOk result (λ copy. IsMap (of_key ⟦<Vec<u8> as AsBytes>⟧.bytes) copy.items) }
+{
+    let mut copy = Vec::new(alloc);
+    for (key, value) in pairs {
+        insert(alloc, &mut copy, key.clone()?, *value)?;
+    }
+    Ok(copy)
+}

@@ -1,0 +1,135 @@
+//! Keys and commands that are drawn.
+
+use crate::numbers::Numbers;
+use crate::trees::Key;
+use art_operations::run::Command;
+use std::alloc::{AllocError, Global};
+
+/// What keys are drawn.
+#[derive(Clone, Copy, PartialEq, Eq, Debug)]
+pub enum KeyShape {
+    /// One byte, any.
+    OneByte,
+    /// Two bytes, the first of 12 and the second of 40.
+    TwoBytes,
+    /// None to five bytes, each of 7: many keys are related.
+    Related,
+    /// Mostly 60 bytes, of which the 20th, the 40th and the last are each of 6 and the others the same in most keys.
+    LongFronts,
+}
+
+impl KeyShape {
+    fn draw(self, alloc: Global, numbers: &mut Numbers) -> Result<Key, AllocError> {
+        match self {
+            KeyShape::OneByte => [numbers.byte()].to_vec(alloc),
+            KeyShape::TwoBytes => [numbers.below(12) as u8, numbers.below(40) as u8].to_vec(alloc),
+            KeyShape::Related => related_key(alloc, numbers),
+            KeyShape::LongFronts => long_key(alloc, numbers),
+        }
+    }
+}
+
+fn related_key(alloc: Global, numbers: &mut Numbers) -> Result<Key, AllocError> {
+    let mut key = Vec::new(alloc);
+    for _ in 0..numbers.below(6) {
+        key.push(numbers.below(7) as u8)?;
+    }
+    Ok(key)
+}
+
+fn long_key(alloc: Global, numbers: &mut Numbers) -> Result<Key, AllocError> {
+    let mut key = Vec::new(alloc);
+    for _ in 0..3 {
+        for _ in 0..19 {
+            key.push(7)?;
+        }
+        key.push(numbers.below(6) as u8)?;
+    }
+    if numbers.below(4) == 0 {
+        if let Some(at) = numbers.place_in(key.len()) {
+            key[at] = 8;
+        }
+    }
+    if numbers.below(20) == 0 {
+        key.truncate(numbers.below(60));
+    }
+    Ok(key)
+}
+
+/// Commands about keys of one shape.
+#[derive(Drop)]
+pub struct Drawer {
+    alloc: Global,
+    shape: KeyShape,
+    numbers: Numbers,
+}
+
+impl Drawer {
+    pub fn new(alloc: Global, shape: KeyShape, seed: u64) -> Self {
+        let numbers = Numbers::new(seed);
+        Drawer {
+            alloc,
+            shape,
+            numbers,
+        }
+    }
+
+    pub fn alloc(&self) -> Global {
+        self.alloc
+    }
+
+    /// A key that is stored, or any where none is.
+    fn known_key(&mut self, pairs: &[(Key, u32)]) -> Result<Key, AllocError> {
+        match self.numbers.place_in(pairs.len()) {
+            Some(at) => pairs[at].0.clone(),
+            None => self.shape.draw(self.alloc, &mut self.numbers),
+        }
+    }
+
+    /// A key that may be stored, or the front of one, or one with a further byte.
+    fn query(&mut self, pairs: &[(Key, u32)]) -> Result<Key, AllocError> {
+        let mut key = if self.numbers.is_heads() {
+            self.known_key(pairs)?
+        } else {
+            self.shape.draw(self.alloc, &mut self.numbers)?
+        };
+        match self.numbers.below(6) {
+            0 => key.push(self.numbers.byte())?,
+            1 => {
+                key.pop();
+            }
+            _ => {}
+        }
+        Ok(key)
+    }
+
+    fn insertion(&mut self, pairs: &[(Key, u32)]) -> Result<Command<Key, u32>, AllocError> {
+        let key = if self.numbers.below(8) == 0 {
+            self.known_key(pairs)?
+        } else {
+            self.shape.draw(self.alloc, &mut self.numbers)?
+        };
+        Ok(Command::Insert(key, self.numbers.value()))
+    }
+
+    /// A command, where these pairs are stored. While they are to become more half of all are insertions, else half are
+    /// deletions that find a pair.
+    pub fn command(
+        &mut self,
+        pairs: &[(Key, u32)],
+        is_growing: bool,
+    ) -> Result<Command<Key, u32>, AllocError> {
+        match self.numbers.below(16) {
+            0 | 1 => Ok(Command::Contains(self.query(pairs)?)),
+            2 | 3 => Ok(Command::LongestMatch(self.query(pairs)?)),
+            4 => Ok(Command::Delete(self.query(pairs)?)),
+            5 => Ok(Command::DeleteMin),
+            6 => Ok(Command::DeleteMax),
+            7 => self.insertion(pairs),
+            _ if is_growing => self.insertion(pairs),
+            8..=11 => Ok(Command::Delete(self.known_key(pairs)?)),
+            12 | 13 => Ok(Command::DeleteMin),
+            _ => Ok(Command::DeleteMax),
+        }
+    }
+}
