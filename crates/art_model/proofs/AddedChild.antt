@@ -70,6 +70,6 @@ pub child_added : {K V : Type 0} {bytes : K × V → List ℕ} {P : ℕ} {s t : 
     IsLaidOut bytes P (node_at s) (links_at s) root pairs (plug fs (inner m h (join l r))) → ChildInserted bytes P (node_at s) (node_at t) (links_at s) (links_at t) fs place m node n h l r b new → Footprint s t placed freed changed →
     ((g : Header) → AreNames (names_of (inner m h (join l r))) (names_of (inner node g (join l (child b (leaf n new) r)))) placed freed []) → ((k : OpaqueNodePtr) → IsIn k changed → IsIn k (names_of (plug fs (inner m h (join l r))))) → ChildAdded bytes P s t root pairs fs m node h l r b n new
 child_added {P = P} {fs = fs} {m = m} {node} {n} {h} {l} {r} {b} {new} {placed} {freed} {changed} old is print names changed_in =
-    let header = header_of P is.hole.radix.0 (suc (length (bytes_of (join l r)))) in
+    let header = header_of P is.gap.hole.radix.0 (suc (length (bytes_of (join l r)))) in
     let whole_names = names_around fs (inner m h (join l r)) (inner node header (join l (child b (leaf n new) r))) placed freed changed (names header) changed_in in
     record { header = header; laid = child_inserted old is; kept = in_place print P whole_names (child_keeps_leaves old is) (child_keeps old is) }

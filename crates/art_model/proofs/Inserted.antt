@@ -21,6 +21,13 @@ use Rattle.art_model.proofs.Canonical.{IsLaidOut}
 use Rattle.art_model.proofs.Regrown.{IsBranch, branch_regrown, children_regrown}
 use Rattle.art_model.proofs.Replaced.{replaced, linked_in_hole}
 
+-- The key goes on from the node in the hole with a byte, and the children stand on both sides of it.
+pub record IsGap {N A : Type 0} (bytes : A → List ℕ) (P : ℕ) (fs : List (Frame N A)) (place : List ℕ) (m : N) (h : Header) (l r : Children N A) (b : ℕ) (key : List ℕ) : Type 0 where
+  pub hole : IsHole bytes P fs place (inner m h (join l r)) key
+  pub front : IsFront ((place ++ hole.radix.0) ++ b ∷ []) key
+  pub low : Each (λ c. c < b) (bytes_of l)
+  pub high : Each (λ c. b < c) (bytes_of r)
+
 module _ {N A : Type 0} (bytes : A → List ℕ) (P : ℕ) (at to : N → Option (Node N A)) (before links : N → Option (Links N)) (fs : List (Frame N A)) (place : List ℕ) where
   -- The tree `t` in the hole became `u`, which stands beside a new leaf below a new node: a leaf is split, or a prefix.
   pub record BranchInserted (t u : Tree N A) (m n : N) (part : List ℕ) (b c : ℕ) (new : A) : Type 0 where
@@ -49,15 +56,12 @@ module _ {N A : Type 0} (bytes : A → List ℕ) (P : ℕ) (at to : N → Option
 
   -- The node in the hole has one child more, a new leaf: it has room, or a larger node takes its place.
   pub record ChildInserted (m node n : N) (h : Header) (l r : Children N A) (b : ℕ) (new : A) : Type 0 where
-    pub hole : IsHole bytes P fs place (inner m h (join l r)) (bytes new)
-    pub front : IsFront ((place ++ hole.radix.0) ++ b ∷ []) (bytes new)
-    pub low : Each (λ c. c < b) (bytes_of l)
-    pub high : Each (λ c. b < c) (bytes_of r)
+    pub gap : IsGap bytes P fs place m h l r b (bytes new)
     pub named : (node ≡ m) ⊎ (at node ≡ None)
     pub same_kind : h.kind ≡ kind_of (suc (length (bytes_of (join l r)))) → m ≡ node
     pub leaf_was_free : at n ≡ None
     pub differ : node ≢ n
-    pub there : to node ≡ Some (inner_node (header_of P hole.radix.0 (suc (length (bytes_of (join l r))))) (slots_of (join l (child b (leaf n new) r))))
+    pub there : to node ≡ Some (inner_node (header_of P gap.hole.radix.0 (suc (length (bytes_of (join l r))))) (slots_of (join l (child b (leaf n new) r))))
     pub new_leaf : to n ≡ Some (leaf_node new)
     pub parent : ParentHas to fs node
     pub same : SameBut at to fs (m ∷ [])
@@ -110,15 +114,15 @@ module _ {N A : Type 0} {bytes : A → List ℕ} {P : ℕ} {at to : N → Option
 
   module _ {m node n : N} {h : Header} {l r : Children N A} {b : ℕ} {new : A} (old : IsLaidOut bytes P at before root pairs (plug fs (inner m h (join l r)))) (is : ChildInserted bytes P at to before links fs place m node n h l r b new) where
     abbrev head : Header
-    head = header_of P is.hole.radix.0 (suc (length (bytes_of (join l r))))
+    head = header_of P is.gap.hole.radix.0 (suc (length (bytes_of (join l r))))
 
     with_leaf : IsRadix bytes P place (inner node head (join l (child b (leaf n new) r))) × (pairs_of (inner node head (join l (child b (leaf n new) r))) ≡ put bytes new (pairs_of (inner m h (join l r))))
-    with_leaf = let two = is.hole.radix.2 in with_child bytes P place is.hole.radix.0 l r b node n new is.hole.radix.3 is.low is.high (omega arith) is.hole.radix.4 is.front
+    with_leaf = let two = is.gap.hole.radix.2 in with_child bytes P place is.gap.hole.radix.0 l r b node n new is.gap.hole.radix.3 is.gap.low is.gap.high (omega arith) is.gap.hole.radix.4 is.gap.front
 
     -- the root is canonical for the pairs with the new one
-    pub child_inserted : IsLaidOut bytes P to links (root_with fs root node) (put bytes new pairs) (plug fs (inner node (header_of P is.hole.radix.0 (suc (length (bytes_of (join l r))))) (join l (child b (leaf n new) r))))
+    pub child_inserted : IsLaidOut bytes P to links (root_with fs root node) (put bytes new pairs) (plug fs (inner node (header_of P is.gap.hole.radix.0 (suc (length (bytes_of (join l r))))) (join l (child b (leaf n new) r))))
     child_inserted = replaced old (record {
-      path = is.hole.path;
+      path = is.gap.hole.path;
       radix = with_leaf.0;
       parent = is.parent;
       regrown = children_regrown at to fs m h l no_child r old.holds old.distinct node head (child b (leaf n new) no_child)
@@ -126,16 +130,16 @@ module _ {N A : Type 0} {bytes : A → List ℕ} {P : ℕ} {at to : N → Option
       same = λ k up out used. is.same k up (λ i. elim i [ inl e ↦ out (inl e) | inr j ↦ j ]) used;
       linked = linked_in_hole fs before links (inner m h (join l r)) (inner node head (join l (child b (leaf n new) r))) (leaf_names_below l) [] (n ∷ []) (leaf_names_below r) old.distinct old.linked
           (leaf_names_below-three l no_child r) (leaf_names_below-three l (child b (leaf n new) no_child) r) is.relinked;
-    }) (bytes new) (put bytes new) (put-between bytes new) is.hole.front with_leaf.1
+    }) (bytes new) (put bytes new) (put-between bytes new) is.gap.hole.front with_leaf.1
 
     -- and inner nodes that stay keep their names
-    pub child_keeps : KeepNames (inner_nodes bytes 0 (plug fs (inner m h (join l r)))) (inner_nodes bytes 0 (plug fs (inner node (header_of P is.hole.radix.0 (suc (length (bytes_of (join l r))))) (join l (child b (leaf n new) r)))))
+    pub child_keeps : KeepNames (inner_nodes bytes 0 (plug fs (inner m h (join l r)))) (inner_nodes bytes 0 (plug fs (inner node (header_of P is.gap.hole.radix.0 (suc (length (bytes_of (join l r))))) (join l (child b (leaf n new) r)))))
     unfolding with_leaf with_child
-    child_keeps = kept bytes P fs place (inner m h (join l r)) (inner node head (join l (child b (leaf n new) r))) is.hole.path is.hole.radix with_leaf.0
-        (kept_children bytes P place m node h head (join l r) (join l (child b (leaf n new) r)) is.hole.radix with_leaf.0 refl (λ d. inner_nodes-leaf bytes P d l r b n new) is.same_kind)
+    child_keeps = kept bytes P fs place (inner m h (join l r)) (inner node head (join l (child b (leaf n new) r))) is.gap.hole.path is.gap.hole.radix with_leaf.0
+        (kept_children bytes P place m node h head (join l r) (join l (child b (leaf n new) r)) is.gap.hole.radix with_leaf.0 refl (λ d. inner_nodes-leaf bytes P d l r b n new) is.same_kind)
 
     -- and keys that stay keep their leaves' names
-    pub child_keeps_leaves : KeepLeaves bytes P (leaves_of (plug fs (inner m h (join l r)))) (leaves_of (plug fs (inner node (header_of P is.hole.radix.0 (suc (length (bytes_of (join l r))))) (join l (child b (leaf n new) r)))))
+    pub child_keeps_leaves : KeepLeaves bytes P (leaves_of (plug fs (inner m h (join l r)))) (leaves_of (plug fs (inner node (header_of P is.gap.hole.radix.0 (suc (length (bytes_of (join l r))))) (join l (child b (leaf n new) r)))))
     child_keeps_leaves = kept_leaves bytes P fs (inner m h (join l r)) (inner node head (join l (child b (leaf n new) r))) old.radix child_inserted.radix
         (kept_leaves_more bytes P (inner m h (join l r)) (inner node head (join l (child b (leaf n new) r))) place with_leaf.0 (λ e i. subst (IsIn e) (sym (leaves_below-three l (child b (leaf n new) no_child) r)) (in_around e (leaves_below l) ((new, n) ∷ []) (leaves_below r) (subst (IsIn e) (leaves_below-join l r) i))))
 

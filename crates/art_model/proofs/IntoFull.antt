@@ -1,5 +1,5 @@
 -- An insertion into a node that is full, from the equations of the store's maps: a larger node takes its place, and what is laid out then, and what is touched.
-use Rattle.std.proofs.Common.{◌≡◌, ◌≢◌, ℕ, suc, ◌<◌, ◌≤◌, List, [], ◌∷◌, ◌++◌, length, Some, None, ap, sym, ◌∙◌, subst, arith, inl, inr}
+use Rattle.std.proofs.Common.{◌≡◌, ◌≢◌, ℕ, suc, ◌≤◌, List, [], ◌∷◌, ◌++◌, length, Some, None, ap, sym, ◌∙◌, subst, arith, inl, inr}
 use Rattle.std.specs.List.{AllByRecursion as Each}
 use Rattle.std.specs.FinMap.{get, insert, remove}
 use Rattle.art_nodes.specs.Inner.{Inner, put_child}
@@ -13,7 +13,6 @@ use Rattle.art_nodes.specs.declared.node.LeafNode.{LeafNode}
 use Rattle.art_nodes.specs.declared.node.OpaqueNodePtr.{OpaqueNodePtr}
 use Rattle.art_nodes.proofs.NameLemmas.{inner_cmp_total, inner_cmp-IsAntisymmetric}
 use Rattle.art_nodes.proofs.StoreLaws.{inner_here, inner_elsewhere, inner_gone_elsewhere}
-use Rattle.art_model.specs.Keys.{IsFront}
 use Rattle.art_model.specs.Trees.{leaf, inner, Children, Header, header_of, kind_of}
 use Rattle.art_model.specs.Radix.{bytes_of, join}
 use Rattle.art_model.specs.Paths.{Frame, plug, leaves_before, leaves_after}
@@ -25,9 +24,8 @@ use Rattle.art_model.proofs.AddedChild.{ChildAdded, child_added, kind_of-larger}
 use Rattle.art_model.proofs.InHole.{both_in, parents_in}
 use Rattle.art_model.proofs.LeafChild.{names_with_both}
 use Rattle.art_model.proofs.Canonical.{IsLaidOut}
-use Rattle.art_model.proofs.Inserted.{ChildInserted}
+use Rattle.art_model.proofs.Inserted.{ChildInserted, IsGap}
 use Rattle.art_model.proofs.Leaves.{listed, length-beside}
-use Rattle.art_model.proofs.Paths.{IsHole}
 use Rattle.art_model.proofs.Placed.{LeafPlaced, placed_was_free, placed_node, placed_pairs, placed_relinked, placed_beside, placed_touched}
 use Rattle.art_model.proofs.Slots.{put_child-new, kind_of-full}
 use Rattle.art_model.proofs.Stores.{IsParent, path_holds, parent_apart}
@@ -36,10 +34,7 @@ use Rattle.art_model.proofs.Writes.{shown, parents_inner, inner_at, node_at-inne
 
 -- A leaf is placed, and a larger node takes the place of the full one in the hole, with the leaf as a child under a byte that had none.
 pub record IntoFull {K V : Type 0} (bytes : K × V → List ℕ) (P : ℕ) (s t : Nodes K V) (fs : List (Frame OpaqueNodePtr (K × V))) (place : List ℕ) (m k : OpaqueNodePtr) (h : Header) (l r : Children OpaqueNodePtr (K × V)) (b : ℕ) (n : LeafPtr) (x : LeafNode K V) (full : Inner) : Type 0 where
-  pub hole : IsHole bytes P fs place (inner m h (join l r)) (bytes (pair_of x))
-  pub front : IsFront ((place ++ hole.radix.0) ++ b ∷ []) (bytes (pair_of x))
-  pub low : Each (λ c. c < b) (bytes_of l)
-  pub high : Each (λ c. b < c) (bytes_of r)
+  pub gap : IsGap bytes P fs place m h l r b (bytes (pair_of x))
   pub no_room : kind_capacity m.kind ≤ length (bytes_of (join l r))
   pub not_last : m.kind ≢ Node256
   pub kind : k.kind ≡ larger_kind m.kind
@@ -96,20 +91,17 @@ module _ {K V : Type 0} {bytes : K × V → List ℕ} {P : ℕ} {s t : Nodes K V
   full_inserted =
       let held = path_holds (node_at s) fs (inner m h (join l r)) old.holds in
       let count = length (bytes_of (join l r)) in
-      let kind : m.kind ≡ kind_of count = ap (λ z. z.kind) (own_head ∙ into.hole.radix.1) in
+      let kind : m.kind ≡ kind_of count = ap (λ z. z.kind) (own_head ∙ into.gap.hole.radix.1) in
       let more : k.kind ≡ kind_of (suc count) = into.kind ∙ kind_of-larger m.kind count kind into.not_last into.no_room in
       record {
-        hole = into.hole;
-        front = into.front;
-        low = into.low;
-        high = into.high;
+        gap = into.gap;
         named = inr k_was_free;
         same_kind = λ e. absurd (kind_of-full m.kind count into.not_last into.no_room (ap (λ z. z.kind) own_head ∙ e));
         leaf_was_free = placed_was_free old.holds old.distinct into.placed;
         differ = λ e. into.is_inner (ap (λ (z : OpaqueNodePtr). z.kind) e);
-        there = node_at-inner t k into.is_inner (Some grown) new_there ∙ shown (grown_header into.hole.radix.0 count (suc count) (own_head ∙ into.hole.radix.1) more) (ap (λ z. put_child z b (leaf_name n)) own_slots ∙ put_child-new l r b (leaf (leaf_name n) (pair_of x)) into.low into.high);
+        there = node_at-inner t k into.is_inner (Some grown) new_there ∙ shown (grown_header into.gap.hole.radix.0 count (suc count) (own_head ∙ into.gap.hole.radix.1) more) (ap (λ z. put_child z b (leaf_name n)) own_slots ∙ put_child-new l r b (leaf (leaf_name n) (pair_of x)) into.gap.low into.gap.high);
         new_leaf = placed_node old.holds old.distinct into.placed;
-        parent = parent_written bytes P s t before_parent fs place m k into.hole.path held.0 (λ q is. still q (parent_not_old q is) (up_there q is).1) (λ q is. ap (λ z. get z (as_inner q)) into.inners);
+        parent = parent_written bytes P s t before_parent fs place m k into.gap.hole.path held.0 (λ q is. still q (parent_not_old q is) (up_there q is).1) (λ q is. ap (λ z. get z (as_inner q)) into.inners);
         same = same_but s t fs (m ∷ []) (λ p i used. placed_pairs old.holds old.distinct into.placed p used)
             (λ q inner_kind up i used. others q up (λ e. i (inl (sym e))) (λ e. used (node_at-inner s q inner_kind None e)));
         relinked = placed_relinked old.holds old.distinct into.placed;

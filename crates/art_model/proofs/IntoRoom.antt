@@ -1,6 +1,5 @@
 -- An insertion into a node that has room, from the equations of the store's maps: what is laid out then, and what is touched.
 use Rattle.std.proofs.Common.{◌≡◌, ◌≢◌, ℕ, suc, ◌<◌, List, [], ◌∷◌, ◌++◌, length, Some, None, refl, ap, sym, ◌∙◌, subst, arith, inl, inr}
-use Rattle.std.specs.List.{AllByRecursion as Each}
 use Rattle.std.specs.Option.{option_map}
 use Rattle.std.specs.FinMap.{get}
 use Rattle.art_nodes.specs.Inner.{put_child}
@@ -14,7 +13,6 @@ use Rattle.art_nodes.specs.declared.node.LeafNode.{LeafNode}
 use Rattle.art_nodes.specs.declared.node.OpaqueNodePtr.{OpaqueNodePtr}
 use Rattle.art_nodes.proofs.NameLemmas.{inner_cmp_total, inner_cmp-IsAntisymmetric}
 use Rattle.art_nodes.proofs.StoreLaws.{inner_changed_at, inner_changed_elsewhere}
-use Rattle.art_model.specs.Keys.{IsFront}
 use Rattle.art_model.specs.Trees.{leaf, inner, Children, Header, kind_of}
 use Rattle.art_model.specs.Radix.{bytes_of, join}
 use Rattle.art_model.specs.Paths.{Frame, plug, leaves_before, leaves_after}
@@ -23,9 +21,8 @@ use Rattle.art_model.specs.Stores.{node_at, links_at, pair_of}
 use Rattle.art_model.specs.Writes.{as_inner}
 use Rattle.art_model.specs.Footprints.{IsIn, TouchesAtMost}
 use Rattle.art_model.proofs.Canonical.{IsLaidOut}
-use Rattle.art_model.proofs.Paths.{IsHole}
 use Rattle.art_model.proofs.Stores.{path_holds, parent_apart}
-use Rattle.art_model.proofs.Inserted.{ChildInserted}
+use Rattle.art_model.proofs.Inserted.{ChildInserted, IsGap}
 use Rattle.art_model.proofs.Touches.{Touched, both_names, touches_at_most, footprint_of, touched_none, then_changed}
 use Rattle.art_model.proofs.AddedChild.{ChildAdded, child_added}
 use Rattle.art_model.proofs.InHole.{both_in, in_hole}
@@ -37,10 +34,7 @@ use Rattle.art_model.proofs.Writes.{inner_at, node_at-inner, same_but, same_inne
 
 -- A leaf is placed, and the node in the hole, which has room, takes it as a child under a byte that had none.
 pub record IntoRoom {K V : Type 0} (bytes : K × V → List ℕ) (P : ℕ) (s t : Nodes K V) (fs : List (Frame OpaqueNodePtr (K × V))) (place : List ℕ) (m : OpaqueNodePtr) (h : Header) (l r : Children OpaqueNodePtr (K × V)) (b : ℕ) (n : LeafPtr) (x : LeafNode K V) : Type 0 where
-  pub hole : IsHole bytes P fs place (inner m h (join l r)) (bytes (pair_of x))
-  pub front : IsFront ((place ++ hole.radix.0) ++ b ∷ []) (bytes (pair_of x))
-  pub low : Each (λ c. c < b) (bytes_of l)
-  pub high : Each (λ c. b < c) (bytes_of r)
+  pub gap : IsGap bytes P fs place m h l r b (bytes (pair_of x))
   pub room : length (bytes_of (join l r)) < kind_capacity m.kind
   pub placed : LeafPlaced s t (plug fs (inner m h (join l r))) (leaves_before fs ++ leaf_names_below l) (leaf_names_below r ++ leaves_after fs) n x
   pub inners : t.inners ≡ change s.inners (as_inner m) (with_child b (leaf_name n))
@@ -58,17 +52,14 @@ module _ {K V : Type 0} {bytes : K × V → List ℕ} {P : ℕ} {s t : Nodes K V
       let is : get t.inners (as_inner m) ≡ Some (with_child b (leaf_name n) node) = ap (λ z. get z (as_inner m)) into.inners ∙ inner_changed_at s.inners (as_inner m) (with_child b (leaf_name n)) ∙ ap (option_map (with_child b (leaf_name n))) got in
       let count = length (bytes_of (join l r)) in
       let kind : h.kind ≡ m.kind = sym (ap (λ z. z.kind) head) in
-      let more : h.kind ≡ kind_of (suc count) = kind ∙ kind_of-room m.kind count (sym kind ∙ ap (λ z. z.kind) into.hole.radix.1) into.room in
+      let more : h.kind ≡ kind_of (suc count) = kind ∙ kind_of-room m.kind count (sym kind ∙ ap (λ z. z.kind) into.gap.hole.radix.1) into.room in
       record {
-        hole = into.hole;
-        front = into.front;
-        low = into.low;
-        high = into.high;
+        gap = into.gap;
         named = inl refl;
         same_kind = λ e. refl;
         leaf_was_free = placed_was_free old.holds old.distinct into.placed;
         differ = λ e. off (ap (λ (z : OpaqueNodePtr). z.kind) e);
-        there = node_at-inner t m off (Some (with_child b (leaf_name n) node)) is ∙ shown (head ∙ header_with P into.hole.radix.0 count (suc count) h into.hole.radix.1 more) (ap (λ z. put_child z b (leaf_name n)) kids ∙ put_child-new l r b (leaf (leaf_name n) (pair_of x)) into.low into.high);
+        there = node_at-inner t m off (Some (with_child b (leaf_name n) node)) is ∙ shown (head ∙ header_with P into.gap.hole.radix.0 count (suc count) h into.gap.hole.radix.1 more) (ap (λ z. put_child z b (leaf_name n)) kids ∙ put_child-new l r b (leaf (leaf_name n) (pair_of x)) into.gap.low into.gap.high);
         new_leaf = placed_node old.holds old.distinct into.placed;
         parent = parent_stays (node_at s) (node_at t) fs m held.0 (λ k is. same_inner s t k (parent_there bytes P s fs m held.0 k is).0 (others k (λ e. parent_apart (node_at s) (node_at t) fs (inner m h (join l r)) old.holds old.distinct k is (inl (sym e)))));
         same = same_but s t fs (m ∷ []) (λ p i used. placed_pairs old.holds old.distinct into.placed p used) (λ k inner_kind up i used. others k (λ e. i (inl (sym e))));

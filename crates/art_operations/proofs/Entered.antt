@@ -26,6 +26,7 @@ use Rattle.art_model.specs.Writes.{as_inner, parent_of}
 use Rattle.art_model.proofs.AddedChild.{ChildAdded, split_at}
 use Rattle.art_model.proofs.Canonical.{IsLaidOut, laid_out, canonical_from}
 use Rattle.art_model.proofs.InHole.{with_key-hole}
+use Rattle.art_model.proofs.Inserted.{IsGap}
 use Rattle.art_model.proofs.Keys.{same_related}
 use Rattle.art_model.proofs.Lists.{Each-append, Each-weaker, after_front, filter_none}
 use Rattle.art_model.proofs.OnWay.{front_byte}
@@ -60,10 +61,7 @@ pub record IsEntry {K V : Type 0} (bytes : K × V → List ℕ) (P : ℕ) (p : I
   pub left : Children OpaqueNodePtr (K × V)
   pub right : Children OpaqueNodePtr (K × V)
   pub whole : plug frames (inner (inner_name p) header (join left right)) ≡ layout
-  pub hole : IsHole bytes P frames place (inner (inner_name p) header (join left right)) key
-  pub front : IsFront ((place ++ hole.radix.0) ++ b ∷ []) key
-  pub low : Each (λ c. c < b) (bytes_of left)
-  pub high : Each (λ c. b < c) (bytes_of right)
+  pub gap : IsGap bytes P frames place (inner_name p) header left right b key
   pub path_is : path ≡ path_of frames
 
 module _ {K V : Type 0} {bytes : K × V → List ℕ} {P : ℕ} {s : Nodes K V} {point : InsertPoint} {p : InnerPtr} {key : List ℕ} (answers : IsPointIn bytes P s key point) (into : point.insert_kind ≡ IntoExisting p) where
@@ -94,10 +92,12 @@ module _ {K V : Type 0} {bytes : K × V → List ℕ} {P : ℕ} {s : Nodes K V} 
         left = split.left;
         right = split.right;
         whole = ap (plug fs) (sym here) ∙ a.answers.is_end.whole;
-        hole = hole;
-        front = subst (λ z. IsFront ((a.place ++ part) ++ z ∷ []) key) (ap (λ d. get_or key d 0) (sym used_is) ∙ sym byte) (front_byte (a.place ++ part) key on_way (omega arith));
-        low = split.low;
-        high = split.high;
+        gap = record {
+          hole = hole;
+          front = subst (λ z. IsFront ((a.place ++ part) ++ z ∷ []) key) (ap (λ d. get_or key d 0) (sym used_is) ∙ sym byte) (front_byte (a.place ++ part) key on_way (omega arith));
+          low = split.low;
+          high = split.high;
+        };
         path_is = a.answers.path_is;
       }
 
@@ -118,7 +118,7 @@ module _ {K V : Type 0} {bytes : K × V → List ℕ} {P : ℕ} {s : Nodes K V} 
   pub entry_kind : p.kind ≡ kind_of (length (bytes_of (join e.left e.right)))
   entry_kind =
       let (off, node, got, head, kids) = inner_at s (inner_name p) e.header (slots_of (join e.left e.right)) (path_holds (node_at s) e.frames entered entry_laid.holds).1.0 in
-      ap (λ (z : Header). z.kind) (head ∙ e.hole.radix.1)
+      ap (λ (z : Header). z.kind) (head ∙ e.gap.hole.radix.1)
 
   -- whether it is full
   pub entry_full : is_full s p ≡ leb (kind_capacity p.kind) (length (bytes_of (join e.left e.right)))
@@ -138,10 +138,10 @@ module _ {K V : Type 0} {bytes : K × V → List ℕ} {P : ℕ} {s : Nodes K V} 
   pub entry_gap : HasGap s p b e.left e.right
   entry_gap = record {
     header = e.header;
-    full = (record { named = refl; holds = (path_holds (node_at s) e.frames entered entry_laid.holds).1; distinct = hole_distinct (node_at s) (node_at s) e.frames entered entry_laid.holds entry_laid.distinct }, one_child entered (have_two_children bytes P e.place entered e.hole.radix));
-    rising = e.hole.radix.3;
-    low = e.low;
-    high = e.high;
+    full = (record { named = refl; holds = (path_holds (node_at s) e.frames entered entry_laid.holds).1; distinct = hole_distinct (node_at s) (node_at s) e.frames entered entry_laid.holds entry_laid.distinct }, one_child entered (have_two_children bytes P e.place entered e.gap.hole.radix));
+    rising = e.gap.hole.radix.3;
+    low = e.gap.low;
+    high = e.gap.high;
   }
 
   -- the parent is another node, and has the node as a child
@@ -152,7 +152,7 @@ module _ {K V : Type 0} {bytes : K × V → List ℕ} {P : ℕ} {s : Nodes K V} 
       go [] is = tt
       go (f ∷ fs) is =
           let up = subst (λ z. IsParent z f.mark) (sym is) refl in
-          let ready = subst (λ z. IfSome (parent_of z) (λ q. IsSomeAnd (map.get s.inners q.0) (λ node. child_at node.children q.1 ≡ Some (inner_name p)))) is (parent_ready bytes P s e.frames e.place (inner_name p) e.hole.path (path_holds (node_at s) e.frames entered entry_laid.holds).0) in
+          let ready = subst (λ z. IfSome (parent_of z) (λ q. IsSomeAnd (map.get s.inners q.0) (λ node. child_at node.children q.1 ≡ Some (inner_name p)))) is (parent_ready bytes P s e.frames e.place (inner_name p) e.gap.hole.path (path_holds (node_at s) e.frames entered entry_laid.holds).0) in
           let off : as_inner f.mark ≢ p = λ same. parent_apart (node_at s) (node_at s) e.frames entered entry_laid.holds entry_laid.distinct f.mark up (inl (sym (inner_name_one f.mark (inner_name p) same))) in
           subst (λ o. IsSomeAnd o (λ node. IsSome (child_at node.children f.byte))) (sym (inner_gone_elsewhere s.inners p (as_inner f.mark) off)) (some (map.get s.inners (as_inner f.mark)) ready)
         where
@@ -161,20 +161,20 @@ module _ {K V : Type 0} {bytes : K × V → List ℕ} {P : ℕ} {s : Nodes K V} 
           some (Some node) h = rw h refl
 
   -- no pair below has the key
-  unequal : (cs : Children OpaqueNodePtr (K × V)) → AreRadix bytes P (e.place ++ e.hole.radix.0) cs → Each (λ c. c ≢ b) (bytes_of cs) → Each (λ x. are_same key (bytes x) ≡ false) (pairs_below cs)
+  unequal : (cs : Children OpaqueNodePtr (K × V)) → AreRadix bytes P (e.place ++ e.gap.hole.radix.0) cs → Each (λ c. c ≢ b) (bytes_of cs) → Each (λ x. are_same key (bytes x) ≡ false) (pairs_below cs)
   unequal no_child h off = tt
   unequal (child c t cs) h off =
-      let front = e.place ++ e.hole.radix.0 in
+      let front = e.place ++ e.gap.hole.radix.0 in
       Each-append (λ x. are_same key (bytes x) ≡ false) (pairs_of t) (pairs_below cs)
-      (Each-weaker (λ x. IsFront (front ++ c ∷ []) (bytes x)) (λ x. are_same key (bytes x) ≡ false) (λ x f. same_related key (bytes x) (unrelated_after front b c key (bytes x) e.front f (λ same. off.0 (sym same)))) (pairs_of t) (radix_way bytes P t (front ++ c ∷ []) h.0))
+      (Each-weaker (λ x. IsFront (front ++ c ∷ []) (bytes x)) (λ x. are_same key (bytes x) ≡ false) (λ x f. same_related key (bytes x) (unrelated_after front b c key (bytes x) e.gap.front f (λ same. off.0 (sym same)))) (pairs_of t) (radix_way bytes P t (front ++ c ∷ []) h.0))
       (unequal cs h.1 off.1)
 
   -- so nothing gives way
   pub entry_reply : first_of (with_key bytes key pairs) ≡ None
   entry_reply =
       let others = subst (Each (λ c. c ≢ b)) (sym (bytes_of-join e.left e.right)) (Each-append (λ c. c ≢ b) (bytes_of e.left) (bytes_of e.right)
-      (Each-weaker (λ c. c < b) (λ c. c ≢ b) (λ c l same. omega arith) (bytes_of e.left) e.low) (Each-weaker (λ c. b < c) (λ c. c ≢ b) (λ c l same. omega arith) (bytes_of e.right) e.high)) in
-      ap (λ xs. first_of (with_key bytes key xs)) (sym entry_laid.pairs_are) ∙ ap first_of (with_key-hole bytes P e.frames e.place key entered e.hole.path e.hole.front ∙ filter_none (λ x. are_same key (bytes x)) (pairs_below (join e.left e.right)) (unequal (join e.left e.right) e.hole.radix.4 others))
+      (Each-weaker (λ c. c < b) (λ c. c ≢ b) (λ c l same. omega arith) (bytes_of e.left) e.gap.low) (Each-weaker (λ c. b < c) (λ c. c ≢ b) (λ c l same. omega arith) (bytes_of e.right) e.gap.high)) in
+      ap (λ xs. first_of (with_key bytes key xs)) (sym entry_laid.pairs_are) ∙ ap first_of (with_key-hole bytes P e.frames e.place key entered e.gap.hole.path e.gap.hole.front ∙ filter_none (λ x. are_same key (bytes x)) (pairs_below (join e.left e.right)) (unequal (join e.left e.right) e.gap.hole.radix.4 others))
 
 -- ---- what is inserted
 

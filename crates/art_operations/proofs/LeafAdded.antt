@@ -115,10 +115,7 @@ module _ {K V : Type 0} {bytes : K × V → List ℕ} {P : ℕ} {s : Nodes K V} 
       module _ (room : is_full s p ≡ false) (inners : t.inners ≡ change q.inners p (with_child b child)) where
         into_room : IntoRoom bytes P s t e.frames e.place (inner_name p) e.header e.left e.right b n new_leaf
         into_room = record {
-          hole = e.hole;
-          front = e.front;
-          low = e.low;
-          high = e.high;
+          gap = e.gap;
           room = leb-false (kind_capacity p.kind) count (sym (entry_full by e) ∙ room);
           placed = placed;
           inners = inners ∙ ap₂ (λ m name. change m p (with_child b name)) (q_inners ∙ r_inners) child_is;
@@ -146,10 +143,7 @@ module _ {K V : Type 0} {bytes : K × V → List ℕ} {P : ℕ} {s : Nodes K V} 
 
         into_full : IntoFull bytes P s t e.frames e.place (inner_name p) (inner_name k) e.header e.left e.right b n new_leaf own.0
         into_full = record {
-          hole = e.hole;
-          front = e.front;
-          low = e.low;
-          high = e.high;
+          gap = e.gap;
           no_room = leb-true (kind_capacity p.kind) count (sym (entry_full by e) ∙ full);
           not_last = not_last;
           kind = kind;

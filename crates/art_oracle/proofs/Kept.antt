@@ -1,16 +1,21 @@
 -- what a store that keeps its nodes keeps, and what holds of each name of a layout
-use Rattle.std.proofs.Common.{◌≡◌, ◌≢◌, ℕ, List, [], ◌∷◌, refl, ap, ap₂, sym, ◌∙◌, Bool, true, false, eqb, eqb-true, ◌⊎◌, inl, inr, Option, Some, None}
+use Rattle.std.proofs.Common.{◌≡◌, ◌≢◌, ℕ, List, [], ◌∷◌, refl, ap, ap₂, sym, ◌∙◌, Bool, true, false, eqb, eqb-true, subst, ◌⊎◌, inl, inr, Option, Some, None}
 use Rattle.std.proofs.lemmas.Bool.{eqb-false}
+use Rattle.std.specs.FinMap as finite
 use Rattle.std.specs.Option.{option_map}
 use Rattle.std.specs.List.{AllByRecursion as Each}
+use Rattle.art_nodes.specs.Names.{inner_name}
 use Rattle.art_nodes.specs.Codes.{kind_at, kind_at-index}
 use Rattle.art_nodes.specs.Nodes.{Nodes, kind_index}
 use Rattle.art_nodes.specs.declared.node.NodeType.{NodeType}
+use Rattle.art_nodes.specs.declared.node.InnerPtr.{InnerPtr}
 use Rattle.art_nodes.specs.declared.node.OpaqueNodePtr.{OpaqueNodePtr}
 use Rattle.art_model.specs.Trees.{Tree, leaf, inner, Children, child, no_child}
 use Rattle.art_model.specs.Layouts.{Node, names_of, names_below, leaf_names, leaf_names_below, inner_names, inner_names_below, Holds, HoldsBelow}
-use Rattle.art_model.specs.Stores.{node_at, seen, Held, held, IsUsed}
+use Rattle.art_model.specs.Stores.{node_at, seen, Held, held, held_inner, held_leaf, IsUsed}
+use Rattle.art_model.specs.Writes.{as_inner}
 use Rattle.art_model.proofs.Lists.{Each-append, Each-left, Each-right}
+use Rattle.art_model.proofs.Views.{held_in_inner, leaf_or}
 use Rattle.art_oracle.specs.Built.{KeepsNodes}
 
 module _ {K V : Type 0} where
@@ -28,6 +33,13 @@ module _ {K V : Type 0} where
       go : (o : Option (Held K V)) → held old name ≡ o → held old name ≡ None
       go None e = e
       go (Some x) e = let k = kept name (λ none. absurd cc) in absurd cc
+
+  -- where one inner node alone is written, all other names hold what they held
+  pub others_held : (old new : Nodes K V) (p : InnerPtr) → new.leaves ≡ old.leaves → ((q : InnerPtr) → q ≢ p → finite.get new.inners q ≡ finite.get old.inners q) → (name : OpaqueNodePtr) → name ≢ inner_name p → held new name ≡ held old name
+  others_held old new p leaves inners name off = elim (leaf_or name) [
+    | inl (q, e) ↦ subst (λ z. held new z ≡ held old z) (sym e) (ap (λ m. option_map held_leaf (finite.get m q)) leaves)
+    | inr kind ↦ held_in_inner new name.kind name.slot kind ∙ ap (option_map held_inner) (inners (as_inner name) (λ e. off (ap inner_name e))) ∙ sym (held_in_inner old name.kind name.slot kind)
+  ]
 
 -- names are the same or differ
 pub name_cases : (m n : OpaqueNodePtr) → (m ≡ n) ⊎ (m ≢ n)

@@ -22,7 +22,7 @@ use Rattle.art_model.specs.Pairs.{IsMap, of_key}
 use Rattle.art_model.specs.Trees.{leaf, inner, kind_of, header_of, byte_at, groups}
 use Rattle.art_model.specs.Radix.{bytes_of}
 use Rattle.art_model.specs.Layouts.{inner_node, slots_of, inner_names_below}
-use Rattle.art_model.specs.Stores.{node_at, seen, inner_seen, held, held_in, held_leaf, held_inner, IsUsed}
+use Rattle.art_model.specs.Stores.{node_at, seen, inner_seen, held, held_leaf, held_inner, IsUsed}
 use Rattle.art_model.specs.Footprints.{IsIn}
 use Rattle.art_model.proofs.Lists.{Each-weaker, after_front}
 use Rattle.art_model.proofs.Keys.{precedes_rest, precedes_apart, before_apart, cmp-append}
@@ -30,7 +30,7 @@ use Rattle.art_model.proofs.Build.{go_on, at_byte}
 use Rattle.art_model.proofs.Views.{held_in_inner}
 use Rattle.art_oracle.specs.Build.{pairs_at, leaf_pair, leaf_key, Ready, ReadyBelow, Built, GoesOn, started, last_from, Starts, count_groups, KeepsOthers, BuiltUnder}
 use Rattle.art_oracle.specs.Built.{KeepsNodes}
-use Rattle.art_oracle.proofs.Kept.{name_cases, was_free}
+use Rattle.art_oracle.proofs.Kept.{name_cases, others_held, was_free}
 use Rattle.art_oracle.proofs.Written.{inner_is_used}
 use Rattle.art_oracle.proofs.Counting.{length_added}
 use Rattle.art_oracle.proofs.SharedParts.{common_between, common_fits}
@@ -159,15 +159,11 @@ module _ {K V : Type 0} where
     placed_elsewhere : (q : InnerPtr) → q ≢ p → finite.get new.inners q ≡ finite.get old.inners q
     placed_elsewhere q n = ap (λ m. finite.get m q) placed ∙ inner_elsewhere old.inners p q node n
 
-    placed_others : (k : NodeType) (slot : ℕ) → (record { kind = k; slot = slot } ≡ inner_name p → ⊥) → held_in new k slot ≡ held_in old k slot
-    placed_others Leaf slot n = rw same refl
-    placed_others Node4 slot n = ap (option_map held_inner) (placed_elsewhere (record { kind = Node4; slot = slot }) (λ e. n (ap inner_name e)))
-    placed_others Node16 slot n = ap (option_map held_inner) (placed_elsewhere (record { kind = Node16; slot = slot }) (λ e. n (ap inner_name e)))
-    placed_others Node48 slot n = ap (option_map held_inner) (placed_elsewhere (record { kind = Node48; slot = slot }) (λ e. n (ap inner_name e)))
-    placed_others Node256 slot n = ap (option_map held_inner) (placed_elsewhere (record { kind = Node256; slot = slot }) (λ e. n (ap inner_name e)))
+    placed_others : (name : OpaqueNodePtr) → name ≢ inner_name p → held new name ≡ held old name
+    placed_others = others_held old new p same placed_elsewhere
 
     pub placed_kept : p.kind ≢ Leaf → KeepsNodes old new
-    placed_kept n name used = placed_others name.kind name.slot (λ e. used (ap (held old) e ∙ placed_free old p n free))
+    placed_kept n name used = placed_others name (λ e. used (ap (held old) e ∙ placed_free old p n free))
 
 module _ {K V : Type 0} (bytes : K → List ℕ) (P : ℕ) where
   pub leaf_built : (old : Nodes K V) (way : List ℕ) (leaves : List LeafPtr) (depth : ℕ) (d : LeafPtr) (name : OpaqueNodePtr) → Ready bytes old.leaves way leaves depth → length leaves ≡ 1 → name ≡ leaf_name (get_or leaves 0 d) → Built bytes P way leaves old old name
@@ -237,7 +233,7 @@ module _ {K V : Type 0} (bytes : K → List ℕ) (P : ℕ) where
       where
         from_mid : (n : OpaqueNodePtr) → IsUsed mid n → (n ≡ inner_name p) ⊎ (n ≢ inner_name p) → IsUsed old n ⊎ IsIn n (inner_name p ∷ inner_names_below under.below.children)
         from_mid n used (inl e) = inr (inl (sym e))
-        from_mid n used (inr e) = inl (λ none. used (placed_others old mid p (started P part) same placed free n.kind n.slot e ∙ none))
+        from_mid n used (inr e) = inl (λ none. used (placed_others old mid p (started P part) same placed free n e ∙ none))
 
         from_below : (n : OpaqueNodePtr) → IsUsed mid n ⊎ IsIn n (inner_names_below under.below.children) → IsUsed old n ⊎ IsIn n (inner_name p ∷ inner_names_below under.below.children)
         from_below n (inl used) = from_mid n used (name_cases n (inner_name p))

@@ -1,26 +1,25 @@
 -- a store in which a child came to an inner node, between what was built before and after
-use Rattle.std.proofs.Common.{◌≡◌, ◌≢◌, ℕ, refl, ap, sym, ◌∙◌, ◌⊎◌, inl, inr, Option, Some, None}
+use Rattle.std.proofs.Common.{◌≡◌, ◌≢◌, ap, sym, ◌∙◌, ◌⊎◌, inl, inr, Option, Some, None}
 use Rattle.std.specs.Option.{option_map}
 use Rattle.std.specs.List.{AllByRecursion as Each}
 use Rattle.std.specs.FinMap as finite
 use Rattle.art_nodes.specs.Inner.{Inner}
 use Rattle.art_nodes.specs.Names.{inner_name}
 use Rattle.art_nodes.specs.Nodes.{Nodes, change}
-use Rattle.art_nodes.specs.declared.node.NodeType.{NodeType}
-use Rattle.art_nodes.specs.declared.node.NodeType.TheVariants.{Node4, Node16, Node48, Node256, Leaf}
+use Rattle.art_nodes.specs.declared.node.NodeType.TheVariants.{Leaf}
 use Rattle.art_nodes.specs.declared.node.InnerPtr.{InnerPtr}
 use Rattle.art_nodes.specs.declared.node.OpaqueNodePtr.{OpaqueNodePtr}
 use Rattle.art_nodes.proofs.StoreLaws.{inner_changed_here, inner_changed_elsewhere}
 use Rattle.art_model.specs.Trees.{Tree}
 use Rattle.art_model.specs.Layouts.{names_of, Holds}
-use Rattle.art_model.specs.Stores.{node_at, seen, Held, held, held_in, held_inner, IsUsed}
+use Rattle.art_model.specs.Stores.{node_at, seen, Held, held, held_inner, IsUsed}
 use Rattle.art_model.proofs.Lists.{Each-weaker}
 use Rattle.art_model.proofs.Stores.{frame}
 use Rattle.art_model.proofs.Names.{all_taken}
 use Rattle.art_model.proofs.Views.{held_in_inner}
 use Rattle.art_oracle.specs.Build.{KeepsOthers}
 use Rattle.art_oracle.specs.Built.{KeepsNodes}
-use Rattle.art_oracle.proofs.Kept.{both, name_cases}
+use Rattle.art_oracle.proofs.Kept.{both, name_cases, others_held}
 
 module _ {K V : Type 0} where
   pub inner_is_used : (s : Nodes K V) (p : InnerPtr) (node : Inner) → p.kind ≢ Leaf → finite.get s.inners p ≡ Some node → IsUsed s (inner_name p)
@@ -42,19 +41,15 @@ module _ {K V : Type 0} where
     elsewhere : (q : InnerPtr) → q ≢ parent → finite.get written.inners q ≡ finite.get mid.inners q
     elsewhere q n = ap (λ m. finite.get m q) change_is ∙ inner_changed_elsewhere mid.inners parent q f n
 
-    written_others : (k : NodeType) (slot : ℕ) → (record { kind = k; slot = slot } ≡ inner_name parent → ⊥) → held_in written k slot ≡ held_in mid k slot
-    written_others Leaf slot n = rw same refl
-    written_others Node4 slot n = ap (option_map held_inner) (elsewhere (record { kind = Node4; slot = slot }) (λ e. n (ap inner_name e)))
-    written_others Node16 slot n = ap (option_map held_inner) (elsewhere (record { kind = Node16; slot = slot }) (λ e. n (ap inner_name e)))
-    written_others Node48 slot n = ap (option_map held_inner) (elsewhere (record { kind = Node48; slot = slot }) (λ e. n (ap inner_name e)))
-    written_others Node256 slot n = ap (option_map held_inner) (elsewhere (record { kind = Node256; slot = slot }) (λ e. n (ap inner_name e)))
+    written_others : (name : OpaqueNodePtr) → name ≢ inner_name parent → held written name ≡ held mid name
+    written_others = others_held mid written parent same elsewhere
 
     pub free_written : (n : OpaqueNodePtr) → held written n ≡ None → held mid n ≡ None
     free_written n free = go (name_cases n (inner_name parent))
       where
         go : (n ≡ inner_name parent) ⊎ (n ≢ inner_name parent) → held mid n ≡ None
         go (inl e) = absurd (inner_is_used written parent (f from) inner_kind parent_written (ap (held written) (sym e) ∙ free))
-        go (inr e) = sym (written_others n.kind n.slot e) ∙ free
+        go (inr e) = sym (written_others n e) ∙ free
 
     pub mid_used : (n : OpaqueNodePtr) → IsUsed mid n → IsUsed written n
     mid_used n u none = u (free_written n none)
@@ -64,14 +59,14 @@ module _ {K V : Type 0} where
       where
         go : (n ≡ inner_name parent) ⊎ (n ≢ inner_name parent) → ⊥
         go (inl e) = inner_is_used mid parent from inner_kind (inner_kept old mid parent from inner_kind kept there) (ap (held mid) (sym e) ∙ none)
-        go (inr e) = u (written_others n.kind n.slot e ∙ none)
+        go (inr e) = u (written_others n e ∙ none)
 
     module _ (new : Nodes K V) (kept' : KeepsOthers written new parent) where
       pub others_kept : KeepsOthers old new parent
       others_kept n e u =
           let mid_is = kept n u in
           let in_mid : IsUsed mid n = λ none. u (sym mid_is ∙ none) in
-          kept' n e (mid_used n in_mid) ∙ written_others n.kind n.slot e ∙ mid_is
+          kept' n e (mid_used n in_mid) ∙ written_others n e ∙ mid_is
 
       -- a layout without the parent is held as before
       pub held_still : (t : Tree OpaqueNodePtr (K × V)) → Holds (node_at mid) t → Each (λ n. n ≢ inner_name parent) (names_of t) → Holds (node_at new) t
@@ -81,4 +76,4 @@ module _ {K V : Type 0} where
           one : (n : OpaqueNodePtr) → (n ≢ inner_name parent) × (node_at mid n ≡ None → ⊥) → node_at new n ≡ node_at mid n
           one n h =
               let in_mid : IsUsed mid n = λ none. h.1 (ap (option_map (seen n.kind)) none) in
-              ap (option_map (seen n.kind)) (kept' n h.0 (mid_used n in_mid) ∙ written_others n.kind n.slot h.0)
+              ap (option_map (seen n.kind)) (kept' n h.0 (mid_used n in_mid) ∙ written_others n h.0)
