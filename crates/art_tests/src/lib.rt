@@ -4,6 +4,8 @@
 #[cfg(test)]
 mod by_hand;
 #[cfg(test)]
+mod locality;
+#[cfg(test)]
 mod mixed_calls;
 #[cfg(test)]
 mod odd_trees;
