@@ -369,4 +369,6 @@ fn match_prefix(
 }
 
 #[cfg(test)]
+mod test_points;
+#[cfg(test)]
 mod tests;

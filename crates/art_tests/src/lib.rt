@@ -10,6 +10,8 @@ mod by_list;
 #[cfg(test)]
 mod drawn;
 #[cfg(test)]
+mod locality;
+#[cfg(test)]
 mod mixed_calls;
 #[cfg(test)]
 mod numbers;

@@ -1,25 +1,12 @@
 //! The shapes of trees that insertions leave.
 
-use crate::trees::{Key, Shape, insert_all, shape_of};
+use crate::trees::{Key, Shape, boxed_keys, insert_all, shape_of};
 use art_nodes::node::NodeType;
 use art_nodes::store::NodeStore;
 use art_operations::run::Reply;
 use std::alloc::{AllocError, Global};
 use std::process::Abort;
 use std::test::Fail;
-
-/// All keys [a, b, c] with a up to `ends[0]`, b up to `ends[1]` and c up to `ends[2]`.
-fn boxed_keys(alloc: Global, ends: [u8; 3]) -> Result<Vec<Key>, AllocError> {
-    let mut keys = Vec::new(alloc);
-    for a in 0..=ends[0] {
-        for b in 0..=ends[1] {
-            for c in 0..=ends[2] {
-                keys.push(Vec::from_array(alloc, [a, b, c])?)?;
-            }
-        }
-    }
-    Ok(keys)
-}
 
 /// For each i from 0 to 11 the key of i zeros and 255.
 fn nested_keys(alloc: Global) -> Result<Vec<Key>, AllocError> {

@@ -1,4 +1,6 @@
 //! Trees that tests are about, and their shapes.
+ghost use Rattle.std.specs.Prelude.{IfOk};
+ghost use Rattle.art_tests.specs.Trees.{HasTree};
 
 use art_nodes::node::{AsBytes, InnerPtr, LeafPtr, NodePtr, NodeType, OpaqueNodePtr};
 use art_nodes::store::NodeStore;
@@ -19,11 +21,26 @@ pub struct Shape {
     pub longest_prefix: usize,
 }
 
+/// All keys [a, b, c] with a up to `ends[0]`, b up to `ends[1]` and c up to `ends[2]`.
+pub fn boxed_keys(alloc: Global, ends: [u8; 3]) -> Result<Vec<Key>, AllocError> {
+    let mut keys = Vec::new(alloc);
+    for a in 0..=ends[0] {
+        for b in 0..=ends[1] {
+            for c in 0..=ends[2] {
+                keys.push(Vec::from_array(alloc, [a, b, c])?)?;
+            }
+        }
+    }
+    Ok(keys)
+}
+
 /// Inserts these keys into an empty store, each with its place in the list as its value.
 pub fn insert_all<const P: usize>(
     store: &mut NodeStore<Key, u32, P>,
     keys: &[Key],
-) -> Result<RunResult<Key, u32>, AllocError> {
+) -> Result<RunResult<Key, u32>, AllocError>
+    ensures { IfOk result (λ done. HasTree P store.new done.root) }
+{
     let alloc = store.alloc();
     let mut commands = Vec::new(alloc);
     let mut value = 0u32;
@@ -32,7 +49,10 @@ pub fn insert_all<const P: usize>(
         value = value.wrapping_add(1);
     }
     let mut other = NodeStore::new(alloc);
-    run(store, &mut other, None, commands).map_err(|refused| refused.1)
+    match run(store, &mut other, None, commands) {
+        Ok(done) => Ok(done),
+        Err((_, error)) => Err(error),
+    }
 }
 
 impl Shape {

@@ -1,47 +1,10 @@
-ghost use Rattle.art_model.specs.Pairs.{of_key};
-ghost use Rattle.art_model.specs.Roots.{IsCanonicalRoot};
-
 use super::*;
-use crate::insert::search_for_insert_point;
+use crate::insert::test_points::{HANDED_BACK, insert, inserted, refused_insertion};
 use crate::test_nodes::{count_touched, nodes_seen};
-use crate::test_trees::{Key, child, keys, keys_of_zeros, plant, planted, promise};
+use crate::test_trees::{Key, child, keys, plant, promise};
 use art_nodes::node::InnerRef;
 use art_test_support::all_memory;
 use std::test::Fail;
-
-// Puts a key into a tree. Answers the root, and what came of the key where it has a point.
-fn insert<K: AsBytes + Drop, const P: usize>(
-    store: &mut NodeStore<K, u32, P>,
-    root: OpaqueNodePtr,
-    key: K,
-    value: u32,
-) -> (
-    OpaqueNodePtr,
-    Option<Result<InsertResult<K, u32>, Refused<K, u32>>>,
-)
-    requires { IsCanonicalRoot (of_key K.bytes) P store.old root }
-    ensures { IsCanonicalRoot (of_key K.bytes) P store.new result.0 }
-{
-    let Ok(point) = search_for_insert_point(store, root, key.as_bytes()) else {
-        return (root, None);
-    };
-    match point.apply(store, key, value) {
-        Ok(done) => (done.new_root, Some(Ok(done))),
-        Err(refused) => (root, Some(Err(refused))),
-    }
-}
-
-// What the insertion of a key did.
-fn inserted<K: AsBytes + Drop, const P: usize>(
-    store: &mut NodeStore<K, u32, P>,
-    root: OpaqueNodePtr,
-    key: K,
-) -> Result<InsertResult<K, u32>, Fail>
-    requires { IsCanonicalRoot (of_key K.bytes) P store.old root }
-{
-    let done = insert(store, root, key, 9).1.ok_or("a point")?;
-    Ok(done.ok().ok_or("memory")?)
-}
 
 // The inner node under a name.
 fn inner_node<const P: usize>(
@@ -88,7 +51,7 @@ fn splits_the_root_leaf(rt: HostRuntime) -> Result<(), Fail> {
     assert!(rt; done.existing_leaf.is_none());
     assert!(rt; is_branch(&store, done.new_root, 2, &[1, 2], [3, 9]));
     assert_eq!(rt; child(&store, done.new_root, 3), Some(root));
-    assert_eq!(rt; count_touched(&before, &nodes_seen(&store)?), (2, 0, 1));
+    assert_eq!(rt; count_touched(&store, &before), (2, 0, 1));
     Ok(())
 }
 
@@ -106,7 +69,7 @@ fn splits_a_prefix_that_is_longer_than_stored(rt: HostRuntime) -> Result<(), Fai
     assert!(rt; is_branch(&store, done.new_root, 3, &[7, 1], [1, 9]));
     assert!(rt; is_branch(&store, root, 1, &[1], [5, 6]));
     assert_eq!(rt; child(&store, done.new_root, 1), Some(root));
-    assert_eq!(rt; count_touched(&before, &nodes_seen(&store)?), (2, 0, 2));
+    assert_eq!(rt; count_touched(&store, &before), (2, 0, 2));
     Ok(())
 }
 
@@ -127,7 +90,7 @@ fn splits_the_prefix_of_a_child(rt: HostRuntime) -> Result<(), Fail> {
     assert!(rt; is_branch(&store, parent, 1, &[1], [1, 9]));
     assert!(rt; is_branch(&store, below, 0, &[], [5, 6]));
     assert_eq!(rt; child(&store, parent, 1), Some(below));
-    assert_eq!(rt; count_touched(&before, &nodes_seen(&store)?), (2, 0, 4));
+    assert_eq!(rt; count_touched(&store, &before), (2, 0, 4));
     Ok(())
 }
 
@@ -150,45 +113,26 @@ fn without_memory_a_reserved_split_is_made(rt: HostRuntime) -> Result<(), Fail> 
     Ok(())
 }
 
-// The pair that was handed back, where an insertion was refused.
-fn refused_pair<K: Drop>(
-    done: Option<Result<InsertResult<K, u32>, Refused<K, u32>>>,
-) -> Option<Refused<K, u32>> {
-    match done? {
-        Ok(_done) => None,
-        Err(refused) => Some(refused),
-    }
-}
-
 // Asserts something where a request for memory of the insertion is refused.
 #[test]
 fn refused_splits_hand_the_pair_back(rt: HostRuntime) -> Result<(), Fail> {
-    let alloc = rt.alloc();
-    let mut store: NodeStore<Key, u32, 4> = NodeStore::new(alloc);
-    let Ok(mut all) = keys_of_zeros(alloc) else {
-        return Ok(());
-    };
-    all.truncate(4);
-    let Some(key) = all.pop() else {
-        return Ok(());
-    };
-    let Ok(Some(root)) = planted(&mut store, &mut NodeStore::new(alloc), all) else {
-        return Ok(());
-    };
-    let copy: Result<_, _> = key.clone();
-    let (Ok(copy), Ok(before)) = (copy, nodes_seen(&store)) else {
-        return Ok(());
-    };
-    let (_root, done) = insert(&mut store, root, key, 7);
-    let Some(refused) = refused_pair(done) else {
-        return Ok(());
-    };
-    assert_eq!(rt; refused.key, copy);
-    assert_eq!(rt; refused.value, 7);
-    println!(rt; "asserted")?;
-    let Ok(after) = nodes_seen(&store) else {
-        return Ok(());
-    };
-    assert_eq!(rt; count_touched(&before, &after), (0, 0, 0));
+    let store: NodeStore<Key, u32, 4> = NodeStore::new(rt.alloc());
+    let keys: [&[u8]; 4] = [&[255], &[0, 255], &[0, 0, 255], &[0, 0, 0, 255]];
+    if let Ok(Some(refusal)) = refused_insertion(store, &keys) {
+        assert_eq!(rt; refusal, HANDED_BACK);
+        println!(rt; "asserted")?;
+    }
+    Ok(())
+}
+
+// The same where a leaf is read for the rest of the prefix.
+#[test]
+fn refused_splits_of_a_prefix_hand_the_pair_back(rt: HostRuntime) -> Result<(), Fail> {
+    let store: NodeStore<Key, u32, 2> = NodeStore::new(rt.alloc());
+    let keys: [&[u8]; 3] = [&[7, 1, 1, 1, 1, 5], &[7, 1, 1, 1, 1, 6], &[7, 1, 1, 9]];
+    if let Ok(Some(refusal)) = refused_insertion(store, &keys) {
+        assert_eq!(rt; refusal, HANDED_BACK);
+        println!(rt; "asserted")?;
+    }
     Ok(())
 }

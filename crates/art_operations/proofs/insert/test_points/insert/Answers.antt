@@ -1,7 +1,7 @@
 use Rattle.std.proofs.Common.{rules}
 use Rattle.art_model.specs.Pairs.{of_key, put}
 use Rattle.art_operations.proofs.Standing.{tree_stays, point_in}
-use Rattle.art_operations.proofs.insert.existing.tests.insert.Goals as goal
+use Rattle.art_operations.proofs.insert.test_points.insert.Goals as goal
 
 pub apply-requires : goal.apply-requires
 apply-requires g c =
