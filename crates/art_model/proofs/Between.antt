@@ -3,7 +3,7 @@ use Rattle.std.proofs.Common.{◌≡◌, ℕ, List, [], ◌∷◌, ◌++◌, ref
 use Rattle.std.specs.List.{AllByRecursion as Each}
 use Rattle.std.proofs.lemmas.List.Elements.{filter-append}
 use Rattle.art_model.specs.Keys.{Precedes, are_related, are_same, is_before}
-use Rattle.art_model.specs.Pairs.{add_in_order, put, remove_key}
+use Rattle.art_model.specs.Pairs.{add_in_order, overwrite, put, remove_key, remove_related}
 use Rattle.art_model.proofs.Lists.{Each-weaker}
 use Rattle.art_model.proofs.Filters.{filter_all}
 use Rattle.art_model.proofs.Keys.{precedes_apart, related_sym, same_related}
@@ -34,6 +34,9 @@ module _ {A : Type 0} (bytes : A → List ℕ) where
   unequal : (key : List ℕ) (xs : List A) → Each (λ x. are_related key (bytes x) ≡ false) xs → remove_key bytes key xs ≡ xs
   unequal key xs h = filter_all (λ x. not (are_same key (bytes x))) xs (Each-weaker (λ x. are_related key (bytes x) ≡ false) (λ x. not (are_same key (bytes x)) ≡ true) (λ x e. ap not (same_related key (bytes x) e)) xs h)
 
+  unrelated : (key : List ℕ) (xs : List A) → Each (λ x. are_related key (bytes x) ≡ false) xs → remove_related bytes key xs ≡ xs
+  unrelated key xs h = filter_all (λ x. not (are_related key (bytes x))) xs (Each-weaker (λ x. are_related key (bytes x) ≡ false) (λ x. not (are_related key (bytes x)) ≡ true) (λ x e. ap not e) xs h)
+
   module _ (key : List ℕ) (xs ys zs : List A) (low : Each (λ x. Precedes (bytes x) key) xs) (high : Each (λ x. Precedes key (bytes x)) zs) where
     low_apart : Each (λ x. are_related key (bytes x) ≡ false) xs
     low_apart = Each-weaker (λ x. Precedes (bytes x) key) (λ x. are_related key (bytes x) ≡ false) (λ x h. related_sym key (bytes x) ∙ h.1) xs low
@@ -45,6 +48,10 @@ module _ {A : Type 0} (bytes : A → List ℕ) where
     pub remove_key-between : remove_key bytes key (xs ++ ys ++ zs) ≡ xs ++ remove_key bytes key ys ++ zs
     remove_key-between = simp (filter-append, unequal key xs low_apart, unequal key zs high_apart)
 
+    -- and so do those with related keys
+    remove_related-between : remove_related bytes key (xs ++ ys ++ zs) ≡ xs ++ remove_related bytes key ys ++ zs
+    remove_related-between = simp (filter-append, unrelated key xs low_apart, unrelated key zs high_apart)
+
   module _ (new : A) (xs ys zs : List A) (low : Each (λ x. Precedes (bytes x) (bytes new)) xs) (high : Each (λ x. Precedes (bytes new) (bytes x)) zs) where
     add_in_order-between : (ms : List A) → add_in_order bytes new (xs ++ ms ++ zs) ≡ xs ++ add_in_order bytes new ms ++ zs
     add_in_order-between ms = add_in_order-before new (xs ++ ms) zs high ∙ ap (λ l. l ++ zs) (add_in_order-after new xs ms low)
@@ -52,3 +59,7 @@ module _ {A : Type 0} (bytes : A → List ℕ) where
     -- a put is one into the middle
     pub put-between : put bytes new (xs ++ ys ++ zs) ≡ xs ++ put bytes new ys ++ zs
     put-between = ap (add_in_order bytes new) (remove_key-between (bytes new) xs ys zs low high) ∙ add_in_order-between (remove_key bytes (bytes new) ys)
+
+    -- and an overwrite is one of pairs in the middle
+    pub overwrite-between : overwrite bytes new (xs ++ ys ++ zs) ≡ xs ++ overwrite bytes new ys ++ zs
+    overwrite-between = ap (add_in_order bytes new) (remove_related-between (bytes new) xs ys zs low high) ∙ add_in_order-between (remove_related bytes (bytes new) ys)

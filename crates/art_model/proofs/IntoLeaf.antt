@@ -10,8 +10,8 @@ use Rattle.art_nodes.specs.declared.node.LeafNode.{LeafNode}
 use Rattle.art_nodes.specs.declared.node.OpaqueNodePtr.{OpaqueNodePtr}
 use Rattle.art_nodes.proofs.NameLemmas.{leaf_cmp_total, leaf_cmp-IsAntisymmetric}
 use Rattle.art_nodes.proofs.StoreLaws.{leaf_changed_at, leaf_changed_elsewhere}
-use Rattle.art_model.specs.Keys.{are_same}
-use Rattle.art_model.specs.Pairs.{first_of, with_key, put, put_reply}
+use Rattle.art_model.specs.Keys.{are_related, are_same}
+use Rattle.art_model.specs.Pairs.{first_of, went, related_to, with_key, overwrite, overwrite_reply, put, put_reply}
 use Rattle.art_model.specs.Trees.{leaf}
 use Rattle.art_model.specs.Paths.{Frame, plug, HoldsPath}
 use Rattle.art_model.specs.Layouts.{leaf_node}
@@ -19,7 +19,7 @@ use Rattle.art_model.specs.Stores.{node_at, links_at, pair_of}
 use Rattle.art_model.specs.Writes.{as_inner}
 use Rattle.art_model.specs.Footprints.{Footprint, TouchesAtMost}
 use Rattle.art_model.specs.Kept.{ChangesInPlace}
-use Rattle.art_model.proofs.Between.{put-between}
+use Rattle.art_model.proofs.Between.{IsLocal, overwrite-between, put-between}
 use Rattle.art_model.proofs.Canonical.{IsLaidOut}
 use Rattle.art_model.proofs.Chains.{links_leaf, links_inner}
 use Rattle.art_model.proofs.InHole.{in_hole, names_around, root_stays, with_key-hole}
@@ -28,16 +28,15 @@ use Rattle.art_model.proofs.Kept.{kept_leaf}
 use Rattle.art_model.proofs.Keys.{front_same}
 use Rattle.art_model.proofs.Leaves.{same_leaf}
 use Rattle.art_model.proofs.Overwritten.{LeafAlone, leaf_alone, leaf_alone_keeps, leaf_alone_keeps_leaves, linked_still}
-use Rattle.art_model.proofs.Paths.{IsHole}
+use Rattle.art_model.proofs.Paths.{IsHole, related_at}
 use Rattle.art_model.proofs.Stores.{path_holds}
 use Rattle.art_model.proofs.Touches.{Touched, touched_none, then_changed, footprint_of}
 use Rattle.art_model.proofs.Views.{leaf_or}
 use Rattle.art_model.proofs.Writes.{node_at-leaf, parent_there, parent_stays, same_but, same_inner}
 
--- The leaf in the hole has another pair, with an equal key.
+-- The leaf in the hole has another pair.
 pub record IntoLeaf {K V : Type 0} (bytes : K × V → List ℕ) (P : ℕ) (s t : Nodes K V) (fs : List (Frame OpaqueNodePtr (K × V))) (place : List ℕ) (p : LeafPtr) (x : LeafNode K V) (new : K × V) : Type 0 where
   pub hole : IsHole bytes P fs place (leaf (leaf_name p) (pair_of x)) (bytes new)
-  pub same : bytes (pair_of x) ≡ bytes new
   pub here : get s.leaves p ≡ Some x
   pub leaves : t.leaves ≡ change s.leaves p (with_pair new.0 new.1)
   pub inners : t.inners ≡ s.inners
@@ -72,18 +71,9 @@ module _ {K V : Type 0} {bytes : K × V → List ℕ} {P : ℕ} {s t : Nodes K V
     linked = linked_still fs (leaf_name p) (pair_of x) new old (λ k i. links_same k);
   }
 
-  put_here : put bytes new (pair_of x ∷ []) ≡ new ∷ []
-  put_here = let same : are_same (bytes new) (bytes (pair_of x)) ≡ true = ap (are_same (bytes new)) into.same ∙ front_same (bytes new) in rw same refl
-
-  -- the same root is canonical for the pairs with the new one
-  pub leaf_inserted : IsLaidOut bytes P (node_at t) (links_at t) root (put bytes new pairs) (plug fs (leaf (leaf_name p) new))
-  leaf_inserted = subst (λ r. IsLaidOut bytes P (node_at t) (links_at t) r (put bytes new pairs) (plug fs (leaf (leaf_name p) new))) (root_stays fs (leaf (leaf_name p) (pair_of x)) old.named) (leaf_alone old alone (put bytes new) (put-between bytes new) put_here)
-
-  -- the old pair is the one with the key
-  pub leaf_reply : put_reply bytes new pairs ≡ Some (pair_of x)
-  leaf_reply =
-      let same : are_same (bytes new) (bytes (pair_of x)) ≡ true = ap (are_same (bytes new)) into.same ∙ front_same (bytes new) in
-      ap (λ xs. first_of (with_key bytes (bytes new) xs)) (sym old.pairs_are) ∙ ap first_of (with_key-hole bytes P fs place (bytes new) (leaf (leaf_name p) (pair_of x)) into.hole.path into.hole.front) ∙ rw same refl
+  -- the same root is canonical for what an operation makes of the pairs that puts the new one in the place of the leaf's
+  pub leaf_changed : (F : List (K × V) → List (K × V)) → IsLocal bytes (bytes new) F → F (pair_of x ∷ []) ≡ new ∷ [] → IsLaidOut bytes P (node_at t) (links_at t) root (F pairs) (plug fs (leaf (leaf_name p) new))
+  leaf_changed F local its = subst (λ r. IsLaidOut bytes P (node_at t) (links_at t) r (F pairs) (plug fs (leaf (leaf_name p) new))) (root_stays fs (leaf (leaf_name p) (pair_of x)) old.named) (leaf_alone old alone F local its)
 
   leaf_print : Footprint s t [] [] (leaf_name p ∷ [])
   leaf_print =
@@ -96,7 +86,42 @@ module _ {K V : Type 0} {bytes : K × V → List ℕ} {P : ℕ} {s t : Nodes K V
   leaf_touches = ([], [], leaf_name p ∷ [], leaf_print, omega arith, omega arith, omega arith)
 
   -- and all nodes keep their names
-  pub leaf_kept : ChangesInPlace bytes s t (Some (plug fs (leaf (leaf_name p) (pair_of x)))) (Some (plug fs (leaf (leaf_name p) new)))
-  leaf_kept = in_place leaf_print P
+  pub leaf_kept : (F : List (K × V) → List (K × V)) → IsLocal bytes (bytes new) F → F (pair_of x ∷ []) ≡ new ∷ [] → ChangesInPlace bytes s t (Some (plug fs (leaf (leaf_name p) (pair_of x)))) (Some (plug fs (leaf (leaf_name p) new)))
+  leaf_kept F local its = in_place leaf_print P
       (names_around fs (leaf (leaf_name p) (pair_of x)) (leaf (leaf_name p) new) [] [] (leaf_name p ∷ []) (record { placed_in = λ k i. absurd i; freed_in = λ k i. absurd i; changed_in = λ k i. absurd i; old_stays = λ k i. inl i; new_comes = λ k i. inl i }) (in_hole fs (leaf (leaf_name p) (pair_of x))))
-      (leaf_alone_keeps_leaves old alone (put bytes new) (put-between bytes new) put_here (kept_leaf bytes P (leaf_name p) (pair_of x) new)) (leaf_alone_keeps old alone)
+      (leaf_alone_keeps_leaves old alone F local its (kept_leaf bytes P (leaf_name p) (pair_of x) new)) (leaf_alone_keeps old alone)
+
+  -- ---- where the keys are equal
+  module _ (same : bytes (pair_of x) ≡ bytes new) where
+    key_same : are_same (bytes new) (bytes (pair_of x)) ≡ true
+    key_same = ap (are_same (bytes new)) same ∙ front_same (bytes new)
+
+    put_here : put bytes new (pair_of x ∷ []) ≡ new ∷ []
+    put_here = rw key_same refl
+
+    -- the new pair is put
+    pub leaf_inserted : IsLaidOut bytes P (node_at t) (links_at t) root (put bytes new pairs) (plug fs (leaf (leaf_name p) new))
+    leaf_inserted = leaf_changed (put bytes new) (put-between bytes new) put_here
+
+    pub leaf_insertion_kept : ChangesInPlace bytes s t (Some (plug fs (leaf (leaf_name p) (pair_of x)))) (Some (plug fs (leaf (leaf_name p) new)))
+    leaf_insertion_kept = leaf_kept (put bytes new) (put-between bytes new) put_here
+
+    -- the old pair is the one with the key
+    pub leaf_reply : put_reply bytes new pairs ≡ Some (pair_of x)
+    leaf_reply = ap (λ xs. first_of (with_key bytes (bytes new) xs)) (sym old.pairs_are) ∙ ap first_of (with_key-hole bytes P fs place (bytes new) (leaf (leaf_name p) (pair_of x)) into.hole.path into.hole.front) ∙ rw key_same refl
+
+  -- ---- where the keys are related
+  module _ (related : are_related (bytes new) (bytes (pair_of x)) ≡ true) where
+    overwrite_here : overwrite bytes new (pair_of x ∷ []) ≡ new ∷ []
+    overwrite_here = rw related refl
+
+    -- the new pair takes the place of the old one
+    pub leaf_overwritten : IsLaidOut bytes P (node_at t) (links_at t) root (overwrite bytes new pairs) (plug fs (leaf (leaf_name p) new))
+    leaf_overwritten = leaf_changed (overwrite bytes new) (overwrite-between bytes new) overwrite_here
+
+    pub leaf_overwrite_kept : ChangesInPlace bytes s t (Some (plug fs (leaf (leaf_name p) (pair_of x)))) (Some (plug fs (leaf (leaf_name p) new)))
+    leaf_overwrite_kept = leaf_kept (overwrite bytes new) (overwrite-between bytes new) overwrite_here
+
+    -- the old pair is the only one whose key is related
+    pub leaf_overwrite_reply : overwrite_reply bytes new pairs ≡ (Some (pair_of x), 0)
+    leaf_overwrite_reply = ap (λ xs. went (related_to bytes (bytes new) xs)) (sym old.pairs_are) ∙ ap went (related_at bytes P fs place (bytes new) (leaf (leaf_name p) (pair_of x)) into.hole.path into.hole.front) ∙ rw related refl

@@ -23,7 +23,7 @@ module _ {N A : Type 0} where
   slots_of-shape (child b t cs) = ap₂ (λ n (l : List (ℕ × N)). (b, n) ∷ l) (name_of-shape t) (slots_of-shape cs)
 
   mutual
-    names_of-shape : (t : Tree N A) → names_of (shape_of t) ≡ names_of t
+    pub names_of-shape : (t : Tree N A) → names_of (shape_of t) ≡ names_of t
     names_of-shape (leaf n x) = refl
     names_of-shape (inner n h cs) = ap (λ l. n ∷ l) (names_below-shape cs)
 
@@ -32,7 +32,7 @@ module _ {N A : Type 0} where
     names_below-shape (child b t cs) = ap₂ (λ (k l : List N). k ++ l) (names_of-shape t) (names_below-shape cs)
 
   mutual
-    leaf_names-shape : (t : Tree N A) → leaf_names (shape_of t) ≡ leaf_names t
+    pub leaf_names-shape : (t : Tree N A) → leaf_names (shape_of t) ≡ leaf_names t
     leaf_names-shape (leaf n x) = refl
     leaf_names-shape (inner n h cs) = leaf_names_below-shape cs
 

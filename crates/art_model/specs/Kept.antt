@@ -40,6 +40,10 @@ pub record KeepsOthers {K V : Type 0} (s t : Nodes K V) (old new : List OpaqueNo
   pub left : (name : OpaqueNodePtr) → IsIn name old → (IsIn name new → ⊥) → held t name ≡ None
   pub taken : (name : OpaqueNodePtr) → IsIn name new → (IsIn name old → ⊥) → held s name ≡ None
 
+-- these names went out of use, and every other name holds what it held
+abbrev pub Frees : {K V : Type 0} → List OpaqueNodePtr → Nodes K V → Nodes K V → Type 0
+Frees names s t = KeepsOthers s t names []
+
 -- From one store to the next the tree became another in place.
 pub record ChangesInPlace {K V : Type 0} (bytes : K × V → List ℕ) (s t : Nodes K V) (old new : Option (Tree OpaqueNodePtr (K × V))) : Type 0 where
   pub leaves : KeepsLeaves bytes old new

@@ -3,6 +3,7 @@ pub mod Pairs
 pub mod Trees
 pub mod Radix
 pub mod Layouts
+pub mod Segments
 pub mod ByCases
 pub mod Stores
 pub mod Writes

@@ -1,6 +1,9 @@
 pub mod Examples
 pub mod Chains
 pub mod Ways
+pub mod Iterators
+pub mod Freed
+pub mod FreedTrees
 pub mod LeafWrites
 pub mod Moves
 pub mod Found
@@ -32,6 +35,8 @@ pub mod Splits
 pub mod Applied
 pub mod Answered
 pub mod Replaced
+pub mod Overwrites
+pub mod PrefixSteps
 pub mod Gaps
 pub mod Larger
 pub mod Entered

@@ -52,7 +52,7 @@ use Rattle.art_operations.specs.declared.insert.InsertKind.{InsertKind}
 use Rattle.art_operations.specs.declared.insert.InsertKind.TheVariants.{MismatchPrefix, SplitLeaf, Exact, IntoExisting}
 use Rattle.art_operations.specs.declared.insert.InsertPoint.{InsertPoint}
 use Rattle.art_operations.specs.declared.run.Command.{Command}
-use Rattle.art_operations.specs.declared.run.Command.TheVariants.{Insert, Delete, DeleteMin, DeleteMax, Contains, LongestMatch}
+use Rattle.art_operations.specs.declared.run.Command.TheVariants.{Insert, InsertPrefix, Delete, DeleteMin, DeleteMax, Contains, LongestMatch}
 use Rattle.art_operations.specs.declared.run.Reply.TheVariants.{Deleted}
 use Rattle.art_operations.proofs.Counts.{one, count-join, more_in_hole, fewer_in_hole, gains, loses}
 use Rattle.art_operations.proofs.Found.{any_first}
@@ -353,6 +353,7 @@ module _ {K V : Type 0} (bytes : K → List ℕ) (P : ℕ) (x : K × V) (n : Opa
 deletion_needs : {K V : Type 0} (bytes : K → List ℕ) (P : ℕ) (pairs : List (K × V)) (x : K × V) (c : Command K V) → Answers bytes pairs c (Deleted (Some x)) (remove_key (of_key bytes) (bytes x.0) pairs) →
     ◌≡◌ {A = Promise} (record { leaves = 0; inner = more_of (inner_count bytes P pairs) (inner_count bytes P (remove_key (of_key bytes) (bytes x.0) pairs)) }) (needs bytes P c pairs)
 deletion_needs bytes P pairs x (Insert k v) h = absurd h
+deletion_needs bytes P pairs x (InsertPrefix k v) h = absurd h
 deletion_needs bytes P pairs x (Delete key) h = ap (λ ps. let y : Promise = record { leaves = 0; inner = more_of (inner_count bytes P pairs) (inner_count bytes P ps) } in y) h.1
 deletion_needs bytes P pairs x DeleteMin h = ap (λ ps. let y : Promise = record { leaves = 0; inner = more_of (inner_count bytes P pairs) (inner_count bytes P ps) } in y) h.1
 deletion_needs bytes P pairs x DeleteMax h = ap (λ ps. let y : Promise = record { leaves = 0; inner = more_of (inner_count bytes P pairs) (inner_count bytes P ps) } in y) h.1

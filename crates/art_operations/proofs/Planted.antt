@@ -20,8 +20,8 @@ use Rattle.art_model.proofs.Canonical.{canonical_from}
 use Rattle.art_model.proofs.InPlace.{others_kept}
 use Rattle.art_model.proofs.Touches.{Touched, touched_none, then_placed, footprint_of, touches_at_most}
 use Rattle.art_operations.specs.Inserted.{alone}
-use Rattle.art_operations.specs.declared.run.Command.TheVariants.{Insert}
-use Rattle.art_operations.specs.declared.run.Reply.TheVariants.{Inserted, NoMemory}
+use Rattle.art_operations.specs.declared.run.Command.TheVariants.{Insert, InsertPrefix}
+use Rattle.art_operations.specs.declared.run.Reply.TheVariants.{Inserted, Overwrote, NoMemory}
 use Rattle.art_operations.proofs.Moves.{StepFrom, nothing}
 
 -- the promise after one leaf
@@ -80,6 +80,19 @@ module _ {K V : Type 0} (bytes : K → List ℕ) (P : ℕ) {s t : Nodes K V} (z 
       },
     )
 
+    pub planted_prefix_step : StepFrom bytes P s t z None (InsertPrefix x.0 x.1) (Overwrote None 0) (Some (leaf_name n))
+    planted_prefix_step = (
+      Some (leaf (leaf_name n) x),
+      refl,
+      record {
+        answers = (refl, refl);
+        refuses = tt;
+        sound = planted;
+        changes = record { side = refl; kept = in_place; touches = touches_at_most s t 2 2 4 leaves_touched inners_touched tt tt tt (omega arith) (omega arith) (omega arith); other = refl };
+        promises = is.promise ∙ leaf_taken s.promise;
+      },
+    )
+
   -- or there is no memory for it
   pub unplanted_step : {k : K} {v : V} {pair : K × V} {root : Option OpaqueNodePtr} → root ≡ None → t ≡ s → pair ≡ (k, v) → (0 < s.promise.leaves → ⊥) → StepFrom bytes P s t z None (Insert k v) (NoMemory (Some pair)) root
   unplanted_step {k} {v} empty same handed none = (
@@ -96,3 +109,16 @@ module _ {K V : Type 0} (bytes : K → List ℕ) (P : ℕ) {s t : Nodes K V} (z 
     where
       positive : (count : ℕ) → leb 1 count ≡ true → 0 < count
       positive count e = leb-true 1 count e
+
+  pub unplanted_prefix_step : {k : K} {v : V} {pair : K × V} {root : Option OpaqueNodePtr} → root ≡ None → t ≡ s → pair ≡ (k, v) → (0 < s.promise.leaves → ⊥) → StepFrom bytes P s t z None (InsertPrefix k v) (NoMemory (Some pair)) root
+  unplanted_prefix_step {k} {v} empty same handed none = (
+    None,
+    sym empty,
+    record {
+      answers = ((λ e. absurd (omega arith)), ap Some handed, refl);
+      refuses = λ promised. none (leb-true 1 s.promise.leaves promised);
+      sound = refl;
+      changes = nothing z None (ap (λ m. m.leaves) same, ap (λ m. m.inners) same);
+      promises = inl (ap (λ m. m.promise) same);
+    },
+  )

@@ -17,7 +17,7 @@ use Rattle.art_model.specs.Stores.{node_at, links_at, pair_of}
 use Rattle.art_model.specs.Trees.{Tree, leaf}
 use Rattle.art_model.specs.Writes.{parent_of}
 use Rattle.art_model.proofs.Canonical.{IsLaidOut, laid_out, canonical_from}
-use Rattle.art_model.proofs.IntoLeaf.{IntoLeaf, leaf_inserted, leaf_reply, leaf_touches, leaf_kept}
+use Rattle.art_model.proofs.IntoLeaf.{IntoLeaf, leaf_inserted, leaf_insertion_kept, leaf_reply, leaf_touches}
 use Rattle.art_model.proofs.Paths.{IsHole}
 use Rattle.art_model.proofs.Stores.{path_holds}
 use Rattle.art_model.proofs.Views as views
@@ -66,7 +66,7 @@ module _ {K V : Type 0} {bytes : K × V → List ℕ} {P : ℕ} {s : Nodes K V} 
 
   module _ (t : Nodes K V) (leaves : t.leaves ≡ change s.leaves p (with_pair new.0 new.1)) (inners : t.inners ≡ s.inners) where
     into_leaf : {layout : Tree OpaqueNodePtr (K × V)} (l : IsOwnLeaf bytes P s p layout (bytes new)) → IntoLeaf bytes P s t l.path l.place p l.shown new
-    into_leaf l = record { hole = l.hole; same = l.same; here = l.there; leaves = leaves; inners = inners }
+    into_leaf l = record { hole = l.hole; here = l.there; leaves = leaves; inners = inners }
 
     -- one leaf is changed
     pub own_leaf_touches : Touches point.insert_kind s t
@@ -85,8 +85,8 @@ module _ {K V : Type 0} {bytes : K × V → List ℕ} {P : ℕ} {s : Nodes K V} 
         let went : swapped ≡ pair_of l.shown = subst (λ o. IfSome o (λ leaf. swapped ≡ (leaf.key, leaf.value))) l.there pair in
         record {
           tree = plug l.path (leaf (leaf_name p) new);
-          canonical = canonical_from (leaf_inserted old into);
+          canonical = canonical_from (leaf_inserted old into l.same);
           inserted = record { path = l.path; whole = refl; change = subst (λ kind. IsChange kind (parent_of l.path) NoChange) (sym exact) refl; root = refl };
-          replaced = ap Some (is ∙ ap alone went) ∙ ap (option_map alone) (sym (leaf_reply old into));
-          kept = subst (λ z. ChangesInPlace bytes s t (Some z) (Some (plug l.path (leaf (leaf_name p) new)))) l.whole (leaf_kept old into);
+          replaced = ap Some (is ∙ ap alone went) ∙ ap (option_map alone) (sym (leaf_reply old into l.same));
+          kept = subst (λ z. ChangesInPlace bytes s t (Some z) (Some (plug l.path (leaf (leaf_name p) new)))) l.whole (leaf_insertion_kept old into l.same);
         }

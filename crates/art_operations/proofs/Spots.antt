@@ -1,7 +1,8 @@
 -- the way down with a key to its end node
-use Rattle.std.proofs.Common.{◌≡◌, ◌≢◌, ℕ, ◌+◌, ◌<◌, ◌≤◌, List, [], ◌∷◌, ◌++◌, length, drop, get_or, refl, ap, sym, ◌∙◌, arith, subst, append_assoc, append-nil, length-append, length-drop, Option, Some, None, Ok, true, false}
+use Rattle.std.proofs.Common.{◌≡◌, ◌≢◌, ℕ, ◌+◌, ◌-◌, ◌<◌, ◌≤◌, List, [], ◌∷◌, ◌++◌, length, drop, get_or, refl, ap, sym, ◌∙◌, arith, subst, append_assoc, append-nil, length-append, length-drop, Option, Some, None, Ok, true, false}
 use Rattle.std.specs.List.{AllByRecursion as Each}
 use Rattle.std.specs.FinMap as map
+use Rattle.std.proofs.lemmas.Bool.{eq-eqb, ne_eqb}
 use Rattle.std.proofs.lemmas.Option.{slice_get_within}
 use Rattle.art_nodes.specs.Inner.{Inner, child_at}
 use Rattle.art_nodes.specs.Names.{leaf_name, inner_name}
@@ -29,7 +30,7 @@ use Rattle.art_model.proofs.Paths.{path_down, names_of-plug, related_at}
 use Rattle.art_model.proofs.Places.{place_is, prefix_is, beside, deeper}
 use Rattle.art_model.proofs.PlaceLaws.{depth_is, ends_at}
 use Rattle.art_model.proofs.Rebuild.{radix_way, radix_below, radix_some}
-use Rattle.art_model.proofs.OnWay.{AreAside, aside_others, aside_off, child_under, no_child_under, front_byte}
+use Rattle.art_model.proofs.OnWay.{AreAside, aside_others, aside_off, aside_end, child_under, no_child_under, front_byte}
 use Rattle.art_model.proofs.Shown.{IsShown, no_leaf_gone, leaf_shown, no_inner_gone, inner_shown}
 use Rattle.art_model.proofs.Stores.{path_holds}
 use Rattle.art_operations.specs.declared.insert.InsertKind.{InsertKind}
@@ -39,7 +40,8 @@ use Rattle.art_operations.specs.declared.path.PrefixMatch.{PrefixMatch}
 use Rattle.art_operations.specs.declared.path.TreePath.{TreePath}
 use Rattle.art_operations.specs.declared.path.TreePath.TheVariants.{Root}
 use Rattle.art_operations.specs.Matching.{shared_len}
-use Rattle.art_operations.specs.Points.{IsAt, step_down, AnswersTo, IsPointFor, IsKindFor, IsKindAtLeaf, IsKindOf, IsCompared, IsMismatch, IsPart}
+use Rattle.art_operations.specs.Points.{IsAt, step_down, AnswersTo, AnswersToOverwrite, IsOverwrittenWith, IsPointFor, IsKindFor, IsKindAtLeaf, IsKindOf, IsCompared, IsMismatch, IsPart, used_in_prefix}
+use Rattle.art_operations.specs.declared.insert.PrefixInsertPoint.TheVariants.{InsertPoint, OverwritePoint}
 use Rattle.art_operations.proofs.Partings.{parted_unrelated, unrelated_after, conflict-related, no_conflict, first_conflict, same_conflict}
 
 -- as much of the key was used as it has
@@ -127,6 +129,20 @@ module _ {K V : Type 0} {s : Nodes K V} {bytes : K × V → List ℕ} {P : ℕ} 
           kind_is = subst (λ n. IsKindOf bytes P key d.node n used kind) (sym deep) is;
         }
 
+    -- and gives way where the key ends
+    overwritten : (used : ℕ) → Each (λ other. IsFront other.0 key → length other.0 ≤ length d.place) (places bytes (length d.place) d.node) → IsOverwrittenWith bytes key depth used d.node →
+        AnswersToOverwrite bytes layout key (record { path = path; overwrite_point = name; key_bytes_used = used; root = root })
+    overwritten used longest gives =
+        record {
+          path = d.frames;
+          node = d.node;
+          is_end = subst (λ t. IsEndNode bytes t key d.frames d.node) d.whole (ends_at bytes P key d.frames d.place d.node d.leads d.radix d.on_way longest);
+          root_is = sym by.stands.0.named;
+          path_is = d.path_is;
+          name_is = sym d.named;
+          gives_way = subst (λ n. IsOverwrittenWith bytes key n used d.node) (sym deep) gives;
+        }
+
     -- ---- at a leaf
     module _ {p : LeafPtr} {shown : LeafNode K V} (is : leaf_name p ≡ name) (there : Some shown ≡ map.get s.leaves p) where
       at_leaf : d.node ≡ leaf (leaf_name p) (pair_of shown)
@@ -140,10 +156,11 @@ module _ {K V : Type 0} {s : Nodes K V} {bytes : K × V → List ℕ} {P : ℕ} 
           let radix = subst (IsRadix bytes P d.place) at_leaf d.radix in
           subst (λ t. Each (λ other. IsFront other.0 key → length other.0 ≤ length d.place) (places bytes (length d.place) t)) (sym at_leaf) ((λ g. rw (place_is bytes P (leaf (leaf_name p) (pair_of shown)) d.place radix) (omega arith)), tt)
 
-      pub leaf_conflict : IsKindFor key p (bytes (pair_of shown)) None → IsPointFor bytes P key pairs layout None
-      leaf_conflict (related, unequal) = own_pair ∙ first_conflict bytes key (pair_of shown) [] related unequal
+      pub leaf_conflict : IsKindFor key p (bytes (pair_of shown)) None → IsPointFor bytes P key pairs layout (OverwritePoint (record { path = path; overwrite_point = name; key_bytes_used = depth; root = root }))
+      leaf_conflict (related, unequal) =
+          (own_pair ∙ first_conflict bytes key (pair_of shown) [] related unequal, overwritten depth longest_leaf (subst (IsOverwrittenWith bytes key depth depth) (sym at_leaf) (refl, related, unequal)))
 
-      pub leaf_point : (kind : InsertKind) → IsKindAtLeaf key p (bytes (pair_of shown)) kind → IsPointFor bytes P key pairs layout (Some (record { path = path; insert_kind = kind; key_bytes_used = depth; root = root }))
+      pub leaf_point : (kind : InsertKind) → IsKindAtLeaf key p (bytes (pair_of shown)) kind → IsPointFor bytes P key pairs layout (InsertPoint (record { path = path; insert_kind = kind; key_bytes_used = depth; root = root }))
       leaf_point (Exact q) (same, equal) =
           (own_pair ∙ same_conflict bytes key (pair_of shown) equal, answers depth (Exact q) longest_leaf (refl, (pair_of shown, at_leaf ∙ ap (λ z. leaf (leaf_name z) (pair_of shown)) (sym same), (refl, equal))))
       leaf_point (SplitLeaf q used) (same, unrelated, shared) =
@@ -162,8 +179,11 @@ module _ {K V : Type 0} {s : Nodes K V} {bytes : K × V → List ℕ} {P : ℕ} 
       abbrev front : List ℕ
       front = d.place ++ radix.0
 
+      here_prefix : prefix_of bytes depth here ≡ radix.0
+      here_prefix = subst (λ n. prefix_of bytes n here ≡ radix.0) d.depth_is (prefix_is bytes P (inner_name p) (header_at p.kind shown) at.children d.place radix)
+
       whole_prefix : prefix_of bytes depth d.node ≡ radix.0
-      whole_prefix = ap (prefix_of bytes depth) at.is ∙ subst (λ n. prefix_of bytes n here ≡ radix.0) d.depth_is (prefix_is bytes P (inner_name p) (header_at p.kind shown) at.children d.place radix)
+      whole_prefix = ap (prefix_of bytes depth) at.is ∙ here_prefix
 
       front_len : length front ≡ depth + length (prefix_of bytes depth d.node)
       front_len = let l = ap length whole_prefix in let k = d.depth_is in simp length-append (omega arith)
@@ -185,7 +205,7 @@ module _ {K V : Type 0} {s : Nodes K V} {bytes : K × V → List ℕ} {P : ℕ} 
           )
 
       -- all pairs below go on after the key
-      short_conflict : IsFront key front → IsPointFor bytes P key pairs layout None
+      short_conflict : IsFront key front → is_conflict bytes key pairs ≡ true
       short_conflict short = below ∙ go at.children radix.2 radix.4
         where
           go : (cs : Children OpaqueNodePtr (K × V)) → 2 ≤ length (bytes_of cs) → AreRadix bytes P front cs → is_conflict bytes key (pairs_below cs) ≡ true
@@ -197,6 +217,15 @@ module _ {K V : Type 0} {s : Nodes K V} {bytes : K × V → List ℕ} {P : ℕ} 
               let long : length key < length (bytes x) = let l = ap length short.1 in let k = ap length way.1 in omega (arith, simp length-append at l, simp length-append at k) in
               rw e (first_conflict bytes key x (xs ++ pairs_below cs) (front_related key (bytes x) goes) (λ same. let l = ap length same in omega arith))
 
+      -- so the node gives way
+      short_point : (used : ℕ) → IsFront (drop depth key) radix.0 → used ≡ used_in_prefix key depth radix.0 → IsPointFor bytes P key pairs layout (OverwritePoint (record { path = path; overwrite_point = name; key_bytes_used = used; root = root }))
+      short_point used (r, e) is =
+          let short : IsFront key front = (r, ap (λ l. d.place ++ l) e ∙ sym (append_assoc d.place (drop depth key) r) ∙ ap (λ l. l ++ r) (sym key_is)) in
+          let no_longer : length key ≤ length front = let l = ap length short.1 in let k = length-append key r in omega arith in (
+            short_conflict short,
+            overwritten used (longest_inner (aside_end front key at.children no_longer)) (subst (IsOverwrittenWith bytes key depth used) (sym at.is) (is ∙ ap (used_in_prefix key depth) (sym here_prefix), subst (IsFront (drop depth key)) (sym here_prefix) (r, e))),
+          )
+
       -- the prefix is compared
       module _ {match : PrefixMatch} (c : IsCompared bytes P key d.node depth (Ok match)) where
         on_way : IsFront front key
@@ -207,12 +236,21 @@ module _ {K V : Type 0} {s : Nodes K V} {bytes : K × V → List ℕ} {P : ℕ} 
         used : depth + match.matched_bytes ≡ length front
         used = let l = front_len in let k = c.0 in omega arith
 
-        pub prefix_conflict : length key ≤ depth + match.matched_bytes → IsPointFor bytes P key pairs layout None
-        prefix_conflict short = short_conflict (go on_way)
+        pub prefix_conflict : length key ≤ depth + match.matched_bytes → IsPointFor bytes P key pairs layout (OverwritePoint (record { path = path; overwrite_point = name; key_bytes_used = depth + match.matched_bytes - 1; root = root }))
+        prefix_conflict short =
+            let same : drop depth key ≡ radix.0 = go c.1 in
+            let l : length key ≡ length front + length on_way.0 = ap length on_way.1 ∙ length-append front on_way.0 in
+            let u = used in
+            let m = front_len in
+            let w = ap length whole_prefix in
+            short_point (depth + match.matched_bytes - 1) ([], sym (append-nil (drop depth key) ∙ same)) (ends_with (omega arith) (omega arith))
           where
-            go : IsFront front key → IsFront key front
-            go ([], e) = ([], sym (e ∙ append-nil front) ∙ sym (append-nil key))
-            go (b ∷ r, e) = absurd (let l = ap length e in let m = length-append front (b ∷ r) in let u = used in omega arith)
+            go : IsFront (prefix_of bytes depth d.node) (drop depth key) → drop depth key ≡ radix.0
+            go ([], e) = e ∙ append-nil (prefix_of bytes depth d.node) ∙ whole_prefix
+            go (b ∷ r, e) = absurd (let l = ap length e in let k = length-drop depth key in let m = length-append (prefix_of bytes depth d.node) (b ∷ r) in let u = c.0 in omega arith)
+
+            ends_with : length key ≡ depth + length radix.0 → length key ≡ depth + match.matched_bytes → depth + match.matched_bytes - 1 ≡ used_in_prefix key depth radix.0
+            ends_with e f = rw (← f, eq-eqb (length key) (depth + length radix.0) e) refl
 
         module _ (long : depth + match.matched_bytes < length key) where
           next : IsFront (front ++ get_or key (length front) 0 ∷ []) key
@@ -225,7 +263,7 @@ module _ {K V : Type 0} {s : Nodes K V} {bytes : K × V → List ℕ} {P : ℕ} 
               (unrelated cs h.1 others.1)
 
           -- no child goes on with the key
-          pub into_point : None ≡ child_at shown.children (get_or key (depth + match.matched_bytes) 0) → IsPointFor bytes P key pairs layout (Some (record { path = path; insert_kind = IntoExisting p; key_bytes_used = depth + match.matched_bytes; root = root }))
+          pub into_point : None ≡ child_at shown.children (get_or key (depth + match.matched_bytes) 0) → IsPointFor bytes P key pairs layout (InsertPoint (record { path = path; insert_kind = IntoExisting p; key_bytes_used = depth + match.matched_bytes; root = root }))
           into_point none =
               let gone : child_at (slots_of at.children) (get_or key (depth + match.matched_bytes) 0) ≡ None = ap (λ cs. child_at cs (get_or key (depth + match.matched_bytes) 0)) (sym at.slots) ∙ sym none in
               let others = no_child_under at.children (get_or key (length front) 0) (ap (λ n. child_at (slots_of at.children) (get_or key n 0)) (sym used) ∙ gone) in (
@@ -261,11 +299,13 @@ module _ {K V : Type 0} {s : Nodes K V} {bytes : K × V → List ℕ} {P : ℕ} 
         shared_is : m.matched_bytes ≡ shared_len radix.0 (drop depth key)
         shared_is = c.matched ∙ ap (λ l. shared_len l (drop depth key)) whole_prefix
 
-        pub mismatch_conflict : length key ≤ depth + m.matched_bytes → IsPointFor bytes P key pairs layout None
+        pub mismatch_conflict : length key ≤ depth + m.matched_bytes → IsPointFor bytes P key pairs layout (OverwritePoint (record { path = path; overwrite_point = name; key_bytes_used = depth; root = root }))
         mismatch_conflict short =
             let rest : length (drop depth key) ≤ shared_len radix.0 (drop depth key) = let k = ap length key_is in let n = d.depth_is in let q = shared_is in omega (arith, simp length-append at k) in
-            let (r, e) = front_right radix.0 (drop depth key) rest in
-            short_conflict (r, ap (λ l. d.place ++ l) e ∙ sym (append_assoc d.place (drop depth key) r) ∙ ap (λ l. l ++ r) (sym key_is))
+            let inside = slice_get_within (prefix_of bytes depth d.node) m.matched_bytes m.prefix_byte c.byte in
+            let w = ap length whole_prefix in
+            let off : length key < depth + length radix.0 = omega arith in
+            short_point depth (front_right radix.0 (drop depth key) rest) (rw (ne_eqb (length key) (depth + length radix.0) (λ e. omega arith)) refl)
 
         module _ (long : depth + m.matched_bytes < length key) where
           parts_at : ArePart front key
@@ -285,7 +325,7 @@ module _ {K V : Type 0} {s : Nodes K V} {bytes : K × V → List ℕ} {P : ℕ} 
               (λ x f. unrelated_after a.front a.y a.x key (bytes x) (a.s, a.b_is ∙ sym (append_assoc a.front (a.y ∷ []) a.s)) (front_trans (a.front ++ a.x ∷ []) front (bytes x) (a.r, a.a_is ∙ sym (append_assoc a.front (a.x ∷ []) a.r)) f) (λ e. a.differ (sym e)))
               (pairs_below at.children) (radix_below bytes P at.children front radix.4)
 
-          pub mismatch_point : IsPointFor bytes P key pairs layout (Some (record { path = path; insert_kind = MismatchPrefix m p; key_bytes_used = depth; root = root }))
+          pub mismatch_point : IsPointFor bytes P key pairs layout (InsertPoint (record { path = path; insert_kind = MismatchPrefix m p; key_bytes_used = depth; root = root }))
           mismatch_point = (
             below ∙ no_conflict bytes key (pairs_below at.children) unrelated_below,
             answers depth (MismatchPrefix m p) (longest_inner (aside_off front key at.children (λ f. let t = parted_unrelated parts_at in let r = front_related front key f in absurd cc))) (refl, (header_at p.kind shown, at.children, at.is, c, long)),

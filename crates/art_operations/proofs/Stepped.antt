@@ -26,14 +26,14 @@ use Rattle.art_operations.specs.Deleted.{TouchesFor, ParentChange, no_parent, ke
 use Rattle.art_operations.specs.Inserted.{IsPointIn, HasByteLeft, Touches, alone, is_full, placed_for}
 use Rattle.art_operations.specs.Needs.{needs}
 use Rattle.art_operations.specs.Points.{AnswersTo}
-use Rattle.art_operations.specs.Steps.{SameNodes, MayRefuse, Promises}
+use Rattle.art_operations.specs.Steps.{SameNodes, MayRefuse, Promises, TouchesBy}
 use Rattle.art_operations.specs.declared.delete.DeletePoint.{DeletePoint}
 use Rattle.art_operations.specs.declared.insert.InsertKind.{InsertKind}
 use Rattle.art_operations.specs.declared.insert.InsertKind.TheVariants.{MismatchPrefix, SplitLeaf, Exact, IntoExisting}
 use Rattle.art_operations.specs.declared.insert.InsertPoint.{InsertPoint}
 use Rattle.art_operations.specs.declared.insert.InsertPrefixError.{InsertPrefixError}
 use Rattle.art_operations.specs.declared.run.Command.{Command}
-use Rattle.art_operations.specs.declared.run.Command.TheVariants.{Insert, Delete, DeleteMin, DeleteMax, Contains, LongestMatch}
+use Rattle.art_operations.specs.declared.run.Command.TheVariants.{Insert, InsertPrefix, Delete, DeleteMin, DeleteMax, Contains, LongestMatch}
 use Rattle.art_operations.specs.declared.run.Reply.TheVariants.{Inserted, Conflict, Deleted, NoMemory}
 use Rattle.art_operations.proofs.Standing.{tree_stays}
 use Rattle.art_operations.proofs.Moves.{Layout, StepFrom, has_tree, own_pairs, nothing, in_first}
@@ -42,10 +42,10 @@ use Rattle.art_operations.proofs.Needed.{needs_inserted, needs_deleted}
 
 module _ {K V : Type 0} {s t : Nodes K V} where
   -- fewer names are at most as many
-  touches_more : (a b c p f h : ℕ) → a ≤ p → b ≤ f → c ≤ h → TouchesAtMost a b c s t → TouchesAtMost p f h s t
+  pub touches_more : (a b c p f h : ℕ) → a ≤ p → b ≤ f → c ≤ h → TouchesAtMost a b c s t → TouchesAtMost p f h s t
   touches_more a b c p f h x y w (placed, freed, changed, print, l, m, n) = (placed, freed, changed, print, omega arith, omega arith, omega arith)
 
-  insertion_touches : (kind : InsertKind) → Touches kind s t → TouchesAtMost 2 2 4 s t
+  pub insertion_touches : (kind : InsertKind) → Touches kind s t → TouchesAtMost 2 2 4 s t
   insertion_touches (Exact p) h = touches_more 0 0 1 2 2 4 (omega arith) (omega arith) (omega arith) h
   insertion_touches (SplitLeaf p used) h = touches_more 2 0 3 2 2 4 (omega arith) (omega arith) (omega arith) h
   insertion_touches (MismatchPrefix mismatch p) h = touches_more 2 0 4 2 2 4 (omega arith) (omega arith) (omega arith) h
@@ -181,6 +181,16 @@ module _ {K V : Type 0} (bytes : K → List ℕ) (P : ℕ) {s : Nodes K V} {root
 
   -- ---- deletion
 
+  -- a deletion touches a few names, whatever command asks for it
+  touched : (t z : Nodes K V) (x : K × V) (new : Option (Layout K V)) (d : Command K V) → Answers bytes (pairs_of layout) d (Deleted (Some x)) (remove_key (of_key bytes) (bytes x.0) (pairs_of layout)) → TouchesAtMost 2 2 4 s t → TouchesBy bytes (in_first s z (Some layout)) d (in_first t z new)
+  touched t z x new (Insert k v) h few = few
+  touched t z x new (InsertPrefix k v) h few = absurd h
+  touched t z x new (Delete key) h few = few
+  touched t z x new DeleteMin h few = few
+  touched t z x new DeleteMax h few = few
+  touched t z x new (Contains key) h few = few
+  touched t z x new (LongestMatch key) h few = few
+
   module _ {t : Nodes K V} {c : Command K V} {x : K × V} {point : DeletePoint} (z : Nodes K V) (leads : LeadsTo layout x point) (takes : Answers bytes (pairs_of layout) c (Deleted (Some x)) (remove_key (of_key bytes) (bytes x.0) (pairs_of layout))) where
     pub deleted_step : {after : Option OpaqueNodePtr} → HasDeleted bytes P s t layout x point after → StepFrom bytes P s t z (Some layout) c (Deleted (Some x)) after
     deleted_step {after} is =
@@ -191,7 +201,7 @@ module _ {K V : Type 0} (bytes : K → List ℕ) (P : ℕ) {s : Nodes K V} {root
             answers = subst (λ new. Answers bytes (pairs_of layout) c (Deleted (Some x)) new) (sym has.pairs_are) takes;
             refuses = tt;
             sound = has.sound;
-            changes = record { side = refl; kept = is.kept (remove_key (of_key bytes) (bytes x.0) (pairs_of layout)) has.tree has.is_root; touches = deletion_touches (parent_change s point.path) is.touches; other = refl };
+            changes = record { side = refl; kept = is.kept (remove_key (of_key bytes) (bytes x.0) (pairs_of layout)) has.tree has.is_root; touches = touched t z x has.tree c takes (deletion_touches (parent_change s point.path) is.touches); other = refl };
             promises = is.promise ∙ ap (λ placed. promise_after placed s.promise) (needs_deleted bytes P by c x point leads takes);
           },
         )
@@ -211,6 +221,7 @@ module _ {K V : Type 0} (bytes : K → List ℕ) (P : ℕ) {s : Nodes K V} {root
       where
         answers : (d : Command K V) → Answers bytes (pairs_of layout) d (Deleted (Some x)) (remove_key (of_key bytes) (bytes x.0) (pairs_of layout)) → Answers bytes (pairs_of layout) d (NoMemory None) (pairs_of layout)
         answers (Insert k v) h = absurd h
+        answers (InsertPrefix k v) h = absurd h
         answers (Delete key) h = (refl, refl)
         answers DeleteMin h = (refl, refl)
         answers DeleteMax h = (refl, refl)
@@ -219,6 +230,7 @@ module _ {K V : Type 0} (bytes : K → List ℕ) (P : ℕ) {s : Nodes K V} {root
 
         refuses : (d : Command K V) → Answers bytes (pairs_of layout) d (Deleted (Some x)) (remove_key (of_key bytes) (bytes x.0) (pairs_of layout)) → (is_covered (needs bytes P d (pairs_of layout)) s.promise ≡ true → ⊥) → MayRefuse bytes P d (in_first s z (Some layout))
         refuses (Insert k v) h off = absurd h
+        refuses (InsertPrefix k v) h off = absurd h
         refuses (Delete key) h off = off
         refuses DeleteMin h off = off
         refuses DeleteMax h off = off
@@ -227,6 +239,7 @@ module _ {K V : Type 0} (bytes : K → List ℕ) (P : ℕ) {s : Nodes K V} {root
 
         promises : (d : Command K V) → Answers bytes (pairs_of layout) d (Deleted (Some x)) (remove_key (of_key bytes) (bytes x.0) (pairs_of layout)) → t.promise ≡ no_promise → Promises bytes P (in_first s z (Some layout)) d (NoMemory None) (in_first t z (Some layout))
         promises (Insert k v) h void = absurd h
+        promises (InsertPrefix k v) h void = absurd h
         promises (Delete key) h void = inr void
         promises DeleteMin h void = inr void
         promises DeleteMax h void = inr void

@@ -1,17 +1,18 @@
 -- What each command answers, and what it makes of the pairs.
-use Rattle.std.specs.Prelude.{◌≡◌, ℕ, List, length, map, Some, None, true, false}
+use Rattle.std.specs.Prelude.{◌≡◌, ◌≢◌, ℕ, List, length, map, Some, None, true, false}
 use Rattle.std.specs.Option.{option_to_list}
 use Rattle.std.specs.Box.{boxed_slice_items}
-use Rattle.art_model.specs.Pairs.{first_of, last_of, without_first, without_last, match_of, put, put_reply, remove_key, remove_reply, of_key, is_conflict, has_key}
+use Rattle.art_model.specs.Pairs.{first_of, last_of, without_first, without_last, match_of, put, put_reply, overwrite, overwrite_reply, remove_key, remove_reply, of_key, is_conflict, has_key, related_to}
 use Rattle.art_operations.specs.declared.run.Command.{Command}
-use Rattle.art_operations.specs.declared.run.Command.TheVariants.{Insert, Delete, DeleteMin, DeleteMax, Contains, LongestMatch}
+use Rattle.art_operations.specs.declared.run.Command.TheVariants.{Insert, InsertPrefix, Delete, DeleteMin, DeleteMax, Contains, LongestMatch}
 use Rattle.art_operations.specs.declared.run.Reply.{Reply}
-use Rattle.art_operations.specs.declared.run.Reply.TheVariants.{Inserted, Conflict, Deleted, Found, MatchLen, NoMemory}
+use Rattle.art_operations.specs.declared.run.Reply.TheVariants.{Inserted, Conflict, Overwrote, Deleted, Found, MatchLen, NoMemory}
 
 module _ {K V : Type 0} (bytes : K → List ℕ) where
   -- the pairs that a command leaves where it is carried out
   abbrev pub pairs_after : Command K V → List (K × V) → List (K × V)
   pairs_after (Insert k v) old = put (of_key bytes) (k, v) old
+  pairs_after (InsertPrefix k v) old = overwrite (of_key bytes) (k, v) old
   pairs_after (Delete key) old = remove_key (of_key bytes) key.items old
   pairs_after DeleteMin old = without_first old
   pairs_after DeleteMax old = without_last old
@@ -22,6 +23,8 @@ module _ {K V : Type 0} (bytes : K → List ℕ) where
   Answers old (Insert k v) (Inserted before) new = (is_conflict (of_key bytes) (bytes k) old ≡ false) × (before ≡ put_reply (of_key bytes) (k, v) old) × (new ≡ pairs_after (Insert k v) old)
   Answers old (Insert k v) (Conflict key value error) new = (is_conflict (of_key bytes) (bytes k) old ≡ true) × (key ≡ k) × (value ≡ v) × (boxed_slice_items error.byte_repr ≡ bytes k) × (new ≡ old)
   Answers old (Insert k v) (NoMemory pair) new = (has_key (of_key bytes) (bytes k) old ≡ false) × (pair ≡ Some (k, v)) × (new ≡ old)
+  Answers old (InsertPrefix k v) (Overwrote before count) new = ((before, count) ≡ overwrite_reply (of_key bytes) (k, v) old) × (new ≡ pairs_after (InsertPrefix k v) old)
+  Answers old (InsertPrefix k v) (NoMemory pair) new = (length (related_to (of_key bytes) (bytes k) old) ≢ 1) × (pair ≡ Some (k, v)) × (new ≡ old)
   Answers old (Delete key) (Deleted pair) new = (pair ≡ remove_reply (of_key bytes) key.items old) × (new ≡ pairs_after (Delete key) old)
   Answers old DeleteMin (Deleted pair) new = (pair ≡ first_of old) × (new ≡ pairs_after DeleteMin old)
   Answers old DeleteMax (Deleted pair) new = (pair ≡ last_of old) × (new ≡ pairs_after DeleteMax old)

@@ -6,6 +6,9 @@ pub mod Matching
 pub mod Walks
 pub mod Points
 pub mod Writes
+pub mod Iterators
+pub mod Freed
 pub mod Inserted
+pub mod Overwritten
 pub mod Branches
 pub mod Deleted

@@ -1,13 +1,13 @@
 -- What a command has placed in a store, as its pairs tell: a leaf, and an inner node of the kind of which the tree then has more.
-use Rattle.std.specs.Prelude.{ℕ, ◌+◌, cond, eqb, ltb, List, Option, Some, None}
+use Rattle.std.specs.Prelude.{ℕ, ◌+◌, cond, eqb, ltb, List, length, Option, Some, None}
 use Rattle.art_nodes.specs.Nodes.{Promise, kind_index}
 use Rattle.art_nodes.specs.declared.node.NodeType.{NodeType}
 use Rattle.art_nodes.specs.declared.node.NodeType.TheVariants.{Node4, Node16, Node48, Node256}
-use Rattle.art_model.specs.Pairs.{of_key, has_key}
+use Rattle.art_model.specs.Pairs.{of_key, has_key, related_to}
 use Rattle.art_model.specs.Trees.{Tree, leaf, inner, Children, child, no_child, tree_of}
 use Rattle.art_operations.specs.Answers.{pairs_after}
 use Rattle.art_operations.specs.declared.run.Command.{Command}
-use Rattle.art_operations.specs.declared.run.Command.TheVariants.{Insert}
+use Rattle.art_operations.specs.declared.run.Command.TheVariants.{Insert, InsertPrefix}
 
 module _ {N A : Type 0} (kind : NodeType) where
   -- how many inner nodes of this kind a tree has
@@ -31,9 +31,10 @@ module _ {K V : Type 0} (bytes : K → List ℕ) (P : ℕ) where
   abbrev pub inner_count : List (K × V) → NodeType → ℕ
   inner_count pairs kind = elim (tree_of (of_key bytes) pairs P 0) [ None ↦ 0 | Some tree ↦ count_of kind tree ]
 
-  -- a pair that takes no other's place needs a leaf
+  -- a pair that does not take the place of just one other needs a leaf
   abbrev pub new_leaves : Command K V → List (K × V) → ℕ
   new_leaves (Insert k v) pairs = cond (has_key (of_key bytes) (bytes k) pairs) 0 1
+  new_leaves (InsertPrefix k v) pairs = cond (eqb (length (related_to (of_key bytes) (bytes k) pairs)) 1) 0 1
   new_leaves command pairs = 0
 
   -- what a command places where these are the pairs

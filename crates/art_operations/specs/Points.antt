@@ -1,5 +1,5 @@
 -- The points at which keys come into a tree: what a point says of its key's end node.
-use Rattle.std.specs.Prelude.{◌≡◌, ◌≢◌, ℕ, ◌+◌, ◌<◌, ◌≤◌, true, false, List, [], ◌∷◌, length, drop, get_or, slice_get, Option, Some, None, Result, Ok, Err}
+use Rattle.std.specs.Prelude.{◌≡◌, ◌≢◌, ℕ, ◌+◌, ◌-◌, ◌<◌, ◌≤◌, cond, eqb, Bool, true, false, List, [], ◌∷◌, length, drop, get_or, slice_get, Option, Some, None, Result, Ok, Err}
 use Rattle.std.specs.Box.{boxed_slice_items}
 use Rattle.art_nodes.specs.Inner.{child_at}
 use Rattle.art_nodes.specs.Names.{leaf_name, inner_name}
@@ -22,6 +22,9 @@ use Rattle.art_operations.specs.declared.insert.InsertKind.TheVariants.{Mismatch
 use Rattle.art_operations.specs.declared.insert.InsertPoint.{InsertPoint}
 use Rattle.art_operations.specs.declared.insert.InsertSearchError.{InsertSearchError}
 use Rattle.art_operations.specs.declared.insert.InsertSearchError.TheVariants.{Prefix, Memory}
+use Rattle.art_operations.specs.declared.insert.OverwritePoint.{OverwritePoint}
+use Rattle.art_operations.specs.declared.insert.PrefixInsertPoint.{PrefixInsertPoint}
+use Rattle.art_operations.specs.declared.insert.PrefixInsertPoint.TheVariants as points
 use Rattle.art_operations.specs.declared.insert.Spot.{Spot}
 use Rattle.art_operations.specs.declared.insert.Step.{Step}
 use Rattle.art_operations.specs.declared.insert.Step.TheVariants.{Point, Down}
@@ -75,6 +78,32 @@ module _ {A : Type 0} (bytes : A → List ℕ) (P : ℕ) (key : List ℕ) (node 
   IsKindOf used (MismatchPrefix mismatch p) =
       (used ≡ depth) × ((header : Header) × (children : Children OpaqueNodePtr A) × (node ≡ inner (inner_name p) header children) × IsMismatch mismatch × (depth + mismatch.matched_bytes < length key))
 
+-- whether the point is one to overwrite
+abbrev pub overwrites : PrefixInsertPoint → Bool
+overwrites (points.InsertPoint point) = false
+overwrites (points.OverwritePoint point) = true
+
+-- how many bytes are used of a key that ends in an inner node's prefix, by the node's depth and the prefix: all but the last one, if there is any, where the key ends with the prefix, and else those that lead to the node
+abbrev pub used_in_prefix : List ℕ → ℕ → List ℕ → ℕ
+used_in_prefix key depth prefix = cond (eqb (length key) (depth + length prefix)) (length key - 1) depth
+
+module _ {A : Type 0} (bytes : A → List ℕ) (key : List ℕ) (depth : ℕ) where
+  -- what an overwrite point's number of bytes used says of the node, all of whose keys give way: by cases, a leaf whose key and the key are related but not equal; an inner node where the key ends in the prefix or with it
+  abbrev pub IsOverwrittenWith : ℕ → Tree OpaqueNodePtr A → Type 0
+  IsOverwrittenWith used (leaf n pair) = (used ≡ depth) × (are_related key (bytes pair) ≡ true) × (key ≢ bytes pair)
+  IsOverwrittenWith used (inner n h cs) = (used ≡ used_in_prefix key depth (prefix_of bytes depth (inner n h cs))) × IsFront (drop depth key) (prefix_of bytes depth (inner n h cs))
+
+module _ {A : Type 0} (bytes : A → List ℕ) where
+  -- The point names the tree's root and the key's end node, which gives way, with the parent and the grandparent of that and the bytes that lead down.
+  pub record AnswersToOverwrite (layout : Tree OpaqueNodePtr A) (key : List ℕ) (point : OverwritePoint) : Type 0 where
+    pub path : List (Frame OpaqueNodePtr A)
+    pub node : Tree OpaqueNodePtr A
+    pub is_end : IsEndNode bytes layout key path node
+    pub root_is : point.root ≡ name_of layout
+    pub path_is : point.path ≡ path_of path
+    pub name_is : point.overwrite_point ≡ name_of node
+    pub gives_way : IsOverwrittenWith bytes key (depth_of path) point.key_bytes_used node
+
 module _ {A : Type 0} (bytes : A → List ℕ) (P : ℕ) where
   -- The point names the tree's root and the key's end node, with the parent and the grandparent of that and the bytes that lead down.
   pub record AnswersTo (layout : Tree OpaqueNodePtr A) (key : List ℕ) (point : InsertPoint) : Type 0 where
@@ -85,10 +114,14 @@ module _ {A : Type 0} (bytes : A → List ℕ) (P : ℕ) where
     pub path_is : point.path ≡ path_of path
     pub kind_is : IsKindOf bytes P key node (depth_of path) point.key_bytes_used point.insert_kind
 
-  -- a point where the key can come in, or none where a stored key is related to it and unequal
-  abbrev pub IsPointFor : List ℕ → List A → Tree OpaqueNodePtr A → Option InsertPoint → Type 0
-  IsPointFor key pairs layout None = is_conflict bytes key pairs ≡ true
-  IsPointFor key pairs layout (Some point) = (is_conflict bytes key pairs ≡ false) × AnswersTo layout key point
+  -- a point of either kind
+  abbrev pub AnswersToPrefix : Tree OpaqueNodePtr A → List ℕ → PrefixInsertPoint → Type 0
+  AnswersToPrefix layout key (points.InsertPoint point) = AnswersTo layout key point
+  AnswersToPrefix layout key (points.OverwritePoint point) = AnswersToOverwrite bytes layout key point
+
+  -- the point of the key, which is one to overwrite exactly where a stored key is related to it and unequal
+  abbrev pub IsPointFor : List ℕ → List A → Tree OpaqueNodePtr A → PrefixInsertPoint → Type 0
+  IsPointFor key pairs layout point = (is_conflict bytes key pairs ≡ overwrites point) × AnswersToPrefix layout key point
 
   -- the spot is a node of the tree at a place that is a front of the key
   pub record IsAt (key : List ℕ) (tree : Tree OpaqueNodePtr A) (spot : Spot) : Type 0 where
@@ -104,10 +137,9 @@ module _ {A : Type 0} (bytes : A → List ℕ) (P : ℕ) where
     pub path_is : spot.path ≡ path_of frames
 
   -- a step from this depth comes to the key's point, or further down
-  abbrev pub IsStepFrom : List ℕ → List A → Tree OpaqueNodePtr A → ℕ → Option Step → Type 0
-  IsStepFrom key pairs layout depth None = IsPointFor key pairs layout None
-  IsStepFrom key pairs layout depth (Some (Point point)) = IsPointFor key pairs layout (Some point)
-  IsStepFrom key pairs layout depth (Some (Down spot)) = (depth < spot.depth) × IsAt key layout spot
+  abbrev pub IsStepFrom : List ℕ → List A → Tree OpaqueNodePtr A → ℕ → Step → Type 0
+  IsStepFrom key pairs layout depth (Point point) = IsPointFor key pairs layout point
+  IsStepFrom key pairs layout depth (Down spot) = (depth < spot.depth) × IsAt key layout spot
 
 -- where a leaf's key and the key are related and unequal there is no kind
 abbrev pub IsKindFor : List ℕ → LeafPtr → List ℕ → Option InsertKind → Type 0

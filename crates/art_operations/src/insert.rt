@@ -24,6 +24,7 @@ use thiserror::Error;
 mod apply;
 mod branch;
 mod existing;
+mod overwrite;
 
 /// A key that can't be inserted: a stored key begins with it, or it begins with a stored key.
 #[derive(PartialEq, Eq, Debug, Drop, Error)]
@@ -95,6 +96,39 @@ pub enum InsertKind {
     },
 }
 
+/// Where the leaf of a key comes in the place of all pairs with related keys, at least one of which is
+/// unequal: the key's end node gives way.
+#[derive(Clone, Copy, PartialEq, Eq, Debug)]
+pub struct OverwritePoint {
+    /// The nodes right above the key's end node.
+    pub path: TreePath,
+    /// The end node: a leaf, or an inner node in whose prefix the key ends.
+    pub overwrite_point: OpaqueNodePtr,
+    /// The length of the end node's place; where the key ends with the node's prefix, one less than the
+    /// key's length, if that is not 0.
+    pub key_bytes_used: usize,
+    /// The tree's root.
+    pub root: OpaqueNodePtr,
+}
+
+/// Where a key comes into a tree in the place of all related keys.
+#[derive(Clone, Copy, PartialEq, Eq, Debug)]
+pub enum PrefixInsertPoint {
+    /// No stored key is related to the key, or only an equal one.
+    InsertPoint(InsertPoint),
+    /// An unequal stored key is related to the key.
+    OverwritePoint(OverwritePoint),
+}
+
+/// What a prefix insertion did.
+#[derive(Drop)]
+pub struct PrefixInsertResult<K, V> {
+    /// The leaf of the key. `existing_leaf` has the pair that gave way, if it was the only one.
+    pub insert_result: InsertResult<K, V>,
+    /// How many leaves were freed: none where a leaf's pair was replaced.
+    pub leafs_removed: usize,
+}
+
 /// What an insertion did.
 #[derive(Drop)]
 pub struct InsertResult<K, V> {
@@ -144,9 +178,33 @@ pub fn search_for_insert_point<K: AsBytes + Drop, V: Drop, const PREFIX_LEN: usi
     ensures point { ForTree (of_key K.bytes) PREFIX_LEN store.now root (λ pairs layout. IfOk result (λ point. AnswersTo (of_key K.bytes) PREFIX_LEN layout key_bytes.now point)) }
     ensures refused { IfErr result (λ error. IsRefusedFor key_bytes.now error) }
 {
-    match find_point(store, root, key_bytes) {
-        Some(point) => Ok(point),
-        None => Err(refusal(store.alloc(), key_bytes)),
+    match search_for_prefix_insert_point(store, root, key_bytes) {
+        PrefixInsertPoint::InsertPoint(point) => Ok(point),
+        PrefixInsertPoint::OverwritePoint(_) => Err(refusal(store.alloc(), key_bytes)),
+    }
+}
+
+/// The point of a key that takes the place of all related keys, in the tree of a canonical root.
+///
+/// It goes the way of `search_for_insert_point`, at the same cost, and takes no memory.
+pub fn search_for_prefix_insert_point<K: AsBytes + Drop, V: Drop, const PREFIX_LEN: usize>(
+    store: &NodeStore<K, V, PREFIX_LEN>,
+    root: OpaqueNodePtr,
+    key_bytes: &[u8],
+) -> PrefixInsertPoint
+    requires { IsCanonicalRoot (of_key K.bytes) PREFIX_LEN store.now root }
+    ensures { ForTree (of_key K.bytes) PREFIX_LEN store.now root (λ pairs layout. IsPointFor (of_key K.bytes) PREFIX_LEN key_bytes.now pairs layout result) }
+{
+    let mut spot = Spot {
+        path: TreePath::Root,
+        name: root,
+        depth: 0,
+    };
+    'down: loop {
+        match next_step(store, root, key_bytes, spot) {
+            Step::Point(point) => return point,
+            Step::Down(below) => spot = below,
+        }
     }
 }
 
@@ -157,28 +215,6 @@ fn refusal(alloc: Global, key_bytes: &[u8]) -> InsertSearchError
     match BoxedSlice::from_slice(alloc, key_bytes) {
         Ok(byte_repr) => InsertSearchError::Prefix(InsertPrefixError { byte_repr }),
         Err(error) => InsertSearchError::Memory(error),
-    }
-}
-
-// Goes down with a key to its end node, comparing whole prefixes.
-fn find_point<K: AsBytes + Drop, V: Drop, const PREFIX_LEN: usize>(
-    store: &NodeStore<K, V, PREFIX_LEN>,
-    root: OpaqueNodePtr,
-    key_bytes: &[u8],
-) -> Option<InsertPoint>
-    requires { IsCanonicalRoot (of_key K.bytes) PREFIX_LEN store.now root }
-    ensures { ForTree (of_key K.bytes) PREFIX_LEN store.now root (λ pairs layout. IsPointFor (of_key K.bytes) PREFIX_LEN key_bytes.now pairs layout result) }
-{
-    let mut spot = Spot {
-        path: TreePath::Root,
-        name: root,
-        depth: 0,
-    };
-    'down: loop {
-        match next_step(store, root, key_bytes, spot)? {
-            Step::Point(point) => return Some(point),
-            Step::Down(below) => spot = below,
-        }
     }
 }
 
@@ -193,21 +229,36 @@ struct Spot {
 }
 
 impl Spot {
+    ghost use Rattle.art_operations.specs.declared.insert.PrefixInsertPoint.TheVariants as points;
+    ghost use Rattle.art_operations.specs.declared.insert.Step.TheVariants as steps;
+
     // The point at this node.
     fn point(
         self,
         root: OpaqueNodePtr,
         insert_kind: InsertKind,
         key_bytes_used: usize,
-    ) -> InsertPoint
-        ensures { result ≡ record { path = self.path; insert_kind = insert_kind; key_bytes_used = key_bytes_used; root = root } }
+    ) -> Step
+        ensures { result ≡ steps.Point (points.InsertPoint (record { path = self.path; insert_kind = insert_kind; key_bytes_used = key_bytes_used; root = root })) }
     {
-        InsertPoint {
+        Step::Point(PrefixInsertPoint::InsertPoint(InsertPoint {
             path: self.path,
             insert_kind,
             key_bytes_used,
             root,
-        }
+        }))
+    }
+
+    // The point at this node where it gives way.
+    fn overwrite(self, root: OpaqueNodePtr, key_bytes_used: usize) -> Step
+        ensures { result ≡ steps.Point (points.OverwritePoint (record { path = self.path; overwrite_point = self.name; key_bytes_used = key_bytes_used; root = root })) }
+    {
+        Step::Point(PrefixInsertPoint::OverwritePoint(OverwritePoint {
+            path: self.path,
+            overwrite_point: self.name,
+            key_bytes_used,
+            root,
+        }))
     }
 }
 
@@ -215,18 +266,18 @@ impl Spot {
 #[derive(Clone, Copy)]
 enum Step {
     /// The key's point.
-    Point(InsertPoint),
+    Point(PrefixInsertPoint),
     /// A child that the key goes on with.
     Down(Spot),
 }
 
-// One step on the way down, or `None` where an unequal stored key is related to the key.
+// One step on the way down.
 fn next_step<K: AsBytes + Drop, V: Drop, const PREFIX_LEN: usize>(
     store: &NodeStore<K, V, PREFIX_LEN>,
     root: OpaqueNodePtr,
     key_bytes: &[u8],
     spot: Spot,
-) -> Option<Step>
+) -> Step
     requires root { IsCanonicalRoot (of_key K.bytes) PREFIX_LEN store.now root }
     requires spot { ForTree (of_key K.bytes) PREFIX_LEN store.now root (λ pairs layout. IsAt (of_key K.bytes) PREFIX_LEN key_bytes.now layout spot) }
     ensures { ForTree (of_key K.bytes) PREFIX_LEN store.now root (λ pairs layout. IsStepFrom (of_key K.bytes) PREFIX_LEN key_bytes.now pairs layout spot.depth result) }
@@ -237,8 +288,10 @@ fn next_step<K: AsBytes + Drop, V: Drop, const PREFIX_LEN: usize>(
             let Some(leaf) = store.leaf(leaf_node_ptr) else {
                 unreachable!()
             };
-            let insert_kind = kind_at_leaf(leaf_node_ptr, leaf, key_bytes)?;
-            Some(Step::Point(spot.point(root, insert_kind, spot.depth)))
+            match kind_at_leaf(leaf_node_ptr, leaf, key_bytes) {
+                Some(insert_kind) => spot.point(root, insert_kind, spot.depth),
+                None => spot.overwrite(root, spot.depth),
+            }
         }
     }
 }
@@ -250,7 +303,7 @@ fn step_at_inner<K: AsBytes + Drop, V: Drop, const PREFIX_LEN: usize>(
     key_bytes: &[u8],
     spot: Spot,
     inner: InnerPtr,
-) -> Option<Step>
+) -> Step
     requires root { IsCanonicalRoot (of_key K.bytes) PREFIX_LEN store.now root }
     requires spot { ForTree (of_key K.bytes) PREFIX_LEN store.now root (λ pairs layout. IsAt (of_key K.bytes) PREFIX_LEN key_bytes.now layout spot) }
     requires inner { inner.kind ≢ Leaf }
@@ -261,18 +314,18 @@ fn step_at_inner<K: AsBytes + Drop, V: Drop, const PREFIX_LEN: usize>(
         Ok(matched) => matched,
         Err(mismatch) => {
             if spot.depth + mismatch.matched_bytes >= key_bytes.len() {
-                return None;
+                return spot.overwrite(root, spot.depth);
             }
             let insert_kind = InsertKind::MismatchPrefix {
                 mismatch,
                 mismatched_inner_node_ptr: inner,
             };
-            return Some(Step::Point(spot.point(root, insert_kind, spot.depth)));
+            return spot.point(root, insert_kind, spot.depth);
         }
     };
     let depth = spot.depth + matched.matched_bytes;
     if depth >= key_bytes.len() {
-        return None;
+        return spot.overwrite(root, depth.saturating_sub(1));
     }
     let Some(node) = store.inner(inner) else {
         unreachable!()
@@ -282,13 +335,13 @@ fn step_at_inner<K: AsBytes + Drop, V: Drop, const PREFIX_LEN: usize>(
         let insert_kind = InsertKind::IntoExisting {
             inner_node_ptr: inner,
         };
-        return Some(Step::Point(spot.point(root, insert_kind, depth)));
+        return spot.point(root, insert_kind, depth);
     };
-    Some(Step::Down(Spot {
+    Step::Down(Spot {
         path: spot.path.step_down(inner, byte),
         name: child,
         depth: depth + 1,
-    }))
+    })
 }
 
 // What is to be done at a leaf, or `None` where its key and the key are related but not equal.

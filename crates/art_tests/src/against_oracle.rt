@@ -20,6 +20,7 @@ use std::test::Fail;
 enum Content<'a> {
     Inserted(Option<(&'a [u8], u32)>),
     Conflict(&'a [u8], u32, &'a [u8]),
+    Overwrote(Option<(&'a [u8], u32)>, usize),
     Deleted(Option<(&'a [u8], u32)>),
     Found(bool),
     MatchLen(Option<usize>),
@@ -30,6 +31,7 @@ fn content_of(reply: &Reply<Key, u32>) -> Content<'_> {
     match reply {
         Reply::Inserted(old) => Content::Inserted(pair_content(old)),
         Reply::Conflict(key, value, error) => Content::Conflict(key, *value, &error.byte_repr),
+        Reply::Overwrote(old, count) => Content::Overwrote(pair_content(old), *count),
         Reply::Deleted(pair) => Content::Deleted(pair_content(pair)),
         Reply::Found(is_found) => Content::Found(*is_found),
         Reply::MatchLen(len) => Content::MatchLen(*len),
@@ -45,6 +47,7 @@ fn pair_content(pair: &Option<(Key, u32)>) -> Option<(&[u8], u32)> {
 fn copy_of(command: &Command<Key, u32>) -> Result<Command<Key, u32>, AllocError> {
     Ok(match command {
         Command::Insert(key, value) => Command::Insert(key.clone()?, *value),
+        Command::InsertPrefix(key, value) => Command::InsertPrefix(key.clone()?, *value),
         Command::Delete(key) => Command::Delete(key.clone()?),
         Command::DeleteMin => Command::DeleteMin,
         Command::DeleteMax => Command::DeleteMax,

@@ -50,6 +50,11 @@ pub fn write_reply(output: &mut impl Write, reply: &Reply<Vec<u8>, u32>) -> io::
     match reply {
         Reply::Inserted(None) => writeln!(output, "inserted"),
         Reply::Inserted(Some((key, value))) => writeln!(output, "replaced {} {value}", Key(key)),
+        Reply::Overwrote(None, 0) => writeln!(output, "inserted"),
+        Reply::Overwrote(None, count) => writeln!(output, "removed {count}"),
+        Reply::Overwrote(Some((key, value)), _) => {
+            writeln!(output, "replaced {} {value}", Key(key))
+        }
         Reply::Conflict(_, _, error) => writeln!(output, "conflict: {error}"),
         Reply::Deleted(None) => writeln!(output, "absent"),
         Reply::Deleted(Some((key, value))) => writeln!(output, "deleted {} {value}", Key(key)),

@@ -6,8 +6,8 @@ unreachable-requires g c =
     let (pairs, layout, by) = c.requires.root in
     leaf_there by (c.requires.spot pairs layout by) c.in-Leaf.ensures.name c.in_default.ensures
 
-pub returns-in_err-insert_kind-in-Leaf : goal.returns-in_err-insert_kind-in-Leaf
-returns-in_err-insert_kind-in-Leaf g c pairs layout by = rw c.from_residual.ensures (leaf_conflict by (c.requires.spot pairs layout by) c.in-Leaf.ensures.name c.in-Some.ensures c.in_err-insert_kind-in-Leaf.ensures)
+pub returns-in-None : goal.returns-in-None
+returns-in-None g c pairs layout by = rw c.overwrite.ensures (leaf_conflict by (c.requires.spot pairs layout by) c.in-Leaf.ensures.name c.in-Some.ensures c.in-None.ensures)
 
-pub returns-in_ok-insert_kind-in-Leaf : goal.returns-in_ok-insert_kind-in-Leaf
-returns-in_ok-insert_kind-in-Leaf g c pairs layout by = rw c.point.ensures (leaf_point by (c.requires.spot pairs layout by) c.in-Leaf.ensures.name c.in-Some.ensures c.in_ok-insert_kind-in-Leaf.insert_kind c.in_ok-insert_kind-in-Leaf.ensures)
+pub returns-in-Some-kind_at_leaf : goal.returns-in-Some-kind_at_leaf
+returns-in-Some-kind_at_leaf g c pairs layout by = rw c.point.ensures (leaf_point by (c.requires.spot pairs layout by) c.in-Leaf.ensures.name c.in-Some.ensures c.in-Some-kind_at_leaf.insert_kind c.in-Some-kind_at_leaf.ensures)

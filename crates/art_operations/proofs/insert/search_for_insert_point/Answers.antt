@@ -2,11 +2,11 @@ use Rattle.std.proofs.Common.{refl, sym, ◌∙◌}
 use Rattle.std.proofs.lemmas.Bool.{true≢false, false≢true}
 use Rattle.art_operations.proofs.insert.search_for_insert_point.Goals as goal
 
-pub returns-in-Some-clause-accepted : goal.returns-in-Some-clause-accepted
-returns-in-Some-clause-accepted g c pairs layout by = ((λ ok. (c.in-Some.ensures pairs layout by).0), (λ free. refl))
+pub returns-in-InsertPoint-clause-accepted : goal.returns-in-InsertPoint-clause-accepted
+returns-in-InsertPoint-clause-accepted g c pairs layout by = ((λ ok. (c.in-InsertPoint.ensures pairs layout by).0), (λ free. refl))
 
-pub returns-in-Some-clause-point : goal.returns-in-Some-clause-point
-returns-in-Some-clause-point g c pairs layout by = (c.in-Some.ensures pairs layout by).1
+pub returns-in-InsertPoint-clause-point : goal.returns-in-InsertPoint-clause-point
+returns-in-InsertPoint-clause-point g c pairs layout by = (c.in-InsertPoint.ensures pairs layout by).1
 
-pub returns-in-None-clause-accepted : goal.returns-in-None-clause-accepted
-returns-in-None-clause-accepted g c pairs layout by = ((λ ok. absurd (false≢true ok)), (λ free. absurd (true≢false (sym (c.in-None.ensures pairs layout by) ∙ free))))
+pub returns-in-OverwritePoint-clause-accepted : goal.returns-in-OverwritePoint-clause-accepted
+returns-in-OverwritePoint-clause-accepted g c pairs layout by = ((λ ok. absurd (false≢true ok)), (λ free. absurd (true≢false (sym (c.in-OverwritePoint.ensures pairs layout by).0 ∙ free))))

@@ -20,7 +20,7 @@ pub returns-then-spot-mismatch : goal.returns-then-spot-mismatch
 returns-then-spot-mismatch g c pairs layout by =
     let d = c.requires.spot pairs layout by in
     let (shown, at) = some_shown by d c.requires.inner c.requires.name in
-    mismatch_conflict by d at (c.in-Err.ensures d.node (part_there by d c.requires.name)) c.if-spot-mismatch.true
+    rw c.overwrite.ensures (mismatch_conflict by d at (c.in-Err.ensures d.node (part_there by d c.requires.name)) c.if-spot-mismatch.true)
 
 pub returns-in-Err : goal.returns-in-Err
 returns-in-Err g c pairs layout by =
@@ -39,7 +39,7 @@ pub returns-then-depth-key_bytes : goal.returns-then-depth-key_bytes
 returns-then-depth-key_bytes g c pairs layout by =
     let d = c.requires.spot pairs layout by in
     let (shown, at) = some_shown by d c.requires.inner c.requires.name in
-    prefix_conflict by d at (c.in-Ok.ensures d.node (part_there by d c.requires.name)) c.if-depth-key_bytes.true
+    rw (c.overwrite-then-depth-key_bytes.ensures, c.saturating_sub.ensures) (prefix_conflict by d at (c.in-Ok.ensures d.node (part_there by d c.requires.name)) c.if-depth-key_bytes.true)
 
 pub unreachable-requires : goal.unreachable-requires
 unreachable-requires g c =

@@ -5,6 +5,9 @@ use Rattle.art_operations.proofs.run.answer.Goals as goal
 pub returns-in-Insert : goal.returns-in-Insert
 returns-in-Insert g c second = rw c.in-Insert.is (c.insert.ensures second)
 
+pub returns-in-InsertPrefix : goal.returns-in-InsertPrefix
+returns-in-InsertPrefix g c second = rw c.in-InsertPrefix.is (c.insert_prefix.ensures second)
+
 pub returns-in-Delete : goal.returns-in-Delete
 returns-in-Delete g c second = rw c.in-Delete.is (c.delete.ensures second)
 

@@ -2,7 +2,7 @@ use Rattle.std.proofs.Common.{◌-◌, length}
 use Rattle.art_model.specs.Pairs.{of_key}
 use Rattle.art_model.specs.Roots.{ForTree}
 use Rattle.art_operations.specs.Points.{IsAt}
-use Rattle.art_operations.proofs.insert.find_point.Given as goal
+use Rattle.art_operations.proofs.insert.search_for_prefix_insert_point.Given as goal
 
 abbrev pub invariant-down : goal.invariant-down
 invariant-down g l = ForTree (of_key g.K.AsBytes.bytes) g.row.PREFIX_LEN l.store l.fn.root (λ pairs layout. IsAt (of_key g.K.AsBytes.bytes) g.row.PREFIX_LEN l.key_bytes layout l.spot)
