@@ -11,7 +11,7 @@ use Rattle.art_nodes.proofs.NameLemmas.{inner_cmp_total}
 use Rattle.art_nodes.proofs.StoreLaws.{gone_elsewhere}
 use Rattle.art_nodes.proofs.NameLemmas.{inner_cmp-IsAntisymmetric}
 use Rattle.art_model.specs.Trees.{Tree, leaf, inner, Children, child, no_child}
-use Rattle.art_model.specs.Layouts.{Node, name_of, slots_of, names_of, inner_names, inner_names_below, Holds, HoldsBelow, AreDistinct}
+use Rattle.art_model.specs.Layouts.{Node, name_of, slots_of, names_of, inner_names, inner_names_below, Holds, HoldsBelow, AreDistinct, IsLayout}
 use Rattle.art_model.specs.Heights.{highest, height, tree_height, height_below}
 use Rattle.art_model.specs.Stores.{node_at}
 use Rattle.art_model.specs.Writes.{as_inner}
@@ -85,3 +85,7 @@ module _ {K V : Type 0} (s : Nodes K V) where
       let l = height_long t in
       let k = enough_inners (inner_names t) s.inners (taken_distinct takes_inners t d) (inners_held t h) in
       omega arith
+
+-- the height of a tree, read off its store
+pub height_of_layout : {K V : Type 0} (s : Nodes K V) (root : OpaqueNodePtr) (tree : Tree OpaqueNodePtr (K × V)) → IsLayout (node_at s) root tree → height (node_at s) (map.len s.inners) root ≡ tree_height tree
+height_of_layout s root tree is = ap (height (node_at s) (map.len s.inners)) (sym is.named) ∙ height_is (node_at s) tree (map.len s.inners) is.holds (enough_steps s tree is.holds is.distinct)

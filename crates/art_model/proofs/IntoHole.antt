@@ -1,7 +1,7 @@
 -- A leaf takes the place of all that is in the hole, which is freed, from the equations of the store's maps: what is laid out then, and what is touched.
-use Rattle.std.proofs.Common.{◌≡◌, ◌≢◌, ℕ, ◌≤◌, suc, List, [], ◌∷◌, ◌++◌, length, length-append, map, ◌+◌, ap₂, Bool, true, false, not, Option, Some, None, refl, ap, sym, ◌∙◌, subst, arith, inl, inr}
+use Rattle.std.proofs.Common.{◌≡◌, ◌≢◌, ℕ, List, [], ◌∷◌, ◌++◌, length, length-append, map, ◌+◌, ap₂, true, false, not, Option, Some, None, refl, ap, sym, ◌∙◌, subst, arith, inl, inr}
 use Rattle.std.specs.List.{AllByRecursion as Each}
-use Rattle.std.specs.Option.{option_map, option_and_then}
+use Rattle.std.specs.Option.{option_map}
 use Rattle.std.specs.FinMap.{get}
 use Rattle.std.proofs.lemmas.List.{length-map}
 use Rattle.art_nodes.specs.Names.{leaf_name, inner_name}
@@ -22,7 +22,7 @@ use Rattle.art_model.specs.Stores.{Held, held, held_leaf, held_inner, node_at, s
 use Rattle.art_model.specs.Writes.{as_inner, parent_of, with_child_at, with_leaf, IsThere}
 use Rattle.art_model.specs.Footprints.{IsIn, Footprint, PlacesOneFor}
 use Rattle.art_model.specs.Kept.{ChangesInPlace, Frees}
-use Rattle.art_model.proofs.Between.{IsLocal, overwrite-between}
+use Rattle.art_model.proofs.Between.{overwrite-between}
 use Rattle.art_model.proofs.Canonical.{IsLaidOut}
 use Rattle.art_model.proofs.InHole.{both_in, names_around, parents_in}
 use Rattle.art_model.proofs.InPlace.{in_place}

@@ -143,3 +143,9 @@ module _ {N : Type 0} (links to : N → Option (Links N)) (xs ns zs : List N) (d
       linked-append to (xs ++ ns) zs None None
       (linked-append to xs ns None (first_or zs None) (linked_before (first_or ms (first_or zs None)) old) change.inside)
       (rw last_or-append (linked_after (last_or (xs ++ ms) None) rest))
+
+  -- two chains that become one
+  pub link_up : AreLinked links None xs None → AreLinked links None zs None → AreLinked to None (xs ++ ns ++ zs) None
+  link_up before after = linked-append to (xs ++ ns) zs None None
+      (linked-append to xs ns None (first_or zs None) (linked_before None before) change.inside)
+      (rw last_or-append (linked_after None after))

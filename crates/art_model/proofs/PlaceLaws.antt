@@ -22,6 +22,11 @@ by_test : {X : Type 0} (t : Bool) → (t ≡ true → X) → (t ≡ false → X)
 by_test true f g = f refl
 by_test false f g = g refl
 
+-- joined twice, in whatever order
+pub join_assoc : {N A : Type 0} (cs ds es : Children N A) → join (join cs ds) es ≡ join cs (join ds es)
+join_assoc no_child ds es = refl
+join_assoc (child b t cs) ds es = ap (child b t) (join_assoc cs ds es)
+
 -- no children on the right
 pub join_none : {N A : Type 0} (cs : Children N A) → join cs no_child ≡ cs
 join_none no_child = refl

@@ -58,7 +58,7 @@ module _ {N X : Type 0} {R : N → N → Ordering} (order : IsTotalOrder R) (sam
       go None e = subst (λ z. get z k ≢ None) (sym (changed_from m n f None e)) h
       go (Some x) e = subst (λ z. get z k ≢ None) (sym (changed_from m n f (Some x) e)) (still_placed m n k (f x) h)
 
-  still_gone : (m : FinMap R X) (n k : N) → get m k ≡ None → get (remove m n) k ≡ None
+  pub still_gone : (m : FinMap R X) (n k : N) → get m k ≡ None → get (remove m n) k ≡ None
   still_gone m n k h = get-remove order m n k ∙ none_or (eq_by_cmp R k n) (get m k) h
 
   module _ {old new : FinMap R X} {placed freed changed : List N} (so_far : Touched old new placed freed changed) where

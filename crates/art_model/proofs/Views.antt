@@ -13,7 +13,7 @@ use Rattle.art_nodes.specs.declared.node.OpaqueNodePtr.{OpaqueNodePtr}
 use Rattle.art_nodes.specs.declared.node.LeafNode.{LeafNode}
 use Rattle.art_model.specs.Trees.{Header}
 use Rattle.art_model.specs.Layouts.{Node, leaf_node, inner_node}
-use Rattle.art_model.specs.Stores.{held_leaf, held_inner, held_in, seen, node_at, header_at, pair_of}
+use Rattle.art_model.specs.Stores.{Held, held_leaf, held_inner, held_in, seen, node_at, header_at, pair_of}
 
 module _ {K V : Type 0} where
   seen_leaf : (o : Option (LeafNode K V)) (x : K × V) → option_map (seen Leaf) (option_map held_leaf o) ≡ Some (leaf_node x) → (leaf : LeafNode K V) × (o ≡ Some leaf) × (pair_of leaf ≡ x)
@@ -38,6 +38,19 @@ module _ {K V : Type 0} where
   pub seen_no_leaf : (kind : NodeType) (o : Option Inner) (x : K × V) → seen_of kind o ≡ Some (leaf_node x) → ⊥
   seen_no_leaf kind None x e = cc
   seen_no_leaf kind (Some node) x e = cc
+
+-- what is held tells what is there
+pub same_leaf : {K V : Type 0} (o q : Option (LeafNode K V)) → option_map held_leaf o ≡ option_map held_leaf q → o ≡ q
+same_leaf None None e = refl
+same_leaf None (Some b) e = absurd cc
+same_leaf (Some a) None e = absurd cc
+same_leaf (Some a) (Some b) e = ap Some cc
+
+pub same_inner_held : (K V : Type 0) (o q : Option Inner) → ◌≡◌ {A = Option (Held K V)} (option_map held_inner o) (option_map held_inner q) → o ≡ q
+same_inner_held K V None None e = refl
+same_inner_held K V None (Some b) e = absurd cc
+same_inner_held K V (Some a) None e = absurd cc
+same_inner_held K V (Some a) (Some b) e = ap Some cc
 
 module _ {K V : Type 0} (s : Nodes K V) where
   -- what is held under an inner kind

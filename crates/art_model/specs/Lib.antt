@@ -23,3 +23,5 @@ pub mod MapLaws
 pub mod PlaceLaws
 pub mod Roots
 pub mod Lookups
+pub mod Clones
+pub mod Gains

@@ -1,5 +1,5 @@
 -- What becomes of a store's promise when leaves and an inner node are placed. What is placed is written as a promise too.
-use Rattle.std.specs.Prelude.{ℕ, zero, suc, Bool, cond, Option, Some, None}
+use Rattle.std.specs.Prelude.{◌≡◌, ℕ, zero, suc, Bool, true, cond, Option, Some, None}
 use Rattle.art_nodes.specs.Nodes.{Promise, covers, no_promise, take_leaf, take_inner}
 use Rattle.art_nodes.specs.declared.node.NodeType.{NodeType}
 
@@ -20,3 +20,7 @@ is_covered placed promise = covers promise placed.leaves placed.inner
 -- what is placed is taken from a promise that covers it; else nothing is promised any more
 abbrev pub promise_after : Promise → Promise → Promise
 promise_after placed promise = cond (is_covered placed promise) (inner_taken placed.inner (leaves_taken placed.leaves promise)) no_promise
+
+-- nothing is promised after that was not promised before
+abbrev pub IsLessened : Promise → Promise → Type 0
+IsLessened before after = is_covered after before ≡ true

@@ -3,6 +3,7 @@
 //! The definitions stand in `specs/`. The functions of this crate do nothing: each has a law of the definitions as its contract.
 #![tactic(auto)]
 
+pub mod clones;
 pub mod end_nodes;
 pub mod examples;
 pub mod footprints;

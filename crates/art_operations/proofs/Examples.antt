@@ -15,6 +15,10 @@ use Rattle.art_operations.specs.declared.run.Reply.TheVariants.{Inserted, Confli
 abbrev Key : Type 0
 Key = List ℕ
 
+-- a clone is equal to its source
+abbrev is_clone : Key × ℕ → Key × ℕ → Type 0
+is_clone x y = y ≡ x
+
 abbrev bytes : Key → List ℕ
 bytes key = key
 
@@ -26,54 +30,54 @@ one = (1 ∷ [], 10)
 abbrev two_three : Key × ℕ
 two_three = (2 ∷ 3 ∷ [], 20)
 
-inserts : Answers bytes (two_three ∷ []) (Insert (1 ∷ []) 10) (Inserted None) (one ∷ two_three ∷ [])
+inserts : Answers bytes is_clone (two_three ∷ []) (Insert (1 ∷ []) 10) (Inserted None) (one ∷ two_three ∷ [])
 inserts = (refl, refl, refl)
 
-replaces : Answers bytes (one ∷ two_three ∷ []) (Insert (1 ∷ []) 11) (Inserted (Some one)) ((1 ∷ [], 11) ∷ two_three ∷ [])
+replaces : Answers bytes is_clone (one ∷ two_three ∷ []) (Insert (1 ∷ []) 11) (Inserted (Some one)) ((1 ∷ [], 11) ∷ two_three ∷ [])
 replaces = (refl, refl, refl)
 
-no_memory : Answers bytes (one ∷ []) (Insert (2 ∷ 3 ∷ []) 20) (NoMemory (Some two_three)) (one ∷ [])
+no_memory : Answers bytes is_clone (one ∷ []) (Insert (2 ∷ 3 ∷ []) 20) (NoMemory (Some two_three)) (one ∷ [])
 no_memory = (refl, refl, refl)
 
 -- a stored key is never refused for want of memory
-never_refused : (pair : Option (Key × ℕ)) (new : List (Key × ℕ)) → Answers bytes (one ∷ []) (Insert (1 ∷ []) 11) (NoMemory pair) new → ⊥
+never_refused : (pair : Option (Key × ℕ)) (new : List (Key × ℕ)) → Answers bytes is_clone (one ∷ []) (Insert (1 ∷ []) 11) (NoMemory pair) new → ⊥
 never_refused pair new h = true≢false h.0
 
-deletes_first : Answers bytes (one ∷ two_three ∷ []) DeleteMin (Deleted (Some one)) (two_three ∷ [])
+deletes_first : Answers bytes is_clone (one ∷ two_three ∷ []) DeleteMin (Deleted (Some one)) (two_three ∷ [])
 deletes_first = (refl, refl)
 
-deletes_last : Answers bytes (one ∷ two_three ∷ []) DeleteMax (Deleted (Some two_three)) (one ∷ [])
+deletes_last : Answers bytes is_clone (one ∷ two_three ∷ []) DeleteMax (Deleted (Some two_three)) (one ∷ [])
 deletes_last = (refl, refl)
 
 module _ (error : InsertPrefixError) (key : Vec ℕ) where
-  conflicts : boxed_slice_items error.byte_repr ≡ 1 ∷ 2 ∷ [] → Answers bytes (one ∷ []) (Insert (1 ∷ 2 ∷ []) 12) (Conflict (1 ∷ 2 ∷ []) 12 error) (one ∷ [])
+  conflicts : boxed_slice_items error.byte_repr ≡ 1 ∷ 2 ∷ [] → Answers bytes is_clone (one ∷ []) (Insert (1 ∷ 2 ∷ []) 12) (Conflict (1 ∷ 2 ∷ []) 12 error) (one ∷ [])
   conflicts e = (refl, refl, refl, e, refl)
 
-  deletes : key.items ≡ 1 ∷ [] → Answers bytes (one ∷ two_three ∷ []) (Delete key) (Deleted (Some one)) (two_three ∷ [])
+  deletes : key.items ≡ 1 ∷ [] → Answers bytes is_clone (one ∷ two_three ∷ []) (Delete key) (Deleted (Some one)) (two_three ∷ [])
   deletes e = rw e (refl, refl)
 
-  deletes_nothing : key.items ≡ 2 ∷ [] → Answers bytes (one ∷ two_three ∷ []) (Delete key) (Deleted None) (one ∷ two_three ∷ [])
+  deletes_nothing : key.items ≡ 2 ∷ [] → Answers bytes is_clone (one ∷ two_three ∷ []) (Delete key) (Deleted None) (one ∷ two_three ∷ [])
   deletes_nothing e = rw e (refl, refl)
 
-  measures : key.items ≡ 2 ∷ 3 ∷ 4 ∷ [] → Answers bytes (one ∷ two_three ∷ []) (LongestMatch key) (MatchLen (Some 2)) (one ∷ two_three ∷ [])
+  measures : key.items ≡ 2 ∷ 3 ∷ 4 ∷ [] → Answers bytes is_clone (one ∷ two_three ∷ []) (LongestMatch key) (MatchLen (Some 2)) (one ∷ two_three ∷ [])
   measures e = rw e (refl, refl)
 
-  measures_nothing : key.items ≡ 2 ∷ [] → Answers bytes (one ∷ two_three ∷ []) (LongestMatch key) (MatchLen None) (one ∷ two_three ∷ [])
+  measures_nothing : key.items ≡ 2 ∷ [] → Answers bytes is_clone (one ∷ two_three ∷ []) (LongestMatch key) (MatchLen None) (one ∷ two_three ∷ [])
   measures_nothing e = rw e (refl, refl)
 
-  finds : key.items ≡ 2 ∷ 3 ∷ [] → Answers bytes (one ∷ two_three ∷ []) (Contains key) (Found true) (one ∷ two_three ∷ [])
+  finds : key.items ≡ 2 ∷ 3 ∷ [] → Answers bytes is_clone (one ∷ two_three ∷ []) (Contains key) (Found true) (one ∷ two_three ∷ [])
   finds e = rw e (refl, refl)
 
-  finds_nothing : key.items ≡ 2 ∷ [] → Answers bytes (one ∷ two_three ∷ []) (Contains key) (Found false) (one ∷ two_three ∷ [])
+  finds_nothing : key.items ≡ 2 ∷ [] → Answers bytes is_clone (one ∷ two_three ∷ []) (Contains key) (Found false) (one ∷ two_three ∷ [])
   finds_nothing e = rw e (refl, refl)
 
   -- the key 1, then the related key 1 2, then the key 1 deleted
   short_run : boxed_slice_items error.byte_repr ≡ 1 ∷ 2 ∷ [] → key.items ≡ 1 ∷ []
-      → Chain (Answers bytes) [] (Insert (1 ∷ []) 10 ∷ Insert (1 ∷ 2 ∷ []) 12 ∷ Delete key ∷ []) (Inserted None ∷ Conflict (1 ∷ 2 ∷ []) 12 error ∷ Deleted (Some one) ∷ []) []
+      → Chain (Answers bytes is_clone) [] (Insert (1 ∷ []) 10 ∷ Insert (1 ∷ 2 ∷ []) 12 ∷ Delete key ∷ []) (Inserted None ∷ Conflict (1 ∷ 2 ∷ []) 12 error ∷ Deleted (Some one) ∷ []) []
   short_run e d = (one ∷ [], (refl, refl, refl), (one ∷ [], conflicts e, ([], rw d (refl, refl), refl)))
 
 -- each command has one reply
-no_reply_left_out : (new : List (Key × ℕ)) → Chain (Answers bytes) [] (Insert (1 ∷ []) 10 ∷ []) [] new → ⊥
+no_reply_left_out : (new : List (Key × ℕ)) → Chain (Answers bytes is_clone) [] (Insert (1 ∷ []) 10 ∷ []) [] new → ⊥
 no_reply_left_out new h = h
 
 -- ---- what commands need

@@ -110,9 +110,9 @@ point_some tree point None h = absurd h
 point_some tree point (Some x) h = (x, refl, h)
 
 module _ {K V : Type 0} (bytes : K → List ℕ) where
-  -- the pair that each deletion takes out
+  -- the pair that each deletion takes out, whatever a clone is
   abbrev pub TakesOut : List (K × V) → Command K V → K × V → Type 0
-  TakesOut pairs c x = Answers bytes pairs c (Deleted (Some x)) (remove_key (of_key bytes) (bytes x.0) pairs)
+  TakesOut pairs c x = Answers bytes (λ _ _. Unit {0}) pairs c (Deleted (Some x)) (remove_key (of_key bytes) (bytes x.0) pairs)
 
   pub takes_first : (pairs : List (K × V)) (x : K × V) → IsMap (of_key bytes) pairs → first_of pairs ≡ Some x → TakesOut pairs DeleteMin x
   takes_first [] x rising e = absurd cc

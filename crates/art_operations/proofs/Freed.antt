@@ -1,32 +1,29 @@
 -- What is freed, one name after another.
-use Rattle.std.proofs.Common.{◌≡◌, ◌≢◌, ℕ, ◌+◌, ◌-◌, ◌<◌, suc, List, [], ◌∷◌, ◌++◌, Option, Some, None, IsSome, refl, ap, sym, ◌∙◌, subst, append-nil, append_assoc, arith, cond, is_some, true, inl, inr}
-use Rattle.std.specs.List.{AllByRecursion as Each}
+use Rattle.std.proofs.Common.{◌≡◌, ◌≢◌, ℕ, ◌-◌, suc, List, [], ◌∷◌, ◌++◌, Option, Some, None, IsSome, refl, ap, sym, ◌∙◌, subst, append-nil, append_assoc, arith, cond, is_some, true, inl, inr}
 use Rattle.std.specs.Option.{option_map, option_and_then}
 use Rattle.std.specs.FinMap as map
 use Rattle.std.proofs.lemmas.Bool.{false≢true, eq-eqb, ne_eqb}
 use Rattle.art_nodes.specs.Inner.{Inner, IsBelow, IsRising, remove_child}
-use Rattle.art_nodes.specs.Names.{leaf_name, inner_name}
+use Rattle.art_nodes.specs.Names.{leaf_name}
 use Rattle.art_nodes.specs.Changes.{without_child}
 use Rattle.art_nodes.specs.Nodes.{Nodes, leaf_cmp, inner_cmp, change}
-use Rattle.art_nodes.specs.declared.node.NodeType.TheVariants.{Leaf}
 use Rattle.art_nodes.specs.declared.node.LeafPtr.{LeafPtr}
 use Rattle.art_nodes.specs.declared.node.InnerPtr.{InnerPtr}
 use Rattle.art_nodes.specs.declared.node.LeafNode.{LeafNode}
 use Rattle.art_nodes.specs.declared.node.OpaqueNodePtr.{OpaqueNodePtr}
 use Rattle.art_nodes.proofs.NameLemmas.{leaf_cmp_total}
-use Rattle.art_nodes.proofs.StoreLaws.{changed_from, leaf_gone, leaf_gone_elsewhere, inner_gone, inner_gone_elsewhere, inner_changed_here, inner_changed_elsewhere}
+use Rattle.art_nodes.proofs.StoreLaws.{changed_from, leaf_gone, leaf_gone_elsewhere}
 use Rattle.art_model.specs.Footprints.{IsIn}
 use Rattle.art_model.specs.Kept.{Frees}
 use Rattle.art_model.specs.Layouts.{AreDistinct}
 use Rattle.art_model.specs.Pairs.{first_of, without_first}
 use Rattle.art_model.specs.Stores.{held, held_leaf, held_inner, links_at, links_of}
-use Rattle.art_model.proofs.Lists.{in_left, in_right, in_either, each_in, each_from}
+use Rattle.art_model.proofs.Lists.{in_left, in_right, in_either, each_from}
 use Rattle.art_model.proofs.Names.{apart_in}
 use Rattle.art_model.proofs.Segments.{segment-frame}
 use Rattle.art_model.proofs.Views.{held_in_inner, leaf_or}
-use Rattle.art_operations.specs.Freed.{CanGo, going, going_below, leaves_going, without_first_child}
+use Rattle.art_operations.specs.Freed.{without_first_child}
 use Rattle.art_operations.specs.Iterators.{IsIteratorOf}
-use Rattle.art_operations.proofs.Iterators.{end_there}
 
 module _ {K V : Type 0} where
   pub frees_none : (s : Nodes K V) → Frees [] s s

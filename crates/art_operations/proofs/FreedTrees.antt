@@ -1,5 +1,5 @@
 -- A tree that is freed child by child.
-use Rattle.std.proofs.Common.{◌≡◌, ◌≢◌, ℕ, ◌+◌, ◌<◌, ◌≤◌, Bool, true, false, cond, max, List, [], ◌∷◌, ◌++◌, length, length-append, append-nil, append_assoc, Option, Some, None, IsSome, IfSome, IfNone, is_some, refl, ap, ap₂, sym, ◌∙◌, subst, arith, inl, inr}
+use Rattle.std.proofs.Common.{◌≡◌, ◌≢◌, ℕ, ◌+◌, ◌<◌, Bool, true, false, cond, List, [], ◌∷◌, ◌++◌, length, length-append, append-nil, append_assoc, Option, Some, None, IsSome, IfSome, is_some, refl, ap, ap₂, sym, ◌∙◌, subst, arith, inl, inr}
 use Rattle.std.specs.List.{AllByRecursion as Each}
 use Rattle.std.specs.Option.{option_map}
 use Rattle.std.specs.FinMap as map
@@ -16,10 +16,9 @@ use Rattle.art_nodes.proofs.StoreLaws.{inner_gone, inner_gone_elsewhere, inner_c
 use Rattle.art_model.specs.Footprints.{IsIn}
 use Rattle.art_model.specs.Heights.{height, tree_height, height_below}
 use Rattle.art_model.specs.Kept.{Frees}
-use Rattle.art_model.specs.Layouts.{leaf_node, inner_node, name_of, slots_of, names_of, names_below, leaf_names, leaf_names_below, inner_names, inner_names_below, shape_of, Holds, HoldsBelow, AreDistinct, IsLayout}
+use Rattle.art_model.specs.Layouts.{leaf_node, inner_node, slots_of, names_of, names_below, leaf_names, leaf_names_below, inner_names, inner_names_below, shape_of, Holds, HoldsBelow, IsLayout}
 use Rattle.art_model.specs.Pairs.{first_of, without_first}
-use Rattle.art_model.specs.Roots.{IsFullTree}
-use Rattle.art_model.specs.Stores.{Held, held, held_leaf, held_inner, IsUsed, header_at, inner_seen, node_at, seen, shape_in, shape_at}
+use Rattle.art_model.specs.Stores.{held, held_leaf, held_inner, IsUsed, header_at, inner_seen, node_at, seen, shape_in, shape_at}
 use Rattle.art_model.specs.Trees.{Tree, leaf, inner, Children, child, no_child, Header}
 use Rattle.art_model.specs.Writes.{as_inner}
 use Rattle.art_model.proofs.Heights.{height_is, height_long, enough_inners}
@@ -28,7 +27,7 @@ use Rattle.art_model.proofs.Names.{IsTaken as IsInUse, all_taken, among, among_b
 use Rattle.art_model.proofs.Pairwises.{Pairwise-left, Pairwise-right}
 use Rattle.art_model.proofs.Shapes.{has_shape, leaf_names-shape, names_of-shape}
 use Rattle.art_model.proofs.Stores.{frame, frame_below}
-use Rattle.art_model.proofs.Views.{held_in_inner, leaf_or}
+use Rattle.art_model.proofs.Views.{held_in_inner, leaf_or, same_inner_held}
 use Rattle.art_model.proofs.Writes.{shown}
 use Rattle.art_operations.specs.Freed.{CanGo, going, going_below, leaves_going, without_first_child}
 use Rattle.art_operations.proofs.Freed.{leaf_freed, frees_none}
@@ -40,12 +39,6 @@ abbrev pub Shapes : Type 0
 Shapes = Children OpaqueNodePtr (Unit {0})
 
 -- ---- what a tree without leaves sees
-
-same_held : (K V : Type 0) (o q : Option Inner) → ◌≡◌ {A = Option (Held K V)} (option_map held_inner o) (option_map held_inner q) → o ≡ q
-same_held K V None None e = refl
-same_held K V None (Some b) e = absurd cc
-same_held K V (Some a) None e = absurd cc
-same_held K V (Some a) (Some b) e = ap Some cc
 
 module _ {K V : Type 0} (s : Nodes K V) where
   shape_in_inner : (kind : NodeType) (slot : ℕ) → kind ≢ Leaf → shape_in s kind slot ≡ option_map (inner_seen kind) (map.get s.inners (record { kind = kind; slot = slot }))
@@ -106,7 +99,7 @@ shape_same : {K V : Type 0} (s t : Nodes K V) (k : OpaqueNodePtr) → held t k �
 shape_same {K} {V} s t k e = elim (leaf_or k) [
   | inl (p, is) ↦ subst (λ z. shape_at t z ≡ shape_at s z) (sym is) refl
   | inr off ↦
-      let same = same_held K V (map.get t.inners (as_inner k)) (map.get s.inners (as_inner k)) (sym (held_in_inner t k.kind k.slot off) ∙ e ∙ held_in_inner s k.kind k.slot off) in
+      let same = same_inner_held K V (map.get t.inners (as_inner k)) (map.get s.inners (as_inner k)) (sym (held_in_inner t k.kind k.slot off) ∙ e ∙ held_in_inner s k.kind k.slot off) in
       shape_at-inner t k off (map.get s.inners (as_inner k)) same ∙ sym (shape_at-inner s k off (map.get s.inners (as_inner k)) refl)
 ]
 
@@ -402,7 +395,7 @@ one_child_less {K} {V} {s} {t} {u} {v} {too} {root} {shape} {count} {name} {p} o
     let has = has_left named before in
     let mark_is : is.mark ≡ inner_name p = is.rest.layout.named ∙ sym named in
     let kept : held v (inner_name p) ≡ held u (inner_name p) = freed.beside (inner_name p) (λ i. is.tree_apart (inner_name p) (going_in too is.tree (inner_name p) i) (inl mark_is)) (λ z. z) in
-    let same : map.get v.inners p ≡ map.get u.inners p = same_held K V (map.get v.inners p) (map.get u.inners p) (sym (held_in_inner v p.kind p.slot off) ∙ kept ∙ held_in_inner u p.kind p.slot off) in
+    let same : map.get v.inners p ≡ map.get u.inners p = same_inner_held K V (map.get v.inners p) (map.get u.inners p) (sym (held_in_inner v p.kind p.slot off) ∙ kept ∙ held_in_inner u p.kind p.slot off) in
     let got : map.get v.inners p ≡ Some (without_first_child has.node) = same ∙ ap (λ m. map.get m p) inners ∙ inner_changed_here t.inners p without_first_child has.node has.got in
     let its : Some name ≡ option_map (λ c. c.1) (first_of has.node.children) = subst (λ o. IfSome o (λ node. Some name ≡ option_map (λ c. c.1) (first_of node.children))) has.got first in
     rw (got, has.got) (shorter has.node.children its)
@@ -415,10 +408,10 @@ one_child_less {K} {V} {s} {t} {u} {v} {too} {root} {shape} {count} {name} {p} o
 
 module _ {K V : Type 0} {s : Nodes K V} {root : OpaqueNodePtr} {layout : Tree OpaqueNodePtr (K × V)} where
   -- a name that stands for a tree stands for its shape, and its leaves are there
-  pub all_can : IsFullTree s root layout → CanGo s true root (shape_of layout)
-  all_can full = record {
-    layout = (has_shape s root layout full.0).0;
-    leaves = λ every. subst (Each (IsUsed s)) (sym (leaf_names-shape layout)) (among takes_leaves (IsUsed s) layout (Each-weaker (IsInUse (node_at s)) (IsUsed s) (λ k used e. used (ap (option_map (seen k.kind)) e)) (names_of layout) (all_taken (node_at s) layout full.0.holds)));
+  pub all_can : IsLayout (node_at s) root layout → CanGo s true root (shape_of layout)
+  all_can is = record {
+    layout = (has_shape s root layout is).0;
+    leaves = λ every. subst (Each (IsUsed s)) (sym (leaf_names-shape layout)) (among takes_leaves (IsUsed s) layout (Each-weaker (IsInUse (node_at s)) (IsUsed s) (λ k used e. used (ap (option_map (seen k.kind)) e)) (names_of layout) (all_taken (node_at s) layout is.holds)));
   }
 
 -- so all of its names go

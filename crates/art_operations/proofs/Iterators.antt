@@ -1,5 +1,5 @@
 -- The ends of a segment, and what is left when one of them was handed out.
-use Rattle.std.proofs.Common.{◌≡◌, ◌≢◌, List, [], ◌∷◌, ◌++◌, Option, Some, None, IsSome, eqb, true, false, refl, ap, sym, ◌∙◌, subst, append_assoc}
+use Rattle.std.proofs.Common.{◌≡◌, ◌≢◌, List, [], ◌∷◌, Option, Some, None, IsSome, eqb, true, false, refl, ap, sym, ◌∙◌, subst, inl, inr}
 use Rattle.std.specs.Option.{option_map, option_and_then}
 use Rattle.std.specs.FinMap as map
 use Rattle.std.proofs.lemmas.Bool.{eqb-true, eq-eqb, true≢false}
@@ -8,15 +8,15 @@ use Rattle.art_nodes.specs.Nodes.{Nodes}
 use Rattle.art_nodes.specs.declared.node.LeafPtr.{LeafPtr}
 use Rattle.art_nodes.specs.declared.node.LeafNode.{LeafNode}
 use Rattle.art_nodes.specs.declared.node.OpaqueNodePtr.{OpaqueNodePtr}
+use Rattle.art_model.specs.Layouts.{Links, AreLinked, first_or, last_or}
 use Rattle.art_model.specs.Footprints.{IsIn}
-use Rattle.art_model.specs.Layouts.{Links, first_or, last_or}
 use Rattle.art_model.specs.Segments.{IsSegment}
 use Rattle.art_model.specs.Pairs.{first_of, last_of, without_first, without_last}
 use Rattle.art_model.specs.Stores.{held_leaf, links_of, links_at}
-use Rattle.art_model.proofs.Links.{link_of, last_or-push}
+use Rattle.art_model.proofs.Links.{link_of}
 use Rattle.art_model.proofs.Lists.{each_in}
 use Rattle.art_model.proofs.Segments.{but_last, last_of_in, empty_segment, segment_rest, segment_front}
-use Rattle.art_operations.specs.Iterators.{HasEnds, IsIteratorOf}
+use Rattle.art_operations.specs.Iterators.{IsIteratorOf}
 
 module _ {K V : Type 0} where
   -- a leaf with links is there, and names these leaves
@@ -60,13 +60,27 @@ module _ {K V : Type 0} {s : Nodes K V} where
   pub empty_iterator : IsIteratorOf s None []
   empty_iterator = record { ends = refl; segment = empty_segment }
 
--- the first leaf that is left is there
-pub end_there : {K V : Type 0} (s : Nodes K V) (iterator : Option (LeafPtr × LeafPtr)) (names : List OpaqueNodePtr) (p : LeafPtr) → IsIteratorOf s iterator names → Some (leaf_name p) ≡ first_of names → IsSome (map.get s.leaves p)
-end_there s iterator [] p is e = absurd cc
-end_there s iterator (x ∷ xs) p is e =
-    let first : x ≡ leaf_name p = cc in
-    let found = linked_leaf (map.get s.leaves p) (record { previous = is.segment.before; next = first_or xs is.segment.after }) (subst (λ n. links_at s n ≡ Some (record { previous = is.segment.before; next = first_or xs is.segment.after })) first is.segment.linked.0) in
-    rw found.1 refl
+module _ {K V : Type 0} (s : Nodes K V) where
+  -- a leaf that is linked is there
+  there_in : (names : List OpaqueNodePtr) (before after : Option OpaqueNodePtr) (p : LeafPtr) → AreLinked (links_at s) before names after → IsIn (leaf_name p) names → IsSome (map.get s.leaves p)
+  there_in [] before after p linked i = absurd i
+  there_in (x ∷ xs) before after p linked (inl e) =
+      let found = linked_leaf (map.get s.leaves p) (record { previous = before; next = first_or xs after }) (subst (λ n. links_at s n ≡ Some (record { previous = before; next = first_or xs after })) e linked.0) in
+      rw found.1 refl
+  there_in (x ∷ xs) before after p linked (inr i) = there_in xs (Some x) after p linked.1 i
+
+  module _ {iterator : Option (LeafPtr × LeafPtr)} (names : List OpaqueNodePtr) (p : LeafPtr) (is : IsIteratorOf s iterator names) where
+    -- the first leaf that is left is there
+    pub end_there : Some (leaf_name p) ≡ first_of names → IsSome (map.get s.leaves p)
+    end_there e = there_in names is.segment.before is.segment.after p is.segment.linked (front names e)
+      where
+        front : (xs : List OpaqueNodePtr) → Some (leaf_name p) ≡ first_of xs → IsIn (leaf_name p) xs
+        front [] e = absurd cc
+        front (x ∷ xs) e = inl cc
+
+    -- and so is the last one
+    pub back_there : Some (leaf_name p) ≡ last_of names → IsSome (map.get s.leaves p)
+    back_there e = there_in names is.segment.before is.segment.after p is.segment.linked (last_of_in names (leaf_name p) (sym e))
 
 module _ {K V : Type 0} (s : Nodes K V) (a b : LeafPtr) where
   -- the first and the last leaf are one

@@ -42,3 +42,6 @@ pub mod Larger
 pub mod Entered
 pub mod Beside
 pub mod LeafAdded
+pub mod Cloning
+pub mod Cloned
+pub mod GoneOver

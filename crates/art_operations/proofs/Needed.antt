@@ -52,7 +52,7 @@ use Rattle.art_operations.specs.declared.insert.InsertKind.{InsertKind}
 use Rattle.art_operations.specs.declared.insert.InsertKind.TheVariants.{MismatchPrefix, SplitLeaf, Exact, IntoExisting}
 use Rattle.art_operations.specs.declared.insert.InsertPoint.{InsertPoint}
 use Rattle.art_operations.specs.declared.run.Command.{Command}
-use Rattle.art_operations.specs.declared.run.Command.TheVariants.{Insert, InsertPrefix, Delete, DeleteMin, DeleteMax, Contains, LongestMatch}
+use Rattle.art_operations.specs.declared.run.Command.TheVariants.{Insert, InsertPrefix, Delete, DeleteMin, DeleteMax, Contains, LongestMatch, Clone}
 use Rattle.art_operations.specs.declared.run.Reply.TheVariants.{Deleted}
 use Rattle.art_operations.proofs.Counts.{one, count-join, more_in_hole, fewer_in_hole, gains, loses}
 use Rattle.art_operations.proofs.Found.{any_first}
@@ -350,15 +350,16 @@ module _ {K V : Type 0} (bytes : K → List ℕ) (P : ℕ) (x : K × V) (n : Opa
       ap placed_of change ∙ change_places f.mark.kind left_over More kind (omega arith) (compress_places place path own) (keep_places place path own) (shrink_places place path own)
 
 -- a deletion needs the inner node that comes
-deletion_needs : {K V : Type 0} (bytes : K → List ℕ) (P : ℕ) (pairs : List (K × V)) (x : K × V) (c : Command K V) → Answers bytes pairs c (Deleted (Some x)) (remove_key (of_key bytes) (bytes x.0) pairs) →
+deletion_needs : {K V : Type 0} (IsClone : K × V → K × V → Type 0) (bytes : K → List ℕ) (P : ℕ) (pairs : List (K × V)) (x : K × V) (c : Command K V) → Answers bytes IsClone pairs c (Deleted (Some x)) (remove_key (of_key bytes) (bytes x.0) pairs) →
     ◌≡◌ {A = Promise} (record { leaves = 0; inner = more_of (inner_count bytes P pairs) (inner_count bytes P (remove_key (of_key bytes) (bytes x.0) pairs)) }) (needs bytes P c pairs)
-deletion_needs bytes P pairs x (Insert k v) h = absurd h
-deletion_needs bytes P pairs x (InsertPrefix k v) h = absurd h
-deletion_needs bytes P pairs x (Delete key) h = ap (λ ps. let y : Promise = record { leaves = 0; inner = more_of (inner_count bytes P pairs) (inner_count bytes P ps) } in y) h.1
-deletion_needs bytes P pairs x DeleteMin h = ap (λ ps. let y : Promise = record { leaves = 0; inner = more_of (inner_count bytes P pairs) (inner_count bytes P ps) } in y) h.1
-deletion_needs bytes P pairs x DeleteMax h = ap (λ ps. let y : Promise = record { leaves = 0; inner = more_of (inner_count bytes P pairs) (inner_count bytes P ps) } in y) h.1
-deletion_needs bytes P pairs x (Contains key) h = absurd h
-deletion_needs bytes P pairs x (LongestMatch key) h = absurd h
+deletion_needs IsClone bytes P pairs x (Insert k v) h = absurd h
+deletion_needs IsClone bytes P pairs x (InsertPrefix k v) h = absurd h
+deletion_needs IsClone bytes P pairs x (Delete key) h = ap (λ ps. let y : Promise = record { leaves = 0; inner = more_of (inner_count bytes P pairs) (inner_count bytes P ps) } in y) h.1
+deletion_needs IsClone bytes P pairs x DeleteMin h = ap (λ ps. let y : Promise = record { leaves = 0; inner = more_of (inner_count bytes P pairs) (inner_count bytes P ps) } in y) h.1
+deletion_needs IsClone bytes P pairs x DeleteMax h = ap (λ ps. let y : Promise = record { leaves = 0; inner = more_of (inner_count bytes P pairs) (inner_count bytes P ps) } in y) h.1
+deletion_needs IsClone bytes P pairs x (Contains key) h = absurd h
+deletion_needs IsClone bytes P pairs x Clone h = absurd h
+deletion_needs IsClone bytes P pairs x (LongestMatch key) h = absurd h
 
 module _ {K V : Type 0} (bytes : K → List ℕ) (P : ℕ) {s : Nodes K V} {root : OpaqueNodePtr} {layout : Tree OpaqueNodePtr (K × V)} (by : IsTree (of_key bytes) P s root (pairs_of layout) layout) where
   pub needs_inserted : (k : K) (v : V) (point : InsertPoint) → AnswersTo (of_key bytes) P layout (bytes k) point → HasByteLeft s point.insert_kind → placed_for s point.insert_kind ≡ needs bytes P (Insert k v) (pairs_of layout)
@@ -371,12 +372,12 @@ module _ {K V : Type 0} (bytes : K → List ℕ) (P : ℕ) {s : Nodes K V} {root
       subst (λ l. placed_for s point.insert_kind ≡ needs bytes P (Insert k v) (pairs_of l)) at.is_end.whole
       (kind_needs bytes P k v (record { path = path; radix = own; front = front }) was s point.key_bytes_used point.insert_kind holds left (subst (λ d. IsKindOf (of_key bytes) P (bytes k) at.node d point.key_bytes_used point.insert_kind) depth at.kind_is))
 
-  pub needs_deleted : (c : Command K V) (x : K × V) (point : DeletePoint) → LeadsTo layout x point → Answers bytes (pairs_of layout) c (Deleted (Some x)) (remove_key (of_key bytes) (bytes x.0) (pairs_of layout)) → placed_for_deletion s point.path ≡ needs bytes P c (pairs_of layout)
-  needs_deleted c x point leads answers =
-      ap (placed_for_deletion s) leads.path_is ∙ subst (λ l. Answers bytes (pairs_of l) c (Deleted (Some x)) (remove_key (of_key bytes) (bytes x.0) (pairs_of l)) → placed_for_deletion s (path_of leads.path) ≡ needs bytes P c (pairs_of l)) leads.whole
+  pub needs_deleted : (IsClone : K × V → K × V → Type 0) (c : Command K V) (x : K × V) (point : DeletePoint) → LeadsTo layout x point → Answers bytes IsClone (pairs_of layout) c (Deleted (Some x)) (remove_key (of_key bytes) (bytes x.0) (pairs_of layout)) → placed_for_deletion s point.path ≡ needs bytes P c (pairs_of layout)
+  needs_deleted IsClone c x point leads answers =
+      ap (placed_for_deletion s) leads.path_is ∙ subst (λ l. Answers bytes IsClone (pairs_of l) c (Deleted (Some x)) (remove_key (of_key bytes) (bytes x.0) (pairs_of l)) → placed_for_deletion s (path_of leads.path) ≡ needs bytes P c (pairs_of l)) leads.whole
       (go leads.path (subst (IsRadix (of_key bytes) P []) (sym leads.whole) (tree_radix by).0) (subst (Holds (node_at s)) (sym leads.whole) by.stands.0.holds)) answers
     where
       go : (fs : List (Frame OpaqueNodePtr (K × V))) → IsRadix (of_key bytes) P [] (plug fs (leaf (leaf_name point.leaf_node_ptr) x)) → Holds (node_at s) (plug fs (leaf (leaf_name point.leaf_node_ptr) x)) →
-          Answers bytes (pairs_of (plug fs (leaf (leaf_name point.leaf_node_ptr) x))) c (Deleted (Some x)) (remove_key (of_key bytes) (bytes x.0) (pairs_of (plug fs (leaf (leaf_name point.leaf_node_ptr) x)))) → placed_for_deletion s (path_of fs) ≡ needs bytes P c (pairs_of (plug fs (leaf (leaf_name point.leaf_node_ptr) x)))
-      go [] was holds takes = ap (λ ps. let y : Promise = record { leaves = 0; inner = more_of (inner_count bytes P (x ∷ [])) (inner_count bytes P ps) } in y) (sym (alone (of_key bytes) x)) ∙ deletion_needs bytes P (x ∷ []) x c takes
-      go (f ∷ fs) was holds takes = parent_places bytes P x (leaf_name point.leaf_node_ptr) f fs was s holds ∙ deletion_needs bytes P (pairs_of (plug (f ∷ fs) (leaf (leaf_name point.leaf_node_ptr) x))) x c takes
+          Answers bytes IsClone (pairs_of (plug fs (leaf (leaf_name point.leaf_node_ptr) x))) c (Deleted (Some x)) (remove_key (of_key bytes) (bytes x.0) (pairs_of (plug fs (leaf (leaf_name point.leaf_node_ptr) x)))) → placed_for_deletion s (path_of fs) ≡ needs bytes P c (pairs_of (plug fs (leaf (leaf_name point.leaf_node_ptr) x)))
+      go [] was holds takes = ap (λ ps. let y : Promise = record { leaves = 0; inner = more_of (inner_count bytes P (x ∷ [])) (inner_count bytes P ps) } in y) (sym (alone (of_key bytes) x)) ∙ deletion_needs IsClone bytes P (x ∷ []) x c takes
+      go (f ∷ fs) was holds takes = parent_places bytes P x (leaf_name point.leaf_node_ptr) f fs was s holds ∙ deletion_needs IsClone bytes P (pairs_of (plug (f ∷ fs) (leaf (leaf_name point.leaf_node_ptr) x))) x c takes

@@ -307,9 +307,9 @@ module _ {K V : Type 0} {bytes : K × V → List ℕ} {P : ℕ} {s : Nodes K V} 
       record {
         named = at.full.0.named;
         holds = frame (node_at s) (node_at u) at.node (each_from (λ k. node_at u k ≡ node_at s k) (names_of at.node) (λ k i.
-        stays (node_at s) (node_at u) at.path at.node old_laid.holds old_laid.distinct []
-        (same_but s u at.path [] (λ p off used. ap (λ z. option_map pair_of (map.get z p)) leaves ∙ with_leaf_pair s.leaves n x p (λ e. used (ap (map.get s.leaves) e ∙ fresh)))
-        (λ q kind up off used. ap (λ z. map.get z (as_inner q)) parent_inners ∙ with_child_at-elsewhere at.path (leaf_name n) s.inners q up)) k i (λ z. z))) at.full.0.holds;
+            stays (node_at s) (node_at u) at.path at.node old_laid.holds old_laid.distinct []
+            (same_but s u at.path [] (λ p off used. ap (λ z. option_map pair_of (map.get z p)) leaves ∙ with_leaf_pair s.leaves n x p (λ e. used (ap (map.get s.leaves) e ∙ fresh)))
+            (λ q kind up off used. ap (λ z. map.get z (as_inner q)) parent_inners ∙ with_child_at-elsewhere at.path (leaf_name n) s.inners q up)) k i (λ z. z))) at.full.0.holds;
         distinct = at.full.0.distinct;
       },
       at.full.1,

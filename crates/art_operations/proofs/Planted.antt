@@ -20,6 +20,7 @@ use Rattle.art_model.proofs.Canonical.{canonical_from}
 use Rattle.art_model.proofs.InPlace.{others_kept}
 use Rattle.art_model.proofs.Touches.{Touched, touched_none, then_placed, footprint_of, touches_at_most}
 use Rattle.art_operations.specs.Inserted.{alone}
+use Rattle.art_operations.specs.declared.run.Side.{Side}
 use Rattle.art_operations.specs.declared.run.Command.TheVariants.{Insert, InsertPrefix}
 use Rattle.art_operations.specs.declared.run.Reply.TheVariants.{Inserted, Overwrote, NoMemory}
 use Rattle.art_operations.proofs.Moves.{StepFrom, nothing}
@@ -67,7 +68,7 @@ module _ {K V : Type 0} (bytes : K → List ℕ) (P : ℕ) {s t : Nodes K V} (z 
       others = others_kept (footprint_of s t leaves_touched inners_touched tt tt tt) (record { placed_in = λ k i. i; freed_in = λ k i. i; changed_in = λ k i. i; old_stays = λ k i. absurd i; new_comes = λ k i. inr i });
     }
 
-    pub planted_step : StepFrom bytes P s t z None (Insert x.0 x.1) (Inserted None) (Some (leaf_name n))
+    pub planted_step : {IsClone : K × V → K × V → Type 0} {side : Side} → StepFrom bytes P IsClone side s t z None (Insert x.0 x.1) (Inserted None) (Some (leaf_name n))
     planted_step = (
       Some (leaf (leaf_name n) x),
       refl,
@@ -80,7 +81,7 @@ module _ {K V : Type 0} (bytes : K → List ℕ) (P : ℕ) {s t : Nodes K V} (z 
       },
     )
 
-    pub planted_prefix_step : StepFrom bytes P s t z None (InsertPrefix x.0 x.1) (Overwrote None 0) (Some (leaf_name n))
+    pub planted_prefix_step : {IsClone : K × V → K × V → Type 0} {side : Side} → StepFrom bytes P IsClone side s t z None (InsertPrefix x.0 x.1) (Overwrote None 0) (Some (leaf_name n))
     planted_prefix_step = (
       Some (leaf (leaf_name n) x),
       refl,
@@ -94,8 +95,8 @@ module _ {K V : Type 0} (bytes : K → List ℕ) (P : ℕ) {s t : Nodes K V} (z 
     )
 
   -- or there is no memory for it
-  pub unplanted_step : {k : K} {v : V} {pair : K × V} {root : Option OpaqueNodePtr} → root ≡ None → t ≡ s → pair ≡ (k, v) → (0 < s.promise.leaves → ⊥) → StepFrom bytes P s t z None (Insert k v) (NoMemory (Some pair)) root
-  unplanted_step {k} {v} empty same handed none = (
+  pub unplanted_step : {IsClone : K × V → K × V → Type 0} {side : Side} {k : K} {v : V} {pair : K × V} {root : Option OpaqueNodePtr} → root ≡ None → t ≡ s → pair ≡ (k, v) → (0 < s.promise.leaves → ⊥) → StepFrom bytes P IsClone side s t z None (Insert k v) (NoMemory (Some pair)) root
+  unplanted_step {k = k} {v = v} empty same handed none = (
     None,
     sym empty,
     record {
@@ -110,8 +111,8 @@ module _ {K V : Type 0} (bytes : K → List ℕ) (P : ℕ) {s t : Nodes K V} (z 
       positive : (count : ℕ) → leb 1 count ≡ true → 0 < count
       positive count e = leb-true 1 count e
 
-  pub unplanted_prefix_step : {k : K} {v : V} {pair : K × V} {root : Option OpaqueNodePtr} → root ≡ None → t ≡ s → pair ≡ (k, v) → (0 < s.promise.leaves → ⊥) → StepFrom bytes P s t z None (InsertPrefix k v) (NoMemory (Some pair)) root
-  unplanted_prefix_step {k} {v} empty same handed none = (
+  pub unplanted_prefix_step : {IsClone : K × V → K × V → Type 0} {side : Side} {k : K} {v : V} {pair : K × V} {root : Option OpaqueNodePtr} → root ≡ None → t ≡ s → pair ≡ (k, v) → (0 < s.promise.leaves → ⊥) → StepFrom bytes P IsClone side s t z None (InsertPrefix k v) (NoMemory (Some pair)) root
+  unplanted_prefix_step {k = k} {v = v} empty same handed none = (
     None,
     sym empty,
     record {

@@ -1,5 +1,5 @@
 -- Applied prefix points make steps: what an overwrite needs, and what it touches.
-use Rattle.std.proofs.Common.{◌≡◌, ◌≢◌, ℕ, ◌≤◌, List, [], ◌∷◌, length, leb, eqb, cond, is_some, Option, Bool, true, false, not, refl, ap, ap₂, sym, ◌∙◌, subst, arith, Some, None, ◌⊎◌, inl, inr}
+use Rattle.std.proofs.Common.{◌≡◌, ◌≢◌, ℕ, ◌≤◌, List, [], ◌∷◌, length, leb, eqb, cond, is_some, Option, true, false, not, refl, ap, ap₂, sym, ◌∙◌, subst, arith, Some, None, ◌⊎◌, inl, inr}
 use Rattle.std.proofs.lemmas.Bool.{ne_eqb, lt-leb}
 use Rattle.std.specs.List.{AllByRecursion as Each}
 use Rattle.std.specs.Option.{option_map}
@@ -19,7 +19,7 @@ use Rattle.art_model.specs.Paths.{Frame, plug}
 use Rattle.art_model.specs.Promises.{is_covered, promise_after}
 use Rattle.art_model.specs.Radix.{IsRadix, pairs_of}
 use Rattle.art_model.specs.Stores.{pair_of}
-use Rattle.art_model.specs.Trees.{Tree, leaf}
+use Rattle.art_model.specs.Trees.{leaf}
 use Rattle.art_model.proofs.Between.{overwrite-between}
 use Rattle.art_model.proofs.Canonical.{tree_radix}
 use Rattle.art_model.proofs.Filters.{filter_all}
@@ -37,11 +37,12 @@ use Rattle.art_operations.specs.declared.insert.InsertKind.{InsertKind}
 use Rattle.art_operations.specs.declared.insert.InsertKind.TheVariants.{MismatchPrefix, SplitLeaf, Exact, IntoExisting}
 use Rattle.art_operations.specs.declared.insert.PrefixInsertPoint.{PrefixInsertPoint}
 use Rattle.art_operations.specs.declared.insert.PrefixInsertPoint.TheVariants as points
+use Rattle.art_operations.specs.declared.run.Side.{Side}
 use Rattle.art_operations.specs.declared.run.Command.TheVariants.{Insert, InsertPrefix}
 use Rattle.art_operations.specs.declared.run.Reply.TheVariants.{Overwrote, NoMemory}
 use Rattle.art_operations.proofs.Counts.{fewer_in_hole, loses}
 use Rattle.art_operations.proofs.Found.{any_first}
-use Rattle.art_operations.proofs.Moves.{Layout, StepFrom, in_first, nothing, own_pairs}
+use Rattle.art_operations.proofs.Moves.{Layout, StepFrom, nothing, own_pairs}
 use Rattle.art_operations.proofs.Needed.{needs_inserted}
 use Rattle.art_operations.proofs.Standing.{tree_stays}
 use Rattle.art_operations.proofs.Overwrites.{related_leaf, subtree_at}
@@ -105,8 +106,8 @@ module _ {K V : Type 0} (bytes : K → List ℕ) (P : ℕ) {s : Nodes K V} {root
       ∙ ap (λ inner. let y : Promise = record { leaves = cond (eqb (length (related_to (of_key bytes) (bytes k) (pairs_of layout))) 1) 0 1; inner = inner } in y) (sym o.none)
 
   -- and what is touched is what it may touch
-  pub touches_overwritten : (k : K) (v : V) (point : OverwritePoint) → AnswersToOverwrite (of_key bytes) layout (bytes k) point → (t z : Nodes K V) (new : Layout K V) → TouchesForNode point.overwrite_point.kind (of_key bytes) (bytes k) s t layout → TouchesBy bytes (in_first s z (Some layout)) (InsertPrefix k v) (in_first t z (Some new))
-  touches_overwritten k v point at t z new touches = go point.overwrite_point.kind (overwrites k v point at).one touches
+  pub touches_overwritten : (k : K) (v : V) (point : OverwritePoint) → AnswersToOverwrite (of_key bytes) layout (bytes k) point → (t : Nodes K V) → TouchesForNode point.overwrite_point.kind (of_key bytes) (bytes k) s t layout → TouchesBy bytes (Some layout) (InsertPrefix k v) s t
+  touches_overwritten k v point at t touches = go point.overwrite_point.kind (overwrites k v point at).one touches
     where
       at_leaf : (kind : NodeType) → kind ≡ Leaf → TouchesForNode kind (of_key bytes) (bytes k) s t layout → TouchesAtMost 2 2 4 s t
       at_leaf kind e h = let few : TouchesAtMost 0 0 1 s t = subst (λ q. TouchesForNode q (of_key bytes) (bytes k) s t layout) e h in touches_more 0 0 1 2 2 4 (omega arith) (omega arith) (omega arith) few
@@ -118,7 +119,7 @@ module _ {K V : Type 0} (bytes : K → List ℕ) (P : ℕ) {s : Nodes K V} {root
       below Node48 off h = h
       below Node256 off h = h
 
-      go : (kind : NodeType) → IsOne kind (length (related_to (of_key bytes) (bytes k) (pairs_of layout))) → TouchesForNode kind (of_key bytes) (bytes k) s t layout → TouchesBy bytes (in_first s z (Some layout)) (InsertPrefix k v) (in_first t z (Some new))
+      go : (kind : NodeType) → IsOne kind (length (related_to (of_key bytes) (bytes k) (pairs_of layout))) → TouchesForNode kind (of_key bytes) (bytes k) s t layout → TouchesBy bytes (Some layout) (InsertPrefix k v) s t
       go kind (inl (e, f)) h = rw f (at_leaf kind e h)
       go kind (inr (off, two)) h = rw (lt-leb (length (related_to (of_key bytes) (bytes k) (pairs_of layout))) 1 (omega arith)) (below kind off h)
 
@@ -155,9 +156,9 @@ module _ {K V : Type 0} (bytes : K → List ℕ) (P : ℕ) {s : Nodes K V} {root
   needs_prefix k v (points.InsertPoint point) (free, at) left = needs_inserted bytes P by k v point at left ∙ needs_same k v free
   needs_prefix k v (points.OverwritePoint point) (related, at) left = needs_overwritten bytes P by k v point at
 
-  touches_prefix : (k : K) (v : V) (point : PrefixInsertPoint) → IsPointFor (of_key bytes) P (bytes k) (pairs_of layout) layout point → (t z : Nodes K V) (new : Layout K V) → TouchesForPrefix point (of_key bytes) (bytes k) s t layout → TouchesBy bytes (in_first s z (Some layout)) (InsertPrefix k v) (in_first t z (Some new))
-  touches_prefix k v (points.InsertPoint point) (free, at) t z new h = rw (few_related k v free) (insertion_touches point.insert_kind h)
-  touches_prefix k v (points.OverwritePoint point) (related, at) t z new h = touches_overwritten bytes P by k v point at t z new h
+  touches_prefix : (k : K) (v : V) (point : PrefixInsertPoint) → IsPointFor (of_key bytes) P (bytes k) (pairs_of layout) layout point → (t : Nodes K V) → TouchesForPrefix point (of_key bytes) (bytes k) s t layout → TouchesBy bytes (Some layout) (InsertPrefix k v) s t
+  touches_prefix k v (points.InsertPoint point) (free, at) t h = rw (few_related k v free) (insertion_touches point.insert_kind h)
+  touches_prefix k v (points.OverwritePoint point) (related, at) t h = touches_overwritten bytes P by k v point at t h
 
   -- a refusal is not for one pair alone
   not_one : (k : K) (v : V) (point : PrefixInsertPoint) → IsPointFor (of_key bytes) P (bytes k) (pairs_of layout) layout point → HasByteLeftFor s point → (is_covered (placed_for_prefix s point) s.promise ≡ true → ⊥) → length (related_to (of_key bytes) (bytes k) (pairs_of layout)) ≢ 1
@@ -200,8 +201,8 @@ pub record HasAppliedPrefix {K V : Type 0} (bytes : K → List ℕ) (P : ℕ) (s
   pub touches : TouchesForPrefix point (of_key bytes) (bytes pair.0) s t layout
   pub promise : t.promise ≡ promise_after (placed_for_prefix s point) s.promise
 
-module _ {K V : Type 0} (bytes : K → List ℕ) (P : ℕ) {s t : Nodes K V} {root : OpaqueNodePtr} {layout : Layout K V} (by : IsTree (of_key bytes) P s root (pairs_of layout) layout) {k : K} {v : V} (point : PrefixInsertPoint) (z : Nodes K V) (at : IsPointFor (of_key bytes) P (bytes k) (pairs_of layout) layout point) (left : HasByteLeftFor s point) where
-  pub prefix_step : {after : OpaqueNodePtr} {existing : Option (LeafNode K V)} {count : ℕ} → HasAppliedPrefix bytes P s t layout (k, v) point after existing count → StepFrom bytes P s t z (Some layout) (InsertPrefix k v) (Overwrote (option_map pair_of existing) count) (Some after)
+module _ {K V : Type 0} {IsClone : K × V → K × V → Type 0} {side : Side} (bytes : K → List ℕ) (P : ℕ) {s t : Nodes K V} {root : OpaqueNodePtr} {layout : Layout K V} (by : IsTree (of_key bytes) P s root (pairs_of layout) layout) {k : K} {v : V} (point : PrefixInsertPoint) (z : Nodes K V) (at : IsPointFor (of_key bytes) P (bytes k) (pairs_of layout) layout point) (left : HasByteLeftFor s point) where
+  pub prefix_step : {after : OpaqueNodePtr} {existing : Option (LeafNode K V)} {count : ℕ} → HasAppliedPrefix bytes P s t layout (k, v) point after existing count → StepFrom bytes P IsClone side s t z (Some layout) (InsertPrefix k v) (Overwrote (option_map pair_of existing) count) (Some after)
   prefix_step {after} {existing} {count} is =
       let (new, by_new) = is.canonical in (
         Some new,
@@ -210,12 +211,12 @@ module _ {K V : Type 0} (bytes : K → List ℕ) (P : ℕ) {s t : Nodes K V} {ro
           answers = (ap₂ (λ a b. (a, b)) (ap (option_map pair_of) is.replaced ∙ pairs_back (overwrite_reply (of_key bytes) (k, v) (pairs_of layout)).0) is.removed, (tree_radix by_new).1);
           refuses = tt;
           sound = own_pairs bytes P by_new;
-          changes = record { side = refl; kept = is.kept (overwrite (of_key bytes) (k, v) (pairs_of layout)) new by_new; touches = touches_prefix bytes P by k v point at t z new is.touches; other = refl };
+          changes = record { side = refl; kept = is.kept (overwrite (of_key bytes) (k, v) (pairs_of layout)) new by_new; touches = touches_prefix bytes P by k v point at t is.touches; other = refl };
           promises = is.promise ∙ ap (λ placed. promise_after placed s.promise) (needs_prefix bytes P by k v point at left);
         },
       )
 
-  pub prefix_refused : {pair : K × V} → pair ≡ (k, v) → IsRefused s t (placed_for_prefix s point) → StepFrom bytes P s t z (Some layout) (InsertPrefix k v) (NoMemory (Some pair)) (Some root)
+  pub prefix_refused : {pair : K × V} → pair ≡ (k, v) → IsRefused s t (placed_for_prefix s point) → StepFrom bytes P IsClone side s t z (Some layout) (InsertPrefix k v) (NoMemory (Some pair)) (Some root)
   prefix_refused handed is = (
     Some layout,
     ap Some by.stands.0.named,

@@ -26,17 +26,18 @@ use Rattle.art_operations.specs.Deleted.{TouchesFor, ParentChange, no_parent, ke
 use Rattle.art_operations.specs.Inserted.{IsPointIn, HasByteLeft, Touches, alone, is_full, placed_for}
 use Rattle.art_operations.specs.Needs.{needs}
 use Rattle.art_operations.specs.Points.{AnswersTo}
-use Rattle.art_operations.specs.Steps.{SameNodes, MayRefuse, Promises, TouchesBy}
+use Rattle.art_operations.specs.Steps.{SameNodes, Changes, MayRefuse, Promises, TouchesBy}
 use Rattle.art_operations.specs.declared.delete.DeletePoint.{DeletePoint}
 use Rattle.art_operations.specs.declared.insert.InsertKind.{InsertKind}
 use Rattle.art_operations.specs.declared.insert.InsertKind.TheVariants.{MismatchPrefix, SplitLeaf, Exact, IntoExisting}
 use Rattle.art_operations.specs.declared.insert.InsertPoint.{InsertPoint}
 use Rattle.art_operations.specs.declared.insert.InsertPrefixError.{InsertPrefixError}
 use Rattle.art_operations.specs.declared.run.Command.{Command}
-use Rattle.art_operations.specs.declared.run.Command.TheVariants.{Insert, InsertPrefix, Delete, DeleteMin, DeleteMax, Contains, LongestMatch}
+use Rattle.art_operations.specs.declared.run.Side.{Side}
+use Rattle.art_operations.specs.declared.run.Command.TheVariants.{Insert, InsertPrefix, Delete, DeleteMin, DeleteMax, Contains, LongestMatch, Clone}
 use Rattle.art_operations.specs.declared.run.Reply.TheVariants.{Inserted, Conflict, Deleted, NoMemory}
 use Rattle.art_operations.proofs.Standing.{tree_stays}
-use Rattle.art_operations.proofs.Moves.{Layout, StepFrom, has_tree, own_pairs, nothing, in_first}
+use Rattle.art_operations.proofs.Moves.{Layout, StepFrom, has_tree, own_pairs, nothing, in_store}
 use Rattle.art_operations.proofs.Found.{conflict_new}
 use Rattle.art_operations.proofs.Needed.{needs_inserted, needs_deleted}
 
@@ -123,8 +124,8 @@ module _ {K V : Type 0} (bytes : K → List ℕ) (P : ℕ) {s : Nodes K V} {root
       go (IntoExisting p) true e off leaves = absurd cc
       go (MismatchPrefix mismatch p) true e off leaves = absurd cc
 
-  module _ {t : Nodes K V} {k : K} {v : V} {point : InsertPoint} (z : Nodes K V) (free : is_conflict (of_key bytes) (bytes k) (pairs_of layout) ≡ false) (at : AnswersTo (of_key bytes) P layout (bytes k) point) (left : HasByteLeft s point.insert_kind) where
-    pub inserted_step : {after : OpaqueNodePtr} {existing : Option (LeafNode K V)} → HasApplied bytes P s t layout (k, v) point after existing → StepFrom bytes P s t z (Some layout) (Insert k v) (Inserted (option_map pair_of existing)) (Some after)
+  module _ {IsClone : K × V → K × V → Type 0} {side : Side} {t : Nodes K V} {k : K} {v : V} {point : InsertPoint} (z : Nodes K V) (free : is_conflict (of_key bytes) (bytes k) (pairs_of layout) ≡ false) (at : AnswersTo (of_key bytes) P layout (bytes k) point) (left : HasByteLeft s point.insert_kind) where
+    pub inserted_step : {after : OpaqueNodePtr} {existing : Option (LeafNode K V)} → HasApplied bytes P s t layout (k, v) point after existing → StepFrom bytes P IsClone side s t z (Some layout) (Insert k v) (Inserted (option_map pair_of existing)) (Some after)
     inserted_step {after} {existing} is =
         let (new, by_new) = is.canonical in (
           Some new,
@@ -138,7 +139,7 @@ module _ {K V : Type 0} (bytes : K → List ℕ) (P : ℕ) {s : Nodes K V} {root
           },
         )
 
-    pub refused_step : {pair : K × V} → pair ≡ (k, v) → IsRefused s t (placed_for s point.insert_kind) → StepFrom bytes P s t z (Some layout) (Insert k v) (NoMemory (Some pair)) (Some root)
+    pub refused_step : {pair : K × V} → pair ≡ (k, v) → IsRefused s t (placed_for s point.insert_kind) → StepFrom bytes P IsClone side s t z (Some layout) (Insert k v) (NoMemory (Some pair)) (Some root)
     refused_step handed is = (
       Some layout,
       ap Some by.stands.0.named,
@@ -152,8 +153,8 @@ module _ {K V : Type 0} (bytes : K → List ℕ) (P : ℕ) {s : Nodes K V} {root
     )
 
   -- a key in conflict, with its bytes or without memory for them
-  module _ {k : K} {v : V} (z : Nodes K V) (related : is_conflict (of_key bytes) (bytes k) (pairs_of layout) ≡ true) where
-    pub conflict_step : (error : InsertPrefixError) → boxed_slice_items error.byte_repr ≡ bytes k → StepFrom bytes P s s z (Some layout) (Insert k v) (Conflict k v error) (Some root)
+  module _ {IsClone : K × V → K × V → Type 0} {side : Side} {k : K} {v : V} (z : Nodes K V) (related : is_conflict (of_key bytes) (bytes k) (pairs_of layout) ≡ true) where
+    pub conflict_step : (error : InsertPrefixError) → boxed_slice_items error.byte_repr ≡ bytes k → StepFrom bytes P IsClone side s s z (Some layout) (Insert k v) (Conflict k v error) (Some root)
     conflict_step error repr = (
       Some layout,
       ap Some by.stands.0.named,
@@ -166,7 +167,7 @@ module _ {K V : Type 0} (bytes : K → List ℕ) (P : ℕ) {s : Nodes K V} {root
       },
     )
 
-    pub no_bytes_step : StepFrom bytes P s s z (Some layout) (Insert k v) (NoMemory (Some (k, v))) (Some root)
+    pub no_bytes_step : StepFrom bytes P IsClone side s s z (Some layout) (Insert k v) (NoMemory (Some (k, v))) (Some root)
     no_bytes_step = (
       Some layout,
       ap Some by.stands.0.named,
@@ -182,66 +183,80 @@ module _ {K V : Type 0} (bytes : K → List ℕ) (P : ℕ) {s : Nodes K V} {root
   -- ---- deletion
 
   -- a deletion touches a few names, whatever command asks for it
-  touched : (t z : Nodes K V) (x : K × V) (new : Option (Layout K V)) (d : Command K V) → Answers bytes (pairs_of layout) d (Deleted (Some x)) (remove_key (of_key bytes) (bytes x.0) (pairs_of layout)) → TouchesAtMost 2 2 4 s t → TouchesBy bytes (in_first s z (Some layout)) d (in_first t z new)
-  touched t z x new (Insert k v) h few = few
-  touched t z x new (InsertPrefix k v) h few = absurd h
-  touched t z x new (Delete key) h few = few
-  touched t z x new DeleteMin h few = few
-  touched t z x new DeleteMax h few = few
-  touched t z x new (Contains key) h few = few
-  touched t z x new (LongestMatch key) h few = few
+  touched : (IsClone : K × V → K × V → Type 0) (t : Nodes K V) (x : K × V) (d : Command K V) → Answers bytes IsClone (pairs_of layout) d (Deleted (Some x)) (remove_key (of_key bytes) (bytes x.0) (pairs_of layout)) → TouchesAtMost 2 2 4 s t → TouchesBy bytes (Some layout) d s t
+  touched IsClone t x (Insert k v) h few = few
+  touched IsClone t x (InsertPrefix k v) h few = absurd h
+  touched IsClone t x (Delete key) h few = few
+  touched IsClone t x DeleteMin h few = few
+  touched IsClone t x DeleteMax h few = few
+  touched IsClone t x Clone h few = few
+  touched IsClone t x (Contains key) h few = few
+  touched IsClone t x (LongestMatch key) h few = few
 
-  module _ {t : Nodes K V} {c : Command K V} {x : K × V} {point : DeletePoint} (z : Nodes K V) (leads : LeadsTo layout x point) (takes : Answers bytes (pairs_of layout) c (Deleted (Some x)) (remove_key (of_key bytes) (bytes x.0) (pairs_of layout))) where
-    pub deleted_step : {after : Option OpaqueNodePtr} → HasDeleted bytes P s t layout x point after → StepFrom bytes P s t z (Some layout) c (Deleted (Some x)) after
+  module _ {IsClone : K × V → K × V → Type 0} {side : Side} {t : Nodes K V} {c : Command K V} {x : K × V} {point : DeletePoint} (z : Nodes K V) (leads : LeadsTo layout x point) (takes : Answers bytes IsClone (pairs_of layout) c (Deleted (Some x)) (remove_key (of_key bytes) (bytes x.0) (pairs_of layout))) where
+    pub deleted_step : {after : Option OpaqueNodePtr} → HasDeleted bytes P s t layout x point after → StepFrom bytes P IsClone side s t z (Some layout) c (Deleted (Some x)) after
     deleted_step {after} is =
         let has = has_tree bytes P t after (remove_key (of_key bytes) (bytes x.0) (pairs_of layout)) is.canonical in (
           has.tree,
           has.shows,
           record {
-            answers = subst (λ new. Answers bytes (pairs_of layout) c (Deleted (Some x)) new) (sym has.pairs_are) takes;
+            answers = subst (λ new. Answers bytes IsClone (pairs_of layout) c (Deleted (Some x)) new) (sym has.pairs_are) takes;
             refuses = tt;
             sound = has.sound;
-            changes = record { side = refl; kept = is.kept (remove_key (of_key bytes) (bytes x.0) (pairs_of layout)) has.tree has.is_root; touches = touched t z x has.tree c takes (deletion_touches (parent_change s point.path) is.touches); other = refl };
-            promises = is.promise ∙ ap (λ placed. promise_after placed s.promise) (needs_deleted bytes P by c x point leads takes);
+            changes = record { side = refl; kept = is.kept (remove_key (of_key bytes) (bytes x.0) (pairs_of layout)) has.tree has.is_root; touches = touched IsClone t x c takes (deletion_touches (parent_change s point.path) is.touches); other = refl };
+            promises = is.promise ∙ ap (λ placed. promise_after placed s.promise) (needs_deleted bytes P by IsClone c x point leads takes);
           },
         )
 
-    pub kept_step : IsRefused s t (placed_for_deletion s point.path) → StepFrom bytes P s t z (Some layout) c (NoMemory None) (Some root)
+    pub kept_step : IsRefused s t (placed_for_deletion s point.path) → StepFrom bytes P IsClone side s t z (Some layout) c (NoMemory None) (Some root)
     kept_step is = (
       Some layout,
       ap Some by.stands.0.named,
       record {
         answers = answers c takes;
-        refuses = refuses c takes (λ promised. is.uncovered (ap (λ placed. is_covered placed s.promise) (needs_deleted bytes P by c x point leads takes) ∙ promised));
+        refuses = refuses c takes (λ promised. is.uncovered (ap (λ placed. is_covered placed s.promise) (needs_deleted bytes P by IsClone c x point leads takes) ∙ promised));
         sound = own_pairs bytes P (tree_stays is.same by);
-        changes = nothing z (Some layout) is.same;
+        changes = changes c takes;
         promises = promises c takes is.void;
       },
     )
       where
-        answers : (d : Command K V) → Answers bytes (pairs_of layout) d (Deleted (Some x)) (remove_key (of_key bytes) (bytes x.0) (pairs_of layout)) → Answers bytes (pairs_of layout) d (NoMemory None) (pairs_of layout)
+        answers : (d : Command K V) → Answers bytes IsClone (pairs_of layout) d (Deleted (Some x)) (remove_key (of_key bytes) (bytes x.0) (pairs_of layout)) → Answers bytes IsClone (pairs_of layout) d (NoMemory None) (pairs_of layout)
         answers (Insert k v) h = absurd h
         answers (InsertPrefix k v) h = absurd h
         answers (Delete key) h = (refl, refl)
         answers DeleteMin h = (refl, refl)
         answers DeleteMax h = (refl, refl)
+        answers Clone h = absurd h
         answers (Contains key) h = absurd h
         answers (LongestMatch key) h = absurd h
 
-        refuses : (d : Command K V) → Answers bytes (pairs_of layout) d (Deleted (Some x)) (remove_key (of_key bytes) (bytes x.0) (pairs_of layout)) → (is_covered (needs bytes P d (pairs_of layout)) s.promise ≡ true → ⊥) → MayRefuse bytes P d (in_first s z (Some layout))
+        changes : (d : Command K V) → Answers bytes IsClone (pairs_of layout) d (Deleted (Some x)) (remove_key (of_key bytes) (bytes x.0) (pairs_of layout)) → Changes bytes (in_store side s z (Some layout)) d (NoMemory None) (in_store side t z (Some layout))
+        changes (Insert k v) h = absurd h
+        changes (InsertPrefix k v) h = absurd h
+        changes (Delete key) h = nothing z (Some layout) is.same
+        changes DeleteMin h = nothing z (Some layout) is.same
+        changes DeleteMax h = nothing z (Some layout) is.same
+        changes Clone h = absurd h
+        changes (Contains key) h = absurd h
+        changes (LongestMatch key) h = absurd h
+
+        refuses : (d : Command K V) → Answers bytes IsClone (pairs_of layout) d (Deleted (Some x)) (remove_key (of_key bytes) (bytes x.0) (pairs_of layout)) → (is_covered (needs bytes P d (pairs_of layout)) s.promise ≡ true → ⊥) → MayRefuse bytes P d (in_store side s z (Some layout))
         refuses (Insert k v) h off = absurd h
         refuses (InsertPrefix k v) h off = absurd h
         refuses (Delete key) h off = off
         refuses DeleteMin h off = off
         refuses DeleteMax h off = off
+        refuses Clone h off = absurd h
         refuses (Contains key) h off = absurd h
         refuses (LongestMatch key) h off = absurd h
 
-        promises : (d : Command K V) → Answers bytes (pairs_of layout) d (Deleted (Some x)) (remove_key (of_key bytes) (bytes x.0) (pairs_of layout)) → t.promise ≡ no_promise → Promises bytes P (in_first s z (Some layout)) d (NoMemory None) (in_first t z (Some layout))
+        promises : (d : Command K V) → Answers bytes IsClone (pairs_of layout) d (Deleted (Some x)) (remove_key (of_key bytes) (bytes x.0) (pairs_of layout)) → t.promise ≡ no_promise → Promises bytes P (in_store side s z (Some layout)) d (NoMemory None) (in_store side t z (Some layout))
         promises (Insert k v) h void = absurd h
         promises (InsertPrefix k v) h void = absurd h
         promises (Delete key) h void = inr void
         promises DeleteMin h void = inr void
         promises DeleteMax h void = inr void
+        promises Clone h void = absurd h
         promises (Contains key) h void = absurd h
         promises (LongestMatch key) h void = absurd h

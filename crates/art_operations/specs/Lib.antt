@@ -12,3 +12,4 @@ pub mod Inserted
 pub mod Overwritten
 pub mod Branches
 pub mod Deleted
+pub mod Cloned

@@ -12,6 +12,7 @@ use Rattle.art_operations.specs.declared.run.Command.{Command}
 use Rattle.art_operations.specs.declared.run.Reply.{Reply}
 use Rattle.art_operations.specs.declared.run.Reply.TheVariants.{Deleted}
 use Rattle.art_operations.specs.declared.run.Side.{Side}
+use Rattle.art_operations.specs.declared.run.Side.TheVariants.{First, Second}
 
 -- one step after another, for each command in order, with one reply each
 abbrev pub Chain : {S C R : Type 0} → (S → C → R → S → Type 0) → S → List C → List R → S → Type 0
@@ -31,11 +32,20 @@ pub record Shown (K V : Type 0) : Type 0 where
 abbrev pub on : {K V : Type 0} → Side → Nodes K V → Nodes K V → Option OpaqueNodePtr → Shown K V
 on side first second root = record { first = first; second = second; side = side; root = root }
 
+-- the first of two on the first side, and the second on the second
+abbrev pub of_side : {X : Type 0} → Side → X → X → X
+of_side First x y = x
+of_side Second x y = y
+
+-- a root in the store of a side, and the other store
+abbrev pub beside : {K V : Type 0} → Side → Nodes K V → Nodes K V → Option OpaqueNodePtr → Shown K V
+beside side present other root = on side (of_side side present other) (of_side side other present) root
+
 -- what is shown of a state
 abbrev pub shown : {K V : Type 0} → State K V → Shown K V
-shown state = on state.side state.first state.second (root_in state)
+shown state = beside state.side state.present state.other (root_in state)
 
-module _ {K V : Type 0} (bytes : K → List ℕ) (P : ℕ) where
+module _ {K V : Type 0} (bytes : K → List ℕ) (P : ℕ) (IsClone : K × V → K × V → Type 0) where
   -- The commands get these replies, a step each, on the way from a state with a canonical root to the last one.
   pub record IsRun (from : Shown K V) (commands : List (Command K V)) (replies : List (Reply K V)) (to : Shown K V) : Type 0 where
     pub start : State K V
@@ -44,12 +54,12 @@ module _ {K V : Type 0} (bytes : K → List ℕ) (P : ℕ) where
     pub ends : shown end ≡ to
     pub start_sound : IsSound bytes P start
     pub end_sound : IsSound bytes P end
-    pub steps : Chain (Step bytes P) start commands replies end
+    pub steps : Chain (Step bytes P IsClone) start commands replies end
 
   -- a step is made, whatever state is shown so
   abbrev pub MakesStep : Shown K V → Command K V → Reply K V → Shown K V → Type 0
-  MakesStep from command reply to = (old : State K V) → shown old ≡ from → IsSound bytes P old → (new : State K V) × (shown new ≡ to) × Step bytes P old command reply new
+  MakesStep from command reply to = (old : State K V) → shown old ≡ from → IsSound bytes P old → (new : State K V) × (shown new ≡ to) × Step bytes P IsClone old command reply new
 
   -- of all trees of the root: the point leads to a pair that the command takes out
   abbrev pub IsDeletionAt : Nodes K V → OpaqueNodePtr → DeletePoint → Command K V → Type 0
-  IsDeletionAt s root point command = ForTree (of_key bytes) P s root (λ pairs layout. (x : K × V) × LeadsTo layout x point × Answers bytes pairs command (Deleted (Some x)) (remove_key (of_key bytes) (bytes x.0) pairs))
+  IsDeletionAt s root point command = ForTree (of_key bytes) P s root (λ pairs layout. (x : K × V) × LeadsTo layout x point × Answers bytes IsClone pairs command (Deleted (Some x)) (remove_key (of_key bytes) (bytes x.0) pairs))

@@ -3,6 +3,7 @@ ghost use Rattle.std.specs.Prelude.{◌≡◌, ◌≢◌, ◌+◌, ◌≤◌, �
 ghost use Rattle.std.specs.FinMap as map;
 ghost use Rattle.std.specs.Option.{option_map};
 ghost use Rattle.art_nodes.specs.Nodes.{change};
+ghost use Rattle.art_nodes.specs.declared.node.InnerPtr.{InnerPtr};
 ghost use Rattle.art_nodes.specs.declared.node.NodeType.TheVariants.{Leaf};
 ghost use Rattle.art_nodes.specs.declared.node.OpaqueNodePtr.{OpaqueNodePtr};
 ghost use Rattle.art_model.specs.Kept.{Frees};
@@ -63,7 +64,8 @@ pub fn deallocate_tree<K: AsBytes + Drop, V: Drop, const PREFIX_LEN: usize>(
 }
 
 // Frees the inner nodes below a name, and the leaves too if asked to; answers how many leaves it freed.
-fn free_nodes<K: AsBytes + Drop, V: Drop, const P: usize>(
+// An inner node may be without children.
+pub(crate) fn free_nodes<K: AsBytes + Drop, V: Drop, const P: usize>(
     store: &mut NodeStore<K, V, P>,
     root: OpaqueNodePtr,
     leaves_too: bool,
@@ -72,6 +74,7 @@ fn free_nodes<K: AsBytes + Drop, V: Drop, const P: usize>(
     ensures freed { (shape : Tree OpaqueNodePtr (Unit {0})) → CanGo store.old leaves_too root shape → Frees (going leaves_too shape) store.old store.new }
     ensures count { (shape : Tree OpaqueNodePtr (Unit {0})) → CanGo store.old leaves_too root shape → result ≡ leaves_going leaves_too shape }
     ensures promise { store.new.promise ≡ store.old.promise }
+    ensures improper { (name : InnerPtr) → name.kind ≡ Leaf → map.get store.new.inners name ≡ map.get store.old.inners name }
     ensures total { result + map.len store.new.leaves ≡ map.len store.old.leaves }
     ensures few { 0 < result → map.len store.old.leaves < 2 ^ 64 }
 {
@@ -88,11 +91,25 @@ fn free_nodes<K: AsBytes + Drop, V: Drop, const P: usize>(
     let mut count = 0;
     'children: loop {
         let Some(child) = take_first_child(store, inner) else {
-            store.free_inner(inner);
+            free_node(store, inner);
             return count;
         };
         count += free_nodes(store, child, leaves_too);
     }
+}
+
+// Frees an inner node. It is large: it stands on the stack while it goes, and not through the recursion.
+#[inline(never)]
+fn free_node<K: AsBytes + Drop, V: Drop, const P: usize>(
+    store: &mut NodeStore<K, V, P>,
+    inner: InnerPtr,
+)
+    requires { IsSome (map.get store.old.inners inner) }
+    ensures inners { store.new.inners ≡ map.remove store.old.inners inner }
+    ensures leaves { store.new.leaves ≡ store.old.leaves }
+    ensures promise { store.new.promise ≡ store.old.promise }
+{
+    store.free_inner(inner);
 }
 
 // Takes the first child out of an inner node, and answers its name.

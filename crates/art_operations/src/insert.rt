@@ -233,12 +233,7 @@ impl Spot {
     ghost use Rattle.art_operations.specs.declared.insert.Step.TheVariants as steps;
 
     // The point at this node.
-    fn point(
-        self,
-        root: OpaqueNodePtr,
-        insert_kind: InsertKind,
-        key_bytes_used: usize,
-    ) -> Step
+    fn point(self, root: OpaqueNodePtr, insert_kind: InsertKind, key_bytes_used: usize) -> Step
         ensures { result ≡ steps.Point (points.InsertPoint (record { path = self.path; insert_kind = insert_kind; key_bytes_used = key_bytes_used; root = root })) }
     {
         Step::Point(PrefixInsertPoint::InsertPoint(InsertPoint {

@@ -106,3 +106,6 @@ impl RawIterator {
         Some(end)
     }
 }
+
+#[cfg(test)]
+mod tests;

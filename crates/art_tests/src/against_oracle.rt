@@ -1,6 +1,7 @@
 //! Trees that runs of drawn commands leave, each compared with the tree that is built of the pairs at one go.
 ghost use Rattle.std.specs.Prelude.{ℕ, ◌∷◌, List};
 ghost use Rattle.art_model.specs.Canonical.{IsCanonical};
+ghost use Rattle.art_model.specs.Clones.{KeepBytes};
 ghost use Rattle.art_model.specs.Pairs.{IsMap, of_key};
 
 use crate::by_list::{answer, copy};
@@ -9,9 +10,10 @@ use crate::side_by_side::assert_same;
 use crate::trees::Key;
 use art_nodes::node::{AsBytes, NodeType, OpaqueNodePtr};
 use art_nodes::store::NodeStore;
-use art_operations::run::{Command, Reply, run};
+use art_operations::run::{Command, Reply, Side, run};
 use art_oracle::build::build;
 use std::alloc::{AllocError, Global};
+use std::mem;
 use std::process::Abort;
 use std::test::Fail;
 
@@ -22,6 +24,7 @@ enum Content<'a> {
     Conflict(&'a [u8], u32, &'a [u8]),
     Overwrote(Option<(&'a [u8], u32)>, usize),
     Deleted(Option<(&'a [u8], u32)>),
+    Cloned,
     Found(bool),
     MatchLen(Option<usize>),
     NoMemory,
@@ -33,6 +36,7 @@ fn content_of(reply: &Reply<Key, u32>) -> Content<'_> {
         Reply::Conflict(key, value, error) => Content::Conflict(key, *value, &error.byte_repr),
         Reply::Overwrote(old, count) => Content::Overwrote(pair_content(old), *count),
         Reply::Deleted(pair) => Content::Deleted(pair_content(pair)),
+        Reply::Cloned => Content::Cloned,
         Reply::Found(is_found) => Content::Found(*is_found),
         Reply::MatchLen(len) => Content::MatchLen(*len),
         Reply::NoMemory(_) => Content::NoMemory,
@@ -51,6 +55,7 @@ fn copy_of(command: &Command<Key, u32>) -> Result<Command<Key, u32>, AllocError>
         Command::Delete(key) => Command::Delete(key.clone()?),
         Command::DeleteMin => Command::DeleteMin,
         Command::DeleteMax => Command::DeleteMax,
+        Command::Clone => Command::Clone,
         Command::Contains(key) => Command::Contains(key.clone()?),
         Command::LongestMatch(key) => Command::LongestMatch(key.clone()?),
     })
@@ -76,19 +81,24 @@ fn draw_hundred(
     Ok((commands, replies))
 }
 
-/// The replies to commands on a tree.
-fn run_all<K: AsBytes + Drop, const P: usize>(
+/// The replies to commands on a tree. The store that it is in at the end comes to be the first.
+fn run_all<K: AsBytes + Clone + Drop, const P: usize>(
     first: &mut NodeStore<K, u32, P>,
     second: &mut NodeStore<K, u32, P>,
     root: &mut Option<OpaqueNodePtr>,
     commands: Vec<Command<K, u32>>,
 ) -> Result<Vec<Reply<K, u32>>, AllocError>
-    requires { (pairs : List (K × ℕ)) × IsCanonical (of_key K.bytes) P first.old root.old pairs }
+    requires canonical { (pairs : List (K × ℕ)) × IsCanonical (of_key K.bytes) P first.old root.old pairs }
+    requires clones { KeepBytes K.bytes K.is_clone }
     ensures { (pairs : List (K × ℕ)) × IsCanonical (of_key K.bytes) P first.new root.new pairs }
 {
     match run(first, second, *root, commands) {
         Ok(done) => {
             *root = done.root;
+            match done.side {
+                Side::First => {}
+                Side::Second => mem::swap(first, second),
+            }
             Ok(done.replies)
         }
         Err((_, error)) => Err(error),
@@ -169,7 +179,7 @@ fn check_shape(
         check::<16>(rt, NodeStore::new(alloc), NodeStore::new(alloc), shape)?,
     ];
     for met in trials {
-        assert!(rt; met.most_pairs > 100, "{met:?}");
+        assert!(rt; met.most_pairs > 80, "{met:?}");
         assert_eq!(rt; met.greatest_kind, greatest_kind);
         assert!(rt; met.was_empty);
     }

@@ -9,6 +9,7 @@ use art_operations::run::{Command, Reply};
 use art_oracle::pairs::{contains, has_related, insert_at, remove, replace_at, search};
 use std::alloc::{AllocError, Global};
 use std::boxed::BoxedSlice;
+use std::mem;
 
 /// Carries a command out, and answers as is to be replied to it.
 pub fn answer<K: AsBytes + Drop>(
@@ -21,9 +22,11 @@ pub fn answer<K: AsBytes + Drop>(
 {
     match command {
         Command::Insert(key, value) => insert(alloc, pairs, key, value),
+        Command::InsertPrefix(key, value) => overwrite(alloc, pairs, key, value),
         Command::Delete(key) => Ok(Reply::Deleted(remove(pairs, &key))),
         Command::DeleteMin => delete_listed(alloc, pairs, 0),
         Command::DeleteMax => delete_listed(alloc, pairs, pairs.len().saturating_sub(1)),
+        Command::Clone => Ok(Reply::Cloned),
         Command::Contains(key) => Ok(Reply::Found(contains(pairs, &key))),
         Command::LongestMatch(key) => Ok(Reply::MatchLen(match_len(pairs, &key))),
     }
@@ -49,6 +52,39 @@ fn insert<K: AsBytes + Drop>(
             Err(_) => Err(AllocError),
         },
     }
+}
+
+/// Puts a pair in, in the place of all with related keys.
+fn overwrite<K: AsBytes + Drop>(
+    alloc: Global,
+    pairs: &mut Vec<(K, u32)>,
+    key: K,
+    value: u32,
+) -> Result<Reply<K, u32>, AllocError>
+    requires { IsMap (of_key K.bytes) pairs.old.items }
+    ensures { IsMap (of_key K.bytes) pairs.new.items }
+{
+    let mut kept = Vec::new(alloc);
+    let mut last = None;
+    let mut count = 0usize;
+    for (other, its) in mem::replace(pairs, Vec::new(alloc)) {
+        if are_related(other.as_bytes(), key.as_bytes()) {
+            last = Some((other, its));
+            count = count.saturating_add(1);
+        } else {
+            insert(alloc, &mut kept, other, its)?;
+        }
+    }
+    insert(alloc, &mut kept, key, value)?;
+    *pairs = kept;
+    Ok(match count {
+        0 | 1 => Reply::Overwrote(last, 0),
+        _ => Reply::Overwrote(None, count),
+    })
+}
+
+fn are_related(one: &[u8], other: &[u8]) -> bool {
+    one.starts_with(other) || other.starts_with(one)
 }
 
 /// Takes out the pair at a place of the list, if there is one.

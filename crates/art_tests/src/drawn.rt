@@ -119,6 +119,11 @@ impl Drawer {
         pairs: &[(Key, u32)],
         is_growing: bool,
     ) -> Result<Command<Key, u32>, AllocError> {
+        match self.numbers.below(256) {
+            0 => return Ok(Command::InsertPrefix(self.query(pairs)?, self.numbers.value())),
+            1 => return Ok(Command::Clone),
+            _ => {}
+        }
         match self.numbers.below(16) {
             0 | 1 => Ok(Command::Contains(self.query(pairs)?)),
             2 | 3 => Ok(Command::LongestMatch(self.query(pairs)?)),

@@ -5,9 +5,10 @@ ghost use Rattle.art_tests.specs.Trees.{HasTree};
 use crate::trees::{Key, boxed_keys, insert_all};
 use art_nodes::node::{AsBytes, LeafPtr, NodePtr, NodeType, OpaqueNodePtr};
 use art_nodes::store::NodeStore;
-use art_operations::run::{Command, Reply, run};
+use art_operations::run::{Command, Reply, Side, run};
 use art_test_support::all_memory;
 use std::alloc::AllocError;
+use std::mem;
 use std::process::Abort;
 use std::test::Fail;
 
@@ -157,7 +158,7 @@ impl Touched {
     }
 }
 
-// Answers a list of one command, and leaves the root.
+// Answers a list of one command, and leaves the root, in the store.
 fn run_one<const P: usize>(
     store: &mut NodeStore<Key, u32, P>,
     root: &mut Option<OpaqueNodePtr>,
@@ -170,6 +171,10 @@ fn run_one<const P: usize>(
     match run(store, &mut second, *root, commands) {
         Ok(done) => {
             *root = done.root;
+            match done.side {
+                Side::First => {}
+                Side::Second => mem::swap(store, &mut second),
+            }
             let mut replies = done.replies;
             Ok(replies.pop().ok_or("no reply")?)
         }

@@ -4,7 +4,7 @@ ghost use Rattle.art_tests.specs.Trees.{HasTree};
 
 use art_nodes::node::{AsBytes, InnerPtr, LeafPtr, NodePtr, NodeType, OpaqueNodePtr};
 use art_nodes::store::NodeStore;
-use art_operations::run::{Command, RunResult, run};
+use art_operations::run::{Command, RunResult, Side, run};
 use std::alloc::{AllocError, Global};
 
 pub type Key = Vec<u8>;
@@ -50,7 +50,10 @@ pub fn insert_all<const P: usize>(
     }
     let mut other = NodeStore::new(alloc);
     match run(store, &mut other, None, commands) {
-        Ok(done) => Ok(done),
+        Ok(done) => match done.side {
+            Side::First => Ok(done),
+            Side::Second => Err(AllocError),
+        },
         Err((_, error)) => Err(error),
     }
 }

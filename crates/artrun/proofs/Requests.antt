@@ -6,7 +6,7 @@ use Rattle.artrun.specs.Keys.{IsKeyWord}
 use Rattle.artrun.specs.Lines.{line_of, HasSmallValue}
 use Rattle.artrun.specs.declared.line.KeyWord.{KeyWord}
 use Rattle.artrun.specs.declared.line.Request.{Request}
-use Rattle.artrun.specs.declared.line.Request.TheVariants.{Insert, Delete, First, Last, Find, Longest, Nodes}
+use Rattle.artrun.specs.declared.line.Request.TheVariants.{Insert, Prefix, Delete, First, Last, Clone, Find, Longest, Walk, Back, Nodes}
 
 -- the character at a place of a line
 abbrev at : ℕ → List ℕ → ℕ
@@ -18,36 +18,66 @@ no_key key word is none = ∥∥₁_elim key.is_key (λ x y. absurd x) (λ k. no
 pub no_insert : (line words : List ℕ) → line ≡ codes "insert " ++ words → ((key : List ℕ) (value : ℕ) → IsKeyWord key → value < 2 ^ 32 → words ≢ key ++ 32 ∷ decimal value) → (request : Request) → HasSmallValue request → line ≢ line_of request
 no_insert line words is none (Insert key value) small same =
     ∥∥₁_elim key.is_key (λ x y. absurd x) (λ k. none key.word.now value k small (ap (drop 7) (sym is ∙ same)))
+no_insert line words is none (Prefix key value) small same = omega (arith, ap (at 0) (sym is ∙ same))
 no_insert line words is none (Delete key) small same = omega (arith, ap (at 0) (sym is ∙ same))
 no_insert line words is none First small same = omega (arith, ap (at 0) (sym is ∙ same))
 no_insert line words is none Last small same = omega (arith, ap (at 0) (sym is ∙ same))
 no_insert line words is none (Find key) small same = omega (arith, ap (at 0) (sym is ∙ same))
 no_insert line words is none (Longest key) small same = omega (arith, ap (at 0) (sym is ∙ same))
+no_insert line words is none Clone small same = omega (arith, ap (at 0) (sym is ∙ same))
+no_insert line words is none Walk small same = omega (arith, ap (at 0) (sym is ∙ same))
+no_insert line words is none Back small same = omega (arith, ap (at 0) (sym is ∙ same))
 no_insert line words is none Nodes small same = omega (arith, ap (at 0) (sym is ∙ same))
+
+pub no_prefix : (line words : List ℕ) → line ≡ codes "prefix " ++ words → ((key : List ℕ) (value : ℕ) → IsKeyWord key → value < 2 ^ 32 → words ≢ key ++ 32 ∷ decimal value) → (request : Request) → HasSmallValue request → line ≢ line_of request
+no_prefix line words is none (Insert key value) small same = omega (arith, ap (at 0) (sym is ∙ same))
+no_prefix line words is none (Prefix key value) small same =
+    ∥∥₁_elim key.is_key (λ x y. absurd x) (λ k. none key.word.now value k small (ap (drop 7) (sym is ∙ same)))
+no_prefix line words is none (Delete key) small same = omega (arith, ap (at 0) (sym is ∙ same))
+no_prefix line words is none First small same = omega (arith, ap (at 0) (sym is ∙ same))
+no_prefix line words is none Last small same = omega (arith, ap (at 0) (sym is ∙ same))
+no_prefix line words is none (Find key) small same = omega (arith, ap (at 0) (sym is ∙ same))
+no_prefix line words is none (Longest key) small same = omega (arith, ap (at 0) (sym is ∙ same))
+no_prefix line words is none Clone small same = omega (arith, ap (at 0) (sym is ∙ same))
+no_prefix line words is none Walk small same = omega (arith, ap (at 0) (sym is ∙ same))
+no_prefix line words is none Back small same = omega (arith, ap (at 0) (sym is ∙ same))
+no_prefix line words is none Nodes small same = omega (arith, ap (at 0) (sym is ∙ same))
 
 pub no_delete : (line word : List ℕ) → line ≡ codes "delete " ++ word → ¬ (IsKeyWord word) → (request : Request) → HasSmallValue request → line ≢ line_of request
 no_delete line word is none (Insert key value) small same = omega (arith, ap (at 0) (sym is ∙ same))
+no_delete line word is none (Prefix key value) small same = omega (arith, ap (at 0) (sym is ∙ same))
 no_delete line word is none (Delete key) small same = no_key key word (ap (drop 7) (sym is ∙ same)) none
 no_delete line word is none First small same = omega (arith, ap (at 0) (sym is ∙ same))
 no_delete line word is none Last small same = omega (arith, ap (at 0) (sym is ∙ same))
 no_delete line word is none (Find key) small same = omega (arith, ap (at 0) (sym is ∙ same))
 no_delete line word is none (Longest key) small same = omega (arith, ap (at 0) (sym is ∙ same))
+no_delete line word is none Clone small same = omega (arith, ap (at 0) (sym is ∙ same))
+no_delete line word is none Walk small same = omega (arith, ap (at 0) (sym is ∙ same))
+no_delete line word is none Back small same = omega (arith, ap (at 0) (sym is ∙ same))
 no_delete line word is none Nodes small same = omega (arith, ap (at 0) (sym is ∙ same))
 
 pub no_longest : (line word : List ℕ) → line ≡ codes "longest " ++ word → ¬ (IsKeyWord word) → (request : Request) → HasSmallValue request → line ≢ line_of request
 no_longest line word is none (Insert key value) small same = omega (arith, ap (at 0) (sym is ∙ same))
+no_longest line word is none (Prefix key value) small same = omega (arith, ap (at 0) (sym is ∙ same))
 no_longest line word is none (Delete key) small same = omega (arith, ap (at 0) (sym is ∙ same))
 no_longest line word is none First small same = omega (arith, ap (at 0) (sym is ∙ same))
 no_longest line word is none Last small same = omega (arith, ap (at 1) (sym is ∙ same))
 no_longest line word is none (Find key) small same = omega (arith, ap (at 0) (sym is ∙ same))
 no_longest line word is none (Longest key) small same = no_key key word (ap (drop 8) (sym is ∙ same)) none
+no_longest line word is none Clone small same = omega (arith, ap (at 0) (sym is ∙ same))
+no_longest line word is none Walk small same = omega (arith, ap (at 0) (sym is ∙ same))
+no_longest line word is none Back small same = omega (arith, ap (at 0) (sym is ∙ same))
 no_longest line word is none Nodes small same = omega (arith, ap (at 0) (sym is ∙ same))
 
 pub no_find : (line word : List ℕ) → line ≡ codes "find " ++ word → ¬ (IsKeyWord word) → (request : Request) → HasSmallValue request → line ≢ line_of request
 no_find line word is none (Insert key value) small same = omega (arith, ap (at 0) (sym is ∙ same))
+no_find line word is none (Prefix key value) small same = omega (arith, ap (at 0) (sym is ∙ same))
 no_find line word is none (Delete key) small same = omega (arith, ap (at 0) (sym is ∙ same))
 no_find line word is none First small same = omega (arith, ap (at 2) (sym is ∙ same))
 no_find line word is none Last small same = omega (arith, ap (at 0) (sym is ∙ same))
 no_find line word is none (Find key) small same = no_key key word (ap (drop 5) (sym is ∙ same)) none
 no_find line word is none (Longest key) small same = omega (arith, ap (at 0) (sym is ∙ same))
+no_find line word is none Clone small same = omega (arith, ap (at 0) (sym is ∙ same))
+no_find line word is none Walk small same = omega (arith, ap (at 0) (sym is ∙ same))
+no_find line word is none Back small same = omega (arith, ap (at 0) (sym is ∙ same))
 no_find line word is none Nodes small same = omega (arith, ap (at 0) (sym is ∙ same))

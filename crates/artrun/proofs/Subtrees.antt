@@ -15,12 +15,14 @@ use Rattle.art_nodes.specs.declared.node.InnerPtr.{InnerPtr}
 use Rattle.art_nodes.specs.declared.node.OpaqueNodePtr.{OpaqueNodePtr}
 use Rattle.art_model.specs.Trees.{Tree, leaf, inner, Children, child, no_child}
 use Rattle.art_model.specs.Layouts.{name_of, slots_of, names_of, names_below, HoldsBelow, AreDistinct, IsLayout}
-use Rattle.art_model.specs.Heights.{height, tree_height, height_below}
+use Rattle.art_model.specs.Heights.{height, height_below}
+use Rattle.art_model.specs.Pairs.{of_key}
 use Rattle.art_model.specs.Stores.{node_at}
 use Rattle.art_model.proofs.Views.{leaf_there, leaf_name_is, inner_there, inner_name_is}
 use Rattle.art_model.proofs.Pairwises.{Pairwise-left, Pairwise-right}
-use Rattle.art_model.proofs.Heights.{height_is, enough_steps}
-use Rattle.artrun.specs.Trees.{IsTreeIn, Key, HasCanonicalTree}
+use Rattle.art_model.proofs.Heights.{height_of_layout}
+use Rattle.art_model.proofs.StoreLaws.{has_children}
+use Rattle.artrun.specs.Trees.{IsTreeIn, IsLinkedTreeIn, Key, HasCanonicalTree, key_bytes}
 
 module _ {K V : Type 0} (s : Nodes K V) where
   -- how high the tree of a name is
@@ -31,14 +33,11 @@ module _ {K V : Type 0} (s : Nodes K V) where
   abbrev pub IsLower : OpaqueNodePtr → OpaqueNodePtr → Type 0
   IsLower root name = IsTreeIn s name × (height_of name < height_of root)
 
-  height_of_layout : (t : Tree OpaqueNodePtr (K × V)) (root : OpaqueNodePtr) → IsLayout (node_at s) root t → height_of root ≡ tree_height t
-  height_of_layout t root is = ap height_of (sym is.named) ∙ height_is (node_at s) t (map.len s.inners) is.holds (enough_steps s t is.holds is.distinct)
-
   lower_below : (root : OpaqueNodePtr) (cs : Children OpaqueNodePtr (K × V)) → HoldsBelow (node_at s) cs → AreDistinct (names_below cs) → height_below cs < height_of root → All (λ slot. IsLower root slot.1) (slots_of cs)
   lower_below root no_child holds distinct low = λ k d below. absurd (omega arith)
   lower_below root (child b t cs) holds distinct low =
       let is : IsLayout (node_at s) (name_of t) t = record { named = refl; holds = holds.0; distinct = Pairwise-left ◌≢◌ (names_of t) (names_below cs) distinct } in
-      let same = height_of_layout t (name_of t) is in
+      let same = height_of_layout s (name_of t) t is in
       All-cons (λ slot. IsLower root slot.1) (b, name_of t) (slots_of cs) (∣ (t, is) ∣₁, omega arith)
       (lower_below root cs holds.1 (Pairwise-right ◌≢◌ (names_of t) (names_below cs) distinct) (omega arith))
 
@@ -59,7 +58,7 @@ module _ {K V : Type 0} (s : Nodes K V) where
   inner_held p root proper is (leaf n x) h = absurd (inner_name_is s p x proper (ap (node_at s) (is ∙ sym h.named) ∙ h.holds))
   inner_held p root proper is (inner n head cs) h =
       let there = inner_there s p head (slots_of cs) proper (ap (node_at s) (is ∙ sym h.named) ∙ h.holds.0) in
-      let same = height_of_layout (inner n head cs) root h in
+      let same = height_of_layout s root (inner n head cs) h in
       subst (Found root) (sym there.1) (subst (All (λ slot. IsLower root slot.1)) (sym there.3) (lower_below root cs h.holds.1 (Pairwise-right ◌≢◌ (n ∷ []) (names_below cs) h.distinct) (omega arith)))
 
   pub inner_is_there : (p : InnerPtr) (root : OpaqueNodePtr) → p.kind ≢ Leaf → inner_name p ≡ root → IsTreeIn s root → map.get s.inners p ≢ None
@@ -76,3 +75,8 @@ module _ {K V : Type 0} (s : Nodes K V) where
 pub canonical_is_tree : (s : Nodes Key ℕ) (root : Option OpaqueNodePtr) → HasCanonicalTree s root → IfSome root (IsTreeIn s)
 canonical_is_tree s None h = tt
 canonical_is_tree s (Some root) h = ∣ (h.1.0, h.1.1.stands.0) ∣₁
+
+-- and its leaves are linked
+pub canonical_is_linked : (s : Nodes Key ℕ) (root : Option OpaqueNodePtr) → HasCanonicalTree s root → IfSome root (IsLinkedTreeIn s)
+canonical_is_linked s None h = tt
+canonical_is_linked s (Some root) (pairs, (layout, is)) = (layout, has_children (of_key key_bytes) 4 s root pairs layout is, is.linked)

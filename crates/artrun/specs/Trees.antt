@@ -1,17 +1,22 @@
 -- Trees of the program's keys and values.
-use Rattle.std.specs.Prelude.{ℕ, List, Option, Vec}
+use Rattle.std.specs.Prelude.{ℕ, List, Option, None, Vec}
 use Rattle.std.specs.declared.alloc.Global.{Global}
 use Rattle.art_nodes.specs.Nodes.{Nodes}
 use Rattle.art_nodes.specs.declared.node.OpaqueNodePtr.{OpaqueNodePtr}
 use Rattle.art_model.specs.Pairs.{of_key}
 use Rattle.art_model.specs.Trees.{Tree}
-use Rattle.art_model.specs.Layouts.{IsLayout}
-use Rattle.art_model.specs.Stores.{node_at}
+use Rattle.art_model.specs.Layouts.{IsLayout, AreLinked, leaf_names}
+use Rattle.art_model.specs.Stores.{node_at, links_at}
+use Rattle.art_model.specs.Roots.{IsFullTree}
 use Rattle.art_model.specs.Canonical.{IsCanonical}
 
 -- the name stands for a tree in the store
 abbrev pub IsTreeIn : {K V : Type 0} → Nodes K V → OpaqueNodePtr → Type 0
 IsTreeIn {K} {V} s root = ∥ ((layout : Tree OpaqueNodePtr (K × V)) × IsLayout (node_at s) root layout) ∥₁
+
+-- the name stands for a tree in the store, whose inner nodes all have children and whose leaves are linked
+abbrev pub IsLinkedTreeIn : {K V : Type 0} → Nodes K V → OpaqueNodePtr → Type 0
+IsLinkedTreeIn {K} {V} s root = (layout : Tree OpaqueNodePtr (K × V)) × IsFullTree s root layout × AreLinked (links_at s) None (leaf_names layout) None
 
 -- a key as a vector of bytes
 abbrev pub Key : Type 0

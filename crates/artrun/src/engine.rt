@@ -4,7 +4,7 @@ ghost use Rattle.std.specs.Prelude.{◌≤◌};
 ghost use Rattle.artrun.specs.KeptTrees.{IsKept};
 
 use crate::line::Request;
-use crate::print::{write_no_memory, write_reply};
+use crate::print::{Order, write_no_memory, write_reply};
 use crate::tree::KeptTree;
 use art_operations::run::Command;
 use std::alloc::{AllocError, Global};
@@ -67,11 +67,15 @@ fn answer(
 {
     let command = match request {
         Request::Insert(key, value) => key.copy(alloc).map(|key| Command::Insert(key, value)),
+        Request::Prefix(key, value) => key.copy(alloc).map(|key| Command::InsertPrefix(key, value)),
         Request::Delete(key) => key.copy(alloc).map(Command::Delete),
         Request::First => Ok(Command::DeleteMin),
         Request::Last => Ok(Command::DeleteMax),
+        Request::Clone => Ok(Command::Clone),
         Request::Find(key) => key.copy(alloc).map(Command::Contains),
         Request::Longest(key) => key.copy(alloc).map(Command::LongestMatch),
+        Request::Walk => return tree.write_pairs(output, Order::Rising),
+        Request::Back => return tree.write_pairs(output, Order::Falling),
         Request::Nodes => return tree.write_nodes(output),
     };
     let Ok(command) = command else {

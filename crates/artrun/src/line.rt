@@ -19,11 +19,15 @@ pub struct KeyWord<'a> {
 #[derive(Clone, Copy)]
 pub enum Request<'a> {
     Insert(KeyWord<'a>, u32),
+    Prefix(KeyWord<'a>, u32),
     Delete(KeyWord<'a>),
     First,
     Last,
+    Clone,
     Find(KeyWord<'a>),
     Longest(KeyWord<'a>),
+    Walk,
+    Back,
     Nodes,
 }
 
@@ -67,6 +71,10 @@ impl<'a> Request<'a> {
             let (key, value) = parse_pair(arguments)?;
             return Some(Request::Insert(key, value));
         }
+        if let Some(arguments) = strip(line, b"prefix ") {
+            let (key, value) = parse_pair(arguments)?;
+            return Some(Request::Prefix(key, value));
+        }
         if let Some(key) = strip(line, b"delete ") {
             return Some(Request::Delete(KeyWord::parse(key)?));
         }
@@ -80,13 +88,22 @@ impl<'a> Request<'a> {
     // What a line of one word asks for.
     fn parse_word(line: &[u8]) -> Option<Self>
         ensures line { IfSome result (λ request. line.now ≡ line_of request) }
-        ensures none { IfNone result ((line.now ≢ codes "first") × (line.now ≢ codes "last") × (line.now ≢ codes "nodes")) }
+        ensures none { IfNone result ((line.now ≢ codes "first") × (line.now ≢ codes "last") × (line.now ≢ codes "clone") × (line.now ≢ codes "walk") × (line.now ≢ codes "back") × (line.now ≢ codes "nodes")) }
     {
         if line == b"first".as_slice() {
             return Some(Request::First);
         }
         if line == b"last".as_slice() {
             return Some(Request::Last);
+        }
+        if line == b"clone".as_slice() {
+            return Some(Request::Clone);
+        }
+        if line == b"walk".as_slice() {
+            return Some(Request::Walk);
+        }
+        if line == b"back".as_slice() {
+            return Some(Request::Back);
         }
         if line == b"nodes".as_slice() {
             return Some(Request::Nodes);

@@ -1,9 +1,14 @@
 //! What is written in reply.
-ghost use Rattle.std.specs.Prelude.{IfSome};
-ghost use Rattle.artrun.specs.Trees.{IsTreeIn};
+ghost use Rattle.std.specs.Prelude.{IfSome, IsSome, List};
+ghost use Rattle.std.specs.FinMap as map;
+ghost use Rattle.art_nodes.specs.declared.node.OpaqueNodePtr.{OpaqueNodePtr};
+ghost use Rattle.art_operations.specs.Iterators.{IsIteratorOf};
+ghost use Rattle.artrun.specs.Trees.{IsLinkedTreeIn, IsTreeIn};
 
-use art_nodes::node::{LeafNode, NodePtr, OpaqueNodePtr};
+use art_nodes::node::{LeafNode, LeafPtr, NodePtr, OpaqueNodePtr};
 use art_nodes::store::NodeStore;
+use art_operations::iterator::RawIterator;
+use art_operations::minmax::{maximum_unchecked, minimum_unchecked};
 use art_operations::run::Reply;
 use std::io::Write;
 use std::{fmt, io};
@@ -58,6 +63,7 @@ pub fn write_reply(output: &mut impl Write, reply: &Reply<Vec<u8>, u32>) -> io::
         Reply::Conflict(_, _, error) => writeln!(output, "conflict: {error}"),
         Reply::Deleted(None) => writeln!(output, "absent"),
         Reply::Deleted(Some((key, value))) => writeln!(output, "deleted {} {value}", Key(key)),
+        Reply::Cloned => writeln!(output, "cloned"),
         Reply::Found(true) => writeln!(output, "yes"),
         Reply::Found(false) => writeln!(output, "no"),
         Reply::MatchLen(Some(len)) => writeln!(output, "match {len}"),
@@ -68,6 +74,59 @@ pub fn write_reply(output: &mut impl Write, reply: &Reply<Vec<u8>, u32>) -> io::
 
 pub fn write_no_memory(output: &mut impl Write) -> io::Result<()> {
     writeln!(output, "no memory")
+}
+
+/// How the pairs of a tree are written: by rising keys, or by falling ones.
+#[derive(Clone, Copy)]
+pub enum Order {
+    Rising,
+    Falling,
+}
+
+/// Writes the pairs of a tree in one line, as a walk of the leaves finds them.
+pub fn write_pairs<const P: usize>(
+    output: &mut impl Write,
+    store: &NodeStore<Vec<u8>, u32, P>,
+    root: Option<OpaqueNodePtr>,
+    order: Order,
+) -> io::Result<()>
+    requires { IfSome root (IsLinkedTreeIn store.now) }
+{
+    let Some(root) = root else {
+        return writeln!(output, "empty");
+    };
+    let first = minimum_unchecked(store, root);
+    let last = maximum_unchecked(store, root);
+    let mut leaves = RawIterator::new(store, first, last);
+    for written in 0..u64::MAX {
+        let Some(name) = next_leaf(&mut leaves, store, order) else {
+            break;
+        };
+        let Some(leaf) = store.leaf(name) else {
+            unreachable!()
+        };
+        if written > 0 {
+            write!(output, " ")?;
+        }
+        write!(output, "{}={}", Key(&leaf.key), leaf.value)?;
+    }
+    writeln!(output)
+}
+
+// The leaf that comes next.
+fn next_leaf<const P: usize>(
+    leaves: &mut RawIterator,
+    store: &NodeStore<Vec<u8>, u32, P>,
+    order: Order,
+) -> Option<LeafPtr>
+    requires { (names : List OpaqueNodePtr) × IsIteratorOf store.now leaves.old names }
+    ensures there { IfSome result (λ leaf. IsSome (map.get store.now.leaves leaf)) }
+    ensures rest { (names : List OpaqueNodePtr) × IsIteratorOf store.now leaves.new names }
+{
+    match order {
+        Order::Rising => leaves.next(store),
+        Order::Falling => leaves.next_back(store),
+    }
 }
 
 /// Writes the nodes of a tree, a line each: the root, and after each inner node its children in the order of their

@@ -1,16 +1,17 @@
 //! The tree that the lines so far have left, and the stores that it lives in.
 ghost use Rattle.std.specs.Prelude.{◌≡◌, ◌∷◌, [], None, IfOk, OnErr};
-ghost use Rattle.art_operations.specs.Runs.{IsRun, on};
-ghost use Rattle.art_operations.specs.declared.run.Side.TheVariants.{First};
+ghost use Rattle.art_nodes.specs.Clones.{IsPairClone};
+ghost use Rattle.art_operations.specs.Runs.{IsRun};
+ghost use Rattle.art_operations.specs.declared.run.Side.{Side};
 ghost use Rattle.artrun.specs.Trees.{key_bytes};
 
-use crate::print::write_nodes;
+use crate::print::{Order, write_nodes, write_pairs};
 use art_nodes::node::OpaqueNodePtr;
 use art_nodes::store::NodeStore;
-use art_operations::run::{Command, Reply, run};
+use art_operations::run::{Command, Reply, Side, run};
 use std::alloc::{AllocError, Global};
-use std::io;
 use std::io::Write;
+use std::{io, mem};
 
 /// How many bytes of its prefix an inner node stores.
 pub const PREFIX_LEN: usize = 4;
@@ -24,7 +25,7 @@ pub struct KeptTree {
 }
 
 impl KeptTree {
-    ghost use Rattle.artrun.specs.KeptTrees.{IsKept, seen};
+    ghost use Rattle.artrun.specs.KeptTrees.{IsKept, seen, stood};
 
     /// No tree.
     pub fn new(alloc: Global) -> Self
@@ -45,6 +46,13 @@ impl KeptTree {
         write_nodes(output, &self.first, self.root)
     }
 
+    /// Writes the pairs of the tree in one line.
+    pub fn write_pairs(&self, output: &mut impl Write, order: Order) -> io::Result<()>
+        requires { IsKept self.now }
+    {
+        write_pairs(output, &self.first, self.root, order)
+    }
+
     /// Answers one more command, by a run of it alone. An `Err` leaves the tree as it is.
     pub fn answer(
         &mut self,
@@ -52,7 +60,7 @@ impl KeptTree {
     ) -> Result<Reply<Vec<u8>, u32>, AllocError>
         requires { IsKept self.old }
         ensures kept { IsKept self.new }
-        ensures run { IfOk result (λ reply. IsRun key_bytes 4 (seen self.old) (command ∷ []) (reply ∷ []) (seen self.new)) }
+        ensures run { IfOk result (λ reply. (side : Side) × IsRun key_bytes 4 (IsPairClone ⟦<Vec<u8> as Clone>⟧.is_clone ⟦<u32 as Clone>⟧.is_clone) (seen self.old) (command ∷ []) (reply ∷ []) (stood side self.new)) }
         ensures refused { OnErr result (seen self.new ≡ seen self.old) }
     {
         let mut commands = Vec::with_capacity(self.first.alloc(), 1)?;
@@ -60,6 +68,10 @@ impl KeptTree {
         match run(&mut self.first, &mut self.second, self.root, commands) {
             Ok(done) => {
                 self.root = done.root;
+                match done.side {
+                    Side::First => {}
+                    Side::Second => mem::swap(&mut self.first, &mut self.second),
+                }
                 let mut replies = done.replies;
                 let Some(reply) = replies.pop() else {
                     unreachable!()

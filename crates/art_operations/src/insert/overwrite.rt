@@ -178,3 +178,6 @@ impl OverwritePoint {
         })
     }
 }
+
+#[cfg(test)]
+mod tests;

@@ -1,4 +1,4 @@
-use Rattle.std.proofs.Common.{◌≡◌, ◌∙◌, refl, ap, rules, arith}
+use Rattle.std.proofs.Common.{◌∙◌, refl, ap, rules, arith}
 use Rattle.std.specs.FinMap as map
 use Rattle.art_operations.proofs.Iterators.{end_there}
 use Rattle.art_operations.proofs.Freed.{all_left, none_come, one_goes, leaf_less}
@@ -22,13 +22,13 @@ pub free_leaf-requires : goal.free_leaf-requires
 free_leaf-requires g c =
     let (names, is) = c.requires in
     let left = c.leaves.invariant.left names is in
-    (search rules, end_there c.leaves.store c.leaves.left left.rest c.in-Some.leaf left.iterator_of (c.in-Some.ensures.leaf left.rest left.iterator_of))
+    (search rules, end_there c.leaves.store left.rest c.in-Some.leaf left.iterator_of (c.in-Some.ensures.leaf left.rest left.iterator_of))
 
 pub leaves-smaller : goal.leaves-smaller
 leaves-smaller g c =
     let (names, is) = c.requires in
     let left = c.leaves.invariant.left names is in
-    let less = leaf_less c.leaves.store.leaves c.in-Some.leaf (end_there c.leaves.store c.leaves.left left.rest c.in-Some.leaf left.iterator_of (c.in-Some.ensures.leaf left.rest left.iterator_of)) in
+    let less = leaf_less c.leaves.store.leaves c.in-Some.leaf (end_there c.leaves.store left.rest c.in-Some.leaf left.iterator_of (c.in-Some.ensures.leaf left.rest left.iterator_of)) in
     let now = ap map.len c.free_leaf.ensures.leaves in
     omega (arith, less, now)
 

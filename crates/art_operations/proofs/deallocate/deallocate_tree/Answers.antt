@@ -6,10 +6,10 @@ use Rattle.art_operations.proofs.deallocate.deallocate_tree.Goals as goal
 pub free_nodes-requires : goal.free_nodes-requires
 free_nodes-requires g c =
     let (layout, full) = c.requires in
-    (search rules, (shape_of layout, all_can full))
+    (search rules, (shape_of layout, all_can full.0))
 
 pub returns-clause-freed : goal.returns-clause-freed
-returns-clause-freed g c layout full = all_go layout (c.free_nodes.ensures.freed (shape_of layout) (all_can full))
+returns-clause-freed g c layout full = all_go layout (c.free_nodes.ensures.freed (shape_of layout) (all_can full.0))
 
 pub returns-clause-count : goal.returns-clause-count
-returns-clause-count g c layout full = all_counted layout c.free_nodes.result (c.free_nodes.ensures.count (shape_of layout) (all_can full))
+returns-clause-count g c layout full = all_counted layout c.free_nodes.result (c.free_nodes.ensures.count (shape_of layout) (all_can full.0))

@@ -1,4 +1,4 @@
-use Rattle.std.proofs.Common.{◌≡◌, ◌∙◌, sym}
+use Rattle.std.proofs.Common.{◌∙◌, sym}
 use Rattle.art_nodes.specs.Kinds.{ref_view}
 use Rattle.art_operations.proofs.Freed.{first_taken}
 use Rattle.art_operations.proofs.deallocate.take_first_child.Goals as goal

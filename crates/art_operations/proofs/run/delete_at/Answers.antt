@@ -1,6 +1,7 @@
 use Rattle.std.proofs.Common.{refl, sym, subst, Some, None}
 use Rattle.std.proofs.lemmas.Bool.{false≢true}
 use Rattle.art_model.specs.Canonical.{IsCanonical}
+use Rattle.art_nodes.specs.Clones.{IsPairClone}
 use Rattle.art_model.specs.Pairs.{of_key, remove_key}
 use Rattle.art_model.specs.Radix.{pairs_of}
 use Rattle.art_operations.specs.declared.run.Reply.TheVariants.{Deleted, NoMemory}
@@ -9,12 +10,12 @@ use Rattle.art_operations.proofs.Stepped.{deleted_step, kept_step, deleted_pair}
 use Rattle.art_operations.proofs.run.delete_at.Goals as goal
 
 pub returns-in-Ok : goal.returns-in-Ok
-returns-in-Ok g c second command deletion =
+returns-in-Ok g c side second command deletion =
     let bytes = g.K.AsBytes.bytes in
-    from_root bytes g.row.P second refl (λ layout by.
+    from_root bytes g.row.P side second refl (λ layout by.
     let (x, leads, takes) = deletion (pairs_of layout) layout by in
     let leaf = deleted_pair bytes g.row.P c.in-Ok.done.deleted_leaf by leads c.in-Ok.ensures.deleted in
-    subst (λ pair. StepFrom bytes g.row.P c.args.store.now c.apply.new.store second (Some layout) command (Deleted (Some pair)) c.in-Ok.done.new_root) (sym leaf) (deleted_step bytes g.row.P by second leads takes (record {
+    subst (λ pair. StepFrom bytes g.row.P (IsPairClone g.K.Clone.is_clone g.V.Clone.is_clone) side c.args.store.now c.apply.new.store second (Some layout) command (Deleted (Some pair)) c.in-Ok.done.new_root) (sym leaf) (deleted_step bytes g.row.P by second leads takes (record {
       canonical = subst (λ pair. IsCanonical (of_key bytes) g.row.P c.apply.new.store c.in-Ok.done.new_root (remove_key (of_key bytes) (bytes pair.0) (pairs_of layout))) leaf (c.in-Ok.ensures.canonical (pairs_of layout) layout by);
       kept = c.in-Ok.ensures.kept (pairs_of layout) layout by;
       touches = c.in-Ok.ensures.touches;
@@ -22,11 +23,11 @@ returns-in-Ok g c second command deletion =
     })))
 
 pub returns-in-Err : goal.returns-in-Err
-returns-in-Err g c second command deletion =
+returns-in-Err g c side second command deletion =
     let bytes = g.K.AsBytes.bytes in
-    from_root bytes g.row.P second refl (λ layout by.
+    from_root bytes g.row.P side second refl (λ layout by.
     let (x, leads, takes) = deletion (pairs_of layout) layout by in
-    subst (λ after. StepFrom bytes g.row.P c.args.store.now c.apply.new.store second (Some layout) command (NoMemory None) after) (sym c.requires.root) (kept_step bytes g.row.P by second leads takes (record {
+    subst (λ after. StepFrom bytes g.row.P (IsPairClone g.K.Clone.is_clone g.V.Clone.is_clone) side c.args.store.now c.apply.new.store second (Some layout) command (NoMemory None) after) (sym c.requires.root) (kept_step bytes g.row.P by second leads takes (record {
       same = (c.in-Err.ensures.leaves, c.in-Err.ensures.inners);
       void = c.in-Err.ensures.void;
       uncovered = λ covered. absurd (false≢true (c.in-Err.ensures.succeeds covered));

@@ -5,7 +5,7 @@ use Rattle.art_operations.proofs.Moves.{absent, from_none}
 use Rattle.art_operations.proofs.run.delete_min.Goals as goal
 
 pub returns-in_default : goal.returns-in_default
-returns-in_default g c second = rw c.in_default.is (from_none g.K.AsBytes.bytes g.row.P second refl (absent g.K.AsBytes.bytes g.row.P second (refl, refl)))
+returns-in_default g c side second = rw c.in_default.is (from_none g.K.AsBytes.bytes g.row.P side second refl (absent g.K.AsBytes.bytes g.row.P side second (refl, refl)))
 
 pub delete_at-requires : goal.delete_at-requires
 delete_at-requires g c =
@@ -14,6 +14,6 @@ delete_at-requires g c =
     (search rules, ((c.requires.0, layout, x, by, leads), c.in-Some.is))
 
 pub returns : goal.returns
-returns g c second = rw c.in-Some.is (c.delete_at.ensures second _ (λ pairs layout by.
+returns g c side second = rw c.in-Some.is (c.delete_at.ensures side second _ (λ pairs layout by.
     let (x, e, leads) = point_some layout c.find_minimum_to_delete-point.result (first_of pairs) (c.find_minimum_to_delete-point.ensures pairs layout by) in
     (x, leads, takes_first g.K.AsBytes.bytes pairs x by.is_map e)))

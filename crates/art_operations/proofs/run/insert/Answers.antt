@@ -10,20 +10,20 @@ use Rattle.art_operations.proofs.Stepped.{inserted_step, refused_step, conflict_
 use Rattle.art_operations.proofs.run.insert.Goals as goal
 
 pub returns-in_default : goal.returns-in_default
-returns-in_default g c second = rw c.in_default.is (c.plant.ensures second)
+returns-in_default g c side second = rw c.in_default.is (c.plant.ensures side second)
 
 pub returns-in-Err-Prefix : goal.returns-in-Err-Prefix
-returns-in-Err-Prefix g c second =
+returns-in-Err-Prefix g c side second =
     let bytes = g.K.AsBytes.bytes in
-    from_kept_root bytes g.row.P second c.in-Some.is (λ layout by.
+    from_kept_root bytes g.row.P side second c.in-Some.is (λ layout by.
     let accepted = c.in-Err-Prefix.ensures.accepted (pairs_of layout) layout by in
     let related = not_false (is_conflict (of_key bytes) c.as_bytes.result.now (pairs_of layout)) (λ free. absurd (false≢true (accepted.1 free))) in
     conflict_step bytes g.row.P by second (subst (λ key. is_conflict (of_key bytes) key (pairs_of layout) ≡ true) c.as_bytes.ensures related) c.in-Err-Prefix.error ((rw c.in-Err-Prefix.field-0-is at c.in-Err-Prefix.ensures.refused) ∙ c.as_bytes.ensures))
 
 pub returns-in-Err-Memory : goal.returns-in-Err-Memory
-returns-in-Err-Memory g c second =
+returns-in-Err-Memory g c side second =
     let bytes = g.K.AsBytes.bytes in
-    from_kept_root bytes g.row.P second c.in-Some.is (λ layout by.
+    from_kept_root bytes g.row.P side second c.in-Some.is (λ layout by.
     let accepted = c.in-Err-Memory.ensures.accepted (pairs_of layout) layout by in
     let related = not_false (is_conflict (of_key bytes) c.as_bytes.result.now (pairs_of layout)) (λ free. absurd (false≢true (accepted.1 free))) in
     no_bytes_step bytes g.row.P by second (subst (λ key. is_conflict (of_key bytes) key (pairs_of layout) ≡ true) c.as_bytes.ensures related))
@@ -34,9 +34,9 @@ apply-requires g c =
     (search rules, is_point g.K.AsBytes.bytes g.row.P by (subst (λ key. AnswersTo (of_key g.K.AsBytes.bytes) g.row.P layout key c.in-Ok.point) c.as_bytes.ensures (c.in-Ok.ensures.point c.requires.0 layout by)))
 
 pub returns-in-Ok-apply : goal.returns-in-Ok-apply
-returns-in-Ok-apply g c second =
+returns-in-Ok-apply g c side second =
     let bytes = g.K.AsBytes.bytes in
-    from_root bytes g.row.P second c.in-Some.is (λ layout by.
+    from_root bytes g.row.P side second c.in-Some.is (λ layout by.
     let at = subst (λ key. AnswersTo (of_key bytes) g.row.P layout key c.in-Ok.point) c.as_bytes.ensures (c.in-Ok.ensures.point (pairs_of layout) layout by) in
     let free = subst (λ key. is_conflict (of_key bytes) key (pairs_of layout) ≡ false) c.as_bytes.ensures ((c.in-Ok.ensures.accepted (pairs_of layout) layout by).0 refl) in
     let here = at_root bytes g.row.P by at.root_is in
@@ -50,9 +50,9 @@ returns-in-Ok-apply g c second =
     })))
 
 pub returns-in-Err : goal.returns-in-Err
-returns-in-Err g c second =
+returns-in-Err g c side second =
     let bytes = g.K.AsBytes.bytes in
-    from_kept_root bytes g.row.P second c.in-Some.is (λ layout by.
+    from_kept_root bytes g.row.P side second c.in-Some.is (λ layout by.
     let at = subst (λ key. AnswersTo (of_key bytes) g.row.P layout key c.in-Ok.point) c.as_bytes.ensures (c.in-Ok.ensures.point (pairs_of layout) layout by) in
     let free = subst (λ key. is_conflict (of_key bytes) key (pairs_of layout) ≡ false) c.as_bytes.ensures ((c.in-Ok.ensures.accepted (pairs_of layout) layout by).0 refl) in
     refused_step bytes g.row.P by second free at c.in-Err.ensures.byte_left (ap₂ (λ a b. (a, b)) c.in-Err.ensures.handed_back.0 c.in-Err.ensures.handed_back.1) (record {

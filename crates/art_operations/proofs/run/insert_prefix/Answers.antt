@@ -12,8 +12,8 @@ use Rattle.art_operations.proofs.PrefixSteps.{prefix_at, prefix_in, prefix_step,
 use Rattle.art_operations.proofs.run.insert_prefix.Goals as goal
 
 pub returns-in-Ok : goal.returns-in-Ok
-returns-in-Ok g c second =
-    rw c.to_opaque.ensures (from_none g.K.AsBytes.bytes g.row.P second c.in_default.is (planted_prefix_step g.K.AsBytes.bytes g.row.P second {n = c.in-Ok.leaf} {x = (c.args.key, c.args.value)} (record {
+returns-in-Ok g c side second =
+    rw c.to_opaque.ensures (from_none g.K.AsBytes.bytes g.row.P side second c.in_default.is (planted_prefix_step g.K.AsBytes.bytes g.row.P second {n = c.in-Ok.leaf} {x = (c.args.key, c.args.value)} (record {
       fresh = c.in-Ok.ensures.fresh;
       leaves = c.in-Ok.ensures.placed ∙ ap (insert c.args.store.now.leaves c.in-Ok.leaf) c.with_no_siblings.ensures;
       inners = c.in-Ok.ensures.inners;
@@ -21,9 +21,9 @@ returns-in-Ok g c second =
     })))
 
 pub returns-in-Err : goal.returns-in-Err
-returns-in-Err g c second =
+returns-in-Err g c side second =
     let handed = c.in-Err.ensures.handed_back ∙ c.with_no_siblings.ensures in
-    from_none g.K.AsBytes.bytes g.row.P second c.in_default.is (unplanted_prefix_step g.K.AsBytes.bytes g.row.P second c.in_default.is c.in-Err.ensures.refused (ap₂ (λ a b. (a, b)) (ap (λ l. l.key) handed) (ap (λ l. l.value) handed)) (λ promised. absurd (false≢true (c.in-Err.ensures.succeeds promised))))
+    from_none g.K.AsBytes.bytes g.row.P side second c.in_default.is (unplanted_prefix_step g.K.AsBytes.bytes g.row.P second c.in_default.is c.in-Err.ensures.refused (ap₂ (λ a b. (a, b)) (ap (λ l. l.key) handed) (ap (λ l. l.value) handed)) (λ promised. absurd (false≢true (c.in-Err.ensures.succeeds promised))))
 
 pub apply-requires : goal.apply-requires
 apply-requires g c =
@@ -31,10 +31,10 @@ apply-requires g c =
     (search rules, prefix_in g.K.AsBytes.bytes g.row.P (g.K.AsBytes.bytes c.args.key) by c.search_for_prefix_insert_point-at.result (subst (λ key. IsPointFor (of_key g.K.AsBytes.bytes) g.row.P key c.requires.0 layout c.search_for_prefix_insert_point-at.result) c.as_bytes.ensures (c.search_for_prefix_insert_point-at.ensures c.requires.0 layout by)))
 
 pub returns-in-Ok-apply : goal.returns-in-Ok-apply
-returns-in-Ok-apply g c second =
+returns-in-Ok-apply g c side second =
     let bytes = g.K.AsBytes.bytes in
     let point = c.search_for_prefix_insert_point-at.result in
-    from_root bytes g.row.P second c.in-Some.is (λ layout by.
+    from_root bytes g.row.P side second c.in-Some.is (λ layout by.
     let at = subst (λ key. IsPointFor (of_key bytes) g.row.P key (pairs_of layout) layout point) c.as_bytes.ensures (c.search_for_prefix_insert_point-at.ensures (pairs_of layout) layout by) in
     let here = prefix_at bytes g.row.P (bytes c.args.key) by point at in
     let reply : c.map.result ≡ option_map pair_of c.in-Ok-apply.done.insert_result.existing_leaf = search rules in
@@ -48,10 +48,10 @@ returns-in-Ok-apply g c second =
     })))
 
 pub returns-in-Err-apply : goal.returns-in-Err-apply
-returns-in-Err-apply g c second =
+returns-in-Err-apply g c side second =
     let bytes = g.K.AsBytes.bytes in
     let point = c.search_for_prefix_insert_point-at.result in
-    from_kept_root bytes g.row.P second c.in-Some.is (λ layout by.
+    from_kept_root bytes g.row.P side second c.in-Some.is (λ layout by.
     let at = subst (λ key. IsPointFor (of_key bytes) g.row.P key (pairs_of layout) layout point) c.as_bytes.ensures (c.search_for_prefix_insert_point-at.ensures (pairs_of layout) layout by) in
     prefix_refused bytes g.row.P by point second at c.in-Err-apply.ensures.byte_left (ap₂ (λ a b. (a, b)) c.in-Err-apply.ensures.handed_back.0 c.in-Err-apply.ensures.handed_back.1) (record {
       same = (c.in-Err-apply.ensures.leaves, c.in-Err-apply.ensures.inners);

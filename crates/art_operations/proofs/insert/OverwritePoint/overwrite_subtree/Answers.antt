@@ -1,4 +1,4 @@
-use Rattle.std.proofs.Common.{◌≡◌, ◌∙◌, ap, ap₂, sym, refl, subst, rules, None}
+use Rattle.std.proofs.Common.{◌∙◌, ap, ap₂, sym, refl, subst, rules, None}
 use Rattle.std.specs.FinMap as map
 use Rattle.art_nodes.specs.declared.node.LeafNode.{LeafNode}
 use Rattle.art_model.specs.Writes.{IsThere, with_child_at, with_leaf}

@@ -1,0 +1,8 @@
+use Rattle.std.proofs.Common.{List}
+use Rattle.art_nodes.specs.declared.node.OpaqueNodePtr.{OpaqueNodePtr}
+use Rattle.art_operations.specs.Iterators.{IsIteratorOf}
+use Rattle.artrun.proofs.print.write_pairs.Given as goal
+
+-- the leaves to come are there, and linked
+abbrev pub invariant-loop-written : goal.invariant-loop-written
+invariant-loop-written g l = (names : List OpaqueNodePtr) × IsIteratorOf l.store l.leaves names
