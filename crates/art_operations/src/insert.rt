@@ -415,8 +415,3 @@ fn match_prefix(
         }),
     }
 }
-
-#[cfg(test)]
-mod test_points;
-#[cfg(test)]
-mod tests;

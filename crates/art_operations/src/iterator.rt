@@ -106,6 +106,3 @@ impl RawIterator {
         Some(end)
     }
 }
-
-#[cfg(test)]
-mod tests;

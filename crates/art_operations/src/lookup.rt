@@ -345,6 +345,3 @@ pub fn prefix_search_visiting<K: AsBytes + Drop, V: Drop, const PREFIX_LEN: usiz
         None
     }
 }
-
-#[cfg(test)]
-mod tests;

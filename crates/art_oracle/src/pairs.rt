@@ -120,7 +120,7 @@ pub fn remove<K: AsBytes, V>(pairs: &mut Vec<(K, V)>, key: &[u8]) -> Option<(K, 
 #[cfg(test)]
 mod tests {
     use super::*;
-    use art_test_support::all_memory;
+    use art_test_support::memory::all_memory;
     use std::alloc::{AllocError, Global};
     use std::test::Fail;
 

@@ -6,7 +6,7 @@ use crate::trees::{Key, boxed_keys, insert_all};
 use art_nodes::node::{AsBytes, LeafPtr, NodePtr, NodeType, OpaqueNodePtr};
 use art_nodes::store::NodeStore;
 use art_operations::run::{Command, Reply, Side, run};
-use art_test_support::all_memory;
+use art_test_support::memory::all_memory;
 use std::alloc::AllocError;
 use std::mem;
 use std::process::Abort;

@@ -117,6 +117,3 @@ fn lengthen_prefix<K: AsBytes + Drop, V: Drop, const P: usize>(
     header.push_prefix(node.read_prefix(), node.prefix_len());
     store.set_header(inner, header);
 }
-
-#[cfg(test)]
-mod tests;

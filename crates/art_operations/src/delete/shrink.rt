@@ -91,6 +91,3 @@ fn next_smaller(kind: NodeType) -> NodeType
         NodeType::Leaf => NodeType::Leaf,
     }
 }
-
-#[cfg(test)]
-mod tests;

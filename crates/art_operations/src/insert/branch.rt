@@ -270,6 +270,3 @@ impl InsertPoint {
         Ok(self.place_branch(store, old, branch, key, value))
     }
 }
-
-#[cfg(test)]
-mod tests;

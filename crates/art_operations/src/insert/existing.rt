@@ -210,6 +210,3 @@ fn put_larger<K: AsBytes + Drop, V: Drop, const P: usize>(
     };
     (larger, replace_at(store, path, root, larger.to_opaque()))
 }
-
-#[cfg(test)]
-mod tests;

@@ -178,6 +178,3 @@ impl OverwritePoint {
         })
     }
 }
-
-#[cfg(test)]
-mod tests;

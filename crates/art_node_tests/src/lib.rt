@@ -1,0 +1,7 @@
+//! Tests of nodes and of stores, by public calls. There is nothing here but tests.
+#![tactic(auto)]
+
+#[cfg(test)]
+mod node;
+#[cfg(test)]
+mod store;

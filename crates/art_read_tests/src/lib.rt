@@ -1,0 +1,11 @@
+//! Tests of look-ups, of walks and of runs, by public calls. There is nothing here but tests.
+#![tactic(auto)]
+
+#[cfg(test)]
+mod iterator;
+#[cfg(test)]
+mod lookup;
+#[cfg(test)]
+mod minmax;
+#[cfg(test)]
+mod run;

@@ -1,0 +1,47 @@
+//! Want of memory.
+use std::alloc::{AllocError, Global};
+
+/// Takes all memory that there is: until the answer is dropped, every request for memory is refused.
+///
+/// It reserves addresses and touches next to none of them, in some thousands of requests. An assertion that
+/// prints needs memory, so drop the answer first.
+pub fn all_memory(alloc: Global) -> Result<Vec<Vec<u8>>, AllocError> {
+    let mut held = Vec::with_capacity(alloc, 200_000)?;
+    let mut size = 1usize << 46;
+    for _ in 0..200_000 {
+        if size == 0 {
+            break;
+        }
+        match Vec::<u8>::with_capacity(alloc, size) {
+            Ok(block) => {
+                if held.push(block).is_err() {
+                    break;
+                }
+            }
+            Err(_) => size = if size > 4096 {
+                size / 2
+            } else {
+                size.saturating_sub(8)
+            },
+        }
+    }
+    Ok(held)
+}
+
+#[cfg(test)]
+mod tests {
+    use super::*;
+    use std::test::Fail;
+
+    #[test]
+    fn nothing_is_left_once_all_is_held(rt: HostRuntime) -> Result<(), Fail> {
+        let alloc = rt.alloc();
+        let held = all_memory(alloc)?;
+        let refused = Vec::<u8>::with_capacity(alloc, 1).is_err();
+        drop(held);
+        let granted = Vec::<u8>::with_capacity(alloc, 1).is_ok();
+        assert!(rt; refused);
+        assert!(rt; granted);
+        Ok(())
+    }
+}

@@ -1,0 +1,129 @@
+//! Trees for tests, made by runs of insertions.
+ghost use Rattle.std.specs.Prelude.{◌≢◌, IfOk, IfSome};
+ghost use Rattle.art_nodes.specs.declared.node.NodeType.TheVariants.{Leaf};
+ghost use Rattle.art_model.specs.Clones.{KeepBytes};
+ghost use Rattle.art_model.specs.Pairs.{of_key};
+ghost use Rattle.art_model.specs.Roots.{IsCanonicalRoot};
+
+use art_operations::run::{Command, Side, run};
+use art_nodes::node::{AsBytes, LeafPtr, NodeType, OpaqueNodePtr};
+use art_nodes::store::NodeStore;
+use std::alloc::{AllocError, Global};
+use std::test::Fail;
+
+/// The keys of the tests.
+pub type Key = Vec<u8>;
+
+/// The tree of these keys, with the place of each among them as its value. The second store is for the run alone.
+pub fn plant<K: AsBytes + Clone + Drop, const P: usize>(
+    store: &mut NodeStore<K, u32, P>,
+    second: &mut NodeStore<K, u32, P>,
+    keys: Vec<K>,
+) -> Result<OpaqueNodePtr, Fail>
+    requires { KeepBytes K.bytes K.is_clone }
+    ensures { IfOk result (λ root. IsCanonicalRoot (of_key K.bytes) P store.new root) }
+{
+    Ok(planted(store, second, keys)?.ok_or("no key")?)
+}
+
+/// Takes memory for leaves and an inner node beside a tree.
+pub fn promise<K: AsBytes + Drop, const P: usize>(
+    store: &mut NodeStore<K, u32, P>,
+    root: OpaqueNodePtr,
+    leaves: usize,
+    kind: NodeType,
+) -> Result<(), AllocError>
+    requires inner { kind ≢ Leaf }
+    requires canonical { IsCanonicalRoot (of_key K.bytes) P store.old root }
+    ensures { IsCanonicalRoot (of_key K.bytes) P store.new root }
+{
+    store.reserve(leaves, Some(kind))
+}
+
+/// The same as `plant`, where no key has no tree.
+pub fn planted<K: AsBytes + Clone + Drop, const P: usize>(
+    store: &mut NodeStore<K, u32, P>,
+    second: &mut NodeStore<K, u32, P>,
+    keys: Vec<K>,
+) -> Result<Option<OpaqueNodePtr>, AllocError>
+    requires { KeepBytes K.bytes K.is_clone }
+    ensures { IfOk result (λ root. IfSome root (λ root. IsCanonicalRoot (of_key K.bytes) P store.new root)) }
+{
+    let mut commands = Vec::new(store.alloc());
+    let mut value = 0u32;
+    for key in keys {
+        commands.push(Command::Insert(key, value))?;
+        value = value.wrapping_add(1);
+    }
+    match run(store, second, None, commands) {
+        Ok(done) => match done.side {
+            Side::First => Ok(done.root),
+            Side::Second => Err(AllocError),
+        },
+        Err((_, error)) => Err(error),
+    }
+}
+
+/// Copies of these keys.
+pub fn keys(alloc: Global, slices: &[&[u8]]) -> Result<Vec<Key>, AllocError> {
+    let mut keys = Vec::new(alloc);
+    for slice in slices {
+        keys.push(slice.to_vec(alloc)?)?;
+    }
+    Ok(keys)
+}
+
+/// So many keys: some bytes and then one of 0, 1 and so on.
+pub fn keys_after(alloc: Global, front: &[u8], count: u16) -> Result<Vec<Key>, AllocError> {
+    let mut keys = Vec::new(alloc);
+    for number in 0..count {
+        let mut key = front.to_vec(alloc)?;
+        key.push(number.to_le_bytes()[0])?;
+        keys.push(key)?;
+    }
+    Ok(keys)
+}
+
+/// Twelve keys: so many zeros from none to eleven, and then 255.
+pub fn keys_of_zeros(alloc: Global) -> Result<Vec<Key>, AllocError> {
+    let mut keys = Vec::new(alloc);
+    for count in 0..12usize {
+        let mut key = Vec::new(alloc);
+        for _ in 0..count {
+            key.push(0)?;
+        }
+        key.push(255)?;
+        keys.push(key)?;
+    }
+    Ok(keys)
+}
+
+/// All keys of three bytes, each byte less than its limit.
+pub fn keys_of_three(alloc: Global, limits: [u8; 3]) -> Result<Vec<Key>, Fail> {
+    let mut keys = Vec::new(alloc);
+    for a in 0..limits[0] {
+        for b in 0..limits[1] {
+            for c in 0..limits[2] {
+                keys.push([a, b, c].to_vec(alloc)?)?;
+            }
+        }
+    }
+    Ok(keys)
+}
+
+/// The child of an inner node under a byte.
+pub fn child<K: AsBytes + Drop, const P: usize>(
+    store: &NodeStore<K, u32, P>,
+    node: OpaqueNodePtr,
+    byte: u8,
+) -> Option<OpaqueNodePtr> {
+    store.inner(node.as_inner()?)?.lookup_child(byte)
+}
+
+/// The value of a leaf.
+pub fn value_of<K: AsBytes + Drop, const P: usize>(
+    store: &NodeStore<K, u32, P>,
+    leaf: LeafPtr,
+) -> Option<u32> {
+    Some(store.leaf(leaf)?.value)
+}
