@@ -10,7 +10,7 @@ use Rattle.art_nodes.specs.Inner.{Inner, HasPlace, IsBelow, childless}
 use Rattle.art_nodes.specs.Inner.{IsRising as AreRising}
 use Rattle.art_nodes.specs.Kinds.{kind_capacity}
 use Rattle.art_nodes.specs.Names.{leaf_name, inner_name}
-use Rattle.art_nodes.specs.Nodes.{Nodes, change}
+use Rattle.art_nodes.specs.Nodes.{Nodes, change, take_leaf, take_inner}
 use Rattle.art_nodes.specs.declared.node.NodeType.TheVariants.{Leaf}
 use Rattle.art_nodes.specs.declared.node.LeafPtr.{LeafPtr}
 use Rattle.art_nodes.specs.declared.node.LeafNode.{LeafNode}
@@ -24,6 +24,7 @@ use Rattle.art_model.specs.Roots.{IsFullTree}
 use Rattle.art_model.specs.Stores.{node_at, pair_of, header_at}
 use Rattle.art_model.specs.Writes.{as_inner, joined, IsThere}
 use Rattle.art_model.specs.Clones.{IsCopy, AreCopies}
+use Rattle.art_model.specs.Promises.{tree_taken, children_taken}
 use Rattle.art_model.specs.Gains.{as_leaf, without, Loses, Gains}
 use Rattle.art_model.proofs.Chains.{are_there}
 use Rattle.art_model.proofs.Copies.{copied_bytes, copies_joined}
@@ -79,6 +80,7 @@ pub record IsCloning {K V : Type 0} (IsClone : K × V → K × V → Type 0) (s 
   pub slots : rest ≡ slots_of left
   pub same : AreCopies IsClone done copies
   pub gains : Gains old now (inner (inner_name parent) header copies)
+  pub promise : children_taken left now.promise ≡ tree_taken tree old.promise
   pub first : option_map leaf_name min ≡ first_or (leaf_names_below copies) None
   pub last : option_map leaf_name max ≡ last_or (leaf_names_below copies) None
   pub ends : (bytes_of done ≡ []) ⊎ ((p : LeafPtr) × (q : LeafPtr) × (min ≡ Some p) × (max ≡ Some q))
@@ -93,8 +95,8 @@ pub record IsCloning {K V : Type 0} (IsClone : K × V → K × V → Type 0) (s 
 module _ {K V : Type 0} (is_key_clone : K → K → Type 0) (is_value_clone : V → V → Type 0) where
   -- a leaf is copied
   pub copied_leaf : (s old new : Nodes K V) (p q : LeafPtr) (root name : OpaqueNodePtr) (tree : Tree OpaqueNodePtr (K × V)) → leaf_name p ≡ root → IsFullTree s root tree → get old.leaves q ≡ None →
-      IsSomeAnd (get s.leaves p) (λ x. (y : LeafNode K V) × IsLeafClone is_key_clone is_value_clone x y × (new.leaves ≡ insert old.leaves q y)) → new.inners ≡ old.inners → name ≡ leaf_name q → IsCopied (IsPairClone is_key_clone is_value_clone) tree old new (record { root = name; min_leaf = q; max_leaf = q })
-  copied_leaf s old new p q root name tree named (is, full) free placed inners e = go (get s.leaves p) refl placed
+      IsSomeAnd (get s.leaves p) (λ x. (y : LeafNode K V) × IsLeafClone is_key_clone is_value_clone x y × (new.leaves ≡ insert old.leaves q y)) → new.inners ≡ old.inners → new.promise ≡ take_leaf old.promise → name ≡ leaf_name q → IsCopied (IsPairClone is_key_clone is_value_clone) tree old new (record { root = name; min_leaf = q; max_leaf = q })
+  copied_leaf s old new p q root name tree named (is, full) free placed inners taken e = go (get s.leaves p) refl placed
     where
       go : (o : Option (LeafNode K V)) → o ≡ get s.leaves p → IsSomeAnd o (λ x. (y : LeafNode K V) × IsLeafClone is_key_clone is_value_clone x y × (new.leaves ≡ insert old.leaves q y)) → IsCopied (IsPairClone is_key_clone is_value_clone) tree old new (record { root = name; min_leaf = q; max_leaf = q })
       go None there h = absurd h
@@ -105,6 +107,7 @@ module _ {K V : Type 0} (is_key_clone : K → K → Type 0) (is_value_clone : V 
             named = sym e;
             same = subst (λ t. IsCopy (IsPairClone is_key_clone is_value_clone) t (leaf (leaf_name q) (pair_of y))) (sym at) (clone.key, clone.value);
             gains = gained_leaf q y clone.previous clone.next free leaves inners;
+            promise = taken ∙ sym (ap (λ t. tree_taken t old.promise) at);
             first = refl;
             last = refl;
           }
@@ -112,9 +115,9 @@ module _ {K V : Type 0} (is_key_clone : K → K → Type 0) (is_value_clone : V 
 module _ {K V : Type 0} (IsClone : K × V → K × V → Type 0) where
   -- an inner node is placed for the children
   pub cloning_start : (s old now : Nodes K V) (p parent : InnerPtr) (x : Inner) (root : OpaqueNodePtr) (tree : Tree OpaqueNodePtr (K × V)) → p.kind ≢ Leaf → inner_name p ≡ root → IsFullTree s root tree → Some x ≡ get s.inners p →
-      parent.kind ≡ p.kind → get old.inners parent ≡ None → now.inners ≡ insert old.inners parent (childless x.prefix) → now.leaves ≡ old.leaves → AreRising x.children → length x.children ≤ kind_capacity p.kind →
+      parent.kind ≡ p.kind → get old.inners parent ≡ None → now.inners ≡ insert old.inners parent (childless x.prefix) → now.leaves ≡ old.leaves → now.promise ≡ take_inner p.kind old.promise → AreRising x.children → length x.children ≤ kind_capacity p.kind →
       IsCloning IsClone s tree old now parent x.children None None
-  cloning_start s old now p parent x root tree off named (is, full) there kind free inners leaves rising room =
+  cloning_start s old now p parent x root tree off named (is, full) there kind free inners leaves taken rising room =
       let at = inner_shown s p off tree (is.named ∙ sym named) is.holds x there in
       let h : Header = header_at p.kind x in
       let whole : IsLayout (node_at s) root (inner (inner_name p) h at.children) = subst (IsLayout (node_at s) root) at.is is in
@@ -132,6 +135,7 @@ module _ {K V : Type 0} (IsClone : K × V → K × V → Type 0) where
         slots = at.slots;
         same = tt;
         gains = subst (λ k. Gains old now (inner (inner_name parent) (header_at k (childless x.prefix)) no_child)) kind gained;
+        promise = ap (children_taken at.children) taken ∙ sym (ap (λ t. tree_taken t old.promise) at.is);
         first = refl;
         last = refl;
         ends = inl refl;
@@ -152,7 +156,7 @@ module _ {K V : Type 0} (IsClone : K × V → K × V → Type 0) where
     pub last_there : (next : Nodes K V) (done : CloneResult) → IsCopied IsClone below now next done → IsThere next.leaves max
     pub first_there : (next : Nodes K V) (done : CloneResult) → IsCopied IsClone below now next done → IsThere next.leaves (Some done.min_leaf)
     pub place : (next : Nodes K V) (done : CloneResult) → IsCopied IsClone below now next done → IsSomeAnd (get next.inners parent) (λ node. HasPlace (kind_capacity parent.kind) node.children b)
-    pub then : (next new : Nodes K V) (done : CloneResult) → IsCopied IsClone below now next done → new.leaves ≡ joined next.leaves max (Some done.min_leaf) (Some done.min_leaf) max → new.inners ≡ change next.inners parent (with_child b done.root) →
+    pub then : (next new : Nodes K V) (done : CloneResult) → IsCopied IsClone below now next done → new.leaves ≡ joined next.leaves max (Some done.min_leaf) (Some done.min_leaf) max → new.inners ≡ change next.inners parent (with_child b done.root) → new.promise ≡ next.promise →
         IsCloning IsClone s tree old new parent rest (option_or min (Some done.min_leaf)) (Some done.max_leaf)
 
   module _ (s : Nodes K V) (tree : Tree OpaqueNodePtr (K × V)) (old now : Nodes K V) (parent : InnerPtr) (b : ℕ) (name : OpaqueNodePtr) (rest : List (ℕ × OpaqueNodePtr)) (min max : Option LeafPtr) where
@@ -217,7 +221,7 @@ module _ {K V : Type 0} (IsClone : K × V → K × V → Type 0) where
                   let sum = length-append (bytes_of f.done) (c ∷ bytes_of others) in
                   let room = f.room in
                   rw there (inl (omega arith));
-              then = λ next new done copied leaves inners. record {
+              then = λ next new done copied leaves inners kept. record {
                 name = f.name;
                 header = f.header;
                 done = join f.done (child c u no_child);
@@ -227,6 +231,7 @@ module _ {K V : Type 0} (IsClone : K × V → K × V → Type 0) where
                 slots = more;
                 same = copies_joined IsClone f.done f.copies (child c u no_child) (child b copied.copy no_child) f.same (sym byte, copied.same, tt);
                 gains = gained_child (child_gained f u c others at byte next new done copied leaves inners);
+                promise = ap (children_taken others) (kept ∙ copied.promise) ∙ sym (ap (λ z. children_taken z now.promise) at) ∙ f.promise;
                 first = first_more min (leaf_names_below f.copies) done.min_leaf f.first ∙ ap (first_or (leaf_names_below f.copies)) (sym copied.first) ∙ sym (first_or-append (leaf_names_below f.copies) (leaf_names copied.copy) None) ∙ ap (λ z. first_or z None) (sym (all_names f.copies copied.copy));
                 last = sym (ap (λ z. last_or z None) (all_names f.copies copied.copy) ∙ last_or-append (leaf_names_below f.copies) (leaf_names copied.copy) None ∙ last_more (leaf_names copied.copy) (leaf_name done.max_leaf) (last_or (leaf_names_below f.copies) None) copied.last);
                 ends = let (p, e) = some_or min done.min_leaf in inr (p, done.max_leaf, e, refl);
@@ -288,6 +293,7 @@ module _ {K V : Type 0} (IsClone : K × V → K × V → Type 0) where
           named = refl;
           same = subst (λ t. IsCopy IsClone t (inner (inner_name parent) f.header f.copies)) (sym (f.is ∙ ap (inner f.name f.header) (ap (join f.done) at ∙ join_none f.done))) (refl, f.same);
           gains = f.gains;
+          promise = sym (ap (λ z. children_taken z now.promise) at) ∙ f.promise;
           first = sym f.first ∙ ap (option_map leaf_name) e;
           last = sym f.last ∙ ap (option_map leaf_name) g;
         },
@@ -299,7 +305,15 @@ module _ {K V : Type 0} (IsClone : K × V → K × V → Type 0) where
       let (k, l, h, i, copied) = cloning_end s tree old now parent min max f in
       let first : k ≡ p = cc in
       let last : l ≡ q = cc in
-      record { copy = copied.copy; named = copied.named ∙ sym named; same = copied.same; gains = copied.gains; first = copied.first ∙ ap (λ z. Some (leaf_name z)) first; last = copied.last ∙ ap (λ z. Some (leaf_name z)) last }
+      record {
+        copy = copied.copy;
+        named = copied.named ∙ sym named;
+        same = copied.same;
+        gains = copied.gains;
+        promise = copied.promise;
+        first = copied.first ∙ ap (λ z. Some (leaf_name z)) first;
+        last = copied.last ∙ ap (λ z. Some (leaf_name z)) last;
+      }
 
   -- there is an end then
   pub no_end : (s : Nodes K V) (tree : Tree OpaqueNodePtr (K × V)) (old now : Nodes K V) (parent : InnerPtr) (min max : Option LeafPtr) → IsCloning IsClone s tree old now parent [] min max → (min ≡ None) ⊎ (max ≡ None) → ⊥

@@ -8,7 +8,7 @@ use Rattle.art_model.specs.Clones.{AreClones}
 use Rattle.art_model.specs.Kept.{Frees, KeepsOthers}
 use Rattle.art_model.specs.Layouts.{names_of}
 use Rattle.art_model.specs.Pairs.{of_key}
-use Rattle.art_model.specs.Promises.{IsLessened}
+use Rattle.art_model.specs.Promises.{IsLessened, tree_taken}
 use Rattle.art_model.specs.Radix.{pairs_of}
 use Rattle.art_model.specs.Roots.{ForTree}
 use Rattle.art_model.proofs.Canonical.{tree_radix}
@@ -26,7 +26,7 @@ pub record HasGone {K V : Type 0} (bytes : K → List ℕ) (P : ℕ) (is_key_clo
   pub gained : ForTree (of_key bytes) P w after (λ _ copy. KeepsOthers z w [] (names_of copy))
   pub freed : Frees (names_of layout) s t
   pub left : t.promise ≡ s.promise
-  pub lessened : IsLessened z.promise w.promise
+  pub taken : w.promise ≡ tree_taken layout z.promise
 
 module _ {K V : Type 0} (bytes : K → List ℕ) (P : ℕ) (is_key_clone : K → K → Type 0) (is_value_clone : V → V → Type 0) (side : Side) where
   -- no tree has none as its clone
@@ -53,7 +53,7 @@ module _ {K V : Type 0} (bytes : K → List ℕ) (P : ℕ) (is_key_clone : K →
             refuses = tt;
             sound = own_pairs bytes P by_copy;
             changes = record { side = refl; came = is.gained copies copy by_copy; went = is.freed };
-            promises = (is.left, is.lessened);
+            promises = (is.left, is.taken);
           },
         )
 

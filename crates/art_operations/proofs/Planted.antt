@@ -11,6 +11,7 @@ use Rattle.art_nodes.specs.declared.node.NodeType.TheVariants.{Leaf}
 use Rattle.art_nodes.proofs.NameLemmas.{leaf_cmp_total, leaf_cmp-IsAntisymmetric}
 use Rattle.art_nodes.proofs.StoreLaws.{leaf_here}
 use Rattle.art_model.specs.Canonical.{IsTree}
+use Rattle.art_model.specs.Footprints.{TouchesAtMost}
 use Rattle.art_model.specs.Kept.{ChangesInPlace}
 use Rattle.art_model.specs.Pairs.{of_key}
 use Rattle.art_model.specs.Promises.{promise_after}
@@ -20,6 +21,7 @@ use Rattle.art_model.proofs.Canonical.{canonical_from}
 use Rattle.art_model.proofs.InPlace.{others_kept}
 use Rattle.art_model.proofs.Touches.{Touched, touched_none, then_placed, footprint_of, touches_at_most}
 use Rattle.art_operations.specs.Inserted.{alone}
+use Rattle.art_operations.specs.Writes.{IsPlanted}
 use Rattle.art_operations.specs.declared.run.Side.{Side}
 use Rattle.art_operations.specs.declared.run.Command.TheVariants.{Insert, InsertPrefix}
 use Rattle.art_operations.specs.declared.run.Reply.TheVariants.{Inserted, Overwrote, NoMemory}
@@ -32,13 +34,6 @@ leaf_taken promise = go promise.leaves refl
     go : (n : ℕ) → promise.leaves ≡ n → take_leaf promise ≡ promise_after (record { leaves = 1; inner = None }) promise
     go zero e = rw e refl
     go (suc n) e = rw (e, le-leb 1 (suc n) (omega arith)) refl
-
--- The leaf is placed alone.
-pub record IsPlanted {K V : Type 0} (s t : Nodes K V) (n : LeafPtr) (x : K × V) : Type 0 where
-  pub fresh : get s.leaves n ≡ None
-  pub leaves : t.leaves ≡ insert s.leaves n (alone x)
-  pub inners : t.inners ≡ s.inners
-  pub promise : t.promise ≡ take_leaf s.promise
 
 module _ {K V : Type 0} (bytes : K → List ℕ) (P : ℕ) {s t : Nodes K V} (z : Nodes K V) where
   module _ {n : LeafPtr} {x : K × V} (is : IsPlanted s t n x) where
@@ -68,6 +63,9 @@ module _ {K V : Type 0} (bytes : K → List ℕ) (P : ℕ) {s t : Nodes K V} (z 
       others = others_kept (footprint_of s t leaves_touched inners_touched tt tt tt) (record { placed_in = λ k i. i; freed_in = λ k i. i; changed_in = λ k i. i; old_stays = λ k i. absurd i; new_comes = λ k i. inr i });
     }
 
+    few : TouchesAtMost 2 2 4 s t
+    few = touches_at_most s t 2 2 4 leaves_touched inners_touched tt tt tt (omega arith) (omega arith) (omega arith)
+
     pub planted_step : {IsClone : K × V → K × V → Type 0} {side : Side} → StepFrom bytes P IsClone side s t z None (Insert x.0 x.1) (Inserted None) (Some (leaf_name n))
     planted_step = (
       Some (leaf (leaf_name n) x),
@@ -76,7 +74,7 @@ module _ {K V : Type 0} (bytes : K → List ℕ) (P : ℕ) {s t : Nodes K V} (z 
         answers = (refl, refl, refl);
         refuses = tt;
         sound = planted;
-        changes = record { side = refl; kept = in_place; touches = touches_at_most s t 2 2 4 leaves_touched inners_touched tt tt tt (omega arith) (omega arith) (omega arith); other = refl };
+        changes = record { side = refl; kept = in_place; touches = few; other = refl };
         promises = is.promise ∙ leaf_taken s.promise;
       },
     )
@@ -89,37 +87,35 @@ module _ {K V : Type 0} (bytes : K → List ℕ) (P : ℕ) {s t : Nodes K V} (z 
         answers = (refl, refl);
         refuses = tt;
         sound = planted;
-        changes = record { side = refl; kept = in_place; touches = touches_at_most s t 2 2 4 leaves_touched inners_touched tt tt tt (omega arith) (omega arith) (omega arith); other = refl };
+        changes = record { side = refl; kept = in_place; touches = few; other = refl };
         promises = is.promise ∙ leaf_taken s.promise;
       },
     )
 
   -- or there is no memory for it
-  pub unplanted_step : {IsClone : K × V → K × V → Type 0} {side : Side} {k : K} {v : V} {pair : K × V} {root : Option OpaqueNodePtr} → root ≡ None → t ≡ s → pair ≡ (k, v) → (0 < s.promise.leaves → ⊥) → StepFrom bytes P IsClone side s t z None (Insert k v) (NoMemory (Some pair)) root
-  unplanted_step {k = k} {v = v} empty same handed none = (
-    None,
-    sym empty,
-    record {
-      answers = (refl, ap Some handed, refl);
-      refuses = inr (λ promised. none (positive s.promise.leaves promised));
-      sound = refl;
-      changes = nothing z None (ap (λ m. m.leaves) same, ap (λ m. m.inners) same);
-      promises = inl (ap (λ m. m.promise) same);
-    },
-  )
-    where
-      positive : (count : ℕ) → leb 1 count ≡ true → 0 < count
-      positive count e = leb-true 1 count e
+  module _ {k : K} {v : V} {pair : K × V} {root : Option OpaqueNodePtr} (empty : root ≡ None) (same : t ≡ s) (handed : pair ≡ (k, v)) (none : 0 < s.promise.leaves → ⊥) where
+    pub unplanted_step : {IsClone : K × V → K × V → Type 0} {side : Side} → StepFrom bytes P IsClone side s t z None (Insert k v) (NoMemory (Some pair)) root
+    unplanted_step = (
+      None,
+      sym empty,
+      record {
+        answers = (refl, ap Some handed, refl);
+        refuses = inr (λ promised. none (leb-true 1 s.promise.leaves promised));
+        sound = refl;
+        changes = nothing z None (ap (λ m. m.leaves) same, ap (λ m. m.inners) same);
+        promises = inl (ap (λ m. m.promise) same);
+      },
+    )
 
-  pub unplanted_prefix_step : {IsClone : K × V → K × V → Type 0} {side : Side} {k : K} {v : V} {pair : K × V} {root : Option OpaqueNodePtr} → root ≡ None → t ≡ s → pair ≡ (k, v) → (0 < s.promise.leaves → ⊥) → StepFrom bytes P IsClone side s t z None (InsertPrefix k v) (NoMemory (Some pair)) root
-  unplanted_prefix_step {k = k} {v = v} empty same handed none = (
-    None,
-    sym empty,
-    record {
-      answers = ((λ e. absurd (omega arith)), ap Some handed, refl);
-      refuses = λ promised. none (leb-true 1 s.promise.leaves promised);
-      sound = refl;
-      changes = nothing z None (ap (λ m. m.leaves) same, ap (λ m. m.inners) same);
-      promises = inl (ap (λ m. m.promise) same);
-    },
-  )
+    pub unplanted_prefix_step : {IsClone : K × V → K × V → Type 0} {side : Side} → StepFrom bytes P IsClone side s t z None (InsertPrefix k v) (NoMemory (Some pair)) root
+    unplanted_prefix_step = (
+      None,
+      sym empty,
+      record {
+        answers = ((λ e. absurd (omega arith)), ap Some handed, refl);
+        refuses = λ promised. none (leb-true 1 s.promise.leaves promised);
+        sound = refl;
+        changes = nothing z None (ap (λ m. m.leaves) same, ap (λ m. m.inners) same);
+        promises = inl (ap (λ m. m.promise) same);
+      },
+    )

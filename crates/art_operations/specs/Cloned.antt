@@ -7,13 +7,15 @@ use Rattle.art_model.specs.Trees.{Tree}
 use Rattle.art_model.specs.Layouts.{name_of, leaf_names, first_or, last_or}
 use Rattle.art_model.specs.Clones.{IsCopy}
 use Rattle.art_model.specs.Gains.{Gains}
+use Rattle.art_model.specs.Promises.{tree_taken}
 use Rattle.art_operations.specs.declared.clone.CloneResult.{CloneResult}
 
--- The store gained a tree of the first one's form with clones of its pairs, and its root and the ends of its leaves are named.
+-- The store gained a tree of the first one's form with clones of its pairs, which is taken from its promise; the root and the ends of the leaves are named.
 pub record IsCopied {K V : Type 0} (IsClone : K × V → K × V → Type 0) (tree : Tree OpaqueNodePtr (K × V)) (old new : Nodes K V) (done : CloneResult) : Type 0 where
   pub copy : Tree OpaqueNodePtr (K × V)
   pub named : name_of copy ≡ done.root
   pub same : IsCopy IsClone tree copy
   pub gains : Gains old new copy
+  pub promise : new.promise ≡ tree_taken tree old.promise
   pub first : first_or (leaf_names copy) None ≡ Some (leaf_name done.min_leaf)
   pub last : last_or (leaf_names copy) None ≡ Some (leaf_name done.max_leaf)

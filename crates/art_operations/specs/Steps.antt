@@ -7,7 +7,7 @@ use Rattle.art_model.specs.Footprints.{TouchesAtMost}
 use Rattle.art_model.specs.Kept.{ChangesInPlace, KeepsOthers, names_in}
 use Rattle.art_model.specs.Layouts.{name_of}
 use Rattle.art_model.specs.Pairs.{of_key, is_conflict, related_to}
-use Rattle.art_model.specs.Promises.{is_covered, promise_after, IsLessened}
+use Rattle.art_model.specs.Promises.{is_covered, promise_after, tree_taken, IsLessened}
 use Rattle.art_model.specs.Radix.{pairs_of}
 use Rattle.art_model.specs.Roots.{IsRootOf}
 use Rattle.art_model.specs.Trees.{Tree}
@@ -112,13 +112,13 @@ module _ {K V : Type 0} (bytes : K → List ℕ) (P : ℕ) where
   Refuses old command (NoMemory pair) = MayRefuse command old
   Refuses old command reply = Unit {0}
 
-  -- What becomes of the promise: what is placed is taken from it, and a refusal may void it, but not in a conflict. A clone leaves its source's, and at most what there was of the other store's.
+  -- What becomes of the promise: what is placed is taken from it, and a refusal may void it, but not in a conflict. A clone leaves its source's, and its nodes are taken from the other store's, of which a refusal leaves no more than there was.
   abbrev pub Promises : State K V → Command K V → Reply K V → State K V → Type 0
   Promises old command (Inserted before) new = new.present.promise ≡ promise_after (needs bytes P command (pairs_in old.tree)) old.present.promise
   Promises old command (Overwrote before count) new = new.present.promise ≡ promise_after (needs bytes P command (pairs_in old.tree)) old.present.promise
   Promises old command (Deleted (Some pair)) new = new.present.promise ≡ promise_after (needs bytes P command (pairs_in old.tree)) old.present.promise
   Promises old (Insert k v) (NoMemory pair) new = cond (is_conflict (of_key bytes) (bytes k) (pairs_in old.tree)) (new.present.promise ≡ old.present.promise) (MayVoid old.present.promise new.present.promise)
-  Promises old Clone Cloned new = elim old.tree [ None ↦ new.present.promise ≡ old.present.promise | Some tree ↦ (new.other.promise ≡ old.present.promise) × IsLessened old.other.promise new.present.promise ]
+  Promises old Clone Cloned new = elim old.tree [ None ↦ new.present.promise ≡ old.present.promise | Some tree ↦ (new.other.promise ≡ old.present.promise) × (new.present.promise ≡ tree_taken tree old.other.promise) ]
   Promises old Clone (NoMemory pair) new = IsLessened old.other.promise new.other.promise
   Promises old command (NoMemory pair) new = MayVoid old.present.promise new.present.promise
   Promises old command reply new = new.present.promise ≡ old.present.promise

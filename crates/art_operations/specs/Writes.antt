@@ -4,7 +4,7 @@ use Rattle.std.specs.List.{AllByRecursion as Each}
 use Rattle.std.specs.FinMap as map
 use Rattle.art_nodes.specs.Inner.{child_at}
 use Rattle.art_nodes.specs.Names.{leaf_name, inner_name}
-use Rattle.art_nodes.specs.Nodes.{Nodes}
+use Rattle.art_nodes.specs.Nodes.{Nodes, take_leaf}
 use Rattle.art_nodes.specs.declared.node.InnerPtr.{InnerPtr}
 use Rattle.art_nodes.specs.declared.node.LeafPtr.{LeafPtr}
 use Rattle.art_nodes.specs.declared.node.OpaqueNodePtr.{OpaqueNodePtr}
@@ -13,6 +13,7 @@ use Rattle.art_model.specs.Radix.{IsRising, bytes_of, join}
 use Rattle.art_model.specs.Roots.{IsFullTree}
 use Rattle.art_model.specs.Trees.{Tree, inner, Children, child, no_child, Header}
 use Rattle.art_model.specs.Writes.{Leaves, Inners, IsThere}
+use Rattle.art_operations.specs.Inserted.{alone}
 use Rattle.art_operations.specs.declared.path.TreePath.{TreePath}
 use Rattle.art_operations.specs.declared.path.TreePath.TheVariants.{Root, ChildOfRoot, Normal}
 
@@ -37,6 +38,13 @@ root_with path root node = root
 abbrev pub HasChild : Inners → Option (InnerPtr × ℕ) → Type 0
 HasChild inners None = Unit {0}
 HasChild inners (Some parent) = IsSomeAnd (map.get inners parent.0) (λ node. IsSome (child_at node.children parent.1))
+
+-- A leaf with no siblings came into a store.
+pub record IsPlanted {K V : Type 0} (s t : Nodes K V) (name : LeafPtr) (pair : K × V) : Type 0 where
+  pub fresh : map.get s.leaves name ≡ None
+  pub leaves : t.leaves ≡ map.insert s.leaves name (alone pair)
+  pub inners : t.inners ≡ s.inners
+  pub promise : t.promise ≡ take_leaf s.promise
 
 -- the leaves that a leaf names are there
 abbrev pub LinksAreThere : {K V : Type 0} → Leaves K V → LeafPtr → Type 0

@@ -1,12 +1,12 @@
 //! The copying of a tree into another store.
-ghost use Rattle.std.specs.Prelude.{◌≡◌, ◌≢◌, List, [], Some, None, IsSome, IsSomeAnd, IfOk, OnErr};
+ghost use Rattle.std.specs.Prelude.{◌≡◌, ◌≢◌, List, [], Some, None, IsSome, IsSomeAnd, IfOk, OnOk, OnErr};
 ghost use Rattle.std.specs.FinMap as map;
 ghost use Rattle.art_nodes.specs.Changes.{with_child};
 ghost use Rattle.art_nodes.specs.Clones.{IsLeafClone, IsPairClone};
 ghost use Rattle.art_nodes.specs.Inner.{HasPlace, childless};
 ghost use Rattle.art_nodes.specs.Kinds.{kind_capacity, ref_kind, ref_view};
 ghost use Rattle.art_nodes.specs.Names.{leaf_name};
-ghost use Rattle.art_nodes.specs.Nodes.{change};
+ghost use Rattle.art_nodes.specs.Nodes.{change, take_inner, take_leaf};
 ghost use Rattle.art_nodes.specs.declared.node.LeafNode.{LeafNode};
 ghost use Rattle.art_nodes.specs.declared.node.NodeType.TheVariants.{Leaf};
 ghost use Rattle.art_nodes.specs.declared.node.OpaqueNodePtr.{OpaqueNodePtr};
@@ -16,7 +16,7 @@ ghost use Rattle.art_model.specs.Kept.{KeepsOthers};
 ghost use Rattle.art_model.specs.Layouts.{names_of};
 ghost use Rattle.art_model.specs.Lookups.{HasFirstLeaf, HasLastLeaf};
 ghost use Rattle.art_model.specs.Pairs.{of_key};
-ghost use Rattle.art_model.specs.Promises.{IsLessened};
+ghost use Rattle.art_model.specs.Promises.{IsLessened, tree_taken};
 ghost use Rattle.art_model.specs.Roots.{ForTree, IsCanonicalRoot, IsFullTree};
 ghost use Rattle.art_model.specs.Trees.{Tree};
 ghost use Rattle.art_model.specs.Writes.{IsThere, joined};
@@ -57,10 +57,12 @@ pub fn clone_unchecked<K: AsBytes + Clone + Drop, V: Clone + Drop, const PREFIX_
         HasFirstLeaf copy (leaf_name done.min_leaf))) }
     ensures last { IfOk result (λ done. ForTree (of_key K.bytes) PREFIX_LEN into.new done.root (λ _ copy.
         HasLastLeaf copy (leaf_name done.max_leaf))) }
-    ensures promise { IsLessened into.old.promise into.new.promise }
+    ensures promise { ForTree (of_key K.bytes) PREFIX_LEN store.now root (λ _ layout.
+        OnOk result (into.new.promise ≡ tree_taken layout into.old.promise)) }
 
     ensures leaves { OnErr result (into.new.leaves ≡ into.old.leaves) }
     ensures inners { OnErr result (into.new.inners ≡ into.old.inners) }
+    ensures lessened { OnErr result (IsLessened into.old.promise into.new.promise) }
 {
     clone_tree(store, root, into)
 }
@@ -76,7 +78,7 @@ fn clone_tree<K: AsBytes + Clone + Drop, V: Clone + Drop, const P: usize>(
         IfOk result (IsCopied (IsPairClone K.is_clone V.is_clone) tree into.old into.new) }
     ensures leaves { OnErr result (into.new.leaves ≡ into.old.leaves) }
     ensures inners { OnErr result (into.new.inners ≡ into.old.inners) }
-    ensures promise { IsLessened into.old.promise into.new.promise }
+    ensures lessened { IsLessened into.old.promise into.new.promise }
 {
     match root.split() {
         NodePtr::Leaf(name) => {
@@ -133,7 +135,8 @@ fn clone_leaf<K: AsBytes + Clone + Drop, V: Clone + Drop, const P: usize>(
         (x : LeafNode K V) × IsLeafClone K.is_clone V.is_clone leaf x × (into.new.leaves ≡ map.insert into.old.leaves copy x))) }
     ensures fresh { IfOk result (λ copy. map.get into.old.leaves copy ≡ None) }
     ensures inners { into.new.inners ≡ into.old.inners }
-    ensures promise { IsLessened into.old.promise into.new.promise }
+    ensures promise { OnOk result (into.new.promise ≡ take_leaf into.old.promise) }
+    ensures lessened { IsLessened into.old.promise into.new.promise }
     ensures refused { OnErr result (into.new ≡ into.old) }
 {
     let Some(leaf) = store.leaf(name) else {
@@ -158,7 +161,8 @@ fn place_like<K: AsBytes + Drop, V: Drop, const P: usize>(
     ensures inner { ref_kind node.entry ≢ Leaf }
     ensures fresh { IfOk result (λ copy. map.get into.old.inners copy ≡ None) }
     ensures leaves { into.new.leaves ≡ into.old.leaves }
-    ensures promise { IsLessened into.old.promise into.new.promise }
+    ensures promise { OnOk result (into.new.promise ≡ take_inner (ref_kind node.entry) into.old.promise) }
+    ensures lessened { IsLessened into.old.promise into.new.promise }
     ensures refused { OnErr result (into.new ≡ into.old) }
 {
     let copy = AnyInner::from_header(node.node_type(), node.header());

@@ -34,3 +34,8 @@ returns-clause-last g c =
     let (pairs, layout, is) = c.requires.root in
     IfOk-weaker c.clone_tree.result (IsCopied (IsPairClone g.K.Clone.is_clone g.V.Clone.is_clone) layout c.args.into.now c.clone_tree.new.into) _ (λ done copied copies copy one. cloned_last g.K.AsBytes.bytes g.row.PREFIX_LEN g.K.Clone.is_clone g.V.Clone.is_clone c.requires.clones is copied one)
     (c.clone_tree.ensures.copied layout (has_children (of_key g.K.AsBytes.bytes) g.row.PREFIX_LEN c.args.store.now c.args.root pairs layout is))
+
+pub returns-clause-promise : goal.returns-clause-promise
+returns-clause-promise g c pairs layout is =
+    IfOk-weaker c.clone_tree.result (IsCopied (IsPairClone g.K.Clone.is_clone g.V.Clone.is_clone) layout c.args.into.now c.clone_tree.new.into) _ (λ done copied. copied.promise)
+    (c.clone_tree.ensures.copied layout (has_children (of_key g.K.AsBytes.bytes) g.row.PREFIX_LEN c.args.store.now c.args.root pairs layout is))

@@ -26,9 +26,9 @@ returns-in-Ok g c = any_from_root g.K.AsBytes.bytes g.row.P c.args.side.now _ c.
       gained = c.in-Ok.ensures.gained;
       freed = c.deallocate_tree.ensures.freed layout (has_children (of_key g.K.AsBytes.bytes) g.row.P c.args.present.now c.in-Some.name (pairs_of layout) layout by);
       left = c.deallocate_tree.ensures.promise;
-      lessened = c.in-Ok.ensures.promise;
+      taken = c.in-Ok.ensures.promise (pairs_of layout) layout by;
     }))
 
 pub returns-in-Err : goal.returns-in-Err
 returns-in-Err g c = any_from_root g.K.AsBytes.bytes g.row.P c.args.side.now _ c.in-Some.is (λ layout by.
-    rw c.in-Some.is (uncloned_step g.K.AsBytes.bytes g.row.P g.K.Clone.is_clone g.V.Clone.is_clone c.args.side.now by c.args.other.now c.clone_unchecked.new.into (c.in-Err.ensures.leaves, c.in-Err.ensures.inners) c.in-Err.ensures.promise))
+    rw c.in-Some.is (uncloned_step g.K.AsBytes.bytes g.row.P g.K.Clone.is_clone g.V.Clone.is_clone c.args.side.now by c.args.other.now c.clone_unchecked.new.into (c.in-Err.ensures.leaves, c.in-Err.ensures.inners) c.in-Err.ensures.lessened))

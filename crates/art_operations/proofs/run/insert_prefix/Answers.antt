@@ -1,6 +1,5 @@
 use Rattle.std.proofs.Common.{◌≡◌, rules, ap, ap₂, ◌∙◌, subst}
 use Rattle.std.proofs.lemmas.Bool.{false≢true}
-use Rattle.std.specs.FinMap.{insert}
 use Rattle.std.specs.Option.{option_map}
 use Rattle.art_model.specs.Pairs.{of_key}
 use Rattle.art_model.specs.Radix.{pairs_of}
@@ -13,17 +12,13 @@ use Rattle.art_operations.proofs.run.insert_prefix.Goals as goal
 
 pub returns-in-Ok : goal.returns-in-Ok
 returns-in-Ok g c side second =
-    rw c.to_opaque.ensures (from_none g.K.AsBytes.bytes g.row.P side second c.in_default.is (planted_prefix_step g.K.AsBytes.bytes g.row.P second {n = c.in-Ok.leaf} {x = (c.args.key, c.args.value)} (record {
-      fresh = c.in-Ok.ensures.fresh;
-      leaves = c.in-Ok.ensures.placed ∙ ap (insert c.args.store.now.leaves c.in-Ok.leaf) c.with_no_siblings.ensures;
-      inners = c.in-Ok.ensures.inners;
-      promise = c.in-Ok.ensures.promise;
-    })))
+    let (leaf, root, planted) = c.in-Ok.ensures.planted in
+    rw root (from_none g.K.AsBytes.bytes g.row.P side second c.in_default.is (planted_prefix_step g.K.AsBytes.bytes g.row.P second planted))
 
 pub returns-in-Err : goal.returns-in-Err
 returns-in-Err g c side second =
-    let handed = c.in-Err.ensures.handed_back ∙ c.with_no_siblings.ensures in
-    from_none g.K.AsBytes.bytes g.row.P side second c.in_default.is (unplanted_prefix_step g.K.AsBytes.bytes g.row.P second c.in_default.is c.in-Err.ensures.refused (ap₂ (λ a b. (a, b)) (ap (λ l. l.key) handed) (ap (λ l. l.value) handed)) (λ promised. absurd (false≢true (c.in-Err.ensures.succeeds promised))))
+    let (root, same) = c.in-Err.ensures.refused in
+    rw root (from_none g.K.AsBytes.bytes g.row.P side second c.in_default.is (unplanted_prefix_step g.K.AsBytes.bytes g.row.P second c.in_default.is same c.in-Err.ensures.handed_back (λ promised. absurd (false≢true (c.in-Err.ensures.succeeds promised)))))
 
 pub apply-requires : goal.apply-requires
 apply-requires g c =
