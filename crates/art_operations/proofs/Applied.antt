@@ -7,7 +7,7 @@ use Rattle.art_nodes.specs.declared.node.OpaqueNodePtr.{OpaqueNodePtr}
 use Rattle.art_model.specs.Canonical.{IsCanonical}
 use Rattle.art_model.specs.Kept.{ChangesInPlace}
 use Rattle.art_model.specs.Pairs.{put, put_reply}
-use Rattle.art_model.specs.Roots.{ForTree}
+use Rattle.art_model.specs.Roots.{ForTree, IsCanonicalRoot}
 use Rattle.art_model.specs.Trees.{Tree}
 use Rattle.art_model.proofs.StoreLaws.{has_one_map}
 use Rattle.art_operations.specs.declared.insert.InsertPoint.{InsertPoint}
@@ -44,3 +44,6 @@ module _ {K V : Type 0} (bytes : K × V → List ℕ) (P : ℕ) (s t : Nodes K V
   -- the point answers to some layout
   pub if_leaf : {key : List ℕ} → IsPointIn bytes P s key point → ForTree bytes P s point.root (λ pairs layout. IfOk r (IsInserted bytes P s t point pair pairs layout)) → IfOk r (λ done. ForTree bytes P t done.new_root (λ after new. HasInserted new point pair done))
   if_leaf (pairs, layout, by, answers) done = IfOk-weaker r (IsInserted bytes P s t point pair pairs layout) (λ done. ForTree bytes P t done.new_root (λ after new. HasInserted new point pair done)) (λ done is. inserted_leaf is) (done pairs layout by)
+
+  pub if_root : {key : List ℕ} → IsPointIn bytes P s key point → ForTree bytes P s point.root (λ pairs layout. IfOk r (IsInserted bytes P s t point pair pairs layout)) → IfOk r (λ done. IsCanonicalRoot bytes P t done.new_root)
+  if_root (pairs, layout, by, answers) done = IfOk-weaker r (IsInserted bytes P s t point pair pairs layout) (λ done. IsCanonicalRoot bytes P t done.new_root) (λ done is. (put bytes pair pairs, is.tree, is.canonical)) (done pairs layout by)

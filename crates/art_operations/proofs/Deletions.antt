@@ -83,6 +83,15 @@ module _ {K V : Type 0} (bytes : K → List ℕ) (P : ℕ) (s t : Nodes K V) (ro
       canonical_root rest (Some name) None is = absurd is
       canonical_root rest (Some name) (Some tree) is = (tree, is)
 
+  -- so a root that is left is canonical
+  pub left_deleted : IfOk result (λ done. IfSome done.new_root (IsCanonicalRoot (of_key bytes) P t))
+  left_deleted = when_ok result (λ done ok. let d = deleted_for done ok answers.0 answers.1 answers.3 in left_root (remove_key (of_key bytes) (of_key bytes answers.2) answers.0) done.new_root d.tree d.canonical)
+    where
+      left_root : (rest : List (K × V)) (new : Option OpaqueNodePtr) (tree : Option (Tree OpaqueNodePtr (K × V))) → IsRootOf (of_key bytes) P t new rest tree → IfSome new (IsCanonicalRoot (of_key bytes) P t)
+      left_root rest None tree is = tt
+      left_root rest (Some name) None is = absurd is
+      left_root rest (Some name) (Some tree) is = (rest, tree, is)
+
   -- the pair that is answered is the one that the point's leaf had
   pub leaf_deleted : IfOk result (λ done. IfSome (get s.leaves point.leaf_node_ptr) (λ leaf. done.deleted_leaf ≡ alone (pair_of leaf)))
   leaf_deleted = when_ok result (λ done ok.

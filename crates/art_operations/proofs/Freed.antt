@@ -18,12 +18,12 @@ use Rattle.art_model.specs.Kept.{Frees}
 use Rattle.art_model.specs.Layouts.{AreDistinct}
 use Rattle.art_model.specs.Pairs.{first_of, without_first}
 use Rattle.art_model.specs.Stores.{held, held_leaf, held_inner, links_at, links_of}
-use Rattle.art_model.proofs.Lists.{in_left, in_right, in_either, each_from}
+use Rattle.art_model.proofs.Lists.{in_left, in_right, in_either}
 use Rattle.art_model.proofs.Names.{apart_in}
-use Rattle.art_model.proofs.Segments.{segment-frame}
 use Rattle.art_model.proofs.Views.{held_in_inner, leaf_or}
 use Rattle.art_operations.specs.Freed.{without_first_child}
 use Rattle.art_operations.specs.Iterators.{IsIteratorOf}
+use Rattle.art_operations.proofs.Iterators.{goes_on}
 
 module _ {K V : Type 0} where
   pub frees_none : (s : Nodes K V) → Frees [] s s
@@ -90,10 +90,7 @@ module _ {K V : Type 0} where
               gone = is.gone ++ leaf_name p ∷ [];
               rest = xs;
               whole = whole ∙ ap (λ z. is.gone ++ z ∷ xs) (sym same) ∙ sym (append_assoc is.gone (leaf_name p ∷ []) xs);
-              iterator_of = record {
-                ends = its.ends;
-                segment = segment-frame (links_at u) xs (each_from (λ n. links_at u n ≡ links_at t n) xs (λ n i. ap (option_and_then links_of) (goes.beside n (λ j. elim j [ inl f ↦ apart_in (is.gone ++ x ∷ []) xs n after (in_right n is.gone (x ∷ []) (inl (sym same ∙ f))) i | inr k ↦ k ]) (λ z. z)))) its.segment;
-              };
+              iterator_of = goes_on t u next xs its (λ n i. ap (option_and_then links_of) (goes.beside n (λ j. elim j [ inl f ↦ apart_in (is.gone ++ x ∷ []) xs n after (in_right n is.gone (x ∷ []) (inl (sym same ∙ f))) i | inr k ↦ k ]) (λ z. z)));
               freed = frees_both is.gone (leaf_name p ∷ []) (λ k i j. elim j [ inl f ↦ apart_in is.gone (x ∷ xs) k all i (inl (sym same ∙ f)) | inr z ↦ z ]) is.freed goes;
             }
 

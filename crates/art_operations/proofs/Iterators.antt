@@ -14,9 +14,9 @@ use Rattle.art_model.specs.Segments.{IsSegment}
 use Rattle.art_model.specs.Pairs.{first_of, last_of, without_first, without_last}
 use Rattle.art_model.specs.Stores.{held_leaf, links_of, links_at}
 use Rattle.art_model.proofs.Links.{link_of}
-use Rattle.art_model.proofs.Lists.{each_in}
-use Rattle.art_model.proofs.Segments.{but_last, last_of_in, empty_segment, segment_rest, segment_front}
-use Rattle.art_operations.specs.Iterators.{IsIteratorOf}
+use Rattle.art_model.proofs.Lists.{each_from, each_in}
+use Rattle.art_model.proofs.Segments.{but_last, last_of_in, empty_segment, segment-frame, segment_rest, segment_front, tree_segment}
+use Rattle.art_operations.specs.Iterators.{GoesOn, IsIteratorOf, WalksWhole}
 
 module _ {K V : Type 0} where
   -- a leaf with links is there, and names these leaves
@@ -59,6 +59,15 @@ module _ {K V : Type 0} {s : Nodes K V} where
 
   pub empty_iterator : IsIteratorOf s None []
   empty_iterator = record { ends = refl; segment = empty_segment }
+
+module _ {K V : Type 0} where
+  -- what is left of a walk stands in every store in which its links are as they were
+  pub goes_on : GoesOn K V
+  goes_on s t iterator names is same = record { ends = is.ends; segment = segment-frame (links_at t) names (each_from (λ n. links_at t n ≡ links_at s n) names same) is.segment }
+
+  -- the leaves of a canonical root, from the first to the last
+  pub walks_whole : WalksWhole K V
+  walks_whole bytes P s root pairs layout first last is begins ends = record { ends = (begins.0, ends.0); segment = tree_segment layout is.stands.0.distinct is.linked }
 
 module _ {K V : Type 0} (s : Nodes K V) where
   -- a leaf that is linked is there

@@ -23,7 +23,7 @@ use Rattle.art_model.specs.Pairs.{overwrite, overwrite_reply, went}
 use Rattle.art_model.specs.Paths.{Frame, plug, leaves_before, leaves_after}
 use Rattle.art_model.specs.Places.{depth_of, place_of, prefix_of}
 use Rattle.art_model.specs.Radix.{IsRadix, AreRadix, bytes_of, pairs_of, pairs_below}
-use Rattle.art_model.specs.Roots.{ForTree, IsFullTree}
+use Rattle.art_model.specs.Roots.{IsCanonicalRoot, ForTree, IsFullTree}
 use Rattle.art_model.specs.Stores.{held, seen, node_at, links_at, pair_of}
 use Rattle.art_model.specs.Trees.{Tree, leaf, inner, Children, child, no_child}
 use Rattle.art_model.specs.Writes.{as_inner, parent_of, with_child_at, with_leaf, IsThere}
@@ -391,3 +391,6 @@ module _ {K V : Type 0} (bytes : K × V → List ℕ) (P : ℕ) (s t : Nodes K V
 
   pub if_over_leaf : {key : List ℕ} → IsOverwritePointIn bytes P s key point → ForTree bytes P s point.root (λ pairs layout. IfOk r (IsOverwritten bytes P s t point pair pairs layout)) → IfOk r (λ done. ForTree bytes P t done.insert_result.new_root (λ after new. HasOverwritten new point pair done.insert_result))
   if_over_leaf (pairs, layout, by, answers) done = IfOk-weaker r (IsOverwritten bytes P s t point pair pairs layout) (λ done. ForTree bytes P t done.insert_result.new_root (λ after new. HasOverwritten new point pair done.insert_result)) (λ done is. over_leaf is) (done pairs layout by)
+
+  pub if_over_root : {key : List ℕ} → IsOverwritePointIn bytes P s key point → ForTree bytes P s point.root (λ pairs layout. IfOk r (IsOverwritten bytes P s t point pair pairs layout)) → IfOk r (λ done. IsCanonicalRoot bytes P t done.insert_result.new_root)
+  if_over_root (pairs, layout, by, answers) done = IfOk-weaker r (IsOverwritten bytes P s t point pair pairs layout) (λ done. IsCanonicalRoot bytes P t done.insert_result.new_root) (λ done is. (overwrite bytes pair pairs, is.tree, is.canonical)) (done pairs layout by)

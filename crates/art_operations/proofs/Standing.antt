@@ -1,5 +1,5 @@
 -- A store with the same nodes under the same names, as it is once memory is reserved.
-use Rattle.std.proofs.Common.{◌≡◌, ℕ, List, ap₂, sym, ◌∙◌, subst}
+use Rattle.std.proofs.Common.{◌≡◌, ℕ, List, refl, ap₂, sym, ◌∙◌, subst}
 use Rattle.art_nodes.specs.Nodes.{Nodes}
 use Rattle.art_nodes.specs.declared.node.OpaqueNodePtr.{OpaqueNodePtr}
 use Rattle.art_model.specs.Canonical.{IsTree}
@@ -8,9 +8,12 @@ use Rattle.art_model.specs.Trees.{Tree}
 use Rattle.art_model.proofs.StoreLaws.{has_one_map}
 use Rattle.art_operations.proofs.Elsewhere as elsewhere
 use Rattle.art_operations.specs.Inserted.{IsPointIn}
-use Rattle.art_operations.specs.Points.{AnswersTo}
+use Rattle.art_operations.specs.Overwritten.{IsPrefixPointIn}
+use Rattle.art_operations.specs.Points.{AnswersTo, IsPointFor}
 use Rattle.art_operations.specs.Steps.{SameNodes}
 use Rattle.art_operations.specs.declared.insert.InsertPoint.{InsertPoint}
+use Rattle.art_operations.specs.declared.insert.PrefixInsertPoint.{PrefixInsertPoint}
+use Rattle.art_operations.specs.declared.insert.PrefixInsertPoint.TheVariants as points
 
 module _ {K V : Type 0} {bytes : K × V → List ℕ} {P : ℕ} {s : Nodes K V} where
   -- a canonical root stays one
@@ -24,3 +27,8 @@ module _ {K V : Type 0} {bytes : K × V → List ℕ} {P : ℕ} {s : Nodes K V} 
   -- a point that was found for a root is one in the store
   pub point_in : {root : OpaqueNodePtr} {text key : List ℕ} {point : InsertPoint} {pairs : List (K × V)} {layout : Tree OpaqueNodePtr (K × V)} → IsTree bytes P s root pairs layout → text ≡ key → AnswersTo bytes P layout text point → IsPointIn bytes P s key point
   point_in {key = key} {point} {pairs} {layout} by same at = (pairs, layout, subst (λ r. IsTree bytes P s r pairs layout) (sym (at.root_is ∙ by.stands.0.named)) by, subst (λ k. AnswersTo bytes P layout k point) same at)
+
+  -- and so is a point of either kind
+  pub prefix_point_in : {root : OpaqueNodePtr} {pairs : List (K × V)} {layout : Tree OpaqueNodePtr (K × V)} (key : List ℕ) → IsTree bytes P s root pairs layout → (point : PrefixInsertPoint) → IsPointFor bytes P key pairs layout point → IsPrefixPointIn bytes P s key point
+  prefix_point_in key by (points.InsertPoint point) (free, at) = point_in by refl at
+  prefix_point_in {root} {pairs} {layout} key by (points.OverwritePoint point) (related, at) = (pairs, layout, subst (λ r. IsTree bytes P s r pairs layout) (sym (at.root_is ∙ by.stands.0.named)) by, at)

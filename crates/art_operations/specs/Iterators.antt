@@ -1,12 +1,17 @@
 -- The leaves that are left of an iterator.
-use Rattle.std.specs.Prelude.{◌≡◌, List, [], Option, Some, None}
+use Rattle.std.specs.Prelude.{◌≡◌, ℕ, List, [], Option, Some, None}
 use Rattle.art_nodes.specs.Names.{leaf_name}
 use Rattle.art_nodes.specs.Nodes.{Nodes}
 use Rattle.art_nodes.specs.declared.node.LeafPtr.{LeafPtr}
 use Rattle.art_nodes.specs.declared.node.OpaqueNodePtr.{OpaqueNodePtr}
+use Rattle.art_model.specs.Canonical.{IsTree}
+use Rattle.art_model.specs.Footprints.{IsIn}
+use Rattle.art_model.specs.Layouts.{leaf_names}
+use Rattle.art_model.specs.Lookups.{HasFirstLeaf, HasLastLeaf}
 use Rattle.art_model.specs.Pairs.{first_of, last_of}
 use Rattle.art_model.specs.Segments.{IsSegment}
 use Rattle.art_model.specs.Stores.{links_at}
+use Rattle.art_model.specs.Trees.{Tree}
 
 -- the list goes from the first to the last of these leaves, and is empty where there are none
 abbrev pub HasEnds : Option (LeafPtr × LeafPtr) → List OpaqueNodePtr → Type 0
@@ -17,3 +22,16 @@ HasEnds (Some ends) names = (first_of names ≡ Some (leaf_name ends.0)) × (las
 pub record IsIteratorOf {K V : Type 0} (s : Nodes K V) (iterator : Option (LeafPtr × LeafPtr)) (names : List OpaqueNodePtr) : Type 0 where
   pub ends : HasEnds iterator names
   pub segment : IsSegment (links_at s) names
+
+-- ---- laws
+
+module _ (K V : Type 0) where
+  -- an iterator stands for the same leaves in every store in which they have the links that they had
+  abbrev pub GoesOn : Type 0
+  GoesOn = (s t : Nodes K V) (iterator : Option (LeafPtr × LeafPtr)) (names : List OpaqueNodePtr) → IsIteratorOf s iterator names →
+      ((name : OpaqueNodePtr) → IsIn name names → links_at t name ≡ links_at s name) → IsIteratorOf t iterator names
+
+  -- from the first leaf of a canonical root to the last one an iterator stands for all of its leaves
+  abbrev pub WalksWhole : Type 0
+  WalksWhole = (bytes : K × V → List ℕ) (P : ℕ) (s : Nodes K V) (root : OpaqueNodePtr) (pairs : List (K × V)) (layout : Tree OpaqueNodePtr (K × V)) (first last : LeafPtr) →
+      IsTree bytes P s root pairs layout → HasFirstLeaf layout (leaf_name first) → HasLastLeaf layout (leaf_name last) → IsIteratorOf s (Some (first, last)) (leaf_names layout)

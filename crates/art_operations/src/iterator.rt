@@ -4,7 +4,7 @@ ghost use Rattle.std.specs.Option.{option_map};
 ghost use Rattle.art_nodes.specs.Names.{leaf_name};
 ghost use Rattle.art_nodes.specs.declared.node.OpaqueNodePtr.{OpaqueNodePtr};
 ghost use Rattle.art_model.specs.Pairs.{first_of, last_of, without_first, without_last};
-ghost use Rattle.art_operations.specs.Iterators.{IsIteratorOf};
+ghost use Rattle.art_operations.specs.Iterators.{GoesOn, IsIteratorOf, WalksWhole};
 
 use art_nodes::node::{AsBytes, LeafPtr, OptionalLeafPtr};
 use art_nodes::store::NodeStore;
@@ -106,3 +106,14 @@ impl RawIterator {
         Some(end)
     }
 }
+
+/// An iterator stands for the same leaves in every store in which they have the links that they had. So a
+/// leaf that came may be freed before the next call, and what is not left of the walk may change.
+pub fn a_walk_goes_on<K, V>()
+    ensures { GoesOn K V }
+{}
+
+/// From the first leaf of a canonical root to its last one a walk has all of its leaves, in order.
+pub fn a_tree_is_walked_whole<K, V>()
+    ensures { WalksWhole K V }
+{}

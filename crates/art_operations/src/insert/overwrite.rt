@@ -8,7 +8,7 @@ ghost use Rattle.art_model.specs.Canonical.{IsCanonical};
 ghost use Rattle.art_model.specs.Kept.{ChangesInPlace};
 ghost use Rattle.art_model.specs.Pairs.{of_key, overwrite, overwrite_reply};
 ghost use Rattle.art_model.specs.Promises.{is_covered, promise_after};
-ghost use Rattle.art_model.specs.Roots.{ForTree};
+ghost use Rattle.art_model.specs.Roots.{ForTree, IsCanonicalRoot};
 ghost use Rattle.art_operations.specs.Inserted.{alone};
 ghost use Rattle.art_operations.specs.Overwritten.{HasByteLeftFor, HasCome, HasOverwritten, IsOverwritePointIn, IsOverwritten, IsPrefixPointIn, TouchesForNode, TouchesForPrefix, placed_for_overwrite, placed_for_prefix, root_of};
 
@@ -34,6 +34,7 @@ impl PrefixInsertPoint {
         requires { IsPrefixPointIn (of_key K.bytes) PREFIX_LEN store.old (K.bytes key) self }
         ensures canonical { ForTree (of_key K.bytes) PREFIX_LEN store.old (root_of self) (λ pairs layout. IfOk result (λ done.
             IsCanonical (of_key K.bytes) PREFIX_LEN store.new (Some done.insert_result.new_root) (overwrite (of_key K.bytes) (key, value) pairs))) }
+        ensures root { IfOk result (λ done. IsCanonicalRoot (of_key K.bytes) PREFIX_LEN store.new done.insert_result.new_root) }
         ensures leaf { IfOk result (λ done. ForTree (of_key K.bytes) PREFIX_LEN store.new done.insert_result.new_root (λ pairs layout.
             HasCome layout self (key, value) done.insert_result)) }
         ensures replaced { ForTree (of_key K.bytes) PREFIX_LEN store.old (root_of self) (λ pairs layout. IfOk result (λ done.
@@ -81,6 +82,7 @@ impl OverwritePoint {
         requires { IsOverwritePointIn (of_key K.bytes) PREFIX_LEN store.old (K.bytes key) self }
         ensures canonical { ForTree (of_key K.bytes) PREFIX_LEN store.old self.root (λ pairs layout. IfOk result (λ done.
             IsCanonical (of_key K.bytes) PREFIX_LEN store.new (Some done.insert_result.new_root) (overwrite (of_key K.bytes) (key, value) pairs))) }
+        ensures root { IfOk result (λ done. IsCanonicalRoot (of_key K.bytes) PREFIX_LEN store.new done.insert_result.new_root) }
         ensures leaf { IfOk result (λ done. ForTree (of_key K.bytes) PREFIX_LEN store.new done.insert_result.new_root (λ pairs layout.
             HasOverwritten layout self (key, value) done.insert_result)) }
         ensures replaced { ForTree (of_key K.bytes) PREFIX_LEN store.old self.root (λ pairs layout. IfOk result (λ done.

@@ -13,3 +13,12 @@ returns-clause-point g c pairs layout by =
 
 pub returns-clause-exactly : goal.returns-clause-exactly
 returns-clause-exactly g c pairs layout by found = c.in_ok-last.ensures.exactly pairs layout by found
+
+pub returns-in_err-last-clause-applies : goal.returns-in_err-last-clause-applies
+returns-in_err-last-clause-applies g c = rw c.from_residual.ensures tt
+
+pub returns-clause-applies : goal.returns-clause-applies
+returns-clause-applies g c =
+    let (pairs, layout, by) = c.requires.root in
+    let (only, at) = c.in_ok-last.ensures.leaf pairs layout by in
+    (pairs, layout, _, by, record { path = at.0.0; whole = at.0.1; path_is = at.1 })

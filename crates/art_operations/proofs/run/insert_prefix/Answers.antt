@@ -7,7 +7,7 @@ use Rattle.art_model.specs.Stores.{pair_of}
 use Rattle.art_operations.specs.Points.{IsPointFor}
 use Rattle.art_operations.proofs.Moves.{from_none, from_root, from_kept_root}
 use Rattle.art_operations.proofs.Planted.{planted_prefix_step, unplanted_prefix_step}
-use Rattle.art_operations.proofs.PrefixSteps.{prefix_at, prefix_in, prefix_step, prefix_refused}
+use Rattle.art_operations.proofs.PrefixSteps.{prefix_at, prefix_step, prefix_refused}
 use Rattle.art_operations.proofs.run.insert_prefix.Goals as goal
 
 pub returns-in-Ok : goal.returns-in-Ok
@@ -20,17 +20,12 @@ returns-in-Err g c side second =
     let (root, same) = c.in-Err.ensures.refused in
     rw root (from_none g.K.AsBytes.bytes g.row.P side second c.in_default.is (unplanted_prefix_step g.K.AsBytes.bytes g.row.P second c.in_default.is same c.in-Err.ensures.handed_back (λ promised. absurd (false≢true (c.in-Err.ensures.succeeds promised)))))
 
-pub apply-requires : goal.apply-requires
-apply-requires g c =
-    let (layout, by) = (rw c.in-Some.is at c.requires.1) in
-    (search rules, prefix_in g.K.AsBytes.bytes g.row.P (g.K.AsBytes.bytes c.args.key) by c.search_for_prefix_insert_point-at.result (subst (λ key. IsPointFor (of_key g.K.AsBytes.bytes) g.row.P key c.requires.0 layout c.search_for_prefix_insert_point-at.result) c.as_bytes.ensures (c.search_for_prefix_insert_point-at.ensures c.requires.0 layout by)))
-
 pub returns-in-Ok-apply : goal.returns-in-Ok-apply
 returns-in-Ok-apply g c side second =
     let bytes = g.K.AsBytes.bytes in
     let point = c.search_for_prefix_insert_point-at.result in
     from_root bytes g.row.P side second c.in-Some.is (λ layout by.
-    let at = subst (λ key. IsPointFor (of_key bytes) g.row.P key (pairs_of layout) layout point) c.as_bytes.ensures (c.search_for_prefix_insert_point-at.ensures (pairs_of layout) layout by) in
+    let at = subst (λ key. IsPointFor (of_key bytes) g.row.P key (pairs_of layout) layout point) c.as_bytes.ensures (c.search_for_prefix_insert_point-at.ensures.point (pairs_of layout) layout by) in
     let here = prefix_at bytes g.row.P (bytes c.args.key) by point at in
     let reply : c.map.result ≡ option_map pair_of c.in-Ok-apply.done.insert_result.existing_leaf = search rules in
     rw reply (prefix_step bytes g.row.P by point second at c.in-Ok-apply.ensures.byte_left (record {
@@ -47,7 +42,7 @@ returns-in-Err-apply g c side second =
     let bytes = g.K.AsBytes.bytes in
     let point = c.search_for_prefix_insert_point-at.result in
     from_kept_root bytes g.row.P side second c.in-Some.is (λ layout by.
-    let at = subst (λ key. IsPointFor (of_key bytes) g.row.P key (pairs_of layout) layout point) c.as_bytes.ensures (c.search_for_prefix_insert_point-at.ensures (pairs_of layout) layout by) in
+    let at = subst (λ key. IsPointFor (of_key bytes) g.row.P key (pairs_of layout) layout point) c.as_bytes.ensures (c.search_for_prefix_insert_point-at.ensures.point (pairs_of layout) layout by) in
     prefix_refused bytes g.row.P by point second at c.in-Err-apply.ensures.byte_left (ap₂ (λ a b. (a, b)) c.in-Err-apply.ensures.handed_back.0 c.in-Err-apply.ensures.handed_back.1) (record {
       same = (c.in-Err-apply.ensures.leaves, c.in-Err-apply.ensures.inners);
       void = c.in-Err-apply.ensures.void;

@@ -1,5 +1,5 @@
 use Rattle.std.proofs.Common.{Ok, sym, ◌∙◌}
-use Rattle.art_operations.proofs.Deletions.{canonical_deleted, leaf_deleted, root_deleted, kept_deleted, parent_at}
+use Rattle.art_operations.proofs.Deletions.{canonical_deleted, leaf_deleted, root_deleted, kept_deleted, left_deleted, parent_at}
 use Rattle.art_operations.proofs.delete.DeletePoint.apply.Goals as goal
 
 pub returns-in_default-clause-canonical : goal.returns-in_default-clause-canonical
@@ -54,3 +54,15 @@ returns-clause-root g c = root_deleted g.K.AsBytes.bytes g.row.PREFIX_LEN c.args
 
 pub returns-clause-kept : goal.returns-clause-kept
 returns-clause-kept g c = kept_deleted g.K.AsBytes.bytes g.row.PREFIX_LEN c.args.store.now c.shrink_parent.new.store c.args.root c.args.self c.shrink_parent.result c.requires c.shrink_parent.ensures.deleted
+
+pub returns-in_default-clause-left : goal.returns-in_default-clause-left
+returns-in_default-clause-left g c = left_deleted g.K.AsBytes.bytes g.row.PREFIX_LEN c.args.store.now c.delete_root.new.store c.args.root c.args.self (Ok c.delete_root.result) c.requires c.delete_root.ensures.deleted
+
+pub returns-then-num_children-start-clause-left : goal.returns-then-num_children-start-clause-left
+returns-then-num_children-start-clause-left g c = left_deleted g.K.AsBytes.bytes g.row.PREFIX_LEN c.args.store.now c.delete_child.new.store c.args.root c.args.self (Ok c.delete_child.result) c.requires c.delete_child.ensures.deleted
+
+pub returns-then-eq-clause-left : goal.returns-then-eq-clause-left
+returns-then-eq-clause-left g c = left_deleted g.K.AsBytes.bytes g.row.PREFIX_LEN c.args.store.now c.compress_parent.new.store c.args.root c.args.self (Ok c.compress_parent.result) c.requires c.compress_parent.ensures.deleted
+
+pub returns-clause-left : goal.returns-clause-left
+returns-clause-left g c = left_deleted g.K.AsBytes.bytes g.row.PREFIX_LEN c.args.store.now c.shrink_parent.new.store c.args.root c.args.self c.shrink_parent.result c.requires c.shrink_parent.ensures.deleted

@@ -1,4 +1,4 @@
-use Rattle.art_operations.proofs.Applied.{inserted_canonical, inserted_leaf, inserted_kept, if_canonical, if_leaf, if_replaced, if_kept}
+use Rattle.art_operations.proofs.Applied.{if_root, inserted_canonical, inserted_leaf, inserted_kept, if_canonical, if_leaf, if_replaced, if_kept}
 use Rattle.art_operations.proofs.insert.InsertPoint.apply.Goals as goal
 
 pub returns-in-Exact-clause-canonical : goal.returns-in-Exact-clause-canonical
@@ -50,3 +50,18 @@ returns-in-IntoExisting-clause-replaced g c pairs layout by = if_replaced _ _ _ 
 
 pub returns-in-IntoExisting-clause-kept : goal.returns-in-IntoExisting-clause-kept
 returns-in-IntoExisting-clause-kept g c pairs layout by = if_kept _ _ _ _ _ _ c.add_child.result pairs layout (c.add_child.ensures.inserted pairs layout by)
+
+pub returns-in-Exact-clause-root : goal.returns-in-Exact-clause-root
+returns-in-Exact-clause-root g c =
+    let (pairs, layout, by, answers) = c.requires in
+    let is = c.replace_pair.ensures.inserted pairs layout by in
+    (_, is.tree, is.canonical)
+
+pub returns-in-SplitLeaf-clause-root : goal.returns-in-SplitLeaf-clause-root
+returns-in-SplitLeaf-clause-root g c = if_root _ _ _ _ _ _ c.split_leaf.result c.requires c.split_leaf.ensures.inserted
+
+pub returns-in-MismatchPrefix-clause-root : goal.returns-in-MismatchPrefix-clause-root
+returns-in-MismatchPrefix-clause-root g c = if_root _ _ _ _ _ _ c.split_prefix.result c.requires c.split_prefix.ensures.inserted
+
+pub returns-in-IntoExisting-clause-root : goal.returns-in-IntoExisting-clause-root
+returns-in-IntoExisting-clause-root g c = if_root _ _ _ _ _ _ c.add_child.result c.requires c.add_child.ensures.inserted

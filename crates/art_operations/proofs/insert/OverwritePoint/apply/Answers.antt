@@ -1,4 +1,4 @@
-use Rattle.art_operations.proofs.Overwrites.{over_canonical, over_kept, over_leaf, if_over_canonical, if_over_kept, if_over_leaf, if_over_removed, if_over_replaced, if_over_touches}
+use Rattle.art_operations.proofs.Overwrites.{over_canonical, over_kept, over_leaf, if_over_canonical, if_over_kept, if_over_leaf, if_over_removed, if_over_replaced, if_over_root, if_over_touches}
 use Rattle.art_operations.proofs.insert.OverwritePoint.apply.Goals as goal
 
 pub returns-in-Leaf-clause-canonical : goal.returns-in-Leaf-clause-canonical
@@ -38,3 +38,12 @@ returns-in-Inner-clause-touches g c pairs layout by = if_over_touches _ _ _ _ _ 
 
 pub returns-in-Inner-clause-leaf : goal.returns-in-Inner-clause-leaf
 returns-in-Inner-clause-leaf g c = if_over_leaf _ _ _ _ _ _ c.overwrite_subtree.result c.requires c.overwrite_subtree.ensures.overwritten
+
+pub returns-in-Leaf-clause-root : goal.returns-in-Leaf-clause-root
+returns-in-Leaf-clause-root g c =
+    let (pairs, layout, by, answers) = c.requires in
+    let is = c.overwrite_leaf.ensures.overwritten pairs layout by in
+    (_, is.tree, is.canonical)
+
+pub returns-in-Inner-clause-root : goal.returns-in-Inner-clause-root
+returns-in-Inner-clause-root g c = if_over_root _ _ _ _ _ _ c.overwrite_subtree.result c.requires c.overwrite_subtree.ensures.overwritten
