@@ -28,7 +28,7 @@ use Rattle.art_model.proofs.Paths.{IsHole, changed_at, related_at}
 use Rattle.art_model.proofs.PutOver.{free_unrelated, one_went, same_rest}
 use Rattle.art_model.proofs.Views.{leaf_or}
 use Rattle.art_operations.specs.Needs.{needs, more_of, inner_count}
-use Rattle.art_operations.specs.Overwritten.{HasByteLeftFor, IsOverwritePointIn, TouchesForNode, TouchesForPrefix, TouchesRelated, placed_for_overwrite, placed_for_prefix, root_of}
+use Rattle.art_operations.specs.Overwritten.{HasByteLeftFor, IsOverwritePointIn, TouchesForNode, TouchesForPrefix, TouchesRelated, placed_for_overwrite, placed_for_prefix}
 use Rattle.art_operations.specs.Points.{AnswersToOverwrite, IsPointFor}
 use Rattle.art_operations.specs.Inserted.{alone, placed_for}
 use Rattle.art_operations.specs.Steps.{TouchesBy}
@@ -180,12 +180,6 @@ module _ {K V : Type 0} (bytes : K → List ℕ) (P : ℕ) {s : Nodes K V} {root
       go : (q : PrefixInsertPoint) → IsPointFor (of_key bytes) P (bytes k) (pairs_of layout) layout q → (is_covered (placed_for_prefix s q) s.promise ≡ true → ⊥) → (placed_for_prefix s q).leaves ≡ 0 → ⊥
       go (points.InsertPoint p) at off none = by_kind p.insert_kind off none
       go (points.OverwritePoint p) at off none = over p.overwrite_point.kind off none
-
-module _ {K V : Type 0} (bytes : K → List ℕ) (P : ℕ) {s : Nodes K V} {root : OpaqueNodePtr} {pairs : List (K × V)} {layout : Layout K V} (key : List ℕ) (by : IsTree (of_key bytes) P s root pairs layout) where
-  -- the tree is that of the point's root
-  pub prefix_at : (point : PrefixInsertPoint) → IsPointFor (of_key bytes) P key pairs layout point → IsTree (of_key bytes) P s (root_of point) pairs layout
-  prefix_at (points.InsertPoint point) (free, at) = subst (λ n. IsTree (of_key bytes) P s n pairs layout) (sym (at.root_is ∙ by.stands.0.named)) by
-  prefix_at (points.OverwritePoint point) (related, at) = subst (λ n. IsTree (of_key bytes) P s n pairs layout) (sym (at.root_is ∙ by.stands.0.named)) by
 
 -- What an applied prefix point leaves of a tree.
 pub record HasAppliedPrefix {K V : Type 0} (bytes : K → List ℕ) (P : ℕ) (s t : Nodes K V) (layout : Layout K V) (pair : K × V) (point : PrefixInsertPoint) (after : OpaqueNodePtr) (existing : Option (LeafNode K V)) (count : ℕ) : Type 0 where

@@ -8,7 +8,7 @@ use Rattle.art_model.specs.Trees.{Tree}
 use Rattle.art_model.proofs.StoreLaws.{has_one_map}
 use Rattle.art_operations.proofs.Elsewhere as elsewhere
 use Rattle.art_operations.specs.Inserted.{IsPointIn}
-use Rattle.art_operations.specs.Overwritten.{IsPrefixPointIn}
+use Rattle.art_operations.specs.Overwritten.{IsPrefixPointIn, root_of}
 use Rattle.art_operations.specs.Points.{AnswersTo, IsPointFor}
 use Rattle.art_operations.specs.Steps.{SameNodes}
 use Rattle.art_operations.specs.declared.insert.InsertPoint.{InsertPoint}
@@ -28,7 +28,17 @@ module _ {K V : Type 0} {bytes : K × V → List ℕ} {P : ℕ} {s : Nodes K V} 
   pub point_in : {root : OpaqueNodePtr} {text key : List ℕ} {point : InsertPoint} {pairs : List (K × V)} {layout : Tree OpaqueNodePtr (K × V)} → IsTree bytes P s root pairs layout → text ≡ key → AnswersTo bytes P layout text point → IsPointIn bytes P s key point
   point_in {key = key} {point} {pairs} {layout} by same at = (pairs, layout, subst (λ r. IsTree bytes P s r pairs layout) (sym (at.root_is ∙ by.stands.0.named)) by, subst (λ k. AnswersTo bytes P layout k point) same at)
 
-  -- and so is a point of either kind
-  pub prefix_point_in : {root : OpaqueNodePtr} {pairs : List (K × V)} {layout : Tree OpaqueNodePtr (K × V)} (key : List ℕ) → IsTree bytes P s root pairs layout → (point : PrefixInsertPoint) → IsPointFor bytes P key pairs layout point → IsPrefixPointIn bytes P s key point
-  prefix_point_in key by (points.InsertPoint point) (free, at) = point_in by refl at
-  prefix_point_in {root} {pairs} {layout} key by (points.OverwritePoint point) (related, at) = (pairs, layout, subst (λ r. IsTree bytes P s r pairs layout) (sym (at.root_is ∙ by.stands.0.named)) by, at)
+  module _ {root : OpaqueNodePtr} {pairs : List (K × V)} {layout : Tree OpaqueNodePtr (K × V)} (key : List ℕ) (by : IsTree bytes P s root pairs layout) where
+    -- a point of either kind names the root that it was found for
+    pub prefix_root : (point : PrefixInsertPoint) → IsPointFor bytes P key pairs layout point → root_of point ≡ root
+    prefix_root (points.InsertPoint point) (free, at) = at.root_is ∙ by.stands.0.named
+    prefix_root (points.OverwritePoint point) (related, at) = at.root_is ∙ by.stands.0.named
+
+    -- which is canonical under that name
+    pub prefix_at : (point : PrefixInsertPoint) → IsPointFor bytes P key pairs layout point → IsTree bytes P s (root_of point) pairs layout
+    prefix_at point at = subst (λ r. IsTree bytes P s r pairs layout) (sym (prefix_root point at)) by
+
+    -- and so it is one in the store
+    pub prefix_point_in : (point : PrefixInsertPoint) → IsPointFor bytes P key pairs layout point → IsPrefixPointIn bytes P s key point
+    prefix_point_in (points.InsertPoint point) (free, at) = point_in by refl at
+    prefix_point_in (points.OverwritePoint point) (related, at) = (pairs, layout, prefix_at (points.OverwritePoint point) (related, at), at)

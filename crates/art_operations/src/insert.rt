@@ -9,7 +9,7 @@ ghost use Rattle.art_model.specs.Roots.{ForTree, IsCanonicalRoot};
 ghost use Rattle.art_model.specs.Trees.{Tree};
 ghost use Rattle.art_operations.specs.Inserted.{IsPointIn};
 ghost use Rattle.art_operations.specs.Matching.{shared_len};
-ghost use Rattle.art_operations.specs.Overwritten.{IsPrefixPointIn};
+ghost use Rattle.art_operations.specs.Overwritten.{IsPrefixPointIn, root_of};
 ghost use Rattle.art_operations.specs.Points.{AnswersTo, IsAt, IsCompared, IsKindFor, IsPart, IsPointFor, IsRefusedFor, IsStepFrom};
 
 use crate::lookup::shared_len;
@@ -178,6 +178,7 @@ pub fn search_for_insert_point<K: AsBytes + Drop, V: Drop, const PREFIX_LEN: usi
     requires { IsCanonicalRoot (of_key K.bytes) PREFIX_LEN store.now root }
     ensures accepted { ForTree (of_key K.bytes) PREFIX_LEN store.now root (λ pairs layout. IsOk result ↔ (is_conflict (of_key K.bytes) key_bytes.now pairs ≡ false)) }
     ensures point { ForTree (of_key K.bytes) PREFIX_LEN store.now root (λ pairs layout. IfOk result (λ point. AnswersTo (of_key K.bytes) PREFIX_LEN layout key_bytes.now point)) }
+    ensures root { IfOk result (λ point. point.root ≡ root) }
     ensures applies { IfOk result (IsPointIn (of_key K.bytes) PREFIX_LEN store.now key_bytes.now) }
     ensures refused { IfErr result (λ error. IsRefusedFor key_bytes.now error) }
 {
@@ -197,6 +198,7 @@ pub fn search_for_prefix_insert_point<K: AsBytes + Drop, V: Drop, const PREFIX_L
 ) -> PrefixInsertPoint
     requires { IsCanonicalRoot (of_key K.bytes) PREFIX_LEN store.now root }
     ensures point { ForTree (of_key K.bytes) PREFIX_LEN store.now root (λ pairs layout. IsPointFor (of_key K.bytes) PREFIX_LEN key_bytes.now pairs layout result) }
+    ensures root { root_of result ≡ root }
     ensures applies { IsPrefixPointIn (of_key K.bytes) PREFIX_LEN store.now key_bytes.now result }
 {
     let mut spot = Spot {

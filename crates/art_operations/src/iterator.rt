@@ -1,5 +1,6 @@
 //! The walk of leaves, from either end of a part of the list that they are linked in.
-ghost use Rattle.std.specs.Prelude.{◌≡◌, List, [], None, Some};
+ghost use Rattle.std.specs.Prelude.{◌≡◌, List, [], None, Some, IsSome, IfSome};
+ghost use Rattle.std.specs.FinMap as map;
 ghost use Rattle.std.specs.Option.{option_map};
 ghost use Rattle.art_nodes.specs.Names.{leaf_name};
 ghost use Rattle.art_nodes.specs.declared.node.OpaqueNodePtr.{OpaqueNodePtr};
@@ -62,6 +63,7 @@ impl RawIterator {
         requires { (names : List OpaqueNodePtr) × IsIteratorOf store.now self.old names }
         ensures leaf { (names : List OpaqueNodePtr) → IsIteratorOf store.now self.old names →
             option_map leaf_name result ≡ first_of names }
+        ensures there { IfSome result (λ leaf. IsSome (map.get store.now.leaves leaf)) }
         ensures rest { (names : List OpaqueNodePtr) → IsIteratorOf store.now self.old names →
             IsIteratorOf store.now self.new (without_first names) }
     {
@@ -88,6 +90,7 @@ impl RawIterator {
         requires { (names : List OpaqueNodePtr) × IsIteratorOf store.now self.old names }
         ensures leaf { (names : List OpaqueNodePtr) → IsIteratorOf store.now self.old names →
             option_map leaf_name result ≡ last_of names }
+        ensures there { IfSome result (λ leaf. IsSome (map.get store.now.leaves leaf)) }
         ensures rest { (names : List OpaqueNodePtr) → IsIteratorOf store.now self.old names →
             IsIteratorOf store.now self.new (without_last names) }
     {

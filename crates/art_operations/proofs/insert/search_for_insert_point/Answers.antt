@@ -8,6 +8,9 @@ returns-in-InsertPoint-clause-accepted g c pairs layout by = ((λ ok. (c.in-Inse
 pub returns-in-InsertPoint-clause-point : goal.returns-in-InsertPoint-clause-point
 returns-in-InsertPoint-clause-point g c pairs layout by = (c.in-InsertPoint.ensures.point pairs layout by).1
 
+pub returns-in-InsertPoint-clause-root : goal.returns-in-InsertPoint-clause-root
+returns-in-InsertPoint-clause-root g c = c.in-InsertPoint.ensures.root
+
 pub returns-in-InsertPoint-clause-applies : goal.returns-in-InsertPoint-clause-applies
 returns-in-InsertPoint-clause-applies g c = c.in-InsertPoint.ensures.applies
 

@@ -7,7 +7,8 @@ use Rattle.art_model.specs.Stores.{pair_of}
 use Rattle.art_operations.specs.Points.{IsPointFor}
 use Rattle.art_operations.proofs.Moves.{from_none, from_root, from_kept_root}
 use Rattle.art_operations.proofs.Planted.{planted_prefix_step, unplanted_prefix_step}
-use Rattle.art_operations.proofs.PrefixSteps.{prefix_at, prefix_step, prefix_refused}
+use Rattle.art_operations.proofs.PrefixSteps.{prefix_step, prefix_refused}
+use Rattle.art_operations.proofs.Standing.{prefix_at}
 use Rattle.art_operations.proofs.run.insert_prefix.Goals as goal
 
 pub returns-in-Ok : goal.returns-in-Ok
@@ -26,7 +27,7 @@ returns-in-Ok-apply g c side second =
     let point = c.search_for_prefix_insert_point-at.result in
     from_root bytes g.row.P side second c.in-Some.is (λ layout by.
     let at = subst (λ key. IsPointFor (of_key bytes) g.row.P key (pairs_of layout) layout point) c.as_bytes.ensures (c.search_for_prefix_insert_point-at.ensures.point (pairs_of layout) layout by) in
-    let here = prefix_at bytes g.row.P (bytes c.args.key) by point at in
+    let here = prefix_at (bytes c.args.key) by point at in
     let reply : c.map.result ≡ option_map pair_of c.in-Ok-apply.done.insert_result.existing_leaf = search rules in
     rw reply (prefix_step bytes g.row.P by point second at c.in-Ok-apply.ensures.byte_left (record {
       canonical = c.in-Ok-apply.ensures.canonical (pairs_of layout) layout here;
