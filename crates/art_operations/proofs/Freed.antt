@@ -17,9 +17,10 @@ use Rattle.art_model.specs.Footprints.{IsIn}
 use Rattle.art_model.specs.Kept.{Frees}
 use Rattle.art_model.specs.Layouts.{AreDistinct}
 use Rattle.art_model.specs.Pairs.{first_of, without_first}
-use Rattle.art_model.specs.Stores.{held, held_leaf, held_inner, links_at, links_of}
+use Rattle.art_model.specs.Stores.{held, held_leaf, held_inner, links_of}
 use Rattle.art_model.proofs.Lists.{in_left, in_right, in_either}
 use Rattle.art_model.proofs.Names.{apart_in}
+use Rattle.art_model.proofs.Pairwises.{Pairwise-right}
 use Rattle.art_model.proofs.Views.{held_in_inner, leaf_or}
 use Rattle.art_operations.specs.Freed.{without_first_child}
 use Rattle.art_operations.specs.Iterators.{IsIteratorOf}
@@ -55,6 +56,15 @@ module _ {K V : Type 0} where
 -- ---- the leaves of an iterator
 
 module _ {K V : Type 0} where
+  -- the first leaf of a walk is freed, and the walk goes on with the others
+  pub first_freed : {s t : Nodes K V} {next : Option (LeafPtr × LeafPtr)} (names : List OpaqueNodePtr) (p : LeafPtr) → AreDistinct names → Some (leaf_name p) ≡ first_of names → IsIteratorOf s next (without_first names) →
+      t.leaves ≡ map.remove s.leaves p → t.inners ≡ s.inners → IsIteratorOf t next (without_first names)
+  first_freed [] p distinct e its leaves inners = absurd cc
+  first_freed {s} {t} {next} (x ∷ xs) p distinct e its leaves inners =
+      let same : leaf_name p ≡ x = cc in
+      let off : (n : OpaqueNodePtr) → IsIn n xs → IsIn n (leaf_name p ∷ []) → ⊥ = λ n i j. apart_in (x ∷ []) xs n distinct (elim j [ inl f ↦ inl (sym same ∙ f) | inr k ↦ absurd k ]) i in
+      goes_on s t next xs its (λ n i. ap (option_and_then links_of) ((leaf_freed {s = s} {t = t} p leaves inners).beside n (off n i) (λ z. z)))
+
   -- Some of the names are gone, and the iterator stands for the others.
   pub record AreLeft (s t : Nodes K V) (names : List OpaqueNodePtr) (iterator : Option (LeafPtr × LeafPtr)) : Type 0 where
     pub gone : List OpaqueNodePtr
@@ -85,12 +95,11 @@ module _ {K V : Type 0} where
             let same : leaf_name p ≡ x = cc in
             let goes = leaf_freed p leaves inners in
             let all : AreDistinct (is.gone ++ x ∷ xs) = subst AreDistinct whole distinct in
-            let after : AreDistinct ((is.gone ++ x ∷ []) ++ xs) = subst AreDistinct (sym (append_assoc is.gone (x ∷ []) xs)) all in
             record {
               gone = is.gone ++ leaf_name p ∷ [];
               rest = xs;
               whole = whole ∙ ap (λ z. is.gone ++ z ∷ xs) (sym same) ∙ sym (append_assoc is.gone (leaf_name p ∷ []) xs);
-              iterator_of = goes_on t u next xs its (λ n i. ap (option_and_then links_of) (goes.beside n (λ j. elim j [ inl f ↦ apart_in (is.gone ++ x ∷ []) xs n after (in_right n is.gone (x ∷ []) (inl (sym same ∙ f))) i | inr k ↦ k ]) (λ z. z)));
+              iterator_of = first_freed (x ∷ xs) p (Pairwise-right ◌≢◌ is.gone (x ∷ xs) all) e its leaves inners;
               freed = frees_both is.gone (leaf_name p ∷ []) (λ k i j. elim j [ inl f ↦ apart_in is.gone (x ∷ xs) k all i (inl (sym same ∙ f)) | inr z ↦ z ]) is.freed goes;
             }
 

@@ -1,0 +1,108 @@
+//! Uses of the operations, as a caller writes them.
+#![tactic(auto)]
+
+ghost use Rattle.std.specs.Prelude.{List, Some, IfSome};
+ghost use Rattle.art_nodes.specs.declared.node.OpaqueNodePtr.{OpaqueNodePtr};
+ghost use Rattle.art_model.specs.Canonical.{IsCanonical};
+ghost use Rattle.art_model.specs.Pairs.{of_key, overwrite, put, remove_key, without_first};
+ghost use Rattle.art_model.specs.Layouts.{leaf_names};
+ghost use Rattle.art_model.specs.Roots.{ForTree, IsCanonicalRoot};
+ghost use Rattle.art_operations.specs.Iterators.{IsIteratorOf};
+
+use art_nodes::node::{AsBytes, OpaqueNodePtr};
+use art_nodes::store::NodeStore;
+use art_operations::delete::search_for_delete_point;
+use art_operations::insert::{search_for_insert_point, search_for_prefix_insert_point};
+use art_operations::iterator::RawIterator;
+use art_operations::minmax::{maximum_unchecked, minimum_unchecked};
+
+/// Puts a pair in, and answers the root. `None` where the key is related to an unequal stored one, or for
+/// want of memory.
+pub fn put<K: AsBytes + Drop, V: Drop, const P: usize>(
+    store: &mut NodeStore<K, V, P>,
+    root: OpaqueNodePtr,
+    key: K,
+    value: V,
+) -> Option<OpaqueNodePtr>
+    requires { IsCanonicalRoot (of_key K.bytes) P store.old root }
+    ensures pairs { ForTree (of_key K.bytes) P store.old root (λ pairs _. IfSome result (λ new.
+        IsCanonical (of_key K.bytes) P store.new (Some new) (put (of_key K.bytes) (key, value) pairs))) }
+    ensures root { IfSome result (IsCanonicalRoot (of_key K.bytes) P store.new) }
+{
+    let Ok(point) = search_for_insert_point(store, root, key.as_bytes()) else {
+        return None;
+    };
+    match point.apply(store, key, value) {
+        Ok(done) => Some(done.new_root),
+        Err(_) => None,
+    }
+}
+
+/// Puts a pair in, in the place of all with related keys, and answers the root and how many leaves are gone.
+/// `None` for want of memory.
+pub fn put_over<K: AsBytes + Drop, V: Drop, const P: usize>(
+    store: &mut NodeStore<K, V, P>,
+    root: OpaqueNodePtr,
+    key: K,
+    value: V,
+) -> Option<(OpaqueNodePtr, usize)>
+    requires { IsCanonicalRoot (of_key K.bytes) P store.old root }
+    ensures pairs { ForTree (of_key K.bytes) P store.old root (λ pairs _. IfSome result (λ new.
+        IsCanonical (of_key K.bytes) P store.new (Some new.0) (overwrite (of_key K.bytes) (key, value) pairs))) }
+    ensures root { IfSome result (λ new. IsCanonicalRoot (of_key K.bytes) P store.new new.0) }
+{
+    let point = search_for_prefix_insert_point(store, root, key.as_bytes());
+    match point.apply(store, key, value) {
+        Ok(done) => Some((done.insert_result.new_root, done.leafs_removed)),
+        Err(_) => None,
+    }
+}
+
+/// Takes the pair of a key out, and answers it with the root that is left, if any. `None` where the key isn't
+/// stored, or for want of memory.
+pub fn take<K: AsBytes + Drop, V: Drop, const P: usize>(
+    store: &mut NodeStore<K, V, P>,
+    root: OpaqueNodePtr,
+    key_bytes: &[u8],
+) -> Option<(Option<OpaqueNodePtr>, K, V)>
+    requires { IsCanonicalRoot (of_key K.bytes) P store.old root }
+    ensures pairs { ForTree (of_key K.bytes) P store.old root (λ pairs _. IfSome result (λ left.
+        IsCanonical (of_key K.bytes) P store.new left.0 (remove_key (of_key K.bytes) (K.bytes left.1) pairs))) }
+    ensures root { IfSome result (λ left. IfSome left.0 (IsCanonicalRoot (of_key K.bytes) P store.new)) }
+{
+    let point = search_for_delete_point(store, root, key_bytes)?;
+    match point.apply(store, root) {
+        Ok(done) => {
+            let leaf = done.deleted_leaf;
+            Some((done.new_root, leaf.key, leaf.value))
+        }
+        Err(_) => None,
+    }
+}
+
+/// All leaves of a tree, in order.
+pub fn walk<K: AsBytes + Drop, V: Drop, const P: usize>(
+    store: &NodeStore<K, V, P>,
+    root: OpaqueNodePtr,
+) -> RawIterator
+    requires { IsCanonicalRoot (of_key K.bytes) P store.now root }
+    ensures { ForTree (of_key K.bytes) P store.now root (λ _ layout. IsIteratorOf store.now result (leaf_names layout)) }
+{
+    let first = minimum_unchecked(store, root);
+    let last = maximum_unchecked(store, root);
+    RawIterator::new(store, first, last)
+}
+
+/// Takes the next leaf of a walk out of its store, and answers its pair. The walk goes on with the others.
+pub fn take_next<K: AsBytes + Drop, V: Drop, const P: usize>(
+    store: &mut NodeStore<K, V, P>,
+    leaves: &mut RawIterator,
+) -> Option<(K, V)>
+    requires { (names : List OpaqueNodePtr) × IsIteratorOf store.old leaves.old names }
+    ensures { (names : List OpaqueNodePtr) → IsIteratorOf store.old leaves.old names →
+        IsIteratorOf store.new leaves.new (without_first names) }
+{
+    let leaf = leaves.next(store)?;
+    let node = store.free_leaf(leaf);
+    Some((node.key, node.value))
+}
