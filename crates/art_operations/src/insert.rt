@@ -123,7 +123,7 @@ pub enum PrefixInsertPoint {
 }
 
 /// What a prefix insertion did.
-#[derive(Drop)]
+#[derive(Debug, Drop)]
 pub struct PrefixInsertResult<K, V> {
     /// The leaf of the key. `existing_leaf` has the pair that gave way, if it was the only one.
     pub insert_result: InsertResult<K, V>,
@@ -132,7 +132,7 @@ pub struct PrefixInsertResult<K, V> {
 }
 
 /// What an insertion did.
-#[derive(Drop)]
+#[derive(Debug, Drop)]
 pub struct InsertResult<K, V> {
     /// The leaf of the key.
     pub leaf_node_ptr: LeafPtr,
