@@ -99,6 +99,16 @@ fn formats(rt: HostRuntime) {
             b"absent\nabsent\ninserted\ninserted\ninserted\ndeleted 1 1\ndeleted 3 3\n*: Leaf 2=2\ndeleted 2 2\nabsent\n",
             0,
         ),
+        (
+            b"insert 1.2 1\ninsert 1.3 2\ninsert 2 3\nprefix 1 9\nnodes\nprefix 1.5 4\nfind 1\n",
+            b"inserted\ninserted\ninserted\nremoved 2\n*: Node4 prefix 0 stored - children 2\n  1: Leaf 1=9\n  2: Leaf 2=3\nreplaced 1 9\nno\n",
+            0,
+        ),
+        (
+            b"walk\nclone\nback\ninsert 2 2\ninsert 1 1\nclone\nwalk\nback\n",
+            b"empty\ncloned\nempty\ninserted\ninserted\ncloned\n1=1 2=2\n2=2 1=1\n",
+            0,
+        ),
         (b"find 1\n\n", b"no\nline 2: refused\n", 2),
         (
             b"insert 1 1\nnodes \nfind 1",
