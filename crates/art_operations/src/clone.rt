@@ -156,7 +156,8 @@ fn place_like<K: AsBytes + Drop, V: Drop, const P: usize>(
     node: InnerRef<'_, P>,
     into: &mut NodeStore<K, V, P>,
 ) -> Result<InnerPtr, AllocError>
-    ensures placed { IfOk result (λ copy. into.new.inners ≡ map.insert into.old.inners copy (childless (ref_view node.entry).prefix)) }
+    ensures placed { IfOk result (λ copy.
+        into.new.inners ≡ map.insert into.old.inners copy (childless (ref_view node.entry).prefix)) }
     ensures kind { IfOk result (λ copy. copy.kind ≡ ref_kind node.entry) }
     ensures inner { ref_kind node.entry ≢ Leaf }
     ensures fresh { IfOk result (λ copy. map.get into.old.inners copy ≡ None) }
@@ -182,8 +183,10 @@ fn add_copy<K: AsBytes + Drop, V: Drop, const P: usize>(
 )
     requires last { IsThere into.old.leaves last }
     requires first { IsThere into.old.leaves (Some copy.now.min_leaf) }
-    requires place { IsSomeAnd (map.get into.old.inners parent) (λ node. HasPlace (kind_capacity parent.kind) node.children byte) }
-    ensures leaves { into.new.leaves ≡ joined into.old.leaves last (Some copy.now.min_leaf) (Some copy.now.min_leaf) last }
+    requires place { IsSomeAnd (map.get into.old.inners parent) (λ node.
+        HasPlace (kind_capacity parent.kind) node.children byte) }
+    ensures leaves { into.new.leaves ≡
+        joined into.old.leaves last (Some copy.now.min_leaf) (Some copy.now.min_leaf) last }
     ensures inners { into.new.inners ≡ change into.old.inners parent (with_child byte copy.now.root) }
     ensures promise { into.new.promise ≡ into.old.promise }
 {

@@ -25,7 +25,8 @@ pub fn deallocate_leaves<K: AsBytes + Drop, V: Drop, const PREFIX_LEN: usize>(
     store: &mut NodeStore<K, V, PREFIX_LEN>,
 )
     requires { (names : List OpaqueNodePtr) × IsIteratorOf store.old leaf_range names }
-    ensures freed { (names : List OpaqueNodePtr) → IsIteratorOf store.old leaf_range names → Frees names store.old store.new }
+    ensures freed { (names : List OpaqueNodePtr) → IsIteratorOf store.old leaf_range names →
+        Frees names store.old store.new }
     ensures promise { store.new.promise ≡ store.old.promise }
 {
     let mut left = leaf_range;
@@ -44,7 +45,8 @@ pub fn deallocate_tree_non_leaves<K: AsBytes + Drop, V: Drop, const PREFIX_LEN: 
     store: &mut NodeStore<K, V, PREFIX_LEN>,
 )
     requires { (shape : Tree OpaqueNodePtr (Unit {0})) × IsLayout (shape_at store.old) root shape }
-    ensures freed { (shape : Tree OpaqueNodePtr (Unit {0})) → IsLayout (shape_at store.old) root shape → Frees (inner_names shape) store.old store.new }
+    ensures freed { (shape : Tree OpaqueNodePtr (Unit {0})) →
+        IsLayout (shape_at store.old) root shape → Frees (inner_names shape) store.old store.new }
     ensures promise { store.new.promise ≡ store.old.promise }
 {
     free_nodes(store, root, false);
@@ -56,8 +58,10 @@ pub fn deallocate_tree<K: AsBytes + Drop, V: Drop, const PREFIX_LEN: usize>(
     store: &mut NodeStore<K, V, PREFIX_LEN>,
 ) -> usize
     requires { (layout : Tree OpaqueNodePtr (K × V)) × IsFullTree store.old root layout }
-    ensures freed { (layout : Tree OpaqueNodePtr (K × V)) → IsFullTree store.old root layout → Frees (names_of layout) store.old store.new }
-    ensures count { (layout : Tree OpaqueNodePtr (K × V)) → IsFullTree store.old root layout → result ≡ length (leaf_names layout) }
+    ensures freed { (layout : Tree OpaqueNodePtr (K × V)) → IsFullTree store.old root layout →
+        Frees (names_of layout) store.old store.new }
+    ensures count { (layout : Tree OpaqueNodePtr (K × V)) → IsFullTree store.old root layout →
+        result ≡ length (leaf_names layout) }
     ensures promise { store.new.promise ≡ store.old.promise }
 {
     free_nodes(store, root, true)
@@ -71,10 +75,13 @@ pub(crate) fn free_nodes<K: AsBytes + Drop, V: Drop, const P: usize>(
     leaves_too: bool,
 ) -> usize
     requires { (shape : Tree OpaqueNodePtr (Unit {0})) × CanGo store.old leaves_too root shape }
-    ensures freed { (shape : Tree OpaqueNodePtr (Unit {0})) → CanGo store.old leaves_too root shape → Frees (going leaves_too shape) store.old store.new }
-    ensures count { (shape : Tree OpaqueNodePtr (Unit {0})) → CanGo store.old leaves_too root shape → result ≡ leaves_going leaves_too shape }
+    ensures freed { (shape : Tree OpaqueNodePtr (Unit {0})) → CanGo store.old leaves_too root shape →
+        Frees (going leaves_too shape) store.old store.new }
+    ensures count { (shape : Tree OpaqueNodePtr (Unit {0})) → CanGo store.old leaves_too root shape →
+        result ≡ leaves_going leaves_too shape }
     ensures promise { store.new.promise ≡ store.old.promise }
-    ensures improper { (name : InnerPtr) → name.kind ≡ Leaf → map.get store.new.inners name ≡ map.get store.old.inners name }
+    ensures improper { (name : InnerPtr) → name.kind ≡ Leaf →
+        map.get store.new.inners name ≡ map.get store.old.inners name }
     ensures total { result + map.len store.new.leaves ≡ map.len store.old.leaves }
     ensures few { 0 < result → map.len store.old.leaves < 2 ^ 64 }
 {
@@ -118,7 +125,8 @@ fn take_first_child<K: AsBytes + Drop, V: Drop, const P: usize>(
     inner: InnerPtr,
 ) -> Option<OpaqueNodePtr>
     requires { IsSome (map.get store.old.inners inner) }
-    ensures child { IfSome (map.get store.old.inners inner) (λ node. result ≡ option_map (λ child. child.1) (first_of node.children)) }
+    ensures child { IfSome (map.get store.old.inners inner) (λ node. result ≡ option_map (λ child.
+        child.1) (first_of node.children)) }
     ensures taken { OnSome result (store.new.inners ≡ change store.old.inners inner without_first_child) }
     ensures none { IfNone result (store.new.inners ≡ store.old.inners) }
     ensures leaves { store.new.leaves ≡ store.old.leaves }

@@ -176,8 +176,10 @@ pub fn search_for_insert_point<K: AsBytes + Drop, V: Drop, const PREFIX_LEN: usi
     key_bytes: &[u8],
 ) -> Result<InsertPoint, InsertSearchError>
     requires { IsCanonicalRoot (of_key K.bytes) PREFIX_LEN store.now root }
-    ensures accepted { ForTree (of_key K.bytes) PREFIX_LEN store.now root (λ pairs layout. IsOk result ↔ (is_conflict (of_key K.bytes) key_bytes.now pairs ≡ false)) }
-    ensures point { ForTree (of_key K.bytes) PREFIX_LEN store.now root (λ pairs layout. IfOk result (λ point. AnswersTo (of_key K.bytes) PREFIX_LEN layout key_bytes.now point)) }
+    ensures accepted { ForTree (of_key K.bytes) PREFIX_LEN store.now root (λ pairs layout.
+        IsOk result ↔ (is_conflict (of_key K.bytes) key_bytes.now pairs ≡ false)) }
+    ensures point { ForTree (of_key K.bytes) PREFIX_LEN store.now root (λ pairs layout.
+        IfOk result (λ point. AnswersTo (of_key K.bytes) PREFIX_LEN layout key_bytes.now point)) }
     ensures root { IfOk result (λ point. point.root ≡ root) }
     ensures applies { IfOk result (IsPointIn (of_key K.bytes) PREFIX_LEN store.now key_bytes.now) }
     ensures refused { IfErr result (λ error. IsRefusedFor key_bytes.now error) }
@@ -197,7 +199,8 @@ pub fn search_for_prefix_insert_point<K: AsBytes + Drop, V: Drop, const PREFIX_L
     key_bytes: &[u8],
 ) -> PrefixInsertPoint
     requires { IsCanonicalRoot (of_key K.bytes) PREFIX_LEN store.now root }
-    ensures point { ForTree (of_key K.bytes) PREFIX_LEN store.now root (λ pairs layout. IsPointFor (of_key K.bytes) PREFIX_LEN key_bytes.now pairs layout result) }
+    ensures point { ForTree (of_key K.bytes) PREFIX_LEN store.now root (λ pairs layout.
+        IsPointFor (of_key K.bytes) PREFIX_LEN key_bytes.now pairs layout result) }
     ensures root { root_of result ≡ root }
     ensures applies { IsPrefixPointIn (of_key K.bytes) PREFIX_LEN store.now key_bytes.now result }
 {
@@ -280,8 +283,10 @@ fn next_step<K: AsBytes + Drop, V: Drop, const PREFIX_LEN: usize>(
     spot: Spot,
 ) -> Step
     requires root { IsCanonicalRoot (of_key K.bytes) PREFIX_LEN store.now root }
-    requires spot { ForTree (of_key K.bytes) PREFIX_LEN store.now root (λ pairs layout. IsAt (of_key K.bytes) PREFIX_LEN key_bytes.now layout spot) }
-    ensures { ForTree (of_key K.bytes) PREFIX_LEN store.now root (λ pairs layout. IsStepFrom (of_key K.bytes) PREFIX_LEN key_bytes.now pairs layout spot.depth result) }
+    requires spot { ForTree (of_key K.bytes) PREFIX_LEN store.now root (λ pairs layout.
+        IsAt (of_key K.bytes) PREFIX_LEN key_bytes.now layout spot) }
+    ensures { ForTree (of_key K.bytes) PREFIX_LEN store.now root (λ pairs layout.
+        IsStepFrom (of_key K.bytes) PREFIX_LEN key_bytes.now pairs layout spot.depth result) }
 {
     match spot.name.split() {
         NodePtr::Inner(inner) => step_at_inner(store, root, key_bytes, spot, inner),
@@ -306,10 +311,12 @@ fn step_at_inner<K: AsBytes + Drop, V: Drop, const PREFIX_LEN: usize>(
     inner: InnerPtr,
 ) -> Step
     requires root { IsCanonicalRoot (of_key K.bytes) PREFIX_LEN store.now root }
-    requires spot { ForTree (of_key K.bytes) PREFIX_LEN store.now root (λ pairs layout. IsAt (of_key K.bytes) PREFIX_LEN key_bytes.now layout spot) }
+    requires spot { ForTree (of_key K.bytes) PREFIX_LEN store.now root (λ pairs layout.
+        IsAt (of_key K.bytes) PREFIX_LEN key_bytes.now layout spot) }
     requires inner { inner.kind ≢ Leaf }
     requires name { inner_name inner ≡ spot.name }
-    ensures { ForTree (of_key K.bytes) PREFIX_LEN store.now root (λ pairs layout. IsStepFrom (of_key K.bytes) PREFIX_LEN key_bytes.now pairs layout spot.depth result) }
+    ensures { ForTree (of_key K.bytes) PREFIX_LEN store.now root (λ pairs layout.
+        IsStepFrom (of_key K.bytes) PREFIX_LEN key_bytes.now pairs layout spot.depth result) }
 {
     let matched = match match_full_prefix(store, inner, key_bytes, spot.depth) {
         Ok(matched) => matched,
@@ -377,8 +384,11 @@ fn match_full_prefix<K: AsBytes + Drop, V: Drop, const PREFIX_LEN: usize>(
 ) -> Result<PrefixMatch, ExplicitMismatch>
     requires inner { name.kind ≢ Leaf }
     requires depth { depth ≤ length key_bytes.now }
-    requires part { (node : Tree OpaqueNodePtr (K × V)) × IsPart (of_key K.bytes) PREFIX_LEN store.now (inner_name name) depth node }
-    ensures { (node : Tree OpaqueNodePtr (K × V)) → IsPart (of_key K.bytes) PREFIX_LEN store.now (inner_name name) depth node → IsCompared (of_key K.bytes) PREFIX_LEN key_bytes.now node depth result }
+    requires part { (node : Tree OpaqueNodePtr (K × V)) ×
+        IsPart (of_key K.bytes) PREFIX_LEN store.now (inner_name name) depth node }
+    ensures { (node : Tree OpaqueNodePtr (K × V)) →
+        IsPart (of_key K.bytes) PREFIX_LEN store.now (inner_name name) depth node →
+        IsCompared (of_key K.bytes) PREFIX_LEN key_bytes.now node depth result }
 {
     let Some(node) = store.inner(name) else {
         unreachable!()
@@ -408,7 +418,8 @@ fn match_prefix(
     ensures len { IfOk result (λ matched. matched.matched_bytes ≡ length prefix.now) }
     ensures front { IfOk result (λ matched. IsFront prefix.now rest_of_key.now) }
     ensures shared { IfErr result (λ mismatch. mismatch.matched_bytes ≡ shared_len prefix.now rest_of_key.now) }
-    ensures byte { IfErr result (λ mismatch. slice_get prefix.now mismatch.matched_bytes ≡ Some mismatch.prefix_byte) }
+    ensures byte { IfErr result (λ mismatch. slice_get prefix.now mismatch.matched_bytes ≡
+        Some mismatch.prefix_byte) }
     ensures leaf { IfErr result (λ mismatch. mismatch.leaf_ptr ≡ leaf_ptr) }
 {
     let matched_bytes = shared_len(prefix, rest_of_key);

@@ -34,19 +34,23 @@ impl PrefixInsertPoint {
         requires { IsPrefixPointIn (of_key K.bytes) PREFIX_LEN store.old (K.bytes key) self }
         ensures canonical { ForTree (of_key K.bytes) PREFIX_LEN store.old (root_of self) (λ pairs layout. IfOk result (λ done.
             IsCanonical (of_key K.bytes) PREFIX_LEN store.new (Some done.insert_result.new_root) (overwrite (of_key K.bytes) (key, value) pairs))) }
-        ensures root { IfOk result (λ done. IsCanonicalRoot (of_key K.bytes) PREFIX_LEN store.new done.insert_result.new_root) }
-        ensures leaf { IfOk result (λ done. ForTree (of_key K.bytes) PREFIX_LEN store.new done.insert_result.new_root (λ pairs layout.
+        ensures root { IfOk result (λ done.
+            IsCanonicalRoot (of_key K.bytes) PREFIX_LEN store.new done.insert_result.new_root) }
+        ensures leaf { IfOk result (λ done.
+            ForTree (of_key K.bytes) PREFIX_LEN store.new done.insert_result.new_root (λ pairs layout.
             HasCome layout self (key, value) done.insert_result)) }
         ensures replaced { ForTree (of_key K.bytes) PREFIX_LEN store.old (root_of self) (λ pairs layout. IfOk result (λ done.
             done.insert_result.existing_leaf ≡ option_map alone (overwrite_reply (of_key K.bytes) (key, value) pairs).0)) }
-        ensures removed { ForTree (of_key K.bytes) PREFIX_LEN store.old (root_of self) (λ pairs layout. IfOk result (λ done.
+        ensures removed { ForTree (of_key K.bytes) PREFIX_LEN store.old (root_of self) (λ pairs layout.
+            IfOk result (λ done.
             done.leafs_removed ≡ (overwrite_reply (of_key K.bytes) (key, value) pairs).1)) }
         ensures kept { ForTree (of_key K.bytes) PREFIX_LEN store.old (root_of self) (λ pairs old. IfOk result (λ done.
             ForTree (of_key K.bytes) PREFIX_LEN store.new done.insert_result.new_root (λ after new.
             ChangesInPlace (of_key K.bytes) store.old store.new (Some old) (Some new)))) }
         ensures touches { ForTree (of_key K.bytes) PREFIX_LEN store.old (root_of self) (λ pairs layout.
             OnOk result (TouchesForPrefix self (of_key K.bytes) (K.bytes key) store.old store.new layout)) }
-        ensures promise { OnOk result (store.new.promise ≡ promise_after (placed_for_prefix store.old self) store.old.promise) }
+        ensures promise { OnOk result (store.new.promise ≡
+            promise_after (placed_for_prefix store.old self) store.old.promise) }
         ensures byte_left { HasByteLeftFor store.old self }
 
         ensures succeeds { IsTrue (is_covered (placed_for_prefix store.old self) store.old.promise) → IsOk result }
@@ -80,21 +84,27 @@ impl OverwritePoint {
         value: V,
     ) -> Result<PrefixInsertResult<K, V>, Refused<K, V>>
         requires { IsOverwritePointIn (of_key K.bytes) PREFIX_LEN store.old (K.bytes key) self }
-        ensures canonical { ForTree (of_key K.bytes) PREFIX_LEN store.old self.root (λ pairs layout. IfOk result (λ done.
+        ensures canonical { ForTree (of_key K.bytes) PREFIX_LEN store.old self.root (λ pairs layout.
+            IfOk result (λ done.
             IsCanonical (of_key K.bytes) PREFIX_LEN store.new (Some done.insert_result.new_root) (overwrite (of_key K.bytes) (key, value) pairs))) }
-        ensures root { IfOk result (λ done. IsCanonicalRoot (of_key K.bytes) PREFIX_LEN store.new done.insert_result.new_root) }
-        ensures leaf { IfOk result (λ done. ForTree (of_key K.bytes) PREFIX_LEN store.new done.insert_result.new_root (λ pairs layout.
+        ensures root { IfOk result (λ done.
+            IsCanonicalRoot (of_key K.bytes) PREFIX_LEN store.new done.insert_result.new_root) }
+        ensures leaf { IfOk result (λ done.
+            ForTree (of_key K.bytes) PREFIX_LEN store.new done.insert_result.new_root (λ pairs layout.
             HasOverwritten layout self (key, value) done.insert_result)) }
-        ensures replaced { ForTree (of_key K.bytes) PREFIX_LEN store.old self.root (λ pairs layout. IfOk result (λ done.
+        ensures replaced { ForTree (of_key K.bytes) PREFIX_LEN store.old self.root (λ pairs layout.
+            IfOk result (λ done.
             done.insert_result.existing_leaf ≡ option_map alone (overwrite_reply (of_key K.bytes) (key, value) pairs).0)) }
-        ensures removed { ForTree (of_key K.bytes) PREFIX_LEN store.old self.root (λ pairs layout. IfOk result (λ done.
+        ensures removed { ForTree (of_key K.bytes) PREFIX_LEN store.old self.root (λ pairs layout.
+            IfOk result (λ done.
             done.leafs_removed ≡ (overwrite_reply (of_key K.bytes) (key, value) pairs).1)) }
         ensures kept { ForTree (of_key K.bytes) PREFIX_LEN store.old self.root (λ pairs old. IfOk result (λ done.
             ForTree (of_key K.bytes) PREFIX_LEN store.new done.insert_result.new_root (λ after new.
             ChangesInPlace (of_key K.bytes) store.old store.new (Some old) (Some new)))) }
         ensures touches { ForTree (of_key K.bytes) PREFIX_LEN store.old self.root (λ pairs layout.
             OnOk result (TouchesForNode self.overwrite_point.kind (of_key K.bytes) (K.bytes key) store.old store.new layout)) }
-        ensures promise { OnOk result (store.new.promise ≡ promise_after (placed_for_overwrite self.overwrite_point.kind) store.old.promise) }
+        ensures promise { OnOk result (store.new.promise ≡
+            promise_after (placed_for_overwrite self.overwrite_point.kind) store.old.promise) }
 
         ensures succeeds { IsTrue (is_covered (placed_for_overwrite self.overwrite_point.kind) store.old.promise) → IsOk result }
         ensures handed_back { IfErr result (λ refused. (refused.key ≡ key) × (refused.value ≡ value)) }
@@ -147,7 +157,8 @@ impl OverwritePoint {
         requires answers { IsOverwritePointIn (of_key K.bytes) P store.old (K.bytes key) self }
         ensures overwritten { ForTree (of_key K.bytes) P store.old self.root (λ pairs layout. IfOk result (λ done.
             IsOverwritten (of_key K.bytes) P store.old store.new self (key, value) pairs layout done)) }
-        ensures promise { OnOk result (store.new.promise ≡ promise_after (placed_for_overwrite self.overwrite_point.kind) store.old.promise) }
+        ensures promise { OnOk result (store.new.promise ≡
+            promise_after (placed_for_overwrite self.overwrite_point.kind) store.old.promise) }
 
         ensures succeeds { IsTrue (is_covered (placed_for_overwrite self.overwrite_point.kind) store.old.promise) → IsOk result }
         ensures handed_back { IfErr result (λ refused. (refused.key ≡ key) × (refused.value ≡ value)) }
