@@ -1,7 +1,10 @@
 ghost use Rattle.std.specs.Prelude.{◌≡◌, ℕ, ◌+◌, ◌≤◌, length, take, drop};
 ghost use Rattle.art_nodes.specs.Inner.{child_at, header_of};
 
-use super::*;
+use art_nodes::node::{
+    AnyInner, AsBytes, Children, FromHeader, Header, InnerNode, InnerNode4, InnerNode16,
+    InnerNode48, InnerNodeDirect, InnerPtr, LeafNode, LeafPtr, NodePtr, NodeType, OpaqueNodePtr,
+};
 use std::boxed::BoxedSlice;
 use std::process::Abort;
 use std::test::Fail;

@@ -1,12 +1,16 @@
-#![tactic(auto, using(crate::proofs::StoreLaws::leaf_laws, crate::proofs::StoreLaws::inner_laws))]
+#![tactic(auto, using(crate::proofs::Laws::leaf_laws, crate::proofs::Laws::inner_laws))]
 
 ghost use Rattle.std.specs.Prelude.{◌≡◌, ◌≢◌, Some, None, IsSome, IfSome, IfOk};
 ghost use Rattle.std.specs.FinMap as map;
 ghost use Rattle.art_nodes.specs.Changes.{with_links, with_child};
 ghost use Rattle.art_nodes.specs.Inner.{child_at, childless};
 
-use super::*;
+use art_nodes::node::{
+    AnyInner, AsBytes, Header, InnerPtr, LeafNode, LeafPtr, NodeType, OpaqueNodePtr,
+};
+use art_nodes::store::NodeStore;
 use art_test_support::memory::all_memory;
+use std::alloc::AllocError;
 use std::test::Fail;
 
 type Store = NodeStore<[u8; 1], u32, 2>;
@@ -89,7 +93,7 @@ fn move_header<K: AsBytes + Drop, V: Drop, const P: usize>(
 }
 
 // A caller: cuts a child off, which is then gone.
-#[tactic(auto, using(crate::proofs::StoreLaws::inner_changed_here, crate::proofs::ChildrenLaws::children_laws))]
+#[tactic(auto, using(crate::proofs::Laws::inner_changed_here, crate::proofs::Laws::children_laws))]
 fn cut_child<K: AsBytes + Drop, V: Drop, const P: usize>(
     store: &mut NodeStore<K, V, P>,
     from: InnerPtr,
