@@ -188,11 +188,20 @@ fn a_store_hands_out_its_allocator(rt: HostRuntime) -> Result<(), Fail> {
     Ok(())
 }
 
+// Places a leaf and another one behind it, and answers both names.
+fn place_pair(store: &mut Store) -> Result<(LeafPtr, LeafPtr), AllocError>
+    ensures first { IfOk result (λ names. IsSome (map.get store.new.leaves names.0)) }
+    ensures second { IfOk result (λ names. IsSome (map.get store.new.leaves names.1)) }
+{
+    let first = place(store, leaf_of(1, 10))?;
+    let second = place_behind(store, first, leaf_of(2, 20)).map_err(|refused| refused.1)?;
+    Ok((first, second))
+}
+
 #[test]
 fn leaves_are_linked_and_freed(rt: HostRuntime) -> Result<(), Fail> {
     let mut store = Store::new(rt.alloc());
-    let first = place(&mut store, leaf_of(1, 10))?;
-    let second = place_behind(&mut store, first, leaf_of(2, 20)).map_err(|refused| refused.1)?;
+    let (first, second) = place_pair(&mut store)?;
     assert!(rt; first != second);
     let linked = leaf_seen(&store, second);
     let pair = move_pair(&mut store, first, second);
@@ -360,36 +369,53 @@ fn refused_without_memory(
     Ok((leaf, inner))
 }
 
+// The name of a leaf, with what is refused behind it and what is under it and another name afterwards.
+type HandedBack = (
+    LeafPtr,
+    (Option<SeenLeaf>, Option<SeenInner>),
+    (Option<SeenLeaf>, Option<SeenInner>),
+);
+
+// Places a leaf and a node above it, and sees that no more is placed while all memory is held.
+fn hand_back(store: &mut Store) -> Result<HandedBack, AllocError> {
+    let first = place(store, leaf_of(1, 10))?;
+    let upper = place_above(store, Header::new(&[5, 6], 2), 3, first.to_opaque())?;
+    let refused = refused_without_memory(store, first)?;
+    let kept = (leaf_seen(store, first), inner_seen(store, upper, 3));
+    Ok((first, refused, kept))
+}
+
 #[test]
 fn without_memory_placements_hand_the_node_back(rt: HostRuntime) -> Result<(), Fail> {
     let mut store = Store::new(rt.alloc());
-    let first = place(&mut store, leaf_of(1, 10))?;
-    let child = first.to_opaque();
-    let upper = place_above(&mut store, Header::new(&[5, 6], 2), 3, child)?;
-    let (leaf, inner) = refused_without_memory(&mut store, first)?;
-    let kept = (leaf_seen(&store, first), inner_seen(&store, upper, 3));
-    let expected = (
-        (
-            Some((9, 90, Some(first), None)),
-            Some((NodeType::Node4, [8, 9], 1, Some(child))),
-        ),
-        (
-            Some((1, 10, None, None)),
-            Some((NodeType::Node4, [5, 6], 1, Some(child))),
-        ),
+    let (first, refused, kept) = hand_back(&mut store)?;
+    let child = Some(first.to_opaque());
+    let expected_refused = (
+        Some((9, 90, Some(first), None)),
+        Some((NodeType::Node4, [8, 9], 1, child)),
     );
-    assert_eq!(rt; ((leaf, inner), kept), expected);
+    let expected_kept = (
+        Some((1, 10, None, None)),
+        Some((NodeType::Node4, [5, 6], 1, child)),
+    );
+    assert_eq!(rt; (refused, kept), (expected_refused, expected_kept));
     Ok(())
+}
+
+// Places a leaf, and answers whether a reservation without memory is refused, with what is then under
+// the leaf's name.
+fn reserve_without_memory(store: &mut Store) -> Result<(bool, Option<SeenLeaf>), AllocError> {
+    let first = place(store, leaf_of(1, 10))?;
+    let held = all_memory(store.alloc())?;
+    let refused = store.reserve(1 << 20, None).is_err();
+    drop(held);
+    Ok((refused, leaf_seen(store, first)))
 }
 
 #[test]
 fn without_memory_reservations_leave_the_nodes(rt: HostRuntime) -> Result<(), Fail> {
     let mut store = Store::new(rt.alloc());
-    let first = place(&mut store, leaf_of(1, 10))?;
-    let held = all_memory(rt.alloc())?;
-    let refused = store.reserve(1 << 20, None).is_err();
-    drop(held);
-    let seen = (refused, leaf_seen(&store, first));
+    let seen = reserve_without_memory(&mut store)?;
     assert_eq!(rt; seen, (true, Some((1, 10, None, None))));
     Ok(())
 }
