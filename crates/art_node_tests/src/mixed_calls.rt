@@ -1,14 +1,15 @@
 //! Mixed calls of a store, each compared with a plain list of names and nodes.
+ghost use Rattle.std.specs.Prelude.{IsTrue, IsSomeAnd};
+ghost use Rattle.std.specs.FinMap as map;
+ghost use Rattle.art_nodes.specs.Inner.{HasPlace};
+ghost use Rattle.art_nodes.specs.Kinds.{kind_capacity};
 
-use crate::by_hand::has_place;
 use crate::numbers::Numbers;
-use crate::trees::count_nodes;
 use art_nodes::node::{
     AnyInner, Header, InnerPtr, InnerRef, LeafNode, LeafPtr, NodeType, OpaqueNodePtr,
 };
 use art_nodes::store::NodeStore;
-use std::alloc::{AllocError, Global};
-use std::process::Abort;
+use std::alloc::AllocError;
 use std::test::Fail;
 
 type Store = NodeStore<[u8; 2], u32, 3>;
@@ -17,6 +18,13 @@ const STEPS: usize = 10_000;
 
 // No name has a slot past this one: there are never so many nodes at a time.
 const LAST_SLOT: usize = 400;
+
+const INNER_KINDS: [NodeType; 4] = [
+    NodeType::Node4,
+    NodeType::Node16,
+    NodeType::Node48,
+    NodeType::Node256,
+];
 
 impl Numbers {
     fn inner_kind(&mut self) -> NodeType {
@@ -95,20 +103,50 @@ fn no_children() -> [Option<OpaqueNodePtr>; 256] {
     [None; 256]
 }
 
-fn assert_inner(rt: &impl Abort, node: InnerRef<'_, 3>, want: &PlainInner) {
+// Whether a node holds this.
+fn is_like(node: InnerRef<'_, 3>, want: &PlainInner) -> bool {
     let PlainPrefix { bytes, len } = want.prefix;
-    assert_eq!(rt; node.prefix_len(), len);
-    assert_eq!(rt; node.read_prefix(), &bytes[..len.min(3)]);
     let mut children = node.iter();
     for byte in 0..=255u8 {
-        if let Some(child) = want.children[byte as usize] {
-            assert_eq!(rt; children.next(), Some((byte, child)));
+        if let Some(child) = want.children[byte as usize]
+            && children.next() != Some((byte, child))
+        {
+            return false;
         }
     }
-    assert_eq!(rt; children.next(), None);
+    let stored = &bytes[..len.min(3)];
+    children.next().is_none() && node.prefix_len() == len && node.read_prefix() == stored
 }
 
-/// A store, and beside it a list of the names that it gave out with what is to be under them.
+// Whether a child can be put under a byte of a node.
+fn has_place(store: &Store, name: InnerPtr, byte: u8) -> bool
+    ensures { IsTrue result → IsSomeAnd (map.get store.now.inners name) (λ node.
+        HasPlace (kind_capacity name.kind) node.children byte) }
+{
+    match store.inner(name) {
+        Some(node) => !node.is_full() || node.lookup_child(byte).is_some(),
+        None => false,
+    }
+}
+
+// How many leaves and inner nodes there are.
+fn count_nodes(store: &Store) -> (usize, usize) {
+    let (mut leaves, mut inners) = (0usize, 0usize);
+    for slot in 0..=LAST_SLOT {
+        if store.leaf(LeafPtr::from_slot(slot)).is_some() {
+            leaves = leaves.saturating_add(1);
+        }
+        for kind in INNER_KINDS {
+            if store.inner(InnerPtr { kind, slot }).is_some() {
+                inners = inners.saturating_add(1);
+            }
+        }
+    }
+    (leaves, inners)
+}
+
+/// A store, and beside it a list of the names that it gave out with what is to be under them. Each call
+/// answers whether the store did as the list says.
 #[derive(Drop)]
 struct Trial {
     store: Store,
@@ -118,7 +156,7 @@ struct Trial {
 }
 
 impl Trial {
-    fn place_leaf(&mut self, rt: &impl Abort) -> Result<(), AllocError> {
+    fn place_leaf(&mut self) -> Result<bool, AllocError> {
         let (key, value) = self.numbers.pair();
         let (previous, next) = (self.numbers.link(), self.numbers.link());
         let leaf = LeafNode {
@@ -129,80 +167,92 @@ impl Trial {
         };
         let want = PlainLeaf::of(&leaf);
         let name = self.store.place_leaf(leaf).map_err(|refused| refused.1)?;
-        assert!(rt; self.leaves.iter().all(|listed| listed.0 != name), "{name}");
+        let is_new = self.leaves.iter().all(|listed| listed.0 != name);
         self.leaves.push((name, want))?;
-        Ok(())
+        Ok(is_new)
     }
 
-    fn place_inner(&mut self, rt: &impl Abort, kind: NodeType) -> Result<(), AllocError> {
+    fn place_inner(&mut self, kind: NodeType) -> Result<bool, AllocError> {
         let prefix = self.numbers.prefix();
-        assert!(rt; kind != NodeType::Leaf);
+        if kind == NodeType::Leaf {
+            return Ok(false);
+        }
         let node = AnyInner::from_header(kind, prefix.header());
         let name = self.store.place_inner(node).map_err(|refused| refused.1)?;
-        assert_eq!(rt; name.kind, kind);
-        assert!(rt; self.inners.iter().all(|listed| listed.0 != name), "{name}");
+        let is_new = self.inners.iter().all(|listed| listed.0 != name);
         let children = no_children();
         self.inners.push((name, PlainInner { prefix, children }))?;
-        Ok(())
+        Ok(is_new && name.kind == kind)
     }
 
-    fn free_leaf(&mut self, rt: &impl Abort) {
+    fn free_leaf(&mut self) -> bool {
         let Some(at) = self.numbers.place_in(self.leaves.len()) else {
-            return;
+            return true;
         };
         let (name, want) = self.leaves.remove(at);
-        assert!(rt; self.store.leaf(name).is_some());
-        let leaf = self.store.free_leaf(name);
-        assert_eq!(rt; PlainLeaf::of(&leaf), want);
+        if self.store.leaf(name).is_none() {
+            return false;
+        }
+        PlainLeaf::of(&self.store.free_leaf(name)) == want
     }
 
-    fn free_inner(&mut self, rt: &impl Abort) {
+    fn free_inner(&mut self) -> bool {
         let Some(at) = self.numbers.place_in(self.inners.len()) else {
-            return;
+            return true;
         };
         let (name, want) = self.inners.remove(at);
-        assert!(rt; self.store.inner(name).is_some());
+        if self.store.inner(name).is_none() {
+            return false;
+        }
         let node = self.store.free_inner(name);
-        assert_eq!(rt; node.node_type(), name.kind);
-        assert_inner(rt, node.as_ref(), &want);
+        node.node_type() == name.kind && is_like(node.as_ref(), &want)
     }
 
-    fn set_links(&mut self, rt: &impl Abort) {
+    fn set_links(&mut self) -> bool {
         let Some(at) = self.numbers.place_in(self.leaves.len()) else {
-            return;
+            return true;
         };
         let (name, want) = &mut self.leaves[at];
         want.links = (self.numbers.link(), self.numbers.link());
-        assert!(rt; self.store.leaf(*name).is_some());
+        if self.store.leaf(*name).is_none() {
+            return false;
+        }
         self.store.set_links(*name, want.links.0, want.links.1);
+        true
     }
 
-    fn swap_pair(&mut self, rt: &impl Abort) {
+    fn swap_pair(&mut self) -> bool {
         let Some(at) = self.numbers.place_in(self.leaves.len()) else {
-            return;
+            return true;
         };
         let (name, want) = &mut self.leaves[at];
         let pair = self.numbers.pair();
-        assert!(rt; self.store.leaf(*name).is_some());
+        if self.store.leaf(*name).is_none() {
+            return false;
+        }
         let old = self.store.swap_pair(*name, pair.0, pair.1);
-        assert_eq!(rt; old, want.pair);
+        let is_right = old == want.pair;
         want.pair = pair;
+        is_right
     }
 
-    fn set_header(&mut self, rt: &impl Abort) {
+    fn set_header(&mut self) -> bool {
         let Some(at) = self.numbers.place_in(self.inners.len()) else {
-            return;
+            return true;
         };
         let (name, want) = &mut self.inners[at];
         want.prefix = self.numbers.prefix();
-        assert!(rt; self.store.inner(*name).is_some());
+        if self.store.inner(*name).is_none() {
+            return false;
+        }
         self.store.set_header(*name, want.prefix.header());
+        true
     }
 
     /// Puts some children into one node, where there is a place for them.
-    fn write_children(&mut self) {
+    fn write_children(&mut self) -> bool {
         let Some(at) = self.numbers.place_in(self.inners.len()) else {
-            return;
+            return true;
         };
         let (name, want) = &mut self.inners[at];
         for _ in 0..self.numbers.below(12) {
@@ -212,73 +262,104 @@ impl Trial {
                 want.children[byte as usize] = Some(child);
             }
         }
+        true
     }
 
     /// Takes some children out of one node.
-    fn remove_children(&mut self, rt: &impl Abort) {
+    fn remove_children(&mut self) -> bool {
         let Some(at) = self.numbers.place_in(self.inners.len()) else {
-            return;
+            return true;
         };
         let (name, want) = &mut self.inners[at];
         for _ in 0..self.numbers.below(60) {
             let byte = self.numbers.byte();
-            assert!(rt; self.store.inner(*name).is_some());
+            if self.store.inner(*name).is_none() {
+                return false;
+            }
             let removed = self.store.remove_child(*name, byte);
-            assert_eq!(rt; removed, want.children[byte as usize]);
+            if removed != want.children[byte as usize] {
+                return false;
+            }
             want.children[byte as usize] = None;
         }
+        true
     }
 
-    fn reserve(&mut self, rt: &impl Abort) -> Result<(), AllocError> {
+    fn reserve(&mut self) -> Result<bool, AllocError> {
         let leaves = self.numbers.below(20);
         let kind = self.numbers.inner_kind();
-        assert!(rt; kind != NodeType::Leaf);
+        if kind == NodeType::Leaf {
+            return Ok(false);
+        }
         let inner = if self.numbers.is_heads() {
             Some(kind)
         } else {
             None
         };
-        self.store.reserve(leaves, inner)
+        self.store.reserve(leaves, inner)?;
+        Ok(true)
     }
 
     /// One call. While the store is filled seven of eight placements and frees are placements, else one.
-    fn step(&mut self, rt: &impl Abort, is_filled: bool) -> Result<(), AllocError> {
+    fn step(&mut self, is_filled: bool) -> Result<bool, AllocError> {
         let is_rare = self.numbers.below(8) == 0;
         let is_placement = is_filled != is_rare;
         match self.numbers.below(9) {
-            0 if is_placement => self.place_leaf(rt)?,
-            0 => self.free_leaf(rt),
+            0 if is_placement => self.place_leaf(),
+            0 => Ok(self.free_leaf()),
             1 if is_placement => {
                 let kind = self.numbers.inner_kind();
-                self.place_inner(rt, kind)?;
+                self.place_inner(kind)
             }
-            1 => self.free_inner(rt),
-            2 | 3 => self.write_children(),
-            4 => self.remove_children(rt),
-            5 => self.set_links(rt),
-            6 => self.swap_pair(rt),
-            7 => self.set_header(rt),
-            _ => self.reserve(rt)?,
+            1 => Ok(self.free_inner()),
+            2 | 3 => Ok(self.write_children()),
+            4 => Ok(self.remove_children()),
+            5 => Ok(self.set_links()),
+            6 => Ok(self.swap_pair()),
+            7 => Ok(self.set_header()),
+            _ => self.reserve(),
         }
-        Ok(())
     }
 
-    /// Compares what is under each listed name, and sees that nothing is under any other.
-    fn compare(&self, rt: &impl Abort) {
+    /// Whether each listed name has what is to be under it, and no other name has anything.
+    fn is_as_listed(&self) -> bool {
         for (name, want) in &self.leaves {
-            let found = self.store.leaf(*name).map(PlainLeaf::of);
-            assert_eq!(rt; found, Some(*want), "{name}");
-        }
-        for (name, want) in &self.inners {
-            let found = self.store.inner(*name);
-            assert!(rt; found.is_some(), "{name}");
-            if let Some(node) = found {
-                assert_eq!(rt; node.node_type(), name.kind);
-                assert_inner(rt, node, want);
+            if self.store.leaf(*name).map(PlainLeaf::of) != Some(*want) {
+                return false;
             }
         }
-        let counts = (self.leaves.len(), self.inners.len());
-        assert_eq!(rt; count_nodes(&self.store, LAST_SLOT), counts);
+        for (name, want) in &self.inners {
+            let Some(node) = self.store.inner(*name) else {
+                return false;
+            };
+            if node.node_type() != name.kind || !is_like(node, want) {
+                return false;
+            }
+        }
+        count_nodes(&self.store) == (self.leaves.len(), self.inners.len())
+    }
+
+    /// Makes the calls, and answers the number of the first one after which something is wrong.
+    fn first_wrong_call(&mut self) -> Result<Option<usize>, AllocError> {
+        for step in 0..STEPS {
+            let is_right = self.step(step / 1_000 % 2 == 0)?;
+            if !is_right || (step % 20 == 0 && !self.is_as_listed()) {
+                return Ok(Some(step));
+            }
+        }
+        Ok(None)
+    }
+
+    /// Frees all nodes, and answers whether each was right, whether none is left in the store and on the
+    /// lists.
+    fn free_all(&mut self) -> [bool; 3] {
+        let mut all_right = true;
+        for _ in 0..=LAST_SLOT {
+            let freed = [self.free_leaf(), self.free_inner()];
+            all_right = all_right && freed == [true; 2];
+        }
+        let is_empty = self.leaves.is_empty() && self.inners.is_empty();
+        [all_right, self.is_as_listed(), is_empty]
     }
 }
 
@@ -291,17 +372,7 @@ fn mixed_calls_change_what_they_name(rt: HostRuntime) -> Result<(), Fail> {
         inners: Vec::new(alloc),
         numbers: Numbers::new(1),
     };
-    for step in 0..STEPS {
-        trial.step(&rt, step / 1_000 % 2 == 0)?;
-        if step % 20 == 0 {
-            trial.compare(&rt);
-        }
-    }
-    for _ in 0..=LAST_SLOT {
-        trial.free_leaf(&rt);
-        trial.free_inner(&rt);
-    }
-    trial.compare(&rt);
-    assert!(rt; trial.leaves.is_empty() && trial.inners.is_empty());
+    let wrong = trial.first_wrong_call()?;
+    assert_eq!(rt; (wrong, trial.free_all()), (None, [true; 3]));
     Ok(())
 }
