@@ -424,10 +424,13 @@ fn expected_life(last: u8) -> Life {
 
 #[test]
 fn holds_as_many_as_its_kind(rt: HostRuntime) {
-    assert_eq!(rt; live::<InnerNode4<4>>(3), expected_life(3));
-    assert_eq!(rt; live::<InnerNode16<4>>(15), expected_life(15));
-    assert_eq!(rt; live::<InnerNode48<4>>(47), expected_life(47));
-    assert_eq!(rt; live::<InnerNodeDirect<4>>(255), expected_life(255));
+    let lives = [
+        live::<InnerNode4<4>>(3),
+        live::<InnerNode16<4>>(15),
+        live::<InnerNode48<4>>(47),
+        live::<InnerNodeDirect<4>>(255),
+    ];
+    assert_eq!(rt; lives, [3, 15, 47, 255].map(expected_life));
 }
 
 // What is read of a node of some kind with the children 0, 20 and 255.

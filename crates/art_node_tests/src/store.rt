@@ -133,15 +133,53 @@ fn place_promised<K: AsBytes + Drop, V: Drop, const P: usize>(
     Ok((first, upper, second))
 }
 
-// What a leaf holds: its key, its value and its links.
-type SeenLeaf = (u8, u32, Option<LeafPtr>, Option<LeafPtr>);
+// What a leaf holds.
+#[derive(Clone, Copy, PartialEq, Eq, Debug)]
+struct SeenLeaf {
+    key: u8,
+    value: u32,
+    links: (Option<LeafPtr>, Option<LeafPtr>),
+}
 
-// What an inner node holds: its kind, its prefix, its number of children, and the child under a byte.
-type SeenInner = (NodeType, [u8; 2], usize, Option<OpaqueNodePtr>);
+// What an inner node holds, with the child under some byte.
+#[derive(Clone, Copy, PartialEq, Eq, Debug)]
+struct SeenInner {
+    kind: NodeType,
+    prefix: [u8; 2],
+    count: usize,
+    child: Option<OpaqueNodePtr>,
+}
+
+// What a leaf is to hold that has no next one.
+fn expected_leaf(key: u8, value: u32, previous: Option<LeafPtr>) -> Option<SeenLeaf> {
+    Some(SeenLeaf {
+        key,
+        value,
+        links: (previous, None),
+    })
+}
+
+// What a Node4 is to hold.
+fn expected_node4(
+    prefix: [u8; 2],
+    count: usize,
+    child: Option<OpaqueNodePtr>,
+) -> Option<SeenInner> {
+    Some(SeenInner {
+        kind: NodeType::Node4,
+        prefix,
+        count,
+        child,
+    })
+}
 
 // What this leaf holds.
 fn read_leaf(leaf: &LeafNode<[u8; 1], u32>) -> SeenLeaf {
-    (leaf.key[0], leaf.value, leaf.previous, leaf.next)
+    SeenLeaf {
+        key: leaf.key[0],
+        value: leaf.value,
+        links: (leaf.previous, leaf.next),
+    }
 }
 
 // What the leaf under a name holds.
@@ -152,9 +190,12 @@ fn leaf_seen(store: &Store, name: LeafPtr) -> Option<SeenLeaf> {
 // What this node holds, where its prefix is stored whole.
 fn read_inner(node: InnerRef<'_, 2>, byte: u8) -> Option<SeenInner> {
     let stored = node.read_prefix();
-    let prefix = [*stored.get(0)?, *stored.get(1)?];
-    let child = node.lookup_child(byte);
-    Some((node.node_type(), prefix, node.num_children(), child))
+    Some(SeenInner {
+        kind: node.node_type(),
+        prefix: [*stored.get(0)?, *stored.get(1)?],
+        count: node.num_children(),
+        child: node.lookup_child(byte),
+    })
 }
 
 // What the inner node under a name holds.
@@ -198,33 +239,27 @@ fn place_pair(store: &mut Store) -> Result<(LeafPtr, LeafPtr), AllocError>
     Ok((first, second))
 }
 
-#[test]
-fn leaves_are_linked_and_freed(rt: HostRuntime) -> Result<(), Fail> {
-    let mut store = Store::new(rt.alloc());
-    let (first, second) = place_pair(&mut store)?;
-    assert!(rt; first != second);
-    let linked = leaf_seen(&store, second);
-    let pair = move_pair(&mut store, first, second);
-    let seen = [linked, leaf_seen(&store, second), leaf_seen(&store, first)];
-    let expected = [
-        Some((2, 20, Some(first), None)),
-        Some((1, 10, Some(first), None)),
-        None,
-    ];
-    assert_eq!(rt; (pair, seen), (([2], 20), expected));
-    Ok(())
+// Frees the first of two leaves and gives its pair to the second; answers whether each is right: what is
+// under the second name before, the pair that comes back, and what is under both names afterwards.
+fn move_first(store: &mut Store) -> Option<[bool; 4]> {
+    let (first, second) = place_pair(store).ok()?;
+    if first == second {
+        return None;
+    }
+    let before = leaf_seen(store, second);
+    let pair = move_pair(store, first, second);
+    Some([
+        before == expected_leaf(2, 20, Some(first)),
+        pair == ([2], 20),
+        leaf_seen(store, second) == expected_leaf(1, 10, Some(first)),
+        leaf_seen(store, first) == None,
+    ])
 }
 
-// Frees one node and gives another its header, and answers what the first holds and what is then under
-// the two names.
-fn headers_moved(store: &mut Store, from: InnerPtr, to: InnerPtr) -> [Option<SeenInner>; 3]
-    requires from { IsSome (map.get store.old.inners from) }
-    requires to { IsSome (map.get store.old.inners to) }
-    requires distinct { to ≢ from }
-{
-    let freed = move_header(store, from, to, Header::new(&[5, 6], 2));
-    let held = read_inner(freed.as_ref(), 3);
-    [held, inner_seen(store, to, 3), inner_seen(store, from, 3)]
+#[test]
+fn leaves_are_linked_and_freed(rt: HostRuntime) {
+    let mut store = Store::new(rt.alloc());
+    assert_eq!(rt; move_first(&mut store), Some([true; 4]));
 }
 
 // Places a node with this child under 3 and one with none, and answers both names.
@@ -240,37 +275,45 @@ fn place_two(store: &mut Store, child: OpaqueNodePtr) -> Result<(InnerPtr, Inner
     Ok((lower, upper))
 }
 
-#[test]
-fn inner_nodes_are_written_and_freed(rt: HostRuntime) -> Result<(), Fail> {
-    let mut store = Store::new(rt.alloc());
+// Writes and frees the first of two nodes, and gives the second one its header; answers whether each is
+// right: the first as it is written, under two bytes, and as it is freed, and what is then under both names.
+fn move_lower(store: &mut Store) -> Option<[bool; 5]> {
     let child = LeafPtr::from_slot(7).to_opaque();
-    let (lower, upper) = place_two(&mut store, child)?;
-    let written = [inner_seen(&store, lower, 3), inner_seen(&store, lower, 4)];
-    let moved = headers_moved(&mut store, lower, upper);
-    let with_child = Some((NodeType::Node4, [5, 6], 1, Some(child)));
-    let expected = (
-        [with_child, Some((NodeType::Node4, [5, 6], 1, None))],
-        [with_child, Some((NodeType::Node4, [5, 6], 0, None)), None],
-    );
-    assert_eq!(rt; (written, moved), expected);
-    Ok(())
+    let (lower, upper) = place_two(store, child).ok()?;
+    let with_child = expected_node4([5, 6], 1, Some(child));
+    let written = [inner_seen(store, lower, 3), inner_seen(store, lower, 4)];
+    let freed = move_header(store, lower, upper, Header::new(&[5, 6], 2));
+    Some([
+        written[0] == with_child,
+        written[1] == expected_node4([5, 6], 1, None),
+        read_inner(freed.as_ref(), 3) == with_child,
+        inner_seen(store, upper, 3) == expected_node4([5, 6], 0, None),
+        inner_seen(store, lower, 3) == None,
+    ])
 }
 
 #[test]
-fn a_child_is_cut_off(rt: HostRuntime) -> Result<(), Fail> {
+fn inner_nodes_are_written_and_freed(rt: HostRuntime) {
     let mut store = Store::new(rt.alloc());
+    assert_eq!(rt; move_lower(&mut store), Some([true; 5]));
+}
+
+// Cuts off an only child, which stands under 3, after none under 4; answers whether what comes back each
+// time and what is left are right.
+fn cut_off(store: &mut Store) -> Option<[bool; 3]> {
     let child = LeafPtr::from_slot(7).to_opaque();
-    let upper = place_above(&mut store, Header::new(&[5, 6], 2), 3, child)?;
-    let cut = [
-        cut_child(&mut store, upper, 4),
-        cut_child(&mut store, upper, 3),
-    ];
-    let expected = Some((NodeType::Node4, [5, 6], 0, None));
-    assert_eq!(rt;
-        (cut, inner_seen(&store, upper, 3)),
-        ([None, Some(child)], expected)
-    );
-    Ok(())
+    let upper = place_above(store, Header::new(&[5, 6], 2), 3, child).ok()?;
+    Some([
+        cut_child(store, upper, 4) == None,
+        cut_child(store, upper, 3) == Some(child),
+        inner_seen(store, upper, 3) == expected_node4([5, 6], 0, None),
+    ])
+}
+
+#[test]
+fn a_child_is_cut_off(rt: HostRuntime) {
+    let mut store = Store::new(rt.alloc());
+    assert_eq!(rt; cut_off(&mut store), Some([true; 3]));
 }
 
 #[test]
@@ -314,19 +357,19 @@ fn refused_inner(store: &mut Store, child: OpaqueNodePtr) -> Option<SeenInner> {
 // Whether one more leaf and one more inner node are placed, and whether each is then there or is handed
 // back as it was.
 fn place_one_each(store: &mut Store, value: u32) -> ([bool; 2], [bool; 2]) {
-    let (is_leaf_placed, is_leaf_right) = match store.place_leaf(leaf_of(2, value)) {
-        Ok(name) => (true, leaf_seen(store, name) == Some((2, value, None, None))),
-        Err((leaf, _)) => (false, read_leaf(&leaf) == (2, value, None, None)),
+    let (is_leaf_placed, leaf) = match store.place_leaf(leaf_of(2, value)) {
+        Ok(name) => (true, leaf_seen(store, name)),
+        Err((leaf, _)) => (false, Some(read_leaf(&leaf))),
     };
-    let expected = Some((NodeType::Node4, [8, 9], 0, None));
-    let (is_inner_placed, is_inner_right) = match store.place_inner(node4(&[8, 9])) {
-        Ok(name) => (true, inner_seen(store, name, 0) == expected),
-        Err((node, _)) => (false, read_inner(node.as_ref(), 0) == expected),
+    let (is_inner_placed, inner) = match store.place_inner(node4(&[8, 9])) {
+        Ok(name) => (true, inner_seen(store, name, 0)),
+        Err((node, _)) => (false, read_inner(node.as_ref(), 0)),
     };
-    (
-        [is_leaf_placed, is_inner_placed],
-        [is_leaf_right, is_inner_right],
-    )
+    let right = [
+        leaf == expected_leaf(2, value, None),
+        inner == expected_node4([8, 9], 0, None),
+    ];
+    ([is_leaf_placed, is_inner_placed], right)
 }
 
 // Places ten of each; answers whether one was refused, and whether each time both of them and the first
@@ -337,7 +380,7 @@ fn place_ten_each(store: &mut Store, first: LeafPtr) -> (bool, bool) {
         let (placed, right) = place_one_each(store, value);
         any_refused = any_refused || placed != [true; 2];
         let first_seen = leaf_seen(store, first);
-        all_right = all_right && (right, first_seen) == ([true; 2], Some((1, 10, None, None)));
+        all_right = all_right && right == [true; 2] && first_seen == expected_leaf(1, 10, None);
     }
     (any_refused, all_right)
 }
@@ -369,55 +412,44 @@ fn refused_without_memory(
     Ok((leaf, inner))
 }
 
-// The name of a leaf, with what is refused behind it and what is under it and another name afterwards.
-type HandedBack = (
-    LeafPtr,
-    (Option<SeenLeaf>, Option<SeenInner>),
-    (Option<SeenLeaf>, Option<SeenInner>),
-);
-
-// Places a leaf and a node above it, and sees that no more is placed while all memory is held.
-fn hand_back(store: &mut Store) -> Result<HandedBack, AllocError> {
+// Places a leaf and a node above it, and sees that no more is placed while all memory is held; answers
+// whether the leaf and the node that are handed back are right, and those under the two names.
+fn hand_back(store: &mut Store) -> Result<[bool; 4], AllocError> {
     let first = place(store, leaf_of(1, 10))?;
-    let upper = place_above(store, Header::new(&[5, 6], 2), 3, first.to_opaque())?;
-    let refused = refused_without_memory(store, first)?;
-    let kept = (leaf_seen(store, first), inner_seen(store, upper, 3));
-    Ok((first, refused, kept))
+    let child = first.to_opaque();
+    let upper = place_above(store, Header::new(&[5, 6], 2), 3, child)?;
+    let (leaf, inner) = refused_without_memory(store, first)?;
+    Ok([
+        leaf == expected_leaf(9, 90, Some(first)),
+        inner == expected_node4([8, 9], 1, Some(child)),
+        leaf_seen(store, first) == expected_leaf(1, 10, None),
+        inner_seen(store, upper, 3) == expected_node4([5, 6], 1, Some(child)),
+    ])
 }
 
 #[test]
-fn without_memory_placements_hand_the_node_back(rt: HostRuntime) -> Result<(), Fail> {
+fn without_memory_placements_hand_the_node_back(rt: HostRuntime) {
     let mut store = Store::new(rt.alloc());
-    let (first, refused, kept) = hand_back(&mut store)?;
-    let child = Some(first.to_opaque());
-    let expected_refused = (
-        Some((9, 90, Some(first), None)),
-        Some((NodeType::Node4, [8, 9], 1, child)),
-    );
-    let expected_kept = (
-        Some((1, 10, None, None)),
-        Some((NodeType::Node4, [5, 6], 1, child)),
-    );
-    assert_eq!(rt; (refused, kept), (expected_refused, expected_kept));
-    Ok(())
+    assert_eq!(rt; hand_back(&mut store).ok(), Some([true; 4]));
 }
 
-// Places a leaf, and answers whether a reservation without memory is refused, with what is then under
-// the leaf's name.
-fn reserve_without_memory(store: &mut Store) -> Result<(bool, Option<SeenLeaf>), AllocError> {
+// Places a leaf, and answers whether a reservation without memory is refused, and whether what is then
+// under the leaf's name is right.
+fn reserve_without_memory(store: &mut Store) -> Result<[bool; 2], AllocError> {
     let first = place(store, leaf_of(1, 10))?;
     let held = all_memory(store.alloc())?;
     let refused = store.reserve(1 << 20, None).is_err();
     drop(held);
-    Ok((refused, leaf_seen(store, first)))
+    Ok([
+        refused,
+        leaf_seen(store, first) == expected_leaf(1, 10, None),
+    ])
 }
 
 #[test]
-fn without_memory_reservations_leave_the_nodes(rt: HostRuntime) -> Result<(), Fail> {
+fn without_memory_reservations_leave_the_nodes(rt: HostRuntime) {
     let mut store = Store::new(rt.alloc());
-    let seen = reserve_without_memory(&mut store)?;
-    assert_eq!(rt; seen, (true, Some((1, 10, None, None))));
-    Ok(())
+    assert_eq!(rt; reserve_without_memory(&mut store).ok(), Some([true; 2]));
 }
 
 #[test]
