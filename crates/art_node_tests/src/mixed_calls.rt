@@ -27,6 +27,7 @@ const INNER_KINDS: [NodeType; 4] = [
 ];
 
 impl Numbers {
+    /// A kind of inner nodes.
     fn inner_kind(&mut self) -> NodeType {
         match self.below(4) {
             0 => NodeType::Node4,
@@ -46,10 +47,12 @@ impl Numbers {
         OpaqueNodePtr::from_parts(kind, self.below(LAST_SLOT))
     }
 
+    /// The name of a leaf, of some leaf or of none, where one is drawn.
     fn link(&mut self) -> Option<LeafPtr> {
         self.name().as_leaf()
     }
 
+    /// A key and a value.
     fn pair(&mut self) -> ([u8; 2], u32) {
         ([self.byte(), self.byte()], self.value())
     }
@@ -71,6 +74,7 @@ struct PlainLeaf {
 }
 
 impl PlainLeaf {
+    /// What this leaf holds.
     fn of(leaf: &LeafNode<[u8; 2], u32>) -> Self {
         PlainLeaf {
             pair: (leaf.key, leaf.value),
@@ -87,6 +91,7 @@ struct PlainPrefix {
 }
 
 impl PlainPrefix {
+    /// The header of it.
     fn header(self) -> Header<3> {
         Header::new(&self.bytes, self.len)
     }
@@ -99,6 +104,7 @@ struct PlainInner {
     children: [Option<OpaqueNodePtr>; 256],
 }
 
+// No child under any byte.
 fn no_children() -> [Option<OpaqueNodePtr>; 256] {
     [None; 256]
 }
@@ -156,6 +162,7 @@ struct Trial {
 }
 
 impl Trial {
+    /// Places a leaf, under a name that is not on the list.
     fn place_leaf(&mut self) -> Result<bool, AllocError> {
         let (key, value) = self.numbers.pair();
         let (previous, next) = (self.numbers.link(), self.numbers.link());
@@ -172,6 +179,7 @@ impl Trial {
         Ok(is_new)
     }
 
+    /// Places an inner node with no child, under a name of its kind that is not on the list.
     fn place_inner(&mut self, kind: NodeType) -> Result<bool, AllocError> {
         let prefix = self.numbers.prefix();
         if kind == NodeType::Leaf {
@@ -185,6 +193,7 @@ impl Trial {
         Ok(is_new && name.kind == kind)
     }
 
+    /// Frees a leaf, and compares it.
     fn free_leaf(&mut self) -> bool {
         let Some(at) = self.numbers.place_in(self.leaves.len()) else {
             return true;
@@ -196,6 +205,7 @@ impl Trial {
         PlainLeaf::of(&self.store.free_leaf(name)) == want
     }
 
+    /// Frees an inner node, and compares it.
     fn free_inner(&mut self) -> bool {
         let Some(at) = self.numbers.place_in(self.inners.len()) else {
             return true;
@@ -208,6 +218,7 @@ impl Trial {
         node.node_type() == name.kind && is_like(node.as_ref(), &want)
     }
 
+    /// Gives a leaf other links.
     fn set_links(&mut self) -> bool {
         let Some(at) = self.numbers.place_in(self.leaves.len()) else {
             return true;
@@ -221,6 +232,7 @@ impl Trial {
         true
     }
 
+    /// Gives a leaf another pair, and compares the old one.
     fn swap_pair(&mut self) -> bool {
         let Some(at) = self.numbers.place_in(self.leaves.len()) else {
             return true;
@@ -236,6 +248,7 @@ impl Trial {
         is_right
     }
 
+    /// Gives an inner node another header.
     fn set_header(&mut self) -> bool {
         let Some(at) = self.numbers.place_in(self.inners.len()) else {
             return true;
@@ -285,6 +298,7 @@ impl Trial {
         true
     }
 
+    /// Asks for a promise, which changes no node.
     fn reserve(&mut self) -> Result<bool, AllocError> {
         let leaves = self.numbers.below(20);
         let kind = self.numbers.inner_kind();
