@@ -2,6 +2,10 @@
 #![tactic(auto)]
 
 #[cfg(test)]
+mod mixed_calls;
+#[cfg(test)]
 mod node;
+#[cfg(test)]
+mod numbers;
 #[cfg(test)]
 mod store;

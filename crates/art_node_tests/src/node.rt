@@ -1,32 +1,50 @@
 ghost use Rattle.std.specs.Prelude.{◌≡◌, ℕ, ◌+◌, ◌≤◌, length, take, drop};
 ghost use Rattle.art_nodes.specs.Inner.{child_at, header_of};
 
-use super::*;
-use std::boxed::BoxedSlice;
-use std::process::Abort;
+use art_nodes::node::{
+    AnyInner, AsBytes, Children, FromHeader, Header, InnerNode, InnerNode4, InnerNode16,
+    InnerNode48, InnerNodeDirect, InnerPtr, InnerRef, LeafNode, LeafPtr, NodePtr, NodeType,
+    OpaqueNodePtr,
+};
+use std::alloc::{AllocError, Global};
 use std::test::Fail;
 
+// The name under a byte.
 fn name(byte: u8) -> OpaqueNodePtr {
     OpaqueNodePtr::from_parts(NodeType::Leaf, byte as usize)
+}
+
+// Whether a key has these bytes.
+fn has_bytes<K: AsBytes + Drop>(key: K, bytes: &[u8]) -> bool {
+    key.as_bytes() == bytes
 }
 
 #[test]
 fn reads_key_bytes(rt: HostRuntime) -> Result<(), Fail> {
     let alloc = rt.alloc();
     let bytes: &[u8] = &[97, 98];
-    let vec: Vec<u8> = bytes.to_vec(alloc)?;
-    let boxed: BoxedSlice<u8> = bytes.to_vec(alloc)?.into_boxed_slice();
-    let text = String::from_str(alloc, "ab")?;
-    assert_eq!(rt; vec.as_bytes(), bytes);
-    assert_eq!(rt; boxed.as_bytes(), bytes);
-    assert_eq!(rt; [97, 98].as_bytes(), bytes);
-    assert_eq!(rt; AsBytes::as_bytes(&text), bytes);
+    let seen = [
+        has_bytes(bytes.to_vec(alloc)?, bytes),
+        has_bytes(bytes.to_vec(alloc)?.into_boxed_slice(), bytes),
+        has_bytes([97, 98], bytes),
+        has_bytes(String::from_str(alloc, "ab")?, bytes),
+    ];
+    assert_eq!(rt; seen, [true; 4]);
     Ok(())
+}
+
+// Whether a name prints so, and whether it does so once it is told apart.
+fn prints_as(alloc: Global, name: OpaqueNodePtr, text: &str) -> Result<[bool; 2], AllocError> {
+    let whole = name.to_string(alloc)?.as_str() == text;
+    let part = match name.split() {
+        NodePtr::Leaf(leaf) => leaf.to_string(alloc)?,
+        NodePtr::Inner(inner) => inner.to_string(alloc)?,
+    };
+    Ok([whole, part.as_str() == text])
 }
 
 #[test]
 fn prints_names(rt: HostRuntime) -> Result<(), Fail> {
-    let alloc = rt.alloc();
     let wanted = [
         (NodeType::Leaf, 0, "Leaf#0"),
         (NodeType::Node4, 7, "Node4#7"),
@@ -36,34 +54,59 @@ fn prints_names(rt: HostRuntime) -> Result<(), Fail> {
     ];
     for (kind, slot, text) in wanted {
         let name = OpaqueNodePtr::from_parts(kind, slot);
-        assert_eq!(rt; name.to_string(alloc)?.as_str(), text);
-        match name.split() {
-            NodePtr::Leaf(leaf) => assert_eq!(rt; leaf.to_string(alloc)?.as_str(), text),
-            NodePtr::Inner(inner) => assert_eq!(rt; inner.to_string(alloc)?.as_str(), text),
-        }
+        assert_eq!(rt; prints_as(rt.alloc(), name, text)?, [true; 2], "{text}");
     }
     Ok(())
 }
 
 #[test]
-fn tells_names_apart(rt: HostRuntime) -> Result<(), Fail> {
+fn tells_leaf_names_apart(rt: HostRuntime) {
     let leaf = LeafPtr::from_slot(5);
+    let opaque = leaf.to_opaque();
     assert_eq!(rt;
-        leaf.to_opaque(),
-        OpaqueNodePtr::from_parts(NodeType::Leaf, 5)
+        (opaque, opaque.as_leaf(), opaque.as_inner(), opaque.split()),
+        (
+            OpaqueNodePtr::from_parts(NodeType::Leaf, 5),
+            Some(leaf),
+            None,
+            NodePtr::Leaf(leaf)
+        )
     );
-    assert_eq!(rt; leaf.to_opaque().as_leaf(), Some(leaf));
-    assert_eq!(rt; leaf.to_opaque().as_inner(), None);
-    assert_eq!(rt; leaf.to_opaque().split(), NodePtr::Leaf(leaf));
+}
 
-    let inner = InnerPtr::from_parts(NodeType::Node48, 5).ok_or("an inner kind")?;
-    assert_eq!(rt; inner.to_opaque().node_type(), NodeType::Node48);
-    assert_eq!(rt; inner.to_opaque().slot(), 5);
-    assert_eq!(rt; inner.to_opaque().as_leaf(), None);
-    assert_eq!(rt; inner.to_opaque().as_inner(), Some(inner));
-    assert_eq!(rt; inner.to_opaque().split(), NodePtr::Inner(inner));
-    assert_eq!(rt; InnerPtr::from_parts(NodeType::Leaf, 5), None);
-    Ok(())
+// What the name of the inner node of a kind in a slot is, told apart.
+fn told_apart(
+    kind: NodeType,
+    slot: usize,
+) -> Option<
+    (
+        (NodeType, usize),
+        (Option<LeafPtr>, Option<InnerPtr>),
+        NodePtr,
+    ),
+> {
+    let name = InnerPtr::from_parts(kind, slot)?.to_opaque();
+    let parts = (name.node_type(), name.slot());
+    Some((parts, (name.as_leaf(), name.as_inner()), name.split()))
+}
+
+#[test]
+fn tells_inner_names_apart(rt: HostRuntime) {
+    let inner = InnerPtr {
+        kind: NodeType::Node48,
+        slot: 5,
+    };
+    let parts = (NodeType::Node48, 5);
+    assert_eq!(rt;
+        [
+            told_apart(NodeType::Node48, 5),
+            told_apart(NodeType::Leaf, 5)
+        ],
+        [
+            Some((parts, (None, Some(inner)), NodePtr::Inner(inner))),
+            None
+        ]
+    );
 }
 
 #[test]
@@ -85,40 +128,52 @@ fn orders_names_by_kind_then_slot(rt: HostRuntime) {
 
 #[test]
 fn knows_each_range(rt: HostRuntime) {
-    assert_eq!(rt; NodeType::Node4.capacity_range(), 2..=4);
-    assert_eq!(rt; NodeType::Node16.capacity_range(), 5..=16);
-    assert_eq!(rt; NodeType::Node48.capacity_range(), 17..=48);
-    assert_eq!(rt; NodeType::Node256.capacity_range(), 49..=256);
+    let ranges = [
+        NodeType::Node4.capacity_range(),
+        NodeType::Node16.capacity_range(),
+        NodeType::Node48.capacity_range(),
+        NodeType::Node256.capacity_range(),
+    ];
+    assert_eq!(rt; ranges, [2..=4, 5..=16, 17..=48, 49..=256]);
 }
 
 #[test]
 fn makes_a_leaf(rt: HostRuntime) {
     let leaf = LeafNode::with_no_siblings([1, 2, 3], 7u32);
-    assert_eq!(rt; leaf.key_ref().as_bytes(), [1, 2, 3].as_slice());
-    assert_eq!(rt; *leaf.value_ref(), 7);
-    assert_eq!(rt; leaf.previous, None);
-    assert_eq!(rt; leaf.next, None);
-    assert!(rt; leaf.matches_full_key(&[1, 2, 3]));
-    assert!(rt; !leaf.matches_full_key(&[1, 2]));
-    assert!(rt; !leaf.matches_full_key(&[1, 2, 3, 4]));
-    assert!(rt; !leaf.matches_full_key(&[1, 2, 4]));
+    assert_eq!(rt;
+        (*leaf.key_ref(), *leaf.value_ref(), leaf.previous, leaf.next),
+        ([1, 2, 3], 7, None, None)
+    );
+    assert_eq!(rt;
+        [
+            leaf.key_ref().as_bytes() == [1, 2, 3].as_slice(),
+            leaf.matches_full_key(&[1, 2, 3]),
+            leaf.matches_full_key(&[1, 2]),
+            leaf.matches_full_key(&[1, 2, 3, 4]),
+            leaf.matches_full_key(&[1, 2, 4]),
+        ],
+        [true, true, false, false, false]
+    );
 }
 
-fn check_prefix<const P: usize>(rt: &impl Abort, header: Header<P>, len: usize, stored: &[u8]) {
-    assert_eq!(rt; header.prefix_len(), len);
-    assert_eq!(rt; header.read_prefix(), stored);
+// Whether a prefix has this length, and whether these of its bytes are stored.
+fn reads_as<const P: usize>(header: Header<P>, len: usize, stored: &[u8]) -> [bool; 2] {
+    [header.prefix_len() == len, header.read_prefix() == stored]
 }
 
 #[test]
 fn stores_the_front_of_a_prefix(rt: HostRuntime) {
     let bytes = [7, 1, 1, 1, 5];
-    check_prefix(&rt, Header::<0>::new(&bytes, 5), 5, &[]);
-    check_prefix(&rt, Header::<2>::new(&bytes, 5), 5, &[7, 1]);
-    check_prefix(&rt, Header::<4>::new(&bytes, 5), 5, &[7, 1, 1, 1]);
-    check_prefix(&rt, Header::<16>::new(&bytes, 5), 5, &bytes);
-    check_prefix(&rt, Header::<4>::new(&bytes, 3), 3, &[7, 1, 1]);
-    check_prefix(&rt, Header::<4>::new(&bytes, 0), 0, &[]);
-    check_prefix(&rt, Header::<2>::new(&[7, 1], 1000), 1000, &[7, 1]);
+    let seen = [
+        reads_as(Header::<0>::new(&bytes, 5), 5, &[]),
+        reads_as(Header::<2>::new(&bytes, 5), 5, &[7, 1]),
+        reads_as(Header::<4>::new(&bytes, 5), 5, &[7, 1, 1, 1]),
+        reads_as(Header::<16>::new(&bytes, 5), 5, &bytes),
+        reads_as(Header::<4>::new(&bytes, 3), 3, &[7, 1, 1]),
+        reads_as(Header::<4>::new(&bytes, 0), 0, &[]),
+        reads_as(Header::<2>::new(&[7, 1], 1000), 1000, &[7, 1]),
+    ];
+    assert_eq!(rt; seen, [[true; 2]; 7]);
 }
 
 // A caller that knows whole prefixes: the rest of a prefix that a key has at a depth.
@@ -135,11 +190,11 @@ fn trim_by_key<const P: usize>(header: &mut Header<P>, n: usize, depth: usize, k
 fn trims_a_prefix(rt: HostRuntime) {
     let mut header = Header::<4>::new(&[1, 2, 3, 4], 4);
     header.ltrim_by(0);
-    check_prefix(&rt, header, 4, &[1, 2, 3, 4]);
+    let all = reads_as(header, 4, &[1, 2, 3, 4]);
     header.ltrim_by(1);
-    check_prefix(&rt, header, 3, &[2, 3, 4]);
+    let rest = reads_as(header, 3, &[2, 3, 4]);
     header.ltrim_by(3);
-    check_prefix(&rt, header, 0, &[]);
+    assert_eq!(rt; [all, rest, reads_as(header, 0, &[])], [[true; 2]; 3]);
 }
 
 #[test]
@@ -148,46 +203,56 @@ fn trims_a_prefix_by_a_leaf(rt: HostRuntime) {
     let prefix = [7, 1, 1, 1, 5, 6];
     let mut nothing = Header::<0>::new(&prefix, 6);
     nothing.ltrim_by_with_leaf(2, 1, &key);
-    check_prefix(&rt, nothing, 4, &[]);
     let mut front = Header::<2>::new(&prefix, 6);
     front.ltrim_by_with_leaf(3, 1, &key);
-    check_prefix(&rt, front, 3, &[1, 5]);
     let mut most = Header::<4>::new(&prefix, 6);
     most.ltrim_by_with_leaf(2, 1, &key);
-    check_prefix(&rt, most, 4, &[1, 1, 5, 6]);
     let mut all = Header::<16>::new(&prefix, 6);
     all.ltrim_by_with_leaf(6, 1, &key);
-    check_prefix(&rt, all, 0, &[]);
+    let seen = [
+        reads_as(nothing, 4, &[]),
+        reads_as(front, 3, &[1, 5]),
+        reads_as(most, 4, &[1, 1, 5, 6]),
+        reads_as(all, 0, &[]),
+    ];
+    assert_eq!(rt; seen, [[true; 2]; 4]);
 }
 
 #[test]
 fn extends_a_prefix(rt: HostRuntime) {
     let mut nothing = Header::<0>::new(&[], 2);
     nothing.push_prefix(&[], 3);
-    check_prefix(&rt, nothing, 5, &[]);
     let mut front = Header::<2>::new(&[1], 1);
     front.push_prefix(&[2, 3], 4);
-    check_prefix(&rt, front, 5, &[1, 2]);
     let mut most = Header::<4>::new(&[1, 2], 2);
     most.push_prefix(&[3, 9, 9], 1);
-    check_prefix(&rt, most, 3, &[1, 2, 3]);
+    let room = reads_as(most, 3, &[1, 2, 3]);
     most.push_prefix(&[4, 5], 2);
-    check_prefix(&rt, most, 5, &[1, 2, 3, 4]);
+    let filled = reads_as(most, 5, &[1, 2, 3, 4]);
     most.push_prefix(&[6], 1);
-    check_prefix(&rt, most, 6, &[1, 2, 3, 4]);
     let mut all = Header::<16>::new(&[1], 1);
     all.push_prefix(&[2, 3], 2);
-    check_prefix(&rt, all, 3, &[1, 2, 3]);
+    let seen = [
+        reads_as(nothing, 5, &[]),
+        reads_as(front, 5, &[1, 2]),
+        room,
+        filled,
+        reads_as(most, 6, &[1, 2, 3, 4]),
+        reads_as(all, 3, &[1, 2, 3]),
+    ];
+    assert_eq!(rt; seen, [[true; 2]; 6]);
 }
 
 #[test]
 fn empties_a_prefix(rt: HostRuntime) {
     let mut whole = Header::<4>::new(&[1, 2, 3], 3);
-    assert_eq!(rt; whole.clear_prefix(), ([1, 2, 3, 0], 3, 3));
-    check_prefix(&rt, whole, 0, &[]);
     let mut front = Header::<2>::new(&[1, 2], 5);
-    assert_eq!(rt; front.clear_prefix(), ([1, 2], 5, 2));
-    check_prefix(&rt, front, 0, &[]);
+    let told = (whole.clear_prefix(), front.clear_prefix());
+    assert_eq!(rt; told, (([1, 2, 3, 0], 3, 3), ([1, 2], 5, 2)));
+    assert_eq!(rt;
+        [reads_as(whole, 0, &[]), reads_as(front, 0, &[])],
+        [[true; 2]; 2]
+    );
 }
 
 // A walk over the children comes by what a look-up finds.
@@ -202,59 +267,237 @@ fn find_child<N: InnerNode<4>>(node: &N, byte: u8) -> Option<OpaqueNodePtr>
     None
 }
 
-// Fills a node from its last byte down to 0, and reads what it then holds.
-fn check_full<N: InnerNode<4>>(rt: &impl Abort, last: u8) {
-    let mut node = N::from_header(Header::new(&[9], 1));
-    assert_eq!(rt; node.num_children(), 0);
-    assert_eq!(rt; node.prefix_len(), 1);
-    assert_eq!(rt; node.read_prefix(), [9].as_slice());
-    check_prefix(rt, node.header(), 1, &[9]);
-    for byte in (0..=last).rev() {
-        assert!(rt; !node.is_full());
-        node.write_child(byte, name(byte));
+// Whether these children come, each under its own name, and then none from either side.
+fn are_children(mut children: Children<'_>, bytes: &[u8]) -> bool {
+    let counts = (children.len(), children.size_hint());
+    for byte in bytes {
+        if children.next() != Some((*byte, name(*byte))) {
+            return false;
+        }
     }
-    assert_eq!(rt; node.num_children(), last as usize + 1);
-    assert!(rt; node.is_full());
-    assert_eq!(rt; node.min(), (0, name(0)));
-    assert_eq!(rt; node.max(), (last, name(last)));
-    assert_eq!(rt; node.lookup_child(last), Some(name(last)));
-    assert_eq!(rt; find_child(&node, last), Some(name(last)));
-    for (index, (byte, child)) in node.iter().enumerate() {
-        assert_eq!(rt; byte as usize, index);
-        assert_eq!(rt; child, name(byte));
-    }
-    check_range(rt, node.range(1, 2), &[1, 2]);
-    check_range(rt, node.range(3, 3), &[3]);
-    check_range(rt, node.range(last, 255), &[last]);
-    check_range(rt, node.range(2, 1), &[]);
-    let other = OpaqueNodePtr::from_parts(NodeType::Node256, 1);
-    assert!(rt; node.lookup_child(0).is_some());
-    node.write_child(0, other);
-    assert_eq!(rt; node.lookup_child(0), Some(other));
-    assert_eq!(rt; node.num_children(), last as usize + 1);
-    assert_eq!(rt; node.remove_child(2), Some(name(2)));
-    assert_eq!(rt; node.remove_child(2), None);
-    assert_eq!(rt; node.num_children(), last as usize);
-    check_range(rt, node.range(1, 3), &[1, 3]);
-    assert_eq!(rt; node.into_any().node_type(), N::TYPE);
+    let rest = (children.next(), children.next_back());
+    counts == (bytes.len(), (bytes.len(), Some(bytes.len()))) && rest == (None, None)
 }
 
-fn check_range(rt: &impl Abort, mut children: Children<'_>, bytes: &[u8]) {
-    assert_eq!(rt; children.len(), bytes.len());
-    assert_eq!(rt; children.size_hint(), (bytes.len(), Some(bytes.len())));
-    for byte in bytes {
-        assert_eq!(rt; children.next(), Some((*byte, name(*byte))));
+// Whether children stand under the bytes from 0 on, each under its own name.
+fn count_up(children: Children<'_>) -> bool {
+    for (index, (byte, child)) in children.enumerate() {
+        if (byte as usize, child) != (index, name(byte)) {
+            return false;
+        }
     }
-    assert_eq!(rt; children.next(), None);
-    assert_eq!(rt; children.next_back(), None);
+    true
+}
+
+// What a node reads once it has a child under each byte up to a last one.
+#[derive(Clone, Copy, PartialEq, Eq, Debug)]
+struct FullNode {
+    count: usize,
+    is_full: bool,
+    ends: Option<[(u8, OpaqueNodePtr); 2]>,
+    /// The child under the last byte, as a look-up and as a walk finds it.
+    found: [Option<OpaqueNodePtr>; 2],
+    counts_up: bool,
+    /// Whether the ranges are right: in the middle, of one byte, past the last, of none.
+    ranges: [bool; 4],
+}
+
+// What is read of a node with no child and this prefix: its number of children, and whether each way to
+// read the prefix is right.
+fn read_empty<N: InnerNode<4>>(node: &N) -> (usize, [bool; 2], [bool; 2]) {
+    let prefix = [node.prefix_len() == 1, node.read_prefix() == [9].as_slice()];
+    (
+        node.num_children(),
+        prefix,
+        reads_as(node.header(), 1, &[9]),
+    )
+}
+
+// Puts a child under each byte from a last one down to 0; answers whether the node was full too early.
+fn fill<N: InnerNode<4>>(node: &mut N, last: u8) -> bool {
+    for byte in (0..=last).rev() {
+        if node.is_full() {
+            return true;
+        }
+        node.write_child(byte, name(byte));
+    }
+    false
+}
+
+// The least and the greatest child.
+fn ends<N: InnerNode<4>>(node: &N) -> Option<[(u8, OpaqueNodePtr); 2]> {
+    if node.num_children() == 0 {
+        return None;
+    }
+    Some([node.min(), node.max()])
+}
+
+// What is read of a node with a child under each byte up to this one.
+fn read_full<N: InnerNode<4>>(node: &N, last: u8) -> FullNode {
+    FullNode {
+        count: node.num_children(),
+        is_full: node.is_full(),
+        ends: ends(node),
+        found: [node.lookup_child(last), find_child(node, last)],
+        counts_up: count_up(node.iter()),
+        ranges: [
+            are_children(node.range(1, 2), &[1, 2]),
+            are_children(node.range(3, 3), &[3]),
+            are_children(node.range(last, 255), &[last]),
+            are_children(node.range(2, 1), &[]),
+        ],
+    }
+}
+
+// Puts another child under 0, and answers what is then there and how many there are.
+fn replace<N: InnerNode<4>>(
+    node: &mut N,
+    other: OpaqueNodePtr,
+) -> Option<(Option<OpaqueNodePtr>, usize)> {
+    node.lookup_child(0)?;
+    node.write_child(0, other);
+    Some((node.lookup_child(0), node.num_children()))
+}
+
+// Takes the child under 2 out twice, and answers what each time tells, how many there are and whether
+// the range about it is right.
+fn take_out<N: InnerNode<4>>(node: &mut N) -> ([Option<OpaqueNodePtr>; 2], usize, bool) {
+    let removed = [node.remove_child(2), node.remove_child(2)];
+    let around = are_children(node.range(1, 3), &[1, 3]);
+    (removed, node.num_children(), around)
+}
+
+// What a node of a kind tells from its first child to its last, and as it changes.
+#[derive(Clone, Copy, PartialEq, Eq, Debug)]
+struct Life {
+    empty: (usize, [bool; 2], [bool; 2]),
+    is_full_early: bool,
+    full: FullNode,
+    replaced: Option<(Option<OpaqueNodePtr>, usize)>,
+    taken: ([Option<OpaqueNodePtr>; 2], usize, bool),
+    is_its_kind: bool,
+}
+
+// What stands under 0 instead.
+const OTHER: OpaqueNodePtr = OpaqueNodePtr {
+    kind: NodeType::Node256,
+    slot: 1,
+};
+
+// Leads a node of a kind through its life, with room for children up to this byte.
+fn live<N: InnerNode<4>>(last: u8) -> Life {
+    let mut node = N::from_header(Header::new(&[9], 1));
+    let empty = read_empty(&node);
+    let is_full_early = fill(&mut node, last);
+    let full = read_full(&node, last);
+    let replaced = replace(&mut node, OTHER);
+    let taken = take_out(&mut node);
+    Life {
+        empty,
+        is_full_early,
+        full,
+        replaced,
+        taken,
+        is_its_kind: node.into_any().node_type() == N::TYPE,
+    }
+}
+
+// What it is to tell.
+fn expected_life(last: u8) -> Life {
+    let count = last as usize + 1;
+    Life {
+        empty: (0, [true; 2], [true; 2]),
+        is_full_early: false,
+        full: FullNode {
+            count,
+            is_full: true,
+            ends: Some([(0, name(0)), (last, name(last))]),
+            found: [Some(name(last)); 2],
+            counts_up: true,
+            ranges: [true; 4],
+        },
+        replaced: Some((Some(OTHER), count)),
+        taken: ([Some(name(2)), None], last as usize, true),
+        is_its_kind: true,
+    }
 }
 
 #[test]
 fn holds_as_many_as_its_kind(rt: HostRuntime) {
-    check_full::<InnerNode4<4>>(&rt, 3);
-    check_full::<InnerNode16<4>>(&rt, 15);
-    check_full::<InnerNode48<4>>(&rt, 47);
-    check_full::<InnerNodeDirect<4>>(&rt, 255);
+    let lives = [
+        live::<InnerNode4<4>>(3),
+        live::<InnerNode16<4>>(15),
+        live::<InnerNode48<4>>(47),
+        live::<InnerNodeDirect<4>>(255),
+    ];
+    assert_eq!(rt; lives, [3, 15, 47, 255].map(expected_life));
+}
+
+// What is read of a node of some kind with the children 0, 20 and 255.
+#[derive(Clone, Copy, PartialEq, Eq, Debug)]
+struct Reading {
+    kind: NodeType,
+    /// Whether the prefix is [4, 5], as it is read by its parts and as a header.
+    prefix: ([bool; 2], [bool; 2]),
+    count: usize,
+    is_full: bool,
+    /// What stands under 20 and 21.
+    found: [Option<OpaqueNodePtr>; 2],
+    ends: Option<[(u8, OpaqueNodePtr); 2]>,
+    /// Whether the walk, a range in the middle and one to the end are right.
+    walks: [bool; 3],
+}
+
+// The least and the greatest child.
+fn ends_of(node: InnerRef<'_, 4>) -> Option<[(u8, OpaqueNodePtr); 2]> {
+    if node.num_children() == 0 {
+        return None;
+    }
+    Some([node.min(), node.max()])
+}
+
+// Reads a node of any kind.
+fn read_any(node: InnerRef<'_, 4>) -> Reading {
+    let parts = [
+        node.prefix_len() == 2,
+        node.read_prefix() == [4, 5].as_slice(),
+    ];
+    Reading {
+        kind: node.node_type(),
+        prefix: (parts, reads_as(node.header(), 2, &[4, 5])),
+        count: node.num_children(),
+        is_full: node.is_full(),
+        found: [node.lookup_child(20), node.lookup_child(21)],
+        ends: ends_of(node),
+        walks: [
+            are_children(node.iter(), &[0, 20, 255]),
+            are_children(node.range(1, 254), &[20]),
+            are_children(node.range(20, 255), &[20, 255]),
+        ],
+    }
+}
+
+// Puts three children into a node, unless it is full before.
+fn put_three(any: &mut AnyInner<4>) -> bool {
+    for byte in [20, 255, 0] {
+        if any.as_ref().is_full() {
+            return false;
+        }
+        any.write_child(byte, name(byte));
+    }
+    true
+}
+
+// Makes a node of a kind, and answers its kind, whether there was room for three, and what is read then.
+fn made(kind: NodeType) -> Option<(NodeType, bool, Reading)> {
+    if kind == NodeType::Leaf {
+        return None;
+    }
+    let mut any: AnyInner<4> = AnyInner::from_header(kind, Header::new(&[9], 1));
+    let first = any.node_type();
+    let has_room = put_three(&mut any);
+    any.set_header(Header::new(&[4, 5], 2));
+    Some((first, has_room, read_any(any.as_ref())))
 }
 
 #[test]
@@ -266,56 +509,29 @@ fn reads_a_node_of_any_kind(rt: HostRuntime) {
         NodeType::Node256,
     ];
     for kind in kinds {
-        check_any(&rt, kind);
+        let expected = Reading {
+            kind,
+            prefix: ([true; 2], [true; 2]),
+            count: 3,
+            is_full: false,
+            found: [Some(name(20)), None],
+            ends: Some([(0, name(0)), (255, name(255))]),
+            walks: [true; 3],
+        };
+        assert_eq!(rt; made(kind), Some((kind, true, expected)));
     }
 }
 
-fn check_any(rt: &impl Abort, kind: NodeType) {
-    assert!(rt; kind != NodeType::Leaf);
-    let mut any: AnyInner<4> = AnyInner::from_header(kind, Header::new(&[9], 1));
-    assert_eq!(rt; any.node_type(), kind);
-    for byte in [20, 255, 0] {
-        assert!(rt; !any.as_ref().is_full());
-        any.write_child(byte, name(byte));
-    }
-    any.set_header(Header::new(&[4, 5], 2));
-    let node = any.as_ref();
-    assert_eq!(rt; node.node_type(), kind);
-    assert_eq!(rt; node.prefix_len(), 2);
-    assert_eq!(rt; node.read_prefix(), [4, 5].as_slice());
-    check_prefix(rt, node.header(), 2, &[4, 5]);
-    assert_eq!(rt; node.num_children(), 3);
-    assert!(rt; !node.is_full());
-    assert_eq!(rt; node.lookup_child(20), Some(name(20)));
-    assert_eq!(rt; node.lookup_child(21), None);
-    assert_eq!(rt; node.min(), (0, name(0)));
-    assert_eq!(rt; node.max(), (255, name(255)));
-    check_range(rt, node.iter(), &[0, 20, 255]);
-    check_range(rt, node.range(1, 254), &[20]);
-    check_range(rt, node.range(20, 255), &[20, 255]);
-}
-
-// A node with a child under each byte from 0 on grows when it is full, and shrinks once it fits.
-#[test]
-fn grows_and_shrinks_at_each_bound(rt: HostRuntime) {
-    let mut any: AnyInner<4> = AnyInner::from_header(NodeType::Node4, Header::new(&[9], 1));
-    for byte in 0..=255 {
-        if any.as_ref().is_full() {
-            assert!(rt; any.node_type() != NodeType::Node256);
-            any = any.grow();
-        }
-        assert!(rt; !any.as_ref().is_full());
-        any.write_child(byte, name(byte));
-        check_count(&rt, &any, byte as usize + 1);
-    }
-    for byte in (0..=255).rev() {
-        assert_eq!(rt; any.remove_child(byte), Some(name(byte)));
-        assert_eq!(rt; any.remove_child(byte), None);
-        any = shrink_where_it_fits(any);
-        check_count(&rt, &any, byte as usize);
+// A node of the next larger kind, where this one is full and not of the largest.
+fn grow_where_full(any: AnyInner<4>) -> AnyInner<4> {
+    if any.as_ref().is_full() && any.node_type() != NodeType::Node256 {
+        any.grow()
+    } else {
+        any
     }
 }
 
+// A node of the next smaller kind, where the children fit into it.
 fn shrink_where_it_fits(any: AnyInner<4>) -> AnyInner<4> {
     match any {
         AnyInner::Node16(node) if node.num_children() <= 4 => node.shrink(),
@@ -325,29 +541,71 @@ fn shrink_where_it_fits(any: AnyInner<4>) -> AnyInner<4> {
     }
 }
 
-fn check_count(rt: &impl Abort, any: &AnyInner<4>, count: usize) {
+// Whether a node with this number of children from 0 on is as it is to be.
+fn is_of_count(any: &AnyInner<4>, count: usize) -> bool {
     let kind = match count {
         0..=4 => NodeType::Node4,
         5..=16 => NodeType::Node16,
         17..=48 => NodeType::Node48,
         _ => NodeType::Node256,
     };
-    assert_eq!(rt; any.node_type(), kind);
     let node = any.as_ref();
-    check_prefix(rt, node.header(), 1, &[9]);
-    assert_eq!(rt; node.num_children(), count);
-    for (index, (byte, child)) in node.iter().enumerate() {
-        assert_eq!(rt; byte as usize, index);
-        assert_eq!(rt; child, name(byte));
+    let prefix = reads_as(node.header(), 1, &[9]);
+    let seen = (any.node_type(), prefix, node.num_children());
+    seen == (kind, [true; 2], count) && count_up(node.iter())
+}
+
+// Puts a child under each byte from 0 on, and answers the node and how often it was as it is to be.
+fn grown() -> (AnyInner<4>, usize) {
+    let mut any: AnyInner<4> = AnyInner::from_header(NodeType::Node4, Header::new(&[9], 1));
+    let mut right = 0usize;
+    for byte in 0..=255 {
+        any = grow_where_full(any);
+        if any.as_ref().is_full() {
+            break;
+        }
+        any.write_child(byte, name(byte));
+        if is_of_count(&any, byte as usize + 1) {
+            right = right.saturating_add(1);
+        }
     }
+    (any, right)
+}
+
+// Takes the children out from the last one on, each once and then once more; answers how often the
+// answers and the node were as they are to be.
+fn emptied(full: AnyInner<4>) -> usize {
+    let mut any = full;
+    let mut right = 0usize;
+    for byte in (0..=255).rev() {
+        let removed = [any.remove_child(byte), any.remove_child(byte)];
+        any = shrink_where_it_fits(any);
+        if removed == [Some(name(byte)), None] && is_of_count(&any, byte as usize) {
+            right = right.saturating_add(1);
+        }
+    }
+    right
+}
+
+// A node with a child under each byte from 0 on grows when it is full, and shrinks once it fits.
+#[test]
+fn grows_and_shrinks_at_each_bound(rt: HostRuntime) {
+    let (full, growths) = grown();
+    assert_eq!(rt; (growths, emptied(full)), (256, 256));
 }
 
 #[test]
 fn has_no_kind_beyond_the_ends(rt: HostRuntime) {
     let smallest = InnerNode4::<4>::from_header(Header::new(&[9], 1));
-    assert_eq!(rt; smallest.shrink().node_type(), NodeType::Node4);
     let largest = InnerNodeDirect::<4>::from_header(Header::new(&[9], 1));
-    assert_eq!(rt; largest.grow().node_type(), NodeType::Node256);
     let empty: AnyInner<4> = AnyInner::from_header(NodeType::Node16, Header::new(&[9], 1));
-    assert_eq!(rt; empty.shrink().node_type(), NodeType::Node4);
+    let kinds = [
+        smallest.shrink().node_type(),
+        largest.grow().node_type(),
+        empty.shrink().node_type(),
+    ];
+    assert_eq!(rt;
+        kinds,
+        [NodeType::Node4, NodeType::Node256, NodeType::Node4]
+    );
 }

@@ -1,12 +1,16 @@
-#![tactic(auto, using(crate::proofs::StoreLaws::leaf_laws, crate::proofs::StoreLaws::inner_laws))]
+#![tactic(auto, using(crate::proofs::Laws::leaf_laws, crate::proofs::Laws::inner_laws))]
 
 ghost use Rattle.std.specs.Prelude.{◌≡◌, ◌≢◌, Some, None, IsSome, IfSome, IfOk};
 ghost use Rattle.std.specs.FinMap as map;
 ghost use Rattle.art_nodes.specs.Changes.{with_links, with_child};
 ghost use Rattle.art_nodes.specs.Inner.{child_at, childless};
 
-use super::*;
+use art_nodes::node::{
+    AnyInner, AsBytes, Header, InnerPtr, InnerRef, LeafNode, LeafPtr, NodeType, OpaqueNodePtr,
+};
+use art_nodes::store::NodeStore;
 use art_test_support::memory::all_memory;
+use std::alloc::AllocError;
 use std::test::Fail;
 
 type Store = NodeStore<[u8; 1], u32, 2>;
@@ -14,10 +18,12 @@ type Store = NodeStore<[u8; 1], u32, 2>;
 // No store has room for so many nodes before it is asked for.
 const MORE_THAN_FIT: usize = 1_000;
 
+// A leaf with no siblings.
 fn leaf_of(byte: u8, value: u32) -> LeafNode<[u8; 1], u32> {
     LeafNode::with_no_siblings([byte], value)
 }
 
+// A node with no child.
 fn node4(prefix: &[u8; 2]) -> AnyInner<2> {
     AnyInner::from_header(NodeType::Node4, Header::new(prefix, 2))
 }
@@ -89,7 +95,7 @@ fn move_header<K: AsBytes + Drop, V: Drop, const P: usize>(
 }
 
 // A caller: cuts a child off, which is then gone.
-#[tactic(auto, using(crate::proofs::StoreLaws::inner_changed_here, crate::proofs::ChildrenLaws::children_laws))]
+#[tactic(auto, using(crate::proofs::Laws::inner_changed_here, crate::proofs::Laws::children_laws))]
 fn cut_child<K: AsBytes + Drop, V: Drop, const P: usize>(
     store: &mut NodeStore<K, V, P>,
     from: InnerPtr,
@@ -127,12 +133,92 @@ fn place_promised<K: AsBytes + Drop, V: Drop, const P: usize>(
     Ok((first, upper, second))
 }
 
+// What a leaf holds.
+#[derive(Clone, Copy, PartialEq, Eq, Debug)]
+struct SeenLeaf {
+    key: u8,
+    value: u32,
+    links: (Option<LeafPtr>, Option<LeafPtr>),
+}
+
+// What an inner node holds, with the child under some byte.
+#[derive(Clone, Copy, PartialEq, Eq, Debug)]
+struct SeenInner {
+    kind: NodeType,
+    prefix: [u8; 2],
+    count: usize,
+    child: Option<OpaqueNodePtr>,
+}
+
+// What a leaf is to hold that has no next one.
+fn expected_leaf(key: u8, value: u32, previous: Option<LeafPtr>) -> Option<SeenLeaf> {
+    Some(SeenLeaf {
+        key,
+        value,
+        links: (previous, None),
+    })
+}
+
+// What a Node4 is to hold.
+fn expected_node4(
+    prefix: [u8; 2],
+    count: usize,
+    child: Option<OpaqueNodePtr>,
+) -> Option<SeenInner> {
+    Some(SeenInner {
+        kind: NodeType::Node4,
+        prefix,
+        count,
+        child,
+    })
+}
+
+// What this leaf holds.
+fn read_leaf(leaf: &LeafNode<[u8; 1], u32>) -> SeenLeaf {
+    SeenLeaf {
+        key: leaf.key[0],
+        value: leaf.value,
+        links: (leaf.previous, leaf.next),
+    }
+}
+
+// What the leaf under a name holds.
+fn leaf_seen(store: &Store, name: LeafPtr) -> Option<SeenLeaf> {
+    store.leaf(name).map(read_leaf)
+}
+
+// What this node holds, where its prefix is stored whole.
+fn read_inner(node: InnerRef<'_, 2>, byte: u8) -> Option<SeenInner> {
+    let stored = node.read_prefix();
+    Some(SeenInner {
+        kind: node.node_type(),
+        prefix: [*stored.get(0)?, *stored.get(1)?],
+        count: node.num_children(),
+        child: node.lookup_child(byte),
+    })
+}
+
+// What the inner node under a name holds.
+fn inner_seen(store: &Store, name: InnerPtr, byte: u8) -> Option<SeenInner> {
+    read_inner(store.inner(name)?, byte)
+}
+
+// Places a leaf.
+fn place(store: &mut Store, leaf: LeafNode<[u8; 1], u32>) -> Result<LeafPtr, AllocError>
+    ensures { IfOk result (λ name. IsSome (map.get store.new.leaves name)) }
+{
+    store.place_leaf(leaf).map_err(|refused| refused.1)
+}
+
 #[test]
 fn an_empty_store_has_no_node(rt: HostRuntime) {
     let store = Store::new(rt.alloc());
-    assert!(rt; store.leaf(LeafPtr::from_slot(0)).is_none());
     let inner = InnerPtr::from_parts(NodeType::Node4, 0);
-    assert!(rt; inner.is_some_and(|name| store.inner(name).is_none()));
+    let found = (
+        store.leaf(LeafPtr::from_slot(0)).is_some(),
+        inner.map(|name| store.inner(name).is_some()),
+    );
+    assert_eq!(rt; found, (false, Some(false)));
 }
 
 #[test]
@@ -143,73 +229,105 @@ fn a_store_hands_out_its_allocator(rt: HostRuntime) -> Result<(), Fail> {
     Ok(())
 }
 
-#[test]
-fn leaves_are_linked_and_freed(rt: HostRuntime) -> Result<(), Fail> {
-    let mut store = Store::new(rt.alloc());
-    let first = store
-        .place_leaf(leaf_of(1, 10))
-        .map_err(|refused| refused.1)?;
-    let second = place_behind(&mut store, first, leaf_of(2, 20)).map_err(|refused| refused.1)?;
-    assert!(rt; first != second);
-    let seen = store.leaf(second).ok_or("the second leaf")?;
-    assert_eq!(rt;
-        (seen.value, seen.previous, seen.next),
-        (20, Some(first), None)
-    );
+// Places a leaf and another one behind it, and answers both names.
+fn place_pair(store: &mut Store) -> Result<(LeafPtr, LeafPtr), AllocError>
+    ensures first { IfOk result (λ names. IsSome (map.get store.new.leaves names.0)) }
+    ensures second { IfOk result (λ names. IsSome (map.get store.new.leaves names.1)) }
+{
+    let first = place(store, leaf_of(1, 10))?;
+    let second = place_behind(store, first, leaf_of(2, 20)).map_err(|refused| refused.1)?;
+    Ok((first, second))
+}
 
-    let pair = move_pair(&mut store, first, second);
-    assert_eq!(rt; pair, ([2], 20));
-    let seen = store.leaf(second).ok_or("the second leaf")?;
-    assert_eq!(rt;
-        (seen.key, seen.value, seen.previous),
-        ([1], 10, Some(first))
-    );
-    assert!(rt; store.leaf(first).is_none());
-    Ok(())
+// Frees the first of two leaves and gives its pair to the second; answers whether each is right: what is
+// under the second name before, the pair that comes back, and what is under both names afterwards.
+fn move_first(store: &mut Store) -> Option<[bool; 4]> {
+    let (first, second) = place_pair(store).ok()?;
+    if first == second {
+        return None;
+    }
+    let before = leaf_seen(store, second);
+    let pair = move_pair(store, first, second);
+    Some([
+        before == expected_leaf(2, 20, Some(first)),
+        pair == ([2], 20),
+        leaf_seen(store, second) == expected_leaf(1, 10, Some(first)),
+        leaf_seen(store, first) == None,
+    ])
 }
 
 #[test]
-fn inner_nodes_are_written_and_freed(rt: HostRuntime) -> Result<(), Fail> {
+fn leaves_are_linked_and_freed(rt: HostRuntime) {
     let mut store = Store::new(rt.alloc());
-    let child = LeafPtr::from_slot(7).to_opaque();
-    let lower = place_above(&mut store, Header::new(&[5, 6], 2), 3, child)?;
+    assert_eq!(rt; move_first(&mut store), Some([true; 4]));
+}
+
+// Places a node with this child under 3 and one with none, and answers both names.
+fn place_two(store: &mut Store, child: OpaqueNodePtr) -> Result<(InnerPtr, InnerPtr), AllocError>
+    ensures lower { IfOk result (λ names. IsSome (map.get store.new.inners names.0)) }
+    ensures upper { IfOk result (λ names. IsSome (map.get store.new.inners names.1)) }
+    ensures distinct { IfOk result (λ names. names.1 ≢ names.0) }
+{
+    let lower = place_above(store, Header::new(&[5, 6], 2), 3, child)?;
     let upper = store
         .place_inner(node4(&[8, 9]))
         .map_err(|refused| refused.1)?;
-    let seen = store.inner(lower).ok_or("the lower node")?;
-    assert_eq!(rt; seen.lookup_child(3), Some(child));
-    assert_eq!(rt; seen.lookup_child(4), None);
+    Ok((lower, upper))
+}
 
-    let node = move_header(&mut store, lower, upper, Header::new(&[5, 6], 2));
-    assert_eq!(rt; node.as_ref().lookup_child(3), Some(child));
-    let seen = store.inner(upper).ok_or("the upper node")?;
-    assert_eq!(rt; seen.read_prefix(), [5, 6].as_slice());
-    assert!(rt; store.inner(lower).is_none());
-    Ok(())
+// Writes and frees the first of two nodes, and gives the second one its header; answers whether each is
+// right: the first as it is written, under two bytes, and as it is freed, and what is then under both names.
+fn move_lower(store: &mut Store) -> Option<[bool; 5]> {
+    let child = LeafPtr::from_slot(7).to_opaque();
+    let (lower, upper) = place_two(store, child).ok()?;
+    let with_child = expected_node4([5, 6], 1, Some(child));
+    let written = [inner_seen(store, lower, 3), inner_seen(store, lower, 4)];
+    let freed = move_header(store, lower, upper, Header::new(&[5, 6], 2));
+    Some([
+        written[0] == with_child,
+        written[1] == expected_node4([5, 6], 1, None),
+        read_inner(freed.as_ref(), 3) == with_child,
+        inner_seen(store, upper, 3) == expected_node4([5, 6], 0, None),
+        inner_seen(store, lower, 3) == None,
+    ])
 }
 
 #[test]
-fn a_child_is_cut_off(rt: HostRuntime) -> Result<(), Fail> {
+fn inner_nodes_are_written_and_freed(rt: HostRuntime) {
     let mut store = Store::new(rt.alloc());
+    assert_eq!(rt; move_lower(&mut store), Some([true; 5]));
+}
+
+// Cuts off an only child, which stands under 3, after none under 4; answers whether what comes back each
+// time and what is left are right.
+fn cut_off(store: &mut Store) -> Option<[bool; 3]> {
     let child = LeafPtr::from_slot(7).to_opaque();
-    let upper = place_above(&mut store, Header::new(&[5, 6], 2), 3, child)?;
-    assert_eq!(rt; cut_child(&mut store, upper, 4), None);
-    assert_eq!(rt; cut_child(&mut store, upper, 3), Some(child));
-    let seen = store.inner(upper).ok_or("the inner node")?;
-    assert_eq!(rt; seen.num_children(), 0);
-    assert_eq!(rt; seen.read_prefix(), [5, 6].as_slice());
-    Ok(())
+    let upper = place_above(store, Header::new(&[5, 6], 2), 3, child).ok()?;
+    Some([
+        cut_child(store, upper, 4) == None,
+        cut_child(store, upper, 3) == Some(child),
+        inner_seen(store, upper, 3) == expected_node4([5, 6], 0, None),
+    ])
+}
+
+#[test]
+fn a_child_is_cut_off(rt: HostRuntime) {
+    let mut store = Store::new(rt.alloc());
+    assert_eq!(rt; cut_off(&mut store), Some([true; 3]));
 }
 
 #[test]
 fn a_reservation_past_all_numbers_is_refused(rt: HostRuntime) {
     let mut store = Store::new(rt.alloc());
-    assert!(rt; store.reserve(usize::MAX, Some(NodeType::Node4)).is_err());
-    assert!(rt; store.reserve(0, None).is_ok());
+    let granted = [
+        store.reserve(usize::MAX, Some(NodeType::Node4)).is_ok(),
+        store.reserve(0, None).is_ok(),
+    ];
+    assert_eq!(rt; granted, [false, true]);
 }
 
 // Places leaves that are linked behind this one until one is refused, and answers what is handed back.
-fn refused_leaf(store: &mut Store, last: LeafPtr) -> Option<LeafNode<[u8; 1], u32>> {
+fn refused_leaf(store: &mut Store, last: LeafPtr) -> Option<SeenLeaf> {
     for _ in 0..MORE_THAN_FIT {
         let leaf = LeafNode {
             key: [9],
@@ -218,22 +336,53 @@ fn refused_leaf(store: &mut Store, last: LeafPtr) -> Option<LeafNode<[u8; 1], u3
             next: None,
         };
         if let Err((leaf, _)) = store.place_leaf(leaf) {
-            return Some(leaf);
+            return Some(read_leaf(&leaf));
         }
     }
     None
 }
 
-// Places inner nodes with this child until one is refused, and answers what is handed back.
-fn refused_inner(store: &mut Store, child: OpaqueNodePtr) -> Option<AnyInner<2>> {
+// Places inner nodes with this child under 7 until one is refused, and answers what is handed back.
+fn refused_inner(store: &mut Store, child: OpaqueNodePtr) -> Option<SeenInner> {
     for _ in 0..MORE_THAN_FIT {
         let mut node = AnyInner::from_header(NodeType::Node4, Header::new(&[8, 9], 2));
         node.write_child(7, child);
         if let Err((node, _)) = store.place_inner(node) {
-            return Some(node);
+            return read_inner(node.as_ref(), 7);
         }
     }
     None
+}
+
+// Whether one more leaf and one more inner node are placed, and whether each is then there or is handed
+// back as it was.
+fn place_one_each(store: &mut Store, value: u32) -> ([bool; 2], [bool; 2]) {
+    let (is_leaf_placed, leaf) = match store.place_leaf(leaf_of(2, value)) {
+        Ok(name) => (true, leaf_seen(store, name)),
+        Err((leaf, _)) => (false, Some(read_leaf(&leaf))),
+    };
+    let (is_inner_placed, inner) = match store.place_inner(node4(&[8, 9])) {
+        Ok(name) => (true, inner_seen(store, name, 0)),
+        Err((node, _)) => (false, read_inner(node.as_ref(), 0)),
+    };
+    let right = [
+        leaf == expected_leaf(2, value, None),
+        inner == expected_node4([8, 9], 0, None),
+    ];
+    ([is_leaf_placed, is_inner_placed], right)
+}
+
+// Places ten of each; answers whether one was refused, and whether each time both of them and the first
+// leaf were as they are to be.
+fn place_ten_each(store: &mut Store, first: LeafPtr) -> (bool, bool) {
+    let (mut any_refused, mut all_right) = (false, true);
+    for value in 0..10 {
+        let (placed, right) = place_one_each(store, value);
+        any_refused = any_refused || placed != [true; 2];
+        let first_seen = leaf_seen(store, first);
+        all_right = all_right && right == [true; 2] && first_seen == expected_leaf(1, 10, None);
+    }
+    (any_refused, all_right)
 }
 
 // Says the same with ample memory and with requests for memory refused.
@@ -243,73 +392,64 @@ fn refused_placements_leave_the_nodes(rt: HostRuntime) -> Result<(), Fail> {
     let Ok(first) = store.place_leaf(leaf_of(1, 10)) else {
         return Ok(());
     };
-    let mut any_refused = false;
-    for value in 0..10 {
-        match store.place_leaf(leaf_of(2, value)) {
-            Ok(name) => assert_eq!(rt; store.leaf(name).map(|leaf| leaf.value), Some(value)),
-            Err((leaf, _)) => {
-                assert_eq!(rt; (leaf.key[0], leaf.value), (2, value));
-                any_refused = true;
-            }
-        }
-        match store.place_inner(node4(&[8, 9])) {
-            Ok(name) => assert!(rt; store.inner(name).is_some()),
-            Err((node, _)) => {
-                assert!(rt; node.as_ref().header().read_prefix() == [8, 9].as_slice());
-                any_refused = true;
-            }
-        }
-        assert_eq!(rt; store.leaf(first).map(|leaf| leaf.value), Some(10));
-    }
+    let (any_refused, all_right) = place_ten_each(&mut store, first);
+    assert!(rt; all_right);
     if any_refused {
         println!(rt; "asserted")?;
     }
     Ok(())
 }
 
-#[test]
-fn without_memory_placements_hand_the_node_back(rt: HostRuntime) -> Result<(), Fail> {
-    let alloc = rt.alloc();
-    let mut store = Store::new(alloc);
-    let first = store
-        .place_leaf(leaf_of(1, 10))
-        .map_err(|refused| refused.1)?;
-    let child = first.to_opaque();
-    let upper = place_above(&mut store, Header::new(&[5, 6], 2), 3, child)?;
-
-    let held = all_memory(alloc)?;
-    let leaf = refused_leaf(&mut store, first);
-    let inner = refused_inner(&mut store, child);
+// What is refused and handed back while all memory is held.
+fn refused_without_memory(
+    store: &mut Store,
+    first: LeafPtr,
+) -> Result<(Option<SeenLeaf>, Option<SeenInner>), AllocError> {
+    let held = all_memory(store.alloc())?;
+    let leaf = refused_leaf(store, first);
+    let inner = refused_inner(store, first.to_opaque());
     drop(held);
-    let leaf = leaf.ok_or("a leaf is refused")?;
-    let key = leaf.key;
-    assert_eq!(rt; (key, leaf.value), ([9], 90));
-    assert_eq!(rt; (leaf.previous, leaf.next), (Some(first), None));
-    let inner = inner.ok_or("an inner node is refused")?;
-    assert_eq!(rt; inner.node_type(), NodeType::Node4);
-    assert_eq!(rt; inner.as_ref().read_prefix(), [8, 9].as_slice());
-    assert_eq!(rt; inner.as_ref().num_children(), 1);
-    assert_eq!(rt; inner.as_ref().lookup_child(7), Some(child));
-    assert_eq!(rt; store.leaf(first).map(|leaf| leaf.value), Some(10));
-    let seen = store.inner(upper).ok_or("the inner node")?;
-    assert_eq!(rt; seen.lookup_child(3), Some(child));
-    Ok(())
+    Ok((leaf, inner))
+}
+
+// Places a leaf and a node above it, and sees that no more is placed while all memory is held; answers
+// whether the leaf and the node that are handed back are right, and those under the two names.
+fn hand_back(store: &mut Store) -> Result<[bool; 4], AllocError> {
+    let first = place(store, leaf_of(1, 10))?;
+    let child = first.to_opaque();
+    let upper = place_above(store, Header::new(&[5, 6], 2), 3, child)?;
+    let (leaf, inner) = refused_without_memory(store, first)?;
+    Ok([
+        leaf == expected_leaf(9, 90, Some(first)),
+        inner == expected_node4([8, 9], 1, Some(child)),
+        leaf_seen(store, first) == expected_leaf(1, 10, None),
+        inner_seen(store, upper, 3) == expected_node4([5, 6], 1, Some(child)),
+    ])
 }
 
 #[test]
-fn without_memory_reservations_leave_the_nodes(rt: HostRuntime) -> Result<(), Fail> {
-    let alloc = rt.alloc();
-    let mut store = Store::new(alloc);
-    let first = store
-        .place_leaf(leaf_of(1, 10))
-        .map_err(|refused| refused.1)?;
+fn without_memory_placements_hand_the_node_back(rt: HostRuntime) {
+    let mut store = Store::new(rt.alloc());
+    assert_eq!(rt; hand_back(&mut store).ok(), Some([true; 4]));
+}
 
-    let held = all_memory(alloc)?;
+// Places a leaf, and answers whether a reservation without memory is refused, and whether what is then
+// under the leaf's name is right.
+fn reserve_without_memory(store: &mut Store) -> Result<[bool; 2], AllocError> {
+    let first = place(store, leaf_of(1, 10))?;
+    let held = all_memory(store.alloc())?;
     let refused = store.reserve(1 << 20, None).is_err();
     drop(held);
-    assert!(rt; refused);
-    assert_eq!(rt; store.leaf(first).map(|leaf| leaf.value), Some(10));
-    Ok(())
+    Ok([
+        refused,
+        leaf_seen(store, first) == expected_leaf(1, 10, None),
+    ])
+}
+
+#[test]
+fn without_memory_reservations_leave_the_nodes(rt: HostRuntime) {
+    let mut store = Store::new(rt.alloc());
+    assert_eq!(rt; reserve_without_memory(&mut store).ok(), Some([true; 2]));
 }
 
 #[test]

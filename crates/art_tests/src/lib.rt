@@ -12,8 +12,6 @@ mod drawn;
 #[cfg(test)]
 mod locality;
 #[cfg(test)]
-mod mixed_calls;
-#[cfg(test)]
 mod numbers;
 #[cfg(test)]
 mod odd_trees;

@@ -1,0 +1,392 @@
+//! Mixed calls of a store, each compared with a plain list of names and nodes.
+ghost use Rattle.std.specs.Prelude.{IsTrue, IsSomeAnd};
+ghost use Rattle.std.specs.FinMap as map;
+ghost use Rattle.art_nodes.specs.Inner.{HasPlace};
+ghost use Rattle.art_nodes.specs.Kinds.{kind_capacity};
+
+use crate::numbers::Numbers;
+use art_nodes::node::{
+    AnyInner, Header, InnerPtr, InnerRef, LeafNode, LeafPtr, NodeType, OpaqueNodePtr,
+};
+use art_nodes::store::NodeStore;
+use std::alloc::AllocError;
+use std::test::Fail;
+
+type Store = NodeStore<[u8; 2], u32, 3>;
+
+const STEPS: usize = 10_000;
+
+// No name has a slot past this one: there are never so many nodes at a time.
+const LAST_SLOT: usize = 400;
+
+const INNER_KINDS: [NodeType; 4] = [
+    NodeType::Node4,
+    NodeType::Node16,
+    NodeType::Node48,
+    NodeType::Node256,
+];
+
+impl Numbers {
+    /// A kind of inner nodes.
+    fn inner_kind(&mut self) -> NodeType {
+        match self.below(4) {
+            0 => NodeType::Node4,
+            1 => NodeType::Node16,
+            2 => NodeType::Node48,
+            _ => NodeType::Node256,
+        }
+    }
+
+    /// A name, of some node or of none.
+    fn name(&mut self) -> OpaqueNodePtr {
+        let kind = if self.is_heads() {
+            NodeType::Leaf
+        } else {
+            self.inner_kind()
+        };
+        OpaqueNodePtr::from_parts(kind, self.below(LAST_SLOT))
+    }
+
+    /// The name of a leaf, of some leaf or of none, where one is drawn.
+    fn link(&mut self) -> Option<LeafPtr> {
+        self.name().as_leaf()
+    }
+
+    /// A key and a value.
+    fn pair(&mut self) -> ([u8; 2], u32) {
+        ([self.byte(), self.byte()], self.value())
+    }
+
+    /// A prefix: bytes of which the front is stored, and a length.
+    fn prefix(&mut self) -> PlainPrefix {
+        PlainPrefix {
+            bytes: [self.byte(), self.byte(), self.byte()],
+            len: self.below(6),
+        }
+    }
+}
+
+/// What a leaf holds.
+#[derive(Clone, Copy, PartialEq, Eq, Debug)]
+struct PlainLeaf {
+    pair: ([u8; 2], u32),
+    links: (Option<LeafPtr>, Option<LeafPtr>),
+}
+
+impl PlainLeaf {
+    /// What this leaf holds.
+    fn of(leaf: &LeafNode<[u8; 2], u32>) -> Self {
+        PlainLeaf {
+            pair: (leaf.key, leaf.value),
+            links: (leaf.previous, leaf.next),
+        }
+    }
+}
+
+/// A length, and bytes of which as many are stored as there is room for.
+#[derive(Clone, Copy)]
+struct PlainPrefix {
+    bytes: [u8; 3],
+    len: usize,
+}
+
+impl PlainPrefix {
+    /// The header of it.
+    fn header(self) -> Header<3> {
+        Header::new(&self.bytes, self.len)
+    }
+}
+
+/// What an inner node holds: its prefix, and the child under each byte.
+#[derive(Drop)]
+struct PlainInner {
+    prefix: PlainPrefix,
+    children: [Option<OpaqueNodePtr>; 256],
+}
+
+// No child under any byte.
+fn no_children() -> [Option<OpaqueNodePtr>; 256] {
+    [None; 256]
+}
+
+// Whether a node holds this.
+fn is_like(node: InnerRef<'_, 3>, want: &PlainInner) -> bool {
+    let PlainPrefix { bytes, len } = want.prefix;
+    let mut children = node.iter();
+    for byte in 0..=255u8 {
+        if let Some(child) = want.children[byte as usize]
+            && children.next() != Some((byte, child))
+        {
+            return false;
+        }
+    }
+    let stored = &bytes[..len.min(3)];
+    children.next().is_none() && node.prefix_len() == len && node.read_prefix() == stored
+}
+
+// Whether a child can be put under a byte of a node.
+fn has_place(store: &Store, name: InnerPtr, byte: u8) -> bool
+    ensures { IsTrue result → IsSomeAnd (map.get store.now.inners name) (λ node.
+        HasPlace (kind_capacity name.kind) node.children byte) }
+{
+    match store.inner(name) {
+        Some(node) => !node.is_full() || node.lookup_child(byte).is_some(),
+        None => false,
+    }
+}
+
+// How many leaves and inner nodes there are.
+fn count_nodes(store: &Store) -> (usize, usize) {
+    let (mut leaves, mut inners) = (0usize, 0usize);
+    for slot in 0..=LAST_SLOT {
+        if store.leaf(LeafPtr::from_slot(slot)).is_some() {
+            leaves = leaves.saturating_add(1);
+        }
+        for kind in INNER_KINDS {
+            if store.inner(InnerPtr { kind, slot }).is_some() {
+                inners = inners.saturating_add(1);
+            }
+        }
+    }
+    (leaves, inners)
+}
+
+/// A store, and beside it a list of the names that it gave out with what is to be under them. Each call
+/// answers whether the store did as the list says.
+#[derive(Drop)]
+struct Trial {
+    store: Store,
+    leaves: Vec<(LeafPtr, PlainLeaf)>,
+    inners: Vec<(InnerPtr, PlainInner)>,
+    numbers: Numbers,
+}
+
+impl Trial {
+    /// Places a leaf, under a name that is not on the list.
+    fn place_leaf(&mut self) -> Result<bool, AllocError> {
+        let (key, value) = self.numbers.pair();
+        let (previous, next) = (self.numbers.link(), self.numbers.link());
+        let leaf = LeafNode {
+            key,
+            value,
+            previous,
+            next,
+        };
+        let want = PlainLeaf::of(&leaf);
+        let name = self.store.place_leaf(leaf).map_err(|refused| refused.1)?;
+        let is_new = self.leaves.iter().all(|listed| listed.0 != name);
+        self.leaves.push((name, want))?;
+        Ok(is_new)
+    }
+
+    /// Places an inner node with no child, under a name of its kind that is not on the list.
+    fn place_inner(&mut self, kind: NodeType) -> Result<bool, AllocError> {
+        let prefix = self.numbers.prefix();
+        if kind == NodeType::Leaf {
+            return Ok(false);
+        }
+        let node = AnyInner::from_header(kind, prefix.header());
+        let name = self.store.place_inner(node).map_err(|refused| refused.1)?;
+        let is_new = self.inners.iter().all(|listed| listed.0 != name);
+        let children = no_children();
+        self.inners.push((name, PlainInner { prefix, children }))?;
+        Ok(is_new && name.kind == kind)
+    }
+
+    /// Frees a leaf, and compares it.
+    fn free_leaf(&mut self) -> bool {
+        let Some(at) = self.numbers.place_in(self.leaves.len()) else {
+            return true;
+        };
+        let (name, want) = self.leaves.remove(at);
+        if self.store.leaf(name).is_none() {
+            return false;
+        }
+        PlainLeaf::of(&self.store.free_leaf(name)) == want
+    }
+
+    /// Frees an inner node, and compares it.
+    fn free_inner(&mut self) -> bool {
+        let Some(at) = self.numbers.place_in(self.inners.len()) else {
+            return true;
+        };
+        let (name, want) = self.inners.remove(at);
+        if self.store.inner(name).is_none() {
+            return false;
+        }
+        let node = self.store.free_inner(name);
+        node.node_type() == name.kind && is_like(node.as_ref(), &want)
+    }
+
+    /// Gives a leaf other links.
+    fn set_links(&mut self) -> bool {
+        let Some(at) = self.numbers.place_in(self.leaves.len()) else {
+            return true;
+        };
+        let (name, want) = &mut self.leaves[at];
+        want.links = (self.numbers.link(), self.numbers.link());
+        if self.store.leaf(*name).is_none() {
+            return false;
+        }
+        self.store.set_links(*name, want.links.0, want.links.1);
+        true
+    }
+
+    /// Gives a leaf another pair, and compares the old one.
+    fn swap_pair(&mut self) -> bool {
+        let Some(at) = self.numbers.place_in(self.leaves.len()) else {
+            return true;
+        };
+        let (name, want) = &mut self.leaves[at];
+        let pair = self.numbers.pair();
+        if self.store.leaf(*name).is_none() {
+            return false;
+        }
+        let old = self.store.swap_pair(*name, pair.0, pair.1);
+        let is_right = old == want.pair;
+        want.pair = pair;
+        is_right
+    }
+
+    /// Gives an inner node another header.
+    fn set_header(&mut self) -> bool {
+        let Some(at) = self.numbers.place_in(self.inners.len()) else {
+            return true;
+        };
+        let (name, want) = &mut self.inners[at];
+        want.prefix = self.numbers.prefix();
+        if self.store.inner(*name).is_none() {
+            return false;
+        }
+        self.store.set_header(*name, want.prefix.header());
+        true
+    }
+
+    /// Puts some children into one node, where there is a place for them.
+    fn write_children(&mut self) -> bool {
+        let Some(at) = self.numbers.place_in(self.inners.len()) else {
+            return true;
+        };
+        let (name, want) = &mut self.inners[at];
+        for _ in 0..self.numbers.below(12) {
+            let (byte, child) = (self.numbers.byte(), self.numbers.name());
+            if has_place(&self.store, *name, byte) {
+                self.store.write_child(*name, byte, child);
+                want.children[byte as usize] = Some(child);
+            }
+        }
+        true
+    }
+
+    /// Takes some children out of one node.
+    fn remove_children(&mut self) -> bool {
+        let Some(at) = self.numbers.place_in(self.inners.len()) else {
+            return true;
+        };
+        let (name, want) = &mut self.inners[at];
+        for _ in 0..self.numbers.below(60) {
+            let byte = self.numbers.byte();
+            if self.store.inner(*name).is_none() {
+                return false;
+            }
+            let removed = self.store.remove_child(*name, byte);
+            if removed != want.children[byte as usize] {
+                return false;
+            }
+            want.children[byte as usize] = None;
+        }
+        true
+    }
+
+    /// Asks for a promise, which changes no node.
+    fn reserve(&mut self) -> Result<bool, AllocError> {
+        let leaves = self.numbers.below(20);
+        let kind = self.numbers.inner_kind();
+        if kind == NodeType::Leaf {
+            return Ok(false);
+        }
+        let inner = if self.numbers.is_heads() {
+            Some(kind)
+        } else {
+            None
+        };
+        self.store.reserve(leaves, inner)?;
+        Ok(true)
+    }
+
+    /// One call. While the store is filled seven of eight placements and frees are placements, else one.
+    fn step(&mut self, is_filled: bool) -> Result<bool, AllocError> {
+        let is_rare = self.numbers.below(8) == 0;
+        let is_placement = is_filled != is_rare;
+        match self.numbers.below(9) {
+            0 if is_placement => self.place_leaf(),
+            0 => Ok(self.free_leaf()),
+            1 if is_placement => {
+                let kind = self.numbers.inner_kind();
+                self.place_inner(kind)
+            }
+            1 => Ok(self.free_inner()),
+            2 | 3 => Ok(self.write_children()),
+            4 => Ok(self.remove_children()),
+            5 => Ok(self.set_links()),
+            6 => Ok(self.swap_pair()),
+            7 => Ok(self.set_header()),
+            _ => self.reserve(),
+        }
+    }
+
+    /// Whether each listed name has what is to be under it, and no other name has anything.
+    fn is_as_listed(&self) -> bool {
+        for (name, want) in &self.leaves {
+            if self.store.leaf(*name).map(PlainLeaf::of) != Some(*want) {
+                return false;
+            }
+        }
+        for (name, want) in &self.inners {
+            let Some(node) = self.store.inner(*name) else {
+                return false;
+            };
+            if node.node_type() != name.kind || !is_like(node, want) {
+                return false;
+            }
+        }
+        count_nodes(&self.store) == (self.leaves.len(), self.inners.len())
+    }
+
+    /// Makes the calls, and answers the number of the first one after which something is wrong.
+    fn first_wrong_call(&mut self) -> Result<Option<usize>, AllocError> {
+        for step in 0..STEPS {
+            let is_right = self.step(step / 1_000 % 2 == 0)?;
+            if !is_right || (step % 20 == 0 && !self.is_as_listed()) {
+                return Ok(Some(step));
+            }
+        }
+        Ok(None)
+    }
+
+    /// Frees all nodes, and answers whether each was right, whether none is left in the store and on the
+    /// lists.
+    fn free_all(&mut self) -> [bool; 3] {
+        let mut all_right = true;
+        for _ in 0..=LAST_SLOT {
+            let freed = [self.free_leaf(), self.free_inner()];
+            all_right = all_right && freed == [true; 2];
+        }
+        let is_empty = self.leaves.is_empty() && self.inners.is_empty();
+        [all_right, self.is_as_listed(), is_empty]
+    }
+}
+
+#[test]
+fn mixed_calls_change_what_they_name(rt: HostRuntime) -> Result<(), Fail> {
+    let alloc = rt.alloc();
+    let mut trial = Trial {
+        store: Store::new(alloc),
+        leaves: Vec::new(alloc),
+        inners: Vec::new(alloc),
+        numbers: Numbers::new(1),
+    };
+    let wrong = trial.first_wrong_call()?;
+    assert_eq!(rt; (wrong, trial.free_all()), (None, [true; 3]));
+    Ok(())
+}
