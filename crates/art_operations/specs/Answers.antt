@@ -22,11 +22,15 @@ module _ {K V : Type 0} (bytes : K → List ℕ) where
   module _ (IsClone : K × V → K × V → Type 0) where
     -- the reply to a command, from the pairs before to the pairs after, where it is said what a clone of a pair is
     abbrev pub Answers : List (K × V) → Command K V → Reply K V → List (K × V) → Type 0
-    Answers old (Insert k v) (Inserted before) new = (is_conflict (of_key bytes) (bytes k) old ≡ false) × (before ≡ put_reply (of_key bytes) (k, v) old) × (new ≡ pairs_after (Insert k v) old)
-    Answers old (Insert k v) (Conflict key value error) new = (is_conflict (of_key bytes) (bytes k) old ≡ true) × (key ≡ k) × (value ≡ v) × (boxed_slice_items error.byte_repr ≡ bytes k) × (new ≡ old)
+    Answers old (Insert k v) (Inserted before) new =
+        (is_conflict (of_key bytes) (bytes k) old ≡ false) × (before ≡ put_reply (of_key bytes) (k, v) old) × (new ≡ pairs_after (Insert k v) old)
+    Answers old (Insert k v) (Conflict key value error) new =
+        (is_conflict (of_key bytes) (bytes k) old ≡ true) × (key ≡ k) × (value ≡ v) × (boxed_slice_items error.byte_repr ≡ bytes k) × (new ≡ old)
     Answers old (Insert k v) (NoMemory pair) new = (has_key (of_key bytes) (bytes k) old ≡ false) × (pair ≡ Some (k, v)) × (new ≡ old)
-    Answers old (InsertPrefix k v) (Overwrote before count) new = ((before, count) ≡ overwrite_reply (of_key bytes) (k, v) old) × (new ≡ pairs_after (InsertPrefix k v) old)
-    Answers old (InsertPrefix k v) (NoMemory pair) new = (length (related_to (of_key bytes) (bytes k) old) ≢ 1) × (pair ≡ Some (k, v)) × (new ≡ old)
+    Answers old (InsertPrefix k v) (Overwrote before count) new =
+        ((before, count) ≡ overwrite_reply (of_key bytes) (k, v) old) × (new ≡ pairs_after (InsertPrefix k v) old)
+    Answers old (InsertPrefix k v) (NoMemory pair) new =
+        (length (related_to (of_key bytes) (bytes k) old) ≢ 1) × (pair ≡ Some (k, v)) × (new ≡ old)
     Answers old (Delete key) (Deleted pair) new = (pair ≡ remove_reply (of_key bytes) key.items old) × (new ≡ pairs_after (Delete key) old)
     Answers old DeleteMin (Deleted pair) new = (pair ≡ first_of old) × (new ≡ pairs_after DeleteMin old)
     Answers old DeleteMax (Deleted pair) new = (pair ≡ last_of old) × (new ≡ pairs_after DeleteMax old)
@@ -36,5 +40,6 @@ module _ {K V : Type 0} (bytes : K → List ℕ) where
     Answers old Clone Cloned new = AllZip IsClone old new
     Answers old Clone (NoMemory pair) new = (pair ≡ None) × (new ≡ old)
     Answers old (Contains key) (Found found) new = (found ≡ has_key (of_key bytes) key.items old) × (new ≡ old)
-    Answers old (LongestMatch key) (MatchLen len) new = (option_to_list len ≡ map (λ x. length (bytes x.0)) (match_of (of_key bytes) key.items old)) × (new ≡ old)
+    Answers old (LongestMatch key) (MatchLen len) new =
+        (option_to_list len ≡ map (λ x. length (bytes x.0)) (match_of (of_key bytes) key.items old)) × (new ≡ old)
     Answers old command reply new = ⊥

@@ -58,7 +58,8 @@ module _ {K V : Type 0} (bytes : K → List ℕ) (P : ℕ) (IsClone : K × V →
 
   -- a step is made, whatever state is shown so
   abbrev pub MakesStep : Shown K V → Command K V → Reply K V → Shown K V → Type 0
-  MakesStep from command reply to = (old : State K V) → shown old ≡ from → IsSound bytes P old → (new : State K V) × (shown new ≡ to) × Step bytes P IsClone old command reply new
+  MakesStep from command reply to = (old : State K V) → shown old ≡ from → IsSound bytes P old →
+      (new : State K V) × (shown new ≡ to) × Step bytes P IsClone old command reply new
 
   -- a step is made in one store, whatever side it is on and whatever the other one holds
   abbrev pub StepsAlone : Nodes K V → Option OpaqueNodePtr → Command K V → Reply K V → Nodes K V → Option OpaqueNodePtr → Type 0

@@ -56,7 +56,10 @@ module _ {K V : Type 0} where
 
   -- what a command touches that is carried out: a few names, or the tree of all pairs with related keys where they are more than one
   abbrev pub TouchesBy : (K → List ℕ) → Option (Tree OpaqueNodePtr (K × V)) → Command K V → Nodes K V → Nodes K V → Type 0
-  TouchesBy bytes tree (InsertPrefix k v) s t = cond (leb (length (related_to (of_key bytes) (bytes k) (pairs_in tree))) 1) (TouchesAtMost 2 2 4 s t) (TouchesRelated (of_key bytes) (bytes k) s t tree)
+  TouchesBy bytes tree (InsertPrefix k v) s t =
+      cond (leb (length (related_to (of_key bytes) (bytes k) (pairs_in tree))) 1)
+      (TouchesAtMost 2 2 4 s t)
+      (TouchesRelated (of_key bytes) (bytes k) s t tree)
   TouchesBy bytes tree command s t = TouchesAtMost 2 2 4 s t
 
   -- The tree was changed in place: names stay, nodes beside it too, and no more is touched than the command has to.
@@ -103,7 +106,8 @@ module _ {K V : Type 0} (bytes : K → List ℕ) (P : ℕ) where
 
   -- where there may be no memory: for the bytes of a key in conflict, for the clone of a tree, and for nodes that are not promised
   abbrev pub MayRefuse : Command K V → State K V → Type 0
-  MayRefuse (Insert k v) old = (is_conflict (of_key bytes) (bytes k) (pairs_in old.tree) ≡ true) ⊎ (IsPromised (Insert k v) old → ⊥)
+  MayRefuse (Insert k v) old =
+      (is_conflict (of_key bytes) (bytes k) (pairs_in old.tree) ≡ true) ⊎ (IsPromised (Insert k v) old → ⊥)
   MayRefuse Clone old = old.tree ≢ None
   MayRefuse command old = IsPromised command old → ⊥
 
@@ -112,13 +116,25 @@ module _ {K V : Type 0} (bytes : K → List ℕ) (P : ℕ) where
   Refuses old command (NoMemory pair) = MayRefuse command old
   Refuses old command reply = Unit {0}
 
-  -- What becomes of the promise: what is placed is taken from it, and a refusal may void it, but not in a conflict. A clone leaves its source's, and its nodes are taken from the other store's, of which a refusal leaves no more than there was.
+  -- what the command places is taken from the promise
+  abbrev pub TakesNeeds : State K V → Command K V → State K V → Type 0
+  TakesNeeds old command new =
+      new.present.promise ≡ promise_after (needs bytes P command (pairs_in old.tree)) old.present.promise
+
+  -- What becomes of the promise: what is placed is taken from it, and a refusal may void it, but not in a conflict. A clone
+  -- leaves its source's, and its nodes are taken from the other store's, of which a refusal leaves no more than there was.
   abbrev pub Promises : State K V → Command K V → Reply K V → State K V → Type 0
-  Promises old command (Inserted before) new = new.present.promise ≡ promise_after (needs bytes P command (pairs_in old.tree)) old.present.promise
-  Promises old command (Overwrote before count) new = new.present.promise ≡ promise_after (needs bytes P command (pairs_in old.tree)) old.present.promise
-  Promises old command (Deleted (Some pair)) new = new.present.promise ≡ promise_after (needs bytes P command (pairs_in old.tree)) old.present.promise
-  Promises old (Insert k v) (NoMemory pair) new = cond (is_conflict (of_key bytes) (bytes k) (pairs_in old.tree)) (new.present.promise ≡ old.present.promise) (MayVoid old.present.promise new.present.promise)
-  Promises old Clone Cloned new = elim old.tree [ None ↦ new.present.promise ≡ old.present.promise | Some tree ↦ (new.other.promise ≡ old.present.promise) × (new.present.promise ≡ tree_taken tree old.other.promise) ]
+  Promises old command (Inserted before) new = TakesNeeds old command new
+  Promises old command (Overwrote before count) new = TakesNeeds old command new
+  Promises old command (Deleted (Some pair)) new = TakesNeeds old command new
+  Promises old (Insert k v) (NoMemory pair) new =
+      cond (is_conflict (of_key bytes) (bytes k) (pairs_in old.tree))
+      (new.present.promise ≡ old.present.promise)
+      (MayVoid old.present.promise new.present.promise)
+  Promises old Clone Cloned new = elim old.tree [
+    | None ↦ new.present.promise ≡ old.present.promise
+    | Some tree ↦ (new.other.promise ≡ old.present.promise) × (new.present.promise ≡ tree_taken tree old.other.promise)
+  ]
   Promises old Clone (NoMemory pair) new = IsLessened old.other.promise new.other.promise
   Promises old command (NoMemory pair) new = MayVoid old.present.promise new.present.promise
   Promises old command reply new = new.present.promise ≡ old.present.promise
