@@ -1,153 +1,189 @@
-use super::*;
-use art_test_support::points::{HANDED_BACK, insert, inserted, refused_insertion};
-use art_test_support::nodes::{count_touched, nodes_seen};
-use art_test_support::trees::{Key, child, keys, keys_after, plant, value_of};
+//! Insertions that give a node a child more, or replace a pair.
+ghost use Rattle.art_model.specs.Pairs.{of_key};
+ghost use Rattle.art_model.specs.Roots.{IsCanonicalRoot};
+
+use art_nodes::node::{NodeType, OpaqueNodePtr};
+use art_nodes::store::NodeStore;
+use art_operations::insert::InsertParentNodeChange;
 use art_test_support::memory::all_memory;
+use art_test_support::nodes::plant_seen;
+use art_test_support::points::{
+    Gone, HANDED_BACK, Insertion, insert, inserted, insertion_seen, refused_insertion,
+};
+use art_test_support::trees::{Key, child, keys_after, plant_all, plant_keys, value_of};
+use std::alloc::Global;
 use std::test::Fail;
+
+// Plants a tree of some keys and inserts one. Answers the old root, what it had under the key's last byte, and
+// what the insertion did.
+fn grow<const P: usize>(
+    store: &mut NodeStore<Key, u32, P>,
+    slices: &[&[u8]],
+    key: &[u8],
+) -> Result<(OpaqueNodePtr, Option<OpaqueNodePtr>, Insertion), Fail> {
+    let (root, before) = plant_seen(store, slices)?;
+    let old = key.last().and_then(|byte| child(store, root, *byte));
+    let done = inserted(store, root, key.to_vec(store.alloc())?)?;
+    Ok((root, old, insertion_seen(store, &before, &done, key)))
+}
+
+// The kind of the root, whether it has the inserted leaf under a byte, and the leaf's value.
+fn placed<const P: usize>(
+    store: &NodeStore<Key, u32, P>,
+    done: Insertion,
+    byte: u8,
+) -> (NodeType, bool, Option<u32>) {
+    let found = child(store, done.new_root, byte);
+    let is_there = found == Some(done.leaf.to_opaque());
+    (done.new_root.kind, is_there, value_of(store, done.leaf))
+}
 
 #[test]
 fn adds_a_child_where_there_is_room(rt: HostRuntime) -> Result<(), Fail> {
-    let alloc = rt.alloc();
-    let mut store: NodeStore<Key, u32, 16> = NodeStore::new(alloc);
-    let root = plant(
-        &mut store,
-        &mut NodeStore::new(alloc),
-        keys(alloc, &[&[1], &[2]])?,
-    )?;
-    let before = nodes_seen(&store)?;
-    let done = inserted(&mut store, root, [3].to_vec(alloc)?)?;
-    let change = InsertParentNodeChange::NewParent {
-        new_parent_node: root,
-        leaf_node_key_byte: 3,
+    let mut store: NodeStore<Key, u32, 16> = NodeStore::new(rt.alloc());
+    let (root, _, done) = grow(&mut store, &[&[1], &[2]], &[3])?;
+    let expected = Insertion {
+        existing: None,
+        new_root: root,
+        change: InsertParentNodeChange::NewParent {
+            new_parent_node: root,
+            leaf_node_key_byte: 3,
+        },
+        touched: (1, 0, 2),
+        ..done
     };
-    assert_eq!(rt; done.parent_node_change, change);
-    assert!(rt; done.existing_leaf.is_none());
-    assert_eq!(rt; done.new_root, root);
-    let leaf = done.leaf_node_ptr;
-    assert_eq!(rt; child(&store, root, 3), Some(leaf.to_opaque()));
-    assert_eq!(rt; value_of(&store, leaf), Some(9));
-    assert_eq!(rt; count_touched(&store, &before), (1, 0, 2));
+    assert_eq!(rt; done, expected);
+    assert_eq!(rt; placed(&store, done, 3), (NodeType::Node4, true, Some(9)));
     Ok(())
 }
 
 #[test]
 fn puts_a_larger_root_in_the_place_of_a_full_one(rt: HostRuntime) -> Result<(), Fail> {
-    let alloc = rt.alloc();
-    let mut store: NodeStore<Key, u32, 16> = NodeStore::new(alloc);
-    let root = plant(
-        &mut store,
-        &mut NodeStore::new(alloc),
-        keys(alloc, &[&[1], &[2], &[3], &[4]])?,
-    )?;
-    let before = nodes_seen(&store)?;
-    let done = inserted(&mut store, root, [5].to_vec(alloc)?)?;
-    let change = InsertParentNodeChange::NewParent {
-        new_parent_node: done.new_root,
-        leaf_node_key_byte: 5,
+    let mut store: NodeStore<Key, u32, 16> = NodeStore::new(rt.alloc());
+    let (root, _, done) = grow(&mut store, &[&[1], &[2], &[3], &[4]], &[5])?;
+    let expected = Insertion {
+        change: InsertParentNodeChange::NewParent {
+            new_parent_node: done.new_root,
+            leaf_node_key_byte: 5,
+        },
+        touched: (2, 1, 1),
+        ..done
     };
-    assert_eq!(rt; done.parent_node_change, change);
-    assert_eq!(rt; done.new_root.kind, NodeType::Node16);
-    assert_eq!(rt; child(&store, root, 4), None);
-    assert_eq!(rt;
-        child(&store, done.new_root, 5),
-        Some(done.leaf_node_ptr.to_opaque())
-    );
-    assert_eq!(rt; count_touched(&store, &before), (2, 1, 1));
+    let seen = (done, child(&store, root, 4));
+    assert_eq!(rt; seen, (expected, None));
+    assert_eq!(rt; placed(&store, done, 5), (NodeType::Node16, true, Some(9)));
     Ok(())
 }
 
 #[test]
 fn tells_the_parent_of_a_larger_child(rt: HostRuntime) -> Result<(), Fail> {
-    let alloc = rt.alloc();
-    let mut store: NodeStore<Key, u32, 16> = NodeStore::new(alloc);
-    let root = plant(
-        &mut store,
-        &mut NodeStore::new(alloc),
-        keys(alloc, &[&[0], &[1, 1], &[1, 2], &[1, 4], &[1, 5], &[2]])?,
-    )?;
-    let before = nodes_seen(&store)?;
-    let done = inserted(&mut store, root, [1, 3].to_vec(alloc)?)?;
-    assert_eq!(rt; done.new_root, root);
+    let mut store: NodeStore<Key, u32, 16> = NodeStore::new(rt.alloc());
+    let slices: [&[u8]; 6] = [&[0], &[1, 1], &[1, 2], &[1, 4], &[1, 5], &[2]];
+    let (root, _, done) = grow(&mut store, &slices, &[1, 3])?;
     let larger = child(&store, root, 1).ok_or("a child")?;
-    assert_eq!(rt; larger.kind, NodeType::Node16);
-    let change = InsertParentNodeChange::NewParent {
-        new_parent_node: larger,
-        leaf_node_key_byte: 3,
+    let expected = Insertion {
+        new_root: root,
+        change: InsertParentNodeChange::NewParent {
+            new_parent_node: larger,
+            leaf_node_key_byte: 3,
+        },
+        touched: (2, 1, 3),
+        ..done
     };
-    assert_eq!(rt; done.parent_node_change, change);
-    assert_eq!(rt; count_touched(&store, &before), (2, 1, 3));
+    assert_eq!(rt; (done, larger.kind), (expected, NodeType::Node16));
     Ok(())
+}
+
+// What comes of the root of so many keys of one byte with one more.
+fn grown_from(alloc: Global, count: u8) -> Result<(NodeType, bool), Fail> {
+    let all = keys_after(alloc, &[], u16::from(count))?;
+    let mut store: NodeStore<Key, u32, 16> = NodeStore::new(alloc);
+    let root = plant_keys(&mut store, all)?;
+    with_one_more(&mut store, root, count)
+}
+
+// The kind of the root once it has one key of one byte more, and whether it has that key's leaf.
+fn with_one_more<const P: usize>(
+    store: &mut NodeStore<Key, u32, P>,
+    root: OpaqueNodePtr,
+    byte: u8,
+) -> Result<(NodeType, bool), Fail>
+    requires { IsCanonicalRoot (of_key (λ key. key.items)) P store.old root }
+{
+    let key = [byte].to_vec(store.alloc())?;
+    let done = inserted(store, root, key)?;
+    let found = child(store, done.new_root, byte);
+    let is_there = found == Some(done.leaf_node_ptr.to_opaque());
+    Ok((done.new_root.kind, is_there))
 }
 
 #[test]
 fn grows_to_each_kind(rt: HostRuntime) -> Result<(), Fail> {
-    let alloc = rt.alloc();
     for (count, kind) in [(16u8, NodeType::Node48), (48, NodeType::Node256)] {
-        let mut store: NodeStore<Key, u32, 16> = NodeStore::new(alloc);
-        let root = plant(
-            &mut store,
-            &mut NodeStore::new(alloc),
-            keys_after(alloc, &[], u16::from(count))?,
-        )?;
-        let done = inserted(&mut store, root, [count].to_vec(alloc)?)?;
-        assert_eq!(rt; done.new_root.kind, kind);
-        assert_eq!(rt;
-            child(&store, done.new_root, count),
-            Some(done.leaf_node_ptr.to_opaque())
-        );
+        assert_eq!(rt; grown_from(rt.alloc(), count)?, (kind, true));
     }
     Ok(())
 }
 
 #[test]
 fn hands_back_the_pair_that_gave_way(rt: HostRuntime) -> Result<(), Fail> {
-    let alloc = rt.alloc();
-    let mut store: NodeStore<Key, u32, 16> = NodeStore::new(alloc);
-    let root = plant(
-        &mut store,
-        &mut NodeStore::new(alloc),
-        keys(alloc, &[&[1, 1], &[1, 2]])?,
-    )?;
-    let name = child(&store, root, 2).ok_or("a child")?;
-    let before = nodes_seen(&store)?;
-    let done = inserted(&mut store, root, [1, 2].to_vec(alloc)?)?;
-    let old = done.existing_leaf.ok_or("an old pair")?;
-    assert_eq!(rt; old.key.as_slice(), [1, 2].as_slice());
-    assert_eq!(rt; (old.value, old.previous, old.next), (1, None, None));
-    assert_eq!(rt; done.leaf_node_ptr.to_opaque(), name);
-    assert_eq!(rt; done.parent_node_change, InsertParentNodeChange::NoChange);
-    assert_eq!(rt; done.new_root, root);
-    assert_eq!(rt; value_of(&store, done.leaf_node_ptr), Some(9));
-    assert_eq!(rt; count_touched(&store, &before), (0, 0, 1));
+    let mut store: NodeStore<Key, u32, 16> = NodeStore::new(rt.alloc());
+    let (root, name, done) = grow(&mut store, &[&[1, 1], &[1, 2]], &[1, 2])?;
+    let expected = Insertion {
+        leaf: done.leaf,
+        existing: Some(Gone {
+            has_key: true,
+            value: 1,
+            previous: None,
+            next: None,
+        }),
+        new_root: root,
+        change: InsertParentNodeChange::NoChange,
+        touched: (0, 0, 1),
+    };
+    assert_eq!(rt; done, expected);
+    let seen = (Some(done.leaf.to_opaque()), value_of(&store, done.leaf));
+    assert_eq!(rt; seen, (name, Some(9)));
     Ok(())
 }
 
 #[test]
 fn replaces_the_pair_of_the_empty_key(rt: HostRuntime) -> Result<(), Fail> {
-    let alloc = rt.alloc();
-    let mut store: NodeStore<Key, u32, 16> = NodeStore::new(alloc);
-    let root = plant(&mut store, &mut NodeStore::new(alloc), keys(alloc, &[&[]])?)?;
-    let done = inserted(&mut store, root, Vec::new(alloc))?;
-    assert!(rt; done.existing_leaf.is_some());
-    assert_eq!(rt; done.new_root, root);
-    assert_eq!(rt; value_of(&store, done.leaf_node_ptr), Some(9));
+    let mut store: NodeStore<Key, u32, 16> = NodeStore::new(rt.alloc());
+    let (root, _, done) = grow(&mut store, &[&[]], &[])?;
+    let seen = (
+        done.existing.is_some(),
+        done.new_root,
+        value_of(&store, done.leaf),
+    );
+    assert_eq!(rt; seen, (true, root, Some(9)));
     Ok(())
+}
+
+// Whether a key comes in where its pair was.
+fn is_replaced<const P: usize>(
+    store: &mut NodeStore<Key, u32, P>,
+    root: OpaqueNodePtr,
+    key: Key,
+) -> bool
+    requires { IsCanonicalRoot (of_key (λ key. key.items)) P store.old root }
+{
+    match insert(store, root, key, 2).1 {
+        Some(Ok(done)) => done.existing_leaf.is_some(),
+        _ => false,
+    }
 }
 
 #[test]
 fn without_memory_a_stored_key_is_replaced(rt: HostRuntime) -> Result<(), Fail> {
     let alloc = rt.alloc();
     let mut store: NodeStore<Key, u32, 16> = NodeStore::new(alloc);
-    let root = plant(
-        &mut store,
-        &mut NodeStore::new(alloc),
-        keys(alloc, &[&[1, 2]])?,
-    )?;
+    let root = plant_all(&mut store, &[&[1, 2]])?;
     let key = [1, 2].to_vec(alloc)?;
     let held = all_memory(alloc)?;
-    let done = insert(&mut store, root, key, 2).1;
+    let replaced = is_replaced(&mut store, root, key);
     drop(held);
-    assert!(rt; done.is_some_and(|done| done.is_ok_and(|done| done.existing_leaf.is_some())));
+    assert!(rt; replaced);
     Ok(())
 }
 
