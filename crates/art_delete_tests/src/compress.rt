@@ -8,6 +8,7 @@ use art_nodes::store::NodeStore;
 use art_test_support::memory::all_memory;
 use art_test_support::nodes::{count_nodes, count_touched, plant_seen};
 use art_test_support::trees::{Key, child, plant_all};
+use std::alloc::{AllocError, Global};
 use std::test::Fail;
 
 // The old root, what it had under a byte, what a deletion did, and how many names came into use, went out of it, and
@@ -54,25 +55,41 @@ fn outline<const P: usize>(
     ))
 }
 
-// Whether there is an inner node under its name.
-fn is_there<const P: usize>(store: &NodeStore<Key, u32, P>, name: OpaqueNodePtr) -> Option<bool> {
-    Some(store.inner(name.as_inner()?).is_some())
+// What is seen of a deletion that leaves one leaf.
+#[derive(Clone, Copy, PartialEq, Eq, Debug)]
+struct Raised {
+    done: Deletion,
+    // Whether there was another leaf, and whether the parent of both is there still.
+    had_other: bool,
+    has_parent: Option<bool>,
+}
+
+// Deletes [1, 2, 9] beside [1, 2, 3, 4]. Answers what is seen, and what is to be.
+fn delete_beside<const P: usize>(store: &mut NodeStore<Key, u32, P>) -> Result<[Raised; 2], Fail> {
+    let slices: [&[u8]; 2] = [&[1, 2, 3, 4], &[1, 2, 9]];
+    let seen = deleted_from(store, &slices, 3, &[1, 2, 9])?;
+    let parent = seen.root.as_inner();
+    let raised = Raised {
+        done: seen.done,
+        had_other: seen.other.is_some(),
+        has_parent: parent.map(|parent| store.inner(parent).is_some()),
+    };
+    let expected = Raised {
+        done: Deletion {
+            new_root: seen.other,
+            gone: gone_with(1),
+        },
+        had_other: true,
+        has_parent: Some(false),
+    };
+    Ok([raised, expected])
 }
 
 #[test]
 fn raises_the_other_leaf(rt: HostRuntime) -> Result<(), Fail> {
     let mut store: NodeStore<Key, u32, 16> = NodeStore::new(rt.alloc());
-    let slices: [&[u8]; 2] = [&[1, 2, 3, 4], &[1, 2, 9]];
-    let seen = deleted_from(&mut store, &slices, 3, &[1, 2, 9])?;
-    let expected = Deletion {
-        new_root: seen.other,
-        gone: gone_with(1),
-    };
-    let parent = is_there(&store, seen.root);
-    assert_eq!(rt;
-        (seen.done, seen.other.is_some(), parent),
-        (expected, true, Some(false))
-    );
+    let [seen, expected] = delete_beside(&mut store)?;
+    assert_eq!(rt; seen, expected);
     Ok(())
 }
 
@@ -164,35 +181,51 @@ fn undone<const P: usize>(
     Ok((seen.touched, same && seen.done.new_root == Some(seen.root)))
 }
 
+// The same where none of a prefix is stored.
+fn undone_at_0(alloc: Global) -> Result<((usize, usize, usize), bool), Fail> {
+    undone::<0>(&mut NodeStore::new(alloc), &mut NodeStore::new(alloc))
+}
+
+// The same where four bytes are.
+fn undone_at_4(alloc: Global) -> Result<((usize, usize, usize), bool), Fail> {
+    undone::<4>(&mut NodeStore::new(alloc), &mut NodeStore::new(alloc))
+}
+
+// The same where sixteen are.
+fn undone_at_16(alloc: Global) -> Result<((usize, usize, usize), bool), Fail> {
+    undone::<16>(&mut NodeStore::new(alloc), &mut NodeStore::new(alloc))
+}
+
 #[test]
 fn undoes_an_insertion(rt: HostRuntime) -> Result<(), Fail> {
     let alloc = rt.alloc();
-    let at_0 = undone::<0>(&mut NodeStore::new(alloc), &mut NodeStore::new(alloc))?;
-    let at_4 = undone::<4>(&mut NodeStore::new(alloc), &mut NodeStore::new(alloc))?;
-    let at_16 = undone::<16>(&mut NodeStore::new(alloc), &mut NodeStore::new(alloc))?;
-    assert_eq!(rt; [at_0, at_4, at_16], [((0, 2, 4), true); 3]);
+    let at_each_length = [
+        undone_at_0(alloc)?,
+        undone_at_4(alloc)?,
+        undone_at_16(alloc)?,
+    ];
+    assert_eq!(rt; at_each_length, [((0, 2, 4), true); 3]);
     Ok(())
 }
 
-// The root that is left without [1, 9], where [1, 1] is to be its prefix.
-fn outline_without<const P: usize>(
+// The root that is left without [1, 9], where [1, 1] is to be its prefix, while all memory is held.
+fn outline_without_memory<const P: usize>(
     store: &mut NodeStore<Key, u32, P>,
     root: OpaqueNodePtr,
-) -> Option<(NodeType, usize, usize, bool)>
+) -> Result<Option<(NodeType, usize, usize, bool)>, AllocError>
     requires { IsCanonicalRoot (of_key (λ key. key.items)) P store.old root }
 {
-    let done = delete(store, root, &[1, 9])?;
-    outline(store, done.new_root, &[1, 1])
+    let held = all_memory(store.alloc())?;
+    let done = delete(store, root, &[1, 9]);
+    drop(held);
+    Ok(outline(store, done.and_then(|done| done.new_root), &[1, 1]))
 }
 
 #[test]
 fn without_memory_a_parent_is_compressed(rt: HostRuntime) -> Result<(), Fail> {
-    let alloc = rt.alloc();
-    let mut store: NodeStore<Key, u32, 4> = NodeStore::new(alloc);
+    let mut store: NodeStore<Key, u32, 4> = NodeStore::new(rt.alloc());
     let root = plant_all(&mut store, &[&[1, 1, 5], &[1, 1, 6], &[1, 9]])?;
-    let held = all_memory(alloc)?;
-    let left = outline_without(&mut store, root);
-    drop(held);
+    let left = outline_without_memory(&mut store, root)?;
     assert_eq!(rt; left, Some((NodeType::Node4, 2, 2, true)));
     Ok(())
 }

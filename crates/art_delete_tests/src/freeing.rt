@@ -92,12 +92,17 @@ fn a_freed_tree_leaves_nothing(rt: HostRuntime) -> Result<(), Fail> {
     Ok(())
 }
 
+// Frees the tree of 24 keys.
+fn freed_of_many<const P: usize>(store: &mut NodeStore<Key, u32, P>) -> Result<Left, Fail> {
+    let all = keys_of_three(store.alloc(), [4, 3, 2])?;
+    let root = plant_keys(store, all)?;
+    free_all(store, root)
+}
+
 #[test]
 fn a_tree_of_many_nodes_is_freed(rt: HostRuntime) -> Result<(), Fail> {
-    let all = keys_of_three(rt.alloc(), [4, 3, 2])?;
     let mut store: NodeStore<Key, u32, 16> = NodeStore::new(rt.alloc());
-    let root = plant_keys(&mut store, all)?;
-    assert_eq!(rt; free_all(&mut store, root)?, nothing_of(24, 17));
+    assert_eq!(rt; freed_of_many(&mut store)?, nothing_of(24, 17));
     Ok(())
 }
 
@@ -116,13 +121,11 @@ fn leaves_of<const P: usize>(
     ])
 }
 
-// What comes of a tree of four leaves whose inner nodes are freed, and the values of the leaves then.
+// What comes of the tree of four keys whose inner nodes are freed, and the values of the leaves then.
 fn leaves_left<const P: usize>(
     store: &mut NodeStore<Key, u32, P>,
-    root: OpaqueNodePtr,
-) -> Result<(Left, [Option<u32>; 4]), Fail>
-    requires { IsCanonicalRoot (of_key (λ key. key.items)) P store.old root }
-{
+) -> Result<(Left, [Option<u32>; 4]), Fail> {
+    let root = plant_all(store, &FOUR)?;
     let names = leaves_of(store, root).ok_or("four leaves")?;
     let left = free_inner_nodes(store, root)?;
     Ok((left, names.map(|leaf| value_of(store, leaf))))
@@ -131,13 +134,12 @@ fn leaves_left<const P: usize>(
 #[test]
 fn leaves_stay_where_inner_nodes_are_freed(rt: HostRuntime) -> Result<(), Fail> {
     let mut store: NodeStore<Key, u32, 4> = NodeStore::new(rt.alloc());
-    let root = plant_all(&mut store, &FOUR)?;
     let expected = Left {
         count: 0,
         nodes: (4, 0),
         touched: (0, 3, 0),
     };
-    let left = leaves_left(&mut store, root)?;
+    let left = leaves_left(&mut store)?;
     assert_eq!(rt; left, (expected, [Some(0), Some(1), Some(2), Some(3)]));
     Ok(())
 }

@@ -8,7 +8,7 @@ use art_nodes::store::NodeStore;
 use art_test_support::memory::all_memory;
 use art_test_support::nodes::{count_touched, nodes_seen};
 use art_test_support::trees::{Key, keys_after, plant_all, plant_keys, planted_all, promise};
-use std::alloc::Global;
+use std::alloc::{AllocError, Global};
 use std::test::Fail;
 
 // Places leaves beside a tree: so many, or until there is no memory for one more.
@@ -129,43 +129,46 @@ fn touches_no_more_than_it_must(rt: HostRuntime) -> Result<(), Fail> {
     Ok(())
 }
 
+// What the deletion of [2] does while all memory is held.
+fn deleted_without_memory<const P: usize>(
+    store: &mut NodeStore<Key, u32, P>,
+    root: OpaqueNodePtr,
+) -> Result<Option<Deletion>, AllocError>
+    requires { IsCanonicalRoot (of_key (λ key. key.items)) P store.old root }
+{
+    let held = all_memory(store.alloc())?;
+    let done = delete(store, root, &[2]);
+    drop(held);
+    Ok(done)
+}
+
 #[test]
 fn without_memory_a_deletion_below_a_kept_parent_is_made(rt: HostRuntime) -> Result<(), Fail> {
-    let alloc = rt.alloc();
-    let mut store: NodeStore<Key, u32, 4> = NodeStore::new(alloc);
+    let mut store: NodeStore<Key, u32, 4> = NodeStore::new(rt.alloc());
     let root = plant_all(&mut store, &SIX[..4])?;
-    let held = all_memory(alloc)?;
-    let done = delete(&mut store, root, &[2]);
-    drop(held);
     let expected = Deletion {
         new_root: Some(root),
         gone: gone_with(2),
     };
+    let done = deleted_without_memory(&mut store, root)?;
     assert_eq!(rt; done, Some(expected));
     Ok(())
 }
 
-// The deleted value, and the kind of the root that is left.
-fn kind_without<const P: usize>(
+// The deleted value, and the kind of the root that is left, where all memory is held but for a smaller node.
+fn kind_without_memory<const P: usize>(
     store: &mut NodeStore<Key, u32, P>,
-    root: OpaqueNodePtr,
-    key_bytes: &[u8],
-) -> Option<(u32, Option<NodeType>)>
-    requires { IsCanonicalRoot (of_key (λ key. key.items)) P store.old root }
-{
-    let done = delete(store, root, key_bytes)?;
-    Some((done.gone.value, done.new_root.map(|root| root.node_type())))
+) -> Result<Option<(u32, Option<NodeType>)>, Fail> {
+    let root = plant_all(store, &SIX[..5])?;
+    promise(store, root, 0, NodeType::Node4)?;
+    let done = deleted_without_memory(store, root)?;
+    Ok(done.map(|done| (done.gone.value, done.new_root.map(|root| root.node_type()))))
 }
 
 #[test]
 fn without_memory_a_promised_shrink_is_made(rt: HostRuntime) -> Result<(), Fail> {
-    let alloc = rt.alloc();
-    let mut store: NodeStore<Key, u32, 4> = NodeStore::new(alloc);
-    let root = plant_all(&mut store, &SIX[..5])?;
-    promise(&mut store, root, 0, NodeType::Node4)?;
-    let held = all_memory(alloc)?;
-    let left = kind_without(&mut store, root, &[2]);
-    drop(held);
+    let mut store: NodeStore<Key, u32, 4> = NodeStore::new(rt.alloc());
+    let left = kind_without_memory(&mut store)?;
     assert_eq!(rt; left, Some((2, Some(NodeType::Node4))));
     Ok(())
 }

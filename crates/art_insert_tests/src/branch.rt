@@ -104,29 +104,27 @@ fn splits_the_prefix_of_a_child(rt: HostRuntime) -> Result<(), Fail> {
     Ok(())
 }
 
-// Whether [1, 2, 9] comes in beside [1, 2, 3, 4].
-fn is_split_beside<const P: usize>(
+// Whether [1, 2, 9] comes in beside [1, 2, 3, 4] while all memory is held but for the nodes that it needs.
+fn is_split_without_memory<const P: usize>(
     store: &mut NodeStore<Key, u32, P>,
     root: OpaqueNodePtr,
-    key: Key,
-) -> bool
+) -> Result<bool, Fail>
     requires { IsCanonicalRoot (of_key (λ key. key.items)) P store.old root }
 {
+    let alloc = store.alloc();
+    promise(store, root, 1, NodeType::Node4)?;
+    let key = [1, 2, 9].to_vec(alloc)?;
+    let held = all_memory(alloc)?;
     let (root, done) = insert(store, root, key, 1);
-    matches!(done, Some(Ok(_))) && is_branch(store, root, 2, &[1, 2], [3, 9])
+    drop(held);
+    Ok(matches!(done, Some(Ok(_))) && is_branch(store, root, 2, &[1, 2], [3, 9]))
 }
 
 #[test]
 fn without_memory_a_reserved_split_is_made(rt: HostRuntime) -> Result<(), Fail> {
-    let alloc = rt.alloc();
-    let mut store: NodeStore<Key, u32, 16> = NodeStore::new(alloc);
+    let mut store: NodeStore<Key, u32, 16> = NodeStore::new(rt.alloc());
     let root = plant_all(&mut store, &[&[1, 2, 3, 4]])?;
-    let key = [1, 2, 9].to_vec(alloc)?;
-    promise(&mut store, root, 1, NodeType::Node4)?;
-    let held = all_memory(alloc)?;
-    let split = is_split_beside(&mut store, root, key);
-    drop(held);
-    assert!(rt; split);
+    assert!(rt; is_split_without_memory(&mut store, root)?);
     Ok(())
 }
 

@@ -52,8 +52,8 @@ fn adds_a_child_where_there_is_room(rt: HostRuntime) -> Result<(), Fail> {
         touched: (1, 0, 2),
         ..done
     };
-    assert_eq!(rt; done, expected);
-    assert_eq!(rt; placed(&store, done, 3), (NodeType::Node4, true, Some(9)));
+    let seen = (done, placed(&store, done, 3));
+    assert_eq!(rt; seen, (expected, (NodeType::Node4, true, Some(9))));
     Ok(())
 }
 
@@ -69,18 +69,18 @@ fn puts_a_larger_root_in_the_place_of_a_full_one(rt: HostRuntime) -> Result<(), 
         touched: (2, 1, 1),
         ..done
     };
-    let seen = (done, child(&store, root, 4));
-    assert_eq!(rt; seen, (expected, None));
-    assert_eq!(rt; placed(&store, done, 5), (NodeType::Node16, true, Some(9)));
+    let seen = (done, child(&store, root, 4), placed(&store, done, 5));
+    assert_eq!(rt; seen, (expected, None, (NodeType::Node16, true, Some(9))));
     Ok(())
 }
 
-#[test]
-fn tells_the_parent_of_a_larger_child(rt: HostRuntime) -> Result<(), Fail> {
-    let mut store: NodeStore<Key, u32, 16> = NodeStore::new(rt.alloc());
-    let slices: [&[u8]; 6] = [&[0], &[1, 1], &[1, 2], &[1, 4], &[1, 5], &[2]];
-    let (root, _, done) = grow(&mut store, &slices, &[1, 3])?;
-    let larger = child(&store, root, 1).ok_or("a child")?;
+// What is to come of a key that made the node at [1] larger, and the kind of that node.
+fn expected_larger<const P: usize>(
+    store: &NodeStore<Key, u32, P>,
+    root: OpaqueNodePtr,
+    done: Insertion,
+) -> Option<(Insertion, NodeType)> {
+    let larger = child(store, root, 1)?;
     let expected = Insertion {
         new_root: root,
         change: InsertParentNodeChange::NewParent {
@@ -90,7 +90,16 @@ fn tells_the_parent_of_a_larger_child(rt: HostRuntime) -> Result<(), Fail> {
         touched: (2, 1, 3),
         ..done
     };
-    assert_eq!(rt; (done, larger.kind), (expected, NodeType::Node16));
+    Some((expected, larger.kind))
+}
+
+#[test]
+fn tells_the_parent_of_a_larger_child(rt: HostRuntime) -> Result<(), Fail> {
+    let mut store: NodeStore<Key, u32, 16> = NodeStore::new(rt.alloc());
+    let slices: [&[u8]; 6] = [&[0], &[1, 1], &[1, 2], &[1, 4], &[1, 5], &[2]];
+    let (root, _, done) = grow(&mut store, &slices, &[1, 3])?;
+    let expected = expected_larger(&store, root, done);
+    assert_eq!(rt; expected, Some((done, NodeType::Node16)));
     Ok(())
 }
 
@@ -141,9 +150,9 @@ fn hands_back_the_pair_that_gave_way(rt: HostRuntime) -> Result<(), Fail> {
         change: InsertParentNodeChange::NoChange,
         touched: (0, 0, 1),
     };
-    assert_eq!(rt; done, expected);
-    let seen = (Some(done.leaf.to_opaque()), value_of(&store, done.leaf));
-    assert_eq!(rt; seen, (name, Some(9)));
+    let leaf = Some(done.leaf.to_opaque());
+    let seen = (done, leaf, value_of(&store, done.leaf));
+    assert_eq!(rt; seen, (expected, name, Some(9)));
     Ok(())
 }
 
@@ -160,30 +169,29 @@ fn replaces_the_pair_of_the_empty_key(rt: HostRuntime) -> Result<(), Fail> {
     Ok(())
 }
 
-// Whether a key comes in where its pair was.
-fn is_replaced<const P: usize>(
+// Whether [1, 2] comes in where its pair was, while all memory is held.
+fn is_replaced_without_memory<const P: usize>(
     store: &mut NodeStore<Key, u32, P>,
     root: OpaqueNodePtr,
-    key: Key,
-) -> bool
+) -> Result<bool, Fail>
     requires { IsCanonicalRoot (of_key (λ key. key.items)) P store.old root }
 {
-    match insert(store, root, key, 2).1 {
-        Some(Ok(done)) => done.existing_leaf.is_some(),
-        _ => false,
+    let alloc = store.alloc();
+    let key = [1, 2].to_vec(alloc)?;
+    let held = all_memory(alloc)?;
+    let done = insert(store, root, key, 2).1;
+    drop(held);
+    match done {
+        Some(Ok(done)) => Ok(done.existing_leaf.is_some()),
+        _ => Ok(false),
     }
 }
 
 #[test]
 fn without_memory_a_stored_key_is_replaced(rt: HostRuntime) -> Result<(), Fail> {
-    let alloc = rt.alloc();
-    let mut store: NodeStore<Key, u32, 16> = NodeStore::new(alloc);
+    let mut store: NodeStore<Key, u32, 16> = NodeStore::new(rt.alloc());
     let root = plant_all(&mut store, &[&[1, 2]])?;
-    let key = [1, 2].to_vec(alloc)?;
-    let held = all_memory(alloc)?;
-    let replaced = is_replaced(&mut store, root, key);
-    drop(held);
-    assert!(rt; replaced);
+    assert!(rt; is_replaced_without_memory(&mut store, root)?);
     Ok(())
 }
 

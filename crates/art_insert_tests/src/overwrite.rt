@@ -16,7 +16,7 @@ use art_test_support::points::{
     Gone, HANDED_BACK, Insertion, Refusal, insertion_seen, prefix_insert, refused_prefix_insertion,
 };
 use art_test_support::trees::{Key, child, keys_of_three, plant_all, plant_keys, value_of};
-use std::alloc::Global;
+use std::alloc::{AllocError, Global};
 use std::test::Fail;
 
 // The root before a prefix insertion, what it had under the key's first byte, and what the insertion did.
@@ -232,25 +232,22 @@ fn gives_way_at_the_root(rt: HostRuntime) -> Result<(), Fail> {
     Ok(())
 }
 
-#[test]
-fn the_empty_key_takes_the_place_of_all(rt: HostRuntime) -> Result<(), Fail> {
-    let all = keys_of_three(rt.alloc(), [4, 3, 2])?;
-    let mut store: NodeStore<Key, u32, 16> = NodeStore::new(rt.alloc());
-    let root = plant_keys(&mut store, all)?;
-    let seen = overwrite_seen(&mut store, root)?;
-    assert_eq!(rt; seen, expected_at_root(seen, 0, 24, 17));
-    Ok(())
-}
-
-// What comes of the empty key.
-fn overwrite_seen<const P: usize>(
+// What comes of the empty key in the tree of 24 keys.
+fn overwritten_by_empty<const P: usize>(
     store: &mut NodeStore<Key, u32, P>,
-    root: OpaqueNodePtr,
-) -> Result<Outcome, Fail>
-    requires { IsCanonicalRoot (of_key (λ key. key.items)) P store.old root }
-{
+) -> Result<Outcome, Fail> {
+    let all = keys_of_three(store.alloc(), [4, 3, 2])?;
+    let root = plant_keys(store, all)?;
     let before = nodes_seen(store)?;
     overwrite(store, root, &before, &[], &[])
+}
+
+#[test]
+fn the_empty_key_takes_the_place_of_all(rt: HostRuntime) -> Result<(), Fail> {
+    let mut store: NodeStore<Key, u32, 16> = NodeStore::new(rt.alloc());
+    let seen = overwritten_by_empty(&mut store)?;
+    assert_eq!(rt; seen, expected_at_root(seen, 0, 24, 17));
+    Ok(())
 }
 
 // What is to come of a key in the place of one pair, whose value and neighbours are told.
@@ -308,8 +305,7 @@ fn replaces_one_leaf(rt: HostRuntime) -> Result<(), Fail> {
     ];
     for (old, key) in cases {
         let (seen, expected) = tried_for_one(rt.alloc(), old, key)?;
-        assert_eq!(rt; Some(seen), expected);
-        assert_eq!(rt; seen.after.nodes, (1, 0));
+        assert_eq!(rt; (Some(seen), seen.after.nodes), (expected, (1, 0)));
     }
     Ok(())
 }
@@ -326,8 +322,8 @@ fn replaces_one_leaf_between_others(rt: HostRuntime) -> Result<(), Fail> {
     let mut store: NodeStore<Key, u32, 16> = NodeStore::new(rt.alloc());
     let slices: [&[u8]; 3] = [&[0], &[1, 2, 3], &[2]];
     let seen = overwritten(&mut store, &slices, &[1, 2], &[1, 2, 3])?;
-    assert_eq!(rt; Some(seen), expected_between(seen));
-    assert_eq!(rt; seen.after.nodes, (3, 1));
+    let expected = (expected_between(seen), (3, 1));
+    assert_eq!(rt; (Some(seen), seen.after.nodes), expected);
     Ok(())
 }
 
@@ -493,24 +489,39 @@ fn stored<const P: usize>(
     value_of(store, search_unchecked(store, root, key)?)
 }
 
+// The root after a prefix insertion, the kind of its point, and what it tells.
+fn insert_text<const P: usize>(
+    store: &mut NodeStore<Key, u32, P>,
+    root: OpaqueNodePtr,
+    key: Key,
+    value: u32,
+) -> (OpaqueNodePtr, (Kind, (Option<u32>, usize)))
+    requires { IsCanonicalRoot (of_key (λ key. key.items)) P store.old root }
+    ensures { IsCanonicalRoot (of_key (λ key. key.items)) P store.new result.0 }
+{
+    let kind = kind_of(search_for_prefix_insert_point(store, root, key.as_slice()));
+    let (root, answer) = prefix_insert(store, root, key, value);
+    (root, (kind, told(answer)))
+}
+
 // What three prefix insertions tell, one after another, and the values of their keys then.
 fn told_of_text<const P: usize>(
     store: &mut NodeStore<Key, u32, P>,
     root: OpaqueNodePtr,
     keys: [Key; 3],
-) -> ([(Option<u32>, usize); 3], [Option<u32>; 3])
+) -> ([(Kind, (Option<u32>, usize)); 3], [Option<u32>; 3])
     requires { IsCanonicalRoot (of_key (λ key. key.items)) P store.old root }
 {
     let [first, second, third] = keys;
-    let (root, first) = prefix_insert(store, root, first, 0xAA);
-    let (root, second) = prefix_insert(store, root, second, 0xBB);
-    let (root, third) = prefix_insert(store, root, third, 0xCC);
+    let (root, first) = insert_text(store, root, first, 0xAA);
+    let (root, second) = insert_text(store, root, second, 0xBB);
+    let (root, third) = insert_text(store, root, third, 0xCC);
     let values = [
         stored(store, root, b"abb"),
         stored(store, root, b"b"),
         stored(store, root, b"ab"),
     ];
-    ([told(first), told(second), told(third)], values)
+    ([first, second, third], values)
 }
 
 // The text of three keys.
@@ -527,31 +538,36 @@ fn a_shorter_text_takes_the_place_of_a_longer_one(rt: HostRuntime) -> Result<(),
     let mut store: NodeStore<Key, u32, 16> = NodeStore::new(rt.alloc());
     let root = plant_all(&mut store, &[b"abb", b"b"])?;
     let seen = told_of_text(&mut store, root, text(rt.alloc())?);
-    let replies = [(Some(0), 0), (Some(1), 0), (Some(0xAA), 0)];
+    let replies = [
+        (Kind::Exact, (Some(0), 0)),
+        (Kind::Exact, (Some(1), 0)),
+        (Kind::Overwrite, (Some(0xAA), 0)),
+    ];
     assert_eq!(rt; seen, (replies, [None, Some(0xBB), Some(0xCC)]));
     Ok(())
 }
 
-// The value of the pair that gives way to a key.
-fn replaced<const P: usize>(
+// What a prefix insertion tells while all memory is held.
+fn told_without_memory<const P: usize>(
     store: &mut NodeStore<Key, u32, P>,
     root: OpaqueNodePtr,
-    key: Key,
-) -> (Option<u32>, usize)
+    key: &[u8],
+) -> Result<(Option<u32>, usize), AllocError>
     requires { IsCanonicalRoot (of_key (λ key. key.items)) P store.old root }
 {
-    told(prefix_insert(store, root, key, 9).1)
+    let alloc = store.alloc();
+    let key = key.to_vec(alloc)?;
+    let held = all_memory(alloc)?;
+    let answer = prefix_insert(store, root, key, 9).1;
+    drop(held);
+    Ok(told(answer))
 }
 
-// The same in the tree of [0], [1, 2, 3] and [2], while all memory is held.
+// The same in the tree of [0], [1, 2, 3] and [2].
 fn replaced_without_memory(alloc: Global, key: &[u8]) -> Result<(Option<u32>, usize), Fail> {
     let mut store: NodeStore<Key, u32, 16> = NodeStore::new(alloc);
     let root = plant_all(&mut store, &[&[0], &[1, 2, 3], &[2]])?;
-    let key = key.to_vec(alloc)?;
-    let held = all_memory(alloc)?;
-    let told = replaced(&mut store, root, key);
-    drop(held);
-    Ok(told)
+    Ok(told_without_memory(&mut store, root, key)?)
 }
 
 #[test]

@@ -8,6 +8,7 @@ use art_operations::insert::{InsertKind, InsertPoint, InsertSearchError, search_
 use art_operations::path::{ExplicitMismatch, TreePath};
 use art_test_support::memory::all_memory;
 use art_test_support::trees::{Key, child, plant_all, value_of};
+use std::alloc::AllocError;
 use std::test::Fail;
 
 const LONG: [&[u8]; 2] = [&[7, 1, 1, 1, 1, 5], &[7, 1, 1, 1, 1, 6]];
@@ -79,10 +80,13 @@ fn told_of_long<const P: usize>(
 fn reads_a_leaf_for_a_long_prefix(rt: HostRuntime) -> Result<(), Fail> {
     let mut store: NodeStore<Key, u32, 2> = NodeStore::new(rt.alloc());
     let root = plant_all(&mut store, &LONG)?;
-    let least = child(&store, root, 5).ok_or("a child")?;
+    let least = child(&store, root, 5).and_then(|name| name.as_leaf());
     let related = Some(Told::Related(true));
-    let expected = [parted(root, least.as_leaf()), related, related];
-    assert_eq!(rt; told_of_long(&store, root), expected);
+    let expected = [parted(root, least), related, related];
+    assert_eq!(rt;
+        (told_of_long(&store, root), least.is_some()),
+        (expected, true)
+    );
     Ok(())
 }
 
@@ -115,39 +119,52 @@ fn refuses_related_keys(rt: HostRuntime) -> Result<(), Fail> {
     Ok(())
 }
 
+// What is to be told where the root gets a child more.
+fn beside_children(root: OpaqueNodePtr) -> Option<Told> {
+    let inner_node_ptr = root.as_inner()?;
+    Some(at_root(root, InsertKind::IntoExisting { inner_node_ptr }))
+}
+
 #[test]
 fn stands_beside_the_children_of_a_node(rt: HostRuntime) -> Result<(), Fail> {
     let mut store: NodeStore<Key, u32, 16> = NodeStore::new(rt.alloc());
     let root = plant_all(&mut store, &[&[1], &[2]])?;
-    let inner_node_ptr = root.as_inner().ok_or("an inner root")?;
-    let insert_kind = InsertKind::IntoExisting { inner_node_ptr };
-    assert_eq!(rt; told_of(&store, root, &[3]), at_root(root, insert_kind));
+    let told = Some(told_of(&store, root, &[3]));
+    assert_eq!(rt; told, beside_children(root));
     Ok(())
+}
+
+// What is to be told where the root is a leaf that gets a parent with a prefix of two bytes.
+fn beside_leaf(root: OpaqueNodePtr) -> Option<Told> {
+    let insert_kind = InsertKind::SplitLeaf {
+        leaf_node_ptr: root.as_leaf()?,
+        new_key_bytes_used: 2,
+    };
+    Some(at_root(root, insert_kind))
 }
 
 #[test]
 fn splits_a_leaf(rt: HostRuntime) -> Result<(), Fail> {
     let mut store: NodeStore<Key, u32, 16> = NodeStore::new(rt.alloc());
     let root = plant_all(&mut store, &[&[1, 2, 3, 4]])?;
-    let insert_kind = InsertKind::SplitLeaf {
-        leaf_node_ptr: root.as_leaf().ok_or("a leaf")?,
-        new_key_bytes_used: 2,
-    };
-    assert_eq!(rt;
-        told_of(&store, root, &[1, 2, 9]),
-        at_root(root, insert_kind)
-    );
+    let told = Some(told_of(&store, root, &[1, 2, 9]));
+    assert_eq!(rt; told, beside_leaf(root));
     Ok(())
+}
+
+// What is to be told where the root is the leaf of the key.
+fn at_leaf(root: OpaqueNodePtr) -> Option<Told> {
+    let leaf_node_ptr = root.as_leaf()?;
+    Some(at_root(root, InsertKind::Exact { leaf_node_ptr }))
 }
 
 #[test]
 fn finds_the_leaf_of_the_empty_key(rt: HostRuntime) -> Result<(), Fail> {
     let mut store: NodeStore<Key, u32, 16> = NodeStore::new(rt.alloc());
     let root = plant_all(&mut store, &[&[]])?;
-    let leaf_node_ptr = root.as_leaf().ok_or("a leaf")?;
-    let insert_kind = InsertKind::Exact { leaf_node_ptr };
-    let seen = (told_of(&store, root, &[]), told_of(&store, root, &[1]));
-    assert_eq!(rt; seen, (at_root(root, insert_kind), Told::Related(true)));
+    let own = Some(told_of(&store, root, &[]));
+    let related = Some(told_of(&store, root, &[1]));
+    assert_eq!(rt; [own, related], [at_leaf(root), Some(Told::Related(true))]);
     Ok(())
 }
 
@@ -215,15 +232,28 @@ fn expected_below([root, middle, low, leaf]: [OpaqueNodePtr; 4]) -> Option<Below
     })
 }
 
+// What is told of the keys, what is to be, and the value of the leaf of [1, 2, 3].
+fn compared_below<const P: usize>(
+    store: &NodeStore<Key, u32, P>,
+    root: OpaqueNodePtr,
+) -> Option<(Below, Below, u32)>
+    requires { IsCanonicalRoot (of_key (λ key. key.items)) P store.now root }
+{
+    let names = names_below(store, root)?;
+    let value = value_of(store, names[3].as_leaf()?)?;
+    Some((told_below(store, root)?, expected_below(names)?, value))
+}
+
 #[test]
 fn names_parents_and_grandparents(rt: HostRuntime) -> Result<(), Fail> {
     let mut store: NodeStore<Key, u32, 0> = NodeStore::new(rt.alloc());
     let root = plant_all(&mut store, &[&[1, 2, 3], &[1, 2, 4], &[1, 5], &[6]])?;
-    let names = names_below(&store, root).ok_or("other kinds of nodes")?;
-    let value = names[3].as_leaf().and_then(|leaf| value_of(&store, leaf));
-    let expected = expected_below(names).ok_or("other kinds of nodes")?;
-    let seen = (told_below(&store, root), value);
-    assert_eq!(rt; seen, (Some(expected), Some(0)));
+    let compared = compared_below(&store, root);
+    assert_eq!(rt;
+        compared,
+        compared.map(|(_, expected, _)| (expected, expected, 0))
+    );
+    assert!(rt; compared.is_some());
     Ok(())
 }
 
@@ -238,14 +268,23 @@ fn told_of_each<const P: usize>(store: &NodeStore<Key, u32, P>, root: OpaqueNode
     ]
 }
 
+// The same while all memory is held.
+fn told_without_memory<const P: usize>(
+    store: &NodeStore<Key, u32, P>,
+    root: OpaqueNodePtr,
+) -> Result<[bool; 3], AllocError>
+    requires { IsCanonicalRoot (of_key (λ key. key.items)) P store.now root }
+{
+    let held = all_memory(store.alloc())?;
+    let told = told_of_each(store, root);
+    drop(held);
+    Ok(told)
+}
+
 #[test]
 fn without_memory_only_a_refusal_fails(rt: HostRuntime) -> Result<(), Fail> {
-    let alloc = rt.alloc();
-    let mut store: NodeStore<Key, u32, 2> = NodeStore::new(alloc);
+    let mut store: NodeStore<Key, u32, 2> = NodeStore::new(rt.alloc());
     let root = plant_all(&mut store, &LONG)?;
-    let held = all_memory(alloc)?;
-    let told = told_of_each(&store, root);
-    drop(held);
-    assert_eq!(rt; told, [true; 3]);
+    assert_eq!(rt; told_without_memory(&store, root)?, [true; 3]);
     Ok(())
 }
