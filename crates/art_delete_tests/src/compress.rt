@@ -12,13 +12,14 @@ use std::alloc::{AllocError, Global};
 use std::test::Fail;
 
 // The old root, what it had under a byte, what a deletion did, and how many names came into use, went out of it, and
-// have another node.
-#[derive(Clone, Copy)]
+// have another node; and how many leaves and inner nodes are left.
+#[derive(Clone, Copy, PartialEq, Eq, Debug)]
 struct Deleted {
     root: OpaqueNodePtr,
     other: Option<OpaqueNodePtr>,
     done: Deletion,
     touched: (usize, usize, usize),
+    nodes: (usize, usize),
 }
 
 // Plants a tree of some keys, and deletes one of them.
@@ -36,6 +37,7 @@ fn deleted_from<const P: usize>(
         other,
         done,
         touched: count_touched(store, &before),
+        nodes: count_nodes(store),
     })
 }
 
@@ -100,7 +102,8 @@ fn merges_a_prefix_that_is_not_stored_whole(rt: HostRuntime) -> Result<(), Fail>
     let seen = deleted_from(&mut store, &slices, 1, &[7, 1, 1, 9])?;
     let root = outline(&store, seen.done.new_root, &[7, 1]);
     let expected = Some((NodeType::Node4, 2, 5, true));
-    assert_eq!(rt; (seen.touched, root), ((0, 2, 2), expected));
+    assert_eq!(rt; seen.touched, (0, 2, 2));
+    assert_eq!(rt; root, expected);
     Ok(())
 }
 
@@ -234,10 +237,14 @@ fn without_memory_a_parent_is_compressed(rt: HostRuntime) -> Result<(), Fail> {
 fn leaves_nothing_of_one_leaf(rt: HostRuntime) -> Result<(), Fail> {
     let mut store: NodeStore<Key, u32, 16> = NodeStore::new(rt.alloc());
     let seen = deleted_from(&mut store, &[&[1, 2, 3]], 1, &[1, 2, 3])?;
-    let expected = Deletion {
-        new_root: None,
-        gone: gone_with(0),
+    let expected = Deleted {
+        done: Deletion {
+            new_root: None,
+            gone: gone_with(0),
+        },
+        nodes: (0, 0),
+        ..seen
     };
-    assert_eq!(rt; (seen.done, count_nodes(&store)), (expected, (0, 0)));
+    assert_eq!(rt; seen, expected);
     Ok(())
 }
