@@ -48,59 +48,108 @@ fn branch<const P: usize>(
     Ok((root, old, insertion_seen(store, &before, &done, key)))
 }
 
+// What is seen of a split.
+#[derive(Clone, Copy, PartialEq, Eq, Debug)]
+struct Split {
+    done: Insertion,
+    // Whether the nodes have the prefixes and children that they are to have.
+    is_made: bool,
+    // What the new parent has under the byte of the node that was split.
+    found: Option<OpaqueNodePtr>,
+}
+
+// Splits the leaf of [1, 2, 3, 4]. Answers what is seen, and what is to be.
+fn split_leaf<const P: usize>(store: &mut NodeStore<Key, u32, P>) -> Result<[Split; 2], Fail> {
+    let (root, _, done) = branch(store, &[&[1, 2, 3, 4]], 3, &[1, 2, 9])?;
+    let seen = Split {
+        done,
+        is_made: is_branch(store, done.new_root, 2, &[1, 2], [3, 9]),
+        found: child(store, done.new_root, 3),
+    };
+    let expected = Split {
+        done: Insertion {
+            existing: None,
+            change: InsertParentNodeChange::NewParent {
+                new_parent_node: done.new_root,
+                leaf_node_key_byte: 9,
+            },
+            touched: (2, 0, 1),
+            ..done
+        },
+        is_made: true,
+        found: Some(root),
+    };
+    Ok([seen, expected])
+}
+
 #[test]
 fn splits_the_root_leaf(rt: HostRuntime) -> Result<(), Fail> {
     let mut store: NodeStore<Key, u32, 16> = NodeStore::new(rt.alloc());
-    let (root, _, done) = branch(&mut store, &[&[1, 2, 3, 4]], 3, &[1, 2, 9])?;
-    let expected = Insertion {
-        existing: None,
-        change: InsertParentNodeChange::NewParent {
-            new_parent_node: done.new_root,
-            leaf_node_key_byte: 9,
-        },
-        touched: (2, 0, 1),
-        ..done
-    };
-    let is_new = is_branch(&store, done.new_root, 2, &[1, 2], [3, 9]);
-    let seen = (is_new, child(&store, done.new_root, 3), done);
-    assert_eq!(rt; seen, (true, Some(root), expected));
+    let [seen, expected] = split_leaf(&mut store)?;
+    assert_eq!(rt; seen, expected);
     Ok(())
+}
+
+// The same for a prefix of which two bytes are stored, after three bytes.
+fn split_long<const P: usize>(store: &mut NodeStore<Key, u32, P>) -> Result<[Split; 2], Fail> {
+    let slices: [&[u8]; 2] = [&[7, 1, 1, 1, 1, 5], &[7, 1, 1, 1, 1, 6]];
+    let (root, _, done) = branch(store, &slices, 5, &[7, 1, 1, 9])?;
+    let is_made = is_branch(store, done.new_root, 3, &[7, 1], [1, 9])
+        && is_branch(store, root, 1, &[1], [5, 6]);
+    let seen = Split {
+        done,
+        is_made,
+        found: child(store, done.new_root, 1),
+    };
+    let expected = Split {
+        done: Insertion {
+            touched: (2, 0, 2),
+            ..done
+        },
+        is_made: true,
+        found: Some(root),
+    };
+    Ok([seen, expected])
 }
 
 #[test]
 fn splits_a_prefix_that_is_longer_than_stored(rt: HostRuntime) -> Result<(), Fail> {
     let mut store: NodeStore<Key, u32, 2> = NodeStore::new(rt.alloc());
-    let slices: [&[u8]; 2] = [&[7, 1, 1, 1, 1, 5], &[7, 1, 1, 1, 1, 6]];
-    let (root, _, done) = branch(&mut store, &slices, 5, &[7, 1, 1, 9])?;
-    let are_branches = [
-        is_branch(&store, done.new_root, 3, &[7, 1], [1, 9]),
-        is_branch(&store, root, 1, &[1], [5, 6]),
-    ];
-    let seen = (are_branches, child(&store, done.new_root, 1), done.touched);
-    assert_eq!(rt; seen, ([true; 2], Some(root), (2, 0, 2)));
+    let [seen, expected] = split_long(&mut store)?;
+    assert_eq!(rt; seen, expected);
     Ok(())
 }
 
-// Whether the node at [1] has [1] as its prefix and one at [1, 1, 1] below it, with this name.
-fn is_split<const P: usize>(
-    store: &NodeStore<Key, u32, P>,
-    root: OpaqueNodePtr,
-    below: OpaqueNodePtr,
-) -> Option<bool> {
-    let parent = child(store, root, 1)?;
-    let are_branches = is_branch(store, parent, 1, &[1], [1, 9])
-        && is_branch(store, below, 0, &[], [5, 6]);
-    Some(are_branches && child(store, parent, 1)? == below)
+// The same for the prefix of the node at [1], after one byte. The node is below the new one then.
+fn split_child<const P: usize>(store: &mut NodeStore<Key, u32, P>) -> Result<[Split; 2], Fail> {
+    let slices: [&[u8]; 4] = [&[0], &[1, 1, 1, 5], &[1, 1, 1, 6], &[2]];
+    let (root, below, done) = branch(store, &slices, 1, &[1, 1, 9])?;
+    let old = below.ok_or("a child")?;
+    let parent = child(store, root, 1).ok_or("a child")?;
+    let is_made = is_branch(store, parent, 1, &[1], [1, 9])
+        && is_branch(store, old, 0, &[], [5, 6]);
+    let seen = Split {
+        done,
+        is_made,
+        found: child(store, parent, 1),
+    };
+    let expected = Split {
+        done: Insertion {
+            new_root: root,
+            touched: (2, 0, 4),
+            ..done
+        },
+        is_made: true,
+        found: below,
+    };
+    Ok([seen, expected])
 }
 
 #[test]
 fn splits_the_prefix_of_a_child(rt: HostRuntime) -> Result<(), Fail> {
     let mut store: NodeStore<Key, u32, 16> = NodeStore::new(rt.alloc());
-    let slices: [&[u8]; 4] = [&[0], &[1, 1, 1, 5], &[1, 1, 1, 6], &[2]];
-    let (root, below, done) = branch(&mut store, &slices, 1, &[1, 1, 9])?;
-    let split = below.and_then(|below| is_split(&store, root, below));
-    let seen = (split, done.new_root, done.touched);
-    assert_eq!(rt; seen, (Some(true), root, (2, 0, 4)));
+    let [seen, expected] = split_child(&mut store)?;
+    assert_eq!(rt; seen, expected);
     Ok(())
 }
 

@@ -14,92 +14,132 @@ use art_test_support::trees::{Key, child, keys_after, plant_all, plant_keys, val
 use std::alloc::Global;
 use std::test::Fail;
 
+// What an insertion did, and what there is then.
+#[derive(Clone, Copy, PartialEq, Eq, Debug)]
+struct Growth {
+    done: Insertion,
+    // The kind of the parent that is told, and what it has under the byte that is told.
+    parent_kind: Option<NodeType>,
+    found: Option<OpaqueNodePtr>,
+    // The value of the leaf.
+    value: Option<u32>,
+}
+
+// What there is after an insertion.
+fn growth_seen<const P: usize>(store: &NodeStore<Key, u32, P>, done: Insertion) -> Growth {
+    let (parent_kind, found) = match done.change {
+        InsertParentNodeChange::NoChange => (None, None),
+        InsertParentNodeChange::NewParent {
+            new_parent_node,
+            leaf_node_key_byte,
+        } => (
+            Some(new_parent_node.kind),
+            child(store, new_parent_node, leaf_node_key_byte),
+        ),
+    };
+    Growth {
+        done,
+        parent_kind,
+        found,
+        value: value_of(store, done.leaf),
+    }
+}
+
 // Plants a tree of some keys and inserts one. Answers the old root, what it had under the key's last byte, and
 // what the insertion did.
 fn grow<const P: usize>(
     store: &mut NodeStore<Key, u32, P>,
     slices: &[&[u8]],
     key: &[u8],
-) -> Result<(OpaqueNodePtr, Option<OpaqueNodePtr>, Insertion), Fail> {
+) -> Result<(OpaqueNodePtr, Option<OpaqueNodePtr>, Growth), Fail> {
     let (root, before) = plant_seen(store, slices)?;
     let old = key.last().and_then(|byte| child(store, root, *byte));
     let done = inserted(store, root, key.to_vec(store.alloc())?)?;
-    Ok((root, old, insertion_seen(store, &before, &done, key)))
+    let seen = insertion_seen(store, &before, &done, key);
+    Ok((root, old, growth_seen(store, seen)))
 }
 
-// The kind of the root, whether it has the inserted leaf under a byte, and the leaf's value.
-fn placed<const P: usize>(
-    store: &NodeStore<Key, u32, P>,
-    done: Insertion,
+// What is to come of a key that becomes a child of a node of this kind.
+fn expected_child(
+    seen: Growth,
+    new_root: OpaqueNodePtr,
+    parent: OpaqueNodePtr,
     byte: u8,
-) -> (NodeType, bool, Option<u32>) {
-    let found = child(store, done.new_root, byte);
-    let is_there = found == Some(done.leaf.to_opaque());
-    (done.new_root.kind, is_there, value_of(store, done.leaf))
+    touched: (usize, usize, usize),
+) -> Growth {
+    Growth {
+        done: Insertion {
+            existing: None,
+            new_root,
+            change: InsertParentNodeChange::NewParent {
+                new_parent_node: parent,
+                leaf_node_key_byte: byte,
+            },
+            touched,
+            ..seen.done
+        },
+        parent_kind: Some(parent.kind),
+        found: Some(seen.done.leaf.to_opaque()),
+        value: Some(9),
+    }
 }
 
 #[test]
 fn adds_a_child_where_there_is_room(rt: HostRuntime) -> Result<(), Fail> {
     let mut store: NodeStore<Key, u32, 16> = NodeStore::new(rt.alloc());
-    let (root, _, done) = grow(&mut store, &[&[1], &[2]], &[3])?;
-    let expected = Insertion {
-        existing: None,
-        new_root: root,
-        change: InsertParentNodeChange::NewParent {
-            new_parent_node: root,
-            leaf_node_key_byte: 3,
-        },
-        touched: (1, 0, 2),
-        ..done
-    };
-    let seen = (done, placed(&store, done, 3));
-    assert_eq!(rt; seen, (expected, (NodeType::Node4, true, Some(9))));
+    let (root, _, seen) = grow(&mut store, &[&[1], &[2]], &[3])?;
+    let expected = expected_child(seen, root, root, 3, (1, 0, 2));
+    assert_eq!(rt; seen, expected);
     Ok(())
+}
+
+// What is to come of a fifth key beside four of one byte, where the old root is gone.
+fn expected_larger_root<const P: usize>(
+    store: &NodeStore<Key, u32, P>,
+    old_root: OpaqueNodePtr,
+    seen: Growth,
+) -> Option<Growth> {
+    if child(store, old_root, 4).is_some() {
+        return None;
+    }
+    let root = seen.done.new_root;
+    let expected = expected_child(seen, root, root, 5, (2, 1, 1));
+    Some(Growth {
+        parent_kind: Some(NodeType::Node16),
+        ..expected
+    })
 }
 
 #[test]
 fn puts_a_larger_root_in_the_place_of_a_full_one(rt: HostRuntime) -> Result<(), Fail> {
     let mut store: NodeStore<Key, u32, 16> = NodeStore::new(rt.alloc());
-    let (root, _, done) = grow(&mut store, &[&[1], &[2], &[3], &[4]], &[5])?;
-    let expected = Insertion {
-        change: InsertParentNodeChange::NewParent {
-            new_parent_node: done.new_root,
-            leaf_node_key_byte: 5,
-        },
-        touched: (2, 1, 1),
-        ..done
-    };
-    let seen = (done, child(&store, root, 4), placed(&store, done, 5));
-    assert_eq!(rt; seen, (expected, None, (NodeType::Node16, true, Some(9))));
+    let (root, _, seen) = grow(&mut store, &[&[1], &[2], &[3], &[4]], &[5])?;
+    let expected = expected_larger_root(&store, root, seen).ok_or("another root")?;
+    assert_eq!(rt; seen, expected);
     Ok(())
 }
 
-// What is to come of a key that made the node at [1] larger, and the kind of that node.
-fn expected_larger<const P: usize>(
+// What is to come of a key that makes the node at [1] larger.
+fn expected_larger_child<const P: usize>(
     store: &NodeStore<Key, u32, P>,
     root: OpaqueNodePtr,
-    done: Insertion,
-) -> Option<(Insertion, NodeType)> {
+    seen: Growth,
+) -> Option<Growth> {
     let larger = child(store, root, 1)?;
-    let expected = Insertion {
-        new_root: root,
-        change: InsertParentNodeChange::NewParent {
-            new_parent_node: larger,
-            leaf_node_key_byte: 3,
-        },
-        touched: (2, 1, 3),
-        ..done
-    };
-    Some((expected, larger.kind))
+    let expected = expected_child(seen, root, larger, 3, (2, 1, 3));
+    Some(Growth {
+        parent_kind: Some(NodeType::Node16),
+        ..expected
+    })
 }
 
 #[test]
 fn tells_the_parent_of_a_larger_child(rt: HostRuntime) -> Result<(), Fail> {
     let mut store: NodeStore<Key, u32, 16> = NodeStore::new(rt.alloc());
     let slices: [&[u8]; 6] = [&[0], &[1, 1], &[1, 2], &[1, 4], &[1, 5], &[2]];
-    let (root, _, done) = grow(&mut store, &slices, &[1, 3])?;
-    let expected = expected_larger(&store, root, done);
-    assert_eq!(rt; expected, Some((done, NodeType::Node16)));
+    let (root, _, seen) = grow(&mut store, &slices, &[1, 3])?;
+    let expected = expected_larger_child(&store, root, seen).ok_or("a child")?;
+    assert_eq!(rt; seen, expected);
     Ok(())
 }
 
@@ -134,38 +174,46 @@ fn grows_to_each_kind(rt: HostRuntime) -> Result<(), Fail> {
     Ok(())
 }
 
+// What is to come of a stored key, by the name of its leaf and the old value.
+fn expected_in_place(
+    root: OpaqueNodePtr,
+    name: Option<OpaqueNodePtr>,
+    value: u32,
+) -> Option<Growth> {
+    Some(Growth {
+        done: Insertion {
+            leaf: name?.as_leaf()?,
+            existing: Some(Gone {
+                has_key: true,
+                value,
+                previous: None,
+                next: None,
+            }),
+            new_root: root,
+            change: InsertParentNodeChange::NoChange,
+            touched: (0, 0, 1),
+        },
+        parent_kind: None,
+        found: None,
+        value: Some(9),
+    })
+}
+
 #[test]
 fn hands_back_the_pair_that_gave_way(rt: HostRuntime) -> Result<(), Fail> {
     let mut store: NodeStore<Key, u32, 16> = NodeStore::new(rt.alloc());
-    let (root, name, done) = grow(&mut store, &[&[1, 1], &[1, 2]], &[1, 2])?;
-    let expected = Insertion {
-        leaf: done.leaf,
-        existing: Some(Gone {
-            has_key: true,
-            value: 1,
-            previous: None,
-            next: None,
-        }),
-        new_root: root,
-        change: InsertParentNodeChange::NoChange,
-        touched: (0, 0, 1),
-    };
-    let leaf = Some(done.leaf.to_opaque());
-    let seen = (done, leaf, value_of(&store, done.leaf));
-    assert_eq!(rt; seen, (expected, name, Some(9)));
+    let (root, name, seen) = grow(&mut store, &[&[1, 1], &[1, 2]], &[1, 2])?;
+    let expected = expected_in_place(root, name, 1).ok_or("a leaf")?;
+    assert_eq!(rt; seen, expected);
     Ok(())
 }
 
 #[test]
 fn replaces_the_pair_of_the_empty_key(rt: HostRuntime) -> Result<(), Fail> {
     let mut store: NodeStore<Key, u32, 16> = NodeStore::new(rt.alloc());
-    let (root, _, done) = grow(&mut store, &[&[]], &[])?;
-    let seen = (
-        done.existing.is_some(),
-        done.new_root,
-        value_of(&store, done.leaf),
-    );
-    assert_eq!(rt; seen, (true, root, Some(9)));
+    let (root, _, seen) = grow(&mut store, &[&[]], &[])?;
+    let expected = expected_in_place(root, Some(root), 0).ok_or("a leaf")?;
+    assert_eq!(rt; seen, expected);
     Ok(())
 }
 

@@ -154,11 +154,19 @@ fn expected_below(seen: Outcome, case: Case<'_>) -> Option<Outcome> {
     })
 }
 
-// What came of such a key, and what is to come.
-fn tried_below(alloc: Global, case: Case<'_>) -> Result<(Outcome, Option<Outcome>), Fail> {
+// What comes of such a key, and what is to come.
+fn overwrite_below<const P: usize>(
+    store: &mut NodeStore<Key, u32, P>,
+    case: Case<'_>,
+) -> Result<[Outcome; 2], Fail> {
+    let seen = overwritten(store, case.slices, case.key, &[])?;
+    Ok([seen, expected_below(seen, case).ok_or("an inner root")?])
+}
+
+// The same in a store of its own.
+fn tried_below(alloc: Global, case: Case<'_>) -> Result<[Outcome; 2], Fail> {
     let mut store: NodeStore<Key, u32, 16> = NodeStore::new(alloc);
-    let seen = overwritten(&mut store, case.slices, case.key, &[])?;
-    Ok((seen, expected_below(seen, case)))
+    overwrite_below(&mut store, case)
 }
 
 #[test]
@@ -188,8 +196,8 @@ fn gives_way_below_an_inner_node(rt: HostRuntime) -> Result<(), Fail> {
         ..within
     };
     for case in [at_end, between, within, at_long_end] {
-        let (seen, expected) = tried_below(rt.alloc(), case)?;
-        assert_eq!(rt; Some(seen), expected);
+        let [seen, expected] = tried_below(rt.alloc(), case)?;
+        assert_eq!(rt; seen, expected);
     }
     Ok(())
 }
@@ -250,13 +258,13 @@ fn the_empty_key_takes_the_place_of_all(rt: HostRuntime) -> Result<(), Fail> {
     Ok(())
 }
 
-// What is to come of a key in the place of one pair, whose value and neighbours are told.
+// What is to come of a key in the place of one pair, with what there is to be afterwards.
 fn expected_for_leaf(
     seen: Outcome,
     point: PrefixInsertPoint,
     leaf: OpaqueNodePtr,
-    values: [Option<u32>; 3],
     old_value: u32,
+    after: After,
 ) -> Option<Outcome> {
     Some(Outcome {
         point,
@@ -273,26 +281,31 @@ fn expected_for_leaf(
             touched: (0, 0, 1),
         },
         removed: 0,
-        after: After {
-            nodes: seen.after.nodes,
-            has_key: true,
-            values,
-        },
+        after,
         ..seen
     })
 }
 
 // What comes of a key in the place of the only other, and what is to come.
-fn tried_for_one(
-    alloc: Global,
+fn replace_one<const P: usize>(
+    store: &mut NodeStore<Key, u32, P>,
     old: &[u8],
     key: &[u8],
-) -> Result<(Outcome, Option<Outcome>), Fail> {
+) -> Result<[Outcome; 2], Fail> {
+    let seen = overwritten(store, &[old], key, old)?;
+    let after = After {
+        nodes: (1, 0),
+        has_key: true,
+        values: [None, Some(9), None],
+    };
+    let expected = expected_for_leaf(seen, at_root(seen.root, 0), seen.root, 0, after);
+    Ok([seen, expected.ok_or("a leaf")?])
+}
+
+// The same in a store of its own.
+fn tried_for_one(alloc: Global, old: &[u8], key: &[u8]) -> Result<[Outcome; 2], Fail> {
     let mut store: NodeStore<Key, u32, 16> = NodeStore::new(alloc);
-    let seen = overwritten(&mut store, &[old], key, old)?;
-    let values = [None, Some(9), None];
-    let expected = expected_for_leaf(seen, at_root(seen.root, 0), seen.root, values, 0);
-    Ok((seen, expected))
+    replace_one(&mut store, old, key)
 }
 
 #[test]
@@ -304,8 +317,8 @@ fn replaces_one_leaf(rt: HostRuntime) -> Result<(), Fail> {
         (&[], &[1]),
     ];
     for (old, key) in cases {
-        let (seen, expected) = tried_for_one(rt.alloc(), old, key)?;
-        assert_eq!(rt; (Some(seen), seen.after.nodes), (expected, (1, 0)));
+        let [seen, expected] = tried_for_one(rt.alloc(), old, key)?;
+        assert_eq!(rt; seen, expected);
     }
     Ok(())
 }
@@ -314,16 +327,28 @@ fn replaces_one_leaf(rt: HostRuntime) -> Result<(), Fail> {
 fn expected_between(seen: Outcome) -> Option<Outcome> {
     let leaf = seen.below?;
     let point = at_child(seen.root, 1, leaf, 1)?;
-    expected_for_leaf(seen, point, leaf, [Some(0), Some(9), Some(2)], 1)
+    let after = After {
+        nodes: (3, 1),
+        has_key: true,
+        values: [Some(0), Some(9), Some(2)],
+    };
+    expected_for_leaf(seen, point, leaf, 1, after)
+}
+
+// What comes of that key, and what is to come.
+fn replace_between<const P: usize>(
+    store: &mut NodeStore<Key, u32, P>,
+) -> Result<[Outcome; 2], Fail> {
+    let slices: [&[u8]; 3] = [&[0], &[1, 2, 3], &[2]];
+    let seen = overwritten(store, &slices, &[1, 2], &[1, 2, 3])?;
+    Ok([seen, expected_between(seen).ok_or("a leaf")?])
 }
 
 #[test]
 fn replaces_one_leaf_between_others(rt: HostRuntime) -> Result<(), Fail> {
     let mut store: NodeStore<Key, u32, 16> = NodeStore::new(rt.alloc());
-    let slices: [&[u8]; 3] = [&[0], &[1, 2, 3], &[2]];
-    let seen = overwritten(&mut store, &slices, &[1, 2], &[1, 2, 3])?;
-    let expected = (expected_between(seen), (3, 1));
-    assert_eq!(rt; (Some(seen), seen.after.nodes), expected);
+    let [seen, expected] = replace_between(&mut store)?;
+    assert_eq!(rt; seen, expected);
     Ok(())
 }
 

@@ -62,17 +62,23 @@ fn parted(root: OpaqueNodePtr, leaf_ptr: OptionalLeafPtr) -> Option<Told> {
     Some(at_root(root, insert_kind))
 }
 
-// What is told of a key that parts from a long prefix, and of two that end in it or with it.
-fn told_of_long<const P: usize>(
+// The same where the first leaf is read for the prefix.
+fn parted_at_least<const P: usize>(
     store: &NodeStore<Key, u32, P>,
     root: OpaqueNodePtr,
-) -> [Option<Told>; 3]
+) -> Option<Told> {
+    let least = child(store, root, 5)?.as_leaf()?;
+    parted(root, Some(least))
+}
+
+// What is told of a key that parts from a long prefix, and of two that end in it or with it.
+fn told_of_long<const P: usize>(store: &NodeStore<Key, u32, P>, root: OpaqueNodePtr) -> [Told; 3]
     requires { IsCanonicalRoot (of_key (λ key. key.items)) P store.now root }
 {
     [
-        Some(told_of(store, root, &[7, 1, 1, 9])),
-        Some(told_of(store, root, &[7, 1, 1, 1])),
-        Some(told_of(store, root, &[7, 1, 1, 1, 1])),
+        told_of(store, root, &[7, 1, 1, 9]),
+        told_of(store, root, &[7, 1, 1, 1]),
+        told_of(store, root, &[7, 1, 1, 1, 1]),
     ]
 }
 
@@ -80,13 +86,9 @@ fn told_of_long<const P: usize>(
 fn reads_a_leaf_for_a_long_prefix(rt: HostRuntime) -> Result<(), Fail> {
     let mut store: NodeStore<Key, u32, 2> = NodeStore::new(rt.alloc());
     let root = plant_all(&mut store, &LONG)?;
-    let least = child(&store, root, 5).and_then(|name| name.as_leaf());
-    let related = Some(Told::Related(true));
-    let expected = [parted(root, least), related, related];
-    assert_eq!(rt;
-        (told_of_long(&store, root), least.is_some()),
-        (expected, true)
-    );
+    let point = parted_at_least(&store, root).ok_or("a child")?;
+    let told = told_of_long(&store, root);
+    assert_eq!(rt; told, [point, Told::Related(true), Told::Related(true)]);
     Ok(())
 }
 
@@ -94,9 +96,9 @@ fn reads_a_leaf_for_a_long_prefix(rt: HostRuntime) -> Result<(), Fail> {
 fn reads_no_leaf_for_a_stored_prefix(rt: HostRuntime) -> Result<(), Fail> {
     let mut store: NodeStore<Key, u32, 16> = NodeStore::new(rt.alloc());
     let root = plant_all(&mut store, &LONG)?;
-    let related = Some(Told::Related(true));
-    let expected = [parted(root, None), related, related];
-    assert_eq!(rt; told_of_long(&store, root), expected);
+    let point = parted(root, None).ok_or("an inner root")?;
+    let told = told_of_long(&store, root);
+    assert_eq!(rt; told, [point, Told::Related(true), Told::Related(true)]);
     Ok(())
 }
 
@@ -115,7 +117,8 @@ fn told_of_related<const P: usize>(store: &NodeStore<Key, u32, P>, root: OpaqueN
 fn refuses_related_keys(rt: HostRuntime) -> Result<(), Fail> {
     let mut store: NodeStore<Key, u32, 16> = NodeStore::new(rt.alloc());
     let root = plant_all(&mut store, &[&[1, 2, 3]])?;
-    assert_eq!(rt; told_of_related(&store, root), [Told::Related(true); 3]);
+    let told = told_of_related(&store, root);
+    assert_eq!(rt; told, [Told::Related(true); 3]);
     Ok(())
 }
 
@@ -129,8 +132,9 @@ fn beside_children(root: OpaqueNodePtr) -> Option<Told> {
 fn stands_beside_the_children_of_a_node(rt: HostRuntime) -> Result<(), Fail> {
     let mut store: NodeStore<Key, u32, 16> = NodeStore::new(rt.alloc());
     let root = plant_all(&mut store, &[&[1], &[2]])?;
-    let told = Some(told_of(&store, root, &[3]));
-    assert_eq!(rt; told, beside_children(root));
+    let expected = beside_children(root).ok_or("an inner root")?;
+    let told = told_of(&store, root, &[3]);
+    assert_eq!(rt; told, expected);
     Ok(())
 }
 
@@ -147,8 +151,9 @@ fn beside_leaf(root: OpaqueNodePtr) -> Option<Told> {
 fn splits_a_leaf(rt: HostRuntime) -> Result<(), Fail> {
     let mut store: NodeStore<Key, u32, 16> = NodeStore::new(rt.alloc());
     let root = plant_all(&mut store, &[&[1, 2, 3, 4]])?;
-    let told = Some(told_of(&store, root, &[1, 2, 9]));
-    assert_eq!(rt; told, beside_leaf(root));
+    let expected = beside_leaf(root).ok_or("a leaf")?;
+    let told = told_of(&store, root, &[1, 2, 9]);
+    assert_eq!(rt; told, expected);
     Ok(())
 }
 
@@ -162,14 +167,25 @@ fn at_leaf(root: OpaqueNodePtr) -> Option<Told> {
 fn finds_the_leaf_of_the_empty_key(rt: HostRuntime) -> Result<(), Fail> {
     let mut store: NodeStore<Key, u32, 16> = NodeStore::new(rt.alloc());
     let root = plant_all(&mut store, &[&[]])?;
-    let own = Some(told_of(&store, root, &[]));
-    let related = Some(told_of(&store, root, &[1]));
-    assert_eq!(rt; [own, related], [at_leaf(root), Some(Told::Related(true))]);
+    let own = at_leaf(root).ok_or("a leaf")?;
+    let told = told_of_empty(&store, root);
+    assert_eq!(rt; told, [own, Told::Related(true)]);
     Ok(())
 }
 
+// What is told of the empty key and of another.
+fn told_of_empty<const P: usize>(store: &NodeStore<Key, u32, P>, root: OpaqueNodePtr) -> [Told; 2]
+    requires { IsCanonicalRoot (of_key (λ key. key.items)) P store.now root }
+{
+    [told_of(store, root, &[]), told_of(store, root, &[1])]
+}
+
 // The paths and the used bytes of two keys beside the nodes at [1] and [1, 2], and the point of a stored key.
-fn told_below<const P: usize>(store: &NodeStore<Key, u32, P>, root: OpaqueNodePtr) -> Option<Below>
+fn told_below<const P: usize>(
+    store: &NodeStore<Key, u32, P>,
+    root: OpaqueNodePtr,
+    value: Option<u32>,
+) -> Option<Below>
     requires { IsCanonicalRoot (of_key (λ key. key.items)) P store.now root }
 {
     let beside = search_for_insert_point(store, root, &[1, 9, 9]).ok()?;
@@ -178,6 +194,7 @@ fn told_below<const P: usize>(store: &NodeStore<Key, u32, P>, root: OpaqueNodePt
         beside: (beside.path, beside.key_bytes_used),
         below: (below.path, below.key_bytes_used),
         of_leaf: told_of(store, root, &[1, 2, 3]),
+        value,
     })
 }
 
@@ -187,6 +204,8 @@ struct Below {
     beside: (TreePath, usize),
     below: (TreePath, usize),
     of_leaf: Told,
+    // The value of the stored key's leaf.
+    value: Option<u32>,
 }
 
 // The inner nodes at the root, at [1] and at [1, 2], and the leaf of [1, 2, 3].
@@ -229,31 +248,28 @@ fn expected_below([root, middle, low, leaf]: [OpaqueNodePtr; 4]) -> Option<Below
         beside: (of_child, 1),
         below: (of_grandchild, 2),
         of_leaf: Told::Point(of_leaf),
+        value: Some(0),
     })
 }
 
-// What is told of the keys, what is to be, and the value of the leaf of [1, 2, 3].
+// What is told of the keys, and what is to be.
 fn compared_below<const P: usize>(
     store: &NodeStore<Key, u32, P>,
     root: OpaqueNodePtr,
-) -> Option<(Below, Below, u32)>
+) -> Option<[Below; 2]>
     requires { IsCanonicalRoot (of_key (λ key. key.items)) P store.now root }
 {
     let names = names_below(store, root)?;
-    let value = value_of(store, names[3].as_leaf()?)?;
-    Some((told_below(store, root)?, expected_below(names)?, value))
+    let value = value_of(store, names[3].as_leaf()?);
+    Some([told_below(store, root, value)?, expected_below(names)?])
 }
 
 #[test]
 fn names_parents_and_grandparents(rt: HostRuntime) -> Result<(), Fail> {
     let mut store: NodeStore<Key, u32, 0> = NodeStore::new(rt.alloc());
     let root = plant_all(&mut store, &[&[1, 2, 3], &[1, 2, 4], &[1, 5], &[6]])?;
-    let compared = compared_below(&store, root);
-    assert_eq!(rt;
-        compared,
-        compared.map(|(_, expected, _)| (expected, expected, 0))
-    );
-    assert!(rt; compared.is_some());
+    let [seen, expected] = compared_below(&store, root).ok_or("other kinds of nodes")?;
+    assert_eq!(rt; seen, expected);
     Ok(())
 }
 
@@ -285,6 +301,7 @@ fn told_without_memory<const P: usize>(
 fn without_memory_only_a_refusal_fails(rt: HostRuntime) -> Result<(), Fail> {
     let mut store: NodeStore<Key, u32, 2> = NodeStore::new(rt.alloc());
     let root = plant_all(&mut store, &LONG)?;
-    assert_eq!(rt; told_without_memory(&store, root)?, [true; 3]);
+    let told = told_without_memory(&store, root)?;
+    assert_eq!(rt; told, [true; 3]);
     Ok(())
 }
