@@ -1,66 +1,145 @@
+//! Deletions from a parent with two children.
 ghost use Rattle.art_model.specs.Pairs.{of_key};
 ghost use Rattle.art_model.specs.Roots.{IsCanonicalRoot};
 
-use super::*;
-use crate::delete::search_for_delete_point;
-use art_test_support::nodes::{Seen, count_touched, nodes_seen};
-use art_test_support::trees::{Key, keys, plant};
-use art_nodes::node::{NodePtr, NodeType};
+use crate::points::{Deletion, delete, gone_with};
+use art_nodes::node::{InnerPtr, LeafPtr, NodePtr, NodeType, OpaqueNodePtr};
+use art_nodes::store::NodeStore;
 use art_test_support::memory::all_memory;
+use art_test_support::nodes::{count_nodes, count_touched, plant_seen};
+use art_test_support::trees::{Key, child, plant_all};
+use std::alloc::{AllocError, Global};
 use std::test::Fail;
 
-// A node of a tree: a leaf with its value and key, or an inner node with the length of its prefix,
-// the stored bytes, and its children.
-#[derive(Drop)]
-struct Outline {
-    kind: NodeType,
-    number: usize,
-    bytes: Vec<u8>,
-    below: Vec<(u8, OpaqueNodePtr)>,
-}
-
-// Deletes a key.
-fn delete<K: AsBytes + Drop, const P: usize>(
-    store: &mut NodeStore<K, u32, P>,
+// The old root, what it had under a byte, what a deletion did, and how many names came into use, went out of it, and
+// have another node; and how many leaves and inner nodes are left.
+#[derive(Clone, Copy, PartialEq, Eq, Debug)]
+struct Deleted {
     root: OpaqueNodePtr,
-    key_bytes: &[u8],
-) -> Option<DeleteResult<K, u32>>
-    requires { IsCanonicalRoot (of_key K.bytes) P store.old root }
-{
-    let point = search_for_delete_point(store, root, key_bytes)?;
-    point.apply(store, root).ok()
+    other: Option<OpaqueNodePtr>,
+    done: Deletion,
+    touched: (usize, usize, usize),
+    nodes: (usize, usize),
 }
 
-fn outline_of<const P: usize>(
+// Plants a tree of some keys, and deletes one of them.
+fn deleted_from<const P: usize>(
+    store: &mut NodeStore<Key, u32, P>,
+    slices: &[&[u8]],
+    byte: u8,
+    key: &[u8],
+) -> Result<Deleted, Fail> {
+    let (root, before) = plant_seen(store, slices)?;
+    let other = child(store, root, byte);
+    let done = delete(store, root, key).ok_or("a deletion")?;
+    Ok(Deleted {
+        root,
+        other,
+        done,
+        touched: count_touched(store, &before),
+        nodes: count_nodes(store),
+    })
+}
+
+// The kind of an inner node, its number of children, the length of its prefix, and whether it stores these bytes of it.
+fn outline<const P: usize>(
     store: &NodeStore<Key, u32, P>,
-    name: OpaqueNodePtr,
-) -> Result<Outline, Fail> {
-    let alloc = store.alloc();
-    let mut below = Vec::new(alloc);
-    let kind = name.node_type();
-    match name.split() {
-        NodePtr::Leaf(leaf) => {
-            let leaf = store.leaf(leaf).ok_or("a leaf")?;
-            Ok(Outline {
-                kind,
-                number: leaf.value as usize,
-                bytes: leaf.key.as_slice().to_vec(alloc)?,
-                below,
-            })
+    name: Option<OpaqueNodePtr>,
+    stored: &[u8],
+) -> Option<(NodeType, usize, usize, bool)> {
+    let node = store.inner(name?.as_inner()?)?;
+    let is_stored = node.read_prefix() == stored;
+    Some((
+        node.node_type(),
+        node.num_children(),
+        node.prefix_len(),
+        is_stored,
+    ))
+}
+
+// What is seen of a deletion that leaves one leaf.
+#[derive(Clone, Copy, PartialEq, Eq, Debug)]
+struct Raised {
+    done: Deletion,
+    // Whether there was another leaf, and whether the parent of both is there still.
+    had_other: bool,
+    has_parent: Option<bool>,
+}
+
+// Deletes [1, 2, 9] beside [1, 2, 3, 4]. Answers what is seen, and what is to be.
+fn delete_beside<const P: usize>(store: &mut NodeStore<Key, u32, P>) -> Result<[Raised; 2], Fail> {
+    let slices: [&[u8]; 2] = [&[1, 2, 3, 4], &[1, 2, 9]];
+    let seen = deleted_from(store, &slices, 3, &[1, 2, 9])?;
+    let parent = seen.root.as_inner();
+    let raised = Raised {
+        done: seen.done,
+        had_other: seen.other.is_some(),
+        has_parent: parent.map(|parent| store.inner(parent).is_some()),
+    };
+    let expected = Raised {
+        done: Deletion {
+            new_root: seen.other,
+            gone: gone_with(1),
+        },
+        had_other: true,
+        has_parent: Some(false),
+    };
+    Ok([raised, expected])
+}
+
+#[test]
+fn raises_the_other_leaf(rt: HostRuntime) -> Result<(), Fail> {
+    let mut store: NodeStore<Key, u32, 16> = NodeStore::new(rt.alloc());
+    let [seen, expected] = delete_beside(&mut store)?;
+    assert_eq!(rt; seen, expected);
+    Ok(())
+}
+
+#[test]
+fn merges_a_prefix_that_is_not_stored_whole(rt: HostRuntime) -> Result<(), Fail> {
+    let mut store: NodeStore<Key, u32, 2> = NodeStore::new(rt.alloc());
+    let slices: [&[u8]; 3] = [&[7, 1, 1, 1, 1, 5], &[7, 1, 1, 1, 1, 6], &[7, 1, 1, 9]];
+    let seen = deleted_from(&mut store, &slices, 1, &[7, 1, 1, 9])?;
+    let root = outline(&store, seen.done.new_root, &[7, 1]);
+    let expected = Some((NodeType::Node4, 2, 5, true));
+    assert_eq!(rt; seen.touched, (0, 2, 2));
+    assert_eq!(rt; root, expected);
+    Ok(())
+}
+
+// Whether two leaves have the same pair.
+fn are_same_leaves<const P: usize>(
+    store: &NodeStore<Key, u32, P>,
+    leaf: LeafPtr,
+    other: &NodeStore<Key, u32, P>,
+    other_leaf: LeafPtr,
+) -> Option<bool> {
+    let leaf = store.leaf(leaf)?;
+    let other_leaf = other.leaf(other_leaf)?;
+    Some(leaf.value == other_leaf.value && leaf.key == other_leaf.key)
+}
+
+// Whether two inner nodes are the same but for the names of their children, which are added to the pairs.
+fn are_same_inners<const P: usize>(
+    store: &NodeStore<Key, u32, P>,
+    inner: InnerPtr,
+    other: &NodeStore<Key, u32, P>,
+    other_inner: InnerPtr,
+    pairs: &mut Vec<(OpaqueNodePtr, OpaqueNodePtr)>,
+) -> Option<bool> {
+    let node = store.inner(inner)?;
+    let other_node = other.inner(other_inner)?;
+    for (child, other_child) in node.iter().zip(other_node.iter()) {
+        if child.0 != other_child.0 {
+            return Some(false);
         }
-        NodePtr::Inner(inner) => {
-            let node = store.inner(inner).ok_or("an inner node")?;
-            for child in node.iter() {
-                below.push(child)?;
-            }
-            Ok(Outline {
-                kind,
-                number: node.prefix_len(),
-                bytes: node.read_prefix().to_vec(alloc)?,
-                below,
-            })
-        }
+        pairs.push((child.1, other_child.1)).ok()?;
     }
+    let are_same = inner.kind == other_inner.kind
+        && node.prefix_len() == other_node.prefix_len()
+        && node.read_prefix() == other_node.read_prefix()
+        && node.num_children() == other_node.num_children();
+    Some(are_same)
 }
 
 // Whether two trees of at most 100 nodes are the same but for the names of their nodes.
@@ -69,167 +148,103 @@ fn are_alike<const P: usize>(
     root: OpaqueNodePtr,
     other: &NodeStore<Key, u32, P>,
     other_root: OpaqueNodePtr,
-) -> Result<bool, Fail> {
+) -> Option<bool> {
     let mut pairs = Vec::new(store.alloc());
-    pairs.push((root, other_root))?;
+    pairs.push((root, other_root)).ok()?;
     for _ in 0..100 {
         let Some((name, other_name)) = pairs.pop() else {
-            return Ok(true);
+            return Some(true);
         };
-        let node = outline_of(store, name)?;
-        let other_node = outline_of(other, other_name)?;
-        if node.kind != other_node.kind
-            || node.number != other_node.number
-            || node.bytes != other_node.bytes
-            || node.below.len() != other_node.below.len()
-        {
-            return Ok(false);
-        }
-        for (child, other_child) in node.below.iter().zip(&other_node.below) {
-            if child.0 != other_child.0 {
-                return Ok(false);
+        let are_same = match (name.split(), other_name.split()) {
+            (NodePtr::Leaf(leaf), NodePtr::Leaf(other_leaf)) => {
+                are_same_leaves(store, leaf, other, other_leaf)?
             }
-            pairs.push((child.1, other_child.1))?;
+            (NodePtr::Inner(inner), NodePtr::Inner(other_inner)) => {
+                are_same_inners(store, inner, other, other_inner, &mut pairs)?
+            }
+            _ => false,
+        };
+        if !are_same {
+            return Some(false);
         }
     }
-    Ok(false)
+    Some(false)
 }
 
-#[test]
-fn raises_the_other_leaf(rt: HostRuntime) -> Result<(), Fail> {
-    let alloc = rt.alloc();
-    let mut store: NodeStore<Key, u32, 16> = NodeStore::new(alloc);
-    let root = plant(
-        &mut store,
-        &mut NodeStore::new(alloc),
-        keys(alloc, &[&[1, 2, 3, 4], &[1, 2, 9]])?,
-    )?;
-    let parent = root.as_inner().ok_or("an inner root")?;
-    let other = store.inner(parent).ok_or("the root")?.lookup_child(3);
-    let done = delete(&mut store, root, &[1, 2, 9]).ok_or("a deletion")?;
-    assert!(rt; other.is_some());
-    assert_eq!(rt; done.new_root, other);
-    assert_eq!(rt; done.deleted_leaf.key.as_slice(), [1, 2, 9].as_slice());
-    assert_eq!(rt; done.deleted_leaf.value, 1);
-    assert!(rt; store.inner(parent).is_none());
-    Ok(())
-}
-
-#[test]
-fn merges_a_prefix_that_is_not_stored_whole(rt: HostRuntime) -> Result<(), Fail> {
-    let alloc = rt.alloc();
-    let mut store: NodeStore<Key, u32, 2> = NodeStore::new(alloc);
-    let root = plant(
-        &mut store,
-        &mut NodeStore::new(alloc),
-        keys(
-            alloc,
-            &[&[7, 1, 1, 1, 1, 5], &[7, 1, 1, 1, 1, 6], &[7, 1, 1, 9]],
-        )?,
-    )?;
-    let before = nodes_seen(&store)?;
-    let done = delete(&mut store, root, &[7, 1, 1, 9]).ok_or("a deletion")?;
-    assert_eq!(rt; count_touched(&store, &before), (0, 2, 2));
-    let new_root = done.new_root.ok_or("a root")?;
-    let node = store
-        .inner(new_root.as_inner().ok_or("an inner root")?)
-        .ok_or("the root")?;
-    assert_eq!(rt; node.node_type(), NodeType::Node4);
-    assert_eq!(rt; node.prefix_len(), 5);
-    assert_eq!(rt; node.read_prefix(), [7, 1].as_slice());
-    Ok(())
-}
-
-// How many slots a deletion of an inserted key places, frees and changes, and whether the tree is
-// the one of the other keys.
+// How many slots a deletion of an inserted key places, frees and changes, and whether the tree is the one of the other
+// keys, with the root that it had.
 fn undone<const P: usize>(
     store: &mut NodeStore<Key, u32, P>,
     other: &mut NodeStore<Key, u32, P>,
-    second: &mut NodeStore<Key, u32, P>,
 ) -> Result<((usize, usize, usize), bool), Fail> {
-    let alloc = store.alloc();
-    let root = plant(
-        store,
-        second,
-        keys(
-            alloc,
-            &[&[0], &[1, 1, 1, 5], &[1, 1, 1, 6], &[2], &[1, 1, 9]],
-        )?,
-    )?;
-    let other_root = plant(
-        other,
-        second,
-        keys(alloc, &[&[0], &[1, 1, 1, 5], &[1, 1, 1, 6], &[2]])?,
-    )?;
-    let before = nodes_seen(store)?;
-    let done = delete(store, root, &[1, 1, 9]).ok_or("a deletion")?;
-    let touched = count_touched(store, &before);
-    let new_root = done.new_root.ok_or("a root")?;
-    let same = are_alike(store, new_root, other, other_root)?;
-    Ok((touched, same && new_root == root))
+    let slices: [&[u8]; 5] = [&[0], &[1, 1, 1, 5], &[1, 1, 1, 6], &[2], &[1, 1, 9]];
+    let seen = deleted_from(store, &slices, 1, &[1, 1, 9])?;
+    let other_root = plant_all(other, &slices[..4])?;
+    let same = are_alike(store, seen.root, other, other_root).ok_or("all nodes")?;
+    Ok((seen.touched, same && seen.done.new_root == Some(seen.root)))
+}
+
+// The same where none of a prefix is stored.
+fn undone_at_0(alloc: Global) -> Result<((usize, usize, usize), bool), Fail> {
+    undone::<0>(&mut NodeStore::new(alloc), &mut NodeStore::new(alloc))
+}
+
+// The same where four bytes are.
+fn undone_at_4(alloc: Global) -> Result<((usize, usize, usize), bool), Fail> {
+    undone::<4>(&mut NodeStore::new(alloc), &mut NodeStore::new(alloc))
+}
+
+// The same where sixteen are.
+fn undone_at_16(alloc: Global) -> Result<((usize, usize, usize), bool), Fail> {
+    undone::<16>(&mut NodeStore::new(alloc), &mut NodeStore::new(alloc))
 }
 
 #[test]
 fn undoes_an_insertion(rt: HostRuntime) -> Result<(), Fail> {
     let alloc = rt.alloc();
     let at_each_length = [
-        undone::<0>(
-            &mut NodeStore::new(alloc),
-            &mut NodeStore::new(alloc),
-            &mut NodeStore::new(alloc),
-        )?,
-        undone::<4>(
-            &mut NodeStore::new(alloc),
-            &mut NodeStore::new(alloc),
-            &mut NodeStore::new(alloc),
-        )?,
-        undone::<16>(
-            &mut NodeStore::new(alloc),
-            &mut NodeStore::new(alloc),
-            &mut NodeStore::new(alloc),
-        )?,
+        undone_at_0(alloc)?,
+        undone_at_4(alloc)?,
+        undone_at_16(alloc)?,
     ];
-    for done in at_each_length {
-        assert_eq!(rt; done, ((0, 2, 4), true));
-    }
+    assert_eq!(rt; at_each_length, [((0, 2, 4), true); 3]);
     Ok(())
+}
+
+// The root that is left without [1, 9], where [1, 1] is to be its prefix, while all memory is held.
+fn outline_without_memory<const P: usize>(
+    store: &mut NodeStore<Key, u32, P>,
+    root: OpaqueNodePtr,
+) -> Result<Option<(NodeType, usize, usize, bool)>, AllocError>
+    requires { IsCanonicalRoot (of_key (λ key. key.items)) P store.old root }
+{
+    let held = all_memory(store.alloc())?;
+    let done = delete(store, root, &[1, 9]);
+    drop(held);
+    Ok(outline(store, done.and_then(|done| done.new_root), &[1, 1]))
 }
 
 #[test]
 fn without_memory_a_parent_is_compressed(rt: HostRuntime) -> Result<(), Fail> {
-    let alloc = rt.alloc();
-    let mut store: NodeStore<Key, u32, 4> = NodeStore::new(alloc);
-    let root = plant(
-        &mut store,
-        &mut NodeStore::new(alloc),
-        keys(alloc, &[&[1, 1, 5], &[1, 1, 6], &[1, 9]])?,
-    )?;
-    let held = all_memory(alloc)?;
-    let done = delete(&mut store, root, &[1, 9]);
-    drop(held);
-    let new_root = done.ok_or("a deletion")?.new_root.ok_or("a root")?;
-    let node = store
-        .inner(new_root.as_inner().ok_or("an inner root")?)
-        .ok_or("the root")?;
-    assert_eq!(rt; node.read_prefix(), [1, 1].as_slice());
-    assert_eq!(rt; node.num_children(), 2);
+    let mut store: NodeStore<Key, u32, 4> = NodeStore::new(rt.alloc());
+    let root = plant_all(&mut store, &[&[1, 1, 5], &[1, 1, 6], &[1, 9]])?;
+    let left = outline_without_memory(&mut store, root)?;
+    assert_eq!(rt; left, Some((NodeType::Node4, 2, 2, true)));
     Ok(())
 }
 
 #[test]
 fn leaves_nothing_of_one_leaf(rt: HostRuntime) -> Result<(), Fail> {
-    let alloc = rt.alloc();
-    let mut store: NodeStore<Key, u32, 16> = NodeStore::new(alloc);
-    let root = plant(
-        &mut store,
-        &mut NodeStore::new(alloc),
-        keys(alloc, &[&[1, 2, 3]])?,
-    )?;
-    let done = delete(&mut store, root, &[1, 2, 3]).ok_or("a deletion")?;
-    assert_eq!(rt; done.new_root, None);
-    assert_eq!(rt; done.deleted_leaf.key.as_slice(), [1, 2, 3].as_slice());
-    for seen in &nodes_seen(&store)? {
-        assert_eq!(rt; *seen, Seen::Nothing);
-    }
+    let mut store: NodeStore<Key, u32, 16> = NodeStore::new(rt.alloc());
+    let seen = deleted_from(&mut store, &[&[1, 2, 3]], 1, &[1, 2, 3])?;
+    let expected = Deleted {
+        done: Deletion {
+            new_root: None,
+            gone: gone_with(0),
+        },
+        nodes: (0, 0),
+        ..seen
+    };
+    assert_eq!(rt; seen, expected);
     Ok(())
 }

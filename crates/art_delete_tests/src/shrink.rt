@@ -1,45 +1,15 @@
-ghost use Rattle.std.specs.Prelude.{IfOk, IfSome, ◌≢◌};
-ghost use Rattle.art_nodes.specs.declared.node.NodeType.TheVariants.{Leaf};
+//! Deletions from a parent with more than two children.
 ghost use Rattle.art_model.specs.Pairs.{of_key};
 ghost use Rattle.art_model.specs.Roots.{IsCanonicalRoot};
-ghost use Rattle.art_operations.specs.Deleted.{IsDeletePointIn};
 
-use super::*;
-use crate::delete::search_for_delete_point;
-use art_test_support::nodes::{count_touched, nodes_seen};
-use art_test_support::trees::{Key, keys_after, plant, planted, promise};
-use art_nodes::node::LeafNode;
+use crate::points::{Deletion, delete, gone_with, refused_deletion, take_out};
+use art_nodes::node::{LeafNode, NodeType, OpaqueNodePtr};
+use art_nodes::store::NodeStore;
 use art_test_support::memory::all_memory;
-use std::alloc::Global;
+use art_test_support::nodes::{count_touched, nodes_seen};
+use art_test_support::trees::{Key, keys_after, plant_all, plant_keys, planted_all, promise};
+use std::alloc::{AllocError, Global};
 use std::test::Fail;
-
-// The point of a key, if there is one.
-fn point_of<K: AsBytes + Drop, const P: usize>(
-    store: &NodeStore<K, u32, P>,
-    root: OpaqueNodePtr,
-    key_bytes: &[u8],
-) -> Option<DeletePoint>
-    requires { IsCanonicalRoot (of_key K.bytes) P store.now root }
-    ensures { IfSome result (λ point. IsDeletePointIn (of_key K.bytes) P store.now root point) }
-{
-    search_for_delete_point(store, root, key_bytes)
-}
-
-// Takes a key out, and answers the root that is left.
-fn take_out<K: AsBytes + Drop, const P: usize>(
-    store: &mut NodeStore<K, u32, P>,
-    root: OpaqueNodePtr,
-    key_bytes: &[u8],
-) -> Result<Option<OpaqueNodePtr>, Fail>
-    requires { IsCanonicalRoot (of_key K.bytes) P store.old root }
-    ensures { IfOk result (λ left. IfSome left (λ root. IsCanonicalRoot (of_key K.bytes) P store.new root)) }
-{
-    let point = point_of(store, root, key_bytes).ok_or("no such key")?;
-    match point.apply(store, root) {
-        Ok(done) => Ok(done.new_root),
-        Err(_) => Err("refused".into()),
-    }
-}
 
 // Places leaves beside a tree: so many, or until there is no memory for one more.
 fn crowd<const P: usize>(store: &mut NodeStore<Key, u32, P>, root: OpaqueNodePtr, count: u8)
@@ -54,19 +24,6 @@ fn crowd<const P: usize>(store: &mut NodeStore<Key, u32, P>, root: OpaqueNodePtr
     }
 }
 
-// What the deletion of one of these keys touches.
-fn touched_by(
-    alloc: Global,
-    keys: Vec<Key>,
-    key_bytes: &[u8],
-) -> Result<(usize, usize, usize), Fail> {
-    let mut store: NodeStore<Key, u32, 4> = NodeStore::new(alloc);
-    let root = plant(&mut store, &mut NodeStore::new(alloc), keys)?;
-    let before = nodes_seen(&store)?;
-    take_out(&mut store, root, key_bytes)?;
-    Ok(count_touched(&store, &before))
-}
-
 // The kind of the root of so many keys of one byte.
 fn kind_for(count: usize) -> Option<NodeType> {
     match count {
@@ -79,125 +36,192 @@ fn kind_for(count: usize) -> Option<NodeType> {
     }
 }
 
-#[test]
-fn shrinks_through_every_kind(rt: HostRuntime) -> Result<(), Fail> {
-    let alloc = rt.alloc();
-    let mut store: NodeStore<Key, u32, 4> = NodeStore::new(alloc);
-    let all = keys_after(alloc, &[], 256)?;
-    let mut root = Some(plant(&mut store, &mut NodeStore::new(alloc), all)?);
+// Takes all 256 keys of one byte out. Answers the root that is left, and how many keys there were when the root was of
+// another kind than it had to be.
+fn take_all_out<const P: usize>(
+    store: &mut NodeStore<Key, u32, P>,
+    root: OpaqueNodePtr,
+) -> Result<(Option<OpaqueNodePtr>, Option<usize>), Fail>
+    requires { IsCanonicalRoot (of_key (λ key. key.items)) P store.old root }
+{
+    let mut root = Some(root);
     for turn in 0..=255u8 {
         // 77 is odd: each byte comes once, and few come in order.
         let top = root.ok_or("a root")?;
-        root = take_out(&mut store, top, &[turn.wrapping_mul(77)])?;
+        root = take_out(store, top, &[turn.wrapping_mul(77)])?;
         let left = usize::from(255 - turn);
-        assert_eq!(rt; root.map(|root| root.node_type()), kind_for(left));
+        if root.map(|root| root.node_type()) != kind_for(left) {
+            return Ok((root, Some(left)));
+        }
     }
-    assert!(rt; root.is_none());
-    Ok(())
+    Ok((root, None))
 }
 
 #[test]
-fn touches_no_more_than_it_must(rt: HostRuntime) -> Result<(), Fail> {
-    let alloc = rt.alloc();
-    // The leaf, with those beside it and the parent.
-    let six = keys_after(alloc, &[], 6)?;
-    assert_eq!(rt; touched_by(alloc, six, &[2])?, (0, 1, 3));
-    let six = keys_after(alloc, &[], 6)?;
-    assert_eq!(rt; touched_by(alloc, six, &[5])?, (0, 1, 2));
-    // The leaf and the parent, with the leaves beside it and a smaller node.
-    let five = keys_after(alloc, &[], 5)?;
-    assert_eq!(rt; touched_by(alloc, five, &[2])?, (1, 2, 2));
-    // And the grandparent.
-    let mut below = keys_after(alloc, &[0], 17)?;
-    below.push([1].to_vec(alloc)?)?;
-    assert_eq!(rt; touched_by(alloc, below, &[0, 2])?, (1, 2, 3));
+fn shrinks_through_every_kind(rt: HostRuntime) -> Result<(), Fail> {
+    let all = keys_after(rt.alloc(), &[], 256)?;
+    let mut store: NodeStore<Key, u32, 4> = NodeStore::new(rt.alloc());
+    let root = plant_keys(&mut store, all)?;
+    assert_eq!(rt; take_all_out(&mut store, root)?, (None, None));
     Ok(())
+}
+
+// What the deletion of one of these keys touches.
+fn touched_by(
+    alloc: Global,
+    slices: &[&[u8]],
+    key_bytes: &[u8],
+) -> Result<(usize, usize, usize), Fail> {
+    let mut store: NodeStore<Key, u32, 4> = NodeStore::new(alloc);
+    touched_in(&mut store, slices, key_bytes)
+}
+
+// The same in a store.
+fn touched_in<const P: usize>(
+    store: &mut NodeStore<Key, u32, P>,
+    slices: &[&[u8]],
+    key_bytes: &[u8],
+) -> Result<(usize, usize, usize), Fail> {
+    let root = plant_all(store, slices)?;
+    let before = nodes_seen(store)?;
+    take_out(store, root, key_bytes)?;
+    Ok(count_touched(store, &before))
+}
+
+const SIX: [&[u8]; 6] = [&[0], &[1], &[2], &[3], &[4], &[5]];
+
+// Seventeen keys below a child of the root, and one beside them.
+const SEVENTEEN: [&[u8]; 18] = [
+    &[0, 0],
+    &[0, 1],
+    &[0, 2],
+    &[0, 3],
+    &[0, 4],
+    &[0, 5],
+    &[0, 6],
+    &[0, 7],
+    &[0, 8],
+    &[0, 9],
+    &[0, 10],
+    &[0, 11],
+    &[0, 12],
+    &[0, 13],
+    &[0, 14],
+    &[0, 15],
+    &[0, 16],
+    &[1],
+];
+
+#[test]
+fn touches_no_more_than_it_must(rt: HostRuntime) -> Result<(), Fail> {
+    let cases: [(&[&[u8]], &[u8], (usize, usize, usize)); 4] = [
+        // The leaf, with those beside it and the parent.
+        (&SIX, &[2], (0, 1, 3)),
+        (&SIX, &[5], (0, 1, 2)),
+        // The leaf and the parent, with the leaves beside it and a smaller node.
+        (&SIX[..5], &[2], (1, 2, 2)),
+        // And the grandparent.
+        (&SEVENTEEN, &[0, 2], (1, 2, 3)),
+    ];
+    for (slices, key, touched) in cases {
+        assert_eq!(rt; touched_by(rt.alloc(), slices, key)?, touched);
+    }
+    Ok(())
+}
+
+// What the deletion of [2] does while all memory is held.
+fn deleted_without_memory<const P: usize>(
+    store: &mut NodeStore<Key, u32, P>,
+    root: OpaqueNodePtr,
+) -> Result<Option<Deletion>, AllocError>
+    requires { IsCanonicalRoot (of_key (λ key. key.items)) P store.old root }
+{
+    let held = all_memory(store.alloc())?;
+    let done = delete(store, root, &[2]);
+    drop(held);
+    Ok(done)
 }
 
 #[test]
 fn without_memory_a_deletion_below_a_kept_parent_is_made(rt: HostRuntime) -> Result<(), Fail> {
-    let alloc = rt.alloc();
-    let mut store: NodeStore<Key, u32, 4> = NodeStore::new(alloc);
-    let four = keys_after(alloc, &[], 4)?;
-    let root = plant(&mut store, &mut NodeStore::new(alloc), four)?;
-    let point = point_of(&store, root, &[2]).ok_or("a point")?;
-    let held = all_memory(alloc)?;
-    let done = point.apply(&mut store, root);
-    drop(held);
-    let Ok(done) = done else {
-        panic!(rt; "refused");
+    let mut store: NodeStore<Key, u32, 4> = NodeStore::new(rt.alloc());
+    let root = plant_all(&mut store, &SIX[..4])?;
+    let expected = Deletion {
+        new_root: Some(root),
+        gone: gone_with(2),
     };
-    assert_eq!(rt; done.deleted_leaf.value, 2);
-    assert_eq!(rt; done.new_root, Some(root));
+    let done = deleted_without_memory(&mut store, root)?;
+    assert_eq!(rt; done, Some(expected));
     Ok(())
+}
+
+// The deleted value, and the kind of the root that is left, where all memory is held but for a smaller node.
+fn kind_without_memory<const P: usize>(
+    store: &mut NodeStore<Key, u32, P>,
+) -> Result<Option<(u32, Option<NodeType>)>, Fail> {
+    let root = plant_all(store, &SIX[..5])?;
+    promise(store, root, 0, NodeType::Node4)?;
+    let done = deleted_without_memory(store, root)?;
+    Ok(done.map(|done| (done.gone.value, done.new_root.map(|root| root.node_type()))))
 }
 
 #[test]
 fn without_memory_a_promised_shrink_is_made(rt: HostRuntime) -> Result<(), Fail> {
-    let alloc = rt.alloc();
-    let mut store: NodeStore<Key, u32, 4> = NodeStore::new(alloc);
-    let five = keys_after(alloc, &[], 5)?;
-    let root = plant(&mut store, &mut NodeStore::new(alloc), five)?;
-    promise(&mut store, root, 0, NodeType::Node4)?;
-    let point = point_of(&store, root, &[2]).ok_or("a point")?;
-    let held = all_memory(alloc)?;
-    let done = point.apply(&mut store, root);
-    drop(held);
-    let Ok(done) = done else {
-        panic!(rt; "refused");
-    };
-    assert_eq!(rt; done.deleted_leaf.value, 2);
-    assert_eq!(rt;
-        done.new_root.map(|root| root.node_type()),
-        Some(NodeType::Node4)
-    );
+    let mut store: NodeStore<Key, u32, 4> = NodeStore::new(rt.alloc());
+    let left = kind_without_memory(&mut store)?;
+    assert_eq!(rt; left, Some((2, Some(NodeType::Node4))));
     Ok(())
+}
+
+// What a refused deletion touches of the tree, beside leaves that take all that there is room for. The point has to come
+// back.
+fn refused_in_crowd<const P: usize>(
+    store: &mut NodeStore<Key, u32, P>,
+    root: OpaqueNodePtr,
+) -> Result<Option<(bool, (usize, usize))>, Fail>
+    requires { IsCanonicalRoot (of_key (λ key. key.items)) P store.old root }
+{
+    let before = nodes_seen(store)?;
+    let held = all_memory(store.alloc())?;
+    crowd(store, root, u8::MAX);
+    let refused = refused_deletion(store, root, &before, &[2]);
+    drop(held);
+    Ok(refused.map(|(is_back, (_, freed, changed))| (is_back, (freed, changed))))
 }
 
 #[test]
 fn without_memory_a_shrink_leaves_the_tree(rt: HostRuntime) -> Result<(), Fail> {
-    let alloc = rt.alloc();
-    let mut store: NodeStore<Key, u32, 4> = NodeStore::new(alloc);
-    let five = keys_after(alloc, &[], 5)?;
-    let root = plant(&mut store, &mut NodeStore::new(alloc), five)?;
-    let before = nodes_seen(&store)?;
-    let held = all_memory(alloc)?;
-    crowd(&mut store, root, u8::MAX);
-    let point = point_of(&store, root, &[2]).ok_or("a point")?;
-    let done = point.apply(&mut store, root);
-    drop(held);
-    let Err(refused) = done else {
-        panic!(rt; "memory from nowhere");
-    };
-    assert!(rt; refused.point == point);
-    let (_, freed, changed) = count_touched(&store, &before);
-    assert_eq!(rt; (freed, changed), (0, 0));
+    let mut store: NodeStore<Key, u32, 4> = NodeStore::new(rt.alloc());
+    let root = plant_all(&mut store, &SIX[..5])?;
+    let refused = refused_in_crowd(&mut store, root)?;
+    assert_eq!(rt; refused, Some((true, (0, 0))));
     Ok(())
 }
 
-// What the deletion of one of five keys touches where it is refused, beside so many other leaves.
-fn touched_by_refusal(alloc: Global, others: u8) -> Option<(usize, usize, usize)> {
+// What the deletion of one of five keys touches where it is refused, beside so many other leaves. The point has to
+// come back.
+fn touched_by_refusal<const P: usize>(
+    store: &mut NodeStore<Key, u32, P>,
+    others: u8,
+) -> Option<(bool, (usize, usize, usize))> {
+    let root = planted_all(store, &SIX[..5]).ok()??;
+    crowd(store, root, others);
+    let before = nodes_seen(store).ok()?;
+    refused_deletion(store, root, &before, &[2])
+}
+
+// The same in a store of its own.
+fn touched_beside(alloc: Global, others: u8) -> Option<(bool, (usize, usize, usize))> {
     let mut store: NodeStore<Key, u32, 4> = NodeStore::new(alloc);
-    let five = keys_after(alloc, &[], 5).ok()?;
-    let Ok(Some(root)) = planted(&mut store, &mut NodeStore::new(alloc), five) else {
-        return None;
-    };
-    crowd(&mut store, root, others);
-    let before = nodes_seen(&store).ok()?;
-    let point = point_of(&store, root, &[2])?;
-    match point.apply(&mut store, root) {
-        Ok(_) => None,
-        Err(_) => Some(count_touched(&store, &before)),
-    }
+    touched_by_refusal(&mut store, others)
 }
 
 // Says the same with ample memory and with requests for memory refused.
 #[test]
 fn refused_shrinks_leave_the_tree(rt: HostRuntime) -> Result<(), Fail> {
-    let alloc = rt.alloc();
     for others in 0..12u8 {
-        if let Some(counts) = touched_by_refusal(alloc, others) {
-            assert_eq!(rt; counts, (0, 0, 0));
+        if let Some(told) = touched_beside(rt.alloc(), others) {
+            assert_eq!(rt; told, (true, (0, 0, 0)));
             println!(rt; "asserted")?;
         }
     }

@@ -1,18 +1,17 @@
-use super::*;
-use art_test_support::points::{HANDED_BACK, insert, inserted, refused_insertion};
-use art_test_support::nodes::{count_touched, nodes_seen};
-use art_test_support::trees::{Key, child, keys, plant, promise};
-use art_nodes::node::InnerRef;
-use art_test_support::memory::all_memory;
-use std::test::Fail;
+//! Insertions that split a leaf or a prefix.
+ghost use Rattle.art_model.specs.Pairs.{of_key};
+ghost use Rattle.art_model.specs.Roots.{IsCanonicalRoot};
 
-// The inner node under a name.
-fn inner_node<const P: usize>(
-    store: &NodeStore<Key, u32, P>,
-    name: OpaqueNodePtr,
-) -> Option<InnerRef<'_, P>> {
-    store.inner(name.as_inner()?)
-}
+use art_nodes::node::{NodeType, OpaqueNodePtr};
+use art_nodes::store::NodeStore;
+use art_operations::insert::InsertParentNodeChange;
+use art_test_support::memory::all_memory;
+use art_test_support::nodes::plant_seen;
+use art_test_support::points::{
+    HANDED_BACK, Insertion, insert, inserted, insertion_seen, refused_insertion,
+};
+use art_test_support::trees::{Key, child, plant_all, promise};
+use std::test::Fail;
 
 // Whether an inner node has this length of prefix, these bytes stored of it, and children under two bytes.
 fn is_branch<const P: usize>(
@@ -22,7 +21,10 @@ fn is_branch<const P: usize>(
     stored: &[u8],
     bytes: [u8; 2],
 ) -> bool {
-    let Some(node) = inner_node(store, name) else {
+    let Some(inner) = name.as_inner() else {
+        return false;
+    };
+    let Some(node) = store.inner(inner) else {
         return false;
     };
     name.kind == NodeType::Node4
@@ -32,84 +34,146 @@ fn is_branch<const P: usize>(
         && bytes.iter().all(|byte| node.lookup_child(*byte).is_some())
 }
 
+// Plants a tree of some keys and inserts one. Answers the old root, what it had under a byte, and what the
+// insertion did.
+fn branch<const P: usize>(
+    store: &mut NodeStore<Key, u32, P>,
+    slices: &[&[u8]],
+    byte: u8,
+    key: &[u8],
+) -> Result<(OpaqueNodePtr, Option<OpaqueNodePtr>, Insertion), Fail> {
+    let (root, before) = plant_seen(store, slices)?;
+    let old = child(store, root, byte);
+    let done = inserted(store, root, key.to_vec(store.alloc())?)?;
+    Ok((root, old, insertion_seen(store, &before, &done, key)))
+}
+
+// What is seen of a split.
+#[derive(Clone, Copy, PartialEq, Eq, Debug)]
+struct Split {
+    done: Insertion,
+    // Whether the nodes have the prefixes and children that they are to have.
+    is_made: bool,
+    // What the new parent has under the byte of the node that was split.
+    found: Option<OpaqueNodePtr>,
+}
+
+// Splits the leaf of [1, 2, 3, 4]. Answers what is seen, and what is to be.
+fn split_leaf<const P: usize>(store: &mut NodeStore<Key, u32, P>) -> Result<[Split; 2], Fail> {
+    let (root, _, done) = branch(store, &[&[1, 2, 3, 4]], 3, &[1, 2, 9])?;
+    let seen = Split {
+        done,
+        is_made: is_branch(store, done.new_root, 2, &[1, 2], [3, 9]),
+        found: child(store, done.new_root, 3),
+    };
+    let expected = Split {
+        done: Insertion {
+            existing: None,
+            change: InsertParentNodeChange::NewParent {
+                new_parent_node: done.new_root,
+                leaf_node_key_byte: 9,
+            },
+            touched: (2, 0, 1),
+            ..done
+        },
+        is_made: true,
+        found: Some(root),
+    };
+    Ok([seen, expected])
+}
+
 #[test]
 fn splits_the_root_leaf(rt: HostRuntime) -> Result<(), Fail> {
-    let alloc = rt.alloc();
-    let mut store: NodeStore<Key, u32, 16> = NodeStore::new(alloc);
-    let root = plant(
-        &mut store,
-        &mut NodeStore::new(alloc),
-        keys(alloc, &[&[1, 2, 3, 4]])?,
-    )?;
-    let before = nodes_seen(&store)?;
-    let done = inserted(&mut store, root, [1, 2, 9].to_vec(alloc)?)?;
-    let change = InsertParentNodeChange::NewParent {
-        new_parent_node: done.new_root,
-        leaf_node_key_byte: 9,
-    };
-    assert_eq!(rt; done.parent_node_change, change);
-    assert!(rt; done.existing_leaf.is_none());
-    assert!(rt; is_branch(&store, done.new_root, 2, &[1, 2], [3, 9]));
-    assert_eq!(rt; child(&store, done.new_root, 3), Some(root));
-    assert_eq!(rt; count_touched(&store, &before), (2, 0, 1));
+    let mut store: NodeStore<Key, u32, 16> = NodeStore::new(rt.alloc());
+    let [seen, expected] = split_leaf(&mut store)?;
+    assert_eq!(rt; seen, expected);
     Ok(())
+}
+
+// The same for a prefix of which two bytes are stored, after three bytes.
+fn split_long<const P: usize>(store: &mut NodeStore<Key, u32, P>) -> Result<[Split; 2], Fail> {
+    let slices: [&[u8]; 2] = [&[7, 1, 1, 1, 1, 5], &[7, 1, 1, 1, 1, 6]];
+    let (root, _, done) = branch(store, &slices, 5, &[7, 1, 1, 9])?;
+    let is_made = is_branch(store, done.new_root, 3, &[7, 1], [1, 9])
+        && is_branch(store, root, 1, &[1], [5, 6]);
+    let seen = Split {
+        done,
+        is_made,
+        found: child(store, done.new_root, 1),
+    };
+    let expected = Split {
+        done: Insertion {
+            touched: (2, 0, 2),
+            ..done
+        },
+        is_made: true,
+        found: Some(root),
+    };
+    Ok([seen, expected])
 }
 
 #[test]
 fn splits_a_prefix_that_is_longer_than_stored(rt: HostRuntime) -> Result<(), Fail> {
-    let alloc = rt.alloc();
-    let mut store: NodeStore<Key, u32, 2> = NodeStore::new(alloc);
-    let root = plant(
-        &mut store,
-        &mut NodeStore::new(alloc),
-        keys(alloc, &[&[7, 1, 1, 1, 1, 5], &[7, 1, 1, 1, 1, 6]])?,
-    )?;
-    let before = nodes_seen(&store)?;
-    let done = inserted(&mut store, root, [7, 1, 1, 9].to_vec(alloc)?)?;
-    assert!(rt; is_branch(&store, done.new_root, 3, &[7, 1], [1, 9]));
-    assert!(rt; is_branch(&store, root, 1, &[1], [5, 6]));
-    assert_eq!(rt; child(&store, done.new_root, 1), Some(root));
-    assert_eq!(rt; count_touched(&store, &before), (2, 0, 2));
+    let mut store: NodeStore<Key, u32, 2> = NodeStore::new(rt.alloc());
+    let [seen, expected] = split_long(&mut store)?;
+    assert_eq!(rt; seen, expected);
     Ok(())
+}
+
+// The same for the prefix of the node at [1], after one byte. The node is below the new one then.
+fn split_child<const P: usize>(store: &mut NodeStore<Key, u32, P>) -> Result<[Split; 2], Fail> {
+    let slices: [&[u8]; 4] = [&[0], &[1, 1, 1, 5], &[1, 1, 1, 6], &[2]];
+    let (root, below, done) = branch(store, &slices, 1, &[1, 1, 9])?;
+    let old = below.ok_or("a child")?;
+    let parent = child(store, root, 1).ok_or("a child")?;
+    let is_made = is_branch(store, parent, 1, &[1], [1, 9])
+        && is_branch(store, old, 0, &[], [5, 6]);
+    let seen = Split {
+        done,
+        is_made,
+        found: child(store, parent, 1),
+    };
+    let expected = Split {
+        done: Insertion {
+            new_root: root,
+            touched: (2, 0, 4),
+            ..done
+        },
+        is_made: true,
+        found: below,
+    };
+    Ok([seen, expected])
 }
 
 #[test]
 fn splits_the_prefix_of_a_child(rt: HostRuntime) -> Result<(), Fail> {
-    let alloc = rt.alloc();
-    let mut store: NodeStore<Key, u32, 16> = NodeStore::new(alloc);
-    let root = plant(
-        &mut store,
-        &mut NodeStore::new(alloc),
-        keys(alloc, &[&[0], &[1, 1, 1, 5], &[1, 1, 1, 6], &[2]])?,
-    )?;
-    let below = child(&store, root, 1).ok_or("a child")?;
-    let before = nodes_seen(&store)?;
-    let done = inserted(&mut store, root, [1, 1, 9].to_vec(alloc)?)?;
-    assert_eq!(rt; done.new_root, root);
-    let parent = child(&store, root, 1).ok_or("a child")?;
-    assert!(rt; is_branch(&store, parent, 1, &[1], [1, 9]));
-    assert!(rt; is_branch(&store, below, 0, &[], [5, 6]));
-    assert_eq!(rt; child(&store, parent, 1), Some(below));
-    assert_eq!(rt; count_touched(&store, &before), (2, 0, 4));
+    let mut store: NodeStore<Key, u32, 16> = NodeStore::new(rt.alloc());
+    let [seen, expected] = split_child(&mut store)?;
+    assert_eq!(rt; seen, expected);
     Ok(())
+}
+
+// Whether [1, 2, 9] comes in beside [1, 2, 3, 4] while all memory is held but for the nodes that it needs.
+fn is_split_without_memory<const P: usize>(
+    store: &mut NodeStore<Key, u32, P>,
+    root: OpaqueNodePtr,
+) -> Result<bool, Fail>
+    requires { IsCanonicalRoot (of_key (λ key. key.items)) P store.old root }
+{
+    let alloc = store.alloc();
+    promise(store, root, 1, NodeType::Node4)?;
+    let key = [1, 2, 9].to_vec(alloc)?;
+    let held = all_memory(alloc)?;
+    let (root, done) = insert(store, root, key, 1);
+    drop(held);
+    Ok(matches!(done, Some(Ok(_))) && is_branch(store, root, 2, &[1, 2], [3, 9]))
 }
 
 #[test]
 fn without_memory_a_reserved_split_is_made(rt: HostRuntime) -> Result<(), Fail> {
-    let alloc = rt.alloc();
-    let mut store: NodeStore<Key, u32, 16> = NodeStore::new(alloc);
-    let root = plant(
-        &mut store,
-        &mut NodeStore::new(alloc),
-        keys(alloc, &[&[1, 2, 3, 4]])?,
-    )?;
-    let key = [1, 2, 9].to_vec(alloc)?;
-    promise(&mut store, root, 1, NodeType::Node4)?;
-    let held = all_memory(alloc)?;
-    let (root, done) = insert(&mut store, root, key, 1);
-    drop(held);
-    assert!(rt; done.is_some_and(|done| done.is_ok()));
-    assert!(rt; is_branch(&store, root, 2, &[1, 2], [3, 9]));
+    let mut store: NodeStore<Key, u32, 16> = NodeStore::new(rt.alloc());
+    let root = plant_all(&mut store, &[&[1, 2, 3, 4]])?;
+    assert!(rt; is_split_without_memory(&mut store, root)?);
     Ok(())
 }
 

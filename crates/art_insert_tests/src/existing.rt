@@ -1,153 +1,245 @@
-use super::*;
-use art_test_support::points::{HANDED_BACK, insert, inserted, refused_insertion};
-use art_test_support::nodes::{count_touched, nodes_seen};
-use art_test_support::trees::{Key, child, keys, keys_after, plant, value_of};
+//! Insertions that give a node a child more, or replace a pair.
+ghost use Rattle.art_model.specs.Pairs.{of_key};
+ghost use Rattle.art_model.specs.Roots.{IsCanonicalRoot};
+
+use art_nodes::node::{NodeType, OpaqueNodePtr};
+use art_nodes::store::NodeStore;
+use art_operations::insert::InsertParentNodeChange;
 use art_test_support::memory::all_memory;
+use art_test_support::nodes::plant_seen;
+use art_test_support::points::{
+    Gone, HANDED_BACK, Insertion, insert, inserted, insertion_seen, refused_insertion,
+};
+use art_test_support::trees::{Key, child, keys_after, plant_all, plant_keys, value_of};
+use std::alloc::Global;
 use std::test::Fail;
+
+// What an insertion did, and what there is then.
+#[derive(Clone, Copy, PartialEq, Eq, Debug)]
+struct Growth {
+    done: Insertion,
+    // The kind of the parent that is told, and what it has under the byte that is told.
+    parent_kind: Option<NodeType>,
+    found: Option<OpaqueNodePtr>,
+    // The value of the leaf.
+    value: Option<u32>,
+}
+
+// What there is after an insertion.
+fn growth_seen<const P: usize>(store: &NodeStore<Key, u32, P>, done: Insertion) -> Growth {
+    let (parent_kind, found) = match done.change {
+        InsertParentNodeChange::NoChange => (None, None),
+        InsertParentNodeChange::NewParent {
+            new_parent_node,
+            leaf_node_key_byte,
+        } => (
+            Some(new_parent_node.kind),
+            child(store, new_parent_node, leaf_node_key_byte),
+        ),
+    };
+    Growth {
+        done,
+        parent_kind,
+        found,
+        value: value_of(store, done.leaf),
+    }
+}
+
+// Plants a tree of some keys and inserts one. Answers the old root, what it had under the key's last byte, and
+// what the insertion did.
+fn grow<const P: usize>(
+    store: &mut NodeStore<Key, u32, P>,
+    slices: &[&[u8]],
+    key: &[u8],
+) -> Result<(OpaqueNodePtr, Option<OpaqueNodePtr>, Growth), Fail> {
+    let (root, before) = plant_seen(store, slices)?;
+    let old = key.last().and_then(|byte| child(store, root, *byte));
+    let done = inserted(store, root, key.to_vec(store.alloc())?)?;
+    let seen = insertion_seen(store, &before, &done, key);
+    Ok((root, old, growth_seen(store, seen)))
+}
+
+// What is to come of a key that becomes a child of a node of this kind.
+fn expected_child(
+    seen: Growth,
+    new_root: OpaqueNodePtr,
+    parent: OpaqueNodePtr,
+    byte: u8,
+    touched: (usize, usize, usize),
+) -> Growth {
+    Growth {
+        done: Insertion {
+            existing: None,
+            new_root,
+            change: InsertParentNodeChange::NewParent {
+                new_parent_node: parent,
+                leaf_node_key_byte: byte,
+            },
+            touched,
+            ..seen.done
+        },
+        parent_kind: Some(parent.kind),
+        found: Some(seen.done.leaf.to_opaque()),
+        value: Some(9),
+    }
+}
 
 #[test]
 fn adds_a_child_where_there_is_room(rt: HostRuntime) -> Result<(), Fail> {
-    let alloc = rt.alloc();
-    let mut store: NodeStore<Key, u32, 16> = NodeStore::new(alloc);
-    let root = plant(
-        &mut store,
-        &mut NodeStore::new(alloc),
-        keys(alloc, &[&[1], &[2]])?,
-    )?;
-    let before = nodes_seen(&store)?;
-    let done = inserted(&mut store, root, [3].to_vec(alloc)?)?;
-    let change = InsertParentNodeChange::NewParent {
-        new_parent_node: root,
-        leaf_node_key_byte: 3,
-    };
-    assert_eq!(rt; done.parent_node_change, change);
-    assert!(rt; done.existing_leaf.is_none());
-    assert_eq!(rt; done.new_root, root);
-    let leaf = done.leaf_node_ptr;
-    assert_eq!(rt; child(&store, root, 3), Some(leaf.to_opaque()));
-    assert_eq!(rt; value_of(&store, leaf), Some(9));
-    assert_eq!(rt; count_touched(&store, &before), (1, 0, 2));
+    let mut store: NodeStore<Key, u32, 16> = NodeStore::new(rt.alloc());
+    let (root, _, seen) = grow(&mut store, &[&[1], &[2]], &[3])?;
+    let expected = expected_child(seen, root, root, 3, (1, 0, 2));
+    assert_eq!(rt; seen, expected);
     Ok(())
+}
+
+// What is to come of a fifth key beside four of one byte, where the old root is gone.
+fn expected_larger_root<const P: usize>(
+    store: &NodeStore<Key, u32, P>,
+    old_root: OpaqueNodePtr,
+    seen: Growth,
+) -> Option<Growth> {
+    if child(store, old_root, 4).is_some() {
+        return None;
+    }
+    let root = seen.done.new_root;
+    let expected = expected_child(seen, root, root, 5, (2, 1, 1));
+    Some(Growth {
+        parent_kind: Some(NodeType::Node16),
+        ..expected
+    })
 }
 
 #[test]
 fn puts_a_larger_root_in_the_place_of_a_full_one(rt: HostRuntime) -> Result<(), Fail> {
-    let alloc = rt.alloc();
-    let mut store: NodeStore<Key, u32, 16> = NodeStore::new(alloc);
-    let root = plant(
-        &mut store,
-        &mut NodeStore::new(alloc),
-        keys(alloc, &[&[1], &[2], &[3], &[4]])?,
-    )?;
-    let before = nodes_seen(&store)?;
-    let done = inserted(&mut store, root, [5].to_vec(alloc)?)?;
-    let change = InsertParentNodeChange::NewParent {
-        new_parent_node: done.new_root,
-        leaf_node_key_byte: 5,
-    };
-    assert_eq!(rt; done.parent_node_change, change);
-    assert_eq!(rt; done.new_root.kind, NodeType::Node16);
-    assert_eq!(rt; child(&store, root, 4), None);
-    assert_eq!(rt;
-        child(&store, done.new_root, 5),
-        Some(done.leaf_node_ptr.to_opaque())
-    );
-    assert_eq!(rt; count_touched(&store, &before), (2, 1, 1));
+    let mut store: NodeStore<Key, u32, 16> = NodeStore::new(rt.alloc());
+    let (root, _, seen) = grow(&mut store, &[&[1], &[2], &[3], &[4]], &[5])?;
+    let expected = expected_larger_root(&store, root, seen).ok_or("another root")?;
+    assert_eq!(rt; seen, expected);
     Ok(())
+}
+
+// What is to come of a key that makes the node at [1] larger.
+fn expected_larger_child<const P: usize>(
+    store: &NodeStore<Key, u32, P>,
+    root: OpaqueNodePtr,
+    seen: Growth,
+) -> Option<Growth> {
+    let larger = child(store, root, 1)?;
+    let expected = expected_child(seen, root, larger, 3, (2, 1, 3));
+    Some(Growth {
+        parent_kind: Some(NodeType::Node16),
+        ..expected
+    })
 }
 
 #[test]
 fn tells_the_parent_of_a_larger_child(rt: HostRuntime) -> Result<(), Fail> {
-    let alloc = rt.alloc();
-    let mut store: NodeStore<Key, u32, 16> = NodeStore::new(alloc);
-    let root = plant(
-        &mut store,
-        &mut NodeStore::new(alloc),
-        keys(alloc, &[&[0], &[1, 1], &[1, 2], &[1, 4], &[1, 5], &[2]])?,
-    )?;
-    let before = nodes_seen(&store)?;
-    let done = inserted(&mut store, root, [1, 3].to_vec(alloc)?)?;
-    assert_eq!(rt; done.new_root, root);
-    let larger = child(&store, root, 1).ok_or("a child")?;
-    assert_eq!(rt; larger.kind, NodeType::Node16);
-    let change = InsertParentNodeChange::NewParent {
-        new_parent_node: larger,
-        leaf_node_key_byte: 3,
-    };
-    assert_eq!(rt; done.parent_node_change, change);
-    assert_eq!(rt; count_touched(&store, &before), (2, 1, 3));
+    let mut store: NodeStore<Key, u32, 16> = NodeStore::new(rt.alloc());
+    let slices: [&[u8]; 6] = [&[0], &[1, 1], &[1, 2], &[1, 4], &[1, 5], &[2]];
+    let (root, _, seen) = grow(&mut store, &slices, &[1, 3])?;
+    let expected = expected_larger_child(&store, root, seen).ok_or("a child")?;
+    assert_eq!(rt; seen, expected);
     Ok(())
+}
+
+// What comes of the root of so many keys of one byte with one more.
+fn grown_from(alloc: Global, count: u8) -> Result<(NodeType, bool), Fail> {
+    let all = keys_after(alloc, &[], u16::from(count))?;
+    let mut store: NodeStore<Key, u32, 16> = NodeStore::new(alloc);
+    let root = plant_keys(&mut store, all)?;
+    with_one_more(&mut store, root, count)
+}
+
+// The kind of the root once it has one key of one byte more, and whether it has that key's leaf.
+fn with_one_more<const P: usize>(
+    store: &mut NodeStore<Key, u32, P>,
+    root: OpaqueNodePtr,
+    byte: u8,
+) -> Result<(NodeType, bool), Fail>
+    requires { IsCanonicalRoot (of_key (λ key. key.items)) P store.old root }
+{
+    let key = [byte].to_vec(store.alloc())?;
+    let done = inserted(store, root, key)?;
+    let found = child(store, done.new_root, byte);
+    let is_there = found == Some(done.leaf_node_ptr.to_opaque());
+    Ok((done.new_root.kind, is_there))
 }
 
 #[test]
 fn grows_to_each_kind(rt: HostRuntime) -> Result<(), Fail> {
-    let alloc = rt.alloc();
     for (count, kind) in [(16u8, NodeType::Node48), (48, NodeType::Node256)] {
-        let mut store: NodeStore<Key, u32, 16> = NodeStore::new(alloc);
-        let root = plant(
-            &mut store,
-            &mut NodeStore::new(alloc),
-            keys_after(alloc, &[], u16::from(count))?,
-        )?;
-        let done = inserted(&mut store, root, [count].to_vec(alloc)?)?;
-        assert_eq!(rt; done.new_root.kind, kind);
-        assert_eq!(rt;
-            child(&store, done.new_root, count),
-            Some(done.leaf_node_ptr.to_opaque())
-        );
+        assert_eq!(rt; grown_from(rt.alloc(), count)?, (kind, true));
     }
     Ok(())
 }
 
+// What is to come of a stored key, by the name of its leaf and the old value.
+fn expected_in_place(
+    root: OpaqueNodePtr,
+    name: Option<OpaqueNodePtr>,
+    value: u32,
+) -> Option<Growth> {
+    Some(Growth {
+        done: Insertion {
+            leaf: name?.as_leaf()?,
+            existing: Some(Gone {
+                has_key: true,
+                value,
+                previous: None,
+                next: None,
+            }),
+            new_root: root,
+            change: InsertParentNodeChange::NoChange,
+            touched: (0, 0, 1),
+        },
+        parent_kind: None,
+        found: None,
+        value: Some(9),
+    })
+}
+
 #[test]
 fn hands_back_the_pair_that_gave_way(rt: HostRuntime) -> Result<(), Fail> {
-    let alloc = rt.alloc();
-    let mut store: NodeStore<Key, u32, 16> = NodeStore::new(alloc);
-    let root = plant(
-        &mut store,
-        &mut NodeStore::new(alloc),
-        keys(alloc, &[&[1, 1], &[1, 2]])?,
-    )?;
-    let name = child(&store, root, 2).ok_or("a child")?;
-    let before = nodes_seen(&store)?;
-    let done = inserted(&mut store, root, [1, 2].to_vec(alloc)?)?;
-    let old = done.existing_leaf.ok_or("an old pair")?;
-    assert_eq!(rt; old.key.as_slice(), [1, 2].as_slice());
-    assert_eq!(rt; (old.value, old.previous, old.next), (1, None, None));
-    assert_eq!(rt; done.leaf_node_ptr.to_opaque(), name);
-    assert_eq!(rt; done.parent_node_change, InsertParentNodeChange::NoChange);
-    assert_eq!(rt; done.new_root, root);
-    assert_eq!(rt; value_of(&store, done.leaf_node_ptr), Some(9));
-    assert_eq!(rt; count_touched(&store, &before), (0, 0, 1));
+    let mut store: NodeStore<Key, u32, 16> = NodeStore::new(rt.alloc());
+    let (root, name, seen) = grow(&mut store, &[&[1, 1], &[1, 2]], &[1, 2])?;
+    let expected = expected_in_place(root, name, 1).ok_or("a leaf")?;
+    assert_eq!(rt; seen, expected);
     Ok(())
 }
 
 #[test]
 fn replaces_the_pair_of_the_empty_key(rt: HostRuntime) -> Result<(), Fail> {
-    let alloc = rt.alloc();
-    let mut store: NodeStore<Key, u32, 16> = NodeStore::new(alloc);
-    let root = plant(&mut store, &mut NodeStore::new(alloc), keys(alloc, &[&[]])?)?;
-    let done = inserted(&mut store, root, Vec::new(alloc))?;
-    assert!(rt; done.existing_leaf.is_some());
-    assert_eq!(rt; done.new_root, root);
-    assert_eq!(rt; value_of(&store, done.leaf_node_ptr), Some(9));
+    let mut store: NodeStore<Key, u32, 16> = NodeStore::new(rt.alloc());
+    let (root, _, seen) = grow(&mut store, &[&[]], &[])?;
+    let expected = expected_in_place(root, Some(root), 0).ok_or("a leaf")?;
+    assert_eq!(rt; seen, expected);
     Ok(())
+}
+
+// Whether [1, 2] comes in where its pair was, while all memory is held.
+fn is_replaced_without_memory<const P: usize>(
+    store: &mut NodeStore<Key, u32, P>,
+    root: OpaqueNodePtr,
+) -> Result<bool, Fail>
+    requires { IsCanonicalRoot (of_key (λ key. key.items)) P store.old root }
+{
+    let alloc = store.alloc();
+    let key = [1, 2].to_vec(alloc)?;
+    let held = all_memory(alloc)?;
+    let done = insert(store, root, key, 2).1;
+    drop(held);
+    match done {
+        Some(Ok(done)) => Ok(done.existing_leaf.is_some()),
+        _ => Ok(false),
+    }
 }
 
 #[test]
 fn without_memory_a_stored_key_is_replaced(rt: HostRuntime) -> Result<(), Fail> {
-    let alloc = rt.alloc();
-    let mut store: NodeStore<Key, u32, 16> = NodeStore::new(alloc);
-    let root = plant(
-        &mut store,
-        &mut NodeStore::new(alloc),
-        keys(alloc, &[&[1, 2]])?,
-    )?;
-    let key = [1, 2].to_vec(alloc)?;
-    let held = all_memory(alloc)?;
-    let done = insert(&mut store, root, key, 2).1;
-    drop(held);
-    assert!(rt; done.is_some_and(|done| done.is_ok_and(|done| done.existing_leaf.is_some())));
+    let mut store: NodeStore<Key, u32, 16> = NodeStore::new(rt.alloc());
+    let root = plant_all(&mut store, &[&[1, 2]])?;
+    assert!(rt; is_replaced_without_memory(&mut store, root)?);
     Ok(())
 }
 

@@ -1,136 +1,687 @@
+//! Insertions in the place of all related keys.
 ghost use Rattle.art_model.specs.Pairs.{of_key};
 ghost use Rattle.art_model.specs.Roots.{IsCanonicalRoot};
 
-use super::*;
-use crate::insert::search_for_prefix_insert_point;
-use art_test_support::trees::{Key, keys, plant};
-use art_nodes::node::OpaqueNodePtr;
-use std::alloc::Global;
+use art_nodes::node::{OpaqueNodePtr, OptionalLeafPtr};
+use art_nodes::store::NodeStore;
+use art_operations::insert::{
+    InsertKind, InsertParentNodeChange, OverwritePoint, PrefixInsertPoint, PrefixInsertResult,
+    Refused, search_for_insert_point, search_for_prefix_insert_point,
+};
+use art_operations::lookup::search_unchecked;
+use art_operations::path::TreePath;
+use art_test_support::memory::all_memory;
+use art_test_support::nodes::{Seen, count_nodes, nodes_seen, plant_seen};
+use art_test_support::points::{
+    Gone, HANDED_BACK, Insertion, Refusal, insertion_seen, prefix_insert, refused_prefix_insertion,
+};
+use art_test_support::trees::{Key, child, keys_of_three, plant_all, plant_keys, value_of};
+use std::alloc::{AllocError, Global};
 use std::test::Fail;
 
-// What a prefix insertion did.
+// The root before a prefix insertion, what it had under the key's first byte, and what the insertion did.
 #[derive(Clone, Copy, PartialEq, Eq, Debug)]
-struct Told {
-    // How many bytes of the key its point used, where that was one to overwrite.
-    used: Option<usize>,
-    existing: Option<u32>,
-    removed: usize,
-    // Whether the new root is a leaf, and whether a parent is told.
-    root_is_leaf: bool,
-    parent_is_told: bool,
-}
-
-fn used_by(point: PrefixInsertPoint) -> Option<usize> {
-    match point {
-        PrefixInsertPoint::OverwritePoint(point) => Some(point.key_bytes_used),
-        PrefixInsertPoint::InsertPoint(_) => None,
-    }
-}
-
-// Puts a key into a tree, in the place of all related ones.
-fn overwritten<K: AsBytes + Drop, const P: usize>(
-    store: &mut NodeStore<K, u32, P>,
+struct Outcome {
     root: OpaqueNodePtr,
-    key: K,
-) -> Option<Told>
-    requires { IsCanonicalRoot (of_key K.bytes) P store.old root }
-{
-    let point = search_for_prefix_insert_point(store, root, key.as_bytes());
-    let used = used_by(point);
-    let done = point.apply(store, key, 9).ok()?;
-    let result = done.insert_result;
-    Some(Told {
-        used,
-        existing: result.existing_leaf.map(|leaf| leaf.value),
-        removed: done.leafs_removed,
-        root_is_leaf: result.new_root.as_leaf().is_some(),
-        parent_is_told: !matches!(result.parent_node_change, InsertParentNodeChange::NoChange),
+    below: Option<OpaqueNodePtr>,
+    point: PrefixInsertPoint,
+    done: Insertion,
+    removed: usize,
+    after: After,
+}
+
+// What a store has after a prefix insertion.
+#[derive(Clone, Copy, PartialEq, Eq, Debug)]
+struct After {
+    // How many leaves and inner nodes.
+    nodes: (usize, usize),
+    // Whether the new leaf has the key.
+    has_key: bool,
+    // The values of the leaf before the new one, of the new one, and of the one after it.
+    values: [Option<u32>; 3],
+}
+
+// What a store has once the leaf of a key came.
+fn after_insertion<const P: usize>(
+    store: &NodeStore<Key, u32, P>,
+    done: Insertion,
+    key: &[u8],
+) -> Option<After> {
+    let leaf = store.leaf(done.leaf)?;
+    let value = |name: OptionalLeafPtr| name.and_then(|name| value_of(store, name));
+    Some(After {
+        nodes: count_nodes(store),
+        has_key: leaf.key.as_slice() == key,
+        values: [value(leaf.previous), Some(leaf.value), value(leaf.next)],
     })
 }
 
-// The same in the tree of these keys, each with its place as its value.
-fn overwritten_in(alloc: Global, slices: &[&[u8]], key: &[u8]) -> Result<Option<Told>, Fail> {
+// Plants a tree of some keys, each with its place as its value, and puts a key with the value 9 in the place of all
+// related ones. A pair that gives way is to have the key `old`.
+fn overwritten<const P: usize>(
+    store: &mut NodeStore<Key, u32, P>,
+    slices: &[&[u8]],
+    key: &[u8],
+    old: &[u8],
+) -> Result<Outcome, Fail> {
+    let (root, before) = plant_seen(store, slices)?;
+    Ok(overwrite(store, root, &before, key, old)?)
+}
+
+// The same in a tree that is there.
+fn overwrite<const P: usize>(
+    store: &mut NodeStore<Key, u32, P>,
+    root: OpaqueNodePtr,
+    before: &[Seen],
+    key: &[u8],
+    old: &[u8],
+) -> Result<Outcome, Fail>
+    requires { IsCanonicalRoot (of_key (λ key. key.items)) P store.old root }
+{
+    let below = key.first().and_then(|byte| child(store, root, *byte));
+    let point = search_for_prefix_insert_point(store, root, key);
+    let answer = prefix_insert(store, root, key.to_vec(store.alloc())?, 9).1;
+    let applied = answer.ok().ok_or("memory")?;
+    let done = insertion_seen(store, before, &applied.insert_result, old);
+    Ok(Outcome {
+        root,
+        below,
+        point,
+        done,
+        removed: applied.leafs_removed,
+        after: after_insertion(store, done, key).ok_or("the leaf")?,
+    })
+}
+
+// The point of a key that takes the place of the root.
+fn at_root(root: OpaqueNodePtr, key_bytes_used: usize) -> PrefixInsertPoint {
+    PrefixInsertPoint::OverwritePoint(OverwritePoint {
+        path: TreePath::Root,
+        overwrite_point: root,
+        key_bytes_used,
+        root,
+    })
+}
+
+// The point of a key that takes the place of a child of the root.
+fn at_child(
+    root: OpaqueNodePtr,
+    byte: u8,
+    overwrite_point: OpaqueNodePtr,
+    key_bytes_used: usize,
+) -> Option<PrefixInsertPoint> {
+    Some(PrefixInsertPoint::OverwritePoint(OverwritePoint {
+        path: TreePath::ChildOfRoot {
+            parent: root.as_inner()?,
+            child_key_byte: byte,
+        },
+        overwrite_point,
+        key_bytes_used,
+        root,
+    }))
+}
+
+// A key that takes the place of two leaves and their parent.
+#[derive(Clone, Copy)]
+struct Case<'a> {
+    slices: &'a [&'a [u8]],
+    key: &'a [u8],
+    used: usize,
+    changed: usize,
+    values: [Option<u32>; 3],
+}
+
+// What is to come of a key in the place of a child of the root with two leaves.
+fn expected_below(seen: Outcome, case: Case<'_>) -> Option<Outcome> {
+    let byte = *case.key.first()?;
+    let leaves = case.slices.len().saturating_sub(1);
+    Some(Outcome {
+        point: at_child(seen.root, byte, seen.below?, case.used)?,
+        done: Insertion {
+            leaf: seen.done.leaf,
+            existing: None,
+            new_root: seen.root,
+            change: InsertParentNodeChange::NoChange,
+            touched: (1, 3, case.changed),
+        },
+        removed: 2,
+        after: After {
+            nodes: (leaves, 1),
+            has_key: true,
+            values: case.values,
+        },
+        ..seen
+    })
+}
+
+// What comes of such a key, and what is to come.
+fn overwrite_below<const P: usize>(
+    store: &mut NodeStore<Key, u32, P>,
+    case: Case<'_>,
+) -> Result<[Outcome; 2], Fail> {
+    let seen = overwritten(store, case.slices, case.key, &[])?;
+    Ok([seen, expected_below(seen, case).ok_or("an inner root")?])
+}
+
+// The same in a store of its own.
+fn tried_below(alloc: Global, case: Case<'_>) -> Result<[Outcome; 2], Fail> {
     let mut store: NodeStore<Key, u32, 16> = NodeStore::new(alloc);
-    let root = plant(&mut store, &mut NodeStore::new(alloc), keys(alloc, slices)?)?;
-    let key = key.to_vec(alloc)?;
-    Ok(overwritten(&mut store, root, key))
+    overwrite_below(&mut store, case)
 }
 
 #[test]
 fn gives_way_below_an_inner_node(rt: HostRuntime) -> Result<(), Fail> {
-    let alloc = rt.alloc();
-    let two_gone = Told {
-        used: Some(0),
-        existing: None,
-        removed: 2,
-        root_is_leaf: false,
-        parent_is_told: false,
+    let at_end = Case {
+        slices: &[&[1, 2], &[1, 3], &[2]],
+        key: &[1],
+        used: 0,
+        changed: 2,
+        values: [None, Some(9), Some(2)],
     };
-    let three: [&[u8]; 3] = [&[1, 2], &[1, 3], &[2]];
-    assert_eq!(rt; overwritten_in(alloc, &three, &[1])?, Some(two_gone));
-    let long: [&[u8]; 3] = [&[4, 1, 2, 3, 7], &[4, 1, 2, 3, 8], &[5]];
-    let within = Told {
-        used: Some(1),
-        ..two_gone
+    let between = Case {
+        slices: &[&[0], &[1, 2], &[1, 3], &[2]],
+        changed: 3,
+        values: [Some(0), Some(9), Some(3)],
+        ..at_end
     };
-    assert_eq!(rt; overwritten_in(alloc, &long, &[4, 1, 2])?, Some(within));
-    let at_end = Told {
-        used: Some(3),
-        ..two_gone
+    let within = Case {
+        slices: &[&[4, 1, 2, 3, 7], &[4, 1, 2, 3, 8], &[5]],
+        key: &[4, 1, 2],
+        used: 1,
+        ..at_end
     };
-    assert_eq!(rt; overwritten_in(alloc, &long, &[4, 1, 2, 3])?, Some(at_end));
+    let at_long_end = Case {
+        key: &[4, 1, 2, 3],
+        used: 3,
+        ..within
+    };
+    for case in [at_end, between, within, at_long_end] {
+        let [seen, expected] = tried_below(rt.alloc(), case)?;
+        assert_eq!(rt; seen, expected);
+    }
     Ok(())
+}
+
+// What is to come of a key in the place of the whole tree, with so many leaves and inner nodes.
+fn expected_at_root(seen: Outcome, used: usize, leaves: usize, inners: usize) -> Outcome {
+    Outcome {
+        point: at_root(seen.root, used),
+        done: Insertion {
+            leaf: seen.done.leaf,
+            existing: None,
+            new_root: seen.done.leaf.to_opaque(),
+            change: InsertParentNodeChange::NoChange,
+            touched: (1, leaves.saturating_add(inners), 0),
+        },
+        removed: leaves,
+        after: After {
+            nodes: (1, 0),
+            has_key: true,
+            values: [None, Some(9), None],
+        },
+        ..seen
+    }
+}
+
+// What came of a key in the place of the whole tree of these.
+fn tried_at_root(alloc: Global, slices: &[&[u8]], key: &[u8]) -> Result<Outcome, Fail> {
+    let mut store: NodeStore<Key, u32, 16> = NodeStore::new(alloc);
+    overwritten(&mut store, slices, key, &[])
 }
 
 #[test]
-fn replaces_one_leaf(rt: HostRuntime) -> Result<(), Fail> {
-    let alloc = rt.alloc();
-    let one_replaced = Told {
-        used: Some(0),
-        existing: Some(0),
-        removed: 0,
-        root_is_leaf: true,
-        parent_is_told: false,
-    };
-    let one: [&[u8]; 1] = [&[1, 2, 3]];
-    assert_eq!(rt; overwritten_in(alloc, &one, &[1, 2])?, Some(one_replaced));
-    assert_eq!(rt;
-        overwritten_in(alloc, &one, &[1, 2, 3, 4])?,
-        Some(one_replaced)
-    );
-    let empty: [&[u8]; 1] = [&[]];
-    assert_eq!(rt; overwritten_in(alloc, &empty, &[1])?, Some(one_replaced));
+fn gives_way_at_the_root(rt: HostRuntime) -> Result<(), Fail> {
+    let slices: [&[u8]; 2] = [&[4, 1, 2, 7], &[4, 1, 2, 8]];
+    let cases: [(&[u8], usize); 4] = [(&[], 0), (&[4], 0), (&[4, 1], 0), (&[4, 1, 2], 2)];
+    for (key, used) in cases {
+        let seen = tried_at_root(rt.alloc(), &slices, key)?;
+        assert_eq!(rt; seen, expected_at_root(seen, used, 2, 1));
+    }
     Ok(())
 }
 
-// All keys of three bytes up to 3, 2 and 1.
-fn boxed(alloc: Global) -> Result<Vec<Key>, Fail> {
-    let mut keys = Vec::new(alloc);
-    for a in 0..4u8 {
-        for b in 0..3u8 {
-            for c in 0..2u8 {
-                keys.push(Vec::from_array(alloc, [a, b, c])?)?;
-            }
-        }
-    }
-    Ok(keys)
+// What comes of the empty key in the tree of 24 keys.
+fn overwritten_by_empty<const P: usize>(
+    store: &mut NodeStore<Key, u32, P>,
+) -> Result<Outcome, Fail> {
+    let all = keys_of_three(store.alloc(), [4, 3, 2])?;
+    let root = plant_keys(store, all)?;
+    let before = nodes_seen(store)?;
+    overwrite(store, root, &before, &[], &[])
 }
 
 #[test]
 fn the_empty_key_takes_the_place_of_all(rt: HostRuntime) -> Result<(), Fail> {
-    let alloc = rt.alloc();
-    let mut store: NodeStore<Key, u32, 16> = NodeStore::new(alloc);
-    let root = plant(&mut store, &mut NodeStore::new(alloc), boxed(alloc)?)?;
-    let all_gone = Told {
-        used: Some(0),
-        existing: None,
-        removed: 24,
-        root_is_leaf: true,
-        parent_is_told: false,
+    let mut store: NodeStore<Key, u32, 16> = NodeStore::new(rt.alloc());
+    let seen = overwritten_by_empty(&mut store)?;
+    assert_eq!(rt; seen, expected_at_root(seen, 0, 24, 17));
+    Ok(())
+}
+
+// What is to come of a key in the place of one pair, with what there is to be afterwards.
+fn expected_for_leaf(
+    seen: Outcome,
+    point: PrefixInsertPoint,
+    leaf: OpaqueNodePtr,
+    old_value: u32,
+    after: After,
+) -> Option<Outcome> {
+    Some(Outcome {
+        point,
+        done: Insertion {
+            leaf: leaf.as_leaf()?,
+            existing: Some(Gone {
+                has_key: true,
+                value: old_value,
+                previous: None,
+                next: None,
+            }),
+            new_root: seen.root,
+            change: InsertParentNodeChange::NoChange,
+            touched: (0, 0, 1),
+        },
+        removed: 0,
+        after,
+        ..seen
+    })
+}
+
+// What comes of a key in the place of the only other, and what is to come.
+fn replace_one<const P: usize>(
+    store: &mut NodeStore<Key, u32, P>,
+    old: &[u8],
+    key: &[u8],
+) -> Result<[Outcome; 2], Fail> {
+    let seen = overwritten(store, &[old], key, old)?;
+    let after = After {
+        nodes: (1, 0),
+        has_key: true,
+        values: [None, Some(9), None],
     };
-    assert_eq!(rt;
-        overwritten(&mut store, root, Vec::new(alloc)),
-        Some(all_gone)
-    );
+    let expected = expected_for_leaf(seen, at_root(seen.root, 0), seen.root, 0, after);
+    Ok([seen, expected.ok_or("a leaf")?])
+}
+
+// The same in a store of its own.
+fn tried_for_one(alloc: Global, old: &[u8], key: &[u8]) -> Result<[Outcome; 2], Fail> {
+    let mut store: NodeStore<Key, u32, 16> = NodeStore::new(alloc);
+    replace_one(&mut store, old, key)
+}
+
+#[test]
+fn replaces_one_leaf(rt: HostRuntime) -> Result<(), Fail> {
+    let cases: [(&[u8], &[u8]); 4] = [
+        (&[1, 2, 3], &[1, 2]),
+        (&[1, 2, 3], &[1, 2, 3, 4]),
+        (&[1, 2, 3], &[]),
+        (&[], &[1]),
+    ];
+    for (old, key) in cases {
+        let [seen, expected] = tried_for_one(rt.alloc(), old, key)?;
+        assert_eq!(rt; seen, expected);
+    }
+    Ok(())
+}
+
+// What is to come of [1, 2] in the place of the leaf of [1, 2, 3] between two others.
+fn expected_between(seen: Outcome) -> Option<Outcome> {
+    let leaf = seen.below?;
+    let point = at_child(seen.root, 1, leaf, 1)?;
+    let after = After {
+        nodes: (3, 1),
+        has_key: true,
+        values: [Some(0), Some(9), Some(2)],
+    };
+    expected_for_leaf(seen, point, leaf, 1, after)
+}
+
+// What comes of that key, and what is to come.
+fn replace_between<const P: usize>(
+    store: &mut NodeStore<Key, u32, P>,
+) -> Result<[Outcome; 2], Fail> {
+    let slices: [&[u8]; 3] = [&[0], &[1, 2, 3], &[2]];
+    let seen = overwritten(store, &slices, &[1, 2], &[1, 2, 3])?;
+    Ok([seen, expected_between(seen).ok_or("a leaf")?])
+}
+
+#[test]
+fn replaces_one_leaf_between_others(rt: HostRuntime) -> Result<(), Fail> {
+    let mut store: NodeStore<Key, u32, 16> = NodeStore::new(rt.alloc());
+    let [seen, expected] = replace_between(&mut store)?;
+    assert_eq!(rt; seen, expected);
+    Ok(())
+}
+
+// The kind of a point.
+#[derive(Clone, Copy, PartialEq, Eq, Debug)]
+enum Kind {
+    MismatchPrefix,
+    SplitLeaf,
+    Exact,
+    IntoExisting,
+    Overwrite,
+}
+
+fn kind_of(point: PrefixInsertPoint) -> Kind {
+    let PrefixInsertPoint::InsertPoint(point) = point else {
+        return Kind::Overwrite;
+    };
+    match point.insert_kind {
+        InsertKind::MismatchPrefix { .. } => Kind::MismatchPrefix,
+        InsertKind::SplitLeaf { .. } => Kind::SplitLeaf,
+        InsertKind::Exact { .. } => Kind::Exact,
+        InsertKind::IntoExisting { .. } => Kind::IntoExisting,
+    }
+}
+
+// What an insertion by a point that overwrites nothing did.
+#[derive(Clone, Copy, PartialEq, Eq, Debug)]
+struct Ordinary {
+    kind: Kind,
+    /// The value of the pair that gave way.
+    existing: Option<u32>,
+    removed: usize,
+    keeps_root: bool,
+    /// Whether a parent is told, and under which byte.
+    told: Option<u8>,
+    touched: (usize, usize, usize),
+}
+
+// What comes of a key that is related to no other.
+fn tried_apart(alloc: Global, slices: &[&[u8]], key: &[u8]) -> Result<Ordinary, Fail> {
+    let mut store: NodeStore<Key, u32, 16> = NodeStore::new(alloc);
+    let seen = overwritten(&mut store, slices, key, key)?;
+    let told = match seen.done.change {
+        InsertParentNodeChange::NoChange => None,
+        InsertParentNodeChange::NewParent {
+            leaf_node_key_byte,
+            ..
+        } => Some(leaf_node_key_byte),
+    };
+    Ok(Ordinary {
+        kind: kind_of(seen.point),
+        existing: seen.done.existing.map(|pair| pair.value),
+        removed: seen.removed,
+        keeps_root: seen.done.new_root == seen.root,
+        told,
+        touched: seen.done.touched,
+    })
+}
+
+#[test]
+fn comes_in_beside_unrelated_keys(rt: HostRuntime) -> Result<(), Fail> {
+    let into = Ordinary {
+        kind: Kind::IntoExisting,
+        existing: None,
+        removed: 0,
+        keeps_root: true,
+        told: Some(3),
+        touched: (1, 0, 2),
+    };
+    let exact = Ordinary {
+        kind: Kind::Exact,
+        existing: Some(1),
+        told: None,
+        touched: (0, 0, 1),
+        ..into
+    };
+    let split_leaf = Ordinary {
+        kind: Kind::SplitLeaf,
+        keeps_root: false,
+        told: Some(9),
+        touched: (2, 0, 1),
+        ..into
+    };
+    let split_prefix = Ordinary {
+        kind: Kind::MismatchPrefix,
+        touched: (2, 0, 2),
+        ..split_leaf
+    };
+    let two: [&[u8]; 2] = [&[1], &[2]];
+    let long: [&[u8]; 2] = [&[7, 1, 1, 1, 1, 5], &[7, 1, 1, 1, 1, 6]];
+    let cases: [(&[&[u8]], &[u8], Ordinary); 4] = [
+        (&two, &[3], into),
+        (&two, &[2], exact),
+        (&[&[1, 2, 3, 4]], &[1, 2, 9], split_leaf),
+        (&long, &[7, 1, 1, 9], split_prefix),
+    ];
+    for (slices, key, expected) in cases {
+        assert_eq!(rt; tried_apart(rt.alloc(), slices, key)?, expected);
+    }
+    Ok(())
+}
+
+// Whether the point of each of these keys is the one that an insertion finds too.
+fn have_insert_points<const P: usize>(
+    store: &NodeStore<Key, u32, P>,
+    root: OpaqueNodePtr,
+) -> [bool; 4]
+    requires { IsCanonicalRoot (of_key (λ key. key.items)) P store.now root }
+{
+    [
+        has_insert_point(store, root, &[7, 1, 1, 9]),
+        has_insert_point(store, root, &[7, 1, 1, 1, 1, 6]),
+        has_insert_point(store, root, &[7, 1, 1, 1, 1, 7]),
+        has_insert_point(store, root, &[7, 1, 1, 1, 1, 5, 2]),
+    ]
+}
+
+// The same for one key.
+fn has_insert_point<const P: usize>(
+    store: &NodeStore<Key, u32, P>,
+    root: OpaqueNodePtr,
+    key: &[u8],
+) -> bool
+    requires { IsCanonicalRoot (of_key (λ key. key.items)) P store.now root }
+{
+    match search_for_insert_point(store, root, key) {
+        Ok(point) => {
+            search_for_prefix_insert_point(store, root, key)
+                == PrefixInsertPoint::InsertPoint(point)
+        }
+        Err(_) => false,
+    }
+}
+
+#[test]
+fn finds_the_points_of_insertions(rt: HostRuntime) -> Result<(), Fail> {
+    let mut store: NodeStore<Key, u32, 2> = NodeStore::new(rt.alloc());
+    let slices: [&[u8]; 2] = [&[7, 1, 1, 1, 1, 5, 1], &[7, 1, 1, 1, 1, 6]];
+    let root = plant_all(&mut store, &slices)?;
+    assert_eq!(rt; have_insert_points(&store, root), [true; 4]);
+    Ok(())
+}
+
+// What a prefix insertion tells: the value of the pair that gave way, and how many leaves went.
+fn told(answer: Result<PrefixInsertResult<Key, u32>, Refused<Key, u32>>) -> (Option<u32>, usize) {
+    match answer {
+        Ok(done) => (
+            done.insert_result.existing_leaf.map(|leaf| leaf.value),
+            done.leafs_removed,
+        ),
+        Err(_) => (None, usize::MAX),
+    }
+}
+
+// The value of a stored key.
+fn stored<const P: usize>(
+    store: &NodeStore<Key, u32, P>,
+    root: OpaqueNodePtr,
+    key: &[u8],
+) -> Option<u32>
+    requires { IsCanonicalRoot (of_key (λ key. key.items)) P store.now root }
+{
+    value_of(store, search_unchecked(store, root, key)?)
+}
+
+// The root after a prefix insertion, the kind of its point, and what it tells.
+fn insert_text<const P: usize>(
+    store: &mut NodeStore<Key, u32, P>,
+    root: OpaqueNodePtr,
+    key: Key,
+    value: u32,
+) -> (OpaqueNodePtr, (Kind, (Option<u32>, usize)))
+    requires { IsCanonicalRoot (of_key (λ key. key.items)) P store.old root }
+    ensures { IsCanonicalRoot (of_key (λ key. key.items)) P store.new result.0 }
+{
+    let kind = kind_of(search_for_prefix_insert_point(store, root, key.as_slice()));
+    let (root, answer) = prefix_insert(store, root, key, value);
+    (root, (kind, told(answer)))
+}
+
+// What three prefix insertions tell, one after another, and the values of their keys then.
+fn told_of_text<const P: usize>(
+    store: &mut NodeStore<Key, u32, P>,
+    root: OpaqueNodePtr,
+    keys: [Key; 3],
+) -> ([(Kind, (Option<u32>, usize)); 3], [Option<u32>; 3])
+    requires { IsCanonicalRoot (of_key (λ key. key.items)) P store.old root }
+{
+    let [first, second, third] = keys;
+    let (root, first) = insert_text(store, root, first, 0xAA);
+    let (root, second) = insert_text(store, root, second, 0xBB);
+    let (root, third) = insert_text(store, root, third, 0xCC);
+    let values = [
+        stored(store, root, b"abb"),
+        stored(store, root, b"b"),
+        stored(store, root, b"ab"),
+    ];
+    ([first, second, third], values)
+}
+
+// The text of three keys.
+fn text(alloc: Global) -> Result<[Key; 3], Fail> {
+    Ok([
+        b"abb".to_vec(alloc)?,
+        b"b".to_vec(alloc)?,
+        b"ab".to_vec(alloc)?,
+    ])
+}
+
+#[test]
+fn a_shorter_text_takes_the_place_of_a_longer_one(rt: HostRuntime) -> Result<(), Fail> {
+    let mut store: NodeStore<Key, u32, 16> = NodeStore::new(rt.alloc());
+    let root = plant_all(&mut store, &[b"abb", b"b"])?;
+    let seen = told_of_text(&mut store, root, text(rt.alloc())?);
+    let replies = [
+        (Kind::Exact, (Some(0), 0)),
+        (Kind::Exact, (Some(1), 0)),
+        (Kind::Overwrite, (Some(0xAA), 0)),
+    ];
+    assert_eq!(rt; seen, (replies, [None, Some(0xBB), Some(0xCC)]));
+    Ok(())
+}
+
+// What a prefix insertion tells while all memory is held.
+fn told_without_memory<const P: usize>(
+    store: &mut NodeStore<Key, u32, P>,
+    root: OpaqueNodePtr,
+    key: &[u8],
+) -> Result<(Option<u32>, usize), AllocError>
+    requires { IsCanonicalRoot (of_key (λ key. key.items)) P store.old root }
+{
+    let alloc = store.alloc();
+    let key = key.to_vec(alloc)?;
+    let held = all_memory(alloc)?;
+    let answer = prefix_insert(store, root, key, 9).1;
+    drop(held);
+    Ok(told(answer))
+}
+
+// The same in the tree of [0], [1, 2, 3] and [2].
+fn replaced_without_memory(alloc: Global, key: &[u8]) -> Result<(Option<u32>, usize), Fail> {
+    let mut store: NodeStore<Key, u32, 16> = NodeStore::new(alloc);
+    let root = plant_all(&mut store, &[&[0], &[1, 2, 3], &[2]])?;
+    Ok(told_without_memory(&mut store, root, key)?)
+}
+
+#[test]
+fn without_memory_one_pair_is_replaced(rt: HostRuntime) -> Result<(), Fail> {
+    let keys: [&[u8]; 3] = [&[1, 2], &[1, 2, 3], &[1, 2, 3, 4]];
+    for key in keys {
+        assert_eq!(rt; replaced_without_memory(rt.alloc(), key)?, (Some(1), 0));
+    }
+    Ok(())
+}
+
+// What is left of a refusal to put a key in the place of the first two of some keys.
+fn refused_over(alloc: Global, others: &[&[u8]], key: &[u8]) -> Option<Refusal> {
+    let mut store: NodeStore<Key, u32, 4> = NodeStore::new(alloc);
+    refused_prefix_insertion(&mut store, others, key).ok()?
+}
+
+// More and more keys; all but the first two stand beside those.
+const BESIDE: [&[u8]; 9] = [
+    &[4, 1, 2, 3, 7],
+    &[4, 1, 2, 3, 8],
+    &[5],
+    &[6],
+    &[7],
+    &[8],
+    &[9],
+    &[10],
+    &[11],
+];
+
+// More and more keys with one prefix.
+const ONE_PREFIX: [&[u8]; 9] = [
+    &[1, 2, 1],
+    &[1, 2, 2],
+    &[1, 2, 3],
+    &[1, 2, 4],
+    &[1, 2, 5],
+    &[1, 2, 6],
+    &[1, 2, 7],
+    &[1, 2, 8],
+    &[1, 2, 9],
+];
+
+// Asserts something where a request for memory is refused while a key comes that ends in the prefix of a child.
+#[test]
+fn refused_overwrites_within_a_prefix_hand_the_pair_back(rt: HostRuntime) -> Result<(), Fail> {
+    for count in 3..=BESIDE.len() {
+        if let Some(refusal) = refused_over(rt.alloc(), &BESIDE[..count], &[4, 1, 2]) {
+            assert_eq!(rt; refusal, HANDED_BACK);
+            println!(rt; "asserted")?;
+        }
+    }
+    Ok(())
+}
+
+// The same with the prefix.
+#[test]
+fn refused_overwrites_at_the_end_of_a_prefix_hand_the_pair_back(
+    rt: HostRuntime,
+) -> Result<(), Fail> {
+    for count in 3..=BESIDE.len() {
+        if let Some(refusal) = refused_over(rt.alloc(), &BESIDE[..count], &[4, 1, 2, 3]) {
+            assert_eq!(rt; refusal, HANDED_BACK);
+            println!(rt; "asserted")?;
+        }
+    }
+    Ok(())
+}
+
+// The same in the place of the root.
+#[test]
+fn refused_overwrites_of_the_root_hand_the_pair_back(rt: HostRuntime) -> Result<(), Fail> {
+    for count in 2..=ONE_PREFIX.len() {
+        if let Some(refusal) = refused_over(rt.alloc(), &ONE_PREFIX[..count], &[1, 2]) {
+            assert_eq!(rt; refusal, HANDED_BACK);
+            println!(rt; "asserted")?;
+        }
+    }
+    Ok(())
+}
+
+// The same where the key is related to no other.
+#[test]
+fn refused_prefix_insertions_of_a_child_hand_the_pair_back(rt: HostRuntime) -> Result<(), Fail> {
+    for count in 2..=ONE_PREFIX.len() {
+        if let Some(refusal) = refused_over(rt.alloc(), &ONE_PREFIX[..count], &[1, 2, 10]) {
+            assert_eq!(rt; refusal, HANDED_BACK);
+            println!(rt; "asserted")?;
+        }
+    }
     Ok(())
 }

@@ -1,234 +1,307 @@
+//! Points of keys.
 ghost use Rattle.art_model.specs.Pairs.{of_key};
 ghost use Rattle.art_model.specs.Roots.{IsCanonicalRoot};
 
-use super::*;
-use art_test_support::trees::{Key, child, keys, plant, value_of};
+use art_nodes::node::{OpaqueNodePtr, OptionalLeafPtr};
+use art_nodes::store::NodeStore;
+use art_operations::insert::{InsertKind, InsertPoint, InsertSearchError, search_for_insert_point};
+use art_operations::path::{ExplicitMismatch, TreePath};
 use art_test_support::memory::all_memory;
+use art_test_support::trees::{Key, child, plant_all, value_of};
+use std::alloc::AllocError;
 use std::test::Fail;
 
-// The point of a key, if there is one.
-fn point<K: AsBytes + Drop, const P: usize>(
-    store: &NodeStore<K, u32, P>,
-    root: OpaqueNodePtr,
-    key_bytes: &[u8],
-) -> Option<InsertPoint>
-    requires { IsCanonicalRoot (of_key K.bytes) P store.now root }
-{
-    search_for_insert_point(store, root, key_bytes).ok()
+const LONG: [&[u8]; 2] = [&[7, 1, 1, 1, 1, 5], &[7, 1, 1, 1, 1, 6]];
+
+// What a search for a point tells.
+#[derive(Clone, Copy, PartialEq, Eq, Debug)]
+enum Told {
+    Point(InsertPoint),
+    /// A refusal, and whether it has the bytes of the key.
+    Related(bool),
+    NoMemory,
 }
 
-// The bytes of the key that is refused.
-fn refused_bytes<K: AsBytes + Drop, const P: usize>(
-    store: &NodeStore<K, u32, P>,
+// The point of a key, or its refusal.
+fn told_of<const P: usize>(
+    store: &NodeStore<Key, u32, P>,
     root: OpaqueNodePtr,
     key_bytes: &[u8],
-) -> Option<BoxedSlice<u8>>
-    requires { IsCanonicalRoot (of_key K.bytes) P store.now root }
+) -> Told
+    requires { IsCanonicalRoot (of_key (λ key. key.items)) P store.now root }
 {
     match search_for_insert_point(store, root, key_bytes) {
-        Err(InsertSearchError::Prefix(error)) => Some(error.byte_repr),
-        _ => None,
+        Ok(point) => Told::Point(point),
+        Err(InsertSearchError::Prefix(error)) => {
+            Told::Related(error.byte_repr.as_slice() == key_bytes)
+        }
+        Err(InsertSearchError::Memory(_)) => Told::NoMemory,
     }
+}
+
+// What is to be told where something is to be done at the root.
+fn at_root(root: OpaqueNodePtr, insert_kind: InsertKind) -> Told {
+    Told::Point(InsertPoint {
+        path: TreePath::Root,
+        insert_kind,
+        key_bytes_used: 0,
+        root,
+    })
+}
+
+// The same where the key of [7, 1, 1, 9] parts from the root's prefix.
+fn parted(root: OpaqueNodePtr, leaf_ptr: OptionalLeafPtr) -> Option<Told> {
+    let insert_kind = InsertKind::MismatchPrefix {
+        mismatch: ExplicitMismatch {
+            matched_bytes: 3,
+            prefix_byte: 1,
+            leaf_ptr,
+        },
+        mismatched_inner_node_ptr: root.as_inner()?,
+    };
+    Some(at_root(root, insert_kind))
+}
+
+// The same where the first leaf is read for the prefix.
+fn parted_at_least<const P: usize>(
+    store: &NodeStore<Key, u32, P>,
+    root: OpaqueNodePtr,
+) -> Option<Told> {
+    let least = child(store, root, 5)?.as_leaf()?;
+    parted(root, Some(least))
+}
+
+// What is told of a key that parts from a long prefix, and of two that end in it or with it.
+fn told_of_long<const P: usize>(store: &NodeStore<Key, u32, P>, root: OpaqueNodePtr) -> [Told; 3]
+    requires { IsCanonicalRoot (of_key (λ key. key.items)) P store.now root }
+{
+    [
+        told_of(store, root, &[7, 1, 1, 9]),
+        told_of(store, root, &[7, 1, 1, 1]),
+        told_of(store, root, &[7, 1, 1, 1, 1]),
+    ]
 }
 
 #[test]
 fn reads_a_leaf_for_a_long_prefix(rt: HostRuntime) -> Result<(), Fail> {
-    let alloc = rt.alloc();
-    let mut store: NodeStore<Key, u32, 2> = NodeStore::new(alloc);
-    let root = plant(
-        &mut store,
-        &mut NodeStore::new(alloc),
-        keys(alloc, &[&[7, 1, 1, 1, 1, 5], &[7, 1, 1, 1, 1, 6]])?,
-    )?;
-    let least = child(&store, root, 5).ok_or("a child")?;
-    let expected = InsertPoint {
-        path: TreePath::Root,
-        insert_kind: InsertKind::MismatchPrefix {
-            mismatch: ExplicitMismatch {
-                matched_bytes: 3,
-                prefix_byte: 1,
-                leaf_ptr: least.as_leaf(),
-            },
-            mismatched_inner_node_ptr: root.as_inner().ok_or("an inner root")?,
-        },
-        key_bytes_used: 0,
-        root,
-    };
-    assert_eq!(rt; point(&store, root, &[7, 1, 1, 9]), Some(expected));
-    assert!(rt; refused_bytes(&store, root, &[7, 1, 1, 1]).is_some());
-    assert!(rt; refused_bytes(&store, root, &[7, 1, 1, 1, 1]).is_some());
+    let mut store: NodeStore<Key, u32, 2> = NodeStore::new(rt.alloc());
+    let root = plant_all(&mut store, &LONG)?;
+    let point = parted_at_least(&store, root).ok_or("a child")?;
+    let told = told_of_long(&store, root);
+    assert_eq!(rt; told, [point, Told::Related(true), Told::Related(true)]);
     Ok(())
 }
 
 #[test]
 fn reads_no_leaf_for_a_stored_prefix(rt: HostRuntime) -> Result<(), Fail> {
-    let alloc = rt.alloc();
-    let mut store: NodeStore<Key, u32, 16> = NodeStore::new(alloc);
-    let root = plant(
-        &mut store,
-        &mut NodeStore::new(alloc),
-        keys(alloc, &[&[7, 1, 1, 1, 1, 5], &[7, 1, 1, 1, 1, 6]])?,
-    )?;
-    let expected = InsertPoint {
-        path: TreePath::Root,
-        insert_kind: InsertKind::MismatchPrefix {
-            mismatch: ExplicitMismatch {
-                matched_bytes: 3,
-                prefix_byte: 1,
-                leaf_ptr: None,
-            },
-            mismatched_inner_node_ptr: root.as_inner().ok_or("an inner root")?,
-        },
-        key_bytes_used: 0,
-        root,
-    };
-    assert_eq!(rt; point(&store, root, &[7, 1, 1, 9]), Some(expected));
+    let mut store: NodeStore<Key, u32, 16> = NodeStore::new(rt.alloc());
+    let root = plant_all(&mut store, &LONG)?;
+    let point = parted(root, None).ok_or("an inner root")?;
+    let told = told_of_long(&store, root);
+    assert_eq!(rt; told, [point, Told::Related(true), Told::Related(true)]);
     Ok(())
+}
+
+// What is told of two keys that end in the key of a leaf or go on after it, and of the empty one.
+fn told_of_related<const P: usize>(store: &NodeStore<Key, u32, P>, root: OpaqueNodePtr) -> [Told; 3]
+    requires { IsCanonicalRoot (of_key (λ key. key.items)) P store.now root }
+{
+    [
+        told_of(store, root, &[1, 2]),
+        told_of(store, root, &[1, 2, 3, 4]),
+        told_of(store, root, &[]),
+    ]
 }
 
 #[test]
 fn refuses_related_keys(rt: HostRuntime) -> Result<(), Fail> {
-    let alloc = rt.alloc();
-    let mut store: NodeStore<Key, u32, 16> = NodeStore::new(alloc);
-    let root = plant(
-        &mut store,
-        &mut NodeStore::new(alloc),
-        keys(alloc, &[&[1, 2, 3]])?,
-    )?;
-    for key in [&[1, 2][..], &[1, 2, 3, 4][..], &[][..]] {
-        let bytes = refused_bytes(&store, root, key).ok_or("a refusal")?;
-        assert_eq!(rt; &bytes[..], key);
-    }
+    let mut store: NodeStore<Key, u32, 16> = NodeStore::new(rt.alloc());
+    let root = plant_all(&mut store, &[&[1, 2, 3]])?;
+    let told = told_of_related(&store, root);
+    assert_eq!(rt; told, [Told::Related(true); 3]);
     Ok(())
+}
+
+// What is to be told where the root gets a child more.
+fn beside_children(root: OpaqueNodePtr) -> Option<Told> {
+    let inner_node_ptr = root.as_inner()?;
+    Some(at_root(root, InsertKind::IntoExisting { inner_node_ptr }))
 }
 
 #[test]
 fn stands_beside_the_children_of_a_node(rt: HostRuntime) -> Result<(), Fail> {
-    let alloc = rt.alloc();
-    let mut store: NodeStore<Key, u32, 16> = NodeStore::new(alloc);
-    let root = plant(
-        &mut store,
-        &mut NodeStore::new(alloc),
-        keys(alloc, &[&[1], &[2]])?,
-    )?;
-    let expected = InsertPoint {
-        path: TreePath::Root,
-        insert_kind: InsertKind::IntoExisting {
-            inner_node_ptr: root.as_inner().ok_or("an inner root")?,
-        },
-        key_bytes_used: 0,
-        root,
-    };
-    assert_eq!(rt; point(&store, root, &[3]), Some(expected));
+    let mut store: NodeStore<Key, u32, 16> = NodeStore::new(rt.alloc());
+    let root = plant_all(&mut store, &[&[1], &[2]])?;
+    let expected = beside_children(root).ok_or("an inner root")?;
+    let told = told_of(&store, root, &[3]);
+    assert_eq!(rt; told, expected);
     Ok(())
+}
+
+// What is to be told where the root is a leaf that gets a parent with a prefix of two bytes.
+fn beside_leaf(root: OpaqueNodePtr) -> Option<Told> {
+    let insert_kind = InsertKind::SplitLeaf {
+        leaf_node_ptr: root.as_leaf()?,
+        new_key_bytes_used: 2,
+    };
+    Some(at_root(root, insert_kind))
 }
 
 #[test]
 fn splits_a_leaf(rt: HostRuntime) -> Result<(), Fail> {
-    let alloc = rt.alloc();
-    let mut store: NodeStore<Key, u32, 16> = NodeStore::new(alloc);
-    let root = plant(
-        &mut store,
-        &mut NodeStore::new(alloc),
-        keys(alloc, &[&[1, 2, 3, 4]])?,
-    )?;
-    let expected = InsertPoint {
-        path: TreePath::Root,
-        insert_kind: InsertKind::SplitLeaf {
-            leaf_node_ptr: root.as_leaf().ok_or("a leaf")?,
-            new_key_bytes_used: 2,
-        },
-        key_bytes_used: 0,
-        root,
-    };
-    assert_eq!(rt; point(&store, root, &[1, 2, 9]), Some(expected));
+    let mut store: NodeStore<Key, u32, 16> = NodeStore::new(rt.alloc());
+    let root = plant_all(&mut store, &[&[1, 2, 3, 4]])?;
+    let expected = beside_leaf(root).ok_or("a leaf")?;
+    let told = told_of(&store, root, &[1, 2, 9]);
+    assert_eq!(rt; told, expected);
     Ok(())
+}
+
+// What is to be told where the root is the leaf of the key.
+fn at_leaf(root: OpaqueNodePtr) -> Option<Told> {
+    let leaf_node_ptr = root.as_leaf()?;
+    Some(at_root(root, InsertKind::Exact { leaf_node_ptr }))
 }
 
 #[test]
 fn finds_the_leaf_of_the_empty_key(rt: HostRuntime) -> Result<(), Fail> {
-    let alloc = rt.alloc();
-    let mut store: NodeStore<Key, u32, 16> = NodeStore::new(alloc);
-    let root = plant(&mut store, &mut NodeStore::new(alloc), keys(alloc, &[&[]])?)?;
-    let expected = InsertPoint {
-        path: TreePath::Root,
-        insert_kind: InsertKind::Exact {
-            leaf_node_ptr: root.as_leaf().ok_or("a leaf")?,
-        },
-        key_bytes_used: 0,
-        root,
-    };
-    assert_eq!(rt; point(&store, root, &[]), Some(expected));
-    assert!(rt; refused_bytes(&store, root, &[1]).is_some());
+    let mut store: NodeStore<Key, u32, 16> = NodeStore::new(rt.alloc());
+    let root = plant_all(&mut store, &[&[]])?;
+    let own = at_leaf(root).ok_or("a leaf")?;
+    let told = told_of_empty(&store, root);
+    assert_eq!(rt; told, [own, Told::Related(true)]);
     Ok(())
 }
 
-#[test]
-fn names_parents_and_grandparents(rt: HostRuntime) -> Result<(), Fail> {
-    let alloc = rt.alloc();
-    let mut store: NodeStore<Key, u32, 0> = NodeStore::new(alloc);
-    let root = plant(
-        &mut store,
-        &mut NodeStore::new(alloc),
-        keys(alloc, &[&[1, 2, 3], &[1, 2, 4], &[1, 5], &[6]])?,
-    )?;
-    let top = root.as_inner().ok_or("an inner root")?;
-    let middle = child(&store, root, 1).ok_or("a child")?;
-    let low = child(&store, middle, 2).ok_or("a child")?;
-    let parent = middle.as_inner().ok_or("an inner node")?;
-    let lowest = low.as_inner().ok_or("an inner node")?;
-    let leaf_node_ptr = child(&store, low, 3)
-        .and_then(|name| name.as_leaf())
-        .ok_or("a leaf")?;
-    assert_eq!(rt; value_of(&store, leaf_node_ptr), Some(0));
+// What is told of the empty key and of another.
+fn told_of_empty<const P: usize>(store: &NodeStore<Key, u32, P>, root: OpaqueNodePtr) -> [Told; 2]
+    requires { IsCanonicalRoot (of_key (λ key. key.items)) P store.now root }
+{
+    [told_of(store, root, &[]), told_of(store, root, &[1])]
+}
 
+// The paths and the used bytes of two keys beside the nodes at [1] and [1, 2], and the point of a stored key.
+fn told_below<const P: usize>(
+    store: &NodeStore<Key, u32, P>,
+    root: OpaqueNodePtr,
+    value: Option<u32>,
+) -> Option<Below>
+    requires { IsCanonicalRoot (of_key (λ key. key.items)) P store.now root }
+{
+    let beside = search_for_insert_point(store, root, &[1, 9, 9]).ok()?;
+    let below = search_for_insert_point(store, root, &[1, 2, 9]).ok()?;
+    Some(Below {
+        beside: (beside.path, beside.key_bytes_used),
+        below: (below.path, below.key_bytes_used),
+        of_leaf: told_of(store, root, &[1, 2, 3]),
+        value,
+    })
+}
+
+// What is told of three keys below the root's child.
+#[derive(Clone, Copy, PartialEq, Eq, Debug)]
+struct Below {
+    beside: (TreePath, usize),
+    below: (TreePath, usize),
+    of_leaf: Told,
+    // The value of the stored key's leaf.
+    value: Option<u32>,
+}
+
+// The inner nodes at the root, at [1] and at [1, 2], and the leaf of [1, 2, 3].
+fn names_below<const P: usize>(
+    store: &NodeStore<Key, u32, P>,
+    root: OpaqueNodePtr,
+) -> Option<[OpaqueNodePtr; 4]> {
+    let middle = child(store, root, 1)?;
+    let low = child(store, middle, 2)?;
+    Some([root, middle, low, child(store, low, 3)?])
+}
+
+// What is to be told, by these names.
+fn expected_below([root, middle, low, leaf]: [OpaqueNodePtr; 4]) -> Option<Below> {
+    let (top, parent, lowest) = (root.as_inner()?, middle.as_inner()?, low.as_inner()?);
     let of_child = TreePath::ChildOfRoot {
         parent: top,
         child_key_byte: 1,
     };
-    let beside = point(&store, root, &[1, 9, 9]).ok_or("a point")?;
-    assert_eq!(rt; (beside.path, beside.key_bytes_used), (of_child, 1));
-
     let of_grandchild = TreePath::Normal {
         grandparent: top,
         parent_key_byte: 1,
         parent,
         child_key_byte: 2,
     };
-    let below = point(&store, root, &[1, 2, 9]).ok_or("a point")?;
-    assert_eq!(rt; (below.path, below.key_bytes_used), (of_grandchild, 2));
-
-    let expected = InsertPoint {
+    let of_leaf = InsertPoint {
         path: TreePath::Normal {
             grandparent: parent,
             parent_key_byte: 2,
             parent: lowest,
             child_key_byte: 3,
         },
-        insert_kind: InsertKind::Exact { leaf_node_ptr },
+        insert_kind: InsertKind::Exact {
+            leaf_node_ptr: leaf.as_leaf()?,
+        },
         key_bytes_used: 3,
         root,
     };
-    assert_eq!(rt; point(&store, root, &[1, 2, 3]), Some(expected));
-    Ok(())
+    Some(Below {
+        beside: (of_child, 1),
+        below: (of_grandchild, 2),
+        of_leaf: Told::Point(of_leaf),
+        value: Some(0),
+    })
+}
+
+// What is told of the keys, and what is to be.
+fn compared_below<const P: usize>(
+    store: &NodeStore<Key, u32, P>,
+    root: OpaqueNodePtr,
+) -> Option<[Below; 2]>
+    requires { IsCanonicalRoot (of_key (λ key. key.items)) P store.now root }
+{
+    let names = names_below(store, root)?;
+    let value = value_of(store, names[3].as_leaf()?);
+    Some([told_below(store, root, value)?, expected_below(names)?])
 }
 
 #[test]
-fn only_a_refusal_takes_memory(rt: HostRuntime) -> Result<(), Fail> {
-    let alloc = rt.alloc();
-    let mut store: NodeStore<Key, u32, 2> = NodeStore::new(alloc);
-    let root = plant(
-        &mut store,
-        &mut NodeStore::new(alloc),
-        keys(alloc, &[&[7, 1, 1, 1, 1, 5], &[7, 1, 1, 1, 1, 6]])?,
-    )?;
-    let held = all_memory(alloc)?;
-    let parted = search_for_insert_point(&store, root, &[7, 1, 1, 9]);
-    let equal = search_for_insert_point(&store, root, &[7, 1, 1, 1, 1, 6]);
-    let related = search_for_insert_point(&store, root, &[7, 1]);
+fn names_parents_and_grandparents(rt: HostRuntime) -> Result<(), Fail> {
+    let mut store: NodeStore<Key, u32, 0> = NodeStore::new(rt.alloc());
+    let root = plant_all(&mut store, &[&[1, 2, 3], &[1, 2, 4], &[1, 5], &[6]])?;
+    let [seen, expected] = compared_below(&store, root).ok_or("other kinds of nodes")?;
+    assert_eq!(rt; seen, expected);
+    Ok(())
+}
+
+// What is told of a key that parts from the others, of a stored one, and of a related one.
+fn told_of_each<const P: usize>(store: &NodeStore<Key, u32, P>, root: OpaqueNodePtr) -> [bool; 3]
+    requires { IsCanonicalRoot (of_key (λ key. key.items)) P store.now root }
+{
+    [
+        matches!(told_of(store, root, &[7, 1, 1, 9]), Told::Point(_)),
+        matches!(told_of(store, root, &[7, 1, 1, 1, 1, 6]), Told::Point(_)),
+        matches!(told_of(store, root, &[7, 1]), Told::NoMemory),
+    ]
+}
+
+// The same while all memory is held.
+fn told_without_memory<const P: usize>(
+    store: &NodeStore<Key, u32, P>,
+    root: OpaqueNodePtr,
+) -> Result<[bool; 3], AllocError>
+    requires { IsCanonicalRoot (of_key (λ key. key.items)) P store.now root }
+{
+    let held = all_memory(store.alloc())?;
+    let told = told_of_each(store, root);
     drop(held);
-    assert!(rt; parted.is_ok());
-    assert!(rt; equal.is_ok());
-    assert!(rt; matches!(related, Err(InsertSearchError::Memory(_))));
+    Ok(told)
+}
+
+#[test]
+fn without_memory_only_a_refusal_fails(rt: HostRuntime) -> Result<(), Fail> {
+    let mut store: NodeStore<Key, u32, 2> = NodeStore::new(rt.alloc());
+    let root = plant_all(&mut store, &LONG)?;
+    let told = told_without_memory(&store, root)?;
+    assert_eq!(rt; told, [true; 3]);
     Ok(())
 }

@@ -18,4 +18,4 @@ returns-in-Ok-apply g c =
 pub returns-in-Err : goal.returns-in-Err
 returns-in-Err g c =
     let (pairs, layout, by) = c.requires in
-    (pairs, layout, tree_stays (c.in-Err.ensures.leaves, c.in-Err.ensures.inners) by)
+    (pairs, layout, tree_stays {mid = c.apply.new.store} (c.in-Err.ensures.leaves, c.in-Err.ensures.inners) by)

@@ -1,6 +1,6 @@
 use Rattle.art_model.specs.Pairs.{of_key, remove_reply}
 use Rattle.art_operations.proofs.Deletions.{point_in}
-use Rattle.art_delete_tests.proofs.shrink.point_of.Goals as goal
+use Rattle.art_delete_tests.proofs.points.point_of.Goals as goal
 
 pub returns : goal.returns
 returns g c =

@@ -1,6 +1,6 @@
 use Rattle.art_model.specs.Pairs.{of_key, remove_key}
 use Rattle.art_operations.proofs.Deletions.{some_root}
-use Rattle.art_delete_tests.proofs.shrink.take_out.Goals as goal
+use Rattle.art_delete_tests.proofs.points.take_out.Goals as goal
 
 pub returns-in-Ok : goal.returns-in-Ok
 returns-in-Ok g c =

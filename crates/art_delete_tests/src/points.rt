@@ -1,0 +1,89 @@
+//! Deletions of the tests.
+ghost use Rattle.std.specs.Prelude.{IfOk, IfSome};
+ghost use Rattle.art_model.specs.Pairs.{of_key};
+ghost use Rattle.art_model.specs.Roots.{IsCanonicalRoot};
+ghost use Rattle.art_operations.specs.Deleted.{IsDeletePointIn};
+
+use art_nodes::node::{AsBytes, OpaqueNodePtr};
+use art_nodes::store::NodeStore;
+use art_operations::delete::{DeletePoint, search_for_delete_point};
+use art_test_support::nodes::{Seen, count_touched};
+use art_test_support::points::{Gone, gone_pair};
+use art_test_support::trees::Key;
+use std::test::Fail;
+
+/// The point of a key, if there is one.
+pub fn point_of<K: AsBytes + Drop, const P: usize>(
+    store: &NodeStore<K, u32, P>,
+    root: OpaqueNodePtr,
+    key_bytes: &[u8],
+) -> Option<DeletePoint>
+    requires { IsCanonicalRoot (of_key K.bytes) P store.now root }
+    ensures { IfSome result (λ point. IsDeletePointIn (of_key K.bytes) P store.now root point) }
+{
+    search_for_delete_point(store, root, key_bytes)
+}
+
+/// Takes a key out, and answers the root that is left.
+pub fn take_out<K: AsBytes + Drop, const P: usize>(
+    store: &mut NodeStore<K, u32, P>,
+    root: OpaqueNodePtr,
+    key_bytes: &[u8],
+) -> Result<Option<OpaqueNodePtr>, Fail>
+    requires { IsCanonicalRoot (of_key K.bytes) P store.old root }
+    ensures { IfOk result (λ left. IfSome left (λ root. IsCanonicalRoot (of_key K.bytes) P store.new root)) }
+{
+    let point = point_of(store, root, key_bytes).ok_or("no such key")?;
+    match point.apply(store, root) {
+        Ok(done) => Ok(done.new_root),
+        Err(_) => Err("refused".into()),
+    }
+}
+
+/// What a deletion did, as plain values.
+#[derive(Clone, Copy, PartialEq, Eq, Debug)]
+pub struct Deletion {
+    pub new_root: Option<OpaqueNodePtr>,
+    /// The deleted pair.
+    pub gone: Gone,
+}
+
+/// Deletes a key. `None` where it is absent or the deletion is refused.
+pub fn delete<const P: usize>(
+    store: &mut NodeStore<Key, u32, P>,
+    root: OpaqueNodePtr,
+    key_bytes: &[u8],
+) -> Option<Deletion>
+    requires { IsCanonicalRoot (of_key (λ key. key.items)) P store.old root }
+{
+    let done = point_of(store, root, key_bytes)?.apply(store, root).ok()?;
+    Some(Deletion {
+        new_root: done.new_root,
+        gone: gone_pair(&done.deleted_leaf, key_bytes),
+    })
+}
+
+/// A pair that was deleted with its own key, and this value.
+pub fn gone_with(value: u32) -> Gone {
+    Gone {
+        has_key: true,
+        value,
+        previous: None,
+        next: None,
+    }
+}
+
+/// Deletes a key from a tree in a store with these nodes: what that touches, where the deletion is refused. The point
+/// has to come back.
+pub fn refused_deletion<const P: usize>(
+    store: &mut NodeStore<Key, u32, P>,
+    root: OpaqueNodePtr,
+    before: &[Seen],
+    key_bytes: &[u8],
+) -> Option<(bool, (usize, usize, usize))>
+    requires { IsCanonicalRoot (of_key (λ key. key.items)) P store.old root }
+{
+    let point = point_of(store, root, key_bytes)?;
+    let refused = point.apply(store, root).err()?;
+    Some((refused.point == point, count_touched(store, before)))
+}
