@@ -5,9 +5,9 @@ ghost use Rattle.art_model.specs.Clones.{KeepBytes};
 ghost use Rattle.art_model.specs.Pairs.{of_key};
 ghost use Rattle.art_model.specs.Roots.{IsCanonicalRoot};
 
-use art_operations::run::{Command, Side, run};
 use art_nodes::node::{AsBytes, LeafPtr, NodeType, OpaqueNodePtr};
 use art_nodes::store::NodeStore;
+use art_operations::run::{Command, Side, run};
 use std::alloc::{AllocError, Global};
 use std::test::Fail;
 
@@ -96,6 +96,18 @@ pub fn keys_of_zeros(alloc: Global) -> Result<Vec<Key>, AllocError> {
         keys.push(key)?;
     }
     Ok(keys)
+}
+
+/// Plants a tree of these keys, with a second store of its own.
+pub fn plant_all<const P: usize>(
+    store: &mut NodeStore<Key, u32, P>,
+    slices: &[&[u8]],
+) -> Result<OpaqueNodePtr, Fail>
+    ensures { IfOk result (λ root. IsCanonicalRoot (of_key (λ key. key.items)) P store.new root) }
+{
+    let alloc = store.alloc();
+    let all = keys(alloc, slices)?;
+    plant(store, &mut NodeStore::new(alloc), all)
 }
 
 /// All keys of three bytes, each byte less than its limit.
