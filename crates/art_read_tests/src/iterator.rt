@@ -1,12 +1,14 @@
+//! Walks of leaves.
 ghost use Rattle.std.specs.Prelude.{List};
 ghost use Rattle.art_nodes.specs.declared.node.OpaqueNodePtr.{OpaqueNodePtr};
 ghost use Rattle.art_operations.specs.Iterators.{IsIteratorOf};
 ghost use Rattle.art_model.specs.Roots.{IsCanonicalRoot};
 
-use super::*;
-use crate::minmax::{maximum_unchecked, minimum_unchecked};
-use art_test_support::trees::{Key, keys, plant};
-use art_nodes::node::OpaqueNodePtr;
+use art_nodes::node::{OpaqueNodePtr, OptionalLeafPtr};
+use art_nodes::store::NodeStore;
+use art_operations::iterator::RawIterator;
+use art_operations::minmax::{maximum_unchecked, minimum_unchecked};
+use art_test_support::trees::{Key, plant_all, value_of};
 use std::test::Fail;
 
 // All leaves of a tree.
@@ -37,11 +39,12 @@ fn back<const P: usize>(leaves: &mut RawIterator, store: &NodeStore<Key, u32, P>
     value_under(store, name)
 }
 
+// The value of a leaf that came.
 fn value_under<const P: usize>(
     store: &NodeStore<Key, u32, P>,
     name: OptionalLeafPtr,
 ) -> Option<u32> {
-    Some(store.leaf(name?)?.value)
+    value_of(store, name?)
 }
 
 // What comes of all leaves of a tree, from both ends.
@@ -65,14 +68,8 @@ fn from_both_ends<const P: usize>(
 
 #[test]
 fn comes_from_both_ends(rt: HostRuntime) -> Result<(), Fail> {
-    let alloc = rt.alloc();
-    let mut store: NodeStore<Key, u32, 4> = NodeStore::new(alloc);
-    let slices: [&[u8]; 5] = [&[1], &[2], &[3], &[4], &[5]];
-    let root = plant(
-        &mut store,
-        &mut NodeStore::new(alloc),
-        keys(alloc, &slices)?,
-    )?;
+    let mut store: NodeStore<Key, u32, 4> = NodeStore::new(rt.alloc());
+    let root = plant_all(&mut store, &[&[1], &[2], &[3], &[4], &[5]])?;
     let came = [Some(0), Some(4), Some(1), Some(3), Some(2), None, None];
     assert_eq!(rt; from_both_ends(&store, root), came);
     Ok(())

@@ -143,25 +143,35 @@ pub fn ran<const P: usize>(
     Ok(ran_from(first, second, None, rows)?.0)
 }
 
-/// The same where there is no memory but for the list of the replies.
+/// Runs commands where there is no memory but for the list of the replies.
+pub fn run_without_memory<const P: usize>(
+    first: &mut NodeStore<Key, u32, P>,
+    second: &mut NodeStore<Key, u32, P>,
+    root: Option<OpaqueNodePtr>,
+    asked: Vec<Command<Key, u32>>,
+) -> Result<RunResult<Key, u32>, AllocError>
+    requires { (pairs : List (Vec ℕ Global × ℕ)) × IsCanonical (of_key (λ key. key.items)) P first.old root pairs }
+    ensures { IfOk result (λ done. (pairs : List (Vec ℕ Global × ℕ)) × IsCanonical (of_key (λ key. key.items)) P (of_side done.side first.new second.new) done.root pairs) }
+{
+    let alloc = first.alloc();
+    let kept_free = Vec::<Reply<Key, u32>>::with_capacity(alloc, asked.len())?;
+    let held = all_memory(alloc)?;
+    drop(kept_free);
+    let ran = run(first, second, root, asked);
+    drop(held);
+    ran.map_err(|refused| refused.1)
+}
+
+/// Asks the commands of these rows where there is no memory but for the list of the replies.
 pub fn ran_without_memory<const P: usize>(
     first: &mut NodeStore<Key, u32, P>,
     second: &mut NodeStore<Key, u32, P>,
     root: Option<OpaqueNodePtr>,
     rows: &[Row<'_>],
-) -> Result<(Left, Option<OpaqueNodePtr>), AllocError>
+) -> Result<Left, AllocError>
     requires { (pairs : List (Vec ℕ Global × ℕ)) × IsCanonical (of_key (λ key. key.items)) P first.old root pairs }
-    ensures { IfOk result (λ done. (pairs : List (Vec ℕ Global × ℕ)) × IsCanonical (of_key (λ key. key.items)) P (of_side done.0.side first.new second.new) done.1 pairs) }
 {
-    let alloc = first.alloc();
-    let asked = commands(alloc, rows)?;
-    let kept_free = Vec::<Reply<Key, u32>>::with_capacity(alloc, rows.len())?;
-    let held = all_memory(alloc)?;
-    drop(kept_free);
-    let ran = run(first, second, root, asked);
-    drop(held);
-    match ran {
-        Ok(done) => Ok((left_by(&done, rows), done.root)),
-        Err((_, error)) => Err(error),
-    }
+    let asked = commands(first.alloc(), rows)?;
+    let done = run_without_memory(first, second, root, asked)?;
+    Ok(left_by(&done, rows))
 }

@@ -2,8 +2,8 @@
 #![tactic(auto)]
 
 pub mod commands;
-pub mod counts;
 pub mod memory;
 pub mod nodes;
 pub mod points;
+pub mod shapes;
 pub mod trees;
