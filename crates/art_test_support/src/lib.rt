@@ -6,4 +6,5 @@ pub mod memory;
 pub mod nodes;
 pub mod points;
 pub mod shapes;
+pub mod side_by_side;
 pub mod trees;
