@@ -4,6 +4,8 @@
 #[cfg(test)]
 mod against_oracle;
 #[cfg(test)]
+mod built;
+#[cfg(test)]
 mod by_hand;
 #[cfg(test)]
 mod by_list;
@@ -22,6 +24,6 @@ mod refusals;
 #[cfg(test)]
 mod shapes;
 #[cfg(test)]
-mod side_by_side;
+mod sorted_pairs;
 #[cfg(test)]
 mod trees;

@@ -2,11 +2,11 @@
 
 use crate::by_hand::has_place;
 use crate::numbers::Numbers;
-use crate::trees::count_nodes;
 use art_nodes::node::{
     AnyInner, Header, InnerPtr, InnerRef, LeafNode, LeafPtr, NodeType, OpaqueNodePtr,
 };
 use art_nodes::store::NodeStore;
+use art_test_support::shapes::count_nodes;
 use std::alloc::{AllocError, Global};
 use std::process::Abort;
 use std::test::Fail;
@@ -95,17 +95,25 @@ fn no_children() -> [Option<OpaqueNodePtr>; 256] {
     [None; 256]
 }
 
-fn assert_inner(rt: &impl Abort, node: InnerRef<'_, 3>, want: &PlainInner) {
-    let PlainPrefix { bytes, len } = want.prefix;
-    assert_eq!(rt; node.prefix_len(), len);
-    assert_eq!(rt; node.read_prefix(), &bytes[..len.min(3)]);
+/// Whether the children of a node are these.
+fn has_children(node: InnerRef<'_, 3>, want: &[Option<OpaqueNodePtr>; 256]) -> bool {
     let mut children = node.iter();
     for byte in 0..=255u8 {
-        if let Some(child) = want.children[byte as usize] {
-            assert_eq!(rt; children.next(), Some((byte, child)));
+        if let Some(child) = want[byte as usize] {
+            if children.next() != Some((byte, child)) {
+                return false;
+            }
         }
     }
-    assert_eq!(rt; children.next(), None);
+    children.next().is_none()
+}
+
+/// Whether a node is of a kind, and is what is wanted.
+fn is_inner(node: InnerRef<'_, 3>, kind: NodeType, want: &PlainInner) -> bool {
+    let PlainPrefix { bytes, len } = want.prefix;
+    (node.node_type(), node.prefix_len()) == (kind, len)
+        && node.read_prefix() == &bytes[..len.min(3)]
+        && has_children(node, &want.children)
 }
 
 /// A store, and beside it a list of the names that it gave out with what is to be under them.
@@ -163,8 +171,7 @@ impl Trial {
         let (name, want) = self.inners.remove(at);
         assert!(rt; self.store.inner(name).is_some());
         let node = self.store.free_inner(name);
-        assert_eq!(rt; node.node_type(), name.kind);
-        assert_inner(rt, node.as_ref(), &want);
+        assert!(rt; is_inner(node.as_ref(), name.kind, &want), "{name}");
     }
 
     fn set_links(&mut self, rt: &impl Abort) {
@@ -214,19 +221,24 @@ impl Trial {
         }
     }
 
-    /// Takes some children out of one node.
-    fn remove_children(&mut self, rt: &impl Abort) {
+    /// Takes some children out of one node. Answers whether they are the ones that it had.
+    fn remove_children(&mut self) -> bool {
         let Some(at) = self.numbers.place_in(self.inners.len()) else {
-            return;
+            return true;
         };
         let (name, want) = &mut self.inners[at];
         for _ in 0..self.numbers.below(60) {
             let byte = self.numbers.byte();
-            assert!(rt; self.store.inner(*name).is_some());
+            if self.store.inner(*name).is_none() {
+                return false;
+            }
             let removed = self.store.remove_child(*name, byte);
-            assert_eq!(rt; removed, want.children[byte as usize]);
+            if removed != want.children[byte as usize] {
+                return false;
+            }
             want.children[byte as usize] = None;
         }
+        true
     }
 
     fn reserve(&mut self, rt: &impl Abort) -> Result<(), AllocError> {
@@ -254,7 +266,7 @@ impl Trial {
             }
             1 => self.free_inner(rt),
             2 | 3 => self.write_children(),
-            4 => self.remove_children(rt),
+            4 => assert!(rt; self.remove_children()),
             5 => self.set_links(rt),
             6 => self.swap_pair(rt),
             7 => self.set_header(rt),
@@ -263,22 +275,27 @@ impl Trial {
         Ok(())
     }
 
-    /// Compares what is under each listed name, and sees that nothing is under any other.
-    fn compare(&self, rt: &impl Abort) {
+    /// Whether each listed leaf and node is what it is to be.
+    fn has_listed(&self) -> bool {
         for (name, want) in &self.leaves {
-            let found = self.store.leaf(*name).map(PlainLeaf::of);
-            assert_eq!(rt; found, Some(*want), "{name}");
-        }
-        for (name, want) in &self.inners {
-            let found = self.store.inner(*name);
-            assert!(rt; found.is_some(), "{name}");
-            if let Some(node) = found {
-                assert_eq!(rt; node.node_type(), name.kind);
-                assert_inner(rt, node, want);
+            if self.store.leaf(*name).map(PlainLeaf::of) != Some(*want) {
+                return false;
             }
         }
+        for (name, want) in &self.inners {
+            match self.store.inner(*name) {
+                Some(node) if is_inner(node, name.kind, want) => {}
+                _ => return false,
+            }
+        }
+        true
+    }
+
+    /// Sees that what is under each listed name is what is to be there, and that nothing is under any other.
+    fn compare(&self, rt: &impl Abort) {
         let counts = (self.leaves.len(), self.inners.len());
-        assert_eq!(rt; count_nodes(&self.store, LAST_SLOT), counts);
+        let seen = (self.has_listed(), count_nodes(&self.store, LAST_SLOT));
+        assert_eq!(rt; seen, (true, counts));
     }
 }
 
