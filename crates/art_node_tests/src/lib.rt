@@ -6,6 +6,4 @@ mod mixed_calls;
 #[cfg(test)]
 mod node;
 #[cfg(test)]
-mod numbers;
-#[cfg(test)]
 mod store;

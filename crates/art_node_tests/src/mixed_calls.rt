@@ -4,11 +4,12 @@ ghost use Rattle.std.specs.FinMap as map;
 ghost use Rattle.art_nodes.specs.Inner.{HasPlace};
 ghost use Rattle.art_nodes.specs.Kinds.{kind_capacity};
 
-use crate::numbers::Numbers;
 use art_nodes::node::{
     AnyInner, Header, InnerPtr, InnerRef, LeafNode, LeafPtr, NodeType, OpaqueNodePtr,
 };
 use art_nodes::store::NodeStore;
+use art_test_support::numbers::Numbers;
+use art_test_support::shapes::count_nodes;
 use std::alloc::AllocError;
 use std::test::Fail;
 
@@ -19,50 +20,41 @@ const STEPS: usize = 10_000;
 // No name has a slot past this one: there are never so many nodes at a time.
 const LAST_SLOT: usize = 400;
 
-const INNER_KINDS: [NodeType; 4] = [
-    NodeType::Node4,
-    NodeType::Node16,
-    NodeType::Node48,
-    NodeType::Node256,
-];
-
-impl Numbers {
-    /// A kind of inner nodes.
-    fn inner_kind(&mut self) -> NodeType {
-        match self.below(4) {
-            0 => NodeType::Node4,
-            1 => NodeType::Node16,
-            2 => NodeType::Node48,
-            _ => NodeType::Node256,
-        }
+// A kind of inner nodes.
+fn inner_kind(numbers: &mut Numbers) -> NodeType {
+    match numbers.below(4) {
+        0 => NodeType::Node4,
+        1 => NodeType::Node16,
+        2 => NodeType::Node48,
+        _ => NodeType::Node256,
     }
+}
 
-    /// A name, of some node or of none.
-    fn name(&mut self) -> OpaqueNodePtr {
-        let kind = if self.is_heads() {
-            NodeType::Leaf
-        } else {
-            self.inner_kind()
-        };
-        OpaqueNodePtr::from_parts(kind, self.below(LAST_SLOT))
-    }
+// A name, of some node or of none.
+fn name(numbers: &mut Numbers) -> OpaqueNodePtr {
+    let kind = if numbers.is_heads() {
+        NodeType::Leaf
+    } else {
+        inner_kind(numbers)
+    };
+    OpaqueNodePtr::from_parts(kind, numbers.below(LAST_SLOT))
+}
 
-    /// The name of a leaf, of some leaf or of none, where one is drawn.
-    fn link(&mut self) -> Option<LeafPtr> {
-        self.name().as_leaf()
-    }
+// The name of a leaf, of some leaf or of none, where one is drawn.
+fn link(numbers: &mut Numbers) -> Option<LeafPtr> {
+    name(numbers).as_leaf()
+}
 
-    /// A key and a value.
-    fn pair(&mut self) -> ([u8; 2], u32) {
-        ([self.byte(), self.byte()], self.value())
-    }
+// A key and a value.
+fn pair(numbers: &mut Numbers) -> ([u8; 2], u32) {
+    ([numbers.byte(), numbers.byte()], numbers.value())
+}
 
-    /// A prefix: bytes of which the front is stored, and a length.
-    fn prefix(&mut self) -> PlainPrefix {
-        PlainPrefix {
-            bytes: [self.byte(), self.byte(), self.byte()],
-            len: self.below(6),
-        }
+// A prefix: bytes of which the front is stored, and a length.
+fn prefix(numbers: &mut Numbers) -> PlainPrefix {
+    PlainPrefix {
+        bytes: [numbers.byte(), numbers.byte(), numbers.byte()],
+        len: numbers.below(6),
     }
 }
 
@@ -135,22 +127,6 @@ fn has_place(store: &Store, name: InnerPtr, byte: u8) -> bool
     }
 }
 
-// How many leaves and inner nodes there are.
-fn count_nodes(store: &Store) -> (usize, usize) {
-    let (mut leaves, mut inners) = (0usize, 0usize);
-    for slot in 0..=LAST_SLOT {
-        if store.leaf(LeafPtr::from_slot(slot)).is_some() {
-            leaves = leaves.saturating_add(1);
-        }
-        for kind in INNER_KINDS {
-            if store.inner(InnerPtr { kind, slot }).is_some() {
-                inners = inners.saturating_add(1);
-            }
-        }
-    }
-    (leaves, inners)
-}
-
 /// A store, and beside it a list of the names that it gave out with what is to be under them. Each call
 /// answers whether the store did as the list says.
 #[derive(Drop)]
@@ -164,8 +140,8 @@ struct Trial {
 impl Trial {
     /// Places a leaf, under a name that is not on the list.
     fn place_leaf(&mut self) -> Result<bool, AllocError> {
-        let (key, value) = self.numbers.pair();
-        let (previous, next) = (self.numbers.link(), self.numbers.link());
+        let (key, value) = pair(&mut self.numbers);
+        let (previous, next) = (link(&mut self.numbers), link(&mut self.numbers));
         let leaf = LeafNode {
             key,
             value,
@@ -181,7 +157,7 @@ impl Trial {
 
     /// Places an inner node with no child, under a name of its kind that is not on the list.
     fn place_inner(&mut self, kind: NodeType) -> Result<bool, AllocError> {
-        let prefix = self.numbers.prefix();
+        let prefix = prefix(&mut self.numbers);
         if kind == NodeType::Leaf {
             return Ok(false);
         }
@@ -224,7 +200,7 @@ impl Trial {
             return true;
         };
         let (name, want) = &mut self.leaves[at];
-        want.links = (self.numbers.link(), self.numbers.link());
+        want.links = (link(&mut self.numbers), link(&mut self.numbers));
         if self.store.leaf(*name).is_none() {
             return false;
         }
@@ -238,7 +214,7 @@ impl Trial {
             return true;
         };
         let (name, want) = &mut self.leaves[at];
-        let pair = self.numbers.pair();
+        let pair = pair(&mut self.numbers);
         if self.store.leaf(*name).is_none() {
             return false;
         }
@@ -254,7 +230,7 @@ impl Trial {
             return true;
         };
         let (name, want) = &mut self.inners[at];
-        want.prefix = self.numbers.prefix();
+        want.prefix = prefix(&mut self.numbers);
         if self.store.inner(*name).is_none() {
             return false;
         }
@@ -269,7 +245,7 @@ impl Trial {
         };
         let (name, want) = &mut self.inners[at];
         for _ in 0..self.numbers.below(12) {
-            let (byte, child) = (self.numbers.byte(), self.numbers.name());
+            let (byte, child) = (self.numbers.byte(), name(&mut self.numbers));
             if has_place(&self.store, *name, byte) {
                 self.store.write_child(*name, byte, child);
                 want.children[byte as usize] = Some(child);
@@ -301,7 +277,7 @@ impl Trial {
     /// Asks for a promise, which changes no node.
     fn reserve(&mut self) -> Result<bool, AllocError> {
         let leaves = self.numbers.below(20);
-        let kind = self.numbers.inner_kind();
+        let kind = inner_kind(&mut self.numbers);
         if kind == NodeType::Leaf {
             return Ok(false);
         }
@@ -322,7 +298,7 @@ impl Trial {
             0 if is_placement => self.place_leaf(),
             0 => Ok(self.free_leaf()),
             1 if is_placement => {
-                let kind = self.numbers.inner_kind();
+                let kind = inner_kind(&mut self.numbers);
                 self.place_inner(kind)
             }
             1 => Ok(self.free_inner()),
@@ -350,7 +326,7 @@ impl Trial {
                 return false;
             }
         }
-        count_nodes(&self.store) == (self.leaves.len(), self.inners.len())
+        count_nodes(&self.store, LAST_SLOT) == (self.leaves.len(), self.inners.len())
     }
 
     /// Makes the calls, and answers the number of the first one after which something is wrong.

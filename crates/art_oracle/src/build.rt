@@ -267,6 +267,3 @@ pub fn build<K: AsBytes + Drop, V: Drop, const P: usize>(
     let root = build_node(store, names.as_slice(), 0)?;
     Ok(Some(root))
 }
-
-#[cfg(test)]
-mod tests;

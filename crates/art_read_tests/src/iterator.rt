@@ -1,12 +1,18 @@
-ghost use Rattle.std.specs.Prelude.{List};
+//! Walks of leaves.
+ghost use Rattle.std.specs.Prelude.{List, IfSome};
 ghost use Rattle.art_nodes.specs.declared.node.OpaqueNodePtr.{OpaqueNodePtr};
 ghost use Rattle.art_operations.specs.Iterators.{IsIteratorOf};
 ghost use Rattle.art_model.specs.Roots.{IsCanonicalRoot};
 
-use super::*;
-use crate::minmax::{maximum_unchecked, minimum_unchecked};
-use art_test_support::trees::{Key, keys, plant};
-use art_nodes::node::OpaqueNodePtr;
+use art_nodes::node::{OpaqueNodePtr, OptionalLeafPtr};
+use art_nodes::store::NodeStore;
+use art_operations::deallocate::{deallocate_leaves, deallocate_tree_non_leaves};
+use art_operations::iterator::RawIterator;
+use art_operations::minmax::{maximum_unchecked, minimum_unchecked};
+use art_test_support::nodes::{count_touched, nodes_seen};
+use art_test_support::shapes::count_nodes;
+use art_test_support::trees::{Key, plant_all, value_of};
+use std::alloc::AllocError;
 use std::test::Fail;
 
 // All leaves of a tree.
@@ -37,11 +43,12 @@ fn back<const P: usize>(leaves: &mut RawIterator, store: &NodeStore<Key, u32, P>
     value_under(store, name)
 }
 
+// The value of a leaf that came.
 fn value_under<const P: usize>(
     store: &NodeStore<Key, u32, P>,
     name: OptionalLeafPtr,
 ) -> Option<u32> {
-    Some(store.leaf(name?)?.value)
+    value_of(store, name?)
 }
 
 // What comes of all leaves of a tree, from both ends.
@@ -65,15 +72,217 @@ fn from_both_ends<const P: usize>(
 
 #[test]
 fn comes_from_both_ends(rt: HostRuntime) -> Result<(), Fail> {
-    let alloc = rt.alloc();
-    let mut store: NodeStore<Key, u32, 4> = NodeStore::new(alloc);
-    let slices: [&[u8]; 5] = [&[1], &[2], &[3], &[4], &[5]];
-    let root = plant(
-        &mut store,
-        &mut NodeStore::new(alloc),
-        keys(alloc, &slices)?,
-    )?;
+    let mut store: NodeStore<Key, u32, 4> = NodeStore::new(rt.alloc());
+    let root = plant_all(&mut store, &[&[1], &[2], &[3], &[4], &[5]])?;
     let came = [Some(0), Some(4), Some(1), Some(3), Some(2), None, None];
     assert_eq!(rt; from_both_ends(&store, root), came);
+    Ok(())
+}
+
+// What comes of some leaves, from the back first.
+fn from_the_back<const P: usize>(
+    leaves: RawIterator,
+    store: &NodeStore<Key, u32, P>,
+) -> [Option<u32>; 4]
+    requires { (names : List OpaqueNodePtr) × IsIteratorOf store.now leaves names }
+{
+    let mut leaves = leaves;
+    [
+        back(&mut leaves, store),
+        front(&mut leaves, store),
+        back(&mut leaves, store),
+        front(&mut leaves, store),
+    ]
+}
+
+// The same leaves once more, by the names of the first and the last of them.
+fn again<const P: usize>(leaves: RawIterator, store: &NodeStore<Key, u32, P>) -> Option<RawIterator>
+    requires { (names : List OpaqueNodePtr) × IsIteratorOf store.now leaves names }
+    ensures { IfSome result (λ same. (names : List OpaqueNodePtr) × IsIteratorOf store.now same names) }
+{
+    let mut from_front = leaves;
+    let first = from_front.next(store)?;
+    let mut from_back = leaves;
+    let last = from_back.next_back(store)?;
+    Some(RawIterator::new(store, first, last))
+}
+
+// The leaves between the first and the last one.
+fn between<const P: usize>(
+    store: &NodeStore<Key, u32, P>,
+    root: OpaqueNodePtr,
+) -> Option<RawIterator>
+    requires { IsCanonicalRoot (λ pair. pair.0.items) P store.now root }
+    ensures { IfSome result (λ leaves. (names : List OpaqueNodePtr) × IsIteratorOf store.now leaves names) }
+{
+    let mut inner = whole(store, root);
+    front(&mut inner, store);
+    back(&mut inner, store);
+    again(inner, store)
+}
+
+// What comes of the leaves between the first and the last one, from the back first.
+fn from_between<const P: usize>(
+    store: &NodeStore<Key, u32, P>,
+    root: OpaqueNodePtr,
+) -> Option<[Option<u32>; 4]>
+    requires { IsCanonicalRoot (λ pair. pair.0.items) P store.now root }
+{
+    Some(from_the_back(between(store, root)?, store))
+}
+
+#[test]
+fn a_part_comes_from_both_ends(rt: HostRuntime) -> Result<(), Fail> {
+    let mut store: NodeStore<Key, u32, 4> = NodeStore::new(rt.alloc());
+    let root = plant_all(&mut store, &[&[1], &[2], &[3], &[4], &[5]])?;
+    let came = [Some(3), Some(1), Some(2), None];
+    assert_eq!(rt; from_between(&store, root), Some(came));
+    Ok(())
+}
+
+// What comes of no leaf, and of all leaves of a tree.
+fn from_none_and_all<const P: usize>(
+    store: &NodeStore<Key, u32, P>,
+    root: OpaqueNodePtr,
+) -> [[Option<u32>; 4]; 2]
+    requires { IsCanonicalRoot (λ pair. pair.0.items) P store.now root }
+{
+    [
+        from_the_back(RawIterator::empty(), store),
+        from_the_back(whole(store, root), store),
+    ]
+}
+
+#[test]
+fn none_or_one_leaf_comes(rt: HostRuntime) -> Result<(), Fail> {
+    let mut store: NodeStore<Key, u32, 4> = NodeStore::new(rt.alloc());
+    let root = plant_all(&mut store, &[&[1]])?;
+    let came = [[None; 4], [Some(0), None, None, None]];
+    assert_eq!(rt; from_none_and_all(&store, root), came);
+    Ok(())
+}
+
+#[test]
+fn two_leaves_come(rt: HostRuntime) -> Result<(), Fail> {
+    let mut store: NodeStore<Key, u32, 4> = NodeStore::new(rt.alloc());
+    let root = plant_all(&mut store, &[&[1], &[2]])?;
+    let came = [[None; 4], [Some(1), Some(0), None, None]];
+    assert_eq!(rt; from_none_and_all(&store, root), came);
+    Ok(())
+}
+
+// What the freeing of the leaves between the first and the last one touches.
+fn touched_between<const P: usize>(
+    store: &mut NodeStore<Key, u32, P>,
+    root: OpaqueNodePtr,
+) -> Result<Option<(usize, usize, usize)>, AllocError>
+    requires { IsCanonicalRoot (λ pair. pair.0.items) P store.old root }
+{
+    let before = nodes_seen(store)?;
+    let Some(leaves) = between(store, root) else {
+        return Ok(None);
+    };
+    deallocate_leaves(leaves, store);
+    Ok(Some(count_touched(store, &before)))
+}
+
+#[test]
+fn a_part_is_freed_and_no_other_leaf_written(rt: HostRuntime) -> Result<(), Fail> {
+    let mut store: NodeStore<Key, u32, 4> = NodeStore::new(rt.alloc());
+    let root = plant_all(&mut store, &[&[1], &[2], &[3], &[4], &[5]])?;
+    assert_eq!(rt; touched_between(&mut store, root)?, Some((0, 3, 0)));
+    Ok(())
+}
+
+// The value of the first leaf that is left, which is freed.
+fn free_front<const P: usize>(
+    leaves: &mut RawIterator,
+    store: &mut NodeStore<Key, u32, P>,
+) -> Option<u32>
+    requires { (names : List OpaqueNodePtr) × IsIteratorOf store.old leaves.old names }
+    ensures { (names : List OpaqueNodePtr) × IsIteratorOf store.new leaves.new names }
+{
+    let name = leaves.next(store)?;
+    let leaf = store.free_leaf(name);
+    Some(leaf.value)
+}
+
+// The values of the leaves of a tree, of which each is freed before the next one comes.
+fn freed_in_turn<const P: usize>(
+    store: &mut NodeStore<Key, u32, P>,
+    root: OpaqueNodePtr,
+) -> [Option<u32>; 4]
+    requires { IsCanonicalRoot (λ pair. pair.0.items) P store.old root }
+{
+    let mut leaves = whole(store, root);
+    [
+        free_front(&mut leaves, store),
+        free_front(&mut leaves, store),
+        free_front(&mut leaves, store),
+        free_front(&mut leaves, store),
+    ]
+}
+
+#[test]
+fn a_leaf_that_came_may_be_freed(rt: HostRuntime) -> Result<(), Fail> {
+    let mut store: NodeStore<Key, u32, 4> = NodeStore::new(rt.alloc());
+    let root = plant_all(&mut store, &[&[1], &[2], &[3]])?;
+    let came = freed_in_turn(&mut store, root);
+    let left = count_nodes(&store, 4);
+    assert_eq!(rt; (came, left), ([Some(0), Some(1), Some(2), None], (0, 1)));
+    Ok(())
+}
+
+// Frees the leaves of a tree and then its inner nodes. Answers how many nodes there are before and after that.
+fn free_leaves_first<const P: usize>(
+    store: &mut NodeStore<Key, u32, P>,
+    root: OpaqueNodePtr,
+) -> [(usize, usize); 3]
+    requires { IsCanonicalRoot (λ pair. pair.0.items) P store.old root }
+{
+    let before = count_nodes(store, 40);
+    let leaves = whole(store, root);
+    deallocate_leaves(leaves, store);
+    let between = count_nodes(store, 40);
+    deallocate_tree_non_leaves(root, store);
+    [before, between, count_nodes(store, 40)]
+}
+
+// The same in the other order.
+fn free_inners_first<const P: usize>(
+    store: &mut NodeStore<Key, u32, P>,
+    root: OpaqueNodePtr,
+) -> [(usize, usize); 3]
+    requires { IsCanonicalRoot (λ pair. pair.0.items) P store.old root }
+{
+    let before = count_nodes(store, 40);
+    let leaves = whole(store, root);
+    deallocate_tree_non_leaves(root, store);
+    let between = count_nodes(store, 40);
+    deallocate_leaves(leaves, store);
+    [before, between, count_nodes(store, 40)]
+}
+
+#[test]
+fn leaves_and_then_inner_nodes_are_freed(rt: HostRuntime) -> Result<(), Fail> {
+    let mut store: NodeStore<Key, u32, 4> = NodeStore::new(rt.alloc());
+    let root = plant_all(
+        &mut store,
+        &[&[1, 1], &[1, 2], &[2], &[3, 4, 5], &[3, 4, 6]],
+    )?;
+    let counts = free_leaves_first(&mut store, root);
+    assert_eq!(rt; counts, [(5, 3), (0, 3), (0, 0)]);
+    Ok(())
+}
+
+#[test]
+fn inner_nodes_and_then_leaves_are_freed(rt: HostRuntime) -> Result<(), Fail> {
+    let mut store: NodeStore<Key, u32, 4> = NodeStore::new(rt.alloc());
+    let root = plant_all(
+        &mut store,
+        &[&[1, 1], &[1, 2], &[2], &[3, 4, 5], &[3, 4, 6]],
+    )?;
+    let counts = free_inners_first(&mut store, root);
+    assert_eq!(rt; counts, [(5, 3), (5, 0), (0, 0)]);
     Ok(())
 }

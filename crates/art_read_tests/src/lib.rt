@@ -1,6 +1,8 @@
-//! Tests of look-ups, of walks and of runs, by public calls. There is nothing here but tests.
+//! Tests of look-ups, of walks, of clones and of runs, by public calls. There is nothing here but tests.
 #![tactic(auto)]
 
+#[cfg(test)]
+mod clones;
 #[cfg(test)]
 mod iterator;
 #[cfg(test)]

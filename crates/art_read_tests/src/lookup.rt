@@ -1,9 +1,18 @@
+//! Searches.
 ghost use Rattle.art_model.specs.Pairs.{of_key};
 ghost use Rattle.art_model.specs.Roots.{IsCanonicalRoot};
 
-use super::*;
-use art_test_support::trees::{Key, keys, keys_of_zeros, plant, value_of};
-use art_nodes::node::{FromHeader, Header, InnerNode4, InnerNode16, InnerNode48, InnerNodeDirect};
+use art_nodes::node::{
+    AsBytes, FromHeader, Header, InnerNode, InnerNode4, InnerNode16, InnerNode48, InnerNodeDirect,
+    LeafNode, OpaqueNodePtr,
+};
+use art_nodes::store::NodeStore;
+use art_operations::lookup::{
+    PrefixMatchBehavior, Visits, prefix_search_unchecked, prefix_search_visiting, search_unchecked,
+    search_visiting,
+};
+use art_operations::path::{AttemptOptimisticPrefixMatch, PessimisticMismatch};
+use art_test_support::trees::{Key, keys, keys_of_zeros, plant, plant_all, planted, value_of};
 use std::test::Fail;
 
 // The value of the leaf that a search finds.
@@ -54,117 +63,151 @@ fn prefix_searched<K: AsBytes + Drop, const P: usize>(
     (leaf.and_then(|leaf| value_of(store, leaf)), visits.count())
 }
 
+// What searches of a tree of keys of zeros find, and how many nodes each reads.
+fn readings<const P: usize>(
+    store: &NodeStore<Key, u32, P>,
+    root: OpaqueNodePtr,
+) -> [(Option<u32>, usize); 5]
+    requires { IsCanonicalRoot (of_key (λ key. key.items)) P store.now root }
+{
+    let eleven = [0, 0, 0, 0, 0, 0, 0, 0, 0, 0, 0, 255];
+    [
+        searched(store, root, &[255]),
+        searched(store, root, &eleven),
+        searched(store, root, &[0, 0, 0, 0]),
+        searched(store, root, &[]),
+        prefix_searched(store, root, &[255, 9]),
+    ]
+}
+
 #[test]
 fn counts_readings(rt: HostRuntime) -> Result<(), Fail> {
     let alloc = rt.alloc();
+    let keys = keys_of_zeros(alloc)?;
     let mut store: NodeStore<Key, u32, 4> = NodeStore::new(alloc);
-    let root = plant(
-        &mut store,
-        &mut NodeStore::new(alloc),
-        keys_of_zeros(alloc)?,
-    )?;
-    let eleven = [0, 0, 0, 0, 0, 0, 0, 0, 0, 0, 0, 255];
-    assert_eq!(rt; searched(&store, root, &[255]), (Some(0), 2));
-    assert_eq!(rt; searched(&store, root, &eleven), (Some(11), 12));
-    assert_eq!(rt; searched(&store, root, &[0, 0, 0, 0]), (None, 5));
-    assert_eq!(rt; searched(&store, root, &[]), (None, 1));
-    assert_eq!(rt; prefix_searched(&store, root, &[255, 9]), (Some(0), 2));
+    let root = plant(&mut store, &mut NodeStore::new(alloc), keys)?;
+    let wanted = [
+        (Some(0), 2),
+        (Some(11), 12),
+        (None, 5),
+        (None, 1),
+        (Some(0), 2),
+    ];
+    assert_eq!(rt; readings(&store, root), wanted);
     Ok(())
+}
+
+// What searches past bytes that no node stores find.
+fn readings_past<const P: usize>(
+    store: &NodeStore<Key, u32, P>,
+    root: OpaqueNodePtr,
+) -> ([(Option<u32>, usize); 2], [Option<u32>; 2])
+    requires { IsCanonicalRoot (of_key (λ key. key.items)) P store.now root }
+{
+    (
+        [
+            searched(store, root, &[1, 1, 9, 1, 5]),
+            prefix_searched(store, root, &[1, 1, 9, 1, 5, 7]),
+        ],
+        [
+            found(store, root, &[1, 1, 1, 1, 5]),
+            prefix_found(store, root, &[1, 1, 1, 1, 6, 7]),
+        ],
+    )
 }
 
 #[test]
 fn compares_the_whole_key_after_skipped_bytes(rt: HostRuntime) -> Result<(), Fail> {
-    let alloc = rt.alloc();
-    let mut store: NodeStore<Key, u32, 2> = NodeStore::new(alloc);
-    let root = plant(
-        &mut store,
-        &mut NodeStore::new(alloc),
-        keys(alloc, &[&[1, 1, 1, 1, 5], &[1, 1, 1, 1, 6]])?,
-    )?;
-    assert_eq!(rt; searched(&store, root, &[1, 1, 9, 1, 5]), (None, 2));
-    assert_eq!(rt;
-        prefix_searched(&store, root, &[1, 1, 9, 1, 5, 7]),
-        (None, 2)
-    );
-    assert_eq!(rt; found(&store, root, &[1, 1, 1, 1, 5]), Some(0));
-    assert_eq!(rt; prefix_found(&store, root, &[1, 1, 1, 1, 6, 7]), Some(1));
+    let mut store: NodeStore<Key, u32, 2> = NodeStore::new(rt.alloc());
+    let root = plant_all(&mut store, &[&[1, 1, 1, 1, 5], &[1, 1, 1, 1, 6]])?;
+    let wanted = ([(None, 2), (None, 2)], [Some(0), Some(1)]);
+    assert_eq!(rt; readings_past(&store, root), wanted);
     Ok(())
+}
+
+// The length of a node's prefix, and how many bytes of it are stored.
+fn prefix_lens<const P: usize>(
+    store: &NodeStore<Key, u32, P>,
+    name: OpaqueNodePtr,
+) -> Option<(usize, usize)> {
+    let node = store.inner(name.as_inner()?)?;
+    Some((node.prefix_len(), node.read_prefix().len()))
+}
+
+// What searches below a prefix of [5, 5] find.
+fn found_below<const P: usize>(
+    store: &NodeStore<Key, u32, P>,
+    root: OpaqueNodePtr,
+) -> [Option<u32>; 2]
+    requires { IsCanonicalRoot (of_key (λ key. key.items)) P store.now root }
+{
+    [
+        found(store, root, &[9, 9, 1]),
+        found(store, root, &[5, 5, 2]),
+    ]
 }
 
 #[test]
 fn finds_below_a_prefix_of_which_nothing_is_stored(rt: HostRuntime) -> Result<(), Fail> {
-    let alloc = rt.alloc();
-    let mut store: NodeStore<Key, u32, 0> = NodeStore::new(alloc);
-    let root = plant(
-        &mut store,
-        &mut NodeStore::new(alloc),
-        keys(alloc, &[&[5, 5, 1], &[5, 5, 2]])?,
-    )?;
-    let inner = root.as_inner().ok_or("an inner node")?;
-    let node = store.inner(inner).ok_or("the root's node")?;
-    assert_eq!(rt; node.prefix_len(), 2);
-    assert!(rt; node.read_prefix().is_empty());
-    assert_eq!(rt; found(&store, root, &[9, 9, 1]), None);
-    assert_eq!(rt; found(&store, root, &[5, 5, 2]), Some(1));
+    let mut store: NodeStore<Key, u32, 0> = NodeStore::new(rt.alloc());
+    let root = plant_all(&mut store, &[&[5, 5, 1], &[5, 5, 2]])?;
+    let seen = (prefix_lens(&store, root), found_below(&store, root));
+    assert_eq!(rt; seen, (Some((2, 0)), [None, Some(1)]));
     Ok(())
 }
 
-// The same searches in a tree whose prefixes are stored up to some length.
-fn answers_at<const P: usize>(
-    store: &mut NodeStore<Key, u32, P>,
-    second: &mut NodeStore<Key, u32, P>,
-    keys: Vec<Key>,
-) -> Result<[Option<u32>; 5], Fail> {
-    let root = plant(store, second, keys)?;
-    Ok([
+// What the same searches find in a tree whose prefixes are stored up to some length.
+fn found_at<const P: usize>(store: &NodeStore<Key, u32, P>, root: OpaqueNodePtr) -> [Option<u32>; 5]
+    requires { IsCanonicalRoot (of_key (λ key. key.items)) P store.now root }
+{
+    [
         found(store, root, &[1, 2, 3]),
         found(store, root, &[1, 2]),
         prefix_found(store, root, &[1, 2]),
         prefix_found(store, root, &[1, 2, 4, 9]),
         prefix_found(store, root, &[2]),
-    ])
+    ]
+}
+
+// Plants two keys, and searches.
+fn answers_at<const P: usize>(
+    store: &mut NodeStore<Key, u32, P>,
+    second: &mut NodeStore<Key, u32, P>,
+) -> Option<[Option<u32>; 5]> {
+    let keys = keys(store.alloc(), &[&[1, 2, 3], &[1, 2, 4]]).ok()?;
+    let root = planted(store, second, keys).ok()??;
+    Some(found_at(store, root))
 }
 
 #[test]
-fn answers_the_same_at_every_length(rt: HostRuntime) -> Result<(), Fail> {
+fn answers_the_same_at_every_length(rt: HostRuntime) {
     let alloc = rt.alloc();
-    let slices: [&[u8]; 2] = [&[1, 2, 3], &[1, 2, 4]];
+    let at_0 = answers_at::<0>(&mut NodeStore::new(alloc), &mut NodeStore::new(alloc));
+    let at_2 = answers_at::<2>(&mut NodeStore::new(alloc), &mut NodeStore::new(alloc));
+    let at_4 = answers_at::<4>(&mut NodeStore::new(alloc), &mut NodeStore::new(alloc));
+    let at_16 = answers_at::<16>(&mut NodeStore::new(alloc), &mut NodeStore::new(alloc));
     let wanted = [Some(0), None, None, Some(1), None];
-    assert_eq!(rt;
-        answers_at::<0>(
-            &mut NodeStore::new(alloc),
-            &mut NodeStore::new(alloc),
-            keys(alloc, &slices)?
-        )?,
-        wanted
-    );
-    assert_eq!(rt;
-        answers_at::<2>(
-            &mut NodeStore::new(alloc),
-            &mut NodeStore::new(alloc),
-            keys(alloc, &slices)?
-        )?,
-        wanted
-    );
-    assert_eq!(rt;
-        answers_at::<4>(
-            &mut NodeStore::new(alloc),
-            &mut NodeStore::new(alloc),
-            keys(alloc, &slices)?
-        )?,
-        wanted
-    );
-    assert_eq!(rt;
-        answers_at::<16>(
-            &mut NodeStore::new(alloc),
-            &mut NodeStore::new(alloc),
-            keys(alloc, &slices)?
-        )?,
-        wanted
-    );
-    Ok(())
+    assert_eq!(rt; [at_0, at_2, at_4, at_16], [Some(wanted); 4]);
 }
 
+// What came of the comparison of a prefix, and how the next ones are to be made.
+type Compared = (
+    Result<AttemptOptimisticPrefixMatch, PessimisticMismatch>,
+    PrefixMatchBehavior,
+);
+
+// Compares a node's prefix with the rest of a key.
+fn compared<N: InnerNode<P>, const P: usize>(
+    node: &N,
+    behavior: PrefixMatchBehavior,
+    rest: &[u8],
+) -> Compared {
+    let mut behavior = behavior;
+    let outcome = behavior.match_prefix(node, rest);
+    (outcome, behavior)
+}
+
+// A match of so many bytes, of which some were not compared.
 fn matched(len: usize) -> Result<AttemptOptimisticPrefixMatch, PessimisticMismatch> {
     Ok(AttemptOptimisticPrefixMatch {
         matched_bytes: len,
@@ -172,6 +215,7 @@ fn matched(len: usize) -> Result<AttemptOptimisticPrefixMatch, PessimisticMismat
     })
 }
 
+// A mismatch after so many bytes.
 fn mismatch(
     len: usize,
     prefix_byte: Option<u8>,
@@ -183,60 +227,68 @@ fn mismatch(
 }
 
 #[test]
-fn compares_stored_bytes_and_then_lengths(rt: HostRuntime) -> Result<(), Fail> {
+fn compares_stored_bytes_and_then_lengths(rt: HostRuntime) {
     let node: InnerNode4<2> = InnerNode4::from_header(Header::new(&[1, 1], 4));
-    let mut behavior = PrefixMatchBehavior::default();
-    assert_eq!(rt; behavior, PrefixMatchBehavior::Pessimistic);
-    assert_eq!(rt; behavior.match_prefix(&node, &[1, 9]), mismatch(1, Some(1)));
-    assert_eq!(rt; behavior, PrefixMatchBehavior::Pessimistic);
-    assert_eq!(rt; behavior.match_prefix(&node, &[1, 1, 1]), mismatch(3, None));
-    assert_eq!(rt; behavior, PrefixMatchBehavior::Optimistic);
-
-    let mut behavior = PrefixMatchBehavior::Pessimistic;
-    assert_eq!(rt; behavior.match_prefix(&node, &[1, 1, 9, 1, 5]), matched(4));
-    assert_eq!(rt; behavior, PrefixMatchBehavior::Optimistic);
-    assert_eq!(rt; behavior.match_prefix(&node, &[9, 9, 9]), mismatch(3, None));
-    assert_eq!(rt; behavior.match_prefix(&node, &[9, 9, 9, 9]), matched(4));
-    assert_eq!(rt; behavior, PrefixMatchBehavior::Optimistic);
-    Ok(())
+    let first = PrefixMatchBehavior::default();
+    let (pessimistic, optimistic) = (
+        PrefixMatchBehavior::Pessimistic,
+        PrefixMatchBehavior::Optimistic,
+    );
+    let seen = [
+        compared(&node, first, &[1, 9]),
+        compared(&node, pessimistic, &[1, 1, 1]),
+        compared(&node, pessimistic, &[1, 1, 9, 1, 5]),
+        compared(&node, optimistic, &[9, 9, 9]),
+        compared(&node, optimistic, &[9, 9, 9, 9]),
+    ];
+    let wanted = [
+        (mismatch(1, Some(1)), pessimistic),
+        (mismatch(3, None), optimistic),
+        (matched(4), optimistic),
+        (mismatch(3, None), optimistic),
+        (matched(4), optimistic),
+    ];
+    assert_eq!(rt; (first, seen), (pessimistic, wanted));
 }
 
 #[test]
-fn stays_pessimistic_where_all_is_stored(rt: HostRuntime) -> Result<(), Fail> {
+fn stays_pessimistic_where_all_is_stored(rt: HostRuntime) {
     let whole = Ok(AttemptOptimisticPrefixMatch {
         matched_bytes: 2,
         any_implicit_bytes: false,
     });
-    let mut behavior = PrefixMatchBehavior::Pessimistic;
+    let pessimistic = PrefixMatchBehavior::Pessimistic;
+    let header: Header<4> = Header::new(&[7, 8], 2);
     let rest = [7, 8, 9];
-    let node: InnerNode4<4> = InnerNode4::from_header(Header::new(&[7, 8], 2));
-    assert_eq!(rt; behavior.match_prefix(&node, &rest), whole);
-    let node: InnerNode16<4> = InnerNode16::from_header(Header::new(&[7, 8], 2));
-    assert_eq!(rt; behavior.match_prefix(&node, &rest), whole);
-    let node: InnerNode48<4> = InnerNode48::from_header(Header::new(&[7, 8], 2));
-    assert_eq!(rt; behavior.match_prefix(&node, &rest), whole);
-    let node: InnerNodeDirect<4> = InnerNodeDirect::from_header(Header::new(&[7, 8], 2));
-    assert_eq!(rt; behavior.match_prefix(&node, &rest), whole);
-    assert_eq!(rt; behavior, PrefixMatchBehavior::Pessimistic);
-    Ok(())
+    let seen = [
+        compared(&InnerNode4::from_header(header), pessimistic, &rest),
+        compared(&InnerNode16::from_header(header), pessimistic, &rest),
+        compared(&InnerNode48::from_header(header), pessimistic, &rest),
+        compared(&InnerNodeDirect::from_header(header), pessimistic, &rest),
+    ];
+    assert_eq!(rt; seen, [(whole, pessimistic); 4]);
 }
 
 #[test]
-fn compares_a_leaf_from_the_depth_on_or_whole(rt: HostRuntime) -> Result<(), Fail> {
+fn compares_a_leaf_from_the_depth_on_or_whole(rt: HostRuntime) {
     let pessimistic = PrefixMatchBehavior::Pessimistic;
     let optimistic = PrefixMatchBehavior::Optimistic;
     let leaf = LeafNode::with_no_siblings([1, 2, 3], ());
-    assert!(rt; pessimistic.matches_leaf_key(&leaf, &[9, 9, 3], 2));
-    assert!(rt; !optimistic.matches_leaf_key(&leaf, &[9, 9, 3], 2));
-    assert!(rt; !pessimistic.matches_leaf_key(&leaf, &[9, 9, 3, 4], 2));
-    assert!(rt; optimistic.matches_leaf_key(&leaf, &[1, 2, 3], 2));
-    assert!(rt; pessimistic.matches_leaf_key(&leaf, &[9, 9, 9], 4));
-    assert!(rt; !pessimistic.matches_leaf_key(&leaf, &[9, 9], 4));
-
-    assert!(rt; pessimistic.leaf_key_is_prefix(&leaf, &[9, 2, 3, 4], 1));
-    assert!(rt; !optimistic.leaf_key_is_prefix(&leaf, &[9, 2, 3, 4], 1));
-    assert!(rt; optimistic.leaf_key_is_prefix(&leaf, &[1, 2, 3, 4], 1));
-    assert!(rt; !optimistic.leaf_key_is_prefix(&leaf, &[1, 2], 1));
-    assert!(rt; !pessimistic.leaf_key_is_prefix(&leaf, &[1, 2], 9));
-    Ok(())
+    let equal = [
+        pessimistic.matches_leaf_key(&leaf, &[9, 9, 3], 2),
+        optimistic.matches_leaf_key(&leaf, &[9, 9, 3], 2),
+        pessimistic.matches_leaf_key(&leaf, &[9, 9, 3, 4], 2),
+        optimistic.matches_leaf_key(&leaf, &[1, 2, 3], 2),
+        pessimistic.matches_leaf_key(&leaf, &[9, 9, 9], 4),
+        pessimistic.matches_leaf_key(&leaf, &[9, 9], 4),
+    ];
+    assert_eq!(rt; equal, [true, false, false, true, true, false]);
+    let front = [
+        pessimistic.leaf_key_is_prefix(&leaf, &[9, 2, 3, 4], 1),
+        optimistic.leaf_key_is_prefix(&leaf, &[9, 2, 3, 4], 1),
+        optimistic.leaf_key_is_prefix(&leaf, &[1, 2, 3, 4], 1),
+        optimistic.leaf_key_is_prefix(&leaf, &[1, 2], 1),
+        pessimistic.leaf_key_is_prefix(&leaf, &[1, 2], 9),
+    ];
+    assert_eq!(rt; front, [true, false, true, false, false]);
 }

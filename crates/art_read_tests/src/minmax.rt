@@ -1,9 +1,13 @@
+//! The ends of trees.
 ghost use Rattle.art_model.specs.Pairs.{of_key};
 ghost use Rattle.art_model.specs.Roots.{IsCanonicalRoot};
 
-use super::*;
-use art_test_support::trees::{Key, keys, keys_of_three, keys_of_zeros, plant, value_of};
-use art_nodes::node::NodeType;
+use art_nodes::node::{AsBytes, NodeType, OpaqueNodePtr};
+use art_nodes::store::NodeStore;
+use art_operations::minmax::{maximum_unchecked, minimum_unchecked};
+use art_test_support::shapes::end_of_chain;
+use art_test_support::trees::{Key, keys_of_three, keys_of_zeros, plant, plant_all, value_of};
+use std::alloc::AllocError;
 use std::test::Fail;
 
 // The values of the first and the last leaf.
@@ -19,45 +23,50 @@ fn ends<K: AsBytes + Drop, const P: usize>(
     )
 }
 
+// How many inner nodes a tree has of which each is a Node16 with six children. None where it has another one.
+fn count_sixes<const P: usize>(
+    store: &NodeStore<Key, u32, P>,
+    root: OpaqueNodePtr,
+) -> Result<Option<usize>, AllocError> {
+    let mut names = Vec::new(store.alloc());
+    names.push(root)?;
+    let mut count = 0usize;
+    for _ in 0..1_000 {
+        let Some(name) = names.pop() else {
+            return Ok(Some(count));
+        };
+        let Some(inner) = name.as_inner() else {
+            continue;
+        };
+        let Some(node) = store.inner(inner) else {
+            return Ok(None);
+        };
+        if inner.kind != NodeType::Node16 || node.num_children() != 6 {
+            return Ok(None);
+        }
+        for (_, child) in node.iter() {
+            names.push(child)?;
+        }
+        count = count.saturating_add(1);
+    }
+    Ok(None)
+}
+
 #[test]
 fn finds_the_ends_of_three_levels(rt: HostRuntime) -> Result<(), Fail> {
     let alloc = rt.alloc();
+    let keys = keys_of_three(alloc, [6, 6, 6])?;
     let mut store: NodeStore<Key, u32, 16> = NodeStore::new(alloc);
-    let root = plant(
-        &mut store,
-        &mut NodeStore::new(alloc),
-        keys_of_three(alloc, [6, 6, 6])?,
-    )?;
-    assert_eq!(rt; ends(&store, root), (Some(0), Some(215)));
-
-    let mut inners = Vec::new(alloc);
-    inners.push(root.as_inner().ok_or("an inner root")?)?;
-    for i in 0..7usize {
-        let node = store
-            .inner(*inners.get(i).ok_or("seven nodes")?)
-            .ok_or("a node")?;
-        for (_, child) in node.iter() {
-            inners.push(child.as_inner().ok_or("an inner child")?)?;
-        }
-    }
-    assert_eq!(rt; inners.len(), 43);
-    for inner in &inners {
-        assert_eq!(rt; inner.kind, NodeType::Node16);
-        let node = store.inner(*inner).ok_or("a node")?;
-        assert_eq!(rt; node.num_children(), 6);
-    }
+    let root = plant(&mut store, &mut NodeStore::new(alloc), keys)?;
+    let seen = (ends(&store, root), count_sixes(&store, root).ok());
+    assert_eq!(rt; seen, ((Some(0), Some(215)), Some(Some(43))));
     Ok(())
 }
 
 #[test]
 fn a_leaf_is_both_ends(rt: HostRuntime) -> Result<(), Fail> {
-    let alloc = rt.alloc();
-    let mut store: NodeStore<Key, u32, 16> = NodeStore::new(alloc);
-    let root = plant(
-        &mut store,
-        &mut NodeStore::new(alloc),
-        keys(alloc, &[&[0, 0, 0]])?,
-    )?;
+    let mut store: NodeStore<Key, u32, 16> = NodeStore::new(rt.alloc());
+    let root = plant_all(&mut store, &[&[0, 0, 0]])?;
     assert_eq!(rt; ends(&store, root), (Some(0), Some(0)));
     Ok(())
 }
@@ -65,25 +74,10 @@ fn a_leaf_is_both_ends(rt: HostRuntime) -> Result<(), Fail> {
 #[test]
 fn finds_the_ends_of_a_deep_tree(rt: HostRuntime) -> Result<(), Fail> {
     let alloc = rt.alloc();
+    let keys = keys_of_zeros(alloc)?;
     let mut store: NodeStore<Key, u32, 2> = NodeStore::new(alloc);
-    let root = plant(
-        &mut store,
-        &mut NodeStore::new(alloc),
-        keys_of_zeros(alloc)?,
-    )?;
-    assert_eq!(rt; ends(&store, root), (Some(11), Some(0)));
-
-    let mut name = root;
-    for _ in 0..11 {
-        let inner = name.as_inner().ok_or("an inner node")?;
-        assert_eq!(rt; inner.kind, NodeType::Node4);
-        let node = store.inner(inner).ok_or("a node")?;
-        assert_eq!(rt; node.prefix_len(), 0);
-        assert_eq!(rt; node.num_children(), 2);
-        let leaf = node.lookup_child(255).ok_or("the child under 255")?;
-        assert!(rt; leaf.as_leaf().is_some());
-        name = node.lookup_child(0).ok_or("the child under 0")?;
-    }
-    assert!(rt; name.as_leaf().is_some());
+    let root = plant(&mut store, &mut NodeStore::new(alloc), keys)?;
+    let seen = (ends(&store, root), end_of_chain(&store, root).is_some());
+    assert_eq!(rt; seen, ((Some(11), Some(0)), true));
     Ok(())
 }

@@ -1,7 +1,11 @@
 //! What the tests of several crates share.
 #![tactic(auto)]
 
+pub mod commands;
 pub mod memory;
 pub mod nodes;
+pub mod numbers;
 pub mod points;
+pub mod shapes;
+pub mod side_by_side;
 pub mod trees;

@@ -5,48 +5,18 @@ ghost use Rattle.art_model.specs.Clones.{KeepBytes};
 ghost use Rattle.art_model.specs.Pairs.{IsMap, of_key};
 
 use crate::by_list::{answer, copy};
-use crate::drawn::{Drawer, KeyShape};
-use crate::side_by_side::assert_same;
-use crate::trees::Key;
+use crate::drawn::{Drawer, Drawn, KeyShape};
 use art_nodes::node::{AsBytes, NodeType, OpaqueNodePtr};
 use art_nodes::store::NodeStore;
 use art_operations::run::{Command, Reply, Side, run};
 use art_oracle::build::build;
+use art_test_support::commands::told_by;
+use art_test_support::side_by_side::kind_if_same;
+use art_test_support::trees::Key;
 use std::alloc::{AllocError, Global};
 use std::mem;
 use std::process::Abort;
 use std::test::Fail;
-
-/// What a reply says, to be compared with what another says.
-#[derive(Clone, Copy, PartialEq, Eq, Debug)]
-enum Content<'a> {
-    Inserted(Option<(&'a [u8], u32)>),
-    Conflict(&'a [u8], u32, &'a [u8]),
-    Overwrote(Option<(&'a [u8], u32)>, usize),
-    Deleted(Option<(&'a [u8], u32)>),
-    Cloned,
-    Found(bool),
-    MatchLen(Option<usize>),
-    NoMemory,
-}
-
-fn content_of(reply: &Reply<Key, u32>) -> Content<'_> {
-    match reply {
-        Reply::Inserted(old) => Content::Inserted(pair_content(old)),
-        Reply::Conflict(key, value, error) => Content::Conflict(key, *value, &error.byte_repr),
-        Reply::Overwrote(old, count) => Content::Overwrote(pair_content(old), *count),
-        Reply::Deleted(pair) => Content::Deleted(pair_content(pair)),
-        Reply::Cloned => Content::Cloned,
-        Reply::Found(is_found) => Content::Found(*is_found),
-        Reply::MatchLen(len) => Content::MatchLen(*len),
-        Reply::NoMemory(_) => Content::NoMemory,
-    }
-}
-
-fn pair_content(pair: &Option<(Key, u32)>) -> Option<(&[u8], u32)> {
-    let (key, value) = pair.as_ref()?;
-    Some((key, *value))
-}
 
 fn copy_of(command: &Command<Key, u32>) -> Result<Command<Key, u32>, AllocError> {
     Ok(match command {
@@ -64,6 +34,7 @@ fn copy_of(command: &Command<Key, u32>) -> Result<Command<Key, u32>, AllocError>
 /// A hundred commands, carried out on a list, and the replies to them.
 fn draw_hundred(
     drawer: &mut Drawer,
+    drawn: &mut Drawn,
     pairs: &mut Vec<(Key, u32)>,
     is_growing: bool,
 ) -> Result<(Vec<Command<Key, u32>>, Vec<Reply<Key, u32>>), AllocError>
@@ -75,6 +46,7 @@ fn draw_hundred(
     let mut replies = Vec::new(alloc);
     for _ in 0..100 {
         let command = drawer.command(pairs, is_growing)?;
+        drawn.count(&command);
         commands.push(copy_of(&command)?)?;
         replies.push(answer(alloc, pairs, command)?)?;
     }
@@ -105,34 +77,52 @@ fn run_all<K: AsBytes + Clone + Drop, const P: usize>(
     }
 }
 
-fn assert_replies(rt: &impl Abort, replies: &[Reply<Key, u32>], want: &[Reply<Key, u32>]) {
-    assert_eq!(rt; replies.len(), want.len());
-    for (reply, want) in replies.iter().zip(want) {
-        assert_eq!(rt; content_of(reply), content_of(want));
+/// The place of the first reply that is not the wanted one, or that is missing or too many.
+fn first_other(replies: &[Reply<Key, u32>], wanted: &[Reply<Key, u32>]) -> Option<usize> {
+    for (at, (reply, want)) in replies.iter().zip(wanted).enumerate() {
+        if told_by(reply) != told_by(want) {
+            return Some(at);
+        }
     }
+    if replies.len() == wanted.len() {
+        return None;
+    }
+    Some(replies.len().min(wanted.len()))
 }
 
-/// Compares a tree with the one that is built of these pairs. Answers the greatest kind of node.
+/// Compares a tree with the one that is built of these pairs. Answers the greatest kind of node, or None where they are
+/// not the same.
 fn compare<const P: usize>(
-    rt: &impl Abort,
     store: &NodeStore<Key, u32, P>,
     root: Option<OpaqueNodePtr>,
     pairs: &[(Key, u32)],
-) -> Result<NodeType, Fail> {
+) -> Result<Option<NodeType>, AllocError> {
     let alloc = store.alloc();
     let mut built = NodeStore::new(alloc);
     let copied = copy(alloc, pairs)?;
     let built_root = build(&mut built, copied)?;
-    assert_same(rt, (store, root), (&built, built_root), pairs)
+    kind_if_same((store, root), (&built, built_root), pairs)
 }
 
-/// What the comparisons of one trial met.
-#[derive(Clone, Copy, Debug)]
+/// What one trial met.
+#[derive(Clone, Copy)]
 struct Met {
+    drawn: Drawn,
     most_pairs: usize,
     greatest_kind: NodeType,
-    /// Whether no pair was left at one of them.
+    /// Whether no pair was left at one of the comparisons.
     was_empty: bool,
+}
+
+impl Met {
+    /// Whether commands of each kind were drawn, and trees came to be large, to be empty, and to have a node of this
+    /// kind but of no greater one.
+    fn is_wide(self, greatest_kind: NodeType) -> bool {
+        self.drawn.is_each()
+            && self.most_pairs > 80
+            && self.greatest_kind == greatest_kind
+            && self.was_empty
+    }
 }
 
 /// Carries 10,000 commands out, with a comparison after each hundred. The pairs grow for 1,300 commands and then shrink
@@ -148,15 +138,21 @@ fn check<const P: usize>(
     let mut pairs = Vec::new(alloc);
     let mut root = None;
     let mut met = Met {
+        drawn: Drawn::new(),
         most_pairs: 0,
         greatest_kind: NodeType::Node4,
         was_empty: false,
     };
     for turn in 0..100 {
-        let (commands, want) = draw_hundred(&mut drawer, &mut pairs, turn % 20 < 13)?;
+        let (commands, want) = draw_hundred(
+            &mut drawer,
+            &mut met.drawn,
+            &mut pairs,
+            turn % 20 < 13,
+        )?;
         let replies = run_all(&mut first, &mut second, &mut root, commands)?;
-        assert_replies(rt, &replies, &want);
-        let kind = compare(rt, &first, root, &pairs)?;
+        assert_eq!(rt; first_other(&replies, &want), None);
+        let kind = compare(&first, root, &pairs)?.ok_or("another tree")?;
         met.most_pairs = met.most_pairs.max(pairs.len());
         met.greatest_kind = met.greatest_kind.max(kind);
         met.was_empty |= root.is_none();
@@ -164,44 +160,47 @@ fn check<const P: usize>(
     Ok(met)
 }
 
-/// A trial for each number of stored bytes, in which trees come to be large, and to have a node of this kind but of no
-/// greater one.
-fn check_shape(
+/// Whether a trial for each number of stored bytes is wide.
+fn are_wide(
     rt: &impl Abort,
     alloc: Global,
     shape: KeyShape,
     greatest_kind: NodeType,
-) -> Result<(), Fail> {
-    let trials = [
-        check::<0>(rt, NodeStore::new(alloc), NodeStore::new(alloc), shape)?,
-        check::<2>(rt, NodeStore::new(alloc), NodeStore::new(alloc), shape)?,
-        check::<4>(rt, NodeStore::new(alloc), NodeStore::new(alloc), shape)?,
-        check::<16>(rt, NodeStore::new(alloc), NodeStore::new(alloc), shape)?,
-    ];
-    for met in trials {
-        assert!(rt; met.most_pairs > 80, "{met:?}");
-        assert_eq!(rt; met.greatest_kind, greatest_kind);
-        assert!(rt; met.was_empty);
-    }
-    Ok(())
+) -> Result<[bool; 4], Fail> {
+    Ok([
+        check::<0>(rt, NodeStore::new(alloc), NodeStore::new(alloc), shape)?.is_wide(greatest_kind),
+        check::<2>(rt, NodeStore::new(alloc), NodeStore::new(alloc), shape)?.is_wide(greatest_kind),
+        check::<4>(rt, NodeStore::new(alloc), NodeStore::new(alloc), shape)?.is_wide(greatest_kind),
+        check::<16>(rt, NodeStore::new(alloc), NodeStore::new(alloc), shape)?.is_wide(
+            greatest_kind,
+        ),
+    ])
 }
 
 #[test]
 fn trees_of_one_byte_keys_are_those_built(rt: HostRuntime) -> Result<(), Fail> {
-    check_shape(&rt, rt.alloc(), KeyShape::OneByte, NodeType::Node256)
+    let wide = are_wide(&rt, rt.alloc(), KeyShape::OneByte, NodeType::Node256)?;
+    assert_eq!(rt; wide, [true; 4]);
+    Ok(())
 }
 
 #[test]
 fn trees_of_two_byte_keys_are_those_built(rt: HostRuntime) -> Result<(), Fail> {
-    check_shape(&rt, rt.alloc(), KeyShape::TwoBytes, NodeType::Node48)
+    let wide = are_wide(&rt, rt.alloc(), KeyShape::TwoBytes, NodeType::Node48)?;
+    assert_eq!(rt; wide, [true; 4]);
+    Ok(())
 }
 
 #[test]
 fn trees_among_related_keys_are_those_built(rt: HostRuntime) -> Result<(), Fail> {
-    check_shape(&rt, rt.alloc(), KeyShape::Related, NodeType::Node16)
+    let wide = are_wide(&rt, rt.alloc(), KeyShape::Related, NodeType::Node16)?;
+    assert_eq!(rt; wide, [true; 4]);
+    Ok(())
 }
 
 #[test]
 fn trees_of_long_keys_are_those_built(rt: HostRuntime) -> Result<(), Fail> {
-    check_shape(&rt, rt.alloc(), KeyShape::LongFronts, NodeType::Node16)
+    let wide = are_wide(&rt, rt.alloc(), KeyShape::LongFronts, NodeType::Node16)?;
+    assert_eq!(rt; wide, [true; 4]);
+    Ok(())
 }

@@ -4,12 +4,12 @@ ghost use Rattle.std.specs.FinMap as map;
 ghost use Rattle.art_nodes.specs.Inner.{HasPlace};
 ghost use Rattle.art_nodes.specs.Kinds.{kind_capacity};
 
-use crate::trees::Key;
 use art_nodes::node::{
     AnyInner, AsBytes, Header, InnerPtr, InnerRef, LeafNode, LeafPtr, NodePtr, NodeType,
     OpaqueNodePtr,
 };
 use art_nodes::store::NodeStore;
+use art_test_support::trees::Key;
 use std::process::Abort;
 use std::test::Fail;
 

@@ -2,11 +2,11 @@
 ghost use Rattle.std.specs.Prelude.{IfOk};
 ghost use Rattle.art_model.specs.Pairs.{IsMap, of_key};
 
-use crate::trees::Key;
 use art_nodes::node::AsBytes;
 use art_operations::insert::InsertPrefixError;
 use art_operations::run::{Command, Reply};
 use art_oracle::pairs::{contains, has_related, insert_at, remove, replace_at, search};
+use art_test_support::trees::Key;
 use std::alloc::{AllocError, Global};
 use std::boxed::BoxedSlice;
 use std::mem;

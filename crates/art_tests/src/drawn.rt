@@ -1,8 +1,8 @@
 //! Keys and commands that are drawn.
 
-use crate::numbers::Numbers;
-use crate::trees::Key;
 use art_operations::run::Command;
+use art_test_support::trees::Key;
+use art_test_support::numbers::Numbers;
 use std::alloc::{AllocError, Global};
 
 /// What keys are drawn.
@@ -54,6 +54,43 @@ fn long_key(alloc: Global, numbers: &mut Numbers) -> Result<Key, AllocError> {
         key.truncate(numbers.below(60));
     }
     Ok(key)
+}
+
+/// How many commands of each kind were drawn.
+#[derive(Clone, Copy)]
+pub struct Drawn {
+    counts: [usize; 8],
+}
+
+impl Drawn {
+    pub fn new() -> Self {
+        Drawn { counts: [0; 8] }
+    }
+
+    pub fn count(&mut self, command: &Command<Key, u32>) {
+        if let Some(count) = self.counts.get_mut(kind_of(command)) {
+            *count = count.saturating_add(1);
+        }
+    }
+
+    /// Whether each kind was drawn.
+    pub fn is_each(&self) -> bool {
+        self.counts.iter().all(|count| *count > 0)
+    }
+}
+
+/// A number for each kind of command.
+fn kind_of(command: &Command<Key, u32>) -> usize {
+    match command {
+        Command::Insert(..) => 0,
+        Command::InsertPrefix(..) => 1,
+        Command::Delete(_) => 2,
+        Command::DeleteMin => 3,
+        Command::DeleteMax => 4,
+        Command::Clone => 5,
+        Command::Contains(_) => 6,
+        Command::LongestMatch(_) => 7,
+    }
 }
 
 /// Commands about keys of one shape.

@@ -4,6 +4,8 @@
 #[cfg(test)]
 mod against_oracle;
 #[cfg(test)]
+mod built;
+#[cfg(test)]
 mod by_hand;
 #[cfg(test)]
 mod by_list;
@@ -12,14 +14,12 @@ mod drawn;
 #[cfg(test)]
 mod locality;
 #[cfg(test)]
-mod numbers;
-#[cfg(test)]
 mod odd_trees;
 #[cfg(test)]
 mod refusals;
 #[cfg(test)]
 mod shapes;
 #[cfg(test)]
-mod side_by_side;
+mod sorted_pairs;
 #[cfg(test)]
 mod trees;

@@ -1,15 +1,15 @@
 //! What a command touches, over all nodes of a store: the names that come into use, those that go out of it, and
 //! those that have another node.
+ghost use Rattle.std.specs.Prelude.{IfOk, Some};
 ghost use Rattle.art_tests.specs.Trees.{HasTree};
 
-use crate::trees::{Key, boxed_keys, insert_all};
+use crate::trees::{boxed_keys, insert_all};
 use art_nodes::node::{AsBytes, LeafPtr, NodePtr, NodeType, OpaqueNodePtr};
 use art_nodes::store::NodeStore;
-use art_operations::run::{Command, Reply, Side, run};
-use art_test_support::memory::all_memory;
-use std::alloc::AllocError;
-use std::mem;
-use std::process::Abort;
+use art_operations::run::{Command, Side};
+use art_test_support::commands::{Asked, Row, Told, ran_from, run_without_memory, told_by};
+use art_test_support::trees::{Key, keys};
+use std::alloc::{AllocError, Global};
 use std::test::Fail;
 
 // No test's store has more slots.
@@ -158,154 +158,170 @@ impl Touched {
     }
 }
 
-// Answers a list of one command, and leaves the root, in the store.
-fn run_one<const P: usize>(
+// Asks a command. Answers whether the reply is the one of the row.
+fn is_answered<const P: usize>(
     store: &mut NodeStore<Key, u32, P>,
     root: &mut Option<OpaqueNodePtr>,
-    commands: Vec<Command<Key, u32>>,
-) -> Result<Reply<Key, u32>, Fail>
+    row: Row<'_>,
+) -> Result<bool, AllocError>
     requires { HasTree P store.old root.old }
-    ensures { HasTree P store.new root.new }
+    ensures { IfOk result (λ _. HasTree P store.new root.new) }
 {
     let mut second = NodeStore::new(store.alloc());
-    match run(store, &mut second, *root, commands) {
-        Ok(done) => {
-            *root = done.root;
-            match done.side {
-                Side::First => {}
-                Side::Second => mem::swap(store, &mut second),
-            }
-            let mut replies = done.replies;
-            Ok(replies.pop().ok_or("no reply")?)
+    let (left, new_root) = ran_from(store, &mut second, *root, &[row])?;
+    match left.side {
+        Side::First => {
+            *root = new_root;
+            Ok(left.wrong.is_none())
         }
-        Err((_, error)) => Err(error.into()),
+        Side::Second => Err(AllocError),
     }
 }
 
-// Answers a command.
-fn ask<const P: usize>(
+// What a command touches, or None where the reply is not the one of the row.
+fn touched_by<const P: usize>(
     store: &mut NodeStore<Key, u32, P>,
     root: &mut Option<OpaqueNodePtr>,
-    command: Command<Key, u32>,
-) -> Result<Reply<Key, u32>, Fail>
+    row: Row<'_>,
+) -> Result<Option<Touched>, AllocError>
     requires { HasTree P store.old root.old }
-    ensures { HasTree P store.new root.new }
-{
-    let mut commands = Vec::new(store.alloc());
-    commands.push(command)?;
-    run_one(store, root, commands)
-}
-
-// Answers a command where there is no memory but for the list of its reply.
-fn ask_without_memory<const P: usize>(
-    store: &mut NodeStore<Key, u32, P>,
-    root: &mut Option<OpaqueNodePtr>,
-    command: Command<Key, u32>,
-) -> Result<Reply<Key, u32>, Fail>
-    requires { HasTree P store.old root.old }
-    ensures { HasTree P store.new root.new }
-{
-    let alloc = store.alloc();
-    let mut commands = Vec::new(alloc);
-    commands.push(command)?;
-    let kept_free = Vec::<Reply<Key, u32>>::with_capacity(alloc, 1)?;
-    let held = all_memory(alloc)?;
-    drop(kept_free);
-    let reply = run_one(store, root, commands);
-    drop(held);
-    reply
-}
-
-// Answers a command, and says what it touched.
-fn ask_and_compare<const P: usize>(
-    store: &mut NodeStore<Key, u32, P>,
-    root: &mut Option<OpaqueNodePtr>,
-    command: Command<Key, u32>,
-) -> Result<(Reply<Key, u32>, Touched), Fail>
-    requires { HasTree P store.old root.old }
-    ensures { HasTree P store.new root.new }
+    ensures { IfOk result (λ _. HasTree P store.new root.new) }
 {
     let before = Snapshot::take(store)?;
-    let reply = ask(store, root, command)?;
+    let is_right = is_answered(store, root, row)?;
     let after = Snapshot::take(store)?;
-    Ok((reply, Touched::between(&before, &after)))
+    if is_right {
+        Ok(Some(Touched::between(&before, &after)))
+    } else {
+        Ok(None)
+    }
+}
+
+/// What is seen of two snapshots, one before and one after the insertion of a key behind all others.
+#[derive(Clone, Copy, PartialEq, Eq, Debug)]
+struct Seen {
+    nodes_before: usize,
+    touched: Touched,
+    is_root_changed: bool,
+    is_last_changed: bool,
+    /// Whether each name of a leaf has the key that it had.
+    keeps_keys: bool,
+}
+
+impl Seen {
+    fn between(
+        before: &Snapshot,
+        after: &Snapshot,
+        root: OpaqueNodePtr,
+        last_key: &[u8],
+    ) -> Option<Self> {
+        let last = before.name_of(last_key)?;
+        Some(Seen {
+            nodes_before: before.nodes.len(),
+            touched: Touched::between(before, after),
+            is_root_changed: before.node(root) != after.node(root),
+            is_last_changed: before.node(last) != after.node(last),
+            keeps_keys: before
+                .nodes
+                .iter()
+                .all(|(name, _)| before.key(*name) == after.key(*name)),
+        })
+    }
+}
+
+// What an insertion of a key behind that of the last leaf does, where it is replied to as told and keeps the root.
+fn seen_of_insertion<const P: usize>(
+    store: &mut NodeStore<Key, u32, P>,
+    root: OpaqueNodePtr,
+    row: Row<'_>,
+    last_key: &[u8],
+) -> Result<Option<Seen>, AllocError>
+    requires { HasTree P store.old (Some root) }
+{
+    let before = Snapshot::take(store)?;
+    let mut new_root = Some(root);
+    let is_right = is_answered(store, &mut new_root, row)?;
+    let after = Snapshot::take(store)?;
+    if is_right && new_root == Some(root) {
+        Ok(Seen::between(&before, &after, root, last_key))
+    } else {
+        Ok(None)
+    }
 }
 
 #[test]
 fn a_child_more_of_a_large_root_changes_it_and_the_last_leaf(rt: HostRuntime) -> Result<(), Fail> {
-    let alloc = rt.alloc();
-    let mut store: NodeStore<Key, u32, 16> = NodeStore::new(alloc);
-    let done = insert_all(&mut store, &boxed_keys(alloc, [50, 1, 2])?)?;
-    let mut root = done.root;
-    let before = Snapshot::take(&store)?;
-    assert_eq!(rt; before.nodes.len(), 306 + 154);
-    let command = Command::Insert([60, 0, 0].to_vec(alloc)?, 7);
-    let reply = ask(&mut store, &mut root, command)?;
-    assert!(rt; matches!(reply, Reply::Inserted(None)));
-    assert!(rt; root == done.root);
-    let after = Snapshot::take(&store)?;
-    let expected = Touched {
-        placed: 1,
-        freed: 0,
-        changed: 2,
+    let keys = boxed_keys(rt.alloc(), [50, 1, 2])?;
+    let mut store: NodeStore<Key, u32, 16> = NodeStore::new(rt.alloc());
+    let root = insert_all(&mut store, &keys)?.ok_or("a root")?;
+    let row = (Asked::Insert(&[60, 0, 0], 7), Told::Inserted(None));
+    let seen = seen_of_insertion(&mut store, root, row, &[50, 1, 2])?;
+    let wanted = Seen {
+        nodes_before: 306 + 154,
+        touched: Touched {
+            placed: 1,
+            freed: 0,
+            changed: 2,
+        },
+        is_root_changed: true,
+        is_last_changed: true,
+        keeps_keys: true,
     };
-    assert_eq!(rt; Touched::between(&before, &after), expected);
-    let name = root.ok_or("no root")?;
-    let last = before.name_of(&[50, 1, 2]).ok_or("no leaf")?;
-    assert!(rt; before.node(name) != after.node(name));
-    assert!(rt; before.node(last) != after.node(last));
-    for (name, _) in &before.nodes {
-        assert!(rt; before.key(*name) == after.key(*name), "{name}");
-    }
+    assert_eq!(rt; seen, Some(wanted));
     Ok(())
 }
 
+/// What an insertion touches, what the deletion of the same key touches, what both do together, and whether the root
+/// is the same again.
+type PutAndRemoved = ([Option<Touched>; 3], bool);
+
 // Inserts a key into the prefix of a node, and deletes it.
 fn put_and_remove<const P: usize>(
-    rt: &impl Abort,
-    mut store: NodeStore<Key, u32, P>,
-) -> Result<(), Fail> {
-    let alloc = store.alloc();
-    let mut keys = Vec::new(alloc);
-    keys.push([0].to_vec(alloc)?)?;
-    keys.push([1, 1, 1, 5].to_vec(alloc)?)?;
-    keys.push([1, 1, 1, 6].to_vec(alloc)?)?;
-    keys.push([2].to_vec(alloc)?)?;
-    let done = insert_all(&mut store, &keys)?;
-    let mut root = done.root;
-    let first = Snapshot::take(&store)?;
+    store: &mut NodeStore<Key, u32, P>,
+    root: &mut Option<OpaqueNodePtr>,
+) -> Result<PutAndRemoved, AllocError>
+    requires { HasTree P store.old root.old }
+{
+    let planted = *root;
+    let first = Snapshot::take(store)?;
+    let put = (Asked::Insert(&[1, 1, 9], 4), Told::Inserted(None));
+    let placed = touched_by(store, root, put)?;
+    let remove = (
+        Asked::Delete(&[1, 1, 9]),
+        Told::Deleted(Some((&[1, 1, 9], 4))),
+    );
+    let freed = touched_by(store, root, remove)?;
+    let both = Touched::between(&first, &Snapshot::take(store)?);
+    Ok(([placed, freed, Some(both)], *root == planted))
+}
 
-    let command = Command::Insert([1, 1, 9].to_vec(alloc)?, 4);
-    let (reply, touched) = ask_and_compare(&mut store, &mut root, command)?;
-    assert!(rt; matches!(reply, Reply::Inserted(None)));
-    let expected = Touched {
+// The same in the tree of four keys.
+fn put_and_remove_at<const P: usize>(
+    store: &mut NodeStore<Key, u32, P>,
+) -> Result<PutAndRemoved, AllocError> {
+    let four = keys(store.alloc(), &[&[0], &[1, 1, 1, 5], &[1, 1, 1, 6], &[2]])?;
+    let mut root = insert_all(store, &four)?;
+    put_and_remove(store, &mut root)
+}
+
+#[test]
+fn a_split_prefix_is_merged_again(rt: HostRuntime) {
+    let alloc = rt.alloc();
+    let at_0 = put_and_remove_at::<0>(&mut NodeStore::new(alloc)).ok();
+    let at_1 = put_and_remove_at::<1>(&mut NodeStore::new(alloc)).ok();
+    let at_16 = put_and_remove_at::<16>(&mut NodeStore::new(alloc)).ok();
+    let put = Touched {
         placed: 2,
         freed: 0,
         changed: 4,
     };
-    assert_eq!(rt; touched, expected, "with {P} stored bytes");
-
-    let command = Command::Delete([1, 1, 9].to_vec(alloc)?);
-    let (reply, touched) = ask_and_compare(&mut store, &mut root, command)?;
-    assert!(rt; matches!(reply, Reply::Deleted(Some((_, 4)))));
-    let expected = Touched {
+    let removed = Touched {
         placed: 0,
         freed: 2,
         changed: 4,
     };
-    assert_eq!(rt; touched, expected, "with {P} stored bytes");
-    assert!(rt; root == done.root);
-    let last = Snapshot::take(&store)?;
-    assert_eq!(rt; Touched::between(&first, &last), NOTHING);
-    Ok(())
-}
-
-#[test]
-fn a_split_prefix_is_merged_again(rt: HostRuntime) -> Result<(), Fail> {
-    let alloc = rt.alloc();
-    put_and_remove(&rt, NodeStore::<Key, u32, 0>::new(alloc))?;
-    put_and_remove(&rt, NodeStore::<Key, u32, 1>::new(alloc))?;
-    put_and_remove(&rt, NodeStore::<Key, u32, 16>::new(alloc))
+    let wanted = ([Some(put), Some(removed), Some(NOTHING)], true);
+    assert_eq!(rt; [at_0, at_1, at_16], [Some(wanted); 3]);
 }
 
 /// Each kind that the root of keys of one byte can have, with the least number of keys for it.
@@ -317,53 +333,92 @@ const ROOT_KINDS: [(usize, NodeType); 5] = [
     (49, NodeType::Node256),
 ];
 
-// Sees that the root is of the kind for so many keys of one byte, and that a command touched few nodes.
-fn assert_small_step(rt: &impl Abort, root: Option<OpaqueNodePtr>, count: usize, touched: Touched) {
+// The kind of the root of so many keys of one byte.
+fn kind_for(count: usize) -> Option<NodeType> {
     let mut kind = None;
     for (least, root_kind) in ROOT_KINDS {
         if least <= count {
             kind = Some(root_kind);
         }
     }
-    assert_eq!(rt; root.map(|root| root.node_type()), kind, "of {count} keys");
-    assert!(rt; touched.placed <= 2, "at {count} keys");
-    assert!(rt; touched.freed <= 2, "at {count} keys");
-    assert!(rt; touched.changed <= 4, "at {count} keys");
+    kind
+}
+
+// Whether a command leaves a root of the kind for so many keys of one byte, and touches few nodes.
+fn is_small_step<const P: usize>(
+    store: &mut NodeStore<Key, u32, P>,
+    root: &mut Option<OpaqueNodePtr>,
+    row: Row<'_>,
+    count: usize,
+) -> Result<bool, AllocError>
+    requires { HasTree P store.old root.old }
+    ensures { IfOk result (λ _. HasTree P store.new root.new) }
+{
+    let Some(touched) = touched_by(store, root, row)? else {
+        return Ok(false);
+    };
+    let is_kind = root.map(|root| root.node_type()) == kind_for(count);
+    Ok(is_kind && touched.placed <= 2 && touched.freed <= 2 && touched.changed <= 4)
+}
+
+// Inserts all keys of one byte. Answers how many of these steps are small.
+fn count_small_insertions<const P: usize>(
+    store: &mut NodeStore<Key, u32, P>,
+    root: &mut Option<OpaqueNodePtr>,
+) -> Result<usize, AllocError>
+    requires { HasTree P store.old root.old }
+    ensures { IfOk result (λ _. HasTree P store.new root.new) }
+{
+    let mut small = 0usize;
+    for byte in 0..=255u8 {
+        let row = (Asked::Insert(&[byte], 0), Told::Inserted(None));
+        if is_small_step(store, root, row, usize::from(byte) + 1)? {
+            small = small.saturating_add(1);
+        }
+    }
+    Ok(small)
+}
+
+// Deletes the last pair again and again. Answers how many of these steps are small.
+fn count_small_deletions<const P: usize>(
+    store: &mut NodeStore<Key, u32, P>,
+    root: &mut Option<OpaqueNodePtr>,
+) -> Result<usize, AllocError>
+    requires { HasTree P store.old root.old }
+    ensures { IfOk result (λ _. HasTree P store.new root.new) }
+{
+    let mut small = 0usize;
+    for last in (0..=255u8).rev() {
+        let row = (Asked::DeleteMax, Told::Deleted(Some((&[last], 0))));
+        if is_small_step(store, root, row, usize::from(last))? {
+            small = small.saturating_add(1);
+        }
+    }
+    Ok(small)
 }
 
 #[test]
 fn a_root_grows_and_shrinks_through_every_kind(rt: HostRuntime) -> Result<(), Fail> {
-    let alloc = rt.alloc();
-    let mut store: NodeStore<Key, u32, 16> = NodeStore::new(alloc);
+    let mut store: NodeStore<Key, u32, 16> = NodeStore::new(rt.alloc());
     let mut root = None;
-    for byte in 0..=255u8 {
-        let command = Command::Insert([byte].to_vec(alloc)?, 0);
-        let (reply, touched) = ask_and_compare(&mut store, &mut root, command)?;
-        assert!(rt; matches!(reply, Reply::Inserted(None)));
-        assert_small_step(&rt, root, usize::from(byte) + 1, touched);
-    }
-    for last in (0..=255u8).rev() {
-        let (reply, touched) = ask_and_compare(&mut store, &mut root, Command::DeleteMax)?;
-        let Reply::Deleted(Some((key, _))) = reply else {
-            panic!(rt; "no deletion");
-        };
-        assert_eq!(rt; key.as_slice(), [last].as_slice());
-        assert_small_step(&rt, root, usize::from(last), touched);
-    }
-    assert!(rt; root.is_none());
-    assert!(rt; Snapshot::take(&store)?.nodes.is_empty());
+    let grown = count_small_insertions(&mut store, &mut root)?;
+    let shrunk = count_small_deletions(&mut store, &mut root)?;
+    let left = Snapshot::take(&store)?.nodes.len();
+    assert_eq!(rt; (grown, shrunk, root, left), (256, 256, None, 0));
     Ok(())
 }
 
-// Deletes the third of so many keys below one node, beside so many others, without memory. Answers whether that
-// was done, or sees that nothing was.
-fn is_deleted_without_memory(
-    rt: &impl Abort,
-    mut store: NodeStore<Key, u32, 4>,
-    count: u8,
-    others: u8,
-) -> Result<bool, Fail> {
-    let alloc = store.alloc();
+/// What came of a deletion.
+#[derive(Clone, Copy, PartialEq, Eq, Debug)]
+enum Deletion {
+    Made,
+    /// It was refused, and nothing was touched.
+    Refused,
+    Other,
+}
+
+// So many keys below one node, and so many others.
+fn two_groups(alloc: Global, count: u8, others: u8) -> Result<Vec<Key>, AllocError> {
     let mut keys = Vec::new(alloc);
     for byte in 0..count {
         keys.push([0, byte].to_vec(alloc)?)?;
@@ -371,23 +426,52 @@ fn is_deleted_without_memory(
     for byte in 0..others {
         keys.push([1, byte].to_vec(alloc)?)?;
     }
-    let mut root = insert_all(&mut store, &keys)?.root;
-    let before = Snapshot::take(&store)?;
-    let command = Command::Delete([0, 2].to_vec(alloc)?);
-    let reply = ask_without_memory(&mut store, &mut root, command)?;
-    let touched = Touched::between(&before, &Snapshot::take(&store)?);
-    match reply {
-        Reply::Deleted(Some((key, _))) => {
-            assert_eq!(rt; key.as_slice(), [0, 2].as_slice());
-            assert!(rt; touched != NOTHING);
-            Ok(true)
-        }
-        Reply::NoMemory(None) => {
-            assert_eq!(rt; touched, NOTHING);
-            Ok(false)
-        }
-        _ => Err("another reply".into()),
+    Ok(keys)
+}
+
+// What came of the deletion of [0, 2], by the reply to it and what it touched.
+fn deletion_told(told: Told<'_>, touched: Touched) -> Deletion {
+    if told == Told::Deleted(Some((&[0, 2], 2))) && touched != NOTHING {
+        return Deletion::Made;
     }
+    if told == Told::NoMemory(None) && touched == NOTHING {
+        return Deletion::Refused;
+    }
+    Deletion::Other
+}
+
+// A list of one deletion.
+fn deletion_of(alloc: Global, key: &[u8]) -> Result<Vec<Command<Key, u32>>, AllocError> {
+    let mut commands = Vec::new(alloc);
+    commands.push(Command::Delete(key.to_vec(alloc)?))?;
+    Ok(commands)
+}
+
+// Deletes [0, 2] without memory. Answers what came of it by the reply and what the deletion touched since then.
+fn delete_third<const P: usize>(
+    store: &mut NodeStore<Key, u32, P>,
+    root: Option<OpaqueNodePtr>,
+    before: &Snapshot,
+) -> Result<Deletion, AllocError>
+    requires { HasTree P store.old root }
+{
+    let asked = deletion_of(store.alloc(), &[0, 2])?;
+    let mut second = NodeStore::new(store.alloc());
+    let done = run_without_memory(store, &mut second, root, asked)?;
+    let touched = Touched::between(before, &Snapshot::take(store)?);
+    Ok(match done.replies.as_slice() {
+        [reply] => deletion_told(told_by(reply), touched),
+        _ => Deletion::Other,
+    })
+}
+
+// What comes of the deletion of the third of so many keys below one node, beside so many others.
+fn deletion_from(alloc: Global, count: u8, others: u8) -> Result<Deletion, AllocError> {
+    let keys = two_groups(alloc, count, others)?;
+    let mut store: NodeStore<Key, u32, 4> = NodeStore::new(alloc);
+    let root = insert_all(&mut store, &keys)?;
+    let before = Snapshot::take(&store)?;
+    delete_third(&mut store, root, &before)
 }
 
 #[test]
@@ -396,8 +480,10 @@ fn without_memory_a_deletion_is_made_or_refused_whole(rt: HostRuntime) -> Result
     let mut refusals = 0usize;
     for others in 0..16 {
         // The parent of four children keeps its kind, and that of five needs a smaller node.
-        assert!(rt; is_deleted_without_memory(&rt, NodeStore::new(alloc), 4, others)?);
-        if !is_deleted_without_memory(&rt, NodeStore::new(alloc), 5, others)? {
+        assert_eq!(rt; deletion_from(alloc, 4, others)?, Deletion::Made);
+        let from_five = deletion_from(alloc, 5, others)?;
+        assert!(rt; from_five != Deletion::Other);
+        if from_five == Deletion::Refused {
             refusals = refusals.saturating_add(1);
         }
     }

@@ -1,9 +1,9 @@
 //! Trees that no insertion makes, placed by hand and read back.
 
 use crate::by_hand::{Plain, assert_all, place_all};
-use crate::trees::Key;
 use art_nodes::node::NodeType;
 use art_nodes::store::NodeStore;
+use art_test_support::trees::Key;
 use std::process::Abort;
 use std::test::Fail;
 

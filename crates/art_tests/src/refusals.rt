@@ -3,10 +3,12 @@
 ghost use Rattle.std.specs.Prelude.{IfSome};
 ghost use Rattle.art_tests.specs.Trees.{HasTree};
 
-use crate::trees::{Key, count_nodes, shape_of};
+use crate::trees::shape_of;
 use art_nodes::node::{LeafPtr, OpaqueNodePtr};
 use art_nodes::store::NodeStore;
 use art_operations::run::{Command, Reply, Side, run};
+use art_test_support::shapes::count_nodes;
+use art_test_support::trees::Key;
 use std::alloc::{AllocError, Global};
 use std::test::Fail;
 
@@ -19,54 +21,92 @@ fn insertions(alloc: Global) -> Result<Vec<Command<Key, u32>>, AllocError> {
     Ok(commands)
 }
 
+/// How many replies there are, and how many say what.
+#[derive(Clone, Copy)]
+struct Tally {
+    replies: usize,
+    inserted: usize,
+    refused: usize,
+    conflicts: usize,
+}
+
+fn count_replies(replies: &[Reply<Key, u32>]) -> Tally {
+    let (mut inserted, mut refused, mut conflicts) = (0usize, 0usize, 0usize);
+    for reply in replies {
+        match reply {
+            Reply::Inserted(None) => inserted = inserted.saturating_add(1),
+            Reply::NoMemory(Some(_)) => refused = refused.saturating_add(1),
+            Reply::Conflict(..) => conflicts = conflicts.saturating_add(1),
+            _ => {}
+        }
+    }
+    Tally {
+        replies: replies.len(),
+        inserted,
+        refused,
+        conflicts,
+    }
+}
+
+/// What comes of a run.
+#[derive(Clone, Copy)]
+enum Outcome {
+    /// So many commands came back; and whether the store has no leaf.
+    HandedBack(usize, bool),
+    /// The replies, and how many leaves the tree has, where each name below its root is that of a node.
+    Ran(Tally, Option<usize>),
+}
+
+// How many leaves a tree has. The outer None is for want of memory.
+fn count_leaves(
+    store: &NodeStore<Key, u32, 4>,
+    root: Option<OpaqueNodePtr>,
+) -> Option<Option<usize>> {
+    let Some(root) = root else {
+        return Some(Some(0));
+    };
+    let shape = shape_of(store.alloc(), store, root).ok()?;
+    Some(shape.map(|shape| shape.leaves))
+}
+
+// Runs the insertions. None where a refusal fell outside the run.
+fn run_insertions(
+    first: &mut NodeStore<Key, u32, 4>,
+    second: &mut NodeStore<Key, u32, 4>,
+) -> Option<Outcome> {
+    let commands = insertions(first.alloc()).ok()?;
+    match run(first, second, None, commands) {
+        Ok(done) => {
+            let leaves = count_leaves(first, done.root)?;
+            Some(Outcome::Ran(count_replies(&done.replies), leaves))
+        }
+        Err((commands, AllocError)) => {
+            let is_empty = first.leaf(LeafPtr::from_slot(0)).is_none();
+            Some(Outcome::HandedBack(commands.len(), is_empty))
+        }
+    }
+}
+
 #[test]
 fn refused_commands_leave_the_tree_of_the_others(rt: HostRuntime) -> Result<(), Fail> {
     let alloc = rt.alloc();
-    let Ok(commands) = insertions(alloc) else {
-        return Ok(());
-    };
-    let mut first: NodeStore<Key, u32, 4> = NodeStore::new(alloc);
-    let mut second = NodeStore::new(alloc);
-    let done = match run(&mut first, &mut second, None, commands) {
-        Ok(done) => done,
-        Err((commands, AllocError)) => {
-            assert_eq!(rt; commands.len(), 6);
-            assert!(rt; first.leaf(LeafPtr::from_slot(0)).is_none());
+    match run_insertions(&mut NodeStore::new(alloc), &mut NodeStore::new(alloc)) {
+        None => {}
+        Some(Outcome::HandedBack(count, is_empty)) => {
+            assert_eq!(rt; (count, is_empty), (6, true));
             println!(rt; "asserted")?;
-            return Ok(());
         }
-    };
-    assert_eq!(rt; done.replies.len(), 6);
-    let inserted = done
-        .replies
-        .iter()
-        .filter(|reply| matches!(reply, Reply::Inserted(None)))
-        .count();
-    let refused = done
-        .replies
-        .iter()
-        .filter(|reply| matches!(reply, Reply::NoMemory(Some(_))))
-        .count();
-    let conflicts = done
-        .replies
-        .iter()
-        .filter(|reply| matches!(reply, Reply::Conflict(..)))
-        .count();
-    if let Some(root) = done.root {
-        let Ok(shape) = shape_of(alloc, &first, root) else {
-            return Ok(());
-        };
-        assert_eq!(rt; shape.map(|shape| shape.leaves), Some(inserted));
-    } else {
-        assert_eq!(rt; inserted, 0);
-    }
-    assert!(rt; conflicts <= 1);
-    assert_eq!(rt;
-        inserted.saturating_add(refused).saturating_add(conflicts),
-        6
-    );
-    if refused != 0 {
-        println!(rt; "asserted")?;
+        Some(Outcome::Ran(tally, leaves)) => {
+            let told = tally
+                .inserted
+                .saturating_add(tally.refused)
+                .saturating_add(tally.conflicts);
+            assert_eq!(rt; (tally.replies, told, leaves), (6, 6, Some(tally.inserted)));
+            assert!(rt; tally.conflicts <= 1);
+            if tally.refused != 0 {
+                println!(rt; "asserted")?;
+            }
+        }
     }
     Ok(())
 }
@@ -88,60 +128,77 @@ fn root_after(
     }
 }
 
+// How many nodes the first store has before a clone that is refused, and both have after it.
+fn counts_at_refused_clone(
+    first: &mut NodeStore<Key, u32, 4>,
+    second: &mut NodeStore<Key, u32, 4>,
+) -> Option<[(usize, usize); 3]> {
+    let commands = insertions(first.alloc()).ok()?;
+    let mut clone = Vec::with_capacity(first.alloc(), 1).ok()?;
+    clone.push_reserved(Command::Clone);
+    let root = root_after(first, second, commands)?;
+    let before = count_nodes(first, 6);
+    let done = run(first, second, root, clone).ok()?;
+    match done.replies.as_slice() {
+        [Reply::NoMemory(None)] => { Some([before, count_nodes(first, 6), count_nodes(second, 6)]) }
+        _ => None,
+    }
+}
+
 #[test]
 fn refused_clones_leave_both_stores(rt: HostRuntime) -> Result<(), Fail> {
     let alloc = rt.alloc();
-    let Ok(commands) = insertions(alloc) else {
-        return Ok(());
-    };
-    let Ok(mut clone) = Vec::with_capacity(alloc, 1) else {
-        return Ok(());
-    };
-    clone.push_reserved(Command::Clone);
-    let mut first: NodeStore<Key, u32, 4> = NodeStore::new(alloc);
-    let mut second = NodeStore::new(alloc);
-    let Some(root) = root_after(&mut first, &mut second, commands) else {
-        return Ok(());
-    };
-    let before = count_nodes(&first, 6);
-    let Ok(done) = run(&mut first, &mut second, root, clone) else {
-        return Ok(());
-    };
-    if matches!(done.replies.as_slice(), [Reply::NoMemory(None)]) {
-        let after = (count_nodes(&first, 6), count_nodes(&second, 6));
-        assert_eq!(rt; after, (before, (0, 0)));
+    let counts = counts_at_refused_clone(&mut NodeStore::new(alloc), &mut NodeStore::new(alloc));
+    if let Some(counts) = counts {
+        let [before, first, second] = counts;
+        assert_eq!(rt; [first, second], [before, (0, 0)]);
         println!(rt; "asserted")?;
     }
     Ok(())
 }
 
+/// What comes of an overwrite of a whole tree.
+#[derive(Clone, Copy, PartialEq, Eq, Debug)]
+enum Overwrite {
+    /// It was refused; and whether the nodes are as many as before, under the same root.
+    Refused(bool),
+    /// It was made; and how many nodes are left.
+    Made((usize, usize)),
+    Other,
+}
+
+// Overwrites the whole tree of the insertions. None where a refusal fell outside the run.
+fn overwrite_all(
+    first: &mut NodeStore<Key, u32, 4>,
+    second: &mut NodeStore<Key, u32, 4>,
+) -> Option<Overwrite> {
+    let alloc = first.alloc();
+    let commands = insertions(alloc).ok()?;
+    let mut overwrite = Vec::with_capacity(alloc, 1).ok()?;
+    overwrite.push_reserved(Command::InsertPrefix(Vec::new(alloc), 7));
+    let root = root_after(first, second, commands)?;
+    let before = count_nodes(first, 7);
+    let done = run(first, second, root, overwrite).ok()?;
+    let after = count_nodes(first, 7);
+    Some(match done.replies.as_slice() {
+        [Reply::NoMemory(Some((_, 7)))] => {
+            Overwrite::Refused(after == before && done.root == root)
+        }
+        [Reply::Overwrote(..)] => Overwrite::Made(after),
+        _ => Overwrite::Other,
+    })
+}
+
 #[test]
 fn refused_overwrites_leave_the_tree(rt: HostRuntime) -> Result<(), Fail> {
     let alloc = rt.alloc();
-    let Ok(commands) = insertions(alloc) else {
-        return Ok(());
-    };
-    let Ok(mut overwrite) = Vec::with_capacity(alloc, 1) else {
-        return Ok(());
-    };
-    overwrite.push_reserved(Command::InsertPrefix(Vec::new(alloc), 7));
-    let mut first: NodeStore<Key, u32, 4> = NodeStore::new(alloc);
-    let mut second = NodeStore::new(alloc);
-    let Some(root) = root_after(&mut first, &mut second, commands) else {
-        return Ok(());
-    };
-    let before = count_nodes(&first, 7);
-    let Ok(done) = run(&mut first, &mut second, root, overwrite) else {
-        return Ok(());
-    };
-    match done.replies.as_slice() {
-        [Reply::NoMemory(Some((_, 7)))] => {
-            assert_eq!(rt; count_nodes(&first, 7), before);
-            assert_eq!(rt; done.root, root);
+    match overwrite_all(&mut NodeStore::new(alloc), &mut NodeStore::new(alloc)) {
+        None => {}
+        Some(Overwrite::Refused(is_kept)) => {
+            assert!(rt; is_kept);
             println!(rt; "asserted")?;
         }
-        [Reply::Overwrote(..)] => assert_eq!(rt; count_nodes(&first, 7), (1, 0)),
-        _ => panic!(rt; "other replies"),
+        Some(made) => assert_eq!(rt; made, Overwrite::Made((1, 0))),
     }
     Ok(())
 }

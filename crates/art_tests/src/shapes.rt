@@ -1,11 +1,12 @@
 //! The shapes of trees that insertions leave.
 
-use crate::trees::{Key, Shape, boxed_keys, insert_all, shape_of};
+use crate::trees::{Shape, boxed_keys, insert_all, shape_of};
 use art_nodes::node::NodeType;
 use art_nodes::store::NodeStore;
-use art_operations::run::Reply;
+use art_operations::run::{Reply, run};
+use art_test_support::commands::{Asked, Row, Told, commands, first_wrong};
+use art_test_support::trees::Key;
 use std::alloc::{AllocError, Global};
-use std::process::Abort;
 use std::test::Fail;
 
 /// For each i from 0 to 11 the key of i zeros and 255.
@@ -68,48 +69,71 @@ fn rows(alloc: Global) -> Result<[(Vec<Key>, Shape); 4], AllocError> {
     ])
 }
 
-fn has_shape<const P: usize>(
-    rt: &impl Abort,
-    mut store: NodeStore<Key, u32, P>,
+/// The shape of the tree of these keys.
+fn shape_from<const P: usize>(
+    store: &mut NodeStore<Key, u32, P>,
     keys: &[Key],
-    want: Shape,
-) -> Result<(), Fail> {
-    let alloc = store.alloc();
-    let done = insert_all(&mut store, keys)?;
-    let root = done.root.ok_or("no root")?;
-    let shape = shape_of(alloc, &store, root)?;
-    assert_eq!(rt; shape, Some(want), "with {P} stored bytes");
-    Ok(())
+) -> Result<Option<Shape>, AllocError> {
+    match insert_all(store, keys)? {
+        Some(root) => shape_of(store.alloc(), store, root),
+        None => Ok(None),
+    }
+}
+
+/// The same with each number of stored bytes.
+fn shapes_from(alloc: Global, keys: &[Key]) -> Result<[Option<Shape>; 4], AllocError> {
+    Ok([
+        shape_from::<0>(&mut NodeStore::new(alloc), keys)?,
+        shape_from::<2>(&mut NodeStore::new(alloc), keys)?,
+        shape_from::<4>(&mut NodeStore::new(alloc), keys)?,
+        shape_from::<16>(&mut NodeStore::new(alloc), keys)?,
+    ])
 }
 
 #[test]
 fn trees_have_their_shapes(rt: HostRuntime) -> Result<(), Fail> {
-    let alloc = rt.alloc();
-    for (keys, want) in rows(alloc)? {
-        has_shape(&rt, NodeStore::<Key, u32, 0>::new(alloc), &keys, want)?;
-        has_shape(&rt, NodeStore::<Key, u32, 2>::new(alloc), &keys, want)?;
-        has_shape(&rt, NodeStore::<Key, u32, 4>::new(alloc), &keys, want)?;
-        has_shape(&rt, NodeStore::<Key, u32, 16>::new(alloc), &keys, want)?;
+    for (keys, want) in rows(rt.alloc())? {
+        assert_eq!(rt; shapes_from(rt.alloc(), &keys)?, [Some(want); 4]);
     }
     Ok(())
+}
+
+/// The text of the error of the last reply, where the replies are those of these rows.
+fn last_text(alloc: Global, replies: &[Reply<Key, u32>], rows: &[Row<'_>]) -> Result<String, Fail> {
+    match replies.last() {
+        Some(Reply::Conflict(_, _, error)) if first_wrong(replies, rows).is_none() => {
+            Ok(format!(in alloc; "{error}")?)
+        }
+        _ => Err("another reply".into()),
+    }
+}
+
+/// The same of a run of their commands.
+fn text_after<const P: usize>(
+    first: &mut NodeStore<Key, u32, P>,
+    second: &mut NodeStore<Key, u32, P>,
+    rows: &[Row<'_>],
+) -> Result<String, Fail> {
+    let alloc = first.alloc();
+    let asked = commands(alloc, rows)?;
+    match run(first, second, None, asked) {
+        Ok(done) => last_text(alloc, &done.replies, rows),
+        Err((_, error)) => Err(error.into()),
+    }
 }
 
 #[test]
 fn a_longer_key_is_in_conflict(rt: HostRuntime) -> Result<(), Fail> {
     let alloc = rt.alloc();
-    let mut keys = Vec::new(alloc);
-    keys.push(Vec::from_array(alloc, [1u8])?)?;
-    keys.push(Vec::from_array(alloc, [1u8, 2])?)?;
+    let rows: [Row<'_>; 2] = [
+        (Asked::Insert(&[1], 0), Told::Inserted(None)),
+        (
+            Asked::Insert(&[1, 2], 1),
+            Told::Conflict(&[1, 2], 1, &[1, 2]),
+        ),
+    ];
     let mut store: NodeStore<Key, u32, 4> = NodeStore::new(alloc);
-    let done = insert_all(&mut store, &keys)?;
-    assert_eq!(rt; done.replies.len(), 2);
-    assert!(rt; matches!(&done.replies[0], Reply::Inserted(None)));
-    let Reply::Conflict(key, value, error) = &done.replies[1] else {
-        return Err(Fail::from("no conflict"));
-    };
-    assert_eq!(rt; key.as_slice(), [1, 2].as_slice());
-    assert_eq!(rt; *value, 1);
-    let text = format!(in alloc; "{error}")?;
+    let text = text_after(&mut store, &mut NodeStore::new(alloc), &rows)?;
     assert_eq!(rt;
         text.as_str(),
         "Attempted to insert a key [[1, 2]] which is either a prefix of an existing key or an existing key is a prefix of the new key."

@@ -2,12 +2,11 @@
 ghost use Rattle.std.specs.Prelude.{IfOk};
 ghost use Rattle.art_tests.specs.Trees.{HasTree};
 
-use art_nodes::node::{AsBytes, InnerPtr, LeafPtr, NodePtr, NodeType, OpaqueNodePtr};
+use art_nodes::node::{NodePtr, NodeType, OpaqueNodePtr};
 use art_nodes::store::NodeStore;
-use art_operations::run::{Command, RunResult, Side, run};
+use art_operations::run::{Command, Side, run};
+use art_test_support::trees::Key;
 use std::alloc::{AllocError, Global};
-
-pub type Key = Vec<u8>;
 
 /// How a tree is made, as met by walking children from its root.
 #[derive(Clone, Copy, PartialEq, Eq, Debug)]
@@ -34,24 +33,29 @@ pub fn boxed_keys(alloc: Global, ends: [u8; 3]) -> Result<Vec<Key>, AllocError> 
     Ok(keys)
 }
 
-/// Inserts these keys into an empty store, each with its place in the list as its value.
-pub fn insert_all<const P: usize>(
-    store: &mut NodeStore<Key, u32, P>,
-    keys: &[Key],
-) -> Result<RunResult<Key, u32>, AllocError>
-    ensures { IfOk result (λ done. HasTree P store.new done.root) }
-{
-    let alloc = store.alloc();
+/// Insertions of these keys, each with its place in the list as its value.
+fn insertions(alloc: Global, keys: &[Key]) -> Result<Vec<Command<Key, u32>>, AllocError> {
     let mut commands = Vec::new(alloc);
     let mut value = 0u32;
     for key in keys {
         commands.push(Command::Insert(key.clone()?, value))?;
         value = value.wrapping_add(1);
     }
-    let mut other = NodeStore::new(alloc);
-    match run(store, &mut other, None, commands) {
+    Ok(commands)
+}
+
+/// Inserts these keys into an empty store, each with its place in the list as its value. Answers the root.
+pub fn insert_all<const P: usize>(
+    store: &mut NodeStore<Key, u32, P>,
+    keys: &[Key],
+) -> Result<Option<OpaqueNodePtr>, AllocError>
+    ensures { IfOk result (λ root. HasTree P store.new root) }
+{
+    let alloc = store.alloc();
+    let commands = insertions(alloc, keys)?;
+    match run(store, &mut NodeStore::new(alloc), None, commands) {
         Ok(done) => match done.side {
-            Side::First => Ok(done),
+            Side::First => Ok(done.root),
             Side::Second => Err(AllocError),
         },
         Err((_, error)) => Err(error),
@@ -110,29 +114,4 @@ pub fn shape_of<const P: usize>(
         }
     }
     Ok(None)
-}
-
-/// How many leaves and inner nodes a store has in slots up to this one.
-pub fn count_nodes<K: AsBytes + Drop, V: Drop, const P: usize>(
-    store: &NodeStore<K, V, P>,
-    last_slot: usize,
-) -> (usize, usize) {
-    let kinds = [
-        NodeType::Node4,
-        NodeType::Node16,
-        NodeType::Node48,
-        NodeType::Node256,
-    ];
-    let (mut leaves, mut inners) = (0usize, 0usize);
-    for slot in 0..=last_slot {
-        if store.leaf(LeafPtr::from_slot(slot)).is_some() {
-            leaves = leaves.saturating_add(1);
-        }
-        for kind in kinds {
-            if store.inner(InnerPtr { kind, slot }).is_some() {
-                inners = inners.saturating_add(1);
-            }
-        }
-    }
-    (leaves, inners)
 }

@@ -8,10 +8,12 @@ pub struct Numbers {
 }
 
 impl Numbers {
+    /// The numbers of a seed.
     pub fn new(seed: u64) -> Self {
         Numbers { state: seed }
     }
 
+    /// A number below this one.
     pub fn below(&mut self, end: usize) -> usize
         requires { 0 < end }
         ensures { result < end }
@@ -23,14 +25,17 @@ impl Numbers {
         (self.state >> 33) as usize % end
     }
 
+    /// One of two.
     pub fn is_heads(&mut self) -> bool {
         self.below(2) == 0
     }
 
+    /// A byte.
     pub fn byte(&mut self) -> u8 {
         self.below(256) as u8
     }
 
+    /// A value, below a million.
     pub fn value(&mut self) -> u32 {
         self.below(1_000_000) as u32
     }

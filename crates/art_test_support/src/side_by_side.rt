@@ -1,0 +1,159 @@
+//! Two trees that are to be the same, walked side by side.
+
+use crate::shapes::count_nodes;
+use crate::trees::Key;
+use art_nodes::node::{InnerPtr, InnerRef, LeafPtr, NodePtr, NodeType, OpaqueNodePtr};
+use art_nodes::store::NodeStore;
+use std::alloc::{AllocError, Global};
+
+// No tree of these tests has more nodes, and no node a later slot.
+const MOST_NODES: usize = 700;
+
+// What is met in two trees of one form.
+#[derive(Drop)]
+struct Walk {
+    // Names at one place of both trees that are still to be looked at. The next ones stand last.
+    open: Vec<(OpaqueNodePtr, OpaqueNodePtr)>,
+    // The leaves of either tree, in order.
+    leaves: Vec<LeafPtr>,
+    other_leaves: Vec<LeafPtr>,
+    inner: usize,
+    greatest_kind: NodeType,
+}
+
+impl Walk {
+    fn new(alloc: Global) -> Self {
+        Walk {
+            open: Vec::new(alloc),
+            leaves: Vec::new(alloc),
+            other_leaves: Vec::new(alloc),
+            inner: 0,
+            greatest_kind: NodeType::Node4,
+        }
+    }
+
+    // Looks at all nodes under the names that are open. Answers whether they are the same.
+    fn go<const P: usize>(
+        &mut self,
+        store: &NodeStore<Key, u32, P>,
+        other: &NodeStore<Key, u32, P>,
+    ) -> Result<bool, AllocError> {
+        for _ in 0..MOST_NODES {
+            let Some((name, other_name)) = self.open.pop() else {
+                return Ok(true);
+            };
+            let are_same = match (name.split(), other_name.split()) {
+                (NodePtr::Leaf(leaf), NodePtr::Leaf(other_leaf)) => {
+                    self.leaves.push(leaf)?;
+                    self.other_leaves.push(other_leaf)?;
+                    true
+                }
+                (NodePtr::Inner(inner), NodePtr::Inner(other_inner)) => {
+                    self.meet_inner((store, inner), (other, other_inner))?
+                }
+                _ => false,
+            };
+            if !are_same {
+                return Ok(false);
+            }
+        }
+        Ok(false)
+    }
+
+    // Looks at two inner nodes. Answers whether they are the same but for their children's names.
+    fn meet_inner<const P: usize>(
+        &mut self,
+        (store, name): (&NodeStore<Key, u32, P>, InnerPtr),
+        (other, other_name): (&NodeStore<Key, u32, P>, InnerPtr),
+    ) -> Result<bool, AllocError> {
+        let Some(node) = store.inner(name) else {
+            return Ok(false);
+        };
+        let Some(other) = other.inner(other_name) else {
+            return Ok(false);
+        };
+        if !are_alike(node, other) {
+            return Ok(false);
+        }
+        for ((byte, child), (other_byte, other_child)) in node
+            .iter()
+            .rev()
+            .zip(other.iter().rev())
+        {
+            if byte != other_byte {
+                return Ok(false);
+            }
+            self.open.push((child, other_child))?;
+        }
+        self.inner = self.inner.saturating_add(1);
+        self.greatest_kind = self.greatest_kind.max(node.node_type());
+        Ok(true)
+    }
+}
+
+// Whether two nodes have the same kind, prefix and number of children.
+fn are_alike<const P: usize>(node: InnerRef<'_, P>, other: InnerRef<'_, P>) -> bool {
+    node.node_type() == other.node_type()
+        && node.prefix_len() == other.prefix_len()
+        && node.read_prefix() == other.read_prefix()
+        && node.num_children() == other.num_children()
+}
+
+// Whether a leaf holds a pair and has these links.
+fn is_leaf<const P: usize>(
+    store: &NodeStore<Key, u32, P>,
+    name: LeafPtr,
+    (key, value): &(Key, u32),
+    links: (Option<LeafPtr>, Option<LeafPtr>),
+) -> bool {
+    match store.leaf(name) {
+        Some(leaf) => {
+            leaf.key.as_slice() == key.as_slice()
+                && leaf.value == *value
+                && (leaf.previous, leaf.next) == links
+        }
+        None => false,
+    }
+}
+
+// Whether these leaves hold these pairs, and each is linked to the ones before and after it.
+fn are_leaves<const P: usize>(
+    store: &NodeStore<Key, u32, P>,
+    leaves: &[LeafPtr],
+    pairs: &[(Key, u32)],
+) -> bool {
+    let mut previous = None;
+    for (at, (name, pair)) in leaves.iter().zip(pairs).enumerate() {
+        let next = leaves.get(at.saturating_add(1)).copied();
+        if !is_leaf(store, *name, pair, (previous, next)) {
+            return false;
+        }
+        previous = Some(*name);
+    }
+    leaves.len() == pairs.len()
+}
+
+/// The greatest kind of node of two trees that are the same but for the names of their nodes, whose leaves hold these
+/// pairs in order, where the first store has no other node. None where any of that is not so.
+pub fn kind_if_same<const P: usize>(
+    (store, root): (&NodeStore<Key, u32, P>, Option<OpaqueNodePtr>),
+    (other, other_root): (&NodeStore<Key, u32, P>, Option<OpaqueNodePtr>),
+    pairs: &[(Key, u32)],
+) -> Result<Option<NodeType>, AllocError> {
+    if [root.is_none(), other_root.is_none()] != [pairs.is_empty(); 2] {
+        return Ok(None);
+    }
+    let mut walk = Walk::new(store.alloc());
+    if let (Some(name), Some(other_name)) = (root, other_root) {
+        walk.open.push((name, other_name))?;
+    }
+    let are_same = walk.go(store, other)?
+        && are_leaves(store, &walk.leaves, pairs)
+        && are_leaves(other, &walk.other_leaves, pairs)
+        && count_nodes(store, MOST_NODES) == (pairs.len(), walk.inner);
+    Ok(if are_same {
+        Some(walk.greatest_kind)
+    } else {
+        None
+    })
+}
