@@ -21,7 +21,7 @@ const STEPS: usize = 10_000;
 const LAST_SLOT: usize = 400;
 
 // A kind of inner nodes.
-fn inner_kind(numbers: &mut Numbers) -> NodeType {
+fn drawn_kind(numbers: &mut Numbers) -> NodeType {
     match numbers.below(4) {
         0 => NodeType::Node4,
         1 => NodeType::Node16,
@@ -31,27 +31,27 @@ fn inner_kind(numbers: &mut Numbers) -> NodeType {
 }
 
 // A name, of some node or of none.
-fn name(numbers: &mut Numbers) -> OpaqueNodePtr {
+fn drawn_name(numbers: &mut Numbers) -> OpaqueNodePtr {
     let kind = if numbers.is_heads() {
         NodeType::Leaf
     } else {
-        inner_kind(numbers)
+        drawn_kind(numbers)
     };
     OpaqueNodePtr::from_parts(kind, numbers.below(LAST_SLOT))
 }
 
 // The name of a leaf, of some leaf or of none, where one is drawn.
-fn link(numbers: &mut Numbers) -> Option<LeafPtr> {
-    name(numbers).as_leaf()
+fn drawn_link(numbers: &mut Numbers) -> Option<LeafPtr> {
+    drawn_name(numbers).as_leaf()
 }
 
 // A key and a value.
-fn pair(numbers: &mut Numbers) -> ([u8; 2], u32) {
+fn drawn_pair(numbers: &mut Numbers) -> ([u8; 2], u32) {
     ([numbers.byte(), numbers.byte()], numbers.value())
 }
 
 // A prefix: bytes of which the front is stored, and a length.
-fn prefix(numbers: &mut Numbers) -> PlainPrefix {
+fn drawn_prefix(numbers: &mut Numbers) -> PlainPrefix {
     PlainPrefix {
         bytes: [numbers.byte(), numbers.byte(), numbers.byte()],
         len: numbers.below(6),
@@ -140,8 +140,8 @@ struct Trial {
 impl Trial {
     /// Places a leaf, under a name that is not on the list.
     fn place_leaf(&mut self) -> Result<bool, AllocError> {
-        let (key, value) = pair(&mut self.numbers);
-        let (previous, next) = (link(&mut self.numbers), link(&mut self.numbers));
+        let (key, value) = drawn_pair(&mut self.numbers);
+        let (previous, next) = (drawn_link(&mut self.numbers), drawn_link(&mut self.numbers));
         let leaf = LeafNode {
             key,
             value,
@@ -157,7 +157,7 @@ impl Trial {
 
     /// Places an inner node with no child, under a name of its kind that is not on the list.
     fn place_inner(&mut self, kind: NodeType) -> Result<bool, AllocError> {
-        let prefix = prefix(&mut self.numbers);
+        let prefix = drawn_prefix(&mut self.numbers);
         if kind == NodeType::Leaf {
             return Ok(false);
         }
@@ -200,7 +200,7 @@ impl Trial {
             return true;
         };
         let (name, want) = &mut self.leaves[at];
-        want.links = (link(&mut self.numbers), link(&mut self.numbers));
+        want.links = (drawn_link(&mut self.numbers), drawn_link(&mut self.numbers));
         if self.store.leaf(*name).is_none() {
             return false;
         }
@@ -214,7 +214,7 @@ impl Trial {
             return true;
         };
         let (name, want) = &mut self.leaves[at];
-        let pair = pair(&mut self.numbers);
+        let pair = drawn_pair(&mut self.numbers);
         if self.store.leaf(*name).is_none() {
             return false;
         }
@@ -230,7 +230,7 @@ impl Trial {
             return true;
         };
         let (name, want) = &mut self.inners[at];
-        want.prefix = prefix(&mut self.numbers);
+        want.prefix = drawn_prefix(&mut self.numbers);
         if self.store.inner(*name).is_none() {
             return false;
         }
@@ -245,7 +245,7 @@ impl Trial {
         };
         let (name, want) = &mut self.inners[at];
         for _ in 0..self.numbers.below(12) {
-            let (byte, child) = (self.numbers.byte(), name(&mut self.numbers));
+            let (byte, child) = (self.numbers.byte(), drawn_name(&mut self.numbers));
             if has_place(&self.store, *name, byte) {
                 self.store.write_child(*name, byte, child);
                 want.children[byte as usize] = Some(child);
@@ -277,7 +277,7 @@ impl Trial {
     /// Asks for a promise, which changes no node.
     fn reserve(&mut self) -> Result<bool, AllocError> {
         let leaves = self.numbers.below(20);
-        let kind = inner_kind(&mut self.numbers);
+        let kind = drawn_kind(&mut self.numbers);
         if kind == NodeType::Leaf {
             return Ok(false);
         }
@@ -298,7 +298,7 @@ impl Trial {
             0 if is_placement => self.place_leaf(),
             0 => Ok(self.free_leaf()),
             1 if is_placement => {
-                let kind = inner_kind(&mut self.numbers);
+                let kind = drawn_kind(&mut self.numbers);
                 self.place_inner(kind)
             }
             1 => Ok(self.free_inner()),

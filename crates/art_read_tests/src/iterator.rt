@@ -8,21 +8,19 @@ use art_nodes::node::{OpaqueNodePtr, OptionalLeafPtr};
 use art_nodes::store::NodeStore;
 use art_operations::deallocate::{deallocate_leaves, deallocate_tree_non_leaves};
 use art_operations::iterator::RawIterator;
-use art_operations::minmax::{maximum_unchecked, minimum_unchecked};
 use art_test_support::nodes::{count_touched, nodes_seen};
 use art_test_support::shapes::count_nodes;
 use art_test_support::trees::{Key, plant_all, value_of};
 use std::alloc::AllocError;
 use std::test::Fail;
+use uses::{take_next, walk};
 
 // All leaves of a tree.
 fn whole<const P: usize>(store: &NodeStore<Key, u32, P>, root: OpaqueNodePtr) -> RawIterator
     requires { IsCanonicalRoot (λ pair. pair.0.items) P store.now root }
     ensures { (names : List OpaqueNodePtr) × IsIteratorOf store.now result names }
 {
-    let first = minimum_unchecked(store, root);
-    let last = maximum_unchecked(store, root);
-    RawIterator::new(store, first, last)
+    walk(store, root)
 }
 
 // The value of the first leaf that is left.
@@ -202,9 +200,8 @@ fn free_front<const P: usize>(
     requires { (names : List OpaqueNodePtr) × IsIteratorOf store.old leaves.old names }
     ensures { (names : List OpaqueNodePtr) × IsIteratorOf store.new leaves.new names }
 {
-    let name = leaves.next(store)?;
-    let leaf = store.free_leaf(name);
-    Some(leaf.value)
+    let pair = take_next(store, leaves);
+    Some(pair?.1)
 }
 
 // The values of the leaves of a tree, of which each is freed before the next one comes.
