@@ -8,7 +8,7 @@ use art_nodes::store::NodeStore;
 use art_test_support::memory::all_memory;
 use art_test_support::nodes::{count_nodes, count_touched, plant_seen};
 use art_test_support::trees::{Key, child, plant_all};
-use std::alloc::{AllocError, Global};
+use std::alloc::Global;
 use std::test::Fail;
 
 // The old root, what it had under a byte, what a deletion did, and how many names came into use, went out of it, and
@@ -41,20 +41,38 @@ fn deleted_from<const P: usize>(
     })
 }
 
-// The kind of an inner node, its number of children, the length of its prefix, and whether it stores these bytes of it.
-fn outline<const P: usize>(
+// An inner node, and whether it stores some bytes of its prefix.
+#[derive(Clone, Copy, PartialEq, Eq, Debug)]
+struct Outline {
+    kind: NodeType,
+    children: usize,
+    prefix_len: usize,
+    is_stored: bool,
+}
+
+// The outline of the inner node under a name; it is to store these bytes.
+fn outline_of<const P: usize>(
     store: &NodeStore<Key, u32, P>,
     name: Option<OpaqueNodePtr>,
     stored: &[u8],
-) -> Option<(NodeType, usize, usize, bool)> {
+) -> Option<Outline> {
     let node = store.inner(name?.as_inner()?)?;
-    let is_stored = node.read_prefix() == stored;
-    Some((
-        node.node_type(),
-        node.num_children(),
-        node.prefix_len(),
-        is_stored,
-    ))
+    Some(Outline {
+        kind: node.node_type(),
+        children: node.num_children(),
+        prefix_len: node.prefix_len(),
+        is_stored: node.read_prefix() == stored,
+    })
+}
+
+// A Node4 with two children whose prefix has this length and is stored as it is to be.
+fn pair_below(prefix_len: usize) -> Outline {
+    Outline {
+        kind: NodeType::Node4,
+        children: 2,
+        prefix_len,
+        is_stored: true,
+    }
 }
 
 // What is seen of a deletion that leaves one leaf.
@@ -95,15 +113,33 @@ fn raises_the_other_leaf(rt: HostRuntime) -> Result<(), Fail> {
     Ok(())
 }
 
+// What is seen of a deletion that leaves an inner node.
+#[derive(Clone, Copy, PartialEq, Eq, Debug)]
+struct Merged {
+    touched: (usize, usize, usize),
+    root: Outline,
+}
+
+// Deletes [7, 1, 1, 9] beside two keys with a longer prefix.
+fn merge_long<const P: usize>(store: &mut NodeStore<Key, u32, P>) -> Result<Merged, Fail> {
+    let slices: [&[u8]; 3] = [&[7, 1, 1, 1, 1, 5], &[7, 1, 1, 1, 1, 6], &[7, 1, 1, 9]];
+    let seen = deleted_from(store, &slices, 1, &[7, 1, 1, 9])?;
+    let root = outline_of(store, seen.done.new_root, &[7, 1]).ok_or("an inner root")?;
+    Ok(Merged {
+        touched: seen.touched,
+        root,
+    })
+}
+
 #[test]
 fn merges_a_prefix_that_is_not_stored_whole(rt: HostRuntime) -> Result<(), Fail> {
     let mut store: NodeStore<Key, u32, 2> = NodeStore::new(rt.alloc());
-    let slices: [&[u8]; 3] = [&[7, 1, 1, 1, 1, 5], &[7, 1, 1, 1, 1, 6], &[7, 1, 1, 9]];
-    let seen = deleted_from(&mut store, &slices, 1, &[7, 1, 1, 9])?;
-    let root = outline(&store, seen.done.new_root, &[7, 1]);
-    let expected = Some((NodeType::Node4, 2, 5, true));
-    assert_eq!(rt; seen.touched, (0, 2, 2));
-    assert_eq!(rt; root, expected);
+    let expected = Merged {
+        touched: (0, 2, 2),
+        root: pair_below(5),
+    };
+    let merged = merge_long(&mut store)?;
+    assert_eq!(rt; merged, expected);
     Ok(())
 }
 
@@ -215,13 +251,14 @@ fn undoes_an_insertion(rt: HostRuntime) -> Result<(), Fail> {
 fn outline_without_memory<const P: usize>(
     store: &mut NodeStore<Key, u32, P>,
     root: OpaqueNodePtr,
-) -> Result<Option<(NodeType, usize, usize, bool)>, AllocError>
+) -> Result<Outline, Fail>
     requires { IsCanonicalRoot (of_key (λ key. key.items)) P store.old root }
 {
     let held = all_memory(store.alloc())?;
     let done = delete(store, root, &[1, 9]);
     drop(held);
-    Ok(outline(store, done.and_then(|done| done.new_root), &[1, 1]))
+    let left = done.and_then(|done| done.new_root);
+    Ok(outline_of(store, left, &[1, 1]).ok_or("an inner root")?)
 }
 
 #[test]
@@ -229,14 +266,13 @@ fn without_memory_a_parent_is_compressed(rt: HostRuntime) -> Result<(), Fail> {
     let mut store: NodeStore<Key, u32, 4> = NodeStore::new(rt.alloc());
     let root = plant_all(&mut store, &[&[1, 1, 5], &[1, 1, 6], &[1, 9]])?;
     let left = outline_without_memory(&mut store, root)?;
-    assert_eq!(rt; left, Some((NodeType::Node4, 2, 2, true)));
+    assert_eq!(rt; left, pair_below(2));
     Ok(())
 }
 
-#[test]
-fn leaves_nothing_of_one_leaf(rt: HostRuntime) -> Result<(), Fail> {
-    let mut store: NodeStore<Key, u32, 16> = NodeStore::new(rt.alloc());
-    let seen = deleted_from(&mut store, &[&[1, 2, 3]], 1, &[1, 2, 3])?;
+// Deletes the only key.
+fn delete_last<const P: usize>(store: &mut NodeStore<Key, u32, P>) -> Result<[Deleted; 2], Fail> {
+    let seen = deleted_from(store, &[&[1, 2, 3]], 1, &[1, 2, 3])?;
     let expected = Deleted {
         done: Deletion {
             new_root: None,
@@ -245,6 +281,13 @@ fn leaves_nothing_of_one_leaf(rt: HostRuntime) -> Result<(), Fail> {
         nodes: (0, 0),
         ..seen
     };
+    Ok([seen, expected])
+}
+
+#[test]
+fn leaves_nothing_of_one_leaf(rt: HostRuntime) -> Result<(), Fail> {
+    let mut store: NodeStore<Key, u32, 16> = NodeStore::new(rt.alloc());
+    let [seen, expected] = delete_last(&mut store)?;
     assert_eq!(rt; seen, expected);
     Ok(())
 }

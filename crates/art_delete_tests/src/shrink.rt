@@ -142,16 +142,24 @@ fn deleted_without_memory<const P: usize>(
     Ok(done)
 }
 
-#[test]
-fn without_memory_a_deletion_below_a_kept_parent_is_made(rt: HostRuntime) -> Result<(), Fail> {
-    let mut store: NodeStore<Key, u32, 4> = NodeStore::new(rt.alloc());
-    let root = plant_all(&mut store, &SIX[..4])?;
+// The same in the tree of four keys of one byte, with what is to come.
+fn deleted_of_four<const P: usize>(
+    store: &mut NodeStore<Key, u32, P>,
+) -> Result<[Deletion; 2], Fail> {
+    let root = plant_all(store, &SIX[..4])?;
+    let done = deleted_without_memory(store, root)?.ok_or("a deletion")?;
     let expected = Deletion {
         new_root: Some(root),
         gone: gone_with(2),
     };
-    let done = deleted_without_memory(&mut store, root)?;
-    assert_eq!(rt; done, Some(expected));
+    Ok([done, expected])
+}
+
+#[test]
+fn without_memory_a_deletion_below_a_kept_parent_is_made(rt: HostRuntime) -> Result<(), Fail> {
+    let mut store: NodeStore<Key, u32, 4> = NodeStore::new(rt.alloc());
+    let [done, expected] = deleted_of_four(&mut store)?;
+    assert_eq!(rt; done, expected);
     Ok(())
 }
 

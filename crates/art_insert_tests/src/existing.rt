@@ -110,11 +110,17 @@ fn expected_larger_root<const P: usize>(
     })
 }
 
+// Inserts a fifth key of one byte. Answers what is seen, and what is to be.
+fn grow_root<const P: usize>(store: &mut NodeStore<Key, u32, P>) -> Result<[Growth; 2], Fail> {
+    let (root, _, seen) = grow(store, &[&[1], &[2], &[3], &[4]], &[5])?;
+    let expected = expected_larger_root(store, root, seen).ok_or("another root")?;
+    Ok([seen, expected])
+}
+
 #[test]
 fn puts_a_larger_root_in_the_place_of_a_full_one(rt: HostRuntime) -> Result<(), Fail> {
     let mut store: NodeStore<Key, u32, 16> = NodeStore::new(rt.alloc());
-    let (root, _, seen) = grow(&mut store, &[&[1], &[2], &[3], &[4]], &[5])?;
-    let expected = expected_larger_root(&store, root, seen).ok_or("another root")?;
+    let [seen, expected] = grow_root(&mut store)?;
     assert_eq!(rt; seen, expected);
     Ok(())
 }
@@ -133,12 +139,18 @@ fn expected_larger_child<const P: usize>(
     })
 }
 
+// The same for a fifth key below [1].
+fn grow_child<const P: usize>(store: &mut NodeStore<Key, u32, P>) -> Result<[Growth; 2], Fail> {
+    let slices: [&[u8]; 6] = [&[0], &[1, 1], &[1, 2], &[1, 4], &[1, 5], &[2]];
+    let (root, _, seen) = grow(store, &slices, &[1, 3])?;
+    let expected = expected_larger_child(store, root, seen).ok_or("a child")?;
+    Ok([seen, expected])
+}
+
 #[test]
 fn tells_the_parent_of_a_larger_child(rt: HostRuntime) -> Result<(), Fail> {
     let mut store: NodeStore<Key, u32, 16> = NodeStore::new(rt.alloc());
-    let slices: [&[u8]; 6] = [&[0], &[1, 1], &[1, 2], &[1, 4], &[1, 5], &[2]];
-    let (root, _, seen) = grow(&mut store, &slices, &[1, 3])?;
-    let expected = expected_larger_child(&store, root, seen).ok_or("a child")?;
+    let [seen, expected] = grow_child(&mut store)?;
     assert_eq!(rt; seen, expected);
     Ok(())
 }
@@ -199,20 +211,33 @@ fn expected_in_place(
     })
 }
 
+// Inserts a key that is stored below the root.
+fn replace_child<const P: usize>(store: &mut NodeStore<Key, u32, P>) -> Result<[Growth; 2], Fail> {
+    let (root, name, seen) = grow(store, &[&[1, 1], &[1, 2]], &[1, 2])?;
+    Ok([seen, expected_in_place(root, name, 1).ok_or("a leaf")?])
+}
+
 #[test]
 fn hands_back_the_pair_that_gave_way(rt: HostRuntime) -> Result<(), Fail> {
     let mut store: NodeStore<Key, u32, 16> = NodeStore::new(rt.alloc());
-    let (root, name, seen) = grow(&mut store, &[&[1, 1], &[1, 2]], &[1, 2])?;
-    let expected = expected_in_place(root, name, 1).ok_or("a leaf")?;
+    let [seen, expected] = replace_child(&mut store)?;
     assert_eq!(rt; seen, expected);
     Ok(())
+}
+
+// Inserts the empty key where it is the only one.
+fn replace_empty<const P: usize>(store: &mut NodeStore<Key, u32, P>) -> Result<[Growth; 2], Fail> {
+    let (root, _, seen) = grow(store, &[&[]], &[])?;
+    Ok([
+        seen,
+        expected_in_place(root, Some(root), 0).ok_or("a leaf")?,
+    ])
 }
 
 #[test]
 fn replaces_the_pair_of_the_empty_key(rt: HostRuntime) -> Result<(), Fail> {
     let mut store: NodeStore<Key, u32, 16> = NodeStore::new(rt.alloc());
-    let (root, _, seen) = grow(&mut store, &[&[]], &[])?;
-    let expected = expected_in_place(root, Some(root), 0).ok_or("a leaf")?;
+    let [seen, expected] = replace_empty(&mut store)?;
     assert_eq!(rt; seen, expected);
     Ok(())
 }

@@ -82,23 +82,35 @@ fn told_of_long<const P: usize>(store: &NodeStore<Key, u32, P>, root: OpaqueNode
     ]
 }
 
+// What is told of the same keys where a leaf is read, and what is to be.
+fn read_leaf<const P: usize>(store: &mut NodeStore<Key, u32, P>) -> Result<[[Told; 3]; 2], Fail> {
+    let root = plant_all(store, &LONG)?;
+    let point = parted_at_least(store, root).ok_or("a child")?;
+    let expected = [point, Told::Related(true), Told::Related(true)];
+    Ok([told_of_long(store, root), expected])
+}
+
 #[test]
 fn reads_a_leaf_for_a_long_prefix(rt: HostRuntime) -> Result<(), Fail> {
     let mut store: NodeStore<Key, u32, 2> = NodeStore::new(rt.alloc());
-    let root = plant_all(&mut store, &LONG)?;
-    let point = parted_at_least(&store, root).ok_or("a child")?;
-    let told = told_of_long(&store, root);
-    assert_eq!(rt; told, [point, Told::Related(true), Told::Related(true)]);
+    let [told, expected] = read_leaf(&mut store)?;
+    assert_eq!(rt; told, expected);
     Ok(())
+}
+
+// The same where no leaf is read.
+fn read_prefix<const P: usize>(store: &mut NodeStore<Key, u32, P>) -> Result<[[Told; 3]; 2], Fail> {
+    let root = plant_all(store, &LONG)?;
+    let point = parted(root, None).ok_or("an inner root")?;
+    let expected = [point, Told::Related(true), Told::Related(true)];
+    Ok([told_of_long(store, root), expected])
 }
 
 #[test]
 fn reads_no_leaf_for_a_stored_prefix(rt: HostRuntime) -> Result<(), Fail> {
     let mut store: NodeStore<Key, u32, 16> = NodeStore::new(rt.alloc());
-    let root = plant_all(&mut store, &LONG)?;
-    let point = parted(root, None).ok_or("an inner root")?;
-    let told = told_of_long(&store, root);
-    assert_eq!(rt; told, [point, Told::Related(true), Told::Related(true)]);
+    let [told, expected] = read_prefix(&mut store)?;
+    assert_eq!(rt; told, expected);
     Ok(())
 }
 
@@ -128,12 +140,17 @@ fn beside_children(root: OpaqueNodePtr) -> Option<Told> {
     Some(at_root(root, InsertKind::IntoExisting { inner_node_ptr }))
 }
 
+// What is told of [3] beside [1] and [2], and what is to be.
+fn told_beside<const P: usize>(store: &mut NodeStore<Key, u32, P>) -> Result<[Told; 2], Fail> {
+    let root = plant_all(store, &[&[1], &[2]])?;
+    let expected = beside_children(root).ok_or("an inner root")?;
+    Ok([told_of(store, root, &[3]), expected])
+}
+
 #[test]
 fn stands_beside_the_children_of_a_node(rt: HostRuntime) -> Result<(), Fail> {
     let mut store: NodeStore<Key, u32, 16> = NodeStore::new(rt.alloc());
-    let root = plant_all(&mut store, &[&[1], &[2]])?;
-    let expected = beside_children(root).ok_or("an inner root")?;
-    let told = told_of(&store, root, &[3]);
+    let [told, expected] = told_beside(&mut store)?;
     assert_eq!(rt; told, expected);
     Ok(())
 }
@@ -147,12 +164,17 @@ fn beside_leaf(root: OpaqueNodePtr) -> Option<Told> {
     Some(at_root(root, insert_kind))
 }
 
+// What is told of [1, 2, 9] beside [1, 2, 3, 4], and what is to be.
+fn told_parted<const P: usize>(store: &mut NodeStore<Key, u32, P>) -> Result<[Told; 2], Fail> {
+    let root = plant_all(store, &[&[1, 2, 3, 4]])?;
+    let expected = beside_leaf(root).ok_or("a leaf")?;
+    Ok([told_of(store, root, &[1, 2, 9]), expected])
+}
+
 #[test]
 fn splits_a_leaf(rt: HostRuntime) -> Result<(), Fail> {
     let mut store: NodeStore<Key, u32, 16> = NodeStore::new(rt.alloc());
-    let root = plant_all(&mut store, &[&[1, 2, 3, 4]])?;
-    let expected = beside_leaf(root).ok_or("a leaf")?;
-    let told = told_of(&store, root, &[1, 2, 9]);
+    let [told, expected] = told_parted(&mut store)?;
     assert_eq!(rt; told, expected);
     Ok(())
 }
@@ -163,21 +185,22 @@ fn at_leaf(root: OpaqueNodePtr) -> Option<Told> {
     Some(at_root(root, InsertKind::Exact { leaf_node_ptr }))
 }
 
+// What is told of the empty key and of another where the empty one is stored, and what is to be.
+fn told_of_empty<const P: usize>(
+    store: &mut NodeStore<Key, u32, P>,
+) -> Result<[[Told; 2]; 2], Fail> {
+    let root = plant_all(store, &[&[]])?;
+    let own = at_leaf(root).ok_or("a leaf")?;
+    let told = [told_of(store, root, &[]), told_of(store, root, &[1])];
+    Ok([told, [own, Told::Related(true)]])
+}
+
 #[test]
 fn finds_the_leaf_of_the_empty_key(rt: HostRuntime) -> Result<(), Fail> {
     let mut store: NodeStore<Key, u32, 16> = NodeStore::new(rt.alloc());
-    let root = plant_all(&mut store, &[&[]])?;
-    let own = at_leaf(root).ok_or("a leaf")?;
-    let told = told_of_empty(&store, root);
-    assert_eq!(rt; told, [own, Told::Related(true)]);
+    let [told, expected] = told_of_empty(&mut store)?;
+    assert_eq!(rt; told, expected);
     Ok(())
-}
-
-// What is told of the empty key and of another.
-fn told_of_empty<const P: usize>(store: &NodeStore<Key, u32, P>, root: OpaqueNodePtr) -> [Told; 2]
-    requires { IsCanonicalRoot (of_key (λ key. key.items)) P store.now root }
-{
-    [told_of(store, root, &[]), told_of(store, root, &[1])]
 }
 
 // The paths and the used bytes of two keys beside the nodes at [1] and [1, 2], and the point of a stored key.
