@@ -1,7 +1,7 @@
 //! What a command touches, over all nodes of a store: the names that come into use, those that go out of it, and
 //! those that have another node.
 ghost use Rattle.std.specs.Prelude.{IfOk, Some};
-ghost use Rattle.art_tests.specs.Trees.{HasTree};
+ghost use Rattle.art_tree_tests.specs.Trees.{HasTree};
 
 use crate::trees::{boxed_keys, insert_all};
 use art_nodes::node::{AsBytes, LeafPtr, NodePtr, NodeType, OpaqueNodePtr};

@@ -1,6 +1,6 @@
 //! Trees that tests are about, and their shapes.
 ghost use Rattle.std.specs.Prelude.{IfOk};
-ghost use Rattle.art_tests.specs.Trees.{HasTree};
+ghost use Rattle.art_tree_tests.specs.Trees.{HasTree};
 
 use art_nodes::node::{NodePtr, NodeType, OpaqueNodePtr};
 use art_nodes::store::NodeStore;

@@ -1,7 +1,7 @@
 //! Calls whose requests for memory are refused, in turn, by tools/refusals. A refusal that falls outside the call that
 //! a test is on decides nothing; after one within it the test says that it asserted what holds then.
 ghost use Rattle.std.specs.Prelude.{IfSome};
-ghost use Rattle.art_tests.specs.Trees.{HasTree};
+ghost use Rattle.art_tree_tests.specs.Trees.{HasTree};
 
 use crate::trees::shape_of;
 use art_nodes::node::{LeafPtr, OpaqueNodePtr};

@@ -2,7 +2,7 @@ use Rattle.std.proofs.Common.{ℕ, List, Vec}
 use Rattle.std.specs.declared.alloc.Global.{Global}
 use Rattle.art_model.specs.Canonical.{IsCanonical}
 use Rattle.art_model.specs.Pairs.{IsMap, of_key}
-use Rattle.art_tests.proofs.against_oracle.check.Given as goal
+use Rattle.art_oracle_tests.proofs.against_oracle.check.Given as goal
 
 -- the root is the canonical tree of some pairs, and the list is a map
 abbrev pub invariant-loop-turn : goal.invariant-loop-turn
