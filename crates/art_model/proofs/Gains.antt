@@ -103,9 +103,9 @@ module _ {K V : Type 0} {s t : Nodes K V} {tree : Tree OpaqueNodePtr (K × V)} (
   pub lost_in : (k : OpaqueNodePtr) → IsIn k (names_of tree) → held t k ≡ None
   lost_in k i = elim (leaf_or k) [
     | inl (p, e) ↦ subst (λ z. held t z ≡ None) (sym e) (ap (option_map held_leaf) (ap (λ z. get z p) lost.leaves
-          ∙ without_in leaf_cmp_total leaf_cmp-IsAntisymmetric s.leaves (map as_leaf (leaf_names tree)) p (in_map as_leaf (leaf_name p) (leaf_names tree) (leaf_among s tree holds p (subst (λ z. IsIn z (names_of tree)) e i)))))
+        ∙ without_in leaf_cmp_total leaf_cmp-IsAntisymmetric s.leaves (map as_leaf (leaf_names tree)) p (in_map as_leaf (leaf_name p) (leaf_names tree) (leaf_among s tree holds p (subst (λ z. IsIn z (names_of tree)) e i)))))
     | inr off ↦ held_in_inner t k.kind k.slot off ∙ ap (option_map held_inner) (ap (λ z. get z (as_inner k)) lost.inners
-          ∙ without_in inner_cmp_total inner_cmp-IsAntisymmetric s.inners (map as_inner (inner_names tree)) (as_inner k) (in_map as_inner k (inner_names tree) (inner_among s tree holds k off i)))
+        ∙ without_in inner_cmp_total inner_cmp-IsAntisymmetric s.inners (map as_inner (inner_names tree)) (as_inner k) (in_map as_inner k (inner_names tree) (inner_among s tree holds k off i)))
   ]
 
   -- a leaf of another name is as it was
@@ -251,8 +251,11 @@ module _ {K V : Type 0} {old mid next new : Nodes K V} {name : OpaqueNodePtr} {h
   child_leaves = leaf_names_below-join cs (child b u no_child) ∙ ap (λ z. others ++ z) (append-nil (leaf_names u))
 
   child_distinct : AreDistinct (name ∷ names_below cs ++ names_of u)
-  child_distinct = (name_not_below, Pairwise-append ◌≢◌ (names_below cs) (names_of u) is.so_far.distinct.1 is.more.distinct
-      (each_from (λ k. Each (λ m. k ≢ m) (names_of u)) (names_below cs) (λ k i. each_from (λ m. k ≢ m) (names_of u) (λ m j e. child_apart k (inr i) (subst (λ z. IsIn z (names_of u)) (sym e) j)))))
+  child_distinct = (
+    name_not_below,
+    Pairwise-append ◌≢◌ (names_below cs) (names_of u) is.so_far.distinct.1 is.more.distinct
+        (each_from (λ k. Each (λ m. k ≢ m) (names_of u)) (names_below cs) (λ k i. each_from (λ m. k ≢ m) (names_of u) (λ m j e. child_apart k (inr i) (subst (λ z. IsIn z (names_of u)) (sym e) j)))),
+  )
 
   leaves_distinct : AreDistinct (others ++ leaf_names u)
   leaves_distinct = subst AreDistinct child_leaves (taken_distinct takes_leaves (inner name header (join cs (child b u no_child))) (subst AreDistinct (sym child_names) child_distinct))
@@ -274,10 +277,13 @@ module _ {K V : Type 0} {old mid next new : Nodes K V} {name : OpaqueNodePtr} {h
   -- the node's tree has the child
   pub gained_child : Gains old new (inner name header (join cs (child b u no_child)))
   gained_child = record {
-    holds = (parent_seen, HoldsBelow-join (node_at new) cs (child b u no_child)
-        (frame_below (node_at next) (node_at new) cs (each_from (λ k. node_at new k ≡ node_at next k) (names_below cs) (λ k i. child_put k (λ e. each_in (λ z. name ≢ z) k (names_below cs) is.so_far.distinct.0 i (sym e))))
-        (frame_below (node_at mid) (node_at next) cs (each_from (λ k. node_at next k ≡ node_at mid k) (names_below cs) (λ k i. child_seen k (inr i))) is.so_far.holds.1))
-        (frame (node_at next) (node_at new) u (each_from (λ k. node_at new k ≡ node_at next k) (names_of u) (λ k i. child_put k (λ e. child_apart k (inl (sym e)) i))) is.more.holds, tt));
+    holds = (
+      parent_seen,
+      HoldsBelow-join (node_at new) cs (child b u no_child)
+          (frame_below (node_at next) (node_at new) cs (each_from (λ k. node_at new k ≡ node_at next k) (names_below cs) (λ k i. child_put k (λ e. each_in (λ z. name ≢ z) k (names_below cs) is.so_far.distinct.0 i (sym e))))
+          (frame_below (node_at mid) (node_at next) cs (each_from (λ k. node_at next k ≡ node_at mid k) (names_below cs) (λ k i. child_seen k (inr i))) is.so_far.holds.1))
+          (frame (node_at next) (node_at new) u (each_from (λ k. node_at new k ≡ node_at next k) (names_of u) (λ k i. child_put k (λ e. child_apart k (inl (sym e)) i))) is.more.holds, tt),
+    );
     distinct = subst AreDistinct (sym child_names) child_distinct;
     linked = subst (λ z. AreLinked (links_at new) None z None) (sym child_leaves) child_linked;
     added = record {

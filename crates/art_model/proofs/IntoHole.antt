@@ -79,12 +79,12 @@ module _ {K V : Type 0} {s u t : Nodes K V} {placed changed : List OpaqueNodePtr
   pub then_freed : (freed : List OpaqueNodePtr) → Footprint s u placed [] changed → Frees freed u t → Each (IsUsed s) freed → ((k : OpaqueNodePtr) → IsIn k freed → IsIn k changed → ⊥) → Footprint s t placed freed changed
   then_freed freed print frees used apart = record {
     are_placed = each_from (λ k. (held s k ≡ None) × IsUsed t k) placed (λ k i.
-    let was = each_in (λ k. (held s k ≡ None) × IsUsed u k) k placed print.are_placed i in
-    (was.0, λ none. was.1 (sym (frees.beside k (λ j. each_in (IsUsed s) k freed used j was.0) (λ z. z)) ∙ none)));
+        let was = each_in (λ k. (held s k ≡ None) × IsUsed u k) k placed print.are_placed i in
+        (was.0, λ none. was.1 (sym (frees.beside k (λ j. each_in (IsUsed s) k freed used j was.0) (λ z. z)) ∙ none)));
     are_freed = each_from (λ k. IsUsed s k × (held t k ≡ None)) freed (λ k i. (each_in (IsUsed s) k freed used i, frees.left k i (λ z. z)));
     are_changed = each_from (λ k. IsUsed s k × IsUsed t k) changed (λ k i.
-    let was = each_in (λ k. IsUsed s k × IsUsed u k) k changed print.are_changed i in
-    (was.0, λ none. was.1 (sym (frees.beside k (λ j. apart k j i) (λ z. z)) ∙ none)));
+        let was = each_in (λ k. IsUsed s k × IsUsed u k) k changed print.are_changed i in
+        (was.0, λ none. was.1 (sym (frees.beside k (λ j. apart k j i) (λ z. z)) ∙ none)));
     others = λ k p f c. frees.beside k f (λ z. z) ∙ print.others k p (λ z. z) c;
   }
 

@@ -1,8 +1,8 @@
 //! Keys and commands that are drawn.
 
 use art_operations::run::Command;
-use art_test_support::trees::Key;
 use art_test_support::numbers::Numbers;
+use art_test_support::trees::Key;
 use std::alloc::{AllocError, Global};
 
 /// What keys are drawn.
