@@ -2,9 +2,9 @@
 use Rattle.std.proofs.Common.{◌≡◌, ℕ, ◌+◌, ◌≤◌, suc, Bool, true, false, cond, List, [], ◌∷◌, length, Option, Some, None, arith}
 use Rattle.std.specs.List.{filter_map, cons_option}
 use Rattle.std.specs.Cmp.{IsTotalOrder}
-use Rattle.std.specs.FinMap.{FinMap, contains_key, empty, from_entries, insert, len, len-empty, len-insert}
+use Rattle.std.specs.FinMap.{contains_key, from_entries, insert, len, len-empty, len-insert}
 use Rattle.std.specs.declared.cmp.Ordering.{Ordering}
-use Rattle.slab.specs.Slab.{entries_from, slab_len, Slab}
+use Rattle.slab.specs.Slab.{entries_from}
 use Rattle.slab.proofs.SlabLemmas.{length-entries_from}
 use Rattle.std.specs.Prelude.{count_by, is_some}
 use Rattle.art_nodes.specs.StoreView.{leaf_entry, leaves_of}

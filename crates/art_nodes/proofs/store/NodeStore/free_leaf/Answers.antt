@@ -1,4 +1,4 @@
-use Rattle.std.proofs.Common.{◌≡◌, arith, ap}
+use Rattle.std.proofs.Common.{arith, ap}
 use Rattle.std.specs.FinMap as map
 use Rattle.art_nodes.proofs.CountLemmas.{leaves_of-few}
 use Rattle.art_nodes.proofs.store.NodeStore.free_leaf.Goals as goal
