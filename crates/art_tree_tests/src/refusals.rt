@@ -12,11 +12,18 @@ use art_test_support::trees::Key;
 use std::alloc::{AllocError, Global};
 use std::test::Fail;
 
-fn insertions(alloc: Global) -> Result<Vec<Command<Key, u32>>, AllocError> {
+// Insertions of the keys of one byte from 1 to this one.
+fn insertions_up_to(alloc: Global, most: u8) -> Result<Vec<Command<Key, u32>>, AllocError> {
     let mut commands = Vec::with_capacity(alloc, 6)?;
-    for byte in 1..=5u8 {
+    for byte in 1..=most {
         commands.push(Command::Insert(Vec::from_array(alloc, [byte])?, 0))?;
     }
+    Ok(commands)
+}
+
+// Five insertions, and one of a key in conflict.
+fn insertions(alloc: Global) -> Result<Vec<Command<Key, u32>>, AllocError> {
+    let mut commands = insertions_up_to(alloc, 5)?;
     commands.push(Command::Insert(Vec::from_array(alloc, [1u8, 2])?, 0))?;
     Ok(commands)
 }
@@ -167,13 +174,14 @@ enum Overwrite {
     Other,
 }
 
-// Overwrites the whole tree of the insertions. None where a refusal fell outside the run.
+// Overwrites the whole tree of two keys, whose nodes leave no room in the store. None where a refusal fell outside
+// the run.
 fn overwrite_all(
     first: &mut NodeStore<Key, u32, 4>,
     second: &mut NodeStore<Key, u32, 4>,
 ) -> Option<Overwrite> {
     let alloc = first.alloc();
-    let commands = insertions(alloc).ok()?;
+    let commands = insertions_up_to(alloc, 2).ok()?;
     let mut overwrite = Vec::with_capacity(alloc, 1).ok()?;
     overwrite.push_reserved(Command::InsertPrefix(Vec::new(alloc), 7));
     let root = root_after(first, second, commands)?;
