@@ -81,7 +81,8 @@ module _ {N A : Type 0} where
   children_right least no_child ds h = h
   children_right least (child b t cs) ds h = children_right least cs ds h.1
 
-  height_join : (cs ds : Children N A) → height_below ds ≤ height_below (join cs ds)
+  -- a part of the children is no higher than all
+  pub height_join : (cs ds : Children N A) → height_below ds ≤ height_below (join cs ds)
   height_join no_child ds = omega arith
   height_join (child b t cs) ds = let l = height_join cs ds in omega arith
 

@@ -11,6 +11,8 @@ pub mod Canonical
 pub mod Paths
 pub mod Places
 pub mod Heights
+pub mod Trails
+pub mod Faults
 pub mod Footprints
 pub mod Kept
 pub mod Promises

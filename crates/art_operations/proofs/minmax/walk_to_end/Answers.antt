@@ -1,4 +1,4 @@
-use Rattle.std.proofs.Common.{lit<}
+use Rattle.std.proofs.Common.{rules, lit<}
 use Rattle.art_model.proofs.Edges.{edge_inner_there, edge_shown, edge_some}
 use Rattle.art_operations.proofs.Along.{IsAlong, start, ends, steps}
 use Rattle.art_operations.proofs.minmax.walk_to_end.Goals as goal
@@ -18,7 +18,7 @@ pub child_at_end-byte-requires : goal.child_at_end-byte-requires
 child_at_end-byte-requires g c =
     let (layout, full) = c.requires in
     let d = c.down.invariant layout full in
-    (lit< tt, edge_some (IsAlong c.args.end c.down.path) c.args.store.now layout d (edge_shown (IsAlong c.args.end c.down.path) c.args.store.now layout d c.in-Inner.ensures.proper c.in-Inner.ensures.name c.in-Some.ensures.view))
+    (search rules, (search rules, (search rules, (search rules, edge_some (IsAlong c.args.end c.down.path) c.args.store.now layout d (edge_shown (IsAlong c.args.end c.down.path) c.args.store.now layout d c.in-Inner.ensures.proper c.in-Inner.ensures.name c.in-Some.ensures.view)))))
 
 pub down-smaller : goal.down-smaller
 down-smaller g c =

@@ -5,12 +5,12 @@ use Rattle.art_operations.proofs.insert.existing.links_below.Goals as goal
 pub greatest_byte-requires : goal.greatest_byte-requires
 greatest_byte-requires g c =
     let (left, right, gap) = c.requires.gap in
-    (search rules, gap_some c.requires.inner gap c.in-Some.ensures.view)
+    (search rules, (search rules, (search rules, (search rules, gap_some c.requires.inner gap c.in-Some.ensures.view))))
 
 pub max-requires : goal.max-requires
 max-requires g c =
     let (left, right, gap) = c.requires.gap in
-    (search rules, gap_some c.requires.inner gap c.in-Some.ensures.view)
+    (search rules, (search rules, (search rules, (search rules, gap_some c.requires.inner gap c.in-Some.ensures.view))))
 
 pub links_before-requires : goal.links_before-requires
 links_before-requires g c =

@@ -1,0 +1,71 @@
+use Rattle.std.proofs.Common.{rules, arith, append_assoc, ◌≡◌, ◌≢◌, ◌++◌, ◌∷◌, [], List, Bool, true, false, not, eqb, eq-eqb, refl, sym, ap, ap₂, subst, ◌∙◌, Option, Some, None}
+use Rattle.std.proofs.lemmas.Bool.{false≢true}
+use Rattle.std.proofs.lemmas.Grind.{common_steps}
+use Rattle.std.specs.List.{slice_get}
+use Rattle.std.specs.Option.{option_eq, option_map, option_and_then}
+use Rattle.art_nodes.specs.Names.{leaf_name}
+use Rattle.art_nodes.specs.contracts.node.LeafPtrPartialEq.TheImpl as derived
+use Rattle.art_nodes.specs.declared.node.LeafPtr.{LeafPtr}
+use Rattle.art_nodes.specs.declared.node.OpaqueNodePtr.{OpaqueNodePtr}
+use Rattle.art_model.specs.Layouts.{Links}
+use Rattle.art_model.specs.Pairs.{first_of as first_name, last_of}
+use Rattle.art_model.specs.Stores.{held_leaf, links_of, pair_of}
+use Rattle.art_checking.specs.Checked.{names_of_leaves}
+use Rattle.art_checking.specs.Checks.{between}
+use Rattle.art_checking.proofs.Descents.{leaf_at}
+use Rattle.art_checking.proofs.well_formed.check.check_links.Goals as goal
+use Rattle.art_checking.proofs.well_formed.check.check_links.Goals.{then-ne-via-then-ne, then-ne-via-else-ne+then-ne-2}
+
+-- ---- the names around a leaf
+next_is : (others : List LeafPtr) → option_map leaf_name (slice_get others 0) ≡ first_name (names_of_leaves others)
+next_is [] = refl
+next_is (l ∷ ls) = refl
+
+last_more : (done : List LeafPtr) (l : LeafPtr) → last_of (names_of_leaves (done ++ l ∷ [])) ≡ Some (leaf_name l)
+last_more [] l = refl
+last_more (d ∷ []) l = refl
+last_more (d ∷ e ∷ ds) l = last_more (e ∷ ds) l
+
+names_around : (done : List LeafPtr) (l : LeafPtr) (others : List LeafPtr) → names_of_leaves (done ++ l ∷ others) ≡ names_of_leaves done ++ leaf_name l ∷ names_of_leaves others
+names_around [] l others = refl
+names_around (d ∷ ds) l others = ap (λ ns. leaf_name d ∷ ns) (names_around ds l others)
+
+-- ---- links that differ
+name_back : (a b : Option LeafPtr) → option_map leaf_name a ≡ option_map leaf_name b → a ≡ b
+name_back None None e = refl
+name_back None (Some q) e = absurd cc
+name_back (Some p) None e = absurd cc
+name_back (Some p) (Some q) e = let names : leaf_name p ≡ leaf_name q = cc in ap (λ n. let l : LeafPtr = record { slot = n.slot } in Some l) names
+
+same_link : (a : Option LeafPtr) → option_eq derived.eq-value.it a a ≡ true
+same_link None = refl
+same_link (Some p) = eq-eqb p.slot p.slot refl
+
+differs : (a b : Option LeafPtr) → not (option_eq derived.eq-value.it a b) ≡ true → option_map leaf_name a ≢ option_map leaf_name b
+differs a b off e = false≢true (sym (ap not (ap (option_eq derived.eq-value.it a) (sym (name_back a b e)) ∙ same_link a)) ∙ off)
+
+pub returns-then-ne-clause-fault : goal.returns-then-ne-clause-fault
+returns-then-ne-clause-fault g c root layout is leaves =
+    let s = c.args.store.now in
+    let leaf = c.in-Some.field-0-0.now in
+    let node = c.in-Some-leaf.node.now in
+    let (done, parts, before) = c.along.invariant.1 in
+    let whole = parts ∙ ap (λ ls. done ++ ls) c.in-Some.ensures.cases.0 in
+    let after = ap (option_map leaf_name) (c.copied-next.ensures ∙ c.first.ensures.value) ∙ next_is c.in-Some.others.now in
+    let off : between node.previous node.next ≢ between c.along.previous c.copied-next.result = elim c.then-ne.branch [
+      | then-ne-via-then-ne w ↦ λ e. differs node.previous c.along.previous (sym c.ne.ensures ∙ w.if-ne.true) (ap (λ l. l.previous) e)
+      | then-ne-via-else-ne+then-ne-2 w ↦ λ e. differs node.next c.copied-next.result (sym w.ne-else-ne.ensures ∙ w.if-ne-2.true) (ap (λ l. l.next) e)
+    ] in
+    (layout, names_of_leaves done, names_of_leaves c.in-Some.others.now, leaf_name leaf, pair_of node, is,
+    leaves ∙ ap names_of_leaves whole ∙ names_around done leaf c.in-Some.others.now,
+    leaf_at s leaf node (sym c.in-Some-leaf.ensures), sym c.as_bytes.ensures ∙ sym c.in_ok-copy_of.ensures,
+    ap₂ (λ p n. let l : Links OpaqueNodePtr = record { previous = p; next = n } in l) before after,
+    ap (λ o. option_and_then links_of (option_map held_leaf o)) (sym c.in-Some-leaf.ensures), off)
+
+pub along-preserved : goal.along-preserved
+along-preserved g c =
+    let (done, parts, before) = c.along.invariant.1 in
+    let leaf = c.in-Some.field-0-0.now in
+    (search rules,
+    (done ++ leaf ∷ [], parts ∙ ap (λ ls. done ++ ls) c.in-Some.ensures.cases.0 ∙ sym (append_assoc done (leaf ∷ []) c.in-Some.others.now), sym (last_more done leaf)),
+    first_of (search rules, grind (arith, common_steps)))

@@ -1,0 +1,110 @@
+-- What the steps of a check say of a store.
+use Rattle.std.specs.Prelude.{◌≡◌, ◌≢◌, ℕ, ◌+◌, ◌<◌, ◌≤◌, ◌⊎◌, List, [], ◌∷◌, ◌++◌, length, map, take, drop, Option, Some, None}
+use Rattle.std.specs.Borrow.{Bor}
+use Rattle.art_nodes.specs.Names.{leaf_name}
+use Rattle.art_nodes.specs.Nodes.{Nodes}
+use Rattle.art_nodes.specs.declared.node.LeafPtr.{LeafPtr}
+use Rattle.art_nodes.specs.declared.node.OpaqueNodePtr.{OpaqueNodePtr}
+use Rattle.art_model.specs.Canonical.{IsTree}
+use Rattle.art_model.specs.Faults.{Reaches, EndsBadly, IsTrueOf}
+use Rattle.art_model.specs.Keys.{IsFront}
+use Rattle.art_model.specs.Layouts.{leaf_node, name_of, names_of, inner_names, leaf_names, AreDistinct, Holds}
+use Rattle.art_model.specs.Radix.{IsRadix}
+use Rattle.art_model.specs.Stores.{node_at}
+use Rattle.art_model.specs.Trails.{bottom_of, DescendsTo, IsDescent, IsPrefix}
+use Rattle.art_model.specs.Trees.{Tree, Header}
+use Rattle.art_checking.specs.Checks.{fault_of}
+use Rattle.art_checking.specs.Meetings.{Places, Meets, IsMet, count_met, leaves_with, place_in}
+use Rattle.art_checking.specs.declared.well_formed.WellFormedTreeStats.{WellFormedTreeStats}
+use Rattle.art_checking.specs.declared.well_formed.fault.MalformedTreeError.{MalformedTreeError}
+use Rattle.art_checking.specs.declared.well_formed.seen.Seen.{Seen}
+
+-- nothing that was met stands below the place, but what stands there
+abbrev pub NoneBelow : Places → List ℕ → Type 0
+NoneBelow places place = (n : OpaqueNodePtr) (other : List ℕ) → places n ≡ Some other → IsFront place other → other ≡ place
+
+-- nothing that was met stands there or below
+abbrev pub NoneFrom : Places → List ℕ → Type 0
+NoneFrom places place = (n : OpaqueNodePtr) (other : List ℕ) → places n ≡ Some other → IsFront place other → ⊥
+
+-- so many of the bytes from a depth on
+abbrev pub IsPartOf : ℕ → ℕ → List ℕ → List ℕ → Type 0
+IsPartOf depth len whole part = (length part ≡ len) × (depth + len ≤ length whole) × (part ≡ take len (drop depth whole))
+
+-- the names of leaves
+abbrev pub names_of_leaves : List LeafPtr → List OpaqueNodePtr
+names_of_leaves = map leaf_name
+
+-- a name was met for the first time, at this place
+pub record IsFirstMet (old new : Seen) (name : OpaqueNodePtr) (place : List ℕ) : Type 0 where
+  pub fresh : place_in old name ≡ None
+  pub met : IsMet (place_in old) (place_in new) name place
+  pub leaves : new.leaves.items ≡ leaves_with name old.leaves.items
+  pub count : count_met new ≡ count_met old + 1
+
+module _ {K V : Type 0} (bytes : K × V → List ℕ) (P : ℕ) (s : Nodes K V) where
+  -- a leaf stands there, and its key begins with the place
+  abbrev pub IsLeafAt : LeafPtr → List ℕ → Type 0
+  IsLeafAt leaf place = (x : K × V) × (node_at s (leaf_name leaf) ≡ Some (leaf_node x)) × IsFront place (bytes x)
+
+  -- From the name on, at the place, the nodes are those of a radix tree, and from the first state to the second all of its names but the root's were met.
+  pub record IsChecked (old new : Seen) (place : List ℕ) (name : OpaqueNodePtr) : Type 0 where
+    pub layout : Tree OpaqueNodePtr (K × V)
+    pub below : List OpaqueNodePtr
+    pub names : names_of layout ≡ name ∷ below
+    pub holds : Holds (node_at s) layout
+    pub radix : IsRadix bytes P place layout
+    pub meets : Meets (place_in old) (place_in new) below
+    pub leaves : names_of_leaves new.leaves.items ≡ names_of_leaves old.leaves.items ++ leaf_names layout
+    pub count : count_met new ≡ count_met old + length below
+
+  -- The names that were met are those of a radix tree below the root, its leaves in order.
+  pub record IsMetTree (seen : Seen) (root : OpaqueNodePtr) : Type 0 where
+    pub layout : Tree OpaqueNodePtr (K × V)
+    pub named : name_of layout ≡ root
+    pub holds : Holds (node_at s) layout
+    pub radix : IsRadix bytes P [] layout
+    pub distinct : AreDistinct (names_of layout)
+    pub leaves : names_of_leaves seen.leaves.items ≡ leaf_names layout
+    pub count : count_met seen ≡ length (names_of layout)
+
+  -- the root is canonical for some pairs, of which and of whose inner nodes these are the numbers
+  abbrev pub IsWellFormed : OpaqueNodePtr → WellFormedTreeStats → Type 0
+  IsWellFormed root stats =
+      (pairs : List (K × V)) × (layout : Tree OpaqueNodePtr (K × V)) × IsTree bytes P s root pairs layout
+      × (stats.num_leaf ≡ length pairs) × (stats.num_inner ≡ length (inner_names layout)) × (stats.num_inner + 1 ≤ stats.num_leaf)
+
+  -- a walk down least children ends at the leaf, or badly where there is none
+  abbrev pub IsLeastLeaf : OpaqueNodePtr → Option LeafPtr → Type 0
+  IsLeastLeaf name None = (ns : List OpaqueNodePtr) × IsDescent (node_at s) name ns × ((root : OpaqueNodePtr) (needed : ℕ) → EndsBadly bytes P s root name ns needed)
+  IsLeastLeaf name (Some leaf) = (ns : List OpaqueNodePtr) × (x : K × V) × IsDescent (node_at s) name ns × (bottom_of name ns ≡ leaf_name leaf) × (node_at s (leaf_name leaf) ≡ Some (leaf_node x))
+
+  -- The bytes of the key of the leaf at the end of a descent, from a depth on; or a descent ends badly.
+  abbrev pub IsReadFrom : OpaqueNodePtr → ℕ → ℕ → Option (Bor (List ℕ)) → Type 0
+  IsReadFrom name depth len None = (ns : List OpaqueNodePtr) × IsDescent (node_at s) name ns × ((root : OpaqueNodePtr) → EndsBadly bytes P s root name ns (depth + len))
+  IsReadFrom name depth len (Some part) = (x : K × V) × DescendsTo (node_at s) name x × IsPartOf depth len (bytes x) part.now
+
+  -- what was met was met at its place, on a trail from the root
+  abbrev pub AreReached : OpaqueNodePtr → Places → Type 0
+  AreReached root places = (n : OpaqueNodePtr) (place : List ℕ) → places n ≡ Some place → Reaches bytes P s root place n
+
+  -- the error is true of the store, whatever root the name is reached from
+  abbrev pub IsTrueAt : List ℕ → OpaqueNodePtr → MalformedTreeError → Type 0
+  IsTrueAt place name error = (root : OpaqueNodePtr) → Reaches bytes P s root place name → IsTrueOf bytes P s root (fault_of error)
+
+  -- the same where what was met before is reached too
+  abbrev pub IsTrueBehind : Places → List ℕ → OpaqueNodePtr → MalformedTreeError → Type 0
+  IsTrueBehind places place name error = (root : OpaqueNodePtr) → AreReached root places → Reaches bytes P s root place name → IsTrueOf bytes P s root (fault_of error)
+
+  -- What was met since stands below the place of the name, and on trails where the name and all before do.
+  pub record IsWalked (old new : Places) (place : List ℕ) (name : OpaqueNodePtr) : Type 0 where
+    pub below : (n : OpaqueNodePtr) (other : List ℕ) → new n ≡ Some other → (old n ≡ Some other) ⊎ IsFront place other
+    pub reached : (root : OpaqueNodePtr) → AreReached root old → Reaches bytes P s root place name → AreReached root new
+
+  -- The prefix of a node was put behind the bytes that lead to it.
+  pub record IsRead (place read : List ℕ) (name : OpaqueNodePtr) (h : Header) : Type 0 where
+    pub part : List ℕ
+    pub is : read ≡ place ++ part
+    pub long : length part ≡ h.length_of
+    pub stored : take P part ≡ h.stored
+    pub is_prefix : IsPrefix (node_at s) bytes P (length place) name h part

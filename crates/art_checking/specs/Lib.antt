@@ -1,0 +1,5 @@
+pub mod Folds
+pub mod Checks
+pub mod Meetings
+pub mod Checked
+pub mod Untried

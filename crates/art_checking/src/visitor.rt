@@ -1,0 +1,95 @@
+//! Visitors, which fold a tree.
+ghost use Rattle.art_nodes.specs.Inner.{Inner};
+ghost use Rattle.art_nodes.specs.Kinds.{ref_kind, ref_view};
+ghost use Rattle.art_nodes.specs.declared.node.LeafNode.{LeafNode};
+ghost use Rattle.art_nodes.specs.declared.node.NodeType.{NodeType};
+ghost use Rattle.art_nodes.specs.declared.node.OpaqueNodePtr.{OpaqueNodePtr};
+ghost use Rattle.art_model.specs.Pairs.{of_key};
+ghost use Rattle.art_model.specs.Roots.{ForTree, IsCanonicalRoot, IsFullTree};
+ghost use Rattle.art_model.specs.Trees.{Tree};
+ghost use Rattle.art_checking.specs.Folds.{Folds};
+
+use art_nodes::node::{AsBytes, InnerRef, LeafNode, NodePtr, OpaqueNodePtr};
+use art_nodes::store::NodeStore;
+
+/// What a tree is folded with: a hook for leaves, one for inner nodes, and how the outputs of
+/// children are joined. Each hook may be called at any time.
+pub trait Visitor<K, V, const P: usize> {
+    type Output;
+
+    /// What `default_output` may answer.
+    ghost is_default: { Self → Self.Output → Type 0 };
+
+    /// What `combine_output` may answer.
+    ghost combines: { Self → Self.Output → Self.Output → Self.Output → Type 0 };
+
+    /// What `visit_inner_node` may answer, by the node's kind and value and by what its children gave,
+    /// and the visitor after it.
+    ghost of_inner: { Self → NodeType → Inner → Self.Output → Self.Output → Self → Type 0 };
+
+    /// What `visit_leaf` may answer, and the visitor after it.
+    ghost of_leaf: { Self → LeafNode K V → Self.Output → Self → Type 0 };
+
+    fn default_output(&self) -> Self::Output
+        ensures { is_default self.now result };
+
+    /// Joins what came so far with the output of one child more.
+    fn combine_output(&self, o1: Self::Output, o2: Self::Output) -> Self::Output
+        ensures { combines self.now o1 o2 result };
+
+    /// Called with an inner node and what its children gave, after these were visited.
+    fn visit_inner_node(&mut self, node: InnerRef<'_, P>, children: Self::Output) -> Self::Output
+        ensures { of_inner self.old (ref_kind node.entry) (ref_view node.entry) children result self.new };
+
+    fn visit_leaf(&mut self, leaf: &LeafNode<K, V>) -> Self::Output
+        ensures { of_leaf self.old leaf.now result self.new };
+}
+
+/// Folds the tree of a canonical root: a leaf goes to `visit_leaf`; an inner node's children are
+/// visited in the order of their bytes, the first one's output is joined with each further one's,
+/// and then the node goes to `visit_inner_node`.
+pub fn visit_with<K: AsBytes + Drop, V: Drop, T: Visitor<K, V, PREFIX_LEN>, const PREFIX_LEN: usize>(
+    store: &NodeStore<K, V, PREFIX_LEN>,
+    root: OpaqueNodePtr,
+    visitor: &mut T,
+) -> T::Output
+    requires { IsCanonicalRoot (of_key K.bytes) PREFIX_LEN store.now root }
+    ensures { ForTree (of_key K.bytes) PREFIX_LEN store.now root (λ pairs layout.
+        Folds T.of_leaf T.of_inner T.combines store.now layout visitor.old result visitor.new) }
+{
+    visit(store, root, visitor)
+}
+
+// Folds the tree that a name stands for.
+fn visit<K: AsBytes + Drop, V: Drop, T: Visitor<K, V, P>, const P: usize>(
+    store: &NodeStore<K, V, P>,
+    name: OpaqueNodePtr,
+    visitor: &mut T,
+) -> T::Output
+    requires { (layout : Tree OpaqueNodePtr (K × V)) × IsFullTree store.now name layout }
+    ensures { (layout : Tree OpaqueNodePtr (K × V)) → IsFullTree store.now name layout →
+        Folds T.of_leaf T.of_inner T.combines store.now layout visitor.old result visitor.new }
+{
+    let inner = match name.split() {
+        NodePtr::Inner(inner) => inner,
+        NodePtr::Leaf(leaf) => {
+            let Some(node) = store.leaf(leaf) else {
+                unreachable!()
+            };
+            return visitor.visit_leaf(node);
+        }
+    };
+    let Some(node) = store.inner(inner) else {
+        unreachable!()
+    };
+    let mut children = node.iter();
+    let Some((_, first)) = children.next() else {
+        unreachable!()
+    };
+    let mut joined = visit(store, first, visitor);
+    for (_, child) in children {
+        let output = visit(store, child, visitor);
+        joined = visitor.combine_output(joined, output);
+    }
+    visitor.visit_inner_node(node, joined)
+}

@@ -1,0 +1,352 @@
+//! The check, node by node.
+ghost use Rattle.std.specs.Prelude.{◌≡◌, ◌≢◌, ◌+◌, ◌<◌, ◌≤◌, ◌++◌, ◌↔◌, ◌⊎◌, ℕ, List, length, take, drop, min, Some, None, IsTrue, IsSome, IsNone, OnOk, IfOk, IfErr, IfSome, MatchOption};
+ghost use Rattle.std.specs.FinMap as map;
+ghost use Rattle.std.specs.List.{AllByRecursion as Each};
+ghost use Rattle.art_nodes.specs.Kinds.{kind_capacity, kind_least, ref_kind, ref_view};
+ghost use Rattle.art_nodes.specs.Names.{inner_name, leaf_name};
+ghost use Rattle.art_nodes.specs.declared.node.NodeType.TheVariants.{Leaf};
+ghost use Rattle.art_nodes.specs.declared.node.OpaqueNodePtr.{OpaqueNodePtr};
+ghost use Rattle.art_model.specs.Faults.{HasSibling, IsTrueOf, Reaches, ReachesLeaf, out_of_memory, wrong_children_count};
+ghost use Rattle.art_model.specs.Layouts.{AreLinked, IsLayout, leaf_names, leaf_node};
+ghost use Rattle.art_model.specs.Pairs.{of_key};
+ghost use Rattle.art_model.specs.Trees.{Tree};
+ghost use Rattle.art_model.specs.Stores.{IsUsed, header_at, links_at, node_at};
+ghost use Rattle.art_checking.specs.Checked.{AreReached, IsChecked, IsFirstMet, IsLeafAt, IsLeastLeaf, IsMetTree, IsPartOf, IsRead, IsReadFrom, IsTrueAt, IsTrueBehind, IsWalked, NoneBelow, names_of_leaves};
+ghost use Rattle.art_checking.specs.Checks.{fault_of};
+ghost use Rattle.art_checking.specs.Meetings.{place_in};
+
+use super::seen::Seen;
+use super::{KeyPrefix, MalformedTreeError};
+use art_nodes::node::{AsBytes, InnerPtr, InnerRef, LeafPtr, NodePtr, OpaqueNodePtr};
+use art_nodes::store::NodeStore;
+use std::alloc::{AllocError, Global};
+use std::cmp::Ordering;
+use std::collections::BTreeSet;
+
+// Checks all nodes below a root, and answers what was met.
+pub(super) fn check_nodes<K: AsBytes + Drop, V: Drop, const P: usize>(
+    store: &NodeStore<K, V, P>,
+    root: OpaqueNodePtr,
+) -> Result<Seen, MalformedTreeError>
+    ensures met { IfOk result (λ seen. IsMetTree (of_key K.bytes) P store.now seen root) }
+    ensures fault { IfErr result (λ error. IsTrueOf (of_key K.bytes) P store.now root (fault_of error)) }
+{
+    let mut seen = Seen::new(store.alloc());
+    let mut place = Vec::new(store.alloc());
+    meet(store, root, &place, &mut seen)?;
+    match root.split() {
+        NodePtr::Leaf(leaf) => check_leaf(store, leaf, &place)?,
+        NodePtr::Inner(inner) => check_inner(store, inner, None, &mut place, &mut seen)?,
+    }
+    Ok(seen)
+}
+
+// Adds a name that is reached at a place to those that were met: a name for the second time is a loop,
+// and one that leads nowhere is dead.
+fn meet<K: AsBytes + Drop, V: Drop, const P: usize>(
+    store: &NodeStore<K, V, P>,
+    name: OpaqueNodePtr,
+    place: &[u8],
+    seen: &mut Seen,
+) -> Result<(), MalformedTreeError>
+    ensures met { OnOk result (IsFirstMet seen.old seen.new name place.now) }
+    ensures there { OnOk result (IsUsed store.now name) }
+    ensures fault { IfErr result (λ error. (root : OpaqueNodePtr) → AreReached (of_key K.bytes) P store.now root (place_in seen.old) → Reaches (of_key K.bytes) P store.now root place.now name →
+        ((other : List ℕ) → place_in seen.old name ≡ Some other → other ≢ place.now) → IsTrueOf (of_key K.bytes) P store.now root (fault_of error)) }
+{
+    let alloc = store.alloc();
+    if let Some(first) = seen.place_of(name) {
+        return Err(MalformedTreeError::LoopFound {
+            node_ptr: name,
+            first_observed: first.clone()?,
+            later_observed: KeyPrefix::from_slice(alloc, place)?,
+        });
+    }
+    if !is_there(store, name) {
+        return Err(MalformedTreeError::DeadName {
+            key_prefix: KeyPrefix::from_slice(alloc, place)?,
+            name,
+        });
+    }
+    seen.record(alloc, name, place)?;
+    Ok(())
+}
+
+// Whether there is a node under the name.
+fn is_there<K: AsBytes + Drop, V: Drop, const P: usize>(
+    store: &NodeStore<K, V, P>,
+    name: OpaqueNodePtr,
+) -> bool
+    ensures { IsTrue result ↔ IsUsed store.now name }
+{
+    match name.split() {
+        NodePtr::Leaf(leaf) => store.leaf(leaf).is_some(),
+        NodePtr::Inner(inner) => store.inner(inner).is_some(),
+    }
+}
+
+// Checks an inner node that was met at a place, and all that is below it. `least` is its least leaf,
+// where that is known.
+fn check_inner<K: AsBytes + Drop, V: Drop, const P: usize>(
+    store: &NodeStore<K, V, P>,
+    name: InnerPtr,
+    least: Option<LeafPtr>,
+    place: &mut Vec<u8>,
+    seen: &mut Seen,
+) -> Result<(), MalformedTreeError>
+    requires there { IsSome (map.get store.now.inners name) }
+    requires proper { name.kind ≢ Leaf }
+    requires met { place_in seen.old (inner_name name) ≢ None }
+    requires below { NoneBelow (place_in seen.old) place.old.items }
+    requires least { IfSome least (λ leaf. IsLeastLeaf (of_key K.bytes) P store.now (inner_name name) (Some leaf)) }
+    ensures checked { OnOk result (IsChecked (of_key K.bytes) P store.now seen.old seen.new place.old.items (inner_name name)) }
+    ensures place { OnOk result (place.new.items ≡ place.old.items) }
+    ensures walked { OnOk result (IsWalked (of_key K.bytes) P store.now (place_in seen.old) (place_in seen.new) place.old.items (inner_name name)) }
+    ensures fault { IfErr result (IsTrueBehind (of_key K.bytes) P store.now (place_in seen.old) place.old.items (inner_name name)) }
+{
+    let Some(node) = store.inner(name) else {
+        unreachable!()
+    };
+    let depth = place.len();
+    let mut least = read_prefix(store, name, node, least, place)?;
+    for (byte, child) in node.iter() {
+        place.push(byte)?;
+        meet(store, child, place, seen)?;
+        match child.split() {
+            NodePtr::Leaf(leaf) => check_leaf(store, leaf, place)?,
+            NodePtr::Inner(inner) => check_inner(store, inner, least, place, seen)?,
+        }
+        place.pop();
+        least = None;
+    }
+    place.truncate(depth);
+    check_count(store, node, place)?;
+    Ok(())
+}
+
+// Appends the prefix of an inner node to the bytes that lead to it. A prefix that is not stored whole is
+// read from the least leaf below. Answers that leaf, where it is known.
+fn read_prefix<K: AsBytes + Drop, V: Drop, const P: usize>(
+    store: &NodeStore<K, V, P>,
+    name: InnerPtr,
+    node: InnerRef<'_, P>,
+    least: Option<LeafPtr>,
+    place: &mut Vec<u8>,
+) -> Result<Option<LeafPtr>, MalformedTreeError>
+    requires there { map.get store.now.inners name ≡ Some (ref_view node) }
+    requires proper { name.kind ≢ Leaf }
+    requires least { IfSome least (λ leaf. IsLeastLeaf (of_key K.bytes) P store.now (inner_name name) (Some leaf)) }
+    ensures prefix { OnOk result (IsRead (of_key K.bytes) P store.now place.old.items place.new.items
+        (inner_name name) (header_at name.kind (ref_view node.entry))) }
+    ensures least { IfOk result (λ found. IfSome found (λ leaf. IsLeastLeaf (of_key K.bytes) P store.now (inner_name name) (Some leaf))) }
+    ensures fault { IfErr result (IsTrueAt (of_key K.bytes) P store.now place.old.items (inner_name name)) }
+{
+    let len = node.prefix_len();
+    let stored = node.read_prefix();
+    if len <= P {
+        place.extend_from_slice(stored)?;
+        return Ok(least);
+    }
+    let (found, part) = read_least(store, name, least, place.len(), len)?;
+    let Some(part) = part else {
+        return Err(MalformedTreeError::UnreadablePrefix {
+            key_prefix: KeyPrefix::from_slice(store.alloc(), place)?,
+            name: name.to_opaque(),
+        });
+    };
+    let (front, _) = part.split_at(P);
+    if front != stored {
+        return Err(MalformedTreeError::StoredPrefixMismatch {
+            key_prefix: KeyPrefix::from_slice(store.alloc(), place)?,
+            stored: copy_of(store.alloc(), stored)?,
+            actual: copy_of(store.alloc(), front)?,
+        });
+    }
+    place.extend_from_slice(part)?;
+    Ok(found)
+}
+
+// The least leaf below a node, and so many bytes of its key from a depth on, if it has them.
+fn read_least<K: AsBytes + Drop, V: Drop, const P: usize>(
+    store: &NodeStore<K, V, P>,
+    name: InnerPtr,
+    least: Option<LeafPtr>,
+    depth: usize,
+    len: usize,
+) -> Result<(Option<LeafPtr>, Option<&[u8]>), AllocError>
+    requires { IfSome least (λ leaf. IsLeastLeaf (of_key K.bytes) P store.now (inner_name name) (Some leaf)) }
+    ensures least { IfOk result (λ read. IsLeastLeaf (of_key K.bytes) P store.now (inner_name name) read.0) }
+    ensures part { IfOk result (λ read. IsReadFrom (of_key K.bytes) P store.now (inner_name name) depth len read.1) }
+{
+    let found = match least {
+        Some(leaf) => Some(leaf),
+        None => least_leaf(store, name.to_opaque())?,
+    };
+    let part = match found {
+        Some(leaf) => part_of(store, leaf, depth, len),
+        None => None,
+    };
+    Ok((found, part))
+}
+
+// So many bytes of a leaf's key from a depth on, if it has them.
+fn part_of<K: AsBytes + Drop, V: Drop, const P: usize>(
+    store: &NodeStore<K, V, P>,
+    leaf: LeafPtr,
+    depth: usize,
+    len: usize,
+) -> Option<&[u8]>
+    ensures { (x : K × V) → node_at store.now (leaf_name leaf) ≡ Some (leaf_node x) → MatchOption result (length (K.bytes x.0) < depth + len)
+        (λ part. IsPartOf depth len (K.bytes x.0) part.now) }
+{
+    let key = store.leaf(leaf)?.key.as_bytes();
+    let end = depth.checked_add(len)?;
+    key.get(depth..end)
+}
+
+// The leaf at the end of the walk down least children, if there is one.
+fn least_leaf<K: AsBytes + Drop, V: Drop, const P: usize>(
+    store: &NodeStore<K, V, P>,
+    name: OpaqueNodePtr,
+) -> Result<Option<LeafPtr>, AllocError>
+    ensures { IfOk result (IsLeastLeaf (of_key K.bytes) P store.now name) }
+{
+    let mut passed = BTreeSet::new(store.alloc());
+    let mut name = name;
+    'down: loop {
+        let inner = match name.split() {
+            NodePtr::Leaf(leaf) => return Ok(store.leaf(leaf).map(|_| leaf)),
+            NodePtr::Inner(inner) => inner,
+        };
+        let Some(node) = store.inner(inner) else {
+            return Ok(None);
+        };
+        if !passed.insert(inner)? {
+            return Ok(None);
+        }
+        let Some((_, child)) = node.iter().next() else {
+            return Ok(None);
+        };
+        name = child;
+    }
+}
+
+// Whether a node has as many children as its kind may have.
+fn check_count<K: AsBytes + Drop, V: Drop, const P: usize>(
+    store: &NodeStore<K, V, P>,
+    node: InnerRef<'_, P>,
+    place: &[u8],
+) -> Result<(), MalformedTreeError>
+    ensures enough { OnOk result (kind_least (ref_kind node.entry) ≤ length (ref_view node.entry).children) }
+    ensures fault { IfErr result (λ error. (fault_of error ≡ out_of_memory) ⊎
+        ((fault_of error ≡ wrong_children_count place.now (ref_kind node.entry) (length (ref_view node.entry).children)) × (length (ref_view node.entry).children < kind_least (ref_kind node.entry)))) }
+{
+    let kind = node.node_type();
+    let count = node.num_children();
+    if *kind.capacity_range().start() <= count {
+        return Ok(());
+    }
+    Err(MalformedTreeError::WrongChildrenCount {
+        key_prefix: KeyPrefix::from_slice(store.alloc(), place)?,
+        inner_node_type: kind,
+        num_children: count,
+    })
+}
+
+// Checks a leaf that was met at a place.
+fn check_leaf<K: AsBytes + Drop, V: Drop, const P: usize>(
+    store: &NodeStore<K, V, P>,
+    leaf: LeafPtr,
+    place: &[u8],
+) -> Result<(), MalformedTreeError>
+    requires there { IsSome (map.get store.now.leaves leaf) }
+    ensures leaf { OnOk result (IsLeafAt (of_key K.bytes) P store.now leaf place.now) }
+    ensures fault { IfErr result (IsTrueAt (of_key K.bytes) P store.now place.now (leaf_name leaf)) }
+{
+    let Some(node) = store.leaf(leaf) else {
+        unreachable!()
+    };
+    let key = node.key.as_bytes();
+    if !key.starts_with(place) {
+        return Err(MalformedTreeError::PrefixMismatch {
+            expected_prefix: KeyPrefix::from_slice(store.alloc(), place)?,
+            entire_key: copy_of(store.alloc(), key)?,
+        });
+    }
+    if let Some(previous) = node.previous {
+        check_order(store, key, previous, Ordering::Less, place)?;
+    }
+    if let Some(next) = node.next {
+        check_order(store, key, next, Ordering::Greater, place)?;
+    }
+    Ok(())
+}
+
+// Checks that a leaf's sibling is there, and stands in this order to it.
+fn check_order<K: AsBytes + Drop, V: Drop, const P: usize>(
+    store: &NodeStore<K, V, P>,
+    key: &[u8],
+    sibling: LeafPtr,
+    expected: Ordering,
+    place: &[u8],
+) -> Result<(), MalformedTreeError>
+    ensures { IfErr result (λ error. (root leaf : OpaqueNodePtr) (x : K × V) → ReachesLeaf (of_key K.bytes) P store.now root place.now leaf x → K.bytes x.0 ≡ key.now →
+        HasSibling (of_key K.bytes) P store.now root leaf expected (leaf_name sibling) → IsTrueOf (of_key K.bytes) P store.now root (fault_of error)) }
+{
+    let Some(node) = store.leaf(sibling) else {
+        return Err(MalformedTreeError::DeadName {
+            key_prefix: KeyPrefix::from_slice(store.alloc(), place)?,
+            name: sibling.to_opaque(),
+        });
+    };
+    let sibling_key = node.key.as_bytes();
+    let actual = sibling_key.cmp(key);
+    if actual == expected {
+        return Ok(());
+    }
+    Err(MalformedTreeError::LeafSiblingWrongOrder {
+        sibling_key: copy_of(store.alloc(), sibling_key)?,
+        leaf_key: copy_of(store.alloc(), key)?,
+        expected_order: expected,
+        actual_order: actual,
+    })
+}
+
+// Checks that each leaf names its neighbours in the list.
+pub(super) fn check_links<K: AsBytes + Drop, V: Drop, const P: usize>(
+    store: &NodeStore<K, V, P>,
+    leaves: &[LeafPtr],
+) -> Result<(), MalformedTreeError>
+    requires there { Each (λ leaf. IsSome (map.get store.now.leaves leaf)) leaves.now }
+    ensures linked { OnOk result (AreLinked (links_at store.now) None (names_of_leaves leaves.now) None) }
+    ensures fault { IfErr result (λ error. (root : OpaqueNodePtr) (layout : Tree OpaqueNodePtr (K × V)) → IsLayout (node_at store.now) root layout →
+        leaf_names layout ≡ names_of_leaves leaves.now → IsTrueOf (of_key K.bytes) P store.now root (fault_of error)) }
+{
+    let mut previous = None;
+    let mut rest = leaves;
+    'along: while let Some((&leaf, others)) = rest.split_first() {
+        let next = others.first().copied();
+        let Some(node) = store.leaf(leaf) else {
+            unreachable!()
+        };
+        if node.previous != previous || node.next != next {
+            return Err(MalformedTreeError::WrongSiblingLinks {
+                leaf_key: copy_of(store.alloc(), node.key.as_bytes())?,
+                expected_previous: previous,
+                expected_next: next,
+                actual_previous: node.previous,
+                actual_next: node.next,
+            });
+        }
+        previous = Some(leaf);
+        rest = others;
+    }
+    Ok(())
+}
+
+// A copy of these bytes.
+fn copy_of(alloc: Global, bytes: &[u8]) -> Result<Vec<u8>, AllocError>
+    ensures { IfOk result (λ copy. copy.items ≡ bytes.now) }
+{
+    bytes.to_vec(alloc)
+}
