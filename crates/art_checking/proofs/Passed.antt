@@ -16,7 +16,7 @@ use Rattle.art_nodes.specs.declared.node.LeafPtr.{LeafPtr}
 use Rattle.art_nodes.specs.declared.node.InnerPtr.{InnerPtr}
 use Rattle.art_nodes.specs.declared.node.OpaqueNodePtr.{OpaqueNodePtr}
 use Rattle.art_model.specs.Keys.{IsFront}
-use Rattle.art_model.specs.Layouts.{Node, leaf_node, inner_node, name_of, slots_of, names_of, names_below, leaf_names, leaf_names_below, leaves_of, inner_names, inner_names_below, Holds, HoldsBelow, AreLinked}
+use Rattle.art_model.specs.Layouts.{Node, leaf_node, inner_node, name_of, slots_of, names_of, names_below, leaf_names, leaf_names_below, leaves_of, inner_names, inner_names_below, Holds, HoldsBelow, AreLinked, IsLayout}
 use Rattle.art_model.specs.Radix.{join, pairs_of, bytes_of, IsRising, IsRadix, AreRadix}
 use Rattle.art_model.specs.Stores.{node_at, header_at, seen, held_inner, Held, IsUsed, links_at}
 use Rattle.art_model.specs.Trees.{Tree, leaf, inner, Children, child, no_child, Header, header_of, kind_of}
@@ -271,6 +271,10 @@ met_tree none zero passed = record {
 }
 
 module _ {K V : Type 0} {bytes : K × V → List ℕ} {P : ℕ} {s : Nodes K V} {seen : Seen} {root : OpaqueNodePtr} (met : IsMetTree bytes P s seen root) where
+  -- the root stands for it
+  pub met_layout : IsLayout (node_at s) root met.layout
+  met_layout = record { named = met.named; holds = met.holds; distinct = met.distinct }
+
   -- its leaves are there
   pub met_leaves_there : Each (λ l. IsSome (finite.get s.leaves l)) seen.leaves.items
   met_leaves_there = leaves_there s seen.leaves.items met.layout met.leaves met.holds
