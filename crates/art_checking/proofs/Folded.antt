@@ -48,12 +48,14 @@ module _ {K V : Type 0} (s : Nodes K V) where
   module _ {name n : OpaqueNodePtr} {h : Header} (l : Children OpaqueNodePtr (K × V)) (b : ℕ) (t : Tree OpaqueNodePtr (K × V)) (r : Children OpaqueNodePtr (K × V)) (full : IsFullTree s name (inner n h (join l (child b t r)))) where
     pub child_full : IsFullTree s (name_of t) t
     child_full =
-        let below = subst AreDistinct (names_below-join l (child b t r)) full.0.distinct.1 in
-        (record {
-          named = refl;
-          holds = (HoldsBelow-right (node_at s) l (child b t r) full.0.holds.1).0;
-          distinct = Pairwise-left ◌≢◌ (names_of t) (names_below r) (Pairwise-right ◌≢◌ (names_below l) (names_below (child b t r)) below);
-        }, (children_right 1 l (child b t r) full.1.1).0)
+        let below = subst AreDistinct (names_below-join l (child b t r)) full.0.distinct.1 in (
+          record {
+            named = refl;
+            holds = (HoldsBelow-right (node_at s) l (child b t r) full.0.holds.1).0;
+            distinct = Pairwise-left ◌≢◌ (names_of t) (names_below r) (Pairwise-right ◌≢◌ (names_below l) (names_below (child b t r)) below);
+          },
+          (children_right 1 l (child b t r) full.1.1).0,
+        )
 
     pub child_lower : height (node_at s) (map.len s.inners) (name_of t) < height (node_at s) (map.len s.inners) name
     child_lower =

@@ -28,7 +28,8 @@ use Rattle.art_model.proofs.Slots.{IsInRange, kind_of-range, length-slots_of}
 use Rattle.art_model.proofs.Stores.{HoldsBelow-join}
 use Rattle.art_model.proofs.TreeLaws.{has_few_inner_nodes, have_two_children}
 use Rattle.art_model.proofs.Views.{held_in_inner, leaf_there}
-use Rattle.art_checking.specs.Checked.{names_of_leaves, IsFirstMet, IsLeafAt, IsChecked, IsMetTree, IsWellFormed}
+use Rattle.art_checking.specs.Checked.{names_of_leaves, IsFirstMet, IsLeafAt, IsChecked, IsMetTree}
+use Rattle.art_checking.specs.Checks.{IsWellFormed}
 use Rattle.art_checking.specs.Meetings.{Meets, IsMet, Places, count_met, leaves_with, place_in}
 use Rattle.art_checking.specs.Untried.{untried}
 use Rattle.art_checking.specs.declared.well_formed.seen.Seen.{Seen}

@@ -35,6 +35,11 @@ module _ {K V : Type 0} (bytes : K × V → List ℕ) (P : ℕ) (s : Nodes K V) 
     pub stores_others : (root : OpaqueNodePtr) (part : Bor (List ℕ)) → IsReadFrom bytes P s (inner_name p) (length place) node.prefix.len (Some part) → length node.prefix.stored ≡ min node.prefix.len P → take P part.now ≢ node.prefix.stored →
         Reaches bytes P s root place (inner_name p) → StoresOthers bytes P s root place node.prefix.stored (take P part.now)
     stores_others root part gives count off reach =
-        let all : length node.prefix.stored ≡ P = omega (arith, count, more) in
-        (inner_name p, header_at p.kind node, node.children, (reach, inner_at s p node proper there), more,
-        (part.now, (header_at p.kind node, node.children, inner_at s p node proper there, prefix_read part gives), refl, ap (λ n. take n part.now) all, off))
+        let all : length node.prefix.stored ≡ P = omega (arith, count, more) in (
+          inner_name p,
+          header_at p.kind node,
+          node.children,
+          (reach, inner_at s p node proper there),
+          more,
+          (part.now, (header_at p.kind node, node.children, inner_at s p node proper there, prefix_read part gives), refl, ap (λ n. take n part.now) all, off),
+        )

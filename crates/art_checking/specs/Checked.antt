@@ -1,21 +1,25 @@
--- What the steps of a check say of a store.
-use Rattle.std.specs.Prelude.{◌≡◌, ◌≢◌, ℕ, ◌+◌, ◌<◌, ◌≤◌, ◌⊎◌, List, [], ◌∷◌, ◌++◌, length, map, take, drop, Option, Some, None}
+-- What the steps of a check say of a store. No public clause cites this module.
+use Rattle.std.specs.Prelude.{◌≡◌, ◌≢◌, ℕ, ◌+◌, ◌<◌, ◌≤◌, ◌⊎◌, List, [], ◌∷◌, ◌++◌, length, map, take, drop, Option, Some, None, IfSome}
 use Rattle.std.specs.Borrow.{Bor}
+use Rattle.std.specs.Cmp.Lexicographic.{slice_cmp}
+use Rattle.std.specs.FinMap as finite
+use Rattle.std.specs.Ordering.{nat_cmp}
+use Rattle.std.specs.declared.cmp.Ordering.{Ordering}
+use Rattle.std.specs.declared.cmp.Ordering.TheVariants.{Less, Greater}
 use Rattle.art_nodes.specs.Names.{leaf_name}
 use Rattle.art_nodes.specs.Nodes.{Nodes}
+use Rattle.art_nodes.specs.declared.node.LeafNode.{LeafNode}
 use Rattle.art_nodes.specs.declared.node.LeafPtr.{LeafPtr}
 use Rattle.art_nodes.specs.declared.node.OpaqueNodePtr.{OpaqueNodePtr}
-use Rattle.art_model.specs.Canonical.{IsTree}
 use Rattle.art_model.specs.Faults.{Reaches, EndsBadly, IsTrueOf}
 use Rattle.art_model.specs.Keys.{IsFront}
-use Rattle.art_model.specs.Layouts.{leaf_node, name_of, names_of, inner_names, leaf_names, AreDistinct, Holds}
+use Rattle.art_model.specs.Layouts.{leaf_node, name_of, names_of, leaf_names, AreDistinct, Holds}
 use Rattle.art_model.specs.Radix.{IsRadix}
-use Rattle.art_model.specs.Stores.{node_at}
+use Rattle.art_model.specs.Stores.{node_at, pair_of}
 use Rattle.art_model.specs.Trails.{bottom_of, DescendsTo, IsDescent, IsPrefix}
 use Rattle.art_model.specs.Trees.{Tree, Header}
 use Rattle.art_checking.specs.Checks.{fault_of}
 use Rattle.art_checking.specs.Meetings.{Places, Meets, IsMet, count_met, leaves_with, place_in}
-use Rattle.art_checking.specs.declared.well_formed.WellFormedTreeStats.{WellFormedTreeStats}
 use Rattle.art_checking.specs.declared.well_formed.fault.MalformedTreeError.{MalformedTreeError}
 use Rattle.art_checking.specs.declared.well_formed.seen.Seen.{Seen}
 
@@ -47,6 +51,15 @@ module _ {K V : Type 0} (bytes : K × V → List ℕ) (P : ℕ) (s : Nodes K V) 
   abbrev pub IsLeafAt : LeafPtr → List ℕ → Type 0
   IsLeafAt leaf place = (x : K × V) × (node_at s (leaf_name leaf) ≡ Some (leaf_node x)) × IsFront place (bytes x)
 
+  -- the sibling is a leaf, whose key stands in this order to the key
+  abbrev pub IsInOrder : LeafPtr → Ordering → List ℕ → Type 0
+  IsInOrder sibling order key = (node : LeafNode K V) × (finite.get s.leaves sibling ≡ Some node) × (slice_cmp nat_cmp (bytes (pair_of node)) key ≡ order)
+
+  -- the leaf's previous sibling comes before it, and its next one after it
+  abbrev pub IsBetween : LeafNode K V → Type 0
+  IsBetween node =
+      IfSome node.previous (λ l. IsInOrder l Less (bytes (pair_of node))) × IfSome node.next (λ l. IsInOrder l Greater (bytes (pair_of node)))
+
   -- From the name on, at the place, the nodes are those of a radix tree, and from the first state to the second all of its names but the root's were met.
   pub record IsChecked (old new : Seen) (place : List ℕ) (name : OpaqueNodePtr) : Type 0 where
     pub layout : Tree OpaqueNodePtr (K × V)
@@ -67,12 +80,6 @@ module _ {K V : Type 0} (bytes : K × V → List ℕ) (P : ℕ) (s : Nodes K V) 
     pub distinct : AreDistinct (names_of layout)
     pub leaves : names_of_leaves seen.leaves.items ≡ leaf_names layout
     pub count : count_met seen ≡ length (names_of layout)
-
-  -- the root is canonical for some pairs, of which and of whose inner nodes these are the numbers
-  abbrev pub IsWellFormed : OpaqueNodePtr → WellFormedTreeStats → Type 0
-  IsWellFormed root stats =
-      (pairs : List (K × V)) × (layout : Tree OpaqueNodePtr (K × V)) × IsTree bytes P s root pairs layout
-      × (stats.num_leaf ≡ length pairs) × (stats.num_inner ≡ length (inner_names layout)) × (stats.num_inner + 1 ≤ stats.num_leaf)
 
   -- a walk down least children ends at the leaf, or badly where there is none
   abbrev pub IsLeastLeaf : OpaqueNodePtr → Option LeafPtr → Type 0

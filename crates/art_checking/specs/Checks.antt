@@ -1,14 +1,18 @@
--- What a check keeps, and what its answers say.
-use Rattle.std.specs.Prelude.{◌≡◌, ℕ, List, Option}
+-- What the answers of a check say.
+use Rattle.std.specs.Prelude.{◌≡◌, ℕ, ◌+◌, ◌≤◌, List, length, Option}
 use Rattle.std.specs.Option.{option_map}
 use Rattle.art_nodes.specs.Names.{leaf_name}
 use Rattle.art_nodes.specs.declared.node.LeafPtr.{LeafPtr}
 use Rattle.art_nodes.specs.declared.node.OpaqueNodePtr.{OpaqueNodePtr}
-use Rattle.art_model.specs.Layouts.{Links}
+use Rattle.art_nodes.specs.Nodes.{Nodes}
+use Rattle.art_model.specs.Canonical.{IsTree}
+use Rattle.art_model.specs.Layouts.{Links, inner_names}
+use Rattle.art_model.specs.Trees.{Tree}
 use Rattle.art_model.specs.Faults.{Fault, loop_found, wrong_children_count, prefix_mismatch, empty_tree_with_len, leaf_sibling_wrong_order, wrong_sibling_links, dead_name, unreadable_prefix, stored_prefix_mismatch, out_of_memory}
 use Rattle.art_checking.specs.declared.well_formed.fault.MalformedTreeError.{MalformedTreeError}
 use Rattle.art_checking.specs.declared.well_formed.fault.MalformedTreeError.TheVariants.{LoopFound, WrongChildrenCount, PrefixMismatch, EmptyTreeWithLen, LeafSiblingWrongOrder, WrongSiblingLinks, DeadName, UnreadablePrefix, StoredPrefixMismatch, OutOfMemory}
 use Rattle.art_checking.specs.declared.well_formed.KeyPrefix.{KeyPrefix}
+use Rattle.art_checking.specs.declared.well_formed.WellFormedTreeStats.{WellFormedTreeStats}
 
 -- the bytes of a prefix
 abbrev pub prefix_bytes : KeyPrefix → List ℕ
@@ -30,3 +34,9 @@ fault_of (DeadName key_prefix name) = dead_name (prefix_bytes key_prefix) name
 fault_of (UnreadablePrefix key_prefix name) = unreadable_prefix (prefix_bytes key_prefix) name
 fault_of (StoredPrefixMismatch key_prefix stored actual) = stored_prefix_mismatch (prefix_bytes key_prefix) stored.items actual.items
 fault_of OutOfMemory = out_of_memory
+
+-- the root is canonical for some pairs, of which and of whose inner nodes these are the numbers
+abbrev pub IsWellFormed : {K V : Type 0} → (K × V → List ℕ) → ℕ → Nodes K V → OpaqueNodePtr → WellFormedTreeStats → Type 0
+IsWellFormed {K} {V} bytes P s root stats =
+    (pairs : List (K × V)) × (layout : Tree OpaqueNodePtr (K × V)) × IsTree bytes P s root pairs layout
+    × (stats.num_leaf ≡ length pairs) × (stats.num_inner ≡ length (inner_names layout)) × (stats.num_inner + 1 ≤ stats.num_leaf)

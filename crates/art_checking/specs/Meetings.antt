@@ -1,4 +1,4 @@
--- The names that a check has met, each with its place.
+-- The names that a check has met, each with its place. No public clause cites this module.
 use Rattle.std.specs.Prelude.{◌≡◌, ◌≢◌, ℕ, Bool, eqb, ◌&&◌, List, [], ◌∷◌, ◌++◌, length, Option, Some, None}
 use Rattle.std.specs.List.{AllByRecursion as Each}
 use Rattle.std.specs.Map.{lookup}

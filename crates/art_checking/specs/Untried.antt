@@ -1,4 +1,4 @@
--- How many keys are left to try, a measure of searches that pass no key twice.
+-- How many keys are left to try, a measure of searches that pass no key twice. No public clause cites this module.
 use Rattle.std.specs.Prelude.{ℕ, suc, Bool, cond, List, [], ◌∷◌}
 
 -- the keys that do not pass the test yet

@@ -48,11 +48,12 @@ pub trait Visitor<K, V, const P: usize> {
 /// Folds the tree of a canonical root: a leaf goes to `visit_leaf`; an inner node's children are
 /// visited in the order of their bytes, the first one's output is joined with each further one's,
 /// and then the node goes to `visit_inner_node`.
-pub fn visit_with<K: AsBytes + Drop, V: Drop, T: Visitor<K, V, PREFIX_LEN>, const PREFIX_LEN: usize>(
-    store: &NodeStore<K, V, PREFIX_LEN>,
-    root: OpaqueNodePtr,
-    visitor: &mut T,
-) -> T::Output
+pub fn visit_with<
+    K: AsBytes + Drop,
+    V: Drop,
+    T: Visitor<K, V, PREFIX_LEN>,
+    const PREFIX_LEN: usize,
+>(store: &NodeStore<K, V, PREFIX_LEN>, root: OpaqueNodePtr, visitor: &mut T) -> T::Output
     requires { IsCanonicalRoot (of_key K.bytes) PREFIX_LEN store.now root }
     ensures { ForTree (of_key K.bytes) PREFIX_LEN store.now root (λ pairs layout.
         Folds T.of_leaf T.of_inner T.combines store.now layout visitor.old result visitor.new) }

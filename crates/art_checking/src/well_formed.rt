@@ -1,7 +1,7 @@
 //! Whether a tree is well formed, asked of any store and any name.
 ghost use Rattle.std.specs.Prelude.{◌≡◌, ◌+◌, ◌^◌, ◌<◌, ◌≢◌, [], IfOk, IfErr, IfSome, IsNone, IsOkAnd, IsErrAnd};
 ghost use Rattle.art_model.specs.Pairs.{of_key};
-ghost use Rattle.art_checking.specs.Checks.{prefix_bytes};
+ghost use Rattle.art_checking.specs.Checks.{IsWellFormed, prefix_bytes};
 
 use art_nodes::node::{AsBytes, OpaqueNodePtr};
 use art_nodes::store::NodeStore;
@@ -48,7 +48,7 @@ impl KeyPrefix {
 }
 
 impl Clone for KeyPrefix {
-    ghost is_clone = { λ prefix copy. copy.bytes.items ≡ prefix.bytes.items };
+    ghost is_clone = { λ prefix copy. prefix_bytes copy ≡ prefix_bytes prefix };
 
     fn clone(&self) -> Result<Self, AllocError> {
         let bytes = self.bytes.clone()?;
@@ -74,7 +74,11 @@ impl WellFormedTreeStats {
         requires { self.num_leaf + self.num_inner < 2 ^ 64 }
         ensures { result ≡ self.num_leaf + self.num_inner }
     {
-        self.num_leaf + self.num_inner
+        let WellFormedTreeStats {
+            num_leaf,
+            num_inner,
+        } = self;
+        num_leaf + num_inner
     }
 }
 
@@ -110,7 +114,6 @@ pub struct WellFormedChecker;
 impl WellFormedChecker {
     ghost use Rattle.art_model.specs.Faults.{IsTrueOf};
     ghost use Rattle.art_model.specs.Roots.{IsCanonicalRoot};
-    ghost use Rattle.art_checking.specs.Checked.{IsWellFormed};
     ghost use Rattle.art_checking.specs.Checks.{fault_of};
     ghost use Rattle.art_checking.specs.declared.well_formed.fault.MalformedTreeError.TheVariants.{EmptyTreeWithLen, OutOfMemory};
 

@@ -4,6 +4,7 @@ ghost use Rattle.std.specs.FinMap as map;
 ghost use Rattle.std.specs.List.{AllByRecursion as Each};
 ghost use Rattle.art_nodes.specs.Kinds.{kind_capacity, kind_least, ref_kind, ref_view};
 ghost use Rattle.art_nodes.specs.Names.{inner_name, leaf_name};
+ghost use Rattle.art_nodes.specs.declared.node.LeafNode.{LeafNode};
 ghost use Rattle.art_nodes.specs.declared.node.NodeType.TheVariants.{Leaf};
 ghost use Rattle.art_nodes.specs.declared.node.OpaqueNodePtr.{OpaqueNodePtr};
 ghost use Rattle.art_model.specs.Faults.{HasSibling, IsTrueOf, Reaches, ReachesLeaf, out_of_memory, wrong_children_count};
@@ -11,7 +12,7 @@ ghost use Rattle.art_model.specs.Layouts.{AreLinked, IsLayout, leaf_names, leaf_
 ghost use Rattle.art_model.specs.Pairs.{of_key};
 ghost use Rattle.art_model.specs.Trees.{Tree};
 ghost use Rattle.art_model.specs.Stores.{IsUsed, header_at, links_at, node_at};
-ghost use Rattle.art_checking.specs.Checked.{AreReached, IsChecked, IsFirstMet, IsLeafAt, IsLeastLeaf, IsMetTree, IsPartOf, IsRead, IsReadFrom, IsTrueAt, IsTrueBehind, IsWalked, NoneBelow, names_of_leaves};
+ghost use Rattle.art_checking.specs.Checked.{AreReached, IsBetween, IsChecked, IsFirstMet, IsInOrder, IsLeafAt, IsLeastLeaf, IsMetTree, IsPartOf, IsRead, IsReadFrom, IsTrueAt, IsTrueBehind, IsWalked, NoneBelow, names_of_leaves};
 ghost use Rattle.art_checking.specs.Checks.{fault_of};
 ghost use Rattle.art_checking.specs.Meetings.{place_in};
 
@@ -51,8 +52,11 @@ fn meet<K: AsBytes + Drop, V: Drop, const P: usize>(
 ) -> Result<(), MalformedTreeError>
     ensures met { OnOk result (IsFirstMet seen.old seen.new name place.now) }
     ensures there { OnOk result (IsUsed store.now name) }
-    ensures fault { IfErr result (λ error. (root : OpaqueNodePtr) → AreReached (of_key K.bytes) P store.now root (place_in seen.old) → Reaches (of_key K.bytes) P store.now root place.now name →
-        ((other : List ℕ) → place_in seen.old name ≡ Some other → other ≢ place.now) → IsTrueOf (of_key K.bytes) P store.now root (fault_of error)) }
+    ensures fault { IfErr result (λ error. (root : OpaqueNodePtr) →
+        AreReached (of_key K.bytes) P store.now root (place_in seen.old) →
+        Reaches (of_key K.bytes) P store.now root place.now name →
+        ((other : List ℕ) → place_in seen.old name ≡ Some other → other ≢ place.now) →
+        IsTrueOf (of_key K.bytes) P store.now root (fault_of error)) }
 {
     let alloc = store.alloc();
     if let Some(first) = seen.place_of(name) {
@@ -98,11 +102,15 @@ fn check_inner<K: AsBytes + Drop, V: Drop, const P: usize>(
     requires proper { name.kind ≢ Leaf }
     requires met { place_in seen.old (inner_name name) ≢ None }
     requires below { NoneBelow (place_in seen.old) place.old.items }
-    requires least { IfSome least (λ leaf. IsLeastLeaf (of_key K.bytes) P store.now (inner_name name) (Some leaf)) }
-    ensures checked { OnOk result (IsChecked (of_key K.bytes) P store.now seen.old seen.new place.old.items (inner_name name)) }
+    requires least { IfSome least (λ leaf.
+        IsLeastLeaf (of_key K.bytes) P store.now (inner_name name) (Some leaf)) }
+    ensures checked { OnOk result
+        (IsChecked (of_key K.bytes) P store.now seen.old seen.new place.old.items (inner_name name)) }
     ensures place { OnOk result (place.new.items ≡ place.old.items) }
-    ensures walked { OnOk result (IsWalked (of_key K.bytes) P store.now (place_in seen.old) (place_in seen.new) place.old.items (inner_name name)) }
-    ensures fault { IfErr result (IsTrueBehind (of_key K.bytes) P store.now (place_in seen.old) place.old.items (inner_name name)) }
+    ensures walked { OnOk result (IsWalked (of_key K.bytes) P store.now
+        (place_in seen.old) (place_in seen.new) place.old.items (inner_name name)) }
+    ensures fault { IfErr result
+        (IsTrueBehind (of_key K.bytes) P store.now (place_in seen.old) place.old.items (inner_name name)) }
 {
     let Some(node) = store.inner(name) else {
         unreachable!()
@@ -135,10 +143,12 @@ fn read_prefix<K: AsBytes + Drop, V: Drop, const P: usize>(
 ) -> Result<Option<LeafPtr>, MalformedTreeError>
     requires there { map.get store.now.inners name ≡ Some (ref_view node) }
     requires proper { name.kind ≢ Leaf }
-    requires least { IfSome least (λ leaf. IsLeastLeaf (of_key K.bytes) P store.now (inner_name name) (Some leaf)) }
+    requires least { IfSome least (λ leaf.
+        IsLeastLeaf (of_key K.bytes) P store.now (inner_name name) (Some leaf)) }
     ensures prefix { OnOk result (IsRead (of_key K.bytes) P store.now place.old.items place.new.items
         (inner_name name) (header_at name.kind (ref_view node.entry))) }
-    ensures least { IfOk result (λ found. IfSome found (λ leaf. IsLeastLeaf (of_key K.bytes) P store.now (inner_name name) (Some leaf))) }
+    ensures least { IfOk result (λ found. IfSome found (λ leaf.
+        IsLeastLeaf (of_key K.bytes) P store.now (inner_name name) (Some leaf))) }
     ensures fault { IfErr result (IsTrueAt (of_key K.bytes) P store.now place.old.items (inner_name name)) }
 {
     let len = node.prefix_len();
@@ -196,8 +206,8 @@ fn part_of<K: AsBytes + Drop, V: Drop, const P: usize>(
     depth: usize,
     len: usize,
 ) -> Option<&[u8]>
-    ensures { (x : K × V) → node_at store.now (leaf_name leaf) ≡ Some (leaf_node x) → MatchOption result (length (K.bytes x.0) < depth + len)
-        (λ part. IsPartOf depth len (K.bytes x.0) part.now) }
+    ensures { (x : K × V) → node_at store.now (leaf_name leaf) ≡ Some (leaf_node x) →
+        MatchOption result (length (K.bytes x.0) < depth + len) (λ part. IsPartOf depth len (K.bytes x.0) part.now) }
 {
     let key = store.leaf(leaf)?.key.as_bytes();
     let end = depth.checked_add(len)?;
@@ -239,7 +249,9 @@ fn check_count<K: AsBytes + Drop, V: Drop, const P: usize>(
 ) -> Result<(), MalformedTreeError>
     ensures enough { OnOk result (kind_least (ref_kind node.entry) ≤ length (ref_view node.entry).children) }
     ensures fault { IfErr result (λ error. (fault_of error ≡ out_of_memory) ⊎
-        ((fault_of error ≡ wrong_children_count place.now (ref_kind node.entry) (length (ref_view node.entry).children)) × (length (ref_view node.entry).children < kind_least (ref_kind node.entry)))) }
+        ((fault_of error ≡
+        wrong_children_count place.now (ref_kind node.entry) (length (ref_view node.entry).children))
+        × (length (ref_view node.entry).children < kind_least (ref_kind node.entry)))) }
 {
     let kind = node.node_type();
     let count = node.num_children();
@@ -261,6 +273,8 @@ fn check_leaf<K: AsBytes + Drop, V: Drop, const P: usize>(
 ) -> Result<(), MalformedTreeError>
     requires there { IsSome (map.get store.now.leaves leaf) }
     ensures leaf { OnOk result (IsLeafAt (of_key K.bytes) P store.now leaf place.now) }
+    ensures siblings { OnOk result ((node : LeafNode K V) →
+        map.get store.now.leaves leaf ≡ Some node → IsBetween (of_key K.bytes) P store.now node) }
     ensures fault { IfErr result (IsTrueAt (of_key K.bytes) P store.now place.now (leaf_name leaf)) }
 {
     let Some(node) = store.leaf(leaf) else {
@@ -290,8 +304,11 @@ fn check_order<K: AsBytes + Drop, V: Drop, const P: usize>(
     expected: Ordering,
     place: &[u8],
 ) -> Result<(), MalformedTreeError>
-    ensures { IfErr result (λ error. (root leaf : OpaqueNodePtr) (x : K × V) → ReachesLeaf (of_key K.bytes) P store.now root place.now leaf x → K.bytes x.0 ≡ key.now →
-        HasSibling (of_key K.bytes) P store.now root leaf expected (leaf_name sibling) → IsTrueOf (of_key K.bytes) P store.now root (fault_of error)) }
+    ensures sibling { OnOk result (IsInOrder (of_key K.bytes) P store.now sibling expected key.now) }
+    ensures fault { IfErr result (λ error. (root leaf : OpaqueNodePtr) (x : K × V) →
+        ReachesLeaf (of_key K.bytes) P store.now root place.now leaf x → K.bytes x.0 ≡ key.now →
+        HasSibling (of_key K.bytes) P store.now root leaf expected (leaf_name sibling) →
+        IsTrueOf (of_key K.bytes) P store.now root (fault_of error)) }
 {
     let Some(node) = store.leaf(sibling) else {
         return Err(MalformedTreeError::DeadName {
@@ -319,8 +336,9 @@ pub(super) fn check_links<K: AsBytes + Drop, V: Drop, const P: usize>(
 ) -> Result<(), MalformedTreeError>
     requires there { Each (λ leaf. IsSome (map.get store.now.leaves leaf)) leaves.now }
     ensures linked { OnOk result (AreLinked (links_at store.now) None (names_of_leaves leaves.now) None) }
-    ensures fault { IfErr result (λ error. (root : OpaqueNodePtr) (layout : Tree OpaqueNodePtr (K × V)) → IsLayout (node_at store.now) root layout →
-        leaf_names layout ≡ names_of_leaves leaves.now → IsTrueOf (of_key K.bytes) P store.now root (fault_of error)) }
+    ensures fault { IfErr result (λ error. (root : OpaqueNodePtr) (layout : Tree OpaqueNodePtr (K × V)) →
+        IsLayout (node_at store.now) root layout → leaf_names layout ≡ names_of_leaves leaves.now →
+        IsTrueOf (of_key K.bytes) P store.now root (fault_of error)) }
 {
     let mut previous = None;
     let mut rest = leaves;

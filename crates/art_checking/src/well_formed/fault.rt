@@ -77,28 +77,50 @@ impl Clone for MalformedTreeError {
 
     fn clone(&self) -> Result<Self, AllocError> {
         Ok(match self {
-            MalformedTreeError::LoopFound { node_ptr, first_observed, later_observed } => MalformedTreeError::LoopFound {
+            MalformedTreeError::LoopFound {
+                node_ptr,
+                first_observed,
+                later_observed,
+            } => MalformedTreeError::LoopFound {
                 node_ptr: *node_ptr,
                 first_observed: first_observed.clone()?,
                 later_observed: later_observed.clone()?,
             },
-            MalformedTreeError::WrongChildrenCount { key_prefix, inner_node_type, num_children } => MalformedTreeError::WrongChildrenCount {
+            MalformedTreeError::WrongChildrenCount {
+                key_prefix,
+                inner_node_type,
+                num_children,
+            } => MalformedTreeError::WrongChildrenCount {
                 key_prefix: key_prefix.clone()?,
                 inner_node_type: *inner_node_type,
                 num_children: *num_children,
             },
-            MalformedTreeError::PrefixMismatch { expected_prefix, entire_key } => MalformedTreeError::PrefixMismatch {
+            MalformedTreeError::PrefixMismatch {
+                expected_prefix,
+                entire_key,
+            } => MalformedTreeError::PrefixMismatch {
                 expected_prefix: expected_prefix.clone()?,
                 entire_key: entire_key.clone()?,
             },
             MalformedTreeError::EmptyTreeWithLen => MalformedTreeError::EmptyTreeWithLen,
-            MalformedTreeError::LeafSiblingWrongOrder { sibling_key, leaf_key, expected_order, actual_order } => MalformedTreeError::LeafSiblingWrongOrder {
+            MalformedTreeError::LeafSiblingWrongOrder {
+                sibling_key,
+                leaf_key,
+                expected_order,
+                actual_order,
+            } => MalformedTreeError::LeafSiblingWrongOrder {
                 sibling_key: sibling_key.clone()?,
                 leaf_key: leaf_key.clone()?,
                 expected_order: *expected_order,
                 actual_order: *actual_order,
             },
-            MalformedTreeError::WrongSiblingLinks { leaf_key, expected_previous, expected_next, actual_previous, actual_next } => MalformedTreeError::WrongSiblingLinks {
+            MalformedTreeError::WrongSiblingLinks {
+                leaf_key,
+                expected_previous,
+                expected_next,
+                actual_previous,
+                actual_next,
+            } => MalformedTreeError::WrongSiblingLinks {
                 leaf_key: leaf_key.clone()?,
                 expected_previous: *expected_previous,
                 expected_next: *expected_next,
@@ -109,11 +131,16 @@ impl Clone for MalformedTreeError {
                 key_prefix: key_prefix.clone()?,
                 name: *name,
             },
-            MalformedTreeError::UnreadablePrefix { key_prefix, name } => MalformedTreeError::UnreadablePrefix {
-                key_prefix: key_prefix.clone()?,
-                name: *name,
-            },
-            MalformedTreeError::StoredPrefixMismatch { key_prefix, stored, actual } => MalformedTreeError::StoredPrefixMismatch {
+            MalformedTreeError::UnreadablePrefix { key_prefix, name } =>
+                MalformedTreeError::UnreadablePrefix {
+                    key_prefix: key_prefix.clone()?,
+                    name: *name,
+                },
+            MalformedTreeError::StoredPrefixMismatch {
+                key_prefix,
+                stored,
+                actual,
+            } => MalformedTreeError::StoredPrefixMismatch {
                 key_prefix: key_prefix.clone()?,
                 stored: stored.clone()?,
                 actual: actual.clone()?,
@@ -139,39 +166,70 @@ impl fmt::Display for Link {
 impl fmt::Display for MalformedTreeError {
     fn fmt<W: fmt::Write>(&self, f: &mut fmt::Formatter<W>) -> fmt::Result {
         match self {
-            MalformedTreeError::LoopFound { node_ptr, first_observed, later_observed } => write!(
+            MalformedTreeError::LoopFound {
+                node_ptr,
+                first_observed,
+                later_observed,
+            } => write!(
                 f,
                 "Found a loop in the tree containing the node [{node_ptr}]. First observed that node at [{first_observed:?}], then later observed the same node at [{later_observed:?}]"
             ),
-            MalformedTreeError::WrongChildrenCount { key_prefix, inner_node_type, num_children } => {
+            MalformedTreeError::WrongChildrenCount {
+                key_prefix,
+                inner_node_type,
+                num_children,
+            } => {
                 let (least, most) = range_of(*inner_node_type);
                 write!(
                     f,
                     "Found an inner node of type [{inner_node_type}] at location [{key_prefix:?}] that had the wrong number of children! Expected children in range [{least}..={most}], but found [{num_children}] children"
                 )
             }
-            MalformedTreeError::PrefixMismatch { expected_prefix, entire_key } => write!(
+            MalformedTreeError::PrefixMismatch {
+                expected_prefix,
+                entire_key,
+            } => write!(
                 f,
                 "Found a leaf that had a mismatched key from the expected prefix! Expected the leaf key to start with [{expected_prefix:?}], but the leaf key was [{entire_key:?}]"
             ),
             MalformedTreeError::EmptyTreeWithLen => {
                 f.write_str("The length of the tree is not 0, even though the root is None")
             }
-            MalformedTreeError::LeafSiblingWrongOrder { sibling_key, leaf_key, expected_order, actual_order } => write!(
+            MalformedTreeError::LeafSiblingWrongOrder {
+                sibling_key,
+                leaf_key,
+                expected_order,
+                actual_order,
+            } => write!(
                 f,
                 "Found a leaf with key [{leaf_key:?}] and sibling with key [{sibling_key:?}] that was expected to have [{expected_order:?}] but had [{actual_order:?}]"
             ),
-            MalformedTreeError::WrongSiblingLinks { leaf_key, expected_previous, expected_next, actual_previous, actual_next } => {
+            MalformedTreeError::WrongSiblingLinks {
+                leaf_key,
+                expected_previous,
+                expected_next,
+                actual_previous,
+                actual_next,
+            } => {
                 let previous = Link(*expected_previous);
                 let next = Link(*expected_next);
                 let found_previous = Link(*actual_previous);
                 let found_next = Link(*actual_next);
                 if expected_previous == actual_previous {
-                    write!(f, "Found a leaf with key [{leaf_key:?}] where the next pointer expected to be [{next}] but was actually [{found_next}].")
+                    write!(
+                        f,
+                        "Found a leaf with key [{leaf_key:?}] where the next pointer expected to be [{next}] but was actually [{found_next}]."
+                    )
                 } else if expected_next == actual_next {
-                    write!(f, "Found a leaf with key [{leaf_key:?}] where the previous pointer expected to be [{previous}] but was actually [{found_previous}].")
+                    write!(
+                        f,
+                        "Found a leaf with key [{leaf_key:?}] where the previous pointer expected to be [{previous}] but was actually [{found_previous}]."
+                    )
                 } else {
-                    write!(f, "Found a leaf with key [{leaf_key:?}] where the previous pointer expected to be [{previous}] but was actually [{found_previous}] and the next pointer expected to be [{next}] but was actually [{found_next}].")
+                    write!(
+                        f,
+                        "Found a leaf with key [{leaf_key:?}] where the previous pointer expected to be [{previous}] but was actually [{found_previous}] and the next pointer expected to be [{next}] but was actually [{found_next}]."
+                    )
                 }
             }
             MalformedTreeError::DeadName { key_prefix, name } => write!(
@@ -182,11 +240,17 @@ impl fmt::Display for MalformedTreeError {
                 f,
                 "Found an inner node [{name}] at location [{key_prefix:?}] whose prefix cannot be read from a leaf"
             ),
-            MalformedTreeError::StoredPrefixMismatch { key_prefix, stored, actual } => write!(
+            MalformedTreeError::StoredPrefixMismatch {
+                key_prefix,
+                stored,
+                actual,
+            } => write!(
                 f,
                 "Found an inner node at location [{key_prefix:?}] that stores the prefix bytes [{stored:?}], but its least leaf has [{actual:?}]"
             ),
-            MalformedTreeError::OutOfMemory => f.write_str("Memory ran out while the tree was checked"),
+            MalformedTreeError::OutOfMemory => f.write_str(
+                "Memory ran out while the tree was checked",
+            ),
         }
     }
 }

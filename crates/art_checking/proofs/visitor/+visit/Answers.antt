@@ -31,14 +31,20 @@ returns g t c layout full =
     ended g.T.Visitor.of_leaf g.T.Visitor.of_inner g.T.Visitor.combines c.args.store.now c.args.visitor.now c.loop-child.visitor c.visit_inner_node.new.self c.loop-child.joined c.visit_inner_node.result has (full_held c.args.store.now full c.in-Inner.inner c.in-Inner.ensures.proper c.in-Inner.ensures.name (ref_kind c.in-Some-inner.node) (ref_view c.in-Some-inner.node) c.in-Some-inner.ensures.view c.in-Some-inner.ensures.kind) c.visit_inner_node.ensures
 
 pub loop-child-init : goal.loop-child-init
-loop-child-init g t c =
-    (tt, tt, λ layout full.
-    let (cs, is, slots) = full_shown c.args.store.now full c.in-Inner.inner c.in-Inner.ensures.proper c.in-Inner.ensures.name (ref_kind c.in-Some-inner.node) (ref_view c.in-Some-inner.node) c.in-Some-inner.ensures.view c.in-Some-inner.ensures.kind in
-    subst (λ left. HasJoined g.T.Visitor.of_leaf g.T.Visitor.of_inner g.T.Visitor.combines c.args.store.now layout c.args.name (ref_kind c.in-Some-inner.node) (ref_view c.in-Some-inner.node) left c.args.visitor.now c.visit-joined.result c.visit-joined.new.visitor) (sym c.into_iter-child-iterator.ensures.into_iter_gives)
-    (started g.T.Visitor.of_leaf g.T.Visitor.of_inner g.T.Visitor.combines c.args.store.now full (ref_kind c.in-Some-inner.node) (ref_view c.in-Some-inner.node) cs (c.in-Some-next.field-0-0, c.in-Some-next.first) c.next.new.self is (sym slots ∙ sym c.iter-children.ensures.children ∙ c.in-Some-next.ensures.steps) c.args.visitor.now c.visit-joined.new.visitor c.visit-joined.result c.visit-joined.ensures))
+loop-child-init g t c = (
+  tt,
+  tt,
+  λ layout full.
+      let (cs, is, slots) = full_shown c.args.store.now full c.in-Inner.inner c.in-Inner.ensures.proper c.in-Inner.ensures.name (ref_kind c.in-Some-inner.node) (ref_view c.in-Some-inner.node) c.in-Some-inner.ensures.view c.in-Some-inner.ensures.kind in
+      subst (λ left. HasJoined g.T.Visitor.of_leaf g.T.Visitor.of_inner g.T.Visitor.combines c.args.store.now layout c.args.name (ref_kind c.in-Some-inner.node) (ref_view c.in-Some-inner.node) left c.args.visitor.now c.visit-joined.result c.visit-joined.new.visitor) (sym c.into_iter-child-iterator.ensures.into_iter_gives)
+      (started g.T.Visitor.of_leaf g.T.Visitor.of_inner g.T.Visitor.combines c.args.store.now full (ref_kind c.in-Some-inner.node) (ref_view c.in-Some-inner.node) cs (c.in-Some-next.field-0-0, c.in-Some-next.first) c.next.new.self is (sym slots ∙ sym c.iter-children.ensures.children ∙ c.in-Some-next.ensures.steps) c.args.visitor.now c.visit-joined.new.visitor c.visit-joined.result c.visit-joined.ensures),
+)
 
 pub loop-child-preserved : goal.loop-child-preserved
-loop-child-preserved g t c =
-    (tt, tt, λ layout full.
-    let has = subst (λ left. HasJoined g.T.Visitor.of_leaf g.T.Visitor.of_inner g.T.Visitor.combines c.args.store.now layout c.args.name (ref_kind c.in-Some-inner.node) (ref_view c.in-Some-inner.node) left c.args.visitor.now c.loop-child.joined c.loop-child.visitor) c.in-Some-2.ensures.steps (c.loop-child.invariant.2 layout full) in
-    stepped g.T.Visitor.of_leaf g.T.Visitor.of_inner g.T.Visitor.combines c.args.store.now full (ref_kind c.in-Some-inner.node) (ref_view c.in-Some-inner.node) has c.visit-output.new.visitor c.visit-output.result c.combine_output-joined.result c.visit-output.ensures c.combine_output-joined.ensures)
+loop-child-preserved g t c = (
+  tt,
+  tt,
+  λ layout full.
+      let has = subst (λ left. HasJoined g.T.Visitor.of_leaf g.T.Visitor.of_inner g.T.Visitor.combines c.args.store.now layout c.args.name (ref_kind c.in-Some-inner.node) (ref_view c.in-Some-inner.node) left c.args.visitor.now c.loop-child.joined c.loop-child.visitor) c.in-Some-2.ensures.steps (c.loop-child.invariant.2 layout full) in
+      stepped g.T.Visitor.of_leaf g.T.Visitor.of_inner g.T.Visitor.combines c.args.store.now full (ref_kind c.in-Some-inner.node) (ref_view c.in-Some-inner.node) has c.visit-output.new.visitor c.visit-output.result c.combine_output-joined.result c.visit-output.ensures c.combine_output-joined.ensures,
+)

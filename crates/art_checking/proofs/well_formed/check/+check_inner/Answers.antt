@@ -29,12 +29,16 @@ loop-byte-init g t c =
     let name = inner_name c.args.name in
     let node = ref_view c.in-Some.node in
     let read = c.in_ok-least.ensures.prefix in
-    let left = sym c.iter-byte-items.ensures.children ∙ sym c.into_iter-byte-iterator.ensures.into_iter_gives in
-    (tt, tt,
-    subst (IsFirstLeast bytes g.row.P s c.in_ok-least.least) left (first_least bytes g.row.P s name (header_at c.args.name.kind node) node.children c.in_ok-least.least (inner_at s c.args.name node c.requires.proper (sym c.in-Some.ensures.view)) c.in_ok-least.ensures.least),
-    (read,
-    subst (HasPassed bytes g.row.P s c.args.seen.now c.args.seen.now (place ++ read.part) node.children) left (passed_none c.args.seen.now (place ++ read.part) node.children),
-    subst (HasWalked bytes g.row.P s (place_in c.args.seen.now) (place_in c.args.seen.now) place read.part name) left (walked_none read.part name node.children c.requires.below)))
+    let left = sym c.iter-byte-items.ensures.children ∙ sym c.into_iter-byte-iterator.ensures.into_iter_gives in (
+      tt,
+      tt,
+      subst (IsFirstLeast bytes g.row.P s c.in_ok-least.least) left (first_least bytes g.row.P s name (header_at c.args.name.kind node) node.children c.in_ok-least.least (inner_at s c.args.name node c.requires.proper (sym c.in-Some.ensures.view)) c.in_ok-least.ensures.least),
+      (
+        read,
+        subst (HasPassed bytes g.row.P s c.args.seen.now c.args.seen.now (place ++ read.part) node.children) left (passed_none c.args.seen.now (place ++ read.part) node.children),
+        subst (HasWalked bytes g.row.P s (place_in c.args.seen.now) (place_in c.args.seen.now) place read.part name) left (walked_none read.part name node.children c.requires.below),
+      ),
+    )
 
 pub returns-in_err-meet-clause-fault : goal.returns-in_err-meet-clause-fault
 returns-in_err-meet-clause-fault g t c =
@@ -180,11 +184,16 @@ loop-byte-preserved g t c =
       | in-Inner+in_ok-check_inner-in-Inner w ↦ ap (λ v. v.items) w.place-is ∙ w.in_ok-check_inner-in-Inner.ensures.place ∙ at
     ] in
     let cut = before_last c.match-split.place.items c.pop.new.self.items (place ++ read.part) byte (vec_len c.match-split.place) whole (sym c.match-split.place.ok.0) c.pop.ensures.rest in
-    let rises : IsBelow byte c.next.new.self = (rising_right (slots_of has.children) ((byte, child) ∷ c.next.new.self) (subst IsRising (sym slots) c.iter-byte-items.ensures.rising)).0 in
-    (tt, tt, tt,
-    (read_again bytes g.row.P s c.pop.new.self.items read cut,
-    passed_more byte child (subst (HasPassed bytes g.row.P s c.args.seen.now c.loop-byte.seen (place ++ read.part) node.children) steps has) passed,
-    walked_more byte child walked rises step more))
+    let rises : IsBelow byte c.next.new.self = (rising_right (slots_of has.children) ((byte, child) ∷ c.next.new.self) (subst IsRising (sym slots) c.iter-byte-items.ensures.rising)).0 in (
+      tt,
+      tt,
+      tt,
+      (
+        read_again bytes g.row.P s c.pop.new.self.items read cut,
+        passed_more byte child (subst (HasPassed bytes g.row.P s c.args.seen.now c.loop-byte.seen (place ++ read.part) node.children) steps has) passed,
+        walked_more byte child walked rises step more,
+      ),
+    )
 
 pub returns-clause-checked : goal.returns-clause-checked
 returns-clause-checked g t c =

@@ -55,17 +55,26 @@ returns-then-ne-clause-fault g c root layout is leaves =
     let off : between node.previous node.next ≢ between c.along.previous c.copied-next.result = elim c.then-ne.branch [
       | then-ne-via-then-ne w ↦ λ e. differs node.previous c.along.previous (sym c.ne.ensures ∙ w.if-ne.true) (ap (λ l. l.previous) e)
       | then-ne-via-else-ne+then-ne-2 w ↦ λ e. differs node.next c.copied-next.result (sym w.ne-else-ne.ensures ∙ w.if-ne-2.true) (ap (λ l. l.next) e)
-    ] in
-    (layout, names_of_leaves done, names_of_leaves c.in-Some.others.now, leaf_name leaf, pair_of node, is,
-    leaves ∙ ap names_of_leaves whole ∙ names_around done leaf c.in-Some.others.now,
-    leaf_at s leaf node (sym c.in-Some-leaf.ensures), sym c.as_bytes.ensures ∙ sym c.in_ok-copy_of.ensures,
-    ap₂ (λ p n. let l : Links OpaqueNodePtr = record { previous = p; next = n } in l) before after,
-    ap (λ o. option_and_then links_of (option_map held_leaf o)) (sym c.in-Some-leaf.ensures), off)
+    ] in (
+      layout,
+      names_of_leaves done,
+      names_of_leaves c.in-Some.others.now,
+      leaf_name leaf,
+      pair_of node,
+      is,
+      leaves ∙ ap names_of_leaves whole ∙ names_around done leaf c.in-Some.others.now,
+      leaf_at s leaf node (sym c.in-Some-leaf.ensures),
+      sym c.as_bytes.ensures ∙ sym c.in_ok-copy_of.ensures,
+      ap₂ (λ p n. let l : Links OpaqueNodePtr = record { previous = p; next = n } in l) before after,
+      ap (λ o. option_and_then links_of (option_map held_leaf o)) (sym c.in-Some-leaf.ensures),
+      off,
+    )
 
 pub along-preserved : goal.along-preserved
 along-preserved g c =
     let (done, parts, before) = c.along.invariant.1 in
-    let leaf = c.in-Some.field-0-0.now in
-    (search rules,
-    (done ++ leaf ∷ [], parts ∙ ap (λ ls. done ++ ls) c.in-Some.ensures.cases.0 ∙ sym (append_assoc done (leaf ∷ []) c.in-Some.others.now), sym (last_more done leaf)),
-    first_of (search rules, grind (arith, common_steps)))
+    let leaf = c.in-Some.field-0-0.now in (
+      search rules,
+      (done ++ leaf ∷ [], parts ∙ ap (λ ls. done ++ ls) c.in-Some.ensures.cases.0 ∙ sym (append_assoc done (leaf ∷ []) c.in-Some.others.now), sym (last_more done leaf)),
+      first_of (search rules, grind (arith, common_steps)),
+    )
