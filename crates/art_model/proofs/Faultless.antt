@@ -134,7 +134,13 @@ module _ {A : Type 0} where
         let held = HoldsBelow-right at c.left (child step.0 c.tree c.right) (subst (HoldsBelow at) c.whole holds.1) in
         let below = AreRadix-right bytes P (place ++ radix.0) c.left (child step.0 c.tree c.right) (subst (AreRadix bytes P (place ++ radix.0)) c.whole radix.4) in
         record {
-          tree = c.tree; left = c.left; right = c.right; whole = c.whole; named = c.named; holds = held.0; radix = below.0;
+          tree = c.tree;
+          left = c.left;
+          right = c.right;
+          whole = c.whole;
+          named = c.named;
+          holds = held.0;
+          radix = below.0;
           apart = λ d. Pairwise-left ◌≢◌ (names_of c.tree) (names_below c.right) (Pairwise-right ◌≢◌ (names_below c.left) (names_below (child step.0 c.tree c.right)) (subst AreDistinct (ap names_below c.whole ∙ names_below-join c.left (child step.0 c.tree c.right)) d));
         }
 

@@ -126,6 +126,7 @@ module _ {A : Type 0} (at : OpaqueNodePtr → Option (Node OpaqueNodePtr A)) (by
       let both : ◌≡◌ {A = ℕ × OpaqueNodePtr} (d.0.1, m) (b, name_of t) = cc in
       let same : m ≡ name_of t = ap (λ c. c.1) both in
       let down = subst (λ k. IsDescent at k ms) same d.1 in
-      subst (λ z. AreDistinct (n ∷ z ∷ ms)) (sym same)
-      (Each-weaker (λ k. IsIn k (names_of t)) (λ k. n ≢ k) (λ k i. each_in (λ z. n ≢ z) k (names_below (child b t cs)) apart.0 (in_left k (names_of t) (names_below cs) i)) (name_of t ∷ ms) (descent_in t ms holds.1.0 down),
-      descent_apart t ms holds.1.0 (Pairwise-left ◌≢◌ (names_of t) (names_below cs) apart.1) down)
+      subst (λ z. AreDistinct (n ∷ z ∷ ms)) (sym same) (
+        Each-weaker (λ k. IsIn k (names_of t)) (λ k. n ≢ k) (λ k i. each_in (λ z. n ≢ z) k (names_below (child b t cs)) apart.0 (in_left k (names_of t) (names_below cs) i)) (name_of t ∷ ms) (descent_in t ms holds.1.0 down),
+        descent_apart t ms holds.1.0 (Pairwise-left ◌≢◌ (names_of t) (names_below cs) apart.1) down,
+      )

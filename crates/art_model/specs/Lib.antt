@@ -27,3 +27,4 @@ pub mod Roots
 pub mod Lookups
 pub mod Clones
 pub mod Gains
+pub mod FaultExamples

@@ -1,12 +1,15 @@
 //! What the definitions give for small maps.
 
 ghost use Rattle.std.specs.Prelude.{◌≡◌, ℕ, List, [], ◌∷◌, take, Option, Some, None, true, false};
+ghost use Rattle.std.specs.declared.cmp.Ordering.TheVariants.{Equal, Greater};
 ghost use Rattle.art_nodes.specs.declared.node.NodeType.TheVariants.{Node4, Node16, Node48, Node256};
 ghost use Rattle.art_model.specs.Pairs.{first_of, last_of, without_first, without_last, put, put_reply, overwrite, overwrite_reply, remove_key, remove_reply, match_of, is_conflict};
 ghost use Rattle.art_model.specs.Trees.{Tree, leaf};
 ghost use Rattle.art_model.specs.Radix.{unmarked};
 ghost use Rattle.art_model.specs.Layouts.{IsLayout, AreLinked, leaf_names};
 ghost use Rattle.art_model.specs.Places.{places, inner_nodes};
+ghost use Rattle.art_model.specs.FaultExamples.{looped, shared, self_linked, linked_to_nothing, misplaced, unreadable, misstored};
+ghost use Rattle.art_model.specs.Faults.{IsTrueOf, dead_name, leaf_sibling_wrong_order, loop_found, prefix_mismatch, stored_prefix_mismatch, unreadable_prefix, wrong_children_count, wrong_sibling_links};
 ghost use Rattle.art_model.specs.Examples.{Key, bytes_of_pair, tree_of_keys, over_two, one_byte_keys, fan, zero_keys, zero_tree, three_pairs, interact, interest, kit, node4, leaf_at, pictured, pictured_at, pictured_links};
 
 /// No key, one key, a prefix longer than the two bytes that can be stored, and a node below a node.
@@ -74,4 +77,22 @@ pub fn a_tree_with_its_names()
     ensures linked { AreLinked pictured_links None (leaf_names pictured) None }
     ensures places { places (λ key. key) 0 pictured ≡ ([], node4 0) ∷ (105 ∷ [], node4 1) ∷ (take 6 interact, leaf_at 2) ∷ (take 6 interest, leaf_at 0) ∷ (107 ∷ [], leaf_at 5) ∷ [] }
     ensures whole_bytes { inner_nodes (λ key. key) 0 pictured ≡ (Node4, [], node4 0) ∷ (Node4, take 5 interact, node4 1) ∷ [] }
+{}
+
+/// Faults that small stores have: a dead name, loops, too few children, a misplaced key, false links and
+/// prefixes that can't be read or are stored wrongly. At most two bytes of a prefix are stored.
+pub fn faults_of_small_stores()
+    ensures dead_root { IsTrueOf bytes_of_pair 2 looped (leaf_at 0) (dead_name [] (leaf_at 0)) }
+    ensures dead_sibling { IsTrueOf bytes_of_pair 2 linked_to_nothing (leaf_at 0) (dead_name [] (leaf_at 7)) }
+    ensures own_child { IsTrueOf bytes_of_pair 2 looped (node4 0) (loop_found (node4 0) [] (5 ∷ [])) }
+    ensures shared_leaf { IsTrueOf bytes_of_pair 2 shared (node4 0) (loop_found (leaf_at 0) (1 ∷ []) (2 ∷ [])) }
+    ensures one_child { IsTrueOf bytes_of_pair 2 misplaced (node4 0) (wrong_children_count [] Node4 1) }
+    ensures other_byte { IsTrueOf bytes_of_pair 2 misplaced (node4 0) (prefix_mismatch (1 ∷ []) (2 ∷ [])) }
+    ensures own_next { IsTrueOf bytes_of_pair 2 self_linked (leaf_at 0)
+        (leaf_sibling_wrong_order (1 ∷ []) (1 ∷ []) Greater Equal) }
+    ensures false_link { IsTrueOf bytes_of_pair 2 self_linked (leaf_at 0) (wrong_sibling_links (1 ∷ [])
+        (record { previous = None; next = None }) (record { previous = None; next = Some (leaf_at 0) })) }
+    ensures no_leaf { IsTrueOf bytes_of_pair 2 unreadable (node4 0) (unreadable_prefix [] (node4 0)) }
+    ensures stored { IsTrueOf bytes_of_pair 2 misstored (node4 0)
+        (stored_prefix_mismatch [] (1 ∷ 2 ∷ []) (1 ∷ 1 ∷ [])) }
 {}

@@ -6,7 +6,7 @@ use Rattle.artrun.specs.Keys.{IsKeyWord}
 use Rattle.artrun.specs.Lines.{line_of, HasSmallValue}
 use Rattle.artrun.specs.declared.line.KeyWord.{KeyWord}
 use Rattle.artrun.specs.declared.line.Request.{Request}
-use Rattle.artrun.specs.declared.line.Request.TheVariants.{Insert, Prefix, Delete, First, Last, Clone, Find, Longest, Walk, Back, Nodes}
+use Rattle.artrun.specs.declared.line.Request.TheVariants.{Insert, Prefix, Delete, First, Last, Clone, Find, Longest, Walk, Back, Nodes, Check}
 
 -- the character at a place of a line
 abbrev at : ℕ → List ℕ → ℕ
@@ -28,6 +28,7 @@ no_insert line words is none Clone small same = omega (arith, ap (at 0) (sym is 
 no_insert line words is none Walk small same = omega (arith, ap (at 0) (sym is ∙ same))
 no_insert line words is none Back small same = omega (arith, ap (at 0) (sym is ∙ same))
 no_insert line words is none Nodes small same = omega (arith, ap (at 0) (sym is ∙ same))
+no_insert line words is none Check small same = omega (arith, ap (at 0) (sym is ∙ same))
 
 pub no_prefix : (line words : List ℕ) → line ≡ codes "prefix " ++ words → ((key : List ℕ) (value : ℕ) → IsKeyWord key → value < 2 ^ 32 → words ≢ key ++ 32 ∷ decimal value) → (request : Request) → HasSmallValue request → line ≢ line_of request
 no_prefix line words is none (Insert key value) small same = omega (arith, ap (at 0) (sym is ∙ same))
@@ -42,6 +43,7 @@ no_prefix line words is none Clone small same = omega (arith, ap (at 0) (sym is 
 no_prefix line words is none Walk small same = omega (arith, ap (at 0) (sym is ∙ same))
 no_prefix line words is none Back small same = omega (arith, ap (at 0) (sym is ∙ same))
 no_prefix line words is none Nodes small same = omega (arith, ap (at 0) (sym is ∙ same))
+no_prefix line words is none Check small same = omega (arith, ap (at 0) (sym is ∙ same))
 
 pub no_delete : (line word : List ℕ) → line ≡ codes "delete " ++ word → ¬ (IsKeyWord word) → (request : Request) → HasSmallValue request → line ≢ line_of request
 no_delete line word is none (Insert key value) small same = omega (arith, ap (at 0) (sym is ∙ same))
@@ -55,6 +57,7 @@ no_delete line word is none Clone small same = omega (arith, ap (at 0) (sym is �
 no_delete line word is none Walk small same = omega (arith, ap (at 0) (sym is ∙ same))
 no_delete line word is none Back small same = omega (arith, ap (at 0) (sym is ∙ same))
 no_delete line word is none Nodes small same = omega (arith, ap (at 0) (sym is ∙ same))
+no_delete line word is none Check small same = omega (arith, ap (at 0) (sym is ∙ same))
 
 pub no_longest : (line word : List ℕ) → line ≡ codes "longest " ++ word → ¬ (IsKeyWord word) → (request : Request) → HasSmallValue request → line ≢ line_of request
 no_longest line word is none (Insert key value) small same = omega (arith, ap (at 0) (sym is ∙ same))
@@ -68,6 +71,7 @@ no_longest line word is none Clone small same = omega (arith, ap (at 0) (sym is 
 no_longest line word is none Walk small same = omega (arith, ap (at 0) (sym is ∙ same))
 no_longest line word is none Back small same = omega (arith, ap (at 0) (sym is ∙ same))
 no_longest line word is none Nodes small same = omega (arith, ap (at 0) (sym is ∙ same))
+no_longest line word is none Check small same = omega (arith, ap (at 0) (sym is ∙ same))
 
 pub no_find : (line word : List ℕ) → line ≡ codes "find " ++ word → ¬ (IsKeyWord word) → (request : Request) → HasSmallValue request → line ≢ line_of request
 no_find line word is none (Insert key value) small same = omega (arith, ap (at 0) (sym is ∙ same))
@@ -81,3 +85,4 @@ no_find line word is none Clone small same = omega (arith, ap (at 0) (sym is ∙
 no_find line word is none Walk small same = omega (arith, ap (at 0) (sym is ∙ same))
 no_find line word is none Back small same = omega (arith, ap (at 0) (sym is ∙ same))
 no_find line word is none Nodes small same = omega (arith, ap (at 0) (sym is ∙ same))
+no_find line word is none Check small same = omega (arith, ap (at 0) (sym is ∙ same))

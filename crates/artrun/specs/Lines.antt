@@ -3,7 +3,7 @@ use Rattle.std.specs.Prelude.{ℕ, ◌<◌, ◌^◌, ⊤, List, [], ◌∷◌, c
 use Rattle.std.specs.List.{join_with_byte}
 use Rattle.std.specs.Fmt.{decimal}
 use Rattle.artrun.specs.declared.line.Request.{Request}
-use Rattle.artrun.specs.declared.line.Request.TheVariants.{Insert, Prefix, Delete, First, Last, Clone, Find, Longest, Walk, Back, Nodes}
+use Rattle.artrun.specs.declared.line.Request.TheVariants.{Insert, Prefix, Delete, First, Last, Clone, Find, Longest, Walk, Back, Nodes, Check}
 
 -- the words of the line that asks for it
 abbrev pub words_of : Request → List (List ℕ)
@@ -18,6 +18,7 @@ words_of (Longest key) = codes "longest" ∷ key.word.now ∷ []
 words_of Walk = codes "walk" ∷ []
 words_of Back = codes "back" ∷ []
 words_of Nodes = codes "nodes" ∷ []
+words_of Check = codes "check" ∷ []
 
 -- the line that asks for it, without a line feed: its words, with one space between two
 abbrev pub line_of : Request → List ℕ

@@ -4,7 +4,7 @@ ghost use Rattle.std.specs.Prelude.{◌≤◌};
 ghost use Rattle.artrun.specs.KeptTrees.{IsKept};
 
 use crate::line::Request;
-use crate::print::{Order, write_no_memory, write_reply};
+use crate::print::{Order, write_check, write_no_memory, write_reply};
 use crate::tree::KeptTree;
 use art_operations::run::Command;
 use std::alloc::{AllocError, Global};
@@ -77,6 +77,7 @@ fn answer(
         Request::Walk => return tree.write_pairs(output, Order::Rising),
         Request::Back => return tree.write_pairs(output, Order::Falling),
         Request::Nodes => return tree.write_nodes(output),
+        Request::Check => return write_check(output, &tree.check()),
     };
     let Ok(command) = command else {
         return write_no_memory(output);

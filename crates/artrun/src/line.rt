@@ -29,6 +29,7 @@ pub enum Request<'a> {
     Walk,
     Back,
     Nodes,
+    Check,
 }
 
 impl<'a> KeyWord<'a> {
@@ -88,7 +89,7 @@ impl<'a> Request<'a> {
     // What a line of one word asks for.
     fn parse_word(line: &[u8]) -> Option<Self>
         ensures line { IfSome result (λ request. line.now ≡ line_of request) }
-        ensures none { IfNone result ((line.now ≢ codes "first") × (line.now ≢ codes "last") × (line.now ≢ codes "clone") × (line.now ≢ codes "walk") × (line.now ≢ codes "back") × (line.now ≢ codes "nodes")) }
+        ensures none { IfNone result ((line.now ≢ codes "first") × (line.now ≢ codes "last") × (line.now ≢ codes "clone") × (line.now ≢ codes "walk") × (line.now ≢ codes "back") × (line.now ≢ codes "nodes") × (line.now ≢ codes "check")) }
     {
         if line == b"first".as_slice() {
             return Some(Request::First);
@@ -107,6 +108,9 @@ impl<'a> Request<'a> {
         }
         if line == b"nodes".as_slice() {
             return Some(Request::Nodes);
+        }
+        if line == b"check".as_slice() {
+            return Some(Request::Check);
         }
         None
     }

@@ -10,6 +10,7 @@ use art_nodes::store::NodeStore;
 use art_operations::iterator::RawIterator;
 use art_operations::minmax::{maximum_unchecked, minimum_unchecked};
 use art_operations::run::Reply;
+use art_operations::well_formed::{MalformedTreeError, WellFormedTreeStats};
 use std::io::Write;
 use std::{fmt, io};
 
@@ -69,6 +70,21 @@ pub fn write_reply(output: &mut impl Write, reply: &Reply<Vec<u8>, u32>) -> io::
         Reply::MatchLen(Some(len)) => writeln!(output, "match {len}"),
         Reply::MatchLen(None) => writeln!(output, "none"),
         Reply::NoMemory(_) => write_no_memory(output),
+    }
+}
+
+/// Writes what a check has found, a line.
+pub fn write_check(
+    output: &mut impl Write,
+    checked: &Result<WellFormedTreeStats, MalformedTreeError>,
+) -> io::Result<()> {
+    match checked {
+        Ok(stats) => {
+            let WellFormedTreeStats { num_leaf, num_inner } = stats;
+            writeln!(output, "ok {num_leaf} leaves {num_inner} inner")
+        }
+        Err(MalformedTreeError::OutOfMemory) => write_no_memory(output),
+        Err(fault) => writeln!(output, "fault: {fault}"),
     }
 }
 

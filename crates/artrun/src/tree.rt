@@ -1,6 +1,7 @@
 //! The tree that the lines so far have left, and the stores that it lives in.
-ghost use Rattle.std.specs.Prelude.{◌≡◌, ◌∷◌, [], None, IfOk, OnErr};
+ghost use Rattle.std.specs.Prelude.{◌≡◌, ◌∷◌, [], None, IfOk, IfErr, OnErr};
 ghost use Rattle.art_nodes.specs.Clones.{IsPairClone};
+ghost use Rattle.art_checking.specs.declared.well_formed.fault.MalformedTreeError.TheVariants.{OutOfMemory};
 ghost use Rattle.art_operations.specs.Runs.{IsRun};
 ghost use Rattle.art_operations.specs.declared.run.Side.{Side};
 ghost use Rattle.artrun.specs.Trees.{key_bytes};
@@ -9,6 +10,7 @@ use crate::print::{Order, write_nodes, write_pairs};
 use art_nodes::node::OpaqueNodePtr;
 use art_nodes::store::NodeStore;
 use art_operations::run::{Command, Reply, Side, run};
+use art_operations::well_formed::{MalformedTreeError, WellFormedChecker, WellFormedTreeStats};
 use std::alloc::{AllocError, Global};
 use std::io::Write;
 use std::{io, mem};
@@ -51,6 +53,14 @@ impl KeptTree {
         requires { IsKept self.now }
     {
         write_pairs(output, &self.first, self.root, order)
+    }
+
+    /// Counts the leaves and the inner nodes of the tree, which has no fault.
+    pub fn check(&self) -> Result<WellFormedTreeStats, MalformedTreeError>
+        requires { IsKept self.now }
+        ensures { IfErr result (λ error. error ≡ OutOfMemory) }
+    {
+        WellFormedChecker::check(&self.first, self.root, 0)
     }
 
     /// Answers one more command, by a run of it alone. An `Err` leaves the tree as it is.
