@@ -129,10 +129,10 @@ impl WellFormedChecker {
     {
         let seen = check_nodes(store, root)?;
         check_links(store, &seen.leaves)?;
-        let num_leaf = seen.leaves.len();
+        let leaves = seen.leaves.len();
         Ok(WellFormedTreeStats {
-            num_leaf,
-            num_inner: seen.count() - num_leaf,
+            num_leaf: leaves,
+            num_inner: seen.count() - leaves,
         })
     }
 

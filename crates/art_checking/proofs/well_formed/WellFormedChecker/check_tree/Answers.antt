@@ -18,12 +18,12 @@ check_links-requires g c = (search rules, subst (Each (λ leaf. IsSome (map.get 
 pub overflow_sub-result : goal.overflow_sub-result
 overflow_sub-result g c =
     let few = fewer_leaves c.in_ok-seen.ensures.met in
-    let leaves = c.len-num_leaf.ensures ∙ c.in_ok-seen.seen.leaves.ok.0 in
+    let leaves = c.len-leaves.ensures ∙ c.in_ok-seen.seen.leaves.ok.0 in
     let all = c.count.ensures in
     omega arith
 
 pub returns-clause-well_formed : goal.returns-clause-well_formed
-returns-clause-well_formed g c = well_formed c.in_ok-seen.ensures.met c.len-num_leaf.result c.count.result (subst (λ ls. AreLinked (links_at c.args.store.now) None (names_of_leaves ls) None) c.deref.ensures.value c.in_ok-check_links.ensures.linked) (c.len-num_leaf.ensures ∙ c.in_ok-seen.seen.leaves.ok.0) c.count.ensures
+returns-clause-well_formed g c = well_formed c.in_ok-seen.ensures.met c.len-leaves.result c.count.result (subst (λ ls. AreLinked (links_at c.args.store.now) None (names_of_leaves ls) None) c.deref.ensures.value c.in_ok-check_links.ensures.linked) (c.len-leaves.ensures ∙ c.in_ok-seen.seen.leaves.ok.0) c.count.ensures
 
 pub returns-in_err-seen-clause-canonical : goal.returns-in_err-seen-clause-canonical
 returns-in_err-seen-clause-canonical g c canonical =
