@@ -8,7 +8,7 @@ use Rattle.art_nodes.specs.declared.node.NodeType.TheVariants.{Node4, Node16}
 use Rattle.art_operations.specs.Answers.{Answers, pairs_after}
 use Rattle.art_operations.specs.Needs.{needs}
 use Rattle.art_operations.specs.Runs.{Chain}
-use Rattle.art_operations.specs.declared.insert.InsertPrefixError.{InsertPrefixError}
+use Rattle.art_writing.specs.declared.insert.InsertPrefixError.{InsertPrefixError}
 use Rattle.art_operations.specs.declared.run.Command.TheVariants.{Insert, Delete, DeleteMin, DeleteMax, Contains, LongestMatch}
 use Rattle.art_operations.specs.declared.run.Reply.TheVariants.{Inserted, Conflict, Deleted, Found, MatchLen, NoMemory}
 

@@ -25,12 +25,12 @@ use Rattle.art_model.proofs.Keys.{related_sym, same_equal}
 use Rattle.art_model.proofs.Lists.{Each-weaker}
 use Rattle.art_model.proofs.MapLaws.{first_is_removed_by_key, last_is_removed_by_key}
 use Rattle.art_operations.specs.Answers.{Answers}
-use Rattle.art_operations.specs.Deleted.{LeadsTo, IsDeletePoint}
-use Rattle.art_operations.specs.declared.delete.DeletePoint.{DeletePoint}
+use Rattle.art_writing.specs.Deleted.{LeadsTo, IsDeletePoint}
+use Rattle.art_writing.specs.declared.delete.DeletePoint.{DeletePoint}
 use Rattle.art_operations.specs.declared.run.Command.{Command}
 use Rattle.art_operations.specs.declared.run.Command.TheVariants.{Delete, DeleteMin, DeleteMax}
 use Rattle.art_operations.specs.declared.run.Reply.TheVariants.{Deleted}
-use Rattle.art_operations.proofs.Partings.{no_conflict}
+use Rattle.art_writing.proofs.Partings.{no_conflict}
 
 module _ {A : Type 0} (test : A → Bool) where
   -- something passes a test exactly where the first that passes is there

@@ -13,7 +13,8 @@ use Rattle.art_model.specs.Radix.{pairs_of}
 use Rattle.art_model.specs.Roots.{ForTree}
 use Rattle.art_model.proofs.Canonical.{tree_radix}
 use Rattle.art_operations.specs.Runs.{on, of_side, beside, shown}
-use Rattle.art_operations.specs.Steps.{State, SameNodes, Step, opposite}
+use Rattle.art_operations.specs.Steps.{State, Step, opposite}
+use Rattle.art_writing.specs.Writes.{SameNodes}
 use Rattle.art_operations.specs.declared.run.Command.TheVariants.{Clone}
 use Rattle.art_operations.specs.declared.run.Reply.TheVariants.{Cloned, NoMemory}
 use Rattle.art_operations.specs.declared.run.Side.{Side}

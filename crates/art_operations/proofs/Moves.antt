@@ -11,7 +11,8 @@ use Rattle.art_model.specs.Roots.{IsRootOf}
 use Rattle.art_model.specs.Trees.{Tree}
 use Rattle.art_model.proofs.Canonical.{tree_radix}
 use Rattle.art_operations.specs.Answers.{Answers}
-use Rattle.art_operations.specs.Steps.{State, SameNodes, NothingChanged, IsSound, Step, pairs_in}
+use Rattle.art_operations.specs.Steps.{State, NothingChanged, IsSound, Step, pairs_in}
+use Rattle.art_writing.specs.Writes.{SameNodes}
 use Rattle.art_operations.specs.Runs.{Shown, on, of_side, beside, shown, MakesStep}
 use Rattle.art_operations.specs.declared.run.Command.{Command}
 use Rattle.art_operations.specs.declared.run.Reply.{Reply}

@@ -42,21 +42,22 @@ use Rattle.art_model.proofs.Stores.{path_holds}
 use Rattle.art_model.specs.Writes.{as_inner}
 use Rattle.art_model.proofs.Writes.{inner_at}
 use Rattle.art_operations.specs.Answers.{Answers}
-use Rattle.art_operations.specs.Inserted.{placed_for, is_full, HasByteLeft}
-use Rattle.art_operations.specs.Deleted.{LeadsTo, ParentChange, no_parent, keeps, shrinks, change_of, parent_change, placed_for_deletion}
-use Rattle.art_operations.specs.Matching.{shared_len}
+use Rattle.art_writing.specs.Inserted.{placed_for, is_full, HasByteLeft}
+use Rattle.art_writing.specs.Deleted.{LeadsTo, ParentChange, no_parent, keeps, shrinks, change_of, parent_change, placed_for_deletion}
+use Rattle.art_reading.specs.Matching.{shared_len}
 use Rattle.art_operations.specs.Needs.{needs, count_of, count_below, more_of, inner_count}
-use Rattle.art_operations.specs.Points.{AnswersTo, IsKindOf, path_of}
-use Rattle.art_operations.specs.declared.delete.DeletePoint.{DeletePoint}
-use Rattle.art_operations.specs.declared.insert.InsertKind.{InsertKind}
-use Rattle.art_operations.specs.declared.insert.InsertKind.TheVariants.{MismatchPrefix, SplitLeaf, Exact, IntoExisting}
-use Rattle.art_operations.specs.declared.insert.InsertPoint.{InsertPoint}
+use Rattle.art_writing.specs.Points.{AnswersTo, IsKindOf}
+use Rattle.art_reading.specs.Paths.{path_of}
+use Rattle.art_writing.specs.declared.delete.DeletePoint.{DeletePoint}
+use Rattle.art_writing.specs.declared.insert.InsertKind.{InsertKind}
+use Rattle.art_writing.specs.declared.insert.InsertKind.TheVariants.{MismatchPrefix, SplitLeaf, Exact, IntoExisting}
+use Rattle.art_writing.specs.declared.insert.InsertPoint.{InsertPoint}
 use Rattle.art_operations.specs.declared.run.Command.{Command}
 use Rattle.art_operations.specs.declared.run.Command.TheVariants.{Insert, InsertPrefix, Delete, DeleteMin, DeleteMax, Contains, LongestMatch, Clone}
 use Rattle.art_operations.specs.declared.run.Reply.TheVariants.{Deleted}
 use Rattle.art_operations.proofs.Counts.{one, count-join, more_in_hole, fewer_in_hole, gains, loses}
 use Rattle.art_operations.proofs.Found.{any_first}
-use Rattle.art_operations.proofs.Ways.{last_step-path_of}
+use Rattle.art_writing.proofs.Ways.{last_step-path_of}
 
 -- ---- a key that is new, or not
 

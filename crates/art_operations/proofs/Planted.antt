@@ -20,8 +20,8 @@ use Rattle.art_model.specs.Trees.{leaf}
 use Rattle.art_model.proofs.Canonical.{canonical_from}
 use Rattle.art_model.proofs.InPlace.{others_kept}
 use Rattle.art_model.proofs.Touches.{Touched, touched_none, then_placed, footprint_of, touches_at_most}
-use Rattle.art_operations.specs.Inserted.{alone}
-use Rattle.art_operations.specs.Writes.{IsPlanted}
+use Rattle.art_writing.specs.Inserted.{alone}
+use Rattle.art_writing.specs.Writes.{IsPlanted}
 use Rattle.art_operations.specs.declared.run.Side.{Side}
 use Rattle.art_operations.specs.declared.run.Command.TheVariants.{Insert, InsertPrefix}
 use Rattle.art_operations.specs.declared.run.Reply.TheVariants.{Inserted, Overwrote, NoMemory}

@@ -28,15 +28,15 @@ use Rattle.art_model.proofs.Paths.{IsHole, changed_at, related_at}
 use Rattle.art_model.proofs.PutOver.{free_unrelated, one_went, same_rest}
 use Rattle.art_model.proofs.Views.{leaf_or}
 use Rattle.art_operations.specs.Needs.{needs, more_of, inner_count}
-use Rattle.art_operations.specs.Overwritten.{HasByteLeftFor, IsOverwritePointIn, TouchesForNode, TouchesForPrefix, TouchesRelated, placed_for_overwrite, placed_for_prefix}
-use Rattle.art_operations.specs.Points.{AnswersToOverwrite, IsPointFor}
-use Rattle.art_operations.specs.Inserted.{alone, placed_for}
+use Rattle.art_writing.specs.Overwritten.{HasByteLeftFor, IsOverwritePointIn, TouchesForNode, TouchesForPrefix, TouchesRelated, placed_for_overwrite, placed_for_prefix}
+use Rattle.art_writing.specs.Points.{AnswersToOverwrite, IsPointFor}
+use Rattle.art_writing.specs.Inserted.{alone, placed_for}
 use Rattle.art_operations.specs.Steps.{TouchesBy}
-use Rattle.art_operations.specs.declared.insert.OverwritePoint.{OverwritePoint}
-use Rattle.art_operations.specs.declared.insert.InsertKind.{InsertKind}
-use Rattle.art_operations.specs.declared.insert.InsertKind.TheVariants.{MismatchPrefix, SplitLeaf, Exact, IntoExisting}
-use Rattle.art_operations.specs.declared.insert.PrefixInsertPoint.{PrefixInsertPoint}
-use Rattle.art_operations.specs.declared.insert.PrefixInsertPoint.TheVariants as points
+use Rattle.art_writing.specs.declared.insert.OverwritePoint.{OverwritePoint}
+use Rattle.art_writing.specs.declared.insert.InsertKind.{InsertKind}
+use Rattle.art_writing.specs.declared.insert.InsertKind.TheVariants.{MismatchPrefix, SplitLeaf, Exact, IntoExisting}
+use Rattle.art_writing.specs.declared.insert.PrefixInsertPoint.{PrefixInsertPoint}
+use Rattle.art_writing.specs.declared.insert.PrefixInsertPoint.TheVariants as points
 use Rattle.art_operations.specs.declared.run.Side.{Side}
 use Rattle.art_operations.specs.declared.run.Command.TheVariants.{Insert, InsertPrefix}
 use Rattle.art_operations.specs.declared.run.Reply.TheVariants.{Overwrote, NoMemory}
@@ -44,8 +44,8 @@ use Rattle.art_operations.proofs.Counts.{fewer_in_hole, loses}
 use Rattle.art_operations.proofs.Found.{any_first}
 use Rattle.art_operations.proofs.Moves.{Layout, StepFrom, nothing, own_pairs}
 use Rattle.art_operations.proofs.Needed.{needs_inserted}
-use Rattle.art_operations.proofs.Standing.{tree_stays}
-use Rattle.art_operations.proofs.Overwrites.{related_leaf, subtree_at}
+use Rattle.art_writing.proofs.Standing.{tree_stays}
+use Rattle.art_writing.proofs.Overwrites.{related_leaf, subtree_at}
 use Rattle.art_operations.proofs.Stepped.{IsRefused, at_root, insertion_touches, pairs_back, touches_more}
 
 -- what is overwritten: one pair, in its leaf, or more, below an inner node

@@ -22,21 +22,22 @@ use Rattle.art_model.proofs.Stores.{path_holds}
 use Rattle.art_model.proofs.Views.{leaf_there}
 use Rattle.art_model.proofs.Canonical.{tree_radix}
 use Rattle.art_operations.specs.Answers.{Answers}
-use Rattle.art_operations.specs.Deleted.{TouchesFor, ParentChange, no_parent, keeps, shrinks, is_compressed, parent_change, LeadsTo, placed_for_deletion}
-use Rattle.art_operations.specs.Inserted.{IsPointIn, HasByteLeft, Touches, alone, is_full, placed_for}
+use Rattle.art_writing.specs.Deleted.{TouchesFor, ParentChange, no_parent, keeps, shrinks, is_compressed, parent_change, LeadsTo, placed_for_deletion}
+use Rattle.art_writing.specs.Inserted.{IsPointIn, HasByteLeft, Touches, alone, is_full, placed_for}
 use Rattle.art_operations.specs.Needs.{needs}
-use Rattle.art_operations.specs.Points.{AnswersTo}
-use Rattle.art_operations.specs.Steps.{SameNodes, Changes, MayRefuse, Promises, TouchesBy}
-use Rattle.art_operations.specs.declared.delete.DeletePoint.{DeletePoint}
-use Rattle.art_operations.specs.declared.insert.InsertKind.{InsertKind}
-use Rattle.art_operations.specs.declared.insert.InsertKind.TheVariants.{MismatchPrefix, SplitLeaf, Exact, IntoExisting}
-use Rattle.art_operations.specs.declared.insert.InsertPoint.{InsertPoint}
-use Rattle.art_operations.specs.declared.insert.InsertPrefixError.{InsertPrefixError}
+use Rattle.art_writing.specs.Points.{AnswersTo}
+use Rattle.art_operations.specs.Steps.{Changes, MayRefuse, Promises, TouchesBy}
+use Rattle.art_writing.specs.Writes.{SameNodes}
+use Rattle.art_writing.specs.declared.delete.DeletePoint.{DeletePoint}
+use Rattle.art_writing.specs.declared.insert.InsertKind.{InsertKind}
+use Rattle.art_writing.specs.declared.insert.InsertKind.TheVariants.{MismatchPrefix, SplitLeaf, Exact, IntoExisting}
+use Rattle.art_writing.specs.declared.insert.InsertPoint.{InsertPoint}
+use Rattle.art_writing.specs.declared.insert.InsertPrefixError.{InsertPrefixError}
 use Rattle.art_operations.specs.declared.run.Command.{Command}
 use Rattle.art_operations.specs.declared.run.Side.{Side}
 use Rattle.art_operations.specs.declared.run.Command.TheVariants.{Insert, InsertPrefix, Delete, DeleteMin, DeleteMax, Contains, LongestMatch, Clone}
 use Rattle.art_operations.specs.declared.run.Reply.TheVariants.{Inserted, Conflict, Deleted, NoMemory}
-use Rattle.art_operations.proofs.Standing.{tree_stays}
+use Rattle.art_writing.proofs.Standing.{tree_stays}
 use Rattle.art_operations.proofs.Moves.{Layout, StepFrom, has_tree, own_pairs, nothing, in_store}
 use Rattle.art_operations.proofs.Found.{conflict_new}
 use Rattle.art_operations.proofs.Needed.{needs_inserted, needs_deleted}

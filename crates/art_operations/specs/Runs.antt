@@ -5,9 +5,9 @@ use Rattle.art_nodes.specs.declared.node.OpaqueNodePtr.{OpaqueNodePtr}
 use Rattle.art_model.specs.Pairs.{of_key, remove_key}
 use Rattle.art_model.specs.Roots.{ForTree}
 use Rattle.art_operations.specs.Answers.{Answers}
-use Rattle.art_operations.specs.Deleted.{LeadsTo}
+use Rattle.art_writing.specs.Deleted.{LeadsTo}
 use Rattle.art_operations.specs.Steps.{State, Step, IsSound, root_in}
-use Rattle.art_operations.specs.declared.delete.DeletePoint.{DeletePoint}
+use Rattle.art_writing.specs.declared.delete.DeletePoint.{DeletePoint}
 use Rattle.art_operations.specs.declared.run.Command.{Command}
 use Rattle.art_operations.specs.declared.run.Reply.{Reply}
 use Rattle.art_operations.specs.declared.run.Reply.TheVariants.{Deleted}

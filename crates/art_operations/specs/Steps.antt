@@ -13,7 +13,8 @@ use Rattle.art_model.specs.Roots.{IsRootOf}
 use Rattle.art_model.specs.Trees.{Tree}
 use Rattle.art_operations.specs.Answers.{Answers}
 use Rattle.art_operations.specs.Needs.{needs}
-use Rattle.art_operations.specs.Overwritten.{TouchesRelated}
+use Rattle.art_writing.specs.Overwritten.{TouchesRelated}
+use Rattle.art_writing.specs.Writes.{SameNodes}
 use Rattle.art_operations.specs.declared.run.Command.{Command}
 use Rattle.art_operations.specs.declared.run.Command.TheVariants.{Insert, InsertPrefix, Clone}
 use Rattle.art_operations.specs.declared.run.Reply.{Reply}
@@ -42,10 +43,6 @@ module _ {K V : Type 0} where
   -- the root of the tree
   abbrev pub root_in : State K V → Option OpaqueNodePtr
   root_in state = option_map name_of state.tree
-
-  -- the same nodes under the same names
-  abbrev pub SameNodes : Nodes K V → Nodes K V → Type 0
-  SameNodes old new = (new.leaves ≡ old.leaves) × (new.inners ≡ old.inners)
 
   -- No node of the tree's store changed, and the other store is as it was; of the promise this says nothing.
   pub record NothingChanged (old new : State K V) : Type 0 where

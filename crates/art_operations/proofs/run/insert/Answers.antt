@@ -4,7 +4,7 @@ use Rattle.std.specs.Option.{option_map}
 use Rattle.art_model.specs.Pairs.{of_key, is_conflict}
 use Rattle.art_model.specs.Radix.{pairs_of}
 use Rattle.art_model.specs.Stores.{pair_of}
-use Rattle.art_operations.specs.Points.{AnswersTo}
+use Rattle.art_writing.specs.Points.{AnswersTo}
 use Rattle.art_operations.proofs.Moves.{from_none, from_root, from_kept_root}
 use Rattle.art_operations.proofs.Planted.{planted_step, unplanted_step}
 use Rattle.art_operations.proofs.Stepped.{inserted_step, refused_step, conflict_step, no_bytes_step, at_root, is_point, not_false}

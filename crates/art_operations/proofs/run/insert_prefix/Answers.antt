@@ -4,11 +4,11 @@ use Rattle.std.specs.Option.{option_map}
 use Rattle.art_model.specs.Pairs.{of_key}
 use Rattle.art_model.specs.Radix.{pairs_of}
 use Rattle.art_model.specs.Stores.{pair_of}
-use Rattle.art_operations.specs.Points.{IsPointFor}
+use Rattle.art_writing.specs.Points.{IsPointFor}
 use Rattle.art_operations.proofs.Moves.{from_none, from_root, from_kept_root}
 use Rattle.art_operations.proofs.Planted.{planted_prefix_step, unplanted_prefix_step}
 use Rattle.art_operations.proofs.PrefixSteps.{prefix_step, prefix_refused}
-use Rattle.art_operations.proofs.Standing.{prefix_at}
+use Rattle.art_writing.proofs.Standing.{prefix_at}
 use Rattle.art_operations.proofs.run.insert_prefix.Goals as goal
 
 pub returns-in-Ok : goal.returns-in-Ok

@@ -1,0 +1,110 @@
+-- what the comparison at the last leaf tells
+use Rattle.std.proofs.Common.{◌≡◌, ℕ, ◌+◌, ◌≤◌, ◌↔◌, min, List, [], ◌∷◌, ◌++◌, length, drop, refl, subst, ap, sym, ◌∙◌, arith, append_assoc, length-append, Some, Bool, true, false, IsTrue}
+use Rattle.std.proofs.lemmas.Bool.{false≢true}
+use Rattle.std.proofs.lemmas.List.{append_cancel_left}
+use Rattle.art_model.specs.Keys.{IsFront, is_front, are_same}
+use Rattle.art_model.specs.Pairs.{match_of, with_key}
+use Rattle.art_model.specs.Lookups.{FindsLeaf, nodes_on_way}
+use Rattle.art_model.specs.Stores.{pair_of}
+use Rattle.art_model.specs.Trees.{Tree}
+use Rattle.art_model.proofs.Lists.{after_front, front_trans}
+use Rattle.art_model.proofs.Keys.{front_from, front_is, front_same, same_equal}
+use Rattle.art_nodes.specs.declared.node.OpaqueNodePtr.{OpaqueNodePtr}
+use Rattle.art_reading.specs.declared.ways.LastLeaf.{LastLeaf}
+use Rattle.art_reading.specs.declared.lookup.PrefixMatchBehavior.{PrefixMatchBehavior}
+use Rattle.art_reading.specs.declared.lookup.PrefixMatchBehavior.TheVariants.{Pessimistic, Optimistic}
+use Rattle.art_reading.specs.Matching.{compared_from, MatchesLeafKey, LeafKeyIsPrefix}
+use Rattle.art_reading.specs.Walks.{IsKeysLeaf, IsLastLeaf}
+
+-- both keys have the same bytes before those that are compared
+record IsShared (leaf query : List ℕ) (n : ℕ) : Type 0 where
+  front : List ℕ
+  leaf_is : leaf ≡ front ++ drop n leaf
+  query_is : query ≡ front ++ drop n query
+
+shared_front : (behavior : PrefixMatchBehavior) (depth : ℕ) (place leaf query : List ℕ) → length place ≡ depth → depth ≤ length query → IsFront place leaf → (behavior ≡ Pessimistic → IsFront place query) → IsShared leaf query (compared_from behavior depth leaf query)
+shared_front Optimistic depth place leaf query at short leads compared = record { front = []; leaf_is = refl; query_is = refl }
+shared_front Pessimistic depth place leaf query at short leads compared =
+    let (r, e) = leads in
+    let (q, f) = compared refl in
+    let l = ap length e in
+    let n : min depth (min (length leaf) (length query)) ≡ length place = omega (arith, simp length-append at l) in
+    record {
+      front = place;
+      leaf_is = e ∙ ap (λ xs. place ++ xs) (sym (after_front place leaf r e) ∙ ap (λ k. drop k leaf) (sym n));
+      query_is = f ∙ ap (λ xs. place ++ xs) (sym (after_front place query q f) ∙ ap (λ k. drop k query) (sym n));
+    }
+
+module _ {leaf query : List ℕ} {n : ℕ} (s : IsShared leaf query n) where
+  whole_same : drop n leaf ≡ drop n query → leaf ≡ query
+  whole_same e = s.leaf_is ∙ ap (λ xs. s.front ++ xs) e ∙ sym s.query_is
+
+  whole_front : IsFront (drop n leaf) (drop n query) → IsFront leaf query
+  whole_front (r, e) = (r, s.query_is ∙ ap (λ xs. s.front ++ xs) e ∙ sym (append_assoc s.front (drop n leaf) r) ∙ ap (λ xs. xs ++ r) (sym s.leaf_is))
+
+  rest_front : IsFront leaf query → IsFront (drop n leaf) (drop n query)
+  rest_front (r, e) = (r, append_cancel_left s.front (drop n query) (drop n leaf ++ r) (sym s.query_is ∙ e ∙ ap (λ xs. xs ++ r) s.leaf_is ∙ append_assoc s.front (drop n leaf) r))
+
+module _ {A : Type 0} (bytes : A → List ℕ) (key : List ℕ) where
+  -- an equal key matches
+  pub with_key-match_of : (xs : List A) → with_key bytes key (match_of bytes key xs) ≡ with_key bytes key xs
+  with_key-match_of [] = refl
+  with_key-match_of (x ∷ xs) = go (with_key-match_of xs) (is_front (bytes x) key) (is_front key (bytes x)) refl refl
+    where
+      go : with_key bytes key (match_of bytes key xs) ≡ with_key bytes key xs → (t u : Bool) → is_front (bytes x) key ≡ t → is_front key (bytes x) ≡ u → with_key bytes key (match_of bytes key (x ∷ xs)) ≡ with_key bytes key (x ∷ xs)
+      go ih true true e f = rw (e, f, e) (ap (λ l. x ∷ l) ih)
+      go ih true false e f = rw (e, f) ih
+      go ih false true e f = rw (e, f) ih
+      go ih false false e f = rw (e, f) ih
+
+module _ {K V : Type 0} {bytes : K × V → List ℕ} {key : List ℕ} {pairs : List (K × V)} {layout : Tree OpaqueNodePtr (K × V)} {before after : ℕ} {last : LastLeaf K V} (h : IsLastLeaf bytes key pairs layout before after last) where
+  shared : IsShared (bytes (pair_of last.node.now)) key (compared_from last.behavior last.depth (bytes (pair_of last.node.now)) key)
+  shared = shared_front last.behavior last.depth h.place (bytes (pair_of last.node.now)) key h.depth_is h.is_short h.leads_to h.compared
+
+  only_with_key : with_key bytes key pairs ≡ with_key bytes key (pair_of last.node.now ∷ [])
+  only_with_key = sym (with_key-match_of bytes key pairs) ∙ ap (with_key bytes key) h.only ∙ with_key-match_of bytes key (pair_of last.node.now ∷ [])
+
+  -- the comparison of a search
+  module _ {r : Bool} (test : IsTrue r ↔ MatchesLeafKey last.behavior last.depth (bytes (pair_of last.node.now)) key) where
+    equal : r ≡ true → bytes (pair_of last.node.now) ≡ key
+    equal t = whole_same shared (test.0 t)
+
+    pub found_equal : r ≡ true → IsKeysLeaf bytes key pairs layout (Some last)
+    found_equal t =
+        let is : are_same key (bytes (pair_of last.node.now)) ≡ true = ap (are_same key) (equal t) ∙ front_same key in
+        (only_with_key ∙ rw is refl, (h.is_leaf, h.path_is))
+
+    pub counted_equal : r ≡ true → before + length (nodes_on_way bytes key layout) ≡ after
+    counted_equal t = h.exactly (subst (IsFront h.place) (equal t) h.leads_to)
+
+    pub lost_equal : r ≡ false → with_key bytes key pairs ≡ []
+    lost_equal f = only_with_key ∙ go (are_same key (bytes (pair_of last.node.now))) refl
+      where
+        go : (t : Bool) → are_same key (bytes (pair_of last.node.now)) ≡ t → with_key bytes key (pair_of last.node.now ∷ []) ≡ []
+        go true e = absurd (false≢true (sym f ∙ test.1 (ap (λ leaf. drop (compared_from last.behavior last.depth (bytes (pair_of last.node.now)) key) leaf) (same_equal key (bytes (pair_of last.node.now)) e))))
+        go false e = rw e refl
+
+  -- the comparison of a prefix search
+  module _ {r : Bool} (test : IsTrue r ↔ LeafKeyIsPrefix last.behavior last.depth (bytes (pair_of last.node.now)) key) where
+    prefix : r ≡ true → IsFront (bytes (pair_of last.node.now)) key
+    prefix t = whole_front shared (test.0 t)
+
+    pub found_prefix : r ≡ true → FindsLeaf layout (match_of bytes key pairs) (Some last.name)
+    found_prefix t =
+        let (rest, e) = prefix t in
+        let is : is_front (bytes (pair_of last.node.now)) key ≡ true = ap (is_front (bytes (pair_of last.node.now))) e ∙ front_is (bytes (pair_of last.node.now)) rest in
+        (pair_of last.node.now, h.only ∙ rw is refl, h.is_leaf)
+
+    pub counted_prefix : r ≡ true → before + length (nodes_on_way bytes key layout) ≡ after
+    counted_prefix t = h.exactly (front_trans h.place (bytes (pair_of last.node.now)) key h.leads_to (prefix t))
+
+    pub lost_prefix : r ≡ false → match_of bytes key pairs ≡ []
+    lost_prefix f = h.only ∙ go (is_front (bytes (pair_of last.node.now)) key) refl
+      where
+        go : (t : Bool) → is_front (bytes (pair_of last.node.now)) key ≡ t → match_of bytes key (pair_of last.node.now ∷ []) ≡ []
+        go true e = absurd (false≢true (sym f ∙ test.1 (rest_front shared (front_from (bytes (pair_of last.node.now)) key e))))
+        go false e = rw e refl
+
+-- where no key matches, none is equal
+pub none_equal : {A : Type 0} (bytes : A → List ℕ) (key : List ℕ) (pairs : List A) → match_of bytes key pairs ≡ [] → with_key bytes key pairs ≡ []
+none_equal bytes key pairs nothing = sym (with_key-match_of bytes key pairs) ∙ ap (with_key bytes key) nothing

@@ -1,0 +1,194 @@
+-- The ends of a segment, and what is left when one of them was handed out.
+use Rattle.std.proofs.Common.{◌≡◌, ◌≢◌, List, [], ◌∷◌, Option, Some, None, IsSome, eqb, true, false, refl, ap, sym, ◌∙◌, subst, inl, inr}
+use Rattle.std.specs.Option.{option_map, option_and_then}
+use Rattle.std.specs.FinMap as map
+use Rattle.std.proofs.lemmas.Bool.{eqb-true, eq-eqb, true≢false}
+use Rattle.art_nodes.specs.Names.{leaf_name}
+use Rattle.art_nodes.specs.Nodes.{Nodes}
+use Rattle.art_nodes.specs.declared.node.LeafPtr.{LeafPtr}
+use Rattle.art_nodes.specs.declared.node.LeafNode.{LeafNode}
+use Rattle.art_nodes.specs.declared.node.OpaqueNodePtr.{OpaqueNodePtr}
+use Rattle.art_model.specs.Layouts.{Links, AreLinked, first_or, last_or}
+use Rattle.art_model.specs.Footprints.{IsIn}
+use Rattle.art_model.specs.Segments.{IsSegment}
+use Rattle.art_model.specs.Pairs.{first_of, last_of, without_first, without_last}
+use Rattle.art_model.specs.Stores.{held_leaf, links_of, links_at}
+use Rattle.art_model.proofs.Links.{link_of}
+use Rattle.art_model.proofs.Lists.{each_from, each_in}
+use Rattle.art_model.proofs.Segments.{but_last, last_of_in, empty_segment, segment-frame, segment_rest, segment_front, tree_segment}
+use Rattle.art_reading.specs.Iterators.{GoesOn, IsIteratorOf, WalksWhole}
+
+module _ {K V : Type 0} where
+  -- a leaf with links is there, and names these leaves
+  linked_leaf : (o : Option (LeafNode K V)) (l : Links OpaqueNodePtr) → option_and_then links_of (option_map held_leaf o) ≡ Some l → (leaf : LeafNode K V) × (o ≡ Some leaf) × (option_map leaf_name leaf.previous ≡ l.previous) × (option_map leaf_name leaf.next ≡ l.next)
+  linked_leaf None l e = absurd cc
+  linked_leaf (Some leaf) l e =
+      let same : record { previous = option_map leaf_name leaf.previous; next = option_map leaf_name leaf.next } ≡ l = cc in
+      (leaf, refl, ap (λ z. z.previous) same, ap (λ z. z.next) same)
+
+-- one leaf's name
+one_leaf : (p q : LeafPtr) → leaf_name p ≡ leaf_name q → p ≡ q
+one_leaf p q e = ap (λ n. let r : LeafPtr = record { slot = n.slot } in r) e
+
+-- the name of a leaf, where there is one
+named : (o : Option LeafPtr) (n : OpaqueNodePtr) → option_map leaf_name o ≡ Some n → (p : LeafPtr) × (o ≡ Some p) × (leaf_name p ≡ n)
+named None n e = absurd cc
+named (Some p) n e = (p, refl, cc)
+
+-- names with one slot are one
+pub same_slot : (p q : LeafPtr) → eqb p.slot q.slot ≡ true → p ≡ q
+same_slot p q e = ap (λ n. let r : LeafPtr = record { slot = n } in r) (eqb-true p.slot q.slot e)
+
+pub other_slot : (p q : LeafPtr) → eqb p.slot q.slot ≡ false → p ≢ q
+other_slot p q e same = true≢false (sym (eq-eqb p.slot q.slot (ap (λ z. z.slot) same)) ∙ e)
+
+module _ {N : Type 0} where
+  -- a list with an element in front has a last one
+  last_or-some : (xs : List N) (x : N) → (q : N) × (last_or xs (Some x) ≡ Some q)
+  last_or-some [] x = (x, refl)
+  last_or-some (y ∷ ys) x = last_or-some ys y
+
+  last_of-or : (xs : List N) (x : N) → last_of (x ∷ xs) ≡ last_or xs (Some x)
+  last_of-or [] x = refl
+  last_of-or (y ∷ ys) x = last_of-or ys y
+
+module _ {K V : Type 0} {s : Nodes K V} where
+  -- no leaf is left
+  pub none_left : {names : List OpaqueNodePtr} → IsIteratorOf s None names → names ≡ []
+  none_left is = is.ends
+
+  pub empty_iterator : IsIteratorOf s None []
+  empty_iterator = record { ends = refl; segment = empty_segment }
+
+module _ {K V : Type 0} where
+  -- what is left of a walk stands in every store in which its links are as they were
+  pub goes_on : GoesOn K V
+  goes_on s t iterator names is same = record { ends = is.ends; segment = segment-frame (links_at t) names (each_from (λ n. links_at t n ≡ links_at s n) names same) is.segment }
+
+  -- the leaves of a canonical root, from the first to the last
+  pub walks_whole : WalksWhole K V
+  walks_whole bytes P s root pairs layout first last is begins ends = record { ends = (begins.0, ends.0); segment = tree_segment layout is.stands.0.distinct is.linked }
+
+module _ {K V : Type 0} (s : Nodes K V) where
+  -- a leaf that is linked is there
+  there_in : (names : List OpaqueNodePtr) (before after : Option OpaqueNodePtr) (p : LeafPtr) → AreLinked (links_at s) before names after → IsIn (leaf_name p) names → IsSome (map.get s.leaves p)
+  there_in [] before after p linked i = absurd i
+  there_in (x ∷ xs) before after p linked (inl e) =
+      let found = linked_leaf (map.get s.leaves p) (record { previous = before; next = first_or xs after }) (subst (λ n. links_at s n ≡ Some (record { previous = before; next = first_or xs after })) e linked.0) in
+      rw found.1 refl
+  there_in (x ∷ xs) before after p linked (inr i) = there_in xs (Some x) after p linked.1 i
+
+  module _ {iterator : Option (LeafPtr × LeafPtr)} (names : List OpaqueNodePtr) (p : LeafPtr) (is : IsIteratorOf s iterator names) where
+    -- the first leaf that is left is there
+    pub end_there : Some (leaf_name p) ≡ first_of names → IsSome (map.get s.leaves p)
+    end_there e = there_in names is.segment.before is.segment.after p is.segment.linked (front names e)
+      where
+        front : (xs : List OpaqueNodePtr) → Some (leaf_name p) ≡ first_of xs → IsIn (leaf_name p) xs
+        front [] e = absurd cc
+        front (x ∷ xs) e = inl cc
+
+    -- and so is the last one
+    pub back_there : Some (leaf_name p) ≡ last_of names → IsSome (map.get s.leaves p)
+    back_there e = there_in names is.segment.before is.segment.after p is.segment.linked (last_of_in names (leaf_name p) (sym e))
+
+module _ {K V : Type 0} (s : Nodes K V) (a b : LeafPtr) where
+  -- the first and the last leaf are one
+  pub one_left : (names : List OpaqueNodePtr) → a ≡ b → IsIteratorOf s (Some (a, b)) names → names ≡ leaf_name a ∷ []
+  one_left [] same is = absurd (let e = is.ends.0 in cc)
+  one_left (x ∷ []) same is = let e = is.ends.0 in ap (λ z. z ∷ []) cc
+  one_left (x ∷ y ∷ ys) same is =
+      let e = is.ends.0 in
+      let f = is.ends.1 in
+      let first : x ≡ leaf_name b = let g : leaf_name a ≡ leaf_name b = ap leaf_name same in cc in
+      absurd (each_in (λ k. x ≢ k) (leaf_name b) (y ∷ ys) is.segment.distinct.0 (last_of_in (y ∷ ys) (leaf_name b) f) first)
+
+  -- the leaf after the first one
+  pub record HasNext (names : List OpaqueNodePtr) : Type 0 where
+    pub leaf : LeafNode K V
+    pub there : map.get s.leaves a ≡ Some leaf
+    pub next : LeafPtr
+    pub next_is : leaf.next ≡ Some next
+    pub left : IsIteratorOf s (Some (next, b)) (without_first names)
+
+  pub has_next : (names : List OpaqueNodePtr) → a ≢ b → IsIteratorOf s (Some (a, b)) names → HasNext names
+  has_next [] other is = absurd (let e = is.ends.0 in cc)
+  has_next (x ∷ []) other is = let e = is.ends.0 in let f = is.ends.1 in absurd (other (one_leaf a b cc))
+  has_next (x ∷ y ∷ ys) other is =
+      let e = is.ends.0 in
+      let first : x ≡ leaf_name a = cc in
+      let (leaf, there, previous, next) = linked_leaf (map.get s.leaves a) (record { previous = is.segment.before; next = Some y }) (subst (λ n. links_at s n ≡ Some (record { previous = is.segment.before; next = Some y })) first is.segment.linked.0) in
+      let (p, next_is, same) = named leaf.next y next in
+      record { leaf = leaf; there = there; next = p; next_is = next_is; left = record { ends = (ap Some (sym same), is.ends.1); segment = segment_rest (x ∷ []) (y ∷ ys) is.segment } }
+
+  -- the leaf before the last one
+  pub record HasPrevious (names : List OpaqueNodePtr) : Type 0 where
+    pub leaf : LeafNode K V
+    pub there : map.get s.leaves b ≡ Some leaf
+    pub previous : LeafPtr
+    pub previous_is : leaf.previous ≡ Some previous
+    pub left : IsIteratorOf s (Some (a, previous)) (without_last names)
+
+  pub has_previous : (names : List OpaqueNodePtr) → a ≢ b → IsIteratorOf s (Some (a, b)) names → HasPrevious names
+  has_previous [] other is = absurd (let e = is.ends.0 in cc)
+  has_previous (x ∷ []) other is = let e = is.ends.0 in let f = is.ends.1 in absurd (other (one_leaf a b cc))
+  has_previous (x ∷ y ∷ ys) other is =
+      let all = but_last x (y ∷ ys) (leaf_name b) is.ends.1 in
+      let xs = without_last (y ∷ ys) in
+      let segment = subst (IsSegment (links_at s)) all is.segment in
+      let linked = link_of (links_at s) (x ∷ xs) [] (leaf_name b) segment.before segment.after segment.linked in
+      let (leaf, there, previous, next) = linked_leaf (map.get s.leaves b) (record { previous = last_or xs (Some x); next = segment.after }) linked in
+      let (q, some) = last_or-some xs x in
+      let (p, previous_is, same) = named leaf.previous q (previous ∙ some) in
+      record {
+        leaf = leaf;
+        there = there;
+        previous = p;
+        previous_is = previous_is;
+        left = record {
+          ends = (is.ends.0, last_of-or xs x ∙ some ∙ ap Some (sym same));
+          segment = segment_front (x ∷ xs) (leaf_name b ∷ []) segment;
+        };
+      }
+
+  -- The leaf that the store has under the name of the first one names what is left.
+  module _ (names : List OpaqueNodePtr) (other : eqb a.slot b.slot ≡ false) (is : IsIteratorOf s (Some (a, b)) names) where
+    pub first_there : None ≡ map.get s.leaves a → ⊥
+    first_there none = let h = (has_next names (other_slot a b other) is).there in absurd cc
+
+    pub next_there : (leaf : LeafNode K V) → Some leaf ≡ map.get s.leaves a → leaf.next ≡ None → ⊥
+    next_there leaf there none =
+        let h = has_next names (other_slot a b other) is in
+        let e = h.there in
+        let f = h.next_is in
+        let same : leaf ≡ h.leaf = cc in
+        absurd (cc (ap (λ z. z.next) same))
+
+    pub next_left : (leaf : LeafNode K V) (next : LeafPtr) → Some leaf ≡ map.get s.leaves a → leaf.next ≡ Some next → IsIteratorOf s (Some (next, b)) (without_first names)
+    next_left leaf next there some =
+        let h = has_next names (other_slot a b other) is in
+        let e = h.there in
+        let f = h.next_is in
+        let same : leaf ≡ h.leaf = cc in
+        let p : h.next ≡ next = cc (ap (λ z. z.next) same) in
+        subst (λ z. IsIteratorOf s (Some (z, b)) (without_first names)) p h.left
+
+    -- and the one under the name of the last one
+    pub last_there : None ≡ map.get s.leaves b → ⊥
+    last_there none = let h = (has_previous names (other_slot a b other) is).there in absurd cc
+
+    pub previous_there : (leaf : LeafNode K V) → Some leaf ≡ map.get s.leaves b → leaf.previous ≡ None → ⊥
+    previous_there leaf there none =
+        let h = has_previous names (other_slot a b other) is in
+        let e = h.there in
+        let f = h.previous_is in
+        let same : leaf ≡ h.leaf = cc in
+        absurd (cc (ap (λ z. z.previous) same))
+
+    pub previous_left : (leaf : LeafNode K V) (previous : LeafPtr) → Some leaf ≡ map.get s.leaves b → leaf.previous ≡ Some previous → IsIteratorOf s (Some (a, previous)) (without_last names)
+    previous_left leaf previous there some =
+        let h = has_previous names (other_slot a b other) is in
+        let e = h.there in
+        let f = h.previous_is in
+        let same : leaf ≡ h.leaf = cc in
+        let p : h.previous ≡ previous = cc (ap (λ z. z.previous) same) in
+        subst (λ z. IsIteratorOf s (Some (a, z)) (without_last names)) p h.left

@@ -1,0 +1,4 @@
+pub mod Matching
+pub mod Paths
+pub mod Walks
+pub mod Iterators

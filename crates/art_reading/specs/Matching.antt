@@ -1,0 +1,54 @@
+-- How a look-up compares the prefix of an inner node, and the key of a leaf, with its query.
+use Rattle.std.specs.Prelude.{◌≡◌, ℕ, min, ◌||◌, nat_lt, if◌then◌else◌, length, slice_get, drop, Bool, true, List, None, Result, Ok, Err}
+use Rattle.art_nodes.specs.Inner.{Prefix}
+use Rattle.art_model.specs.Keys.{IsFront, common_front}
+use Rattle.art_reading.specs.declared.lookup.PrefixMatchBehavior.{PrefixMatchBehavior}
+use Rattle.art_reading.specs.declared.lookup.PrefixMatchBehavior.TheVariants.{Pessimistic, Optimistic}
+use Rattle.art_reading.specs.declared.path.AttemptOptimisticPrefixMatch.{AttemptOptimisticPrefixMatch}
+use Rattle.art_reading.specs.declared.path.PessimisticMismatch.{PessimisticMismatch}
+
+-- how many bytes two keys share in front
+abbrev pub shared_len : List ℕ → List ℕ → ℕ
+shared_len a b = length (common_front a b)
+
+-- a prefix of this length matches where the rest of the query is no shorter; the `Bool` says whether bytes of it are passed over
+abbrev pub match_by_length : ℕ → List ℕ → Bool → Result AttemptOptimisticPrefixMatch PessimisticMismatch
+match_by_length len rest implicit =
+    if nat_lt (length rest) len then
+    Err (record { matched_bytes = length rest; prefix_byte = None })
+    else
+    Ok (record { matched_bytes = len; any_implicit_bytes = implicit })
+
+-- whether the rest of the query parts from the bytes that are stored of a prefix
+abbrev pub parts_from : List ℕ → List ℕ → Bool
+parts_from rest stored = nat_lt (shared_len stored rest) (length stored)
+
+-- what the comparison of a prefix with the rest of the query answers
+abbrev pub prefix_match : PrefixMatchBehavior → Prefix → List ℕ → Result AttemptOptimisticPrefixMatch PessimisticMismatch
+prefix_match Optimistic prefix rest = match_by_length prefix.len rest true
+prefix_match Pessimistic prefix rest =
+    if parts_from rest prefix.stored then
+    Err (record { matched_bytes = shared_len prefix.stored rest; prefix_byte = slice_get prefix.stored (shared_len prefix.stored rest) })
+    else
+    match_by_length prefix.len rest (nat_lt (length prefix.stored) prefix.len)
+
+-- the behavior after the comparison: optimistic once bytes were passed over, or the query ended before the prefix
+abbrev pub behavior_after : PrefixMatchBehavior → Prefix → List ℕ → PrefixMatchBehavior
+behavior_after Optimistic prefix rest = Optimistic
+behavior_after Pessimistic prefix rest =
+    if parts_from rest prefix.stored then Pessimistic
+    else if nat_lt (length rest) prefix.len || nat_lt (length prefix.stored) prefix.len then Optimistic
+    else Pessimistic
+
+-- how many bytes in front of a leaf's key and of the query are not compared: none once bytes were passed over
+abbrev pub compared_from : PrefixMatchBehavior → ℕ → List ℕ → List ℕ → ℕ
+compared_from Optimistic depth leaf query = 0
+compared_from Pessimistic depth leaf query = min depth (min (length leaf) (length query))
+
+-- what is compared of a leaf's key and of the query is the same
+abbrev pub MatchesLeafKey : PrefixMatchBehavior → ℕ → List ℕ → List ℕ → Type 0
+MatchesLeafKey behavior depth leaf query = let from = compared_from behavior depth leaf query in drop from leaf ≡ drop from query
+
+-- what is compared of a leaf's key is a front of what is compared of the query
+abbrev pub LeafKeyIsPrefix : PrefixMatchBehavior → ℕ → List ℕ → List ℕ → Type 0
+LeafKeyIsPrefix behavior depth leaf query = let from = compared_from behavior depth leaf query in IsFront (drop from leaf) (drop from query)

@@ -1,0 +1,31 @@
+-- Paths of code: one step down and up, the last steps of a path of the model, and the parent that a path ends with.
+use Rattle.std.specs.Prelude.{ℕ, List, [], ◌∷◌, Option, Some, None}
+use Rattle.art_nodes.specs.declared.node.InnerPtr.{InnerPtr}
+use Rattle.art_nodes.specs.declared.node.OpaqueNodePtr.{OpaqueNodePtr}
+use Rattle.art_model.specs.Paths.{Frame}
+use Rattle.art_model.specs.Writes.{as_inner}
+use Rattle.art_reading.specs.declared.path.TreePath.{TreePath}
+use Rattle.art_reading.specs.declared.path.TreePath.TheVariants.{Root, ChildOfRoot, Normal}
+
+-- the path one step further down, to the child that a node has under a byte
+abbrev pub step_down : TreePath → InnerPtr → ℕ → TreePath
+step_down Root node byte = ChildOfRoot node byte
+step_down (ChildOfRoot parent b) node byte = Normal parent b node byte
+step_down (Normal grandparent c parent b) node byte = Normal parent b node byte
+
+-- the last steps of a path: the parent and the grandparent, with the bytes that lead down
+abbrev pub path_of : {A : Type 0} → List (Frame OpaqueNodePtr A) → TreePath
+path_of [] = Root
+path_of (f ∷ fs) = step_down (path_of fs) (as_inner f.mark) f.byte
+
+-- the parent at the end of a path, with the byte that leads down
+abbrev pub last_step : TreePath → Option (InnerPtr × ℕ)
+last_step Root = None
+last_step (ChildOfRoot parent byte) = Some (parent, byte)
+last_step (Normal grandparent above parent byte) = Some (parent, byte)
+
+-- the path of the parent at the end of a path, as far as it is known
+abbrev pub up : TreePath → TreePath
+up Root = Root
+up (ChildOfRoot parent byte) = Root
+up (Normal grandparent above parent byte) = ChildOfRoot grandparent above

@@ -1,0 +1,122 @@
+//! The walk of leaves, from either end of a part of the list that they are linked in.
+ghost use Rattle.std.specs.Prelude.{◌≡◌, List, [], None, Some, IsSome, IfSome};
+ghost use Rattle.std.specs.FinMap as map;
+ghost use Rattle.std.specs.Option.{option_map};
+ghost use Rattle.art_nodes.specs.Names.{leaf_name};
+ghost use Rattle.art_nodes.specs.declared.node.OpaqueNodePtr.{OpaqueNodePtr};
+ghost use Rattle.art_model.specs.Pairs.{first_of, last_of, without_first, without_last};
+ghost use Rattle.art_reading.specs.Iterators.{GoesOn, IsIteratorOf, WalksWhole};
+
+use art_nodes::node::{AsBytes, LeafPtr, OptionalLeafPtr};
+use art_nodes::store::NodeStore;
+use std::marker::Model;
+
+/// A walk of leaves that are linked, from a first to a last one, each of which comes once, from either
+/// end.
+///
+/// It holds names alone, so that the store can change between its calls: leaves that came may be
+/// freed, and the others have to be there with their links.
+#[derive(Clone, Copy, PartialEq, Eq, Debug)]
+pub struct RawIterator {
+    // The first and the last leaf that are left.
+    ends: Option<(LeafPtr, LeafPtr)>,
+}
+
+impl Model for RawIterator {
+    ghost use Rattle.std.specs.Prelude.{Option};
+    ghost use Rattle.art_nodes.specs.declared.node.LeafPtr.{LeafPtr};
+
+    ghost Value = { Option (LeafPtr × LeafPtr) };
+
+    ghost view = { λ iterator. iterator.ends };
+
+    ghost inverse = { λ ends. record { ends = ends } };
+}
+
+impl RawIterator {
+    /// The leaves from `start` to `end`.
+    pub fn new<K: AsBytes + Drop, V: Drop, const PREFIX_LEN: usize>(
+        _store: &NodeStore<K, V, PREFIX_LEN>,
+        start: LeafPtr,
+        end: LeafPtr,
+    ) -> Self
+        requires { (names : List OpaqueNodePtr) × IsIteratorOf _store.now (Some (start, end)) names }
+        ensures { result ≡ Some (start, end) }
+    {
+        RawIterator {
+            ends: Some((start, end)),
+        }
+    }
+
+    /// No leaf.
+    pub fn empty() -> Self
+        ensures { result ≡ None }
+    {
+        RawIterator { ends: None }
+    }
+
+    /// The first leaf that is left. Its link is read before it is answered, so that it may be freed.
+    pub fn next<K: AsBytes + Drop, V: Drop, const PREFIX_LEN: usize>(
+        &mut self,
+        store: &NodeStore<K, V, PREFIX_LEN>,
+    ) -> OptionalLeafPtr
+        requires { (names : List OpaqueNodePtr) × IsIteratorOf store.now self.old names }
+        ensures leaf { (names : List OpaqueNodePtr) → IsIteratorOf store.now self.old names →
+            option_map leaf_name result ≡ first_of names }
+        ensures there { IfSome result (λ leaf. IsSome (map.get store.now.leaves leaf)) }
+        ensures rest { (names : List OpaqueNodePtr) → IsIteratorOf store.now self.old names →
+            IsIteratorOf store.now self.new (without_first names) }
+    {
+        let (start, end) = self.ends?;
+        if start == end {
+            self.ends = None;
+            return Some(start);
+        }
+        let Some(leaf) = store.leaf(start) else {
+            unreachable!()
+        };
+        let Some(next) = leaf.next else {
+            unreachable!()
+        };
+        self.ends = Some((next, end));
+        Some(start)
+    }
+
+    /// The last leaf that is left. Its link is read before it is answered, so that it may be freed.
+    pub fn next_back<K: AsBytes + Drop, V: Drop, const PREFIX_LEN: usize>(
+        &mut self,
+        store: &NodeStore<K, V, PREFIX_LEN>,
+    ) -> OptionalLeafPtr
+        requires { (names : List OpaqueNodePtr) × IsIteratorOf store.now self.old names }
+        ensures leaf { (names : List OpaqueNodePtr) → IsIteratorOf store.now self.old names →
+            option_map leaf_name result ≡ last_of names }
+        ensures there { IfSome result (λ leaf. IsSome (map.get store.now.leaves leaf)) }
+        ensures rest { (names : List OpaqueNodePtr) → IsIteratorOf store.now self.old names →
+            IsIteratorOf store.now self.new (without_last names) }
+    {
+        let (start, end) = self.ends?;
+        if start == end {
+            self.ends = None;
+            return Some(end);
+        }
+        let Some(leaf) = store.leaf(end) else {
+            unreachable!()
+        };
+        let Some(previous) = leaf.previous else {
+            unreachable!()
+        };
+        self.ends = Some((start, previous));
+        Some(end)
+    }
+}
+
+/// An iterator stands for the same leaves in every store in which they have the links that they had. So a
+/// leaf that came may be freed before the next call, and what is not left of the walk may change.
+pub fn a_walk_goes_on<K, V>()
+    ensures { GoesOn K V }
+{}
+
+/// From the first leaf of a canonical root to its last one a walk has all of its leaves, in order.
+pub fn a_tree_is_walked_whole<K, V>()
+    ensures { WalksWhole K V }
+{}

@@ -1,0 +1,293 @@
+//! Searches for a key, and for the key that is a prefix of a query.
+ghost use Rattle.std.specs.Prelude.{◌≡◌, ◌+◌, ◌<◌, ◌≤◌, ◌^◌, ◌↔◌, length, IsSome, IsTrue};
+ghost use Rattle.art_model.specs.Lookups.{FindsLeaf, nodes_on_way};
+ghost use Rattle.art_model.specs.Pairs.{match_of, of_key, with_key};
+ghost use Rattle.art_model.specs.Roots.{ForTree, IsCanonicalRoot};
+ghost use Rattle.art_reading.specs.Walks.{WalkEnds};
+
+use crate::path::{AttemptOptimisticPrefixMatch, PessimisticMismatch, TreePath};
+use crate::ways::{LastLeaf, shared_len, walk_to_key};
+use art_nodes::node::{AsBytes, InnerNode, LeafNode, NodePtr, OpaqueNodePtr, OptionalLeafPtr};
+use art_nodes::store::NodeStore;
+use std::marker::Model;
+
+/// How a look-up compares the bytes of prefixes on its way down.
+///
+/// A node stores the bytes of its prefix only up to a limit. A look-up passes over the others, and
+/// compares the whole key at the leaf instead.
+#[derive(Clone, Copy, PartialEq, Eq, Debug, Default)]
+pub enum PrefixMatchBehavior {
+    /// All bytes so far were compared, so the rest of the key is left to compare.
+    #[default]
+    Pessimistic,
+    /// Bytes were passed over: from now on lengths alone are compared, and at the leaf the whole key.
+    Optimistic,
+}
+
+impl PrefixMatchBehavior {
+    ghost use Rattle.art_reading.specs.Matching.{LeafKeyIsPrefix, MatchesLeafKey, behavior_after, prefix_match};
+
+    /// Compares the prefix of an inner node with the rest of the key, from the node's depth on.
+    pub fn match_prefix<N: InnerNode<P>, const P: usize>(
+        &mut self,
+        node: &N,
+        rest_of_key: &[u8],
+    ) -> Result<AttemptOptimisticPrefixMatch, PessimisticMismatch>
+        ensures outcome { result ≡ prefix_match self.old (N.view_of node.now).prefix rest_of_key.now }
+        ensures behavior { self.new ≡ behavior_after self.old (N.view_of node.now).prefix rest_of_key.now }
+    {
+        self.match_stored(node.prefix_len(), node.read_prefix(), rest_of_key)
+    }
+
+    // Compares a prefix of this length, of which these bytes are stored, with the rest of the key.
+    fn match_stored(
+        &mut self,
+        prefix_len: usize,
+        stored: &[u8],
+        rest_of_key: &[u8],
+    ) -> Result<AttemptOptimisticPrefixMatch, PessimisticMismatch>
+        ensures outcome { result ≡ prefix_match self.old (record { len = prefix_len; stored = stored.now }) rest_of_key.now }
+        ensures behavior { self.new ≡ behavior_after self.old (record { len = prefix_len; stored = stored.now }) rest_of_key.now }
+    {
+        let mut any_implicit_bytes = true;
+        if *self == PrefixMatchBehavior::Pessimistic {
+            let matched_bytes = shared_len(stored, rest_of_key);
+            if let Some(&prefix_byte) = stored.get(matched_bytes) {
+                return Err(PessimisticMismatch {
+                    matched_bytes,
+                    prefix_byte: Some(prefix_byte),
+                });
+            }
+            any_implicit_bytes = stored.len() < prefix_len;
+            if any_implicit_bytes || rest_of_key.len() < prefix_len {
+                *self = PrefixMatchBehavior::Optimistic;
+            }
+        }
+        if rest_of_key.len() < prefix_len {
+            return Err(PessimisticMismatch {
+                matched_bytes: rest_of_key.len(),
+                prefix_byte: None,
+            });
+        }
+        Ok(AttemptOptimisticPrefixMatch {
+            matched_bytes: prefix_len,
+            any_implicit_bytes,
+        })
+    }
+
+    /// Whether the key is the leaf's, as far as it is left to compare from a depth on.
+    pub fn matches_leaf_key<K: AsBytes, V>(
+        self,
+        leaf: &LeafNode<K, V>,
+        key_bytes: &[u8],
+        depth: usize,
+    ) -> bool
+        ensures { IsTrue result ↔ MatchesLeafKey self depth (K.bytes leaf.now.key) key_bytes.now }
+    {
+        let leaf_bytes = leaf.key.as_bytes();
+        let from = self.compared_from(leaf_bytes, key_bytes, depth);
+        leaf_bytes[from..] == key_bytes[from..]
+    }
+
+    /// Whether the leaf's key is a prefix of the key, as far as they are left to compare from a depth on.
+    pub fn leaf_key_is_prefix<K: AsBytes, V>(
+        self,
+        leaf: &LeafNode<K, V>,
+        key_bytes: &[u8],
+        depth: usize,
+    ) -> bool
+        ensures { IsTrue result ↔ LeafKeyIsPrefix self depth (K.bytes leaf.now.key) key_bytes.now }
+    {
+        let leaf_bytes = leaf.key.as_bytes();
+        let from = self.compared_from(leaf_bytes, key_bytes, depth);
+        key_bytes[from..].starts_with(&leaf_bytes[from..])
+    }
+
+    ghost use Rattle.art_reading.specs.Matching.{compared_from};
+
+    // Where the comparison of a leaf's key with the key begins.
+    fn compared_from(self, leaf_bytes: &[u8], key_bytes: &[u8], depth: usize) -> usize
+        ensures value { result ≡ compared_from self depth leaf_bytes.now key_bytes.now }
+        ensures in_leaf { result ≤ length leaf_bytes.now }
+        ensures in_key { result ≤ length key_bytes.now }
+    {
+        match self {
+            PrefixMatchBehavior::Pessimistic => depth.min(leaf_bytes.len()).min(key_bytes.len()),
+            PrefixMatchBehavior::Optimistic => 0,
+        }
+    }
+}
+
+/// How many nodes visiting look-ups have read.
+#[derive(Clone, Copy, PartialEq, Eq, Debug, Default)]
+pub struct Visits {
+    count: usize,
+}
+
+impl Model for Visits {
+    ghost use Rattle.std.specs.Prelude.{ℕ};
+
+    ghost Value = { ℕ };
+
+    ghost view = { λ visits. visits.count };
+
+    ghost inverse = { λ n. record { count = n } };
+}
+
+impl Visits {
+    /// No node has been read.
+    pub fn new() -> Self
+        ensures { result ≡ 0 }
+    {
+        Visits { count: 0 }
+    }
+
+    pub fn count(&self) -> usize
+        ensures { result ≡ self.now }
+    {
+        self.count
+    }
+
+    // Counts the reading of a node.
+    fn add_one(&mut self)
+        requires { self.old + 1 < 2 ^ 64 }
+        ensures { self.new ≡ self.old + 1 }
+    {
+        self.count += 1;
+    }
+}
+
+// Goes down with a key to the only leaf whose key can be a prefix of it, and counts each node that it reads.
+pub(crate) fn walk<'a, K: AsBytes + Drop, V: Drop, const PREFIX_LEN: usize>(
+    store: &'a NodeStore<K, V, PREFIX_LEN>,
+    root: OpaqueNodePtr,
+    key_bytes: &[u8],
+    visits: &mut Visits,
+) -> Option<LastLeaf<'a, K, V>>
+    requires root { IsCanonicalRoot (of_key K.bytes) PREFIX_LEN store.now root }
+    requires room { visits.old + length key_bytes.now + 1 < 2 ^ 64 }
+    ensures ends { ForTree (of_key K.bytes) PREFIX_LEN store.now root (λ pairs layout.
+        WalkEnds (of_key K.bytes) key_bytes.now pairs layout visits.old visits.new result) }
+    ensures at_most { visits.new ≤ visits.old + length key_bytes.now + 1 }
+{
+    let mut path = TreePath::Root;
+    let mut name = root;
+    let mut depth = 0;
+    let mut behavior = PrefixMatchBehavior::Pessimistic;
+    'down: loop {
+        visits.add_one();
+        let inner = match name.split() {
+            NodePtr::Inner(inner) => inner,
+            NodePtr::Leaf(name) => {
+                let Some(node) = store.leaf(name) else {
+                    unreachable!()
+                };
+                return Some(LastLeaf {
+                    path,
+                    name,
+                    node,
+                    depth,
+                    behavior,
+                });
+            }
+        };
+        let Some(node) = store.inner(inner) else {
+            unreachable!()
+        };
+        let header = node.header();
+        let rest_of_key = &key_bytes[depth..];
+        let matched = behavior
+            .match_stored(header.prefix_len(), header.read_prefix(), rest_of_key)
+            .ok()?;
+        depth += matched.matched_bytes;
+        if depth >= key_bytes.len() {
+            return None;
+        }
+        let byte = key_bytes[depth];
+        name = node.lookup_child(byte)?;
+        path = path.step_down(inner, byte);
+        depth += 1;
+    }
+}
+
+/// The leaf of a key, or `None` where no stored key is equal to it.
+///
+/// It reads at most one node more than the key has bytes, and no leaf but the last. Where the bytes of
+/// a prefix are not all stored it passes over the others, and compares the whole key at the leaf.
+pub fn search_unchecked<K: AsBytes + Drop, V: Drop, const PREFIX_LEN: usize>(
+    store: &NodeStore<K, V, PREFIX_LEN>,
+    root: OpaqueNodePtr,
+    key_bytes: &[u8],
+) -> OptionalLeafPtr
+    requires { IsCanonicalRoot (of_key K.bytes) PREFIX_LEN store.now root }
+    ensures { ForTree (of_key K.bytes) PREFIX_LEN store.now root (λ pairs layout.
+        FindsLeaf layout (with_key (of_key K.bytes) key_bytes.now pairs) result) }
+{
+    search_visiting(store, root, key_bytes, &mut Visits::new())
+}
+
+/// The same as `search_unchecked`; each reading of a node is counted.
+pub fn search_visiting<K: AsBytes + Drop, V: Drop, const PREFIX_LEN: usize>(
+    store: &NodeStore<K, V, PREFIX_LEN>,
+    root: OpaqueNodePtr,
+    key_bytes: &[u8],
+    visits: &mut Visits,
+) -> OptionalLeafPtr
+    requires root { IsCanonicalRoot (of_key K.bytes) PREFIX_LEN store.now root }
+    requires room { visits.old + length key_bytes.now + 1 < 2 ^ 64 }
+    ensures leaf { ForTree (of_key K.bytes) PREFIX_LEN store.now root (λ pairs layout.
+        FindsLeaf layout (with_key (of_key K.bytes) key_bytes.now pairs) result) }
+
+    ensures at_least { ForTree (of_key K.bytes) PREFIX_LEN store.now root (λ pairs layout.
+        visits.old + length (nodes_on_way (of_key K.bytes) key_bytes.now layout) ≤ visits.new) }
+    ensures exactly { ForTree (of_key K.bytes) PREFIX_LEN store.now root (λ pairs layout.
+        IsSome result →
+        visits.old + length (nodes_on_way (of_key K.bytes) key_bytes.now layout) ≡ visits.new) }
+    ensures at_most { visits.new ≤ visits.old + length key_bytes.now + 1 }
+{
+    let last = walk_to_key(store, root, key_bytes, visits)?;
+    Some(last.name)
+}
+
+/// The leaf whose key is a prefix of these bytes or equal to them, or `None` where there is none.
+///
+/// It goes the way of `search_unchecked`, at the same cost.
+pub fn prefix_search_unchecked<K: AsBytes + Drop, V: Drop, const PREFIX_LEN: usize>(
+    store: &NodeStore<K, V, PREFIX_LEN>,
+    root: OpaqueNodePtr,
+    key_bytes: &[u8],
+) -> OptionalLeafPtr
+    requires { IsCanonicalRoot (of_key K.bytes) PREFIX_LEN store.now root }
+    ensures { ForTree (of_key K.bytes) PREFIX_LEN store.now root (λ pairs layout.
+        FindsLeaf layout (match_of (of_key K.bytes) key_bytes.now pairs) result) }
+{
+    prefix_search_visiting(store, root, key_bytes, &mut Visits::new())
+}
+
+/// The same as `prefix_search_unchecked`; each reading of a node is counted.
+pub fn prefix_search_visiting<K: AsBytes + Drop, V: Drop, const PREFIX_LEN: usize>(
+    store: &NodeStore<K, V, PREFIX_LEN>,
+    root: OpaqueNodePtr,
+    key_bytes: &[u8],
+    visits: &mut Visits,
+) -> OptionalLeafPtr
+    requires root { IsCanonicalRoot (of_key K.bytes) PREFIX_LEN store.now root }
+    requires room { visits.old + length key_bytes.now + 1 < 2 ^ 64 }
+    ensures leaf { ForTree (of_key K.bytes) PREFIX_LEN store.now root (λ pairs layout.
+        FindsLeaf layout (match_of (of_key K.bytes) key_bytes.now pairs) result) }
+
+    ensures at_least { ForTree (of_key K.bytes) PREFIX_LEN store.now root (λ pairs layout.
+        visits.old + length (nodes_on_way (of_key K.bytes) key_bytes.now layout) ≤ visits.new) }
+    ensures exactly { ForTree (of_key K.bytes) PREFIX_LEN store.now root (λ pairs layout.
+        IsSome result →
+        visits.old + length (nodes_on_way (of_key K.bytes) key_bytes.now layout) ≡ visits.new) }
+    ensures at_most { visits.new ≤ visits.old + length key_bytes.now + 1 }
+{
+    let last = walk(store, root, key_bytes, visits)?;
+    let behavior = last.behavior;
+    if behavior.leaf_key_is_prefix(last.node, key_bytes, last.depth) {
+        Some(last.name)
+    } else {
+        None
+    }
+}

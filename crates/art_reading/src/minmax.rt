@@ -1,0 +1,34 @@
+//! The first and the last leaf of a tree.
+ghost use Rattle.art_nodes.specs.Names.{leaf_name};
+ghost use Rattle.art_nodes.specs.declared.node.OpaqueNodePtr.{OpaqueNodePtr};
+ghost use Rattle.art_model.specs.Lookups.{HasFirstLeaf, HasLastLeaf};
+ghost use Rattle.art_model.specs.Roots.{IsFullTree};
+ghost use Rattle.art_model.specs.Trees.{Tree};
+
+use crate::ways::{End, walk_to_end};
+use art_nodes::node::{AsBytes, LeafPtr, OpaqueNodePtr};
+use art_nodes::store::NodeStore;
+
+/// The first leaf of the tree that a name stands for. It reads one inner node for each level.
+pub fn minimum_unchecked<K: AsBytes + Drop, V: Drop, const PREFIX_LEN: usize>(
+    store: &NodeStore<K, V, PREFIX_LEN>,
+    root: OpaqueNodePtr,
+) -> LeafPtr
+    requires { (layout : Tree OpaqueNodePtr (K × V)) × IsFullTree store.now root layout }
+    ensures { (layout : Tree OpaqueNodePtr (K × V)) →
+        IsFullTree store.now root layout → HasFirstLeaf layout (leaf_name result) }
+{
+    walk_to_end(store, root, End::First).1
+}
+
+/// The last leaf of the tree that a name stands for. It reads one inner node for each level.
+pub fn maximum_unchecked<K: AsBytes + Drop, V: Drop, const PREFIX_LEN: usize>(
+    store: &NodeStore<K, V, PREFIX_LEN>,
+    root: OpaqueNodePtr,
+) -> LeafPtr
+    requires { (layout : Tree OpaqueNodePtr (K × V)) × IsFullTree store.now root layout }
+    ensures { (layout : Tree OpaqueNodePtr (K × V)) →
+        IsFullTree store.now root layout → HasLastLeaf layout (leaf_name result) }
+{
+    walk_to_end(store, root, End::Last).1
+}

@@ -1,0 +1,93 @@
+//! Ways down a tree: the nodes right above a node, prefixes that go on with a key, and prefixes that
+//! part from it.
+ghost use Rattle.std.specs.Prelude.{◌≡◌};
+
+use art_nodes::node::{InnerPtr, OptionalLeafPtr};
+
+/// The inner nodes right above a node, and the bytes that lead down from them.
+#[derive(Clone, Copy, PartialEq, Eq, Debug)]
+pub enum TreePath {
+    /// The node is the root.
+    Root,
+    /// The node is a child of the root.
+    ChildOfRoot {
+        parent: InnerPtr,
+        /// The byte under which the parent has the node.
+        child_key_byte: u8,
+    },
+    /// The node's parent is below another inner node.
+    Normal {
+        grandparent: InnerPtr,
+        /// The byte under which the grandparent has the parent.
+        parent_key_byte: u8,
+        parent: InnerPtr,
+        /// The byte under which the parent has the node.
+        child_key_byte: u8,
+    },
+}
+
+impl TreePath {
+    ghost use Rattle.art_reading.specs.Paths.{step_down};
+
+    /// The path one step further down: from this path's node to the child that it has under a byte.
+    pub fn step_down(self, node: InnerPtr, byte: u8) -> TreePath
+        ensures { result ≡ step_down self node byte }
+    {
+        match self {
+            TreePath::Root => TreePath::ChildOfRoot {
+                parent: node,
+                child_key_byte: byte,
+            },
+            TreePath::ChildOfRoot {
+                parent,
+                child_key_byte,
+            }
+            | TreePath::Normal {
+                parent,
+                child_key_byte,
+                ..
+            } => TreePath::Normal {
+                grandparent: parent,
+                parent_key_byte: child_key_byte,
+                parent: node,
+                child_key_byte: byte,
+            },
+        }
+    }
+}
+
+/// A prefix, compared whole, that the key goes on with.
+#[derive(Clone, Copy, PartialEq, Eq, Debug)]
+pub struct PrefixMatch {
+    /// The length of the prefix.
+    pub matched_bytes: usize,
+}
+
+/// A prefix, compared whole, that the key parts from or ends in.
+#[derive(Clone, Copy, PartialEq, Eq, Debug)]
+pub struct ExplicitMismatch {
+    /// How many bytes in front are the same.
+    pub matched_bytes: usize,
+    /// The byte of the prefix after these.
+    pub prefix_byte: u8,
+    /// The least leaf below the node, where the prefix is longer than what the node stores of it.
+    pub leaf_ptr: OptionalLeafPtr,
+}
+
+/// A prefix that the key goes on with, as far as its bytes were compared.
+#[derive(Clone, Copy, PartialEq, Eq, Debug)]
+pub struct AttemptOptimisticPrefixMatch {
+    /// The length of the prefix.
+    pub matched_bytes: usize,
+    /// Whether bytes of the prefix were passed over without a comparison.
+    pub any_implicit_bytes: bool,
+}
+
+/// A prefix that the key doesn't go on with.
+#[derive(Clone, Copy, PartialEq, Eq, Debug)]
+pub struct PessimisticMismatch {
+    /// How many bytes in front are the same.
+    pub matched_bytes: usize,
+    /// The byte of the prefix after these, or `None` where the key ends before the prefix does.
+    pub prefix_byte: Option<u8>,
+}

@@ -1,0 +1,150 @@
+//! What the operations that change a tree need of the ways down it, beside what a caller uses.
+ghost use Rattle.std.specs.Prelude.{◌≡◌, ◌+◌, ◌<◌, ◌≤◌, ◌^◌, length, IsSome};
+ghost use Rattle.art_nodes.specs.Kinds.{ref_view};
+ghost use Rattle.art_nodes.specs.declared.node.OpaqueNodePtr.{OpaqueNodePtr};
+ghost use Rattle.art_model.specs.Lookups.{nodes_on_way};
+ghost use Rattle.art_model.specs.Pairs.{of_key};
+ghost use Rattle.art_model.specs.Roots.{ForTree, IsCanonicalRoot, IsFullTree};
+ghost use Rattle.art_model.specs.Trees.{Tree};
+ghost use Rattle.art_reading.specs.Matching.{shared_len};
+ghost use Rattle.art_reading.specs.Paths.{last_step, up};
+ghost use Rattle.art_reading.specs.Walks.{IsEndChild, IsKeysLeaf, LeadsToEnd};
+
+use crate::lookup::{PrefixMatchBehavior, Visits, walk};
+use crate::path::TreePath;
+use art_nodes::node::{AsBytes, InnerPtr, InnerRef, LeafNode, LeafPtr, NodePtr, OpaqueNodePtr};
+use art_nodes::store::NodeStore;
+
+/// The parent at the end of a path, with the byte under which it has the node.
+pub fn last_step(path: TreePath) -> Option<(InnerPtr, u8)>
+    ensures { result ≡ last_step path }
+{
+    match path {
+        TreePath::Root => None,
+        TreePath::ChildOfRoot {
+            parent,
+            child_key_byte,
+        }
+        | TreePath::Normal {
+            parent,
+            child_key_byte,
+            ..
+        } => Some((parent, child_key_byte)),
+    }
+}
+
+/// The path one step further up: that of the parent at the end of a path.
+pub fn up(path: TreePath) -> TreePath
+    ensures { result ≡ up path }
+{
+    match path {
+        TreePath::Root | TreePath::ChildOfRoot { .. } => TreePath::Root,
+        TreePath::Normal {
+            grandparent,
+            parent_key_byte,
+            ..
+        } => TreePath::ChildOfRoot {
+            parent: grandparent,
+            child_key_byte: parent_key_byte,
+        },
+    }
+}
+
+/// How many bytes the two share in front.
+pub fn shared_len(a: &[u8], b: &[u8]) -> usize
+    ensures { result ≡ shared_len a.now b.now }
+{
+    let end = a.len().min(b.len());
+    for i in 0..end {
+        if a[i] != b[i] {
+            return i;
+        }
+    }
+    end
+}
+
+/// The leaf that a way down ends at, and how its key is to be compared there.
+#[derive(Clone, Copy)]
+pub struct LastLeaf<'a, K, V> {
+    /// The nodes right above the leaf.
+    pub path: TreePath,
+    pub name: LeafPtr,
+    pub node: &'a LeafNode<K, V>,
+    /// How many bytes of the key lead to the leaf.
+    pub depth: usize,
+    pub behavior: PrefixMatchBehavior,
+}
+
+/// Goes down with a key to its own leaf, or to `None` where no stored key is equal to it.
+pub fn walk_to_key<'a, K: AsBytes + Drop, V: Drop, const PREFIX_LEN: usize>(
+    store: &'a NodeStore<K, V, PREFIX_LEN>,
+    root: OpaqueNodePtr,
+    key_bytes: &[u8],
+    visits: &mut Visits,
+) -> Option<LastLeaf<'a, K, V>>
+    requires root { IsCanonicalRoot (of_key K.bytes) PREFIX_LEN store.now root }
+    requires room { visits.old + length key_bytes.now + 1 < 2 ^ 64 }
+    ensures leaf { ForTree (of_key K.bytes) PREFIX_LEN store.now root (λ pairs layout.
+        IsKeysLeaf (of_key K.bytes) key_bytes.now pairs layout result) }
+    ensures at_least { ForTree (of_key K.bytes) PREFIX_LEN store.now root (λ pairs layout.
+        visits.old + length (nodes_on_way (of_key K.bytes) key_bytes.now layout) ≤ visits.new) }
+    ensures exactly { ForTree (of_key K.bytes) PREFIX_LEN store.now root (λ pairs layout.
+        IsSome result →
+        visits.old + length (nodes_on_way (of_key K.bytes) key_bytes.now layout) ≡ visits.new) }
+    ensures at_most { visits.new ≤ visits.old + length key_bytes.now + 1 }
+{
+    let last = walk(store, root, key_bytes, visits)?;
+    let behavior = last.behavior;
+    if behavior.matches_leaf_key(last.node, key_bytes, last.depth) {
+        Some(last)
+    } else {
+        None
+    }
+}
+
+/// An end of a tree's leaves.
+#[derive(Clone, Copy)]
+pub enum End {
+    First,
+    Last,
+}
+
+/// Goes down to the leaf at an end of the tree that a name stands for, and answers the path to it too.
+pub fn walk_to_end<K: AsBytes + Drop, V: Drop, const PREFIX_LEN: usize>(
+    store: &NodeStore<K, V, PREFIX_LEN>,
+    root: OpaqueNodePtr,
+    end: End,
+) -> (TreePath, LeafPtr)
+    requires { (layout : Tree OpaqueNodePtr (K × V)) × IsFullTree store.now root layout }
+    ensures { (layout : Tree OpaqueNodePtr (K × V)) →
+        IsFullTree store.now root layout → LeadsToEnd layout end result.0 result.1 }
+{
+    let mut path = TreePath::Root;
+    let mut name = root;
+    'down: loop {
+        let inner = match name.split() {
+            NodePtr::Inner(inner) => inner,
+            NodePtr::Leaf(leaf) => return (path, leaf),
+        };
+        let Some(node) = store.inner(inner) else {
+            unreachable!()
+        };
+        let (byte, child) = child_at_end(node, end);
+        path = path.step_down(inner, byte);
+        name = child;
+    }
+}
+
+// The child at an end of a node, with its byte.
+fn child_at_end<const PREFIX_LEN: usize>(
+    node: InnerRef<'_, PREFIX_LEN>,
+    end: End,
+) -> (u8, OpaqueNodePtr)
+    requires { 0 < length (ref_view node).children }
+    ensures { IsEndChild end (ref_view node.entry).children result }
+{
+    match end {
+        End::First => node.min(),
+        End::Last => node.max(),
+    }
+}

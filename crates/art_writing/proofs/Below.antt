@@ -1,0 +1,293 @@
+-- The leaf of a delete point below its parent, and what the writes that take it out leave.
+use Rattle.std.proofs.Common.{◌≡◌, ◌≢◌, ℕ, suc, ◌<◌, ◌≤◌, List, [], ◌∷◌, length, Bool, true, false, cond, leb, refl, ap, sym, ◌∙◌, subst, arith, Option, Some, None, IsSome, is_some, IfSome, IsSomeAnd}
+use Rattle.std.specs.FinMap.{get, insert, remove}
+use Rattle.std.proofs.lemmas.Bool.{leb-true, leb-false}
+use Rattle.art_nodes.specs.Changes.{without_child}
+use Rattle.art_nodes.specs.Inner.{Inner, child_at, remove_child}
+use Rattle.art_nodes.specs.Kinds.{kind_capacity, kind_least, smaller_kind}
+use Rattle.art_nodes.specs.Names.{leaf_name, inner_name}
+use Rattle.art_nodes.specs.Nodes.{Nodes, change}
+use Rattle.art_nodes.specs.declared.node.NodeType.{NodeType}
+use Rattle.art_nodes.specs.declared.node.NodeType.TheVariants.{Node4, Node16, Node48, Node256, Leaf}
+use Rattle.art_nodes.specs.declared.node.InnerPtr.{InnerPtr}
+use Rattle.art_nodes.specs.declared.node.LeafPtr.{LeafPtr}
+use Rattle.art_nodes.specs.declared.node.LeafNode.{LeafNode}
+use Rattle.art_nodes.specs.declared.node.OpaqueNodePtr.{OpaqueNodePtr}
+use Rattle.art_model.specs.Canonical.{IsTree}
+use Rattle.art_model.specs.Kept.{ChangesInPlace}
+use Rattle.art_model.specs.Layouts.{name_of}
+use Rattle.art_model.specs.Pairs.{remove_key}
+use Rattle.art_model.specs.Paths.{Frame, plug}
+use Rattle.art_model.specs.Radix.{bytes_of, join}
+use Rattle.art_model.specs.Stores.{node_at, links_at, pair_of}
+use Rattle.art_model.specs.Trees.{Tree, leaf, child}
+use Rattle.art_model.specs.Writes.{Inners, as_inner, parent_of, with_child_at, without_leaf}
+use Rattle.art_model.proofs.Canonical.{IsLaidOut, laid_out, canonical_from}
+use Rattle.art_model.proofs.OutOf.{smaller_inner, HasLeafBelow, ParentStays, ParentShrinks, with_leaf_in, links_there, parent_is, one_more, slots_left, room_in_smaller, above_same, above_holds, hole, left_out, stays_laid_out, stays_in_place, stays_touches, shrunk, shrinks_laid_out, shrinks_in_place, shrinks_touches}
+use Rattle.art_model.proofs.Paths.{root_with as root_of}
+use Rattle.art_model.proofs.Slots.{length-slots_of}
+use Rattle.art_model.proofs.Stores.{IsParent}
+use Rattle.art_model.proofs.Writes.{parent_ready}
+use Rattle.art_writing.specs.declared.delete.DeletePoint.{DeletePoint}
+use Rattle.art_reading.specs.declared.path.TreePath.{TreePath}
+use Rattle.art_writing.specs.Deleted.{IsDeleted, IsRootAfter, LeadsTo, TouchesFor, ParentChange, change_of, parent_change, no_parent, keeps, shrinks, is_compressed}
+use Rattle.art_writing.specs.Inserted.{alone}
+use Rattle.art_reading.specs.Paths.{last_step, path_of, up}
+use Rattle.art_writing.specs.Writes.{HasChild, LinksAreThere, root_with}
+use Rattle.art_writing.proofs.Deletions.{leaf_at, some_same}
+use Rattle.art_writing.proofs.Ways.{last_step-path_of, last_step-up, root_with-up, root_after_at, root_kept_at}
+
+-- ---- what a parent's change tells of its number of children
+
+refused : {X : Type 0} (t : Bool) (a b : X) → a ≢ b → cond t a b ≡ b → t ≡ false
+refused true a b off e = absurd (off e)
+refused false a b off e = refl
+
+passed : {X : Type 0} (t : Bool) (a b c : X) → b ≢ c → cond t a b ≡ c → t ≡ true
+passed true a b c off e = refl
+passed false a b c off e = absurd (off e)
+
+neither : {X : Type 0} (t : Bool) (a b c : X) → a ≢ c → b ≢ c → cond t a b ≡ c → ⊥
+neither true a b c off non e = off e
+neither false a b c off non e = non e
+
+-- a parent that keeps its kind has more children than the kind has at least
+pub keeps_spare : (kind : NodeType) (count : ℕ) → change_of kind count ≡ keeps → kind_least kind < count
+keeps_spare Node4 count e = leb-false count 2 (refused (leb count 2) is_compressed keeps (λ f. absurd cc) e)
+keeps_spare Node16 count e = leb-false count 5 (refused (leb count 5) (shrinks Node4) keeps (λ f. absurd cc) e)
+keeps_spare Node48 count e = leb-false count 17 (refused (leb count 17) (shrinks Node16) keeps (λ f. absurd cc) e)
+keeps_spare Node256 count e = leb-false count 49 (refused (leb count 49) (shrinks Node48) keeps (λ f. absurd cc) e)
+keeps_spare Leaf count e = leb-false count 0 (refused (leb count 0) (shrinks Leaf) keeps (λ f. absurd cc) e)
+
+-- one that shrinks has as many as that, and is no Node4
+pub shrinks_least : (kind to : NodeType) (count : ℕ) → change_of kind count ≡ shrinks to → (kind ≢ Node4) × (count ≤ kind_least kind)
+shrinks_least Node4 to count e = let t = passed (leb count 2) is_compressed keeps (shrinks to) (λ f. absurd cc) e in absurd (cc (e, t))
+shrinks_least Node16 to count e = ((λ f. absurd cc), leb-true count 5 (passed (leb count 5) (shrinks Node4) keeps (shrinks to) (λ f. absurd cc) e))
+shrinks_least Node48 to count e = ((λ f. absurd cc), leb-true count 17 (passed (leb count 17) (shrinks Node16) keeps (shrinks to) (λ f. absurd cc) e))
+shrinks_least Node256 to count e = ((λ f. absurd cc), leb-true count 49 (passed (leb count 49) (shrinks Node48) keeps (shrinks to) (λ f. absurd cc) e))
+shrinks_least Leaf to count e = ((λ f. absurd cc), leb-true count 0 (passed (leb count 0) (shrinks Leaf) keeps (shrinks to) (λ f. absurd cc) e))
+
+-- a node that is compressed has at most two children
+pub compressed_most : (kind : NodeType) (count : ℕ) → change_of kind count ≡ is_compressed → count ≤ 2
+compressed_most Node4 count e = leb-true count 2 (passed (leb count 2) is_compressed keeps is_compressed (λ f. absurd cc) e)
+compressed_most Node16 count e = absurd (neither (leb count 5) (shrinks Node4) keeps is_compressed (λ f. absurd cc) (λ f. absurd cc) e)
+compressed_most Node48 count e = absurd (neither (leb count 17) (shrinks Node16) keeps is_compressed (λ f. absurd cc) (λ f. absurd cc) e)
+compressed_most Node256 count e = absurd (neither (leb count 49) (shrinks Node48) keeps is_compressed (λ f. absurd cc) (λ f. absurd cc) e)
+compressed_most Leaf count e = absurd (neither (leb count 0) (shrinks Leaf) keeps is_compressed (λ f. absurd cc) (λ f. absurd cc) e)
+
+-- ---- the parent's child
+
+-- a node that has this child has one
+some_child : (name : OpaqueNodePtr) (b : ℕ) (o : Option Inner) → IsSomeAnd o (λ node. child_at node.children b ≡ Some name) → IsSomeAnd o (λ node. IsSome (child_at node.children b))
+some_child name b None has = has
+some_child name b (Some node) has = ap is_some has
+
+-- the innermost node of a path that is as it was has a child where it had the hole
+pub has_child : {A : Type 0} (old new : Inners) (name : OpaqueNodePtr) (fs : List (Frame OpaqueNodePtr A)) → IfSome (parent_of fs) (λ p. IsSomeAnd (get old p.0) (λ node. child_at node.children p.1 ≡ Some name)) →
+    ((k : OpaqueNodePtr) → IsParent fs k → get new (as_inner k) ≡ get old (as_inner k)) → HasChild new (parent_of fs)
+has_child old new name [] has same = tt
+has_child old new name (f ∷ fs) has same = subst (λ o. IsSomeAnd o (λ node. IsSome (child_at node.children f.byte))) (sym (same f.mark refl)) (some_child name f.byte (get old (as_inner f.mark)) has)
+
+-- ---- the leaf below its parent
+
+-- The point's leaf is in the store, in the hole of its parent's frame.
+pub record IsBelow {K V : Type 0} (bytes : K × V → List ℕ) (P : ℕ) (s : Nodes K V) (root : OpaqueNodePtr) (pairs : List (K × V)) (layout : Tree OpaqueNodePtr (K × V)) (x : K × V) (point : DeletePoint) (parent : InnerPtr) (byte : ℕ) : Type 0 where
+  pub frame : Frame OpaqueNodePtr (K × V)
+  pub above : List (Frame OpaqueNodePtr (K × V))
+  pub node : LeafNode K V
+  pub here : get s.leaves point.leaf_node_ptr ≡ Some node
+  pub pair : pair_of node ≡ x
+  pub whole : plug above (with_leaf_in frame point.leaf_node_ptr node) ≡ layout
+  pub below : HasLeafBelow bytes P s root pairs frame above point.leaf_node_ptr node
+  pub path_is : point.path ≡ path_of (frame ∷ above)
+  pub parent_is : as_inner frame.mark ≡ parent
+  pub byte_is : frame.byte ≡ byte
+
+-- A leaf was taken from between the two that it names, and is answered alone.
+pub record IsTaken {K V : Type 0} (s u : Nodes K V) (name : LeafPtr) (deleted : LeafNode K V) : Type 0 where
+  pub leaf : IsSomeAnd (get s.leaves name) (λ leaf. deleted ≡ alone (leaf.key, leaf.value))
+  pub leaves : IsSomeAnd (get s.leaves name) (λ leaf. u.leaves ≡ without_leaf s.leaves name leaf)
+  pub inners : u.inners ≡ s.inners
+
+-- Then the parent lost the child.
+pub record IsWithoutChild {K V : Type 0} (u t : Nodes K V) (parent : InnerPtr) (byte : ℕ) : Type 0 where
+  pub leaves : t.leaves ≡ u.leaves
+  pub inners : t.inners ≡ change u.inners parent (without_child byte)
+
+-- Or the parent was freed, and a smaller node placed without the child.
+pub record IsSmaller {K V : Type 0} (u v : Nodes K V) (parent : InnerPtr) (byte : ℕ) (q : InnerPtr) (node : Inner) : Type 0 where
+  pub there : get u.inners parent ≡ Some node
+  pub kind : q.kind ≡ smaller_kind parent.kind
+  pub fresh : get (remove u.inners parent) q ≡ None
+  pub leaves : v.leaves ≡ u.leaves
+  pub inners : v.inners ≡ insert (remove u.inners parent) q (without_child byte node)
+
+-- Then the grandparent, where there is one, has that as its child.
+pub record IsInPlace {K V : Type 0} (v t : Nodes K V) (path : TreePath) (q : InnerPtr) : Type 0 where
+  pub leaves : t.leaves ≡ v.leaves
+  pub inners : t.inners ≡ with_child_at (last_step (up path)) (inner_name q) v.inners
+
+-- a reservation before it makes no difference
+pub taken_since : {K V : Type 0} {s r u : Nodes K V} {name : LeafPtr} {deleted : LeafNode K V} → r.leaves ≡ s.leaves → r.inners ≡ s.inners → IsTaken r u name deleted → IsTaken s u name deleted
+taken_since {s = s} {u = u} {name = name} {deleted = deleted} leaves inners taken = record {
+  leaf = subst (λ m. IsSomeAnd (get m name) (λ leaf. deleted ≡ alone (leaf.key, leaf.value))) leaves taken.leaf;
+  leaves = subst (λ m. IsSomeAnd (get m name) (λ leaf. u.leaves ≡ without_leaf m name leaf)) leaves taken.leaves;
+  inners = taken.inners ∙ inners;
+}
+
+module _ {K V : Type 0} {bytes : K × V → List ℕ} {P : ℕ} {s : Nodes K V} {root : OpaqueNodePtr} {pairs : List (K × V)} {layout : Tree OpaqueNodePtr (K × V)} {x : K × V} {point : DeletePoint} {parent : InnerPtr} {byte : ℕ} where
+  pub is_below : IsTree bytes P s root pairs layout → LeadsTo layout x point → last_step point.path ≡ Some (parent, byte) → IsBelow bytes P s root pairs layout x point parent byte
+  is_below by leads step = frames leads.path leads.whole leads.path_is
+    where
+      frames : (fs : List (Frame OpaqueNodePtr (K × V))) → plug fs (leaf (leaf_name point.leaf_node_ptr) x) ≡ layout → point.path ≡ path_of fs → IsBelow bytes P s root pairs layout x point parent byte
+      frames [] whole path_is = let none = sym step ∙ ap last_step path_is in absurd cc
+      frames (f ∷ fs) whole path_is =
+          let (node, here, pair) = leaf_at by leads in
+          let last : ◌≡◌ {A = InnerPtr × ℕ} (as_inner f.mark, f.byte) (parent, byte) = some_same (sym (last_step-path_of (f ∷ fs)) ∙ ap last_step (sym path_is) ∙ step) in
+          let all : plug fs (with_leaf_in f point.leaf_node_ptr node) ≡ layout = ap (λ z. plug (f ∷ fs) (leaf (leaf_name point.leaf_node_ptr) z)) pair ∙ whole in
+          record {
+            frame = f;
+            above = fs;
+            node = node;
+            here = here;
+            pair = pair;
+            whole = all;
+            below = record { laid = subst (IsLaidOut bytes P (node_at s) (links_at s) root pairs) (sym all) (laid_out by) };
+            path_is = path_is;
+            parent_is = ap (λ p. p.0) last;
+            byte_is = ap (λ p. p.1) last;
+          }
+
+  module _ (at : IsBelow bytes P s root pairs layout x point parent byte) where
+    -- the leaves beside it are there
+    pub leaf_ready : IsSome (get s.leaves point.leaf_node_ptr) × LinksAreThere s.leaves point.leaf_node_ptr
+    leaf_ready = rw at.here (refl, links_there at.below at.here)
+
+    -- the parent as the store has it
+    pub parent_there : (node : Inner) × (get s.inners parent ≡ Some node) × (parent.kind ≢ Leaf) × (length node.children ≡ suc (length (bytes_of (join at.frame.left at.frame.right))))
+    parent_there =
+        let (off, node, got, head, kids) = parent_is at.below in (
+          node,
+          ap (get s.inners) (sym at.parent_is) ∙ got,
+          subst (λ (p : InnerPtr). p.kind ≢ Leaf) at.parent_is off,
+          ap length kids ∙ length-slots_of (join at.frame.left (child at.frame.byte (leaf (leaf_name point.leaf_node_ptr) (pair_of at.node)) at.frame.right)) ∙ one_more at.below,
+        )
+
+    -- the smaller kind is an inner one
+    pub smaller_is_inner : {smaller : NodeType} → smaller ≡ smaller_kind parent.kind → Some smaller ≢ Some Leaf
+    smaller_is_inner is e = smaller_inner parent.kind parent_there.2 (sym is ∙ some_same e)
+
+    -- what becomes of the parent is told by its number of children
+    pub change_is : (to : ParentChange) → last_step point.path ≡ Some (parent, byte) → parent_change s point.path ≡ to → change_of at.frame.mark.kind (suc (length (bytes_of (join at.frame.left at.frame.right)))) ≡ to
+    change_is to step is =
+        let (node, got, off, count) = parent_there in
+        let told : parent_change s point.path ≡ change_of parent.kind (length node.children) =
+        ap (λ (o : Option (InnerPtr × ℕ)). elim o as (λ _. ParentChange) [ None ↦ no_parent | Some p ↦ elim (get s.inners p.0) as (λ _. ParentChange) [ None ↦ no_parent | Some i ↦ change_of p.0.kind (length i.children) ] ]) step
+        ∙ ap (λ (o : Option Inner). elim o as (λ _. ParentChange) [ None ↦ no_parent | Some i ↦ change_of parent.kind (length i.children) ]) got in
+        ap (λ (p : InnerPtr). change_of p.kind (suc (length (bytes_of (join at.frame.left at.frame.right))))) at.parent_is ∙ ap (change_of parent.kind) (sym count) ∙ sym told ∙ is
+
+  module _ (at : IsBelow bytes P s root pairs layout x point parent byte) {u : Nodes K V} {deleted : LeafNode K V} (taken : IsTaken s u point.leaf_node_ptr deleted) where
+    leaves_without : u.leaves ≡ without_leaf s.leaves point.leaf_node_ptr at.node
+    leaves_without = subst (λ o. IsSomeAnd o (λ leaf. u.leaves ≡ without_leaf s.leaves point.leaf_node_ptr leaf)) at.here taken.leaves
+
+    -- it is answered with the pair
+    pair_alone : deleted ≡ alone x
+    pair_alone = subst (λ o. IsSomeAnd o (λ leaf. deleted ≡ alone (leaf.key, leaf.value))) at.here taken.leaf ∙ ap alone at.pair
+
+    same_root : (fs : List (Frame OpaqueNodePtr (K × V))) → name_of (plug fs (with_leaf_in at.frame point.leaf_node_ptr at.node)) ≡ root → root_of fs root at.frame.mark ≡ root
+    same_root [] e = e
+    same_root (g ∷ gs) e = refl
+
+    -- ---- the parent stays
+
+    module _ {t : Nodes K V} (without : IsWithoutChild u t parent byte) (step : last_step point.path ≡ Some (parent, byte)) (is : parent_change s point.path ≡ keeps) where
+      parent_stays : ParentStays s t at.frame point.leaf_node_ptr at.node
+      parent_stays = record {
+        goes = record { here = at.here; leaves = without.leaves ∙ leaves_without };
+        spare = let more = keeps_spare at.frame.mark.kind (suc (length (bytes_of (join at.frame.left at.frame.right)))) (change_is at keeps step is) in omega arith;
+        inners = without.inners ∙ ap (λ m. change m parent (without_child byte)) taken.inners ∙ ap (λ p. change s.inners p (without_child byte)) (sym at.parent_is) ∙ ap (λ b. change s.inners (as_inner at.frame.mark) (without_child b)) (sym at.byte_is);
+      }
+
+      -- the record of it
+      pub child_deleted : IsDeleted bytes P s t root point x pairs layout (record { new_root = Some root; deleted_leaf = deleted })
+      child_deleted =
+          let same : root_of at.above root at.frame.mark ≡ root = same_root at.above at.below.laid.named in
+          let tree = plug at.above (left_out at.below parent_stays) in
+          record {
+            tree = Some tree;
+            canonical = canonical_from (subst (λ r. IsLaidOut bytes P (node_at t) (links_at t) r (remove_key bytes (bytes x) pairs) tree) same
+                (subst (λ y. IsLaidOut bytes P (node_at t) (links_at t) (root_of at.above root at.frame.mark) (remove_key bytes (bytes y) pairs) tree) at.pair (stays_laid_out at.below parent_stays)));
+            deleted = pair_alone;
+            root_is = subst (λ to. IsRootAfter to point.path root (Some root)) (sym is) (subst (λ path. IsRootAfter keeps path root (Some root)) (sym at.path_is) (root_kept_at at.frame at.above root));
+            kept = subst (λ l. ChangesInPlace bytes s t (Some l) (Some tree)) at.whole (stays_in_place at.below parent_stays);
+          }
+
+      -- and what is touched
+      pub child_touches : TouchesFor (parent_change s point.path) s t
+      child_touches = subst (λ to. TouchesFor to s t) (sym is) (stays_touches at.below parent_stays)
+
+    -- ---- a smaller node takes the parent's place
+
+    module _ (to : NodeType) (step : last_step point.path ≡ Some (parent, byte)) (is : parent_change s point.path ≡ shrinks to) where
+      fewest : (at.frame.mark.kind ≢ Node4) × (length (bytes_of (join at.frame.left at.frame.right)) < kind_least at.frame.mark.kind)
+      fewest =
+          let (larger, least) = shrinks_least at.frame.mark.kind to (suc (length (bytes_of (join at.frame.left at.frame.right)))) (change_is at (shrinks to) step is) in
+          (larger, omega arith)
+
+      -- the node that was freed has room for its other children in the smaller kind
+      pub shrinks_fit : {freed : Inner} → get u.inners parent ≡ Some freed → (parent.kind ≢ Node4) × (length (remove_child freed.children byte) ≤ kind_capacity (smaller_kind parent.kind))
+      shrinks_fit {freed} there =
+          let (off, node, got, head, kids) = parent_is at.below in
+          let same : freed ≡ node = some_same (sym there ∙ ap (λ m. get m parent) taken.inners ∙ ap (get s.inners) (sym at.parent_is) ∙ got) in
+          let left : length (remove_child freed.children byte) ≡ length (bytes_of (join at.frame.left at.frame.right)) =
+          ap (λ b. length (remove_child freed.children b)) (sym at.byte_is) ∙ ap length (slots_left at.below freed.children (ap (λ z. z.children) same ∙ kids)) ∙ length-slots_of (join at.frame.left at.frame.right) in
+          subst (λ (p : InnerPtr). (p.kind ≢ Node4) × (length (remove_child freed.children byte) ≤ kind_capacity (smaller_kind p.kind))) at.parent_is
+          (fewest.0, subst (λ n. n ≤ kind_capacity (smaller_kind at.frame.mark.kind)) (sym left) (room_in_smaller at.frame.mark.kind (length (bytes_of (join at.frame.left at.frame.right))) fewest.0 fewest.1))
+
+      placed_is : (q : InnerPtr) (node : Inner) → insert (remove u.inners parent) q (without_child byte node) ≡ insert (remove s.inners (as_inner at.frame.mark)) q (without_child at.frame.byte node)
+      placed_is q node =
+          ap (λ m. insert (remove m parent) q (without_child byte node)) taken.inners ∙ ap (λ p. insert (remove s.inners p) q (without_child byte node)) (sym at.parent_is)
+          ∙ ap (λ b. insert (remove s.inners (as_inner at.frame.mark)) q (without_child b node)) (sym at.byte_is)
+
+      module _ {v : Nodes K V} {q : InnerPtr} {node : Inner} (smaller : IsSmaller u v parent byte q node) where
+        inners_are : v.inners ≡ insert (remove s.inners (as_inner at.frame.mark)) q (without_child at.frame.byte node)
+        inners_are = smaller.inners ∙ placed_is q node
+
+        parent_shrinks : {t : Nodes K V} → IsInPlace v t point.path q → ParentShrinks s t at.frame at.above point.leaf_node_ptr at.node q node
+        parent_shrinks {t} last = record {
+          goes = record { here = at.here; leaves = last.leaves ∙ smaller.leaves ∙ leaves_without };
+          least = fewest.1;
+          larger = fewest.0;
+          kind = smaller.kind ∙ ap (λ (p : InnerPtr). smaller_kind p.kind) (sym at.parent_is);
+          there = ap (get s.inners) at.parent_is ∙ ap (λ m. get m parent) (sym taken.inners) ∙ smaller.there;
+          fresh = ap (λ p. get (remove s.inners p) q) at.parent_is ∙ ap (λ m. get (remove m parent) q) (sym taken.inners) ∙ smaller.fresh;
+          inners = last.inners ∙ ap (λ path. with_child_at (last_step (up path)) (inner_name q) v.inners) at.path_is ∙ ap (λ above. with_child_at above (inner_name q) v.inners) (last_step-up at.frame at.above) ∙ ap (with_child_at (parent_of at.above) (inner_name q)) inners_are;
+        }
+
+        -- before it is written, the grandparent has a child under its byte
+        pub above_ready : HasChild v.inners (last_step (up point.path))
+        above_ready =
+            let t : Nodes K V = record v { inners = with_child_at (last_step (up point.path)) (inner_name q) v.inners } in
+            let last : IsInPlace v t point.path q = record { leaves = refl; inners = refl } in
+            subst (HasChild v.inners) (sym (ap (λ path. last_step (up path)) at.path_is ∙ last_step-up at.frame at.above))
+            (has_child s.inners v.inners at.frame.mark at.above (parent_ready bytes P s at.above (hole at.below).0 at.frame.mark (hole at.below).1.path (above_holds at.below))
+            (λ k above. ap (λ m. get m (as_inner k)) inners_are ∙ above_same at.below (parent_shrinks last) k above))
+
+        module _ {t : Nodes K V} (last : IsInPlace v t point.path q) where
+          -- the record of it
+          pub parent_deleted : {new : OpaqueNodePtr} → new ≡ root_with (up point.path) root (inner_name q) → IsDeleted bytes P s t root point x pairs layout (record { new_root = Some new; deleted_leaf = deleted })
+          parent_deleted {new} root_is =
+              let answered : new ≡ root_of at.above root (inner_name q) = root_is ∙ ap (λ path. root_with (up path) root (inner_name q)) at.path_is ∙ root_with-up at.frame at.above root (inner_name q) in
+              let tree = plug at.above (shrunk at.below (parent_shrinks last)) in
+              record {
+                tree = Some tree;
+                canonical = canonical_from (subst (λ r. IsLaidOut bytes P (node_at t) (links_at t) r (remove_key bytes (bytes x) pairs) tree) (sym answered)
+                    (subst (λ y. IsLaidOut bytes P (node_at t) (links_at t) (root_of at.above root (inner_name q)) (remove_key bytes (bytes y) pairs) tree) at.pair (shrinks_laid_out at.below (parent_shrinks last))));
+                deleted = pair_alone;
+                root_is = subst (λ change. IsRootAfter change point.path root (Some new)) (sym is) (subst (λ path. IsRootAfter (shrinks to) path root (Some new)) (sym at.path_is) (subst (λ r. IsRootAfter (shrinks to) (path_of (at.frame ∷ at.above)) root (Some r)) (sym answered) (root_after_at at.frame (shrinks to) at.above root (inner_name q) (λ e. absurd cc))));
+                kept = subst (λ l. ChangesInPlace bytes s t (Some l) (Some tree)) at.whole (shrinks_in_place at.below (parent_shrinks last));
+              }
+
+          -- and what is touched
+          pub parent_touches : TouchesFor (parent_change s point.path) s t
+          parent_touches = subst (λ change. TouchesFor change s t) (sym is) (shrinks_touches at.below (parent_shrinks last))

@@ -1,0 +1,10 @@
+-- points at which leaves go
+use Rattle.std.proofs.Common.{◌≡◌, sym, subst, Option, Some}
+use Rattle.art_nodes.specs.declared.node.OpaqueNodePtr.{OpaqueNodePtr}
+use Rattle.art_model.specs.Trees.{Tree}
+use Rattle.art_writing.specs.declared.delete.DeletePoint.{DeletePoint}
+use Rattle.art_writing.specs.Deleted.{IsDeletePoint, LeadsTo}
+
+-- where there is a pair, what leads to its leaf is the point
+pub point_there : {A : Type 0} {tree : Tree OpaqueNodePtr A} {pair : Option A} {x : A} {point : DeletePoint} → pair ≡ Some x → LeadsTo tree x point → IsDeletePoint tree pair (Some point)
+point_there {A} {tree} {pair} {x} {point} is leads = subst (λ o. IsDeletePoint tree o (Some point)) (sym is) leads

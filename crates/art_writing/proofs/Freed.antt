@@ -1,0 +1,134 @@
+-- What is freed, one name after another.
+use Rattle.std.proofs.Common.{◌≡◌, ◌≢◌, ℕ, ◌-◌, suc, List, [], ◌∷◌, ◌++◌, Option, Some, None, IsSome, refl, ap, sym, ◌∙◌, subst, append-nil, append_assoc, arith, cond, is_some, true, inl, inr}
+use Rattle.std.specs.Option.{option_map, option_and_then}
+use Rattle.std.specs.FinMap as map
+use Rattle.std.proofs.lemmas.Bool.{false≢true, eq-eqb, ne_eqb}
+use Rattle.art_nodes.specs.Inner.{Inner, IsBelow, IsRising, remove_child}
+use Rattle.art_nodes.specs.Names.{leaf_name}
+use Rattle.art_nodes.specs.Changes.{without_child}
+use Rattle.art_nodes.specs.Nodes.{Nodes, leaf_cmp, inner_cmp, change}
+use Rattle.art_nodes.specs.declared.node.LeafPtr.{LeafPtr}
+use Rattle.art_nodes.specs.declared.node.InnerPtr.{InnerPtr}
+use Rattle.art_nodes.specs.declared.node.LeafNode.{LeafNode}
+use Rattle.art_nodes.specs.declared.node.OpaqueNodePtr.{OpaqueNodePtr}
+use Rattle.art_nodes.proofs.NameLemmas.{leaf_cmp_total}
+use Rattle.art_nodes.proofs.StoreLaws.{changed_from, leaf_gone, leaf_gone_elsewhere}
+use Rattle.art_model.specs.Footprints.{IsIn}
+use Rattle.art_model.specs.Kept.{Frees}
+use Rattle.art_model.specs.Layouts.{AreDistinct}
+use Rattle.art_model.specs.Pairs.{first_of, without_first}
+use Rattle.art_model.specs.Stores.{held, held_leaf, held_inner, links_of}
+use Rattle.art_model.proofs.Lists.{in_left, in_right, in_either}
+use Rattle.art_model.proofs.Names.{apart_in}
+use Rattle.art_model.proofs.Pairwises.{Pairwise-right}
+use Rattle.art_model.proofs.Views.{held_in_inner, leaf_or}
+use Rattle.art_writing.specs.Freed.{without_first_child}
+use Rattle.art_reading.specs.Iterators.{IsIteratorOf}
+use Rattle.art_reading.proofs.Iterators.{goes_on}
+
+module _ {K V : Type 0} where
+  pub frees_none : (s : Nodes K V) → Frees [] s s
+  frees_none s = record { beside = λ k off none. refl; left = λ k i none. absurd i; taken = λ k i none. absurd i }
+
+  -- some names, and then others
+  pub frees_both : {s t u : Nodes K V} (xs ys : List OpaqueNodePtr) → ((k : OpaqueNodePtr) → IsIn k xs → IsIn k ys → ⊥) → Frees xs s t → Frees ys t u → Frees (xs ++ ys) s u
+  frees_both xs ys apart first second = record {
+    beside = λ k off none. second.beside k (λ i. off (in_right k xs ys i)) none ∙ first.beside k (λ i. off (in_left k xs ys i)) none;
+    left = λ k i none. elim (in_either k xs ys i) [
+      | inl j ↦ second.beside k (apart k j) none ∙ first.left k j none
+      | inr j ↦ second.left k j none
+    ];
+    taken = λ k i none. absurd i;
+  }
+
+  module _ {s t : Nodes K V} where
+    -- a leaf
+    pub leaf_freed : (p : LeafPtr) → t.leaves ≡ map.remove s.leaves p → t.inners ≡ s.inners → Frees (leaf_name p ∷ []) s t
+    leaf_freed p leaves inners = record {
+      beside = λ k off none. elim (leaf_or k) [
+        | inl (q, e) ↦ subst (λ z. held t z ≡ held s z) (sym e) (ap (option_map held_leaf) (ap (λ m. map.get m q) leaves ∙ leaf_gone_elsewhere s.leaves p q (λ f. off (inl (sym (e ∙ ap leaf_name f))))))
+        | inr kind ↦ held_in_inner t k.kind k.slot kind ∙ ap (λ m. option_map held_inner (map.get m (record { kind = k.kind; slot = k.slot }))) inners ∙ sym (held_in_inner s k.kind k.slot kind)
+      ];
+      left = λ k i none. elim i [ inl e ↦ subst (λ z. held t z ≡ None) e (ap (option_map held_leaf) (ap (λ m. map.get m p) leaves ∙ leaf_gone s.leaves p)) | inr j ↦ absurd j ];
+      taken = λ k i none. absurd i;
+    }
+
+-- ---- the leaves of an iterator
+
+module _ {K V : Type 0} where
+  -- the first leaf of a walk is freed, and the walk goes on with the others
+  pub first_freed : {s t : Nodes K V} {next : Option (LeafPtr × LeafPtr)} (names : List OpaqueNodePtr) (p : LeafPtr) → AreDistinct names → Some (leaf_name p) ≡ first_of names → IsIteratorOf s next (without_first names) →
+      t.leaves ≡ map.remove s.leaves p → t.inners ≡ s.inners → IsIteratorOf t next (without_first names)
+  first_freed [] p distinct e its leaves inners = absurd cc
+  first_freed {s} {t} {next} (x ∷ xs) p distinct e its leaves inners =
+      let same : leaf_name p ≡ x = cc in
+      let off : (n : OpaqueNodePtr) → IsIn n xs → IsIn n (leaf_name p ∷ []) → ⊥ = λ n i j. apart_in (x ∷ []) xs n distinct (elim j [ inl f ↦ inl (sym same ∙ f) | inr k ↦ absurd k ]) i in
+      goes_on s t next xs its (λ n i. ap (option_and_then links_of) ((leaf_freed {s = s} {t = t} p leaves inners).beside n (off n i) (λ z. z)))
+
+  -- Some of the names are gone, and the iterator stands for the others.
+  pub record AreLeft (s t : Nodes K V) (names : List OpaqueNodePtr) (iterator : Option (LeafPtr × LeafPtr)) : Type 0 where
+    pub gone : List OpaqueNodePtr
+    pub rest : List OpaqueNodePtr
+    pub whole : names ≡ gone ++ rest
+    pub iterator_of : IsIteratorOf t iterator rest
+    pub freed : Frees gone s t
+
+  pub all_left : {s : Nodes K V} {names : List OpaqueNodePtr} {iterator : Option (LeafPtr × LeafPtr)} → IsIteratorOf s iterator names → AreLeft s s names iterator
+  all_left {s} {names} is = record { gone = []; rest = names; whole = refl; iterator_of = is; freed = frees_none s }
+
+  module _ {s t : Nodes K V} {names : List OpaqueNodePtr} {iterator : Option (LeafPtr × LeafPtr)} (is : AreLeft s t names iterator) where
+    -- no more come
+    pub none_come : None ≡ first_of is.rest → Frees names s t
+    none_come none = subst (λ z. Frees z s t) (sym (is.whole ∙ go is.rest none)) is.freed
+      where
+        go : (rest : List OpaqueNodePtr) → None ≡ first_of rest → is.gone ++ rest ≡ is.gone
+        go [] e = append-nil is.gone
+        go (x ∷ xs) e = absurd cc
+
+    -- the first one goes
+    pub one_goes : {u : Nodes K V} {next : Option (LeafPtr × LeafPtr)} → AreDistinct names → (p : LeafPtr) → Some (leaf_name p) ≡ first_of is.rest → IsIteratorOf t next (without_first is.rest) → u.leaves ≡ map.remove t.leaves p → u.inners ≡ t.inners → AreLeft s u names next
+    one_goes {u} {next} distinct p first left leaves inners = go is.rest first is.whole left
+      where
+        go : (rest : List OpaqueNodePtr) → Some (leaf_name p) ≡ first_of rest → names ≡ is.gone ++ rest → IsIteratorOf t next (without_first rest) → AreLeft s u names next
+        go [] e whole its = absurd cc
+        go (x ∷ xs) e whole its =
+            let same : leaf_name p ≡ x = cc in
+            let goes = leaf_freed p leaves inners in
+            let all : AreDistinct (is.gone ++ x ∷ xs) = subst AreDistinct whole distinct in
+            record {
+              gone = is.gone ++ leaf_name p ∷ [];
+              rest = xs;
+              whole = whole ∙ ap (λ z. is.gone ++ z ∷ xs) (sym same) ∙ sym (append_assoc is.gone (leaf_name p ∷ []) xs);
+              iterator_of = first_freed (x ∷ xs) p (Pairwise-right ◌≢◌ is.gone (x ∷ xs) all) e its leaves inners;
+              freed = frees_both is.gone (leaf_name p ∷ []) (λ k i j. elim j [ inl f ↦ apart_in is.gone (x ∷ xs) k all i (inl (sym same ∙ f)) | inr z ↦ z ]) is.freed goes;
+            }
+
+-- a map without one of its leaves has fewer
+pub leaf_less : {K V : Type 0} (m : map.FinMap leaf_cmp (LeafNode K V)) (p : LeafPtr) → IsSome (map.get m p) → suc (map.len (map.remove m p)) ≡ map.len m
+leaf_less m p some =
+    let there : is_some (map.get m p) ≡ true = go (map.get m p) some in
+    let e : map.len (map.remove m p) ≡ map.len m - 1 = map.len-remove leaf_cmp_total m p ∙ ap (λ b. cond b (map.len m - 1) (map.len m)) there in
+    let held_some : map.len m ≢ 0 = λ z. false≢true (sym (ap is_some (map.get-empty leaf_cmp p)) ∙ ap (λ n. is_some (map.get n p)) (sym (map.empty_of_len m z)) ∙ there) in
+    omega arith
+  where
+    go : {X : Type 0} (o : Option X) → IsSome o → is_some o ≡ true
+    go None h = absurd cc
+    go (Some x) h = refl
+
+-- ---- the first child of a node
+
+-- no other child has its byte
+below_kept : (b : ℕ) (cs : List (ℕ × OpaqueNodePtr)) → IsBelow b cs → remove_child cs b ≡ cs
+below_kept b [] h = refl
+below_kept b (c ∷ cs) h = rw (ne_eqb c.0 b (λ e. let l = h.0 in omega arith)) (ap (λ z. c ∷ z) (below_kept b cs h.1))
+
+first_gone : (node : Inner) (b : ℕ) (child : OpaqueNodePtr) (rest : List (ℕ × OpaqueNodePtr)) → node.children ≡ (b, child) ∷ rest → IsRising node.children → without_child b node ≡ without_first_child node
+first_gone node b child rest is rising =
+    let up = subst IsRising is rising in
+    let same : remove_child node.children b ≡ without_first node.children =
+    ap (λ z. remove_child z b) is ∙ rw (eq-eqb b b refl) (below_kept b rest up.0) ∙ sym (ap without_first is) in
+    ap (λ z. let r : Inner = record node { children = z } in r) same
+
+pub first_taken : (m : map.FinMap inner_cmp Inner) (p : InnerPtr) (node : Inner) (b : ℕ) (child : OpaqueNodePtr) (rest : List (ℕ × OpaqueNodePtr)) → Some node ≡ map.get m p → node.children ≡ (b, child) ∷ rest → IsRising node.children → change m p (without_child b) ≡ change m p without_first_child
+first_taken m p node b child rest there is rising =
+    changed_from m p (without_child b) (Some node) (sym there) ∙ ap (map.insert m p) (first_gone node b child rest is rising) ∙ sym (changed_from m p without_first_child (Some node) (sym there))

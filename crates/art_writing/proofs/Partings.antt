@@ -1,0 +1,90 @@
+-- keys that part at a byte, and keys that are related
+use Rattle.std.proofs.Common.{◌≡◌, ◌≢◌, ℕ, ◌<◌, ◌≤◌, List, [], ◌∷◌, ◌++◌, length, refl, ap, sym, ◌∙◌, subst, arith, append_assoc, append-nil, length-append, Bool, true, false, ◌||◌, ◌&&◌, not, ◌⊎◌, inl, inr}
+use Rattle.std.specs.List.{AllByRecursion as Each}
+use Rattle.std.proofs.lemmas.Bool.{cases_order}
+use Rattle.art_model.specs.Keys.{IsFront, are_related, are_same}
+use Rattle.art_model.specs.Pairs.{is_conflict, related_to}
+use Rattle.art_model.proofs.Lists.{common_front_left}
+use Rattle.art_model.proofs.Keys.{related_sym, front_related, front_same, same_equal, precedes_at}
+use Rattle.art_model.proofs.Fronts.{ArePart, front_right, part_where, shared_whole}
+use Rattle.art_reading.specs.Matching.{shared_len}
+
+-- keys that go on after a front with different bytes are not related
+pub unrelated_after : (front : List ℕ) (x y : ℕ) (a b : List ℕ) → IsFront (front ++ x ∷ []) a → IsFront (front ++ y ∷ []) b → x ≢ y → are_related a b ≡ false
+unrelated_after front x y a b f g differ = go (cases_order x y)
+  where
+    go : (x ≡ y) ⊎ ((x < y) ⊎ (y < x)) → are_related a b ≡ false
+    go (inl e) = absurd (differ e)
+    go (inr (inl l)) = (precedes_at front x y f.0 g.0 a b (f.1 ∙ append_assoc front (x ∷ []) f.0) (g.1 ∙ append_assoc front (y ∷ []) g.0) l).1
+    go (inr (inr l)) = related_sym a b ∙ (precedes_at front y x g.0 f.0 b a (g.1 ∙ append_assoc front (y ∷ []) g.0) (f.1 ∙ append_assoc front (x ∷ []) f.0) l).1
+
+pub parted_unrelated : {a b : List ℕ} → ArePart a b → are_related a b ≡ false
+parted_unrelated {a} {b} p = unrelated_after p.front p.x p.y a b (p.r, p.a_is ∙ sym (append_assoc p.front (p.x ∷ []) p.r)) (p.s, p.b_is ∙ sym (append_assoc p.front (p.y ∷ []) p.s)) p.differ
+
+-- as many as all of the first key's bytes are shared
+pub all_shared : (a b : List ℕ) (n : ℕ) → n ≡ shared_len a b → length a ≤ n → (n ≡ length a) × IsFront a b
+all_shared a b n e h =
+    let (r, f) = common_front_left a b in
+    let l = ap length f in
+    (omega (arith, simp length-append at l), shared_whole a b (omega arith))
+
+pub whole_same : (a b : List ℕ) → IsFront a b → length a ≡ length b → b ≡ a
+whole_same a b ([], e) same = e ∙ append-nil a
+whole_same a b (x ∷ r, e) same = absurd (let l = ap length e in omega (arith, simp length-append at l))
+
+pub some_related : (a b : List ℕ) → (length a ≤ shared_len a b) ⊎ (length b ≤ shared_len a b) → are_related a b ≡ true
+some_related a b (inl h) = front_related a b (shared_whole a b h)
+some_related a b (inr h) = related_sym a b ∙ front_related b a (front_right a b h)
+
+-- equal keys share all bytes
+pub some_equal : (a b : List ℕ) → (length a ≤ shared_len a b) ⊎ (length b ≤ shared_len a b) → length a ≡ length b → b ≡ a
+some_equal a b (inl h) same = whole_same a b (shared_whole a b h) same
+some_equal a b (inr h) same = whole_same a b (shared_whole a b (omega arith)) same
+
+-- what the comparison of lengths with what is shared tells, where the second key was read as `c`
+module _ (a b c : List ℕ) (n : ℕ) (shared : n ≡ shared_len a c) (same : c ≡ b) where
+  pub less_than_both : n < length a → n < length c → (are_related a b ≡ false) × (n ≡ shared_len a b)
+  less_than_both h k = subst (λ l. (are_related a l ≡ false) × (n ≡ shared_len a l)) same (parted_unrelated (part_where a c (omega arith) (omega arith)), shared)
+
+  not_less : ((n < length a) × (length c ≤ n)) ⊎ (length a ≤ n) → (length a ≤ shared_len a c) ⊎ (length c ≤ shared_len a c)
+  not_less (inl h) = inr (let l = h.1 in omega arith)
+  not_less (inr h) = inl (omega arith)
+
+  pub not_less_same : ((n < length a) × (length c ≤ n)) ⊎ (length a ≤ n) → length a ≡ length c → b ≡ a
+  not_less_same h e = subst (λ l. l ≡ a) same (some_equal a c (not_less h) e)
+
+  pub not_less_related : ((n < length a) × (length c ≤ n)) ⊎ (length a ≤ n) → length a ≢ length c → (are_related a b ≡ true) × (a ≢ b)
+  not_less_related h other = (subst (λ l. are_related a l ≡ true) same (some_related a c (not_less h)), λ e. other (ap length (e ∙ sym same)))
+
+is_false : (t : Bool) → (t ≡ true → ⊥) → t ≡ false
+is_false true never = absurd (never refl)
+is_false false never = refl
+
+pub unequal_keys : (a b : List ℕ) → a ≢ b → are_same a b ≡ false
+unequal_keys a b never = is_false (are_same a b) (λ e. never (sym (same_equal a b e)))
+
+module _ {A : Type 0} (bytes : A → List ℕ) (key : List ℕ) where
+  -- only related keys are in conflict
+  pub conflict-related : (xs : List A) → is_conflict bytes key (related_to bytes key xs) ≡ is_conflict bytes key xs
+  conflict-related [] = refl
+  conflict-related (x ∷ xs) = go (conflict-related xs) (are_related key (bytes x)) refl
+    where
+      go : is_conflict bytes key (related_to bytes key xs) ≡ is_conflict bytes key xs → (t : Bool) → are_related key (bytes x) ≡ t → is_conflict bytes key (related_to bytes key (x ∷ xs)) ≡ is_conflict bytes key (x ∷ xs)
+      go ih true e = rw (e, e) (ap (λ t. not (are_same key (bytes x)) || t) ih)
+      go ih false e = rw e ih
+
+  pub no_conflict : (xs : List A) → Each (λ x. are_related key (bytes x) ≡ false) xs → is_conflict bytes key xs ≡ false
+  no_conflict [] h = refl
+  no_conflict (x ∷ xs) h = rw h.0 (no_conflict xs h.1)
+
+  pub first_conflict : (x : A) (xs : List A) → are_related key (bytes x) ≡ true → key ≢ bytes x → is_conflict bytes key (x ∷ xs) ≡ true
+  first_conflict x xs related unequal = rw (related, unequal_keys key (bytes x) unequal) refl
+
+  pub same_conflict : (x : A) → bytes x ≡ key → is_conflict bytes key (x ∷ []) ≡ false
+  same_conflict x e =
+      let same : are_same key (bytes x) ≡ true = ap (are_same key) e ∙ front_same key in
+      rw same (and_false (are_related key (bytes x)))
+    where
+      and_false : (t : Bool) → ((t && false) || false) ≡ false
+      and_false true = refl
+      and_false false = refl

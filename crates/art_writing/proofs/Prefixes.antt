@@ -1,0 +1,135 @@
+-- the whole prefix of a node, as it is read
+use Rattle.std.proofs.Common.{◌≡◌, ◌≢◌, ℕ, ◌+◌, ◌-◌, ◌<◌, ◌≤◌, List, [], ◌∷◌, ◌++◌, length, take, drop, slice_get, ap, sym, ◌∙◌, arith, subst, length-append, Option, Some, None, Result, Ok, Err}
+use Rattle.std.specs.Result.{IfOk, IfErr}
+use Rattle.std.proofs.lemmas.List.{take_all}
+use Rattle.std.specs.FinMap as map
+use Rattle.art_nodes.specs.Inner.{Inner, Prefix, header_of as whole_header}
+use Rattle.art_nodes.specs.Names.{leaf_name, inner_name}
+use Rattle.art_nodes.specs.Nodes.{Nodes}
+use Rattle.art_nodes.specs.declared.node.NodeType.TheVariants.{Leaf}
+use Rattle.art_nodes.specs.declared.node.LeafPtr.{LeafPtr}
+use Rattle.art_nodes.specs.declared.node.InnerPtr.{InnerPtr}
+use Rattle.art_nodes.specs.declared.node.OpaqueNodePtr.{OpaqueNodePtr}
+use Rattle.art_nodes.specs.declared.node.LeafNode.{LeafNode}
+use Rattle.art_nodes.proofs.HeaderLaws.{header_by_parts}
+use Rattle.art_model.specs.Keys.{IsFront}
+use Rattle.art_model.specs.Lookups.{HasFirstLeaf}
+use Rattle.art_model.specs.Pairs.{first_of}
+use Rattle.art_model.specs.Roots.{IsFullTree}
+use Rattle.art_model.specs.Trees.{Tree, leaf, inner, Children, child, no_child}
+use Rattle.art_model.specs.Radix.{IsRadix, AreRadix, bytes_of, pairs_of, pairs_below}
+use Rattle.art_model.specs.Layouts.{Holds, IsLayout}
+use Rattle.art_model.specs.Stores.{node_at, header_at, pair_of}
+use Rattle.art_model.specs.Places.{least_key, least_below, prefix_of}
+use Rattle.art_model.proofs.Places.{least_way_below, prefix_is}
+use Rattle.art_model.proofs.Rebuild.{radix_some}
+use Rattle.art_model.proofs.Shown.{IsShown, no_inner_gone, inner_shown}
+use Rattle.art_model.proofs.Stores.{path_holds}
+use Rattle.art_model.proofs.TreeLaws.{have_two_children, one_child}
+use Rattle.art_model.proofs.Views as views
+use Rattle.art_reading.specs.declared.path.ExplicitMismatch.{ExplicitMismatch}
+use Rattle.art_reading.specs.declared.path.PrefixMatch.{PrefixMatch}
+use Rattle.art_reading.specs.Matching.{shared_len}
+use Rattle.art_writing.specs.Points.{IsCompared, IsLeafForPrefix, IsPart}
+
+module _ {N A : Type 0} (bytes : A → List ℕ) (P : ℕ) (x : A) where
+  -- the least key is that of the first pair
+  mutual
+    least_is : (t : Tree N A) (place : List ℕ) → IsRadix bytes P place t → first_of (pairs_of t) ≡ Some x → least_key bytes t ≡ bytes x
+    least_is (leaf n y) place h e = let same : y ≡ x = cc in ap bytes same
+    least_is (inner n h cs) place (part, head, two, up, below) e = least_below_is cs (place ++ part) two below e
+
+    least_below_is : (cs : Children N A) (front : List ℕ) → 2 ≤ length (bytes_of cs) → AreRadix bytes P front cs → first_of (pairs_below cs) ≡ Some x → least_below bytes cs ≡ bytes x
+    least_below_is no_child front two h e = absurd (omega arith)
+    least_below_is (child b t cs) front two h e =
+        let (y, ys, is) = radix_some bytes P t (front ++ b ∷ []) h.0 in
+        least_is t (front ++ b ∷ []) h.0 (ap first_of is ∙ sym (ap (λ xs. first_of (xs ++ pairs_below cs)) is) ∙ e)
+
+-- what the comparison of a prefix says, where that is the whole prefix of the node
+module _ {A : Type 0} (bytes : A → List ℕ) (P : ℕ) (key : List ℕ) (node : Tree OpaqueNodePtr A) (depth : ℕ) (leaf_ptr : Option LeafPtr) {prefix rest : List ℕ} where
+  compared : (r : Result PrefixMatch ExplicitMismatch) → prefix ≡ prefix_of bytes depth node → rest ≡ drop depth key → IsLeafForPrefix P (prefix_of bytes depth node) node leaf_ptr →
+      IfOk r (λ m. m.matched_bytes ≡ length prefix) → IfOk r (λ m. IsFront prefix rest) → IfErr r (λ m. m.matched_bytes ≡ shared_len prefix rest) → IfErr r (λ m. slice_get prefix m.matched_bytes ≡ Some m.prefix_byte) → IfErr r (λ m. m.leaf_ptr ≡ leaf_ptr) →
+      IsCompared bytes P key node depth r
+  compared (Ok m) whole rest_is least len front shared byte read = (len ∙ ap length whole, subst (λ p. IsFront p (drop depth key)) whole (subst (IsFront prefix) rest_is front))
+  compared (Err m) whole rest_is least len front shared byte read = record {
+    matched = shared ∙ ap (shared_len prefix) rest_is ∙ ap (λ p. shared_len p (drop depth key)) whole;
+    byte = subst (λ p. slice_get p m.matched_bytes ≡ Some m.prefix_byte) whole byte;
+    least_leaf = subst (IsLeafForPrefix P (prefix_of bytes depth node) node) (sym read) least;
+  }
+
+module _ {K V : Type 0} {s : Nodes K V} {bytes : K × V → List ℕ} {P : ℕ} {p : InnerPtr} {depth : ℕ} {node : Tree OpaqueNodePtr (K × V)} (part : IsPart bytes P s (inner_name p) depth node) (proper : p.kind ≢ Leaf) where
+  pub node_there : None ≡ map.get s.inners p → ⊥
+  node_there gone = no_inner_gone s p proper node part.layout.named part.layout.holds gone
+
+  pub is_full : {name : OpaqueNodePtr} → name ≡ inner_name p → IsFullTree s name node
+  is_full is = (subst (λ n. IsLayout (node_at s) n node) (sym is) part.layout, one_child node (have_two_children bytes P part.place node part.radix))
+
+  module _ {shown : Inner} (there : Some shown ≡ map.get s.inners p) where
+    at : IsShown node p shown
+    at = inner_shown s p proper node part.layout.named part.layout.holds shown there
+
+    abbrev here : Tree OpaqueNodePtr (K × V)
+    here = inner (inner_name p) (header_at p.kind shown) at.children
+
+    radix : IsRadix bytes P part.place here
+    radix = subst (IsRadix bytes P part.place) at.is part.radix
+
+    whole_prefix : prefix_of bytes depth node ≡ radix.0
+    whole_prefix = ap (prefix_of bytes depth) at.is ∙ subst (λ n. prefix_of bytes n here ≡ radix.0) part.depth_is (prefix_is bytes P (inner_name p) (header_at p.kind shown) at.children part.place radix)
+
+    len_is : shown.prefix.len ≡ length (prefix_of bytes depth node)
+    len_is = ap (λ h. h.length_of) radix.1 ∙ ap length (sym whole_prefix)
+
+    -- the node's own header
+    pub header_is : shown.prefix ≡ whole_header P (prefix_of bytes depth node)
+    header_is = header_by_parts P (prefix_of bytes depth node) shown.prefix len_is (ap (λ h. h.stored) radix.1 ∙ ap (take P) (sym whole_prefix))
+
+    -- a prefix that is stored whole
+    stored_is : shown.prefix.len ≤ P → shown.prefix.stored ≡ prefix_of bytes depth node
+    stored_is short = ap (λ h. h.stored) radix.1 ∙ take_all P radix.0 (let l = ap (λ h. h.length_of) radix.1 in omega arith) ∙ sym whole_prefix
+
+    -- what the comparison with a prefix that is stored whole says
+    pub matches_stored : {header : Prefix} {len : ℕ} {stored rest : List ℕ} (key : List ℕ) (r : Result PrefixMatch ExplicitMismatch) → header ≡ shown.prefix → len ≡ header.len → len ≤ P → stored ≡ header.stored → rest ≡ drop depth key →
+        IfOk r (λ m. m.matched_bytes ≡ length stored) → IfOk r (λ m. IsFront stored rest) → IfErr r (λ m. m.matched_bytes ≡ shared_len stored rest) → IfErr r (λ m. slice_get stored m.matched_bytes ≡ Some m.prefix_byte) → IfErr r (λ m. m.leaf_ptr ≡ None) → IsCompared bytes P key node depth r
+    matches_stored key r h l short st rest_is a b c d e =
+        let long : shown.prefix.len ≤ P = let k = ap (λ z. z.len) h in omega arith in
+        compared bytes P key node depth None r (st ∙ ap (λ z. z.stored) h ∙ stored_is long) rest_is (let k = len_is in omega arith) a b c d e
+
+    -- a prefix that is read from the least leaf below
+    module _ {q : LeafPtr} (first : HasFirstLeaf node (leaf_name q)) where
+      leaf_there : (shown : LeafNode K V) × (map.get s.leaves q ≡ Some shown) × (pair_of shown ≡ first.1.0)
+      leaf_there =
+          let (path, whole) = first.1.2 in
+          views.leaf_there s q first.1.0 (path_holds (node_at s) path (leaf (leaf_name q) first.1.0) (subst (Holds (node_at s)) (sym whole) part.layout.holds)).1
+
+      pub no_leaf_gone : None ≡ map.get s.leaves q → ⊥
+      no_leaf_gone gone = let (l, there, same) = leaf_there in absurd cc
+
+      module _ {l : LeafNode K V} (read : Some l ≡ map.get s.leaves q) where
+        least_bytes : least_below bytes at.children ≡ bytes (pair_of l)
+        least_bytes =
+            let (z, here, same) = leaf_there in
+            let is : z ≡ l = cc in
+            least_below_is bytes P first.1.0 at.children (part.place ++ radix.0) radix.2 radix.4 (ap (λ t. first_of (pairs_of t)) (sym at.is) ∙ first.1.1) ∙ ap bytes (sym same) ∙ ap (λ y. bytes (pair_of y)) is
+
+        pub long_enough : depth + shown.prefix.len ≤ length (bytes (pair_of l))
+        long_enough =
+            let (r, e) = least_way_below bytes P at.children (part.place ++ radix.0) radix.2 radix.4 in
+            let k = ap length (sym least_bytes ∙ e) in
+            let n = part.depth_is in
+            let m = ap (λ h. h.length_of) radix.1 in
+            let u = length-append (part.place ++ radix.0) r in
+            let v = length-append part.place radix.0 in
+            omega arith
+
+        -- the whole prefix is read from the leaf
+        pub prefix_read : take shown.prefix.len (drop depth (bytes (pair_of l))) ≡ prefix_of bytes depth node
+        prefix_read = ap (λ k. take shown.prefix.len (drop depth k)) (sym least_bytes) ∙ ap (prefix_of bytes depth) (sym at.is)
+
+        -- what the comparison with a prefix that is read from the leaf says
+        pub matches_read : {header : Prefix} {len : ℕ} {text prefix rest : List ℕ} (key : List ℕ) (r : Result PrefixMatch ExplicitMismatch) → header ≡ shown.prefix → len ≡ header.len → P < len → text ≡ bytes (pair_of l) → prefix ≡ take (depth + len - depth) (drop depth text) → rest ≡ drop depth key →
+            IfOk r (λ m. m.matched_bytes ≡ length prefix) → IfOk r (λ m. IsFront prefix rest) → IfErr r (λ m. m.matched_bytes ≡ shared_len prefix rest) → IfErr r (λ m. slice_get prefix m.matched_bytes ≡ Some m.prefix_byte) → IfErr r (λ m. m.leaf_ptr ≡ Some q) → IsCompared bytes P key node depth r
+        matches_read {header} {len} {text} key r h le long t pr rest_is a b c d e =
+            let k = ap (λ z. z.len) h in
+            let count : depth + len - depth ≡ shown.prefix.len = omega arith in
+            compared bytes P key node depth (Some q) r (pr ∙ ap (λ n. take n (drop depth text)) count ∙ ap (λ z. take shown.prefix.len (drop depth z)) t ∙ prefix_read) rest_is ((let m = len_is in omega arith), first) a b c d e

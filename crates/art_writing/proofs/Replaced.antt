@@ -1,0 +1,92 @@
+-- a pair that takes the place of another in its leaf, as an insertion
+use Rattle.std.proofs.Common.{◌≡◌, ℕ, List, Some, IsSome, IfSome, refl, ap, sym, ◌∙◌, subst}
+use Rattle.std.specs.FinMap as map
+use Rattle.std.specs.Option.{option_map}
+use Rattle.art_nodes.specs.Changes.{with_pair}
+use Rattle.art_nodes.specs.Names.{leaf_name}
+use Rattle.art_nodes.specs.Nodes.{Nodes, change}
+use Rattle.art_nodes.specs.declared.node.LeafNode.{LeafNode}
+use Rattle.art_nodes.specs.declared.node.LeafPtr.{LeafPtr}
+use Rattle.art_nodes.specs.declared.node.OpaqueNodePtr.{OpaqueNodePtr}
+use Rattle.art_model.specs.Canonical.{IsTree}
+use Rattle.art_model.specs.Kept.{ChangesInPlace}
+use Rattle.art_model.specs.Layouts.{Holds}
+use Rattle.art_model.specs.Paths.{Frame, plug}
+use Rattle.art_model.specs.Roots.{ForTree}
+use Rattle.art_model.specs.Stores.{node_at, links_at, pair_of}
+use Rattle.art_model.specs.Trees.{Tree, leaf}
+use Rattle.art_model.specs.Writes.{parent_of}
+use Rattle.art_model.proofs.Canonical.{IsLaidOut, laid_out, canonical_from}
+use Rattle.art_model.proofs.IntoLeaf.{IntoLeaf, leaf_inserted, leaf_insertion_kept, leaf_reply, leaf_touches}
+use Rattle.art_model.proofs.Paths.{IsHole}
+use Rattle.art_model.proofs.Stores.{path_holds}
+use Rattle.art_model.proofs.Views as views
+use Rattle.art_writing.specs.declared.insert.InsertKind.TheVariants.{Exact}
+use Rattle.art_writing.specs.declared.insert.InsertParentNodeChange.TheVariants.{NoChange}
+use Rattle.art_writing.specs.declared.insert.InsertPoint.{InsertPoint}
+use Rattle.art_writing.specs.Inserted.{IsChange, IsInserted, IsPointIn, Touches, alone}
+use Rattle.art_writing.specs.Points.{IsKindOf}
+use Rattle.art_writing.proofs.Answered.{answered}
+
+-- the leaf of a key, at the end of a path of the layout
+pub record IsOwnLeaf {K V : Type 0} (bytes : K × V → List ℕ) (P : ℕ) (s : Nodes K V) (p : LeafPtr) (layout : Tree OpaqueNodePtr (K × V)) (key : List ℕ) : Type 0 where
+  pub path : List (Frame OpaqueNodePtr (K × V))
+  pub shown : LeafNode K V
+  pub place : List ℕ
+  pub whole : plug path (leaf (leaf_name p) (pair_of shown)) ≡ layout
+  pub hole : IsHole bytes P path place (leaf (leaf_name p) (pair_of shown)) key
+  pub there : map.get s.leaves p ≡ Some shown
+  pub same : bytes (pair_of shown) ≡ key
+
+module _ {K V : Type 0} {bytes : K × V → List ℕ} {P : ℕ} {s : Nodes K V} {point : InsertPoint} {p : LeafPtr} {pairs : List (K × V)} {layout : Tree OpaqueNodePtr (K × V)} where
+  -- it is there where a point names it
+  pub own_leaf : {key : List ℕ} → IsPointIn bytes P s key point → point.insert_kind ≡ Exact p → IsTree bytes P s point.root pairs layout → IsOwnLeaf bytes P s p layout key
+  own_leaf {key} answers exact by =
+      let a = answered answers by in
+      let (used, (pair, is, (same, equal))) = subst (IsKindOf bytes P key a.answers.node _ _) exact a.answers.kind_is in
+      let whole : plug a.answers.path (leaf (leaf_name p) pair) ≡ layout = ap (plug a.answers.path) (sym is) ∙ a.answers.is_end.whole in
+      let (shown, there, own) = views.leaf_there s p pair (path_holds (node_at s) a.answers.path (leaf (leaf_name p) pair) (subst (Holds (node_at s)) (sym whole) by.stands.0.holds)).1 in
+      record {
+        path = a.answers.path;
+        shown = shown;
+        place = a.place;
+        whole = ap (λ z. plug a.answers.path (leaf (leaf_name p) z)) own ∙ whole;
+        hole = subst (λ z. IsHole bytes P a.answers.path a.place z key) (is ∙ ap (leaf (leaf_name p)) (sym own)) a.hole;
+        there = there;
+        same = ap bytes own ∙ equal;
+      }
+
+module _ {K V : Type 0} {bytes : K × V → List ℕ} {P : ℕ} {s : Nodes K V} {point : InsertPoint} {p : LeafPtr} (new : K × V) (answers : IsPointIn bytes P s (bytes new) point) (exact : point.insert_kind ≡ Exact p) where
+  -- the leaf is there
+  pub own_leaf_there : IsSome (map.get s.leaves p)
+  own_leaf_there =
+      let (pairs, layout, by, own) = answers in
+      let l = own_leaf answers exact by in
+      rw l.there refl
+
+  module _ (t : Nodes K V) (leaves : t.leaves ≡ change s.leaves p (with_pair new.0 new.1)) (inners : t.inners ≡ s.inners) where
+    into_leaf : {layout : Tree OpaqueNodePtr (K × V)} (l : IsOwnLeaf bytes P s p layout (bytes new)) → IntoLeaf bytes P s t l.path l.place p l.shown new
+    into_leaf l = record { hole = l.hole; here = l.there; leaves = leaves; inners = inners }
+
+    -- one leaf is changed
+    pub own_leaf_touches : Touches point.insert_kind s t
+    own_leaf_touches =
+        let (pairs, layout, by, own) = answers in
+        let l = own_leaf answers exact by in
+        subst (λ kind. Touches kind s t) (sym exact) (leaf_touches (subst (IsLaidOut bytes P (node_at s) (links_at s) point.root pairs) (sym l.whole) (laid_out by)) (into_leaf l))
+
+    -- the pair is in, and the old one is answered
+    pub pair_inserted : (swapped : K × V) (existing : LeafNode K V) → IfSome (map.get s.leaves p) (λ leaf. swapped ≡ (leaf.key, leaf.value)) → existing ≡ alone swapped →
+        ForTree bytes P s point.root (λ pairs layout. IsInserted bytes P s t point new pairs layout (record { leaf_node_ptr = p; existing_leaf = Some existing; new_root = point.root; parent_node_change = NoChange }))
+    pair_inserted swapped existing pair is pairs layout by =
+        let l = own_leaf answers exact by in
+        let into = into_leaf l in
+        let old = subst (IsLaidOut bytes P (node_at s) (links_at s) point.root pairs) (sym l.whole) (laid_out by) in
+        let went : swapped ≡ pair_of l.shown = subst (λ o. IfSome o (λ leaf. swapped ≡ (leaf.key, leaf.value))) l.there pair in
+        record {
+          tree = plug l.path (leaf (leaf_name p) new);
+          canonical = canonical_from (leaf_inserted old into l.same);
+          inserted = record { path = l.path; whole = refl; change = subst (λ kind. IsChange kind (parent_of l.path) NoChange) (sym exact) refl; root = refl };
+          replaced = ap Some (is ∙ ap alone went) ∙ ap (option_map alone) (sym (leaf_reply old into l.same));
+          kept = subst (λ z. ChangesInPlace bytes s t (Some z) (Some (plug l.path (leaf (leaf_name p) new)))) l.whole (leaf_insertion_kept old into l.same);
+        }

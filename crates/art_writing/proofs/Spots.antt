@@ -1,0 +1,333 @@
+-- the way down with a key to its end node
+use Rattle.std.proofs.Common.{◌≡◌, ◌≢◌, ℕ, ◌+◌, ◌-◌, ◌<◌, ◌≤◌, List, [], ◌∷◌, ◌++◌, length, drop, get_or, refl, ap, sym, ◌∙◌, arith, subst, append_assoc, append-nil, length-append, length-drop, Option, Some, None, Ok, true, false}
+use Rattle.std.specs.List.{AllByRecursion as Each}
+use Rattle.std.specs.FinMap as map
+use Rattle.std.proofs.lemmas.Bool.{eq-eqb, ne_eqb}
+use Rattle.std.proofs.lemmas.Option.{slice_get_within}
+use Rattle.art_nodes.specs.Inner.{Inner, child_at}
+use Rattle.art_nodes.specs.Names.{leaf_name, inner_name}
+use Rattle.art_nodes.specs.Nodes.{Nodes}
+use Rattle.art_nodes.specs.declared.node.NodeType.TheVariants.{Leaf}
+use Rattle.art_nodes.specs.declared.node.LeafPtr.{LeafPtr}
+use Rattle.art_nodes.specs.declared.node.InnerPtr.{InnerPtr}
+use Rattle.art_nodes.specs.declared.node.OpaqueNodePtr.{OpaqueNodePtr}
+use Rattle.art_nodes.specs.declared.node.LeafNode.{LeafNode}
+use Rattle.art_model.specs.Keys.{IsFront, are_related, common_front}
+use Rattle.art_model.specs.Pairs.{is_conflict}
+use Rattle.art_model.specs.Trees.{Tree, leaf, inner, Children, child, no_child, header_of}
+use Rattle.art_model.specs.Radix.{IsRadix, AreRadix, bytes_of, pairs_of, pairs_below}
+use Rattle.art_model.specs.Layouts.{names_of, slots_of, Holds, AreDistinct}
+use Rattle.art_model.specs.Stores.{node_at, header_at, pair_of}
+use Rattle.art_model.specs.Paths.{Frame, plug, fill, names_before, names_after}
+use Rattle.art_model.specs.Places.{places, depth_of, prefix_of, IsEndNode}
+use Rattle.art_model.specs.Canonical.{IsTree}
+use Rattle.art_model.proofs.Fronts.{ArePart, front_right, part_where}
+use Rattle.art_model.proofs.Lists.{Each-append, Each-weaker, common_front_right, front_trans, after_front, common_front-append}
+use Rattle.art_model.proofs.Keys.{front_related}
+use Rattle.art_model.proofs.Canonical.{tree_radix}
+use Rattle.art_model.proofs.Pairwises.{Pairwise-left, Pairwise-right}
+use Rattle.art_model.proofs.Paths.{path_down, names_of-plug, related_at}
+use Rattle.art_model.proofs.Places.{place_is, prefix_is, beside, deeper}
+use Rattle.art_model.proofs.PlaceLaws.{depth_is, ends_at}
+use Rattle.art_model.proofs.Rebuild.{radix_way, radix_below, radix_some}
+use Rattle.art_model.proofs.OnWay.{AreAside, aside_others, aside_off, aside_end, child_under, no_child_under, front_byte}
+use Rattle.art_model.proofs.Shown.{IsShown, no_leaf_gone, leaf_shown, no_inner_gone, inner_shown}
+use Rattle.art_model.proofs.Stores.{path_holds}
+use Rattle.art_writing.specs.declared.insert.InsertKind.{InsertKind}
+use Rattle.art_writing.specs.declared.insert.InsertKind.TheVariants.{MismatchPrefix, SplitLeaf, Exact, IntoExisting}
+use Rattle.art_reading.specs.declared.path.ExplicitMismatch.{ExplicitMismatch}
+use Rattle.art_reading.specs.declared.path.PrefixMatch.{PrefixMatch}
+use Rattle.art_reading.specs.declared.path.TreePath.{TreePath}
+use Rattle.art_reading.specs.declared.path.TreePath.TheVariants.{Root}
+use Rattle.art_reading.specs.Matching.{shared_len}
+use Rattle.art_writing.specs.Points.{IsAt, AnswersTo, AnswersToOverwrite, IsOverwrittenWith, IsPointFor, IsKindFor, IsKindAtLeaf, IsKindOf, IsCompared, IsMismatch, IsPart, used_in_prefix}
+use Rattle.art_reading.specs.Paths.{step_down}
+use Rattle.art_writing.specs.declared.insert.PrefixInsertPoint.TheVariants.{InsertPoint, OverwritePoint}
+use Rattle.art_writing.proofs.Partings.{parted_unrelated, unrelated_after, conflict-related, no_conflict, first_conflict, same_conflict}
+
+-- as much of the key was used as it has
+module _ {A : Type 0} (bytes : A → List ℕ) (P : ℕ) (key : List ℕ) (node : Tree OpaqueNodePtr A) {depth : ℕ} (short : depth ≤ length key) where
+  pub prefix_inside : {match : PrefixMatch} → IsCompared bytes P key node depth (Ok match) → depth + match.matched_bytes ≤ length key
+  prefix_inside c =
+      let m = c.0 in
+      let l = ap length c.1.1 in
+      let k = length-drop depth key in
+      omega (arith, simp length-append at l)
+
+  pub mismatch_inside : {m : ExplicitMismatch} → IsMismatch bytes P key node depth m → depth + m.matched_bytes ≤ length key
+  mismatch_inside {m} c =
+      let (r, e) = common_front_right (prefix_of bytes depth node) (drop depth key) in
+      let q = c.matched in
+      let l = ap length e in
+      let k = length-drop depth key in
+      omega (arith, simp length-append at l)
+
+module _ {K V : Type 0} {s : Nodes K V} {bytes : K × V → List ℕ} {P : ℕ} {root : OpaqueNodePtr} {pairs : List (K × V)} {layout : Tree OpaqueNodePtr (K × V)} (by : IsTree bytes P s root pairs layout) where
+  pub start : (key : List ℕ) → IsAt bytes P key layout (record { path = Root; name = root; depth = 0 })
+  start key = record { frames = []; place = []; node = layout; whole = refl; leads = refl; radix = (tree_radix by).0; on_way = (key, refl); named = by.stands.0.named; depth_is = refl; path_is = refl }
+
+  module _ {key : List ℕ} {path : TreePath} {name : OpaqueNodePtr} {depth : ℕ} (d : IsAt bytes P key layout (record { path = path; name = name; depth = depth })) where
+    holds : Holds (node_at s) d.node
+    holds = (path_holds (node_at s) d.frames d.node (subst (Holds (node_at s)) (sym d.whole) by.stands.0.holds)).1
+
+    -- the key is as long as its way
+    pub inside : depth ≤ length key
+    inside =
+        let l = ap length d.on_way.1 in
+        let n = d.depth_is in
+        omega (arith, simp length-append at l)
+
+    -- the names on the way are there
+    pub leaf_there : {p : LeafPtr} → leaf_name p ≡ name → None ≡ map.get s.leaves p → ⊥
+    leaf_there {p} is gone = no_leaf_gone s p d.node (d.named ∙ sym is) holds gone
+
+    pub inner_there : {p : InnerPtr} → p.kind ≢ Leaf → inner_name p ≡ name → None ≡ map.get s.inners p → ⊥
+    inner_there {p} proper is gone = no_inner_gone s p proper d.node (d.named ∙ sym is) holds gone
+
+    pub shown_there : {p : InnerPtr} {shown : Inner} → p.kind ≢ Leaf → inner_name p ≡ name → Some shown ≡ map.get s.inners p → IsShown d.node p shown
+    shown_there {p} {shown} proper is there = inner_shown s p proper d.node (d.named ∙ sym is) holds shown there
+
+    -- the node that the store shows under an inner name on the way
+    pub some_shown : {p : InnerPtr} → p.kind ≢ Leaf → inner_name p ≡ name → (shown : Inner) × IsShown d.node p shown
+    some_shown {p} proper is = go (map.get s.inners p) refl
+      where
+        go : (o : Option Inner) → o ≡ map.get s.inners p → (shown : Inner) × IsShown d.node p shown
+        go None gone = absurd (inner_there proper is gone)
+        go (Some shown) there = (shown, shown_there proper is there)
+
+    -- the part of the tree below
+    pub part_there : {part : OpaqueNodePtr} → part ≡ name → IsPart bytes P s part depth d.node
+    part_there is =
+        let all : AreDistinct (names_before d.frames ++ names_of d.node ++ names_after d.frames) = subst AreDistinct (ap names_of (sym d.whole) ∙ names_of-plug d.frames d.node) by.stands.0.distinct in
+        record {
+          place = d.place;
+          depth_is = d.depth_is;
+          radix = d.radix;
+          layout = record { named = d.named ∙ sym is; holds = holds; distinct = Pairwise-right (λ n k. n ≢ k) (names_before d.frames) (names_of d.node) (Pairwise-left (λ n k. n ≢ k) (names_before d.frames ++ names_of d.node) (names_after d.frames) all) };
+        }
+
+    -- what is in conflict with the key is below
+    conflict_below : is_conflict bytes key pairs ≡ is_conflict bytes key (pairs_of d.node)
+    conflict_below =
+        let whole : pairs ≡ pairs_of (plug d.frames d.node) = sym (tree_radix by).1 ∙ ap pairs_of (sym d.whole) in
+        ap (is_conflict bytes key) whole ∙ sym (conflict-related bytes key (pairs_of (plug d.frames d.node)))
+        ∙ ap (is_conflict bytes key) (related_at bytes P d.frames d.place key d.node d.leads d.on_way)
+        ∙ conflict-related bytes key (pairs_of d.node)
+
+    deep : depth_of d.frames ≡ depth
+    deep = depth_is bytes P d.frames d.place d.leads ∙ d.depth_is
+
+    -- no longer place is a front of the key, so this is the end node
+    answers : (used : ℕ) (kind : InsertKind) → Each (λ other. IsFront other.0 key → length other.0 ≤ length d.place) (places bytes (length d.place) d.node) → IsKindOf bytes P key d.node depth used kind →
+        AnswersTo bytes P layout key (record { path = path; insert_kind = kind; key_bytes_used = used; root = root })
+    answers used kind longest is =
+        record {
+          path = d.frames;
+          node = d.node;
+          is_end = subst (λ t. IsEndNode bytes t key d.frames d.node) d.whole (ends_at bytes P key d.frames d.place d.node d.leads d.radix d.on_way longest);
+          root_is = sym by.stands.0.named;
+          path_is = d.path_is;
+          kind_is = subst (λ n. IsKindOf bytes P key d.node n used kind) (sym deep) is;
+        }
+
+    -- and gives way where the key ends
+    overwritten : (used : ℕ) → Each (λ other. IsFront other.0 key → length other.0 ≤ length d.place) (places bytes (length d.place) d.node) → IsOverwrittenWith bytes key depth used d.node →
+        AnswersToOverwrite bytes layout key (record { path = path; overwrite_point = name; key_bytes_used = used; root = root })
+    overwritten used longest gives =
+        record {
+          path = d.frames;
+          node = d.node;
+          is_end = subst (λ t. IsEndNode bytes t key d.frames d.node) d.whole (ends_at bytes P key d.frames d.place d.node d.leads d.radix d.on_way longest);
+          root_is = sym by.stands.0.named;
+          path_is = d.path_is;
+          name_is = sym d.named;
+          gives_way = subst (λ n. IsOverwrittenWith bytes key n used d.node) (sym deep) gives;
+        }
+
+    -- ---- at a leaf
+    module _ {p : LeafPtr} {shown : LeafNode K V} (is : leaf_name p ≡ name) (there : Some shown ≡ map.get s.leaves p) where
+      at_leaf : d.node ≡ leaf (leaf_name p) (pair_of shown)
+      at_leaf = leaf_shown s p d.node (d.named ∙ sym is) holds shown there
+
+      own_pair : is_conflict bytes key pairs ≡ is_conflict bytes key (pair_of shown ∷ [])
+      own_pair = conflict_below ∙ ap (λ t. is_conflict bytes key (pairs_of t)) at_leaf
+
+      longest_leaf : Each (λ other. IsFront other.0 key → length other.0 ≤ length d.place) (places bytes (length d.place) d.node)
+      longest_leaf =
+          let radix = subst (IsRadix bytes P d.place) at_leaf d.radix in
+          subst (λ t. Each (λ other. IsFront other.0 key → length other.0 ≤ length d.place) (places bytes (length d.place) t)) (sym at_leaf) ((λ g. rw (place_is bytes P (leaf (leaf_name p) (pair_of shown)) d.place radix) (omega arith)), tt)
+
+      pub leaf_conflict : IsKindFor key p (bytes (pair_of shown)) None → IsPointFor bytes P key pairs layout (OverwritePoint (record { path = path; overwrite_point = name; key_bytes_used = depth; root = root }))
+      leaf_conflict (related, unequal) =
+          (own_pair ∙ first_conflict bytes key (pair_of shown) [] related unequal, overwritten depth longest_leaf (subst (IsOverwrittenWith bytes key depth depth) (sym at_leaf) (refl, related, unequal)))
+
+      pub leaf_point : (kind : InsertKind) → IsKindAtLeaf key p (bytes (pair_of shown)) kind → IsPointFor bytes P key pairs layout (InsertPoint (record { path = path; insert_kind = kind; key_bytes_used = depth; root = root }))
+      leaf_point (Exact q) (same, equal) =
+          (own_pair ∙ same_conflict bytes key (pair_of shown) equal, answers depth (Exact q) longest_leaf (refl, (pair_of shown, at_leaf ∙ ap (λ z. leaf (leaf_name z) (pair_of shown)) (sym same), (refl, equal))))
+      leaf_point (SplitLeaf q used) (same, unrelated, shared) =
+          (own_pair ∙ no_conflict bytes key (pair_of shown ∷ []) (unrelated, tt), answers depth (SplitLeaf q used) longest_leaf (refl, (pair_of shown, at_leaf ∙ ap (λ z. leaf (leaf_name z) (pair_of shown)) (sym same), (refl, unrelated, shared))))
+      leaf_point (IntoExisting q) h = absurd h
+      leaf_point (MismatchPrefix m q) h = absurd h
+
+    -- ---- at an inner node
+    module _ {p : InnerPtr} {shown : Inner} (at : IsShown d.node p shown) where
+      abbrev here : Tree OpaqueNodePtr (K × V)
+      here = inner (inner_name p) (header_at p.kind shown) at.children
+
+      radix : IsRadix bytes P d.place here
+      radix = subst (IsRadix bytes P d.place) at.is d.radix
+
+      abbrev front : List ℕ
+      front = d.place ++ radix.0
+
+      here_prefix : prefix_of bytes depth here ≡ radix.0
+      here_prefix = subst (λ n. prefix_of bytes n here ≡ radix.0) d.depth_is (prefix_is bytes P (inner_name p) (header_at p.kind shown) at.children d.place radix)
+
+      whole_prefix : prefix_of bytes depth d.node ≡ radix.0
+      whole_prefix = ap (prefix_of bytes depth) at.is ∙ here_prefix
+
+      front_len : length front ≡ depth + length (prefix_of bytes depth d.node)
+      front_len = let l = ap length whole_prefix in let k = d.depth_is in simp length-append (omega arith)
+
+      key_is : key ≡ d.place ++ drop depth key
+      key_is =
+          let (r, e) = d.on_way in
+          e ∙ ap (λ l. d.place ++ l) (sym (after_front d.place key r e) ∙ ap (λ n. drop n key) d.depth_is)
+
+      below : is_conflict bytes key pairs ≡ is_conflict bytes key (pairs_below at.children)
+      below = conflict_below ∙ ap (λ t. is_conflict bytes key (pairs_of t)) at.is
+
+      longest_inner : AreAside front key at.children → Each (λ other. IsFront other.0 key → length other.0 ≤ length d.place) (places bytes (length d.place) d.node)
+      longest_inner aside =
+          let len : (header_at p.kind shown).length_of ≡ length radix.0 = ap (λ h. h.length_of) radix.1 in
+          subst (λ t. Each (λ other. IsFront other.0 key → length other.0 ≤ length d.place) (places bytes (length d.place) t)) (sym at.is) (
+            (λ g. rw (place_is bytes P here d.place radix) (omega arith)),
+            beside bytes P at.children front key (length d.place + (header_at p.kind shown).length_of + 1) (length d.place) (λ b. deeper d.place radix.0 b (header_at p.kind shown).length_of len) radix.4 aside,
+          )
+
+      -- all pairs below go on after the key
+      short_conflict : IsFront key front → is_conflict bytes key pairs ≡ true
+      short_conflict short = below ∙ go at.children radix.2 radix.4
+        where
+          go : (cs : Children OpaqueNodePtr (K × V)) → 2 ≤ length (bytes_of cs) → AreRadix bytes P front cs → is_conflict bytes key (pairs_below cs) ≡ true
+          go no_child two h = absurd (omega arith)
+          go (child b t cs) two h =
+              let (x, xs, e) = radix_some bytes P t (front ++ b ∷ []) h.0 in
+              let way : IsFront (front ++ b ∷ []) (bytes x) = (subst (Each (λ z. IsFront (front ++ b ∷ []) (bytes z))) e (radix_way bytes P t (front ++ b ∷ []) h.0)).0 in
+              let goes : IsFront key (bytes x) = front_trans key (front ++ b ∷ []) (bytes x) (front_trans key front (front ++ b ∷ []) short (b ∷ [], refl)) way in
+              let long : length key < length (bytes x) = let l = ap length short.1 in let k = ap length way.1 in omega (arith, simp length-append at l, simp length-append at k) in
+              rw e (first_conflict bytes key x (xs ++ pairs_below cs) (front_related key (bytes x) goes) (λ same. let l = ap length same in omega arith))
+
+      -- so the node gives way
+      short_point : (used : ℕ) → IsFront (drop depth key) radix.0 → used ≡ used_in_prefix key depth radix.0 → IsPointFor bytes P key pairs layout (OverwritePoint (record { path = path; overwrite_point = name; key_bytes_used = used; root = root }))
+      short_point used (r, e) is =
+          let short : IsFront key front = (r, ap (λ l. d.place ++ l) e ∙ sym (append_assoc d.place (drop depth key) r) ∙ ap (λ l. l ++ r) (sym key_is)) in
+          let no_longer : length key ≤ length front = let l = ap length short.1 in let k = length-append key r in omega arith in (
+            short_conflict short,
+            overwritten used (longest_inner (aside_end front key at.children no_longer)) (subst (IsOverwrittenWith bytes key depth used) (sym at.is) (is ∙ ap (used_in_prefix key depth) (sym here_prefix), subst (IsFront (drop depth key)) (sym here_prefix) (r, e))),
+          )
+
+      -- the prefix is compared
+      module _ {match : PrefixMatch} (c : IsCompared bytes P key d.node depth (Ok match)) where
+        on_way : IsFront front key
+        on_way =
+            let (r, e) = c.1 in
+            (r, key_is ∙ ap (λ l. d.place ++ l) (e ∙ ap (λ l. l ++ r) whole_prefix) ∙ sym (append_assoc d.place radix.0 r))
+
+        used : depth + match.matched_bytes ≡ length front
+        used = let l = front_len in let k = c.0 in omega arith
+
+        pub prefix_conflict : length key ≤ depth + match.matched_bytes → IsPointFor bytes P key pairs layout (OverwritePoint (record { path = path; overwrite_point = name; key_bytes_used = depth + match.matched_bytes - 1; root = root }))
+        prefix_conflict short =
+            let same : drop depth key ≡ radix.0 = go c.1 in
+            let l : length key ≡ length front + length on_way.0 = ap length on_way.1 ∙ length-append front on_way.0 in
+            let u = used in
+            let m = front_len in
+            let w = ap length whole_prefix in
+            short_point (depth + match.matched_bytes - 1) ([], sym (append-nil (drop depth key) ∙ same)) (ends_with (omega arith) (omega arith))
+          where
+            go : IsFront (prefix_of bytes depth d.node) (drop depth key) → drop depth key ≡ radix.0
+            go ([], e) = e ∙ append-nil (prefix_of bytes depth d.node) ∙ whole_prefix
+            go (b ∷ r, e) = absurd (let l = ap length e in let k = length-drop depth key in let m = length-append (prefix_of bytes depth d.node) (b ∷ r) in let u = c.0 in omega arith)
+
+            ends_with : length key ≡ depth + length radix.0 → length key ≡ depth + match.matched_bytes → depth + match.matched_bytes - 1 ≡ used_in_prefix key depth radix.0
+            ends_with e f = rw (← f, eq-eqb (length key) (depth + length radix.0) e) refl
+
+        module _ (long : depth + match.matched_bytes < length key) where
+          next : IsFront (front ++ get_or key (length front) 0 ∷ []) key
+          next = front_byte front key on_way (let u = used in omega arith)
+
+          unrelated : (cs : Children OpaqueNodePtr (K × V)) → AreRadix bytes P front cs → Each (λ b. b ≢ get_or key (length front) 0) (bytes_of cs) → Each (λ x. are_related key (bytes x) ≡ false) (pairs_below cs)
+          unrelated no_child h others = tt
+          unrelated (child b t cs) h others = Each-append (λ x. are_related key (bytes x) ≡ false) (pairs_of t) (pairs_below cs)
+              (Each-weaker (λ x. IsFront (front ++ b ∷ []) (bytes x)) (λ x. are_related key (bytes x) ≡ false) (λ x f. unrelated_after front (get_or key (length front) 0) b key (bytes x) next f (λ e. others.0 (sym e))) (pairs_of t) (radix_way bytes P t (front ++ b ∷ []) h.0))
+              (unrelated cs h.1 others.1)
+
+          -- no child goes on with the key
+          pub into_point : None ≡ child_at shown.children (get_or key (depth + match.matched_bytes) 0) → IsPointFor bytes P key pairs layout (InsertPoint (record { path = path; insert_kind = IntoExisting p; key_bytes_used = depth + match.matched_bytes; root = root }))
+          into_point none =
+              let gone : child_at (slots_of at.children) (get_or key (depth + match.matched_bytes) 0) ≡ None = ap (λ cs. child_at cs (get_or key (depth + match.matched_bytes) 0)) (sym at.slots) ∙ sym none in
+              let others = no_child_under at.children (get_or key (length front) 0) (ap (λ n. child_at (slots_of at.children) (get_or key n 0)) (sym used) ∙ gone) in (
+                below ∙ no_conflict bytes key (pairs_below at.children) (unrelated at.children radix.4 others),
+                answers (depth + match.matched_bytes) (IntoExisting p) (longest_inner (aside_others front key at.children others)) (header_at p.kind shown, at.children, at.is, c.1, ap (λ n. depth + n) c.0, long, gone),
+              )
+
+          -- a child goes on with the key
+          pub goes_on : {to : OpaqueNodePtr} → Some to ≡ child_at shown.children (get_or key (depth + match.matched_bytes) 0) → IsAt bytes P key layout (record { path = step_down path p (get_or key (depth + match.matched_bytes) 0); name = to; depth = depth + match.matched_bytes + 1 })
+          goes_on {to} there =
+              let b = get_or key (depth + match.matched_bytes) 0 in
+              let e : child_at (slots_of at.children) b ≡ Some to = ap (λ cs. child_at cs b) (sym at.slots) ∙ sym there in
+              let u = child_under at.children b to radix.3 e in
+              let f : Frame OpaqueNodePtr (K × V) = record { mark = inner_name p; header = header_at p.kind shown; left = u.left; byte = b; right = u.right } in
+              let filled : here ≡ fill f u.tree = ap (inner (inner_name p) (header_at p.kind shown)) u.whole in
+              let node : IsRadix bytes P d.place (fill f u.tree) = (radix.0, subst (λ cs. header_at p.kind shown ≡ header_of P radix.0 (length (bytes_of cs))) u.whole radix.1, subst (λ cs. 2 ≤ length (bytes_of cs)) u.whole radix.2, subst (λ cs. Rattle.art_model.specs.Radix.IsRising (bytes_of cs)) u.whole radix.3, subst (AreRadix bytes P front) u.whole radix.4) in
+              let down = path_down bytes P d.frames d.place f u.tree d.leads node in
+              record {
+                frames = f ∷ d.frames;
+                place = front ++ b ∷ [];
+                node = u.tree;
+                whole = ap (plug d.frames) (sym filled ∙ sym at.is) ∙ d.whole;
+                leads = down.0;
+                radix = down.1;
+                on_way = subst (λ n. IsFront (front ++ get_or key n 0 ∷ []) key) (sym used) next;
+                named = u.named;
+                depth_is = length-append front (b ∷ []) ∙ ap (λ n. n + 1) (sym used);
+                path_is = ap (λ z. step_down z p b) d.path_is;
+              }
+
+      -- the prefix and the key part, or the key ends
+      module _ {m : ExplicitMismatch} (c : IsMismatch bytes P key d.node depth m) where
+        shared_is : m.matched_bytes ≡ shared_len radix.0 (drop depth key)
+        shared_is = c.matched ∙ ap (λ l. shared_len l (drop depth key)) whole_prefix
+
+        pub mismatch_conflict : length key ≤ depth + m.matched_bytes → IsPointFor bytes P key pairs layout (OverwritePoint (record { path = path; overwrite_point = name; key_bytes_used = depth; root = root }))
+        mismatch_conflict short =
+            let rest : length (drop depth key) ≤ shared_len radix.0 (drop depth key) = let k = ap length key_is in let n = d.depth_is in let q = shared_is in omega (arith, simp length-append at k) in
+            let inside = slice_get_within (prefix_of bytes depth d.node) m.matched_bytes m.prefix_byte c.byte in
+            let w = ap length whole_prefix in
+            let off : length key < depth + length radix.0 = omega arith in
+            short_point depth (front_right radix.0 (drop depth key) rest) (rw (ne_eqb (length key) (depth + length radix.0) (λ e. omega arith)) refl)
+
+        module _ (long : depth + m.matched_bytes < length key) where
+          parts_at : ArePart front key
+          parts_at =
+              let inside = slice_get_within (prefix_of bytes depth d.node) m.matched_bytes m.prefix_byte c.byte in
+              let q = shared_is in
+              let w = ap length whole_prefix in
+              let k = ap length key_is in
+              let n = d.depth_is in
+              let a = part_where radix.0 (drop depth key) (omega arith) (omega (arith, simp length-append at k)) in
+              record { front = d.place ++ a.front; is_shared = ap (λ l. d.place ++ l) a.is_shared ∙ sym (ap (common_front front) key_is ∙ common_front-append d.place radix.0 (drop depth key)); x = a.x; y = a.y; r = a.r; s = a.s; a_is = ap (λ l. d.place ++ l) a.a_is ∙ sym (append_assoc d.place a.front (a.x ∷ a.r)); b_is = key_is ∙ ap (λ l. d.place ++ l) a.b_is ∙ sym (append_assoc d.place a.front (a.y ∷ a.s)); differ = a.differ }
+
+          unrelated_below : Each (λ x. are_related key (bytes x) ≡ false) (pairs_below at.children)
+          unrelated_below =
+              let a = parts_at in
+              Each-weaker (λ x. IsFront front (bytes x)) (λ x. are_related key (bytes x) ≡ false)
+              (λ x f. unrelated_after a.front a.y a.x key (bytes x) (a.s, a.b_is ∙ sym (append_assoc a.front (a.y ∷ []) a.s)) (front_trans (a.front ++ a.x ∷ []) front (bytes x) (a.r, a.a_is ∙ sym (append_assoc a.front (a.x ∷ []) a.r)) f) (λ e. a.differ (sym e)))
+              (pairs_below at.children) (radix_below bytes P at.children front radix.4)
+
+          pub mismatch_point : IsPointFor bytes P key pairs layout (InsertPoint (record { path = path; insert_kind = MismatchPrefix m p; key_bytes_used = depth; root = root }))
+          mismatch_point = (
+            below ∙ no_conflict bytes key (pairs_below at.children) unrelated_below,
+            answers depth (MismatchPrefix m p) (longest_inner (aside_off front key at.children (λ f. let t = parted_unrelated parts_at in let r = front_related front key f in absurd cc))) (refl, (header_at p.kind shown, at.children, at.is, c, long)),
+          )

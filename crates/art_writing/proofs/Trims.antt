@@ -1,0 +1,80 @@
+-- The header that a split prefix leaves to its node, from what is stored of the prefix, or from the least leaf below.
+use Rattle.std.proofs.Common.{◌≡◌, ◌≢◌, ℕ, ◌+◌, ◌-◌, ◌<◌, ◌≤◌, min, List, length, take, drop, Some, None, ap, sym, ◌∙◌, subst, arith}
+use Rattle.std.specs.FinMap.{get}
+use Rattle.art_nodes.specs.Inner.{Inner, Prefix, header_of}
+use Rattle.art_nodes.specs.Names.{leaf_name, inner_name}
+use Rattle.art_nodes.specs.Nodes.{Nodes}
+use Rattle.art_nodes.specs.declared.node.NodeType.TheVariants.{Leaf}
+use Rattle.art_nodes.specs.declared.node.InnerPtr.{InnerPtr}
+use Rattle.art_nodes.specs.declared.node.LeafPtr.{LeafPtr}
+use Rattle.art_nodes.specs.declared.node.LeafNode.{LeafNode}
+use Rattle.art_nodes.specs.declared.node.OpaqueNodePtr.{OpaqueNodePtr}
+use Rattle.art_nodes.proofs.HeaderLaws.{trimmed_header, trimmed_by_leaf, len_of_header}
+use Rattle.art_model.specs.Canonical.{IsTree}
+use Rattle.art_model.specs.Layouts.{slots_of, Holds}
+use Rattle.art_model.specs.Lookups.{HasFirstLeaf}
+use Rattle.art_model.specs.Places.{depth_of, prefix_of}
+use Rattle.art_model.specs.Stores.{node_at, pair_of}
+use Rattle.art_model.specs.Trees.{Tree}
+use Rattle.art_model.proofs.Stores.{path_holds}
+use Rattle.art_model.proofs.Writes.{inner_at}
+use Rattle.art_writing.specs.declared.insert.InsertKind.TheVariants.{MismatchPrefix}
+use Rattle.art_writing.specs.declared.insert.InsertPoint.{InsertPoint}
+use Rattle.art_reading.specs.declared.path.ExplicitMismatch.{ExplicitMismatch}
+use Rattle.art_writing.specs.Points.{AnswersTo, IsPart, IsLeafForPrefix}
+use Rattle.art_writing.proofs.Branches.{end_laid, end_hole, end_depth}
+use Rattle.art_writing.proofs.BranchReads.{end_full, inner_found, inner_named, inner_start, inner_least, prefix_inside}
+use Rattle.art_writing.proofs.Prefixes as prefixes
+
+module _ {K V : Type 0} {bytes : K × V → List ℕ} {P : ℕ} {s : Nodes K V} {key : List ℕ} {point : InsertPoint} {pairs : List (K × V)} {layout : Tree OpaqueNodePtr (K × V)} (by : IsTree bytes P s point.root pairs layout) (at : AnswersTo bytes P layout key point) {p : InnerPtr} {mismatch : ExplicitMismatch} (kind : point.insert_kind ≡ MismatchPrefix mismatch p) where
+  abbrev prefix : List ℕ
+  prefix = prefix_of bytes (depth_of at.path) at.node
+
+  part : IsPart bytes P s (inner_name p) (depth_of at.path) at.node
+  part = record { place = take (depth_of at.path) key; depth_is = sym (end_depth by at); radix = (end_hole by at).radix; layout = (end_full by at (inner_named by at kind)).0 }
+
+  proper : p.kind ≢ Leaf
+  proper =
+      let (h, cs, found) = inner_found by at kind in
+      (inner_at s (inner_name p) h (slots_of cs) (subst (Holds (node_at s)) found (path_holds (node_at s) at.path at.node (end_laid by at).holds).1).0).0
+
+  pub inner_gone : None ≡ get s.inners p → ⊥
+  inner_gone gone = prefixes.node_there part proper gone
+
+  module _ {shown : Inner} (there : Some shown ≡ get s.inners p) {old : Prefix} (read : old ≡ shown.prefix) where
+    own : old ≡ header_of P prefix
+    own = read ∙ prefixes.header_is part proper there
+
+    -- less than the prefix goes
+    pub trim_inside : mismatch.matched_bytes + 1 ≤ old.len
+    trim_inside = let l = len_of_header P prefix old own in let inside = prefix_inside by at kind in omega arith
+
+    -- without a leaf the prefix is stored whole
+    pub trim_whole : mismatch.leaf_ptr ≡ None → old.len ≤ P
+    trim_whole none = let l = len_of_header P prefix old own in let short : length prefix ≤ P = subst (IsLeafForPrefix P prefix at.node) none (inner_least by at kind) in omega arith
+
+    pub trim_stored : {new : Prefix} → mismatch.leaf_ptr ≡ None → new.len ≡ old.len - (mismatch.matched_bytes + 1) → new.stored ≡ drop (mismatch.matched_bytes + 1) old.stored → new ≡ header_of P (drop (mismatch.matched_bytes + 1) prefix)
+    trim_stored {new} none len stored = trimmed_header P (mismatch.matched_bytes + 1) prefix old new own (trim_whole none) len stored
+
+    -- else it is read from the least leaf
+    module _ {q : LeafPtr} (some : mismatch.leaf_ptr ≡ Some q) where
+      first : HasFirstLeaf at.node (leaf_name q)
+      first = let least : (P < length prefix) × HasFirstLeaf at.node (leaf_name q) = subst (IsLeafForPrefix P prefix at.node) some (inner_least by at kind) in least.1
+
+      pub least_gone : None ≡ get s.leaves q → ⊥
+      least_gone gone = prefixes.no_leaf_gone part proper there first gone
+
+      module _ {l : LeafNode K V} (leaf_there : Some l ≡ get s.leaves q) {text : List ℕ} (text_is : text ≡ bytes (pair_of l)) where
+        pub trim_given : point.key_bytes_used + old.len ≤ length text
+        trim_given =
+            let long = prefixes.long_enough part proper there first leaf_there in
+            let k = ap (λ z. z.len) read in
+            let start = inner_start by at kind in
+            let t = ap length text_is in
+            omega arith
+
+        pub trim_read : {new : Prefix} → new.len ≡ old.len - (mismatch.matched_bytes + 1) → new.stored ≡ take (min (old.len - (mismatch.matched_bytes + 1)) P) (drop (point.key_bytes_used + (mismatch.matched_bytes + 1)) text) → new ≡ header_of P (drop (mismatch.matched_bytes + 1) prefix)
+        trim_read {new} len stored = trimmed_by_leaf P (mismatch.matched_bytes + 1) point.key_bytes_used prefix text old new own trim_inside has len stored
+          where
+            has : take old.len (drop point.key_bytes_used text) ≡ prefix
+            has = ap (λ z. take z.len (drop point.key_bytes_used text)) read ∙ ap (λ d. take shown.prefix.len (drop d text)) (inner_start by at kind) ∙ ap (λ z. take shown.prefix.len (drop (depth_of at.path) z)) text_is ∙ prefixes.prefix_read part proper there first leaf_there

@@ -1,0 +1,15 @@
+use Rattle.std.proofs.Common.{rules}
+use Rattle.art_model.specs.Layouts.{shape_of}
+use Rattle.art_writing.proofs.FreedTrees.{all_can, all_counted, all_go}
+use Rattle.art_writing.proofs.deallocate.deallocate_tree.Goals as goal
+
+pub free_nodes-requires : goal.free_nodes-requires
+free_nodes-requires g c =
+    let (layout, full) = c.requires in
+    (search rules, (shape_of layout, all_can full.0))
+
+pub returns-clause-freed : goal.returns-clause-freed
+returns-clause-freed g c layout full = all_go layout (c.free_nodes.ensures.freed (shape_of layout) (all_can full.0))
+
+pub returns-clause-count : goal.returns-clause-count
+returns-clause-count g c layout full = all_counted layout c.free_nodes.result (c.free_nodes.ensures.count (shape_of layout) (all_can full.0))

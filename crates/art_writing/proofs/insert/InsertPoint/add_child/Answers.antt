@@ -1,0 +1,126 @@
+use Rattle.std.proofs.Common.{rules, ◌∙◌, ap, sym, refl, subst, get_or, Some, IsTrue}
+use Rattle.std.specs.FinMap as map
+use Rattle.art_nodes.specs.Kinds.{larger_kind}
+use Rattle.art_nodes.specs.Nodes.{covers, promises, take_leaf}
+use Rattle.art_model.specs.Promises.{inner_taken, promise_after}
+use Rattle.art_model.specs.Writes.{IsThere}
+use Rattle.art_writing.specs.Inserted.{is_full, placed_for}
+use Rattle.art_writing.specs.Writes.{HasChild}
+use Rattle.art_reading.specs.Paths.{last_step}
+use Rattle.art_writing.proofs.Entered.{entry, entry_there, entry_inner, entry_gap, entry_parent}
+use Rattle.art_writing.proofs.LeafAdded.{no_leaf_asked, previous_is_there, next_is_there, room_inserted, room_touched, full_inserted, full_touched, has_room, not_of_last, larger_has_room, asked_none, asked_some}
+use Rattle.art_writing.proofs.Reserved.{leaf_promised, inner_promised, after_reserve, not_refused}
+use Rattle.art_writing.proofs.insert.InsertPoint.add_child.Goals as goal
+
+pub kind_if_full-larger-requires : goal.kind_if_full-larger-requires
+kind_if_full-larger-requires g c =
+    let (pairs, layout, by, own) = c.requires.answers in
+    (search rules, entry_there by (entry c.requires.answers c.requires.point refl by))
+
+pub links_below-previous-requires : goal.links_below-previous-requires
+links_below-previous-requires g c =
+    let (pairs, layout, by, own) = c.requires.answers in
+    let e = entry c.requires.answers c.requires.point (ap (λ l. get_or l c.args.self.key_bytes_used 0) c.as_bytes.ensures) by in
+    (search rules, (entry_inner by e, (e.left, e.right, entry_gap by e)))
+
+pub reserve-requires : goal.reserve-requires
+reserve-requires g c =
+    let (pairs, layout, by, own) = c.requires.answers in
+    let e = entry c.requires.answers c.requires.point refl by in
+    (search rules, λ asked. no_leaf_asked c.args.inner_node_ptr.kind (is_full c.args.store.now c.args.inner_node_ptr) (entry_inner by e) (sym c.kind_if_full-larger.ensures ∙ asked))
+
+pub place_between-leaf_node_ptr-requires : goal.place_between-leaf_node_ptr-requires
+place_between-leaf_node_ptr-requires g c =
+    let (pairs, layout, by, own) = c.requires.answers in
+    let e = entry c.requires.answers c.requires.point (ap (λ l. get_or l c.args.self.key_bytes_used 0) c.as_bytes.ensures) by in
+    let beside = c.links_below-previous.ensures.beside e.left e.right (entry_gap by e) in
+    let same = sym c.reserve.ensures.leaves in (
+      search rules,
+      (
+        leaf_promised c.reserve.new.self.promise c.kind_if_full-larger.result (not_refused c.reserve.result (sym c.is_err.ensures.value ∙ c.if-is_err.false) c.reserve.ensures.reserved),
+        (
+          subst (λ m. IsThere m c.links_below-previous.result.0) same (previous_is_there c.args.self (c.args.key, c.args.value) by e _ _ beside),
+          subst (λ m. IsThere m c.links_below-previous.result.1) same (next_is_there c.args.self (c.args.key, c.args.value) by e _ _ beside),
+        ),
+      ),
+    )
+
+pub put_larger-requires : goal.put_larger-requires
+put_larger-requires g c =
+    let (pairs, layout, by, own) = c.requires.answers in
+    let e = entry c.requires.answers c.requires.point (ap (λ l. get_or l c.args.self.key_bytes_used 0) c.as_bytes.ensures) by in
+    let same = c.place_between-leaf_node_ptr.ensures.inners ∙ c.reserve.ensures.inners in
+    let p = c.args.inner_node_ptr in
+    let full = (asked_some p.kind (is_full c.args.store.now p) c.kind_if_full-larger.ensures (sym c.is_some.ensures ∙ c.if-is_some.true)).0 in
+    let last = not_of_last c.args.self (c.args.key, c.args.value) by e full c.links_below-previous.ensures.few in
+    let asked = (asked_some p.kind (is_full c.args.store.now p) c.kind_if_full-larger.ensures (sym c.is_some.ensures ∙ c.if-is_some.true)).1 in
+    let covered = not_refused c.reserve.result (sym c.is_err.ensures.value ∙ c.if-is_err.false) c.reserve.ensures.reserved in (
+      search rules,
+      (
+        last,
+        (
+          larger_has_room c.args.self (c.args.key, c.args.value) by e last c.place_between-leaf_node_ptr.new.store.inners same,
+          (
+            subst (λ promise. IsTrue (promises promise.inner (larger_kind p.kind))) (sym c.place_between-leaf_node_ptr.ensures.promise) (inner_promised c.reserve.new.self.promise (larger_kind p.kind) (ap (covers c.reserve.new.self.promise 1) (sym asked) ∙ covered)),
+            subst (λ m. HasChild (map.remove m p) (last_step c.args.self.path)) (sym same) (entry_parent by e),
+          ),
+        ),
+      ),
+    )
+
+pub returns-then-is_some-clause-inserted : goal.returns-then-is_some-clause-inserted
+returns-then-is_some-clause-inserted g c pairs layout by =
+    let e = entry c.requires.answers c.requires.point (ap (λ l. get_or l c.args.self.key_bytes_used 0) c.as_bytes.ensures) by in
+    let beside = c.links_below-previous.ensures.beside e.left e.right (entry_gap by e) in
+    let p = c.args.inner_node_ptr in
+    let full = (asked_some p.kind (is_full c.args.store.now p) c.kind_if_full-larger.ensures (sym c.is_some.ensures ∙ c.if-is_some.true)).0 in
+    let last = not_of_last c.args.self (c.args.key, c.args.value) by e full c.links_below-previous.ensures.few in
+    full_inserted c.args.self (c.args.key, c.args.value) by e _ _ beside c.reserve.new.self c.place_between-leaf_node_ptr.new.store c.reserve.ensures.leaves c.reserve.ensures.inners c.place_between-leaf_node_ptr.ensures.fresh c.place_between-leaf_node_ptr.ensures.leaves c.place_between-leaf_node_ptr.ensures.inners c.to_opaque-child.ensures c.put_larger.new.store c.put_larger.ensures.leaves full last c.put_larger.result.0 c.put_larger.ensures.kind c.put_larger.ensures.fresh c.put_larger.ensures.inners c.requires.point c.put_larger.ensures.root _ c.new_child.ensures
+
+pub returns-then-is_some-clause-touches : goal.returns-then-is_some-clause-touches
+returns-then-is_some-clause-touches g c =
+    let (pairs, layout, by, own) = c.requires.answers in
+    let e = entry c.requires.answers c.requires.point (ap (λ l. get_or l c.args.self.key_bytes_used 0) c.as_bytes.ensures) by in
+    let beside = c.links_below-previous.ensures.beside e.left e.right (entry_gap by e) in
+    let p = c.args.inner_node_ptr in
+    let full = (asked_some p.kind (is_full c.args.store.now p) c.kind_if_full-larger.ensures (sym c.is_some.ensures ∙ c.if-is_some.true)).0 in
+    let last = not_of_last c.args.self (c.args.key, c.args.value) by e full c.links_below-previous.ensures.few in
+    full_touched c.args.self (c.args.key, c.args.value) by e _ _ beside c.reserve.new.self c.place_between-leaf_node_ptr.new.store c.reserve.ensures.leaves c.reserve.ensures.inners c.place_between-leaf_node_ptr.ensures.fresh c.place_between-leaf_node_ptr.ensures.leaves c.place_between-leaf_node_ptr.ensures.inners c.to_opaque-child.ensures c.put_larger.new.store c.put_larger.ensures.leaves full last c.put_larger.result.0 c.put_larger.ensures.kind c.put_larger.ensures.fresh c.put_larger.ensures.inners c.requires.point
+
+pub returns-then-is_some-clause-promise : goal.returns-then-is_some-clause-promise
+returns-then-is_some-clause-promise g c =
+    let p = c.args.inner_node_ptr in
+    let asked = (asked_some p.kind (is_full c.args.store.now p) c.kind_if_full-larger.ensures (sym c.is_some.ensures ∙ c.if-is_some.true)).1 in
+    let granted = sym c.is_err.ensures.value ∙ c.if-is_err.false in
+    c.put_larger.ensures.promise
+    ∙ ap (λ promise. inner_taken (Some (larger_kind p.kind)) promise) c.place_between-leaf_node_ptr.ensures.promise
+    ∙ ap (λ kind. inner_taken kind (take_leaf c.reserve.new.self.promise)) (sym asked)
+    ∙ after_reserve c.args.store.now c.reserve.new.self c.kind_if_full-larger.result c.reserve.ensures.covered (λ not_covered. not_refused c.reserve.result granted (c.reserve.ensures.granted not_covered))
+    ∙ ap (λ kind. promise_after (record { leaves = 1; inner = kind }) c.args.store.now.promise) c.kind_if_full-larger.ensures
+    ∙ ap (λ kind. promise_after (placed_for c.args.store.now kind) c.args.store.now.promise) (sym c.requires.point)
+
+pub write_child-requires : goal.write_child-requires
+write_child-requires g c =
+    let (pairs, layout, by, own) = c.requires.answers in
+    let e = entry c.requires.answers c.requires.point (ap (λ l. get_or l c.args.self.key_bytes_used 0) c.as_bytes.ensures) by in
+    let p = c.args.inner_node_ptr in
+    let same = c.place_between-leaf_node_ptr.ensures.inners ∙ c.reserve.ensures.inners in
+    let room = asked_none p.kind (is_full c.args.store.now p) c.kind_if_full-larger.ensures (sym c.is_some.ensures ∙ c.if-is_some.false) in
+    (search rules, has_room c.args.self (c.args.key, c.args.value) by e room c.place_between-leaf_node_ptr.new.store.inners same)
+
+pub returns-clause-inserted : goal.returns-clause-inserted
+returns-clause-inserted g c pairs layout by =
+    let e = entry c.requires.answers c.requires.point (ap (λ l. get_or l c.args.self.key_bytes_used 0) c.as_bytes.ensures) by in
+    let beside = c.links_below-previous.ensures.beside e.left e.right (entry_gap by e) in
+    let p = c.args.inner_node_ptr in
+    let room = asked_none p.kind (is_full c.args.store.now p) c.kind_if_full-larger.ensures (sym c.is_some.ensures ∙ c.if-is_some.false) in
+    room_inserted c.args.self (c.args.key, c.args.value) by e _ _ beside c.reserve.new.self c.place_between-leaf_node_ptr.new.store c.reserve.ensures.leaves c.reserve.ensures.inners c.place_between-leaf_node_ptr.ensures.fresh c.place_between-leaf_node_ptr.ensures.leaves c.place_between-leaf_node_ptr.ensures.inners c.to_opaque-child.ensures c.write_child.new.self c.write_child.ensures.leaves room c.write_child.ensures.inners c.requires.point _ c.new_child-2.ensures
+
+pub returns-clause-touches : goal.returns-clause-touches
+returns-clause-touches g c =
+    let (pairs, layout, by, own) = c.requires.answers in
+    let e = entry c.requires.answers c.requires.point (ap (λ l. get_or l c.args.self.key_bytes_used 0) c.as_bytes.ensures) by in
+    let beside = c.links_below-previous.ensures.beside e.left e.right (entry_gap by e) in
+    let p = c.args.inner_node_ptr in
+    let room = asked_none p.kind (is_full c.args.store.now p) c.kind_if_full-larger.ensures (sym c.is_some.ensures ∙ c.if-is_some.false) in
+    room_touched c.args.self (c.args.key, c.args.value) by e _ _ beside c.reserve.new.self c.place_between-leaf_node_ptr.new.store c.reserve.ensures.leaves c.reserve.ensures.inners c.place_between-leaf_node_ptr.ensures.fresh c.place_between-leaf_node_ptr.ensures.leaves c.place_between-leaf_node_ptr.ensures.inners c.to_opaque-child.ensures c.write_child.new.self c.write_child.ensures.leaves room c.write_child.ensures.inners c.requires.point

@@ -1,0 +1,21 @@
+-- What is told of a tree that was copied into another store.
+use Rattle.std.specs.Prelude.{◌≡◌, Some, None}
+use Rattle.art_nodes.specs.Names.{leaf_name}
+use Rattle.art_nodes.specs.Nodes.{Nodes}
+use Rattle.art_nodes.specs.declared.node.OpaqueNodePtr.{OpaqueNodePtr}
+use Rattle.art_model.specs.Trees.{Tree}
+use Rattle.art_model.specs.Layouts.{name_of, leaf_names, first_or, last_or}
+use Rattle.art_model.specs.Clones.{IsCopy}
+use Rattle.art_model.specs.Gains.{Gains}
+use Rattle.art_model.specs.Promises.{tree_taken}
+use Rattle.art_writing.specs.declared.clone.CloneResult.{CloneResult}
+
+-- The store gained a tree of the first one's form with clones of its pairs, which is taken from its promise; the root and the ends of the leaves are named.
+pub record IsCopied {K V : Type 0} (IsClone : K × V → K × V → Type 0) (tree : Tree OpaqueNodePtr (K × V)) (old new : Nodes K V) (done : CloneResult) : Type 0 where
+  pub copy : Tree OpaqueNodePtr (K × V)
+  pub named : name_of copy ≡ done.root
+  pub same : IsCopy IsClone tree copy
+  pub gains : Gains old new copy
+  pub promise : new.promise ≡ tree_taken tree old.promise
+  pub first : first_or (leaf_names copy) None ≡ Some (leaf_name done.min_leaf)
+  pub last : last_or (leaf_names copy) None ≡ Some (leaf_name done.max_leaf)

@@ -1,0 +1,88 @@
+-- The points at which leaves go, what an applied delete point places and touches, and what it leaves.
+use Rattle.std.specs.Prelude.{◌≡◌, ℕ, cond, leb, List, length, Option, Some, None}
+use Rattle.std.specs.FinMap as map
+use Rattle.art_nodes.specs.Kinds.{kind_least, smaller_kind}
+use Rattle.art_nodes.specs.Names.{leaf_name}
+use Rattle.art_nodes.specs.Nodes.{Nodes, Promise}
+use Rattle.art_nodes.specs.declared.node.NodeType.{NodeType}
+use Rattle.art_nodes.specs.declared.node.NodeType.TheVariants.{Node4}
+use Rattle.art_nodes.specs.declared.node.OpaqueNodePtr.{OpaqueNodePtr}
+use Rattle.art_model.specs.Canonical.{IsTree}
+use Rattle.art_model.specs.Footprints.{TouchesAtMost}
+use Rattle.art_model.specs.Kept.{ChangesInPlace}
+use Rattle.art_model.specs.Pairs.{remove_key}
+use Rattle.art_model.specs.Paths.{Frame, plug}
+use Rattle.art_model.specs.Roots.{IsRootOf}
+use Rattle.art_model.specs.Trees.{Tree, leaf}
+use Rattle.art_writing.specs.declared.delete.DeletePoint.{DeletePoint}
+use Rattle.art_writing.specs.declared.delete.DeleteResult.{DeleteResult}
+use Rattle.art_reading.specs.declared.path.TreePath.{TreePath}
+use Rattle.art_reading.specs.declared.path.TreePath.TheVariants.{Root, ChildOfRoot, Normal}
+use Rattle.art_writing.specs.Inserted.{alone}
+use Rattle.art_reading.specs.Paths.{last_step, path_of}
+
+-- the point names the leaf of this pair, with the parent and the grandparent of that and the bytes that lead down
+pub record LeadsTo {A : Type 0} (tree : Tree OpaqueNodePtr A) (x : A) (point : DeletePoint) : Type 0 where
+  pub path : List (Frame OpaqueNodePtr A)
+  pub whole : plug path (leaf (leaf_name point.leaf_node_ptr) x) ≡ tree
+  pub path_is : point.path ≡ path_of path
+
+-- the point of the pair, or none where there is no pair
+abbrev pub IsDeletePoint : {A : Type 0} → Tree OpaqueNodePtr A → Option A → Option DeletePoint → Type 0
+IsDeletePoint tree None None = Unit {0}
+IsDeletePoint tree (Some x) (Some point) = LeadsTo tree x point
+IsDeletePoint tree pair point = ⊥
+
+-- the point answers to the store and the root
+abbrev pub IsDeletePointIn : {K V : Type 0} → (K × V → List ℕ) → ℕ → Nodes K V → OpaqueNodePtr → DeletePoint → Type 0
+IsDeletePointIn {K} {V} bytes P s root point = (pairs : List (K × V)) × (layout : Tree OpaqueNodePtr (K × V)) × (x : K × V) × IsTree bytes P s root pairs layout × LeadsTo layout x point
+
+-- what becomes of a leaf's parent when the leaf goes: there is none; it keeps its kind; a node of the next smaller kind takes its place; its other child does
+pub data ParentChange : Type 0 where
+  no_parent : ParentChange
+  keeps : ParentChange
+  shrinks : NodeType → ParentChange
+  is_compressed : ParentChange
+
+-- by the parent's kind and its number of children: one that has as many as its kind has at least can't keep the kind
+abbrev pub change_of : NodeType → ℕ → ParentChange
+change_of Node4 count = cond (leb count 2) is_compressed keeps
+change_of kind count = cond (leb count (kind_least kind)) (shrinks (smaller_kind kind)) keeps
+
+module _ {K V : Type 0} where
+  -- what becomes of the parent at the end of a path
+  abbrev pub parent_change : Nodes K V → TreePath → ParentChange
+  parent_change s path = elim (last_step path) [
+    | None ↦ no_parent
+    | Some (parent, byte) ↦ elim (map.get s.inners parent) [ None ↦ no_parent | Some node ↦ change_of parent.kind (length node.children) ]
+  ]
+
+  -- the nodes that a deletion places: the smaller one that takes the parent's place
+  abbrev pub placed_for_deletion : Nodes K V → TreePath → Promise
+  placed_for_deletion s path = elim (parent_change s path) [ shrinks kind ↦ record { leaves = 0; inner = Some kind } | _ ↦ record { leaves = 0; inner = None } ]
+
+  -- how many names a deletion places, frees and changes at most
+  abbrev pub TouchesFor : ParentChange → Nodes K V → Nodes K V → Type 0
+  TouchesFor no_parent s t = TouchesAtMost 0 1 0 s t
+  TouchesFor keeps s t = TouchesAtMost 0 1 3 s t
+  TouchesFor (shrinks kind) s t = TouchesAtMost 1 2 3 s t
+  TouchesFor is_compressed s t = TouchesAtMost 0 2 4 s t
+
+-- the root after a deletion below it: the same where it keeps its kind, and else the node in its place
+abbrev pub IsTopAfter : ParentChange → OpaqueNodePtr → Option OpaqueNodePtr → Type 0
+IsTopAfter keeps root new = new ≡ Some root
+IsTopAfter change root new = (name : OpaqueNodePtr) × (new ≡ Some name)
+
+-- the root after a deletion: none where the leaf was the root, and the old one where the leaf's parent was not the root
+abbrev pub IsRootAfter : ParentChange → TreePath → OpaqueNodePtr → Option OpaqueNodePtr → Type 0
+IsRootAfter change Root root new = new ≡ None
+IsRootAfter change (ChildOfRoot parent byte) root new = IsTopAfter change root new
+IsRootAfter change (Normal grandparent above parent byte) root new = new ≡ Some root
+
+-- The root is canonical for the pairs without the one of the point; its pair is answered as a leaf alone; the rest stays.
+pub record IsDeleted {K V : Type 0} (bytes : K × V → List ℕ) (P : ℕ) (s t : Nodes K V) (root : OpaqueNodePtr) (point : DeletePoint) (x : K × V) (pairs : List (K × V)) (layout : Tree OpaqueNodePtr (K × V)) (done : DeleteResult K V) : Type 0 where
+  pub tree : Option (Tree OpaqueNodePtr (K × V))
+  pub canonical : IsRootOf bytes P t done.new_root (remove_key bytes (bytes x) pairs) tree
+  pub deleted : done.deleted_leaf ≡ alone x
+  pub root_is : IsRootAfter (parent_change s point.path) point.path root done.new_root
+  pub kept : ChangesInPlace bytes s t (Some layout) tree

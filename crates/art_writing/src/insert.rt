@@ -1,0 +1,434 @@
+//! Insertion: the point at which a key comes into a tree.
+ghost use Rattle.std.specs.Prelude.{◌≡◌, ◌≢◌, ◌≤◌, ◌↔◌, length, true, false, IsOk, IfOk, IfErr};
+ghost use Rattle.art_nodes.specs.Names.{inner_name};
+ghost use Rattle.art_nodes.specs.declared.node.NodeType.TheVariants.{Leaf};
+ghost use Rattle.art_nodes.specs.declared.node.OpaqueNodePtr.{OpaqueNodePtr};
+ghost use Rattle.art_model.specs.Keys.{IsFront};
+ghost use Rattle.art_model.specs.Pairs.{is_conflict, of_key};
+ghost use Rattle.art_model.specs.Roots.{ForTree, IsCanonicalRoot};
+ghost use Rattle.art_model.specs.Trees.{Tree};
+ghost use Rattle.art_writing.specs.Inserted.{IsPointIn};
+ghost use Rattle.art_reading.specs.Matching.{shared_len};
+ghost use Rattle.art_writing.specs.Overwritten.{IsPrefixPointIn, root_of};
+ghost use Rattle.art_writing.specs.Points.{AnswersTo, IsAt, IsCompared, IsKindFor, IsPart, IsPointFor, IsRefusedFor, IsStepFrom};
+
+use art_nodes::node::{
+    AsBytes, InnerPtr, LeafNode, LeafPtr, NodePtr, OpaqueNodePtr, OptionalLeafPtr,
+};
+use art_nodes::store::NodeStore;
+use art_reading::minmax::minimum_unchecked;
+use art_reading::path::{ExplicitMismatch, PrefixMatch, TreePath};
+use art_reading::ways::shared_len;
+use std::alloc::{AllocError, Global};
+use std::boxed::BoxedSlice;
+use thiserror::Error;
+
+mod apply;
+mod branch;
+mod existing;
+mod overwrite;
+
+/// A key that can't be inserted: a stored key begins with it, or it begins with a stored key.
+#[derive(PartialEq, Eq, Debug, Drop, Error)]
+#[error("Attempted to insert a key [{byte_repr:?}] which is either a prefix of an existing key or an existing key is a prefix of the new key.")]
+pub struct InsertPrefixError {
+    /// The bytes of the key.
+    pub byte_repr: BoxedSlice<u8>,
+}
+
+impl Clone for InsertPrefixError {
+    ghost use Rattle.std.specs.Box.{boxed_slice_items};
+
+    ghost is_clone = { λ error copy. boxed_slice_items copy.byte_repr ≡ boxed_slice_items error.byte_repr };
+
+    fn clone(&self) -> Result<Self, AllocError> {
+        let byte_repr = self.byte_repr.clone()?;
+        Ok(InsertPrefixError { byte_repr })
+    }
+}
+
+/// Why there is no point for a key.
+#[derive(PartialEq, Eq, Debug, Drop, Error)]
+pub enum InsertSearchError {
+    /// An unequal stored key is related to the key.
+    #[error("{0}")]
+    Prefix(InsertPrefixError),
+    /// The same, and there was no memory for the bytes of the key.
+    #[error("{0}")]
+    Memory(AllocError),
+}
+
+/// Where a key comes into a tree.
+///
+/// The place of a node is the bytes that lead to it from the root, prefixes and children's bytes. A
+/// key's end node is the node with the longest place that is a prefix of the key.
+#[derive(Clone, Copy, PartialEq, Eq, Debug)]
+pub struct InsertPoint {
+    /// The nodes right above the key's end node.
+    pub path: TreePath,
+    /// The end node, and what is to be done there.
+    pub insert_kind: InsertKind,
+    /// The length of the end node's place; for `IntoExisting` with the node's prefix added.
+    pub key_bytes_used: usize,
+    /// The tree's root.
+    pub root: OpaqueNodePtr,
+}
+
+/// What is to be done at the end node of a key.
+#[derive(Clone, Copy, PartialEq, Eq, Debug)]
+pub enum InsertKind {
+    /// The key parts from the prefix of an inner node, which gets a new parent.
+    MismatchPrefix {
+        mismatch: ExplicitMismatch,
+        mismatched_inner_node_ptr: InnerPtr,
+    },
+    /// The key parts from a leaf's key, and the leaf gets a new parent.
+    SplitLeaf {
+        leaf_node_ptr: LeafPtr,
+        /// How many bytes the two keys share in front.
+        new_key_bytes_used: usize,
+    },
+    /// The leaf of the key itself: its pair is replaced.
+    Exact {
+        leaf_node_ptr: LeafPtr,
+    },
+    /// An inner node gets a child more.
+    IntoExisting {
+        inner_node_ptr: InnerPtr,
+    },
+}
+
+/// Where the leaf of a key comes in the place of all pairs with related keys, at least one of which is
+/// unequal: the key's end node gives way.
+#[derive(Clone, Copy, PartialEq, Eq, Debug)]
+pub struct OverwritePoint {
+    /// The nodes right above the key's end node.
+    pub path: TreePath,
+    /// The end node: a leaf, or an inner node in whose prefix the key ends.
+    pub overwrite_point: OpaqueNodePtr,
+    /// The length of the end node's place; where the key ends with the node's prefix, one less than the
+    /// key's length, if that is not 0.
+    pub key_bytes_used: usize,
+    /// The tree's root.
+    pub root: OpaqueNodePtr,
+}
+
+/// Where a key comes into a tree in the place of all related keys.
+#[derive(Clone, Copy, PartialEq, Eq, Debug)]
+pub enum PrefixInsertPoint {
+    /// No stored key is related to the key, or only an equal one.
+    InsertPoint(InsertPoint),
+    /// An unequal stored key is related to the key.
+    OverwritePoint(OverwritePoint),
+}
+
+/// What a prefix insertion did.
+#[derive(Debug, Drop)]
+pub struct PrefixInsertResult<K, V> {
+    /// The leaf of the key. `existing_leaf` has the pair that gave way, if it was the only one.
+    pub insert_result: InsertResult<K, V>,
+    /// How many leaves were freed: none where a leaf's pair was replaced.
+    pub leafs_removed: usize,
+}
+
+/// What an insertion did.
+#[derive(Debug, Drop)]
+pub struct InsertResult<K, V> {
+    /// The leaf of the key.
+    pub leaf_node_ptr: LeafPtr,
+    /// The pair that gave way, if the key was stored, as a leaf with no siblings.
+    pub existing_leaf: Option<LeafNode<K, V>>,
+    /// The root of the tree.
+    pub new_root: OpaqueNodePtr,
+    /// The parent of the leaf.
+    pub parent_node_change: InsertParentNodeChange,
+}
+
+/// What an insertion made of the parent of its leaf.
+#[derive(Clone, Copy, PartialEq, Eq, Debug)]
+pub enum InsertParentNodeChange {
+    /// The parent has a child more, the leaf. It is a new node, or the one that was there where it
+    /// had room.
+    NewParent {
+        new_parent_node: OpaqueNodePtr,
+        /// The byte under which the parent has the leaf.
+        leaf_node_key_byte: u8,
+    },
+    /// A pair was replaced in its leaf.
+    NoChange,
+}
+
+/// A pair that was not inserted, for want of memory.
+#[derive(PartialEq, Eq, Debug, Drop)]
+pub struct Refused<K, V> {
+    pub key: K,
+    pub value: V,
+}
+
+/// The point of a key in the tree of a canonical root. There is none where an unequal stored key is
+/// related to the key: one of the two is a prefix of the other.
+///
+/// Only the refusal takes memory. Where a prefix is longer than what its node stores of it, a leaf
+/// below is read for the rest.
+pub fn search_for_insert_point<K: AsBytes + Drop, V: Drop, const PREFIX_LEN: usize>(
+    store: &NodeStore<K, V, PREFIX_LEN>,
+    root: OpaqueNodePtr,
+    key_bytes: &[u8],
+) -> Result<InsertPoint, InsertSearchError>
+    requires { IsCanonicalRoot (of_key K.bytes) PREFIX_LEN store.now root }
+    ensures accepted { ForTree (of_key K.bytes) PREFIX_LEN store.now root (λ pairs layout.
+        IsOk result ↔ (is_conflict (of_key K.bytes) key_bytes.now pairs ≡ false)) }
+    ensures point { ForTree (of_key K.bytes) PREFIX_LEN store.now root (λ pairs layout.
+        IfOk result (λ point. AnswersTo (of_key K.bytes) PREFIX_LEN layout key_bytes.now point)) }
+    ensures root { IfOk result (λ point. point.root ≡ root) }
+    ensures applies { IfOk result (IsPointIn (of_key K.bytes) PREFIX_LEN store.now key_bytes.now) }
+    ensures refused { IfErr result (λ error. IsRefusedFor key_bytes.now error) }
+{
+    match search_for_prefix_insert_point(store, root, key_bytes) {
+        PrefixInsertPoint::InsertPoint(point) => Ok(point),
+        PrefixInsertPoint::OverwritePoint(_) => Err(refusal(store.alloc(), key_bytes)),
+    }
+}
+
+/// The point of a key that takes the place of all related keys, in the tree of a canonical root.
+///
+/// It goes the way of `search_for_insert_point`, at the same cost, and takes no memory.
+pub fn search_for_prefix_insert_point<K: AsBytes + Drop, V: Drop, const PREFIX_LEN: usize>(
+    store: &NodeStore<K, V, PREFIX_LEN>,
+    root: OpaqueNodePtr,
+    key_bytes: &[u8],
+) -> PrefixInsertPoint
+    requires { IsCanonicalRoot (of_key K.bytes) PREFIX_LEN store.now root }
+    ensures point { ForTree (of_key K.bytes) PREFIX_LEN store.now root (λ pairs layout.
+        IsPointFor (of_key K.bytes) PREFIX_LEN key_bytes.now pairs layout result) }
+    ensures root { root_of result ≡ root }
+    ensures applies { IsPrefixPointIn (of_key K.bytes) PREFIX_LEN store.now key_bytes.now result }
+{
+    let mut spot = Spot {
+        path: TreePath::Root,
+        name: root,
+        depth: 0,
+    };
+    'down: loop {
+        match next_step(store, root, key_bytes, spot) {
+            Step::Point(point) => return point,
+            Step::Down(below) => spot = below,
+        }
+    }
+}
+
+// The refusal of a key.
+fn refusal(alloc: Global, key_bytes: &[u8]) -> InsertSearchError
+    ensures { IsRefusedFor key_bytes.now result }
+{
+    match BoxedSlice::from_slice(alloc, key_bytes) {
+        Ok(byte_repr) => InsertSearchError::Prefix(InsertPrefixError { byte_repr }),
+        Err(error) => InsertSearchError::Memory(error),
+    }
+}
+
+// A node on the way down with a key.
+#[derive(Clone, Copy)]
+struct Spot {
+    /// The nodes right above the node.
+    path: TreePath,
+    name: OpaqueNodePtr,
+    /// How many bytes lead to the node.
+    depth: usize,
+}
+
+impl Spot {
+    ghost use Rattle.art_writing.specs.declared.insert.PrefixInsertPoint.TheVariants as points;
+    ghost use Rattle.art_writing.specs.declared.insert.Step.TheVariants as steps;
+
+    // The point at this node.
+    fn point(self, root: OpaqueNodePtr, insert_kind: InsertKind, key_bytes_used: usize) -> Step
+        ensures { result ≡ steps.Point (points.InsertPoint (record { path = self.path; insert_kind = insert_kind; key_bytes_used = key_bytes_used; root = root })) }
+    {
+        Step::Point(PrefixInsertPoint::InsertPoint(InsertPoint {
+            path: self.path,
+            insert_kind,
+            key_bytes_used,
+            root,
+        }))
+    }
+
+    // The point at this node where it gives way.
+    fn overwrite(self, root: OpaqueNodePtr, key_bytes_used: usize) -> Step
+        ensures { result ≡ steps.Point (points.OverwritePoint (record { path = self.path; overwrite_point = self.name; key_bytes_used = key_bytes_used; root = root })) }
+    {
+        Step::Point(PrefixInsertPoint::OverwritePoint(OverwritePoint {
+            path: self.path,
+            overwrite_point: self.name,
+            key_bytes_used,
+            root,
+        }))
+    }
+}
+
+// Where a step on the way down with a key comes to.
+#[derive(Clone, Copy)]
+enum Step {
+    /// The key's point.
+    Point(PrefixInsertPoint),
+    /// A child that the key goes on with.
+    Down(Spot),
+}
+
+// One step on the way down.
+fn next_step<K: AsBytes + Drop, V: Drop, const PREFIX_LEN: usize>(
+    store: &NodeStore<K, V, PREFIX_LEN>,
+    root: OpaqueNodePtr,
+    key_bytes: &[u8],
+    spot: Spot,
+) -> Step
+    requires root { IsCanonicalRoot (of_key K.bytes) PREFIX_LEN store.now root }
+    requires spot { ForTree (of_key K.bytes) PREFIX_LEN store.now root (λ pairs layout.
+        IsAt (of_key K.bytes) PREFIX_LEN key_bytes.now layout spot) }
+    ensures { ForTree (of_key K.bytes) PREFIX_LEN store.now root (λ pairs layout.
+        IsStepFrom (of_key K.bytes) PREFIX_LEN key_bytes.now pairs layout spot.depth result) }
+{
+    match spot.name.split() {
+        NodePtr::Inner(inner) => step_at_inner(store, root, key_bytes, spot, inner),
+        NodePtr::Leaf(leaf_node_ptr) => {
+            let Some(leaf) = store.leaf(leaf_node_ptr) else {
+                unreachable!()
+            };
+            match kind_at_leaf(leaf_node_ptr, leaf, key_bytes) {
+                Some(insert_kind) => spot.point(root, insert_kind, spot.depth),
+                None => spot.overwrite(root, spot.depth),
+            }
+        }
+    }
+}
+
+// The same at an inner node.
+fn step_at_inner<K: AsBytes + Drop, V: Drop, const PREFIX_LEN: usize>(
+    store: &NodeStore<K, V, PREFIX_LEN>,
+    root: OpaqueNodePtr,
+    key_bytes: &[u8],
+    spot: Spot,
+    inner: InnerPtr,
+) -> Step
+    requires root { IsCanonicalRoot (of_key K.bytes) PREFIX_LEN store.now root }
+    requires spot { ForTree (of_key K.bytes) PREFIX_LEN store.now root (λ pairs layout.
+        IsAt (of_key K.bytes) PREFIX_LEN key_bytes.now layout spot) }
+    requires inner { inner.kind ≢ Leaf }
+    requires name { inner_name inner ≡ spot.name }
+    ensures { ForTree (of_key K.bytes) PREFIX_LEN store.now root (λ pairs layout.
+        IsStepFrom (of_key K.bytes) PREFIX_LEN key_bytes.now pairs layout spot.depth result) }
+{
+    let matched = match match_full_prefix(store, inner, key_bytes, spot.depth) {
+        Ok(matched) => matched,
+        Err(mismatch) => {
+            if spot.depth + mismatch.matched_bytes >= key_bytes.len() {
+                return spot.overwrite(root, spot.depth);
+            }
+            let insert_kind = InsertKind::MismatchPrefix {
+                mismatch,
+                mismatched_inner_node_ptr: inner,
+            };
+            return spot.point(root, insert_kind, spot.depth);
+        }
+    };
+    let depth = spot.depth + matched.matched_bytes;
+    if depth >= key_bytes.len() {
+        return spot.overwrite(root, depth.saturating_sub(1));
+    }
+    let Some(node) = store.inner(inner) else {
+        unreachable!()
+    };
+    let byte = key_bytes[depth];
+    let Some(child) = node.lookup_child(byte) else {
+        let insert_kind = InsertKind::IntoExisting {
+            inner_node_ptr: inner,
+        };
+        return spot.point(root, insert_kind, depth);
+    };
+    Step::Down(Spot {
+        path: spot.path.step_down(inner, byte),
+        name: child,
+        depth: depth + 1,
+    })
+}
+
+// What is to be done at a leaf, or `None` where its key and the key are related but not equal.
+fn kind_at_leaf<K: AsBytes, V>(
+    leaf_node_ptr: LeafPtr,
+    leaf: &LeafNode<K, V>,
+    key_bytes: &[u8],
+) -> Option<InsertKind>
+    ensures { IsKindFor key_bytes.now leaf_node_ptr (K.bytes leaf.now.key) result }
+{
+    let leaf_bytes = leaf.key.as_bytes();
+    let shared = shared_len(key_bytes, leaf_bytes);
+    if shared < key_bytes.len() && shared < leaf_bytes.len() {
+        return Some(InsertKind::SplitLeaf {
+            leaf_node_ptr,
+            new_key_bytes_used: shared,
+        });
+    }
+    if key_bytes.len() == leaf_bytes.len() {
+        Some(InsertKind::Exact { leaf_node_ptr })
+    } else {
+        None
+    }
+}
+
+// Compares the whole prefix of an inner node, to which so many bytes lead, with the rest of the key.
+fn match_full_prefix<K: AsBytes + Drop, V: Drop, const PREFIX_LEN: usize>(
+    store: &NodeStore<K, V, PREFIX_LEN>,
+    name: InnerPtr,
+    key_bytes: &[u8],
+    depth: usize,
+) -> Result<PrefixMatch, ExplicitMismatch>
+    requires inner { name.kind ≢ Leaf }
+    requires depth { depth ≤ length key_bytes.now }
+    requires part { (node : Tree OpaqueNodePtr (K × V)) ×
+        IsPart (of_key K.bytes) PREFIX_LEN store.now (inner_name name) depth node }
+    ensures { (node : Tree OpaqueNodePtr (K × V)) →
+        IsPart (of_key K.bytes) PREFIX_LEN store.now (inner_name name) depth node →
+        IsCompared (of_key K.bytes) PREFIX_LEN key_bytes.now node depth result }
+{
+    let Some(node) = store.inner(name) else {
+        unreachable!()
+    };
+    let header = node.header();
+    let rest_of_key = &key_bytes[depth..];
+    let len = header.prefix_len();
+    if len <= PREFIX_LEN {
+        return match_prefix(header.read_prefix(), rest_of_key, None);
+    }
+    let leaf_ptr = minimum_unchecked(store, name.to_opaque());
+    let Some(leaf) = store.leaf(leaf_ptr) else {
+        unreachable!()
+    };
+    let prefix = &leaf.key.as_bytes()[depth..depth + len];
+    match_prefix(prefix, rest_of_key, Some(leaf_ptr))
+}
+
+ghost use Rattle.std.specs.Prelude.{Some, slice_get};
+
+// Compares a prefix with the rest of the key.
+fn match_prefix(
+    prefix: &[u8],
+    rest_of_key: &[u8],
+    leaf_ptr: OptionalLeafPtr,
+) -> Result<PrefixMatch, ExplicitMismatch>
+    ensures len { IfOk result (λ matched. matched.matched_bytes ≡ length prefix.now) }
+    ensures front { IfOk result (λ matched. IsFront prefix.now rest_of_key.now) }
+    ensures shared { IfErr result (λ mismatch. mismatch.matched_bytes ≡ shared_len prefix.now rest_of_key.now) }
+    ensures byte { IfErr result (λ mismatch. slice_get prefix.now mismatch.matched_bytes ≡
+        Some mismatch.prefix_byte) }
+    ensures leaf { IfErr result (λ mismatch. mismatch.leaf_ptr ≡ leaf_ptr) }
+{
+    let matched_bytes = shared_len(prefix, rest_of_key);
+    match prefix.get(matched_bytes) {
+        None => Ok(PrefixMatch { matched_bytes }),
+        Some(&prefix_byte) => Err(ExplicitMismatch {
+            matched_bytes,
+            prefix_byte,
+            leaf_ptr,
+        }),
+    }
+}

@@ -1,0 +1,273 @@
+//! A new node above a leaf and a new one, or above an inner node and a new leaf.
+ghost use Rattle.std.specs.Prelude.{◌≡◌, ℕ, ◌+◌, nat_lt, drop, List, IsOk, IsTrue, IfOk, IfErr, OnOk, OnErr, Some};
+ghost use Rattle.art_nodes.specs.Changes.{with_child};
+ghost use Rattle.art_nodes.specs.Inner.{childless, header_of};
+ghost use Rattle.art_nodes.specs.Kinds.{any_kind, any_view};
+ghost use Rattle.art_nodes.specs.Nodes.{covers, no_promise, take_inner, take_leaf};
+ghost use Rattle.art_nodes.specs.declared.node.NodeType.TheVariants.{Node4};
+ghost use Rattle.art_nodes.specs.declared.node.OpaqueNodePtr.{OpaqueNodePtr};
+ghost use Rattle.art_model.specs.Pairs.{of_key};
+ghost use Rattle.art_model.specs.Places.{depth_of, prefix_of};
+ghost use Rattle.art_model.specs.Promises.{is_covered, promise_after};
+ghost use Rattle.art_model.specs.Roots.{ForTree, IsFullTree};
+ghost use Rattle.art_model.specs.Trees.{Tree};
+ghost use Rattle.art_model.specs.Writes.{IsThere};
+ghost use Rattle.art_writing.specs.Branches.{ForEnd, IsBeside, IsBranch, IsPlaced};
+ghost use Rattle.art_writing.specs.Inserted.{IsInserted, IsPointIn, Touches, placed_for};
+ghost use Rattle.art_writing.specs.Writes.{HasChild};
+ghost use Rattle.art_reading.specs.Paths.{last_step};
+ghost use Rattle.art_writing.specs.declared.insert.InsertKind.TheVariants as kinds;
+
+use super::{InsertParentNodeChange, InsertPoint, InsertResult, Refused};
+use crate::writes::{links_after, links_before, place_between, replace_at};
+use art_nodes::node::{
+    AnyInner, AsBytes, Header, InnerPtr, LeafNode, LeafPtr, NodeType, OpaqueNodePtr,
+    OptionalLeafPtr,
+};
+use art_nodes::store::NodeStore;
+use art_reading::path::ExplicitMismatch;
+
+// What is read before a node gets a new parent, which it shares with a new leaf.
+#[derive(Clone, Copy)]
+struct Branch<const P: usize> {
+    // The parent's.
+    header: Header<P>,
+    old_byte: u8,
+    new_byte: u8,
+    // The leaves beside the new one.
+    previous: OptionalLeafPtr,
+    next: OptionalLeafPtr,
+}
+
+// A node above two others.
+fn above_two<const P: usize>(
+    header: Header<P>,
+    old_byte: u8,
+    old: OpaqueNodePtr,
+    new_byte: u8,
+    new: OpaqueNodePtr,
+) -> AnyInner<P>
+    ensures kind { any_kind result ≡ Node4 }
+    ensures view { any_view result ≡ with_child new_byte new (with_child old_byte old (childless header.entry)) }
+{
+    let mut node = AnyInner::from_header(NodeType::Node4, header);
+    node.write_child(old_byte, old);
+    node.write_child(new_byte, new);
+    node
+}
+
+// What is read before the tree under a name gets a parent with this prefix, and under these bytes it
+// and a new leaf.
+fn branch_above<K: AsBytes + Drop, V: Drop, const P: usize>(
+    store: &NodeStore<K, V, P>,
+    name: OpaqueNodePtr,
+    part: &[u8],
+    old_byte: u8,
+    new_byte: u8,
+) -> Branch<P>
+    requires { (tree : Tree OpaqueNodePtr (K × V)) × IsFullTree store.now name tree }
+    ensures header { result.header ≡ header_of P part.now }
+    ensures old_byte { result.old_byte ≡ old_byte }
+    ensures new_byte { result.new_byte ≡ new_byte }
+    ensures beside { (tree : Tree OpaqueNodePtr (K × V)) → IsFullTree store.now name tree →
+        IsBeside store.now tree (nat_lt old_byte new_byte) result.previous result.next }
+{
+    let (previous, next) = if old_byte < new_byte {
+        links_after(store, name)
+    } else {
+        links_before(store, name)
+    };
+    Branch {
+        header: Header::new(part, part.len()),
+        old_byte,
+        new_byte,
+        previous,
+        next,
+    }
+}
+
+impl InsertPoint {
+    // Reads what splits a leaf.
+    fn branch_at_leaf<K: AsBytes + Drop, V: Drop, const P: usize>(
+        self,
+        store: &NodeStore<K, V, P>,
+        leaf_node_ptr: LeafPtr,
+        new_key_bytes_used: usize,
+        key_bytes: &[u8],
+    ) -> Branch<P>
+        requires point { self.insert_kind ≡ kinds.SplitLeaf leaf_node_ptr new_key_bytes_used }
+        requires answers { IsPointIn (of_key K.bytes) P store.now key_bytes.now self }
+        ensures { ForEnd (of_key K.bytes) P store.now key_bytes.now self (λ path node. IsBranch (of_key K.bytes) key_bytes.now path node result) }
+    {
+        let Some(leaf) = store.leaf(leaf_node_ptr) else {
+            unreachable!()
+        };
+        let part = &key_bytes[self.key_bytes_used..new_key_bytes_used];
+        let old_byte = leaf.key.as_bytes()[new_key_bytes_used];
+        let new_byte = key_bytes[new_key_bytes_used];
+        branch_above(store, leaf_node_ptr.to_opaque(), part, old_byte, new_byte)
+    }
+
+    // Reads what splits a prefix.
+    fn branch_at_prefix<K: AsBytes + Drop, V: Drop, const P: usize>(
+        self,
+        store: &NodeStore<K, V, P>,
+        mismatch: ExplicitMismatch,
+        inner_node_ptr: InnerPtr,
+        key_bytes: &[u8],
+    ) -> Branch<P>
+        requires point { self.insert_kind ≡ kinds.MismatchPrefix mismatch inner_node_ptr }
+        requires answers { IsPointIn (of_key K.bytes) P store.now key_bytes.now self }
+        ensures branch { ForEnd (of_key K.bytes) P store.now key_bytes.now self (λ path node. IsBranch (of_key K.bytes) key_bytes.now path node result) }
+        ensures len { result.header.len ≡ mismatch.matched_bytes }
+    {
+        let end = self.key_bytes_used + mismatch.matched_bytes;
+        let part = &key_bytes[self.key_bytes_used..end];
+        let new_byte = key_bytes[end];
+        branch_above(
+            store,
+            inner_node_ptr.to_opaque(),
+            part,
+            mismatch.prefix_byte,
+            new_byte,
+        )
+    }
+
+    // Reads the header that a split leaves to the old node: the rest of its prefix.
+    fn trimmed_header<K: AsBytes + Drop, V: Drop, const P: usize>(
+        self,
+        store: &NodeStore<K, V, P>,
+        mismatch: ExplicitMismatch,
+        inner_node_ptr: InnerPtr,
+    ) -> Header<P>
+        requires point { self.insert_kind ≡ kinds.MismatchPrefix mismatch inner_node_ptr }
+        requires answers { (key : List ℕ) × IsPointIn (of_key K.bytes) P store.now key self }
+        ensures { (key : List ℕ) → ForEnd (of_key K.bytes) P store.now key self (λ path node.
+            result ≡ header_of P (drop (mismatch.matched_bytes + 1) (prefix_of (of_key K.bytes) (depth_of path) node))) }
+    {
+        let Some(node) = store.inner(inner_node_ptr) else {
+            unreachable!()
+        };
+        let mut header = node.header();
+        let count = mismatch.matched_bytes + 1;
+        let Some(leaf_ptr) = mismatch.leaf_ptr else {
+            header.ltrim_by(count);
+            return header;
+        };
+        let Some(leaf) = store.leaf(leaf_ptr) else {
+            unreachable!()
+        };
+        header.ltrim_by_with_leaf(count, self.key_bytes_used, leaf.key.as_bytes());
+        header
+    }
+
+    // Places the leaf of a pair, and a node above it and the old one in the place of the old one.
+    fn place_branch<K: AsBytes + Drop, V: Drop, const P: usize>(
+        self,
+        store: &mut NodeStore<K, V, P>,
+        old: OpaqueNodePtr,
+        branch: Branch<P>,
+        key: K,
+        value: V,
+    ) -> InsertResult<K, V>
+        requires promised { IsTrue (covers store.old.promise 1 (Some Node4)) }
+        requires previous { IsThere store.old.leaves branch.previous }
+        requires next { IsThere store.old.leaves branch.next }
+        requires parent { HasChild store.old.inners (last_step self.path) }
+        ensures placed { IsPlaced store.old store.new self old branch.entry (key, value) result }
+        ensures promise { store.new.promise ≡ take_inner Node4 (take_leaf store.old.promise) }
+    {
+        let leaf = place_between(
+            store,
+            LeafNode {
+                key,
+                value,
+                previous: branch.previous,
+                next: branch.next,
+            },
+        );
+        let node = above_two(
+            branch.header,
+            branch.old_byte,
+            old,
+            branch.new_byte,
+            leaf.to_opaque(),
+        );
+        let Ok(node) = store.place_inner(node) else {
+            unreachable!()
+        };
+        let parent = node.to_opaque();
+        let new_root = replace_at(store, self.path, self.root, parent);
+        InsertResult {
+            leaf_node_ptr: leaf,
+            existing_leaf: None,
+            new_root,
+            parent_node_change: InsertParentNodeChange::NewParent {
+                new_parent_node: parent,
+                leaf_node_key_byte: branch.new_byte,
+            },
+        }
+    }
+
+    /// Splits a leaf: it and a leaf of the new pair become the children of a new node.
+    pub(super) fn split_leaf<K: AsBytes + Drop, V: Drop, const P: usize>(
+        self,
+        store: &mut NodeStore<K, V, P>,
+        leaf_node_ptr: LeafPtr,
+        new_key_bytes_used: usize,
+        key: K,
+        value: V,
+    ) -> Result<InsertResult<K, V>, Refused<K, V>>
+        requires point { self.insert_kind ≡ kinds.SplitLeaf leaf_node_ptr new_key_bytes_used }
+        requires answers { IsPointIn (of_key K.bytes) P store.old (K.bytes key) self }
+        ensures inserted { ForTree (of_key K.bytes) P store.old self.root (λ pairs layout. IfOk result (λ done.
+            IsInserted (of_key K.bytes) P store.old store.new self (key, value) pairs layout done)) }
+        ensures touches { OnOk result (Touches self.insert_kind store.old store.new) }
+        ensures promise { OnOk result (store.new.promise ≡ promise_after (placed_for store.old self.insert_kind) store.old.promise) }
+
+        ensures succeeds { IsTrue (is_covered (placed_for store.old self.insert_kind) store.old.promise) → IsOk result }
+        ensures handed_back { IfErr result (λ refused. (refused.key ≡ key) × (refused.value ≡ value)) }
+        ensures leaves { OnErr result (store.new.leaves ≡ store.old.leaves) }
+        ensures inners { OnErr result (store.new.inners ≡ store.old.inners) }
+        ensures void { OnErr result (store.new.promise ≡ no_promise) }
+    {
+        if store.reserve(1, Some(NodeType::Node4)).is_err() {
+            return Err(Refused { key, value });
+        }
+        let branch = self.branch_at_leaf(store, leaf_node_ptr, new_key_bytes_used, key.as_bytes());
+        let old = leaf_node_ptr.to_opaque();
+        Ok(self.place_branch(store, old, branch, key, value))
+    }
+
+    /// Splits a prefix: the node and a leaf of the new pair become the children of a new node.
+    pub(super) fn split_prefix<K: AsBytes + Drop, V: Drop, const P: usize>(
+        self,
+        store: &mut NodeStore<K, V, P>,
+        mismatch: ExplicitMismatch,
+        inner_node_ptr: InnerPtr,
+        key: K,
+        value: V,
+    ) -> Result<InsertResult<K, V>, Refused<K, V>>
+        requires point { self.insert_kind ≡ kinds.MismatchPrefix mismatch inner_node_ptr }
+        requires answers { IsPointIn (of_key K.bytes) P store.old (K.bytes key) self }
+        ensures inserted { ForTree (of_key K.bytes) P store.old self.root (λ pairs layout. IfOk result (λ done.
+            IsInserted (of_key K.bytes) P store.old store.new self (key, value) pairs layout done)) }
+        ensures touches { OnOk result (Touches self.insert_kind store.old store.new) }
+        ensures promise { OnOk result (store.new.promise ≡ promise_after (placed_for store.old self.insert_kind) store.old.promise) }
+
+        ensures succeeds { IsTrue (is_covered (placed_for store.old self.insert_kind) store.old.promise) → IsOk result }
+        ensures handed_back { IfErr result (λ refused. (refused.key ≡ key) × (refused.value ≡ value)) }
+        ensures leaves { OnErr result (store.new.leaves ≡ store.old.leaves) }
+        ensures inners { OnErr result (store.new.inners ≡ store.old.inners) }
+        ensures void { OnErr result (store.new.promise ≡ no_promise) }
+    {
+        if store.reserve(1, Some(NodeType::Node4)).is_err() {
+            return Err(Refused { key, value });
+        }
+        let branch = self.branch_at_prefix(store, mismatch, inner_node_ptr, key.as_bytes());
+        let header = self.trimmed_header(store, mismatch, inner_node_ptr);
+        store.set_header(inner_node_ptr, header);
+        let old = inner_node_ptr.to_opaque();
+        Ok(self.place_branch(store, old, branch, key, value))
+    }
+}

@@ -1,0 +1,213 @@
+//! A pair that takes the place of one in its leaf, and a new leaf below a node that is there.
+ghost use Rattle.std.specs.Prelude.{◌≡◌, IsOk, IsTrue, IfOk, IfErr, OnOk, OnErr};
+ghost use Rattle.art_nodes.specs.Nodes.{no_promise};
+ghost use Rattle.art_model.specs.Pairs.{of_key};
+ghost use Rattle.art_model.specs.Promises.{is_covered, promise_after};
+ghost use Rattle.art_model.specs.Roots.{ForTree};
+ghost use Rattle.art_writing.specs.Inserted.{HasByteLeft, IsInserted, IsPointIn, Touches, placed_for};
+ghost use Rattle.art_writing.specs.declared.insert.InsertKind.TheVariants as kinds;
+
+use super::{InsertParentNodeChange, InsertPoint, InsertResult, Refused};
+use crate::writes::{links_after, links_before, place_between, replace_at};
+use art_nodes::node::{
+    AsBytes, InnerPtr, InnerRef, LeafNode, LeafPtr, NodeType, OpaqueNodePtr, OptionalLeafPtr,
+};
+use art_nodes::store::NodeStore;
+use art_reading::path::TreePath;
+
+impl InsertPoint {
+    /// Puts a pair in the place of the one with an equal key.
+    pub(super) fn replace_pair<K: AsBytes + Drop, V: Drop, const P: usize>(
+        self,
+        store: &mut NodeStore<K, V, P>,
+        leaf_node_ptr: LeafPtr,
+        key: K,
+        value: V,
+    ) -> InsertResult<K, V>
+        requires point { self.insert_kind ≡ kinds.Exact leaf_node_ptr }
+        requires answers { IsPointIn (of_key K.bytes) P store.old (K.bytes key) self }
+        ensures inserted { ForTree (of_key K.bytes) P store.old self.root (λ pairs layout.
+            IsInserted (of_key K.bytes) P store.old store.new self (key, value) pairs layout result) }
+        ensures touches { Touches self.insert_kind store.old store.new }
+        ensures promise { store.new.promise ≡ store.old.promise }
+    {
+        let (key, value) = store.swap_pair(leaf_node_ptr, key, value);
+        InsertResult {
+            leaf_node_ptr,
+            existing_leaf: Some(LeafNode::with_no_siblings(key, value)),
+            new_root: self.root,
+            parent_node_change: InsertParentNodeChange::NoChange,
+        }
+    }
+
+    /// Puts a leaf of a pair below an inner node, which is replaced by a larger one where it is full.
+    pub(super) fn add_child<K: AsBytes + Drop, V: Drop, const P: usize>(
+        self,
+        store: &mut NodeStore<K, V, P>,
+        inner_node_ptr: InnerPtr,
+        key: K,
+        value: V,
+    ) -> Result<InsertResult<K, V>, Refused<K, V>>
+        requires point { self.insert_kind ≡ kinds.IntoExisting inner_node_ptr }
+        requires answers { IsPointIn (of_key K.bytes) P store.old (K.bytes key) self }
+        ensures inserted { ForTree (of_key K.bytes) P store.old self.root (λ pairs layout. IfOk result (λ done.
+            IsInserted (of_key K.bytes) P store.old store.new self (key, value) pairs layout done)) }
+        ensures touches { OnOk result (Touches self.insert_kind store.old store.new) }
+        ensures promise { OnOk result (store.new.promise ≡ promise_after (placed_for store.old self.insert_kind) store.old.promise) }
+        ensures byte_left { HasByteLeft store.old self.insert_kind }
+
+        ensures succeeds { IsTrue (is_covered (placed_for store.old self.insert_kind) store.old.promise) → IsOk result }
+        ensures handed_back { IfErr result (λ refused. (refused.key ≡ key) × (refused.value ≡ value)) }
+        ensures leaves { OnErr result (store.new.leaves ≡ store.old.leaves) }
+        ensures inners { OnErr result (store.new.inners ≡ store.old.inners) }
+        ensures void { OnErr result (store.new.promise ≡ no_promise) }
+    {
+        let byte = key.as_bytes()[self.key_bytes_used];
+        let larger = kind_if_full(store, inner_node_ptr);
+        let (previous, next) = links_below(store, inner_node_ptr, byte);
+        if store.reserve(1, larger).is_err() {
+            return Err(Refused { key, value });
+        }
+        let leaf = LeafNode {
+            key,
+            value,
+            previous,
+            next,
+        };
+        let leaf_node_ptr = place_between(store, leaf);
+        let child = leaf_node_ptr.to_opaque();
+        if larger.is_some() {
+            let (parent, new_root) = put_larger(
+                store,
+                self.path,
+                self.root,
+                inner_node_ptr,
+                byte,
+                child,
+            );
+            return Ok(new_child(leaf_node_ptr, parent, byte, new_root));
+        }
+        store.write_child(inner_node_ptr, byte, child);
+        Ok(new_child(leaf_node_ptr, inner_node_ptr, byte, self.root))
+    }
+}
+
+ghost use Rattle.std.specs.Prelude.{◌≢◌, ◌<◌, ◌≤◌, All, IsSome, IsSomeAnd, IfSome, None, length};
+ghost use Rattle.std.specs.FinMap as map;
+ghost use Rattle.art_nodes.specs.Changes.{with_child};
+ghost use Rattle.art_nodes.specs.Inner.{HasPlace};
+ghost use Rattle.art_nodes.specs.Kinds.{kind_capacity, larger_kind, ref_view};
+ghost use Rattle.art_nodes.specs.Names.{inner_name};
+ghost use Rattle.art_nodes.specs.Nodes.{promises, take_inner};
+ghost use Rattle.art_nodes.specs.declared.node.NodeType.TheVariants.{Leaf, Node256};
+ghost use Rattle.art_nodes.specs.declared.node.OpaqueNodePtr.{OpaqueNodePtr};
+ghost use Rattle.art_model.specs.Trees.{Children};
+ghost use Rattle.art_model.specs.Writes.{with_child_at};
+ghost use Rattle.art_writing.specs.declared.insert.InsertParentNodeChange.TheVariants.{NewParent};
+ghost use Rattle.art_writing.specs.Writes.{ComesBetween, HasChild, HasGap, root_with};
+ghost use Rattle.art_reading.specs.Paths.{last_step};
+
+// What an insertion did that put a leaf below a node.
+fn new_child<K, V>(
+    leaf_node_ptr: LeafPtr,
+    parent: InnerPtr,
+    byte: u8,
+    new_root: OpaqueNodePtr,
+) -> InsertResult<K, V>
+    ensures { result ≡ record { leaf_node_ptr = leaf_node_ptr; existing_leaf = None; new_root = new_root; parent_node_change = NewParent (inner_name parent) byte } }
+{
+    InsertResult {
+        leaf_node_ptr,
+        existing_leaf: None,
+        new_root,
+        parent_node_change: InsertParentNodeChange::NewParent {
+            new_parent_node: parent.to_opaque(),
+            leaf_node_key_byte: byte,
+        },
+    }
+}
+
+// The kind with room for more children; the largest is its own.
+fn larger_kind(kind: NodeType) -> NodeType
+    ensures { result ≡ larger_kind kind }
+{
+    match kind {
+        NodeType::Node4 => NodeType::Node16,
+        NodeType::Node16 => NodeType::Node48,
+        NodeType::Node48 | NodeType::Node256 => NodeType::Node256,
+        NodeType::Leaf => NodeType::Leaf,
+    }
+}
+
+// The kind of the node that takes the place of this one when it gets a child more, where it is full.
+fn kind_if_full<K: AsBytes + Drop, V: Drop, const P: usize>(
+    store: &NodeStore<K, V, P>,
+    name: InnerPtr,
+) -> Option<NodeType>
+    requires { IsSome (map.get store.now.inners name) }
+    ensures { result ≡ (placed_for store.now (kinds.IntoExisting name)).inner }
+{
+    let Some(node) = store.inner(name) else {
+        unreachable!()
+    };
+    node.is_full().then_some(larger_kind(name.kind))
+}
+
+// The leaves beside a new one that comes below an inner node, under a byte that has no child yet.
+fn links_below<K: AsBytes + Drop, V: Drop, const P: usize>(
+    store: &NodeStore<K, V, P>,
+    name: InnerPtr,
+    byte: u8,
+) -> (OptionalLeafPtr, OptionalLeafPtr)
+    requires inner { name.kind ≢ Leaf }
+    requires gap { (left : Children OpaqueNodePtr (K × V)) × (right : Children OpaqueNodePtr (K × V)) × HasGap store.now name byte left right }
+    ensures beside { (left : Children OpaqueNodePtr (K × V)) → (right : Children OpaqueNodePtr (K × V)) → HasGap store.now name byte left right →
+        ComesBetween store.now left right result.0 result.1 }
+    ensures few { IfSome (map.get store.now.inners name) (λ node. length node.children < 256) }
+{
+    let Some(node) = store.inner(name) else {
+        unreachable!()
+    };
+    match node.range(byte, greatest_byte(node)).next() {
+        Some((_, child)) => links_before(store, child),
+        None => links_after(store, node.max().1),
+    }
+}
+
+// The greatest byte under which a node has a child.
+fn greatest_byte<const P: usize>(node: InnerRef<'_, P>) -> u8
+    requires { 0 < length (ref_view node).children }
+    ensures { All (λ child. child.0 ≤ result) (ref_view node.entry).children }
+{
+    node.max().0
+}
+
+// Puts a larger node with a child more in the place of one at the end of a path, and answers its name
+// and the root.
+fn put_larger<K: AsBytes + Drop, V: Drop, const P: usize>(
+    store: &mut NodeStore<K, V, P>,
+    path: TreePath,
+    root: OpaqueNodePtr,
+    name: InnerPtr,
+    byte: u8,
+    child: OpaqueNodePtr,
+) -> (InnerPtr, OpaqueNodePtr)
+    requires kind { name.kind ≢ Node256 }
+    requires place { IsSomeAnd (map.get store.old.inners name) (λ node. HasPlace (kind_capacity (larger_kind name.kind)) node.children byte) }
+    requires promised { IsTrue (promises store.old.promise.inner (larger_kind name.kind)) }
+    requires parent { HasChild (map.remove store.old.inners name) (last_step path) }
+    ensures fresh { map.get store.old.inners result.0 ≡ None }
+    ensures kind { result.0.kind ≡ larger_kind name.kind }
+    ensures inners { IsSomeAnd (map.get store.old.inners name) (λ node.
+        store.new.inners ≡ with_child_at (last_step path) (inner_name result.0) (map.insert (map.remove store.old.inners name) result.0 (with_child byte child node))) }
+    ensures leaves { store.new.leaves ≡ store.old.leaves }
+    ensures promise { store.new.promise ≡ take_inner (larger_kind name.kind) store.old.promise }
+    ensures root { result.1 ≡ root_with path root (inner_name result.0) }
+{
+    let mut node = store.free_inner(name).grow();
+    node.write_child(byte, child);
+    let Ok(larger) = store.place_inner(node) else {
+        unreachable!()
+    };
+    (larger, replace_at(store, path, root, larger.to_opaque()))
+}

@@ -1,0 +1,8 @@
+//! What changes a radix tree in a store.
+#![tactic(auto)]
+
+pub mod clone;
+pub mod deallocate;
+pub mod delete;
+pub mod insert;
+mod writes;
