@@ -38,7 +38,7 @@ impl PrefixInsertPoint {
             IsCanonicalRoot (of_key K.bytes) PREFIX_LEN store.new done.insert_result.new_root) }
         ensures leaf { IfOk result (λ done.
             ForTree (of_key K.bytes) PREFIX_LEN store.new done.insert_result.new_root (λ pairs layout.
-            HasCome layout self (key, value) done.insert_result)) }
+            HasCome (of_key K.bytes) pairs layout self (key, value) done.insert_result)) }
         ensures replaced { ForTree (of_key K.bytes) PREFIX_LEN store.old (root_of self) (λ pairs layout. IfOk result (λ done.
             done.insert_result.existing_leaf ≡ option_map alone (overwrite_reply (of_key K.bytes) (key, value) pairs).0)) }
         ensures removed { ForTree (of_key K.bytes) PREFIX_LEN store.old (root_of self) (λ pairs layout.
