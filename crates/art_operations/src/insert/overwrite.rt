@@ -22,7 +22,8 @@ use art_nodes::node::{AsBytes, LeafNode, LeafPtr, NodePtr};
 use art_nodes::store::NodeStore;
 
 impl PrefixInsertPoint {
-    /// Puts a pair into the tree at the point of its key, in the place of all pairs with related keys.
+    /// Puts a pair into the tree at the point of its key, in the place of all pairs with related keys. A stored key
+    /// that is equal stays and gets the value; the key that was handed in comes back with the old one.
     ///
     /// All memory is taken before the first change, and none where the pair takes the place of one other.
     pub fn apply<K: AsBytes + Drop, V: Drop, const PREFIX_LEN: usize>(
