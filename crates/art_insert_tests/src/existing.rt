@@ -1,4 +1,4 @@
-//! Insertions that give a node a child more, or replace a pair.
+//! Insertions that give a node a child more, or replace a value.
 ghost use Rattle.art_model.specs.Pairs.{of_key};
 ghost use Rattle.art_model.specs.Roots.{IsCanonicalRoot};
 
@@ -218,7 +218,7 @@ fn replace_child<const P: usize>(store: &mut NodeStore<Key, u32, P>) -> Result<[
 }
 
 #[test]
-fn hands_back_the_pair_that_gave_way(rt: HostRuntime) -> Result<(), Fail> {
+fn hands_back_the_old_value(rt: HostRuntime) -> Result<(), Fail> {
     let mut store: NodeStore<Key, u32, 16> = NodeStore::new(rt.alloc());
     let [seen, expected] = replace_child(&mut store)?;
     assert_eq!(rt; seen, expected);
@@ -235,14 +235,14 @@ fn replace_empty<const P: usize>(store: &mut NodeStore<Key, u32, P>) -> Result<[
 }
 
 #[test]
-fn replaces_the_pair_of_the_empty_key(rt: HostRuntime) -> Result<(), Fail> {
+fn replaces_the_value_of_the_empty_key(rt: HostRuntime) -> Result<(), Fail> {
     let mut store: NodeStore<Key, u32, 16> = NodeStore::new(rt.alloc());
     let [seen, expected] = replace_empty(&mut store)?;
     assert_eq!(rt; seen, expected);
     Ok(())
 }
 
-// Whether [1, 2] comes in where its pair was, while all memory is held.
+// Whether [1, 2] gets another value, while all memory is held.
 fn is_replaced_without_memory<const P: usize>(
     store: &mut NodeStore<Key, u32, P>,
     root: OpaqueNodePtr,
@@ -261,7 +261,7 @@ fn is_replaced_without_memory<const P: usize>(
 }
 
 #[test]
-fn without_memory_a_stored_key_is_replaced(rt: HostRuntime) -> Result<(), Fail> {
+fn without_memory_a_value_is_replaced(rt: HostRuntime) -> Result<(), Fail> {
     let mut store: NodeStore<Key, u32, 16> = NodeStore::new(rt.alloc());
     let root = plant_all(&mut store, &[&[1, 2]])?;
     assert!(rt; is_replaced_without_memory(&mut store, root)?);

@@ -13,7 +13,7 @@ use Rattle.art_model.specs.Radix.{IsRising, bytes_of, join}
 use Rattle.art_model.specs.Paths.{Frame, plug}
 use Rattle.art_model.specs.Layouts.{name_of, slots_of, names_of}
 use Rattle.art_model.specs.Stores.{node_at, links_at}
-use Rattle.art_model.specs.Pairs.{put}
+use Rattle.art_model.specs.Pairs.{replace_key}
 use Rattle.art_model.specs.Kept.{ChangesInPlace}
 use Rattle.art_model.specs.Footprints.{IsIn, Footprint}
 use Rattle.art_model.proofs.Canonical.{IsLaidOut}
@@ -63,7 +63,7 @@ kind_of-larger kind n e not_last full = sym (kind_of-range (larger_kind kind) (s
 -- The node in the hole has a leaf more among its children, under its old name or another: what is laid out then, and that the change was one in place.
 pub record ChildAdded {K V : Type 0} (bytes : K × V → List ℕ) (P : ℕ) (s t : Nodes K V) (root : OpaqueNodePtr) (pairs : List (K × V)) (fs : List (Frame OpaqueNodePtr (K × V))) (m node : OpaqueNodePtr) (h : Header) (l r : Children OpaqueNodePtr (K × V)) (b : ℕ) (n : OpaqueNodePtr) (new : K × V) : Type 0 where
   pub header : Header
-  pub laid : IsLaidOut bytes P (node_at t) (links_at t) (root_with fs root node) (put bytes new pairs) (plug fs (inner node header (join l (child b (leaf n new) r))))
+  pub laid : IsLaidOut bytes P (node_at t) (links_at t) (root_with fs root node) (replace_key bytes new pairs) (plug fs (inner node header (join l (child b (leaf n new) r))))
   pub kept : ChangesInPlace bytes s t (Some (plug fs (inner m h (join l r)))) (Some (plug fs (inner node header (join l (child b (leaf n new) r)))))
 
 pub child_added : {K V : Type 0} {bytes : K × V → List ℕ} {P : ℕ} {s t : Nodes K V} {root : OpaqueNodePtr} {pairs : List (K × V)} {fs : List (Frame OpaqueNodePtr (K × V))} {place : List ℕ} {m node n : OpaqueNodePtr} {h : Header} {l r : Children OpaqueNodePtr (K × V)} {b : ℕ} {new : K × V} {placed freed changed : List OpaqueNodePtr} →

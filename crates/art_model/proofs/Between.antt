@@ -3,7 +3,7 @@ use Rattle.std.proofs.Common.{◌≡◌, ℕ, List, [], ◌∷◌, ◌++◌, ref
 use Rattle.std.specs.List.{AllByRecursion as Each}
 use Rattle.std.proofs.lemmas.List.Elements.{filter-append}
 use Rattle.art_model.specs.Keys.{Precedes, are_related, are_same, is_before}
-use Rattle.art_model.specs.Pairs.{add_in_order, overwrite, put, remove_key, remove_related}
+use Rattle.art_model.specs.Pairs.{add_in_order, remove_key, remove_related, replace_key, replace_related}
 use Rattle.art_model.proofs.Lists.{Each-weaker}
 use Rattle.art_model.proofs.Filters.{filter_all}
 use Rattle.art_model.proofs.Keys.{precedes_apart, related_sym, same_related}
@@ -13,7 +13,7 @@ module _ {A : Type 0} (bytes : A → List ℕ) where
   abbrev pub IsLocal : List ℕ → (List A → List A) → Type 0
   IsLocal key F = (xs ys zs : List A) → Each (λ x. Precedes (bytes x) key) xs → Each (λ x. Precedes key (bytes x)) zs → F (xs ++ ys ++ zs) ≡ xs ++ F ys ++ zs
 
-  add_in_order_first : (new : A) (ys : List A) → Each (λ x. Precedes (bytes new) (bytes x)) ys → add_in_order bytes new ys ≡ new ∷ ys
+  pub add_in_order_first : (new : A) (ys : List A) → Each (λ x. Precedes (bytes new) (bytes x)) ys → add_in_order bytes new ys ≡ new ∷ ys
   add_in_order_first new [] h = refl
   add_in_order_first new (y ∷ ys) h = rw h.0.0
 
@@ -56,10 +56,10 @@ module _ {A : Type 0} (bytes : A → List ℕ) where
     add_in_order-between : (ms : List A) → add_in_order bytes new (xs ++ ms ++ zs) ≡ xs ++ add_in_order bytes new ms ++ zs
     add_in_order-between ms = add_in_order-before new (xs ++ ms) zs high ∙ ap (λ l. l ++ zs) (add_in_order-after new xs ms low)
 
-    -- a put is one into the middle
-    pub put-between : put bytes new (xs ++ ys ++ zs) ≡ xs ++ put bytes new ys ++ zs
-    put-between = ap (add_in_order bytes new) (remove_key-between (bytes new) xs ys zs low high) ∙ add_in_order-between (remove_key bytes (bytes new) ys)
+    -- a replacement is one in the middle
+    pub replace_key-between : replace_key bytes new (xs ++ ys ++ zs) ≡ xs ++ replace_key bytes new ys ++ zs
+    replace_key-between = ap (add_in_order bytes new) (remove_key-between (bytes new) xs ys zs low high) ∙ add_in_order-between (remove_key bytes (bytes new) ys)
 
-    -- and an overwrite is one of pairs in the middle
-    pub overwrite-between : overwrite bytes new (xs ++ ys ++ zs) ≡ xs ++ overwrite bytes new ys ++ zs
-    overwrite-between = ap (add_in_order bytes new) (remove_related-between (bytes new) xs ys zs low high) ∙ add_in_order-between (remove_related bytes (bytes new) ys)
+    -- of related keys too
+    pub replace_related-between : replace_related bytes new (xs ++ ys ++ zs) ≡ xs ++ replace_related bytes new ys ++ zs
+    replace_related-between = ap (add_in_order bytes new) (remove_related-between (bytes new) xs ys zs low high) ∙ add_in_order-between (remove_related bytes (bytes new) ys)

@@ -5,12 +5,12 @@ use Rattle.std.proofs.lemmas.Bool.{cases_order, le-ltb, lt-ltb}
 use Rattle.art_model.specs.Keys.{IsFront, Precedes}
 use Rattle.art_model.specs.Trees.{Tree, leaf, inner, Children, child, no_child, header_of, Header}
 use Rattle.art_model.specs.Radix.{IsRadix, AreRadix, IsRising, bytes_of, pairs_of, pairs_below, join}
-use Rattle.art_model.specs.Pairs.{put, remove_key}
+use Rattle.art_model.specs.Pairs.{replace_key, remove_key}
 use Rattle.art_model.proofs.Lists.{front_cut, Each-weaker}
 use Rattle.art_model.proofs.Rebuild.{radix_way}
 use Rattle.art_model.proofs.Radix.{bytes_of-join, pairs_below-join, AreRadix-join, AreRadix-left, AreRadix-right, parts, PartsBelow, PartsAbove, all_below, all_above}
 use Rattle.art_model.proofs.Pairwises.{Pairwise-before, Pairwise-after, Pairwise-without, Pairwise-with}
-use Rattle.art_model.proofs.Between.{put-between, remove_key-between}
+use Rattle.art_model.proofs.Between.{replace_key-between, remove_key-between}
 use Rattle.art_model.proofs.Keys.{front_same}
 
 module _ {N A : Type 0} where
@@ -23,14 +23,14 @@ module _ {N A : Type 0} (bytes : A → List ℕ) (P : ℕ) where
   pub branch : (place part : List ℕ) (b c : ℕ) (t : Tree N A) (m n : N) (new : A) →
       IsRadix bytes P ((place ++ part) ++ b ∷ []) t → IsFront ((place ++ part) ++ c ∷ []) (bytes new) → (b ≡ c → ⊥) →
       let u = inner m (header_of P part 2) (two_children b t c (leaf n new)) in
-      IsRadix bytes P place u × (pairs_of u ≡ put bytes new (pairs_of t))
+      IsRadix bytes P place u × (pairs_of u ≡ replace_key bytes new (pairs_of t))
   branch place part b c t m n new h k apart = go (cases_order b c)
     where
       ways : Each (λ x. IsFront ((place ++ part) ++ b ∷ []) (bytes x)) (pairs_of t)
       ways = radix_way bytes P t ((place ++ part) ++ b ∷ []) h
 
       Goal : Children N A → Type 0
-      Goal cs = IsRadix bytes P place (inner m (header_of P part 2) cs) × (pairs_below cs ≡ put bytes new (pairs_of t))
+      Goal cs = IsRadix bytes P place (inner m (header_of P part 2) cs) × (pairs_below cs ≡ replace_key bytes new (pairs_of t))
 
       go : (b ≡ c) ⊎ ((b < c) ⊎ (c < b)) → Goal (two_children b t c (leaf n new))
       go (inl e) = absurd (apart e)
@@ -38,13 +38,13 @@ module _ {N A : Type 0} (bytes : A → List ℕ) (P : ℕ) where
           let low = Each-weaker (λ x. IsFront ((place ++ part) ++ b ∷ []) (bytes x)) (λ x. Precedes (bytes x) (bytes new)) (λ x f. parts bytes (place ++ part) b c (bytes x) (bytes new) f k l) (pairs_of t) ways in
           rw (lt-ltb b c l) (
             (part, refl, omega arith, ((l, tt), (tt, tt)), (h, (k, tt))),
-            sym (ap (put bytes new) (sym (append-nil (pairs_of t ++ []) ∙ append-nil (pairs_of t))) ∙ put-between bytes new (pairs_of t) [] [] low tt ∙ append-nil (pairs_of t ++ new ∷ [])),
+            sym (ap (replace_key bytes new) (sym (append-nil (pairs_of t ++ []) ∙ append-nil (pairs_of t))) ∙ replace_key-between bytes new (pairs_of t) [] [] low tt ∙ append-nil (pairs_of t ++ new ∷ [])),
           )
       go (inr (inr l)) =
           let high = Each-weaker (λ x. IsFront ((place ++ part) ++ b ∷ []) (bytes x)) (λ x. Precedes (bytes new) (bytes x)) (λ x f. parts bytes (place ++ part) c b (bytes new) (bytes x) k f l) (pairs_of t) ways in
           rw (le-ltb b c (omega arith)) (
             (part, refl, omega arith, ((l, tt), (tt, tt)), (k, (h, tt))),
-            ap (λ l. new ∷ l) (append-nil (pairs_of t)) ∙ sym (put-between bytes new [] [] (pairs_of t) tt high),
+            ap (λ l. new ∷ l) (append-nil (pairs_of t)) ∙ sym (replace_key-between bytes new [] [] (pairs_of t) tt high),
           )
 
   -- a node whose prefix lost its front, a byte further down
@@ -65,7 +65,7 @@ module _ {N A : Type 0} (bytes : A → List ℕ) (P : ℕ) where
   unfoldable pub with_child : (place part : List ℕ) (cs ds : Children N A) (b : ℕ) (m n : N) (new : A) →
       IsRising (bytes_of (join cs ds)) → Each (λ c. c < b) (bytes_of cs) → Each (λ c. b < c) (bytes_of ds) → 1 ≤ length (bytes_of (join cs ds)) → AreRadix bytes P (place ++ part) (join cs ds) → IsFront ((place ++ part) ++ b ∷ []) (bytes new) →
       let u = inner m (header_of P part (suc (length (bytes_of (join cs ds))))) (join cs (child b (leaf n new) ds)) in
-      IsRadix bytes P place u × (pairs_of u ≡ put bytes new (pairs_below (join cs ds)))
+      IsRadix bytes P place u × (pairs_of u ≡ replace_key bytes new (pairs_below (join cs ds)))
   with_child place part cs ds b m n new up l r some all k =
       let front = place ++ part in
       let hl = AreRadix-left bytes P front cs ds all in
@@ -78,7 +78,7 @@ module _ {N A : Type 0} (bytes : A → List ℕ) (P : ℕ) where
       let low = Each-weaker (PartsBelow bytes front b) (λ x. Precedes (bytes x) (bytes new)) (λ x g. parts bytes front g.0 b (bytes x) (bytes new) g.2 k g.1) (pairs_below cs) (all_below bytes P front b cs hl l) in
       let high = Each-weaker (PartsAbove bytes front b) (λ x. Precedes (bytes new) (bytes x)) (λ x g. parts bytes front b g.0 (bytes new) (bytes x) k g.2 g.1) (pairs_below ds) (all_above bytes P front b ds hr r) in (
         (part, ap (header_of P part) count, rw (← count) (omega arith), subst IsRising (sym bs) (Pairwise-with ◌<◌ (bytes_of cs) (bytes_of ds) b l r (rw old at up)), AreRadix-join bytes P front cs (child b (leaf n new) ds) hl (k, hr)),
-        pairs_below-join cs (child b (leaf n new) ds) ∙ sym (ap (put bytes new) (pairs_below-join cs ds ∙ ap (λ l. l ++ pairs_below ds) (sym (append-nil (pairs_below cs)))) ∙ put-between bytes new (pairs_below cs) [] (pairs_below ds) low high ∙ append_assoc (pairs_below cs) (new ∷ []) (pairs_below ds)),
+        pairs_below-join cs (child b (leaf n new) ds) ∙ sym (ap (replace_key bytes new) (pairs_below-join cs ds ∙ ap (λ l. l ++ pairs_below ds) (sym (append-nil (pairs_below cs)))) ∙ replace_key-between bytes new (pairs_below cs) [] (pairs_below ds) low high ∙ append_assoc (pairs_below cs) (new ∷ []) (pairs_below ds)),
       )
 
   -- a child that is a leaf goes: what is left below
@@ -118,7 +118,7 @@ module _ {N A : Type 0} (bytes : A → List ℕ) (P : ℕ) where
 
 module _ {A : Type 0} (bytes : A → List ℕ) where
   -- a pair takes the place of the one with its key
-  pub exact : (new x : A) → bytes new ≡ bytes x → put bytes new (x ∷ []) ≡ new ∷ []
+  pub exact : (new x : A) → bytes new ≡ bytes x → replace_key bytes new (x ∷ []) ≡ new ∷ []
   exact new x e = rw (← e, front_same (bytes new)) refl
 
   -- the only pair goes

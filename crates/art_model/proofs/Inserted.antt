@@ -4,13 +4,13 @@ use Rattle.std.specs.List.{AllByRecursion as Each}
 use Rattle.art_model.specs.Keys.{IsFront}
 use Rattle.art_model.specs.Trees.{Tree, leaf, inner, Children, child, no_child, Header, header_of, kind_of}
 use Rattle.art_model.specs.Radix.{IsRadix, AreRadix, bytes_of, join, pairs_of}
-use Rattle.art_model.specs.Pairs.{put}
+use Rattle.art_model.specs.Pairs.{replace_key}
 use Rattle.art_model.specs.Paths.{Frame, plug, leaves_before, leaves_after}
 use Rattle.art_model.specs.Places.{inner_nodes}
 use Rattle.art_model.specs.Layouts.{Node, leaf_node, inner_node, slots_of, names_of, leaf_names, leaf_names_below, leaves_of, leaves_below, names_below, HoldsBelow, AreDistinct, Links}
 use Rattle.art_model.specs.Footprints.{IsIn}
 use Rattle.art_model.proofs.Lists.{each_in, each_from, in_left, in_around}
-use Rattle.art_model.proofs.Between.{put-between}
+use Rattle.art_model.proofs.Between.{replace_key-between}
 use Rattle.art_model.proofs.Paths.{IsHole, root_with, leaf_names_below-three, leaves_below-three, leaves_below-join, same_pairs_of, same_leaf_names}
 use Rattle.art_model.proofs.Changes.{two_children, branch, with_child, trimmed}
 use Rattle.art_model.proofs.Wholes.{KeepNames, kept}
@@ -72,7 +72,7 @@ module _ {N A : Type 0} {bytes : A → List ℕ} {P : ℕ} {at to : N → Option
     abbrev grown : Tree N A
     grown = inner m (header_of P part 2) (two_children b u c (leaf n new))
 
-    branched : IsRadix bytes P place grown × (pairs_of grown ≡ put bytes new (pairs_of u))
+    branched : IsRadix bytes P place grown × (pairs_of grown ≡ replace_key bytes new (pairs_of u))
     branched = branch bytes P place part b c u m n new is.radix is.front is.apart
 
     old_leaves : leaf_names t ≡ cond (ltb b c) (leaf_names t) [] ++ [] ++ cond (ltb b c) [] (leaf_names t)
@@ -90,7 +90,7 @@ module _ {N A : Type 0} {bytes : A → List ℕ} {P : ℕ} {at to : N → Option
         go false = ap (λ z. n ∷ z) (append-nil (leaf_names u) ∙ same_leaf_names t u is.same_entries)
 
     -- the root is canonical for the pairs with the new one
-    pub branch_inserted : IsLaidOut bytes P to links (root_with fs root m) (put bytes new pairs) (plug fs (inner m (header_of P part 2) (two_children b u c (leaf n new))))
+    pub branch_inserted : IsLaidOut bytes P to links (root_with fs root m) (replace_key bytes new pairs) (plug fs (inner m (header_of P part 2) (two_children b u c (leaf n new))))
     branch_inserted = replaced old (record {
       path = is.hole.path;
       radix = branched.0;
@@ -98,7 +98,7 @@ module _ {N A : Type 0} {bytes : A → List ℕ} {P : ℕ} {at to : N → Option
       regrown = branch_regrown at to t u m n (header_of P part 2) b c new (path_holds at fs t old.holds).1 (hole_distinct at to fs t old.holds old.distinct) is.branch;
       same = is.same;
       linked = linked_in_hole fs before links t grown (cond (ltb b c) (leaf_names t) []) [] (n ∷ []) (cond (ltb b c) [] (leaf_names t)) old.distinct old.linked old_leaves new_leaves is.relinked;
-    }) (bytes new) (put bytes new) (put-between bytes new) is.hole.front (branched.1 ∙ ap (put bytes new) (same_pairs_of t u is.same_entries))
+    }) (bytes new) (replace_key bytes new) (replace_key-between bytes new) is.hole.front (branched.1 ∙ ap (replace_key bytes new) (same_pairs_of t u is.same_entries))
 
     -- and inner nodes that stay keep their names
     pub branch_keeps : KeepNames (inner_nodes bytes 0 (plug fs t)) (inner_nodes bytes 0 (plug fs (inner m (header_of P part 2) (two_children b u c (leaf n new)))))
@@ -116,11 +116,11 @@ module _ {N A : Type 0} {bytes : A → List ℕ} {P : ℕ} {at to : N → Option
     abbrev head : Header
     head = header_of P is.gap.hole.radix.0 (suc (length (bytes_of (join l r))))
 
-    with_leaf : IsRadix bytes P place (inner node head (join l (child b (leaf n new) r))) × (pairs_of (inner node head (join l (child b (leaf n new) r))) ≡ put bytes new (pairs_of (inner m h (join l r))))
+    with_leaf : IsRadix bytes P place (inner node head (join l (child b (leaf n new) r))) × (pairs_of (inner node head (join l (child b (leaf n new) r))) ≡ replace_key bytes new (pairs_of (inner m h (join l r))))
     with_leaf = let two = is.gap.hole.radix.2 in with_child bytes P place is.gap.hole.radix.0 l r b node n new is.gap.hole.radix.3 is.gap.low is.gap.high (omega arith) is.gap.hole.radix.4 is.gap.front
 
     -- the root is canonical for the pairs with the new one
-    pub child_inserted : IsLaidOut bytes P to links (root_with fs root node) (put bytes new pairs) (plug fs (inner node (header_of P is.gap.hole.radix.0 (suc (length (bytes_of (join l r))))) (join l (child b (leaf n new) r))))
+    pub child_inserted : IsLaidOut bytes P to links (root_with fs root node) (replace_key bytes new pairs) (plug fs (inner node (header_of P is.gap.hole.radix.0 (suc (length (bytes_of (join l r))))) (join l (child b (leaf n new) r))))
     child_inserted = replaced old (record {
       path = is.gap.hole.path;
       radix = with_leaf.0;
@@ -130,7 +130,7 @@ module _ {N A : Type 0} {bytes : A → List ℕ} {P : ℕ} {at to : N → Option
       same = λ k up out used. is.same k up (λ i. elim i [ inl e ↦ out (inl e) | inr j ↦ j ]) used;
       linked = linked_in_hole fs before links (inner m h (join l r)) (inner node head (join l (child b (leaf n new) r))) (leaf_names_below l) [] (n ∷ []) (leaf_names_below r) old.distinct old.linked
           (leaf_names_below-three l no_child r) (leaf_names_below-three l (child b (leaf n new) no_child) r) is.relinked;
-    }) (bytes new) (put bytes new) (put-between bytes new) is.gap.hole.front with_leaf.1
+    }) (bytes new) (replace_key bytes new) (replace_key-between bytes new) is.gap.hole.front with_leaf.1
 
     -- and inner nodes that stay keep their names
     pub child_keeps : KeepNames (inner_nodes bytes 0 (plug fs (inner m h (join l r)))) (inner_nodes bytes 0 (plug fs (inner node (header_of P is.gap.hole.radix.0 (suc (length (bytes_of (join l r))))) (join l (child b (leaf n new) r)))))

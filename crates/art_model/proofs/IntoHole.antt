@@ -12,8 +12,8 @@ use Rattle.art_nodes.specs.declared.node.LeafPtr.{LeafPtr}
 use Rattle.art_nodes.specs.declared.node.InnerPtr.{InnerPtr}
 use Rattle.art_nodes.specs.declared.node.LeafNode.{LeafNode}
 use Rattle.art_nodes.specs.declared.node.OpaqueNodePtr.{OpaqueNodePtr}
-use Rattle.art_model.specs.Keys.{are_related}
-use Rattle.art_model.specs.Pairs.{went, related_to, overwrite, overwrite_reply, add_in_order}
+use Rattle.art_model.specs.Keys.{are_related, are_same}
+use Rattle.art_model.specs.Pairs.{first_of, went, with_key, related_to, overwrite, overwrite_reply, replace_related, add_in_order}
 use Rattle.art_model.specs.Trees.{Tree, leaf, Children}
 use Rattle.art_model.specs.Radix.{pairs_of}
 use Rattle.art_model.specs.Paths.{Frame, plug, leaves_before, leaves_after, names_before, names_after, HoldsPath}
@@ -22,9 +22,9 @@ use Rattle.art_model.specs.Stores.{Held, held, held_leaf, held_inner, node_at, s
 use Rattle.art_model.specs.Writes.{as_inner, parent_of, with_child_at, with_leaf, IsThere}
 use Rattle.art_model.specs.Footprints.{IsIn, Footprint, PlacesOneFor}
 use Rattle.art_model.specs.Kept.{ChangesInPlace, Frees}
-use Rattle.art_model.proofs.Between.{overwrite-between}
+use Rattle.art_model.proofs.Between.{replace_related-between}
 use Rattle.art_model.proofs.Canonical.{IsLaidOut}
-use Rattle.art_model.proofs.InHole.{both_in, names_around, parents_in}
+use Rattle.art_model.proofs.InHole.{both_in, names_around, parents_in, with_key-hole}
 use Rattle.art_model.proofs.InPlace.{in_place}
 use Rattle.art_model.proofs.Kept.{KeepLeaves}
 use Rattle.art_model.proofs.Chains.{AreThere, are_there, previous_there, next_there, leaf_comes, relinked_beside, beside_place}
@@ -36,6 +36,7 @@ use Rattle.art_model.proofs.Names.{all_taken, among_below, free_apart, taken_dis
 use Rattle.art_model.proofs.Overwritten.{LeafAlone, leaf_alone, leaf_alone_keeps, leaf_alone_keeps_leaves}
 use Rattle.art_model.proofs.Paths.{IsHole, leaf_names-plug, pairs_of-leaves, related_at, root_with}
 use Rattle.art_model.proofs.Pairwises.{Pairwise-left, Pairwise-right, Pairwise-across, Pairwise-append}
+use Rattle.art_model.proofs.Puts.{not_same, overwrite-new, overwrite_reply-new}
 use Rattle.art_model.proofs.Stores.{path_holds, IsParent, SameBut, before_apart, after_apart, parent_apart}
 use Rattle.art_model.proofs.Touches.{Touched, both_names, footprint_of, touched_none}
 use Rattle.art_model.proofs.Views.{held_in_inner}
@@ -189,20 +190,26 @@ module _ {K V : Type 0} {bytes : K × V → List ℕ} {P : ℕ} {s u t : Nodes K
   all_related : related_to bytes (bytes new) (pairs_of node) ≡ pairs_of node
   all_related = filter_all (λ y. are_related (bytes new) (bytes y)) (pairs_of node) into.related
 
-  none_left : overwrite bytes new (pairs_of node) ≡ new ∷ []
+  none_left : replace_related bytes new (pairs_of node) ≡ new ∷ []
   none_left = ap (add_in_order bytes new) (filter_none (λ y. not (are_related (bytes new) (bytes y))) (pairs_of node) (Each-weaker (λ y. are_related (bytes new) (bytes y) ≡ true) (λ y. not (are_related (bytes new) (bytes y)) ≡ false) (λ y e. ap not e) (pairs_of node) into.related))
 
   -- those in the hole are all that are related
   pub hole_related : related_to bytes (bytes new) (pairs_of (plug fs node)) ≡ pairs_of node
   hole_related = related_at bytes P fs place (bytes new) node into.hole.path into.hole.front ∙ all_related
 
-  -- so they are what goes
+  -- no pair has the key
+  none_stored : first_of (with_key bytes (bytes new) pairs) ≡ None
+  none_stored = ap (λ xs. first_of (with_key bytes (bytes new) xs)) (sym old.pairs_are) ∙ ap first_of (with_key-hole bytes P fs place (bytes new) node into.hole.path into.hole.front
+      ∙ filter_none (λ y. are_same (bytes new) (bytes y)) (pairs_of node) (Each-weaker (λ y. bytes y ≢ bytes new) (λ y. are_same (bytes new) (bytes y) ≡ false) (λ y off. not_same (bytes new) (bytes y) (λ e. off (sym e))) (pairs_of node) into.unequal))
+
+  -- so those in the hole are what goes
   pub hole_reply : overwrite_reply bytes new pairs ≡ went (pairs_of node)
-  hole_reply = ap (λ xs. went (related_to bytes (bytes new) xs)) (sym old.pairs_are) ∙ ap went hole_related
+  hole_reply = overwrite_reply-new bytes new pairs none_stored ∙ ap (λ xs. went (related_to bytes (bytes new) xs)) (sym old.pairs_are) ∙ ap went hole_related
 
   -- the root is canonical for the pairs with the new one in their place
   pub hole_overwritten : IsLaidOut bytes P (node_at t) (links_at t) (root_with fs root (leaf_name n)) (overwrite bytes new pairs) (plug fs (leaf (leaf_name n) new))
-  hole_overwritten = leaf_alone old hole_alone (overwrite bytes new) (overwrite-between bytes new) none_left
+  hole_overwritten = subst (λ ps. IsLaidOut bytes P (node_at t) (links_at t) (root_with fs root (leaf_name n)) ps (plug fs (leaf (leaf_name n) new))) (sym (overwrite-new bytes new pairs none_stored))
+      (leaf_alone old hole_alone (replace_related bytes new) (replace_related-between bytes new) none_left)
 
   -- ---- what is touched, and what stays
 
@@ -266,4 +273,4 @@ module _ {K V : Type 0} {bytes : K × V → List ℕ} {P : ℕ} {s u t : Nodes K
   hole_kept = in_place hole_print P
       (names_around fs node (leaf (leaf_name n) new) (leaf_name n ∷ []) (names_of node) (both_names beside (parents fs ++ [])) (record { placed_in = λ k i. i; freed_in = λ k i. i; changed_in = λ k i. absurd i; old_stays = λ k i. inr i; new_comes = λ k i. inr i })
       (both_in (names_of (plug fs node)) beside (parents fs ++ []) (λ p i. in_before_whole (leaf_name p) (beside_changed p i)) (parents_in fs node [] (λ p i. absurd i))))
-      (leaf_alone_keeps_leaves old hole_alone (overwrite bytes new) (overwrite-between bytes new) none_left none_stay) (leaf_alone_keeps old hole_alone)
+      (leaf_alone_keeps_leaves old hole_alone (replace_related bytes new) (replace_related-between bytes new) none_left none_stay) (leaf_alone_keeps old hole_alone)

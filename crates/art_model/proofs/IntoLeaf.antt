@@ -1,4 +1,4 @@
--- A pair takes the place of one with an equal key in its leaf, from the equations of the store's maps: what is laid out then, and what is touched.
+-- A leaf gets another value, or another pair, from the equations of the store's maps: what is laid out then, and what is touched.
 use Rattle.std.proofs.Common.{◌≡◌, ◌≢◌, ℕ, List, [], ◌∷◌, Some, None, refl, ap, sym, ◌∙◌, subst, arith, true, inl, inr}
 use Rattle.std.specs.Option.{option_map}
 use Rattle.std.specs.FinMap.{get}
@@ -10,8 +10,8 @@ use Rattle.art_nodes.specs.declared.node.LeafNode.{LeafNode}
 use Rattle.art_nodes.specs.declared.node.OpaqueNodePtr.{OpaqueNodePtr}
 use Rattle.art_nodes.proofs.NameLemmas.{leaf_cmp_total, leaf_cmp-IsAntisymmetric}
 use Rattle.art_nodes.proofs.StoreLaws.{leaf_changed_at, leaf_changed_elsewhere}
-use Rattle.art_model.specs.Keys.{are_related, are_same}
-use Rattle.art_model.specs.Pairs.{first_of, went, related_to, with_key, overwrite, overwrite_reply, put, put_reply}
+use Rattle.art_model.specs.Keys.{IsFront, are_related, are_same}
+use Rattle.art_model.specs.Pairs.{first_of, went, related_to, with_key, overwrite, overwrite_reply, put, put_reply, replace_key, replace_related, stored_for}
 use Rattle.art_model.specs.Trees.{leaf}
 use Rattle.art_model.specs.Paths.{Frame, plug, HoldsPath}
 use Rattle.art_model.specs.Layouts.{leaf_node}
@@ -19,7 +19,7 @@ use Rattle.art_model.specs.Stores.{node_at, links_at, pair_of}
 use Rattle.art_model.specs.Writes.{as_inner}
 use Rattle.art_model.specs.Footprints.{Footprint, TouchesAtMost}
 use Rattle.art_model.specs.Kept.{ChangesInPlace}
-use Rattle.art_model.proofs.Between.{IsLocal, overwrite-between, put-between}
+use Rattle.art_model.proofs.Between.{IsLocal, replace_key-between, replace_related-between}
 use Rattle.art_model.proofs.Canonical.{IsLaidOut}
 use Rattle.art_model.proofs.Chains.{links_leaf, links_inner}
 use Rattle.art_model.proofs.InHole.{in_hole, names_around, root_stays, with_key-hole}
@@ -29,25 +29,28 @@ use Rattle.art_model.proofs.Keys.{front_same}
 use Rattle.art_model.proofs.Leaves.{same_leaf}
 use Rattle.art_model.proofs.Overwritten.{LeafAlone, leaf_alone, leaf_alone_keeps, leaf_alone_keeps_leaves, linked_still}
 use Rattle.art_model.proofs.Paths.{IsHole, related_at}
+use Rattle.art_model.proofs.Puts.{not_same, overwrite-new, overwrite_reply-new, put_reply-old, stored_for-old}
 use Rattle.art_model.proofs.Stores.{path_holds}
 use Rattle.art_model.proofs.Touches.{Touched, touched_none, then_changed, footprint_of}
 use Rattle.art_model.proofs.Views.{leaf_or}
 use Rattle.art_model.proofs.Writes.{node_at-leaf, parent_there, parent_stays, same_but, same_inner}
 
--- The leaf in the hole has another pair.
+-- The leaf in the hole has another pair: it was written so.
 pub record IntoLeaf {K V : Type 0} (bytes : K × V → List ℕ) (P : ℕ) (s t : Nodes K V) (fs : List (Frame OpaqueNodePtr (K × V))) (place : List ℕ) (p : LeafPtr) (x : LeafNode K V) (new : K × V) : Type 0 where
   pub hole : IsHole bytes P fs place (leaf (leaf_name p) (pair_of x)) (bytes new)
   pub here : get s.leaves p ≡ Some x
-  pub leaves : t.leaves ≡ change s.leaves p (with_pair new.0 new.1)
+  pub write : LeafNode K V → LeafNode K V
+  pub written : write x ≡ with_pair new.0 new.1 x
+  pub leaves : t.leaves ≡ change s.leaves p write
   pub inners : t.inners ≡ s.inners
 
 module _ {K V : Type 0} {bytes : K × V → List ℕ} {P : ℕ} {s t : Nodes K V} {root : OpaqueNodePtr} {pairs : List (K × V)} {fs : List (Frame OpaqueNodePtr (K × V))} {place : List ℕ} {p : LeafPtr} {x : LeafNode K V} {new : K × V}
     (old : IsLaidOut bytes P (node_at s) (links_at s) root pairs (plug fs (leaf (leaf_name p) (pair_of x)))) (into : IntoLeaf bytes P s t fs place p x new) where
   leaf_then : get t.leaves p ≡ Some (with_pair new.0 new.1 x)
-  leaf_then = ap (λ z. get z p) into.leaves ∙ leaf_changed_at s.leaves p (with_pair new.0 new.1) ∙ ap (option_map (with_pair new.0 new.1)) into.here
+  leaf_then = ap (λ z. get z p) into.leaves ∙ leaf_changed_at s.leaves p into.write ∙ ap (option_map into.write) into.here ∙ ap Some into.written
 
   other_leaf : (q : LeafPtr) → q ≢ p → get t.leaves q ≡ get s.leaves q
-  other_leaf q off = ap (λ z. get z q) into.leaves ∙ leaf_changed_elsewhere s.leaves p q (with_pair new.0 new.1) off
+  other_leaf q off = ap (λ z. get z q) into.leaves ∙ leaf_changed_elsewhere s.leaves p q into.write off
 
   links_same : (k : OpaqueNodePtr) → links_at t k ≡ links_at s k
   links_same k = elim (leaf_or k) [
@@ -78,7 +81,7 @@ module _ {K V : Type 0} {bytes : K × V → List ℕ} {P : ℕ} {s t : Nodes K V
   leaf_print : Footprint s t [] [] (leaf_name p ∷ [])
   leaf_print =
       let used : get s.leaves p ≢ None = λ e. absurd (cc (into.here, e)) in
-      footprint_of s t (subst (λ z. Touched s.leaves z [] [] (p ∷ [])) (sym into.leaves) (then_changed leaf_cmp_total leaf_cmp-IsAntisymmetric (touched_none s.leaves) p (with_pair new.0 new.1) used used))
+      footprint_of s t (subst (λ z. Touched s.leaves z [] [] (p ∷ [])) (sym into.leaves) (then_changed leaf_cmp_total leaf_cmp-IsAntisymmetric (touched_none s.leaves) p into.write used used))
       (subst (λ z. Touched s.inners z [] [] []) (sym into.inners) (touched_none s.inners)) tt tt tt
 
   -- one name is changed
@@ -91,37 +94,53 @@ module _ {K V : Type 0} {bytes : K × V → List ℕ} {P : ℕ} {s t : Nodes K V
       (names_around fs (leaf (leaf_name p) (pair_of x)) (leaf (leaf_name p) new) [] [] (leaf_name p ∷ []) (record { placed_in = λ k i. absurd i; freed_in = λ k i. absurd i; changed_in = λ k i. absurd i; old_stays = λ k i. inl i; new_comes = λ k i. inl i }) (in_hole fs (leaf (leaf_name p) (pair_of x))))
       (leaf_alone_keeps_leaves old alone F local its (kept_leaf bytes P (leaf_name p) (pair_of x) new)) (leaf_alone_keeps old alone)
 
-  -- ---- where the keys are equal
-  module _ (same : bytes (pair_of x) ≡ bytes new) where
-    key_same : are_same (bytes new) (bytes (pair_of x)) ≡ true
-    key_same = ap (are_same (bytes new)) same ∙ front_same (bytes new)
+  -- ---- where a pair with an equal key is put: the key stays
+  module _ (handed : K × V) (same : bytes (pair_of x) ≡ bytes handed) (alike : bytes new ≡ bytes handed) (kept : new ≡ (x.key, handed.1)) where
+    key_same : are_same (bytes handed) (bytes (pair_of x)) ≡ true
+    key_same = ap (are_same (bytes handed)) same ∙ front_same (bytes handed)
 
-    put_here : put bytes new (pair_of x ∷ []) ≡ new ∷ []
-    put_here = rw key_same refl
+    replaced_here : replace_key bytes new (pair_of x ∷ []) ≡ new ∷ []
+    replaced_here = rw (alike, key_same) refl
 
-    -- the new pair is put
-    pub leaf_inserted : IsLaidOut bytes P (node_at t) (links_at t) root (put bytes new pairs) (plug fs (leaf (leaf_name p) new))
-    leaf_inserted = leaf_changed (put bytes new) (put-between bytes new) put_here
+    -- the leaf's pair is the one with the key
+    leaf_stored : first_of (with_key bytes (bytes handed) pairs) ≡ Some (pair_of x)
+    leaf_stored = ap (λ xs. first_of (with_key bytes (bytes handed) xs)) (sym old.pairs_are)
+        ∙ ap first_of (with_key-hole bytes P fs place (bytes handed) (leaf (leaf_name p) (pair_of x)) into.hole.path (subst (IsFront place) alike into.hole.front)) ∙ rw key_same refl
+
+    -- it is what is stored for the pair
+    pub leaf_stored_for : stored_for bytes handed pairs ≡ new
+    leaf_stored_for = stored_for-old bytes handed pairs (pair_of x) leaf_stored ∙ sym kept
+
+    -- the pair is put
+    pub leaf_inserted : IsLaidOut bytes P (node_at t) (links_at t) root (put bytes handed pairs) (plug fs (leaf (leaf_name p) new))
+    leaf_inserted = subst (λ ps. IsLaidOut bytes P (node_at t) (links_at t) root ps (plug fs (leaf (leaf_name p) new))) (ap (λ z. replace_key bytes z pairs) (sym leaf_stored_for))
+        (leaf_changed (replace_key bytes new) (replace_key-between bytes new) replaced_here)
 
     pub leaf_insertion_kept : ChangesInPlace bytes s t (Some (plug fs (leaf (leaf_name p) (pair_of x)))) (Some (plug fs (leaf (leaf_name p) new)))
-    leaf_insertion_kept = leaf_kept (put bytes new) (put-between bytes new) put_here
+    leaf_insertion_kept = leaf_kept (replace_key bytes new) (replace_key-between bytes new) replaced_here
 
-    -- the old pair is the one with the key
-    pub leaf_reply : put_reply bytes new pairs ≡ Some (pair_of x)
-    leaf_reply = ap (λ xs. first_of (with_key bytes (bytes new) xs)) (sym old.pairs_are) ∙ ap first_of (with_key-hole bytes P fs place (bytes new) (leaf (leaf_name p) (pair_of x)) into.hole.path into.hole.front) ∙ rw key_same refl
+    -- the key that was handed in is answered with the old value
+    pub leaf_reply : put_reply bytes handed pairs ≡ Some (handed.0, x.value)
+    leaf_reply = put_reply-old bytes handed pairs (pair_of x) leaf_stored
 
-  -- ---- where the keys are related
-  module _ (related : are_related (bytes new) (bytes (pair_of x)) ≡ true) where
-    overwrite_here : overwrite bytes new (pair_of x ∷ []) ≡ new ∷ []
-    overwrite_here = rw related refl
+  -- ---- where the keys are related and unequal
+  module _ (related : are_related (bytes new) (bytes (pair_of x)) ≡ true) (unequal : bytes new ≢ bytes (pair_of x)) where
+    replaced_related : replace_related bytes new (pair_of x ∷ []) ≡ new ∷ []
+    replaced_related = rw related refl
+
+    -- no pair has the key
+    none_stored : first_of (with_key bytes (bytes new) pairs) ≡ None
+    none_stored = ap (λ xs. first_of (with_key bytes (bytes new) xs)) (sym old.pairs_are) ∙ ap first_of (with_key-hole bytes P fs place (bytes new) (leaf (leaf_name p) (pair_of x)) into.hole.path into.hole.front) ∙ rw (not_same (bytes new) (bytes (pair_of x)) unequal) refl
 
     -- the new pair takes the place of the old one
     pub leaf_overwritten : IsLaidOut bytes P (node_at t) (links_at t) root (overwrite bytes new pairs) (plug fs (leaf (leaf_name p) new))
-    leaf_overwritten = leaf_changed (overwrite bytes new) (overwrite-between bytes new) overwrite_here
+    leaf_overwritten = subst (λ ps. IsLaidOut bytes P (node_at t) (links_at t) root ps (plug fs (leaf (leaf_name p) new))) (sym (overwrite-new bytes new pairs none_stored))
+        (leaf_changed (replace_related bytes new) (replace_related-between bytes new) replaced_related)
 
     pub leaf_overwrite_kept : ChangesInPlace bytes s t (Some (plug fs (leaf (leaf_name p) (pair_of x)))) (Some (plug fs (leaf (leaf_name p) new)))
-    leaf_overwrite_kept = leaf_kept (overwrite bytes new) (overwrite-between bytes new) overwrite_here
+    leaf_overwrite_kept = leaf_kept (replace_related bytes new) (replace_related-between bytes new) replaced_related
 
     -- the old pair is the only one whose key is related
     pub leaf_overwrite_reply : overwrite_reply bytes new pairs ≡ (Some (pair_of x), 0)
-    leaf_overwrite_reply = ap (λ xs. went (related_to bytes (bytes new) xs)) (sym old.pairs_are) ∙ ap went (related_at bytes P fs place (bytes new) (leaf (leaf_name p) (pair_of x)) into.hole.path into.hole.front) ∙ rw related refl
+    leaf_overwrite_reply = overwrite_reply-new bytes new pairs none_stored ∙ ap (λ xs. went (related_to bytes (bytes new) xs)) (sym old.pairs_are)
+        ∙ ap went (related_at bytes P fs place (bytes new) (leaf (leaf_name p) (pair_of x)) into.hole.path into.hole.front) ∙ rw related refl

@@ -1,18 +1,22 @@
 -- the laws of maps
-use Rattle.std.proofs.Common.{◌≡◌, ◌≢◌, ℕ, ◌≤◌, List, [], ◌∷◌, length, filter, refl, ap, sym, ◌∙◌, subst, append-nil, eq-eqb, arith, true, false, not, ◌&&◌, ◌||◌, cond, Bool, ◌⊎◌, inl, inr}
+use Rattle.std.proofs.Common.{◌≡◌, ◌≢◌, ℕ, ◌+◌, ◌≤◌, List, [], ◌∷◌, length, filter, map, Option, Some, None, is_some, refl, ap, sym, ◌∙◌, subst, append-nil, eq-eqb, arith, true, false, not, ◌&&◌, ◌||◌, cond, Bool, ◌⊎◌, inl, inr}
 use Rattle.std.specs.List.{AllByRecursion as Each, list_any, cons_option}
 use Rattle.std.specs.Bool.{Decides}
+use Rattle.std.specs.Option.{option_map}
 use Rattle.std.proofs.lemmas.Bool.{true≢false, false≢true}
 use Rattle.std.proofs.lemmas.List.Filters.{length-filter_both}
 use Rattle.art_model.specs.Keys.{IsFront, is_front, are_related, are_same, is_before, Precedes}
-use Rattle.art_model.specs.Pairs.{first_of, went, IsMap, with_key, related_to, is_conflict, put, overwrite, remove_key, remove_related, add_in_order}
+use Rattle.art_model.specs.Pairs.{first_of, went, IsMap, with_key, has_key, related_to, is_conflict, stored_for, put, put_reply, overwrite, overwrite_reply, replace_key, replace_related, remove_key, remove_related, add_in_order, of_key}
 use Rattle.art_model.specs.Trees.{tree_of}
 use Rattle.art_model.specs.Changes.{Change, put_pair, overwrite_with, remove_at, remove_first, remove_last, changed}
-use Rattle.art_model.specs.MapLaws.{Tells, KeysAreOnce, MatchesAreOne, MapsAreWhatIsFound, KeysAreDecided, ConflictsAreDecided, MapsStayMaps, PutIsFound, OverwriteIsFound, RemovedIsGone, FirstIsRemovedByKey, LastIsRemovedByKey, PutIsUndone, PutTells, OverwriteTells, RemovalTells, PutCounts, OverwriteCounts, RemovalCounts, SamePairsHaveSameTree}
+use Rattle.art_model.specs.MapLaws.{Tells, KeysAreOnce, MatchesAreOne, MapsAreWhatIsFound, KeysAreDecided, ConflictsAreDecided, MapsStayMaps, PutIsFound, OverwriteIsFound, RemovedIsGone, FirstIsRemovedByKey, LastIsRemovedByKey, PutIsUndone, StoredKeyStays, NewKeyComes, PutKeepsKeys, OverwriteOfKeyIsPut, PutTells, OverwriteTells, RemovalTells, PutCounts, OverwriteCounts, RemovalCounts, SamePairsHaveSameTree}
+use Rattle.art_model.proofs.Between.{add_in_order_first}
 use Rattle.art_model.proofs.Lists.{Each-weaker, filter_none}
-use Rattle.art_model.proofs.Keys.{front_same, same_equal, same_related, related_sym, front_from}
+use Rattle.art_model.proofs.Keys.{front_same, same_equal, same_related, related_sym, front_from, precedes_apart}
 use Rattle.art_model.proofs.KeyLaws.{order_is_transitive, order_is_total, order_is_strict, relation_is_decided, sameness_is_decided}
-use Rattle.art_model.proofs.Filters.{Each-both, Pairwise-filter, filter_passes, none_passes, filter_all, filter_filter, last_each, Pairwise-without_last, Each-add, length-add, filter_add, filter_add_alone}
+use Rattle.art_model.proofs.PutOver.{free_unrelated, same_rest, stored_is_free}
+use Rattle.art_model.proofs.Puts.{first_has, has_is_stored, overwrite-new, overwrite-put, overwrite_reply-new, overwrite_reply-put, stored_bytes, stored_value, stored_for-new, stored_for-old}
+use Rattle.art_model.proofs.Filters.{Each-both, Each-filter, Pairwise-filter, filter_passes, none_passes, filter_all, filter_filter, last_each, Pairwise-without_last, Each-add, length-add, filter_add, filter_add_alone}
 
 -- booleans
 fails : (t : Bool) → (t ≡ true → ⊥) → t ≡ false
@@ -148,21 +152,12 @@ module _ {A : Type 0} (bytes : A → List ℕ) where
   rest_unrelated : (key : List ℕ) (xs : List A) → Unrelated key (remove_related bytes key xs)
   rest_unrelated key xs = Each-weaker (λ x. not (are_related key (bytes x)) ≡ true) (λ x. are_related key (bytes x) ≡ false) (λ x e. not_true (are_related key (bytes x)) e) (remove_related bytes key xs) (filter_passes (λ x. not (are_related key (bytes x))) xs)
 
-  stays_map : (change : Change A) (pairs : List A) → IsMap bytes pairs → IsMap bytes (changed bytes change pairs)
-  stays_map (put_pair new) pairs map = go (is_conflict bytes (bytes new) pairs) refl
-    where
-      go : (t : Bool) → is_conflict bytes (bytes new) pairs ≡ t → IsMap bytes (cond t pairs (put bytes new pairs))
-      go true e = map
-      go false e = added new (remove_key bytes (bytes new) pairs) (Pairwise-filter (λ x y. Precedes (bytes x) (bytes y)) (λ x. not (are_same (bytes new) (bytes x))) pairs map) (left_unrelated (bytes new) pairs e)
-  stays_map (overwrite_with new) pairs map = added new (remove_related bytes (bytes new) pairs) (Pairwise-filter (λ x y. Precedes (bytes x) (bytes y)) (λ x. not (are_related (bytes new) (bytes x))) pairs map) (rest_unrelated (bytes new) pairs)
-  stays_map (remove_at key) pairs map = Pairwise-filter (λ x y. Precedes (bytes x) (bytes y)) (λ x. not (are_same key (bytes x))) pairs map
-  stays_map remove_first [] map = tt
-  stays_map remove_first (x ∷ pairs) map = map.1
-  stays_map remove_last pairs map = Pairwise-without_last (λ x y. Precedes (bytes x) (bytes y)) pairs map
+  -- a pair in the place of others leaves a map
+  replaced_map : (new : A) (pairs : List A) → IsMap bytes pairs → is_conflict bytes (bytes new) pairs ≡ false → IsMap bytes (replace_key bytes new pairs)
+  replaced_map new pairs map free = added new (remove_key bytes (bytes new) pairs) (Pairwise-filter (λ x y. Precedes (bytes x) (bytes y)) (λ x. not (are_same (bytes new) (bytes x))) pairs map) (left_unrelated (bytes new) pairs free)
 
-  pub maps_stay_maps : MapsStayMaps bytes
-  maps_stay_maps [] pairs map = map
-  maps_stay_maps (change ∷ changes) pairs map = maps_stay_maps changes (changed bytes change pairs) (stays_map change pairs map)
+  related_replaced_map : (new : A) (pairs : List A) → IsMap bytes pairs → IsMap bytes (replace_related bytes new pairs)
+  related_replaced_map new pairs map = added new (remove_related bytes (bytes new) pairs) (Pairwise-filter (λ x y. Precedes (bytes x) (bytes y)) (λ x. not (are_related (bytes new) (bytes x))) pairs map) (rest_unrelated (bytes new) pairs)
 
   -- ---- what is found
 
@@ -179,15 +174,16 @@ module _ {A : Type 0} (bytes : A → List ℕ) where
       go true e = filter_none (λ x. are_same key (bytes x)) (remove_key bytes gone pairs) (none_same key gone pairs (sym (same_equal key gone e)))
       go false e = filter_filter (λ x. are_same key (bytes x)) (λ x. not (are_same gone (bytes x))) (λ x h. not_key key gone x e h) pairs
 
-  pub put_is_found : PutIsFound bytes
-  put_is_found key new pairs = go (are_same key (bytes new)) refl
+  replaced_is_found : (key : List ℕ) (new : A) (pairs : List A) → with_key bytes key (replace_key bytes new pairs) ≡ cond (are_same key (bytes new)) (new ∷ []) (with_key bytes key pairs)
+  replaced_is_found key new pairs = go (are_same key (bytes new)) refl
     where
-      go : (t : Bool) → are_same key (bytes new) ≡ t → with_key bytes key (put bytes new pairs) ≡ cond t (new ∷ []) (with_key bytes key pairs)
+      go : (t : Bool) → are_same key (bytes new) ≡ t → with_key bytes key (replace_key bytes new pairs) ≡ cond t (new ∷ []) (with_key bytes key pairs)
       go true e = filter_add_alone bytes (λ x. are_same key (bytes x)) new (remove_key bytes (bytes new) pairs) e (none_same key (bytes new) pairs (sym (same_equal key (bytes new) e)))
       go false e = filter_add bytes (λ x. are_same key (bytes x)) new (remove_key bytes (bytes new) pairs) e ∙ filter_filter (λ x. are_same key (bytes x)) (λ x. not (are_same (bytes new) (bytes x))) (λ x h. not_key key (bytes new) x e h) pairs
 
-  pub overwrite_is_found : OverwriteIsFound bytes
-  overwrite_is_found key new pairs = go (are_same key (bytes new)) (are_related key (bytes new)) refl refl
+  related_replaced_is_found : (key : List ℕ) (new : A) (pairs : List A) →
+      with_key bytes key (replace_related bytes new pairs) ≡ cond (are_same key (bytes new)) (new ∷ []) (cond (are_related key (bytes new)) [] (with_key bytes key pairs))
+  related_replaced_is_found key new pairs = go (are_same key (bytes new)) (are_related key (bytes new)) refl refl
     where
       -- what is left has no key that is related to the new one
       other : (k : List ℕ) → are_related k (bytes new) ≡ true → Each (λ x. are_same k (bytes x) ≡ false) (remove_related bytes (bytes new) pairs)
@@ -195,7 +191,7 @@ module _ {A : Type 0} (bytes : A → List ℕ) where
           (λ x h. not_same k (bytes x) (λ e. true≢false (sym (subst (λ z. are_related (bytes new) z ≡ true) e (related_sym (bytes new) k ∙ related)) ∙ h)))
           (remove_related bytes (bytes new) pairs) (rest_unrelated (bytes new) pairs)
 
-      go : (s t : Bool) → are_same key (bytes new) ≡ s → are_related key (bytes new) ≡ t → with_key bytes key (overwrite bytes new pairs) ≡ cond s (new ∷ []) (cond t [] (with_key bytes key pairs))
+      go : (s t : Bool) → are_same key (bytes new) ≡ s → are_related key (bytes new) ≡ t → with_key bytes key (replace_related bytes new pairs) ≡ cond s (new ∷ []) (cond t [] (with_key bytes key pairs))
       go true t e r = filter_add_alone bytes (λ x. are_same key (bytes x)) new (remove_related bytes (bytes new) pairs) e (other key (equal_related key (bytes new) (sym (same_equal key (bytes new) e))))
       go false true e r = filter_add bytes (λ x. are_same key (bytes x)) new (remove_related bytes (bytes new) pairs) e ∙ filter_none (λ x. are_same key (bytes x)) (remove_related bytes (bytes new) pairs) (other key r)
       go false false e r = filter_add bytes (λ x. are_same key (bytes x)) new (remove_related bytes (bytes new) pairs) e
@@ -245,8 +241,8 @@ module _ {A : Type 0} (bytes : A → List ℕ) where
       let apart : Precedes (bytes x) (bytes z) = last_each (λ w. Precedes (bytes x) (bytes w)) (y ∷ xs) z map.0 e in
       rw (same_related (bytes z) (bytes x) (related_sym (bytes z) (bytes x) ∙ apart.1)) (ap (λ l. x ∷ l) (last_is_removed_by_key z (y ∷ xs) map.1 e))
 
-  pub put_is_undone : PutIsUndone bytes
-  put_is_undone new pairs none =
+  replacement_is_undone : (new : A) (pairs : List A) → related_to bytes (bytes new) pairs ≡ [] → remove_key bytes (bytes new) (replace_key bytes new pairs) ≡ pairs
+  replacement_is_undone new pairs none =
       let stays = all_stay (bytes new) pairs (none_passes (λ x. are_related (bytes new) (bytes x)) pairs none) in
       filter_add bytes (λ x. not (are_same (bytes new) (bytes x))) new (remove_key bytes (bytes new) pairs) (rw (front_same (bytes new)) refl)
       ∙ ap (remove_key bytes (bytes new)) stays ∙ stays
@@ -258,9 +254,6 @@ module _ {A : Type 0} (bytes : A → List ℕ) where
   as_reply (x ∷ []) h = refl
   as_reply (x ∷ y ∷ xs) h = absurd (omega arith)
 
-  pub put_tells : PutTells bytes
-  put_tells new pairs map = as_reply (with_key bytes (bytes new) pairs) (keys_are_once (bytes new) pairs map)
-
   pub removal_tells : RemovalTells bytes
   removal_tells key pairs map = as_reply (with_key bytes key pairs) (keys_are_once key pairs map)
 
@@ -269,21 +262,138 @@ module _ {A : Type 0} (bytes : A → List ℕ) where
   went_tells (x ∷ []) = refl
   went_tells (x ∷ y ∷ gone) = (refl, omega arith)
 
-  pub overwrite_tells : OverwriteTells bytes
-  overwrite_tells new pairs = went_tells (related_to bytes (bytes new) pairs)
-
   pub removal_counts : RemovalCounts bytes
   removal_counts key pairs = length-filter_both (λ x. not (are_same key (bytes x))) (λ x. are_same key (bytes x)) (λ x. double (are_same key (bytes x))) pairs
 
-  pub put_counts : PutCounts bytes
-  put_counts new pairs = let more = length-add bytes new (remove_key bytes (bytes new) pairs) in let rest = removal_counts (bytes new) pairs in omega arith
+  pub replacement_counts : (new : A) (pairs : List A) → length (replace_key bytes new pairs) + length (with_key bytes (bytes new) pairs) ≡ length pairs + 1
+  replacement_counts new pairs = let more = length-add bytes new (remove_key bytes (bytes new) pairs) in let rest = removal_counts (bytes new) pairs in omega arith
 
-  pub overwrite_counts : OverwriteCounts bytes
-  overwrite_counts new pairs =
+  related_replacement_counts : (new : A) (pairs : List A) → length (replace_related bytes new pairs) + length (related_to bytes (bytes new) pairs) ≡ length pairs + 1
+  related_replacement_counts new pairs =
       let more = length-add bytes new (remove_related bytes (bytes new) pairs) in
       let rest = length-filter_both (λ x. not (are_related (bytes new) (bytes x))) (λ x. are_related (bytes new) (bytes x)) (λ x. double (are_related (bytes new) (bytes x))) pairs in omega arith
 
+-- ---- puts and overwrites of pairs of key and value
+
+module _ {K V : Type 0} (bytes : K → List ℕ) where
+  abbrev Of : K × V → List ℕ
+  Of = of_key bytes
+
+  -- what is stored for a new pair
+  abbrev stored : K × V → List (K × V) → K × V
+  stored new pairs = stored_for Of new pairs
+
+  alike : (new : K × V) (pairs : List (K × V)) → bytes (stored new pairs).0 ≡ bytes new.0
+  alike new pairs = stored_bytes bytes new pairs
+
+  -- an overwrite of a map puts what is stored in the place of all with related keys
+  overwrite_is : (new : K × V) (pairs : List (K × V)) → IsMap Of pairs → overwrite Of new pairs ≡ replace_related Of (stored new pairs) pairs
+  overwrite_is new pairs map = go (first_of (with_key Of (bytes new.0) pairs)) refl
+    where
+      go : (o : Option (K × V)) → first_of (with_key Of (bytes new.0) pairs) ≡ o → overwrite Of new pairs ≡ replace_related Of (stored new pairs) pairs
+      go None e = overwrite-new Of new pairs e ∙ ap (λ x. replace_related Of x pairs) (sym (stored_for-new Of new pairs e))
+      go (Some old) e =
+          let has = has_is_stored Of new pairs ∙ ap is_some e in
+          let free = stored_is_free Of (bytes new.0) pairs map has in
+          let rest = (same_rest Of new (bytes new.0) pairs (free_unrelated Of new (bytes new.0) pairs free)).0 in
+          overwrite-put Of new pairs has ∙ ap (add_in_order Of (stored new pairs)) (ap (λ k. remove_key Of k pairs) (alike new pairs) ∙ sym rest ∙ ap (λ k. remove_related Of k pairs) (sym (alike new pairs)))
+
+  stays_map : (change : Change (K × V)) (pairs : List (K × V)) → IsMap Of pairs → IsMap Of (changed Of change pairs)
+  stays_map (put_pair new) pairs map = go (is_conflict Of (bytes new.0) pairs) refl
+    where
+      go : (t : Bool) → is_conflict Of (bytes new.0) pairs ≡ t → IsMap Of (cond t pairs (put Of new pairs))
+      go true e = map
+      go false e = replaced_map Of (stored new pairs) pairs map (ap (λ k. is_conflict Of k pairs) (alike new pairs) ∙ e)
+  stays_map (overwrite_with new) pairs map = subst (IsMap Of) (sym (overwrite_is new pairs map)) (related_replaced_map Of (stored new pairs) pairs map)
+  stays_map (remove_at key) pairs map = Pairwise-filter (λ x y. Precedes (bytes x.0) (bytes y.0)) (λ x. not (are_same key (bytes x.0))) pairs map
+  stays_map remove_first [] map = tt
+  stays_map remove_first (x ∷ pairs) map = map.1
+  stays_map remove_last pairs map = Pairwise-without_last (λ x y. Precedes (bytes x.0) (bytes y.0)) pairs map
+
+  pub maps_stay_maps : MapsStayMaps V bytes
+  maps_stay_maps [] pairs map = map
+  maps_stay_maps (change ∷ changes) pairs map = maps_stay_maps changes (changed Of change pairs) (stays_map change pairs map)
+
+  pub put_is_found : PutIsFound V bytes
+  put_is_found key new pairs = replaced_is_found Of key (stored new pairs) pairs ∙ ap (λ k. cond (are_same key k) (stored new pairs ∷ []) (with_key Of key pairs)) (alike new pairs)
+
+  pub overwrite_is_found : OverwriteIsFound V bytes
+  overwrite_is_found key new pairs map = ap (with_key Of key) (overwrite_is new pairs map) ∙ related_replaced_is_found Of key (stored new pairs) pairs
+      ∙ ap (λ k. cond (are_same key k) (stored new pairs ∷ []) (cond (are_related key k) [] (with_key Of key pairs))) (alike new pairs)
+
+  pub put_is_undone : PutIsUndone V bytes
+  put_is_undone new pairs none =
+      ap (λ k. remove_key Of k (put Of new pairs)) (sym (alike new pairs)) ∙ replacement_is_undone Of (stored new pairs) pairs (ap (λ k. related_to Of k pairs) (alike new pairs) ∙ none)
+
+  -- ---- which key is stored
+
+  pub stored_key_stays : StoredKeyStays V bytes
+  stored_key_stays new old pairs is = stored_for-old Of new pairs old (ap first_of is)
+
+  pub new_key_comes : NewKeyComes V bytes
+  new_key_comes new pairs is = stored_for-new Of new pairs (ap first_of is)
+
+  -- once it is put, what is stored for the pair is what was stored
+  pub stored_again : (new : K × V) (pairs : List (K × V)) → stored new (put Of new pairs) ≡ stored new pairs
+  stored_again new pairs =
+      let found : with_key Of (bytes new.0) (put Of new pairs) ≡ stored new pairs ∷ [] = put_is_found (bytes new.0) new pairs ∙ ap (λ b. cond b (stored new pairs ∷ []) (with_key Of (bytes new.0) pairs)) (front_same (bytes new.0)) in
+      stored_key_stays new (stored new pairs) (put Of new pairs) found ∙ ap (λ v. ((stored new pairs).0, v)) (sym (stored_value bytes new pairs))
+
+  -- a pair with a stored key comes in the place of the stored one
+  keys_stay : (new : K × V) (pairs : List (K × V)) (old : K × V) → IsMap Of pairs → first_of (with_key Of (bytes new.0) pairs) ≡ Some old → new.0 ≡ old.0 → map (λ x. x.0) (replace_key Of new pairs) ≡ map (λ x. x.0) pairs
+  keys_stay new [] old ordered e same = absurd cc
+  keys_stay new (x ∷ xs) old ordered e same = go (are_same (bytes new.0) (bytes x.0)) refl e (λ f. keys_stay new xs old ordered.1 f same)
+    where
+      go : (b : Bool) → are_same (bytes new.0) (bytes x.0) ≡ b → first_of (cond b (x ∷ with_key Of (bytes new.0) xs) (with_key Of (bytes new.0) xs)) ≡ Some old →
+          (first_of (with_key Of (bytes new.0) xs) ≡ Some old → map (λ x. x.0) (replace_key Of new xs) ≡ map (λ x. x.0) xs) →
+          map (λ x. x.0) (add_in_order Of new (cond (not b) (x ∷ remove_key Of (bytes new.0) xs) (remove_key Of (bytes new.0) xs))) ≡ x.0 ∷ map (λ x. x.0) xs
+      go true is f ih =
+          let here : x ≡ old = cc in
+          let after : Each (λ y. Precedes (bytes new.0) (bytes y.0)) xs = subst (λ k. Each (λ y. Precedes k (bytes y.0)) xs) (same_equal (bytes new.0) (bytes x.0) is) ordered.0 in
+          let rest = all_stay Of (bytes new.0) xs (after_is_unrelated Of new xs after) in
+          ap (λ l. map (λ x. x.0) (add_in_order Of new l)) rest ∙ ap (map (λ x. x.0)) (add_in_order_first Of new xs after) ∙ ap (λ k. k ∷ map (λ x. x.0) xs) (same ∙ ap (λ z. z.0) (sym here))
+      go false is f ih =
+          let before : Precedes (bytes x.0) (bytes old.0) = first_has (λ y. Precedes (bytes x.0) (bytes y.0)) (with_key Of (bytes new.0) xs) old (Each-filter (λ y. Precedes (bytes x.0) (bytes y.0)) (λ y. are_same (bytes new.0) (bytes y.0)) xs ordered.0) f in
+          rw (precedes_apart (bytes x.0) (bytes new.0) (subst (λ k. Precedes (bytes x.0) (bytes k)) (sym same) before)) (ap (λ l. x.0 ∷ l) (ih f))
+
+  pub put_keeps_keys : PutKeepsKeys V bytes
+  put_keeps_keys new pairs ordered has = go (first_of (with_key Of (bytes new.0) pairs)) refl (sym (has_is_stored Of new pairs) ∙ has)
+    where
+      go : (o : Option (K × V)) → first_of (with_key Of (bytes new.0) pairs) ≡ o → is_some (first_of (with_key Of (bytes new.0) pairs)) ≡ true → map (λ x. x.0) (put Of new pairs) ≡ map (λ x. x.0) pairs
+      go None e h = absurd (false≢true (ap is_some (sym e) ∙ h))
+      go (Some old) e h =
+          let is = stored_for-old Of new pairs old e in
+          keys_stay (stored new pairs) pairs old ordered (ap (λ k. first_of (with_key Of k pairs)) (alike new pairs) ∙ e) (ap (λ z. z.0) is)
+
+  pub overwrite_of_key_is_put : OverwriteOfKeyIsPut V bytes
+  overwrite_of_key_is_put new pairs has = (overwrite-put Of new pairs has, overwrite_reply-put Of new pairs has)
+
+  -- ---- what replies tell
+
+  handed : (f : K × V → K × V) (xs : List (K × V)) → length xs ≤ 1 → map f xs ≡ cons_option (option_map f (first_of xs)) []
+  handed f [] h = refl
+  handed f (x ∷ []) h = refl
+  handed f (x ∷ y ∷ xs) h = absurd (omega arith)
+
+  pub put_tells : PutTells V bytes
+  put_tells new pairs map = handed (λ old. (new.0, old.1)) (with_key Of (bytes new.0) pairs) (keys_are_once Of (bytes new.0) pairs map)
+
+  pub overwrite_tells : OverwriteTells V bytes
+  overwrite_tells new pairs none = go (first_of (with_key Of (bytes new.0) pairs)) refl (sym (has_is_stored Of new pairs) ∙ none)
+    where
+      go : (o : Option (K × V)) → first_of (with_key Of (bytes new.0) pairs) ≡ o → is_some (first_of (with_key Of (bytes new.0) pairs)) ≡ false → Tells (overwrite_reply Of new pairs) (related_to Of (bytes new.0) pairs)
+      go None e h = subst (λ told. Tells told (related_to Of (bytes new.0) pairs)) (sym (overwrite_reply-new Of new pairs e)) (went_tells Of (related_to Of (bytes new.0) pairs))
+      go (Some old) e h = absurd (true≢false (ap is_some (sym e) ∙ h))
+
+  pub put_counts : PutCounts V bytes
+  put_counts new pairs = ap (λ k. length (put Of new pairs) + length (with_key Of k pairs)) (sym (alike new pairs)) ∙ replacement_counts Of (stored new pairs) pairs
+
+  pub overwrite_counts : OverwriteCounts V bytes
+  overwrite_counts new pairs map =
+      ap (λ xs. length xs + length (related_to Of (bytes new.0) pairs)) (overwrite_is new pairs map) ∙ ap (λ k. length (replace_related Of (stored new pairs) pairs) + length (related_to Of k pairs)) (sym (alike new pairs))
+      ∙ related_replacement_counts Of (stored new pairs) pairs
+
   -- ---- the tree
 
-  pub same_pairs_have_same_tree : SamePairsHaveSameTree bytes
-  same_pairs_have_same_tree P changes others pairs from e = ap (λ xs. tree_of bytes xs P 0) e
+  pub same_pairs_have_same_tree : SamePairsHaveSameTree V bytes
+  same_pairs_have_same_tree P changes others pairs from e = ap (λ xs. tree_of Of xs P 0) e

@@ -1,12 +1,13 @@
 -- Where a put leaves a map, it is an overwrite: no unequal key was related.
-use Rattle.std.proofs.Common.{◌≡◌, ℕ, List, [], ◌∷◌, Bool, true, false, not, cond, ◌&&◌, ◌||◌, refl, ap, sym, ◌∙◌}
-use Rattle.std.proofs.lemmas.Bool.{true≢false}
+use Rattle.std.proofs.Common.{◌≡◌, ℕ, zero, List, [], ◌∷◌, Option, Some, None, is_some, Bool, true, false, not, cond, ◌&&◌, ◌||◌, refl, ap, sym, ◌∙◌, subst}
+use Rattle.std.proofs.lemmas.Bool.{true≢false, false≢true}
 use Rattle.std.specs.List.{AllByRecursion as Each}
 use Rattle.art_model.specs.Footprints.{IsIn}
 use Rattle.art_model.specs.Keys.{Precedes, are_related, are_same, is_before}
-use Rattle.art_model.specs.Pairs.{IsMap, add_in_order, first_of, went, with_key, related_to, remove_key, remove_related, is_conflict, put, put_reply, overwrite, overwrite_reply}
+use Rattle.art_model.specs.Pairs.{IsMap, add_in_order, first_of, went, with_key, has_key, related_to, remove_key, remove_related, is_conflict, stored_for, put, put_reply, overwrite, overwrite_reply, of_key}
 use Rattle.art_model.proofs.Keys.{related_sym, same_equal, same_related}
 use Rattle.art_model.proofs.Lists.{each_in, filter_none, Each-weaker}
+use Rattle.art_model.proofs.Puts.{first_none, has_is_stored, overwrite-new, overwrite-put, overwrite_reply-new, overwrite_reply-put, put-new, put_reply-new, stored_bytes}
 use Rattle.std.proofs.Common.{inl, inr}
 
 module _ {A : Type 0} (bytes : A → List ℕ) (new : A) where
@@ -68,14 +69,59 @@ module _ {A : Type 0} (bytes : A → List ℕ) (new : A) where
             let none : with_key bytes key xs ≡ [] = filter_none (λ y. are_same key (bytes y)) xs (Each-weaker (λ y. Precedes (bytes x) (bytes y)) (λ y. are_same key (bytes y) ≡ false) (λ y h. same_related key (bytes y) (ap (λ k. are_related k (bytes y)) (sym own) ∙ h.1)) xs map.0) in
             rw none refl
 
-  module _ (pairs : List A) (before : IsMap bytes pairs) (after : IsMap bytes (put bytes new pairs)) where
-    unrelated : Each (λ y. are_related (bytes new) (bytes y) ≡ false) (remove_key bytes (bytes new) pairs)
-    unrelated = others_unrelated (remove_key bytes (bytes new) pairs) after
+module _ {A : Type 0} (bytes : A → List ℕ) where
+  -- a key that is stored in a map is in no conflict
+  pub stored_is_free : (key : List ℕ) (xs : List A) → IsMap bytes xs → has_key bytes key xs ≡ true → is_conflict bytes key xs ≡ false
+  stored_is_free key [] map has = refl
+  stored_is_free key (x ∷ xs) map has = go (are_same key (bytes x)) refl has (λ rest. stored_is_free key xs map.1 rest)
+    where
+      none : (ys : List A) → Each (λ y. are_related key (bytes y) ≡ false) ys → is_conflict bytes key ys ≡ false
+      none [] h = refl
+      none (y ∷ ys) h = rw h.0 (none ys h.1)
+
+      -- one that comes before the stored key is not related to it
+      earlier : (ys : List A) → Each (λ y. Precedes (bytes x) (bytes y)) ys → has_key bytes key ys ≡ true → are_related key (bytes x) ≡ false
+      earlier [] h e = absurd (false≢true e)
+      earlier (y ∷ ys) h e = here (are_same key (bytes y)) refl e (λ g. earlier ys h.1 g)
+        where
+          here : (b : Bool) → are_same key (bytes y) ≡ b → (b || has_key bytes key ys) ≡ true → (has_key bytes key ys ≡ true → are_related key (bytes x) ≡ false) → are_related key (bytes x) ≡ false
+          here true f g ih = related_sym key (bytes x) ∙ ap (are_related (bytes x)) (sym (same_equal key (bytes y) f)) ∙ h.0.1
+          here false f g ih = ih g
+
+      and_false : (b : Bool) → ((b && false) || false) ≡ false
+      and_false true = refl
+      and_false false = refl
+
+      go : (b : Bool) → are_same key (bytes x) ≡ b → (b || has_key bytes key xs) ≡ true → (has_key bytes key xs ≡ true → is_conflict bytes key xs ≡ false) → is_conflict bytes key (x ∷ xs) ≡ false
+      go true e h ih = rw (e, none xs (Each-weaker (λ y. Precedes (bytes x) (bytes y)) (λ y. are_related key (bytes y) ≡ false) (λ y p. ap (λ k. are_related k (bytes y)) (sym (same_equal key (bytes x) e)) ∙ p.1) xs map.0)) (and_false (are_related key (bytes x)))
+      go false e h ih = rw (earlier xs map.0 h) (ih h)
+
+module _ {K V : Type 0} (bytes : K × V → List ℕ) (new : K × V) (pairs : List (K × V)) where
+  -- where no unequal key is related
+  module _ (apart : Each (λ y. are_related (bytes new) (bytes y) ≡ false) (remove_key bytes (bytes new) pairs)) where
+    parts : (remove_related bytes (bytes new) pairs ≡ remove_key bytes (bytes new) pairs) × (related_to bytes (bytes new) pairs ≡ with_key bytes (bytes new) pairs)
+    parts = same_rest bytes new (bytes new) pairs apart
 
     -- the pairs are the same
     pub put_is_overwrite : overwrite bytes new pairs ≡ put bytes new pairs
-    put_is_overwrite = ap (add_in_order bytes new) (same_rest (bytes new) pairs unrelated).0
+    put_is_overwrite = go (first_of (with_key bytes (bytes new) pairs)) refl
+      where
+        go : (o : Option (K × V)) → first_of (with_key bytes (bytes new) pairs) ≡ o → overwrite bytes new pairs ≡ put bytes new pairs
+        go None e = overwrite-new bytes new pairs e ∙ ap (add_in_order bytes new) parts.0 ∙ sym (put-new bytes new pairs e)
+        go (Some old) e = overwrite-put bytes new pairs (has_is_stored bytes new pairs ∙ ap is_some e)
 
     -- and so is the reply
     pub put_reply_is : overwrite_reply bytes new pairs ≡ (put_reply bytes new pairs, 0)
-    put_reply_is = ap went (same_rest (bytes new) pairs unrelated).1 ∙ one_went (bytes new) pairs before
+    put_reply_is = go (first_of (with_key bytes (bytes new) pairs)) refl
+      where
+        go : (o : Option (K × V)) → first_of (with_key bytes (bytes new) pairs) ≡ o → overwrite_reply bytes new pairs ≡ (put_reply bytes new pairs, 0)
+        go None e = overwrite_reply-new bytes new pairs e ∙ ap went (parts.1 ∙ first_none (with_key bytes (bytes new) pairs) e) ∙ ap (λ (o : Option (K × V)). (o, zero)) (sym (put_reply-new bytes new pairs e))
+        go (Some old) e = overwrite_reply-put bytes new pairs (has_is_stored bytes new pairs ∙ ap is_some e)
+
+-- and so it is where the put left a map
+pub was_free : {K V : Type 0} (bytes : K → List ℕ) (new : K × V) (pairs : List (K × V)) → IsMap (of_key bytes) (put (of_key bytes) new pairs) →
+    Each (λ y. are_related (bytes new.0) (bytes y.0) ≡ false) (remove_key (of_key bytes) (bytes new.0) pairs)
+was_free bytes new pairs after =
+    let stored = stored_for (of_key bytes) new pairs in
+    subst (λ k. Each (λ y. are_related k (bytes y.0) ≡ false) (remove_key (of_key bytes) k pairs)) (stored_bytes bytes new pairs)
+    (others_unrelated (of_key bytes) stored (remove_key (of_key bytes) (bytes stored.0) pairs) after)

@@ -10,9 +10,9 @@ pub data Change (A : Type 0) : Type 0 where
   remove_first : Change A
   remove_last : Change A
 
-module _ {A : Type 0} (bytes : A → List ℕ) where
+module _ {K V : Type 0} (bytes : K × V → List ℕ) where
   -- the pairs after a change; a put that is a conflict changes nothing
-  abbrev pub changed : Change A → List A → List A
+  abbrev pub changed : Change (K × V) → List (K × V) → List (K × V)
   changed (put_pair new) pairs = cond (is_conflict bytes (bytes new) pairs) pairs (put bytes new pairs)
   changed (overwrite_with new) pairs = overwrite bytes new pairs
   changed (remove_at key) pairs = remove_key bytes key pairs
@@ -20,6 +20,6 @@ module _ {A : Type 0} (bytes : A → List ℕ) where
   changed remove_last pairs = without_last pairs
 
   -- the pairs after all of the changes
-  abbrev pub after : List (Change A) → List A → List A
+  abbrev pub after : List (Change (K × V)) → List (K × V) → List (K × V)
   after [] pairs = pairs
   after (change ∷ changes) pairs = after changes (changed change pairs)

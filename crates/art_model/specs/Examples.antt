@@ -64,6 +64,14 @@ zero_tree (suc n) place = over_two 0 [] 0 (zero_tree n (place ++ 0 ∷ [])) 255 
 abbrev pub three_pairs : List (Key × ℕ)
 three_pairs = (1 ∷ 2 ∷ [], 5) ∷ (1 ∷ 3 ∷ [], 6) ∷ (2 ∷ [], 7) ∷ []
 
+-- a key with a tag, which is none of its bytes, and a number as its value
+abbrev pub bytes_of_tagged : (Key × ℕ) × ℕ → Key
+bytes_of_tagged = of_key (λ key. key.0)
+
+-- the key 1 2 with the tag 1 and the value 10
+abbrev pub tagged_pair : List ((Key × ℕ) × ℕ)
+tagged_pair = ((1 ∷ 2 ∷ [], 1), 10) ∷ []
+
 -- the bytes of "interact"
 abbrev pub interact : Key
 interact = 105 ∷ 110 ∷ 116 ∷ 101 ∷ 114 ∷ 97 ∷ 99 ∷ 116 ∷ []

@@ -1,6 +1,7 @@
 -- A map as a sorted list of pairs, and its changes. A pair is anything that has the bytes of a key.
 use Rattle.std.specs.Prelude.{ℕ, Bool, cond, not, ◌&&◌, List, [], ◌∷◌, length, Option, Some, None, filter}
 use Rattle.std.specs.List.{AllByRecursion as Each, list_any}
+use Rattle.std.specs.Option.{option_map}
 use Rattle.art_model.specs.Keys.{is_before, is_front, are_related, are_same, Precedes}
 
 -- each element stands in the relation to each one after it
@@ -75,24 +76,37 @@ module _ {A : Type 0} (bytes : A → List ℕ) where
   add_in_order new (x ∷ xs) = cond (is_before (bytes new) (bytes x)) (new ∷ x ∷ xs) (x ∷ add_in_order new xs)
 
   -- a pair takes the place of the one with an equal key, or its own place in the order
-  abbrev pub put : A → List A → List A
-  put new pairs = add_in_order new (remove_key (bytes new) pairs)
-
-  -- what a put answers: the pair whose place the new one took, if there was one
-  abbrev pub put_reply : A → List A → Option A
-  put_reply new pairs = first_of (with_key (bytes new) pairs)
+  abbrev pub replace_key : A → List A → List A
+  replace_key new pairs = add_in_order new (remove_key (bytes new) pairs)
 
   -- a pair takes the place of all those with related keys
-  abbrev pub overwrite : A → List A → List A
-  overwrite new pairs = add_in_order new (remove_related (bytes new) pairs)
-
-  -- what an overwrite answers: of the pairs with related keys the only one, or how many
-  abbrev pub overwrite_reply : A → List A → Option A × ℕ
-  overwrite_reply new pairs = went (related_to (bytes new) pairs)
+  abbrev pub replace_related : A → List A → List A
+  replace_related new pairs = add_in_order new (remove_related (bytes new) pairs)
 
   -- what a removal by key answers: the pair that went, if there was one
   abbrev pub remove_reply : List ℕ → List A → Option A
   remove_reply key pairs = first_of (with_key key pairs)
+
+module _ {K V : Type 0} (bytes : K × V → List ℕ) where
+  -- what is stored of a new pair: its value, under the equal key that is stored already, or else under its own key
+  abbrev pub stored_for : K × V → List (K × V) → K × V
+  stored_for new pairs = elim (first_of (with_key bytes (bytes new) pairs)) [ None ↦ new | Some old ↦ (old.0, new.1) ]
+
+  -- where an equal key is stored its value is replaced, and the key stays; else the pair takes its own place in the order
+  abbrev pub put : K × V → List (K × V) → List (K × V)
+  put new pairs = replace_key bytes (stored_for new pairs) pairs
+
+  -- what a put answers where an equal key is stored: the key that was handed in, with the old value
+  abbrev pub put_reply : K × V → List (K × V) → Option (K × V)
+  put_reply new pairs = option_map (λ old. (new.0, old.1)) (first_of (with_key bytes (bytes new) pairs))
+
+  -- where an equal key is stored this is a put; else the pair takes the place of all those with related keys
+  abbrev pub overwrite : K × V → List (K × V) → List (K × V)
+  overwrite new pairs = cond (has_key bytes (bytes new) pairs) (put new pairs) (replace_related bytes new pairs)
+
+  -- what an overwrite answers: what the put does; or of the pairs with related keys the only one, or how many
+  abbrev pub overwrite_reply : K × V → List (K × V) → Option (K × V) × ℕ
+  overwrite_reply new pairs = cond (has_key bytes (bytes new) pairs) (put_reply new pairs, 0) (went (related_to bytes (bytes new) pairs))
 
 module _ {K V : Type 0} (bytes : K → List ℕ) where
   -- the bytes of the key of a pair of key and value

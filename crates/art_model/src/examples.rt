@@ -10,7 +10,7 @@ ghost use Rattle.art_model.specs.Layouts.{IsLayout, AreLinked, leaf_names};
 ghost use Rattle.art_model.specs.Places.{places, inner_nodes};
 ghost use Rattle.art_model.specs.FaultExamples.{looped, shared, self_linked, linked_to_nothing, misplaced, unreadable, misstored};
 ghost use Rattle.art_model.specs.Faults.{IsTrueOf, dead_name, leaf_sibling_wrong_order, loop_found, prefix_mismatch, stored_prefix_mismatch, unreadable_prefix, wrong_children_count, wrong_sibling_links};
-ghost use Rattle.art_model.specs.Examples.{Key, bytes_of_pair, tree_of_keys, over_two, one_byte_keys, fan, zero_keys, zero_tree, three_pairs, interact, interest, kit, node4, leaf_at, pictured, pictured_at, pictured_links};
+ghost use Rattle.art_model.specs.Examples.{Key, bytes_of_pair, tree_of_keys, over_two, one_byte_keys, fan, zero_keys, zero_tree, three_pairs, interact, interest, kit, bytes_of_tagged, tagged_pair, node4, leaf_at, pictured, pictured_at, pictured_links};
 
 /// No key, one key, a prefix longer than the two bytes that can be stored, and a node below a node.
 pub fn trees_of_few_keys()
@@ -54,6 +54,16 @@ pub fn overwrites_of_a_small_map()
     ensures one_gone { overwrite_reply bytes_of_pair (2 ∷ 9 ∷ [], 8) three_pairs ≡ (Some (2 ∷ [], 7), 0) }
     ensures two { overwrite bytes_of_pair (1 ∷ [], 8) three_pairs ≡ (1 ∷ [], 8) ∷ (2 ∷ [], 7) ∷ [] }
     ensures two_gone { overwrite_reply bytes_of_pair (1 ∷ [], 8) three_pairs ≡ (None, 2) }
+{}
+
+/// Keys with a tag that their bytes don't show: a stored key stays, and the reply has the one that was handed in.
+pub fn puts_of_equal_keys()
+    ensures put { put bytes_of_tagged ((1 ∷ 2 ∷ [], 2), 20) tagged_pair ≡ ((1 ∷ 2 ∷ [], 1), 20) ∷ [] }
+    ensures put_answer { put_reply bytes_of_tagged ((1 ∷ 2 ∷ [], 2), 20) tagged_pair ≡ Some ((1 ∷ 2 ∷ [], 2), 10) }
+    ensures overwrite { overwrite bytes_of_tagged ((1 ∷ 2 ∷ [], 3), 30) tagged_pair ≡ ((1 ∷ 2 ∷ [], 1), 30) ∷ [] }
+    ensures overwrite_answer { overwrite_reply bytes_of_tagged ((1 ∷ 2 ∷ [], 3), 30) tagged_pair ≡ (Some ((1 ∷ 2 ∷ [], 3), 10), 0) }
+    ensures unequal { overwrite bytes_of_tagged ((1 ∷ [], 4), 40) tagged_pair ≡ ((1 ∷ [], 4), 40) ∷ [] }
+    ensures unequal_answer { overwrite_reply bytes_of_tagged ((1 ∷ [], 4), 40) tagged_pair ≡ (Some ((1 ∷ 2 ∷ [], 1), 10), 0) }
 {}
 
 /// Removals by key and at both ends, and the key that is a front of a query.

@@ -1,7 +1,7 @@
 //! Maps: what is found in them, what changes leave, and what replies tell.
 
 ghost use Rattle.std.specs.Prelude.{ℕ, List};
-ghost use Rattle.art_model.specs.MapLaws.{KeysAreOnce, MatchesAreOne, MapsAreWhatIsFound, KeysAreDecided, ConflictsAreDecided, MapsStayMaps, PutIsFound, OverwriteIsFound, RemovedIsGone, FirstIsRemovedByKey, LastIsRemovedByKey, PutIsUndone, PutTells, OverwriteTells, RemovalTells, PutCounts, OverwriteCounts, RemovalCounts, SamePairsHaveSameTree};
+ghost use Rattle.art_model.specs.MapLaws.{KeysAreOnce, MatchesAreOne, MapsAreWhatIsFound, KeysAreDecided, ConflictsAreDecided, MapsStayMaps, PutIsFound, OverwriteIsFound, RemovedIsGone, FirstIsRemovedByKey, LastIsRemovedByKey, PutIsUndone, StoredKeyStays, NewKeyComes, PutKeepsKeys, OverwriteOfKeyIsPut, PutTells, OverwriteTells, RemovalTells, PutCounts, OverwriteCounts, RemovalCounts, SamePairsHaveSameTree};
 
 /// A map has each key once, and what is found under keys decides it.
 pub fn a_map_is_what_is_found<A>()
@@ -17,15 +17,23 @@ pub fn tests_of_pairs_are_right<A>()
 {}
 
 /// Every list of changes leaves a map where it finds one.
-pub fn changes_leave_a_map<A>()
-    ensures { (bytes : A → List ℕ) → MapsStayMaps bytes }
+pub fn changes_leave_a_map<K, V>()
+    ensures { (bytes : K → List ℕ) → MapsStayMaps V bytes }
 {}
 
 /// What is found under any key after a change.
-pub fn changes_are_found<A>()
-    ensures put { (bytes : A → List ℕ) → PutIsFound bytes }
-    ensures overwrite { (bytes : A → List ℕ) → OverwriteIsFound bytes }
-    ensures removal { (bytes : A → List ℕ) → RemovedIsGone bytes }
+pub fn changes_are_found<K, V>()
+    ensures put { (bytes : K → List ℕ) → PutIsFound V bytes }
+    ensures overwrite { (bytes : K → List ℕ) → OverwriteIsFound V bytes }
+    ensures removal { (bytes : K × V → List ℕ) → RemovedIsGone bytes }
+{}
+
+/// A key that is stored stays, and only its value changes.
+pub fn a_stored_key_stays<K, V>()
+    ensures stored { (bytes : K → List ℕ) → StoredKeyStays V bytes }
+    ensures new { (bytes : K → List ℕ) → NewKeyComes V bytes }
+    ensures keys { (bytes : K → List ℕ) → PutKeepsKeys V bytes }
+    ensures overwrite { (bytes : K → List ℕ) → OverwriteOfKeyIsPut V bytes }
 {}
 
 /// The first and the last pair go as their keys do.
@@ -35,25 +43,25 @@ pub fn ends_are_removed_by_key<A>()
 {}
 
 /// To put a pair whose key is related to none, and then to remove the key, leaves the same pairs.
-pub fn a_put_is_undone_by_a_removal<A>()
-    ensures { (bytes : A → List ℕ) → PutIsUndone bytes }
+pub fn a_put_is_undone_by_a_removal<K, V>()
+    ensures { (bytes : K → List ℕ) → PutIsUndone V bytes }
 {}
 
-/// A reply tells which pairs went.
-pub fn replies_tell_what_went<A>()
-    ensures put { (bytes : A → List ℕ) → PutTells bytes }
-    ensures overwrite { (bytes : A → List ℕ) → OverwriteTells bytes }
-    ensures removal { (bytes : A → List ℕ) → RemovalTells bytes }
+/// A reply tells which pairs went, or which value.
+pub fn replies_tell_what_went<K, V>()
+    ensures put { (bytes : K → List ℕ) → PutTells V bytes }
+    ensures overwrite { (bytes : K → List ℕ) → OverwriteTells V bytes }
+    ensures removal { (bytes : K × V → List ℕ) → RemovalTells bytes }
 {}
 
 /// How many pairs there are after a change.
-pub fn changes_count<A>()
-    ensures put { (bytes : A → List ℕ) → PutCounts bytes }
-    ensures overwrite { (bytes : A → List ℕ) → OverwriteCounts bytes }
-    ensures removal { (bytes : A → List ℕ) → RemovalCounts bytes }
+pub fn changes_count<K, V>()
+    ensures put { (bytes : K → List ℕ) → PutCounts V bytes }
+    ensures overwrite { (bytes : K → List ℕ) → OverwriteCounts V bytes }
+    ensures removal { (bytes : K × V → List ℕ) → RemovalCounts bytes }
 {}
 
 /// Two lists of changes that leave the same pairs leave the same tree.
-pub fn the_same_pairs_have_the_same_tree<A>()
-    ensures { (bytes : A → List ℕ) → SamePairsHaveSameTree bytes }
+pub fn the_same_pairs_have_the_same_tree<K, V>()
+    ensures { (bytes : K → List ℕ) → SamePairsHaveSameTree V bytes }
 {}

@@ -224,6 +224,22 @@ impl Trial {
         is_right
     }
 
+    /// Gives a leaf another value, and compares the old one.
+    fn swap_value(&mut self) -> bool {
+        let Some(at) = self.numbers.place_in(self.leaves.len()) else {
+            return true;
+        };
+        let (name, want) = &mut self.leaves[at];
+        let value = self.numbers.value();
+        if self.store.leaf(*name).is_none() {
+            return false;
+        }
+        let old = self.store.swap_value(*name, value);
+        let is_right = old == want.pair.1;
+        want.pair.1 = value;
+        is_right
+    }
+
     /// Gives an inner node another header.
     fn set_header(&mut self) -> bool {
         let Some(at) = self.numbers.place_in(self.inners.len()) else {
@@ -305,7 +321,8 @@ impl Trial {
             2 | 3 => Ok(self.write_children()),
             4 => Ok(self.remove_children()),
             5 => Ok(self.set_links()),
-            6 => Ok(self.swap_pair()),
+            6 if is_rare => Ok(self.swap_pair()),
+            6 => Ok(self.swap_value()),
             7 => Ok(self.set_header()),
             _ => self.reserve(),
         }

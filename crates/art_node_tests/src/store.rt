@@ -60,6 +60,22 @@ fn move_pair<K: AsBytes + Drop, V: Drop, const P: usize>(
     store.swap_pair(to, leaf.key, leaf.value)
 }
 
+// A caller: gives a leaf another value and then the old one again; no other leaf has changed.
+fn try_value<K: AsBytes + Drop, V: Drop, const P: usize>(
+    store: &mut NodeStore<K, V, P>,
+    leaf: LeafPtr,
+    other: LeafPtr,
+    value: V,
+) -> V
+    requires leaf { IsSome (map.get store.old.leaves leaf) }
+    requires distinct { other ≢ leaf }
+    ensures stays { IsSome (map.get store.new.leaves leaf) }
+    ensures kept { map.get store.new.leaves other ≡ map.get store.old.leaves other }
+{
+    let old = store.swap_value(leaf, value);
+    store.swap_value(leaf, old)
+}
+
 // A caller: places a node with one child.
 fn place_above<K: AsBytes + Drop, V: Drop, const P: usize>(
     store: &mut NodeStore<K, V, P>,
@@ -260,6 +276,34 @@ fn move_first(store: &mut Store) -> Option<[bool; 4]> {
 fn leaves_are_linked_and_freed(rt: HostRuntime) {
     let mut store = Store::new(rt.alloc());
     assert_eq!(rt; move_first(&mut store), Some([true; 4]));
+}
+
+// Gives the second of two leaves another value; answers whether each is right: the old value, what is under
+// both names then, and which value comes back and stays where it is tried.
+fn give_value(store: &mut Store) -> Option<[bool; 5]> {
+    let (first, second) = place_pair(store).ok()?;
+    if first == second || store.leaf(second).is_none() {
+        return None;
+    }
+    let old = store.swap_value(second, 21);
+    let given = leaf_seen(store, second);
+    if store.leaf(second).is_none() {
+        return None;
+    }
+    let tried = try_value(store, second, first, 22);
+    Some([
+        old == 20,
+        given == expected_leaf(2, 21, Some(first)),
+        leaf_seen(store, first) == expected_leaf(1, 10, None),
+        tried == 22,
+        leaf_seen(store, second) == given,
+    ])
+}
+
+#[test]
+fn a_leaf_is_given_another_value(rt: HostRuntime) {
+    let mut store = Store::new(rt.alloc());
+    assert_eq!(rt; give_value(&mut store), Some([true; 5]));
 }
 
 // Places a node with this child under 3 and one with none, and answers both names.

@@ -18,24 +18,26 @@ use Rattle.art_nodes.specs.declared.node.OpaqueNodePtr.{OpaqueNodePtr}
 use Rattle.art_model.specs.Canonical.{IsTree}
 use Rattle.art_model.specs.Keys.{IsFront, are_related, are_same}
 use Rattle.art_model.specs.Layouts.{name_of, slots_of, Holds}
-use Rattle.art_model.specs.Pairs.{of_key, first_of, has_key, with_key, put, remove_key}
+use Rattle.art_model.specs.Pairs.{of_key, first_of, has_key, with_key, put, remove_key, replace_key}
 use Rattle.art_model.specs.Paths.{Frame, plug, IsPath}
 use Rattle.art_model.specs.Places.{least_key, prefix_of}
 use Rattle.art_model.specs.Radix.{IsRadix, AreRadix, IsRising, join, bytes_of, pairs_of, pairs_below}
 use Rattle.art_model.specs.Stores.{node_at}
 use Rattle.art_model.specs.Trees.{Tree, leaf, inner, Children, child, no_child, Header, header_of, kind_of}
 use Rattle.art_model.proofs.AddedChild.{IsSplit, kind_of-larger, split_at}
-use Rattle.art_model.proofs.Between.{put-between, remove_key-between}
+use Rattle.art_model.proofs.Between.{remove_key-between, replace_key-between}
 use Rattle.art_model.proofs.Canonical.{tree_radix}
 use Rattle.art_model.proofs.Changes.{two_children, branch, trimmed, with_child, exact, alone, raised, merged, child_removed, child_left}
 use Rattle.art_model.proofs.Fronts.{ArePart, part_where, related_after, unrelated_part}
-use Rattle.art_model.proofs.Keys.{related_sym}
+use Rattle.art_model.proofs.InHole.{with_key-hole}
+use Rattle.art_model.proofs.Keys.{front_same, related_sym}
 use Rattle.art_model.proofs.Lists.{after_front, front_cut}
-use Rattle.art_model.proofs.MapLaws.{put_counts}
+use Rattle.art_model.proofs.MapLaws.{replacement_counts}
 use Rattle.art_model.proofs.OutOf.{kind_of-smaller}
 use Rattle.art_model.proofs.Paths.{IsHole, radix_plug, changed_at, pairs_of-plug}
 use Rattle.art_model.proofs.PlaceLaws.{depth_is}
 use Rattle.art_model.proofs.Places.{place_is, prefix_is}
+use Rattle.art_model.proofs.Puts.{put-new, put-old}
 use Rattle.art_model.proofs.Radix.{only_child, pairs_below-join, bytes_of-join, AreRadix-right}
 use Rattle.art_model.proofs.Slots.{IsInRange, range_of_kind, kind_of-room, kind_of-full, kind_of-spare, kind_of-least, length-slots_of}
 use Rattle.art_model.proofs.Stores.{path_holds}
@@ -62,8 +64,8 @@ use Rattle.art_writing.proofs.Ways.{last_step-path_of}
 -- ---- a key that is new, or not
 
 module _ {A : Type 0} (bytes : A → List ℕ) (new : A) (pairs : List A) where
-  key_by_length : (n : ℕ) → length (put bytes new pairs) ≡ length pairs + n → cond (has_key bytes (bytes new) pairs) 0 1 ≡ n
-  key_by_length n e = go (with_key bytes (bytes new) pairs) refl (let c = put_counts bytes new pairs in omega arith)
+  key_by_length : (n : ℕ) → length (replace_key bytes new pairs) ≡ length pairs + n → cond (has_key bytes (bytes new) pairs) 0 1 ≡ n
+  key_by_length n e = go (with_key bytes (bytes new) pairs) refl (let c = replacement_counts bytes new pairs in omega arith)
     where
       go : (found : List A) → with_key bytes (bytes new) pairs ≡ found → n + length (with_key bytes (bytes new) pairs) ≡ 1 → cond (has_key bytes (bytes new) pairs) 0 1 ≡ n
       go [] is c =
@@ -73,26 +75,56 @@ module _ {A : Type 0} (bytes : A → List ℕ) (new : A) (pairs : List A) where
           let none_is : 0 ≡ n = let l = ap length is in omega arith in
           ap (λ b. cond b 0 1) (any_first (λ y. are_same (bytes new) (bytes y)) pairs ∙ ap (λ ys. is_some (first_of ys)) is) ∙ none_is
 
+  -- where the list becomes longer by one, no pair had the key
+  none_by_length : length (replace_key bytes new pairs) ≡ length pairs + 1 → first_of (with_key bytes (bytes new) pairs) ≡ None
+  none_by_length e = go (with_key bytes (bytes new) pairs) (let c = replacement_counts bytes new pairs in omega arith)
+    where
+      go : (found : List A) → length found ≡ 0 → first_of found ≡ None
+      go [] h = refl
+      go (x ∷ xs) h = absurd (omega arith)
+
 -- ---- insertion
 
 module _ {K V : Type 0} (bytes : K → List ℕ) (P : ℕ) (k : K) (v : V) {fs : List (Frame OpaqueNodePtr (K × V))} {place : List ℕ} {t : Tree OpaqueNodePtr (K × V)} (hole : IsHole (of_key bytes) P fs place t (bytes k)) (was : IsRadix (of_key bytes) P [] (plug fs t)) where
-  -- what is needed for another tree in the hole
-  module _ (u : Tree OpaqueNodePtr (K × V)) (radix : IsRadix (of_key bytes) P place u) (its : pairs_of u ≡ put (of_key bytes) (k, v) (pairs_of t)) where
-    all : IsRadix (of_key bytes) P [] (plug fs u) × (pairs_of (plug fs u) ≡ put (of_key bytes) (k, v) (pairs_of (plug fs t)))
-    all = changed_at (of_key bytes) P fs place hole.path t u radix (bytes k) (put (of_key bytes) (k, v)) (put-between (of_key bytes) (k, v)) hole.front its
+  -- what is needed for another tree in the hole, where this pair is what is stored for the new one
+  module _ (x : K × V) (alike : bytes x.0 ≡ bytes k) (u : Tree OpaqueNodePtr (K × V)) (radix : IsRadix (of_key bytes) P place u) (its : pairs_of u ≡ replace_key (of_key bytes) x (pairs_of t)) where
+    pub all_replaced : IsRadix (of_key bytes) P [] (plug fs u) × (pairs_of (plug fs u) ≡ replace_key (of_key bytes) x (pairs_of (plug fs t)))
+    all_replaced = changed_at (of_key bytes) P fs place hole.path t u radix (bytes x.0) (replace_key (of_key bytes) x) (replace_key-between (of_key bytes) x) (subst (IsFront place) (sym alike) hole.front) its
 
-    leaves_needed : (n : ℕ) → length (pairs_of u) ≡ length (pairs_of t) + n → n ≡ (needs bytes P (Insert k v) (pairs_of (plug fs t))).leaves
-    leaves_needed n e =
+    longer_whole : (n : ℕ) → length (pairs_of u) ≡ length (pairs_of t) + n → length (replace_key (of_key bytes) x (pairs_of (plug fs t))) ≡ length (pairs_of (plug fs t)) + n
+    longer_whole n e =
         let a = ap length (pairs_of-plug fs u) in
         let b = ap length (pairs_of-plug fs t) in
         let longer : length (pairs_of (plug fs u)) ≡ length (pairs_of (plug fs t)) + n = omega (arith, simp length-append at a, simp length-append at b) in
-        sym (key_by_length (of_key bytes) (k, v) (pairs_of (plug fs t)) n (ap length (sym all.1) ∙ longer))
+        ap length (sym all_replaced.1) ∙ longer
 
-    pub needs_some : (n : ℕ) (a : NodeType) (goes : NodeType → ℕ) → length (pairs_of u) ≡ length (pairs_of t) + n → a ≢ Leaf → goes a ≡ 0 → ((kind : NodeType) → count_of kind u + goes kind ≡ count_of kind t + one kind a) → ◌≡◌ {A = Promise} (record { leaves = n; inner = Some a }) (needs bytes P (Insert k v) (pairs_of (plug fs t)))
-    needs_some n a goes longer proper off h = ap₂ (λ x y. record { leaves = x; inner = y }) (leaves_needed n longer) (sym (ap (λ ps. more_of (inner_count bytes P (pairs_of (plug fs t))) (inner_count bytes P ps)) (sym all.1) ∙ gains bytes P (plug fs t) (plug fs u) was all.0 a goes proper off (λ kind. more_in_hole fs t u kind (goes kind) (one kind a) (h kind))))
+    -- a pair more is a new one
+    pub comes_new : length (pairs_of u) ≡ length (pairs_of t) + 1 → first_of (with_key (of_key bytes) (bytes x.0) (pairs_of (plug fs t))) ≡ None
+    comes_new e = none_by_length (of_key bytes) x (pairs_of (plug fs t)) (longer_whole 1 e)
 
-    pub needs_none : (n : ℕ) → length (pairs_of u) ≡ length (pairs_of t) + n → ((kind : NodeType) → count_of kind u ≤ count_of kind t) → ◌≡◌ {A = Promise} (record { leaves = n; inner = None }) (needs bytes P (Insert k v) (pairs_of (plug fs t)))
-    needs_none n longer h = ap₂ (λ x y. record { leaves = x; inner = y }) (leaves_needed n longer) (sym (ap (λ ps. more_of (inner_count bytes P (pairs_of (plug fs t))) (inner_count bytes P ps)) (sym all.1) ∙ loses bytes P (plug fs t) (plug fs u) was all.0 (λ kind. fewer_in_hole fs t u kind (h kind))))
+    module _ (is : put (of_key bytes) (k, v) (pairs_of (plug fs t)) ≡ replace_key (of_key bytes) x (pairs_of (plug fs t))) where
+      all : IsRadix (of_key bytes) P [] (plug fs u) × (pairs_of (plug fs u) ≡ put (of_key bytes) (k, v) (pairs_of (plug fs t)))
+      all = (all_replaced.0, all_replaced.1 ∙ sym is)
+
+      leaves_needed : (n : ℕ) → length (pairs_of u) ≡ length (pairs_of t) + n → n ≡ (needs bytes P (Insert k v) (pairs_of (plug fs t))).leaves
+      leaves_needed n e = sym (ap (λ z. cond (has_key (of_key bytes) z (pairs_of (plug fs t))) 0 1) (sym alike) ∙ key_by_length (of_key bytes) x (pairs_of (plug fs t)) n (longer_whole n e))
+
+      pub needs_some : (n : ℕ) (a : NodeType) (goes : NodeType → ℕ) → length (pairs_of u) ≡ length (pairs_of t) + n → a ≢ Leaf → goes a ≡ 0 → ((kind : NodeType) → count_of kind u + goes kind ≡ count_of kind t + one kind a) → ◌≡◌ {A = Promise} (record { leaves = n; inner = Some a }) (needs bytes P (Insert k v) (pairs_of (plug fs t)))
+      needs_some n a goes longer proper off h = ap₂ (λ x y. record { leaves = x; inner = y }) (leaves_needed n longer) (sym (ap (λ ps. more_of (inner_count bytes P (pairs_of (plug fs t))) (inner_count bytes P ps)) (sym all.1) ∙ gains bytes P (plug fs t) (plug fs u) was all.0 a goes proper off (λ kind. more_in_hole fs t u kind (goes kind) (one kind a) (h kind))))
+
+      pub needs_none : (n : ℕ) → length (pairs_of u) ≡ length (pairs_of t) + n → ((kind : NodeType) → count_of kind u ≤ count_of kind t) → ◌≡◌ {A = Promise} (record { leaves = n; inner = None }) (needs bytes P (Insert k v) (pairs_of (plug fs t)))
+      needs_none n longer h = ap₂ (λ x y. record { leaves = x; inner = y }) (leaves_needed n longer) (sym (ap (λ ps. more_of (inner_count bytes P (pairs_of (plug fs t))) (inner_count bytes P ps)) (sym all.1) ∙ loses bytes P (plug fs t) (plug fs u) was all.0 (λ kind. fewer_in_hole fs t u kind (h kind))))
+
+  -- the same where the pair is the new one and comes to the others
+  module _ (u : Tree OpaqueNodePtr (K × V)) (radix : IsRadix (of_key bytes) P place u) (its : pairs_of u ≡ replace_key (of_key bytes) (k, v) (pairs_of t)) (longer : length (pairs_of u) ≡ length (pairs_of t) + 1) where
+    is_new : put (of_key bytes) (k, v) (pairs_of (plug fs t)) ≡ replace_key (of_key bytes) (k, v) (pairs_of (plug fs t))
+    is_new = put-new (of_key bytes) (k, v) (pairs_of (plug fs t)) (comes_new (k, v) refl u radix its longer)
+
+    pub new_needs_some : (a : NodeType) (goes : NodeType → ℕ) → a ≢ Leaf → goes a ≡ 0 → ((kind : NodeType) → count_of kind u + goes kind ≡ count_of kind t + one kind a) → ◌≡◌ {A = Promise} (record { leaves = 1; inner = Some a }) (needs bytes P (Insert k v) (pairs_of (plug fs t)))
+    new_needs_some a goes proper off h = needs_some (k, v) refl u radix its is_new 1 a goes longer proper off h
+
+    pub new_needs_none : ((kind : NodeType) → count_of kind u ≤ count_of kind t) → ◌≡◌ {A = Promise} (record { leaves = 1; inner = None }) (needs bytes P (Insert k v) (pairs_of (plug fs t)))
+    new_needs_none h = needs_none (k, v) refl u radix its is_new 1 longer h
 
 -- no number of children has the kind of a leaf
 kind_of-proper : (n : ℕ) → kind_of n ≢ Leaf
@@ -111,8 +143,8 @@ module _ {K V : Type 0} (bytes : K → List ℕ) (P : ℕ) (k : K) (v : V) {fs :
   branch_needs u old part below same counts =
       let new_front : IsFront ((place ++ part.front) ++ part.y ∷ []) (bytes k) = (part.s, hole.front.1 ∙ ap (λ z. place ++ z) part.b_is ∙ simp append_assoc) in
       let (radix, its) = branch (of_key bytes) P place part.front part.x part.y u (name_of u) (name_of u) (k, v) below new_front part.differ in
-      needs_some bytes P k v hole was (inner (name_of u) (header_of P part.front 2) (two_children part.x u part.y (leaf (name_of u) (k, v)))) radix (its ∙ ap (put (of_key bytes) (k, v)) same) 1 Node4 (λ kind. 0)
-      (longer (ltb part.x part.y) ∙ ap (λ z. length z + 1) same) (λ e. absurd cc) refl (λ kind. more kind (ltb part.x part.y) (counts kind))
+      new_needs_some bytes P k v hole was (inner (name_of u) (header_of P part.front 2) (two_children part.x u part.y (leaf (name_of u) (k, v)))) radix (its ∙ ap (replace_key (of_key bytes) (k, v)) same)
+      (longer (ltb part.x part.y) ∙ ap (λ z. length z + 1) same) Node4 (λ kind. 0) (λ e. absurd cc) refl (λ kind. more kind (ltb part.x part.y) (counts kind))
     where
       longer : (first : Bool) → length (pairs_below (cond first (child part.x u (child part.y (leaf (name_of u) (k, v)) no_child)) (child part.y (leaf (name_of u) (k, v)) (child part.x u no_child)))) ≡ length (pairs_of u) + 1
       longer true = length-append (pairs_of u) ((k, v) ∷ [])
@@ -124,7 +156,12 @@ module _ {K V : Type 0} (bytes : K → List ℕ) (P : ℕ) (k : K) (v : V) {fs :
 
   -- a leaf in the place of one with its key
   same_needs : (pair : K × V) → t ≡ leaf (name_of t) pair → bytes pair.0 ≡ bytes k → ◌≡◌ {A = Promise} (record { leaves = 0; inner = None }) (needs bytes P (Insert k v) (pairs_of (plug fs t)))
-  same_needs pair is same = needs_none bytes P k v hole was (leaf (name_of t) (k, v)) hole.front (sym (ap (λ z. put (of_key bytes) (k, v) (pairs_of z)) is ∙ exact (of_key bytes) (k, v) pair (sym same))) 0
+  same_needs pair is same =
+      let equal : are_same (bytes k) (bytes pair.0) ≡ true = ap (are_same (bytes k)) same ∙ front_same (bytes k) in
+      let stored : first_of (with_key (of_key bytes) (bytes k) (pairs_of (plug fs t))) ≡ Some pair =
+      ap first_of (with_key-hole (of_key bytes) P fs place (bytes k) t hole.path hole.front) ∙ ap (λ z. first_of (with_key (of_key bytes) (bytes k) (pairs_of z))) is ∙ rw equal refl in
+      let here : replace_key (of_key bytes) (pair.0, v) (pairs_of t) ≡ (pair.0, v) ∷ [] = ap (λ z. replace_key (of_key bytes) (pair.0, v) (pairs_of z)) is ∙ exact (of_key bytes) (pair.0, v) pair refl in
+      needs_none bytes P k v hole was (pair.0, v) same (leaf (name_of t) (pair.0, v)) (subst (IsFront place) (sym same) hole.front) (sym here) (put-old (of_key bytes) (k, v) (pairs_of (plug fs t)) pair stored) 0
       (let e : length (pairs_of t) ≡ 1 = ap (λ z. length (pairs_of z)) is in omega arith) (λ kind. let none : 0 ≤ count_of kind t = omega arith in none)
 
   -- a leaf whose key is not related is split
@@ -168,14 +205,14 @@ module _ {K V : Type 0} (bytes : K → List ℕ) (P : ℕ) (k : K) (v : V) {fs :
       grown : Tree OpaqueNodePtr (K × V)
       grown = inner (name_of t) (header_of P radix_here.0 (suc count)) (join split.left (child b (leaf (name_of t) (k, v)) split.right))
 
-      grown_is : IsRadix (of_key bytes) P place grown × (pairs_of grown ≡ put (of_key bytes) (k, v) (pairs_below (join split.left split.right)))
+      grown_is : IsRadix (of_key bytes) P place grown × (pairs_of grown ≡ replace_key (of_key bytes) (k, v) (pairs_below (join split.left split.right)))
       unfolding grown
       grown_is =
           with_child (of_key bytes) P place radix_here.0 split.left split.right b (name_of t) (name_of t) (k, v) (subst (λ z. IsRising (bytes_of z)) split.whole radix_here.3) split.low split.high
           (let two = subst (λ z. 2 ≤ length (bytes_of z)) split.whole radix_here.2 in omega arith) (subst (AreRadix (of_key bytes) P (place ++ radix_here.0)) split.whole radix_here.4) front
 
-      grown_pairs : pairs_of grown ≡ put (of_key bytes) (k, v) (pairs_of t)
-      grown_pairs = grown_is.1 ∙ ap (put (of_key bytes) (k, v)) (ap pairs_below (sym split.whole) ∙ ap pairs_of (sym is))
+      grown_pairs : pairs_of grown ≡ replace_key (of_key bytes) (k, v) (pairs_of t)
+      grown_pairs = grown_is.1 ∙ ap (replace_key (of_key bytes) (k, v)) (ap pairs_below (sym split.whole) ∙ ap pairs_of (sym is))
 
       longer : length (pairs_of grown) ≡ length (pairs_of t) + 1
       unfolding grown
@@ -211,10 +248,10 @@ module _ {K V : Type 0} (bytes : K → List ℕ) (P : ℕ) (k : K) (v : V) {fs :
               let full = leb-true (kind_capacity kind) count e in
               let not_last : kind ≢ Node256 = λ last. let c = ap kind_capacity last in absurd (omega arith) in
               ap (λ (z : NodeType). let y : Promise = record { leaves = 1; inner = Some z } in y) (kind_of-larger kind count own not_last full)
-              ∙ needs_some bytes P k v hole was grown grown_is.0 grown_pairs 1 (kind_of (suc count)) (λ z. one z (kind_of count)) longer (kind_of-proper (suc count)) (one_off (kind_of (suc count)) (kind_of count) (λ same. kind_of-full kind count not_last full (own ∙ sym same))) more
+              ∙ new_needs_some bytes P k v hole was grown grown_is.0 grown_pairs longer (kind_of (suc count)) (λ z. one z (kind_of count)) (kind_of-proper (suc count)) (one_off (kind_of (suc count)) (kind_of count) (λ same. kind_of-full kind count not_last full (own ∙ sym same))) more
           go kind own few false e =
               let room = kind_of-room kind count own (leb-false (kind_capacity kind) count e) in
-              needs_none bytes P k v hole was grown grown_is.0 grown_pairs 1 longer (λ z. let m = more z in let o : one z (kind_of count) ≡ one z (kind_of (suc count)) = ap (one z) (sym own ∙ room) in omega arith)
+              new_needs_none bytes P k v hole was grown grown_is.0 grown_pairs longer (λ z. let m = more z in let o : one z (kind_of count) ≡ one z (kind_of (suc count)) = ap (one z) (sym own ∙ room) in omega arith)
 
     -- the byte after the prefix
     into_needs : (used : ℕ) → IsFront (prefix_of (of_key bytes) (length place) t) (drop (length place) (bytes k)) → used ≡ length place + length (prefix_of (of_key bytes) (length place) t) → used < length (bytes k) → child_at (slots_of cs) (get_or (bytes k) used 0) ≡ None →

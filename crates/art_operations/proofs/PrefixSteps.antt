@@ -14,18 +14,20 @@ use Rattle.art_model.specs.Canonical.{IsCanonical, IsTree}
 use Rattle.art_model.specs.Footprints.{TouchesAtMost}
 use Rattle.art_model.specs.Keys.{are_related, are_same}
 use Rattle.art_model.specs.Kept.{ChangesInPlace}
-use Rattle.art_model.specs.Pairs.{of_key, add_in_order, first_of, went, is_conflict, overwrite, overwrite_reply, related_to, remove_key, remove_related, with_key}
+use Rattle.art_model.specs.Pairs.{of_key, add_in_order, first_of, went, is_conflict, overwrite, overwrite_reply, related_to, remove_key, remove_related, replace_related, with_key}
 use Rattle.art_model.specs.Paths.{Frame, plug}
 use Rattle.art_model.specs.Promises.{is_covered, promise_after}
 use Rattle.art_model.specs.Radix.{IsRadix, pairs_of}
 use Rattle.art_model.specs.Stores.{pair_of}
 use Rattle.art_model.specs.Trees.{leaf}
-use Rattle.art_model.proofs.Between.{overwrite-between}
+use Rattle.art_model.proofs.Between.{replace_related-between}
 use Rattle.art_model.proofs.Canonical.{tree_radix}
 use Rattle.art_model.proofs.Filters.{filter_all}
+use Rattle.art_model.proofs.InHole.{with_key-hole}
 use Rattle.art_model.proofs.Lists.{filter_none, Each-weaker}
 use Rattle.art_model.proofs.Paths.{IsHole, changed_at, related_at}
-use Rattle.art_model.proofs.PutOver.{free_unrelated, one_went, same_rest}
+use Rattle.art_model.proofs.PutOver.{free_unrelated, one_went, put_is_overwrite, same_rest}
+use Rattle.art_model.proofs.Puts.{not_same, overwrite-new}
 use Rattle.art_model.proofs.Views.{leaf_or}
 use Rattle.art_operations.specs.Needs.{needs, more_of, inner_count}
 use Rattle.art_writing.specs.Overwritten.{HasByteLeftFor, IsOverwritePointIn, TouchesForNode, TouchesForPrefix, TouchesRelated, placed_for_overwrite, placed_for_prefix}
@@ -65,16 +67,20 @@ placed_leaf kind count (inr (off, two)) = rw (ne_eqb count 1 (λ e. omega arith)
 
 module _ {K V : Type 0} (bytes : K → List ℕ) (P : ℕ) {s : Nodes K V} {root : OpaqueNodePtr} {layout : Layout K V} (by : IsTree (of_key bytes) P s root (pairs_of layout) layout) where
   -- no inner node comes where a leaf takes the place of a node
-  none_comes : (fs : List (Frame OpaqueNodePtr (K × V))) (place : List ℕ) (node : Layout K V) (x : K × V) → plug fs node ≡ layout → IsHole (of_key bytes) P fs place node (bytes x.0) → Each (λ y. are_related (bytes x.0) (bytes y.0) ≡ true) (pairs_of node) →
+  none_comes : (fs : List (Frame OpaqueNodePtr (K × V))) (place : List ℕ) (node : Layout K V) (x : K × V) → plug fs node ≡ layout → IsHole (of_key bytes) P fs place node (bytes x.0) → Each (λ y. are_related (bytes x.0) (bytes y.0) ≡ true) (pairs_of node) → Each (λ y. bytes y.0 ≢ bytes x.0) (pairs_of node) →
       more_of (inner_count bytes P (pairs_of layout)) (inner_count bytes P (overwrite (of_key bytes) x (pairs_of layout))) ≡ None
-  none_comes fs place node x whole hole related =
-      let F = overwrite (of_key bytes) x in
+  none_comes fs place node x whole hole related unequal =
+      let F = replace_related (of_key bytes) x in
       let its : F (pairs_of node) ≡ x ∷ [] = ap (add_in_order (of_key bytes) x) (filter_none (λ y. not (are_related (bytes x.0) (bytes y.0))) (pairs_of node) (Each-weaker (λ y. are_related (bytes x.0) (bytes y.0) ≡ true) (λ y. not (are_related (bytes x.0) (bytes y.0)) ≡ false) (λ y e. ap not e) (pairs_of node) related)) in
       let new = leaf root x in
       let old : IsRadix (of_key bytes) P [] (plug fs node) = subst (IsRadix (of_key bytes) P []) (sym whole) (tree_radix by).0 in
-      let (radix, all) = changed_at (of_key bytes) P fs place hole.path node new hole.front (bytes x.0) F (overwrite-between (of_key bytes) x) hole.front (sym its) in
+      let (radix, all) = changed_at (of_key bytes) P fs place hole.path node new hole.front (bytes x.0) F (replace_related-between (of_key bytes) x) hole.front (sym its) in
       let none = loses bytes P (plug fs node) (plug fs new) old radix (λ k. fewer_in_hole fs node new k (omega arith)) in
-      subst (λ l. more_of (inner_count bytes P (pairs_of l)) (inner_count bytes P (F (pairs_of l))) ≡ None) whole (subst (λ ps. more_of (inner_count bytes P (pairs_of (plug fs node))) (inner_count bytes P ps) ≡ None) all none)
+      let stored : first_of (with_key (of_key bytes) (bytes x.0) (pairs_of layout)) ≡ None =
+      ap (λ l. first_of (with_key (of_key bytes) (bytes x.0) (pairs_of l))) (sym whole) ∙ ap first_of (with_key-hole (of_key bytes) P fs place (bytes x.0) node hole.path hole.front
+      ∙ filter_none (λ y. are_same (bytes x.0) (bytes y.0)) (pairs_of node) (Each-weaker (λ y. bytes y.0 ≢ bytes x.0) (λ y. are_same (bytes x.0) (bytes y.0) ≡ false) (λ y off. not_same (bytes x.0) (bytes y.0) (λ e. off (sym e))) (pairs_of node) unequal)) in
+      ap (λ ps. more_of (inner_count bytes P (pairs_of layout)) (inner_count bytes P ps)) (overwrite-new (of_key bytes) x (pairs_of layout) stored)
+      ∙ subst (λ l. more_of (inner_count bytes P (pairs_of l)) (inner_count bytes P (F (pairs_of l))) ≡ None) whole (subst (λ ps. more_of (inner_count bytes P (pairs_of (plug fs node))) (inner_count bytes P ps) ≡ None) all none)
 
   -- What a point to overwrite says of the pairs.
   pub record Overwrites (k : K) (v : V) (kind : NodeType) : Type 0 where
@@ -90,12 +96,12 @@ module _ {K V : Type 0} (bytes : K → List ℕ) (P : ℕ) {s : Nodes K V} {root
             let l = related_leaf answers (sym e) here in
             let all : related_to (of_key bytes) (bytes k) (pairs_of layout) ≡ pair_of l.shown ∷ [] =
             ap (λ t. related_to (of_key bytes) (bytes k) (pairs_of t)) (sym l.whole) ∙ related_at (of_key bytes) P l.path l.place (bytes k) (leaf (leaf_name p) (pair_of l.shown)) l.hole.path l.hole.front ∙ rw l.related refl in
-            record { one = inl (ap (λ z. z.kind) e, ap length all); none = none_comes l.path l.place (leaf (leaf_name p) (pair_of l.shown)) (k, v) l.whole l.hole (l.related, tt) }
+            record { one = inl (ap (λ z. z.kind) e, ap length all); none = none_comes l.path l.place (leaf (leaf_name p) (pair_of l.shown)) (k, v) l.whole l.hole (l.related, tt) (λ e. l.unequal (sym e), tt) }
         | inr off ↦
             let a = subtree_at answers off here in
             let all : related_to (of_key bytes) (bytes k) (pairs_of layout) ≡ pairs_of a.node =
             ap (λ t. related_to (of_key bytes) (bytes k) (pairs_of t)) (sym a.whole) ∙ related_at (of_key bytes) P a.path a.place (bytes k) a.node a.hole.path a.hole.front ∙ filter_all (λ y. are_related (bytes k) (bytes y.0)) (pairs_of a.node) a.related in
-            record { one = inr (off, subst (λ ps. 2 ≤ length ps) (sym all) a.two); none = none_comes a.path a.place a.node (k, v) a.whole a.hole a.related }
+            record { one = inr (off, subst (λ ps. 2 ≤ length ps) (sym all) a.two); none = none_comes a.path a.place a.node (k, v) a.whole a.hole a.related a.unequal }
       ]
 
   -- what is placed is what the command needs
@@ -147,7 +153,7 @@ module _ {K V : Type 0} (bytes : K → List ℕ) (P : ℕ) {s : Nodes K V} {root
     needs_same : needs bytes P (Insert k v) (pairs_of layout) ≡ needs bytes P (InsertPrefix k v) (pairs_of layout)
     needs_same = ap₂ (λ (leaves : ℕ) (inner : Option NodeType). let y : Promise = record { leaves = leaves; inner = inner } in y)
         (ap (λ b. cond b 0 1) (any_first (λ x. are_same (bytes k) (bytes x.0)) (pairs_of layout)) ∙ one_leaf (with_key (of_key bytes) (bytes k) (pairs_of layout)) one_has ∙ ap (λ xs. cond (eqb (length xs) 1) 0 1) (sym same_parts.1))
-        (ap (λ ps. more_of (inner_count bytes P (pairs_of layout)) (inner_count bytes P (add_in_order (of_key bytes) (k, v) ps))) (sym same_parts.0))
+        (ap (λ ps. more_of (inner_count bytes P (pairs_of layout)) (inner_count bytes P ps)) (sym (put_is_overwrite (of_key bytes) (k, v) (pairs_of layout) (free_unrelated (of_key bytes) (k, v) (bytes k) (pairs_of layout) free))))
 
     few_related : leb (length (related_to (of_key bytes) (bytes k) (pairs_of layout))) 1 ≡ true
     few_related = ap (λ xs. leb (length xs) 1) same_parts.1 ∙ one_at_most (with_key (of_key bytes) (bytes k) (pairs_of layout)) one_has

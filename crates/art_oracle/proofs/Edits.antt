@@ -7,11 +7,12 @@ use Rattle.std.proofs.lemmas.List.{take-append-drop, set_split}
 use Rattle.std.proofs.lemmas.List.Elements.{filter-append}
 use Rattle.std.proofs.lemmas.Option.{slice_get_within}
 use Rattle.art_model.specs.Keys.{is_before, is_front, are_related, are_same, Precedes}
-use Rattle.art_model.specs.Pairs.{IsMap, with_key, put, remove_key, of_key, is_conflict, has_key}
+use Rattle.art_model.specs.Pairs.{IsMap, first_of, with_key, put, put_reply, remove_key, replace_key, of_key, is_conflict, has_key}
 use Rattle.art_model.proofs.Keys.{same_related, related_sym, front_same}
 use Rattle.art_model.proofs.Lists.{Each-weaker, Each-append, filter_none}
 use Rattle.art_model.proofs.Pairwises.{Pairwise-before, Pairwise-after, Pairwise-without, Pairwise-with}
-use Rattle.art_model.proofs.Between.{put-between, remove_key-between}
+use Rattle.art_model.proofs.Between.{replace_key-between, remove_key-between}
+use Rattle.art_model.proofs.Puts.{put-new, put-old, put_reply-old}
 use Rattle.art_oracle.specs.SortedPairs.{IsPairOf, IsGapFor, AllBefore, AllAfter}
 use Rattle.art_oracle.proofs.Order.{later_no_front}
 use Rattle.art_oracle.proofs.Neighbours.{other_after, other_before, conflict_split}
@@ -80,21 +81,21 @@ module _ {A : Type 0} (bytes : A → List ℕ) (key : List ℕ) (xs zs : List A)
       let rest : with_key bytes key (x ∷ zs) ≡ x ∷ [] = rw same (ap (λ l. x ∷ l) (filter_none (λ y. are_same key (bytes y)) zs others_high)) in
       filter-append (λ y. are_same key (bytes y)) xs (x ∷ zs) ∙ ap₂ (λ (a b : List A). a ++ b) (filter_none (λ y. are_same key (bytes y)) xs others_low) rest
 
-  pub put-new : (new : A) → bytes new ≡ key → put bytes new (xs ++ zs) ≡ xs ++ new ∷ zs
-  put-new new e =
+  pub replace_key-new : (new : A) → bytes new ≡ key → replace_key bytes new (xs ++ zs) ≡ xs ++ new ∷ zs
+  replace_key-new new e =
       let l = subst (λ k. Each (λ y. Precedes (bytes y) k) xs) (sym e) low in
       let h = subst (λ k. Each (λ y. Precedes k (bytes y)) zs) (sym e) high in
-      let s = put-between bytes new xs [] zs l h in
-      let t : put bytes new ((xs ++ []) ++ zs) ≡ (xs ++ new ∷ []) ++ zs = s in
-      ap (λ l. put bytes new (l ++ zs)) (sym (append-nil xs)) ∙ t ∙ append_assoc xs (new ∷ []) zs
+      let s = replace_key-between bytes new xs [] zs l h in
+      let t : replace_key bytes new ((xs ++ []) ++ zs) ≡ (xs ++ new ∷ []) ++ zs = s in
+      ap (λ l. replace_key bytes new (l ++ zs)) (sym (append-nil xs)) ∙ t ∙ append_assoc xs (new ∷ []) zs
 
-  pub put-over : (new x : A) → bytes new ≡ key → bytes x ≡ key → put bytes new (xs ++ x ∷ zs) ≡ xs ++ new ∷ zs
-  put-over new x e f =
+  pub replace_key-over : (new x : A) → bytes new ≡ key → bytes x ≡ key → replace_key bytes new (xs ++ x ∷ zs) ≡ xs ++ new ∷ zs
+  replace_key-over new x e f =
       let l = subst (λ k. Each (λ y. Precedes (bytes y) k) xs) (sym e) low in
       let h = subst (λ k. Each (λ y. Precedes k (bytes y)) zs) (sym e) high in
       let same : are_same (bytes new) (bytes x) ≡ true = rw (e, f) (front_same key) in
-      let one : put bytes new (x ∷ []) ≡ new ∷ [] = rw same refl in
-      ap (put bytes new) (sym (append_assoc xs (x ∷ []) zs)) ∙ put-between bytes new xs (x ∷ []) zs l h ∙ ap (λ m. (xs ++ m) ++ zs) one ∙ append_assoc xs (new ∷ []) zs
+      let one : replace_key bytes new (x ∷ []) ≡ new ∷ [] = rw same refl in
+      ap (replace_key bytes new) (sym (append_assoc xs (x ∷ []) zs)) ∙ replace_key-between bytes new xs (x ∷ []) zs l h ∙ ap (λ m. (xs ++ m) ++ zs) one ∙ append_assoc xs (new ∷ []) zs
 
   pub remove_key-one : (x : A) → bytes x ≡ key → remove_key bytes key (xs ++ x ∷ zs) ≡ xs ++ zs
   remove_key-one x f =
@@ -121,11 +122,21 @@ module _ {K V : Type 0} (bytes : K → List ℕ) where
       high_here : Each (λ y. Precedes key (of_key bytes y)) (drop (suc at) pairs)
       high_here = subst (λ k. Each (λ y. Precedes k (of_key bytes y)) (drop (suc at) pairs)) is.same (Pairwise-after Before (take at pairs) (drop (suc at) pairs) is.pair split_map)
 
-      pub replaced : (new : K × V) → of_key bytes new ≡ key → slice_set pairs at new ≡ put (of_key bytes) new pairs
+      pub with_here : with_key (of_key bytes) key pairs ≡ is.pair ∷ []
+      with_here = ap (with_key (of_key bytes) key) (split_here pairs at is.pair is.here) ∙ with_key-one (of_key bytes) key (take at pairs) (drop (suc at) pairs) low_here high_here is.pair is.same
+
+      is_first : (new : K × V) → of_key bytes new ≡ key → first_of (with_key (of_key bytes) (bytes new.0) pairs) ≡ Some is.pair
+      is_first new e = ap (λ k. first_of (with_key (of_key bytes) k pairs)) e ∙ ap first_of with_here
+
+      pub replaced : (new : K × V) → of_key bytes new ≡ key → slice_set pairs at (is.pair.0, new.1) ≡ put (of_key bytes) new pairs
       replaced new e =
-          set_split pairs at new (slice_get_within pairs at is.pair is.here)
-          ∙ sym (put-over (of_key bytes) key (take at pairs) (drop (suc at) pairs) low_here high_here new is.pair e is.same)
-          ∙ ap (put (of_key bytes) new) (sym (split_here pairs at is.pair is.here))
+          set_split pairs at (is.pair.0, new.1) (slice_get_within pairs at is.pair is.here)
+          ∙ sym (replace_key-over (of_key bytes) key (take at pairs) (drop (suc at) pairs) low_here high_here (is.pair.0, new.1) is.pair is.same is.same)
+          ∙ ap (replace_key (of_key bytes) (is.pair.0, new.1)) (sym (split_here pairs at is.pair is.here))
+          ∙ sym (put-old (of_key bytes) new pairs is.pair (is_first new e))
+
+      pub replaced_reply : (new : K × V) → of_key bytes new ≡ key → put_reply (of_key bytes) new pairs ≡ Some (new.0, is.pair.1)
+      replaced_reply new e = put_reply-old (of_key bytes) new pairs is.pair (is_first new e)
 
       pub replaced_map : (new : K × V) → of_key bytes new ≡ key → IsMap (of_key bytes) (slice_set pairs at new)
       replaced_map new e = subst (IsMap (of_key bytes)) (sym (set_split pairs at new (slice_get_within pairs at is.pair is.here)))
@@ -139,29 +150,6 @@ module _ {K V : Type 0} (bytes : K → List ℕ) where
 
       pub alone_here : is_conflict (of_key bytes) key pairs ≡ false
       alone_here = ap (is_conflict (of_key bytes) key) (split_here pairs at is.pair is.here) ∙ conflict-one (of_key bytes) key (take at pairs) (drop (suc at) pairs) low_here high_here is.pair is.same
-
-      pub with_here : with_key (of_key bytes) key pairs ≡ is.pair ∷ []
-      with_here = ap (with_key (of_key bytes) key) (split_here pairs at is.pair is.here) ∙ with_key-one (of_key bytes) key (take at pairs) (drop (suc at) pairs) low_here high_here is.pair is.same
-
-    -- where the key has no pair and is in no conflict
-    module _ (gap : IsGapFor bytes pairs at key) (free : is_conflict (of_key bytes) key pairs ≡ false) where
-      gap_map : IsMap (of_key bytes) (take at pairs ++ drop at pairs)
-      gap_map = subst (IsMap (of_key bytes)) (sym (take-append-drop at pairs)) map
-
-      free_parts : (is_conflict (of_key bytes) key (take at pairs) ≡ false) × (is_conflict (of_key bytes) key (drop at pairs) ≡ false)
-      free_parts = or_parts (is_conflict (of_key bytes) key (take at pairs)) (is_conflict (of_key bytes) key (drop at pairs)) (sym (conflict_split bytes key at pairs) ∙ free)
-
-      low_gap : Each (λ y. Precedes (of_key bytes y) key) (take at pairs)
-      low_gap = all_low bytes key (take at pairs) gap.low free_parts.0
-
-      high_gap : Each (λ y. Precedes key (of_key bytes y)) (drop at pairs)
-      high_gap = all_high bytes key (drop at pairs) gap.high free_parts.1
-
-      pub inserted : (new : K × V) → of_key bytes new ≡ key → insert pairs at new ≡ put (of_key bytes) new pairs
-      inserted new e = sym (put-new (of_key bytes) key (take at pairs) (drop at pairs) low_gap high_gap new e) ∙ ap (put (of_key bytes) new) (take-append-drop at pairs)
-
-      pub inserted_map : (new : K × V) → of_key bytes new ≡ key → IsMap (of_key bytes) (insert pairs at new)
-      inserted_map new e = map_with (take at pairs) (drop at pairs) new key e low_gap high_gap gap_map
 
     -- where the key has no pair, related or not
     module _ (gap : IsGapFor bytes pairs at key) where
@@ -181,6 +169,28 @@ module _ {K V : Type 0} (bytes : K → List ℕ) where
 
       pub has_none : has_key (of_key bytes) key pairs ≡ false
       has_none = none_same (of_key bytes) key pairs no_other
+
+    -- where the key has no pair and is in no conflict
+    module _ (gap : IsGapFor bytes pairs at key) (free : is_conflict (of_key bytes) key pairs ≡ false) where
+      gap_map : IsMap (of_key bytes) (take at pairs ++ drop at pairs)
+      gap_map = subst (IsMap (of_key bytes)) (sym (take-append-drop at pairs)) map
+
+      free_parts : (is_conflict (of_key bytes) key (take at pairs) ≡ false) × (is_conflict (of_key bytes) key (drop at pairs) ≡ false)
+      free_parts = or_parts (is_conflict (of_key bytes) key (take at pairs)) (is_conflict (of_key bytes) key (drop at pairs)) (sym (conflict_split bytes key at pairs) ∙ free)
+
+      low_gap : Each (λ y. Precedes (of_key bytes y) key) (take at pairs)
+      low_gap = all_low bytes key (take at pairs) gap.low free_parts.0
+
+      high_gap : Each (λ y. Precedes key (of_key bytes y)) (drop at pairs)
+      high_gap = all_high bytes key (drop at pairs) gap.high free_parts.1
+
+      pub inserted : (new : K × V) → of_key bytes new ≡ key → insert pairs at new ≡ put (of_key bytes) new pairs
+      inserted new e =
+          sym (replace_key-new (of_key bytes) key (take at pairs) (drop at pairs) low_gap high_gap new e) ∙ ap (replace_key (of_key bytes) new) (take-append-drop at pairs)
+          ∙ sym (put-new (of_key bytes) new pairs (ap (λ k. first_of (with_key (of_key bytes) k pairs)) e ∙ ap first_of (with_none gap)))
+
+      pub inserted_map : (new : K × V) → of_key bytes new ≡ key → IsMap (of_key bytes) (insert pairs at new)
+      inserted_map new e = map_with (take at pairs) (drop at pairs) new key e low_gap high_gap gap_map
 
   module _ (pairs : List (K × V)) (key : List ℕ) (map : IsMap (of_key bytes) pairs) where
     pub alone : (r : Result ℕ ℕ) → IfOk r (λ at. IsPairOf bytes pairs at key) → OnOk r (is_conflict (of_key bytes) key pairs ≡ false)

@@ -1,9 +1,9 @@
 //! A map as a sorted list of pairs.
 
-ghost use Rattle.std.specs.Prelude.{◌≡◌, ℕ, List, [], ◌∷◌, false, is_ok, IfOk, IfErr, OnOk, OnErr};
+ghost use Rattle.std.specs.Prelude.{◌≡◌, ℕ, List, [], Some, false, is_ok, IfOk, IfErr, OnOk, OnErr};
 ghost use Rattle.std.specs.Option.{option_to_list};
 ghost use Rattle.art_model.specs.Keys.{is_front};
-ghost use Rattle.art_model.specs.Pairs.{IsMap, put, remove_key, with_key, of_key, is_conflict, has_key};
+ghost use Rattle.art_model.specs.Pairs.{IsMap, put, put_reply, remove_key, with_key, of_key, is_conflict, has_key};
 ghost use Rattle.art_oracle.specs.SortedPairs.{IsPairOf, IsGapFor, AllBefore, AllAfter};
 
 use art_nodes::node::AsBytes;
@@ -72,15 +72,15 @@ pub fn contains<K: AsBytes, V>(pairs: &[(K, V)], key: &[u8]) -> bool
     search(pairs, key).is_ok()
 }
 
-/// Puts a pair in the place of the one with its key, and answers that one.
+/// Gives the key at a place another value. The equal key that was handed in comes back with the old one.
 pub fn replace_at<K: AsBytes, V>(pairs: &mut Vec<(K, V)>, at: usize, key: K, value: V) -> (K, V)
     requires map { IsMap (of_key K.bytes) pairs.old.items }
     requires here { IsPairOf K.bytes pairs.old.items at (K.bytes key) }
     ensures pairs { pairs.new.items ≡ put (of_key K.bytes) (key, value) pairs.old.items }
-    ensures old { with_key (of_key K.bytes) (K.bytes key) pairs.old.items ≡ result ∷ [] }
+    ensures old { put_reply (of_key K.bytes) (key, value) pairs.old.items ≡ Some result }
     ensures map { IsMap (of_key K.bytes) pairs.new.items }
 {
-    mem::replace(&mut pairs[at], (key, value))
+    (key, mem::replace(&mut pairs[at].1, value))
 }
 
 /// Puts a pair in between, at the place of its key, or hands it back where there is no memory.

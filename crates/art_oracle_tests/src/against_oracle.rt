@@ -10,15 +10,14 @@ use art_nodes::node::{AsBytes, NodeType, OpaqueNodePtr};
 use art_nodes::store::NodeStore;
 use art_operations::run::{Command, Reply, Side, run};
 use art_oracle::build::build;
-use art_test_support::commands::told_by;
 use art_test_support::side_by_side::kind_if_same;
-use art_test_support::trees::Key;
+use art_test_support::tagged::Tagged;
 use std::alloc::{AllocError, Global};
 use std::mem;
 use std::process::Abort;
 use std::test::Fail;
 
-fn copy_of(command: &Command<Key, u32>) -> Result<Command<Key, u32>, AllocError> {
+fn copy_of(command: &Command<Tagged, u32>) -> Result<Command<Tagged, u32>, AllocError> {
     Ok(match command {
         Command::Insert(key, value) => Command::Insert(key.clone()?, *value),
         Command::InsertPrefix(key, value) => Command::InsertPrefix(key.clone()?, *value),
@@ -35,11 +34,11 @@ fn copy_of(command: &Command<Key, u32>) -> Result<Command<Key, u32>, AllocError>
 fn draw_hundred(
     drawer: &mut Drawer,
     drawn: &mut Drawn,
-    pairs: &mut Vec<(Key, u32)>,
+    pairs: &mut Vec<(Tagged, u32)>,
     is_growing: bool,
-) -> Result<(Vec<Command<Key, u32>>, Vec<Reply<Key, u32>>), AllocError>
-    requires { IsMap (of_key ⟦<Vec<u8> as AsBytes>⟧.bytes) pairs.old.items }
-    ensures { IsMap (of_key ⟦<Vec<u8> as AsBytes>⟧.bytes) pairs.new.items }
+) -> Result<(Vec<Command<Tagged, u32>>, Vec<Reply<Tagged, u32>>), AllocError>
+    requires { IsMap (of_key ⟦<Tagged as AsBytes>⟧.bytes) pairs.old.items }
+    ensures { IsMap (of_key ⟦<Tagged as AsBytes>⟧.bytes) pairs.new.items }
 {
     let alloc = drawer.alloc();
     let mut commands = Vec::new(alloc);
@@ -77,10 +76,28 @@ fn run_all<K: AsBytes + Clone + Drop, const P: usize>(
     }
 }
 
+/// Whether two replies say the same, of the tags of keys too.
+fn are_alike(one: &Reply<Tagged, u32>, other: &Reply<Tagged, u32>) -> bool {
+    match (one, other) {
+        (Reply::Inserted(old), Reply::Inserted(want)) => old == want,
+        (Reply::Conflict(key, value, error), Reply::Conflict(want, its, refusal)) => {
+            key == want && value == its && error == refusal
+        }
+        (Reply::Overwrote(old, count), Reply::Overwrote(want, number)) => {
+            old == want && count == number
+        }
+        (Reply::Deleted(pair), Reply::Deleted(want)) => pair == want,
+        (Reply::Cloned, Reply::Cloned) => true,
+        (Reply::Found(is_found), Reply::Found(want)) => is_found == want,
+        (Reply::MatchLen(len), Reply::MatchLen(want)) => len == want,
+        _ => false,
+    }
+}
+
 /// The place of the first reply that is not the wanted one, or that is missing or too many.
-fn first_other(replies: &[Reply<Key, u32>], wanted: &[Reply<Key, u32>]) -> Option<usize> {
+fn first_other(replies: &[Reply<Tagged, u32>], wanted: &[Reply<Tagged, u32>]) -> Option<usize> {
     for (at, (reply, want)) in replies.iter().zip(wanted).enumerate() {
-        if told_by(reply) != told_by(want) {
+        if !are_alike(reply, want) {
             return Some(at);
         }
     }
@@ -93,9 +110,9 @@ fn first_other(replies: &[Reply<Key, u32>], wanted: &[Reply<Key, u32>]) -> Optio
 /// Compares a tree with the one that is built of these pairs. Answers the greatest kind of node, or None where they are
 /// not the same.
 fn compare<const P: usize>(
-    store: &NodeStore<Key, u32, P>,
+    store: &NodeStore<Tagged, u32, P>,
     root: Option<OpaqueNodePtr>,
-    pairs: &[(Key, u32)],
+    pairs: &[(Tagged, u32)],
 ) -> Result<Option<NodeType>, AllocError> {
     let alloc = store.alloc();
     let mut built = NodeStore::new(alloc);
@@ -129,8 +146,8 @@ impl Met {
 /// for 700.
 fn check<const P: usize>(
     rt: &impl Abort,
-    mut first: NodeStore<Key, u32, P>,
-    mut second: NodeStore<Key, u32, P>,
+    mut first: NodeStore<Tagged, u32, P>,
+    mut second: NodeStore<Tagged, u32, P>,
     shape: KeyShape,
 ) -> Result<Met, Fail> {
     let alloc = first.alloc();

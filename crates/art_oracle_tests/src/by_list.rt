@@ -6,7 +6,7 @@ use art_nodes::node::AsBytes;
 use art_operations::insert::InsertPrefixError;
 use art_operations::run::{Command, Reply};
 use art_oracle::pairs::{contains, has_related, insert_at, remove, replace_at, search};
-use art_test_support::trees::Key;
+use art_test_support::tagged::Tagged;
 use std::alloc::{AllocError, Global};
 use std::boxed::BoxedSlice;
 use std::mem;
@@ -54,7 +54,7 @@ fn insert<K: AsBytes + Drop>(
     }
 }
 
-/// Puts a pair in, in the place of all with related keys.
+/// Puts a pair in, in the place of all with related keys; but a stored key that is equal stays, and gets the value.
 fn overwrite<K: AsBytes + Drop>(
     alloc: Global,
     pairs: &mut Vec<(K, u32)>,
@@ -64,6 +64,9 @@ fn overwrite<K: AsBytes + Drop>(
     requires { IsMap (of_key K.bytes) pairs.old.items }
     ensures { IsMap (of_key K.bytes) pairs.new.items }
 {
+    if let Ok(at) = search(pairs, key.as_bytes()) {
+        return Ok(Reply::Overwrote(Some(replace_at(pairs, at, key, value)), 0));
+    }
     let mut kept = Vec::new(alloc);
     let mut last = None;
     let mut count = 0usize;
@@ -114,8 +117,8 @@ fn match_len<K: AsBytes>(pairs: &[(K, u32)], query: &[u8]) -> Option<usize> {
 }
 
 /// The same pairs once more.
-pub fn copy(alloc: Global, pairs: &[(Key, u32)]) -> Result<Vec<(Key, u32)>, AllocError>
-    ensures { IfOk result (λ copy. IsMap (of_key ⟦<Vec<u8> as AsBytes>⟧.bytes) copy.items) }
+pub fn copy(alloc: Global, pairs: &[(Tagged, u32)]) -> Result<Vec<(Tagged, u32)>, AllocError>
+    ensures { IfOk result (λ copy. IsMap (of_key ⟦<Tagged as AsBytes>⟧.bytes) copy.items) }
 {
     let mut copy = Vec::new(alloc);
     for (key, value) in pairs {

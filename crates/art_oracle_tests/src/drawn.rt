@@ -2,6 +2,7 @@
 
 use art_operations::run::Command;
 use art_test_support::numbers::Numbers;
+use art_test_support::tagged::Tagged;
 use art_test_support::trees::Key;
 use std::alloc::{AllocError, Global};
 
@@ -67,7 +68,7 @@ impl Drawn {
         Drawn { counts: [0; 8] }
     }
 
-    pub fn count(&mut self, command: &Command<Key, u32>) {
+    pub fn count(&mut self, command: &Command<Tagged, u32>) {
         if let Some(count) = self.counts.get_mut(kind_of(command)) {
             *count = count.saturating_add(1);
         }
@@ -80,7 +81,7 @@ impl Drawn {
 }
 
 /// A number for each kind of command.
-fn kind_of(command: &Command<Key, u32>) -> usize {
+fn kind_of(command: &Command<Tagged, u32>) -> usize {
     match command {
         Command::Insert(..) => 0,
         Command::InsertPrefix(..) => 1,
@@ -99,6 +100,8 @@ pub struct Drawer {
     alloc: Global,
     shape: KeyShape,
     numbers: Numbers,
+    /// How many tags were given.
+    tags: u32,
 }
 
 impl Drawer {
@@ -108,6 +111,7 @@ impl Drawer {
             alloc,
             shape,
             numbers,
+            tags: 0,
         }
     }
 
@@ -115,16 +119,25 @@ impl Drawer {
         self.alloc
     }
 
-    /// A key that is stored, or any where none is.
-    fn known_key(&mut self, pairs: &[(Key, u32)]) -> Result<Key, AllocError> {
+    /// The key of these bytes, with a tag that no other has.
+    fn tagged(&mut self, bytes: Key) -> Tagged {
+        self.tags = self.tags.wrapping_add(1);
+        Tagged {
+            bytes,
+            tag: self.tags,
+        }
+    }
+
+    /// The bytes of a key that is stored, or of any where none is.
+    fn known_key(&mut self, pairs: &[(Tagged, u32)]) -> Result<Key, AllocError> {
         match self.numbers.place_in(pairs.len()) {
-            Some(at) => pairs[at].0.clone(),
+            Some(at) => pairs[at].0.bytes.clone(),
             None => self.shape.draw(self.alloc, &mut self.numbers),
         }
     }
 
-    /// A key that may be stored, or the front of one, or one with a further byte.
-    fn query(&mut self, pairs: &[(Key, u32)]) -> Result<Key, AllocError> {
+    /// The bytes of a key that may be stored, or the front of one, or one with a further byte.
+    fn query(&mut self, pairs: &[(Tagged, u32)]) -> Result<Key, AllocError> {
         let mut key = if self.numbers.is_heads() {
             self.known_key(pairs)?
         } else {
@@ -140,24 +153,27 @@ impl Drawer {
         Ok(key)
     }
 
-    fn insertion(&mut self, pairs: &[(Key, u32)]) -> Result<Command<Key, u32>, AllocError> {
+    fn insertion(&mut self, pairs: &[(Tagged, u32)]) -> Result<Command<Tagged, u32>, AllocError> {
         let key = if self.numbers.below(8) == 0 {
             self.known_key(pairs)?
         } else {
             self.shape.draw(self.alloc, &mut self.numbers)?
         };
-        Ok(Command::Insert(key, self.numbers.value()))
+        Ok(Command::Insert(self.tagged(key), self.numbers.value()))
     }
 
     /// A command, where these pairs are stored. While they are to become more half of all are insertions, else half are
     /// deletions that find a pair.
     pub fn command(
         &mut self,
-        pairs: &[(Key, u32)],
+        pairs: &[(Tagged, u32)],
         is_growing: bool,
-    ) -> Result<Command<Key, u32>, AllocError> {
+    ) -> Result<Command<Tagged, u32>, AllocError> {
         match self.numbers.below(256) {
-            0 => return Ok(Command::InsertPrefix(self.query(pairs)?, self.numbers.value())),
+            0 => {
+                let key = self.query(pairs)?;
+                return Ok(Command::InsertPrefix(self.tagged(key), self.numbers.value()));
+            }
             1 => return Ok(Command::Clone),
             _ => {}
         }

@@ -6,6 +6,8 @@ mod clones;
 #[cfg(test)]
 mod iterator;
 #[cfg(test)]
+mod kept_keys;
+#[cfg(test)]
 mod lookup;
 #[cfg(test)]
 mod minmax;

@@ -8,4 +8,5 @@ pub mod numbers;
 pub mod points;
 pub mod shapes;
 pub mod side_by_side;
+pub mod tagged;
 pub mod trees;

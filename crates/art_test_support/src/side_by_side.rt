@@ -1,8 +1,7 @@
 //! Two trees that are to be the same, walked side by side.
 
 use crate::shapes::count_nodes;
-use crate::trees::Key;
-use art_nodes::node::{InnerPtr, InnerRef, LeafPtr, NodePtr, NodeType, OpaqueNodePtr};
+use art_nodes::node::{AsBytes, InnerPtr, InnerRef, LeafPtr, NodePtr, NodeType, OpaqueNodePtr};
 use art_nodes::store::NodeStore;
 use std::alloc::{AllocError, Global};
 
@@ -33,10 +32,10 @@ impl Walk {
     }
 
     // Looks at all nodes under the names that are open. Answers whether they are the same.
-    fn go<const P: usize>(
+    fn go<K: AsBytes + Drop, const P: usize>(
         &mut self,
-        store: &NodeStore<Key, u32, P>,
-        other: &NodeStore<Key, u32, P>,
+        store: &NodeStore<K, u32, P>,
+        other: &NodeStore<K, u32, P>,
     ) -> Result<bool, AllocError> {
         for _ in 0..MOST_NODES {
             let Some((name, other_name)) = self.open.pop() else {
@@ -61,10 +60,10 @@ impl Walk {
     }
 
     // Looks at two inner nodes. Answers whether they are the same but for their children's names.
-    fn meet_inner<const P: usize>(
+    fn meet_inner<K: AsBytes + Drop, const P: usize>(
         &mut self,
-        (store, name): (&NodeStore<Key, u32, P>, InnerPtr),
-        (other, other_name): (&NodeStore<Key, u32, P>, InnerPtr),
+        (store, name): (&NodeStore<K, u32, P>, InnerPtr),
+        (other, other_name): (&NodeStore<K, u32, P>, InnerPtr),
     ) -> Result<bool, AllocError> {
         let Some(node) = store.inner(name) else {
             return Ok(false);
@@ -100,27 +99,25 @@ fn are_alike<const P: usize>(node: InnerRef<'_, P>, other: InnerRef<'_, P>) -> b
 }
 
 // Whether a leaf holds a pair and has these links.
-fn is_leaf<const P: usize>(
-    store: &NodeStore<Key, u32, P>,
+fn is_leaf<K: AsBytes + PartialEq + Drop, const P: usize>(
+    store: &NodeStore<K, u32, P>,
     name: LeafPtr,
-    (key, value): &(Key, u32),
+    (key, value): &(K, u32),
     links: (Option<LeafPtr>, Option<LeafPtr>),
 ) -> bool {
     match store.leaf(name) {
         Some(leaf) => {
-            leaf.key.as_slice() == key.as_slice()
-                && leaf.value == *value
-                && (leaf.previous, leaf.next) == links
+            leaf.key == *key && leaf.value == *value && (leaf.previous, leaf.next) == links
         }
         None => false,
     }
 }
 
 // Whether these leaves hold these pairs, and each is linked to the ones before and after it.
-fn are_leaves<const P: usize>(
-    store: &NodeStore<Key, u32, P>,
+fn are_leaves<K: AsBytes + PartialEq + Drop, const P: usize>(
+    store: &NodeStore<K, u32, P>,
     leaves: &[LeafPtr],
-    pairs: &[(Key, u32)],
+    pairs: &[(K, u32)],
 ) -> bool {
     let mut previous = None;
     for (at, (name, pair)) in leaves.iter().zip(pairs).enumerate() {
@@ -135,10 +132,10 @@ fn are_leaves<const P: usize>(
 
 /// The greatest kind of node of two trees that are the same but for the names of their nodes, whose leaves hold these
 /// pairs in order, where the first store has no other node. None where any of that is not so.
-pub fn kind_if_same<const P: usize>(
-    (store, root): (&NodeStore<Key, u32, P>, Option<OpaqueNodePtr>),
-    (other, other_root): (&NodeStore<Key, u32, P>, Option<OpaqueNodePtr>),
-    pairs: &[(Key, u32)],
+pub fn kind_if_same<K: AsBytes + PartialEq + Drop, const P: usize>(
+    (store, root): (&NodeStore<K, u32, P>, Option<OpaqueNodePtr>),
+    (other, other_root): (&NodeStore<K, u32, P>, Option<OpaqueNodePtr>),
+    pairs: &[(K, u32)],
 ) -> Result<Option<NodeType>, AllocError> {
     if [root.is_none(), other_root.is_none()] != [pairs.is_empty(); 2] {
         return Ok(None);

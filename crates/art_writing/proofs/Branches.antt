@@ -15,7 +15,7 @@ use Rattle.art_model.specs.Footprints.{IsIn}
 use Rattle.art_model.specs.Kept.{ChangesInPlace}
 use Rattle.art_model.specs.Keys.{IsFront, are_related, are_same}
 use Rattle.art_model.specs.Layouts.{name_of, names_of, leaf_names}
-use Rattle.art_model.specs.Pairs.{with_key, put, put_reply, related_to, first_of}
+use Rattle.art_model.specs.Pairs.{with_key, replace_key, related_to, first_of}
 use Rattle.art_model.specs.Paths.{Frame, plug, fill, leaves_before, leaves_after}
 use Rattle.art_model.specs.Places.{depth_of, least_key}
 use Rattle.art_model.specs.Radix.{pairs_of}
@@ -34,6 +34,7 @@ use Rattle.art_model.proofs.Paths as paths
 use Rattle.art_model.proofs.Paths.{IsHole, radix_plug, leaf_names-plug, same_pairs_of, related_at}
 use Rattle.art_model.proofs.PlaceLaws.{depth_is}
 use Rattle.art_model.proofs.Places.{place_is, taken}
+use Rattle.art_model.proofs.Puts.{put-new, put_reply-new, stored_for-new}
 use Rattle.art_model.proofs.Rebuild.{radix_way}
 use Rattle.art_model.proofs.Stores.{path_holds}
 use Rattle.art_model.proofs.Touches.{Touched, IsInner}
@@ -44,7 +45,7 @@ use Rattle.art_writing.specs.declared.insert.InsertPoint.{InsertPoint}
 use Rattle.art_writing.specs.declared.insert.InsertResult.{InsertResult}
 use Rattle.art_writing.specs.declared.insert.branch.Branch.{Branch}
 use Rattle.art_writing.specs.Branches.{ForEnd, IsBranch, IsPlaced}
-use Rattle.art_writing.specs.Inserted.{IsInserted, IsChange, alone, root_after}
+use Rattle.art_writing.specs.Inserted.{HasInserted, IsInserted, IsChange, alone, root_after}
 use Rattle.art_writing.specs.Points.{AnswersTo}
 use Rattle.art_writing.specs.Writes.{HasChild, root_with}
 use Rattle.art_reading.specs.Paths.{last_step}
@@ -137,8 +138,8 @@ module _ {K V : Type 0} {bytes : K × V → List ℕ} {P : ℕ} {s : Nodes K V} 
     grown = inner (inner_name placed.node) (header_of P is.part 2) (two_children branch.old_byte u branch.new_byte (leaf (leaf_name done.leaf_node_ptr) pair))
 
     -- no pair has the key
-    none_replaced : put_reply bytes pair pairs ≡ None
-    none_replaced =
+    none_stored : first_of (with_key bytes (bytes pair) pairs) ≡ None
+    none_stored =
         let key = bytes pair in
         let front = take (depth_of at.path) key ++ is.part in
         let ways : Each (λ y. IsFront (front ++ branch.old_byte ∷ []) (bytes y)) (pairs_of at.node) = subst (Each (λ y. IsFront (front ++ branch.old_byte ∷ []) (bytes y))) (same_pairs_of at.node u new.same_entries) (radix_way bytes P u (front ++ branch.old_byte ∷ []) new.radix) in
@@ -160,14 +161,15 @@ module _ {K V : Type 0} {bytes : K × V → List ℕ} {P : ℕ} {s : Nodes K V} 
         IsInserted bytes P s t point pair pairs layout done
     branch_done branches stored = record {
       tree = plug at.path grown;
-      canonical = canonical_from (subst (λ r. IsLaidOut bytes P (node_at t) (links_at t) r (put bytes pair pairs) (plug at.path grown)) root (branch_inserted (end_laid by at) new));
-      inserted = record {
+      canonical = canonical_from (subst (λ ps. IsLaidOut bytes P (node_at t) (links_at t) done.new_root ps (plug at.path grown)) (sym (put-new bytes pair pairs none_stored))
+          (subst (λ r. IsLaidOut bytes P (node_at t) (links_at t) r (replace_key bytes pair pairs) (plug at.path grown)) root (branch_inserted (end_laid by at) new)));
+      inserted = subst (λ x. HasInserted (plug at.path grown) point x done) (sym (stored_for-new bytes pair pairs none_stored)) (record {
         path = leaf_frame (ltb branch.old_byte branch.new_byte) ∷ at.path;
         whole = ap (plug at.path) (filled (ltb branch.old_byte branch.new_byte));
         change = branches (placed.node, branch.new_byte) done.parent_node_change placed.change;
         root = placed.root ∙ root_told point point.path (inner_name placed.node) branch.new_byte ∙ ap (root_after point) (sym placed.change);
-      };
-      replaced = placed.existing ∙ sym (ap (option_map alone) none_replaced);
+      });
+      replaced = placed.existing ∙ sym (ap (option_map alone) (put_reply-new bytes pair pairs none_stored));
       kept = subst (λ tree. ChangesInPlace bytes s t (Some tree) (Some (plug at.path grown))) at.is_end.whole (branch_in_place (end_laid by at) stored new);
     }
       where

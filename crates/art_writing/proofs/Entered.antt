@@ -16,7 +16,7 @@ use Rattle.art_model.specs.Canonical.{IsTree}
 use Rattle.art_model.specs.Keys.{IsFront, are_same}
 use Rattle.art_model.specs.Kept.{ChangesInPlace}
 use Rattle.art_model.specs.Layouts.{slots_of}
-use Rattle.art_model.specs.Pairs.{first_of, with_key, put}
+use Rattle.art_model.specs.Pairs.{first_of, with_key, replace_key}
 use Rattle.art_model.specs.Paths.{Frame, plug}
 use Rattle.art_model.specs.Places.{depth_of, prefix_of}
 use Rattle.art_model.specs.Radix.{IsRadix, AreRadix, bytes_of, join, pairs_of, pairs_below}
@@ -33,6 +33,7 @@ use Rattle.art_model.proofs.OnWay.{front_byte}
 use Rattle.art_model.proofs.Paths as paths
 use Rattle.art_model.proofs.Paths.{IsHole}
 use Rattle.art_model.proofs.Places.{prefix_is}
+use Rattle.art_model.proofs.Puts.{put-new, put_reply-new, stored_for-new}
 use Rattle.art_model.proofs.Radix.{bytes_of-join}
 use Rattle.art_model.proofs.Rebuild.{radix_way}
 use Rattle.art_model.proofs.Slots.{length-slots_of}
@@ -44,7 +45,7 @@ use Rattle.art_writing.specs.declared.insert.InsertParentNodeChange.TheVariants.
 use Rattle.art_writing.specs.declared.insert.InsertPoint.{InsertPoint}
 use Rattle.art_writing.specs.declared.insert.InsertResult.{InsertResult}
 use Rattle.art_reading.specs.declared.path.TreePath.{TreePath}
-use Rattle.art_writing.specs.Inserted.{IsChange, IsInserted, IsPointIn, alone, is_full}
+use Rattle.art_writing.specs.Inserted.{HasInserted, IsChange, IsInserted, IsPointIn, alone, is_full}
 use Rattle.art_writing.specs.Points.{IsKindOf}
 use Rattle.art_reading.specs.Paths.{last_step, path_of}
 use Rattle.art_writing.specs.Writes.{HasChild, HasGap, root_with}
@@ -189,13 +190,14 @@ module _ {K V : Type 0} {bytes : K × V → List ℕ} {P : ℕ} {s t : Nodes K V
       let frame : Frame OpaqueNodePtr (K × V) = record { mark = inner_name k; header = added.header; left = e.left; byte = b; right = e.right } in
       subst (IsInserted bytes P s t point new pairs layout) (sym done_is) (record {
         tree = tree;
-        canonical = canonical_from (subst (λ r. IsLaidOut bytes P (node_at t) (links_at t) r (put bytes new pairs) tree) (sym root_is) added.laid);
-        inserted = record {
+        canonical = canonical_from (subst (λ ps. IsLaidOut bytes P (node_at t) (links_at t) root ps tree) (sym (put-new bytes new pairs (entry_reply by e)))
+            (subst (λ r. IsLaidOut bytes P (node_at t) (links_at t) r (replace_key bytes new pairs) tree) (sym root_is) added.laid));
+        inserted = subst (λ x. HasInserted tree point x (record { leaf_node_ptr = n; existing_leaf = None; new_root = root; parent_node_change = NewParent (inner_name k) b })) (sym (stored_for-new bytes new pairs (entry_reply by e))) (record {
           path = frame ∷ e.frames;
           whole = refl;
           change = subst (λ kind. IsChange kind (Some (k, b)) (NewParent (inner_name k) b)) (sym into) refl;
           root = root_is ∙ sym (ap (λ path. root_with path point.root (inner_name k)) e.path_is ∙ root_with-path_of e.frames point.root (inner_name k)) ∙ root_told point point.path (inner_name k) b;
-        };
-        replaced = ap (option_map alone) (sym (entry_reply by e));
+        });
+        replaced = ap (option_map alone) (sym (put_reply-new bytes new pairs (entry_reply by e)));
         kept = subst (λ z. ChangesInPlace bytes s t (Some z) (Some tree)) e.whole added.kept;
       })

@@ -86,6 +86,7 @@ pub record IsRelatedLeaf {K V : Type 0} (bytes : K × V → List ℕ) (P : ℕ) 
   pub hole : IsHole bytes P path place (leaf (leaf_name p) (pair_of shown)) key
   pub there : map.get s.leaves p ≡ Some shown
   pub related : are_related key (bytes (pair_of shown)) ≡ true
+  pub unequal : key ≢ bytes (pair_of shown)
 
 module _ {K V : Type 0} {bytes : K × V → List ℕ} {P : ℕ} {s : Nodes K V} {point : OverwritePoint} {p : LeafPtr} {pairs : List (K × V)} {layout : Tree OpaqueNodePtr (K × V)} where
   -- it is there where a point names it
@@ -110,6 +111,7 @@ module _ {K V : Type 0} {bytes : K × V → List ℕ} {P : ℕ} {s : Nodes K V} 
             hole = subst (λ z. IsHole bytes P path place z key) same hole;
             there = there;
             related = ap (λ z. are_related key (bytes z)) own ∙ related;
+            unequal = λ e. unequal (e ∙ ap bytes own);
           }
 
 module _ {K V : Type 0} {bytes : K × V → List ℕ} {P : ℕ} {s : Nodes K V} {point : OverwritePoint} {p : LeafPtr} (new : K × V) (answers : IsOverwritePointIn bytes P s (bytes new) point) (named : leaf_name p ≡ point.overwrite_point) where
@@ -126,17 +128,17 @@ module _ {K V : Type 0} {bytes : K × V → List ℕ} {P : ℕ} {s : Nodes K V} 
         ForTree bytes P s point.root (λ pairs layout. IsOverwritten bytes P s t point new pairs layout (record { insert_result = record { leaf_node_ptr = p; existing_leaf = Some existing; new_root = point.root; parent_node_change = NoChange }; leafs_removed = 0 }))
     leaf_pair_overwritten swapped existing pair is pairs layout by =
         let l = related_leaf answers named by in
-        let into : IntoLeaf bytes P s t l.path l.place p l.shown new = record { hole = l.hole; here = l.there; leaves = leaves; inners = inners } in
+        let into : IntoLeaf bytes P s t l.path l.place p l.shown new = record { hole = l.hole; here = l.there; write = with_pair new.0 new.1; written = refl; leaves = leaves; inners = inners } in
         let old = subst (IsLaidOut bytes P (node_at s) (links_at s) point.root pairs) (sym l.whole) (laid_out by) in
         let went : swapped ≡ pair_of l.shown = subst (λ o. IfSome o (λ leaf. swapped ≡ (leaf.key, leaf.value))) l.there pair in
-        let reply = leaf_overwrite_reply old into l.related in
+        let reply = leaf_overwrite_reply old into l.related l.unequal in
         record {
           tree = plug l.path (leaf (leaf_name p) new);
-          canonical = canonical_from (leaf_overwritten old into l.related);
+          canonical = canonical_from (leaf_overwritten old into l.related l.unequal);
           leaf = record { has = (l.path, refl); kept = λ kind. named; change = refl };
           existing = ap Some (is ∙ ap alone went) ∙ ap (λ z. option_map alone z.0) (sym reply);
           removed = ap (λ z. z.1) (sym reply);
-          kept = subst (λ z. ChangesInPlace bytes s t (Some z) (Some (plug l.path (leaf (leaf_name p) new)))) l.whole (leaf_overwrite_kept old into l.related);
+          kept = subst (λ z. ChangesInPlace bytes s t (Some z) (Some (plug l.path (leaf (leaf_name p) new)))) l.whole (leaf_overwrite_kept old into l.related l.unequal);
           touches = subst (λ kind. TouchesForNode kind bytes (bytes new) s t layout) (ap (λ z. z.kind) named) (leaf_touches old into);
         }
 

@@ -1,8 +1,8 @@
--- a pair that takes the place of another in its leaf, as an insertion
+-- another value for a stored key, as an insertion
 use Rattle.std.proofs.Common.{◌≡◌, ℕ, List, Some, IsSome, IfSome, refl, ap, sym, ◌∙◌, subst}
 use Rattle.std.specs.FinMap as map
 use Rattle.std.specs.Option.{option_map}
-use Rattle.art_nodes.specs.Changes.{with_pair}
+use Rattle.art_nodes.specs.Changes.{with_value}
 use Rattle.art_nodes.specs.Names.{leaf_name}
 use Rattle.art_nodes.specs.Nodes.{Nodes, change}
 use Rattle.art_nodes.specs.declared.node.LeafNode.{LeafNode}
@@ -17,14 +17,14 @@ use Rattle.art_model.specs.Stores.{node_at, links_at, pair_of}
 use Rattle.art_model.specs.Trees.{Tree, leaf}
 use Rattle.art_model.specs.Writes.{parent_of}
 use Rattle.art_model.proofs.Canonical.{IsLaidOut, laid_out, canonical_from}
-use Rattle.art_model.proofs.IntoLeaf.{IntoLeaf, leaf_inserted, leaf_insertion_kept, leaf_reply, leaf_touches}
+use Rattle.art_model.proofs.IntoLeaf.{IntoLeaf, leaf_inserted, leaf_insertion_kept, leaf_reply, leaf_stored_for, leaf_touches}
 use Rattle.art_model.proofs.Paths.{IsHole}
 use Rattle.art_model.proofs.Stores.{path_holds}
 use Rattle.art_model.proofs.Views as views
 use Rattle.art_writing.specs.declared.insert.InsertKind.TheVariants.{Exact}
 use Rattle.art_writing.specs.declared.insert.InsertParentNodeChange.TheVariants.{NoChange}
 use Rattle.art_writing.specs.declared.insert.InsertPoint.{InsertPoint}
-use Rattle.art_writing.specs.Inserted.{IsChange, IsInserted, IsPointIn, Touches, alone}
+use Rattle.art_writing.specs.Inserted.{HasInserted, IsChange, IsInserted, IsPointIn, Touches, alone}
 use Rattle.art_writing.specs.Points.{IsKindOf}
 use Rattle.art_writing.proofs.Answered.{answered}
 
@@ -64,9 +64,14 @@ module _ {K V : Type 0} {bytes : K × V → List ℕ} {P : ℕ} {s : Nodes K V} 
       let l = own_leaf answers exact by in
       rw l.there refl
 
-  module _ (t : Nodes K V) (leaves : t.leaves ≡ change s.leaves p (with_pair new.0 new.1)) (inners : t.inners ≡ s.inners) where
-    into_leaf : {layout : Tree OpaqueNodePtr (K × V)} (l : IsOwnLeaf bytes P s p layout (bytes new)) → IntoLeaf bytes P s t l.path l.place p l.shown new
-    into_leaf l = record { hole = l.hole; here = l.there; leaves = leaves; inners = inners }
+  module _ (by_key : (k : K) (v w : V) → bytes (k, v) ≡ bytes (k, w)) (t : Nodes K V) (leaves : t.leaves ≡ change s.leaves p (with_value new.1)) (inners : t.inners ≡ s.inners) where
+    -- the stored key has the bytes of the new one
+    alike : {layout : Tree OpaqueNodePtr (K × V)} (l : IsOwnLeaf bytes P s p layout (bytes new)) → bytes (l.shown.key, new.1) ≡ bytes new
+    alike l = by_key l.shown.key new.1 l.shown.value ∙ l.same
+
+    -- the leaf has its key and the new value
+    into_leaf : {layout : Tree OpaqueNodePtr (K × V)} (l : IsOwnLeaf bytes P s p layout (bytes new)) → IntoLeaf bytes P s t l.path l.place p l.shown (l.shown.key, new.1)
+    into_leaf l = record { hole = subst (IsHole bytes P l.path l.place (leaf (leaf_name p) (pair_of l.shown))) (sym (alike l)) l.hole; here = l.there; write = with_value new.1; written = refl; leaves = leaves; inners = inners }
 
     -- one leaf is changed
     pub own_leaf_touches : Touches point.insert_kind s t
@@ -75,18 +80,20 @@ module _ {K V : Type 0} {bytes : K × V → List ℕ} {P : ℕ} {s : Nodes K V} 
         let l = own_leaf answers exact by in
         subst (λ kind. Touches kind s t) (sym exact) (leaf_touches (subst (IsLaidOut bytes P (node_at s) (links_at s) point.root pairs) (sym l.whole) (laid_out by)) (into_leaf l))
 
-    -- the pair is in, and the old one is answered
-    pub pair_inserted : (swapped : K × V) (existing : LeafNode K V) → IfSome (map.get s.leaves p) (λ leaf. swapped ≡ (leaf.key, leaf.value)) → existing ≡ alone swapped →
+    -- the value is in, and the old one is answered with the key that was handed in
+    pub value_replaced : (swapped : V) (existing : LeafNode K V) → IfSome (map.get s.leaves p) (λ leaf. swapped ≡ leaf.value) → existing ≡ alone (new.0, swapped) →
         ForTree bytes P s point.root (λ pairs layout. IsInserted bytes P s t point new pairs layout (record { leaf_node_ptr = p; existing_leaf = Some existing; new_root = point.root; parent_node_change = NoChange }))
-    pair_inserted swapped existing pair is pairs layout by =
+    value_replaced swapped existing value is pairs layout by =
         let l = own_leaf answers exact by in
         let into = into_leaf l in
         let old = subst (IsLaidOut bytes P (node_at s) (links_at s) point.root pairs) (sym l.whole) (laid_out by) in
-        let went : swapped ≡ pair_of l.shown = subst (λ o. IfSome o (λ leaf. swapped ≡ (leaf.key, leaf.value))) l.there pair in
+        let went : swapped ≡ l.shown.value = subst (λ o. IfSome o (λ leaf. swapped ≡ leaf.value)) l.there value in
+        let tree = plug l.path (leaf (leaf_name p) (l.shown.key, new.1)) in
         record {
-          tree = plug l.path (leaf (leaf_name p) new);
-          canonical = canonical_from (leaf_inserted old into l.same);
-          inserted = record { path = l.path; whole = refl; change = subst (λ kind. IsChange kind (parent_of l.path) NoChange) (sym exact) refl; root = refl };
-          replaced = ap Some (is ∙ ap alone went) ∙ ap (option_map alone) (sym (leaf_reply old into l.same));
-          kept = subst (λ z. ChangesInPlace bytes s t (Some z) (Some (plug l.path (leaf (leaf_name p) new)))) l.whole (leaf_insertion_kept old into l.same);
+          tree = tree;
+          canonical = canonical_from (leaf_inserted old into new l.same (alike l) refl);
+          inserted = subst (λ x. HasInserted tree point x (record { leaf_node_ptr = p; existing_leaf = Some existing; new_root = point.root; parent_node_change = NoChange })) (sym (leaf_stored_for old into new l.same (alike l) refl))
+              (record { path = l.path; whole = refl; change = subst (λ kind. IsChange kind (parent_of l.path) NoChange) (sym exact) refl; root = refl });
+          replaced = ap Some (is ∙ ap (λ v. alone (new.0, v)) went) ∙ ap (option_map alone) (sym (leaf_reply old into new l.same (alike l) refl));
+          kept = subst (λ z. ChangesInPlace bytes s t (Some z) (Some tree)) l.whole (leaf_insertion_kept old into new l.same (alike l) refl);
         }

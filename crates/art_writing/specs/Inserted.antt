@@ -12,7 +12,7 @@ use Rattle.art_nodes.specs.declared.node.OpaqueNodePtr.{OpaqueNodePtr}
 use Rattle.art_model.specs.Canonical.{IsTree}
 use Rattle.art_model.specs.Footprints.{TouchesAtMost}
 use Rattle.art_model.specs.Kept.{ChangesInPlace}
-use Rattle.art_model.specs.Pairs.{put, put_reply}
+use Rattle.art_model.specs.Pairs.{put, put_reply, stored_for}
 use Rattle.art_model.specs.Paths.{Frame, plug}
 use Rattle.art_model.specs.Trees.{Tree, leaf}
 use Rattle.art_model.specs.Writes.{parent_of}
@@ -56,7 +56,7 @@ module _ {K V : Type 0} where
   HasByteLeft s (IntoExisting p) = IfSome (map.get s.inners p) (λ node. length node.children < 256)
   HasByteLeft s kind = Unit {0}
 
--- what is told of the leaf's parent: nothing where a pair was replaced, and else its name and the leaf's byte there
+-- what is told of the leaf's parent: nothing where a value was replaced, and else its name and the leaf's byte there
 abbrev pub IsChange : InsertKind → Option (InnerPtr × ℕ) → InsertParentNodeChange → Type 0
 IsChange (Exact p) parent told = told ≡ NoChange
 IsChange kind None told = ⊥
@@ -74,10 +74,10 @@ pub record HasInserted {K V : Type 0} (tree : Tree OpaqueNodePtr (K × V)) (poin
   pub change : IsChange point.insert_kind (parent_of path) done.parent_node_change
   pub root : done.new_root ≡ root_after point done.parent_node_change
 
--- The root is canonical for the pairs with the new one; the pair that gave way is answered as a leaf alone; the rest stays.
+-- The root is canonical for the pairs with the new one; where the key was stored it is answered with the old value, as a leaf alone; the rest stays.
 pub record IsInserted {K V : Type 0} (bytes : K × V → List ℕ) (P : ℕ) (s t : Nodes K V) (point : InsertPoint) (pair : K × V) (pairs : List (K × V)) (layout : Tree OpaqueNodePtr (K × V)) (done : InsertResult K V) : Type 0 where
   pub tree : Tree OpaqueNodePtr (K × V)
   pub canonical : IsTree bytes P t done.new_root (put bytes pair pairs) tree
-  pub inserted : HasInserted tree point pair done
+  pub inserted : HasInserted tree point (stored_for bytes pair pairs) done
   pub replaced : done.existing_leaf ≡ option_map alone (put_reply bytes pair pairs)
   pub kept : ChangesInPlace bytes s t (Some layout) (Some tree)

@@ -11,7 +11,7 @@ use Rattle.art_model.specs.Footprints.{TouchesAtMost, PlacesOneFor}
 use Rattle.art_model.specs.Kept.{ChangesInPlace}
 use Rattle.art_model.specs.Layouts.{names_of}
 use Rattle.art_model.specs.Lookups.{HasLeaf}
-use Rattle.art_model.specs.Pairs.{overwrite, overwrite_reply, related_to}
+use Rattle.art_model.specs.Pairs.{overwrite, overwrite_reply, related_to, stored_for}
 use Rattle.art_model.specs.Paths.{Frame, plug}
 use Rattle.art_model.specs.Radix.{pairs_of}
 use Rattle.art_model.specs.Trees.{Tree}
@@ -71,10 +71,10 @@ module _ {K V : Type 0} where
   IsPrefixPointIn bytes P s key (points.InsertPoint point) = IsPointIn bytes P s key point
   IsPrefixPointIn bytes P s key (points.OverwritePoint point) = IsOverwritePointIn bytes P s key point
 
-  -- the tree has the pair's leaf under the name that is answered
-  abbrev pub HasCome : Tree OpaqueNodePtr (K × V) → PrefixInsertPoint → K × V → InsertResult K V → Type 0
-  HasCome tree (points.InsertPoint point) pair done = HasInserted tree point pair done
-  HasCome tree (points.OverwritePoint point) pair done = HasOverwritten tree point pair done
+  -- the tree has the leaf of what is stored for the pair under the name that is answered
+  abbrev pub HasCome : (K × V → List ℕ) → List (K × V) → Tree OpaqueNodePtr (K × V) → PrefixInsertPoint → K × V → InsertResult K V → Type 0
+  HasCome bytes pairs tree (points.InsertPoint point) pair done = HasInserted tree point (stored_for bytes pair pairs) done
+  HasCome bytes pairs tree (points.OverwritePoint point) pair done = HasOverwritten tree point pair done
 
   -- what is touched
   abbrev pub TouchesForPrefix : PrefixInsertPoint → (K × V → List ℕ) → List ℕ → Nodes K V → Nodes K V → Tree OpaqueNodePtr (K × V) → Type 0

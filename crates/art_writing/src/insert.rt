@@ -88,7 +88,7 @@ pub enum InsertKind {
         /// How many bytes the two keys share in front.
         new_key_bytes_used: usize,
     },
-    /// The leaf of the key itself: its pair is replaced.
+    /// The leaf of the key itself: its value is replaced.
     Exact {
         leaf_node_ptr: LeafPtr,
     },
@@ -125,7 +125,8 @@ pub enum PrefixInsertPoint {
 /// What a prefix insertion did.
 #[derive(Debug, Drop)]
 pub struct PrefixInsertResult<K, V> {
-    /// The leaf of the key. `existing_leaf` has the pair that gave way, if it was the only one.
+    /// The leaf of the key. `existing_leaf` has the pair that gave way, if it was the only one; where an equal key
+    /// was stored, the key that was handed in and the old value.
     pub insert_result: InsertResult<K, V>,
     /// How many leaves were freed: none where a leaf's pair was replaced.
     pub leafs_removed: usize,
@@ -136,7 +137,7 @@ pub struct PrefixInsertResult<K, V> {
 pub struct InsertResult<K, V> {
     /// The leaf of the key.
     pub leaf_node_ptr: LeafPtr,
-    /// The pair that gave way, if the key was stored, as a leaf with no siblings.
+    /// If an equal key was stored, the key that was handed in and the old value, as a leaf with no siblings.
     pub existing_leaf: Option<LeafNode<K, V>>,
     /// The root of the tree.
     pub new_root: OpaqueNodePtr,
@@ -154,7 +155,7 @@ pub enum InsertParentNodeChange {
         /// The byte under which the parent has the leaf.
         leaf_node_key_byte: u8,
     },
-    /// A pair was replaced in its leaf.
+    /// A leaf was given another value or another pair, or came in the place of others.
     NoChange,
 }
 

@@ -4,7 +4,7 @@ ghost use Rattle.std.specs.Option.{option_map};
 ghost use Rattle.art_nodes.specs.Nodes.{no_promise};
 ghost use Rattle.art_model.specs.Canonical.{IsCanonical};
 ghost use Rattle.art_model.specs.Kept.{ChangesInPlace};
-ghost use Rattle.art_model.specs.Pairs.{of_key, put, put_reply};
+ghost use Rattle.art_model.specs.Pairs.{of_key, put, put_reply, stored_for};
 ghost use Rattle.art_model.specs.Promises.{is_covered, promise_after};
 ghost use Rattle.art_model.specs.Roots.{ForTree, IsCanonicalRoot};
 ghost use Rattle.art_writing.specs.Inserted.{HasByteLeft, HasInserted, IsPointIn, Touches, alone, placed_for};
@@ -14,7 +14,8 @@ use art_nodes::node::AsBytes;
 use art_nodes::store::NodeStore;
 
 impl InsertPoint {
-    /// Puts a pair into the tree at the point of its key.
+    /// Puts a pair into the tree at the point of its key. A stored key that is equal stays and gets the value;
+    /// the key that was handed in comes back with the old one.
     ///
     /// All memory is taken before the first change, and none where the key is stored. It is a constant
     /// number of writes, and a way down to a leaf beside the new one.
@@ -29,7 +30,7 @@ impl InsertPoint {
             IsCanonical (of_key K.bytes) PREFIX_LEN store.new (Some done.new_root) (put (of_key K.bytes) (key, value) pairs))) }
         ensures root { IfOk result (λ done. IsCanonicalRoot (of_key K.bytes) PREFIX_LEN store.new done.new_root) }
         ensures leaf { IfOk result (λ done. ForTree (of_key K.bytes) PREFIX_LEN store.new done.new_root (λ pairs layout.
-            HasInserted layout self (key, value) done)) }
+            HasInserted layout self (stored_for (of_key K.bytes) (key, value) pairs) done)) }
         ensures replaced { ForTree (of_key K.bytes) PREFIX_LEN store.old self.root (λ pairs layout. IfOk result (λ done.
             done.existing_leaf ≡ option_map alone (put_reply (of_key K.bytes) (key, value) pairs))) }
         ensures kept { ForTree (of_key K.bytes) PREFIX_LEN store.old self.root (λ pairs old. IfOk result (λ done.
@@ -47,7 +48,7 @@ impl InsertPoint {
     {
         match self.insert_kind {
             InsertKind::Exact { leaf_node_ptr } => {
-                Ok(self.replace_pair(store, leaf_node_ptr, key, value))
+                Ok(self.replace_value(store, leaf_node_ptr, key, value))
             }
             InsertKind::SplitLeaf {
                 leaf_node_ptr,

@@ -1,4 +1,4 @@
-//! A pair that takes the place of one in its leaf, and a new leaf below a node that is there.
+//! Another value for a key that is stored, and a new leaf below a node that is there.
 ghost use Rattle.std.specs.Prelude.{◌≡◌, IsOk, IsTrue, IfOk, IfErr, OnOk, OnErr};
 ghost use Rattle.art_nodes.specs.Nodes.{no_promise};
 ghost use Rattle.art_model.specs.Pairs.{of_key};
@@ -16,8 +16,8 @@ use art_nodes::store::NodeStore;
 use art_reading::path::TreePath;
 
 impl InsertPoint {
-    /// Puts a pair in the place of the one with an equal key.
-    pub(super) fn replace_pair<K: AsBytes + Drop, V: Drop, const P: usize>(
+    /// Gives the stored key that is equal another value. The key that was handed in goes back with the old one.
+    pub(super) fn replace_value<K: AsBytes + Drop, V: Drop, const P: usize>(
         self,
         store: &mut NodeStore<K, V, P>,
         leaf_node_ptr: LeafPtr,
@@ -31,10 +31,10 @@ impl InsertPoint {
         ensures touches { Touches self.insert_kind store.old store.new }
         ensures promise { store.new.promise ≡ store.old.promise }
     {
-        let (key, value) = store.swap_pair(leaf_node_ptr, key, value);
+        let old = store.swap_value(leaf_node_ptr, value);
         InsertResult {
             leaf_node_ptr,
-            existing_leaf: Some(LeafNode::with_no_siblings(key, value)),
+            existing_leaf: Some(LeafNode::with_no_siblings(key, old)),
             new_root: self.root,
             parent_node_change: InsertParentNodeChange::NoChange,
         }

@@ -22,7 +22,8 @@ use art_nodes::node::{AsBytes, LeafNode, LeafPtr, NodePtr};
 use art_nodes::store::NodeStore;
 
 impl PrefixInsertPoint {
-    /// Puts a pair into the tree at the point of its key, in the place of all pairs with related keys.
+    /// Puts a pair into the tree at the point of its key, in the place of all pairs with related keys. A stored key
+    /// that is equal stays and gets the value; the key that was handed in comes back with the old one.
     ///
     /// All memory is taken before the first change, and none where the pair takes the place of one other.
     pub fn apply<K: AsBytes + Drop, V: Drop, const PREFIX_LEN: usize>(
@@ -38,7 +39,7 @@ impl PrefixInsertPoint {
             IsCanonicalRoot (of_key K.bytes) PREFIX_LEN store.new done.insert_result.new_root) }
         ensures leaf { IfOk result (λ done.
             ForTree (of_key K.bytes) PREFIX_LEN store.new done.insert_result.new_root (λ pairs layout.
-            HasCome layout self (key, value) done.insert_result)) }
+            HasCome (of_key K.bytes) pairs layout self (key, value) done.insert_result)) }
         ensures replaced { ForTree (of_key K.bytes) PREFIX_LEN store.old (root_of self) (λ pairs layout. IfOk result (λ done.
             done.insert_result.existing_leaf ≡ option_map alone (overwrite_reply (of_key K.bytes) (key, value) pairs).0)) }
         ensures removed { ForTree (of_key K.bytes) PREFIX_LEN store.old (root_of self) (λ pairs layout.

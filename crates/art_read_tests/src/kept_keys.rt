@@ -1,0 +1,111 @@
+//! Keys that are told apart where they are equal: a stored one stays.
+use art_nodes::node::{AsBytes, OpaqueNodePtr};
+use art_nodes::store::NodeStore;
+use art_operations::run::{Command, Reply, run};
+use art_test_support::tagged::Tagged;
+use std::alloc::{AllocError, Global};
+
+// The bytes of a key, its tag and its value.
+type Pair<'a> = (&'a [u8], u32, u32);
+
+// An insertion, the pair that is to be told of it, and the only pair that is to be stored then.
+#[derive(Clone, Copy)]
+struct Row<'a> {
+    is_prefix: bool,
+    asked: Pair<'a>,
+    told: Option<Pair<'a>>,
+    stored: Pair<'a>,
+}
+
+// The command of a row.
+fn command(alloc: Global, row: Row<'_>) -> Result<Command<Tagged, u32>, AllocError> {
+    let (bytes, tag, value) = row.asked;
+    let key = Tagged {
+        bytes: bytes.to_vec(alloc)?,
+        tag,
+    };
+    Ok(if row.is_prefix {
+        Command::InsertPrefix(key, value)
+    } else {
+        Command::Insert(key, value)
+    })
+}
+
+// The commands of these rows.
+fn commands(alloc: Global, rows: &[Row<'_>]) -> Result<Vec<Command<Tagged, u32>>, AllocError> {
+    let mut commands = Vec::new(alloc);
+    for row in rows {
+        commands.push(command(alloc, *row)?)?;
+    }
+    Ok(commands)
+}
+
+// A pair as plain values.
+fn pair_seen(pair: &Option<(Tagged, u32)>) -> Option<Pair<'_>> {
+    let (key, value) = pair.as_ref()?;
+    Some((key.as_bytes(), key.tag, *value))
+}
+
+// Whether a reply to an insertion tells what it is to tell, and that no more leaves are gone.
+fn is_told(reply: &Reply<Tagged, u32>, row: Row<'_>) -> bool {
+    match reply {
+        Reply::Inserted(old) => !row.is_prefix && pair_seen(old) == row.told,
+        Reply::Overwrote(old, 0) => row.is_prefix && pair_seen(old) == row.told,
+        _ => false,
+    }
+}
+
+// Whether a root is the leaf that is to be stored.
+fn is_stored(store: &NodeStore<Tagged, u32, 4>, root: OpaqueNodePtr, row: Row<'_>) -> Option<bool> {
+    let leaf = store.leaf(root.as_leaf()?)?;
+    Some((leaf.key.as_bytes(), leaf.key.tag, leaf.value) == row.stored)
+}
+
+// Carries the insertions of these rows out in stores of their own. Answers whether the last one is told as it is to be,
+// and leaves what is to be stored.
+fn last_seen(alloc: Global, rows: &[Row<'_>]) -> Option<(bool, bool)> {
+    let mut first: NodeStore<Tagged, u32, 4> = NodeStore::new(alloc);
+    let asked = commands(alloc, rows).ok()?;
+    let done = run(&mut first, &mut NodeStore::new(alloc), None, asked).ok()?;
+    let row = *rows.last()?;
+    let told = is_told(done.replies.last()?, row);
+    Some((told, is_stored(&first, done.root?, row)?))
+}
+
+#[test]
+fn a_stored_key_stays(rt: HostRuntime) {
+    let rows: [Row<'_>; 4] = [
+        Row {
+            is_prefix: false,
+            asked: (&[1, 2], 1, 10),
+            told: None,
+            stored: (&[1, 2], 1, 10),
+        },
+        Row {
+            is_prefix: false,
+            asked: (&[1, 2], 2, 20),
+            told: Some((&[1, 2], 2, 10)),
+            stored: (&[1, 2], 1, 20),
+        },
+        Row {
+            is_prefix: true,
+            asked: (&[1, 2], 3, 30),
+            told: Some((&[1, 2], 3, 20)),
+            stored: (&[1, 2], 1, 30),
+        },
+        Row {
+            is_prefix: true,
+            asked: (&[1], 4, 40),
+            told: Some((&[1, 2], 1, 30)),
+            stored: (&[1], 4, 40),
+        },
+    ];
+    let alloc = rt.alloc();
+    let seen = [
+        last_seen(alloc, &rows[..1]),
+        last_seen(alloc, &rows[..2]),
+        last_seen(alloc, &rows[..3]),
+        last_seen(alloc, &rows),
+    ];
+    assert_eq!(rt; seen, [Some((true, true)); 4]);
+}
