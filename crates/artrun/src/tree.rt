@@ -1,7 +1,8 @@
 //! The tree that the lines so far have left, and the stores that it lives in.
 ghost use Rattle.std.specs.Prelude.{◌≡◌, ◌∷◌, [], None, IfOk, IfErr, OnErr};
 ghost use Rattle.art_nodes.specs.Clones.{IsPairClone};
-ghost use Rattle.art_checking.specs.declared.well_formed.fault.MalformedTreeError.TheVariants.{OutOfMemory};
+ghost use Rattle.art_model.specs.Faults.{out_of_memory};
+ghost use Rattle.art_operations.specs.Checks.{fault_of};
 ghost use Rattle.art_operations.specs.Runs.{IsRun};
 ghost use Rattle.art_operations.specs.declared.run.Side.{Side};
 ghost use Rattle.artrun.specs.Trees.{key_bytes};
@@ -58,7 +59,7 @@ impl KeptTree {
     /// Counts the leaves and the inner nodes of the tree, which has no fault.
     pub fn check(&self) -> Result<WellFormedTreeStats, MalformedTreeError>
         requires { IsKept self.now }
-        ensures { IfErr result (λ error. error ≡ OutOfMemory) }
+        ensures { IfErr result (λ error. fault_of error ≡ out_of_memory) }
     {
         WellFormedChecker::check(&self.first, self.root, 0)
     }
