@@ -1,11 +1,10 @@
 -- The points at which keys come into a tree: what a point says of its key's end node.
-use Rattle.std.specs.Prelude.{◌≡◌, ◌≢◌, ℕ, ◌+◌, ◌-◌, ◌<◌, ◌≤◌, cond, eqb, Bool, true, false, List, [], ◌∷◌, length, drop, get_or, slice_get, Option, Some, None, Result, Ok, Err}
+use Rattle.std.specs.Prelude.{◌≡◌, ◌≢◌, ℕ, ◌+◌, ◌-◌, ◌<◌, ◌≤◌, cond, eqb, Bool, true, false, List, length, drop, get_or, slice_get, Option, Some, None, Result, Ok, Err}
 use Rattle.std.specs.Box.{boxed_slice_items}
 use Rattle.art_nodes.specs.Inner.{child_at}
 use Rattle.art_nodes.specs.Names.{leaf_name, inner_name}
 use Rattle.art_nodes.specs.Nodes.{Nodes}
 use Rattle.art_nodes.specs.declared.node.LeafPtr.{LeafPtr}
-use Rattle.art_nodes.specs.declared.node.InnerPtr.{InnerPtr}
 use Rattle.art_nodes.specs.declared.node.OpaqueNodePtr.{OpaqueNodePtr}
 use Rattle.art_model.specs.Keys.{IsFront, are_related}
 use Rattle.art_model.specs.Layouts.{name_of, slots_of, IsLayout}
@@ -16,7 +15,6 @@ use Rattle.art_model.specs.Places.{depth_of, prefix_of, IsEndNode}
 use Rattle.art_model.specs.Radix.{IsRadix}
 use Rattle.art_model.specs.Stores.{node_at}
 use Rattle.art_model.specs.Trees.{Tree, leaf, inner, Children, Header}
-use Rattle.art_model.specs.Writes.{as_inner}
 use Rattle.art_writing.specs.declared.insert.InsertKind.{InsertKind}
 use Rattle.art_writing.specs.declared.insert.InsertKind.TheVariants.{MismatchPrefix, SplitLeaf, Exact, IntoExisting}
 use Rattle.art_writing.specs.declared.insert.InsertPoint.{InsertPoint}
@@ -30,8 +28,6 @@ use Rattle.art_writing.specs.declared.insert.Step.{Step}
 use Rattle.art_writing.specs.declared.insert.Step.TheVariants.{Point, Down}
 use Rattle.art_reading.specs.declared.path.ExplicitMismatch.{ExplicitMismatch}
 use Rattle.art_reading.specs.declared.path.PrefixMatch.{PrefixMatch}
-use Rattle.art_reading.specs.declared.path.TreePath.{TreePath}
-use Rattle.art_reading.specs.declared.path.TreePath.TheVariants.{Root, ChildOfRoot, Normal}
 use Rattle.art_reading.specs.Matching.{shared_len}
 use Rattle.art_reading.specs.Paths.{path_of}
 

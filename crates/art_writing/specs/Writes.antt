@@ -15,7 +15,7 @@ use Rattle.art_model.specs.Trees.{Tree, inner, Children, child, no_child, Header
 use Rattle.art_model.specs.Writes.{Leaves, Inners, IsThere}
 use Rattle.art_writing.specs.Inserted.{alone}
 use Rattle.art_reading.specs.declared.path.TreePath.{TreePath}
-use Rattle.art_reading.specs.declared.path.TreePath.TheVariants.{Root, ChildOfRoot, Normal}
+use Rattle.art_reading.specs.declared.path.TreePath.TheVariants.{Root}
 
 -- the root, where the node at the end of the path may be another one
 abbrev pub root_with : TreePath → OpaqueNodePtr → OpaqueNodePtr → OpaqueNodePtr
