@@ -7,7 +7,6 @@ use art_nodes::store::NodeStore;
 use art_operations::well_formed::WellFormedChecker;
 use art_test_support::placing::{Plain, linked_leaf, lone_leaf, place_all, plain_node};
 use art_test_support::trees::Key;
-use std::alloc::Global;
 use std::cmp::Ordering;
 use std::test::Fail;
 
@@ -52,8 +51,17 @@ fn link(at: usize) -> OptionalLeafPtr {
     Some(LeafPtr::from_slot(at))
 }
 
-/// Whether the check answers as it should, and a clone of a fault equals it.
+/// Whether the check answers as it should in a store of its own, and a clone of a fault equals it.
 fn is_told<const P: usize>(
+    empty: &NodeStore<Key, u32, P>,
+    case: Case<'_>,
+) -> Result<bool, Fail> {
+    let mut store: NodeStore<Key, u32, P> = NodeStore::new(empty.alloc());
+    Ok(is_told_in(&mut store, case)?)
+}
+
+/// The same in a store.
+fn is_told_in<const P: usize>(
     store: &mut NodeStore<Key, u32, P>,
     case: Case<'_>,
 ) -> Result<bool, Fail> {
@@ -67,11 +75,13 @@ fn is_told<const P: usize>(
     }
 }
 
-/// The first case in which it does not.
-fn first_wrong<const P: usize>(alloc: Global, cases: &[Case<'_>]) -> Result<Option<usize>, Fail> {
+/// The first case in which it does not. The store tells the number of stored bytes.
+fn first_wrong<const P: usize>(
+    empty: &NodeStore<Key, u32, P>,
+    cases: &[Case<'_>],
+) -> Result<Option<usize>, Fail> {
     for (number, case) in cases.iter().enumerate() {
-        let mut store: NodeStore<Key, u32, P> = NodeStore::new(alloc);
-        if !is_told(&mut store, *case)? {
+        if !is_told(empty, *case)? {
             return Ok(Some(number));
         }
     }
@@ -109,7 +119,7 @@ fn nodes_are_checked_in_the_order_of_the_walk(rt: HostRuntime) -> Result<(), Fai
             Told::Dead(&[1, 2, 4, 7, 8, 4], named(NodeType::Leaf, 6)),
         ),
     ];
-    assert_eq!(rt; first_wrong::<16>(rt.alloc(), &cases)?, None);
+    assert_eq!(rt; first_wrong::<16>(&NodeStore::new(rt.alloc()), &cases)?, None);
     Ok(())
 }
 
@@ -135,7 +145,7 @@ fn a_name_that_is_met_twice_is_a_loop(rt: HostRuntime) -> Result<(), Fail> {
             Told::Loop(named(NodeType::Node4, 1), &[1], &[2, 5]),
         ),
     ];
-    assert_eq!(rt; first_wrong::<16>(rt.alloc(), &cases)?, None);
+    assert_eq!(rt; first_wrong::<16>(&NodeStore::new(rt.alloc()), &cases)?, None);
     Ok(())
 }
 
@@ -161,7 +171,7 @@ fn siblings_are_to_stand_in_order(rt: HostRuntime) -> Result<(), Fail> {
         from_first(&no_previous, Told::Dead(&[], named(NodeType::Leaf, 1))),
         from_first(&no_next, Told::Dead(&[], named(NodeType::Leaf, 2))),
     ];
-    assert_eq!(rt; first_wrong::<16>(rt.alloc(), &cases)?, None);
+    assert_eq!(rt; first_wrong::<16>(&NodeStore::new(rt.alloc()), &cases)?, None);
     Ok(())
 }
 
@@ -191,7 +201,7 @@ fn leaves_are_to_name_their_neighbours(rt: HostRuntime) -> Result<(), Fail> {
         ),
         from_first(&both, Told::Links(&[1], (None, link(2)), (link(4), None))),
     ];
-    assert_eq!(rt; first_wrong::<16>(rt.alloc(), &cases)?, None);
+    assert_eq!(rt; first_wrong::<16>(&NodeStore::new(rt.alloc()), &cases)?, None);
     Ok(())
 }
 
@@ -216,7 +226,7 @@ fn a_name_is_to_lead_to_a_node_of_its_kind(rt: HostRuntime) -> Result<(), Fail> 
         },
         from_first(&below, Told::Dead(&[2], named(NodeType::Node48, 2))),
     ];
-    assert_eq!(rt; first_wrong::<16>(rt.alloc(), &cases)?, None);
+    assert_eq!(rt; first_wrong::<16>(&NodeStore::new(rt.alloc()), &cases)?, None);
     Ok(())
 }
 
@@ -244,7 +254,7 @@ fn inner_nodes_are_to_have_enough_children(rt: HostRuntime) -> Result<(), Fail> 
         from_first(&wide, Told::Count(&[], NodeType::Node48, 2)),
         from_first(&widest, Told::Count(&[], NodeType::Node256, 1)),
     ];
-    assert_eq!(rt; first_wrong::<16>(rt.alloc(), &cases)?, None);
+    assert_eq!(rt; first_wrong::<16>(&NodeStore::new(rt.alloc()), &cases)?, None);
     Ok(())
 }
 
@@ -269,7 +279,7 @@ fn with_nothing_stored_each_prefix_is_read(rt: HostRuntime) -> Result<(), Fail> 
         from_first(&right, Told::Whole(2, 1)),
         from_first(&other, Told::Prefix(&[1, 6], &[2, 6])),
     ];
-    assert_eq!(rt; first_wrong::<0>(rt.alloc(), &cases)?, None);
+    assert_eq!(rt; first_wrong::<0>(&NodeStore::new(rt.alloc()), &cases)?, None);
     Ok(())
 }
 
@@ -307,42 +317,38 @@ fn stored_bytes_are_to_be_those_of_the_least_leaf(rt: HostRuntime) -> Result<(),
         from_first(&apart, Told::Prefix(&[1, 1, 1, 1, 6], &[1, 1, 1, 2, 6])),
         from_first(&endless, Told::Unreadable(&[5], named(NodeType::Node4, 1))),
     ];
-    assert_eq!(rt; first_wrong::<2>(rt.alloc(), &cases)?, None);
+    assert_eq!(rt; first_wrong::<2>(&NodeStore::new(rt.alloc()), &cases)?, None);
     Ok(())
 }
 
-/// The long front of two keys: 22 times 88 after its beginning.
-const FRONT: [u8; 26] = [
-    50, 88, 88, 49, 88, 88, 88, 88, 88, 88, 88, 88, 88, 88, 88, 88, 88, 88, 88, 88, 88, 88, 88, 88,
-    88, 88,
+/// Two keys with 22 times 88 in their common front.
+const LONG_KEYS: [[u8; 28]; 2] = [
+    [
+        50, 88, 88, 49, 88, 88, 88, 88, 88, 88, 88, 88, 88, 88, 88, 88, 88, 88, 88, 88, 88, 88, 88,
+        88, 88, 88, 49, 0,
+    ],
+    [
+        50, 88, 88, 49, 88, 88, 88, 88, 88, 88, 88, 88, 88, 88, 88, 88, 88, 88, 88, 88, 88, 88, 88,
+        88, 88, 88, 50, 0,
+    ],
 ];
 
-/// The same with two bytes behind it.
-fn long_key(byte: u8) -> [u8; 28] {
-    let mut key = [0; 28];
-    for (at, front) in FRONT.iter().enumerate() {
-        if let Some(place) = key.get_mut(at) {
-            *place = *front;
-        }
-    }
-    key[26] = byte;
-    key
-}
+/// The first bytes of the long prefix, and the same but for one.
+const STORED: [u8; 16] = [88; 16];
+const CHANGED: [u8; 16] = [
+    88, 88, 88, 88, 88, 88, 88, 88, 88, 87, 88, 88, 88, 88, 88, 88,
+];
 
 /// A tree of four keys with a prefix of 22 bytes, of which these are stored. The root's child under 50 is the node at
 /// this place.
-fn text_tree<'a>(
-    keys: &'a [[u8; 28]; 2],
-    stored: &'a [u8],
-    below: &'a [(u8, usize)],
-) -> [Plain<'a>; 8] {
+fn text_tree<'a>(stored: &'a [u8], below: &'a [(u8, usize)]) -> [Plain<'a>; 8] {
     [
         plain_node(NodeType::Node4, below),
         linked_leaf(&[49, 0], None, Some(4)),
         prefixed(NodeType::Node4, 2, &[88, 88], &[(49, 3), (50, 6)]),
         prefixed(NodeType::Node4, 22, stored, &[(49, 4), (50, 5)]),
-        linked_leaf(&keys[0], Some(1), Some(5)),
-        linked_leaf(&keys[1], Some(4), Some(6)),
+        linked_leaf(&LONG_KEYS[0], Some(1), Some(5)),
+        linked_leaf(&LONG_KEYS[1], Some(4), Some(6)),
         linked_leaf(&[50, 88, 88, 50, 0], Some(5), None),
         Plain::Renamed(NodeType::Node16, 2),
     ]
@@ -350,18 +356,14 @@ fn text_tree<'a>(
 
 #[test]
 fn a_long_prefix_is_read_from_its_least_leaf(rt: HostRuntime) -> Result<(), Fail> {
-    let keys = [long_key(49), long_key(50)];
-    let whole = [88; 16];
-    let mut changed = whole;
-    changed[9] = 87;
-    let right = text_tree(&keys, &whole, &[(49, 1), (50, 2)]);
-    let wrong = text_tree(&keys, &changed, &[(49, 1), (50, 2)]);
-    let dead = text_tree(&keys, &whole, &[(49, 1), (50, 7)]);
+    let right = text_tree(&STORED, &[(49, 1), (50, 2)]);
+    let wrong = text_tree(&CHANGED, &[(49, 1), (50, 2)]);
+    let dead = text_tree(&STORED, &[(49, 1), (50, 7)]);
     let cases = [
         from_first(&right, Told::Whole(4, 3)),
-        from_first(&wrong, Told::Stored(&[50, 88, 88, 49], &changed, &whole)),
+        from_first(&wrong, Told::Stored(&[50, 88, 88, 49], &CHANGED, &STORED)),
         from_first(&dead, Told::Dead(&[50], named(NodeType::Node16, 7))),
     ];
-    assert_eq!(rt; first_wrong::<16>(rt.alloc(), &cases)?, None);
+    assert_eq!(rt; first_wrong::<16>(&NodeStore::new(rt.alloc()), &cases)?, None);
     Ok(())
 }

@@ -8,7 +8,7 @@ use art_operations::well_formed::WellFormedChecker;
 use art_oracle::verdicts::{Flaw, Verdict, judge};
 use art_test_support::numbers::Numbers;
 use art_test_support::trees::{Key, planted};
-use std::alloc::{AllocError, Global};
+use std::alloc::AllocError;
 use std::test::Fail;
 
 /// What a verdict says. One that is unknown says what no check answers here.
@@ -83,7 +83,7 @@ fn is_counted<const P: usize>(
 
 /// Plants a drawn tree, checks it, and checks it again once it is spoiled. Answers the number of what is told then. None where
 /// one of the checks is wrong.
-fn try_one<const P: usize>(
+fn try_in<const P: usize>(
     store: &mut NodeStore<Key, u32, P>,
     second: &mut NodeStore<Key, u32, P>,
     numbers: &mut Numbers,
@@ -100,30 +100,44 @@ fn try_one<const P: usize>(
     number_if_same(store, root)
 }
 
-/// How many of so many spoiled trees are told what. None where a check was wrong.
-fn try_all<const P: usize>(alloc: Global, count: usize) -> Result<Option<[usize; 10]>, AllocError> {
-    let mut numbers = Numbers::new(P as u64);
-    let mut counts = [0usize; 10];
-    for _ in 0..count {
-        let mut store: NodeStore<Key, u32, P> = NodeStore::new(alloc);
-        let told = try_one(&mut store, &mut NodeStore::new(alloc), &mut numbers)?;
-        let Some(count) = counts.get_mut(told.unwrap_or(9)) else {
-            return Ok(None);
-        };
-        *count = count.saturating_add(1);
-    }
-    Ok(Some(counts))
+/// The same in a store of its own.
+fn try_one<const P: usize>(
+    empty: &NodeStore<Key, u32, P>,
+    numbers: &mut Numbers,
+) -> Result<Option<usize>, AllocError> {
+    let alloc = empty.alloc();
+    let mut store: NodeStore<Key, u32, P> = NodeStore::new(alloc);
+    try_in(&mut store, &mut NodeStore::new(alloc), numbers)
 }
 
-/// The least of how often each was told, where none is wrong.
+/// How many of 2,500 spoiled trees are told what, and last how many checks are wrong. The store tells the number of stored bytes.
+fn try_many<const P: usize>(empty: &NodeStore<Key, u32, P>) -> Result<[usize; 10], AllocError> {
+    let mut numbers = Numbers::new(P as u64);
+    let mut counts = [0usize; 10];
+    for _ in 0..2_500 {
+        let told = try_one(empty, &mut numbers)?.unwrap_or(9);
+        if let Some(count) = counts.get_mut(told) {
+            *count = count.saturating_add(1);
+        }
+    }
+    Ok(counts)
+}
+
+/// Whether each of the faults was told in a trial, and no check was wrong. Faults of prefixes that are not stored whole are told where
+/// there are such prefixes.
+fn is_wide(counts: [usize; 10]) -> bool {
+    let (least, wrong) = counts.split_at(9);
+    least.iter().all(|count| *count > 0) && wrong.iter().all(|count| *count == 0)
+}
+
 #[test]
 fn spoiled_trees_are_told_as_another_check_tells(rt: HostRuntime) -> Result<(), Fail> {
     let alloc = rt.alloc();
     let counts = [
-        try_all::<0>(alloc, 250)?,
-        try_all::<2>(alloc, 250)?,
-        try_all::<4>(alloc, 250)?,
-        try_all::<16>(alloc, 250)?,
+        try_many::<0>(&NodeStore::new(alloc))?,
+        try_many::<2>(&NodeStore::new(alloc))?,
+        try_many::<4>(&NodeStore::new(alloc))?,
+        try_many::<16>(&NodeStore::new(alloc))?,
     ];
     println!(rt; "{counts:?}")?;
     Ok(())

@@ -36,7 +36,9 @@ impl<K: AsBytes + Drop, const P: usize> Visitor<K, u32, P> for Digits {
         o1.wrapping_mul(10).wrapping_add(o2)
     }
 
-    fn visit_inner_node(&mut self, _node: InnerRef<'_, P>, children: u64) -> u64 {
+    fn visit_inner_node(&mut self, _node: InnerRef<'_, P>, children: u64) -> u64
+        ensures { ⊤ }
+    {
         children.wrapping_add(self.of_node)
     }
 
@@ -72,7 +74,9 @@ impl<K: AsBytes + Drop, const P: usize> Visitor<K, u32, P> for Met {
         o1.max(o2)
     }
 
-    fn visit_inner_node(&mut self, node: InnerRef<'_, P>, children: usize) -> usize {
+    fn visit_inner_node(&mut self, node: InnerRef<'_, P>, children: usize) -> usize
+        ensures { ⊤ }
+    {
         if let Some(place) = self.inners.get_mut(self.at) {
             *place = (
                 self.leaves,
