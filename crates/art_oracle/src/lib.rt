@@ -3,3 +3,4 @@
 
 pub mod build;
 pub mod pairs;
+pub mod verdicts;

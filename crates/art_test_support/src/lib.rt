@@ -5,6 +5,7 @@ pub mod commands;
 pub mod memory;
 pub mod nodes;
 pub mod numbers;
+pub mod placing;
 pub mod points;
 pub mod shapes;
 pub mod side_by_side;

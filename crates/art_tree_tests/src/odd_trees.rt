@@ -1,40 +1,12 @@
 //! Trees that no insertion makes, placed by hand and read back.
 
-use crate::by_hand::{Plain, assert_all, place_all};
+use crate::by_hand::assert_all;
 use art_nodes::node::NodeType;
 use art_nodes::store::NodeStore;
+use art_test_support::placing::{Plain, linked_leaf, lone_leaf, place_all, plain_node};
 use art_test_support::trees::Key;
 use std::process::Abort;
 use std::test::Fail;
-
-fn lone_leaf(key: &[u8], value: u32) -> Plain<'_> {
-    Plain::Leaf {
-        key,
-        value,
-        previous: None,
-        next: None,
-    }
-}
-
-/// A leaf between those at two places of the list.
-fn linked_leaf(key: &[u8], previous: Option<usize>, next: Option<usize>) -> Plain<'_> {
-    Plain::Leaf {
-        key,
-        value: 0,
-        previous,
-        next,
-    }
-}
-
-/// An inner node without a prefix.
-fn plain_node(kind: NodeType, children: &[(u8, usize)]) -> Plain<'_> {
-    Plain::Inner {
-        kind,
-        prefix_len: 0,
-        prefix: &[],
-        children,
-    }
-}
 
 /// Places nodes, and sees that others, or the same, are read back.
 fn check<const P: usize>(

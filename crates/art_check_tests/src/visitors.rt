@@ -1,0 +1,193 @@
+//! Folds of trees, and the bytes that lead to nodes.
+ghost use Rattle.std.specs.Prelude.{⊤};
+
+use art_nodes::node::{AsBytes, InnerRef, LeafNode, NodeType};
+use art_nodes::store::NodeStore;
+use art_operations::insert::InsertPrefixError;
+use art_operations::visitor::{Visitor, visit_with};
+use art_operations::well_formed::KeyPrefix;
+use art_test_support::trees::{Key, plant_all};
+use std::alloc::{AllocError, Global};
+use std::boxed::BoxedSlice;
+use std::test::Fail;
+
+/// Each output is ten times what came so far and the next child's, and an inner node adds a number.
+#[derive(Drop)]
+struct Digits {
+    of_node: u64,
+}
+
+impl<K: AsBytes + Drop, const P: usize> Visitor<K, u32, P> for Digits {
+    type Output = u64;
+
+    ghost is_default = { λ visitor output. ⊤ };
+
+    ghost combines = { λ visitor first second output. ⊤ };
+
+    ghost of_inner = { λ old kind node children output new. ⊤ };
+
+    ghost of_leaf = { λ old leaf output new. ⊤ };
+
+    fn default_output(&self) -> u64 {
+        0
+    }
+
+    fn combine_output(&self, o1: u64, o2: u64) -> u64 {
+        o1.wrapping_mul(10).wrapping_add(o2)
+    }
+
+    fn visit_inner_node(&mut self, _node: InnerRef<'_, P>, children: u64) -> u64
+        ensures { ⊤ }
+    {
+        children.wrapping_add(self.of_node)
+    }
+
+    fn visit_leaf(&mut self, leaf: &LeafNode<K, u32>) -> u64 {
+        u64::from(leaf.value).wrapping_add(1)
+    }
+}
+
+/// What a walk meets: how many leaves were before each inner node, and its kind, prefix's length and children.
+#[derive(Drop)]
+struct Met {
+    leaves: usize,
+    inners: [(usize, NodeType, usize, usize); 4],
+    at: usize,
+}
+
+impl<K: AsBytes + Drop, const P: usize> Visitor<K, u32, P> for Met {
+    type Output = usize;
+
+    ghost is_default = { λ visitor output. ⊤ };
+
+    ghost combines = { λ visitor first second output. ⊤ };
+
+    ghost of_inner = { λ old kind node children output new. ⊤ };
+
+    ghost of_leaf = { λ old leaf output new. ⊤ };
+
+    fn default_output(&self) -> usize {
+        0
+    }
+
+    fn combine_output(&self, o1: usize, o2: usize) -> usize {
+        o1.max(o2)
+    }
+
+    fn visit_inner_node(&mut self, node: InnerRef<'_, P>, children: usize) -> usize
+        ensures { ⊤ }
+    {
+        if let Some(place) = self.inners.get_mut(self.at) {
+            *place = (
+                self.leaves,
+                node.node_type(),
+                node.prefix_len(),
+                node.num_children(),
+            );
+        }
+        self.at = self.at.saturating_add(1);
+        children.saturating_add(1)
+    }
+
+    fn visit_leaf(&mut self, _leaf: &LeafNode<K, u32>) -> usize {
+        self.leaves = self.leaves.saturating_add(1);
+        0
+    }
+}
+
+#[test]
+fn outputs_of_children_are_joined_in_order(rt: HostRuntime) -> Result<(), Fail> {
+    let mut store: NodeStore<Key, u32, 16> = NodeStore::new(rt.alloc());
+    let root = plant_all(&mut store, &[&[1], &[2], &[3, 1], &[3, 2]])?;
+    let plain = visit_with(&store, root, &mut Digits { of_node: 0 });
+    let hooked = visit_with(&store, root, &mut Digits { of_node: 1 });
+    assert_eq!(rt; (plain, hooked), (154, 156));
+    Ok(())
+}
+
+#[test]
+fn a_lone_leaf_goes_to_its_hook(rt: HostRuntime) -> Result<(), Fail> {
+    let mut store: NodeStore<Key, u32, 0> = NodeStore::new(rt.alloc());
+    let root = plant_all(&mut store, &[&[9, 9]])?;
+    assert_eq!(rt; visit_with(&store, root, &mut Digits { of_node: 1 }), 1);
+    Ok(())
+}
+
+#[test]
+fn nodes_are_visited_after_what_is_below_them(rt: HostRuntime) -> Result<(), Fail> {
+    let mut store: NodeStore<Key, u32, 2> = NodeStore::new(rt.alloc());
+    let slices: [&[u8]; 8] = [
+        &[1, 7, 7, 7, 1],
+        &[1, 7, 7, 7, 2],
+        &[2],
+        &[3],
+        &[4],
+        &[5, 1],
+        &[5, 2, 6, 1],
+        &[5, 2, 6, 2],
+    ];
+    let root = plant_all(&mut store, &slices)?;
+    let mut met = Met {
+        leaves: 0,
+        inners: [(0, NodeType::Leaf, 0, 0); 4],
+        at: 0,
+    };
+    let height = visit_with(&store, root, &mut met);
+    let wanted = [
+        (2, NodeType::Node4, 3, 2),
+        (8, NodeType::Node4, 1, 2),
+        (8, NodeType::Node4, 0, 2),
+        (8, NodeType::Node16, 0, 5),
+    ];
+    assert_eq!(rt; (height, met.leaves, met.at, met.inners), (3, 8, 4, wanted));
+    Ok(())
+}
+
+/// Whether no bytes are empty, a copy of bytes holds them, and a clone of it is equal and holds them.
+fn prefix_seen(alloc: Global, bytes: &[u8]) -> Result<[bool; 4], AllocError> {
+    let prefix = KeyPrefix::from_slice(alloc, bytes)?;
+    let copy = prefix.clone()?;
+    Ok([
+        KeyPrefix::new(alloc).as_slice().is_empty(),
+        prefix.as_slice() == bytes,
+        copy == prefix,
+        copy.as_slice() == bytes,
+    ])
+}
+
+/// Whether bytes are before others, and unequal to them, as prefixes.
+fn is_before(alloc: Global, bytes: &[u8], others: &[u8]) -> Result<bool, AllocError> {
+    let prefix = KeyPrefix::from_slice(alloc, bytes)?;
+    let other = KeyPrefix::from_slice(alloc, others)?;
+    Ok(prefix < other && prefix != other)
+}
+
+#[test]
+fn key_prefixes_hold_their_bytes(rt: HostRuntime) -> Result<(), Fail> {
+    let alloc = rt.alloc();
+    let seen = [prefix_seen(alloc, &[1, 2])?, prefix_seen(alloc, &[])?];
+    assert_eq!(rt; seen, [[true; 4]; 2]);
+    let orders = [
+        is_before(alloc, &[], &[0])?,
+        is_before(alloc, &[1, 2], &[1, 2, 0])?,
+        is_before(alloc, &[1, 2, 255], &[1, 3])?,
+        is_before(alloc, &[1, 3], &[1, 2])?,
+    ];
+    assert_eq!(rt; orders, [true, true, true, false]);
+    Ok(())
+}
+
+/// Whether a clone of an error about these bytes equals it.
+fn is_cloned(alloc: Global, bytes: &[u8]) -> Result<bool, AllocError> {
+    let byte_repr = BoxedSlice::from_slice(alloc, bytes)?;
+    let error = InsertPrefixError { byte_repr };
+    let copy = error.clone()?;
+    Ok(copy == error && *copy.byte_repr == *bytes)
+}
+
+#[test]
+fn clones_of_errors_equal_them(rt: HostRuntime) -> Result<(), Fail> {
+    let are_cloned = [is_cloned(rt.alloc(), &[1, 2])?, is_cloned(rt.alloc(), &[])?];
+    assert_eq!(rt; are_cloned, [true; 2]);
+    Ok(())
+}

@@ -1,0 +1,302 @@
+//! What is wrong with a tree, found by a list of what is still to be looked at.
+
+use art_nodes::node::{
+    AsBytes, InnerPtr, InnerRef, LeafNode, LeafPtr, NodePtr, NodeType, OpaqueNodePtr, OptionalLeafPtr,
+};
+use art_nodes::store::NodeStore;
+use std::alloc::{AllocError, Global};
+use std::cmp::Ordering;
+
+/// What is wrong with a tree. The first bytes of each are those that lead to the node.
+#[derive(PartialEq, Eq, Debug, Drop)]
+pub enum Flaw {
+    /// A name is met twice.
+    Twice(OpaqueNodePtr, Vec<u8>, Vec<u8>),
+    /// An inner node has so many children.
+    Children(Vec<u8>, NodeType, usize),
+    /// A leaf has another key than the bytes that lead to it.
+    Key(Vec<u8>, Vec<u8>),
+    /// The key of a sibling and that of a leaf stand in another order than the first of these.
+    Order(Vec<u8>, Vec<u8>, Ordering, Ordering),
+    /// A leaf with this key is to have the first links and has the second ones.
+    Links(Vec<u8>, [OptionalLeafPtr; 2], [OptionalLeafPtr; 2]),
+    /// There is no such node.
+    NoNode(Vec<u8>, OpaqueNodePtr),
+    /// A prefix can't be read.
+    NoPrefix(Vec<u8>, OpaqueNodePtr),
+    /// The first bytes are stored of a prefix that begins with the second ones.
+    Stored(Vec<u8>, Vec<u8>, Vec<u8>),
+}
+
+/// What is found below a name.
+#[derive(PartialEq, Eq, Debug, Drop)]
+pub enum Verdict {
+    /// A tree with so many leaves and inner nodes.
+    Tree(usize, usize),
+    /// The first flaw.
+    Flawed(Flaw),
+    /// The steps did not suffice.
+    Unknown,
+}
+
+/// A step that is still to be made.
+#[derive(Drop)]
+enum Step {
+    /// A look at the node that some bytes lead to.
+    Look(OpaqueNodePtr, Vec<u8>),
+    /// A look at how many children it has, once they were looked at.
+    Count(Vec<u8>, NodeType, usize),
+}
+
+/// The way through a tree.
+#[derive(Drop)]
+struct Way {
+    alloc: Global,
+    most_steps: usize,
+    // The next step stands last.
+    steps: Vec<Step>,
+    met: Vec<(OpaqueNodePtr, Vec<u8>)>,
+}
+
+/// Looks for the first flaw below a name, in at most so many steps, of which each node takes two at most.
+pub fn judge<K: AsBytes + Drop, V: Drop, const P: usize>(
+    store: &NodeStore<K, V, P>,
+    root: OpaqueNodePtr,
+    most_steps: usize,
+) -> Result<Verdict, AllocError> {
+    let alloc = store.alloc();
+    let mut way = Way {
+        alloc,
+        most_steps,
+        steps: Vec::new(alloc),
+        met: Vec::new(alloc),
+    };
+    way.steps.push(Step::Look(root, Vec::new(alloc)))?;
+    for _ in 0..most_steps {
+        let flaw = match way.steps.pop() {
+            None => return way.end(store),
+            Some(Step::Look(name, place)) => way.look(store, name, place)?,
+            Some(Step::Count(place, kind, count)) => count_flaw(place, kind, count),
+        };
+        if let Some(flaw) = flaw {
+            return Ok(Verdict::Flawed(flaw));
+        }
+    }
+    Ok(Verdict::Unknown)
+}
+
+impl Way {
+    /// Looks at the node that some bytes lead to.
+    fn look<K: AsBytes + Drop, V: Drop, const P: usize>(
+        &mut self,
+        store: &NodeStore<K, V, P>,
+        name: OpaqueNodePtr,
+        place: Vec<u8>,
+    ) -> Result<Option<Flaw>, AllocError> {
+        for (other, first) in &self.met {
+            if *other == name {
+                return Ok(Some(Flaw::Twice(name, first.clone()?, place)));
+            }
+        }
+        self.met.push((name, place.clone()?))?;
+        match name.split() {
+            NodePtr::Leaf(leaf) => match store.leaf(leaf) {
+                None => Ok(Some(Flaw::NoNode(place, name))),
+                Some(node) => leaf_flaw(store, node, place),
+            },
+            NodePtr::Inner(inner) => match store.inner(inner) {
+                None => Ok(Some(Flaw::NoNode(place, name))),
+                Some(node) => self.look_below(store, inner, node, place),
+            },
+        }
+    }
+
+    /// Reads the prefix of a node, and adds a step for each of its children and one for their number.
+    fn look_below<K: AsBytes + Drop, V: Drop, const P: usize>(
+        &mut self,
+        store: &NodeStore<K, V, P>,
+        name: InnerPtr,
+        node: InnerRef<'_, P>,
+        place: Vec<u8>,
+    ) -> Result<Option<Flaw>, AllocError> {
+        let Some(prefix) = self.whole_prefix(store, name, node, place.len())? else {
+            return Ok(Some(Flaw::NoPrefix(place, name.to_opaque())));
+        };
+        let stored = node.read_prefix();
+        let read = front(&prefix, stored.len());
+        if read != stored {
+            let (stored, read) = (stored.to_vec(self.alloc)?, read.to_vec(self.alloc)?);
+            return Ok(Some(Flaw::Stored(place, stored, read)));
+        }
+        let mut below = place.clone()?;
+        below.extend_from_slice(&prefix)?;
+        let count = Step::Count(place, node.node_type(), node.num_children());
+        self.steps.push(count)?;
+        for (byte, child) in node.iter().rev() {
+            let mut way = below.clone()?;
+            way.push(byte)?;
+            self.steps.push(Step::Look(child, way))?;
+        }
+        Ok(None)
+    }
+
+    /// The prefix of a node at a depth. None where it can't be read.
+    fn whole_prefix<K: AsBytes + Drop, V: Drop, const P: usize>(
+        &self,
+        store: &NodeStore<K, V, P>,
+        name: InnerPtr,
+        node: InnerRef<'_, P>,
+        depth: usize,
+    ) -> Result<Option<Vec<u8>>, AllocError> {
+        let len = node.prefix_len();
+        if len <= P {
+            return Ok(Some(node.read_prefix().to_vec(self.alloc)?));
+        }
+        match self.least_bytes(store, name, depth, len)? {
+            None => Ok(None),
+            Some(bytes) => Ok(Some(bytes.to_vec(self.alloc)?)),
+        }
+    }
+
+    /// So many bytes from a depth on of the key of the least leaf below a node. None where there is no such leaf, or its key is
+    /// shorter.
+    fn least_bytes<'a, K: AsBytes + Drop, V: Drop, const P: usize>(
+        &self,
+        store: &'a NodeStore<K, V, P>,
+        name: InnerPtr,
+        depth: usize,
+        len: usize,
+    ) -> Result<Option<&'a [u8]>, AllocError> {
+        let mut passed = Vec::new(self.alloc);
+        let mut name = name.to_opaque();
+        for _ in 0..self.most_steps {
+            if passed.contains(&name) {
+                return Ok(None);
+            }
+            passed.push(name)?;
+            match name.split() {
+                NodePtr::Leaf(leaf) => return Ok(bytes_of(store, leaf, depth, len)),
+                NodePtr::Inner(inner) => match first_child(store, inner) {
+                    None => return Ok(None),
+                    Some(child) => name = child,
+                },
+            }
+        }
+        Ok(None)
+    }
+
+    /// Once each node was looked at: whether the leaves are linked in the order in which they were met.
+    fn end<K: AsBytes + Drop, V: Drop, const P: usize>(
+        &self,
+        store: &NodeStore<K, V, P>,
+    ) -> Result<Verdict, AllocError> {
+        let mut leaves = Vec::new(self.alloc);
+        for (name, _) in &self.met {
+            if let NodePtr::Leaf(leaf) = name.split() {
+                leaves.push(leaf)?;
+            }
+        }
+        for (at, leaf) in leaves.iter().enumerate() {
+            let previous = match at.checked_sub(1) {
+                None => None,
+                Some(before) => leaves.get(before).copied(),
+            };
+            let next = leaves.get(at.saturating_add(1)).copied();
+            if let Some(flaw) = links_flaw(store, *leaf, [previous, next])? {
+                return Ok(Verdict::Flawed(flaw));
+            }
+        }
+        Ok(Verdict::Tree(
+            leaves.len(),
+            self.met.len().saturating_sub(leaves.len()),
+        ))
+    }
+}
+
+/// The child under the least byte.
+fn first_child<K: AsBytes + Drop, V: Drop, const P: usize>(
+    store: &NodeStore<K, V, P>,
+    name: InnerPtr,
+) -> Option<OpaqueNodePtr> {
+    let (_, child) = store.inner(name)?.iter().next()?;
+    Some(child)
+}
+
+/// So many bytes in front, or all.
+fn front(bytes: &[u8], len: usize) -> &[u8] {
+    match bytes.get(..len) {
+        Some(part) => part,
+        None => bytes,
+    }
+}
+
+/// So many bytes of a leaf's key from a depth on.
+fn bytes_of<K: AsBytes + Drop, V: Drop, const P: usize>(
+    store: &NodeStore<K, V, P>,
+    leaf: LeafPtr,
+    depth: usize,
+    len: usize,
+) -> Option<&[u8]> {
+    store.leaf(leaf)?.key.as_bytes().get(depth..)?.get(..len)
+}
+
+/// Whether a node has fewer or more children than its kind has.
+fn count_flaw(place: Vec<u8>, kind: NodeType, count: usize) -> Option<Flaw> {
+    let (least, most) = match kind {
+        NodeType::Leaf => (0, 0),
+        NodeType::Node4 => (2, 4),
+        NodeType::Node16 => (5, 16),
+        NodeType::Node48 => (17, 48),
+        NodeType::Node256 => (49, 256),
+    };
+    if least <= count && count <= most {
+        None
+    } else {
+        Some(Flaw::Children(place, kind, count))
+    }
+}
+
+/// Whether a leaf has a key that begins with other bytes, or siblings that don't stand around it.
+fn leaf_flaw<K: AsBytes + Drop, V: Drop, const P: usize>(
+    store: &NodeStore<K, V, P>,
+    node: &LeafNode<K, V>,
+    place: Vec<u8>,
+) -> Result<Option<Flaw>, AllocError> {
+    let alloc = store.alloc();
+    let key = node.key.as_bytes();
+    if front(key, place.len()) != place.as_slice() {
+        return Ok(Some(Flaw::Key(place, key.to_vec(alloc)?)));
+    }
+    for (link, wanted) in [(node.previous, Ordering::Less), (node.next, Ordering::Greater)] {
+        let Some(name) = link else {
+            continue;
+        };
+        let Some(sibling) = store.leaf(name) else {
+            return Ok(Some(Flaw::NoNode(place, name.to_opaque())));
+        };
+        let other = sibling.key.as_bytes();
+        let order = other.cmp(key);
+        if order != wanted {
+            let (other, key) = (other.to_vec(alloc)?, key.to_vec(alloc)?);
+            return Ok(Some(Flaw::Order(other, key, wanted, order)));
+        }
+    }
+    Ok(None)
+}
+
+/// Whether a leaf has other links than these.
+fn links_flaw<K: AsBytes + Drop, V: Drop, const P: usize>(
+    store: &NodeStore<K, V, P>,
+    leaf: LeafPtr,
+    wanted: [OptionalLeafPtr; 2],
+) -> Result<Option<Flaw>, AllocError> {
+    let Some(node) = store.leaf(leaf) else {
+        return Ok(None);
+    };
+    let links = [node.previous, node.next];
+    if links == wanted {
+        return Ok(None);
+    }
+    let key = node.key.as_bytes().to_vec(store.alloc())?;
+    Ok(Some(Flaw::Links(key, wanted, links)))
+}
