@@ -212,8 +212,8 @@ pub(crate) fn walk<'a, K: AsBytes + Drop, V: Drop, const PREFIX_LEN: usize>(
 
 /// The leaf of a key, or `None` where no stored key is equal to it.
 ///
-/// It reads at most one node more than the key has bytes, and no leaf but the last. Where the bytes of
-/// a prefix are not all stored it passes over the others, and compares the whole key at the leaf.
+/// Its cost is a way down: at most one node more than the key has bytes. Where the bytes of a prefix
+/// are not all stored it passes over the others, and compares the whole key at the leaf.
 pub fn search_unchecked<K: AsBytes + Drop, V: Drop, const PREFIX_LEN: usize>(
     store: &NodeStore<K, V, PREFIX_LEN>,
     root: OpaqueNodePtr,
