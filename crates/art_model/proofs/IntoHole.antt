@@ -200,7 +200,8 @@ module _ {K V : Type 0} {bytes : K × V → List ℕ} {P : ℕ} {s u t : Nodes K
   -- no pair has the key
   none_stored : first_of (with_key bytes (bytes new) pairs) ≡ None
   none_stored = ap (λ xs. first_of (with_key bytes (bytes new) xs)) (sym old.pairs_are) ∙ ap first_of (with_key-hole bytes P fs place (bytes new) node into.hole.path into.hole.front
-      ∙ filter_none (λ y. are_same (bytes new) (bytes y)) (pairs_of node) (Each-weaker (λ y. bytes y ≢ bytes new) (λ y. are_same (bytes new) (bytes y) ≡ false) (λ y off. not_same (bytes new) (bytes y) (λ e. off (sym e))) (pairs_of node) into.unequal))
+      ∙ filter_none (λ y. are_same (bytes new) (bytes y)) (pairs_of node)
+      (Each-weaker (λ y. bytes y ≢ bytes new) (λ y. are_same (bytes new) (bytes y) ≡ false) (λ y off. not_same (bytes new) (bytes y) (λ e. off (sym e))) (pairs_of node) into.unequal))
 
   -- so those in the hole are what goes
   pub hole_reply : overwrite_reply bytes new pairs ≡ went (pairs_of node)

@@ -130,7 +130,9 @@ module _ {K V : Type 0} {bytes : K × V → List ℕ} {P : ℕ} {s t : Nodes K V
 
     -- no pair has the key
     none_stored : first_of (with_key bytes (bytes new) pairs) ≡ None
-    none_stored = ap (λ xs. first_of (with_key bytes (bytes new) xs)) (sym old.pairs_are) ∙ ap first_of (with_key-hole bytes P fs place (bytes new) (leaf (leaf_name p) (pair_of x)) into.hole.path into.hole.front) ∙ rw (not_same (bytes new) (bytes (pair_of x)) unequal) refl
+    none_stored = ap (λ xs. first_of (with_key bytes (bytes new) xs)) (sym old.pairs_are)
+        ∙ ap first_of (with_key-hole bytes P fs place (bytes new) (leaf (leaf_name p) (pair_of x)) into.hole.path into.hole.front)
+        ∙ rw (not_same (bytes new) (bytes (pair_of x)) unequal) refl
 
     -- the new pair takes the place of the old one
     pub leaf_overwritten : IsLaidOut bytes P (node_at t) (links_at t) root (overwrite bytes new pairs) (plug fs (leaf (leaf_name p) new))

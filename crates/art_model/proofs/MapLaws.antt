@@ -6,7 +6,7 @@ use Rattle.std.specs.Option.{option_map}
 use Rattle.std.proofs.lemmas.Bool.{true≢false, false≢true}
 use Rattle.std.proofs.lemmas.List.Filters.{length-filter_both}
 use Rattle.art_model.specs.Keys.{IsFront, is_front, are_related, are_same, is_before, Precedes}
-use Rattle.art_model.specs.Pairs.{first_of, went, IsMap, with_key, has_key, related_to, is_conflict, stored_for, put, put_reply, overwrite, overwrite_reply, replace_key, replace_related, remove_key, remove_related, add_in_order, of_key}
+use Rattle.art_model.specs.Pairs.{first_of, went, IsMap, with_key, related_to, is_conflict, stored_for, put, overwrite, overwrite_reply, replace_key, replace_related, remove_key, remove_related, add_in_order, of_key}
 use Rattle.art_model.specs.Trees.{tree_of}
 use Rattle.art_model.specs.Changes.{Change, put_pair, overwrite_with, remove_at, remove_first, remove_last, changed}
 use Rattle.art_model.specs.MapLaws.{Tells, KeysAreOnce, MatchesAreOne, MapsAreWhatIsFound, KeysAreDecided, ConflictsAreDecided, MapsStayMaps, PutIsFound, OverwriteIsFound, RemovedIsGone, FirstIsRemovedByKey, LastIsRemovedByKey, PutIsUndone, StoredKeyStays, NewKeyComes, PutKeepsKeys, OverwriteOfKeyIsPut, PutTells, OverwriteTells, RemovalTells, PutCounts, OverwriteCounts, RemovalCounts, SamePairsHaveSameTree}
@@ -154,10 +154,12 @@ module _ {A : Type 0} (bytes : A → List ℕ) where
 
   -- a pair in the place of others leaves a map
   replaced_map : (new : A) (pairs : List A) → IsMap bytes pairs → is_conflict bytes (bytes new) pairs ≡ false → IsMap bytes (replace_key bytes new pairs)
-  replaced_map new pairs map free = added new (remove_key bytes (bytes new) pairs) (Pairwise-filter (λ x y. Precedes (bytes x) (bytes y)) (λ x. not (are_same (bytes new) (bytes x))) pairs map) (left_unrelated (bytes new) pairs free)
+  replaced_map new pairs map free =
+      added new (remove_key bytes (bytes new) pairs) (Pairwise-filter (λ x y. Precedes (bytes x) (bytes y)) (λ x. not (are_same (bytes new) (bytes x))) pairs map) (left_unrelated (bytes new) pairs free)
 
   related_replaced_map : (new : A) (pairs : List A) → IsMap bytes pairs → IsMap bytes (replace_related bytes new pairs)
-  related_replaced_map new pairs map = added new (remove_related bytes (bytes new) pairs) (Pairwise-filter (λ x y. Precedes (bytes x) (bytes y)) (λ x. not (are_related (bytes new) (bytes x))) pairs map) (rest_unrelated (bytes new) pairs)
+  related_replaced_map new pairs map =
+      added new (remove_related bytes (bytes new) pairs) (Pairwise-filter (λ x y. Precedes (bytes x) (bytes y)) (λ x. not (are_related (bytes new) (bytes x))) pairs map) (rest_unrelated (bytes new) pairs)
 
   -- ---- what is found
 
@@ -296,7 +298,8 @@ module _ {K V : Type 0} (bytes : K → List ℕ) where
           let has = has_is_stored Of new pairs ∙ ap is_some e in
           let free = stored_is_free Of (bytes new.0) pairs map has in
           let rest = (same_rest Of new (bytes new.0) pairs (free_unrelated Of new (bytes new.0) pairs free)).0 in
-          overwrite-put Of new pairs has ∙ ap (add_in_order Of (stored new pairs)) (ap (λ k. remove_key Of k pairs) (alike new pairs) ∙ sym rest ∙ ap (λ k. remove_related Of k pairs) (sym (alike new pairs)))
+          overwrite-put Of new pairs has
+          ∙ ap (add_in_order Of (stored new pairs)) (ap (λ k. remove_key Of k pairs) (alike new pairs) ∙ sym rest ∙ ap (λ k. remove_related Of k pairs) (sym (alike new pairs)))
 
   stays_map : (change : Change (K × V)) (pairs : List (K × V)) → IsMap Of pairs → IsMap Of (changed Of change pairs)
   stays_map (put_pair new) pairs map = go (is_conflict Of (bytes new.0) pairs) refl
@@ -336,11 +339,13 @@ module _ {K V : Type 0} (bytes : K → List ℕ) where
   -- once it is put, what is stored for the pair is what was stored
   pub stored_again : (new : K × V) (pairs : List (K × V)) → stored new (put Of new pairs) ≡ stored new pairs
   stored_again new pairs =
-      let found : with_key Of (bytes new.0) (put Of new pairs) ≡ stored new pairs ∷ [] = put_is_found (bytes new.0) new pairs ∙ ap (λ b. cond b (stored new pairs ∷ []) (with_key Of (bytes new.0) pairs)) (front_same (bytes new.0)) in
+      let found : with_key Of (bytes new.0) (put Of new pairs) ≡ stored new pairs ∷ [] =
+      put_is_found (bytes new.0) new pairs ∙ ap (λ b. cond b (stored new pairs ∷ []) (with_key Of (bytes new.0) pairs)) (front_same (bytes new.0)) in
       stored_key_stays new (stored new pairs) (put Of new pairs) found ∙ ap (λ v. ((stored new pairs).0, v)) (sym (stored_value bytes new pairs))
 
   -- a pair with a stored key comes in the place of the stored one
-  keys_stay : (new : K × V) (pairs : List (K × V)) (old : K × V) → IsMap Of pairs → first_of (with_key Of (bytes new.0) pairs) ≡ Some old → new.0 ≡ old.0 → map (λ x. x.0) (replace_key Of new pairs) ≡ map (λ x. x.0) pairs
+  keys_stay : (new : K × V) (pairs : List (K × V)) (old : K × V) → IsMap Of pairs → first_of (with_key Of (bytes new.0) pairs) ≡ Some old → new.0 ≡ old.0 →
+      map (λ x. x.0) (replace_key Of new pairs) ≡ map (λ x. x.0) pairs
   keys_stay new [] old ordered e same = absurd cc
   keys_stay new (x ∷ xs) old ordered e same = go (are_same (bytes new.0) (bytes x.0)) refl e (λ f. keys_stay new xs old ordered.1 f same)
     where
@@ -353,13 +358,16 @@ module _ {K V : Type 0} (bytes : K → List ℕ) where
           let rest = all_stay Of (bytes new.0) xs (after_is_unrelated Of new xs after) in
           ap (λ l. map (λ x. x.0) (add_in_order Of new l)) rest ∙ ap (map (λ x. x.0)) (add_in_order_first Of new xs after) ∙ ap (λ k. k ∷ map (λ x. x.0) xs) (same ∙ ap (λ z. z.0) (sym here))
       go false is f ih =
-          let before : Precedes (bytes x.0) (bytes old.0) = first_has (λ y. Precedes (bytes x.0) (bytes y.0)) (with_key Of (bytes new.0) xs) old (Each-filter (λ y. Precedes (bytes x.0) (bytes y.0)) (λ y. are_same (bytes new.0) (bytes y.0)) xs ordered.0) f in
+          let before : Precedes (bytes x.0) (bytes old.0) =
+          first_has (λ y. Precedes (bytes x.0) (bytes y.0)) (with_key Of (bytes new.0) xs) old
+          (Each-filter (λ y. Precedes (bytes x.0) (bytes y.0)) (λ y. are_same (bytes new.0) (bytes y.0)) xs ordered.0) f in
           rw (precedes_apart (bytes x.0) (bytes new.0) (subst (λ k. Precedes (bytes x.0) (bytes k)) (sym same) before)) (ap (λ l. x.0 ∷ l) (ih f))
 
   pub put_keeps_keys : PutKeepsKeys V bytes
   put_keeps_keys new pairs ordered has = go (first_of (with_key Of (bytes new.0) pairs)) refl (sym (has_is_stored Of new pairs) ∙ has)
     where
-      go : (o : Option (K × V)) → first_of (with_key Of (bytes new.0) pairs) ≡ o → is_some (first_of (with_key Of (bytes new.0) pairs)) ≡ true → map (λ x. x.0) (put Of new pairs) ≡ map (λ x. x.0) pairs
+      go : (o : Option (K × V)) → first_of (with_key Of (bytes new.0) pairs) ≡ o → is_some (first_of (with_key Of (bytes new.0) pairs)) ≡ true →
+          map (λ x. x.0) (put Of new pairs) ≡ map (λ x. x.0) pairs
       go None e h = absurd (false≢true (ap is_some (sym e) ∙ h))
       go (Some old) e h =
           let is = stored_for-old Of new pairs old e in
@@ -381,7 +389,8 @@ module _ {K V : Type 0} (bytes : K → List ℕ) where
   pub overwrite_tells : OverwriteTells V bytes
   overwrite_tells new pairs none = go (first_of (with_key Of (bytes new.0) pairs)) refl (sym (has_is_stored Of new pairs) ∙ none)
     where
-      go : (o : Option (K × V)) → first_of (with_key Of (bytes new.0) pairs) ≡ o → is_some (first_of (with_key Of (bytes new.0) pairs)) ≡ false → Tells (overwrite_reply Of new pairs) (related_to Of (bytes new.0) pairs)
+      go : (o : Option (K × V)) → first_of (with_key Of (bytes new.0) pairs) ≡ o → is_some (first_of (with_key Of (bytes new.0) pairs)) ≡ false →
+          Tells (overwrite_reply Of new pairs) (related_to Of (bytes new.0) pairs)
       go None e h = subst (λ told. Tells told (related_to Of (bytes new.0) pairs)) (sym (overwrite_reply-new Of new pairs e)) (went_tells Of (related_to Of (bytes new.0) pairs))
       go (Some old) e h = absurd (true≢false (ap is_some (sym e) ∙ h))
 
@@ -390,7 +399,8 @@ module _ {K V : Type 0} (bytes : K → List ℕ) where
 
   pub overwrite_counts : OverwriteCounts V bytes
   overwrite_counts new pairs map =
-      ap (λ xs. length xs + length (related_to Of (bytes new.0) pairs)) (overwrite_is new pairs map) ∙ ap (λ k. length (replace_related Of (stored new pairs) pairs) + length (related_to Of k pairs)) (sym (alike new pairs))
+      ap (λ xs. length xs + length (related_to Of (bytes new.0) pairs)) (overwrite_is new pairs map)
+      ∙ ap (λ k. length (replace_related Of (stored new pairs) pairs) + length (related_to Of k pairs)) (sym (alike new pairs))
       ∙ related_replacement_counts Of (stored new pairs) pairs
 
   -- ---- the tree

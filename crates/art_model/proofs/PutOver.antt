@@ -93,7 +93,12 @@ module _ {A : Type 0} (bytes : A → List ℕ) where
       and_false false = refl
 
       go : (b : Bool) → are_same key (bytes x) ≡ b → (b || has_key bytes key xs) ≡ true → (has_key bytes key xs ≡ true → is_conflict bytes key xs ≡ false) → is_conflict bytes key (x ∷ xs) ≡ false
-      go true e h ih = rw (e, none xs (Each-weaker (λ y. Precedes (bytes x) (bytes y)) (λ y. are_related key (bytes y) ≡ false) (λ y p. ap (λ k. are_related k (bytes y)) (sym (same_equal key (bytes x) e)) ∙ p.1) xs map.0)) (and_false (are_related key (bytes x)))
+      go true e h ih =
+          rw (
+            e,
+            none xs
+                (Each-weaker (λ y. Precedes (bytes x) (bytes y)) (λ y. are_related key (bytes y) ≡ false) (λ y p. ap (λ k. are_related k (bytes y)) (sym (same_equal key (bytes x) e)) ∙ p.1) xs map.0),
+          ) (and_false (are_related key (bytes x)))
       go false e h ih = rw (earlier xs map.0 h) (ih h)
 
 module _ {K V : Type 0} (bytes : K × V → List ℕ) (new : K × V) (pairs : List (K × V)) where
@@ -115,7 +120,8 @@ module _ {K V : Type 0} (bytes : K × V → List ℕ) (new : K × V) (pairs : Li
     put_reply_is = go (first_of (with_key bytes (bytes new) pairs)) refl
       where
         go : (o : Option (K × V)) → first_of (with_key bytes (bytes new) pairs) ≡ o → overwrite_reply bytes new pairs ≡ (put_reply bytes new pairs, 0)
-        go None e = overwrite_reply-new bytes new pairs e ∙ ap went (parts.1 ∙ first_none (with_key bytes (bytes new) pairs) e) ∙ ap (λ (o : Option (K × V)). (o, zero)) (sym (put_reply-new bytes new pairs e))
+        go None e =
+            overwrite_reply-new bytes new pairs e ∙ ap went (parts.1 ∙ first_none (with_key bytes (bytes new) pairs) e) ∙ ap (λ (o : Option (K × V)). (o, zero)) (sym (put_reply-new bytes new pairs e))
         go (Some old) e = overwrite_reply-put bytes new pairs (has_is_stored bytes new pairs ∙ ap is_some e)
 
 -- and so it is where the put left a map

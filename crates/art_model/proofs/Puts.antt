@@ -93,7 +93,8 @@ module _ {K V : Type 0} (bytes : K → List ℕ) where
       go : (o : Option (K × V)) → first_of (with_key (of_key bytes) (bytes new.0) pairs) ≡ o → bytes (stored_for (of_key bytes) new pairs).0 ≡ bytes new.0
       go None e = ap (λ x. bytes x.0) (stored_for-new (of_key bytes) new pairs e)
       go (Some old) e = ap (λ x. bytes x.0) (stored_for-old (of_key bytes) new pairs old e)
-          ∙ first_has (λ x. bytes x.0 ≡ bytes new.0) (with_key (of_key bytes) (bytes new.0) pairs) old (all_equal (bytes new.0) (with_key (of_key bytes) (bytes new.0) pairs) (filter_passes (λ x. are_same (bytes new.0) (bytes x.0)) pairs)) e
+          ∙ first_has (λ x. bytes x.0 ≡ bytes new.0) (with_key (of_key bytes) (bytes new.0) pairs) old
+          (all_equal (bytes new.0) (with_key (of_key bytes) (bytes new.0) pairs) (filter_passes (λ x. are_same (bytes new.0) (bytes x.0)) pairs)) e
 
   -- and its value
   pub stored_value : (new : K × V) (pairs : List (K × V)) → (stored_for (of_key bytes) new pairs).1 ≡ new.1

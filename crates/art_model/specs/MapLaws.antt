@@ -74,7 +74,8 @@ module _ {K : Type 0} (V : Type 0) (bytes : K → List ℕ) where
   -- after an overwrite of a map it is so too, but nothing is found under a related key
   abbrev pub OverwriteIsFound : Type 0
   OverwriteIsFound = (key : List ℕ) (new : K × V) (pairs : List (K × V)) → IsMap (of_key bytes) pairs →
-      with_key (of_key bytes) key (overwrite (of_key bytes) new pairs) ≡ cond (are_same key (bytes new.0)) (stored_for (of_key bytes) new pairs ∷ []) (cond (are_related key (bytes new.0)) [] (with_key (of_key bytes) key pairs))
+      with_key (of_key bytes) key (overwrite (of_key bytes) new pairs)
+      ≡ cond (are_same key (bytes new.0)) (stored_for (of_key bytes) new pairs ∷ []) (cond (are_related key (bytes new.0)) [] (with_key (of_key bytes) key pairs))
 
   -- where no key is related to the new one, its removal undoes the put
   abbrev pub PutIsUndone : Type 0
@@ -92,7 +93,8 @@ module _ {K : Type 0} (V : Type 0) (bytes : K → List ℕ) where
 
   -- so a put of an equal key leaves all keys of a map as they are, each in its place
   abbrev pub PutKeepsKeys : Type 0
-  PutKeepsKeys = (new : K × V) (pairs : List (K × V)) → IsMap (of_key bytes) pairs → has_key (of_key bytes) (bytes new.0) pairs ≡ true → map (λ x. x.0) (put (of_key bytes) new pairs) ≡ map (λ x. x.0) pairs
+  PutKeepsKeys = (new : K × V) (pairs : List (K × V)) → IsMap (of_key bytes) pairs → has_key (of_key bytes) (bytes new.0) pairs ≡ true →
+      map (λ x. x.0) (put (of_key bytes) new pairs) ≡ map (λ x. x.0) pairs
 
   -- and an overwrite of an equal key is that put, with its reply and none removed
   abbrev pub OverwriteOfKeyIsPut : Type 0
@@ -103,11 +105,13 @@ module _ {K : Type 0} (V : Type 0) (bytes : K → List ℕ) where
 
   -- the reply of a put is the key that was handed in, with the value that was found under it
   abbrev pub PutTells : Type 0
-  PutTells = (new : K × V) (pairs : List (K × V)) → IsMap (of_key bytes) pairs → map (λ old. (new.0, old.1)) (with_key (of_key bytes) (bytes new.0) pairs) ≡ cons_option (put_reply (of_key bytes) new pairs) []
+  PutTells = (new : K × V) (pairs : List (K × V)) → IsMap (of_key bytes) pairs →
+      map (λ old. (new.0, old.1)) (with_key (of_key bytes) (bytes new.0) pairs) ≡ cons_option (put_reply (of_key bytes) new pairs) []
 
   -- where no equal key is stored the reply of an overwrite tells which pairs went
   abbrev pub OverwriteTells : Type 0
-  OverwriteTells = (new : K × V) (pairs : List (K × V)) → has_key (of_key bytes) (bytes new.0) pairs ≡ false → Tells (overwrite_reply (of_key bytes) new pairs) (related_to (of_key bytes) (bytes new.0) pairs)
+  OverwriteTells = (new : K × V) (pairs : List (K × V)) → has_key (of_key bytes) (bytes new.0) pairs ≡ false →
+      Tells (overwrite_reply (of_key bytes) new pairs) (related_to (of_key bytes) (bytes new.0) pairs)
 
   -- one pair comes, and those with its key go
   abbrev pub PutCounts : Type 0
@@ -115,11 +119,13 @@ module _ {K : Type 0} (V : Type 0) (bytes : K → List ℕ) where
 
   -- one pair comes, and of a map those with related keys go
   abbrev pub OverwriteCounts : Type 0
-  OverwriteCounts = (new : K × V) (pairs : List (K × V)) → IsMap (of_key bytes) pairs → length (overwrite (of_key bytes) new pairs) + length (related_to (of_key bytes) (bytes new.0) pairs) ≡ length pairs + 1
+  OverwriteCounts = (new : K × V) (pairs : List (K × V)) → IsMap (of_key bytes) pairs →
+      length (overwrite (of_key bytes) new pairs) + length (related_to (of_key bytes) (bytes new.0) pairs) ≡ length pairs + 1
 
   -- ---- the tree
 
   -- two lists of changes that leave the same pairs leave the same tree
   abbrev pub SamePairsHaveSameTree : Type 0
   SamePairsHaveSameTree = (P : ℕ) (changes others : List (Change (K × V))) (pairs from : List (K × V)) →
-      after (of_key bytes) changes pairs ≡ after (of_key bytes) others from → tree_of (of_key bytes) (after (of_key bytes) changes pairs) P 0 ≡ tree_of (of_key bytes) (after (of_key bytes) others from) P 0
+      after (of_key bytes) changes pairs ≡ after (of_key bytes) others from →
+      tree_of (of_key bytes) (after (of_key bytes) changes pairs) P 0 ≡ tree_of (of_key bytes) (after (of_key bytes) others from) P 0

@@ -88,8 +88,9 @@ module _ {A : Type 0} (bytes : A → List ℕ) (new : A) (pairs : List A) where
 module _ {K V : Type 0} (bytes : K → List ℕ) (P : ℕ) (k : K) (v : V) {fs : List (Frame OpaqueNodePtr (K × V))} {place : List ℕ} {t : Tree OpaqueNodePtr (K × V)} (hole : IsHole (of_key bytes) P fs place t (bytes k)) (was : IsRadix (of_key bytes) P [] (plug fs t)) where
   -- what is needed for another tree in the hole, where this pair is what is stored for the new one
   module _ (x : K × V) (alike : bytes x.0 ≡ bytes k) (u : Tree OpaqueNodePtr (K × V)) (radix : IsRadix (of_key bytes) P place u) (its : pairs_of u ≡ replace_key (of_key bytes) x (pairs_of t)) where
-    pub all_replaced : IsRadix (of_key bytes) P [] (plug fs u) × (pairs_of (plug fs u) ≡ replace_key (of_key bytes) x (pairs_of (plug fs t)))
-    all_replaced = changed_at (of_key bytes) P fs place hole.path t u radix (bytes x.0) (replace_key (of_key bytes) x) (replace_key-between (of_key bytes) x) (subst (IsFront place) (sym alike) hole.front) its
+    all_replaced : IsRadix (of_key bytes) P [] (plug fs u) × (pairs_of (plug fs u) ≡ replace_key (of_key bytes) x (pairs_of (plug fs t)))
+    all_replaced =
+        changed_at (of_key bytes) P fs place hole.path t u radix (bytes x.0) (replace_key (of_key bytes) x) (replace_key-between (of_key bytes) x) (subst (IsFront place) (sym alike) hole.front) its
 
     longer_whole : (n : ℕ) → length (pairs_of u) ≡ length (pairs_of t) + n → length (replace_key (of_key bytes) x (pairs_of (plug fs t))) ≡ length (pairs_of (plug fs t)) + n
     longer_whole n e =
@@ -99,7 +100,7 @@ module _ {K V : Type 0} (bytes : K → List ℕ) (P : ℕ) (k : K) (v : V) {fs :
         ap length (sym all_replaced.1) ∙ longer
 
     -- a pair more is a new one
-    pub comes_new : length (pairs_of u) ≡ length (pairs_of t) + 1 → first_of (with_key (of_key bytes) (bytes x.0) (pairs_of (plug fs t))) ≡ None
+    comes_new : length (pairs_of u) ≡ length (pairs_of t) + 1 → first_of (with_key (of_key bytes) (bytes x.0) (pairs_of (plug fs t))) ≡ None
     comes_new e = none_by_length (of_key bytes) x (pairs_of (plug fs t)) (longer_whole 1 e)
 
     module _ (is : put (of_key bytes) (k, v) (pairs_of (plug fs t)) ≡ replace_key (of_key bytes) x (pairs_of (plug fs t))) where
@@ -109,18 +110,24 @@ module _ {K V : Type 0} (bytes : K → List ℕ) (P : ℕ) (k : K) (v : V) {fs :
       leaves_needed : (n : ℕ) → length (pairs_of u) ≡ length (pairs_of t) + n → n ≡ (needs bytes P (Insert k v) (pairs_of (plug fs t))).leaves
       leaves_needed n e = sym (ap (λ z. cond (has_key (of_key bytes) z (pairs_of (plug fs t))) 0 1) (sym alike) ∙ key_by_length (of_key bytes) x (pairs_of (plug fs t)) n (longer_whole n e))
 
-      pub needs_some : (n : ℕ) (a : NodeType) (goes : NodeType → ℕ) → length (pairs_of u) ≡ length (pairs_of t) + n → a ≢ Leaf → goes a ≡ 0 → ((kind : NodeType) → count_of kind u + goes kind ≡ count_of kind t + one kind a) → ◌≡◌ {A = Promise} (record { leaves = n; inner = Some a }) (needs bytes P (Insert k v) (pairs_of (plug fs t)))
-      needs_some n a goes longer proper off h = ap₂ (λ x y. record { leaves = x; inner = y }) (leaves_needed n longer) (sym (ap (λ ps. more_of (inner_count bytes P (pairs_of (plug fs t))) (inner_count bytes P ps)) (sym all.1) ∙ gains bytes P (plug fs t) (plug fs u) was all.0 a goes proper off (λ kind. more_in_hole fs t u kind (goes kind) (one kind a) (h kind))))
+      pub needs_some : (n : ℕ) (a : NodeType) (goes : NodeType → ℕ) → length (pairs_of u) ≡ length (pairs_of t) + n → a ≢ Leaf → goes a ≡ 0 →
+          ((kind : NodeType) → count_of kind u + goes kind ≡ count_of kind t + one kind a) → ◌≡◌ {A = Promise} (record { leaves = n; inner = Some a }) (needs bytes P (Insert k v) (pairs_of (plug fs t)))
+      needs_some n a goes longer proper off h = ap₂ (λ x y. record { leaves = x; inner = y }) (leaves_needed n longer)
+          (sym (ap (λ ps. more_of (inner_count bytes P (pairs_of (plug fs t))) (inner_count bytes P ps)) (sym all.1)
+          ∙ gains bytes P (plug fs t) (plug fs u) was all.0 a goes proper off (λ kind. more_in_hole fs t u kind (goes kind) (one kind a) (h kind))))
 
-      pub needs_none : (n : ℕ) → length (pairs_of u) ≡ length (pairs_of t) + n → ((kind : NodeType) → count_of kind u ≤ count_of kind t) → ◌≡◌ {A = Promise} (record { leaves = n; inner = None }) (needs bytes P (Insert k v) (pairs_of (plug fs t)))
-      needs_none n longer h = ap₂ (λ x y. record { leaves = x; inner = y }) (leaves_needed n longer) (sym (ap (λ ps. more_of (inner_count bytes P (pairs_of (plug fs t))) (inner_count bytes P ps)) (sym all.1) ∙ loses bytes P (plug fs t) (plug fs u) was all.0 (λ kind. fewer_in_hole fs t u kind (h kind))))
+      pub needs_none : (n : ℕ) → length (pairs_of u) ≡ length (pairs_of t) + n →
+          ((kind : NodeType) → count_of kind u ≤ count_of kind t) → ◌≡◌ {A = Promise} (record { leaves = n; inner = None }) (needs bytes P (Insert k v) (pairs_of (plug fs t)))
+      needs_none n longer h = ap₂ (λ x y. record { leaves = x; inner = y }) (leaves_needed n longer)
+          (sym (ap (λ ps. more_of (inner_count bytes P (pairs_of (plug fs t))) (inner_count bytes P ps)) (sym all.1) ∙ loses bytes P (plug fs t) (plug fs u) was all.0 (λ kind. fewer_in_hole fs t u kind (h kind))))
 
   -- the same where the pair is the new one and comes to the others
   module _ (u : Tree OpaqueNodePtr (K × V)) (radix : IsRadix (of_key bytes) P place u) (its : pairs_of u ≡ replace_key (of_key bytes) (k, v) (pairs_of t)) (longer : length (pairs_of u) ≡ length (pairs_of t) + 1) where
     is_new : put (of_key bytes) (k, v) (pairs_of (plug fs t)) ≡ replace_key (of_key bytes) (k, v) (pairs_of (plug fs t))
     is_new = put-new (of_key bytes) (k, v) (pairs_of (plug fs t)) (comes_new (k, v) refl u radix its longer)
 
-    pub new_needs_some : (a : NodeType) (goes : NodeType → ℕ) → a ≢ Leaf → goes a ≡ 0 → ((kind : NodeType) → count_of kind u + goes kind ≡ count_of kind t + one kind a) → ◌≡◌ {A = Promise} (record { leaves = 1; inner = Some a }) (needs bytes P (Insert k v) (pairs_of (plug fs t)))
+    pub new_needs_some : (a : NodeType) (goes : NodeType → ℕ) → a ≢ Leaf → goes a ≡ 0 →
+        ((kind : NodeType) → count_of kind u + goes kind ≡ count_of kind t + one kind a) → ◌≡◌ {A = Promise} (record { leaves = 1; inner = Some a }) (needs bytes P (Insert k v) (pairs_of (plug fs t)))
     new_needs_some a goes proper off h = needs_some (k, v) refl u radix its is_new 1 a goes longer proper off h
 
     pub new_needs_none : ((kind : NodeType) → count_of kind u ≤ count_of kind t) → ◌≡◌ {A = Promise} (record { leaves = 1; inner = None }) (needs bytes P (Insert k v) (pairs_of (plug fs t)))
@@ -160,8 +167,10 @@ module _ {K V : Type 0} (bytes : K → List ℕ) (P : ℕ) (k : K) (v : V) {fs :
       let equal : are_same (bytes k) (bytes pair.0) ≡ true = ap (are_same (bytes k)) same ∙ front_same (bytes k) in
       let stored : first_of (with_key (of_key bytes) (bytes k) (pairs_of (plug fs t))) ≡ Some pair =
       ap first_of (with_key-hole (of_key bytes) P fs place (bytes k) t hole.path hole.front) ∙ ap (λ z. first_of (with_key (of_key bytes) (bytes k) (pairs_of z))) is ∙ rw equal refl in
-      let here : replace_key (of_key bytes) (pair.0, v) (pairs_of t) ≡ (pair.0, v) ∷ [] = ap (λ z. replace_key (of_key bytes) (pair.0, v) (pairs_of z)) is ∙ exact (of_key bytes) (pair.0, v) pair refl in
-      needs_none bytes P k v hole was (pair.0, v) same (leaf (name_of t) (pair.0, v)) (subst (IsFront place) (sym same) hole.front) (sym here) (put-old (of_key bytes) (k, v) (pairs_of (plug fs t)) pair stored) 0
+      let here : replace_key (of_key bytes) (pair.0, v) (pairs_of t) ≡ (pair.0, v) ∷ [] =
+      ap (λ z. replace_key (of_key bytes) (pair.0, v) (pairs_of z)) is ∙ exact (of_key bytes) (pair.0, v) pair refl in
+      needs_none bytes P k v hole was (pair.0, v) same (leaf (name_of t) (pair.0, v)) (subst (IsFront place) (sym same) hole.front) (sym here)
+      (put-old (of_key bytes) (k, v) (pairs_of (plug fs t)) pair stored) 0
       (let e : length (pairs_of t) ≡ 1 = ap (λ z. length (pairs_of z)) is in omega arith) (λ kind. let none : 0 ≤ count_of kind t = omega arith in none)
 
   -- a leaf whose key is not related is split

@@ -78,9 +78,11 @@ module _ {K V : Type 0} (bytes : K → List ℕ) (P : ℕ) {s : Nodes K V} {root
       let none = loses bytes P (plug fs node) (plug fs new) old radix (λ k. fewer_in_hole fs node new k (omega arith)) in
       let stored : first_of (with_key (of_key bytes) (bytes x.0) (pairs_of layout)) ≡ None =
       ap (λ l. first_of (with_key (of_key bytes) (bytes x.0) (pairs_of l))) (sym whole) ∙ ap first_of (with_key-hole (of_key bytes) P fs place (bytes x.0) node hole.path hole.front
-      ∙ filter_none (λ y. are_same (bytes x.0) (bytes y.0)) (pairs_of node) (Each-weaker (λ y. bytes y.0 ≢ bytes x.0) (λ y. are_same (bytes x.0) (bytes y.0) ≡ false) (λ y off. not_same (bytes x.0) (bytes y.0) (λ e. off (sym e))) (pairs_of node) unequal)) in
+      ∙ filter_none (λ y. are_same (bytes x.0) (bytes y.0)) (pairs_of node)
+      (Each-weaker (λ y. bytes y.0 ≢ bytes x.0) (λ y. are_same (bytes x.0) (bytes y.0) ≡ false) (λ y off. not_same (bytes x.0) (bytes y.0) (λ e. off (sym e))) (pairs_of node) unequal)) in
       ap (λ ps. more_of (inner_count bytes P (pairs_of layout)) (inner_count bytes P ps)) (overwrite-new (of_key bytes) x (pairs_of layout) stored)
-      ∙ subst (λ l. more_of (inner_count bytes P (pairs_of l)) (inner_count bytes P (F (pairs_of l))) ≡ None) whole (subst (λ ps. more_of (inner_count bytes P (pairs_of (plug fs node))) (inner_count bytes P ps) ≡ None) all none)
+      ∙ subst (λ l. more_of (inner_count bytes P (pairs_of l)) (inner_count bytes P (F (pairs_of l))) ≡ None) whole
+      (subst (λ ps. more_of (inner_count bytes P (pairs_of (plug fs node))) (inner_count bytes P ps) ≡ None) all none)
 
   -- What a point to overwrite says of the pairs.
   pub record Overwrites (k : K) (v : V) (kind : NodeType) : Type 0 where
@@ -153,7 +155,8 @@ module _ {K V : Type 0} (bytes : K → List ℕ) (P : ℕ) {s : Nodes K V} {root
     needs_same : needs bytes P (Insert k v) (pairs_of layout) ≡ needs bytes P (InsertPrefix k v) (pairs_of layout)
     needs_same = ap₂ (λ (leaves : ℕ) (inner : Option NodeType). let y : Promise = record { leaves = leaves; inner = inner } in y)
         (ap (λ b. cond b 0 1) (any_first (λ x. are_same (bytes k) (bytes x.0)) (pairs_of layout)) ∙ one_leaf (with_key (of_key bytes) (bytes k) (pairs_of layout)) one_has ∙ ap (λ xs. cond (eqb (length xs) 1) 0 1) (sym same_parts.1))
-        (ap (λ ps. more_of (inner_count bytes P (pairs_of layout)) (inner_count bytes P ps)) (sym (put_is_overwrite (of_key bytes) (k, v) (pairs_of layout) (free_unrelated (of_key bytes) (k, v) (bytes k) (pairs_of layout) free))))
+        (ap (λ ps. more_of (inner_count bytes P (pairs_of layout)) (inner_count bytes P ps))
+        (sym (put_is_overwrite (of_key bytes) (k, v) (pairs_of layout) (free_unrelated (of_key bytes) (k, v) (bytes k) (pairs_of layout) free))))
 
     few_related : leb (length (related_to (of_key bytes) (bytes k) (pairs_of layout))) 1 ≡ true
     few_related = ap (λ xs. leb (length xs) 1) same_parts.1 ∙ one_at_most (with_key (of_key bytes) (bytes k) (pairs_of layout)) one_has

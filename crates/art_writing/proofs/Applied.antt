@@ -21,7 +21,8 @@ module _ {K V : Type 0} {bytes : K × V → List ℕ} {P : ℕ} {s t : Nodes K V
     inserted_canonical = (is.tree, is.canonical)
 
     -- its layout has the leaf
-    pub inserted_leaf : ((ps : List (K × V)) → stored_for bytes pair (put bytes pair ps) ≡ stored_for bytes pair ps) → ForTree bytes P t done.new_root (λ after new. HasInserted new point (stored_for bytes pair after) done)
+    pub inserted_leaf : ((ps : List (K × V)) → stored_for bytes pair (put bytes pair ps) ≡ stored_for bytes pair ps) →
+        ForTree bytes P t done.new_root (λ after new. HasInserted new point (stored_for bytes pair after) done)
     inserted_leaf again after new by =
         let one = has_one_map bytes P t done.new_root (put bytes pair pairs) after is.tree new is.canonical by in
         subst (λ x. HasInserted new point x done) (sym (ap (stored_for bytes pair) one.0 ∙ again pairs)) (subst (λ z. HasInserted z point (stored_for bytes pair pairs) done) (sym one.1) is.inserted)
@@ -44,8 +45,12 @@ module _ {K V : Type 0} (bytes : K × V → List ℕ) (P : ℕ) (s t : Nodes K V
     if_kept = IfOk-weaker r (IsInserted bytes P s t point pair pairs layout) (λ done. ForTree bytes P t done.new_root (λ after new. ChangesInPlace bytes s t (Some layout) (Some new))) (λ done is. inserted_kept is) done
 
   -- the point answers to some layout
-  pub if_leaf : {key : List ℕ} → ((ps : List (K × V)) → stored_for bytes pair (put bytes pair ps) ≡ stored_for bytes pair ps) → IsPointIn bytes P s key point → ForTree bytes P s point.root (λ pairs layout. IfOk r (IsInserted bytes P s t point pair pairs layout)) → IfOk r (λ done. ForTree bytes P t done.new_root (λ after new. HasInserted new point (stored_for bytes pair after) done))
-  if_leaf again (pairs, layout, by, answers) done = IfOk-weaker r (IsInserted bytes P s t point pair pairs layout) (λ done. ForTree bytes P t done.new_root (λ after new. HasInserted new point (stored_for bytes pair after) done)) (λ done is. inserted_leaf is again) (done pairs layout by)
+  pub if_leaf : {key : List ℕ} → ((ps : List (K × V)) → stored_for bytes pair (put bytes pair ps) ≡ stored_for bytes pair ps) →
+      IsPointIn bytes P s key point → ForTree bytes P s point.root (λ pairs layout. IfOk r (IsInserted bytes P s t point pair pairs layout)) →
+      IfOk r (λ done. ForTree bytes P t done.new_root (λ after new. HasInserted new point (stored_for bytes pair after) done))
+  if_leaf again (pairs, layout, by, answers) done =
+      IfOk-weaker r (IsInserted bytes P s t point pair pairs layout)
+      (λ done. ForTree bytes P t done.new_root (λ after new. HasInserted new point (stored_for bytes pair after) done)) (λ done is. inserted_leaf is again) (done pairs layout by)
 
   pub if_root : {key : List ℕ} → IsPointIn bytes P s key point → ForTree bytes P s point.root (λ pairs layout. IfOk r (IsInserted bytes P s t point pair pairs layout)) → IfOk r (λ done. IsCanonicalRoot bytes P t done.new_root)
   if_root (pairs, layout, by, answers) done = IfOk-weaker r (IsInserted bytes P s t point pair pairs layout) (λ done. IsCanonicalRoot bytes P t done.new_root) (λ done is. (put bytes pair pairs, is.tree, is.canonical)) (done pairs layout by)

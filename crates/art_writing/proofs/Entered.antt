@@ -192,12 +192,13 @@ module _ {K V : Type 0} {bytes : K × V → List ℕ} {P : ℕ} {s t : Nodes K V
         tree = tree;
         canonical = canonical_from (subst (λ ps. IsLaidOut bytes P (node_at t) (links_at t) root ps tree) (sym (put-new bytes new pairs (entry_reply by e)))
             (subst (λ r. IsLaidOut bytes P (node_at t) (links_at t) r (replace_key bytes new pairs) tree) (sym root_is) added.laid));
-        inserted = subst (λ x. HasInserted tree point x (record { leaf_node_ptr = n; existing_leaf = None; new_root = root; parent_node_change = NewParent (inner_name k) b })) (sym (stored_for-new bytes new pairs (entry_reply by e))) (record {
-          path = frame ∷ e.frames;
-          whole = refl;
-          change = subst (λ kind. IsChange kind (Some (k, b)) (NewParent (inner_name k) b)) (sym into) refl;
-          root = root_is ∙ sym (ap (λ path. root_with path point.root (inner_name k)) e.path_is ∙ root_with-path_of e.frames point.root (inner_name k)) ∙ root_told point point.path (inner_name k) b;
-        });
+        inserted = subst (λ x. HasInserted tree point x (record { leaf_node_ptr = n; existing_leaf = None; new_root = root; parent_node_change = NewParent (inner_name k) b }))
+            (sym (stored_for-new bytes new pairs (entry_reply by e))) (record {
+              path = frame ∷ e.frames;
+              whole = refl;
+              change = subst (λ kind. IsChange kind (Some (k, b)) (NewParent (inner_name k) b)) (sym into) refl;
+              root = root_is ∙ sym (ap (λ path. root_with path point.root (inner_name k)) e.path_is ∙ root_with-path_of e.frames point.root (inner_name k)) ∙ root_told point point.path (inner_name k) b;
+            });
         replaced = ap (option_map alone) (sym (put_reply-new bytes new pairs (entry_reply by e)));
         kept = subst (λ z. ChangesInPlace bytes s t (Some z) (Some tree)) e.whole added.kept;
       })

@@ -71,7 +71,14 @@ module _ {K V : Type 0} {bytes : K × V → List ℕ} {P : ℕ} {s : Nodes K V} 
 
     -- the leaf has its key and the new value
     into_leaf : {layout : Tree OpaqueNodePtr (K × V)} (l : IsOwnLeaf bytes P s p layout (bytes new)) → IntoLeaf bytes P s t l.path l.place p l.shown (l.shown.key, new.1)
-    into_leaf l = record { hole = subst (IsHole bytes P l.path l.place (leaf (leaf_name p) (pair_of l.shown))) (sym (alike l)) l.hole; here = l.there; write = with_value new.1; written = refl; leaves = leaves; inners = inners }
+    into_leaf l = record {
+      hole = subst (IsHole bytes P l.path l.place (leaf (leaf_name p) (pair_of l.shown))) (sym (alike l)) l.hole;
+      here = l.there;
+      write = with_value new.1;
+      written = refl;
+      leaves = leaves;
+      inners = inners;
+    }
 
     -- one leaf is changed
     pub own_leaf_touches : Touches point.insert_kind s t
@@ -92,7 +99,8 @@ module _ {K V : Type 0} {bytes : K × V → List ℕ} {P : ℕ} {s : Nodes K V} 
         record {
           tree = tree;
           canonical = canonical_from (leaf_inserted old into new l.same (alike l) refl);
-          inserted = subst (λ x. HasInserted tree point x (record { leaf_node_ptr = p; existing_leaf = Some existing; new_root = point.root; parent_node_change = NoChange })) (sym (leaf_stored_for old into new l.same (alike l) refl))
+          inserted = subst (λ x. HasInserted tree point x (record { leaf_node_ptr = p; existing_leaf = Some existing; new_root = point.root; parent_node_change = NoChange }))
+              (sym (leaf_stored_for old into new l.same (alike l) refl))
               (record { path = l.path; whole = refl; change = subst (λ kind. IsChange kind (parent_of l.path) NoChange) (sym exact) refl; root = refl });
           replaced = ap Some (is ∙ ap (λ v. alone (new.0, v)) went) ∙ ap (option_map alone) (sym (leaf_reply old into new l.same (alike l) refl));
           kept = subst (λ z. ChangesInPlace bytes s t (Some z) (Some tree)) l.whole (leaf_insertion_kept old into new l.same (alike l) refl);

@@ -9,6 +9,7 @@ use Rattle.art_nodes.proofs.store.NodeStore.swap_value.Goals as goal
 
 pub returns-clause-leaves : goal.returns-clause-leaves
 returns-clause-leaves g c =
-    ap (λ leaf. leaves_of (slice_set c.self.inside.slab.slots c.args.leaf.slot (Some (Leaf leaf)))) (λ i. record { key = c.in-Leaf.node.key; value = c.replace.ensures.after i; previous = c.in-Leaf.node.previous; next = c.in-Leaf.node.next }) ∙
+    ap (λ leaf. leaves_of (slice_set c.self.inside.slab.slots c.args.leaf.slot (Some (Leaf leaf))))
+    (λ i. record { key = c.in-Leaf.node.key; value = c.replace.ensures.after i; previous = c.in-Leaf.node.previous; next = c.in-Leaf.node.next }) ∙
     leaves_written c.self.inside.slab c.args.leaf c.in-Leaf.node (with_value c.args.value) (c.index_mut.ensures.value ∙ ap Some c.in-Leaf.is)
     ∙ ap (λ nodes. change nodes.leaves c.args.leaf (with_value c.args.value)) c.self.view_is

@@ -27,7 +27,8 @@ returns-in-OverwritePoint-clause-touches g c = rw c.in-OverwritePoint.is c.apply
 pub returns-in-Ok-clause-canonical : goal.returns-in-Ok-clause-canonical
 returns-in-Ok-clause-canonical g c = rw c.in-InsertPoint.is (λ pairs layout by.
     let is = c.in-Ok.ensures.canonical pairs layout by in
-    subst (λ z. IsCanonical (of_key g.K.AsBytes.bytes) g.row.PREFIX_LEN c.apply-in-InsertPoint.new.store (Some c.in-Ok.insert_result.new_root) z) (sym (put_is_overwrite (of_key g.K.AsBytes.bytes) (c.args.key, c.args.value) pairs (was_free g.K.AsBytes.bytes (c.args.key, c.args.value) pairs is.1.is_map))) is)
+    subst (λ z. IsCanonical (of_key g.K.AsBytes.bytes) g.row.PREFIX_LEN c.apply-in-InsertPoint.new.store (Some c.in-Ok.insert_result.new_root) z)
+    (sym (put_is_overwrite (of_key g.K.AsBytes.bytes) (c.args.key, c.args.value) pairs (was_free g.K.AsBytes.bytes (c.args.key, c.args.value) pairs is.1.is_map))) is)
 
 pub returns-in-Ok-clause-leaf : goal.returns-in-Ok-clause-leaf
 returns-in-Ok-clause-leaf g c = rw c.in-InsertPoint.is c.in-Ok.ensures.leaf
@@ -35,7 +36,8 @@ returns-in-Ok-clause-leaf g c = rw c.in-InsertPoint.is c.in-Ok.ensures.leaf
 pub returns-in-Ok-clause-replaced : goal.returns-in-Ok-clause-replaced
 returns-in-Ok-clause-replaced g c = rw c.in-InsertPoint.is (λ pairs layout by.
     let is = c.in-Ok.ensures.canonical pairs layout by in
-    c.in-Ok.ensures.replaced pairs layout by ∙ ap (λ z. option_map alone z.0) (sym (put_reply_is (of_key g.K.AsBytes.bytes) (c.args.key, c.args.value) pairs (was_free g.K.AsBytes.bytes (c.args.key, c.args.value) pairs is.1.is_map))))
+    c.in-Ok.ensures.replaced pairs layout by
+    ∙ ap (λ z. option_map alone z.0) (sym (put_reply_is (of_key g.K.AsBytes.bytes) (c.args.key, c.args.value) pairs (was_free g.K.AsBytes.bytes (c.args.key, c.args.value) pairs is.1.is_map))))
 
 pub returns-in-Ok-clause-removed : goal.returns-in-Ok-clause-removed
 returns-in-Ok-clause-removed g c = rw c.in-InsertPoint.is (λ pairs layout by.
