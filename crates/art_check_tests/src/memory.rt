@@ -29,15 +29,10 @@ fn is_told_without_root<const P: usize>(store: &NodeStore<Key, u32, P>) -> bool 
 fn without_memory_there_is_no_verdict(rt: HostRuntime) -> Result<(), Fail> {
     let mut store: NodeStore<Key, u32, 4> = NodeStore::new(rt.alloc());
     let root = plant_all(&mut store, &[&[1, 1], &[1, 2]])?;
-    let dead = OpaqueNodePtr::from_parts(NodeType::Node48, 0);
     let held = all_memory(rt.alloc())?;
-    let seen = [
-        is_refused(&store, root),
-        is_refused(&store, dead),
-        is_told_without_root(&store),
-    ];
+    let seen = [is_refused(&store, root), is_told_without_root(&store)];
     drop(held);
-    assert_eq!(rt; seen, [true; 3]);
+    assert_eq!(rt; seen, [true; 2]);
     Ok(())
 }
 
