@@ -1,7 +1,8 @@
 //! What is wrong with a tree, found by a list of what is still to be looked at.
 
 use art_nodes::node::{
-    AsBytes, InnerPtr, InnerRef, LeafNode, LeafPtr, NodePtr, NodeType, OpaqueNodePtr, OptionalLeafPtr,
+    AsBytes, InnerPtr, InnerRef, LeafNode, LeafPtr, NodePtr, NodeType, OpaqueNodePtr,
+    OptionalLeafPtr,
 };
 use art_nodes::store::NodeStore;
 use std::alloc::{AllocError, Global};
@@ -206,10 +207,7 @@ impl Way {
                 return Ok(Verdict::Flawed(flaw));
             }
         }
-        Ok(Verdict::Tree(
-            leaves.len(),
-            self.met.len().saturating_sub(leaves.len()),
-        ))
+        Ok(Verdict::Tree(leaves.len(), self.met.len().saturating_sub(leaves.len())))
     }
 }
 
@@ -267,7 +265,10 @@ fn leaf_flaw<K: AsBytes + Drop, V: Drop, const P: usize>(
     if front(key, place.len()) != place.as_slice() {
         return Ok(Some(Flaw::Key(place, key.to_vec(alloc)?)));
     }
-    for (link, wanted) in [(node.previous, Ordering::Less), (node.next, Ordering::Greater)] {
+    for (link, wanted) in [
+        (node.previous, Ordering::Less),
+        (node.next, Ordering::Greater),
+    ] {
         let Some(name) = link else {
             continue;
         };

@@ -119,7 +119,11 @@ fn place<const P: usize>(
         Plain::Leaf { key, value, .. } => Ok(Some(place_leaf(store, key, value)?)),
         Plain::Gone => Ok(Some(place_leaf(store, &[], 0)?)),
         Plain::Renamed(kind, at) => {
-            Ok(names.get(at).map(|other| OpaqueNodePtr::from_parts(kind, other.slot())))
+            Ok(
+                names
+                    .get(at)
+                    .map(|other| OpaqueNodePtr::from_parts(kind, other.slot())),
+            )
         }
         Plain::Inner {
             kind,

@@ -80,7 +80,10 @@ pub fn write_check(
 ) -> io::Result<()> {
     match checked {
         Ok(stats) => {
-            let WellFormedTreeStats { num_leaf, num_inner } = stats;
+            let WellFormedTreeStats {
+                num_leaf,
+                num_inner,
+            } = stats;
             writeln!(output, "ok {num_leaf} leaves {num_inner} inner")
         }
         Err(MalformedTreeError::OutOfMemory) => write_no_memory(output),

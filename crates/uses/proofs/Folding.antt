@@ -1,7 +1,6 @@
 -- What a fold answers is said of the tree's pairs, where it is said of a leaf's pair, and of two lists in a row where they are joined.
 use Rattle.std.proofs.Common.{◌≡◌, List, [], ◌∷◌, ◌++◌, sym, ap, ◌∙◌, subst, append-nil, append_assoc, Option, Some}
 use Rattle.std.specs.Option.{option_map}
-
 use Rattle.art_nodes.specs.Inner.{Inner}
 use Rattle.art_nodes.specs.Nodes.{Nodes}
 use Rattle.art_nodes.specs.declared.node.LeafNode.{LeafNode}
