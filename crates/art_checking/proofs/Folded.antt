@@ -1,6 +1,6 @@
 -- A fold goes on child by child: some children of a node are joined, and the others are left.
 use Rattle.std.specs.Option.{option_map}
-use Rattle.std.proofs.Common.{◌≡◌, ◌≢◌, ℕ, ◌<◌, ◌≤◌, List, [], ◌∷◌, ◌++◌, length, refl, ap, ap₂, sym, ◌∙◌, arith, subst, Option, Some, None}
+use Rattle.std.proofs.Common.{◌≡◌, ◌≢◌, ℕ, ◌<◌, ◌≤◌, List, [], ◌∷◌, length, refl, ap, ap₂, sym, ◌∙◌, arith, subst, Some, None}
 use Rattle.std.specs.FinMap as map
 use Rattle.art_nodes.specs.Inner.{Inner}
 use Rattle.art_nodes.specs.Names.{leaf_name, inner_name}
@@ -11,17 +11,17 @@ use Rattle.art_nodes.specs.declared.node.LeafPtr.{LeafPtr}
 use Rattle.art_nodes.specs.declared.node.InnerPtr.{InnerPtr}
 use Rattle.art_nodes.specs.declared.node.LeafNode.{LeafNode}
 use Rattle.art_nodes.specs.declared.node.OpaqueNodePtr.{OpaqueNodePtr}
-use Rattle.art_model.specs.Trees.{Tree, leaf, inner, Children, child, no_child, Header}
+use Rattle.art_model.specs.Trees.{Tree, inner, Children, child, no_child, Header}
 use Rattle.art_model.specs.Radix.{join, bytes_of, HaveChildren}
-use Rattle.art_model.specs.Layouts.{name_of, slots_of, names_of, names_below, IsLayout, Holds, HoldsBelow, AreDistinct}
-use Rattle.art_model.specs.Stores.{held, held_leaf, held_inner, node_at, header_at, pair_of}
-use Rattle.art_model.specs.Heights.{height, tree_height, height_below}
+use Rattle.art_model.specs.Layouts.{name_of, slots_of, names_of, names_below, AreDistinct}
+use Rattle.art_model.specs.Stores.{held, held_leaf, held_inner, node_at, header_at}
+use Rattle.art_model.specs.Heights.{height, tree_height}
 use Rattle.art_model.specs.Roots.{IsFullTree}
 use Rattle.art_model.proofs.Edges.{children_right, height_join}
 use Rattle.art_model.proofs.Heights.{height_is, enough_steps}
 use Rattle.art_model.proofs.Pairwises.{Pairwise-left, Pairwise-right}
 use Rattle.art_model.proofs.Paths.{names_below-join}
-use Rattle.art_model.proofs.Shown.{IsShown, no_inner_gone, inner_shown, no_leaf_gone, leaf_shown}
+use Rattle.art_model.proofs.Shown.{no_inner_gone, inner_shown, no_leaf_gone, leaf_shown}
 use Rattle.art_model.proofs.Stores.{HoldsBelow-right}
 use Rattle.art_model.proofs.Views.{held_in_inner}
 use Rattle.art_checking.specs.Folds.{Folds, JoinsAll, Joins}

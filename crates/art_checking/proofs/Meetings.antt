@@ -1,6 +1,6 @@
 -- what a check has met, as a map from names to places
-use Rattle.std.proofs.Common.{◌≡◌, ◌≢◌, ℕ, suc, ◌<◌, Bool, true, false, not, eqb, ◌&&◌, cond, List, [], ◌∷◌, ◌++◌, length, filter, refl, ap, ap₂, sym, ◌∙◌, arith, subst, eq-eqb, eqb-true, Option, Some, None, ◌⊎◌, inl, inr}
-use Rattle.std.proofs.lemmas.Bool.{cases_Bool, cases_order, ne_eqb, true≢false, false≢true}
+use Rattle.std.proofs.Common.{◌≡◌, ◌≢◌, ℕ, Bool, true, false, eqb, ◌&&◌, cond, List, [], ◌∷◌, ◌++◌, refl, ap, ap₂, sym, ◌∙◌, arith, eq-eqb, eqb-true, Some, None, ◌⊎◌, inl, inr}
+use Rattle.std.proofs.lemmas.Bool.{cases_Bool, cases_order, ne_eqb, false≢true}
 use Rattle.std.specs.Cmp.{nat_cmp_is}
 use Rattle.std.specs.declared.cmp.Ordering.TheVariants.{Less, Equal, Greater}
 use Rattle.std.specs.List.{AllByRecursion as Each}
@@ -15,8 +15,7 @@ use Rattle.art_nodes.specs.contracts.node.OpaqueNodePtrOrd.TheImpl as derived
 use Rattle.art_nodes.specs.contracts.node.InnerPtrOrd.TheImpl as derived_inner
 use Rattle.art_nodes.specs.declared.node.InnerPtr.{InnerPtr}
 use Rattle.art_model.specs.Footprints.{IsIn}
-use Rattle.art_model.specs.Layouts.{AreDistinct}
-use Rattle.art_model.proofs.Lists.{Each-append, each_in, each_from, in_left, in_right, in_either}
+use Rattle.art_model.proofs.Lists.{Each-append, each_in, each_from, in_left, in_right}
 use Rattle.art_model.proofs.Pairwises.{Pairwise-append}
 use Rattle.art_checking.specs.Meetings.{same_name, Places, IsMet, Meets}
 

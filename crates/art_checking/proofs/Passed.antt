@@ -1,7 +1,7 @@
 -- What a check has passed is a part of a radix tree, name by name.
 use Rattle.std.proofs.Math.Seq.{take-append_seam}
 use Rattle.std.proofs.lemmas.Bool.{false≢true}
-use Rattle.std.proofs.Common.{is_some, IsSome, ◌-◌, length-append, ◌≡◌, ◌≢◌, ℕ, suc, ◌+◌, ◌<◌, ◌≤◌, Bool, true, false, List, [], ◌∷◌, ◌++◌, length, map, take, refl, ap, ap₂, sym, ◌∙◌, arith, subst, append_assoc, append-nil, Option, Some, None, ◌⊎◌, inl, inr}
+use Rattle.std.proofs.Common.{is_some, IsSome, ◌-◌, length-append, ◌≡◌, ◌≢◌, ℕ, suc, ◌+◌, ◌<◌, ◌≤◌, true, List, [], ◌∷◌, ◌++◌, length, map, take, refl, ap, ap₂, sym, ◌∙◌, arith, subst, append_assoc, append-nil, Option, Some, None}
 use Rattle.std.specs.FinMap as finite
 use Rattle.std.specs.List.{AllByRecursion as Each}
 use Rattle.std.specs.Option.{option_map}
@@ -15,10 +15,9 @@ use Rattle.art_nodes.specs.declared.node.NodeType.TheVariants.{Node4, Node16, No
 use Rattle.art_nodes.specs.declared.node.LeafPtr.{LeafPtr}
 use Rattle.art_nodes.specs.declared.node.InnerPtr.{InnerPtr}
 use Rattle.art_nodes.specs.declared.node.OpaqueNodePtr.{OpaqueNodePtr}
-use Rattle.art_model.specs.Keys.{IsFront}
-use Rattle.art_model.specs.Layouts.{Node, leaf_node, inner_node, name_of, slots_of, names_of, names_below, leaf_names, leaf_names_below, leaves_of, inner_names, inner_names_below, Holds, HoldsBelow, AreLinked, IsLayout}
+use Rattle.art_model.specs.Layouts.{leaf_node, inner_node, name_of, slots_of, names_of, names_below, leaf_names, leaf_names_below, leaves_of, inner_names, inner_names_below, Holds, HoldsBelow, AreLinked, IsLayout}
 use Rattle.art_model.specs.Radix.{join, pairs_of, bytes_of, IsRising, IsRadix, AreRadix}
-use Rattle.art_model.specs.Stores.{node_at, header_at, seen, held_inner, Held, IsUsed, links_at}
+use Rattle.art_model.specs.Stores.{node_at, header_at, held_inner, Held, IsUsed, links_at}
 use Rattle.art_model.specs.Trees.{Tree, leaf, inner, Children, child, no_child, Header, header_of, kind_of}
 use Rattle.art_model.proofs.Canonical.{canonical_from}
 use Rattle.art_model.proofs.Lists.{Each-append}

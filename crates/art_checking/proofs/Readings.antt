@@ -1,5 +1,5 @@
 -- a prefix that is not stored whole, as read from the least leaf, or not
-use Rattle.std.proofs.Common.{◌≡◌, ◌≢◌, ℕ, ◌+◌, ◌<◌, ◌≤◌, List, length, take, drop, min, refl, ap, sym, ◌∙◌, Bor, Option, Some, None, inl, inr, arith}
+use Rattle.std.proofs.Common.{◌≡◌, ◌≢◌, ℕ, ◌+◌, ◌<◌, List, length, take, min, refl, ap, ◌∙◌, Bor, Option, Some, None, inr, arith}
 use Rattle.std.specs.FinMap as map
 use Rattle.std.specs.Option.{MatchOption}
 use Rattle.art_nodes.specs.Inner.{Inner}
@@ -9,10 +9,10 @@ use Rattle.art_nodes.specs.declared.node.InnerPtr.{InnerPtr}
 use Rattle.art_nodes.specs.declared.node.LeafPtr.{LeafPtr}
 use Rattle.art_nodes.specs.declared.node.NodeType.TheVariants.{Leaf}
 use Rattle.art_nodes.specs.declared.node.OpaqueNodePtr.{OpaqueNodePtr}
-use Rattle.art_model.specs.Faults.{Reaches, EndsBadly, IsUnreadable, StoresOthers}
+use Rattle.art_model.specs.Faults.{Reaches, IsUnreadable, StoresOthers}
 use Rattle.art_model.specs.Layouts.{leaf_node}
 use Rattle.art_model.specs.Stores.{node_at, header_at}
-use Rattle.art_model.specs.Trails.{IsDescent, DescendsTo, IsPrefix}
+use Rattle.art_model.specs.Trails.{IsPrefix}
 use Rattle.art_checking.specs.Checked.{IsLeastLeaf, IsPartOf, IsReadFrom}
 use Rattle.art_checking.proofs.Descents.{inner_at}
 

@@ -1,5 +1,5 @@
 -- What a check has met stands on trails from the root, and below the places that it came to.
-use Rattle.std.proofs.Common.{◌≡◌, ◌≢◌, ℕ, ◌+◌, ◌<◌, ◌≤◌, true, List, [], ◌∷◌, ◌++◌, length, length-append, append-nil, refl, ap, sym, ◌∙◌, arith, subst, eq-eqb, Option, Some, None, IfSome, ◌⊎◌, inl, inr}
+use Rattle.std.proofs.Common.{◌≡◌, ◌≢◌, ℕ, ◌<◌, List, [], ◌∷◌, ◌++◌, length, length-append, append-nil, refl, ap, sym, ◌∙◌, arith, subst, eq-eqb, Option, Some, None, IfSome, ◌⊎◌, inl, inr}
 use Rattle.std.proofs.lemmas.Bool.{cases_Bool, ne_eqb, true≢false}
 use Rattle.std.specs.FinMap as map
 use Rattle.std.specs.List.{AllByRecursion as Each}
@@ -18,7 +18,7 @@ use Rattle.art_model.specs.Stores.{node_at, header_at}
 use Rattle.art_model.specs.Trails.{end_of, HasChild, IsTrail, HasPrefix, IsReadAs}
 use Rattle.art_model.specs.Trees.{Header}
 use Rattle.art_model.proofs.Lists.{front_cut}
-use Rattle.art_checking.specs.Checked.{AreReached, IsLeastLeaf, IsRead, IsWalked, NoneBelow, NoneFrom}
+use Rattle.art_checking.specs.Checked.{IsLeastLeaf, IsRead, IsWalked, NoneBelow, NoneFrom}
 use Rattle.art_checking.specs.Meetings.{Places, IsMet, same_name}
 use Rattle.art_checking.proofs.Descents.{inner_at, least_below}
 use Rattle.art_checking.proofs.Meetings.{same_is, same_self}

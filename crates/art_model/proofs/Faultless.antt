@@ -17,7 +17,7 @@ use Rattle.std.specs.declared.cmp.Ordering.{Ordering}
 use Rattle.std.specs.declared.cmp.Ordering.TheVariants.{Less, Equal, Greater}
 use Rattle.art_model.specs.Footprints.{IsIn}
 use Rattle.art_model.specs.Keys.{IsFront, Precedes}
-use Rattle.art_model.specs.Layouts.{Node, Links, leaf_node, inner_node, name_of, names_of, names_below, leaf_names, leaves_of, leaves_below, slots_of, AreDistinct, Holds, HoldsBelow, IsLayout, first_or, last_or, AreLinked}
+use Rattle.art_model.specs.Layouts.{Node, Links, leaf_node, inner_node, name_of, names_of, names_below, leaf_names, leaves_of, leaves_below, slots_of, AreDistinct, Holds, HoldsBelow, first_or, last_or, AreLinked}
 use Rattle.art_model.specs.Pairs.{first_of, last_of, IsMap}
 use Rattle.art_model.specs.Radix.{join, bytes_of, pairs_of, IsRadix, AreRadix}
 use Rattle.art_model.specs.Stores.{node_at, links_at}

@@ -1,5 +1,5 @@
 -- Trails in a store from the root of a tree end at subtrees, and are read as the places of these.
-use Rattle.std.proofs.Common.{◌≡◌, ◌≢◌, ℕ, ◌+◌, ◌<◌, ◌≤◌, List, [], ◌∷◌, ◌++◌, length, take, drop, refl, ap, ap₂, sym, ◌∙◌, arith, subst, length-append, append_assoc, Option, Some, None, ◌⊎◌, inl, inr}
+use Rattle.std.proofs.Common.{◌≡◌, ◌≢◌, ℕ, List, [], ◌∷◌, ◌++◌, length, take, drop, refl, ap, ap₂, sym, ◌∙◌, arith, subst, append_assoc, Option, Some, None, inl, inr}
 use Rattle.std.proofs.Math.Seq.{take-append_seam, drop-append_seam}
 use Rattle.std.proofs.lemmas.List.{take_all}
 use Rattle.std.specs.List.{AllByRecursion as Each}
@@ -7,11 +7,11 @@ use Rattle.art_nodes.specs.Inner.{child_at}
 use Rattle.art_nodes.specs.declared.node.OpaqueNodePtr.{OpaqueNodePtr}
 use Rattle.art_model.specs.Footprints.{IsIn}
 use Rattle.art_model.specs.Keys.{IsFront}
-use Rattle.art_model.specs.Layouts.{Node, leaf_node, inner_node, name_of, slots_of, names_of, names_below, AreDistinct, Holds, HoldsBelow}
-use Rattle.art_model.specs.Radix.{join, bytes_of, IsRadix, AreRadix}
-use Rattle.art_model.specs.Trails.{bottom_of, end_of, HasChild, HasLeast, IsDescent, DescendsTo, IsPrefix, HasPrefix, IsTrail, IsReadAs, IsReached}
-use Rattle.art_model.specs.Trees.{Tree, leaf, inner, Children, child, no_child, Header, header_of}
-use Rattle.art_model.proofs.Lists.{Each-weaker, each_in, in_left, in_right, front_cut, after_front}
+use Rattle.art_model.specs.Layouts.{Node, leaf_node, name_of, slots_of, names_of, names_below, AreDistinct, Holds, HoldsBelow}
+use Rattle.art_model.specs.Radix.{IsRadix, AreRadix}
+use Rattle.art_model.specs.Trails.{bottom_of, end_of, IsDescent, IsPrefix, HasPrefix, IsTrail, IsReadAs}
+use Rattle.art_model.specs.Trees.{Tree, leaf, inner, Children, child, no_child, Header}
+use Rattle.art_model.proofs.Lists.{Each-weaker, each_in, in_left, in_right, front_cut}
 use Rattle.art_model.proofs.OnWay.{child_under}
 use Rattle.art_model.proofs.Paths.{names_below-join}
 use Rattle.art_model.proofs.Pairwises.{Pairwise-left, Pairwise-right}

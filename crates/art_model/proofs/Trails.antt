@@ -1,10 +1,9 @@
 -- a way from a root is read in one manner, so that other places have other ways
-use Rattle.std.proofs.Common.{◌≡◌, ◌≢◌, ℕ, ◌+◌, ◌<◌, ◌≤◌, List, [], ◌∷◌, ◌++◌, length, take, drop, refl, ap, ap₂, sym, ◌∙◌, arith, subst, Option, Some, ◌⊎◌, inl, inr}
+use Rattle.std.proofs.Common.{◌≡◌, ◌≢◌, ℕ, List, [], ◌∷◌, ◌++◌, length, take, drop, ap, ap₂, sym, ◌∙◌, arith, subst, Option, Some, inl, inr}
 use Rattle.art_nodes.specs.Inner.{child_at}
 use Rattle.art_nodes.specs.declared.node.OpaqueNodePtr.{OpaqueNodePtr}
-use Rattle.art_model.specs.Layouts.{Node, leaf_node, inner_node}
-use Rattle.art_model.specs.Trails.{way_of, bottom_of, end_of, IsDescent, IsPrefix, HasPrefix, IsTrail, IsReadAs, IsReached}
-use Rattle.art_model.specs.Trees.{Header}
+use Rattle.art_model.specs.Layouts.{Node, leaf_node}
+use Rattle.art_model.specs.Trails.{way_of, bottom_of, IsDescent, IsPrefix, HasPrefix, IsTrail, IsReadAs, IsReached}
 
 module _ {A : Type 0} (at : OpaqueNodePtr → Option (Node OpaqueNodePtr A)) where
   -- descents from a name end at one leaf

@@ -1,8 +1,8 @@
 -- the trails, descents and readings that show each fault
-use Rattle.std.proofs.Common.{T, ◌≡◌, ◌≢◌, ℕ, ◌∙◌, List, [], ◌∷◌, Option, Some, None, refl, sym, ap, inl, inr, arith}
+use Rattle.std.proofs.Common.{T, ◌≡◌, ℕ, List, [], ◌∷◌, Some, None, refl, ap, inl, inr, arith}
 use Rattle.std.specs.FinMap as map
 use Rattle.std.specs.Option.{option_map, option_and_then}
-use Rattle.std.specs.declared.cmp.Ordering.TheVariants.{Less, Equal, Greater}
+use Rattle.std.specs.declared.cmp.Ordering.TheVariants.{Less}
 use Rattle.art_nodes.specs.Inner.{Inner, child_at}
 use Rattle.art_nodes.specs.Nodes.{Nodes, leaf_cmp, inner_cmp}
 use Rattle.art_nodes.specs.declared.node.InnerPtr.{InnerPtr}

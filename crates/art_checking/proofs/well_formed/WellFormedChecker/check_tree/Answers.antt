@@ -1,4 +1,4 @@
-use Rattle.std.proofs.Common.{rules, ◌≡◌, sym, ◌∙◌, ap, subst, ◌≤◌, arith, length, None, IsSome}
+use Rattle.std.proofs.Common.{rules, ◌≡◌, sym, ◌∙◌, ap, subst, arith, None, IsSome}
 use Rattle.std.specs.FinMap as map
 use Rattle.std.specs.List.{AllByRecursion as Each}
 use Rattle.art_model.specs.Layouts.{AreLinked}

@@ -1,19 +1,15 @@
-use Rattle.std.proofs.Common.{◌≡◌, ◌++◌, ◌∷◌, [], ◌-◌, ◌≤◌, ◌≢◌, ℕ, List, length, take, rules, sym, ◌∙◌, ap, ap₂, arith, subst, is_some, length-append, vec_len, refl, inl, inr, Some, IfSome}
+use Rattle.std.proofs.Common.{◌≡◌, ◌++◌, ◌∷◌, [], ◌≤◌, ◌≢◌, length, take, rules, sym, ◌∙◌, ap, ap₂, arith, subst, vec_len, refl, inl, inr, Some, IfSome}
 use Rattle.std.proofs.Math.Seq.{take-append_seam}
-use Rattle.std.specs.FinMap as map
 use Rattle.art_nodes.specs.Inner.{IsRising, IsBelow}
-use Rattle.art_nodes.specs.Kinds.{kind_least, kind_capacity, ref_kind, ref_view}
-use Rattle.art_nodes.specs.Names.{inner_name, leaf_name}
-use Rattle.art_nodes.specs.declared.node.OpaqueNodePtr.{OpaqueNodePtr}
+use Rattle.art_nodes.specs.Kinds.{kind_least, kind_capacity, ref_view}
+use Rattle.art_nodes.specs.Names.{inner_name}
 use Rattle.art_nodes.specs.declared.node.NodeType.TheVariants.{Leaf}
 use Rattle.art_model.specs.Faults.{IsTrueOf, Reaches}
 use Rattle.art_model.specs.Layouts.{names_below, slots_of}
 use Rattle.art_model.specs.Stores.{IsUsed, header_at}
 use Rattle.art_model.specs.Pairs.{of_key}
 use Rattle.art_checking.specs.Checked.{IsChecked, IsFirstMet, IsLeafAt, IsLeastLeaf, IsTrueBehind, IsWalked, NoneBelow}
-use Rattle.art_checking.specs.Checks.{fault_of}
-use Rattle.art_checking.specs.Meetings.{place_in, IsMet}
-use Rattle.art_checking.specs.declared.well_formed.seen.Seen.{Seen}
+use Rattle.art_checking.specs.Meetings.{place_in}
 use Rattle.art_checking.proofs.Descents.{inner_at}
 use Rattle.art_checking.proofs.Faulty.{passed_on}
 use Rattle.art_checking.proofs.Passed.{HasPassed, IsPassed, passed_none, passed_leaf, passed_inner, passed_more, passed_all, less_to_try, inner_is_there, before_last}

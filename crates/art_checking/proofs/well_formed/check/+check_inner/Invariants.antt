@@ -1,4 +1,4 @@
-use Rattle.std.proofs.Common.{◌≡◌, ◌++◌, ℕ, List, is_some}
+use Rattle.std.proofs.Common.{◌++◌, is_some}
 use Rattle.std.specs.FinMap as map
 use Rattle.art_nodes.specs.Kinds.{ref_view}
 use Rattle.art_nodes.specs.Names.{inner_name}

@@ -1,4 +1,4 @@
-use Rattle.std.proofs.Common.{ap, sym, ◌≡◌, ◌∙◌, List, ◌++◌, ℕ, length, drop, eqb, true, refl, subst, inl, inr, Some, IfSome}
+use Rattle.std.proofs.Common.{ap, sym, ◌≡◌, ◌∙◌, List, ◌++◌, ℕ, length, drop, eqb, true, refl, subst, inl, inr, IfSome}
 use Rattle.std.proofs.lemmas.Slice.Eq.{starts_is}
 use Rattle.std.proofs.lemmas.Bool.Decides.{Decides-eqb}
 use Rattle.std.specs.List.{starts_with}

@@ -1,4 +1,4 @@
-use Rattle.std.proofs.Common.{rules, arith, append_assoc, ◌≡◌, ◌≢◌, ◌++◌, ◌∷◌, [], List, Bool, true, false, not, eqb, eq-eqb, refl, sym, ap, ap₂, subst, ◌∙◌, Option, Some, None}
+use Rattle.std.proofs.Common.{rules, arith, append_assoc, ◌≡◌, ◌≢◌, ◌++◌, ◌∷◌, [], List, true, not, eq-eqb, refl, sym, ap, ap₂, ◌∙◌, Option, Some, None}
 use Rattle.std.proofs.lemmas.Bool.{false≢true}
 use Rattle.std.proofs.lemmas.Grind.{common_steps}
 use Rattle.std.specs.List.{slice_get}

@@ -1,4 +1,4 @@
-use Rattle.std.proofs.Common.{sym, ◌∙◌, ap, subst, ◌≡◌, ◌≢◌, ℕ, List, [], None, Some, rules}
+use Rattle.std.proofs.Common.{sym, ◌∙◌, subst, ◌≡◌, ◌≢◌, ℕ, List, [], None, rules}
 use Rattle.art_nodes.specs.Names.{inner_name, leaf_name}
 use Rattle.art_nodes.specs.declared.node.NodeType.TheVariants.{Leaf}
 use Rattle.art_nodes.specs.Nodes.{Nodes}

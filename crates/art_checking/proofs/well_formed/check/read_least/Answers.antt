@@ -1,4 +1,4 @@
-use Rattle.std.proofs.Common.{◌≡◌, sym, ◌∙◌, ap, subst, Option, Some, None, IfSome}
+use Rattle.std.proofs.Common.{◌≡◌, sym, ◌∙◌, subst, Some, IfSome}
 use Rattle.art_nodes.specs.Names.{inner_name}
 use Rattle.art_model.specs.Pairs.{of_key}
 use Rattle.art_checking.specs.Checked.{IsLeastLeaf, IsReadFrom}

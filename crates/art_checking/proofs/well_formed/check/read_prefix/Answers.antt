@@ -1,4 +1,4 @@
-use Rattle.std.proofs.Common.{sym, ◌∙◌, ap, ap₂, subst, ◌≡◌, ◌≢◌, ◌<◌, ℕ, List, length, take, Bool, true, false, not, eqb, refl, Bor, Option, Some, None, vec_len}
+use Rattle.std.proofs.Common.{sym, ◌∙◌, ap, subst, ◌≡◌, ◌≢◌, ◌<◌, ℕ, List, length, take, Bool, true, false, not, eqb, refl}
 use Rattle.std.proofs.lemmas.Bool.{true≢false, false≢true}
 use Rattle.std.proofs.lemmas.Bool.Decides.{Decides-eqb}
 use Rattle.std.proofs.lemmas.Slice.Eq.{slice_eq-Decides}

@@ -1,4 +1,4 @@
-use Rattle.std.proofs.Common.{Option, ap, sym, ◌∙◌, refl, Some, None, ◌≡◌, ℕ, List, Bor}
+use Rattle.std.proofs.Common.{Option, ap, ◌∙◌, refl, Some, None, ◌≡◌, ℕ, List, Bor}
 use Rattle.std.specs.Option.{option_map, option_copied}
 use Rattle.std.specs.Ordering.{is_eq}
 use Rattle.art_nodes.specs.contracts.node.OpaqueNodePtrOrd.TheImpl as derived

@@ -1,4 +1,4 @@
-use Rattle.std.proofs.Common.{Option, ap, sym, ◌∙◌, refl, Some, None, ◌≡◌, ◌≢◌, ℕ, List, Bool, false, cond, is_some, length, ◌+◌}
+use Rattle.std.proofs.Common.{Option, ap, sym, ◌∙◌, refl, Some, None, ◌≡◌, ℕ, cond, is_some, length, ◌+◌}
 use Rattle.std.specs.Map.{lookup}
 use Rattle.std.specs.Option.{option_map}
 use Rattle.std.specs.Ordering.{is_eq}
@@ -6,7 +6,7 @@ use Rattle.std.specs.BTreeMap.{BTreeMap}
 use Rattle.art_nodes.specs.contracts.node.OpaqueNodePtrOrd.TheImpl as derived
 use Rattle.art_nodes.specs.declared.node.OpaqueNodePtr.{OpaqueNodePtr}
 use Rattle.art_checking.specs.Checks.{prefix_bytes}
-use Rattle.art_checking.specs.Meetings.{IsMet, place_in, same_name}
+use Rattle.art_checking.specs.Meetings.{place_in, same_name}
 use Rattle.art_checking.specs.declared.well_formed.KeyPrefix.{KeyPrefix}
 use Rattle.art_checking.specs.declared.well_formed.seen.Seen.{Seen}
 use Rattle.art_checking.proofs.Meetings.{is_eq_same, lookup_same, same_apart}
