@@ -72,7 +72,11 @@ fn nodes_of_well_formed_trees_are_counted(rt: HostRuntime) -> Result<(), Fail> {
         (1, 0, 1),
     ];
     for (number, counts) in wanted.iter().enumerate() {
-        assert_eq!(rt; two_counts(rt.alloc(), number)?, [Some(*counts); 2], "tree {number}");
+        assert_eq!(rt;
+            two_counts(rt.alloc(), number)?,
+            [Some(*counts); 2],
+            "tree {number}"
+        );
     }
     Ok(())
 }

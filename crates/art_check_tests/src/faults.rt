@@ -52,10 +52,7 @@ fn link(at: usize) -> OptionalLeafPtr {
 }
 
 /// Whether the check answers as it should in a store of its own, and a clone of a fault equals it.
-fn is_told<const P: usize>(
-    empty: &NodeStore<Key, u32, P>,
-    case: Case<'_>,
-) -> Result<bool, Fail> {
+fn is_told<const P: usize>(empty: &NodeStore<Key, u32, P>, case: Case<'_>) -> Result<bool, Fail> {
     let mut store: NodeStore<Key, u32, P> = NodeStore::new(empty.alloc());
     Ok(is_told_in(&mut store, case)?)
 }
@@ -119,7 +116,10 @@ fn nodes_are_checked_in_the_order_of_the_walk(rt: HostRuntime) -> Result<(), Fai
             Told::Dead(&[1, 2, 4, 7, 8, 4], named(NodeType::Leaf, 6)),
         ),
     ];
-    assert_eq!(rt; first_wrong::<16>(&NodeStore::new(rt.alloc()), &cases)?, None);
+    assert_eq!(rt;
+        first_wrong::<16>(&NodeStore::new(rt.alloc()), &cases)?,
+        None
+    );
     Ok(())
 }
 
@@ -145,7 +145,10 @@ fn a_name_that_is_met_twice_is_a_loop(rt: HostRuntime) -> Result<(), Fail> {
             Told::Loop(named(NodeType::Node4, 1), &[1], &[2, 5]),
         ),
     ];
-    assert_eq!(rt; first_wrong::<16>(&NodeStore::new(rt.alloc()), &cases)?, None);
+    assert_eq!(rt;
+        first_wrong::<16>(&NodeStore::new(rt.alloc()), &cases)?,
+        None
+    );
     Ok(())
 }
 
@@ -161,7 +164,11 @@ fn siblings_are_to_stand_in_order(rt: HostRuntime) -> Result<(), Fail> {
     let later = [root, linked_leaf(&[1], Some(2), None), lone_leaf(&[2], 0)];
     let alone = [linked_leaf(&[1], None, Some(0))];
     let no_previous = [linked_leaf(&[1], Some(1), Some(1)), Plain::Gone];
-    let no_next = [linked_leaf(&[1], Some(1), Some(2)), lone_leaf(&[], 0), Plain::Gone];
+    let no_next = [
+        linked_leaf(&[1], Some(1), Some(2)),
+        lone_leaf(&[], 0),
+        Plain::Gone,
+    ];
     let (less, equal, greater) = (Ordering::Less, Ordering::Equal, Ordering::Greater);
     let cases = [
         from_first(&itself, Told::Order(&[1], &[1], less, equal)),
@@ -171,7 +178,10 @@ fn siblings_are_to_stand_in_order(rt: HostRuntime) -> Result<(), Fail> {
         from_first(&no_previous, Told::Dead(&[], named(NodeType::Leaf, 1))),
         from_first(&no_next, Told::Dead(&[], named(NodeType::Leaf, 2))),
     ];
-    assert_eq!(rt; first_wrong::<16>(&NodeStore::new(rt.alloc()), &cases)?, None);
+    assert_eq!(rt;
+        first_wrong::<16>(&NodeStore::new(rt.alloc()), &cases)?,
+        None
+    );
     Ok(())
 }
 
@@ -201,7 +211,10 @@ fn leaves_are_to_name_their_neighbours(rt: HostRuntime) -> Result<(), Fail> {
         ),
         from_first(&both, Told::Links(&[1], (None, link(2)), (link(4), None))),
     ];
-    assert_eq!(rt; first_wrong::<16>(&NodeStore::new(rt.alloc()), &cases)?, None);
+    assert_eq!(rt;
+        first_wrong::<16>(&NodeStore::new(rt.alloc()), &cases)?,
+        None
+    );
     Ok(())
 }
 
@@ -226,7 +239,10 @@ fn a_name_is_to_lead_to_a_node_of_its_kind(rt: HostRuntime) -> Result<(), Fail> 
         },
         from_first(&below, Told::Dead(&[2], named(NodeType::Node48, 2))),
     ];
-    assert_eq!(rt; first_wrong::<16>(&NodeStore::new(rt.alloc()), &cases)?, None);
+    assert_eq!(rt;
+        first_wrong::<16>(&NodeStore::new(rt.alloc()), &cases)?,
+        None
+    );
     Ok(())
 }
 
@@ -254,7 +270,10 @@ fn inner_nodes_are_to_have_enough_children(rt: HostRuntime) -> Result<(), Fail> 
         from_first(&wide, Told::Count(&[], NodeType::Node48, 2)),
         from_first(&widest, Told::Count(&[], NodeType::Node256, 1)),
     ];
-    assert_eq!(rt; first_wrong::<16>(&NodeStore::new(rt.alloc()), &cases)?, None);
+    assert_eq!(rt;
+        first_wrong::<16>(&NodeStore::new(rt.alloc()), &cases)?,
+        None
+    );
     Ok(())
 }
 
@@ -279,7 +298,10 @@ fn with_nothing_stored_each_prefix_is_read(rt: HostRuntime) -> Result<(), Fail> 
         from_first(&right, Told::Whole(2, 1)),
         from_first(&other, Told::Prefix(&[1, 6], &[2, 6])),
     ];
-    assert_eq!(rt; first_wrong::<0>(&NodeStore::new(rt.alloc()), &cases)?, None);
+    assert_eq!(rt;
+        first_wrong::<0>(&NodeStore::new(rt.alloc()), &cases)?,
+        None
+    );
     Ok(())
 }
 
@@ -317,7 +339,10 @@ fn stored_bytes_are_to_be_those_of_the_least_leaf(rt: HostRuntime) -> Result<(),
         from_first(&apart, Told::Prefix(&[1, 1, 1, 1, 6], &[1, 1, 1, 2, 6])),
         from_first(&endless, Told::Unreadable(&[5], named(NodeType::Node4, 1))),
     ];
-    assert_eq!(rt; first_wrong::<2>(&NodeStore::new(rt.alloc()), &cases)?, None);
+    assert_eq!(rt;
+        first_wrong::<2>(&NodeStore::new(rt.alloc()), &cases)?,
+        None
+    );
     Ok(())
 }
 
@@ -335,6 +360,7 @@ const LONG_KEYS: [[u8; 28]; 2] = [
 
 /// The first bytes of the long prefix, and the same but for one.
 const STORED: [u8; 16] = [88; 16];
+
 const CHANGED: [u8; 16] = [
     88, 88, 88, 88, 88, 88, 88, 88, 88, 87, 88, 88, 88, 88, 88, 88,
 ];
@@ -364,6 +390,9 @@ fn a_long_prefix_is_read_from_its_least_leaf(rt: HostRuntime) -> Result<(), Fail
         from_first(&wrong, Told::Stored(&[50, 88, 88, 49], &CHANGED, &STORED)),
         from_first(&dead, Told::Dead(&[50], named(NodeType::Node16, 7))),
     ];
-    assert_eq!(rt; first_wrong::<16>(&NodeStore::new(rt.alloc()), &cases)?, None);
+    assert_eq!(rt;
+        first_wrong::<16>(&NodeStore::new(rt.alloc()), &cases)?,
+        None
+    );
     Ok(())
 }

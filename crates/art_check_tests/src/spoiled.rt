@@ -9,7 +9,6 @@ use art_oracle::verdicts::{Flaw, Verdict, judge};
 use art_test_support::numbers::Numbers;
 use art_test_support::trees::{Key, planted};
 use std::alloc::AllocError;
-use std::test::Fail;
 
 /// What a verdict says. One that is unknown says what no check answers here.
 fn told_by_verdict(verdict: &Verdict) -> Told<'_> {
@@ -110,7 +109,7 @@ fn try_one<const P: usize>(
     try_in(&mut store, &mut NodeStore::new(alloc), numbers)
 }
 
-/// How many of 2,500 spoiled trees are told what, and last how many checks are wrong. The store tells the number of stored bytes.
+/// How often each was told of 2,500 spoiled trees, and last how many checks were wrong. The store tells the number of stored bytes.
 fn try_many<const P: usize>(empty: &NodeStore<Key, u32, P>) -> Result<[usize; 10], AllocError> {
     let mut numbers = Numbers::new(P as u64);
     let mut counts = [0usize; 10];
@@ -123,22 +122,27 @@ fn try_many<const P: usize>(empty: &NodeStore<Key, u32, P>) -> Result<[usize; 10
     Ok(counts)
 }
 
-/// Whether each of the faults was told in a trial, and no check was wrong. Faults of prefixes that are not stored whole are told where
-/// there are such prefixes.
-fn is_wide(counts: [usize; 10]) -> bool {
-    let (least, wrong) = counts.split_at(9);
-    least.iter().all(|count| *count > 0) && wrong.iter().all(|count| *count == 0)
+/// Whether no check of 2,500 spoiled trees was wrong, and each was told but the last of so many: a stored byte can be wrong only where
+/// bytes are stored. The store tells their number.
+fn are_told<const P: usize>(empty: &NodeStore<Key, u32, P>) -> bool {
+    let Ok(counts) = try_many(empty) else {
+        return false;
+    };
+    for (number, count) in counts.iter().enumerate() {
+        let is_possible = number < 8 || number == 8 && P > 0;
+        if (*count > 0) != is_possible {
+            return false;
+        }
+    }
+    true
 }
 
 #[test]
-fn spoiled_trees_are_told_as_another_check_tells(rt: HostRuntime) -> Result<(), Fail> {
+fn spoiled_trees_are_told_as_another_check_tells(rt: HostRuntime) {
     let alloc = rt.alloc();
-    let counts = [
-        try_many::<0>(&NodeStore::new(alloc))?,
-        try_many::<2>(&NodeStore::new(alloc))?,
-        try_many::<4>(&NodeStore::new(alloc))?,
-        try_many::<16>(&NodeStore::new(alloc))?,
-    ];
-    println!(rt; "{counts:?}")?;
-    Ok(())
+    let with_none = are_told::<0>(&NodeStore::new(alloc));
+    let with_two = are_told::<2>(&NodeStore::new(alloc));
+    let with_four = are_told::<4>(&NodeStore::new(alloc));
+    let with_many = are_told::<16>(&NodeStore::new(alloc));
+    assert_eq!(rt; [with_none, with_two, with_four, with_many], [true; 4]);
 }

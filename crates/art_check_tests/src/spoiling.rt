@@ -128,11 +128,7 @@ fn drawn_node(
 }
 
 // A name of the tree, or one with the slot of such a name.
-fn odd_name(
-    names: &[OpaqueNodePtr],
-    name: OpaqueNodePtr,
-    numbers: &mut Numbers,
-) -> OpaqueNodePtr {
+fn odd_name(names: &[OpaqueNodePtr], name: OpaqueNodePtr, numbers: &mut Numbers) -> OpaqueNodePtr {
     if numbers.is_heads() {
         return drawn_name(names, name, numbers);
     }
@@ -194,7 +190,12 @@ fn spoil_inner<const P: usize>(
 ) -> Result<(), AllocError> {
     match numbers.below(8) {
         0 | 1 => spoil_child(store, name, names, numbers),
-        2 => add_child(store, name, numbers.byte(), drawn_name(names, name.to_opaque(), numbers)),
+        2 => add_child(
+            store,
+            name,
+            numbers.byte(),
+            drawn_name(names, name.to_opaque(), numbers),
+        ),
         3 => drop_children(store, name, numbers),
         4 => spoil_stored(store, name, numbers)?,
         5 => spoil_length(store, name, numbers)?,

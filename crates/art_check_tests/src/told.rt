@@ -46,7 +46,11 @@ pub fn told_by_fault(fault: &MalformedTreeError) -> Told<'_> {
             node_ptr,
             first_observed,
             later_observed,
-        } => Told::Loop(*node_ptr, first_observed.as_slice(), later_observed.as_slice()),
+        } => Told::Loop(
+            *node_ptr,
+            first_observed.as_slice(),
+            later_observed.as_slice(),
+        ),
         MalformedTreeError::WrongChildrenCount {
             key_prefix,
             inner_node_type,
@@ -146,7 +150,11 @@ pub fn listed<'a>(told: Told<'a>, names: &[OpaqueNodePtr]) -> Told<'a> {
     match told {
         Told::Loop(name, first, later) => Told::Loop(place_of(name, names), first, later),
         Told::Links(key, expected, actual) => {
-            Told::Links(key, links_listed(expected, names), links_listed(actual, names))
+            Told::Links(
+                key,
+                links_listed(expected, names),
+                links_listed(actual, names),
+            )
         }
         Told::Dead(place, name) => Told::Dead(place, place_of(name, names)),
         Told::Unreadable(place, name) => Told::Unreadable(place, place_of(name, names)),

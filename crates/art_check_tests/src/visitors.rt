@@ -6,10 +6,11 @@ use art_nodes::store::NodeStore;
 use art_operations::insert::InsertPrefixError;
 use art_operations::visitor::{Visitor, visit_with};
 use art_operations::well_formed::KeyPrefix;
-use art_test_support::trees::{Key, plant_all};
+use art_test_support::trees::{Key, plant_all, planted_all};
 use std::alloc::{AllocError, Global};
 use std::boxed::BoxedSlice;
 use std::test::Fail;
+use uses::longest_key;
 
 /// Each output is ten times what came so far and the next child's, and an inner node adds a number.
 #[derive(Drop)]
@@ -140,6 +141,25 @@ fn nodes_are_visited_after_what_is_below_them(rt: HostRuntime) -> Result<(), Fai
         (8, NodeType::Node16, 0, 5),
     ];
     assert_eq!(rt; (height, met.leaves, met.at, met.inners), (3, 8, 4, wanted));
+    Ok(())
+}
+
+/// The length of the longest of these keys.
+fn longest_of(
+    store: &mut NodeStore<Key, u32, 2>,
+    slices: &[&[u8]],
+) -> Result<Option<usize>, AllocError> {
+    match planted_all(store, slices)? {
+        Some(root) => Ok(Some(longest_key(store, root))),
+        None => Ok(None),
+    }
+}
+
+#[test]
+fn the_longest_key_is_found(rt: HostRuntime) -> Result<(), Fail> {
+    let mut store: NodeStore<Key, u32, 2> = NodeStore::new(rt.alloc());
+    let slices: [&[u8]; 4] = [&[1, 7], &[2, 7, 7, 7, 1], &[2, 7, 7, 7, 2], &[9]];
+    assert_eq!(rt; longest_of(&mut store, &slices)?, Some(5));
     Ok(())
 }
 

@@ -1,20 +1,22 @@
 //! Uses of the operations, as a caller writes them.
 #![tactic(auto)]
 
-ghost use Rattle.std.specs.Prelude.{List, Some, IfSome};
+ghost use Rattle.std.specs.Prelude.{◌≡◌, List, length, max, Some, IfSome};
 ghost use Rattle.art_nodes.specs.declared.node.OpaqueNodePtr.{OpaqueNodePtr};
 ghost use Rattle.art_model.specs.Canonical.{IsCanonical};
 ghost use Rattle.art_model.specs.Pairs.{of_key, overwrite, put, remove_key, without_first};
 ghost use Rattle.art_model.specs.Layouts.{leaf_names};
 ghost use Rattle.art_model.specs.Roots.{ForTree, IsCanonicalRoot};
 ghost use Rattle.art_operations.specs.Iterators.{IsIteratorOf};
+ghost use Rattle.uses.specs.Longest.{longest};
 
-use art_nodes::node::{AsBytes, OpaqueNodePtr};
+use art_nodes::node::{AsBytes, InnerRef, LeafNode, OpaqueNodePtr};
 use art_nodes::store::NodeStore;
 use art_operations::delete::search_for_delete_point;
 use art_operations::insert::{search_for_insert_point, search_for_prefix_insert_point};
 use art_operations::iterator::RawIterator;
 use art_operations::minmax::{maximum_unchecked, minimum_unchecked};
+use art_operations::visitor::{Visitor, visit_with};
 
 /// Puts a pair in, and answers the root. `None` where the key is related to an unequal stored one, or for
 /// want of memory.
@@ -105,4 +107,49 @@ pub fn take_next<K: AsBytes + Drop, V: Drop, const P: usize>(
     let leaf = leaves.next(store)?;
     let node = store.free_leaf(leaf);
     Some((node.key, node.value))
+}
+
+/// A visitor that finds how long the longest key is.
+#[derive(Drop)]
+pub struct LongestKey;
+
+impl<K: AsBytes + Drop, V: Drop, const P: usize> Visitor<K, V, P> for LongestKey {
+    type Output = usize;
+
+    ghost is_default = { λ visitor output. output ≡ 0 };
+
+    ghost combines = { λ visitor first second output. output ≡ max first second };
+
+    ghost of_inner = { λ old kind node children output new. output ≡ children };
+
+    ghost of_leaf = { λ old leaf output new. output ≡ length (K.bytes leaf.key) };
+
+    fn default_output(&self) -> usize {
+        0
+    }
+
+    fn combine_output(&self, o1: usize, o2: usize) -> usize {
+        o1.max(o2)
+    }
+
+    fn visit_inner_node(&mut self, _node: InnerRef<'_, P>, children: usize) -> usize
+        ensures { result ≡ children }
+    {
+        children
+    }
+
+    fn visit_leaf(&mut self, leaf: &LeafNode<K, V>) -> usize {
+        leaf.key.as_bytes().len()
+    }
+}
+
+/// How long the longest key of a tree is.
+pub fn longest_key<K: AsBytes + Drop, V: Drop, const P: usize>(
+    store: &NodeStore<K, V, P>,
+    root: OpaqueNodePtr,
+) -> usize
+    requires { IsCanonicalRoot (of_key K.bytes) P store.now root }
+    ensures { ForTree (of_key K.bytes) P store.now root (λ pairs _. result ≡ longest (of_key K.bytes) pairs) }
+{
+    visit_with(store, root, &mut LongestKey)
 }
