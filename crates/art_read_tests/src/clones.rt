@@ -310,7 +310,7 @@ fn clone_tried<const P: usize>(
     }
 }
 
-// Plants the tree of many keys, and a leaf in the other store, before the clone.
+// Plants the tree of many keys, and a leaf in the other store, before the clone. None where an insertion was refused.
 fn clone_of_many<const P: usize>(
     store: &mut NodeStore<Key, u32, P>,
     into: &mut NodeStore<Key, u32, P>,
@@ -320,6 +320,9 @@ fn clone_of_many<const P: usize>(
     into.place_leaf(LeafNode::with_no_siblings(key, 90)).ok()?;
     let all = keys_of_many(alloc).ok()?;
     let root = planted(store, &mut NodeStore::new(alloc), all).ok()??;
+    if count_nodes(store, 100) != (53, 2) {
+        return None;
+    }
     clone_tried(store, root, into).ok()?
 }
 
