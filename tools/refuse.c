@@ -1,6 +1,7 @@
 // Refuses requests for memory of the process that it is preloaded into. REFUSE_AT is the number of
 // the request that is refused, counted from 1 (0 or unset: none); with REFUSE_ALL=1 each later one is
-// refused too. At the end it writes 'requests=N refused=M' to the file descriptor REFUSE_FD.
+// refused too. A request for SIGN bytes is a sign of the process that its test is over: no request is counted or
+// refused from then on. At the end it writes 'requests=N refused=M' to the file descriptor REFUSE_FD.
 #define _GNU_SOURCE
 #include <errno.h>
 #include <stdio.h>
@@ -11,6 +12,8 @@ extern void *__libc_malloc(size_t);
 extern void *__libc_calloc(size_t, size_t);
 extern void *__libc_realloc(void *, size_t);
 extern void *__libc_memalign(size_t, size_t);
+
+#define SIGN 12345677
 
 static unsigned long requests, refused, at;
 static int all, descriptor = -1, counting;
@@ -27,7 +30,8 @@ __attribute__((constructor)) static void begin(void) {
     counting = 1;
 }
 
-static int is_refused(void) {
+static int is_refused(size_t size) {
+    if (size == SIGN) counting = 0;
     if (!counting) return 0;
     requests++;
     if (at == 0 || requests < at || (requests > at && !all)) return 0;
@@ -37,23 +41,23 @@ static int is_refused(void) {
 }
 
 void *malloc(size_t size) {
-    return is_refused() ? NULL : __libc_malloc(size);
+    return is_refused(size) ? NULL : __libc_malloc(size);
 }
 
 void *calloc(size_t count, size_t size) {
-    return is_refused() ? NULL : __libc_calloc(count, size);
+    return is_refused(size) ? NULL : __libc_calloc(count, size);
 }
 
 void *realloc(void *block, size_t size) {
-    return is_refused() ? NULL : __libc_realloc(block, size);
+    return is_refused(size) ? NULL : __libc_realloc(block, size);
 }
 
 void *aligned_alloc(size_t alignment, size_t size) {
-    return is_refused() ? NULL : __libc_memalign(alignment, size);
+    return is_refused(size) ? NULL : __libc_memalign(alignment, size);
 }
 
 int posix_memalign(void **block, size_t alignment, size_t size) {
-    if (is_refused()) return ENOMEM;
+    if (is_refused(size)) return ENOMEM;
     *block = __libc_memalign(alignment, size);
     return *block ? 0 : ENOMEM;
 }

@@ -2,15 +2,18 @@
 //! falls outside the check that a test is on decides nothing; after one within it the test says that it asserted what
 //! holds then.
 
-use crate::told::{Told, fault, told_by};
+use crate::told::{Told, fault, told_by, told_by_fault};
 use art_nodes::node::{NodeType, OpaqueNodePtr};
 use art_nodes::store::NodeStore;
+use art_operations::insert::InsertPrefixError;
 use art_operations::well_formed::{KeyPrefix, WellFormedChecker};
 use art_test_support::memory::all_memory;
 use art_test_support::placing::{Plain, lone_leaf, placed_all, plain_node};
 use art_test_support::shapes::count_nodes;
 use art_test_support::trees::{Key, keys_after, plant_all, planted, planted_all};
 use std::alloc::{AllocError, Global};
+use std::boxed::BoxedSlice;
+use std::cmp::Ordering;
 use std::test::Fail;
 
 /// Whether a check is refused.
@@ -131,6 +134,75 @@ fn refused_checks_say_nothing_of_the_tree(rt: HostRuntime) -> Result<(), Fail> {
     let outcomes = outcomes(rt.alloc());
     assert!(rt; !outcomes.contains(&Some(Outcome::Wrong)));
     if outcomes.contains(&Some(Outcome::Refused)) {
+        println!(rt; "asserted")?;
+    }
+    Ok(())
+}
+
+/// What comes of the clone of a fault: it is refused and the fault stays, or it is the same fault.
+fn clone_of(alloc: Global, told: Told<'_>) -> Option<Outcome> {
+    let fault = fault(alloc, told).ok()?;
+    let outcome = match fault.clone() {
+        Ok(copy) if copy == fault => Outcome::Right,
+        Ok(_) => Outcome::Wrong,
+        Err(AllocError) => Outcome::Refused,
+    };
+    Some(if told_by_fault(&fault) == told {
+        outcome
+    } else {
+        Outcome::Wrong
+    })
+}
+
+/// The same of a prefix.
+fn clone_of_prefix(alloc: Global) -> Option<Outcome> {
+    let prefix = KeyPrefix::from_slice(alloc, &[1, 2]).ok()?;
+    Some(match prefix.clone() {
+        Ok(copy) if copy.as_slice() == prefix.as_slice() => Outcome::Right,
+        Ok(_) => Outcome::Wrong,
+        Err(AllocError) if prefix.as_slice() == [1, 2].as_slice() => Outcome::Refused,
+        Err(AllocError) => Outcome::Wrong,
+    })
+}
+
+/// The same of the error of an insertion.
+fn clone_of_conflict(alloc: Global) -> Option<Outcome> {
+    let byte_repr = BoxedSlice::from_slice(alloc, &[1u8, 2]).ok()?;
+    let conflict = InsertPrefixError { byte_repr };
+    Some(match conflict.clone() {
+        Ok(copy) if copy == conflict => Outcome::Right,
+        Ok(_) => Outcome::Wrong,
+        Err(AllocError) if conflict.byte_repr[..] == [1, 2] => Outcome::Refused,
+        Err(AllocError) => Outcome::Wrong,
+    })
+}
+
+/// What comes of clones of faults of all kinds.
+fn clones_of_faults(alloc: Global) -> [Option<Outcome>; 10] {
+    let (name, links) = (OpaqueNodePtr::from_parts(NodeType::Node48, 3), (None, None));
+    [
+        clone_of(alloc, Told::Loop(name, &[1], &[2, 3])),
+        clone_of(alloc, Told::Count(&[1], NodeType::Node4, 1)),
+        clone_of(alloc, Told::Prefix(&[1], &[2, 3])),
+        clone_of(alloc, Told::LenOfNone),
+        clone_of(alloc, Told::Order(&[2], &[1], Ordering::Less, Ordering::Greater)),
+        clone_of(alloc, Told::Links(&[1], links, links)),
+        clone_of(alloc, Told::Dead(&[1], name)),
+        clone_of(alloc, Told::Unreadable(&[1], name)),
+        clone_of(alloc, Told::Stored(&[1], &[1, 2], &[1, 1])),
+        clone_of(alloc, Told::OutOfMemory),
+    ]
+}
+
+#[test]
+fn refused_clones_leave_the_faults(rt: HostRuntime) -> Result<(), Fail> {
+    let alloc = rt.alloc();
+    let outcomes = clones_of_faults(alloc);
+    let others = [clone_of_prefix(alloc), clone_of_conflict(alloc)];
+    let wrong = Some(Outcome::Wrong);
+    assert!(rt; !outcomes.contains(&wrong) && !others.contains(&wrong));
+    let refused = Some(Outcome::Refused);
+    if outcomes.contains(&refused) || others.contains(&refused) {
         println!(rt; "asserted")?;
     }
     Ok(())

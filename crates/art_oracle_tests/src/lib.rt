@@ -10,4 +10,6 @@ mod by_list;
 #[cfg(test)]
 mod drawn;
 #[cfg(test)]
+mod refused;
+#[cfg(test)]
 mod sorted_pairs;

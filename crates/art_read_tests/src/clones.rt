@@ -7,11 +7,13 @@ use art_nodes::store::NodeStore;
 use art_operations::clone::clone_unchecked;
 use art_operations::run::Side;
 use art_test_support::commands::{Asked, Left, Row, Told, ran, ran_from, ran_without_memory};
+use art_test_support::memory::end_refusals;
 use art_test_support::nodes::{count_touched, nodes_seen};
 use art_test_support::shapes::count_nodes;
 use art_test_support::side_by_side::kind_if_same;
-use art_test_support::trees::{Key, keys, keys_of_three, plant, planted, value_of};
+use art_test_support::trees::{Key, keys, keys_after, keys_of_three, plant, planted, value_of};
 use std::alloc::{AllocError, Global};
+use std::process::Abort;
 use std::test::Fail;
 
 #[test]
@@ -264,6 +266,107 @@ fn refused_clones_leave_the_nodes_that_were_there(rt: HostRuntime) -> Result<(),
         println!(rt; "asserted")?;
     }
     Ok(())
+}
+
+// The keys of one byte up to 49, and three that begin with 50.
+fn keys_of_many(alloc: Global) -> Result<Vec<Key>, AllocError> {
+    let mut all = keys_after(alloc, &[], 50)?;
+    for key in keys_after(alloc, &[50], 3)? {
+        all.push(key)?;
+    }
+    Ok(all)
+}
+
+// What comes of a clone: it is refused, and what it touches in the other store; or it is made, whether both trees are
+// the same and have the pairs, and how many nodes the other store has.
+#[derive(Clone, Copy, PartialEq, Eq, Debug)]
+enum Outcome {
+    Refused((usize, usize, usize)),
+    Made(bool, (usize, usize)),
+}
+
+// Clones the tree of many keys beside a leaf, and judges with memory what came of it. None where a refusal fell outside
+// the clone.
+fn clone_tried<const P: usize>(
+    store: &NodeStore<Key, u32, P>,
+    root: OpaqueNodePtr,
+    into: &mut NodeStore<Key, u32, P>,
+) -> Result<Option<Outcome>, AllocError>
+    requires { IsCanonicalRoot (of_key (λ key. key.items)) P store.now root }
+{
+    let alloc = store.alloc();
+    let Ok(before) = nodes_seen(into) else {
+        return Ok(None);
+    };
+    let cloned = clone_unchecked(store, root, into);
+    end_refusals(alloc);
+    match cloned {
+        Ok(copy) => {
+            let pairs = numbered(&keys_of_many(alloc)?, alloc)?;
+            let kind = kind_if_same((store, Some(root)), (into, Some(copy.root)), &pairs)?;
+            Ok(Some(Outcome::Made(kind.is_some(), count_nodes(into, 100))))
+        }
+        Err(AllocError) => Ok(Some(Outcome::Refused(count_touched(into, &before)))),
+    }
+}
+
+// Plants the tree of many keys, and a leaf in the other store, before the clone. None where an insertion was refused.
+fn clone_of_many<const P: usize>(
+    store: &mut NodeStore<Key, u32, P>,
+    into: &mut NodeStore<Key, u32, P>,
+) -> Option<Outcome> {
+    let alloc = store.alloc();
+    let key = [9].to_vec(alloc).ok()?;
+    into.place_leaf(LeafNode::with_no_siblings(key, 90)).ok()?;
+    let all = keys_of_many(alloc).ok()?;
+    let root = planted(store, &mut NodeStore::new(alloc), all).ok()??;
+    if count_nodes(store, 100) != (53, 2) {
+        return None;
+    }
+    clone_tried(store, root, into).ok()?
+}
+
+// Asserts what came of a clone, and says so where it was refused.
+fn assert_whole(rt: &(impl Abort + Print), outcome: Option<Outcome>) -> Result<(), Fail> {
+    match outcome {
+        None => {}
+        Some(Outcome::Refused(touched)) => {
+            assert_eq!(rt; touched, (0, 0, 0));
+            println!(rt; "asserted")?;
+        }
+        Some(made) => assert_eq!(rt; made, Outcome::Made(true, (54, 2))),
+    }
+    Ok(())
+}
+
+#[test]
+fn refused_clones_of_many_leave_the_other_store_with_0_stored(rt: HostRuntime) -> Result<(), Fail> {
+    let alloc = rt.alloc();
+    let outcome = clone_of_many::<0>(&mut NodeStore::new(alloc), &mut NodeStore::new(alloc));
+    assert_whole(&rt, outcome)
+}
+
+#[test]
+fn refused_clones_of_many_leave_the_other_store_with_2_stored(rt: HostRuntime) -> Result<(), Fail> {
+    let alloc = rt.alloc();
+    let outcome = clone_of_many::<2>(&mut NodeStore::new(alloc), &mut NodeStore::new(alloc));
+    assert_whole(&rt, outcome)
+}
+
+#[test]
+fn refused_clones_of_many_leave_the_other_store_with_4_stored(rt: HostRuntime) -> Result<(), Fail> {
+    let alloc = rt.alloc();
+    let outcome = clone_of_many::<4>(&mut NodeStore::new(alloc), &mut NodeStore::new(alloc));
+    assert_whole(&rt, outcome)
+}
+
+#[test]
+fn refused_clones_of_many_leave_the_other_store_with_16_stored(
+    rt: HostRuntime,
+) -> Result<(), Fail> {
+    let alloc = rt.alloc();
+    let outcome = clone_of_many::<16>(&mut NodeStore::new(alloc), &mut NodeStore::new(alloc));
+    assert_whole(&rt, outcome)
 }
 
 // Whether a leaf has the key [1], and its value and links.

@@ -28,6 +28,15 @@ pub fn all_memory(alloc: Global) -> Result<Vec<Vec<u8>>, AllocError> {
     Ok(held)
 }
 
+// A request for so many bytes is a sign for tools/refuse.c, which has the same number.
+const SIGN: usize = 12_345_677;
+
+/// Tells tools/refusals that what a test is on is over: from now on it refuses nothing, and counts no request. Where no
+/// request is refused this does nothing.
+pub fn end_refusals(alloc: Global) {
+    drop(Vec::<u8>::with_capacity(alloc, SIGN));
+}
+
 #[cfg(test)]
 mod tests {
     use super::*;

@@ -53,11 +53,12 @@ impl Write for Sink<'_> {
     }
 }
 
+/// A line of every kind.
 const LINES: &[u8] =
-    b"insert 1.2 3\ninsert 1.4 5\nnodes\nfind 1.2\ndelete 1.2\ndelete 7\ninsert 1 1";
+    b"insert 1.2 3\ninsert 1.4 5\nnodes\nfind 1.2\ndelete 1.2\ndelete 7\ninsert 1 1\nlongest 1.4.6\nprefix 2 6\nclone\nwalk\nback\ncheck\nfirst\nlast";
 
 const REPLIES: &[u8] =
-    b"inserted\ninserted\n*: Node4 prefix 1 stored 1 children 2\n  2: Leaf 1.2=3\n  4: Leaf 1.4=5\nyes\ndeleted 1.2 3\nabsent\nconflict: Attempted to insert a key [[1]] which is either a prefix of an existing key or an existing key is a prefix of the new key.\n";
+    b"inserted\ninserted\n*: Node4 prefix 1 stored 1 children 2\n  2: Leaf 1.2=3\n  4: Leaf 1.4=5\nyes\ndeleted 1.2 3\nabsent\nconflict: Attempted to insert a key [[1]] which is either a prefix of an existing key or an existing key is a prefix of the new key.\nmatch 2\ninserted\ncloned\n1.4=5 2=6\n2=6 1.4=5\nok 2 leaves 1 inner\ndeleted 1.4 5\ndeleted 2 6\n";
 
 fn served(alloc: Global, lines: &[u8]) -> (u8, Vec<u8>) {
     let mut replies = Vec::new(alloc);
@@ -157,7 +158,7 @@ fn refuses_bad_lines(rt: HostRuntime) {
 #[test]
 fn each_read_fails(rt: HostRuntime) -> Result<(), Fail> {
     let mut answered = 0u32;
-    for calls in 0..30 {
+    for calls in 0..60 {
         let mut replies = Vec::new(rt.alloc());
         let input = BufReader::new(rt.alloc(), Source { rest: LINES, calls })?;
         let status = serve(rt.alloc(), input, &mut replies);
@@ -169,14 +170,14 @@ fn each_read_fails(rt: HostRuntime) -> Result<(), Fail> {
             assert_eq!(rt; status, 1, "at call {calls}");
         }
     }
-    assert!(rt; answered != 0 && answered != 30);
+    assert!(rt; answered != 0 && answered != 60);
     Ok(())
 }
 
 #[test]
 fn each_write_fails(rt: HostRuntime) {
     let mut answered = 0u32;
-    for calls in 0..120 {
+    for calls in 0..240 {
         let mut replies = Vec::new(rt.alloc());
         let output = Sink {
             held: &mut replies,
@@ -191,5 +192,5 @@ fn each_write_fails(rt: HostRuntime) {
             assert_eq!(rt; status, 1, "at call {calls}");
         }
     }
-    assert!(rt; answered != 0 && answered != 120);
+    assert!(rt; answered != 0 && answered != 240);
 }
