@@ -185,7 +185,10 @@ fn clones_of_faults(alloc: Global) -> [Option<Outcome>; 10] {
         clone_of(alloc, Told::Count(&[1], NodeType::Node4, 1)),
         clone_of(alloc, Told::Prefix(&[1], &[2, 3])),
         clone_of(alloc, Told::LenOfNone),
-        clone_of(alloc, Told::Order(&[2], &[1], Ordering::Less, Ordering::Greater)),
+        clone_of(
+            alloc,
+            Told::Order(&[2], &[1], Ordering::Less, Ordering::Greater),
+        ),
         clone_of(alloc, Told::Links(&[1], links, links)),
         clone_of(alloc, Told::Dead(&[1], name)),
         clone_of(alloc, Told::Unreadable(&[1], name)),
