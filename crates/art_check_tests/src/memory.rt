@@ -8,6 +8,7 @@ use art_nodes::store::NodeStore;
 use art_operations::well_formed::{KeyPrefix, WellFormedChecker};
 use art_test_support::memory::all_memory;
 use art_test_support::placing::{Plain, lone_leaf, placed_all, plain_node};
+use art_test_support::shapes::count_nodes;
 use art_test_support::trees::{Key, keys_after, plant_all, planted, planted_all};
 use std::alloc::{AllocError, Global};
 use std::test::Fail;
@@ -78,6 +79,12 @@ fn what_comes<const P: usize>(
     }
 }
 
+/// A tree of all nodes of a store, of which there are fewer where a refusal fell on an insertion.
+fn all_nodes<const P: usize>(store: &NodeStore<Key, u32, P>) -> Told<'_> {
+    let (leaves, inners) = count_nodes(store, 100);
+    Told::Whole(leaves, inners)
+}
+
 /// The check of a tree of 53 leaves. None where a refusal falls outside it.
 fn check_of_many<const P: usize>(store: &mut NodeStore<Key, u32, P>) -> Option<Outcome> {
     let alloc = store.alloc();
@@ -86,14 +93,14 @@ fn check_of_many<const P: usize>(store: &mut NodeStore<Key, u32, P>) -> Option<O
         keys.push(key).ok()?;
     }
     let root = planted(store, &mut NodeStore::new(alloc), keys).ok()??;
-    Some(what_comes(store, root, Told::Whole(53, 2)))
+    Some(what_comes(store, root, all_nodes(store)))
 }
 
 /// The check of two long keys, whose common front is read from a leaf.
 fn check_of_long_keys<const P: usize>(store: &mut NodeStore<Key, u32, P>) -> Option<Outcome> {
     let (one, other) = ([7, 7, 7, 7, 7, 1], [7, 7, 7, 7, 7, 2]);
     let root = planted_all(store, &[&one, &other]).ok()??;
-    Some(what_comes(store, root, Told::Whole(2, 1)))
+    Some(what_comes(store, root, all_nodes(store)))
 }
 
 /// The check of a leaf that two bytes lead to.
