@@ -22,6 +22,14 @@ overflow_sub-result g c =
     let all = c.count.ensures in
     omega arith
 
+pub returns-clause-fits : goal.returns-clause-fits
+returns-clause-fits g c =
+    let few = fewer_leaves c.in_ok-seen.ensures.met in
+    let leaves = c.len-leaves.ensures ∙ c.in_ok-seen.seen.leaves.ok.0 in
+    let all = c.count.ensures in
+    let fits = c.count.type_inv in
+    omega arith
+
 pub returns-clause-well_formed : goal.returns-clause-well_formed
 returns-clause-well_formed g c =
     well_formed c.in_ok-seen.ensures.met c.len-leaves.result c.count.result
