@@ -38,7 +38,8 @@ bottom_more : (name : OpaqueNodePtr) (ns : List OpaqueNodePtr) (c : OpaqueNodePt
 bottom_more name [] c = refl
 bottom_more name (n ∷ ns) c = bottom_more n ns c
 
-descent_more : {A : Type 0} (at : OpaqueNodePtr → Option (Node OpaqueNodePtr A)) (name : OpaqueNodePtr) (ns : List OpaqueNodePtr) (c : OpaqueNodePtr) → IsDescent at name ns → HasLeast at (bottom_of name ns) c → IsDescent at name (ns ++ c ∷ [])
+descent_more : {A : Type 0} (at : OpaqueNodePtr → Option (Node OpaqueNodePtr A)) (name : OpaqueNodePtr) (ns : List OpaqueNodePtr) (c : OpaqueNodePtr)
+    → IsDescent at name ns → HasLeast at (bottom_of name ns) c → IsDescent at name (ns ++ c ∷ [])
 descent_more at name [] c d least = (least, tt)
 descent_more at name (n ∷ ns) c d least = (d.0, descent_more at n ns c d.1 least)
 
@@ -71,7 +72,9 @@ pub record IsDown {A : Type 0} (at : OpaqueNodePtr → Option (Node OpaqueNodePt
   pub ends : bottom_of start names ≡ now
   pub passes : (p : InnerPtr) → passed p ≡ true → IsIn (inner_name p) (above start names)
 
-pub down_more : {A : Type 0} {at : OpaqueNodePtr → Option (Node OpaqueNodePtr A)} {passed more : InnerPtr → Bool} {start now : OpaqueNodePtr} (p : InnerPtr) (least : OpaqueNodePtr) → IsDown at passed start now → inner_name p ≡ now → HasLeast at (inner_name p) least → ((q : InnerPtr) → more q ≡ true → (q ≡ p) ⊎ (passed q ≡ true)) → IsDown at more start least
+pub down_more : {A : Type 0} {at : OpaqueNodePtr → Option (Node OpaqueNodePtr A)} {passed more : InnerPtr → Bool} {start now : OpaqueNodePtr}
+    (p : InnerPtr) (least : OpaqueNodePtr) → IsDown at passed start now → inner_name p ≡ now → HasLeast at (inner_name p) least →
+    ((q : InnerPtr) → more q ≡ true → (q ≡ p) ⊎ (passed q ≡ true)) → IsDown at more start least
 down_more {A} {at} {passed} {more} {start} {now} p least down is has either =
     let here : bottom_of start down.names ≡ inner_name p = down.ends ∙ sym is in record {
       names = down.names ++ least ∷ [];
@@ -98,10 +101,17 @@ module _ {K V : Type 0} (bytes : K × V → List ℕ) (P : ℕ) (s : Nodes K V) 
     ends_again again = (down.names, down.descent, λ root needed. inr (inr (inl (met_twice start down.names (subst (λ n. IsIn n (above start down.names)) (is ∙ sym down.ends) (down.passes p again))))))
 
     pub ends_childless : (node : Inner) → map.get s.inners p ≡ Some node → node.children ≡ [] → IsLeastLeaf bytes P s start None
-    ends_childless node there none = (down.names, down.descent, λ root needed. inr (inl (header_at p.kind node, ap (node_at s) (down.ends ∙ sym is) ∙ inner_at s p node proper there ∙ ap (λ l. Some (inner_node (header_at p.kind node) l)) none)))
+    ends_childless node there none = (
+      down.names,
+      down.descent,
+      λ root needed. inr (inl
+          (header_at p.kind node, ap (node_at s) (down.ends ∙ sym is) ∙ inner_at s p node proper there ∙ ap (λ l. Some (inner_node (header_at p.kind node) l)) none)),
+    )
 
 -- the least leaf of a node is that of its least child
-pub least_below : {K V : Type 0} (bytes : K × V → List ℕ) (P : ℕ) (s : Nodes K V) (name : OpaqueNodePtr) (h : Header) (b : ℕ) (first : OpaqueNodePtr) (others : List (ℕ × OpaqueNodePtr)) (found : LeafPtr) → node_at s name ≡ Some (inner_node h ((b, first) ∷ others)) → IsLeastLeaf bytes P s name (Some found) → IsLeastLeaf bytes P s first (Some found)
+pub least_below : {K V : Type 0} (bytes : K × V → List ℕ) (P : ℕ) (s : Nodes K V) (name : OpaqueNodePtr) (h : Header) (b : ℕ) (first : OpaqueNodePtr)
+    (others : List (ℕ × OpaqueNodePtr)) (found : LeafPtr) → node_at s name ≡ Some (inner_node h ((b, first) ∷ others)) →
+    IsLeastLeaf bytes P s name (Some found) → IsLeastLeaf bytes P s first (Some found)
 least_below bytes P s name h b first others found there ([], x, d, ends, leaf) = absurd (leaf_name_is s found h ((b, first) ∷ others) (ap (node_at s) (sym ends) ∙ there))
 least_below bytes P s name h b first others found there (n ∷ ns, x, d, ends, leaf) =
     let other = d.0.3 in

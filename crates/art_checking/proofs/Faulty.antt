@@ -30,5 +30,6 @@ memory_alone (StoredPrefixMismatch key_prefix stored actual) is = absurd cc
 memory_alone OutOfMemory is = refl
 
 -- what is true of a canonical root is the want of memory alone
-pub canonical_error : {K V : Type 0} {bytes : K × V → List ℕ} {P : ℕ} {s : Nodes K V} {root : OpaqueNodePtr} (error : MalformedTreeError) → IsCanonicalRoot bytes P s root → IsTrueOf bytes P s root (fault_of error) → error ≡ OutOfMemory
+pub canonical_error : {K V : Type 0} {bytes : K × V → List ℕ} {P : ℕ} {s : Nodes K V} {root : OpaqueNodePtr} (error : MalformedTreeError) →
+    IsCanonicalRoot bytes P s root → IsTrueOf bytes P s root (fault_of error) → error ≡ OutOfMemory
 canonical_error {bytes = bytes} {P = P} {s = s} {root = root} error (pairs, layout, by) is = memory_alone error (no_fault bytes P s root pairs layout (laid_out by) (fault_of error) is)

@@ -45,7 +45,8 @@ module _ {K V : Type 0} (s : Nodes K V) where
   held_at_inner p proper shown there = held_in_inner s p.kind p.slot proper ∙ ap (option_map held_inner) (sym there)
 
   -- a child of a full tree has one too, a lower one
-  module _ {name n : OpaqueNodePtr} {h : Header} (l : Children OpaqueNodePtr (K × V)) (b : ℕ) (t : Tree OpaqueNodePtr (K × V)) (r : Children OpaqueNodePtr (K × V)) (full : IsFullTree s name (inner n h (join l (child b t r)))) where
+  module _ {name n : OpaqueNodePtr} {h : Header} (l : Children OpaqueNodePtr (K × V)) (b : ℕ) (t : Tree OpaqueNodePtr (K × V))
+      (r : Children OpaqueNodePtr (K × V)) (full : IsFullTree s name (inner n h (join l (child b t r)))) where
     pub child_full : IsFullTree s (name_of t) t
     child_full =
         let below = subst AreDistinct (names_below-join l (child b t r)) full.0.distinct.1 in (
@@ -59,8 +60,11 @@ module _ {K V : Type 0} (s : Nodes K V) where
 
     pub child_lower : height (node_at s) (map.len s.inners) (name_of t) < height (node_at s) (map.len s.inners) name
     child_lower =
-        let tall : height (node_at s) (map.len s.inners) name ≡ tree_height (inner n h (join l (child b t r))) = ap (height (node_at s) (map.len s.inners)) (sym full.0.named) ∙ height_is (node_at s) (inner n h (join l (child b t r))) (map.len s.inners) full.0.holds (enough_steps s (inner n h (join l (child b t r))) full.0.holds full.0.distinct) in
-        let short : height (node_at s) (map.len s.inners) (name_of t) ≡ tree_height t = height_is (node_at s) t (map.len s.inners) child_full.0.holds (enough_steps s t child_full.0.holds child_full.0.distinct) in
+        let tall : height (node_at s) (map.len s.inners) name ≡ tree_height (inner n h (join l (child b t r))) =
+        ap (height (node_at s) (map.len s.inners)) (sym full.0.named) ∙
+        height_is (node_at s) (inner n h (join l (child b t r))) (map.len s.inners) full.0.holds (enough_steps s (inner n h (join l (child b t r))) full.0.holds full.0.distinct) in
+        let short : height (node_at s) (map.len s.inners) (name_of t) ≡ tree_height t =
+        height_is (node_at s) t (map.len s.inners) child_full.0.holds (enough_steps s t child_full.0.holds child_full.0.distinct) in
         let part = height_join l (child b t r) in
         omega arith
 
@@ -69,7 +73,8 @@ module _ {K V T Out : Type 0} (OfLeaf : T → LeafNode K V → Out → T → Typ
   abbrev FoldsIt : Tree OpaqueNodePtr (K × V) → T → Out → T → Type 0
   FoldsIt = Folds OfLeaf OfInner Combines s
 
-  Joins-more : (cs : Children OpaqueNodePtr (K × V)) (b : ℕ) (t : Tree OpaqueNodePtr (K × V)) (old mid new : T) (first joined own next : Out) → Joins OfLeaf OfInner Combines s cs old first joined mid → FoldsIt t mid own new → Combines new joined own next →
+  Joins-more : (cs : Children OpaqueNodePtr (K × V)) (b : ℕ) (t : Tree OpaqueNodePtr (K × V)) (old mid new : T) (first joined own next : Out) →
+      Joins OfLeaf OfInner Combines s cs old first joined mid → FoldsIt t mid own new → Combines new joined own next →
       Joins OfLeaf OfInner Combines s (join cs (child b t no_child)) old first next new
   Joins-more no_child b t old mid new first joined own next (e, f) folds combines =
       (new, own, next, subst (λ z. FoldsIt t z own new) f folds, subst (λ z. Combines new z own next) e combines, (refl, refl))
@@ -77,7 +82,8 @@ module _ {K V T Out : Type 0} (OfLeaf : T → LeafNode K V → Out → T → Typ
       (m, o, n, of_u, step, Joins-more cs b t m mid new n joined own next rest folds combines)
 
   -- Of the children of this node some are joined, and these are left.
-  pub record HasJoined (layout : Tree OpaqueNodePtr (K × V)) (name : OpaqueNodePtr) (kind : NodeType) (shown : Inner) (left : List (ℕ × OpaqueNodePtr)) (old : T) (joined : Out) (now : T) : Type 0 where
+  pub record HasJoined (layout : Tree OpaqueNodePtr (K × V)) (name : OpaqueNodePtr) (kind : NodeType) (shown : Inner)
+      (left : List (ℕ × OpaqueNodePtr)) (old : T) (joined : Out) (now : T) : Type 0 where
     pub done : Children OpaqueNodePtr (K × V)
     pub rest : Children OpaqueNodePtr (K × V)
     pub is : layout ≡ inner name (header_at kind shown) (join done rest)
@@ -94,7 +100,8 @@ module _ {K V T Out : Type 0} (OfLeaf : T → LeafNode K V → Out → T → Typ
       full_tree : IsFullTree s next.1 tree
       lower : height (node_at s) (map.len s.inners) next.1 < height (node_at s) (map.len s.inners) name
 
-    has_next : (done rest : Children OpaqueNodePtr (K × V)) (next : ℕ × OpaqueNodePtr) (left : List (ℕ × OpaqueNodePtr)) → layout ≡ inner name (header_at kind shown) (join done rest) → slots_of rest ≡ next ∷ left → HasNext done rest next left
+    has_next : (done rest : Children OpaqueNodePtr (K × V)) (next : ℕ × OpaqueNodePtr) (left : List (ℕ × OpaqueNodePtr)) →
+        layout ≡ inner name (header_at kind shown) (join done rest) → slots_of rest ≡ next ∷ left → HasNext done rest next left
     has_next done no_child next left is slots = absurd cc
     has_next done (child c t others) next left is slots =
         let first : ◌≡◌ {A = ℕ × OpaqueNodePtr} (c, name_of t) next = cc in
@@ -112,7 +119,8 @@ module _ {K V T Out : Type 0} (OfLeaf : T → LeafNode K V → Out → T → Typ
     abbrev IsBelow : OpaqueNodePtr → Type 0
     IsBelow n = ((t : Tree OpaqueNodePtr (K × V)) × IsFullTree s n t) × (height (node_at s) (map.len s.inners) n < height (node_at s) (map.len s.inners) name)
 
-    module _ (cs : Children OpaqueNodePtr (K × V)) (next : ℕ × OpaqueNodePtr) (left : List (ℕ × OpaqueNodePtr)) (is : layout ≡ inner name (header_at kind shown) cs) (slots : slots_of cs ≡ next ∷ left) where
+    module _ (cs : Children OpaqueNodePtr (K × V)) (next : ℕ × OpaqueNodePtr) (left : List (ℕ × OpaqueNodePtr))
+        (is : layout ≡ inner name (header_at kind shown) cs) (slots : slots_of cs ≡ next ∷ left) where
       pub first_child : IsBelow next.1
       first_child = let n = has_next no_child cs next left is slots in ((n.tree, n.full_tree), n.lower)
 
@@ -120,7 +128,14 @@ module _ {K V T Out : Type 0} (OfLeaf : T → LeafNode K V → Out → T → Typ
       pub started : (old now : T) (out : Out) → ((t : Tree OpaqueNodePtr (K × V)) → IsFullTree s next.1 t → FoldsIt t old out now) → HasJoined layout name kind shown left old out now
       started old now out folds =
           let n = has_next no_child cs next left is slots in
-          record { done = child next.0 n.tree no_child; rest = n.others; is = is ∙ ap (inner name (header_at kind shown)) n.is; slots = n.slots; joins = (now, out, folds n.tree n.full_tree, (refl, refl)) }
+          record {
+            done = child next.0 n.tree no_child;
+            rest = n.others;
+            is = is ∙
+                ap (inner name (header_at kind shown)) n.is;
+            slots = n.slots;
+            joins = (now, out, folds n.tree n.full_tree, (refl, refl));
+          }
 
     module _ {next : ℕ × OpaqueNodePtr} {left : List (ℕ × OpaqueNodePtr)} {old now : T} {joined : Out} (has : HasJoined layout name kind shown (next ∷ left) old joined now) where
       -- there is a next child
@@ -128,7 +143,8 @@ module _ {K V T Out : Type 0} (OfLeaf : T → LeafNode K V → Out → T → Typ
       more_child = let n = has_next has.done has.rest next left has.is has.slots in ((n.tree, n.full_tree), n.lower)
 
       -- and then it is joined
-      pub stepped : (new : T) (own out : Out) → ((t : Tree OpaqueNodePtr (K × V)) → IsFullTree s next.1 t → FoldsIt t now own new) → Combines new joined own out → HasJoined layout name kind shown left old out new
+      pub stepped : (new : T) (own out : Out) → ((t : Tree OpaqueNodePtr (K × V)) → IsFullTree s next.1 t → FoldsIt t now own new) →
+          Combines new joined own out → HasJoined layout name kind shown left old out new
       stepped new own out folds combines =
           let n = has_next has.done has.rest next left has.is has.slots in record {
             done = join has.done (child next.0 n.tree no_child);
@@ -138,12 +154,14 @@ module _ {K V T Out : Type 0} (OfLeaf : T → LeafNode K V → Out → T → Typ
             joins = go has.done n.tree n.full_tree has.joins;
           }
         where
-          go : (done : Children OpaqueNodePtr (K × V)) (t : Tree OpaqueNodePtr (K × V)) → IsFullTree s next.1 t → JoinsAll OfLeaf OfInner Combines s done old joined now → JoinsAll OfLeaf OfInner Combines s (join done (child next.0 t no_child)) old out new
+          go : (done : Children OpaqueNodePtr (K × V)) (t : Tree OpaqueNodePtr (K × V)) → IsFullTree s next.1 t →
+              JoinsAll OfLeaf OfInner Combines s done old joined now → JoinsAll OfLeaf OfInner Combines s (join done (child next.0 t no_child)) old out new
           go no_child t below joins = absurd joins
           go (child c u cs) t below (mid, first, of_u, rest) = (mid, first, of_u, Joins-more cs next.0 t mid now new first joined own out rest (folds t below) combines)
 
   -- at the end the node goes to its hook
-  pub ended : {layout : Tree OpaqueNodePtr (K × V)} {name : OpaqueNodePtr} {kind : NodeType} {shown : Inner} (old now new : T) (joined out : Out) → HasJoined layout name kind shown [] old joined now → held s name ≡ Some (held_inner shown) → OfInner now kind shown joined out new → FoldsIt layout old out new
+  pub ended : {layout : Tree OpaqueNodePtr (K × V)} {name : OpaqueNodePtr} {kind : NodeType} {shown : Inner} (old now new : T) (joined out : Out) →
+      HasJoined layout name kind shown [] old joined now → held s name ≡ Some (held_inner shown) → OfInner now kind shown joined out new → FoldsIt layout old out new
   ended {layout} {name} {kind} {shown} old now new joined out has there answers = go has.rest has.slots has.is
     where
       go : (rest : Children OpaqueNodePtr (K × V)) → slots_of rest ≡ [] → layout ≡ inner name (header_at kind shown) (join has.done rest) → FoldsIt layout old out new
@@ -151,14 +169,18 @@ module _ {K V T Out : Type 0} (OfLeaf : T → LeafNode K V → Out → T → Typ
       go (child b t cs) some is = absurd cc
 
   -- a leaf goes to its hook
-  pub folds_leaf : {name : OpaqueNodePtr} (layout : Tree OpaqueNodePtr (K × V)) (p : LeafPtr) (shown : LeafNode K V) (old new : T) (out : Out) → IsFullTree s name layout → leaf_name p ≡ name → Some shown ≡ map.get s.leaves p → OfLeaf old shown out new → FoldsIt layout old out new
-  folds_leaf layout p shown old new out full is there answers = subst (λ z. FoldsIt z old out new) (sym (leaf_shown s p layout (full.0.named ∙ sym is) full.0.holds shown there)) (shown, held_at_leaf s p shown there, answers)
+  pub folds_leaf : {name : OpaqueNodePtr} (layout : Tree OpaqueNodePtr (K × V)) (p : LeafPtr) (shown : LeafNode K V) (old new : T) (out : Out) →
+      IsFullTree s name layout → leaf_name p ≡ name → Some shown ≡ map.get s.leaves p → OfLeaf old shown out new → FoldsIt layout old out new
+  folds_leaf layout p shown old new out full is there answers =
+      subst (λ z. FoldsIt z old out new) (sym (leaf_shown s p layout (full.0.named ∙ sym is) full.0.holds shown there)) (shown, held_at_leaf s p shown there, answers)
 
 -- what has a leaf's name is there
-pub full_leaf : {K V : Type 0} (s : Nodes K V) {name : OpaqueNodePtr} {layout : Tree OpaqueNodePtr (K × V)} → IsFullTree s name layout → (p : LeafPtr) → leaf_name p ≡ name → None ≡ map.get s.leaves p → ⊥
+pub full_leaf : {K V : Type 0} (s : Nodes K V) {name : OpaqueNodePtr} {layout : Tree OpaqueNodePtr (K × V)} → IsFullTree s name layout →
+    (p : LeafPtr) → leaf_name p ≡ name → None ≡ map.get s.leaves p → ⊥
 full_leaf s {name} {layout} full p is gone = no_leaf_gone s p layout (full.0.named ∙ sym is) full.0.holds gone
 
-module _ {K V : Type 0} (s : Nodes K V) {name : OpaqueNodePtr} {layout : Tree OpaqueNodePtr (K × V)} (full : IsFullTree s name layout) (p : InnerPtr) (proper : p.kind ≢ Leaf) (is : inner_name p ≡ name) where
+module _ {K V : Type 0} (s : Nodes K V) {name : OpaqueNodePtr} {layout : Tree OpaqueNodePtr (K × V)} (full : IsFullTree s name layout) (p : InnerPtr)
+    (proper : p.kind ≢ Leaf) (is : inner_name p ≡ name) where
   -- an inner node is there
   pub full_inner : None ≡ map.get s.inners p → ⊥
   full_inner gone = no_inner_gone s p proper layout (full.0.named ∙ sym is) full.0.holds gone

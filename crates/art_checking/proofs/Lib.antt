@@ -6,3 +6,4 @@ pub mod Untried
 pub mod Passed
 pub mod Walked
 pub mod Faulty
+pub mod Turns

@@ -31,7 +31,8 @@ is_eq_nat i j = elim (cases_order i j) [
 pub is_eq_same : (n k : OpaqueNodePtr) → is_eq (derived.cmp-value.it n k) ≡ same_name n k
 is_eq_same n k = go n.kind k.kind n.slot k.slot
   where
-    go : (a b : NodeType) (i j : ℕ) → is_eq (derived.cmp-value.it (record { kind = a; slot = i }) (record { kind = b; slot = j })) ≡ same_name (record { kind = a; slot = i }) (record { kind = b; slot = j })
+    go : (a b : NodeType) (i j : ℕ) → is_eq (derived.cmp-value.it (record { kind = a; slot = i }) (record { kind = b; slot = j })) ≡ same_name
+        (record { kind = a; slot = i }) (record { kind = b; slot = j })
     go Node4 Node4 i j = is_eq_nat i j
     go Node16 Node16 i j = is_eq_nat i j
     go Node48 Node48 i j = is_eq_nat i j
@@ -42,7 +43,8 @@ is_eq_same n k = go n.kind k.kind n.slot k.slot
 is_eq_inner : (p q : InnerPtr) → is_eq (derived_inner.cmp-value.it p q) ≡ same_name (record { kind = p.kind; slot = p.slot }) (record { kind = q.kind; slot = q.slot })
 is_eq_inner p q = go p.kind q.kind p.slot q.slot
   where
-    go : (a b : NodeType) (i j : ℕ) → is_eq (derived_inner.cmp-value.it (record { kind = a; slot = i }) (record { kind = b; slot = j })) ≡ same_name (record { kind = a; slot = i }) (record { kind = b; slot = j })
+    go : (a b : NodeType) (i j : ℕ) → is_eq (derived_inner.cmp-value.it (record { kind = a; slot = i }) (record { kind = b; slot = j })) ≡ same_name
+        (record { kind = a; slot = i }) (record { kind = b; slot = j })
     go Node4 Node4 i j = is_eq_nat i j
     go Node16 Node16 i j = is_eq_nat i j
     go Node48 Node48 i j = is_eq_nat i j
@@ -64,7 +66,8 @@ same_is n k e = go (cases_Bool (eqb (kind_index n.kind) (kind_index k.kind))) e
     go (inr h) e = absurd (false≢true (sym (ap (λ b. b && eqb n.slot k.slot) h) ∙ e))
 
 pub same_inner : (p q : InnerPtr) → is_eq (derived_inner.cmp-value.it p q) ≡ true → p ≡ q
-same_inner p q e = ap (λ n. let r : InnerPtr = record { kind = n.kind; slot = n.slot } in r) (same_is (record { kind = p.kind; slot = p.slot }) (record { kind = q.kind; slot = q.slot }) (sym (is_eq_inner p q) ∙ e))
+same_inner p q e =
+    ap (λ n. let r : InnerPtr = record { kind = n.kind; slot = n.slot } in r) (same_is (record { kind = p.kind; slot = p.slot }) (record { kind = q.kind; slot = q.slot }) (sym (is_eq_inner p q) ∙ e))
 
 pub same_apart : (n k : OpaqueNodePtr) → n ≢ k → same_name n k ≡ false
 same_apart n k off = elim (cases_Bool (same_name n k)) [ inl e ↦ absurd (off (same_is n k e)) | inr e ↦ e ]
@@ -89,8 +92,10 @@ meets_one f g name place free is = record {
 pub meets_then : (f g h : Places) (ns ms : List OpaqueNodePtr) → Meets f g ns → Meets g h ms → Meets f h (ns ++ ms)
 meets_then f g h ns ms first second =
     let apart : (n m : OpaqueNodePtr) → IsIn n ns → IsIn m ms → n ≢ m = λ n m i j e. each_in (λ k. g k ≢ None) n ns first.met i (ap g e ∙ each_in (λ k. g k ≡ None) m ms second.fresh j) in record {
-      fresh = Each-append (λ n. f n ≡ None) ns ms first.fresh (each_from (λ m. f m ≡ None) ms (λ m j. sym (first.elsewhere m (λ i. apart m m i j refl)) ∙ each_in (λ k. g k ≡ None) m ms second.fresh j));
-      met = Each-append (λ n. h n ≢ None) ns ms (each_from (λ n. h n ≢ None) ns (λ n i e. each_in (λ k. g k ≢ None) n ns first.met i (sym (second.elsewhere n (λ j. apart n n i j refl)) ∙ e))) second.met;
+      fresh = Each-append (λ n. f n ≡ None) ns ms first.fresh (each_from (λ m. f m ≡ None) ms
+          (λ m j. sym (first.elsewhere m (λ i. apart m m i j refl)) ∙ each_in (λ k. g k ≡ None) m ms second.fresh j));
+      met = Each-append (λ n. h n ≢ None) ns ms (each_from (λ n. h n ≢ None) ns
+          (λ n i e. each_in (λ k. g k ≢ None) n ns first.met i (sym (second.elsewhere n (λ j. apart n n i j refl)) ∙ e))) second.met;
       distinct = Pairwise-append ◌≢◌ ns ms first.distinct second.distinct (each_from (λ n. Each (λ m. n ≢ m) ms) ns (λ n i. each_from (λ m. n ≢ m) ms (λ m j. apart n m i j)));
       elsewhere = λ n off. second.elsewhere n (λ j. off (in_right n ns ms j)) ∙ first.elsewhere n (λ i. off (in_left n ns ms i));
     }

@@ -99,7 +99,8 @@ pub record HasPassed {K V : Type 0} (bytes : K × V → List ℕ) (P : ℕ) (s :
 
 module _ {K V : Type 0} {bytes : K × V → List ℕ} {P : ℕ} {s : Nodes K V} {old mid : Seen} where
   -- a leaf was passed
-  pub passed_leaf : {place : List ℕ} {name : OpaqueNodePtr} (leaf_ptr : LeafPtr) → leaf_name leaf_ptr ≡ name → IsFirstMet old mid name place → IsLeafAt bytes P s leaf_ptr place → IsPassed bytes P s old mid place name
+  pub passed_leaf : {place : List ℕ} {name : OpaqueNodePtr} (leaf_ptr : LeafPtr) → leaf_name leaf_ptr ≡ name → IsFirstMet old mid name place →
+      IsLeafAt bytes P s leaf_ptr place → IsPassed bytes P s old mid place name
   passed_leaf {place} {name} leaf_ptr is first (x, there, begins) = record {
     layout = leaf name x;
     named = refl;
@@ -118,13 +119,15 @@ module _ {K V : Type 0} {bytes : K × V → List ℕ} {P : ℕ} {s : Nodes K V} 
     named = head_is (names_of checked.layout) (names_head checked.layout) checked.names;
     holds = checked.holds;
     radix = checked.radix;
-    meets = subst (Meets (place_in old) (place_in new)) (sym checked.names) (meets_then (place_in old) (place_in mid) (place_in new) (name ∷ []) checked.below (meets_one (place_in old) (place_in mid) name place first.fresh first.met) checked.meets);
+    meets = subst (Meets (place_in old) (place_in new)) (sym checked.names)
+        (meets_then (place_in old) (place_in mid) (place_in new) (name ∷ []) checked.below (meets_one (place_in old) (place_in mid) name place first.fresh first.met) checked.meets);
     leaves = checked.leaves ∙ ap (λ ls. names_of_leaves ls ++ leaf_names checked.layout) (first.leaves ∙ inner_same name old.leaves.items proper);
     count = let one = first.count in let more = checked.count in rw checked.names (omega arith);
   }
 
   -- one child more was passed
-  pub passed_more : {front : List ℕ} {all left : List (ℕ × OpaqueNodePtr)} (b : ℕ) (name : OpaqueNodePtr) → HasPassed bytes P s old mid front all ((b, name) ∷ left) → IsPassed bytes P s mid new (front ++ b ∷ []) name → HasPassed bytes P s old new front all left
+  pub passed_more : {front : List ℕ} {all left : List (ℕ × OpaqueNodePtr)} (b : ℕ) (name : OpaqueNodePtr) →
+      HasPassed bytes P s old mid front all ((b, name) ∷ left) → IsPassed bytes P s mid new (front ++ b ∷ []) name → HasPassed bytes P s old new front all left
   passed_more {front} {all} {left} b name has passed =
       let cs = has.children in
       let t = passed.layout in record {
@@ -132,8 +135,12 @@ module _ {K V : Type 0} {bytes : K × V → List ℕ} {P : ℕ} {s : Nodes K V} 
         slots = ap (λ l. l ++ left) (slots_of-join cs (child b t no_child) ∙ ap (λ n. slots_of cs ++ (b, n) ∷ []) passed.named) ∙ append_assoc (slots_of cs) ((b, name) ∷ []) left ∙ has.slots;
         holds = HoldsBelow-join (node_at s) cs (child b t no_child) has.holds (passed.holds, tt);
         radix = AreRadix-join bytes P front cs (child b t no_child) has.radix (passed.radix, tt);
-        meets = subst (Meets (place_in old) (place_in new)) (sym (names_below-join cs (child b t no_child) ∙ ap (λ ns. names_below cs ++ ns) (append-nil (names_of t)))) (meets_then (place_in old) (place_in mid) (place_in new) (names_below cs) (names_of t) has.meets passed.meets);
-        leaves = passed.leaves ∙ ap (λ ns. ns ++ leaf_names t) has.leaves ∙ append_assoc (names_of_leaves old.leaves.items) (leaf_names_below cs) (leaf_names t) ∙ ap (λ ns. names_of_leaves old.leaves.items ++ ns) (sym (leaf_names_below-join cs (child b t no_child) ∙ ap (λ ns. leaf_names_below cs ++ ns) (append-nil (leaf_names t))));
+        meets = subst (Meets (place_in old) (place_in new)) (sym
+            (names_below-join cs (child b t no_child) ∙ ap (λ ns. names_below cs ++ ns) (append-nil (names_of t))))
+            (meets_then (place_in old) (place_in mid) (place_in new) (names_below cs) (names_of t) has.meets passed.meets);
+        leaves = passed.leaves ∙ ap (λ ns. ns ++ leaf_names t) has.leaves ∙
+            append_assoc (names_of_leaves old.leaves.items) (leaf_names_below cs) (leaf_names t) ∙
+            ap (λ ns. names_of_leaves old.leaves.items ++ ns) (sym (leaf_names_below-join cs (child b t no_child) ∙ ap (λ ns. leaf_names_below cs ++ ns) (append-nil (leaf_names t))));
         count =
             let one = has.count in
             let more = passed.count in
@@ -144,28 +151,43 @@ module _ {K V : Type 0} {bytes : K × V → List ℕ} {P : ℕ} {s : Nodes K V} 
 module _ {K V : Type 0} {bytes : K × V → List ℕ} {P : ℕ} {s : Nodes K V} where
   -- no child was passed yet
   pub passed_none : (old : Seen) (front : List ℕ) (all : List (ℕ × OpaqueNodePtr)) → HasPassed bytes P s old old front all all
-  passed_none old front all = record { children = no_child; slots = refl; holds = tt; radix = tt; meets = meets_none (place_in old); leaves = sym (append-nil (names_of_leaves old.leaves.items)); count = omega arith }
+  passed_none old front all =
+      record { children = no_child; slots = refl; holds = tt; radix = tt; meets = meets_none (place_in old); leaves = sym (append-nil (names_of_leaves old.leaves.items)); count = omega arith }
 
   -- a node all of whose children were passed, with as many of them as its kind has
-  pub passed_all : {old new : Seen} {place : List ℕ} (part : List ℕ) (name : InnerPtr) (node : Inner) → name.kind ≢ Leaf → finite.get s.inners name ≡ Some node → HasPassed bytes P s old new (place ++ part) node.children [] →
-      length part ≡ node.prefix.len → take P part ≡ node.prefix.stored → entries.IsRising node.children → kind_least name.kind ≤ length node.children → length node.children ≤ kind_capacity name.kind → IsChecked bytes P s old new place (inner_name name)
+  pub passed_all : {old new : Seen} {place : List ℕ} (part : List ℕ) (name : InnerPtr) (node : Inner) → name.kind ≢ Leaf →
+      finite.get s.inners name ≡ Some node → HasPassed bytes P s old new (place ++ part) node.children [] →
+      length part ≡ node.prefix.len → take P part ≡ node.prefix.stored → entries.IsRising node.children →
+      kind_least name.kind ≤ length node.children → length node.children ≤ kind_capacity name.kind → IsChecked bytes P s old new place (inner_name name)
   passed_all {old} {new} {place} part name node proper there has long stored rises least most =
       let cs = has.children in
       let slots : slots_of cs ≡ node.children = sym (append-nil (slots_of cs)) ∙ has.slots in
       let count : length (bytes_of cs) ≡ length node.children = sym (length-slots_of cs) ∙ ap length slots in
-      let kind : kind_of (length (bytes_of cs)) ≡ name.kind = kind_of-range name.kind (length (bytes_of cs)) (in_range name.kind (length (bytes_of cs)) proper (subst (λ n. kind_least name.kind ≤ n) (sym count) least) (subst (λ n. n ≤ kind_capacity name.kind) (sym count) most)) in record {
+      let kind : kind_of (length (bytes_of cs)) ≡ name.kind =
+      kind_of-range name.kind (length (bytes_of cs)) (in_range name.kind (length (bytes_of cs)) proper
+      (subst (λ n. kind_least name.kind ≤ n) (sym count) least) (subst (λ n. n ≤ kind_capacity name.kind) (sym count) most)) in record {
         layout = inner (inner_name name) (header_at name.kind node) cs;
         below = names_below cs;
         names = refl;
         holds = (inner_at s name node proper there ∙ ap (λ l. Some (inner_node (header_at name.kind node) l)) (sym slots), has.holds);
-        radix = (part, same_header name.kind node part (length (bytes_of cs)) (sym kind) (sym long) (sym stored), two name.kind (length (bytes_of cs)) proper (subst (λ n. kind_least name.kind ≤ n) (sym count) least), bytes_rise cs (subst entries.IsRising (sym slots) rises), has.radix);
+        radix = (
+          part,
+          same_header name.kind node part (length (bytes_of cs)) (sym kind) (sym long) (sym stored),
+          two name.kind (length (bytes_of cs))
+              proper (subst (λ n. kind_least name.kind ≤ n) (sym count) least),
+          bytes_rise cs (subst entries.IsRising (sym slots) rises),
+          has.radix,
+        );
         meets = has.meets;
         leaves = has.leaves;
         count = has.count;
       }
     where
-      same_header : (kind : NodeType) (node : Inner) (part : List ℕ) (n : ℕ) → kind ≡ kind_of n → node.prefix.len ≡ length part → node.prefix.stored ≡ take P part → header_at kind node ≡ header_of P part n
-      same_header kind node part n k l b = ap₂ (λ k l. let h : Header = record { kind = k; length_of = l; stored = node.prefix.stored } in h) k l ∙ ap (λ b. let h : Header = record { kind = kind_of n; length_of = length part; stored = b } in h) b
+      same_header : (kind : NodeType) (node : Inner) (part : List ℕ) (n : ℕ) → kind ≡ kind_of n → node.prefix.len ≡ length part →
+          node.prefix.stored ≡ take P part → header_at kind node ≡ header_of P part n
+      same_header kind node part n k l b =
+          ap₂ (λ k l. let h : Header = record { kind = k; length_of = l; stored = node.prefix.stored } in h) k l ∙
+          ap (λ b. let h : Header = record { kind = kind_of n; length_of = length part; stored = b } in h) b
 
       two : (kind : NodeType) (n : ℕ) → kind ≢ Leaf → kind_least kind ≤ n → 2 ≤ n
       two Node4 n off l = l
@@ -188,7 +210,8 @@ not_none None e f = false≢true e
 not_none (Some x) e f = absurd cc
 
 -- an inner node that was met only now is one less to try
-pub less_to_try : (inners : finite.FinMap inner_cmp Inner) (f g h : Places) (names : List OpaqueNodePtr) (p : InnerPtr) (node : Inner) (place : List ℕ) → finite.get inners p ≡ Some node → Meets f g names → g (inner_name p) ≡ None → IsMet g h (inner_name p) place →
+pub less_to_try : (inners : finite.FinMap inner_cmp Inner) (f g h : Places) (names : List OpaqueNodePtr) (p : InnerPtr) (node : Inner)
+    (place : List ℕ) → finite.get inners p ≡ Some node → Meets f g names → g (inner_name p) ≡ None → IsMet g h (inner_name p) place →
     untried (λ q. is_some (h (inner_name q))) (finite.keys inners) < untried (λ q. is_some (f (inner_name q))) (finite.keys inners)
 less_to_try inners f g h names p node place there meets free met =
     let all = meets_then f g h names (inner_name p ∷ []) meets (meets_one g h (inner_name p) place free met) in
@@ -259,7 +282,8 @@ module _ {K V : Type 0} (s : Nodes K V) where
       go (l ∷ ls) h = (let (node, there, same) = leaf_there s l h.0.0 h.0.1 in rw there refl, go ls h.1)
 
 -- what was passed from nothing on is a whole tree
-pub met_tree : {K V : Type 0} {bytes : K × V → List ℕ} {P : ℕ} {s : Nodes K V} {start end : Seen} {root : OpaqueNodePtr} → start.leaves.items ≡ [] → count_met start ≡ 0 → IsPassed bytes P s start end [] root → IsMetTree bytes P s end root
+pub met_tree : {K V : Type 0} {bytes : K × V → List ℕ} {P : ℕ} {s : Nodes K V} {start end : Seen} {root : OpaqueNodePtr} → start.leaves.items ≡ [] →
+    count_met start ≡ 0 → IsPassed bytes P s start end [] root → IsMetTree bytes P s end root
 met_tree none zero passed = record {
   layout = passed.layout;
   named = passed.named;
@@ -287,7 +311,8 @@ module _ {K V : Type 0} {bytes : K × V → List ℕ} {P : ℕ} {s : Nodes K V} 
   fewer_leaves = let long = count_leaves in let all = met.count in let names = count_names met.layout in omega arith
 
   -- once they are linked the root is canonical
-  pub well_formed : (num_leaf num_met : ℕ) → AreLinked (links_at s) None (names_of_leaves seen.leaves.items) None → num_leaf ≡ length seen.leaves.items → num_met ≡ count_met seen → IsWellFormed bytes P s root (record { num_leaf = num_leaf; num_inner = num_met - num_leaf })
+  pub well_formed : (num_leaf num_met : ℕ) → AreLinked (links_at s) None (names_of_leaves seen.leaves.items) None →
+      num_leaf ≡ length seen.leaves.items → num_met ≡ count_met seen → IsWellFormed bytes P s root (record { num_leaf = num_leaf; num_inner = num_met - num_leaf })
   well_formed num_leaf num_met linked leaf_count met_count =
       let t = met.layout in
       let long = count_leaves in
@@ -296,7 +321,15 @@ module _ {K V : Type 0} {bytes : K × V → List ℕ} {P : ℕ} {s : Nodes K V} 
       let few = has_few_inner_nodes t (have_two_children bytes P [] t met.radix) in (
         pairs_of t,
         t,
-        canonical_from (record { named = met.named; radix = met.radix; pairs_are = refl; holds = met.holds; distinct = met.distinct; linked = subst (λ ns. AreLinked (links_at s) None ns None) met.leaves linked }),
+        canonical_from (record {
+          named = met.named;
+          radix = met.radix;
+          pairs_are = refl;
+          holds = met.holds;
+          distinct = met.distinct;
+          linked = subst
+              (λ ns. AreLinked (links_at s) None ns None) met.leaves linked;
+        }),
         leaf_count ∙ long ∙ count_pairs t,
         omega arith,
         omega arith,

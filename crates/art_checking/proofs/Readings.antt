@@ -21,18 +21,22 @@ module _ {K V : Type 0} (bytes : K × V → List ℕ) (P : ℕ) (s : Nodes K V) 
   read_none depth len (ns, descent, bad) = (ns, descent, λ root. bad root (depth + len))
 
   pub read_part : {name : OpaqueNodePtr} (depth len : ℕ) (leaf : LeafPtr) (found : Option (Bor (List ℕ))) → IsLeastLeaf bytes P s name (Some leaf) →
-      ((x : K × V) → node_at s (leaf_name leaf) ≡ Some (leaf_node x) → MatchOption found (length (bytes x) < depth + len) (λ part. IsPartOf depth len (bytes x) part.now)) → IsReadFrom bytes P s name depth len found
+      ((x : K × V) → node_at s (leaf_name leaf) ≡ Some (leaf_node x) →
+      MatchOption found (length (bytes x) < depth + len) (λ part. IsPartOf depth len (bytes x) part.now)) → IsReadFrom bytes P s name depth len found
   read_part depth len leaf None (ns, x, descent, ends, there) is = (ns, descent, λ root. inr (inr (inr (x, ap (node_at s) ends ∙ there, is x there))))
   read_part depth len leaf (Some part) (ns, x, descent, ends, there) is = (x, (ns, descent, ap (node_at s) ends ∙ there), is x there)
 
   module _ (p : InnerPtr) (node : Inner) (place : List ℕ) (proper : p.kind ≢ Leaf) (there : map.get s.inners p ≡ Some node) (more : P < node.prefix.len) where
-    pub unreadable : (root : OpaqueNodePtr) → IsReadFrom bytes P s (inner_name p) (length place) node.prefix.len None → Reaches bytes P s root place (inner_name p) → IsUnreadable bytes P s root place (inner_name p)
+    pub unreadable : (root : OpaqueNodePtr) → IsReadFrom bytes P s (inner_name p) (length place) node.prefix.len None →
+        Reaches bytes P s root place (inner_name p) → IsUnreadable bytes P s root place (inner_name p)
     unreadable root (ns, descent, bad) reach = (header_at p.kind node, node.children, (reach, inner_at s p node proper there), more, (ns, descent, bad root))
 
-    pub prefix_read : (part : Bor (List ℕ)) → IsReadFrom bytes P s (inner_name p) (length place) node.prefix.len (Some part) → IsPrefix (node_at s) bytes P (length place) (inner_name p) (header_at p.kind node) part.now
+    pub prefix_read : (part : Bor (List ℕ)) → IsReadFrom bytes P s (inner_name p) (length place) node.prefix.len (Some part) →
+        IsPrefix (node_at s) bytes P (length place) (inner_name p) (header_at p.kind node) part.now
     prefix_read part (x, descends, is) = inr (more, (x, descends, is.1, is.2))
 
-    pub stores_others : (root : OpaqueNodePtr) (part : Bor (List ℕ)) → IsReadFrom bytes P s (inner_name p) (length place) node.prefix.len (Some part) → length node.prefix.stored ≡ min node.prefix.len P → take P part.now ≢ node.prefix.stored →
+    pub stores_others : (root : OpaqueNodePtr) (part : Bor (List ℕ)) →
+        IsReadFrom bytes P s (inner_name p) (length place) node.prefix.len (Some part) → length node.prefix.stored ≡ min node.prefix.len P → take P part.now ≢ node.prefix.stored →
         Reaches bytes P s root place (inner_name p) → StoresOthers bytes P s root place node.prefix.stored (take P part.now)
     stores_others root part gives count off reach =
         let all : length node.prefix.stored ≡ P = omega (arith, count, more) in (

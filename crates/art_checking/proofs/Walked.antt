@@ -42,18 +42,21 @@ module _ {A : Type 0} (at : OpaqueNodePtr → Option (Node OpaqueNodePtr A)) whe
   end_more name [] step = refl
   end_more name (s ∷ ss) step = end_more s.1 ss step
 
-  trail_more : (name : OpaqueNodePtr) (steps : List (ℕ × OpaqueNodePtr)) (step : ℕ × OpaqueNodePtr) → IsTrail at name steps → HasChild at (end_of name steps) step → IsTrail at name (steps ++ step ∷ [])
+  trail_more : (name : OpaqueNodePtr) (steps : List (ℕ × OpaqueNodePtr)) (step : ℕ × OpaqueNodePtr) → IsTrail at name steps →
+      HasChild at (end_of name steps) step → IsTrail at name (steps ++ step ∷ [])
   trail_more name [] step trail has = (has, tt)
   trail_more name (s ∷ ss) step trail has = (trail.0, trail_more s.1 ss step trail.1 has)
 
-  read_more : (bytes : A → List ℕ) (P : ℕ) (front : List ℕ) (name : OpaqueNodePtr) (steps : List (ℕ × OpaqueNodePtr)) (step : ℕ × OpaqueNodePtr) (place part : List ℕ) → IsReadAs at bytes P front name steps place → HasPrefix at bytes P (length place) (end_of name steps) part →
+  read_more : (bytes : A → List ℕ) (P : ℕ) (front : List ℕ) (name : OpaqueNodePtr) (steps : List (ℕ × OpaqueNodePtr)) (step : ℕ × OpaqueNodePtr)
+      (place part : List ℕ) → IsReadAs at bytes P front name steps place → HasPrefix at bytes P (length place) (end_of name steps) part →
       IsReadAs at bytes P front name (steps ++ step ∷ []) (place ++ part ++ step.0 ∷ [])
   read_more bytes P front name [] step place part is has = (part, subst (λ p. HasPrefix at bytes P (length p) name part) is has, ap (λ p. p ++ part ++ step.0 ∷ []) is)
   read_more bytes P front name (s ∷ ss) step place part (q, own, rest) has = (q, own, read_more bytes P (front ++ q ++ s.0 ∷ []) s.1 ss step place part rest has)
 
 module _ {K V : Type 0} (bytes : K × V → List ℕ) (P : ℕ) (s : Nodes K V) where
   -- a child of a node that is reached is reached behind the node's prefix and the child's byte
-  pub reach_child : {root name : OpaqueNodePtr} {place : List ℕ} (part : List ℕ) (b : ℕ) (child : OpaqueNodePtr) → Reaches bytes P s root place name → HasPrefix (node_at s) bytes P (length place) name part → HasChild (node_at s) name (b, child) →
+  pub reach_child : {root name : OpaqueNodePtr} {place : List ℕ} (part : List ℕ) (b : ℕ) (child : OpaqueNodePtr) → Reaches bytes P s root place name →
+      HasPrefix (node_at s) bytes P (length place) name part → HasChild (node_at s) name (b, child) →
       Reaches bytes P s root (place ++ part ++ b ∷ []) child
   reach_child {root} {name} {place} part b child reach prefix has = record {
     steps = reach.steps ++ (b, child) ∷ [];
@@ -66,7 +69,8 @@ module _ {K V : Type 0} (bytes : K × V → List ℕ) (P : ℕ) (s : Nodes K V) 
   reach_root root = record { steps = []; is_trail = tt; ends = refl; is_read = refl }
 
   -- so is the next child of a node whose prefix was read
-  pub child_reached : {place read : List ℕ} (p : InnerPtr) (node : entries.Inner) → p.kind ≢ Leaf → map.get s.inners p ≡ Some node → entries.IsRising node.children → (is : IsRead bytes P s place read (inner_name p) (header_at p.kind node)) (done : entries.Children) (b : ℕ) (child : OpaqueNodePtr) (left : entries.Children) →
+  pub child_reached : {place read : List ℕ} (p : InnerPtr) (node : entries.Inner) → p.kind ≢ Leaf → map.get s.inners p ≡ Some node →
+      entries.IsRising node.children → (is : IsRead bytes P s place read (inner_name p) (header_at p.kind node)) (done : entries.Children) (b : ℕ) (child : OpaqueNodePtr) (left : entries.Children) →
       done ++ (b, child) ∷ left ≡ node.children → (root : OpaqueNodePtr) → Reaches bytes P s root place (inner_name p) → Reaches bytes P s root ((place ++ is.part) ++ b ∷ []) child
   child_reached p node proper there rises is done b child left slots root reach =
       let at = inner_at s p node proper there in
@@ -74,7 +78,8 @@ module _ {K V : Type 0} (bytes : K × V → List ℕ) (P : ℕ) (s : Nodes K V) 
       reach_child is.part b child reach (header_at p.kind node, node.children, at, is.is_prefix) (header_at p.kind node, node.children, at, under)
 
   -- the same prefix, wherever the bytes are
-  abbrev pub read_again : {place read : List ℕ} {name : OpaqueNodePtr} {h : Header} (again : List ℕ) (is : IsRead bytes P s place read name h) → again ≡ place ++ is.part → IsRead bytes P s place again name h
+  abbrev pub read_again : {place read : List ℕ} {name : OpaqueNodePtr} {h : Header} (again : List ℕ) (is : IsRead bytes P s place read name h) →
+      again ≡ place ++ is.part → IsRead bytes P s place again name h
   read_again again is same = record { part = is.part; is = same; long = is.long; stored = is.stored; is_prefix = is.is_prefix }
 
 -- ---- places
@@ -100,7 +105,8 @@ same_some : {X : Type 0} {x y : X} {o : Option X} → o ≡ Some x → o ≡ Som
 same_some e f = cc
 
 -- what holds of a name that was met just now and of all others holds of each
-met_or_before : {old new : Places} {name : OpaqueNodePtr} {place : List ℕ} → IsMet old new name place → (n : OpaqueNodePtr) (other : List ℕ) → new n ≡ Some other → ((n ≡ name) × (other ≡ place)) ⊎ (old n ≡ Some other)
+met_or_before : {old new : Places} {name : OpaqueNodePtr} {place : List ℕ} → IsMet old new name place → (n : OpaqueNodePtr) (other : List ℕ) →
+    new n ≡ Some other → ((n ≡ name) × (other ≡ place)) ⊎ (old n ≡ Some other)
 met_or_before {old} {new} {name} {place} met n other e = elim (cases_Bool (same_name n name)) [
   | inl h ↦ let same = same_is n name h in inl (same, same_some met.here (sym (ap new same) ∙ e))
   | inr h ↦ inr (sym (met.elsewhere n (λ same. true≢false (sym (same_self n) ∙ ap (same_name n) same ∙ h))) ∙ e)
@@ -125,7 +131,8 @@ module _ {K V : Type 0} {bytes : K × V → List ℕ} {P : ℕ} {s : Nodes K V} 
     ];
   }
 
-  pub walked_then : {old mid new : Places} {name : OpaqueNodePtr} {place : List ℕ} → IsWalked bytes P s old mid place name → IsWalked bytes P s mid new place name → IsWalked bytes P s old new place name
+  pub walked_then : {old mid new : Places} {name : OpaqueNodePtr} {place : List ℕ} → IsWalked bytes P s old mid place name →
+      IsWalked bytes P s mid new place name → IsWalked bytes P s old new place name
   walked_then first second = record {
     below = λ n other e. elim (second.below n other e) [ inl h ↦ first.below n other h | inr f ↦ inr f ];
     reached = λ root all reach. second.reached root (first.reached root all reach) reach;
@@ -149,8 +156,10 @@ module _ {K V : Type 0} {bytes : K × V → List ℕ} {P : ℕ} {s : Nodes K V} 
       go [] = tt
       go (step ∷ steps) = (free step.0, go steps)
 
-  pub walked_more : {old mid new : Places} {place part : List ℕ} {name : OpaqueNodePtr} {left : entries.Children} (b : ℕ) (child : OpaqueNodePtr) → HasWalked bytes P s old mid place part name ((b, child) ∷ left) → entries.IsBelow b left →
-      ((root : OpaqueNodePtr) → Reaches bytes P s root place name → Reaches bytes P s root ((place ++ part) ++ b ∷ []) child) → IsWalked bytes P s mid new ((place ++ part) ++ b ∷ []) child → HasWalked bytes P s old new place part name left
+  pub walked_more : {old mid new : Places} {place part : List ℕ} {name : OpaqueNodePtr} {left : entries.Children} (b : ℕ) (child : OpaqueNodePtr) →
+      HasWalked bytes P s old mid place part name ((b, child) ∷ left) → entries.IsBelow b left →
+      ((root : OpaqueNodePtr) → Reaches bytes P s root place name → Reaches bytes P s root ((place ++ part) ++ b ∷ []) child) →
+      IsWalked bytes P s mid new ((place ++ part) ++ b ∷ []) child → HasWalked bytes P s old new place part name left
   walked_more {old} {mid} {new} {place} {part} {name} {left} b child has rises step walked = record {
     walked = record {
       below = λ n other e. elim (walked.below n other e) [ inl h ↦ has.walked.below n other h | inr f ↦ inr (front_cut place part other (front_cut (place ++ part) (b ∷ []) other f)) ];
@@ -161,7 +170,8 @@ module _ {K V : Type 0} {bytes : K × V → List ℕ} {P : ℕ} {s : Nodes K V} 
     where
       go : (left : entries.Children) → entries.IsBelow b left → Each (λ step. NoneFrom mid ((place ++ part) ++ step.0 ∷ [])) left → Each (λ step. NoneFrom new ((place ++ part) ++ step.0 ∷ [])) left
       go [] r h = tt
-      go (c ∷ cs) r h = (λ n other e f. elim (walked.below n other e) [ inl m ↦ h.0 n other m f | inr f2 ↦ let l = r.0 in let same = same_byte (place ++ part) b c.0 other f2 f in omega arith ], go cs r.1 h.1)
+      go (c ∷ cs) r h =
+          (λ n other e f. elim (walked.below n other e) [ inl m ↦ h.0 n other m f | inr f2 ↦ let l = r.0 in let same = same_byte (place ++ part) b c.0 other f2 f in omega arith ], go cs r.1 h.1)
 
 -- ---- the least leaf is that of the first child
 module _ {K V : Type 0} (bytes : K × V → List ℕ) (P : ℕ) (s : Nodes K V) where
@@ -171,11 +181,13 @@ module _ {K V : Type 0} (bytes : K × V → List ℕ) (P : ℕ) (s : Nodes K V) 
   IsFirstLeast (Some leaf) [] = Unit {0}
   IsFirstLeast (Some leaf) (step ∷ left) = IsLeastLeaf bytes P s step.1 (Some leaf)
 
-  pub first_least : (name : OpaqueNodePtr) (h : Header) (slots : entries.Children) (found : Option LeafPtr) → node_at s name ≡ Some (inner_node h slots) → IfSome found (λ leaf. IsLeastLeaf bytes P s name (Some leaf)) → IsFirstLeast found slots
+  pub first_least : (name : OpaqueNodePtr) (h : Header) (slots : entries.Children) (found : Option LeafPtr) →
+      node_at s name ≡ Some (inner_node h slots) → IfSome found (λ leaf. IsLeastLeaf bytes P s name (Some leaf)) → IsFirstLeast found slots
   first_least name h slots None there least = tt
   first_least name h [] (Some leaf) there least = tt
   first_least name h (step ∷ slots) (Some leaf) there least = least_below bytes P s name h step.0 step.1 slots leaf there least
 
-  pub least_known : (found : Option LeafPtr) (b : ℕ) (child : OpaqueNodePtr) (left : entries.Children) → IsFirstLeast found ((b, child) ∷ left) → IfSome found (λ leaf. IsLeastLeaf bytes P s child (Some leaf))
+  pub least_known : (found : Option LeafPtr) (b : ℕ) (child : OpaqueNodePtr) (left : entries.Children) → IsFirstLeast found ((b, child) ∷ left) →
+      IfSome found (λ leaf. IsLeastLeaf bytes P s child (Some leaf))
   least_known None b child left least = tt
   least_known (Some leaf) b child left least = least

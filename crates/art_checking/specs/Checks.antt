@@ -29,7 +29,8 @@ fault_of (WrongChildrenCount key_prefix inner_node_type num_children) = wrong_ch
 fault_of (PrefixMismatch expected_prefix entire_key) = prefix_mismatch (prefix_bytes expected_prefix) entire_key.items
 fault_of EmptyTreeWithLen = empty_tree_with_len
 fault_of (LeafSiblingWrongOrder sibling_key leaf_key expected_order actual_order) = leaf_sibling_wrong_order sibling_key.items leaf_key.items expected_order actual_order
-fault_of (WrongSiblingLinks leaf_key expected_previous expected_next actual_previous actual_next) = wrong_sibling_links leaf_key.items (between expected_previous expected_next) (between actual_previous actual_next)
+fault_of (WrongSiblingLinks leaf_key expected_previous expected_next actual_previous actual_next) =
+    wrong_sibling_links leaf_key.items (between expected_previous expected_next) (between actual_previous actual_next)
 fault_of (DeadName key_prefix name) = dead_name (prefix_bytes key_prefix) name
 fault_of (UnreadablePrefix key_prefix name) = unreadable_prefix (prefix_bytes key_prefix) name
 fault_of (StoredPrefixMismatch key_prefix stored actual) = stored_prefix_mismatch (prefix_bytes key_prefix) stored.items actual.items

@@ -123,6 +123,7 @@ impl WellFormedChecker {
         root: OpaqueNodePtr,
     ) -> Result<WellFormedTreeStats, MalformedTreeError>
         ensures well_formed { IfOk result (λ stats. IsWellFormed (of_key K.bytes) PREFIX_LEN store.now root stats) }
+        ensures fits { IfOk result (λ stats. stats.num_leaf + stats.num_inner < 2 ^ 64) }
         ensures fault { IfErr result (λ error. IsTrueOf (of_key K.bytes) PREFIX_LEN store.now root (fault_of error)) }
         ensures canonical { IsCanonicalRoot (of_key K.bytes) PREFIX_LEN store.now root →
             IfErr result (λ error. error ≡ OutOfMemory) }
@@ -145,6 +146,7 @@ impl WellFormedChecker {
         ensures empty { IsNone root → len ≡ 0 → IsOkAnd result (λ stats. (stats.num_leaf ≡ 0) × (stats.num_inner ≡ 0)) }
         ensures no_tree { IsNone root → len ≢ 0 → IsErrAnd result (λ error. error ≡ EmptyTreeWithLen) }
         ensures well_formed { IfSome root (λ name. IfOk result (IsWellFormed (of_key K.bytes) PREFIX_LEN store.now name)) }
+        ensures fits { IfOk result (λ stats. stats.num_leaf + stats.num_inner < 2 ^ 64) }
         ensures fault { IfSome root (λ name. IfErr result (λ error.
             IsTrueOf (of_key K.bytes) PREFIX_LEN store.now name (fault_of error))) }
         ensures canonical { IfSome root (λ name. IsCanonicalRoot (of_key K.bytes) PREFIX_LEN store.now name →

@@ -61,14 +61,19 @@ kind_of-larger kind n e not_last full = sym (kind_of-range (larger_kind kind) (s
 -- ---- the whole of it
 
 -- The node in the hole has a leaf more among its children, under its old name or another: what is laid out then, and that the change was one in place.
-pub record ChildAdded {K V : Type 0} (bytes : K × V → List ℕ) (P : ℕ) (s t : Nodes K V) (root : OpaqueNodePtr) (pairs : List (K × V)) (fs : List (Frame OpaqueNodePtr (K × V))) (m node : OpaqueNodePtr) (h : Header) (l r : Children OpaqueNodePtr (K × V)) (b : ℕ) (n : OpaqueNodePtr) (new : K × V) : Type 0 where
+pub record ChildAdded {K V : Type 0} (bytes : K × V → List ℕ) (P : ℕ) (s t : Nodes K V) (root : OpaqueNodePtr) (pairs : List (K × V))
+    (fs : List (Frame OpaqueNodePtr (K × V))) (m node : OpaqueNodePtr) (h : Header) (l r : Children OpaqueNodePtr (K × V)) (b : ℕ) (n : OpaqueNodePtr) (new : K × V) : Type 0 where
   pub header : Header
   pub laid : IsLaidOut bytes P (node_at t) (links_at t) (root_with fs root node) (replace_key bytes new pairs) (plug fs (inner node header (join l (child b (leaf n new) r))))
   pub kept : ChangesInPlace bytes s t (Some (plug fs (inner m h (join l r)))) (Some (plug fs (inner node header (join l (child b (leaf n new) r)))))
 
-pub child_added : {K V : Type 0} {bytes : K × V → List ℕ} {P : ℕ} {s t : Nodes K V} {root : OpaqueNodePtr} {pairs : List (K × V)} {fs : List (Frame OpaqueNodePtr (K × V))} {place : List ℕ} {m node n : OpaqueNodePtr} {h : Header} {l r : Children OpaqueNodePtr (K × V)} {b : ℕ} {new : K × V} {placed freed changed : List OpaqueNodePtr} →
-    IsLaidOut bytes P (node_at s) (links_at s) root pairs (plug fs (inner m h (join l r))) → ChildInserted bytes P (node_at s) (node_at t) (links_at s) (links_at t) fs place m node n h l r b new → Footprint s t placed freed changed →
-    ((g : Header) → AreNames (names_of (inner m h (join l r))) (names_of (inner node g (join l (child b (leaf n new) r)))) placed freed []) → ((k : OpaqueNodePtr) → IsIn k changed → IsIn k (names_of (plug fs (inner m h (join l r))))) → ChildAdded bytes P s t root pairs fs m node h l r b n new
+pub child_added : {K V : Type 0} {bytes : K × V → List ℕ} {P : ℕ} {s t : Nodes K V} {root : OpaqueNodePtr} {pairs : List (K × V)}
+    {fs : List (Frame OpaqueNodePtr (K × V))} {place : List ℕ} {m node n : OpaqueNodePtr} {h : Header} {l r : Children OpaqueNodePtr (K × V)} {b : ℕ}
+    {new : K × V} {placed freed changed : List OpaqueNodePtr} →
+    IsLaidOut bytes P (node_at s) (links_at s) root pairs (plug fs (inner m h (join l r))) →
+    ChildInserted bytes P (node_at s) (node_at t) (links_at s) (links_at t) fs place m node n h l r b new → Footprint s t placed freed changed →
+    ((g : Header) → AreNames (names_of (inner m h (join l r))) (names_of (inner node g (join l (child b (leaf n new) r)))) placed freed []) →
+    ((k : OpaqueNodePtr) → IsIn k changed → IsIn k (names_of (plug fs (inner m h (join l r))))) → ChildAdded bytes P s t root pairs fs m node h l r b n new
 child_added {P = P} {fs = fs} {m = m} {node} {n} {h} {l} {r} {b} {new} {placed} {freed} {changed} old is print names changed_in =
     let header = header_of P is.gap.hole.radix.0 (suc (length (bytes_of (join l r)))) in
     let whole_names = names_around fs (inner m h (join l r)) (inner node header (join l (child b (leaf n new) r))) placed freed changed (names header) changed_in in

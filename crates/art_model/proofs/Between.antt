@@ -27,12 +27,15 @@ module _ {A : Type 0} (bytes : A → List ℕ) where
   add_in_order-before new [] zs h = add_in_order_first new zs h
   add_in_order-before new (y ∷ ys) zs h = go (add_in_order-before new ys zs h) (is_before (bytes new) (bytes y))
     where
-      go : add_in_order bytes new (ys ++ zs) ≡ add_in_order bytes new ys ++ zs → (t : Bool) → cond t (new ∷ y ∷ (ys ++ zs)) (y ∷ add_in_order bytes new (ys ++ zs)) ≡ cond t (new ∷ y ∷ ys) (y ∷ add_in_order bytes new ys) ++ zs
+      go : add_in_order bytes new (ys ++ zs) ≡ add_in_order bytes new ys ++ zs → (t : Bool) →
+          cond t (new ∷ y ∷ (ys ++ zs)) (y ∷ add_in_order bytes new (ys ++ zs)) ≡ cond t (new ∷ y ∷ ys) (y ∷ add_in_order bytes new ys) ++ zs
       go e true = refl
       go e false = ap (λ l. y ∷ l) e
 
   unequal : (key : List ℕ) (xs : List A) → Each (λ x. are_related key (bytes x) ≡ false) xs → remove_key bytes key xs ≡ xs
-  unequal key xs h = filter_all (λ x. not (are_same key (bytes x))) xs (Each-weaker (λ x. are_related key (bytes x) ≡ false) (λ x. not (are_same key (bytes x)) ≡ true) (λ x e. ap not (same_related key (bytes x) e)) xs h)
+  unequal key xs h =
+      filter_all (λ x. not (are_same key (bytes x))) xs (Each-weaker (λ x. are_related key (bytes x) ≡ false)
+      (λ x. not (are_same key (bytes x)) ≡ true) (λ x e. ap not (same_related key (bytes x) e)) xs h)
 
   unrelated : (key : List ℕ) (xs : List A) → Each (λ x. are_related key (bytes x) ≡ false) xs → remove_related bytes key xs ≡ xs
   unrelated key xs h = filter_all (λ x. not (are_related key (bytes x))) xs (Each-weaker (λ x. are_related key (bytes x) ≡ false) (λ x. not (are_related key (bytes x)) ≡ true) (λ x e. ap not e) xs h)

@@ -39,7 +39,8 @@ use Rattle.art_model.proofs.Slots.{put_child-two}
 use Rattle.art_model.proofs.Writes.{parents_inner, node_at-inner, inner_at, same_but, inner_name_one, with_child_at-elsewhere, parents, length-parents, then_parent, parent_there, parent_written}
 
 -- A leaf and a Node4 above it and the tree are placed, and the parent has the Node4 in its hole. The inner nodes were those of `mid` then, where these of the tree were touched.
-pub record BranchStored {K V : Type 0} (bytes : K × V → List ℕ) (P : ℕ) (s t : Nodes K V) (fs : List (Frame OpaqueNodePtr (K × V))) (place : List ℕ) (tree : Tree OpaqueNodePtr (K × V)) (m : InnerPtr) (n : LeafPtr) (part : List ℕ) (b c : ℕ) (x : LeafNode K V) (mid : Inners) (touched : List InnerPtr) : Type 0 where
+pub record BranchStored {K V : Type 0} (bytes : K × V → List ℕ) (P : ℕ) (s t : Nodes K V) (fs : List (Frame OpaqueNodePtr (K × V))) (place : List ℕ)
+    (tree : Tree OpaqueNodePtr (K × V)) (m : InnerPtr) (n : LeafPtr) (part : List ℕ) (b c : ℕ) (x : LeafNode K V) (mid : Inners) (touched : List InnerPtr) : Type 0 where
   pub hole : IsHole bytes P fs place tree (bytes (pair_of x))
   pub front : IsFront ((place ++ part) ++ c ∷ []) (bytes (pair_of x))
   pub apart : b ≢ c
@@ -49,9 +50,12 @@ pub record BranchStored {K V : Type 0} (bytes : K × V → List ℕ) (P : ℕ) (
   pub touches : Touched s.inners mid [] [] touched
   pub are_inner : Each IsInner touched
   pub in_tree : (k : InnerPtr) → IsIn k touched → IsIn (inner_name k) (names_of tree)
-  pub inners : t.inners ≡ with_child_at (parent_of fs) (inner_name m) (insert mid m (child_put c (leaf_name n) (child_put b (name_of tree) (childless (record { len = length part; stored = take P part })))))
+  pub inners : t.inners ≡ with_child_at (parent_of fs) (inner_name m)
+      (insert mid m (child_put c (leaf_name n) (child_put b (name_of tree) (childless (record { len = length part; stored = take P part })))))
 
-module _ {K V : Type 0} {bytes : K × V → List ℕ} {P : ℕ} {s t : Nodes K V} {root : OpaqueNodePtr} {pairs : List (K × V)} {fs : List (Frame OpaqueNodePtr (K × V))} {place : List ℕ} {tree : Tree OpaqueNodePtr (K × V)} {m : InnerPtr} {n : LeafPtr} {part : List ℕ} {b c : ℕ} {x : LeafNode K V} {mid : Inners} {touched : List InnerPtr}
+module _ {K V : Type 0} {bytes : K × V → List ℕ} {P : ℕ} {s t : Nodes K V} {root : OpaqueNodePtr} {pairs : List (K × V)}
+    {fs : List (Frame OpaqueNodePtr (K × V))} {place : List ℕ} {tree : Tree OpaqueNodePtr (K × V)} {m : InnerPtr} {n : LeafPtr} {part : List ℕ}
+    {b c : ℕ} {x : LeafNode K V} {mid : Inners} {touched : List InnerPtr}
     (old : IsLaidOut bytes P (node_at s) (links_at s) root pairs (plug fs tree)) (is : BranchStored bytes P s t fs place tree m n part b c x mid touched) where
   abbrev node : Inner
   node = child_put c (leaf_name n) (child_put b (name_of tree) (childless (record { len = length part; stored = take P part })))
@@ -73,7 +77,9 @@ module _ {K V : Type 0} {bytes : K × V → List ℕ} {P : ℕ} {s t : Nodes K V
   not_new k used e = used (ap (get s.inners) e ∙ is.fresh)
 
   parent_same : (k : OpaqueNodePtr) → IsParent fs k → get (insert mid m node) (as_inner k) ≡ get s.inners (as_inner k)
-  parent_same k up = inner_elsewhere mid m (as_inner k) node (not_new k (parent_used k up)) ∙ is.touches.others (as_inner k) (λ i. i) (λ i. i) (λ i. parent_apart (node_at s) (node_at t) fs tree old.holds old.distinct k up (is.in_tree (as_inner k) i))
+  parent_same k up =
+      inner_elsewhere mid m (as_inner k) node (not_new k (parent_used k up)) ∙
+      is.touches.others (as_inner k) (λ i. i) (λ i. i) (λ i. parent_apart (node_at s) (node_at t) fs tree old.holds old.distinct k up (is.in_tree (as_inner k) i))
 
   -- all nodes but the parent and those that were touched are the same
   pub branch_same : SameBut (node_at s) (node_at t) fs (map inner_name touched)
@@ -86,20 +92,25 @@ module _ {K V : Type 0} {bytes : K × V → List ℕ} {P : ℕ} {s t : Nodes K V
   got = ap (λ z. get z m) is.inners ∙ with_child_at-elsewhere fs (inner_name m) (insert mid m node) (inner_name m) (λ up. parent_used (inner_name m) up is.fresh) ∙ inner_here mid m node
 
   -- the new node, with the tree as it is now
-  pub branch_placed : (u : Tree OpaqueNodePtr (K × V)) → name_of u ≡ name_of tree → BranchPlaced bytes P (node_at s) (node_at t) (links_at s) (links_at t) fs place tree u (inner_name m) (leaf_name n) part b c (pair_of x)
+  pub branch_placed : (u : Tree OpaqueNodePtr (K × V)) → name_of u ≡ name_of tree →
+      BranchPlaced bytes P (node_at s) (node_at t) (links_at s) (links_at t) fs place tree u (inner_name m) (leaf_name n) part b c (pair_of x)
   branch_placed u named = record {
     front = is.front;
     apart = is.apart;
     node_was_free = node_was_free;
     leaf_was_free = placed_was_free old.holds old.distinct is.placed;
     differ = λ e. off (ap (λ (z : OpaqueNodePtr). z.kind) e);
-    node = node_at-inner t (inner_name m) off (Some node) got ∙ shown m.kind is.kind (put_child (put_child [] b (name_of tree)) c (leaf_name n)) (ap (λ z. put_child (put_child [] b z) c (leaf_name n)) (sym named) ∙ put_child-two b c u (leaf (leaf_name n) (pair_of x)) is.apart);
+    node = node_at-inner t (inner_name m) off (Some node) got ∙
+        shown m.kind is.kind (put_child (put_child [] b (name_of tree)) c (leaf_name n))
+        (ap (λ z. put_child (put_child [] b z) c (leaf_name n)) (sym named) ∙ put_child-two b c u (leaf (leaf_name n) (pair_of x)) is.apart);
     new_leaf = placed_node old.holds old.distinct is.placed;
-    parent = parent_written bytes P s t (insert mid m node) fs place (name_of tree) (inner_name m) is.hole.path (path_holds (node_at s) fs tree old.holds).0 (λ k up. parent_same k up) (λ k up. ap (λ z. get z (as_inner k)) is.inners);
+    parent = parent_written bytes P s t (insert mid m node) fs place (name_of tree) (inner_name m) is.hole.path
+        (path_holds (node_at s) fs tree old.holds).0 (λ k up. parent_same k up) (λ k up. ap (λ z. get z (as_inner k)) is.inners);
     relinked = placed_relinked old.holds old.distinct is.placed;
   }
     where
-      shown : (kind : NodeType) → kind ≡ Node4 → (slots : List (ℕ × OpaqueNodePtr)) {rest : List (ℕ × OpaqueNodePtr)} → slots ≡ rest → ◌≡◌ {A = Option (Node OpaqueNodePtr (K × V))} (Some (inner_node (record { kind = kind; length_of = length part; stored = take P part }) slots)) (Some (inner_node (header_of P part 2) rest))
+      shown : (kind : NodeType) → kind ≡ Node4 → (slots : List (ℕ × OpaqueNodePtr)) {rest : List (ℕ × OpaqueNodePtr)} → slots ≡ rest →
+          ◌≡◌ {A = Option (Node OpaqueNodePtr (K × V))} (Some (inner_node (record { kind = kind; length_of = length part; stored = take P part }) slots)) (Some (inner_node (header_of P part 2) rest))
       shown kind e slots f = cc
 
   touched_leaves : Touched s.leaves t.leaves (n ∷ []) [] (listed x.next ++ (listed x.previous ++ []))
@@ -107,7 +118,8 @@ module _ {K V : Type 0} {bytes : K × V → List ℕ} {P : ℕ} {s t : Nodes K V
 
   touched_inners : Touched s.inners t.inners (m ∷ []) [] (parents fs ++ touched)
   touched_inners = subst (λ z. Touched s.inners z (m ∷ []) [] (parents fs ++ touched)) (sym is.inners)
-      (then_parent (then_placed inner_cmp_total inner_cmp-IsAntisymmetric is.touches m node mid_free (λ i. i)) fs (inner_name m) (λ k up. parent_used k up) (λ k up e. parent_used k up (sym (parent_same k up) ∙ e)))
+      (then_parent (then_placed inner_cmp_total inner_cmp-IsAntisymmetric is.touches m node mid_free (λ i. i)) fs (inner_name m)
+      (λ k up. parent_used k up) (λ k up e. parent_used k up (sym (parent_same k up) ∙ e)))
 
   are_inners : Each IsInner (parents fs ++ touched)
   are_inners = parents_inner bytes P s fs (name_of tree) (path_holds (node_at s) fs tree old.holds).0 touched is.are_inner
@@ -119,7 +131,8 @@ module _ {K V : Type 0} {bytes : K × V → List ℕ} {P : ℕ} {s t : Nodes K V
   -- a node of the tree that was touched is what it was made then
   pub touched_is : (k : OpaqueNodePtr) → k.kind ≢ Leaf → IsIn (as_inner k) touched → get t.inners (as_inner k) ≡ get mid (as_inner k)
   touched_is k kind i =
-      ap (λ z. get z (as_inner k)) is.inners ∙ with_child_at-elsewhere fs (inner_name m) (insert mid m node) k (λ up. parent_apart (node_at s) (node_at t) fs tree old.holds old.distinct k up (is.in_tree (as_inner k) i))
+      ap (λ z. get z (as_inner k)) is.inners ∙ with_child_at-elsewhere fs (inner_name m) (insert mid m node) k
+      (λ up. parent_apart (node_at s) (node_at t) fs tree old.holds old.distinct k up (is.in_tree (as_inner k) i))
       ∙ inner_elsewhere mid m (as_inner k) node (not_new k (each_in (λ z. (get s.inners z ≢ None) × (get mid z ≢ None)) (as_inner k) touched is.touches.are_changed i).0)
 
   -- two names are placed, and three are changed and those that were touched
@@ -129,14 +142,17 @@ module _ {K V : Type 0} {bytes : K × V → List ℕ} {P : ℕ} {s t : Nodes K V
       touches_at_most s t 2 0 most touched_leaves touched_inners (off, tt) tt are_inners (omega arith) (omega arith) (omega arith)
 
   changed_in : (k : OpaqueNodePtr) → IsIn k (both_names (listed x.next ++ (listed x.previous ++ [])) (parents fs ++ touched)) → IsIn k (names_of (plug fs tree))
-  changed_in = both_in (names_of (plug fs tree)) (listed x.next ++ (listed x.previous ++ [])) (parents fs ++ touched) (placed_beside old.holds old.distinct is.placed) (parents_in fs tree touched is.in_tree)
+  changed_in =
+      both_in (names_of (plug fs tree)) (listed x.next ++ (listed x.previous ++ [])) (parents fs ++ touched) (placed_beside old.holds old.distinct is.placed) (parents_in fs tree touched is.in_tree)
 
   module _ {u : Tree OpaqueNodePtr (K × V)} (done : BranchInserted bytes P (node_at s) (node_at t) (links_at s) (links_at t) fs place tree u (inner_name m) (leaf_name n) part b c (pair_of x)) where
     abbrev grown : Tree OpaqueNodePtr (K × V)
     grown = inner (inner_name m) (header_of P part 2) (two_children b u c (leaf (leaf_name n) (pair_of x)))
 
     abbrev NamesOf : Bool → List OpaqueNodePtr
-    NamesOf first = names_of (inner (inner_name m) (header_of P part 2) (cond first (child b u (child c (leaf (leaf_name n) (pair_of x)) no_child)) (child c (leaf (leaf_name n) (pair_of x)) (child b u no_child))))
+    NamesOf first =
+        names_of (inner (inner_name m) (header_of P part 2) (cond first (child b u (child c (leaf (leaf_name n) (pair_of x)) no_child))
+        (child c (leaf (leaf_name n) (pair_of x)) (child b u no_child))))
 
     new_in : (first : Bool) (k : OpaqueNodePtr) → IsIn k (leaf_name n ∷ inner_name m ∷ []) → IsIn k (NamesOf first)
     new_in first k (inr (inl e)) = inl e
@@ -165,29 +181,39 @@ module _ {K V : Type 0} {bytes : K × V → List ℕ} {P : ℕ} {s t : Nodes K V
 
     -- the tree became another in place
     pub branch_in_place : ChangesInPlace bytes s t (Some (plug fs tree)) (Some (plug fs (inner (inner_name m) (header_of P part 2) (two_children b u c (leaf (leaf_name n) (pair_of x))))))
-    branch_in_place = in_place branch_print P (names_around fs tree grown (leaf_name n ∷ inner_name m ∷ []) [] (both_names (listed x.next ++ (listed x.previous ++ [])) (parents fs ++ touched)) own_names changed_in) (branch_keeps_leaves old done) (branch_keeps old done)
+    branch_in_place =
+        in_place branch_print P (names_around fs tree grown (leaf_name n ∷ inner_name m ∷ []) []
+        (both_names (listed x.next ++ (listed x.previous ++ [])) (parents fs ++ touched)) own_names changed_in) (branch_keeps_leaves old done) (branch_keeps old done)
 
 -- ---- what is split: a leaf, or an inner node's prefix
 
 -- a node's header is written
-pub header_touches : {K V : Type 0} (s : Nodes K V) (k : OpaqueNodePtr) (h : Header) (slots : List (ℕ × OpaqueNodePtr)) (header : Prefix) → node_at s k ≡ Some (inner_node h slots) → Touched s.inners (change s.inners (as_inner k) (with_header header)) [] [] (as_inner k ∷ [])
+pub header_touches : {K V : Type 0} (s : Nodes K V) (k : OpaqueNodePtr) (h : Header) (slots : List (ℕ × OpaqueNodePtr)) (header : Prefix) →
+    node_at s k ≡ Some (inner_node h slots) → Touched s.inners (change s.inners (as_inner k) (with_header header)) [] [] (as_inner k ∷ [])
 header_touches s k h slots header held =
     let used : get s.inners (as_inner k) ≢ None = λ e. let (off, node, there, head, below) = inner_at s k h slots held in absurd (cc (there, e)) in
     then_changed inner_cmp_total inner_cmp-IsAntisymmetric (touched_none s.inners) (as_inner k) (with_header header) used used
 
-module _ {K V : Type 0} {bytes : K × V → List ℕ} {P : ℕ} {s t : Nodes K V} {root : OpaqueNodePtr} {pairs : List (K × V)} {fs : List (Frame OpaqueNodePtr (K × V))} {place : List ℕ} {m : InnerPtr} {n : LeafPtr} {part : List ℕ} {b c : ℕ} {x : LeafNode K V} where
+module _ {K V : Type 0} {bytes : K × V → List ℕ} {P : ℕ} {s t : Nodes K V} {root : OpaqueNodePtr} {pairs : List (K × V)}
+    {fs : List (Frame OpaqueNodePtr (K × V))} {place : List ℕ} {m : InnerPtr} {n : LeafPtr} {part : List ℕ} {b c : ℕ} {x : LeafNode K V} where
   -- a leaf, which stays what it was
-  pub leaf_branched : {k : OpaqueNodePtr} {y : K × V} {mid : Inners} → IsLaidOut bytes P (node_at s) (links_at s) root pairs (plug fs (leaf k y)) → BranchStored bytes P s t fs place (leaf k y) m n part b c x mid [] → IsFront ((place ++ part) ++ b ∷ []) (bytes y) →
+  pub leaf_branched : {k : OpaqueNodePtr} {y : K × V} {mid : Inners} → IsLaidOut bytes P (node_at s) (links_at s) root pairs (plug fs (leaf k y)) →
+      BranchStored bytes P s t fs place (leaf k y) m n part b c x mid [] → IsFront ((place ++ part) ++ b ∷ []) (bytes y) →
       BranchInserted bytes P (node_at s) (node_at t) (links_at s) (links_at t) fs place (leaf k y) (leaf k y) (inner_name m) (leaf_name n) part b c (pair_of x)
   leaf_branched {k} {y} old is front = split_leaf old is.hole front (branch_same old is) (branch_placed old is (leaf k y) refl)
 
   -- an inner node, whose prefix is the part, a byte and a rest: the rest is left to it
-  pub prefix_branched : {k : OpaqueNodePtr} {h : Header} {cs : Children OpaqueNodePtr (K × V)} {mid : Inners} (rest : List ℕ) → mid ≡ change s.inners (as_inner k) (with_header (record { len = length rest; stored = take P rest })) → IsLaidOut bytes P (node_at s) (links_at s) root pairs (plug fs (inner k h cs)) →
+  pub prefix_branched : {k : OpaqueNodePtr} {h : Header} {cs : Children OpaqueNodePtr (K × V)} {mid : Inners} (rest : List ℕ) →
+      mid ≡ change s.inners (as_inner k) (with_header (record { len = length rest; stored = take P rest })) → IsLaidOut bytes P (node_at s) (links_at s) root pairs (plug fs (inner k h cs)) →
       (is : BranchStored bytes P s t fs place (inner k h cs) m n part b c x mid (as_inner k ∷ [])) → is.hole.radix.0 ≡ part ++ b ∷ rest →
-      BranchInserted bytes P (node_at s) (node_at t) (links_at s) (links_at t) fs place (inner k h cs) (inner k (header_of P rest (length (bytes_of cs))) cs) (inner_name m) (leaf_name n) part b c (pair_of x)
-  prefix_branched {k} {h} {cs} rest written old is prefix = trimmed_node rest old is.hole prefix (branch_same old is) there (branch_placed old is (inner k (header_of P rest (length (bytes_of cs))) cs) refl)
+      BranchInserted bytes P (node_at s) (node_at t) (links_at s) (links_at t) fs place (inner k h cs)
+      (inner k (header_of P rest (length (bytes_of cs))) cs) (inner_name m) (leaf_name n) part b c (pair_of x)
+  prefix_branched {k} {h} {cs} rest written old is prefix =
+      trimmed_node rest old is.hole prefix (branch_same old is) there (branch_placed old is (inner k (header_of P rest (length (bytes_of cs))) cs) refl)
     where
-      shown : (kind : NodeType) (slots : List (ℕ × OpaqueNodePtr)) → kind ≡ kind_of (length (bytes_of cs)) → slots ≡ slots_of cs → ◌≡◌ {A = Option (Node OpaqueNodePtr (K × V))} (Some (inner_node (record { kind = kind; length_of = length rest; stored = take P rest }) slots)) (Some (inner_node (header_of P rest (length (bytes_of cs))) (slots_of cs)))
+      shown : (kind : NodeType) (slots : List (ℕ × OpaqueNodePtr)) → kind ≡ kind_of (length (bytes_of cs)) → slots ≡ slots_of cs →
+          ◌≡◌ {A = Option (Node OpaqueNodePtr (K × V))} (Some
+          (inner_node (record { kind = kind; length_of = length rest; stored = take P rest }) slots)) (Some (inner_node (header_of P rest (length (bytes_of cs))) (slots_of cs)))
       shown kind slots e f = cc
 
       there : node_at t k ≡ Some (inner_node (header_of P rest (length (bytes_of cs))) (slots_of cs))

@@ -39,7 +39,8 @@ module _ {A : Type 0} where
   floor byte b ((c, []) ∷ others) h k = absurd (omega arith)
   floor byte b ((c, x ∷ group) ∷ others) h k = (omega (arith, h.1.0, k.0), floor byte b others h.2 (Each-right (λ y. b ≤ byte y) (x ∷ group) (joined others) k))
 
-  add_groups : (byte : A → ℕ) (x : A) (gs : List (ℕ × List A)) → AreGroups byte gs → IsRising (bytes_in gs) → Each (λ c. byte x ≤ c) (bytes_in gs) → Groups byte (add_to_groups (byte x) x gs) (x ∷ joined gs)
+  add_groups : (byte : A → ℕ) (x : A) (gs : List (ℕ × List A)) → AreGroups byte gs → IsRising (bytes_in gs) → Each (λ c. byte x ≤ c) (bytes_in gs) →
+      Groups byte (add_to_groups (byte x) x gs) (x ∷ joined gs)
   add_groups byte x [] h up low = (refl, (omega arith, (refl, tt), tt), (tt, tt))
   add_groups byte x ((c, group) ∷ others) h up low = go (eqb (byte x) c) refl
     where
@@ -81,7 +82,8 @@ module _ {A : Type 0} (bytes : A → List ℕ) where
   byte_order : (front : List ℕ) (x y : A) → Precedes (bytes x) (bytes y) → GoesOn front x → GoesOn front y → byte_at bytes (length front) x ≤ byte_at bytes (length front) y
   byte_order front x y o (b, r, e) (c, s, f) = rw (at_byte front x b r e, at_byte front y c s f) (precedes_byte front b c r s (bytes x) (bytes y) e f o)
 
-  bytes_order : (front : List ℕ) (x : A) (ys : List A) → Each (λ y. Precedes (bytes x) (bytes y)) ys → GoesOn front x → Each (GoesOn front) ys → Each (λ y. byte_at bytes (length front) x ≤ byte_at bytes (length front) y) ys
+  bytes_order : (front : List ℕ) (x : A) (ys : List A) → Each (λ y. Precedes (bytes x) (bytes y)) ys → GoesOn front x → Each (GoesOn front) ys →
+      Each (λ y. byte_at bytes (length front) x ≤ byte_at bytes (length front) y) ys
   bytes_order front x [] o e f = tt
   bytes_order front x (y ∷ ys) o e f = (byte_order front x y o.0 e f.0, bytes_order front x ys o.1 e f.1)
 
@@ -98,7 +100,8 @@ module _ {A : Type 0} (bytes : A → List ℕ) where
       ((r, e ∙ ap (λ z. front ++ z ∷ r) p ∙ sym (append_assoc front (b ∷ []) r)), with_byte front b xs f.1 g.1)
 
   -- all keys begin with the place and the shared part
-  with_part : (place : List ℕ) (s : List ℕ) (xs : List A) → Each (λ x. IsFront place (bytes x)) xs → Each (λ x. IsFront s (drop (length place) (bytes x))) xs → Each (λ x. IsFront (place ++ s) (bytes x)) xs
+  with_part : (place : List ℕ) (s : List ℕ) (xs : List A) → Each (λ x. IsFront place (bytes x)) xs →
+      Each (λ x. IsFront s (drop (length place) (bytes x))) xs → Each (λ x. IsFront (place ++ s) (bytes x)) xs
   with_part place s [] h g = tt
   with_part place s (x ∷ xs) h g =
       let (r, e) = h.0 in
@@ -118,7 +121,8 @@ module _ {A : Type 0} (bytes : A → List ℕ) where
       let front = place ++ part in
       let whole : g ≡ x ∷ xs = sym (append-nil g) ∙ e in
       let one : Each (λ z. byte_at bytes (length front) z ≡ b) (x ∷ xs) = subst (λ l. Each (λ z. byte_at bytes (length front) z ≡ b) l) whole are.1 in
-      let longer : Each (λ z. IsFront (place ++ (part ++ b ∷ [])) (bytes z)) (x ∷ xs) = subst (λ f. Each (λ z. IsFront f (bytes z)) (x ∷ xs)) (append_assoc place part (b ∷ [])) (with_byte front b (x ∷ xs) on one) in
+      let longer : Each (λ z. IsFront (place ++ (part ++ b ∷ [])) (bytes z)) (x ∷ xs) =
+      subst (λ f. Each (λ z. IsFront f (bytes z)) (x ∷ xs)) (append_assoc place part (b ∷ [])) (with_byte front b (x ∷ xs) on one) in
       let p = ap length (shared_part-front bytes place (part ++ b ∷ []) x xs longer) in
       absurd (omega (arith, simp length-append at p))
   two_groups place x xs ((b, g) ∷ (c, k) ∷ gs) e are on = omega arith
@@ -129,7 +133,8 @@ module _ {A : Type 0} (bytes : A → List ℕ) where
 
 module _ {A : Type 0} (bytes : A → List ℕ) (P : ℕ) where
   -- the node of a list, by its parts
-  node_is : (f : ℕ → List A → Option (Tree (Unit {0}) A)) (d e n : ℕ) (xs : List A) (cs : Children (Unit {0}) A) → e ≡ d + length (shared_part bytes d xs) → children_of (f (e + 1)) (groups (byte_at bytes e) xs) ≡ cs → length (groups (byte_at bytes e) xs) ≡ n →
+  node_is : (f : ℕ → List A → Option (Tree (Unit {0}) A)) (d e n : ℕ) (xs : List A) (cs : Children (Unit {0}) A) →
+      e ≡ d + length (shared_part bytes d xs) → children_of (f (e + 1)) (groups (byte_at bytes e) xs) ≡ cs → length (groups (byte_at bytes e) xs) ≡ n →
       node_of bytes f P d xs ≡ Some (inner tt (header_of P (shared_part bytes d xs) n) cs)
   node_is f d e n xs cs depth made count = rw (← depth, made, count) refl
 
@@ -138,7 +143,8 @@ module _ {A : Type 0} (bytes : A → List ℕ) (P : ℕ) where
   Builds turns = (place : List ℕ) (xs : List A) → IsMap bytes xs → Each (λ x. IsFront place (bytes x)) xs → 1 ≤ length xs → length xs ≤ turns →
       (t : Tree (Unit {0}) A) × (tree_within bytes turns P (length place) xs ≡ Some t) × IsRadix bytes P place t × (pairs_of t ≡ xs)
 
-  build_below : (turns : ℕ) → Builds turns → (front : List ℕ) (gs : List (ℕ × List A)) → AreGroups (byte_at bytes (length front)) gs → Each (GoesOn bytes front) (joined gs) → IsMap bytes (joined gs) → length (joined gs) + 1 ≤ turns + length gs →
+  build_below : (turns : ℕ) → Builds turns → (front : List ℕ) (gs : List (ℕ × List A)) → AreGroups (byte_at bytes (length front)) gs →
+      Each (GoesOn bytes front) (joined gs) → IsMap bytes (joined gs) → length (joined gs) + 1 ≤ turns + length gs →
       (cs : Children (Unit {0}) A) × (children_of (tree_within bytes turns P (length front + 1)) gs ≡ cs) × AreRadix bytes P front cs × (bytes_of cs ≡ bytes_in gs) × (pairs_below cs ≡ joined gs)
   build_below turns ih front [] are on map enough = (no_child, refl, tt, refl, refl)
   build_below turns ih front ((b, g) ∷ gs) are on map enough =
@@ -166,7 +172,8 @@ module _ {A : Type 0} (bytes : A → List ℕ) (P : ℕ) where
       let (cs, made, below, heads, pairs) = build_below turns (build turns) front gs are (rw e on) (rw e sorted) (omega arith) in
       let count : length gs ≡ length (bytes_of cs) = sym (length-bytes_in bytes gs) ∙ ap length (sym heads) in
       let t = inner tt (header_of P part (length (bytes_of cs))) cs in
-      let same : tree_within bytes (suc turns) P (length place) (x ∷ y ∷ xs) ≡ Some t = node_is (tree_within bytes turns P) (length place) (length front) (length (bytes_of cs)) (x ∷ y ∷ xs) cs (length-append place part) made count in
+      let same : tree_within bytes (suc turns) P (length place) (x ∷ y ∷ xs) ≡ Some t =
+      node_is (tree_within bytes turns P) (length place) (length front) (length (bytes_of cs)) (x ∷ y ∷ xs) cs (length-append place part) made count in
       (t, same, (part, refl, rw (← count) two, subst IsRising (sym heads) up, below), pairs ∙ e)
 
   -- the tree of a map: grouping gives a radix tree of these pairs

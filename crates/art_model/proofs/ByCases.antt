@@ -25,8 +25,18 @@ module _ {N A : Type 0} (at : N → Option (Node N A)) where
     layouts_of no_child slots names leaves (e, is, ls) = (no_child, (sym e, refl, sym is, sym ls, tt, subst AreDistinct (sym is) tt))
     layouts_of (child b t cs) slots names leaves (n, others, own, rest, ls, rs, e, is, lis, apart, stand, below) =
         let (l, (root, u, ns, lns, holds, d)) = layout_of t n own ls stand in
-        let (k, (s, us, ms, lms, held, ds)) = layouts_of cs others rest rs below in
-        (child b l k, (ap₂ (λ m (z : List (ℕ × N)). (b, m) ∷ z) root s ∙ sym e, ap₂ (child b) u us, ap₂ (λ (xs ys : List N). xs ++ ys) ns ms ∙ sym is, ap₂ (λ (xs ys : List N). xs ++ ys) lns lms ∙ sym lis, (holds, held), subst AreDistinct (sym is) (Pairwise-append ◌≢◌ own rest d ds apart)))
+        let (k, (s, us, ms, lms, held, ds)) = layouts_of cs others rest rs below in (
+          child b l k,
+          (
+            ap₂ (λ m (z : List (ℕ × N)). (b, m) ∷ z) root s ∙ sym e,
+            ap₂ (child b) u us,
+            ap₂ (λ (xs ys : List N). xs ++ ys) ns ms ∙
+                sym is,
+            ap₂ (λ (xs ys : List N). xs ++ ys) lns lms ∙ sym lis,
+            (holds, held),
+            subst AreDistinct (sym is) (Pairwise-append ◌≢◌ own rest d ds apart),
+          ),
+        )
 
   mutual
     pub stands_from : (l : Tree N A) → Holds at l → AreDistinct (names_of l) → Stands at (name_of l) (unmarked l) (names_of l) (leaf_names l)
@@ -35,4 +45,18 @@ module _ {N A : Type 0} (at : N → Option (Node N A)) where
 
     pub stand_from_below : (cs : Children N A) → HoldsBelow at cs → AreDistinct (names_below cs) → StandBelow at (slots_of cs) (all_unmarked cs) (names_below cs) (leaf_names_below cs)
     stand_from_below no_child h d = (refl, refl, refl)
-    stand_from_below (child b t cs) h d = (name_of t, slots_of cs, names_of t, names_below cs, leaf_names t, leaf_names_below cs, refl, refl, refl, Pairwise-across ◌≢◌ (names_of t) (names_below cs) d, stands_from t h.0 (Pairwise-left ◌≢◌ (names_of t) (names_below cs) d), stand_from_below cs h.1 (Pairwise-right ◌≢◌ (names_of t) (names_below cs) d))
+    stand_from_below (child b t cs) h d = (
+      name_of t,
+      slots_of cs,
+      names_of t,
+      names_below cs,
+      leaf_names t,
+      leaf_names_below cs,
+      refl,
+      refl,
+      refl,
+      Pairwise-across ◌≢◌ (names_of t)
+          (names_below cs) d,
+      stands_from t h.0 (Pairwise-left ◌≢◌ (names_of t) (names_below cs) d),
+      stand_from_below cs h.1 (Pairwise-right ◌≢◌ (names_of t) (names_below cs) d),
+    )

@@ -39,7 +39,8 @@ module _ {N A : Type 0} (bytes : A → List ℕ) (P : ℕ) where
     radix_below_unmarked (child b t cs) front h = (radix_unmarked t (front ++ b ∷ []) h.0, radix_below_unmarked cs front h.1)
 
   -- a layout whose plain tree is that of a map is a radix tree with these pairs
-  radix_from : (pairs : List A) (tree : Tree (Unit {0}) A) (layout : Tree N A) → IsMap bytes pairs → tree_of bytes pairs P 0 ≡ Some tree → unmarked layout ≡ tree → IsRadix bytes P [] layout × (pairs_of layout ≡ pairs)
+  radix_from : (pairs : List A) (tree : Tree (Unit {0}) A) (layout : Tree N A) → IsMap bytes pairs → tree_of bytes pairs P 0 ≡ Some tree →
+      unmarked layout ≡ tree → IsRadix bytes P [] layout × (pairs_of layout ≡ pairs)
   radix_from [] tree layout map e is = absurd cc
   radix_from (x ∷ xs) tree layout map e is =
       let (t, made, radix, pairs) = build_root bytes P (x ∷ xs) map (omega arith) in

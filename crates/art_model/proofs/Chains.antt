@@ -28,8 +28,10 @@ module _ {K V : Type 0} where
   links_leaf u p o e = ap (λ z. option_and_then links_of (option_map held_leaf z)) e
 
   -- the links of a leaf after a change
-  relinks : (f : LeafNode K V → LeafNode K V) (a b c d : Option OpaqueNodePtr) → ((y : LeafNode K V) → option_map leaf_name y.previous ≡ a → option_map leaf_name y.next ≡ b → links_of (held_leaf (f y)) ≡ Some (record { previous = c; next = d })) →
-      (o : Option (LeafNode K V)) → option_and_then links_of (option_map held_leaf o) ≡ Some (record { previous = a; next = b }) → option_and_then links_of (option_map held_leaf (option_map f o)) ≡ Some (record { previous = c; next = d })
+  relinks : (f : LeafNode K V → LeafNode K V) (a b c d : Option OpaqueNodePtr) →
+      ((y : LeafNode K V) → option_map leaf_name y.previous ≡ a → option_map leaf_name y.next ≡ b → links_of (held_leaf (f y)) ≡ Some (record { previous = c; next = d })) →
+      (o : Option (LeafNode K V)) → option_and_then links_of (option_map held_leaf o) ≡ Some (record { previous = a; next = b }) →
+      option_and_then links_of (option_map held_leaf (option_map f o)) ≡ Some (record { previous = c; next = d })
   relinks f a b c d h None e = absurd cc
   relinks f a b c d h (Some y) e =
       let l : ◌≡◌ {A = Links OpaqueNodePtr} (record { previous = option_map leaf_name y.previous; next = option_map leaf_name y.next }) (record { previous = a; next = b }) = cc in
@@ -72,7 +74,8 @@ module _ {K V : Type 0} {s t : Nodes K V} {xs ns zs : List OpaqueNodePtr} {befor
     inside = is.inside;
     others = λ k i f g. elim (leaf_or k) [
       | inl (p, e) ↦ subst (λ (z : OpaqueNodePtr). links_at t z ≡ links_at s z) (sym e) (links_leaf t p (get s.leaves p) (is.leaves p (subst (λ z. IsIn z (xs ++ zs)) e i)
-          ∙ joined_elsewhere s.leaves before after next previous p (λ h. f (sym is.before_is ∙ ap (option_map leaf_name) h ∙ ap Some (sym e))) (λ h. g (sym is.after_is ∙ ap (option_map leaf_name) h ∙ ap Some (sym e)))))
+          ∙ joined_elsewhere s.leaves before after next previous p (λ h. f (sym is.before_is ∙ ap (option_map leaf_name) h ∙ ap Some (sym e)))
+          (λ h. g (sym is.after_is ∙ ap (option_map leaf_name) h ∙ ap Some (sym e)))))
       | inr off ↦ links_inner t k off ∙ sym (links_inner s k off)
     ];
   }
@@ -135,7 +138,9 @@ module _ {K V : Type 0} (s t : Nodes K V) (xs zs : List OpaqueNodePtr) (n : Leaf
 module _ {K V : Type 0} (s : Nodes K V) where
   -- the leaves of a layout are there
   pub are_there : (t : Tree OpaqueNodePtr (K × V)) → Holds (node_at s) t → AreThere s (leaf_names t)
-  are_there t h p i free = each_in (IsTaken (node_at s)) (leaf_name p) (leaf_names t) (among takes_leaves (IsTaken (node_at s)) t (all_taken (node_at s) t h)) i (node_at-leaf s p ∙ ap (λ o. option_map leaf_node (option_map pair_of o)) free)
+  are_there t h p i free =
+      each_in (IsTaken (node_at s)) (leaf_name p) (leaf_names t) (among takes_leaves (IsTaken (node_at s)) t (all_taken (node_at s) t h)) i
+      (node_at-leaf s p ∙ ap (λ o. option_map leaf_node (option_map pair_of o)) free)
 
   -- and the neighbours of a place are among them
   pub previous_there : (xs zs : List OpaqueNodePtr) (o : Option LeafPtr) → AreThere s (xs ++ zs) → option_map leaf_name o ≡ last_or xs None → IsThere s.leaves o

@@ -35,13 +35,18 @@ module _ {N A : Type 0} (bytes : A → List ℕ) (P : ℕ) where
       go : (b ≡ c) ⊎ ((b < c) ⊎ (c < b)) → Goal (two_children b t c (leaf n new))
       go (inl e) = absurd (apart e)
       go (inr (inl l)) =
-          let low = Each-weaker (λ x. IsFront ((place ++ part) ++ b ∷ []) (bytes x)) (λ x. Precedes (bytes x) (bytes new)) (λ x f. parts bytes (place ++ part) b c (bytes x) (bytes new) f k l) (pairs_of t) ways in
+          let low =
+          Each-weaker (λ x. IsFront ((place ++ part) ++ b ∷ []) (bytes x)) (λ x. Precedes (bytes x) (bytes new))
+          (λ x f. parts bytes (place ++ part) b c (bytes x) (bytes new) f k l) (pairs_of t) ways in
           rw (lt-ltb b c l) (
             (part, refl, omega arith, ((l, tt), (tt, tt)), (h, (k, tt))),
-            sym (ap (replace_key bytes new) (sym (append-nil (pairs_of t ++ []) ∙ append-nil (pairs_of t))) ∙ replace_key-between bytes new (pairs_of t) [] [] low tt ∙ append-nil (pairs_of t ++ new ∷ [])),
+            sym (ap (replace_key bytes new) (sym (append-nil (pairs_of t ++ []) ∙ append-nil (pairs_of t))) ∙
+                replace_key-between bytes new (pairs_of t) [] [] low tt ∙ append-nil (pairs_of t ++ new ∷ [])),
           )
       go (inr (inr l)) =
-          let high = Each-weaker (λ x. IsFront ((place ++ part) ++ b ∷ []) (bytes x)) (λ x. Precedes (bytes new) (bytes x)) (λ x f. parts bytes (place ++ part) c b (bytes new) (bytes x) k f l) (pairs_of t) ways in
+          let high =
+          Each-weaker (λ x. IsFront ((place ++ part) ++ b ∷ []) (bytes x)) (λ x. Precedes (bytes new) (bytes x))
+          (λ x f. parts bytes (place ++ part) c b (bytes new) (bytes x) k f l) (pairs_of t) ways in
           rw (le-ltb b c (omega arith)) (
             (part, refl, omega arith, ((l, tt), (tt, tt)), (k, (h, tt))),
             ap (λ l. new ∷ l) (append-nil (pairs_of t)) ∙ sym (replace_key-between bytes new [] [] (pairs_of t) tt high),
@@ -63,7 +68,8 @@ module _ {N A : Type 0} (bytes : A → List ℕ) (P : ℕ) where
 
   -- a new leaf under a byte that had no child
   unfoldable pub with_child : (place part : List ℕ) (cs ds : Children N A) (b : ℕ) (m n : N) (new : A) →
-      IsRising (bytes_of (join cs ds)) → Each (λ c. c < b) (bytes_of cs) → Each (λ c. b < c) (bytes_of ds) → 1 ≤ length (bytes_of (join cs ds)) → AreRadix bytes P (place ++ part) (join cs ds) → IsFront ((place ++ part) ++ b ∷ []) (bytes new) →
+      IsRising (bytes_of (join cs ds)) → Each (λ c. c < b) (bytes_of cs) → Each (λ c. b < c) (bytes_of ds) → 1 ≤ length (bytes_of (join cs ds)) →
+      AreRadix bytes P (place ++ part) (join cs ds) → IsFront ((place ++ part) ++ b ∷ []) (bytes new) →
       let u = inner m (header_of P part (suc (length (bytes_of (join cs ds))))) (join cs (child b (leaf n new) ds)) in
       IsRadix bytes P place u × (pairs_of u ≡ replace_key bytes new (pairs_below (join cs ds)))
   with_child place part cs ds b m n new up l r some all k =
@@ -75,10 +81,23 @@ module _ {N A : Type 0} (bytes : A → List ℕ) (P : ℕ) where
       let s = length-append (bytes_of cs) (bytes_of ds) in
       let s' = length-append (bytes_of cs) (b ∷ bytes_of ds) in
       let count : suc (length (bytes_of (join cs ds))) ≡ length (bytes_of (join cs (child b (leaf n new) ds))) = rw (old, bs) (omega arith) in
-      let low = Each-weaker (PartsBelow bytes front b) (λ x. Precedes (bytes x) (bytes new)) (λ x g. parts bytes front g.0 b (bytes x) (bytes new) g.2 k g.1) (pairs_below cs) (all_below bytes P front b cs hl l) in
-      let high = Each-weaker (PartsAbove bytes front b) (λ x. Precedes (bytes new) (bytes x)) (λ x g. parts bytes front b g.0 (bytes new) (bytes x) k g.2 g.1) (pairs_below ds) (all_above bytes P front b ds hr r) in (
-        (part, ap (header_of P part) count, rw (← count) (omega arith), subst IsRising (sym bs) (Pairwise-with ◌<◌ (bytes_of cs) (bytes_of ds) b l r (rw old at up)), AreRadix-join bytes P front cs (child b (leaf n new) ds) hl (k, hr)),
-        pairs_below-join cs (child b (leaf n new) ds) ∙ sym (ap (replace_key bytes new) (pairs_below-join cs ds ∙ ap (λ l. l ++ pairs_below ds) (sym (append-nil (pairs_below cs)))) ∙ replace_key-between bytes new (pairs_below cs) [] (pairs_below ds) low high ∙ append_assoc (pairs_below cs) (new ∷ []) (pairs_below ds)),
+      let low =
+      Each-weaker (PartsBelow bytes front b) (λ x. Precedes (bytes x) (bytes new))
+      (λ x g. parts bytes front g.0 b (bytes x) (bytes new) g.2 k g.1) (pairs_below cs) (all_below bytes P front b cs hl l) in
+      let high =
+      Each-weaker (PartsAbove bytes front b) (λ x. Precedes (bytes new) (bytes x))
+      (λ x g. parts bytes front b g.0 (bytes new) (bytes x) k g.2 g.1) (pairs_below ds) (all_above bytes P front b ds hr r) in (
+        (
+          part,
+          ap (header_of P part) count,
+          rw (← count) (omega arith),
+          subst IsRising (sym bs)
+              (Pairwise-with ◌<◌ (bytes_of cs) (bytes_of ds) b l r (rw old at up)),
+          AreRadix-join bytes P front cs (child b (leaf n new) ds) hl (k, hr),
+        ),
+        pairs_below-join cs (child b (leaf n new) ds) ∙ sym (ap (replace_key bytes new)
+            (pairs_below-join cs ds ∙ ap (λ l. l ++ pairs_below ds) (sym (append-nil (pairs_below cs)))) ∙
+            replace_key-between bytes new (pairs_below cs) [] (pairs_below ds) low high ∙ append_assoc (pairs_below cs) (new ∷ []) (pairs_below ds)),
       )
 
   -- a child that is a leaf goes: what is left below
@@ -91,11 +110,17 @@ module _ {N A : Type 0} (bytes : A → List ℕ) (P : ℕ) where
       let hr = AreRadix-right bytes P front cs (child b (leaf n x) ds) all in
       let bs = bytes_of-join cs (child b (leaf n x) ds) in
       let up' : IsRising (bytes_of cs ++ b ∷ bytes_of ds) = subst IsRising bs up in
-      let low = Each-weaker (PartsBelow bytes front b) (λ y. Precedes (bytes y) (bytes x)) (λ y g. parts bytes front g.0 b (bytes y) (bytes x) g.2 hr.0 g.1) (pairs_below cs) (all_below bytes P front b cs hl (Pairwise-before ◌<◌ (bytes_of cs) (bytes_of ds) b up')) in
-      let high = Each-weaker (PartsAbove bytes front b) (λ y. Precedes (bytes x) (bytes y)) (λ y g. parts bytes front b g.0 (bytes x) (bytes y) hr.0 g.2 g.1) (pairs_below ds) (all_above bytes P front b ds hr.1 (Pairwise-after ◌<◌ (bytes_of cs) (bytes_of ds) b up')) in (
+      let low =
+      Each-weaker (PartsBelow bytes front b) (λ y. Precedes (bytes y) (bytes x)) (λ y g. parts bytes front g.0 b (bytes y) (bytes x) g.2 hr.0 g.1)
+      (pairs_below cs) (all_below bytes P front b cs hl (Pairwise-before ◌<◌ (bytes_of cs) (bytes_of ds) b up')) in
+      let high =
+      Each-weaker (PartsAbove bytes front b) (λ y. Precedes (bytes x) (bytes y)) (λ y g. parts bytes front b g.0 (bytes x) (bytes y) hr.0 g.2 g.1)
+      (pairs_below ds) (all_above bytes P front b ds hr.1 (Pairwise-after ◌<◌ (bytes_of cs) (bytes_of ds) b up')) in (
         subst IsRising (sym (bytes_of-join cs ds)) (Pairwise-without ◌<◌ (bytes_of cs) (bytes_of ds) b up'),
         AreRadix-join bytes P front cs ds hl hr.1,
-        pairs_below-join cs ds ∙ sym (ap (remove_key bytes (bytes x)) (pairs_below-join cs (child b (leaf n x) ds) ∙ sym (append_assoc (pairs_below cs) (x ∷ []) (pairs_below ds))) ∙ remove_key-between bytes (bytes x) (pairs_below cs) (x ∷ []) (pairs_below ds) low high ∙ gone),
+        pairs_below-join cs ds ∙ sym (ap (remove_key bytes (bytes x))
+            (pairs_below-join cs (child b (leaf n x) ds) ∙ sym (append_assoc (pairs_below cs) (x ∷ []) (pairs_below ds))) ∙
+            remove_key-between bytes (bytes x) (pairs_below cs) (x ∷ []) (pairs_below ds) low high ∙ gone),
       )
     where
       gone : pairs_below cs ++ remove_key bytes (bytes x) (x ∷ []) ++ pairs_below ds ≡ pairs_below cs ++ pairs_below ds

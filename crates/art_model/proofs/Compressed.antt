@@ -64,12 +64,14 @@ prefix_at bytes P place (leaf k y) radix = []
 prefix_at bytes P place (inner k head cs) radix = radix.0
 
 -- A leaf is taken from a node that has one other child, `v`; the node goes, and `v` takes its place, with the node's prefix and its own byte in front of its own prefix.
-pub record Compressed {K V : Type 0} (bytes : K × V → List ℕ) (P : ℕ) (s t : Nodes K V) (fs : List (Frame OpaqueNodePtr (K × V))) (place : List ℕ) (m : OpaqueNodePtr) (h : Header) (l r : Children OpaqueNodePtr (K × V)) (b : ℕ) (n : LeafPtr) (x : LeafNode K V) (c : ℕ) (v : Tree OpaqueNodePtr (K × V)) : Type 0 where
+pub record Compressed {K V : Type 0} (bytes : K × V → List ℕ) (P : ℕ) (s t : Nodes K V) (fs : List (Frame OpaqueNodePtr (K × V))) (place : List ℕ)
+    (m : OpaqueNodePtr) (h : Header) (l r : Children OpaqueNodePtr (K × V)) (b : ℕ) (n : LeafPtr) (x : LeafNode K V) (c : ℕ) (v : Tree OpaqueNodePtr (K × V)) : Type 0 where
   pub hole : IsHole bytes P fs place (inner m h (join l (child b (leaf (leaf_name n) (pair_of x)) r))) (bytes (pair_of x))
   pub one : join l r ≡ child c v no_child
   pub radix : IsRadix bytes P ((place ++ hole.radix.0) ++ c ∷ []) v
   pub taken : LeafTaken s t (plug fs (inner m h (join l (child b (leaf (leaf_name n) (pair_of x)) r)))) (leaves_before fs ++ leaf_names_below l) (leaf_names_below r ++ leaves_after fs) n x
-  pub inners : t.inners ≡ with_child_at (parent_of fs) (name_of v) (prefix_written P (hole.radix.0 ++ c ∷ prefix_at bytes P ((place ++ hole.radix.0) ++ c ∷ []) v radix) v (remove s.inners (as_inner m)))
+  pub inners : t.inners ≡ with_child_at (parent_of fs) (name_of v)
+      (prefix_written P (hole.radix.0 ++ c ∷ prefix_at bytes P ((place ++ hole.radix.0) ++ c ∷ []) v radix) v (remove s.inners (as_inner m)))
 
 module _ {A : Type 0} where
   -- the node that is written is one of the subtree
@@ -98,8 +100,11 @@ module _ {A : Type 0} where
   name_of-with_prefix P prefix (leaf j y) = refl
   name_of-with_prefix P prefix (inner j head cs) = refl
 
-module _ {K V : Type 0} {bytes : K × V → List ℕ} {P : ℕ} {s t : Nodes K V} {root : OpaqueNodePtr} {pairs : List (K × V)} {fs : List (Frame OpaqueNodePtr (K × V))} {place : List ℕ} {m : OpaqueNodePtr} {h : Header} {l r : Children OpaqueNodePtr (K × V)} {b : ℕ} {n : LeafPtr} {x : LeafNode K V} {c : ℕ} {v : Tree OpaqueNodePtr (K × V)}
-    (old : IsLaidOut bytes P (node_at s) (links_at s) root pairs (plug fs (inner m h (join l (child b (leaf (leaf_name n) (pair_of x)) r))))) (is : Compressed bytes P s t fs place m h l r b n x c v) where
+module _ {K V : Type 0} {bytes : K × V → List ℕ} {P : ℕ} {s t : Nodes K V} {root : OpaqueNodePtr} {pairs : List (K × V)}
+    {fs : List (Frame OpaqueNodePtr (K × V))} {place : List ℕ} {m : OpaqueNodePtr} {h : Header} {l r : Children OpaqueNodePtr (K × V)} {b : ℕ}
+    {n : LeafPtr} {x : LeafNode K V} {c : ℕ} {v : Tree OpaqueNodePtr (K × V)}
+    (old : IsLaidOut bytes P (node_at s) (links_at s) root pairs (plug fs (inner m h (join l (child b (leaf (leaf_name n) (pair_of x)) r)))))
+    (is : Compressed bytes P s t fs place m h l r b n x c v) where
   abbrev gone : Tree OpaqueNodePtr (K × V)
   gone = inner m h (join l (child b (leaf (leaf_name n) (pair_of x)) r))
 
@@ -147,7 +152,9 @@ module _ {K V : Type 0} {bytes : K × V → List ℕ} {P : ℕ} {s t : Nodes K V
     where
       go : (w : Tree OpaqueNodePtr (K × V)) → Holds (node_at s) w → IsIn k (rewritten w) → (k.kind ≢ Leaf) × (get s.inners (as_inner k) ≢ None)
       go (leaf j y) e i = absurd i
-      go (inner j head cs) holds (inl e) = let (off, node, got, head, kids) = inner_at s j head (slots_of cs) holds.0 in subst (λ (z : OpaqueNodePtr). (z.kind ≢ Leaf) × (get s.inners (as_inner z) ≢ None)) e (off, λ f. absurd (cc (got, f)))
+      go (inner j head cs) holds (inl e) =
+          let (off, node, got, head, kids) = inner_at s j head (slots_of cs) holds.0 in subst
+          (λ (z : OpaqueNodePtr). (z.kind ≢ Leaf) × (get s.inners (as_inner z) ≢ None)) e (off, λ f. absurd (cc (got, f)))
       go (inner j head cs) holds (inr i) = absurd i
 
   middle_elsewhere : (k : OpaqueNodePtr) → k ≢ m → (IsIn k (rewritten v) → ⊥) → get middle (as_inner k) ≡ get s.inners (as_inner k)
@@ -158,7 +165,8 @@ module _ {K V : Type 0} {bytes : K × V → List ℕ} {P : ℕ} {s t : Nodes K V
 
       go : (w : Tree OpaqueNodePtr (K × V)) (prefix : List ℕ) → (IsIn k (rewritten w) → ⊥) → get (prefix_written P prefix w (remove s.inners (as_inner m))) (as_inner k) ≡ get s.inners (as_inner k)
       go (leaf j y) prefix f = without
-      go (inner j head cs) prefix f = inner_changed_elsewhere (remove s.inners (as_inner m)) (as_inner j) (as_inner k) (with_header (nodes.header_of P prefix)) (λ e. f (inl (sym (inner_name_one k j e)))) ∙ without
+      go (inner j head cs) prefix f =
+          inner_changed_elsewhere (remove s.inners (as_inner m)) (as_inner j) (as_inner k) (with_header (nodes.header_of P prefix)) (λ e. f (inl (sym (inner_name_one k j e)))) ∙ without
 
   -- the parent is still as it was then
   pub above_same : (k : OpaqueNodePtr) → IsParent fs k → get middle (as_inner k) ≡ get s.inners (as_inner k)
@@ -173,24 +181,30 @@ module _ {K V : Type 0} {bytes : K × V → List ℕ} {P : ℕ} {s t : Nodes K V
   same : SameBut (node_at s) (node_at t) fs (rewritten v ++ m ∷ leaf_name n ∷ [])
   same = same_but s t fs (rewritten v ++ m ∷ leaf_name n ∷ [])
       (λ p i used. taken_pairs old.holds old.distinct old.linked is.taken p (λ e. i (in_right (leaf_name p) (rewritten v) (m ∷ leaf_name n ∷ []) (inr (inl (ap leaf_name (sym e)))))))
-      (λ k kind up i used. inners_elsewhere k up ∙ middle_elsewhere k (λ e. i (in_right k (rewritten v) (m ∷ leaf_name n ∷ []) (inl (sym e)))) (λ j. i (in_left k (rewritten v) (m ∷ leaf_name n ∷ []) j)))
+      (λ k kind up i used. inners_elsewhere k up ∙ middle_elsewhere k (λ e. i (in_right k (rewritten v) (m ∷ leaf_name n ∷ []) (inl (sym e))))
+      (λ j. i (in_left k (rewritten v) (m ∷ leaf_name n ∷ []) j)))
 
   -- ---- the child that is left
 
-  removed : NodeRemoved bytes P (node_at s) (node_at t) (links_at s) (links_at t) fs place m (leaf_name n) h l r b c (pair_of x) v (with_prefix P (is.hole.radix.0 ++ c ∷ prefix_at bytes P ((place ++ is.hole.radix.0) ++ c ∷ []) v is.radix) v)
+  removed : NodeRemoved bytes P (node_at s) (node_at t) (links_at s) (links_at t) fs place m (leaf_name n) h l r b c (pair_of x) v
+      (with_prefix P (is.hole.radix.0 ++ c ∷ prefix_at bytes P ((place ++ is.hole.radix.0) ++ c ∷ []) v is.radix) v)
   removed = go v is.one is.radix v_held (off_node (name_of v) (own_name v)) (inners_elsewhere (name_of v) (off_parent (name_of v) (inr (left_in (name_of v) (own_name v))))) parent_has same
     where
       relinked : Relinked (links_at s) (links_at t) (leaves_before fs ++ leaf_names_below l) [] (leaf_names_below r ++ leaves_after fs)
       relinked = taken_relinked old.holds old.distinct old.linked is.taken
 
       shown : {kind other : NodeType} {slots rest : List (ℕ × OpaqueNodePtr)} (prefix : List ℕ) → kind ≡ other → slots ≡ rest →
-          ◌≡◌ {A = Option (Node OpaqueNodePtr (K × V))} (Some (inner_node (record { kind = kind; length_of = length prefix; stored = take P prefix }) slots)) (Some (inner_node (record { kind = other; length_of = length prefix; stored = take P prefix }) rest))
+          ◌≡◌ {A = Option (Node OpaqueNodePtr (K × V))} (Some
+          (inner_node (record { kind = kind; length_of = length prefix; stored = take P prefix }) slots))
+          (Some (inner_node (record { kind = other; length_of = length prefix; stored = take P prefix }) rest))
       shown prefix a e = cc
 
       go : (w : Tree OpaqueNodePtr (K × V)) (one : join l r ≡ child c w no_child) (radix : IsRadix bytes P ((place ++ is.hole.radix.0) ++ c ∷ []) w) → Holds (node_at s) w → name_of w ≢ m →
-          get t.inners (as_inner (name_of w)) ≡ get (prefix_written P (is.hole.radix.0 ++ c ∷ prefix_at bytes P ((place ++ is.hole.radix.0) ++ c ∷ []) w radix) w (remove s.inners (as_inner m))) (as_inner (name_of w)) →
+          get t.inners (as_inner (name_of w)) ≡ get (prefix_written P
+          (is.hole.radix.0 ++ c ∷ prefix_at bytes P ((place ++ is.hole.radix.0) ++ c ∷ []) w radix) w (remove s.inners (as_inner m))) (as_inner (name_of w)) →
           ParentHas (node_at t) fs (name_of w) → SameBut (node_at s) (node_at t) fs (rewritten w ++ m ∷ leaf_name n ∷ []) →
-          NodeRemoved bytes P (node_at s) (node_at t) (links_at s) (links_at t) fs place m (leaf_name n) h l r b c (pair_of x) w (with_prefix P (is.hole.radix.0 ++ c ∷ prefix_at bytes P ((place ++ is.hole.radix.0) ++ c ∷ []) w radix) w)
+          NodeRemoved bytes P (node_at s) (node_at t) (links_at s) (links_at t) fs place m (leaf_name n) h l r b c (pair_of x) w
+          (with_prefix P (is.hole.radix.0 ++ c ∷ prefix_at bytes P ((place ++ is.hole.radix.0) ++ c ∷ []) w radix) w)
       go (leaf k y) one radix holds apart new has same = raised_leaf old is.hole relinked c k y one has same
       go (inner k head cs) one radix holds apart new has same =
           let prefix = is.hole.radix.0 ++ c ∷ radix.0 in
@@ -198,11 +212,15 @@ module _ {K V : Type 0} {bytes : K × V → List ℕ} {P : ℕ} {s t : Nodes K V
           let there : get t.inners (as_inner k) ≡ Some (with_header (nodes.header_of P prefix) node) =
           new ∙ inner_changed_at (remove s.inners (as_inner m)) (as_inner k) (with_header (nodes.header_of P prefix))
           ∙ ap (option_map (with_header (nodes.header_of P prefix))) (inner_gone_elsewhere s.inners (as_inner m) (as_inner k) (λ e. apart (inner_name_one k m e)) ∙ got) in
-          merged_node old is.hole relinked c k head cs one radix (node_at-inner t k off (Some (with_header (nodes.header_of P prefix) node)) there ∙ shown prefix (ap (λ z. z.kind) (head_is ∙ radix.1)) kids) has same
+          merged_node old is.hole relinked c k head cs one radix (node_at-inner t k off (Some (with_header (nodes.header_of P prefix) node)) there ∙
+          shown prefix (ap (λ z. z.kind) (head_is ∙ radix.1)) kids) has same
 
   -- the root is canonical for the pairs without the key
-  pub compressed : IsLaidOut bytes P (node_at t) (links_at t) (root_with fs root (name_of v)) (remove_key bytes (bytes (pair_of x)) pairs) (plug fs (with_prefix P (is.hole.radix.0 ++ c ∷ prefix_at bytes P ((place ++ is.hole.radix.0) ++ c ∷ []) v is.radix) v))
-  compressed = subst (λ k. IsLaidOut bytes P (node_at t) (links_at t) (root_with fs root k) (remove_key bytes (bytes (pair_of x)) pairs) (plug fs (with_prefix P (is.hole.radix.0 ++ c ∷ prefix_at bytes P ((place ++ is.hole.radix.0) ++ c ∷ []) v is.radix) v)))
+  pub compressed : IsLaidOut bytes P (node_at t) (links_at t) (root_with fs root (name_of v)) (remove_key bytes (bytes (pair_of x)) pairs)
+      (plug fs (with_prefix P (is.hole.radix.0 ++ c ∷ prefix_at bytes P ((place ++ is.hole.radix.0) ++ c ∷ []) v is.radix) v))
+  compressed =
+      subst (λ k. IsLaidOut bytes P (node_at t) (links_at t) (root_with fs root k) (remove_key bytes (bytes (pair_of x)) pairs)
+      (plug fs (with_prefix P (is.hole.radix.0 ++ c ∷ prefix_at bytes P ((place ++ is.hole.radix.0) ++ c ∷ []) v is.radix) v)))
       (name_of-with_prefix P (is.hole.radix.0 ++ c ∷ prefix_at bytes P ((place ++ is.hole.radix.0) ++ c ∷ []) v is.radix) v) (node_removed old removed)
 
   -- ---- what is touched
@@ -245,11 +263,15 @@ module _ {K V : Type 0} {bytes : K × V → List ℕ} {P : ℕ} {s t : Nodes K V
         new_comes = λ k i. inl (inr (left_in k (subst (IsIn k) removed.same_names i)));
       })
       (both_in (names_of (plug fs gone)) (listed x.next ++ (listed x.previous ++ [])) (parents fs ++ map as_inner (rewritten v)) (beside_in old.holds old.linked is.taken.among)
-      (parents_in fs gone (map as_inner (rewritten v)) (λ p i. each_in (λ q. IsIn (inner_name q) (names_of gone)) p (map as_inner (rewritten v)) (rewritten_each (λ q. IsIn (inner_name q) (names_of gone)) v (λ k j. inr (left_in k (rewritten_in v k j)))) i)))
+      (parents_in fs gone (map as_inner (rewritten v)) (λ p i. each_in (λ q. IsIn (inner_name q) (names_of gone)) p (map as_inner (rewritten v))
+      (rewritten_each (λ q. IsIn (inner_name q) (names_of gone)) v (λ k j. inr (left_in k (rewritten_in v k j)))) i)))
     where
       kept : Tree OpaqueNodePtr (K × V)
       kept = with_prefix P (is.hole.radix.0 ++ c ∷ prefix_at bytes P ((place ++ is.hole.radix.0) ++ c ∷ []) v is.radix) v
 
   -- and the rest stays
-  pub compressed_in_place : ChangesInPlace bytes s t (Some (plug fs (inner m h (join l (child b (leaf (leaf_name n) (pair_of x)) r))))) (Some (plug fs (with_prefix P (is.hole.radix.0 ++ c ∷ prefix_at bytes P ((place ++ is.hole.radix.0) ++ c ∷ []) v is.radix) v)))
-  compressed_in_place = in_place (footprint_of s t (taken_touched old.holds old.distinct old.linked is.taken) touched_inners tt (node_there.0, tt) inner_kinds) P names_are (node_removed_keeps_leaves old removed) (node_removed_keeps old removed)
+  pub compressed_in_place : ChangesInPlace bytes s t (Some (plug fs (inner m h (join l (child b (leaf (leaf_name n) (pair_of x)) r)))))
+      (Some (plug fs (with_prefix P (is.hole.radix.0 ++ c ∷ prefix_at bytes P ((place ++ is.hole.radix.0) ++ c ∷ []) v is.radix) v)))
+  compressed_in_place =
+      in_place (footprint_of s t (taken_touched old.holds old.distinct old.linked is.taken) touched_inners tt (node_there.0, tt) inner_kinds) P
+      names_are (node_removed_keeps_leaves old removed) (node_removed_keeps old removed)

@@ -62,13 +62,24 @@ module _ {N A : Type 0} (IsClone : A → A → Type 0) where
       copied_radix_below no_child no_child front h r = tt
       copied_radix_below no_child (child c u ds) front h r = absurd h
       copied_radix_below (child b t cs) no_child front h r = absurd h
-      copied_radix_below (child b t cs) (child c u ds) front (e, f, h) r = (subst (λ z. IsRadix bytes P (front ++ z ∷ []) u) (sym e) (copied_radix t u (front ++ b ∷ []) f r.0), copied_radix_below cs ds front h r.1)
+      copied_radix_below (child b t cs) (child c u ds) front (e, f, h) r =
+          (subst (λ z. IsRadix bytes P (front ++ z ∷ []) u) (sym e) (copied_radix t u (front ++ b ∷ []) f r.0), copied_radix_below cs ds front h r.1)
 
-module _ {K V : Type 0} (IsClone : K × V → K × V → Type 0) (bytes : K × V → List ℕ) (P : ℕ) (keep : (x y : K × V) → IsClone x y → bytes y ≡ bytes x) {s old new : Nodes K V} {root : OpaqueNodePtr} {pairs : List (K × V)} {layout : Tree OpaqueNodePtr (K × V)} where
+module _ {K V : Type 0} (IsClone : K × V → K × V → Type 0) (bytes : K × V → List ℕ) (P : ℕ) (keep : (x y : K × V) → IsClone x y → bytes y ≡ bytes x)
+    {s old new : Nodes K V} {root : OpaqueNodePtr} {pairs : List (K × V)} {layout : Tree OpaqueNodePtr (K × V)} where
   -- a gained copy of a canonical tree is canonical for clones of its pairs
-  pub copied_tree : (copy : Tree OpaqueNodePtr (K × V)) → IsTree bytes P s root pairs layout → IsCopy IsClone layout copy → Gains old new copy → AllZip IsClone pairs (pairs_of copy) × IsTree bytes P new (name_of copy) (pairs_of copy) copy
+  pub copied_tree : (copy : Tree OpaqueNodePtr (K × V)) → IsTree bytes P s root pairs layout → IsCopy IsClone layout copy → Gains old new copy →
+      AllZip IsClone pairs (pairs_of copy) × IsTree bytes P new (name_of copy) (pairs_of copy) copy
   copied_tree copy is same gains =
       let (radix, pairs_are) = tree_radix is in (
         subst (λ z. AllZip IsClone z (pairs_of copy)) pairs_are (copied_pairs IsClone layout copy same),
-        canonical_from (record { named = refl; radix = copied_radix IsClone bytes P keep layout copy [] same radix; pairs_are = refl; holds = gains.holds; distinct = gains.distinct; linked = gains.linked }),
+        canonical_from (record {
+          named = refl;
+          radix = copied_radix IsClone bytes P keep layout copy [] same radix;
+          pairs_are = refl;
+          holds
+              = gains.holds;
+          distinct = gains.distinct;
+          linked = gains.linked;
+        }),
       )

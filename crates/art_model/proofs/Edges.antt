@@ -62,7 +62,8 @@ module _ {N A : Type 0} where
       let is : ◌≡◌ {A = ℕ × N} (b, name_of t) r = cc in
       (t, cs, ap (λ z. child z t cs) (ap (λ p. p.0) is), ap (λ p. p.1) is)
 
-  pub last_child : (cs : Children N A) (r : ℕ × N) → slice_get (slots_of cs) (length (slots_of cs) - 1) ≡ Some r → (ds : Children N A) × (t : Tree N A) × (cs ≡ join ds (child r.0 t no_child)) × (name_of t ≡ r.1)
+  pub last_child : (cs : Children N A) (r : ℕ × N) → slice_get (slots_of cs) (length (slots_of cs) - 1) ≡ Some r → (ds : Children N A) ×
+      (t : Tree N A) × (cs ≡ join ds (child r.0 t no_child)) × (name_of t ≡ r.1)
   last_child no_child r e = absurd cc
   last_child (child b t no_child) r e =
       let is : ◌≡◌ {A = ℕ × N} (b, name_of t) r = cc in
@@ -119,7 +120,8 @@ module _ {K V : Type 0} (side : List (Frame OpaqueNodePtr (K × V)) → Type 0) 
           rw at.slots (let l = full.0 in omega arith)
 
       -- below one of the children, along any side that its frame keeps to
-      pub edge_down : (next : List (Frame OpaqueNodePtr (K × V)) → Type 0) (l : Children OpaqueNodePtr (K × V)) (b : ℕ) (t : Tree OpaqueNodePtr (K × V)) (r : Children OpaqueNodePtr (K × V)) {to : OpaqueNodePtr} → at.children ≡ join l (child b t r) → name_of t ≡ to →
+      pub edge_down : (next : List (Frame OpaqueNodePtr (K × V)) → Type 0) (l : Children OpaqueNodePtr (K × V)) (b : ℕ)
+          (t : Tree OpaqueNodePtr (K × V)) (r : Children OpaqueNodePtr (K × V)) {to : OpaqueNodePtr} → at.children ≡ join l (child b t r) → name_of t ≡ to →
           next (record { mark = inner_name p; header = header_at p.kind shown; left = l; byte = b; right = r } ∷ d.path) →
           IsAtEdge next s tree to × (height (node_at s) (map.len s.inners) to < height (node_at s) (map.len s.inners) name)
       edge_down next l b t r {to} split named along =
@@ -127,11 +129,13 @@ module _ {K V : Type 0} (side : List (Frame OpaqueNodePtr (K × V)) → Type 0) 
           let held = subst (Holds (node_at s)) is d.holds in
           let below = HoldsBelow-right (node_at s) l (child b t r) held.1 in
           let full = subst (HaveChildren 1) is d.full in
-          let tall : height (node_at s) (map.len s.inners) name ≡ tree_height d.node = ap (height (node_at s) (map.len s.inners)) (sym d.named) ∙ height_is (node_at s) d.node (map.len s.inners) d.holds d.enough in
+          let tall : height (node_at s) (map.len s.inners) name ≡ tree_height d.node =
+          ap (height (node_at s) (map.len s.inners)) (sym d.named) ∙ height_is (node_at s) d.node (map.len s.inners) d.holds d.enough in
           let node_tall = ap tree_height is in
           let child_tall = height_join l (child b t r) in
           let enough = d.enough in
-          let short : height (node_at s) (map.len s.inners) to ≡ tree_height t = ap (height (node_at s) (map.len s.inners)) (sym named) ∙ height_is (node_at s) t (map.len s.inners) below.0 (omega arith) in (
+          let short : height (node_at s) (map.len s.inners) to ≡ tree_height t =
+          ap (height (node_at s) (map.len s.inners)) (sym named) ∙ height_is (node_at s) t (map.len s.inners) below.0 (omega arith) in (
             record {
               path = record { mark = inner_name p; header = header_at p.kind shown; left = l; byte = b; right = r } ∷ d.path;
               node = t;
@@ -146,13 +150,20 @@ module _ {K V : Type 0} (side : List (Frame OpaqueNodePtr (K × V)) → Type 0) 
           )
 
 -- at a leaf the way ends
-module _ {K V : Type 0} {side : List (Frame OpaqueNodePtr (K × V)) → Type 0} {s : Nodes K V} {tree : Tree OpaqueNodePtr (K × V)} {name : OpaqueNodePtr} {p : LeafPtr} (is : leaf_name p ≡ name) (d : IsAtEdge side s tree name) where
+module _ {K V : Type 0} {side : List (Frame OpaqueNodePtr (K × V)) → Type 0} {s : Nodes K V} {tree : Tree OpaqueNodePtr (K × V)}
+    {name : OpaqueNodePtr} {p : LeafPtr} (is : leaf_name p ≡ name) (d : IsAtEdge side s tree name) where
   pub first_leaf : AreFirst d.path → (first_of (leaf_names tree) ≡ Some (leaf_name p)) × ((x : K × V) × (first_of (pairs_of tree) ≡ Some x) × (plug d.path (leaf (leaf_name p) x) ≡ tree))
   first_leaf first =
       let (x, at) = leaf_named s p d.node (d.named ∙ sym is) d.holds in
       let whole = ap (plug d.path) (sym at) ∙ d.whole in (
-        ap (λ t. first_of (leaf_names t)) (sym whole) ∙ ap first_of (leaf_names-plug d.path (leaf (leaf_name p) x)) ∙ ap (λ ns. first_of (ns ++ leaf_name p ∷ [] ++ leaves_after d.path)) (no_leaves_before d.path first),
-        (x, ap (λ t. first_of (pairs_of t)) (sym whole) ∙ ap first_of (pairs_of-plug d.path (leaf (leaf_name p) x)) ∙ ap (λ xs. first_of (xs ++ x ∷ [] ++ pairs_after d.path)) (no_pairs_before d.path first), whole),
+        ap (λ t. first_of (leaf_names t)) (sym whole) ∙ ap first_of (leaf_names-plug d.path (leaf (leaf_name p) x)) ∙
+            ap (λ ns. first_of (ns ++ leaf_name p ∷ [] ++ leaves_after d.path)) (no_leaves_before d.path first),
+        (
+          x,
+          ap (λ t. first_of (pairs_of t)) (sym whole) ∙ ap first_of (pairs_of-plug d.path (leaf (leaf_name p) x)) ∙
+              ap (λ xs. first_of (xs ++ x ∷ [] ++ pairs_after d.path)) (no_pairs_before d.path first),
+          whole,
+        ),
       )
 
   pub last_leaf : AreLast d.path → (last_of (leaf_names tree) ≡ Some (leaf_name p)) × ((x : K × V) × (last_of (pairs_of tree) ≡ Some x) × (plug d.path (leaf (leaf_name p) x) ≡ tree))

@@ -22,9 +22,13 @@ nothing_beside None e = refl
 nothing_beside (Some p) e = absurd cc
 
 module _ {K V : Type 0} {bytes : K × V → List ℕ} {P : ℕ} {s t : Nodes K V} {root : OpaqueNodePtr} {pairs : List (K × V)} {n : LeafPtr} {x : LeafNode K V}
-    (old : IsLaidOut bytes P (node_at s) (links_at s) root pairs (leaf (leaf_name n) (pair_of x))) (taken : LeafTaken s t (leaf (leaf_name n) (pair_of x)) [] [] n x) (inners : t.inners ≡ s.inners) where
+    (old : IsLaidOut bytes P (node_at s) (links_at s) root pairs (leaf (leaf_name n) (pair_of x)))
+    (taken : LeafTaken s t (leaf (leaf_name n) (pair_of x)) [] [] n x) (inners : t.inners ≡ s.inners) where
   touched_leaves : Touched s.leaves t.leaves [] (n ∷ []) []
-  touched_leaves = subst (Touched s.leaves t.leaves [] (n ∷ [])) (ap₂ (λ (a b : List LeafPtr). a ++ (b ++ [])) (nothing_beside x.next (next_is old.holds old.linked taken.among)) (nothing_beside x.previous (previous_is old.holds old.linked taken.among))) (taken_touched old.holds old.distinct old.linked taken)
+  touched_leaves =
+      subst (Touched s.leaves t.leaves [] (n ∷ [])) (ap₂ (λ (a b : List LeafPtr). a ++ (b ++ []))
+      (nothing_beside x.next (next_is old.holds old.linked taken.among)) (nothing_beside x.previous (previous_is old.holds old.linked taken.among)))
+      (taken_touched old.holds old.distinct old.linked taken)
 
   touched_inners : Touched s.inners t.inners [] [] []
   touched_inners = subst (λ z. Touched s.inners z [] [] []) (sym inners) (touched_none s.inners)

@@ -77,16 +77,19 @@ module _ {A : Type 0} (at : OpaqueNodePtr → Option (Node OpaqueNodePtr A)) whe
     below_held (child b t cs) h = Each-append IsHeldAs (leaves_of t) (leaves_below cs) (leaves_held t h.0) (below_held cs h.1)
 
   mutual
-    leaf_split : (t : Tree OpaqueNodePtr A) (k : OpaqueNodePtr) (x : A) → Holds at t → IsIn k (names_of t) → at k ≡ Some (leaf_node x) → (before after : List (A × OpaqueNodePtr)) × (leaves_of t ≡ before ++ (x, k) ∷ after)
+    leaf_split : (t : Tree OpaqueNodePtr A) (k : OpaqueNodePtr) (x : A) → Holds at t → IsIn k (names_of t) → at k ≡ Some (leaf_node x) →
+        (before after : List (A × OpaqueNodePtr)) × (leaves_of t ≡ before ++ (x, k) ∷ after)
     leaf_split (leaf n y) k x holds (inl e) there = let f = ap at e in let same : y ≡ x = cc in ([], [], ap₂ (λ z m. (z, m) ∷ []) same e)
     leaf_split (leaf n y) k x holds (inr i) there = absurd i
     leaf_split (inner n h cs) k x holds (inl e) there = let f = ap at e in let g = holds.0 in absurd cc
     leaf_split (inner n h cs) k x holds (inr i) there = below_split cs k x holds.1 i there
 
-    below_split : (cs : Children OpaqueNodePtr A) (k : OpaqueNodePtr) (x : A) → HoldsBelow at cs → IsIn k (names_below cs) → at k ≡ Some (leaf_node x) → (before after : List (A × OpaqueNodePtr)) × (leaves_below cs ≡ before ++ (x, k) ∷ after)
+    below_split : (cs : Children OpaqueNodePtr A) (k : OpaqueNodePtr) (x : A) → HoldsBelow at cs → IsIn k (names_below cs) →
+        at k ≡ Some (leaf_node x) → (before after : List (A × OpaqueNodePtr)) × (leaves_below cs ≡ before ++ (x, k) ∷ after)
     below_split no_child k x holds i there = absurd i
     below_split (child b t cs) k x holds i there = elim (in_either k (names_of t) (names_below cs) i) [
-      | inl j ↦ let (before, after, e) = leaf_split t k x holds.0 j there in (before, after ++ leaves_below cs, ap (λ l. l ++ leaves_below cs) e ∙ append_assoc before ((x, k) ∷ after) (leaves_below cs))
+      | inl j ↦ let (before, after, e) =
+          leaf_split t k x holds.0 j there in (before, after ++ leaves_below cs, ap (λ l. l ++ leaves_below cs) e ∙ append_assoc before ((x, k) ∷ after) (leaves_below cs))
       | inr j ↦ let (before, after, e) = below_split cs k x holds.1 j there in (leaves_of t ++ before, after, ap (λ l. leaves_of t ++ l) e ∙ sym (append_assoc (leaves_of t) before ((x, k) ∷ after)))
     ]
 
@@ -126,7 +129,8 @@ module _ {A : Type 0} where
       radix : IsRadix bytes P (front ++ step.0 ∷ []) tree
       apart : AreDistinct (names_below cs) → AreDistinct (names_of tree)
 
-    first_step : (n : OpaqueNodePtr) (h : Header) (cs : Children OpaqueNodePtr A) (place : List ℕ) (step : ℕ × OpaqueNodePtr) → Holds at (inner n h cs) → (radix : IsRadix bytes P place (inner n h cs)) → HasChild at n step → IsFirst cs (place ++ radix.0) step
+    first_step : (n : OpaqueNodePtr) (h : Header) (cs : Children OpaqueNodePtr A) (place : List ℕ) (step : ℕ × OpaqueNodePtr) →
+        Holds at (inner n h cs) → (radix : IsRadix bytes P place (inner n h cs)) → HasChild at n step → IsFirst cs (place ++ radix.0) step
     first_step n h cs place step holds radix (k, slots, there, under) =
         let f = holds.0 in
         let same : slots ≡ slots_of cs = cc in
@@ -141,49 +145,62 @@ module _ {A : Type 0} where
           named = c.named;
           holds = held.0;
           radix = below.0;
-          apart = λ d. Pairwise-left ◌≢◌ (names_of c.tree) (names_below c.right) (Pairwise-right ◌≢◌ (names_below c.left) (names_below (child step.0 c.tree c.right)) (subst AreDistinct (ap names_below c.whole ∙ names_below-join c.left (child step.0 c.tree c.right)) d));
+          apart = λ d. Pairwise-left ◌≢◌ (names_of c.tree) (names_below c.right)
+              (Pairwise-right ◌≢◌ (names_below c.left) (names_below (child step.0 c.tree c.right))
+              (subst AreDistinct (ap names_below c.whole ∙ names_below-join c.left (child step.0 c.tree c.right)) d));
         }
 
     -- a trail ends in the tree
-    trail_in : (t : Tree OpaqueNodePtr A) (place : List ℕ) (steps : List (ℕ × OpaqueNodePtr)) → Holds at t → IsRadix bytes P place t → IsTrail at (name_of t) steps → IsIn (end_of (name_of t) steps) (names_of t)
+    trail_in : (t : Tree OpaqueNodePtr A) (place : List ℕ) (steps : List (ℕ × OpaqueNodePtr)) → Holds at t → IsRadix bytes P place t →
+        IsTrail at (name_of t) steps → IsIn (end_of (name_of t) steps) (names_of t)
     trail_in (leaf n x) place [] holds radix trail = inl refl
     trail_in (inner n h cs) place [] holds radix trail = inl refl
     trail_in (leaf n x) place (s ∷ ss) holds radix ((h, slots, there, under), trail) = absurd cc
     trail_in (inner n h cs) place (s ∷ ss) holds radix trail =
         let c = first_step n h cs place s holds radix trail.0 in
         let i = trail_in c.tree ((place ++ radix.0) ++ s.0 ∷ []) ss c.holds c.radix (subst (λ m. IsTrail at m ss) (sym c.named) trail.1) in
-        inr (under_below cs s.0 (end_of s.1 ss) (subst (IsUnderByte s.0 (end_of s.1 ss)) (sym c.whole) (under_there c.left s.0 c.tree c.right (end_of s.1 ss) (subst (λ m. IsIn (end_of m ss) (names_of c.tree)) c.named i))))
+        inr (under_below cs s.0 (end_of s.1 ss) (subst (IsUnderByte s.0 (end_of s.1 ss)) (sym c.whole)
+        (under_there c.left s.0 c.tree c.right (end_of s.1 ss) (subst (λ m. IsIn (end_of m ss) (names_of c.tree)) c.named i))))
 
     -- below an inner node, under the byte of its first step
-    trail_under : (n : OpaqueNodePtr) (h : Header) (cs : Children OpaqueNodePtr A) (place : List ℕ) (s : ℕ × OpaqueNodePtr) (ss : List (ℕ × OpaqueNodePtr)) → Holds at (inner n h cs) → IsRadix bytes P place (inner n h cs) → IsTrail at n (s ∷ ss) → IsUnderByte s.0 (end_of s.1 ss) cs
+    trail_under : (n : OpaqueNodePtr) (h : Header) (cs : Children OpaqueNodePtr A) (place : List ℕ) (s : ℕ × OpaqueNodePtr)
+        (ss : List (ℕ × OpaqueNodePtr)) → Holds at (inner n h cs) → IsRadix bytes P place (inner n h cs) → IsTrail at n (s ∷ ss) → IsUnderByte s.0 (end_of s.1 ss) cs
     trail_under n h cs place s ss holds radix trail =
         let c = first_step n h cs place s holds radix trail.0 in
         let i = trail_in c.tree ((place ++ radix.0) ++ s.0 ∷ []) ss c.holds c.radix (subst (λ m. IsTrail at m ss) (sym c.named) trail.1) in
         subst (IsUnderByte s.0 (end_of s.1 ss)) (sym c.whole) (under_there c.left s.0 c.tree c.right (end_of s.1 ss) (subst (λ m. IsIn (end_of m ss) (names_of c.tree)) c.named i))
 
     -- trails in a tree that end at one name have one way
-    one_way : (t : Tree OpaqueNodePtr A) (place : List ℕ) (steps others : List (ℕ × OpaqueNodePtr)) → Holds at t → IsRadix bytes P place t → AreDistinct (names_of t) → IsTrail at (name_of t) steps → IsTrail at (name_of t) others → end_of (name_of t) steps ≡ end_of (name_of t) others → way_of steps ≡ way_of others
+    one_way : (t : Tree OpaqueNodePtr A) (place : List ℕ) (steps others : List (ℕ × OpaqueNodePtr)) → Holds at t → IsRadix bytes P place t →
+        AreDistinct (names_of t) → IsTrail at (name_of t) steps → IsTrail at (name_of t) others → end_of (name_of t) steps ≡ end_of (name_of t) others → way_of steps ≡ way_of others
     one_way t place [] [] holds radix apart one two e = refl
     one_way (leaf n x) place (s ∷ ss) others holds radix apart ((h, slots, there, under), trail) two e = absurd cc
     one_way (leaf n x) place [] (o ∷ os) holds radix apart one ((h, slots, there, under), trail) e = absurd cc
-    one_way (inner n h cs) place [] (o ∷ os) holds radix apart one two e = absurd (each_in (λ k. n ≢ k) (end_of o.1 os) (names_below cs) apart.0 (under_below cs o.0 (end_of o.1 os) (trail_under n h cs place o os holds radix two)) e)
-    one_way (inner n h cs) place (s ∷ ss) [] holds radix apart one two e = absurd (each_in (λ k. n ≢ k) (end_of s.1 ss) (names_below cs) apart.0 (under_below cs s.0 (end_of s.1 ss) (trail_under n h cs place s ss holds radix one)) (sym e))
+    one_way (inner n h cs) place [] (o ∷ os) holds radix apart one two e =
+        absurd (each_in (λ k. n ≢ k) (end_of o.1 os) (names_below cs) apart.0 (under_below cs o.0 (end_of o.1 os) (trail_under n h cs place o os holds radix two)) e)
+    one_way (inner n h cs) place (s ∷ ss) [] holds radix apart one two e =
+        absurd (each_in (λ k. n ≢ k) (end_of s.1 ss) (names_below cs) apart.0 (under_below cs s.0 (end_of s.1 ss) (trail_under n h cs place s ss holds radix one)) (sym e))
     one_way (inner n h cs) place (s ∷ ss) (o ∷ os) holds radix apart one two e =
-        let byte : s.0 ≡ o.0 = one_byte cs s.0 o.0 (end_of s.1 ss) apart.1 (trail_under n h cs place s ss holds radix one) (subst (λ k. IsUnderByte o.0 k cs) (sym e) (trail_under n h cs place o os holds radix two)) in
+        let byte : s.0 ≡ o.0 =
+        one_byte cs s.0 o.0 (end_of s.1 ss) apart.1 (trail_under n h cs place s ss holds radix one) (subst (λ k. IsUnderByte o.0 k cs) (sym e) (trail_under n h cs place o os holds radix two)) in
         let c = first_step n h cs place s holds radix one.0 in
         let (k, slots, there, under) = one.0 in
         let (l, more, here, beside) = two.0 in
         let slots_are : more ≡ slots = cc in
         let same : o.1 ≡ s.1 = let z = sym beside ∙ ap₂ child_at slots_are (sym byte) ∙ under in cc in
-        let rest = one_way c.tree ((place ++ radix.0) ++ s.0 ∷ []) ss os c.holds c.radix (c.apart apart.1) (subst (λ m. IsTrail at m ss) (sym c.named) one.1) (subst (λ m. IsTrail at m os) (same ∙ sym c.named) two.1) (ap (λ m. end_of m ss) c.named ∙ e ∙ ap (λ m. end_of m os) (same ∙ sym c.named)) in
+        let rest =
+        one_way c.tree ((place ++ radix.0) ++ s.0 ∷ []) ss os c.holds c.radix (c.apart apart.1) (subst (λ m. IsTrail at m ss) (sym c.named) one.1)
+        (subst (λ m. IsTrail at m os) (same ∙ sym c.named) two.1) (ap (λ m. end_of m ss) c.named ∙ e ∙ ap (λ m. end_of m os) (same ∙ sym c.named)) in
         ap₂ (λ b w. b ∷ w) byte rest
 
-module _ {K V : Type 0} (bytes : K × V → List ℕ) (P : ℕ) (s : Nodes K V) (root : OpaqueNodePtr) (pairs : List (K × V)) (layout : Tree OpaqueNodePtr (K × V)) (laid : IsLaidOut bytes P (node_at s) (links_at s) root pairs layout) where
+module _ {K V : Type 0} (bytes : K × V → List ℕ) (P : ℕ) (s : Nodes K V) (root : OpaqueNodePtr) (pairs : List (K × V))
+    (layout : Tree OpaqueNodePtr (K × V)) (laid : IsLaidOut bytes P (node_at s) (links_at s) root pairs layout) where
   -- what is reached is a part of the tree, at its place
   pub reached_sub : {place : List ℕ} {name : OpaqueNodePtr} → Reaches bytes P s root place name → IsSub (node_at s) bytes P layout place name
   reached_sub {place} {name} reach =
       subst (IsSub (node_at s) bytes P layout place) (ap (λ n. end_of n reach.steps) laid.named ∙ reach.ends)
-      (trail_sub (node_at s) bytes P layout [] place reach.steps laid.holds laid.radix (subst (λ n. IsTrail (node_at s) n reach.steps) (sym laid.named) reach.is_trail) (subst (λ n. IsReadAs (node_at s) bytes P [] n reach.steps place) (sym laid.named) reach.is_read))
+      (trail_sub (node_at s) bytes P layout [] place reach.steps laid.holds laid.radix
+      (subst (λ n. IsTrail (node_at s) n reach.steps) (sym laid.named) reach.is_trail) (subst (λ n. IsReadAs (node_at s) bytes P [] n reach.steps place) (sym laid.named) reach.is_read))
 
   pub no_foreign_key : (place key : List ℕ) → HasForeignKey bytes P s root place key → ⊥
   no_foreign_key place key (name, x, (reach, there), is, off) =
@@ -212,7 +229,8 @@ module _ {K V : Type 0} (bytes : K × V → List ℕ) (P : ℕ) (s : Nodes K V) 
       let same : other ≡ layout = has_one_layout (node_at s) root layout other (record { named = laid.named; holds = laid.holds; distinct = laid.distinct }) is in
       let linked = subst (λ ns. AreLinked (links_at s) None ns None) (sym (ap leaf_names same) ∙ names) laid.linked in
       let links = link_of (links_at s) before after name None None linked in
-      let found : Some actual ≡ Some expected = sym own ∙ links ∙ ap₂ (λ p n. let l : Links OpaqueNodePtr = record { previous = p; next = n } in Some l) (last_is before) (first_is after) ∙ ap Some (sym wanted) in
+      let found : Some actual ≡ Some expected =
+      sym own ∙ links ∙ ap₂ (λ p n. let l : Links OpaqueNodePtr = record { previous = p; next = n } in Some l) (last_is before) (first_is after) ∙ ap Some (sym wanted) in
       off cc
 
   -- a node has as many children as its kind has at least
@@ -239,7 +257,8 @@ module _ {K V : Type 0} (bytes : K × V → List ℕ) (P : ℕ) (s : Nodes K V) 
   pub no_unreadable : (place : List ℕ) (name : OpaqueNodePtr) → IsUnreadable bytes P s root place name → ⊥
   no_unreadable place name (h, slots, (reach, there), more, (ns, descent, bad)) =
       let sub = reached_sub reach in
-      go sub.tree sub.named sub.holds sub.radix (sub.apart laid.distinct) (subst (λ n. IsDescent (node_at s) n ns) (sym sub.named) descent) (subst (λ n. EndsBadly bytes P s root n ns (length place + h.length_of)) (sym sub.named) bad)
+      go sub.tree sub.named sub.holds sub.radix (sub.apart laid.distinct) (subst (λ n. IsDescent (node_at s) n ns) (sym sub.named) descent)
+      (subst (λ n. EndsBadly bytes P s root n ns (length place + h.length_of)) (sym sub.named) bad)
     where
       childless : (h : Header) (u : Tree OpaqueNodePtr (K × V)) (deeper : List ℕ) → Holds (node_at s) u → IsRadix bytes P deeper u → node_at s (name_of u) ≡ Some (inner_node h []) → ⊥
       childless h (leaf n x) deeper holds radix e = absurd cc
@@ -250,9 +269,12 @@ module _ {K V : Type 0} (bytes : K × V → List ℕ) (P : ℕ) (s : Nodes K V) 
           let m = sym (length-slots_of cs) ∙ ap length none in
           omega arith
 
-      go : (t : Tree OpaqueNodePtr (K × V)) → name_of t ≡ name → Holds (node_at s) t → IsRadix bytes P place t → AreDistinct (names_of t) → IsDescent (node_at s) (name_of t) ns → EndsBadly bytes P s root (name_of t) ns (length place + h.length_of) → ⊥
-      go t named holds radix apart down (inl gone) = let (deeper, u, is, held, own) = descent_sub (node_at s) bytes P t place ns holds radix down in is_held (node_at s) bytes P u held (ap (node_at s) is ∙ gone)
-      go t named holds radix apart down (inr (inl (k, e))) = let (deeper, u, is, held, own) = descent_sub (node_at s) bytes P t place ns holds radix down in childless k u deeper held own (ap (node_at s) is ∙ e)
+      go : (t : Tree OpaqueNodePtr (K × V)) → name_of t ≡ name → Holds (node_at s) t → IsRadix bytes P place t → AreDistinct (names_of t) →
+          IsDescent (node_at s) (name_of t) ns → EndsBadly bytes P s root (name_of t) ns (length place + h.length_of) → ⊥
+      go t named holds radix apart down (inl gone) =
+          let (deeper, u, is, held, own) = descent_sub (node_at s) bytes P t place ns holds radix down in is_held (node_at s) bytes P u held (ap (node_at s) is ∙ gone)
+      go t named holds radix apart down (inr (inl (k, e))) =
+          let (deeper, u, is, held, own) = descent_sub (node_at s) bytes P t place ns holds radix down in childless k u deeper held own (ap (node_at s) is ∙ e)
       go t named holds radix apart down (inr (inr (inl loop))) = loop (descent_apart (node_at s) bytes P t ns holds apart down)
       go (leaf n y) named holds radix apart down (inr (inr (inr short))) = let e = ap (node_at s) named ∙ there in absurd cc
       go (inner n k cs) named holds radix apart down (inr (inr (inr (x, bottom, short)))) =
@@ -267,13 +289,17 @@ module _ {K V : Type 0} (bytes : K × V → List ℕ) (P : ℕ) (s : Nodes K V) 
 
   -- A sibling that a leaf names is an entry before it or after it.
   abbrev pub IsBeside : K × V → Ordering → OpaqueNodePtr → Type 0
-  IsBeside x order sibling = (e : (K × V) × OpaqueNodePtr) × (e.1 ≡ sibling) × (node_at s e.1 ≡ Some (leaf_node e.0)) × (((order ≡ Less) × Precedes (bytes e.0) (bytes x)) ⊎ ((order ≡ Greater) × Precedes (bytes x) (bytes e.0)))
+  IsBeside x order sibling =
+      (e : (K × V) × OpaqueNodePtr) × (e.1 ≡ sibling) × (node_at s e.1 ≡ Some (leaf_node e.0)) ×
+      (((order ≡ Less) × Precedes (bytes e.0) (bytes x)) ⊎ ((order ≡ Greater) × Precedes (bytes x) (bytes e.0)))
 
-  pub siblings : {place : List ℕ} {name : OpaqueNodePtr} {x : K × V} (order : Ordering) (sibling : OpaqueNodePtr) → Reaches bytes P s root place name → node_at s name ≡ Some (leaf_node x) → HasSibling bytes P s root name order sibling → IsBeside x order sibling
+  pub siblings : {place : List ℕ} {name : OpaqueNodePtr} {x : K × V} (order : Ordering) (sibling : OpaqueNodePtr) →
+      Reaches bytes P s root place name → node_at s name ≡ Some (leaf_node x) → HasSibling bytes P s root name order sibling → IsBeside x order sibling
   siblings {place} {name} {x} order sibling reach there (links, own, side) =
       let sub = reached_sub reach in
       let (before, after, parts) = leaf_split (node_at s) layout name x laid.holds (sub.within name (subst (λ n. IsIn n (names_of sub.tree)) sub.named (own_name sub.tree))) there in
-      let names : leaf_names layout ≡ map (λ e. e.1) before ++ name ∷ map (λ e. e.1) after = sym (leaf_names-leaves layout) ∙ ap (map (λ e. e.1)) parts ∙ map-append (λ e. e.1) before ((x, name) ∷ after) in
+      let names : leaf_names layout ≡ map (λ e. e.1) before ++ name ∷ map (λ e. e.1) after =
+      sym (leaf_names-leaves layout) ∙ ap (map (λ e. e.1)) parts ∙ map-append (λ e. e.1) before ((x, name) ∷ after) in
       let xs : pairs_of layout ≡ map (λ e. e.0) before ++ x ∷ map (λ e. e.0) after = sym (pairs_of-leaves layout) ∙ ap (map (λ e. e.0)) parts ∙ map-append (λ e. e.0) before ((x, name) ∷ after) in
       let linked = link_of (links_at s) (map (λ e. e.1) before) (map (λ e. e.1) after) name None None (subst (λ ns. AreLinked (links_at s) None ns None) names laid.linked) in
       let is : links ≡ record { previous = last_or (map (λ e. e.1) before) None; next = first_or (map (λ e. e.1) after) None } = cc in
@@ -281,11 +307,27 @@ module _ {K V : Type 0} (bytes : K × V → List ℕ) (P : ℕ) (s : Nodes K V) 
       let order_is = subst (IsMap bytes) xs (radix_map bytes P layout [] laid.radix) in
       elim side [
         | inl (o, e) ↦
-            let (k, i, same) = unmapped (λ z. z.1) before sibling (last_in (map (λ z. z.1) before) sibling (sym (ap (λ l. l.previous) is) ∙ e)) in
-            (k, same, each_in (IsHeldAs (node_at s)) k before (Each-left (IsHeldAs (node_at s)) before ((x, name) ∷ after) held) i, inl (o, each_in (λ z. Precedes (bytes z) (bytes x)) k.0 (map (λ z. z.0) before) (Pairwise-before (λ a b. Precedes (bytes a) (bytes b)) (map (λ z. z.0) before) (map (λ z. z.0) after) x order_is) (in_map (λ z. z.0) k before i)))
+            let (k, i, same) = unmapped (λ z. z.1) before sibling (last_in (map (λ z. z.1) before) sibling (sym (ap (λ l. l.previous) is) ∙ e)) in (
+              k,
+              same,
+              each_in (IsHeldAs (node_at s)) k before (Each-left (IsHeldAs (node_at s)) before ((x, name) ∷ after) held) i,
+              inl (
+                o,
+                each_in (λ z. Precedes (bytes z) (bytes x)) k.0 (map (λ z. z.0) before)
+                    (Pairwise-before (λ a b. Precedes (bytes a) (bytes b)) (map (λ z. z.0) before) (map (λ z. z.0) after) x order_is) (in_map (λ z. z.0) k before i),
+              ),
+            )
         | inr (o, e) ↦
-            let (k, i, same) = unmapped (λ z. z.1) after sibling (first_in (map (λ z. z.1) after) sibling (sym (ap (λ l. l.next) is) ∙ e)) in
-            (k, same, each_in (IsHeldAs (node_at s)) k after (Each-right (IsHeldAs (node_at s)) before ((x, name) ∷ after) held).1 i, inr (o, each_in (λ z. Precedes (bytes x) (bytes z)) k.0 (map (λ z. z.0) after) (Pairwise-after (λ a b. Precedes (bytes a) (bytes b)) (map (λ z. z.0) before) (map (λ z. z.0) after) x order_is) (in_map (λ z. z.0) k after i)))
+            let (k, i, same) = unmapped (λ z. z.1) after sibling (first_in (map (λ z. z.1) after) sibling (sym (ap (λ l. l.next) is) ∙ e)) in (
+              k,
+              same,
+              each_in (IsHeldAs (node_at s)) k after (Each-right (IsHeldAs (node_at s)) before ((x, name) ∷ after) held).1 i,
+              inr (
+                o,
+                each_in (λ z. Precedes (bytes x) (bytes z)) k.0 (map (λ z. z.0) after)
+                    (Pairwise-after (λ a b. Precedes (bytes a) (bytes b)) (map (λ z. z.0) before) (map (λ z. z.0) after) x order_is) (in_map (λ z. z.0) k after i),
+              ),
+            )
       ]
     where
       own_name : (t : Tree OpaqueNodePtr (K × V)) → IsIn (name_of t) (names_of t)
@@ -317,7 +359,8 @@ module _ {K V : Type 0} (bytes : K × V → List ℕ) (P : ℕ) (s : Nodes K V) 
 
   pub no_loop : (name : OpaqueNodePtr) (first later : List ℕ) → IsLoop bytes P s root name first later → ⊥
   no_loop name first later (one, other, off) =
-      off (one_way (node_at s) bytes P layout [] one.steps other.steps laid.holds laid.radix laid.distinct (subst (λ n. IsTrail (node_at s) n one.steps) (sym laid.named) one.is_trail) (subst (λ n. IsTrail (node_at s) n other.steps) (sym laid.named) other.is_trail)
+      off (one_way (node_at s) bytes P layout [] one.steps other.steps laid.holds laid.radix laid.distinct
+      (subst (λ n. IsTrail (node_at s) n one.steps) (sym laid.named) one.is_trail) (subst (λ n. IsTrail (node_at s) n other.steps) (sym laid.named) other.is_trail)
       (ap (λ n. end_of n one.steps) laid.named ∙ one.ends ∙ sym other.ends ∙ ap (λ n. end_of n other.steps) (sym laid.named)))
 
   -- of a canonical root no fault is true but the want of memory, which says nothing

@@ -55,7 +55,8 @@ module _ {A : Type 0} where
   filter_filter test other f [] = refl
   filter_filter test other f (x ∷ xs) = go (filter_filter test other f xs) (test x) (other x) refl refl
     where
-      go : filter test (filter other xs) ≡ filter test xs → (s t : Bool) → test x ≡ s → other x ≡ t → filter test (cond t (x ∷ filter other xs) (filter other xs)) ≡ cond s (x ∷ filter test xs) (filter test xs)
+      go : filter test (filter other xs) ≡ filter test xs → (s t : Bool) → test x ≡ s → other x ≡ t →
+          filter test (cond t (x ∷ filter other xs) (filter other xs)) ≡ cond s (x ∷ filter test xs) (filter test xs)
       go ih true true e g = rw e (ap (λ l. x ∷ l) ih)
       go ih false true e g = rw e ih
       go ih false false e g = ih

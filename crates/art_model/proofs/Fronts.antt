@@ -82,14 +82,18 @@ part_where a b h k = go (common_front_left a b) (common_front_right a b)
       b_is = f;
       differ = λ same.
           let front = common_front a b ++ x ∷ [] in
-          let (q, longer) = (common_front_is_longest a b).2 front (r, e ∙ sym (append_assoc (common_front a b) (x ∷ []) r)) (s, f ∙ ap (λ z. common_front a b ++ z ∷ s) (sym same) ∙ sym (append_assoc (common_front a b) (x ∷ []) s)) in
+          let (q, longer) =
+          (common_front_is_longest a b).2 front (r, e ∙ sym (append_assoc (common_front a b) (x ∷ []) r))
+          (s, f ∙ ap (λ z. common_front a b ++ z ∷ s) (sym same) ∙ sym (append_assoc (common_front a b) (x ∷ []) s)) in
           let l = ap length longer in
           absurd (omega (arith, simp length-append at l));
     }
 
 -- keys that are not related do
 pub unrelated_part : (a b : List ℕ) → are_related a b ≡ false → ArePart a b
-unrelated_part a b apart = part_where a b (short (length (common_front a b)) (length a) (λ h. true≢false (sym (front_related a b (shared_whole a b h)) ∙ apart))) (short (length (common_front a b)) (length b) (λ h. true≢false (sym (related_sym a b ∙ front_related b a (front_right a b h)) ∙ apart)))
+unrelated_part a b apart =
+    part_where a b (short (length (common_front a b)) (length a) (λ h. true≢false (sym (front_related a b (shared_whole a b h)) ∙ apart)))
+    (short (length (common_front a b)) (length b) (λ h. true≢false (sym (related_sym a b ∙ front_related b a (front_right a b h)) ∙ apart)))
   where
     short : (m n : ℕ) → (n ≤ m → ⊥) → m < n
     short m n never = elim (cases_lt m n) [ inl l ↦ l | inr o ↦ absurd (never o) ]

@@ -103,7 +103,8 @@ module _ {K V : Type 0} {s t : Nodes K V} {tree : Tree OpaqueNodePtr (K × V)} (
   pub lost_in : (k : OpaqueNodePtr) → IsIn k (names_of tree) → held t k ≡ None
   lost_in k i = elim (leaf_or k) [
     | inl (p, e) ↦ subst (λ z. held t z ≡ None) (sym e) (ap (option_map held_leaf) (ap (λ z. get z p) lost.leaves
-        ∙ without_in leaf_cmp_total leaf_cmp-IsAntisymmetric s.leaves (map as_leaf (leaf_names tree)) p (in_map as_leaf (leaf_name p) (leaf_names tree) (leaf_among s tree holds p (subst (λ z. IsIn z (names_of tree)) e i)))))
+        ∙ without_in leaf_cmp_total leaf_cmp-IsAntisymmetric s.leaves (map as_leaf (leaf_names tree)) p
+        (in_map as_leaf (leaf_name p) (leaf_names tree) (leaf_among s tree holds p (subst (λ z. IsIn z (names_of tree)) e i)))))
     | inr off ↦ held_in_inner t k.kind k.slot off ∙ ap (option_map held_inner) (ap (λ z. get z (as_inner k)) lost.inners
         ∙ without_in inner_cmp_total inner_cmp-IsAntisymmetric s.inners (map as_inner (inner_names tree)) (as_inner k) (in_map as_inner k (inner_names tree) (inner_among s tree holds k off i)))
   ]
@@ -159,7 +160,8 @@ module _ {K V : Type 0} {s t : Nodes K V} {tree : Tree OpaqueNodePtr (K × V)} (
         inner_now t q (inner_kind s tree holds (inner_name q) in_tree) None (freed.left (inner_name q) (taken_in takes_inners tree (inner_name q) in_tree) (λ z. z)))
         (λ q off. elim (leaf_or (inner_name q)) [
           | inl (p, e) ↦ improper q (ap (λ z. z.kind) e)
-          | inr kind ↦ inner_now t q kind (get s.inners q) (freed.beside (inner_name q) (λ i. off (in_map as_inner (inner_name q) (inner_names tree) (inner_among s tree holds (inner_name q) kind i))) (λ z. z) ∙ held_in_inner s q.kind q.slot kind)
+          | inr kind ↦ inner_now t q kind (get s.inners q) (freed.beside (inner_name q)
+              (λ i. off (in_map as_inner (inner_name q) (inner_names tree) (inner_among s tree holds (inner_name q) kind i))) (λ z. z) ∙ held_in_inner s q.kind q.slot kind)
         ]);
   }
 
@@ -167,7 +169,8 @@ module _ {K V : Type 0} {s t : Nodes K V} {tree : Tree OpaqueNodePtr (K × V)} (
 
 module _ {K V : Type 0} {old new : Nodes K V} where
   -- a leaf alone
-  pub gained_leaf : (p : LeafPtr) (x : LeafNode K V) → x.previous ≡ None → x.next ≡ None → get old.leaves p ≡ None → new.leaves ≡ insert old.leaves p x → new.inners ≡ old.inners → Gains old new (leaf (leaf_name p) (pair_of x))
+  pub gained_leaf : (p : LeafPtr) (x : LeafNode K V) → x.previous ≡ None → x.next ≡ None → get old.leaves p ≡ None →
+      new.leaves ≡ insert old.leaves p x → new.inners ≡ old.inners → Gains old new (leaf (leaf_name p) (pair_of x))
   gained_leaf p x first last free leaves inners =
       let here : get new.leaves p ≡ Some x = ap (λ z. get z p) leaves ∙ leaf_here old.leaves p x in
       record {
@@ -178,7 +181,8 @@ module _ {K V : Type 0} {old new : Nodes K V} where
       }
 
   -- an inner node without a child
-  pub gained_inner : (p : InnerPtr) (x : Inner) → p.kind ≢ Leaf → x.children ≡ [] → get old.inners p ≡ None → new.inners ≡ insert old.inners p x → new.leaves ≡ old.leaves → Gains old new (inner (inner_name p) (header_at p.kind x) no_child)
+  pub gained_inner : (p : InnerPtr) (x : Inner) → p.kind ≢ Leaf → x.children ≡ [] → get old.inners p ≡ None → new.inners ≡ insert old.inners p x →
+      new.leaves ≡ old.leaves → Gains old new (inner (inner_name p) (header_at p.kind x) no_child)
   gained_inner p x off none free inners leaves =
       let here : get new.inners p ≡ Some x = ap (λ z. get z p) inners ∙ inner_here old.inners p x in
       record {
@@ -195,12 +199,14 @@ module _ {N A : Type 0} where
   inner_names_below-join (child c t cs) b u = rw (inner_names_below-join cs b u) (sym (append_assoc (inner_names t) (inner_names_below cs) (inner_names u)))
 
 -- a child put behind all others
-put_child-last : {A : Type 0} (l : Children OpaqueNodePtr A) (b : ℕ) (t : Tree OpaqueNodePtr A) → Each (λ c. c < b) (bytes_of l) → put_child (slots_of l) b (name_of t) ≡ slots_of (join l (child b t no_child))
+put_child-last : {A : Type 0} (l : Children OpaqueNodePtr A) (b : ℕ) (t : Tree OpaqueNodePtr A) → Each (λ c. c < b) (bytes_of l) →
+    put_child (slots_of l) b (name_of t) ≡ slots_of (join l (child b t no_child))
 put_child-last no_child b t low = refl
 put_child-last (child c u l) b t low = rw (lt-ltb c b low.0) (ap (λ z. (c, name_of u) ∷ z) (put_child-last l b t low.1))
 
 -- An inner node that was gained has got a child: a tree that was gained after it.
-pub record GainsChild {K V : Type 0} (old mid next new : Nodes K V) (name : OpaqueNodePtr) (header : Header) (cs : Children OpaqueNodePtr (K × V)) (b : ℕ) (u : Tree OpaqueNodePtr (K × V)) (last : Option LeafPtr) (first : LeafPtr) : Type 0 where
+pub record GainsChild {K V : Type 0} (old mid next new : Nodes K V) (name : OpaqueNodePtr) (header : Header) (cs : Children OpaqueNodePtr (K × V))
+    (b : ℕ) (u : Tree OpaqueNodePtr (K × V)) (last : Option LeafPtr) (first : LeafPtr) : Type 0 where
   pub so_far : Gains old mid (inner name header cs)
   pub more : Gains mid next u
   pub low : Each (λ c. c < b) (bytes_of cs)
@@ -209,13 +215,16 @@ pub record GainsChild {K V : Type 0} (old mid next new : Nodes K V) (name : Opaq
   pub leaves : new.leaves ≡ joined next.leaves last (Some first) (Some first) last
   pub inners : new.inners ≡ change next.inners (as_inner name) (with_child b (name_of u))
 
-module _ {K V : Type 0} {old mid next new : Nodes K V} {name : OpaqueNodePtr} {header : Header} {cs : Children OpaqueNodePtr (K × V)} {b : ℕ} {u : Tree OpaqueNodePtr (K × V)} {last : Option LeafPtr} {first : LeafPtr} (is : GainsChild old mid next new name header cs b u last first) where
+module _ {K V : Type 0} {old mid next new : Nodes K V} {name : OpaqueNodePtr} {header : Header} {cs : Children OpaqueNodePtr (K × V)} {b : ℕ}
+    {u : Tree OpaqueNodePtr (K × V)} {last : Option LeafPtr} {first : LeafPtr} (is : GainsChild old mid next new name header cs b u last first) where
   abbrev others : List OpaqueNodePtr
   others = leaf_names_below cs
 
   -- no name of the child is one of the node's tree
   child_apart : (k : OpaqueNodePtr) → IsIn k (name ∷ names_below cs) → IsIn k (names_of u) → ⊥
-  child_apart k i j = each_in (IsTaken (node_at mid)) k (name ∷ names_below cs) (all_taken (node_at mid) (inner name header cs) is.so_far.holds) i (ap (option_map (seen k.kind)) (lost_in is.more.holds is.more.added k j))
+  child_apart k i j =
+      each_in (IsTaken (node_at mid)) k (name ∷ names_below cs) (all_taken (node_at mid) (inner name header cs) is.so_far.holds) i
+      (ap (option_map (seen k.kind)) (lost_in is.more.holds is.more.added k j))
 
   -- the node's tree is there as it was
   child_held : (k : OpaqueNodePtr) → IsIn k (name ∷ names_below cs) → held next k ≡ held mid k
@@ -229,7 +238,8 @@ module _ {K V : Type 0} {old mid next new : Nodes K V} {name : OpaqueNodePtr} {h
   child_put k off = elim (leaf_or k) [
     | inl (p, e) ↦ subst (λ z. node_at new z ≡ node_at next z) (sym e)
         (node_at-leaf new p ∙ ap (option_map leaf_node) (ap (λ z. option_map pair_of (get z p)) is.leaves ∙ joined_pair next.leaves last (Some first) (Some first) last p) ∙ sym (node_at-leaf next p))
-    | inr kind ↦ same_inner next new k kind (ap (λ z. get z (as_inner k)) is.inners ∙ inner_changed_elsewhere next.inners (as_inner name) (as_inner k) (with_child b (name_of u)) (λ e. off (inner_name_one k name e)))
+    | inr kind ↦ same_inner next new k kind (ap (λ z. get z (as_inner k)) is.inners ∙
+        inner_changed_elsewhere next.inners (as_inner name) (as_inner k) (with_child b (name_of u)) (λ e. off (inner_name_one k name e)))
   ]
 
   parent_seen : node_at new name ≡ Some (inner_node header (slots_of (join cs (child b u no_child))))
@@ -271,7 +281,8 @@ module _ {K V : Type 0} {old mid next new : Nodes K V} {name : OpaqueNodePtr} {h
         inside = tt;
         leaves = λ p i. ap (λ z. get z p) is.leaves;
       }))
-      (linked-frame (links_at mid) (links_at next) others None None (each_from (λ k. links_at next k ≡ links_at mid k) others (λ k i. ap (option_and_then links_of) (child_held k (taken_in takes_leaves (inner name header cs) k i)))) is.so_far.linked)
+      (linked-frame (links_at mid) (links_at next) others None None
+      (each_from (λ k. links_at next k ≡ links_at mid k) others (λ k i. ap (option_and_then links_of) (child_held k (taken_in takes_leaves (inner name header cs) k i)))) is.so_far.linked)
       is.more.linked)
 
   -- the node's tree has the child
@@ -280,7 +291,8 @@ module _ {K V : Type 0} {old mid next new : Nodes K V} {name : OpaqueNodePtr} {h
     holds = (
       parent_seen,
       HoldsBelow-join (node_at new) cs (child b u no_child)
-          (frame_below (node_at next) (node_at new) cs (each_from (λ k. node_at new k ≡ node_at next k) (names_below cs) (λ k i. child_put k (λ e. each_in (λ z. name ≢ z) k (names_below cs) is.so_far.distinct.0 i (sym e))))
+          (frame_below (node_at next) (node_at new) cs (each_from (λ k. node_at new k ≡ node_at next k) (names_below cs)
+          (λ k i. child_put k (λ e. each_in (λ z. name ≢ z) k (names_below cs) is.so_far.distinct.0 i (sym e))))
           (frame_below (node_at mid) (node_at next) cs (each_from (λ k. node_at next k ≡ node_at mid k) (names_below cs) (λ k i. child_seen k (inr i))) is.so_far.holds.1))
           (frame (node_at next) (node_at new) u (each_from (λ k. node_at new k ≡ node_at next k) (names_of u) (λ k i. child_put k (λ e. child_apart k (inl (sym e)) i))) is.more.holds, tt),
     );
@@ -289,8 +301,10 @@ module _ {K V : Type 0} {old mid next new : Nodes K V} {name : OpaqueNodePtr} {h
     added = record {
       leaves = without_both leaf_cmp_total leaf_cmp-IsAntisymmetric old.leaves mid.leaves next.leaves (map as_leaf others) (map as_leaf (leaf_names u)) is.so_far.added.leaves is.more.added.leaves
           ∙ ap (without next.leaves) (sym (map-append as_leaf others (leaf_names u)) ∙ ap (map as_leaf) (sym child_leaves))
-          ∙ sym (ap (λ z. without z all_leaves) is.leaves ∙ without_some (change_some next.leaves last (with_next (Some first))) (Some first) (with_previous last) all_leaves first_listed ∙ without_some next.leaves last (with_next (Some first)) all_leaves last_listed);
-      inners = without_both inner_cmp_total inner_cmp-IsAntisymmetric old.inners mid.inners next.inners (map as_inner (name ∷ inner_names_below cs)) (map as_inner (inner_names u)) is.so_far.added.inners is.more.added.inners
+          ∙ sym (ap (λ z. without z all_leaves) is.leaves ∙ without_some (change_some next.leaves last (with_next (Some first))) (Some first)
+          (with_previous last) all_leaves first_listed ∙ without_some next.leaves last (with_next (Some first)) all_leaves last_listed);
+      inners = without_both inner_cmp_total inner_cmp-IsAntisymmetric old.inners mid.inners next.inners (map as_inner (name ∷ inner_names_below cs))
+          (map as_inner (inner_names u)) is.so_far.added.inners is.more.added.inners
           ∙ ap (without next.inners) (ap (λ z. as_inner name ∷ z) (sym (map-append as_inner (inner_names_below cs) (inner_names u)) ∙ ap (map as_inner) (sym (inner_names_below-join cs b u))))
           ∙ sym (ap (λ z. without z all_inners) is.inners ∙ without_changed inner_cmp_total inner_cmp-IsAntisymmetric next.inners (as_inner name) (with_child b (name_of u)) all_inners (inl refl));
     };
@@ -302,7 +316,8 @@ module _ {K V : Type 0} {old mid next new : Nodes K V} {name : OpaqueNodePtr} {h
       all_inners : List InnerPtr
       all_inners = as_inner name ∷ map as_inner (inner_names_below (join cs (child b u no_child)))
 
-      without_some : (m : Leaves K V) (o : Option LeafPtr) (f : LeafNode K V → LeafNode K V) (ns : List LeafPtr) → ((p : LeafPtr) → o ≡ Some p → IsIn p ns) → without (change_some m o f) ns ≡ without m ns
+      without_some : (m : Leaves K V) (o : Option LeafPtr) (f : LeafNode K V → LeafNode K V) (ns : List LeafPtr) →
+          ((p : LeafPtr) → o ≡ Some p → IsIn p ns) → without (change_some m o f) ns ≡ without m ns
       without_some m None f ns i = refl
       without_some m (Some p) f ns i = without_changed leaf_cmp_total leaf_cmp-IsAntisymmetric m p f ns (i p refl)
 

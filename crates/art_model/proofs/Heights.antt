@@ -87,5 +87,6 @@ module _ {K V : Type 0} (s : Nodes K V) where
       omega arith
 
 -- the height of a tree, read off its store
-pub height_of_layout : {K V : Type 0} (s : Nodes K V) (root : OpaqueNodePtr) (tree : Tree OpaqueNodePtr (K × V)) → IsLayout (node_at s) root tree → height (node_at s) (map.len s.inners) root ≡ tree_height tree
+pub height_of_layout : {K V : Type 0} (s : Nodes K V) (root : OpaqueNodePtr) (tree : Tree OpaqueNodePtr (K × V)) → IsLayout (node_at s) root tree →
+    height (node_at s) (map.len s.inners) root ≡ tree_height tree
 height_of_layout s root tree is = ap (height (node_at s) (map.len s.inners)) (sym is.named) ∙ height_is (node_at s) tree (map.len s.inners) is.holds (enough_steps s tree is.holds is.distinct)

@@ -66,13 +66,15 @@ module _ {N A : Type 0} (fs : List (Frame N A)) where
 -- ---- what is changed was in the tree
 
 -- the parent, and inner nodes of the hole
-pub parents_in : {A : Type 0} (fs : List (Frame OpaqueNodePtr A)) (t : Tree OpaqueNodePtr A) (touched : List InnerPtr) → ((p : InnerPtr) → IsIn p touched → IsIn (inner_name p) (names_of t)) → (p : InnerPtr) → IsIn p (parents fs ++ touched) → IsIn (inner_name p) (names_of (plug fs t))
+pub parents_in : {A : Type 0} (fs : List (Frame OpaqueNodePtr A)) (t : Tree OpaqueNodePtr A) (touched : List InnerPtr) →
+    ((p : InnerPtr) → IsIn p touched → IsIn (inner_name p) (names_of t)) → (p : InnerPtr) → IsIn p (parents fs ++ touched) → IsIn (inner_name p) (names_of (plug fs t))
 parents_in [] t touched own p i = own p i
 parents_in (f ∷ fs) t touched own p (inl e) = in_before (f ∷ fs) t (inner_name p) (in_right (inner_name p) (names_before fs) (f.mark ∷ names_below f.left) (inl (ap inner_name e)))
 parents_in (f ∷ fs) t touched own p (inr i) = in_hole (f ∷ fs) t (inner_name p) (own p i)
 
 -- leaves and inner nodes together
-pub both_in : (names : List OpaqueNodePtr) (leaves : List LeafPtr) (inners : List InnerPtr) → ((p : LeafPtr) → IsIn p leaves → IsIn (leaf_name p) names) → ((p : InnerPtr) → IsIn p inners → IsIn (inner_name p) names) →
+pub both_in : (names : List OpaqueNodePtr) (leaves : List LeafPtr) (inners : List InnerPtr) →
+    ((p : LeafPtr) → IsIn p leaves → IsIn (leaf_name p) names) → ((p : InnerPtr) → IsIn p inners → IsIn (inner_name p) names) →
     (k : OpaqueNodePtr) → IsIn k (both_names leaves inners) → IsIn k names
 both_in names leaves inners of_leaves of_inners k i = each_in (λ n. IsIn n names) k (both_names leaves inners) (Each-append (λ n. IsIn n names) (map leaf_name leaves) (map inner_name inners)
     (each_map leaf_name (λ n. IsIn n names) leaves (each_from (λ p. IsIn (leaf_name p) names) leaves of_leaves))
@@ -81,8 +83,14 @@ both_in names leaves inners of_leaves of_inners k i = each_in (λ n. IsIn n name
 -- ---- pairs
 
 -- the pair with a key that leads to the hole is in the hole
-pub with_key-hole : {N A : Type 0} (bytes : A → List ℕ) (P : ℕ) (fs : List (Frame N A)) (place key : List ℕ) (t : Tree N A) → IsPath bytes P place fs → IsFront place key → with_key bytes key (pairs_of (plug fs t)) ≡ with_key bytes key (pairs_of t)
+pub with_key-hole : {N A : Type 0} (bytes : A → List ℕ) (P : ℕ) (fs : List (Frame N A)) (place key : List ℕ) (t : Tree N A) →
+    IsPath bytes P place fs → IsFront place key → with_key bytes key (pairs_of (plug fs t)) ≡ with_key bytes key (pairs_of t)
 with_key-hole bytes P fs place key t path front =
-    let before = filter_none (λ x. are_same key (bytes x)) (pairs_before fs) (Each-weaker (λ x. Precedes (bytes x) key) (λ x. are_same key (bytes x) ≡ false) (λ x h. same_related key (bytes x) (related_sym key (bytes x) ∙ h.1)) (pairs_before fs) (path_before bytes P fs place key path front)) in
-    let after = filter_none (λ x. are_same key (bytes x)) (pairs_after fs) (Each-weaker (λ x. Precedes key (bytes x)) (λ x. are_same key (bytes x) ≡ false) (λ x h. same_related key (bytes x) h.1) (pairs_after fs) (path_after bytes P fs place key path front)) in
+    let before =
+    filter_none (λ x. are_same key (bytes x)) (pairs_before fs)
+    (Each-weaker (λ x. Precedes (bytes x) key) (λ x. are_same key (bytes x) ≡ false)
+    (λ x h. same_related key (bytes x) (related_sym key (bytes x) ∙ h.1)) (pairs_before fs) (path_before bytes P fs place key path front)) in
+    let after =
+    filter_none (λ x. are_same key (bytes x)) (pairs_after fs)
+    (Each-weaker (λ x. Precedes key (bytes x)) (λ x. are_same key (bytes x) ≡ false) (λ x h. same_related key (bytes x) h.1) (pairs_after fs) (path_after bytes P fs place key path front)) in
     rw pairs_of-plug (simp (filter-append, before, after) (append-nil (with_key bytes key (pairs_of t))))

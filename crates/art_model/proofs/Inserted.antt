@@ -68,7 +68,8 @@ module _ {N A : Type 0} (bytes : A → List ℕ) (P : ℕ) (at to : N → Option
     pub relinked : Relinked before links (leaves_before fs ++ leaf_names_below l) (n ∷ []) (leaf_names_below r ++ leaves_after fs)
 
 module _ {N A : Type 0} {bytes : A → List ℕ} {P : ℕ} {at to : N → Option (Node N A)} {before links : N → Option (Links N)} {fs : List (Frame N A)} {place : List ℕ} {root : N} {pairs : List A} where
-  module _ {t u : Tree N A} {m n : N} {part : List ℕ} {b c : ℕ} {new : A} (old : IsLaidOut bytes P at before root pairs (plug fs t)) (is : BranchInserted bytes P at to before links fs place t u m n part b c new) where
+  module _ {t u : Tree N A} {m n : N} {part : List ℕ} {b c : ℕ} {new : A} (old : IsLaidOut bytes P at before root pairs (plug fs t))
+      (is : BranchInserted bytes P at to before links fs place t u m n part b c new) where
     abbrev grown : Tree N A
     grown = inner m (header_of P part 2) (two_children b u c (leaf n new))
 
@@ -85,7 +86,8 @@ module _ {N A : Type 0} {bytes : A → List ℕ} {P : ℕ} {at to : N → Option
     new_leaves : leaf_names grown ≡ cond (ltb b c) (leaf_names t) [] ++ (n ∷ []) ++ cond (ltb b c) [] (leaf_names t)
     new_leaves = go (ltb b c)
       where
-        go : (first : Bool) → leaf_names_below (cond first (child b u (child c (leaf n new) no_child)) (child c (leaf n new) (child b u no_child))) ≡ cond first (leaf_names t) [] ++ (n ∷ []) ++ cond first [] (leaf_names t)
+        go : (first : Bool) → leaf_names_below (cond first (child b u (child c (leaf n new) no_child)) (child c (leaf n new) (child b u no_child))) ≡
+            cond first (leaf_names t) [] ++ (n ∷ []) ++ cond first [] (leaf_names t)
         go true = ap (λ z. z ++ n ∷ []) (same_leaf_names t u is.same_entries) ∙ sym (append-nil (leaf_names t ++ n ∷ []))
         go false = ap (λ z. n ∷ z) (append-nil (leaf_names u) ∙ same_leaf_names t u is.same_entries)
 
@@ -106,21 +108,25 @@ module _ {N A : Type 0} {bytes : A → List ℕ} {P : ℕ} {at to : N → Option
 
     -- and keys that stay keep their leaves' names
     pub branch_keeps_leaves : KeepLeaves bytes P (leaves_of (plug fs t)) (leaves_of (plug fs (inner m (header_of P part 2) (two_children b u c (leaf n new)))))
-    branch_keeps_leaves = kept_leaves bytes P fs t grown old.radix branch_inserted.radix (kept_leaves_more bytes P t grown place branched.0 (λ e i. among e (ltb b c) (subst (IsIn e) (sym is.same_entries) i)))
+    branch_keeps_leaves =
+        kept_leaves bytes P fs t grown old.radix branch_inserted.radix (kept_leaves_more bytes P t grown place branched.0 (λ e i. among e (ltb b c) (subst (IsIn e) (sym is.same_entries) i)))
       where
         among : (e : A × N) (first : Bool) → IsIn e (leaves_of u) → IsIn e (leaves_below (cond first (child b u (child c (leaf n new) no_child)) (child c (leaf n new) (child b u no_child))))
         among e true i = in_left e (leaves_of u) ((new, n) ∷ []) i
         among e false i = inr (in_left e (leaves_of u) [] i)
 
-  module _ {m node n : N} {h : Header} {l r : Children N A} {b : ℕ} {new : A} (old : IsLaidOut bytes P at before root pairs (plug fs (inner m h (join l r)))) (is : ChildInserted bytes P at to before links fs place m node n h l r b new) where
+  module _ {m node n : N} {h : Header} {l r : Children N A} {b : ℕ} {new : A}
+      (old : IsLaidOut bytes P at before root pairs (plug fs (inner m h (join l r)))) (is : ChildInserted bytes P at to before links fs place m node n h l r b new) where
     abbrev head : Header
     head = header_of P is.gap.hole.radix.0 (suc (length (bytes_of (join l r))))
 
-    with_leaf : IsRadix bytes P place (inner node head (join l (child b (leaf n new) r))) × (pairs_of (inner node head (join l (child b (leaf n new) r))) ≡ replace_key bytes new (pairs_of (inner m h (join l r))))
+    with_leaf : IsRadix bytes P place (inner node head (join l (child b (leaf n new) r))) ×
+        (pairs_of (inner node head (join l (child b (leaf n new) r))) ≡ replace_key bytes new (pairs_of (inner m h (join l r))))
     with_leaf = let two = is.gap.hole.radix.2 in with_child bytes P place is.gap.hole.radix.0 l r b node n new is.gap.hole.radix.3 is.gap.low is.gap.high (omega arith) is.gap.hole.radix.4 is.gap.front
 
     -- the root is canonical for the pairs with the new one
-    pub child_inserted : IsLaidOut bytes P to links (root_with fs root node) (replace_key bytes new pairs) (plug fs (inner node (header_of P is.gap.hole.radix.0 (suc (length (bytes_of (join l r))))) (join l (child b (leaf n new) r))))
+    pub child_inserted : IsLaidOut bytes P to links (root_with fs root node) (replace_key bytes new pairs)
+        (plug fs (inner node (header_of P is.gap.hole.radix.0 (suc (length (bytes_of (join l r))))) (join l (child b (leaf n new) r))))
     child_inserted = replaced old (record {
       path = is.gap.hole.path;
       radix = with_leaf.0;
@@ -133,21 +139,26 @@ module _ {N A : Type 0} {bytes : A → List ℕ} {P : ℕ} {at to : N → Option
     }) (bytes new) (replace_key bytes new) (replace_key-between bytes new) is.gap.hole.front with_leaf.1
 
     -- and inner nodes that stay keep their names
-    pub child_keeps : KeepNames (inner_nodes bytes 0 (plug fs (inner m h (join l r)))) (inner_nodes bytes 0 (plug fs (inner node (header_of P is.gap.hole.radix.0 (suc (length (bytes_of (join l r))))) (join l (child b (leaf n new) r)))))
+    pub child_keeps : KeepNames (inner_nodes bytes 0 (plug fs (inner m h (join l r))))
+        (inner_nodes bytes 0 (plug fs (inner node (header_of P is.gap.hole.radix.0 (suc (length (bytes_of (join l r))))) (join l (child b (leaf n new) r)))))
     unfolding with_leaf with_child
     child_keeps = kept bytes P fs place (inner m h (join l r)) (inner node head (join l (child b (leaf n new) r))) is.gap.hole.path is.gap.hole.radix with_leaf.0
         (kept_children bytes P place m node h head (join l r) (join l (child b (leaf n new) r)) is.gap.hole.radix with_leaf.0 refl (λ d. inner_nodes-leaf bytes P d l r b n new) is.same_kind)
 
     -- and keys that stay keep their leaves' names
-    pub child_keeps_leaves : KeepLeaves bytes P (leaves_of (plug fs (inner m h (join l r)))) (leaves_of (plug fs (inner node (header_of P is.gap.hole.radix.0 (suc (length (bytes_of (join l r))))) (join l (child b (leaf n new) r)))))
+    pub child_keeps_leaves : KeepLeaves bytes P (leaves_of (plug fs (inner m h (join l r))))
+        (leaves_of (plug fs (inner node (header_of P is.gap.hole.radix.0 (suc (length (bytes_of (join l r))))) (join l (child b (leaf n new) r)))))
     child_keeps_leaves = kept_leaves bytes P fs (inner m h (join l r)) (inner node head (join l (child b (leaf n new) r))) old.radix child_inserted.radix
-        (kept_leaves_more bytes P (inner m h (join l r)) (inner node head (join l (child b (leaf n new) r))) place with_leaf.0 (λ e i. subst (IsIn e) (sym (leaves_below-three l (child b (leaf n new) no_child) r)) (in_around e (leaves_below l) ((new, n) ∷ []) (leaves_below r) (subst (IsIn e) (leaves_below-join l r) i))))
+        (kept_leaves_more bytes P (inner m h (join l r)) (inner node head (join l (child b (leaf n new) r))) place with_leaf.0
+        (λ e i. subst (IsIn e) (sym (leaves_below-three l (child b (leaf n new) no_child) r))
+        (in_around e (leaves_below l) ((new, n) ∷ []) (leaves_below r) (subst (IsIn e) (leaves_below-join l r) i))))
 
   -- ---- what is split: a leaf, or an inner node's prefix
 
   module _ {m n : N} {part : List ℕ} {b c : ℕ} {new : A} where
     -- a leaf whose key goes on after the part with another byte
-    pub split_leaf : {k : N} {x : A} → IsLaidOut bytes P at before root pairs (plug fs (leaf k x)) → IsHole bytes P fs place (leaf k x) (bytes new) → IsFront ((place ++ part) ++ b ∷ []) (bytes x) → SameBut at to fs [] →
+    pub split_leaf : {k : N} {x : A} → IsLaidOut bytes P at before root pairs (plug fs (leaf k x)) → IsHole bytes P fs place (leaf k x) (bytes new) →
+        IsFront ((place ++ part) ++ b ∷ []) (bytes x) → SameBut at to fs [] →
         BranchPlaced bytes P at to before links fs place (leaf k x) (leaf k x) m n part b c new → BranchInserted bytes P at to before links fs place (leaf k x) (leaf k x) m n part b c new
     split_leaf {k} {x} old hole front same placed = record {
       hole = hole;
@@ -156,16 +167,27 @@ module _ {N A : Type 0} {bytes : A → List ℕ} {P : ℕ} {at to : N → Option
       apart = placed.apart;
       same_entries = refl;
       same_inners = refl;
-      branch = record { same_names = refl; node_was_free = placed.node_was_free; leaf_was_free = placed.leaf_was_free; differ = placed.differ; node = placed.node; new_leaf = placed.new_leaf; below = stays at to fs (leaf k x) old.holds old.distinct [] same k (inl refl) (λ i. i) ∙ (path_holds at fs (leaf k x) old.holds).1 };
+      branch = record {
+        same_names = refl;
+        node_was_free = placed.node_was_free;
+        leaf_was_free = placed.leaf_was_free;
+        differ = placed.differ;
+        node
+            = placed.node;
+        new_leaf = placed.new_leaf;
+        below = stays at to fs (leaf k x) old.holds old.distinct [] same k (inl refl) (λ i. i) ∙ (path_holds at fs (leaf k x) old.holds).1;
+      };
       parent = placed.parent;
       same = λ j up out used. same j up (λ i. i) used;
       relinked = placed.relinked;
     }
 
     -- an inner node whose whole prefix is the part, a byte and a rest: the rest is its new prefix
-    pub trimmed_node : {k : N} {h : Header} {cs : Children N A} (rest : List ℕ) → IsLaidOut bytes P at before root pairs (plug fs (inner k h cs)) → (hole : IsHole bytes P fs place (inner k h cs) (bytes new)) → hole.radix.0 ≡ part ++ b ∷ rest → SameBut at to fs (k ∷ []) →
+    pub trimmed_node : {k : N} {h : Header} {cs : Children N A} (rest : List ℕ) → IsLaidOut bytes P at before root pairs (plug fs (inner k h cs)) →
+        (hole : IsHole bytes P fs place (inner k h cs) (bytes new)) → hole.radix.0 ≡ part ++ b ∷ rest → SameBut at to fs (k ∷ []) →
         let head = header_of P rest (length (bytes_of cs)) in
-        to k ≡ Some (inner_node head (slots_of cs)) → BranchPlaced bytes P at to before links fs place (inner k h cs) (inner k head cs) m n part b c new → BranchInserted bytes P at to before links fs place (inner k h cs) (inner k head cs) m n part b c new
+        to k ≡ Some (inner_node head (slots_of cs)) → BranchPlaced bytes P at to before links fs place (inner k h cs) (inner k head cs) m n part b c
+        new → BranchInserted bytes P at to before links fs place (inner k h cs) (inner k head cs) m n part b c new
     trimmed_node {k} {h} {cs} rest old hole prefix same there placed =
         let head = header_of P rest (length (bytes_of cs)) in
         let kind : head.kind ≡ h.kind = sym (ap (λ z. z.kind) hole.radix.1) in
@@ -179,11 +201,22 @@ module _ {N A : Type 0} {bytes : A → List ℕ} {P : ℕ} {at to : N → Option
           apart = placed.apart;
           same_entries = refl;
           same_inners = sym (inner_nodes-moved bytes (length place) (length place + length part + 1) k h head cs kind (omega arith));
-          branch = record { same_names = refl; node_was_free = placed.node_was_free; leaf_was_free = placed.leaf_was_free; differ = placed.differ; node = placed.node; new_leaf = placed.new_leaf; below = (there, still own) };
+          branch = record {
+            same_names = refl;
+            node_was_free = placed.node_was_free;
+            leaf_was_free = placed.leaf_was_free;
+            differ = placed.differ;
+            node = placed.node;
+            new_leaf = placed.new_leaf;
+            below = (there, still own);
+          };
           parent = placed.parent;
           same = λ j up out used. same j up (λ i. elim i [ inl e ↦ out (inl e) | inr i ↦ i ]) used;
           relinked = placed.relinked;
         }
       where
         still : AreDistinct (k ∷ names_below cs) → HoldsBelow to cs
-        still own = frame_below at to cs (each_from (λ j. to j ≡ at j) (names_below cs) (λ j i. stays at to fs (inner k h cs) old.holds old.distinct (k ∷ []) same j (inr i) (λ a. elim a [ inl e ↦ each_in (λ z. k ≢ z) j (names_below cs) own.0 i e | inr a ↦ a ]))) (path_holds at fs (inner k h cs) old.holds).1.1
+        still own =
+            frame_below at to cs (each_from (λ j. to j ≡ at j) (names_below cs)
+            (λ j i. stays at to fs (inner k h cs) old.holds old.distinct (k ∷ []) same j (inr i)
+            (λ a. elim a [ inl e ↦ each_in (λ z. k ≢ z) j (names_below cs) own.0 i e | inr a ↦ a ]))) (path_holds at fs (inner k h cs) old.holds).1.1

@@ -33,7 +33,8 @@ use Rattle.art_model.proofs.Touches.{Touched, IsInner, both_names, touches_at_mo
 use Rattle.art_model.proofs.Writes.{shown, parents_inner, inner_at, node_at-inner, same_but, parents, length-parents, parent_there, parent_written, then_parent, with_child_at-elsewhere, inner_name_one}
 
 -- A leaf is placed, and a larger node takes the place of the full one in the hole, with the leaf as a child under a byte that had none.
-pub record IntoFull {K V : Type 0} (bytes : K × V → List ℕ) (P : ℕ) (s t : Nodes K V) (fs : List (Frame OpaqueNodePtr (K × V))) (place : List ℕ) (m k : OpaqueNodePtr) (h : Header) (l r : Children OpaqueNodePtr (K × V)) (b : ℕ) (n : LeafPtr) (x : LeafNode K V) (full : Inner) : Type 0 where
+pub record IntoFull {K V : Type 0} (bytes : K × V → List ℕ) (P : ℕ) (s t : Nodes K V) (fs : List (Frame OpaqueNodePtr (K × V))) (place : List ℕ)
+    (m k : OpaqueNodePtr) (h : Header) (l r : Children OpaqueNodePtr (K × V)) (b : ℕ) (n : LeafPtr) (x : LeafNode K V) (full : Inner) : Type 0 where
   pub gap : IsGap bytes P fs place m h l r b (bytes (pair_of x))
   pub no_room : kind_capacity m.kind ≤ length (bytes_of (join l r))
   pub not_last : m.kind ≢ Node256
@@ -44,7 +45,8 @@ pub record IntoFull {K V : Type 0} (bytes : K × V → List ℕ) (P : ℕ) (s t 
   pub here : get s.inners (as_inner m) ≡ Some full
   pub inners : t.inners ≡ with_child_at (parent_of fs) k (insert (remove s.inners (as_inner m)) (as_inner k) (with_child b (leaf_name n) full))
 
-module _ {K V : Type 0} {bytes : K × V → List ℕ} {P : ℕ} {s t : Nodes K V} {root : OpaqueNodePtr} {pairs : List (K × V)} {fs : List (Frame OpaqueNodePtr (K × V))} {place : List ℕ} {m k : OpaqueNodePtr} {h : Header} {l r : Children OpaqueNodePtr (K × V)} {b : ℕ} {n : LeafPtr} {x : LeafNode K V} {full : Inner}
+module _ {K V : Type 0} {bytes : K × V → List ℕ} {P : ℕ} {s t : Nodes K V} {root : OpaqueNodePtr} {pairs : List (K × V)}
+    {fs : List (Frame OpaqueNodePtr (K × V))} {place : List ℕ} {m k : OpaqueNodePtr} {h : Header} {l r : Children OpaqueNodePtr (K × V)} {b : ℕ} {n : LeafPtr} {x : LeafNode K V} {full : Inner}
     (old : IsLaidOut bytes P (node_at s) (links_at s) root pairs (plug fs (inner m h (join l r)))) (into : IntoFull bytes P s t fs place m k h l r b n x full) where
   abbrev grown : Inner
   grown = with_child b (leaf_name n) full
@@ -99,9 +101,12 @@ module _ {K V : Type 0} {bytes : K × V → List ℕ} {P : ℕ} {s t : Nodes K V
         same_kind = λ e. absurd (kind_of-full m.kind count into.not_last into.no_room (ap (λ z. z.kind) own_head ∙ e));
         leaf_was_free = placed_was_free old.holds old.distinct into.placed;
         differ = λ e. into.is_inner (ap (λ (z : OpaqueNodePtr). z.kind) e);
-        there = node_at-inner t k into.is_inner (Some grown) new_there ∙ shown (grown_header into.gap.hole.radix.0 count (suc count) (own_head ∙ into.gap.hole.radix.1) more) (ap (λ z. put_child z b (leaf_name n)) own_slots ∙ put_child-new l r b (leaf (leaf_name n) (pair_of x)) into.gap.low into.gap.high);
+        there = node_at-inner t k into.is_inner (Some grown) new_there ∙
+            shown (grown_header into.gap.hole.radix.0 count (suc count) (own_head ∙ into.gap.hole.radix.1) more)
+            (ap (λ z. put_child z b (leaf_name n)) own_slots ∙ put_child-new l r b (leaf (leaf_name n) (pair_of x)) into.gap.low into.gap.high);
         new_leaf = placed_node old.holds old.distinct into.placed;
-        parent = parent_written bytes P s t before_parent fs place m k into.gap.hole.path held.0 (λ q is. still q (parent_not_old q is) (up_there q is).1) (λ q is. ap (λ z. get z (as_inner q)) into.inners);
+        parent = parent_written bytes P s t before_parent fs place m k into.gap.hole.path held.0
+            (λ q is. still q (parent_not_old q is) (up_there q is).1) (λ q is. ap (λ z. get z (as_inner q)) into.inners);
         same = same_but s t fs (m ∷ []) (λ p i used. placed_pairs old.holds old.distinct into.placed p used)
             (λ q inner_kind up i used. others q up (λ e. i (inl (sym e))) (λ e. used (node_at-inner s q inner_kind None e)));
         relinked = placed_relinked old.holds old.distinct into.placed;
@@ -136,7 +141,8 @@ module _ {K V : Type 0} {bytes : K × V → List ℕ} {P : ℕ} {s t : Nodes K V
       touches_at_most s t 2 1 3 full_leaves full_inners (into.is_inner, tt) (own.0, tt) all_inner (omega arith) (omega arith) (omega arith)
 
   changed_in : (q : OpaqueNodePtr) → IsIn q (both_names changed (parents fs ++ [])) → IsIn q (names_of (plug fs (inner m h (join l r))))
-  changed_in = both_in (names_of (plug fs (inner m h (join l r)))) changed (parents fs ++ []) (placed_beside old.holds old.distinct into.placed) (parents_in fs (inner m h (join l r)) [] (λ p i. absurd i))
+  changed_in =
+      both_in (names_of (plug fs (inner m h (join l r)))) changed (parents fs ++ []) (placed_beside old.holds old.distinct into.placed) (parents_in fs (inner m h (join l r)) [] (λ p i. absurd i))
 
   -- the root is canonical for the pairs with the new one, and all nodes that stay keep their names
   pub full_added : ChildAdded bytes P s t root pairs fs m k h l r b (leaf_name n) (pair_of x)

@@ -43,7 +43,8 @@ use Rattle.art_model.proofs.Views.{held_in_inner}
 use Rattle.art_model.proofs.Writes.{node_at-leaf, parents, parent_there, parents_inner, parent_written, then_parent, same_but, with_child_at-elsewhere, length-parents}
 
 -- A leaf is placed between the leaves beside the hole, the parent names it, and then all names of the hole are freed. All keys in the hole are related to the new one.
-pub record IntoHole {K V : Type 0} (bytes : K × V → List ℕ) (P : ℕ) (s u t : Nodes K V) (fs : List (Frame OpaqueNodePtr (K × V))) (place : List ℕ) (node : Tree OpaqueNodePtr (K × V)) (n : LeafPtr) (x : LeafNode K V) : Type 0 where
+pub record IntoHole {K V : Type 0} (bytes : K × V → List ℕ) (P : ℕ) (s u t : Nodes K V) (fs : List (Frame OpaqueNodePtr (K × V))) (place : List ℕ)
+    (node : Tree OpaqueNodePtr (K × V)) (n : LeafPtr) (x : LeafNode K V) : Type 0 where
   pub hole : IsHole bytes P fs place node (bytes (pair_of x))
   pub related : Each (λ y. are_related (bytes (pair_of x)) (bytes y) ≡ true) (pairs_of node)
   pub unequal : Each (λ y. bytes y ≢ bytes (pair_of x)) (pairs_of node)
@@ -58,7 +59,9 @@ pub record IntoHole {K V : Type 0} (bytes : K × V → List ℕ) (P : ℕ) (s u 
 
 module _ {N A : Type 0} where
   leaf_below_in : (cs : Children N A) (k : N) → IsIn k (leaf_names_below cs) → IsIn k (names_below cs)
-  leaf_below_in cs k i = each_in (λ n. IsIn n (names_below cs)) k (leaf_names_below cs) (among_below takes_leaves (λ n. IsIn n (names_below cs)) cs (each_from (λ n. IsIn n (names_below cs)) (names_below cs) (λ n j. j))) i
+  leaf_below_in cs k i =
+      each_in (λ n. IsIn n (names_below cs)) k (leaf_names_below cs)
+      (among_below takes_leaves (λ n. IsIn n (names_below cs)) cs (each_from (λ n. IsIn n (names_below cs)) (names_below cs) (λ n j. j))) i
 
   leaves_before_in : (fs : List (Frame N A)) (k : N) → IsIn k (leaves_before fs) → IsIn k (names_before fs)
   leaves_before_in [] k i = i
@@ -77,7 +80,8 @@ module _ {N A : Type 0} where
 -- ---- what was freed after a footprint
 
 module _ {K V : Type 0} {s u t : Nodes K V} {placed changed : List OpaqueNodePtr} where
-  pub then_freed : (freed : List OpaqueNodePtr) → Footprint s u placed [] changed → Frees freed u t → Each (IsUsed s) freed → ((k : OpaqueNodePtr) → IsIn k freed → IsIn k changed → ⊥) → Footprint s t placed freed changed
+  pub then_freed : (freed : List OpaqueNodePtr) → Footprint s u placed [] changed → Frees freed u t → Each (IsUsed s) freed →
+      ((k : OpaqueNodePtr) → IsIn k freed → IsIn k changed → ⊥) → Footprint s t placed freed changed
   then_freed freed print frees used apart = record {
     are_placed = each_from (λ k. (held s k ≡ None) × IsUsed t k) placed (λ k i.
         let was = each_in (λ k. (held s k ≡ None) × IsUsed u k) k placed print.are_placed i in
@@ -101,7 +105,8 @@ same_inners K V None (Some b) e = absurd cc
 same_inners K V (Some a) None e = absurd cc
 same_inners K V (Some a) (Some b) e = ap Some cc
 
-module _ {K V : Type 0} {bytes : K × V → List ℕ} {P : ℕ} {s u t : Nodes K V} {root : OpaqueNodePtr} {pairs : List (K × V)} {fs : List (Frame OpaqueNodePtr (K × V))} {place : List ℕ} {node : Tree OpaqueNodePtr (K × V)} {n : LeafPtr} {x : LeafNode K V}
+module _ {K V : Type 0} {bytes : K × V → List ℕ} {P : ℕ} {s u t : Nodes K V} {root : OpaqueNodePtr} {pairs : List (K × V)}
+    {fs : List (Frame OpaqueNodePtr (K × V))} {place : List ℕ} {node : Tree OpaqueNodePtr (K × V)} {n : LeafPtr} {x : LeafNode K V}
     (old : IsLaidOut bytes P (node_at s) (links_at s) root pairs (plug fs node)) (into : IntoHole bytes P s u t fs place node n x) where
   abbrev new : K × V
   new = pair_of x
@@ -116,7 +121,8 @@ module _ {K V : Type 0} {bytes : K × V → List ℕ} {P : ℕ} {s u t : Nodes K
   whole_leaves = subst AreDistinct (leaf_names-plug fs node) (taken_distinct takes_leaves (plug fs node) old.distinct)
 
   outer : AreDistinct (before ++ after)
-  outer = Pairwise-append ◌≢◌ before after (Pairwise-left ◌≢◌ before (leaf_names node) (Pairwise-left ◌≢◌ (before ++ leaf_names node) after whole_leaves)) (Pairwise-right ◌≢◌ (before ++ leaf_names node) after whole_leaves)
+  outer = Pairwise-append ◌≢◌ before after (Pairwise-left ◌≢◌ before (leaf_names node)
+      (Pairwise-left ◌≢◌ (before ++ leaf_names node) after whole_leaves)) (Pairwise-right ◌≢◌ (before ++ leaf_names node) after whole_leaves)
       (Each-left (λ k. Each (λ y. k ≢ y) after) before (leaf_names node) (Pairwise-across ◌≢◌ (before ++ leaf_names node) after whole_leaves))
 
   others_there : AreThere s (before ++ after)
@@ -156,7 +162,8 @@ module _ {K V : Type 0} {bytes : K × V → List ℕ} {P : ℕ} {s u t : Nodes K
   kept_leaf_at p off = same_leaves K V (get t.leaves p) (get u.leaves p) (into.freed.beside (leaf_name p) off (λ z. z))
 
   kept_inner_at : (k : OpaqueNodePtr) → k.kind ≢ Leaf → (IsIn k (names_of node) → ⊥) → get t.inners (as_inner k) ≡ get u.inners (as_inner k)
-  kept_inner_at k kind off = same_inners K V (get t.inners (as_inner k)) (get u.inners (as_inner k)) (sym (held_in_inner t k.kind k.slot kind) ∙ into.freed.beside k off (λ z. z) ∙ held_in_inner u k.kind k.slot kind)
+  kept_inner_at k kind off =
+      same_inners K V (get t.inners (as_inner k)) (get u.inners (as_inner k)) (sym (held_in_inner t k.kind k.slot kind) ∙ into.freed.beside k off (λ z. z) ∙ held_in_inner u k.kind k.slot kind)
 
   -- what was placed and written before that
   placed_same : SameBut (node_at s) (node_at u) fs []
@@ -167,7 +174,8 @@ module _ {K V : Type 0} {bytes : K × V → List ℕ} {P : ℕ} {s u t : Nodes K
   hole_linked =
       let comes = leaf_comes s t before after n x outer others_there into.fresh into.last into.first (λ p i. kept_leaf_at p (off p i) ∙ ap (λ z. get z p) into.leaves) in
       subst (λ ks. AreLinked (links_at t) None ks None) (sym (leaf_names-plug fs (leaf (leaf_name n) new)))
-      (relink (links_at s) (links_at t) before (leaf_name n ∷ []) after outer (relinked_beside comes) (leaf_names node) (subst (λ ks. AreLinked (links_at s) None ks None) (leaf_names-plug fs node) old.linked))
+      (relink (links_at s) (links_at t) before (leaf_name n ∷ []) after outer (relinked_beside comes) (leaf_names node)
+      (subst (λ ks. AreLinked (links_at s) None ks None) (leaf_names-plug fs node) old.linked))
     where
       off : (p : LeafPtr) → IsIn (leaf_name p) (before ++ leaf_name n ∷ after) → IsIn (leaf_name p) (names_of node) → ⊥
       off p i j = elim (in_either (leaf_name p) before (leaf_name n ∷ after) i) [
@@ -179,8 +187,10 @@ module _ {K V : Type 0} {bytes : K × V → List ℕ} {P : ℕ} {s u t : Nodes K
   hole_alone = record {
     hole = into.hole;
     named = inr was_free;
-    there = node_at-leaf t n ∙ ap (λ o. option_map leaf_node (option_map pair_of o)) (kept_leaf_at n new_apart ∙ ap (λ z. get z n) into.leaves ∙ with_leaf_here s.leaves n x (λ e. hole_previous n e into.fresh) (λ e. hole_next n e into.fresh));
-    parent = parent_written bytes P s t s.inners fs place (name_of node) (leaf_name n) into.hole.path above (λ k up. refl) (λ k up. kept_inner_at k (parent_there bytes P s fs (name_of node) above k up).0 (up_apart k up) ∙ ap (λ z. get z (as_inner k)) into.inners);
+    there = node_at-leaf t n ∙ ap (λ o. option_map leaf_node (option_map pair_of o))
+        (kept_leaf_at n new_apart ∙ ap (λ z. get z n) into.leaves ∙ with_leaf_here s.leaves n x (λ e. hole_previous n e into.fresh) (λ e. hole_next n e into.fresh));
+    parent = parent_written bytes P s t s.inners fs place (name_of node) (leaf_name n) into.hole.path above (λ k up. refl)
+        (λ k up. kept_inner_at k (parent_there bytes P s fs (name_of node) above k up).0 (up_apart k up) ∙ ap (λ z. get z (as_inner k)) into.inners);
     same = λ k up off used. ap (option_map (seen k.kind)) (into.freed.beside k off (λ z. z)) ∙ placed_same k up (λ z. z) used;
     linked = hole_linked;
   }
@@ -191,7 +201,9 @@ module _ {K V : Type 0} {bytes : K × V → List ℕ} {P : ℕ} {s u t : Nodes K
   all_related = filter_all (λ y. are_related (bytes new) (bytes y)) (pairs_of node) into.related
 
   none_left : replace_related bytes new (pairs_of node) ≡ new ∷ []
-  none_left = ap (add_in_order bytes new) (filter_none (λ y. not (are_related (bytes new) (bytes y))) (pairs_of node) (Each-weaker (λ y. are_related (bytes new) (bytes y) ≡ true) (λ y. not (are_related (bytes new) (bytes y)) ≡ false) (λ y e. ap not e) (pairs_of node) into.related))
+  none_left =
+      ap (add_in_order bytes new) (filter_none (λ y. not (are_related (bytes new) (bytes y))) (pairs_of node)
+      (Each-weaker (λ y. are_related (bytes new) (bytes y) ≡ true) (λ y. not (are_related (bytes new) (bytes y)) ≡ false) (λ y e. ap not e) (pairs_of node) into.related))
 
   -- those in the hole are all that are related
   pub hole_related : related_to bytes (bytes new) (pairs_of (plug fs node)) ≡ pairs_of node
@@ -242,7 +254,8 @@ module _ {K V : Type 0} {bytes : K × V → List ℕ} {P : ℕ} {s u t : Nodes K
       each_in (λ q. IsIn q (names_of node) → ⊥) k (both_names beside (parents fs ++ []))
       (Each-append (λ q. IsIn q (names_of node) → ⊥) (map leaf_name beside) (map inner_name (parents fs ++ []))
       (each_map leaf_name (λ q. IsIn q (names_of node) → ⊥) beside (each_from (λ p. IsIn (leaf_name p) (names_of node) → ⊥) beside (λ p h. beside_apart (leaf_name p) (beside_changed p h))))
-      (each_map inner_name (λ q. IsIn q (names_of node) → ⊥) (parents fs ++ []) (each_from (λ p. IsIn (inner_name p) (names_of node) → ⊥) (parents fs ++ []) (λ p h l. let (q, up, e) = parents_up p h in up_apart q up (subst (λ z. IsIn z (names_of node)) e l))))) j i
+      (each_map inner_name (λ q. IsIn q (names_of node) → ⊥) (parents fs ++ [])
+      (each_from (λ p. IsIn (inner_name p) (names_of node) → ⊥) (parents fs ++ []) (λ p h l. let (q, up, e) = parents_up p h in up_apart q up (subst (λ z. IsIn z (names_of node)) e l))))) j i
 
   hole_used : Each (IsUsed s) (names_of node)
   hole_used = Each-weaker (IsTaken (node_at s)) (IsUsed s) (λ k used e. used (ap (option_map (seen k.kind)) e)) (names_of node) (all_taken (node_at s) node hole_held)
@@ -256,7 +269,8 @@ module _ {K V : Type 0} {bytes : K × V → List ℕ} {P : ℕ} {s u t : Nodes K
   hole_touches =
       let few = length-beside x.next x.previous in
       let up = length-parents fs [] in
-      let all : length (both_names beside (parents fs ++ [])) ≡ length beside + length (parents fs ++ []) = length-append (map leaf_name beside) (map inner_name (parents fs ++ [])) ∙ ap₂ (λ a b. a + b) (length-map beside leaf_name) (length-map (parents fs ++ []) inner_name) in
+      let all : length (both_names beside (parents fs ++ [])) ≡ length beside + length (parents fs ++ []) =
+      length-append (map leaf_name beside) (map inner_name (parents fs ++ [])) ∙ ap₂ (λ a b. a + b) (length-map beside leaf_name) (length-map (parents fs ++ []) inner_name) in
       (leaf_name n, both_names beside (parents fs ++ []), hole_print, omega arith)
 
   -- no key of the hole stays
@@ -272,6 +286,7 @@ module _ {K V : Type 0} {bytes : K × V → List ℕ} {P : ℕ} {s u t : Nodes K
   -- nodes that stay keep their names, and nodes beside the tree are as they were
   pub hole_kept : ChangesInPlace bytes s t (Some (plug fs node)) (Some (plug fs (leaf (leaf_name n) new)))
   hole_kept = in_place hole_print P
-      (names_around fs node (leaf (leaf_name n) new) (leaf_name n ∷ []) (names_of node) (both_names beside (parents fs ++ [])) (record { placed_in = λ k i. i; freed_in = λ k i. i; changed_in = λ k i. absurd i; old_stays = λ k i. inr i; new_comes = λ k i. inr i })
+      (names_around fs node (leaf (leaf_name n) new) (leaf_name n ∷ []) (names_of node) (both_names beside (parents fs ++ []))
+      (record { placed_in = λ k i. i; freed_in = λ k i. i; changed_in = λ k i. absurd i; old_stays = λ k i. inr i; new_comes = λ k i. inr i })
       (both_in (names_of (plug fs node)) beside (parents fs ++ []) (λ p i. in_before_whole (leaf_name p) (beside_changed p i)) (parents_in fs node [] (λ p i. absurd i))))
       (leaf_alone_keeps_leaves old hole_alone (replace_related bytes new) (replace_related-between bytes new) none_left none_stay) (leaf_alone_keeps old hole_alone)

@@ -36,7 +36,8 @@ use Rattle.art_model.proofs.Views.{leaf_or}
 use Rattle.art_model.proofs.Writes.{node_at-leaf, parent_there, parent_stays, same_but, same_inner}
 
 -- The leaf in the hole has another pair: it was written so.
-pub record IntoLeaf {K V : Type 0} (bytes : K × V → List ℕ) (P : ℕ) (s t : Nodes K V) (fs : List (Frame OpaqueNodePtr (K × V))) (place : List ℕ) (p : LeafPtr) (x : LeafNode K V) (new : K × V) : Type 0 where
+pub record IntoLeaf {K V : Type 0} (bytes : K × V → List ℕ) (P : ℕ) (s t : Nodes K V) (fs : List (Frame OpaqueNodePtr (K × V))) (place : List ℕ)
+    (p : LeafPtr) (x : LeafNode K V) (new : K × V) : Type 0 where
   pub hole : IsHole bytes P fs place (leaf (leaf_name p) (pair_of x)) (bytes new)
   pub here : get s.leaves p ≡ Some x
   pub write : LeafNode K V → LeafNode K V
@@ -44,7 +45,8 @@ pub record IntoLeaf {K V : Type 0} (bytes : K × V → List ℕ) (P : ℕ) (s t 
   pub leaves : t.leaves ≡ change s.leaves p write
   pub inners : t.inners ≡ s.inners
 
-module _ {K V : Type 0} {bytes : K × V → List ℕ} {P : ℕ} {s t : Nodes K V} {root : OpaqueNodePtr} {pairs : List (K × V)} {fs : List (Frame OpaqueNodePtr (K × V))} {place : List ℕ} {p : LeafPtr} {x : LeafNode K V} {new : K × V}
+module _ {K V : Type 0} {bytes : K × V → List ℕ} {P : ℕ} {s t : Nodes K V} {root : OpaqueNodePtr} {pairs : List (K × V)}
+    {fs : List (Frame OpaqueNodePtr (K × V))} {place : List ℕ} {p : LeafPtr} {x : LeafNode K V} {new : K × V}
     (old : IsLaidOut bytes P (node_at s) (links_at s) root pairs (plug fs (leaf (leaf_name p) (pair_of x)))) (into : IntoLeaf bytes P s t fs place p x new) where
   leaf_then : get t.leaves p ≡ Some (with_pair new.0 new.1 x)
   leaf_then = ap (λ z. get z p) into.leaves ∙ leaf_changed_at s.leaves p into.write ∙ ap (option_map into.write) into.here ∙ ap Some into.written
@@ -70,13 +72,17 @@ module _ {K V : Type 0} {bytes : K × V → List ℕ} {P : ℕ} {s t : Nodes K V
     named = inl (inl refl);
     there = node_at-leaf t p ∙ ap (λ o. option_map leaf_node (option_map pair_of o)) leaf_then;
     parent = parent_stays (node_at s) (node_at t) fs (leaf_name p) above (λ k is. same_inner s t k (parent_there bytes P s fs (leaf_name p) above k is).0 (ap (λ z. get z (as_inner k)) into.inners));
-    same = same_but s t fs (leaf_name p ∷ []) (λ q off used. ap (option_map pair_of) (other_leaf q (λ e. off (inl (ap leaf_name (sym e)))))) (λ k kind up off used. ap (λ z. get z (as_inner k)) into.inners);
+    same = same_but s t fs (leaf_name p ∷ []) (λ q off used. ap (option_map pair_of) (other_leaf q (λ e. off (inl (ap leaf_name (sym e))))))
+        (λ k kind up off used. ap (λ z. get z (as_inner k)) into.inners);
     linked = linked_still fs (leaf_name p) (pair_of x) new old (λ k i. links_same k);
   }
 
   -- the same root is canonical for what an operation makes of the pairs that puts the new one in the place of the leaf's
-  pub leaf_changed : (F : List (K × V) → List (K × V)) → IsLocal bytes (bytes new) F → F (pair_of x ∷ []) ≡ new ∷ [] → IsLaidOut bytes P (node_at t) (links_at t) root (F pairs) (plug fs (leaf (leaf_name p) new))
-  leaf_changed F local its = subst (λ r. IsLaidOut bytes P (node_at t) (links_at t) r (F pairs) (plug fs (leaf (leaf_name p) new))) (root_stays fs (leaf (leaf_name p) (pair_of x)) old.named) (leaf_alone old alone F local its)
+  pub leaf_changed : (F : List (K × V) → List (K × V)) → IsLocal bytes (bytes new) F → F (pair_of x ∷ []) ≡ new ∷ [] →
+      IsLaidOut bytes P (node_at t) (links_at t) root (F pairs) (plug fs (leaf (leaf_name p) new))
+  leaf_changed F local its =
+      subst (λ r. IsLaidOut bytes P (node_at t) (links_at t) r (F pairs) (plug fs (leaf (leaf_name p) new)))
+      (root_stays fs (leaf (leaf_name p) (pair_of x)) old.named) (leaf_alone old alone F local its)
 
   leaf_print : Footprint s t [] [] (leaf_name p ∷ [])
   leaf_print =
@@ -89,9 +95,18 @@ module _ {K V : Type 0} {bytes : K × V → List ℕ} {P : ℕ} {s t : Nodes K V
   leaf_touches = ([], [], leaf_name p ∷ [], leaf_print, omega arith, omega arith, omega arith)
 
   -- and all nodes keep their names
-  pub leaf_kept : (F : List (K × V) → List (K × V)) → IsLocal bytes (bytes new) F → F (pair_of x ∷ []) ≡ new ∷ [] → ChangesInPlace bytes s t (Some (plug fs (leaf (leaf_name p) (pair_of x)))) (Some (plug fs (leaf (leaf_name p) new)))
+  pub leaf_kept : (F : List (K × V) → List (K × V)) → IsLocal bytes (bytes new) F → F (pair_of x ∷ []) ≡ new ∷ [] →
+      ChangesInPlace bytes s t (Some (plug fs (leaf (leaf_name p) (pair_of x)))) (Some (plug fs (leaf (leaf_name p) new)))
   leaf_kept F local its = in_place leaf_print P
-      (names_around fs (leaf (leaf_name p) (pair_of x)) (leaf (leaf_name p) new) [] [] (leaf_name p ∷ []) (record { placed_in = λ k i. absurd i; freed_in = λ k i. absurd i; changed_in = λ k i. absurd i; old_stays = λ k i. inl i; new_comes = λ k i. inl i }) (in_hole fs (leaf (leaf_name p) (pair_of x))))
+      (names_around fs (leaf (leaf_name p) (pair_of x)) (leaf (leaf_name p) new) [] [] (leaf_name p ∷ [])
+      (record {
+        placed_in = λ k i. absurd i;
+        freed_in = λ k i. absurd i;
+        changed_in = λ k i. absurd i;
+        old_stays = λ k i. inl i;
+        new_comes = λ k
+            i. inl i;
+      }) (in_hole fs (leaf (leaf_name p) (pair_of x))))
       (leaf_alone_keeps_leaves old alone F local its (kept_leaf bytes P (leaf_name p) (pair_of x) new)) (leaf_alone_keeps old alone)
 
   -- ---- where a pair with an equal key is put: the key stays

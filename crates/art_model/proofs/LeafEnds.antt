@@ -65,7 +65,8 @@ module _ {N A : Type 0} where
     ]
 
     -- of children with others on their left
-    last_leaf_below : (m : N) (h : Header) (left cs : Children N A) → HaveChildrenBelow 1 cs → (fs : List (Frame N A)) → (cs ≡ no_child) ⊎ EndLeaf last_of last_of (leaf_names_below cs) (pairs_below cs) (plug fs (inner m h (join left cs)))
+    last_leaf_below : (m : N) (h : Header) (left cs : Children N A) → HaveChildrenBelow 1 cs → (fs : List (Frame N A)) → (cs ≡ no_child) ⊎
+        EndLeaf last_of last_of (leaf_names_below cs) (pairs_below cs) (plug fs (inner m h (join left cs)))
     last_leaf_below m h left no_child full fs = inl refl
     last_leaf_below m h left (child b t cs) full fs = elim (last_leaf_below m h (join left (child b t no_child)) cs full.1 fs) [
       | inl none ↦

@@ -48,7 +48,8 @@ module _ {K V : Type 0} where
   ]
 
   -- a change that keeps pairs
-  change_some_pair : (m : Leaves K V) (o : Option LeafPtr) (f : LeafNode K V → LeafNode K V) (q : LeafPtr) → ((x : LeafNode K V) → pair_of (f x) ≡ pair_of x) → option_map pair_of (get (change_some m o f) q) ≡ option_map pair_of (get m q)
+  change_some_pair : (m : Leaves K V) (o : Option LeafPtr) (f : LeafNode K V → LeafNode K V) (q : LeafPtr) →
+      ((x : LeafNode K V) → pair_of (f x) ≡ pair_of x) → option_map pair_of (get (change_some m o f) q) ≡ option_map pair_of (get m q)
   change_some_pair m o f q keeps = elim (some_leaf o q) [
     | inl e ↦ ap (option_map pair_of) (change_some_at m o f q e) ∙ kept (get m q)
     | inr n ↦ ap (option_map pair_of) (change_some_elsewhere m o f q n)
@@ -67,7 +68,8 @@ module _ {K V : Type 0} where
 
     -- the leaf after it
     pub joined_after : (q : LeafPtr) → after ≡ Some q → (before ≡ Some q → ⊥) → get (joined m before after next previous) q ≡ option_map (with_previous previous) (get m q)
-    joined_after q e off = change_some_at (change_some m before (with_next next)) after (with_previous previous) q e ∙ ap (option_map (with_previous previous)) (change_some_elsewhere m before (with_next next) q off)
+    joined_after q e off =
+        change_some_at (change_some m before (with_next next)) after (with_previous previous) q e ∙ ap (option_map (with_previous previous)) (change_some_elsewhere m before (with_next next) q off)
 
     -- all other leaves
     pub joined_elsewhere : (q : LeafPtr) → (before ≡ Some q → ⊥) → (after ≡ Some q → ⊥) → get (joined m before after next previous) q ≡ get m q
@@ -75,7 +77,8 @@ module _ {K V : Type 0} where
 
     -- what comes of a name depends on what was there
     pub joined-cong : (other : Leaves K V) (q : LeafPtr) → get other q ≡ get m q → get (joined other before after next previous) q ≡ get (joined m before after next previous) q
-    joined-cong other q e = change_some-cong (change_some other before (with_next next)) (change_some m before (with_next next)) after (with_previous previous) q (change_some-cong other m before (with_next next) q e)
+    joined-cong other q e =
+        change_some-cong (change_some other before (with_next next)) (change_some m before (with_next next)) after (with_previous previous) q (change_some-cong other m before (with_next next) q e)
 
     -- the pairs are what they were
     pub joined_pair : (q : LeafPtr) → option_map pair_of (get (joined m before after next previous) q) ≡ option_map pair_of (get m q)
@@ -129,7 +132,8 @@ length-beside (Some n) None = omega arith
 length-beside (Some n) (Some p) = omega arith
 
 module _ {K V : Type 0} where
-  then_change_some : {old new : Leaves K V} {placed freed changed : List LeafPtr} → Touched old new placed freed changed → (o : Option LeafPtr) (f : LeafNode K V → LeafNode K V) → IsThere old o → IsThere new o → Touched old (change_some new o f) placed freed (listed o ++ changed)
+  then_change_some : {old new : Leaves K V} {placed freed changed : List LeafPtr} → Touched old new placed freed changed →
+      (o : Option LeafPtr) (f : LeafNode K V → LeafNode K V) → IsThere old o → IsThere new o → Touched old (change_some new o f) placed freed (listed o ++ changed)
   then_change_some so_far None f was is = so_far
   then_change_some so_far (Some p) f was is = then_changed leaf_cmp_total leaf_cmp-IsAntisymmetric so_far p f (was p refl) (is p refl)
 
@@ -138,7 +142,8 @@ module _ {K V : Type 0} where
   there_changed m (Some n) q f h = λ p e. still_changed leaf_cmp_total leaf_cmp-IsAntisymmetric m n p f (h p e)
 
   -- the leaves beside a place change
-  pub then_joined : {old new : Leaves K V} {placed freed changed : List LeafPtr} → Touched old new placed freed changed → (before after next previous : Option LeafPtr) → IsThere old before → IsThere old after → IsThere new before → IsThere new after →
+  pub then_joined : {old new : Leaves K V} {placed freed changed : List LeafPtr} → Touched old new placed freed changed →
+      (before after next previous : Option LeafPtr) → IsThere old before → IsThere old after → IsThere new before → IsThere new after →
       Touched old (joined new before after next previous) placed freed (listed after ++ (listed before ++ changed))
   then_joined {new = new} so_far before after next previous was_b was_a is_b is_a =
       then_change_some (then_change_some so_far before (with_next next) was_b is_b) after (with_previous previous) was_a (there_changed new before after (with_next next) is_a)
@@ -149,12 +154,15 @@ module _ {K V : Type 0} where
     unfolding with_leaf
     touched_with_leaf free =
         let still = λ (o : Option LeafPtr) (h : IsThere m o) (p : LeafPtr) (e : o ≡ Some p). still_placed leaf_cmp_total leaf_cmp-IsAntisymmetric m n p x (h p e) in
-        then_joined (then_placed leaf_cmp_total leaf_cmp-IsAntisymmetric (touched_none m) n x free (λ i. i)) x.previous x.next (Some n) (Some n) before after (still x.previous before) (still x.next after)
+        then_joined (then_placed leaf_cmp_total leaf_cmp-IsAntisymmetric (touched_none m) n x free (λ i. i)) x.previous x.next (Some n) (Some n)
+        before after (still x.previous before) (still x.next after)
 
     -- a leaf that goes, and at most two that change
     pub touched_without_leaf : get m n ≢ None → (x.previous ≡ Some n → ⊥) → (x.next ≡ Some n → ⊥) → Touched m (without_leaf m n x) [] (n ∷ []) (listed x.next ++ (listed x.previous ++ []))
     unfolding without_leaf
-    touched_without_leaf here not_before not_after = then_freed leaf_cmp_total leaf_cmp-IsAntisymmetric (then_joined (touched_none m) x.previous x.next x.next x.previous before after before after) n here (λ i. elim (in_either n (listed x.next) (listed x.previous ++ []) i) [
-      | inl j ↦ not_after (in_listed x.next n j)
-      | inr j ↦ elim (in_either n (listed x.previous) [] j) [ inl k ↦ not_before (in_listed x.previous n k) | inr k ↦ k ]
-    ])
+    touched_without_leaf here not_before not_after =
+        then_freed leaf_cmp_total leaf_cmp-IsAntisymmetric (then_joined (touched_none m) x.previous x.next x.next x.previous before after before
+        after) n here (λ i. elim (in_either n (listed x.next) (listed x.previous ++ []) i) [
+          | inl j ↦ not_after (in_listed x.next n j)
+          | inr j ↦ elim (in_either n (listed x.previous) [] j) [ inl k ↦ not_before (in_listed x.previous n k) | inr k ↦ k ]
+        ])

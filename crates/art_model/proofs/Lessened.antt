@@ -24,11 +24,13 @@ lessened_same p = go p.inner
 pub lessened_twice : (p q r : Promise) → IsLessened p q → IsLessened q r → IsLessened p r
 lessened_twice p q r h k = go p.inner q.inner r.inner h k
   where
-    go : (a b c : Option NodeType) → covers (record { leaves = p.leaves; inner = a }) q.leaves b ≡ true → covers (record { leaves = q.leaves; inner = b }) r.leaves c ≡ true → covers (record { leaves = p.leaves; inner = a }) r.leaves c ≡ true
+    go : (a b c : Option NodeType) → covers (record { leaves = p.leaves; inner = a }) q.leaves b ≡ true →
+        covers (record { leaves = q.leaves; inner = b }) r.leaves c ≡ true → covers (record { leaves = p.leaves; inner = a }) r.leaves c ≡ true
     go a None None h k = let l = leb-true q.leaves p.leaves h in let m = leb-true r.leaves q.leaves k in le-leb r.leaves p.leaves (omega arith)
     go a None (Some c) h k = absurd (let e = (both (leb r.leaves q.leaves) false k).1 in cc)
     go None (Some b) None h k = absurd (let e = (both (leb q.leaves p.leaves) false h).1 in cc)
-    go (Some a) (Some b) None h k = let l = leb-true q.leaves p.leaves (both (leb q.leaves p.leaves) (eqb (kind_index a) (kind_index b)) h).0 in let m = leb-true r.leaves q.leaves k in le-leb r.leaves p.leaves (omega arith)
+    go (Some a) (Some b) None h k =
+        let l = leb-true q.leaves p.leaves (both (leb q.leaves p.leaves) (eqb (kind_index a) (kind_index b)) h).0 in let m = leb-true r.leaves q.leaves k in le-leb r.leaves p.leaves (omega arith)
     go None (Some b) (Some c) h k = absurd (let e = (both (leb q.leaves p.leaves) false h).1 in cc)
     go (Some a) (Some b) (Some c) h k =
         let (l, e) = both (leb q.leaves p.leaves) (eqb (kind_index a) (kind_index b)) h in

@@ -20,13 +20,15 @@ module _ {N : Type 0} where
     linked-frame (x ∷ xs) p q same h = (same.0 ∙ h.0, linked-frame xs (Some x) q same.1 h.1)
 
     -- the last leaf gets another next one
-    pub relink_end : (xs : List N) (l : N) (p q r : Option N) → Each (λ n. to n ≡ links n) xs → AreLinked links p (xs ++ l ∷ []) q → to l ≡ Some (record { previous = last_or xs p; next = r }) → AreLinked to p (xs ++ l ∷ []) r
+    pub relink_end : (xs : List N) (l : N) (p q r : Option N) → Each (λ n. to n ≡ links n) xs → AreLinked links p (xs ++ l ∷ []) q →
+        to l ≡ Some (record { previous = last_or xs p; next = r }) → AreLinked to p (xs ++ l ∷ []) r
     relink_end [] l p q r same h e = (e, tt)
     relink_end (x ∷ []) l p q r same h e = (same.0 ∙ h.0, (e, tt))
     relink_end (x ∷ y ∷ xs) l p q r same h e = (same.0 ∙ h.0, relink_end (y ∷ xs) l (Some x) q r same.1 h.1 e)
 
     -- the first leaf gets another previous one
-    pub relink_start : (x : N) (xs : List N) (p q r : Option N) → Each (λ n. to n ≡ links n) xs → AreLinked links p (x ∷ xs) q → to x ≡ Some (record { previous = r; next = first_or xs q }) → AreLinked to r (x ∷ xs) q
+    pub relink_start : (x : N) (xs : List N) (p q r : Option N) → Each (λ n. to n ≡ links n) xs → AreLinked links p (x ∷ xs) q →
+        to x ≡ Some (record { previous = r; next = first_or xs q }) → AreLinked to r (x ∷ xs) q
     relink_start x xs p q r same h e = (e, linked-frame xs (Some x) q same h.1)
 
   module _ (links : N → Option (Links N)) where
@@ -90,7 +92,8 @@ module _ {N : Type 0} where
   last_not_first xs zs k d e f = apart_in xs zs k d (last_in xs k e) (first_in zs k f)
 
   -- the links of a leaf in the chain
-  pub link_of : (links : N → Option (Links N)) (xs zs : List N) (k : N) (p q : Option N) → AreLinked links p (xs ++ k ∷ zs) q → links k ≡ Some (record { previous = last_or xs p; next = first_or zs q })
+  pub link_of : (links : N → Option (Links N)) (xs zs : List N) (k : N) (p q : Option N) → AreLinked links p (xs ++ k ∷ zs) q →
+      links k ≡ Some (record { previous = last_or xs p; next = first_or zs q })
   link_of links xs zs k p q h = (linked_rest links xs (k ∷ zs) p q h).0
 
 -- ---- other leaves in the middle
@@ -98,8 +101,10 @@ module _ {N : Type 0} where
 module _ {N : Type 0} where
   -- Between `xs` and `zs` stand `ns`: they are linked, the leaves beside them know it, and the others have the links that they had.
   pub record Relinked (links to : N → Option (Links N)) (xs ns zs : List N) : Type 0 where
-    pub on_left : (l : N) (a b : Option N) → last_or xs None ≡ Some l → links l ≡ Some (record { previous = a; next = b }) → to l ≡ Some (record { previous = a; next = first_or ns (first_or zs None) })
-    pub on_right : (l : N) (a b : Option N) → first_or zs None ≡ Some l → links l ≡ Some (record { previous = a; next = b }) → to l ≡ Some (record { previous = last_or ns (last_or xs None); next = b })
+    pub on_left : (l : N) (a b : Option N) → last_or xs None ≡ Some l → links l ≡ Some (record { previous = a; next = b }) →
+        to l ≡ Some (record { previous = a; next = first_or ns (first_or zs None) })
+    pub on_right : (l : N) (a b : Option N) → first_or zs None ≡ Some l → links l ≡ Some (record { previous = a; next = b }) →
+        to l ≡ Some (record { previous = last_or ns (last_or xs None); next = b })
     pub inside : AreLinked to (last_or xs None) ns (first_or zs None)
     pub others : (k : N) → IsIn k (xs ++ zs) → (last_or xs None ≡ Some k → ⊥) → (first_or zs None ≡ Some k → ⊥) → to k ≡ links k
 
@@ -132,7 +137,8 @@ module _ {N : Type 0} (links to : N → Option (Links N)) (xs ns zs : List N) (d
           let first : first_or zs None ≡ Some w = ap (λ z. first_or z None) e in
           let same = each_from (λ k. to k ≡ links k) ws (λ k i.
           let among : IsIn k (xs ++ zs) = in_right k xs zs (subst (IsIn k) (sym e) (inr i)) in
-          change.others k among (λ f. apart_in (xs ++ w ∷ []) ws k all (in_left k xs (w ∷ []) (last_in xs k f)) i) (λ f. let g : w ≡ k = cc in apart_in (xs ++ w ∷ []) ws k all (in_right k xs (w ∷ []) (inl g)) i)) in
+          change.others k among (λ f. apart_in (xs ++ w ∷ []) ws k all (in_left k xs (w ∷ []) (last_in xs k f)) i)
+          (λ f. let g : w ≡ k = cc in apart_in (xs ++ w ∷ []) ws k all (in_right k xs (w ∷ []) (inl g)) i)) in
           relink_start links to w ws o None (last_or ns (last_or xs None)) same h' (change.on_right w o (first_or ws None) first h'.0)
 
   -- the chain with other leaves in the middle

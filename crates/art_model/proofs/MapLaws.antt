@@ -83,7 +83,9 @@ module _ {A : Type 0} (bytes : A → List ℕ) where
   after_is_unrelated x xs h = Each-weaker (λ y. Precedes (bytes x) (bytes y)) (λ y. are_related (bytes x) (bytes y) ≡ false) (λ y p. p.1) xs h
 
   all_stay : (key : List ℕ) (xs : List A) → Unrelated key xs → remove_key bytes key xs ≡ xs
-  all_stay key xs h = filter_all (λ x. not (are_same key (bytes x))) xs (Each-weaker (λ x. are_related key (bytes x) ≡ false) (λ x. not (are_same key (bytes x)) ≡ true) (λ x e. not_false (are_same key (bytes x)) (same_related key (bytes x) e)) xs h)
+  all_stay key xs h =
+      filter_all (λ x. not (are_same key (bytes x))) xs (Each-weaker (λ x. are_related key (bytes x) ≡ false)
+      (λ x. not (are_same key (bytes x)) ≡ true) (λ x e. not_false (are_same key (bytes x)) (same_related key (bytes x) e)) xs h)
 
   -- ---- a map
 
@@ -93,7 +95,8 @@ module _ {A : Type 0} (bytes : A → List ℕ) where
   few_pass test f (x ∷ xs) h = go (few_pass test f xs h.1) (test x) refl
     where
       go : length (filter test xs) ≤ 1 → (t : Bool) → test x ≡ t → length (cond t (x ∷ filter test xs) (filter test xs)) ≤ 1
-      go ih true e = rw (filter_none test xs (Each-weaker (λ y. Precedes (bytes x) (bytes y)) (λ y. test y ≡ false) (λ y p. fails (test y) (λ g. true≢false (sym (f x y e g) ∙ p.1))) xs h.0)) (omega arith)
+      go ih true e =
+          rw (filter_none test xs (Each-weaker (λ y. Precedes (bytes x) (bytes y)) (λ y. test y ≡ false) (λ y p. fails (test y) (λ g. true≢false (sym (f x y e g) ∙ p.1))) xs h.0)) (omega arith)
       go ih false e = ih
 
   pub keys_are_once : KeysAreOnce bytes
@@ -136,7 +139,8 @@ module _ {A : Type 0} (bytes : A → List ℕ) where
       R y z = Precedes (bytes y) (bytes z)
 
       go : IsMap bytes (add_in_order bytes new xs) → (t : Bool) → is_before (bytes new) (bytes x) ≡ t → IsMap bytes (cond t (new ∷ x ∷ xs) (x ∷ add_in_order bytes new xs))
-      go ih true e = (((e, apart.0), Each-both (R x) (λ y. are_related (bytes new) (bytes y) ≡ false) (R new) (λ y p a. (order_is_transitive (bytes new) (bytes x) (bytes y) e p.0, a)) xs map.0 apart.1), map)
+      go ih true e =
+          (((e, apart.0), Each-both (R x) (λ y. are_related (bytes new) (bytes y) ≡ false) (R new) (λ y p a. (order_is_transitive (bytes new) (bytes x) (bytes y) e p.0, a)) xs map.0 apart.1), map)
       go ih false e = (Each-add bytes (R x) new xs (other_way (bytes new) (bytes x) e apart.0) map.0, ih)
 
   left_unrelated : (key : List ℕ) (xs : List A) → is_conflict bytes key xs ≡ false → Unrelated key (remove_key bytes key xs)
@@ -150,16 +154,20 @@ module _ {A : Type 0} (bytes : A → List ℕ) where
       go ih false e = (and_true (are_related key (bytes x)) e, ih)
 
   rest_unrelated : (key : List ℕ) (xs : List A) → Unrelated key (remove_related bytes key xs)
-  rest_unrelated key xs = Each-weaker (λ x. not (are_related key (bytes x)) ≡ true) (λ x. are_related key (bytes x) ≡ false) (λ x e. not_true (are_related key (bytes x)) e) (remove_related bytes key xs) (filter_passes (λ x. not (are_related key (bytes x))) xs)
+  rest_unrelated key xs =
+      Each-weaker (λ x. not (are_related key (bytes x)) ≡ true) (λ x. are_related key (bytes x) ≡ false)
+      (λ x e. not_true (are_related key (bytes x)) e) (remove_related bytes key xs) (filter_passes (λ x. not (are_related key (bytes x))) xs)
 
   -- a pair in the place of others leaves a map
   replaced_map : (new : A) (pairs : List A) → IsMap bytes pairs → is_conflict bytes (bytes new) pairs ≡ false → IsMap bytes (replace_key bytes new pairs)
   replaced_map new pairs map free =
-      added new (remove_key bytes (bytes new) pairs) (Pairwise-filter (λ x y. Precedes (bytes x) (bytes y)) (λ x. not (are_same (bytes new) (bytes x))) pairs map) (left_unrelated (bytes new) pairs free)
+      added new (remove_key bytes (bytes new) pairs) (Pairwise-filter (λ x y. Precedes (bytes x) (bytes y))
+      (λ x. not (are_same (bytes new) (bytes x))) pairs map) (left_unrelated (bytes new) pairs free)
 
   related_replaced_map : (new : A) (pairs : List A) → IsMap bytes pairs → IsMap bytes (replace_related bytes new pairs)
   related_replaced_map new pairs map =
-      added new (remove_related bytes (bytes new) pairs) (Pairwise-filter (λ x y. Precedes (bytes x) (bytes y)) (λ x. not (are_related (bytes new) (bytes x))) pairs map) (rest_unrelated (bytes new) pairs)
+      added new (remove_related bytes (bytes new) pairs) (Pairwise-filter (λ x y. Precedes (bytes x) (bytes y))
+      (λ x. not (are_related (bytes new) (bytes x))) pairs map) (rest_unrelated (bytes new) pairs)
 
   -- ---- what is found
 
@@ -167,7 +175,9 @@ module _ {A : Type 0} (bytes : A → List ℕ) where
   not_key key gone x h e = not_false (are_same gone (bytes x)) (subst (λ k. are_same gone k ≡ false) (sym (same_equal key (bytes x) e)) (same_sym key gone h))
 
   none_same : (key gone : List ℕ) (pairs : List A) → key ≡ gone → Each (λ x. are_same key (bytes x) ≡ false) (remove_key bytes gone pairs)
-  none_same key gone pairs e = Each-weaker (λ x. not (are_same gone (bytes x)) ≡ true) (λ x. are_same key (bytes x) ≡ false) (λ x h. rw e (not_true (are_same gone (bytes x)) h)) (remove_key bytes gone pairs) (filter_passes (λ x. not (are_same gone (bytes x))) pairs)
+  none_same key gone pairs e =
+      Each-weaker (λ x. not (are_same gone (bytes x)) ≡ true) (λ x. are_same key (bytes x) ≡ false)
+      (λ x h. rw e (not_true (are_same gone (bytes x)) h)) (remove_key bytes gone pairs) (filter_passes (λ x. not (are_same gone (bytes x))) pairs)
 
   pub removed_is_gone : RemovedIsGone bytes
   removed_is_gone key gone pairs = go (are_same key gone) refl
@@ -181,7 +191,9 @@ module _ {A : Type 0} (bytes : A → List ℕ) where
     where
       go : (t : Bool) → are_same key (bytes new) ≡ t → with_key bytes key (replace_key bytes new pairs) ≡ cond t (new ∷ []) (with_key bytes key pairs)
       go true e = filter_add_alone bytes (λ x. are_same key (bytes x)) new (remove_key bytes (bytes new) pairs) e (none_same key (bytes new) pairs (sym (same_equal key (bytes new) e)))
-      go false e = filter_add bytes (λ x. are_same key (bytes x)) new (remove_key bytes (bytes new) pairs) e ∙ filter_filter (λ x. are_same key (bytes x)) (λ x. not (are_same (bytes new) (bytes x))) (λ x h. not_key key (bytes new) x e h) pairs
+      go false e =
+          filter_add bytes (λ x. are_same key (bytes x)) new (remove_key bytes (bytes new) pairs) e ∙
+          filter_filter (λ x. are_same key (bytes x)) (λ x. not (are_same (bytes new) (bytes x))) (λ x h. not_key key (bytes new) x e h) pairs
 
   related_replaced_is_found : (key : List ℕ) (new : A) (pairs : List A) →
       with_key bytes key (replace_related bytes new pairs) ≡ cond (are_same key (bytes new)) (new ∷ []) (cond (are_related key (bytes new)) [] (with_key bytes key pairs))
@@ -193,9 +205,13 @@ module _ {A : Type 0} (bytes : A → List ℕ) where
           (λ x h. not_same k (bytes x) (λ e. true≢false (sym (subst (λ z. are_related (bytes new) z ≡ true) e (related_sym (bytes new) k ∙ related)) ∙ h)))
           (remove_related bytes (bytes new) pairs) (rest_unrelated (bytes new) pairs)
 
-      go : (s t : Bool) → are_same key (bytes new) ≡ s → are_related key (bytes new) ≡ t → with_key bytes key (replace_related bytes new pairs) ≡ cond s (new ∷ []) (cond t [] (with_key bytes key pairs))
-      go true t e r = filter_add_alone bytes (λ x. are_same key (bytes x)) new (remove_related bytes (bytes new) pairs) e (other key (equal_related key (bytes new) (sym (same_equal key (bytes new) e))))
-      go false true e r = filter_add bytes (λ x. are_same key (bytes x)) new (remove_related bytes (bytes new) pairs) e ∙ filter_none (λ x. are_same key (bytes x)) (remove_related bytes (bytes new) pairs) (other key r)
+      go : (s t : Bool) → are_same key (bytes new) ≡ s → are_related key (bytes new) ≡ t →
+          with_key bytes key (replace_related bytes new pairs) ≡ cond s (new ∷ []) (cond t [] (with_key bytes key pairs))
+      go true t e r =
+          filter_add_alone bytes (λ x. are_same key (bytes x)) new (remove_related bytes (bytes new) pairs) e (other key (equal_related key (bytes new) (sym (same_equal key (bytes new) e))))
+      go false true e r =
+          filter_add bytes (λ x. are_same key (bytes x)) new (remove_related bytes (bytes new) pairs) e ∙
+          filter_none (λ x. are_same key (bytes x)) (remove_related bytes (bytes new) pairs) (other key r)
       go false false e r = filter_add bytes (λ x. are_same key (bytes x)) new (remove_related bytes (bytes new) pairs) e
           ∙ filter_filter (λ x. are_same key (bytes x)) (λ x. not (are_related (bytes new) (bytes x)))
           (λ x h. not_false (are_related (bytes new) (bytes x)) (subst (λ z. are_related (bytes new) z ≡ false) (sym (same_equal key (bytes x) h)) (related_sym (bytes new) key ∙ r))) pairs
@@ -223,7 +239,8 @@ module _ {A : Type 0} (bytes : A → List ℕ) where
       rest key e true h = let both = rw (e, h) at (alike key) in cc
       rest key e false h = rw (e, h) at (alike key)
 
-      go : (is_before (bytes x) (bytes y) ≡ true) ⊎ ((bytes x ≡ bytes y) ⊎ (is_before (bytes y) (bytes x) ≡ true)) → (((key : List ℕ) → with_key bytes key ys ≡ with_key bytes key xs) → ys ≡ xs) → y ∷ ys ≡ x ∷ xs
+      go : (is_before (bytes x) (bytes y) ≡ true) ⊎ ((bytes x ≡ bytes y) ⊎ (is_before (bytes y) (bytes x) ≡ true)) →
+          (((key : List ℕ) → with_key bytes key ys ≡ with_key bytes key xs) → ys ≡ xs) → y ∷ ys ≡ x ∷ xs
       go (inl h) ih = let e = sym (own x xs) ∙ sym (alike (bytes x)) ∙ none_before (bytes x) y ys h maps.0 in absurd cc
       go (inr (inr h)) ih = let e = sym (own y ys) ∙ alike (bytes y) ∙ none_before (bytes y) x xs h map.0 in absurd cc
       go (inr (inl e)) ih =

@@ -34,7 +34,9 @@ module _ {N A : Type 0} {part : Tree N A → List N} {parts : Children N A → L
 
     pub among_below : (Q : N → Type 0) (cs : Children N A) → Each Q (names_below cs) → Each Q (parts cs)
     among_below Q no_child h = subst (Each Q) (sym takes.of_none) tt
-    among_below Q (child b t cs) h = subst (Each Q) (sym (takes.of_child b t cs)) (Each-append Q (part t) (parts cs) (among Q t (Each-left Q (names_of t) (names_below cs) h)) (among_below Q cs (Each-right Q (names_of t) (names_below cs) h)))
+    among_below Q (child b t cs) h =
+        subst (Each Q) (sym (takes.of_child b t cs)) (Each-append Q (part t) (parts cs) (among Q t (Each-left Q (names_of t) (names_below cs) h))
+        (among_below Q cs (Each-right Q (names_of t) (names_below cs) h)))
 
   -- so those that are taken are names of the tree
   pub taken_in : (t : Tree N A) (k : N) → IsIn k (part t) → IsIn k (names_of t)
@@ -55,7 +57,8 @@ module _ {N A : Type 0} {part : Tree N A → List N} {parts : Children N A → L
         let cross = Pairwise-across ◌≢◌ (names_of t) (names_below cs) d in
         subst AreDistinct (sym (takes.of_child b t cs)) (Pairwise-append ◌≢◌ (part t) (parts cs)
         (taken_distinct t (Pairwise-left ◌≢◌ (names_of t) (names_below cs) d)) (taken_distinct_below cs (Pairwise-right ◌≢◌ (names_of t) (names_below cs) d))
-        (among (λ x. Each (λ z. x ≢ z) (parts cs)) t (Each-weaker (λ x. Each (λ z. x ≢ z) (names_below cs)) (λ x. Each (λ z. x ≢ z) (parts cs)) (λ x k. among_below (λ z. x ≢ z) cs k) (names_of t) cross)))
+        (among (λ x. Each (λ z. x ≢ z) (parts cs)) t (Each-weaker (λ x. Each (λ z. x ≢ z) (names_below cs)) (λ x. Each (λ z. x ≢ z) (parts cs))
+        (λ x k. among_below (λ z. x ≢ z) cs k) (names_of t) cross)))
 
 module _ {N A : Type 0} where
   -- the names of the leaves
@@ -97,7 +100,8 @@ module _ {N A : Type 0} (at : N → Option (Node N A)) where
       let xo = Pairwise-left ◌≢◌ (xs ++ old) zs all in
       let cross = Pairwise-across ◌≢◌ (xs ++ old) zs all in
       Pairwise-append ◌≢◌ (xs ++ new) zs
-      (Pairwise-append ◌≢◌ xs new (Pairwise-left ◌≢◌ xs old xo) d (each_from (λ x. Each (λ k. x ≢ k) new) xs (λ x i. each_from (λ k. x ≢ k) new (λ k j e. before x k e xo i (each_in (λ k. IsIn k old ⊎ (at k ≡ None)) k new on j)))))
+      (Pairwise-append ◌≢◌ xs new (Pairwise-left ◌≢◌ xs old xo) d (each_from (λ x. Each (λ k. x ≢ k) new) xs
+      (λ x i. each_from (λ k. x ≢ k) new (λ k j e. before x k e xo i (each_in (λ k. IsIn k old ⊎ (at k ≡ None)) k new on j)))))
       (Pairwise-right ◌≢◌ (xs ++ old) zs all)
       (Each-append (λ x. Each (λ z. x ≢ z) zs) xs new (Each-left (λ x. Each (λ z. x ≢ z) zs) xs old cross)
       (Each-weaker (λ k. IsIn k old ⊎ (at k ≡ None)) (λ k. Each (λ z. k ≢ z) zs) (λ k. after k (Each-right (λ x. Each (λ z. x ≢ z) zs) xs old cross)) new on))

@@ -28,7 +28,8 @@ module _ {A : Type 0} (bytes : A → List ℕ) (key : List ℕ) where
   IsOff x = IsFront (bytes x) key → ⊥
 
   pub none_match : (xs : List A) → Each IsOff xs → match_of bytes key xs ≡ []
-  none_match xs off = filter_none (λ x. is_front (bytes x) key) xs (Each-weaker IsOff (λ x. is_front (bytes x) key ≡ false) (λ x o. is_false (is_front (bytes x) key) (λ e. o (front_from (bytes x) key e))) xs off)
+  none_match xs off =
+      filter_none (λ x. is_front (bytes x) key) xs (Each-weaker IsOff (λ x. is_front (bytes x) key ≡ false) (λ x o. is_false (is_front (bytes x) key) (λ e. o (front_from (bytes x) key e))) xs off)
 
   -- nothing beside the middle matches
   pub match_between : (xs ys zs : List A) → Each IsOff xs → Each IsOff zs → match_of bytes key (xs ++ ys ++ zs) ≡ match_of bytes key ys
@@ -89,10 +90,12 @@ module _ {N A : Type 0} (bytes : A → List ℕ) (P : ℕ) (front key : List ℕ
 
 places_below-join : {N A : Type 0} (bytes : A → List ℕ) (d : ℕ) (cs ds : Children N A) → places_below bytes d (join cs ds) ≡ places_below bytes d cs ++ places_below bytes d ds
 places_below-join bytes d no_child ds = refl
-places_below-join bytes d (child b t cs) ds = ap (λ l. places bytes d t ++ l) (places_below-join bytes d cs ds) ∙ sym (append_assoc (places bytes d t) (places_below bytes d cs) (places_below bytes d ds))
+places_below-join bytes d (child b t cs) ds =
+    ap (λ l. places bytes d t ++ l) (places_below-join bytes d cs ds) ∙ sym (append_assoc (places bytes d t) (places_below bytes d cs) (places_below bytes d ds))
 
 -- all that is on the key's way is below the child between
-module _ {N A : Type 0} (bytes : A → List ℕ) (P : ℕ) (front key : List ℕ) (l : Children N A) (b : ℕ) (t : Tree N A) (r : Children N A) (radix : AreRadix bytes P front (join l (child b t r))) (low : AreAside front key l) (high : AreAside front key r) where
+module _ {N A : Type 0} (bytes : A → List ℕ) (P : ℕ) (front key : List ℕ) (l : Children N A) (b : ℕ) (t : Tree N A) (r : Children N A)
+    (radix : AreRadix bytes P front (join l (child b t r))) (low : AreAside front key l) (high : AreAside front key r) where
   left : AreRadix bytes P front l
   left = AreRadix-left bytes P front l (child b t r) radix
 
@@ -107,7 +110,8 @@ module _ {N A : Type 0} (bytes : A → List ℕ) (P : ℕ) (front key : List ℕ
   pub places_between : (d : ℕ) → d ≡ length front + 1 → match_of (λ node. node.0) key (places_below bytes d (join l (child b t r))) ≡ match_of (λ node. node.0) key (places bytes d t)
   places_between d deep =
       ap (match_of (λ node. node.0) key) (places_below-join bytes d l (child b t r) ∙ sym (append_assoc (places_below bytes d l) (places bytes d t) (places_below bytes d r)))
-      ∙ match_between (λ node. node.0) key (places_below bytes d l) (places bytes d t) (places_below bytes d r) (aside_places bytes P front key d l deep left low) (aside_places bytes P front key d r deep right high)
+      ∙ match_between (λ node. node.0) key (places_below bytes d l) (places bytes d t) (places_below bytes d r)
+      (aside_places bytes P front key d l deep left low) (aside_places bytes P front key d r deep right high)
 
 -- the child that an inner node's slots have under a byte: the others stand under other bytes
 pub record IsUnder {A : Type 0} (cs : Children OpaqueNodePtr A) (b : ℕ) (name : OpaqueNodePtr) : Type 0 where
@@ -127,15 +131,34 @@ module _ {A : Type 0} where
       go : (child_at (slots_of cs) b ≡ Some name → IsUnder cs b name) → (q : Bool) → eqb c b ≡ q → cond q (Some (name_of t)) (child_at (slots_of cs) b) ≡ Some name → IsUnder (child c t cs) b name
       go ih true is e =
           let same : c ≡ b = eqb-true c b is in
-          record { left = no_child; tree = t; right = cs; whole = ap (λ z. child z t cs) same; named = cc; others_left = tt; others_right = Each-weaker (λ d. c < d) (λ d. d ≢ b) (λ d o f. omega arith) (bytes_of cs) up.0 }
+          record {
+            left = no_child;
+            tree = t;
+            right = cs;
+            whole = ap (λ z. child z t cs) same;
+            named = cc;
+            others_left = tt;
+            others_right
+                = Each-weaker (λ d. c < d) (λ d. d ≢ b) (λ d o f. omega arith) (bytes_of cs) up.0;
+          }
       go ih false is e =
           let u = ih e in
-          record { left = child c t u.left; tree = u.tree; right = u.right; whole = ap (child c t) u.whole; named = u.named; others_left = (eqb-false c b is, u.others_left); others_right = u.others_right }
+          record {
+            left = child c t u.left;
+            tree = u.tree;
+            right = u.right;
+            whole = ap (child c t) u.whole;
+            named = u.named;
+            others_left
+                = (eqb-false c b is, u.others_left);
+            others_right = u.others_right;
+          }
 
   pub no_child_under : (cs : Children OpaqueNodePtr A) (b : ℕ) → child_at (slots_of cs) b ≡ None → Each (λ c. c ≢ b) (bytes_of cs)
   no_child_under no_child b e = tt
   no_child_under (child c t cs) b e = go (no_child_under cs b) (eqb c b) refl e
     where
-      go : (child_at (slots_of cs) b ≡ None → Each (λ c. c ≢ b) (bytes_of cs)) → (q : Bool) → eqb c b ≡ q → cond q (Some (name_of t)) (child_at (slots_of cs) b) ≡ None → Each (λ c. c ≢ b) (bytes_of (child c t cs))
+      go : (child_at (slots_of cs) b ≡ None → Each (λ c. c ≢ b) (bytes_of cs)) → (q : Bool) → eqb c b ≡ q →
+          cond q (Some (name_of t)) (child_at (slots_of cs) b) ≡ None → Each (λ c. c ≢ b) (bytes_of (child c t cs))
       go ih true is e = absurd cc
       go ih false is e = (eqb-false c b is, ih e)

@@ -51,7 +51,8 @@ module _ {A : Type 0} where
   remove_child-above (child c t cs) b h = rw (ne_eqb c b (λ e. let l = h.0 in omega arith)) (ap (λ z. (c, name_of t) ∷ z) (remove_child-above cs b h.1))
 
   -- the others stay
-  pub remove_child-there : (l r : Children OpaqueNodePtr A) (b : ℕ) (t : Tree OpaqueNodePtr A) → Each (λ c. c < b) (bytes_of l) → Each (λ c. b < c) (bytes_of r) → remove_child (slots_of (join l (child b t r))) b ≡ slots_of (join l r)
+  pub remove_child-there : (l r : Children OpaqueNodePtr A) (b : ℕ) (t : Tree OpaqueNodePtr A) → Each (λ c. c < b) (bytes_of l) →
+      Each (λ c. b < c) (bytes_of r) → remove_child (slots_of (join l (child b t r))) b ≡ slots_of (join l r)
   remove_child-there no_child r b t low high = rw (eq-eqb b b refl) (remove_child-above r b high)
   remove_child-there (child c u l) r b t low high = rw (ne_eqb c b (λ e. let h = low.0 in omega arith)) (ap (λ z. (c, name_of u) ∷ z) (remove_child-there l r b t low.1 high))
 
@@ -119,7 +120,8 @@ pub record ParentStays {K V : Type 0} (s t : Nodes K V) (f : Frame OpaqueNodePtr
   pub inners : t.inners ≡ change s.inners (as_inner f.mark) (without_child f.byte)
 
 -- The leaf goes, and a node of the next smaller kind takes the place of its parent, which has as many children as its kind has at least.
-pub record ParentShrinks {K V : Type 0} (s t : Nodes K V) (f : Frame OpaqueNodePtr (K × V)) (fs : List (Frame OpaqueNodePtr (K × V))) (n : LeafPtr) (x : LeafNode K V) (q : InnerPtr) (node : Inner) : Type 0 where
+pub record ParentShrinks {K V : Type 0} (s t : Nodes K V) (f : Frame OpaqueNodePtr (K × V)) (fs : List (Frame OpaqueNodePtr (K × V))) (n : LeafPtr)
+    (x : LeafNode K V) (q : InnerPtr) (node : Inner) : Type 0 where
   pub goes : LeafGoes s t n x
   pub least : length (bytes_of (join f.left f.right)) < kind_least f.mark.kind
   pub larger : f.mark.kind ≢ Node4
@@ -133,16 +135,20 @@ abbrev pub with_leaf_in : {K V : Type 0} → Frame OpaqueNodePtr (K × V) → Le
 with_leaf_in f n x = fill f (leaf (leaf_name n) (pair_of x))
 
 -- a leaf below another node, in a tree that is laid out
-pub record HasLeafBelow {K V : Type 0} (bytes : K × V → List ℕ) (P : ℕ) (s : Nodes K V) (root : OpaqueNodePtr) (pairs : List (K × V)) (f : Frame OpaqueNodePtr (K × V)) (fs : List (Frame OpaqueNodePtr (K × V))) (n : LeafPtr) (x : LeafNode K V) : Type 0 where
+pub record HasLeafBelow {K V : Type 0} (bytes : K × V → List ℕ) (P : ℕ) (s : Nodes K V) (root : OpaqueNodePtr) (pairs : List (K × V))
+    (f : Frame OpaqueNodePtr (K × V)) (fs : List (Frame OpaqueNodePtr (K × V))) (n : LeafPtr) (x : LeafNode K V) : Type 0 where
   pub laid : IsLaidOut bytes P (node_at s) (links_at s) root pairs (plug fs (with_leaf_in f n x))
 
-module _ {K V : Type 0} {bytes : K × V → List ℕ} {P : ℕ} {s : Nodes K V} {root : OpaqueNodePtr} {pairs : List (K × V)} {f : Frame OpaqueNodePtr (K × V)} {fs : List (Frame OpaqueNodePtr (K × V))} {n : LeafPtr} {x : LeafNode K V} (old : HasLeafBelow bytes P s root pairs f fs n x) where
+module _ {K V : Type 0} {bytes : K × V → List ℕ} {P : ℕ} {s : Nodes K V} {root : OpaqueNodePtr} {pairs : List (K × V)}
+    {f : Frame OpaqueNodePtr (K × V)} {fs : List (Frame OpaqueNodePtr (K × V))} {n : LeafPtr} {x : LeafNode K V} (old : HasLeafBelow bytes P s root pairs f fs n x) where
   pub above_holds : HoldsPath (node_at s) f.mark fs
   above_holds = (path_holds (node_at s) fs (with_leaf_in f n x) old.laid.holds).0
 
   -- the parent, in a hole at a place
   pub hole : (place : List ℕ) × IsHole bytes P fs place (with_leaf_in f n x) (bytes (pair_of x))
-  hole = hole_of bytes P fs (with_leaf_in f n x) (pair_of x) old.laid.radix (subst (IsIn (pair_of x)) (sym (pairs_below-join f.left (child f.byte (leaf (leaf_name n) (pair_of x)) f.right))) (in_right (pair_of x) (pairs_below f.left) (pair_of x ∷ pairs_below f.right) (inl refl)))
+  hole = hole_of bytes P fs (with_leaf_in f n x) (pair_of x) old.laid.radix
+      (subst (IsIn (pair_of x)) (sym (pairs_below-join f.left (child f.byte (leaf (leaf_name n) (pair_of x)) f.right)))
+      (in_right (pair_of x) (pairs_below f.left) (pair_of x ∷ pairs_below f.right) (inl refl)))
 
   bytes_are : bytes_of (join f.left (child f.byte (leaf (leaf_name n) (pair_of x)) f.right)) ≡ bytes_of f.left ++ f.byte ∷ bytes_of f.right
   bytes_are = bytes_of-join f.left (child f.byte (leaf (leaf_name n) (pair_of x)) f.right)
@@ -163,11 +169,13 @@ module _ {K V : Type 0} {bytes : K × V → List ℕ} {P : ℕ} {s : Nodes K V} 
   pub high : Each (λ c. f.byte < c) (bytes_of f.right)
   high = Pairwise-after ◌<◌ (bytes_of f.left) (bytes_of f.right) f.byte rising
 
-  pub slots_left : (slots : List (ℕ × OpaqueNodePtr)) → slots ≡ slots_of (join f.left (child f.byte (leaf (leaf_name n) (pair_of x)) f.right)) → remove_child slots f.byte ≡ slots_of (join f.left f.right)
+  pub slots_left : (slots : List (ℕ × OpaqueNodePtr)) → slots ≡ slots_of (join f.left (child f.byte (leaf (leaf_name n) (pair_of x)) f.right)) →
+      remove_child slots f.byte ≡ slots_of (join f.left f.right)
   slots_left slots e = ap (λ z. remove_child z f.byte) e ∙ remove_child-there f.left f.right f.byte (leaf (leaf_name n) (pair_of x)) low high
 
   -- the parent as the store has it
-  pub parent_is : (f.mark.kind ≢ Leaf) × (node : Inner) × (get s.inners (as_inner f.mark) ≡ Some node) × (header_at f.mark.kind node ≡ f.header) × (node.children ≡ slots_of (join f.left (child f.byte (leaf (leaf_name n) (pair_of x)) f.right)))
+  pub parent_is : (f.mark.kind ≢ Leaf) × (node : Inner) × (get s.inners (as_inner f.mark) ≡ Some node) × (header_at f.mark.kind node ≡ f.header) ×
+      (node.children ≡ slots_of (join f.left (child f.byte (leaf (leaf_name n) (pair_of x)) f.right)))
   parent_is = inner_at s f.mark f.header (slots_of (join f.left (child f.byte (leaf (leaf_name n) (pair_of x)) f.right))) (path_holds (node_at s) fs (with_leaf_in f n x) old.laid.holds).1.0
 
   parent_used : get s.inners (as_inner f.mark) ≢ None
@@ -178,10 +186,12 @@ module _ {K V : Type 0} {bytes : K × V → List ℕ} {P : ℕ} {s : Nodes K V} 
   kind_is = ap (λ z. z.kind) parent_is.3 ∙ ap (λ z. z.kind) hole.1.radix.1 ∙ ap kind_of one_more
 
   -- the header with one child fewer
-  header_is : (kind : NodeType) (node : Inner) → get s.inners (as_inner f.mark) ≡ Some node → kind ≡ kind_of (length (bytes_of (join f.left f.right))) → header_at kind (without_child f.byte node) ≡ header_of P hole.1.radix.0 (length (bytes_of (join f.left f.right)))
+  header_is : (kind : NodeType) (node : Inner) → get s.inners (as_inner f.mark) ≡ Some node →
+      kind ≡ kind_of (length (bytes_of (join f.left f.right))) → header_at kind (without_child f.byte node) ≡ header_of P hole.1.radix.0 (length (bytes_of (join f.left f.right)))
   header_is kind node there e =
       let same : node ≡ parent_is.1 = let both = parent_is.2 in cc in
-      let head : header_at f.mark.kind node ≡ header_of P hole.1.radix.0 (suc (length (bytes_of (join f.left f.right)))) = ap (header_at f.mark.kind) same ∙ parent_is.3 ∙ hole.1.radix.1 ∙ ap (header_of P hole.1.radix.0) one_more in
+      let head : header_at f.mark.kind node ≡ header_of P hole.1.radix.0 (suc (length (bytes_of (join f.left f.right)))) =
+      ap (header_at f.mark.kind) same ∙ parent_is.3 ∙ hole.1.radix.1 ∙ ap (header_of P hole.1.radix.0) one_more in
       λ i. record { kind = e i; length_of = (head i).length_of; stored = (head i).stored }
 
   -- ---- the leaf
@@ -215,19 +225,23 @@ module _ {K V : Type 0} {bytes : K × V → List ℕ} {P : ℕ} {s : Nodes K V} 
     rest_stays k off = ap (λ z. get z (as_inner k)) stays.inners ∙ inner_changed_elsewhere s.inners (as_inner f.mark) (as_inner k) (without_child f.byte) (λ e. off (inner_name_one k f.mark e))
 
     above_stays : (k : OpaqueNodePtr) → IsParent fs k → node_at t k ≡ node_at s k
-    above_stays k is = same_inner s t k (parent_there bytes P s fs f.mark above_holds k is).0 (rest_stays k (λ e. parent_apart (node_at s) (node_at t) fs (with_leaf_in f n x) old.laid.holds old.laid.distinct k is (inl (sym e))))
+    above_stays k is =
+        same_inner s t k (parent_there bytes P s fs f.mark above_holds k is).0
+        (rest_stays k (λ e. parent_apart (node_at s) (node_at t) fs (with_leaf_in f n x) old.laid.holds old.laid.distinct k is (inl (sym e))))
 
     -- the node has one child fewer
     pub child_out : ChildRemoved bytes P (node_at s) (node_at t) (links_at s) (links_at t) fs hole.0 f.mark f.mark (leaf_name n) f.header f.left f.right f.byte (pair_of x)
     child_out =
         let (off, node, got, head, kids) = parent_is in
-        let is : get t.inners (as_inner f.mark) ≡ Some (without_child f.byte node) = ap (λ z. get z (as_inner f.mark)) stays.inners ∙ inner_changed_at s.inners (as_inner f.mark) (without_child f.byte) ∙ ap (option_map (without_child f.byte)) got in
+        let is : get t.inners (as_inner f.mark) ≡ Some (without_child f.byte node) =
+        ap (λ z. get z (as_inner f.mark)) stays.inners ∙ inner_changed_at s.inners (as_inner f.mark) (without_child f.byte) ∙ ap (option_map (without_child f.byte)) got in
         record {
           hole = hole.1;
           two = two_of_spare f.mark.kind (length (bytes_of (join f.left f.right))) off stays.spare;
           named = inl refl;
           same_kind = λ e. refl;
-          there = node_at-inner t f.mark off (Some (without_child f.byte node)) is ∙ shown (header_is f.mark.kind node got (kind_of-spare f.mark.kind (length (bytes_of (join f.left f.right))) kind_is stays.spare)) (slots_left node.children kids);
+          there = node_at-inner t f.mark off (Some (without_child f.byte node)) is ∙
+              shown (header_is f.mark.kind node got (kind_of-spare f.mark.kind (length (bytes_of (join f.left f.right))) kind_is stays.spare)) (slots_left node.children kids);
           parent = parent_stays (node_at s) (node_at t) fs f.mark above_holds above_stays;
           same = same_but s t fs (f.mark ∷ leaf_name n ∷ []) (λ p i used. pairs_stay stays.goes p i) (λ k kind up i used. rest_stays k (λ e. i (inl (sym e))));
           relinked = taken_relinked old.laid.holds old.laid.distinct old.laid.linked (taken stays.goes);
@@ -244,7 +258,9 @@ module _ {K V : Type 0} {bytes : K × V → List ℕ} {P : ℕ} {s : Nodes K V} 
     stays_laid_out = child_removed_from old.laid (child_out stays)
 
     inners_touched : Touched s.inners t.inners [] [] (as_inner f.mark ∷ [])
-    inners_touched = subst (λ z. Touched s.inners z [] [] (as_inner f.mark ∷ [])) (sym stays.inners) (then_changed inner_cmp_total inner_cmp-IsAntisymmetric (touched_none s.inners) (as_inner f.mark) (without_child f.byte) parent_used parent_used)
+    inners_touched =
+        subst (λ z. Touched s.inners z [] [] (as_inner f.mark ∷ [])) (sym stays.inners)
+        (then_changed inner_cmp_total inner_cmp-IsAntisymmetric (touched_none s.inners) (as_inner f.mark) (without_child f.byte) parent_used parent_used)
 
     are_names : AreNames (names_of (plug fs (with_leaf_in f n x))) (names_of (plug fs left_out)) [] (leaf_name n ∷ []) (both_names (listed x.next ++ (listed x.previous ++ [])) (as_inner f.mark ∷ []))
     are_names = names_around fs (with_leaf_in f n x) left_out [] (leaf_name n ∷ []) (both_names (listed x.next ++ (listed x.previous ++ [])) (as_inner f.mark ∷ []))
@@ -255,7 +271,9 @@ module _ {K V : Type 0} {bytes : K × V → List ℕ} {P : ℕ} {s : Nodes K V} 
     -- in place
     pub stays_in_place : ChangesInPlace bytes s t (Some (plug fs (with_leaf_in f n x))) (Some (plug fs left_out))
     unfolding child_out
-    stays_in_place = in_place (footprint_of s t (leaves_touched stays.goes) inners_touched tt tt (parent_is.0, tt)) P are_names (child_removed_keeps_leaves old.laid (child_out stays)) (child_removed_keeps old.laid (child_out stays))
+    stays_in_place =
+        in_place (footprint_of s t (leaves_touched stays.goes) inners_touched tt tt (parent_is.0, tt)) P are_names
+        (child_removed_keeps_leaves old.laid (child_out stays)) (child_removed_keeps old.laid (child_out stays))
 
     -- one name is freed, and at most three are changed
     pub stays_touches : TouchesAtMost 0 1 3 s t
@@ -298,7 +316,8 @@ module _ {K V : Type 0} {bytes : K × V → List ℕ} {P : ℕ} {s : Nodes K V} 
     all_inners k = ap (λ z. get z (as_inner k)) shrinks.inners
 
     got : get t.inners q ≡ Some (without_child f.byte node)
-    got = all_inners (inner_name q) ∙ with_child_at-elsewhere fs (inner_name q) placed (inner_name q) (λ up. above_used (inner_name q) up was_free) ∙ inner_here (remove s.inners (as_inner f.mark)) q (without_child f.byte node)
+    got = all_inners (inner_name q) ∙ with_child_at-elsewhere fs (inner_name q) placed (inner_name q) (λ up. above_used (inner_name q) up was_free) ∙
+        inner_here (remove s.inners (as_inner f.mark)) q (without_child f.byte node)
 
     rest_same : (k : OpaqueNodePtr) → k.kind ≢ Leaf → (IsParent fs k → ⊥) → k ≢ f.mark → node_at s k ≢ None → get t.inners (as_inner k) ≡ get s.inners (as_inner k)
     rest_same k kind up other used = all_inners k ∙ with_child_at-elsewhere fs (inner_name q) placed k up ∙ placed_elsewhere k other (λ e. used (node_at-inner s k kind None e))
@@ -308,13 +327,16 @@ module _ {K V : Type 0} {bytes : K × V → List ℕ} {P : ℕ} {s : Nodes K V} 
     child_out_of_smaller =
         let (proper, own, is, head, kids) = parent_is in
         let same : node ≡ own = let there = shrinks.there in cc in
-        let smaller : q.kind ≡ kind_of (length (bytes_of (join f.left f.right))) = shrinks.kind ∙ kind_of-smaller f.mark.kind (length (bytes_of (join f.left f.right))) shrinks.larger kind_is shrinks.least in
+        let smaller : q.kind ≡ kind_of (length (bytes_of (join f.left f.right))) =
+        shrinks.kind ∙ kind_of-smaller f.mark.kind (length (bytes_of (join f.left f.right))) shrinks.larger kind_is shrinks.least in
         record {
           hole = hole.1;
-          two = two_of_larger f.mark.kind (length (bytes_of (join f.left f.right))) shrinks.larger (subst (λ k. IsInRange k (suc (length (bytes_of (join f.left f.right))))) (sym kind_is) (range_of_kind (suc (length (bytes_of (join f.left f.right))))));
+          two = two_of_larger f.mark.kind (length (bytes_of (join f.left f.right))) shrinks.larger
+              (subst (λ k. IsInRange k (suc (length (bytes_of (join f.left f.right))))) (sym kind_is) (range_of_kind (suc (length (bytes_of (join f.left f.right))))));
           named = inr node_was_free;
           same_kind = λ e. absurd (kind_of-least f.mark.kind (length (bytes_of (join f.left f.right))) shrinks.larger shrinks.least (ap (λ z. z.kind) head ∙ e));
-          there = node_at-inner t (inner_name q) off (Some (without_child f.byte node)) got ∙ shown (header_is q.kind node shrinks.there smaller) (slots_left node.children (ap (λ z. z.children) same ∙ kids));
+          there = node_at-inner t (inner_name q) off (Some (without_child f.byte node)) got ∙
+              shown (header_is q.kind node shrinks.there smaller) (slots_left node.children (ap (λ z. z.children) same ∙ kids));
           parent = parent_written bytes P s t placed fs hole.0 f.mark (inner_name q) hole.1.path above_holds above_same (λ k up. all_inners k);
           same = same_but s t fs (f.mark ∷ leaf_name n ∷ []) (λ p i used. pairs_stay shrinks.goes p i) (λ k kind up i used. rest_same k kind up (λ e. i (inl (sym e))) used);
           relinked = taken_relinked old.laid.holds old.laid.distinct old.laid.linked (taken shrinks.goes);
@@ -331,21 +353,26 @@ module _ {K V : Type 0} {bytes : K × V → List ℕ} {P : ℕ} {s : Nodes K V} 
 
     parent_touched : Touched s.inners t.inners (q ∷ []) (as_inner f.mark ∷ []) (parents fs ++ [])
     parent_touched = subst (λ z. Touched s.inners z (q ∷ []) (as_inner f.mark ∷ []) (parents fs ++ [])) (sym shrinks.inners)
-        (then_parent (then_placed inner_cmp_total inner_cmp-IsAntisymmetric (then_freed inner_cmp_total inner_cmp-IsAntisymmetric (touched_none s.inners) (as_inner f.mark) parent_used (λ i. i)) q (without_child f.byte node) shrinks.fresh
+        (then_parent (then_placed inner_cmp_total inner_cmp-IsAntisymmetric
+        (then_freed inner_cmp_total inner_cmp-IsAntisymmetric (touched_none s.inners) (as_inner f.mark) parent_used (λ i. i)) q (without_child f.byte node) shrinks.fresh
         (λ i. elim i [ inl e ↦ not_old (sym e) | inr j ↦ j ])) fs (inner_name q) above_used (λ k up e. above_used k up (sym (above_same k up) ∙ e)))
 
     above_inner : Each IsInner (parents fs ++ [])
     above_inner = parents_inner bytes P s fs f.mark above_holds [] tt
 
-    smaller_names : AreNames (names_of (plug fs (with_leaf_in f n x))) (names_of (plug fs shrunk)) (inner_name q ∷ []) (leaf_name n ∷ f.mark ∷ []) (both_names (listed x.next ++ (listed x.previous ++ [])) (parents fs ++ []))
+    smaller_names : AreNames (names_of (plug fs (with_leaf_in f n x))) (names_of (plug fs shrunk)) (inner_name q ∷ []) (leaf_name n ∷ f.mark ∷ [])
+        (both_names (listed x.next ++ (listed x.previous ++ [])) (parents fs ++ []))
     smaller_names = names_around fs (with_leaf_in f n x) shrunk (inner_name q ∷ []) (leaf_name n ∷ f.mark ∷ []) (both_names (listed x.next ++ (listed x.previous ++ [])) (parents fs ++ []))
         (names_back (names_with_both f.left f.right f.byte (leaf_name n) (pair_of x) (inner_name q) f.mark (header_of P hole.1.radix.0 (length (bytes_of (join f.left f.right)))) f.header))
-        (both_in (names_of (plug fs (with_leaf_in f n x))) (listed x.next ++ (listed x.previous ++ [])) (parents fs ++ []) (beside_stay shrinks.goes) (parents_in fs (with_leaf_in f n x) [] (λ p i. absurd i)))
+        (both_in (names_of (plug fs (with_leaf_in f n x))) (listed x.next ++ (listed x.previous ++ [])) (parents fs ++ []) (beside_stay shrinks.goes)
+        (parents_in fs (with_leaf_in f n x) [] (λ p i. absurd i)))
 
     -- in place
     pub shrinks_in_place : ChangesInPlace bytes s t (Some (plug fs (with_leaf_in f n x))) (Some (plug fs shrunk))
     unfolding child_out_of_smaller
-    shrinks_in_place = in_place (footprint_of s t (leaves_touched shrinks.goes) parent_touched (off, tt) (parent_is.0, tt) above_inner) P smaller_names (child_removed_keeps_leaves old.laid child_out_of_smaller) (child_removed_keeps old.laid child_out_of_smaller)
+    shrinks_in_place =
+        in_place (footprint_of s t (leaves_touched shrinks.goes) parent_touched (off, tt) (parent_is.0, tt) above_inner) P smaller_names
+        (child_removed_keeps_leaves old.laid child_out_of_smaller) (child_removed_keeps old.laid child_out_of_smaller)
 
     -- one name is placed, two are freed, and at most three are changed
     pub shrinks_touches : TouchesAtMost 1 2 3 s t

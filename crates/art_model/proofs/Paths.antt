@@ -42,11 +42,14 @@ module _ {N A : Type 0} where
 
   -- entries on the left, in the middle and on the right
   pub leaves_below-three : (l middle r : Children N A) → leaves_below (join l (join middle r)) ≡ leaves_below l ++ leaves_below middle ++ leaves_below r
-  leaves_below-three l middle r = leaves_below-join l (join middle r) ∙ ap (λ z. leaves_below l ++ z) (leaves_below-join middle r) ∙ sym (append_assoc (leaves_below l) (leaves_below middle) (leaves_below r))
+  leaves_below-three l middle r =
+      leaves_below-join l (join middle r) ∙ ap (λ z. leaves_below l ++ z) (leaves_below-join middle r) ∙ sym (append_assoc (leaves_below l) (leaves_below middle) (leaves_below r))
 
   -- the names of the leaves on the left, in the middle and on the right
   pub leaf_names_below-three : (l middle r : Children N A) → leaf_names_below (join l (join middle r)) ≡ leaf_names_below l ++ leaf_names_below middle ++ leaf_names_below r
-  leaf_names_below-three l middle r = leaf_names_below-join l (join middle r) ∙ ap (λ z. leaf_names_below l ++ z) (leaf_names_below-join middle r) ∙ sym (append_assoc (leaf_names_below l) (leaf_names_below middle) (leaf_names_below r))
+  leaf_names_below-three l middle r =
+      leaf_names_below-join l (join middle r) ∙ ap (λ z. leaf_names_below l ++ z) (leaf_names_below-join middle r) ∙
+      sym (append_assoc (leaf_names_below l) (leaf_names_below middle) (leaf_names_below r))
 
   -- the pairs before the hole, in it and after it
   pub pairs_of-plug : (fs : List (Frame N A)) (t : Tree N A) → pairs_of (plug fs t) ≡ pairs_before fs ++ pairs_of t ++ pairs_after fs
@@ -123,7 +126,8 @@ module _ {N A : Type 0} where
 
 module _ {N A : Type 0} (bytes : A → List ℕ) (P : ℕ) where
   -- a radix tree in the hole of a frame makes a radix tree
-  unfoldable pub fill_radix : (f : Frame N A) (fs : List (Frame N A)) (place : List ℕ) (t : Tree N A) (path : IsPath bytes P place (f ∷ fs)) → IsRadix bytes P place t → IsRadix bytes P path.0 (fill f t)
+  unfoldable pub fill_radix : (f : Frame N A) (fs : List (Frame N A)) (place : List ℕ) (t : Tree N A) (path : IsPath bytes P place (f ∷ fs)) →
+      IsRadix bytes P place t → IsRadix bytes P path.0 (fill f t)
   fill_radix f fs place t (outer, part, e, head, two, up, l, r, path) h =
       let bs = bytes_of-join f.left (child f.byte t f.right) in
       let count = length-append (bytes_of f.left) (f.byte ∷ bytes_of f.right) in (
@@ -157,7 +161,9 @@ module _ {N A : Type 0} (bytes : A → List ℕ) (P : ℕ) where
       let k' : IsFront ((outer ++ part) ++ f.byte ∷ []) key = subst (λ w. IsFront w key) e k in
       Each-append (λ x. Precedes (bytes x) key) (pairs_before fs) (pairs_below f.left)
       (path_before fs outer key path (front_cut outer part key (front_cut (outer ++ part) (f.byte ∷ []) key k')))
-      (Each-weaker (PartsBelow bytes (outer ++ part) f.byte) (λ x. Precedes (bytes x) key) (λ x g. parts bytes (outer ++ part) g.0 f.byte (bytes x) key g.2 k' g.1) (pairs_below f.left) (all_below bytes P (outer ++ part) f.byte f.left l (Pairwise-before ◌<◌ (bytes_of f.left) (bytes_of f.right) f.byte up)))
+      (Each-weaker (PartsBelow bytes (outer ++ part) f.byte) (λ x. Precedes (bytes x) key)
+      (λ x g. parts bytes (outer ++ part) g.0 f.byte (bytes x) key g.2 k' g.1) (pairs_below f.left)
+      (all_below bytes P (outer ++ part) f.byte f.left l (Pairwise-before ◌<◌ (bytes_of f.left) (bytes_of f.right) f.byte up)))
 
   -- and keys after it
   pub path_after : (fs : List (Frame N A)) (place key : List ℕ) → IsPath bytes P place fs → IsFront place key → Each (λ x. Precedes key (bytes x)) (pairs_after fs)
@@ -165,14 +171,21 @@ module _ {N A : Type 0} (bytes : A → List ℕ) (P : ℕ) where
   path_after (f ∷ fs) place key (outer, part, e, head, two, up, l, r, path) k =
       let k' : IsFront ((outer ++ part) ++ f.byte ∷ []) key = subst (λ w. IsFront w key) e k in
       Each-append (λ x. Precedes key (bytes x)) (pairs_below f.right) (pairs_after fs)
-      (Each-weaker (PartsAbove bytes (outer ++ part) f.byte) (λ x. Precedes key (bytes x)) (λ x g. parts bytes (outer ++ part) f.byte g.0 key (bytes x) k' g.2 g.1) (pairs_below f.right) (all_above bytes P (outer ++ part) f.byte f.right r (Pairwise-after ◌<◌ (bytes_of f.left) (bytes_of f.right) f.byte up)))
+      (Each-weaker (PartsAbove bytes (outer ++ part) f.byte) (λ x. Precedes key (bytes x))
+      (λ x g. parts bytes (outer ++ part) f.byte g.0 key (bytes x) k' g.2 g.1) (pairs_below f.right)
+      (all_above bytes P (outer ++ part) f.byte f.right r (Pairwise-after ◌<◌ (bytes_of f.left) (bytes_of f.right) f.byte up)))
       (path_after fs outer key path (front_cut outer part key (front_cut (outer ++ part) (f.byte ∷ []) key k')))
 
   -- so the pairs that are related to the key are in the hole
-  pub related_at : (fs : List (Frame N A)) (place key : List ℕ) (t : Tree N A) → IsPath bytes P place fs → IsFront place key → related_to bytes key (pairs_of (plug fs t)) ≡ related_to bytes key (pairs_of t)
+  pub related_at : (fs : List (Frame N A)) (place key : List ℕ) (t : Tree N A) → IsPath bytes P place fs → IsFront place key →
+      related_to bytes key (pairs_of (plug fs t)) ≡ related_to bytes key (pairs_of t)
   related_at fs place key t path front =
-      let before = filter_none (λ x. are_related key (bytes x)) (pairs_before fs) (Each-weaker (λ x. Precedes (bytes x) key) (λ x. are_related key (bytes x) ≡ false) (λ x h. related_sym key (bytes x) ∙ h.1) (pairs_before fs) (path_before fs place key path front)) in
-      let after = filter_none (λ x. are_related key (bytes x)) (pairs_after fs) (Each-weaker (λ x. Precedes key (bytes x)) (λ x. are_related key (bytes x) ≡ false) (λ x h. h.1) (pairs_after fs) (path_after fs place key path front)) in
+      let before =
+      filter_none (λ x. are_related key (bytes x)) (pairs_before fs)
+      (Each-weaker (λ x. Precedes (bytes x) key) (λ x. are_related key (bytes x) ≡ false) (λ x h. related_sym key (bytes x) ∙ h.1) (pairs_before fs) (path_before fs place key path front)) in
+      let after =
+      filter_none (λ x. are_related key (bytes x)) (pairs_after fs)
+      (Each-weaker (λ x. Precedes key (bytes x)) (λ x. are_related key (bytes x) ≡ false) (λ x h. h.1) (pairs_after fs) (path_after fs place key path front)) in
       rw pairs_of-plug (simp (filter-append, before, after) (append-nil (related_to bytes key (pairs_of t))))
 
   -- what such a tree is: a radix tree in the hole of a path
@@ -190,7 +203,8 @@ pub record IsHole {N A : Type 0} (bytes : A → List ℕ) (P : ℕ) (fs : List (
   pub front : IsFront place key
 
 -- in a radix tree each path is one, and what is in its hole is a hole for each of its pairs
-pub hole_of : {N A : Type 0} (bytes : A → List ℕ) (P : ℕ) (fs : List (Frame N A)) (t : Tree N A) (x : A) → IsRadix bytes P [] (plug fs t) → IsIn x (pairs_of t) → (place : List ℕ) × IsHole bytes P fs place t (bytes x)
+pub hole_of : {N A : Type 0} (bytes : A → List ℕ) (P : ℕ) (fs : List (Frame N A)) (t : Tree N A) (x : A) → IsRadix bytes P [] (plug fs t) →
+    IsIn x (pairs_of t) → (place : List ℕ) × IsHole bytes P fs place t (bytes x)
 hole_of bytes P fs t x radix i =
     let (place, path, own) = radix_plug bytes P fs t radix in
     (place, record { path = path; radix = own; front = each_in (λ y. IsFront place (bytes y)) x (pairs_of t) (radix_way bytes P t place own) i })
@@ -198,7 +212,8 @@ hole_of bytes P fs t x radix i =
 -- A change in the hole of a path is a change of the whole, where it is a local one at a key that goes on from the hole.
 module _ {N A : Type 0} (bytes : A → List ℕ) (P : ℕ) (fs : List (Frame N A)) (place : List ℕ) (path : IsPath bytes P place fs) (t u : Tree N A) (radix : IsRadix bytes P place u) where
   -- the tree is a radix tree again, and its pairs are those of the change
-  pub changed_at : (key : List ℕ) (F : List A → List A) → IsLocal bytes key F → IsFront place key → pairs_of u ≡ F (pairs_of t) → IsRadix bytes P [] (plug fs u) × (pairs_of (plug fs u) ≡ F (pairs_of (plug fs t)))
+  pub changed_at : (key : List ℕ) (F : List A → List A) → IsLocal bytes key F → IsFront place key → pairs_of u ≡ F (pairs_of t) →
+      IsRadix bytes P [] (plug fs u) × (pairs_of (plug fs u) ≡ F (pairs_of (plug fs t)))
   changed_at key F local k e = (
     plug_radix bytes P fs place u path radix,
     rw (pairs_of-plug fs u, pairs_of-plug fs t, local (pairs_before fs) (pairs_of t) (pairs_after fs) (path_before bytes P fs place key path k) (path_after bytes P fs place key path k), e) refl,

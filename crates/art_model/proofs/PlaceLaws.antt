@@ -54,8 +54,10 @@ module _ {N A : Type 0} (bytes : A → List ℕ) (P : ℕ) where
   under : (front : List ℕ) (d b : ℕ) (t : Tree N A) → d ≡ length (front ++ b ∷ []) → IsRadix bytes P (front ++ b ∷ []) t → Each (λ p. IsFront (front ++ b ∷ []) p.0) (places bytes d t)
   under front d b t e h = subst (λ z. Each (λ p. IsFront (front ++ b ∷ []) p.0) (places bytes z t)) (sym e) (places_way bytes P t (front ++ b ∷ []) h)
 
-  all_go_on : (Q : ℕ → Type 0) (cs : Children N A) (front : List ℕ) (d : ℕ) → ((b : ℕ) → d ≡ length (front ++ b ∷ [])) → AreRadix bytes P front cs → Each Q (bytes_of cs) → Each (GoesOn front Q) (places_below bytes d cs)
-  all_go_on Q cs front d e h q = Each-weaker (Under bytes P front cs) (GoesOn front Q) (λ p u. (u.0, each_in Q u.0 (bytes_of cs) q u.1, u.2)) (places_below bytes d cs) (places_under bytes P cs front d e h)
+  all_go_on : (Q : ℕ → Type 0) (cs : Children N A) (front : List ℕ) (d : ℕ) → ((b : ℕ) → d ≡ length (front ++ b ∷ [])) → AreRadix bytes P front cs →
+      Each Q (bytes_of cs) → Each (GoesOn front Q) (places_below bytes d cs)
+  all_go_on Q cs front d e h q =
+      Each-weaker (Under bytes P front cs) (GoesOn front Q) (λ p u. (u.0, each_in Q u.0 (bytes_of cs) q u.1, u.2)) (places_below bytes d cs) (places_under bytes P cs front d e h)
 
   before_below : (place part : List ℕ) (p q : List ℕ × N) → p.0 ≡ place → GoesOn (place ++ part) (λ c. Unit {0}) q → Before p q
   before_below place part p q e (c, u, (r, f)) = (order_is_decided p.0 q.0).1 (inl (first part refl))
@@ -74,16 +76,21 @@ module _ {N A : Type 0} (bytes : A → List ℕ) (P : ℕ) where
         let d = length place + h.length_of + 1 in
         let depth = λ (b : ℕ). deeper place part b h.length_of (ap (λ z. z.length_of) e) in
         let own = place_is bytes P (inner n h cs) place (part, e, two, up, below) in (
-          Each-weaker (GoesOn (place ++ part) (λ c. Unit {0})) (Before (place_of bytes (length place) (inner n h cs), n)) (λ q g. before_below place part (place_of bytes (length place) (inner n h cs), n) q own g) (places_below bytes d cs) (all_go_on (λ c. Unit {0}) cs (place ++ part) d depth below (each_from (λ c. Unit {0}) (bytes_of cs) (λ c i. tt))),
+          Each-weaker (GoesOn (place ++ part) (λ c. Unit {0})) (Before (place_of bytes (length place) (inner n h cs), n))
+              (λ q g. before_below place part (place_of bytes (length place) (inner n h cs), n) q own g) (places_below bytes d cs)
+              (all_go_on (λ c. Unit {0}) cs (place ++ part) d depth below (each_from (λ c. Unit {0}) (bytes_of cs) (λ c i. tt))),
           rise_below cs (place ++ part) d depth up below,
         )
 
-    rise_below : (cs : Children N A) (front : List ℕ) (d : ℕ) → ((b : ℕ) → d ≡ length (front ++ b ∷ [])) → IsRising (bytes_of cs) → AreRadix bytes P front cs → Pairwise Before (places_below bytes d cs)
+    rise_below : (cs : Children N A) (front : List ℕ) (d : ℕ) → ((b : ℕ) → d ≡ length (front ++ b ∷ [])) → IsRising (bytes_of cs) →
+        AreRadix bytes P front cs → Pairwise Before (places_below bytes d cs)
     rise_below no_child front d e up h = tt
     rise_below (child b t cs) front d e up h =
         Pairwise-append Before (places bytes d t) (places_below bytes d cs)
         (subst (λ z. Pairwise Before (places bytes z t)) (sym (e b)) (rise t (front ++ b ∷ []) h.0)) (rise_below cs front d e up.1 h.1)
-        (Each-weaker (λ p. IsFront (front ++ b ∷ []) p.0) (λ p. Each (Before p) (places_below bytes d cs)) (λ p f. Each-weaker (GoesOn front (λ c. b < c)) (Before p) (λ q g. before_beside front b p q f g) (places_below bytes d cs) (all_go_on (λ c. b < c) cs front d e h.1 up.0)) (places bytes d t) (under front d b t (e b) h.0))
+        (Each-weaker (λ p. IsFront (front ++ b ∷ []) p.0) (λ p. Each (Before p) (places_below bytes d cs))
+        (λ p f. Each-weaker (GoesOn front (λ c. b < c)) (Before p) (λ q g. before_beside front b p q f g) (places_below bytes d cs)
+        (all_go_on (λ c. b < c) cs front d e h.1 up.0)) (places bytes d t) (under front d b t (e b) h.0))
 
   -- entries with the same place have the same name
   abbrev HaveOneName : (List ℕ × N) → (List ℕ × N) → Type 0
@@ -111,7 +118,8 @@ module _ {N A : Type 0} (bytes : A → List ℕ) (P : ℕ) where
   NoLonger key n p = IsFront p.0 key → length p.0 ≤ n
 
   -- a node on the key's way is its end node, where no place below is longer
-  pub ends_at : (key : List ℕ) (fs : List (Frame N A)) (place : List ℕ) (t : Tree N A) → IsPath bytes P place fs → IsRadix bytes P place t → IsFront place key → Each (NoLonger key (length place)) (places bytes (length place) t) → IsEndNode bytes (plug fs t) key fs t
+  pub ends_at : (key : List ℕ) (fs : List (Frame N A)) (place : List ℕ) (t : Tree N A) → IsPath bytes P place fs → IsRadix bytes P place t →
+      IsFront place key → Each (NoLonger key (length place)) (places bytes (length place) t) → IsEndNode bytes (plug fs t) key fs t
   ends_at key fs place t path radix front below =
       let depth = depth_is fs place path in
       record {
@@ -145,7 +153,8 @@ module _ {N A : Type 0} (bytes : A → List ℕ) (P : ℕ) where
         IsFront place key → Each (λ b. IsFront ((place ++ part) ++ b ∷ []) key → ⊥) (bytes_of left) → End key (plug fs (inner n h all))
     from_children key n h all left no_child eq fs place path part e two up below front off =
         let radix : IsRadix bytes P place (inner n h all) = (part, e, two, up, below) in
-        let none : Each (λ b. IsFront ((place ++ part) ++ b ∷ []) key → ⊥) (bytes_of all) = subst (λ z. Each (λ b. IsFront ((place ++ part) ++ b ∷ []) key → ⊥) (bytes_of z)) (sym (join_none left) ∙ eq) off in (
+        let none : Each (λ b. IsFront ((place ++ part) ++ b ∷ []) key → ⊥) (bytes_of all) =
+        subst (λ z. Each (λ b. IsFront ((place ++ part) ++ b ∷ []) key → ⊥) (bytes_of z)) (sym (join_none left) ∙ eq) off in (
           fs,
           inner n h all,
           ends_at key fs place (inner n h all) path radix front (
@@ -158,7 +167,14 @@ module _ {N A : Type 0} (bytes : A → List ℕ) (P : ℕ) where
         by_test (is_front ((place ++ part) ++ b ∷ []) key)
         (λ goes.
         let back = sym eq in
-        let radix : IsRadix bytes P place (fill f t) = (part, subst (λ c. h ≡ header_of P part (length (bytes_of c))) back e, subst (λ c. 2 ≤ length (bytes_of c)) back two, subst (λ c. IsRising (bytes_of c)) back up, subst (AreRadix bytes P (place ++ part)) back below) in
+        let radix : IsRadix bytes P place (fill f t) = (
+          part,
+          subst (λ c. h ≡ header_of P part (length (bytes_of c))) back e,
+          subst (λ c. 2 ≤ length (bytes_of c)) back two,
+          subst
+              (λ c. IsRising (bytes_of c)) back up,
+          subst (AreRadix bytes P (place ++ part)) back below,
+        ) in
         let (longer, under_it) = path_down bytes P fs place f t path radix in
         subst (λ c. End key (plug fs (inner n h c))) eq (from_node key t (f ∷ fs) ((place ++ part) ++ b ∷ []) longer under_it ((fronts_are_decided ((place ++ part) ++ b ∷ []) key).0 goes)))
         (λ stops. from_children key n h all (join left (child b t no_child)) cs (join_one left cs b t ∙ eq) fs place path part e two up below front
@@ -213,6 +229,10 @@ module _ {N A : Type 0} where
       let same : b ≡ a = sym (taken b key two.is_front) ∙ ap (λ n. take n key) length_is ∙ taken a key one.is_front in
       let R = HaveOneName bytes P in
       let names = one_name bytes P (places bytes 0 tree) (rise bytes P tree [] h) in
-      let of_node : Each (R (a, name_of node)) (places bytes 0 tree) = own_place bytes P (λ p. Each (R p) (places bytes 0 tree)) (depth_of path) node (places_at bytes P (λ p. Each (R p) (places bytes 0 tree)) path node (subst (λ t. Each (λ p. Each (R p) (places bytes 0 tree)) (places bytes 0 t)) (sym one.whole) names)) in
-      let of_both : R (a, name_of node) (b, name_of other) = own_place bytes P (R (a, name_of node)) (depth_of road) other (places_at bytes P (R (a, name_of node)) road other (subst (λ t. Each (R (a, name_of node)) (places bytes 0 t)) (sym two.whole) of_node)) in
+      let of_node : Each (R (a, name_of node)) (places bytes 0 tree) =
+      own_place bytes P (λ p. Each (R p) (places bytes 0 tree)) (depth_of path) node
+      (places_at bytes P (λ p. Each (R p) (places bytes 0 tree)) path node (subst (λ t. Each (λ p. Each (R p) (places bytes 0 tree)) (places bytes 0 t)) (sym one.whole) names)) in
+      let of_both : R (a, name_of node) (b, name_of other) =
+      own_place bytes P (R (a, name_of node)) (depth_of road) other
+      (places_at bytes P (R (a, name_of node)) road other (subst (λ t. Each (R (a, name_of node)) (places bytes 0 t)) (sym two.whole) of_node)) in
       (same, of_both same)

@@ -34,7 +34,8 @@ pub record LeafTaken {K V : Type 0} (s t : Nodes K V) (layout : Tree OpaqueNodeP
   pub among : LeafAmong s layout xs zs n x
   pub leaves : t.leaves ≡ without_leaf s.leaves n x
 
-module _ {K V : Type 0} {s t : Nodes K V} {layout : Tree OpaqueNodePtr (K × V)} {xs zs : List OpaqueNodePtr} {n : LeafPtr} {x : LeafNode K V} (holds : Holds (node_at s) layout) (distinct : AreDistinct (names_of layout)) where
+module _ {K V : Type 0} {s t : Nodes K V} {layout : Tree OpaqueNodePtr (K × V)} {xs zs : List OpaqueNodePtr} {n : LeafPtr} {x : LeafNode K V}
+    (holds : Holds (node_at s) layout) (distinct : AreDistinct (names_of layout)) where
   module _ (is : LeafPlaced s t layout xs zs n x) where
     others_there : AreThere s (xs ++ zs)
     others_there = subst (AreThere s) is.list (are_there s layout holds)
@@ -51,7 +52,9 @@ module _ {K V : Type 0} {s t : Nodes K V} {layout : Tree OpaqueNodePtr (K × V)}
     placed_was_free = node_at-leaf s n ∙ ap (λ o. option_map leaf_node (option_map pair_of o)) is.fresh
 
     pub placed_node : node_at t (leaf_name n) ≡ Some (leaf_node (pair_of x))
-    placed_node = node_at-leaf t n ∙ ap (λ o. option_map leaf_node (option_map pair_of o)) (ap (λ z. get z n) is.leaves ∙ with_leaf_here s.leaves n x (λ e. placed_after n e is.fresh) (λ e. placed_before n e is.fresh))
+    placed_node =
+        node_at-leaf t n ∙ ap (λ o. option_map leaf_node (option_map pair_of o))
+        (ap (λ z. get z n) is.leaves ∙ with_leaf_here s.leaves n x (λ e. placed_after n e is.fresh) (λ e. placed_before n e is.fresh))
 
     -- leaves that were there keep their pairs
     pub placed_pairs : (p : LeafPtr) → get s.leaves p ≢ None → option_map pair_of (get t.leaves p) ≡ option_map pair_of (get s.leaves p)
@@ -59,7 +62,8 @@ module _ {K V : Type 0} {s t : Nodes K V} {layout : Tree OpaqueNodePtr (K × V)}
 
     -- the chain knows it
     pub placed_relinked : Relinked (links_at s) (links_at t) xs (leaf_name n ∷ []) zs
-    placed_relinked = relinked_beside (leaf_comes s t xs zs n x (subst AreDistinct is.list (taken_distinct takes_leaves layout distinct)) others_there is.fresh is.last is.first (λ p i. ap (λ z. get z p) is.leaves))
+    placed_relinked =
+        relinked_beside (leaf_comes s t xs zs n x (subst AreDistinct is.list (taken_distinct takes_leaves layout distinct)) others_there is.fresh is.last is.first (λ p i. ap (λ z. get z p) is.leaves))
 
     -- the leaves beside it have names of the layout
     pub placed_beside : (p : LeafPtr) → IsIn p (listed x.next ++ (listed x.previous ++ [])) → IsIn (leaf_name p) (names_of layout)
@@ -86,4 +90,5 @@ module _ {K V : Type 0} {s t : Nodes K V} {layout : Tree OpaqueNodePtr (K × V)}
     taken_touched = subst (λ z. Touched s.leaves z [] (n ∷ []) (listed x.next ++ (listed x.previous ++ []))) (sym is.leaves)
         (touched_without_leaf s.leaves n x (before_there holds linked is.among) (after_there holds linked is.among) (λ e. absurd (let here = is.among.here in cc))
         (λ e. apart_in xs (leaf_name n ∷ zs) (leaf_name n) list_distinct (last_in xs (leaf_name n) (sym (previous_is holds linked is.among) ∙ ap (option_map leaf_name) e)) (inl refl))
-        (λ e. apart_in (xs ++ leaf_name n ∷ []) zs (leaf_name n) (subst AreDistinct (sym (append_assoc xs (leaf_name n ∷ []) zs)) list_distinct) (in_right (leaf_name n) xs (leaf_name n ∷ []) (inl refl)) (first_in zs (leaf_name n) (sym (next_is holds linked is.among) ∙ ap (option_map leaf_name) e))))
+        (λ e. apart_in (xs ++ leaf_name n ∷ []) zs (leaf_name n) (subst AreDistinct (sym (append_assoc xs (leaf_name n ∷ []) zs)) list_distinct)
+        (in_right (leaf_name n) xs (leaf_name n ∷ []) (inl refl)) (first_in zs (leaf_name n) (sym (next_is holds linked is.among) ∙ ap (option_map leaf_name) e))))

@@ -57,14 +57,16 @@ module _ {N A : Type 0} (bytes : A → List ℕ) (P : ℕ) where
     places_way (leaf n x) place h = (([], place_is (leaf n x) place h ∙ sym (append-nil place)), tt)
     places_way (inner n h cs) place (part, e, two, up, below) = (
       ([], taken place (least_below bytes cs) (front_cut place part (least_below bytes cs) (least_way_below cs (place ++ part) two below)) ∙ sym (append-nil place)),
-      Each-weaker (Under (place ++ part) cs) (λ p. IsFront place p.0) (λ p u. front_cut place part p.0 (front_cut (place ++ part) (u.0 ∷ []) p.0 u.2)) (places_below bytes (length place + h.length_of + 1) cs)
+      Each-weaker (Under (place ++ part) cs) (λ p. IsFront place p.0) (λ p u. front_cut place part p.0 (front_cut (place ++ part) (u.0 ∷ []) p.0 u.2))
+          (places_below bytes (length place + h.length_of + 1) cs)
           (places_under cs (place ++ part) (length place + h.length_of + 1) (λ b. deeper place part b h.length_of (ap (λ z. z.length_of) e)) below),
     )
 
     pub places_under : (cs : Children N A) (front : List ℕ) (d : ℕ) → ((b : ℕ) → d ≡ length (front ++ b ∷ [])) → AreRadix bytes P front cs → Each (Under front cs) (places_below bytes d cs)
     places_under no_child front d e h = tt
     places_under (child b t cs) front d e h = Each-append (Under front (child b t cs)) (places bytes d t) (places_below bytes d cs)
-        (Each-weaker (λ p. IsFront (front ++ b ∷ []) p.0) (Under front (child b t cs)) (λ p f. (b, inl refl, f)) (places bytes d t) (subst (λ z. Each (λ p. IsFront (front ++ b ∷ []) p.0) (places bytes z t)) (sym (e b)) (places_way t (front ++ b ∷ []) h.0)))
+        (Each-weaker (λ p. IsFront (front ++ b ∷ []) p.0) (Under front (child b t cs)) (λ p f. (b, inl refl, f)) (places bytes d t)
+        (subst (λ z. Each (λ p. IsFront (front ++ b ∷ []) p.0) (places bytes z t)) (sym (e b)) (places_way t (front ++ b ∷ []) h.0)))
         (Each-weaker (Under front cs) (Under front (child b t cs)) (λ p u. (u.0, inr u.1, u.2)) (places_below bytes d cs) (places_under cs front d e h.1))
 
   -- a place that is a front of the key is no longer than n
@@ -72,16 +74,21 @@ module _ {N A : Type 0} (bytes : A → List ℕ) (P : ℕ) where
   NoLonger key n p = IsFront p.0 key → length p.0 ≤ n
 
   -- children whose bytes the key does not go on with
-  pub beside : (cs : Children N A) (front key : List ℕ) (d n : ℕ) → ((b : ℕ) → d ≡ length (front ++ b ∷ [])) → AreRadix bytes P front cs → Each (λ b. IsFront (front ++ b ∷ []) key → ⊥) (bytes_of cs) → Each (NoLonger key n) (places_below bytes d cs)
+  pub beside : (cs : Children N A) (front key : List ℕ) (d n : ℕ) → ((b : ℕ) → d ≡ length (front ++ b ∷ [])) → AreRadix bytes P front cs →
+      Each (λ b. IsFront (front ++ b ∷ []) key → ⊥) (bytes_of cs) → Each (NoLonger key n) (places_below bytes d cs)
   beside cs front key d n e h off = Each-weaker (Under front cs) (NoLonger key n)
-      (λ p u k. absurd (each_in (λ b. IsFront (front ++ b ∷ []) key → ⊥) u.0 (bytes_of cs) off u.1 (front_trans (front ++ u.0 ∷ []) p.0 key u.2 k))) (places_below bytes d cs) (places_under cs front d e h)
+      (λ p u k. absurd (each_in (λ b. IsFront (front ++ b ∷ []) key → ⊥) u.0 (bytes_of cs) off u.1 (front_trans (front ++ u.0 ∷ []) p.0 key u.2 k)))
+      (places_below bytes d cs) (places_under cs front d e h)
 
   places_join : (cs ds : Children N A) (Q : (List ℕ × N) → Type 0) (d : ℕ) → Each Q (places_below bytes d cs) → Each Q (places_below bytes d ds) → Each Q (places_below bytes d (join cs ds))
   places_join no_child ds Q d h k = k
-  places_join (child b t cs) ds Q d h k = Each-append Q (places bytes d t) (places_below bytes d (join cs ds)) (Each-left Q (places bytes d t) (places_below bytes d cs) h) (places_join cs ds Q d (Each-right Q (places bytes d t) (places_below bytes d cs) h) k)
+  places_join (child b t cs) ds Q d h k =
+      Each-append Q (places bytes d t) (places_below bytes d (join cs ds)) (Each-left Q (places bytes d t) (places_below bytes d cs) h)
+      (places_join cs ds Q d (Each-right Q (places bytes d t) (places_below bytes d cs) h) k)
 
   -- The search may stop where no child goes on: no place of the whole tree that is a front of the key is longer.
-  pub ended : (fs : List (Frame N A)) (place key : List ℕ) (t : Tree N A) (n : ℕ) → IsPath bytes P place fs → IsRadix bytes P place t → IsFront place key → length place ≤ n → Each (NoLonger key n) (places bytes (length place) t) → Each (NoLonger key n) (places bytes 0 (plug fs t))
+  pub ended : (fs : List (Frame N A)) (place key : List ℕ) (t : Tree N A) (n : ℕ) → IsPath bytes P place fs → IsRadix bytes P place t →
+      IsFront place key → length place ≤ n → Each (NoLonger key n) (places bytes (length place) t) → Each (NoLonger key n) (places bytes 0 (plug fs t))
   ended [] place key t n e h k l q = subst (λ w. Each (NoLonger key n) (places bytes (length w) t)) e q
   ended (f ∷ fs) place key t n (outer, part, e, head, two, up, hl, hr, path) h k l q =
       let front = outer ++ part in
@@ -94,7 +101,9 @@ module _ {N A : Type 0} (bytes : A → List ℕ) (P : ℕ) where
       ended fs outer key (fill f t) n path node (front_cut outer part key (front_cut front (f.byte ∷ []) key k')) short (
         (λ g. rw (place_is (fill f t) outer node) short),
         places_join f.left (child f.byte t f.right) (NoLonger key n) d
-            (beside f.left front key d n depth hl (Each-weaker (λ c. c < f.byte) (λ c. IsFront (front ++ c ∷ []) key → ⊥) (λ c o g. let p = one_way front c f.byte key g k' in absurd (omega arith)) (bytes_of f.left) (Pairwise-before ◌<◌ (bytes_of f.left) (bytes_of f.right) f.byte up)))
+            (beside f.left front key d n depth hl (Each-weaker (λ c. c < f.byte) (λ c. IsFront (front ++ c ∷ []) key → ⊥)
+            (λ c o g. let p = one_way front c f.byte key g k' in absurd (omega arith)) (bytes_of f.left) (Pairwise-before ◌<◌ (bytes_of f.left) (bytes_of f.right) f.byte up)))
             (Each-append (NoLonger key n) (places bytes d t) (places_below bytes d f.right) own
-            (beside f.right front key d n depth hr (Each-weaker (λ c. f.byte < c) (λ c. IsFront (front ++ c ∷ []) key → ⊥) (λ c o g. let p = one_way front c f.byte key g k' in absurd (omega arith)) (bytes_of f.right) (Pairwise-after ◌<◌ (bytes_of f.left) (bytes_of f.right) f.byte up)))),
+            (beside f.right front key d n depth hr (Each-weaker (λ c. f.byte < c) (λ c. IsFront (front ++ c ∷ []) key → ⊥)
+            (λ c o g. let p = one_way front c f.byte key g k' in absurd (omega arith)) (bytes_of f.right) (Pairwise-after ◌<◌ (bytes_of f.left) (bytes_of f.right) f.byte up)))),
       )

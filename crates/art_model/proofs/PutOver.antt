@@ -28,19 +28,23 @@ module _ {A : Type 0} (bytes : A → List ℕ) (new : A) where
       weaker [] h = tt
       weaker (y ∷ ys) h = (h.0.1, weaker ys h.1)
 
-      go : (b : Bool) → IsMap bytes (cond b (new ∷ x ∷ xs) (x ∷ add_in_order bytes new xs)) → (IsMap bytes (add_in_order bytes new xs) → Each (λ y. are_related (bytes new) (bytes y) ≡ false) xs) → Each (λ y. are_related (bytes new) (bytes y) ≡ false) (x ∷ xs)
+      go : (b : Bool) → IsMap bytes (cond b (new ∷ x ∷ xs) (x ∷ add_in_order bytes new xs)) →
+          (IsMap bytes (add_in_order bytes new xs) → Each (λ y. are_related (bytes new) (bytes y) ≡ false) xs) → Each (λ y. are_related (bytes new) (bytes y) ≡ false) (x ∷ xs)
       go true h ih = weaker (x ∷ xs) h.0
       go false h ih = (related_sym (bytes new) (bytes x) ∙ (each_in (λ y. Precedes (bytes x) (bytes y)) new (add_in_order bytes new xs) h.0 (added xs)).1, ih h.1)
 
   module _ (key : List ℕ) where
     -- so those with related keys are those with equal ones
-    pub same_rest : (xs : List A) → Each (λ y. are_related key (bytes y) ≡ false) (remove_key bytes key xs) → (remove_related bytes key xs ≡ remove_key bytes key xs) × (related_to bytes key xs ≡ with_key bytes key xs)
+    pub same_rest : (xs : List A) → Each (λ y. are_related key (bytes y) ≡ false) (remove_key bytes key xs) →
+        (remove_related bytes key xs ≡ remove_key bytes key xs) × (related_to bytes key xs ≡ with_key bytes key xs)
     same_rest [] h = (refl, refl)
     same_rest (x ∷ xs) h = go (are_same key (bytes x)) (are_related key (bytes x)) refl refl h (λ rest. same_rest xs rest)
       where
-        go : (b c : Bool) → are_same key (bytes x) ≡ b → are_related key (bytes x) ≡ c → Each (λ y. are_related key (bytes y) ≡ false) (cond (not b) (x ∷ remove_key bytes key xs) (remove_key bytes key xs)) →
+        go : (b c : Bool) → are_same key (bytes x) ≡ b → are_related key (bytes x) ≡ c →
+            Each (λ y. are_related key (bytes y) ≡ false) (cond (not b) (x ∷ remove_key bytes key xs) (remove_key bytes key xs)) →
             (Each (λ y. are_related key (bytes y) ≡ false) (remove_key bytes key xs) → (remove_related bytes key xs ≡ remove_key bytes key xs) × (related_to bytes key xs ≡ with_key bytes key xs)) →
-            (cond (not c) (x ∷ remove_related bytes key xs) (remove_related bytes key xs) ≡ cond (not b) (x ∷ remove_key bytes key xs) (remove_key bytes key xs)) × (cond c (x ∷ related_to bytes key xs) (related_to bytes key xs) ≡ cond b (x ∷ with_key bytes key xs) (with_key bytes key xs))
+            (cond (not c) (x ∷ remove_related bytes key xs) (remove_related bytes key xs) ≡ cond (not b) (x ∷ remove_key bytes key xs)
+            (remove_key bytes key xs)) × (cond c (x ∷ related_to bytes key xs) (related_to bytes key xs) ≡ cond b (x ∷ with_key bytes key xs) (with_key bytes key xs))
         go true true e f k ih = let r = ih k in (r.0, ap (λ z. x ∷ z) r.1)
         go false false e f k ih = let r = ih k.1 in (ap (λ z. x ∷ z) r.0, r.1)
         go false true e f k ih = absurd (true≢false (sym f ∙ k.0))
@@ -51,7 +55,9 @@ module _ {A : Type 0} (bytes : A → List ℕ) (new : A) where
     free_unrelated [] h = tt
     free_unrelated (x ∷ xs) h = go (are_same key (bytes x)) (are_related key (bytes x)) (is_conflict bytes key xs) refl h (λ rest. free_unrelated xs rest)
       where
-        go : (b c d : Bool) → are_related key (bytes x) ≡ c → ((c && not b) || d) ≡ false → (d ≡ false → Each (λ y. are_related key (bytes y) ≡ false) (remove_key bytes key xs)) → Each (λ y. are_related key (bytes y) ≡ false) (cond (not b) (x ∷ remove_key bytes key xs) (remove_key bytes key xs))
+        go : (b c d : Bool) → are_related key (bytes x) ≡ c → ((c && not b) || d) ≡ false →
+            (d ≡ false → Each (λ y. are_related key (bytes y) ≡ false) (remove_key bytes key xs)) →
+            Each (λ y. are_related key (bytes y) ≡ false) (cond (not b) (x ∷ remove_key bytes key xs) (remove_key bytes key xs))
         go true true d e k ih = ih k
         go true false d e k ih = ih k
         go false true d e k ih = absurd (true≢false k)
@@ -62,11 +68,14 @@ module _ {A : Type 0} (bytes : A → List ℕ) (new : A) where
     one_went [] map = refl
     one_went (x ∷ xs) map = go (are_same key (bytes x)) refl (one_went xs map.1)
       where
-        go : (b : Bool) → are_same key (bytes x) ≡ b → went (with_key bytes key xs) ≡ (first_of (with_key bytes key xs), 0) → went (cond b (x ∷ with_key bytes key xs) (with_key bytes key xs)) ≡ (first_of (cond b (x ∷ with_key bytes key xs) (with_key bytes key xs)), 0)
+        go : (b : Bool) → are_same key (bytes x) ≡ b → went (with_key bytes key xs) ≡ (first_of (with_key bytes key xs), 0) →
+            went (cond b (x ∷ with_key bytes key xs) (with_key bytes key xs)) ≡ (first_of (cond b (x ∷ with_key bytes key xs) (with_key bytes key xs)), 0)
         go false e ih = ih
         go true e ih =
             let own : bytes x ≡ key = same_equal key (bytes x) e in
-            let none : with_key bytes key xs ≡ [] = filter_none (λ y. are_same key (bytes y)) xs (Each-weaker (λ y. Precedes (bytes x) (bytes y)) (λ y. are_same key (bytes y) ≡ false) (λ y h. same_related key (bytes y) (ap (λ k. are_related k (bytes y)) (sym own) ∙ h.1)) xs map.0) in
+            let none : with_key bytes key xs ≡ [] =
+            filter_none (λ y. are_same key (bytes y)) xs (Each-weaker (λ y. Precedes (bytes x) (bytes y)) (λ y. are_same key (bytes y) ≡ false)
+            (λ y h. same_related key (bytes y) (ap (λ k. are_related k (bytes y)) (sym own) ∙ h.1)) xs map.0) in
             rw none refl
 
 module _ {A : Type 0} (bytes : A → List ℕ) where

@@ -69,7 +69,8 @@ module _ {N A : Type 0} (bytes : A → List ℕ) (P : ℕ) where
     pub radix_map_below : (cs : Children N A) (front : List ℕ) → IsRising (bytes_of cs) → AreRadix bytes P front cs → IsMap bytes (pairs_below cs)
     radix_map_below no_child front up h = tt
     radix_map_below (child b t cs) front up h = IsMap-append bytes (pairs_of t) (pairs_below cs) (radix_map t (front ++ b ∷ []) h.0) (radix_map_below cs front up.1 h.1)
-        (each_pair (λ x y. Precedes (bytes x) (bytes y)) (λ x. IsFront (front ++ b ∷ []) (bytes x)) (PartsAbove bytes front b) (λ x y f g. parts bytes front b g.0 (bytes x) (bytes y) f g.2 g.1) (pairs_of t) (pairs_below cs) (radix_way bytes P t (front ++ b ∷ []) h.0) (all_above front b cs h.1 up.0))
+        (each_pair (λ x y. Precedes (bytes x) (bytes y)) (λ x. IsFront (front ++ b ∷ []) (bytes x)) (PartsAbove bytes front b)
+        (λ x y f g. parts bytes front b g.0 (bytes x) (bytes y) f g.2 g.1) (pairs_of t) (pairs_below cs) (radix_way bytes P t (front ++ b ∷ []) h.0) (all_above front b cs h.1 up.0))
 
 -- children of which there is one
 pub only_child : {N A : Type 0} (cs : Children N A) → length (bytes_of cs) ≡ 1 → (c : ℕ) × (t : Tree N A) × (cs ≡ child c t no_child)

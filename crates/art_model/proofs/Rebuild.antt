@@ -18,7 +18,8 @@ module _ {N A : Type 0} (bytes : A → List ℕ) (P : ℕ) where
   mutual
     pub radix_way : (t : Tree N A) (place : List ℕ) → IsRadix bytes P place t → Each (λ x. IsFront place (bytes x)) (pairs_of t)
     radix_way (leaf n x) place h = (h, tt)
-    radix_way (inner n h cs) place (part, e, two, up, below) = Each-weaker (λ x. IsFront (place ++ part) (bytes x)) (λ x. IsFront place (bytes x)) (λ x f. front_cut place part (bytes x) f) (pairs_below cs) (radix_below cs (place ++ part) below)
+    radix_way (inner n h cs) place (part, e, two, up, below) =
+        Each-weaker (λ x. IsFront (place ++ part) (bytes x)) (λ x. IsFront place (bytes x)) (λ x f. front_cut place part (bytes x) f) (pairs_below cs) (radix_below cs (place ++ part) below)
 
     pub radix_below : (cs : Children N A) (front : List ℕ) → AreRadix bytes P front cs → Each (λ x. IsFront front (bytes x)) (pairs_below cs)
     radix_below no_child front h = tt
@@ -60,7 +61,8 @@ module _ {N A : Type 0} (bytes : A → List ℕ) (P : ℕ) where
   groups_below no_child front h up = refl
   groups_below (child b t cs) front h up =
       let r = radix_some t (front ++ b ∷ []) h.0 in
-      let place : Each (λ x. byte_at bytes (length front) x ≡ b) (pairs_of t) = Each-weaker (λ x. IsFront (front ++ b ∷ []) (bytes x)) (λ x. byte_at bytes (length front) x ≡ b) (byte_after bytes front b) (pairs_of t) (radix_way t (front ++ b ∷ []) h.0) in
+      let place : Each (λ x. byte_at bytes (length front) x ≡ b) (pairs_of t) =
+      Each-weaker (λ x. IsFront (front ++ b ∷ []) (bytes x)) (λ x. byte_at bytes (length front) x ≡ b) (byte_after bytes front b) (pairs_of t) (radix_way t (front ++ b ∷ []) h.0) in
       rw r.2 (groups-block (byte_at bytes (length front)) b r.0 r.1 (pairs_below cs) (groups_of cs) (rw r.2 at place) (groups_below cs front h.1 up.1) (apart_from b cs up.0))
 
 module _ {A : Type 0} (bytes : A → List ℕ) (P : ℕ) where
@@ -75,7 +77,8 @@ two_fronts (x ∷ s) b c k l h (r, e) (q, f) = let p : b ≡ x = cc in let o : c
 
 module _ {N A : Type 0} (bytes : A → List ℕ) (P : ℕ) where
   -- the first key below a child, from the end of the front on
-  first_below : (t : Tree N A) (front : List ℕ) (b : ℕ) (s : List ℕ) → IsRadix bytes P (front ++ b ∷ []) t → Each (λ x. IsFront s (drop (length front) (bytes x))) (pairs_of t) → (k : List ℕ) × IsFront s (b ∷ k)
+  first_below : (t : Tree N A) (front : List ℕ) (b : ℕ) (s : List ℕ) → IsRadix bytes P (front ++ b ∷ []) t →
+      Each (λ x. IsFront s (drop (length front) (bytes x))) (pairs_of t) → (k : List ℕ) × IsFront s (b ∷ k)
   first_below t front b s h shared =
       let r = radix_some bytes P t (front ++ b ∷ []) h in
       let w : Each (λ x. IsFront (front ++ b ∷ []) (bytes x)) (pairs_of t) = radix_way bytes P t (front ++ b ∷ []) h in
@@ -83,7 +86,8 @@ module _ {N A : Type 0} (bytes : A → List ℕ) (P : ℕ) where
       let f : IsFront s (drop (length front) (bytes r.0)) = (rw r.2 at shared).0 in
       (first.0, rw (after_front front (bytes r.0) (b ∷ first.0) (first.1 ∙ append_assoc front (b ∷ []) first.0)) at f)
 
-  shared_below : (cs : Children N A) (place part : List ℕ) → 2 ≤ length (bytes_of cs) → IsRising (bytes_of cs) → AreRadix bytes P (place ++ part) cs → shared_part bytes (length place) (pairs_below cs) ≡ part
+  shared_below : (cs : Children N A) (place part : List ℕ) → 2 ≤ length (bytes_of cs) → IsRising (bytes_of cs) → AreRadix bytes P (place ++ part) cs →
+      shared_part bytes (length place) (pairs_below cs) ≡ part
   shared_below no_child place part two up h = absurd (omega arith)
   shared_below (child b t no_child) place part two up h = absurd (omega arith)
   shared_below (child b t (child c u cs)) place part two up h =
@@ -113,7 +117,8 @@ module _ {N A : Type 0} (bytes : A → List ℕ) (P : ℕ) where
         let ih = rebuild_below cs (place ++ part) turns below (omega arith) in
         tree_two bytes P turns (length place) (pairs_below cs) (omega arith) ∙ rw (s, ← length-append place part, g, length-groups_of bytes P cs, ih, e) refl
 
-    pub rebuild_below : (cs : Children N A) (front : List ℕ) (turns : ℕ) → AreRadix bytes P front cs → length (pairs_below cs) + 1 ≤ turns + length (bytes_of cs) → children_of (tree_within bytes turns P (length front + 1)) (groups_of bytes P cs) ≡ all_unmarked cs
+    pub rebuild_below : (cs : Children N A) (front : List ℕ) (turns : ℕ) → AreRadix bytes P front cs →
+        length (pairs_below cs) + 1 ≤ turns + length (bytes_of cs) → children_of (tree_within bytes turns P (length front + 1)) (groups_of bytes P cs) ≡ all_unmarked cs
     rebuild_below no_child front turns h enough = refl
     rebuild_below (child b t cs) front turns h enough =
         let some = radix_some bytes P t (front ++ b ∷ []) h.0 in

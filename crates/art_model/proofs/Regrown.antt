@@ -49,13 +49,20 @@ module _ {N A : Type 0} (at to : N → Option (Node N A)) where
         HoldsBelow to cs × AreDistinct (m ∷ names_below cs) × OldOrFree at (names_of t) (names_below cs)
     below_branch true = (
       (is.below, (is.new_leaf, tt)),
-      (Each-append (λ k. m ≢ k) (names_of u) (n ∷ []) node_apart (is.differ, tt), Pairwise-append ◌≢◌ (names_of u) (n ∷ []) still_distinct (tt, tt) (Each-weaker (λ k. k ≢ n) (λ k. Each (λ z. k ≢ z) (n ∷ [])) (λ k f. (f, tt)) (names_of u) leaf_apart)),
+      (
+        Each-append (λ k. m ≢ k) (names_of u) (n ∷ []) node_apart (is.differ, tt),
+        Pairwise-append ◌≢◌ (names_of u) (n ∷ []) still_distinct (tt, tt)
+            (Each-weaker (λ k. k ≢ n) (λ k. Each (λ z. k ≢ z) (n ∷ [])) (λ k f. (f, tt)) (names_of u) leaf_apart),
+      ),
       Each-append (λ k. IsIn k (names_of t) ⊎ (at k ≡ None)) (names_of u) (n ∷ []) still_old (inr is.leaf_was_free, tt),
     )
     below_branch false =
         let all : names_of u ++ [] ≡ names_of u = append-nil (names_of u) in (
           (is.new_leaf, (is.below, tt)),
-          ((is.differ, subst (Each (λ k. m ≢ k)) (sym all) node_apart), (subst (Each (λ k. n ≢ k)) (sym all) (Each-weaker (λ k. k ≢ n) (λ k. n ≢ k) (λ k f e. f (sym e)) (names_of u) leaf_apart), subst AreDistinct (sym all) still_distinct)),
+          (
+            (is.differ, subst (Each (λ k. m ≢ k)) (sym all) node_apart),
+            (subst (Each (λ k. n ≢ k)) (sym all) (Each-weaker (λ k. k ≢ n) (λ k. n ≢ k) (λ k f e. f (sym e)) (names_of u) leaf_apart), subst AreDistinct (sym all) still_distinct),
+          ),
           (inr is.leaf_was_free, subst (OldOrFree at (names_of t)) (sym all) still_old),
         )
 
@@ -74,7 +81,8 @@ module _ {N A : Type 0} (at to : N → Option (Node N A)) where
     pub there : to node ≡ Some (inner_node h (slots_of (join l (join middle r))))
     pub below : HoldsBelow to middle
 
-module _ {N A : Type 0} (at to : N → Option (Node N A)) (fs : List (Frame N A)) (m : N) (h : Header) (l old r : Children N A) (holds : Holds at (plug fs (inner m h (join l (join old r))))) (distinct : AreDistinct (names_of (plug fs (inner m h (join l (join old r)))))) where
+module _ {N A : Type 0} (at to : N → Option (Node N A)) (fs : List (Frame N A)) (m : N) (h : Header) (l old r : Children N A)
+    (holds : Holds at (plug fs (inner m h (join l (join old r))))) (distinct : AreDistinct (names_of (plug fs (inner m h (join l (join old r)))))) where
   names_three : (xs : Children N A) → names_below (join l (join xs r)) ≡ names_below l ++ (names_below xs ++ names_below r)
   names_three xs = names_below-join l (join xs r) ∙ ap (λ z. names_below l ++ z) (names_below-join xs r)
 
@@ -120,12 +128,18 @@ module _ {N A : Type 0} (at to : N → Option (Node N A)) (fs : List (Frame N A)
 
   -- their names are distinct
   pub beside_distinct : AreDistinct (names_below l ++ names_below r)
-  beside_distinct = subst AreDistinct (ap (λ z. z ++ names_below r) (append-nil (names_below l))) (distinct_replaced at (names_below l) (names_below old) [] (names_below r) (subst AreDistinct (sym (append_assoc (names_below l) (names_below old) (names_below r))) own_distinct.1) (all_taken_below at l own_held.0) (all_taken_below at r own_held.2) tt tt)
+  beside_distinct =
+      subst AreDistinct (ap (λ z. z ++ names_below r) (append-nil (names_below l)))
+      (distinct_replaced at (names_below l) (names_below old) [] (names_below r)
+      (subst AreDistinct (sym (append_assoc (names_below l) (names_below old) (names_below r))) own_distinct.1) (all_taken_below at l own_held.0) (all_taken_below at r own_held.2) tt tt)
 
   module _ (node : N) (head : Header) (middle : Children N A) (is : IsRefilled at to m node head l middle r) where
     middle_distinct : AreDistinct (names_below l ++ names_below middle ++ names_below r)
-    middle_distinct = distinct_replaced at (names_below l) (names_below old) (names_below middle) (names_below r) (subst AreDistinct (sym (append_assoc (names_below l) (names_below old) (names_below r))) own_distinct.1)
-        (all_taken_below at l own_held.0) (all_taken_below at r own_held.2) is.distinct (Each-weaker (λ k. at k ≡ None) (λ k. IsIn k (names_below old) ⊎ (at k ≡ None)) (λ k f. inr f) (names_below middle) is.were_free)
+    middle_distinct =
+        distinct_replaced at (names_below l) (names_below old) (names_below middle) (names_below r)
+        (subst AreDistinct (sym (append_assoc (names_below l) (names_below old) (names_below r))) own_distinct.1)
+        (all_taken_below at l own_held.0) (all_taken_below at r own_held.2) is.distinct
+        (Each-weaker (λ k. at k ≡ None) (λ k. IsIn k (names_below old) ⊎ (at k ≡ None)) (λ k f. inr f) (names_below middle) is.were_free)
 
     node_differs : (cs : Children N A) → HoldsBelow at cs → Each (λ k. m ≢ k) (names_below cs) → Each (λ k. node ≢ k) (names_below cs)
     node_differs cs held off = elim is.named [
@@ -146,13 +160,15 @@ module _ {N A : Type 0} (at to : N → Option (Node N A)) (fs : List (Frame N A)
         record {
           holds = (is.there, HoldsBelow-join to l (join middle r) (left_holds same) (HoldsBelow-join to middle r is.below (right_holds same)));
           distinct = subst (λ z. AreDistinct (node ∷ z)) (sym refilled_names) (
-            Each-append (λ k. node ≢ k) (names_below l) (names_below middle ++ names_below r) (node_differs l own_held.0 off_l) (Each-append (λ k. node ≢ k) (names_below middle) (names_below r) is.apart (node_differs r own_held.2 off_r)),
+            Each-append (λ k. node ≢ k) (names_below l) (names_below middle ++ names_below r) (node_differs l own_held.0 off_l)
+                (Each-append (λ k. node ≢ k) (names_below middle) (names_below r) is.apart (node_differs r own_held.2 off_r)),
             subst AreDistinct (append_assoc (names_below l) (names_below middle) (names_below r)) middle_distinct,
           );
           old_or_free = (
             elim is.named [ inl e ↦ inl (inl (sym e)) | inr free ↦ inr free ],
             subst (Each Old) (sym refilled_names) (Each-append Old (names_below l) (names_below middle ++ names_below r) (each_from Old (names_below l) (λ k i. inl (in_hole k (in_left_part k i))))
-                (Each-append Old (names_below middle) (names_below r) (Each-weaker (λ k. at k ≡ None) Old (λ k f. inr f) (names_below middle) is.were_free) (each_from Old (names_below r) (λ k i. inl (in_hole k (in_right_part k i)))))),
+                (Each-append Old (names_below middle) (names_below r) (Each-weaker (λ k. at k ≡ None) Old (λ k f. inr f) (names_below middle)
+                is.were_free) (each_from Old (names_below r) (λ k i. inl (in_hole k (in_right_part k i)))))),
           );
         }
 
@@ -166,7 +182,9 @@ module _ {N A : Type 0} (at to : N → Option (Node N A)) (fs : List (Frame N A)
       record {
         holds = held;
         distinct = subst AreDistinct left beside_distinct;
-        old_or_free = subst (Each Old) left (Each-append Old (names_below l) (names_below r) (each_from Old (names_below l) (λ k i. inl (in_hole k (in_left_part k i)))) (each_from Old (names_below r) (λ k i. inl (in_hole k (in_right_part k i)))));
+        old_or_free =
+            subst (Each Old) left (Each-append Old (names_below l) (names_below r)
+            (each_from Old (names_below l) (λ k i. inl (in_hole k (in_left_part k i)))) (each_from Old (names_below r) (λ k i. inl (in_hole k (in_right_part k i)))));
       }
 
   module _ (c : ℕ) (v : Tree N A) (one : join l r ≡ child c v no_child) where
@@ -207,7 +225,8 @@ module _ {N A : Type 0} (at to : N → Option (Node N A)) (fs : List (Frame N A)
   pub left_child_below : (c : ℕ) (k : N) (head : Header) (cs : Children N A) → join l r ≡ child c (inner k head cs) no_child → SameBut at to fs (k ∷ m ∷ names_below old) → HoldsBelow to cs
   left_child_below c k head cs one same =
       let d = left_child_distinct c (inner k head cs) one in
-      frame_below at to cs (each_from (λ j. to j ≡ at j) (names_below cs) (λ j i. left_child_still c (inner k head cs) one (k ∷ []) same j (inr i) (λ a. not_head j i d.0 a))) (left_child_held c (inner k head cs) one).1
+      frame_below at to cs (each_from (λ j. to j ≡ at j) (names_below cs)
+      (λ j i. left_child_still c (inner k head cs) one (k ∷ []) same j (inr i) (λ a. not_head j i d.0 a))) (left_child_held c (inner k head cs) one).1
     where
       not_head : (j : N) → IsIn j (names_below cs) → Each (λ z. k ≢ z) (names_below cs) → IsIn j (k ∷ []) → ⊥
       not_head j i off (inl e) = each_in (λ z. k ≢ z) j (names_below cs) off i e

@@ -47,9 +47,11 @@ module _ {N A : Type 0} (bytes : A → List ℕ) (P : ℕ) (at to : N → Option
 
 -- the leaves that are left are among those that were there
 fewer : {N A : Type 0} (l r : Children N A) (b : ℕ) (n : N) (x : A) (e : A × N) → IsIn e (leaves_below (join l r)) → IsIn e (leaves_below (join l (child b (leaf n x) r)))
-fewer l r b n x e i = subst (IsIn e) (sym (leaves_below-three l (child b (leaf n x) no_child) r)) (in_around e (leaves_below l) ((x, n) ∷ []) (leaves_below r) (subst (IsIn e) (leaves_below-join l r) i))
+fewer l r b n x e i =
+    subst (IsIn e) (sym (leaves_below-three l (child b (leaf n x) no_child) r)) (in_around e (leaves_below l) ((x, n) ∷ []) (leaves_below r) (subst (IsIn e) (leaves_below-join l r) i))
 
-module _ {N A : Type 0} {bytes : A → List ℕ} {P : ℕ} {at to : N → Option (Node N A)} {before links : N → Option (Links N)} {fs : List (Frame N A)} {place : List ℕ} {root : N} {pairs : List A} {m n : N} {h : Header} {l r : Children N A} {b : ℕ} {x : A}
+module _ {N A : Type 0} {bytes : A → List ℕ} {P : ℕ} {at to : N → Option (Node N A)} {before links : N → Option (Links N)} {fs : List (Frame N A)}
+    {place : List ℕ} {root : N} {pairs : List A} {m n : N} {h : Header} {l r : Children N A} {b : ℕ} {x : A}
     (old : IsLaidOut bytes P at before root pairs (plug fs (inner m h (join l (child b (leaf n x) r))))) where
   module _ {node : N} (is : ChildRemoved bytes P at to before links fs place m node n h l r b x) where
     abbrev less : Tree N A
@@ -59,7 +61,8 @@ module _ {N A : Type 0} {bytes : A → List ℕ} {P : ℕ} {at to : N → Option
     without_leaf = child_removed bytes P place is.hole.radix.0 l r b node n x is.hole.radix.3 is.hole.radix.4 is.two
 
     -- the root is canonical for the pairs without the key
-    pub child_removed_from : IsLaidOut bytes P to links (root_with fs root node) (remove_key bytes (bytes x) pairs) (plug fs (inner node (header_of P is.hole.radix.0 (length (bytes_of (join l r)))) (join l r)))
+    pub child_removed_from : IsLaidOut bytes P to links (root_with fs root node) (remove_key bytes (bytes x) pairs)
+        (plug fs (inner node (header_of P is.hole.radix.0 (length (bytes_of (join l r)))) (join l r)))
     child_removed_from = replaced old (record {
       path = is.hole.path;
       radix = without_leaf.0;
@@ -67,18 +70,24 @@ module _ {N A : Type 0} {bytes : A → List ℕ} {P : ℕ} {at to : N → Option
       regrown = children_regrown at to fs m h l (child b (leaf n x) no_child) r old.holds old.distinct node (header_of P is.hole.radix.0 (length (bytes_of (join l r)))) no_child
           (record { named = is.named; were_free = tt; distinct = tt; apart = tt; there = is.there; below = tt }) is.same;
       same = λ k up out used. is.same k up (λ i. elim i [ inl e ↦ out (inl e) | inr j ↦ elim j [ inl e ↦ out (inr (leaf_below l r b n x k e)) | inr j ↦ j ] ]) used;
-      linked = linked_in_hole fs before links (inner m h (join l (child b (leaf n x) r))) less (leaf_names_below l) (n ∷ []) [] (leaf_names_below r) old.distinct old.linked (leaf_names_below-three l (child b (leaf n x) no_child) r) (leaf_names_below-three l no_child r) is.relinked;
+      linked = linked_in_hole fs before links (inner m h (join l (child b (leaf n x) r))) less (leaf_names_below l) (n ∷ []) [] (leaf_names_below r)
+          old.distinct old.linked (leaf_names_below-three l (child b (leaf n x) no_child) r) (leaf_names_below-three l no_child r) is.relinked;
     }) (bytes x) (remove_key bytes (bytes x)) (remove_key-between bytes (bytes x)) is.hole.front without_leaf.1
 
     -- and inner nodes that stay keep their names
-    pub child_removed_keeps : KeepNames (inner_nodes bytes 0 (plug fs (inner m h (join l (child b (leaf n x) r))))) (inner_nodes bytes 0 (plug fs (inner node (header_of P is.hole.radix.0 (length (bytes_of (join l r)))) (join l r))))
+    pub child_removed_keeps : KeepNames (inner_nodes bytes 0 (plug fs (inner m h (join l (child b (leaf n x) r)))))
+        (inner_nodes bytes 0 (plug fs (inner node (header_of P is.hole.radix.0 (length (bytes_of (join l r)))) (join l r))))
     unfolding without_leaf child_removed
     child_removed_keeps = kept bytes P fs place (inner m h (join l (child b (leaf n x) r))) less is.hole.path is.hole.radix without_leaf.0
-        (kept_children bytes P place m node h (header_of P is.hole.radix.0 (length (bytes_of (join l r)))) (join l (child b (leaf n x) r)) (join l r) is.hole.radix without_leaf.0 refl (λ d. sym (inner_nodes-leaf bytes P d l r b n x)) is.same_kind)
+        (kept_children bytes P place m node h (header_of P is.hole.radix.0 (length (bytes_of (join l r)))) (join l (child b (leaf n x) r)) (join l r)
+        is.hole.radix without_leaf.0 refl (λ d. sym (inner_nodes-leaf bytes P d l r b n x)) is.same_kind)
 
     -- and keys that stay keep their leaves' names
-    pub child_removed_keeps_leaves : KeepLeaves bytes P (leaves_of (plug fs (inner m h (join l (child b (leaf n x) r))))) (leaves_of (plug fs (inner node (header_of P is.hole.radix.0 (length (bytes_of (join l r)))) (join l r))))
-    child_removed_keeps_leaves = kept_leaves bytes P fs (inner m h (join l (child b (leaf n x) r))) less old.radix child_removed_from.radix (kept_leaves_fewer bytes P (inner m h (join l (child b (leaf n x) r))) less place is.hole.radix (λ e i. fewer l r b n x e i))
+    pub child_removed_keeps_leaves : KeepLeaves bytes P (leaves_of (plug fs (inner m h (join l (child b (leaf n x) r)))))
+        (leaves_of (plug fs (inner node (header_of P is.hole.radix.0 (length (bytes_of (join l r)))) (join l r))))
+    child_removed_keeps_leaves =
+        kept_leaves bytes P fs (inner m h (join l (child b (leaf n x) r))) less old.radix child_removed_from.radix
+        (kept_leaves_fewer bytes P (inner m h (join l (child b (leaf n x) r))) less place is.hole.radix (λ e i. fewer l r b n x e i))
 
   module _ {c : ℕ} {v u : Tree N A} (is : NodeRemoved bytes P at to before links fs place m n h l r b c x v u) where
     lifted_leaves : leaf_names u ≡ leaf_names_below l ++ [] ++ leaf_names_below r
@@ -92,23 +101,29 @@ module _ {N A : Type 0} {bytes : A → List ℕ} {P : ℕ} {at to : N → Option
       parent = is.parent;
       regrown = lifted_regrown at to fs m h l (child b (leaf n x) no_child) r old.holds old.distinct c v u is.one is.same_names is.below;
       same = is.same;
-      linked = linked_in_hole fs before links (inner m h (join l (child b (leaf n x) r))) u (leaf_names_below l) (n ∷ []) [] (leaf_names_below r) old.distinct old.linked (leaf_names_below-three l (child b (leaf n x) no_child) r) lifted_leaves is.relinked;
-    }) (bytes x) (remove_key bytes (bytes x)) (remove_key-between bytes (bytes x)) is.hole.front (same_pairs_of v u is.same_entries ∙ (child_left bytes P place is.hole.radix.0 l r b c n x v is.hole.radix.3 is.hole.radix.4 is.one).1)
+      linked = linked_in_hole fs before links (inner m h (join l (child b (leaf n x) r))) u (leaf_names_below l) (n ∷ []) [] (leaf_names_below r)
+          old.distinct old.linked (leaf_names_below-three l (child b (leaf n x) no_child) r) lifted_leaves is.relinked;
+    }) (bytes x) (remove_key bytes (bytes x)) (remove_key-between bytes (bytes x)) is.hole.front
+        (same_pairs_of v u is.same_entries ∙ (child_left bytes P place is.hole.radix.0 l r b c n x v is.hole.radix.3 is.hole.radix.4 is.one).1)
 
     -- and inner nodes that stay keep their names
     pub node_removed_keeps : KeepNames (inner_nodes bytes 0 (plug fs (inner m h (join l (child b (leaf n x) r))))) (inner_nodes bytes 0 (plug fs u))
-    node_removed_keeps = kept bytes P fs place (inner m h (join l (child b (leaf n x) r))) u is.hole.path is.hole.radix is.radix (kept_lifted bytes P place m n h l r b c x v u is.hole.radix is.one is.same_inners)
+    node_removed_keeps =
+        kept bytes P fs place (inner m h (join l (child b (leaf n x) r))) u is.hole.path is.hole.radix is.radix (kept_lifted bytes P place m n h l r b c x v u is.hole.radix is.one is.same_inners)
 
     -- and keys that stay keep their leaves' names
     pub node_removed_keeps_leaves : KeepLeaves bytes P (leaves_of (plug fs (inner m h (join l (child b (leaf n x) r))))) (leaves_of (plug fs u))
-    node_removed_keeps_leaves = kept_leaves bytes P fs (inner m h (join l (child b (leaf n x) r))) u old.radix node_removed.radix (kept_leaves_fewer bytes P (inner m h (join l (child b (leaf n x) r))) u place is.hole.radix
+    node_removed_keeps_leaves =
+        kept_leaves bytes P fs (inner m h (join l (child b (leaf n x) r))) u old.radix node_removed.radix (kept_leaves_fewer bytes P (inner m h (join l (child b (leaf n x) r))) u place is.hole.radix
         (λ e i. fewer l r b n x e (subst (IsIn e) (sym (ap leaves_below is.one ∙ append-nil (leaves_of v) ∙ sym is.same_entries)) i)))
 
   -- ---- which child is left: a leaf, which is raised, or an inner node, which takes its parent's prefix and its own byte in front
 
-  module _ (hole : IsHole bytes P fs place (inner m h (join l (child b (leaf n x) r))) (bytes x)) (relinked : Relinked before links (leaves_before fs ++ leaf_names_below l) [] (leaf_names_below r ++ leaves_after fs)) where
+  module _ (hole : IsHole bytes P fs place (inner m h (join l (child b (leaf n x) r))) (bytes x))
+      (relinked : Relinked before links (leaves_before fs ++ leaf_names_below l) [] (leaf_names_below r ++ leaves_after fs)) where
     -- the child that is left is a leaf
-    pub raised_leaf : (c : ℕ) (k : N) (y : A) → join l r ≡ child c (leaf k y) no_child → ParentHas to fs k → SameBut at to fs (m ∷ n ∷ []) → NodeRemoved bytes P at to before links fs place m n h l r b c x (leaf k y) (leaf k y)
+    pub raised_leaf : (c : ℕ) (k : N) (y : A) → join l r ≡ child c (leaf k y) no_child → ParentHas to fs k → SameBut at to fs (m ∷ n ∷ []) →
+        NodeRemoved bytes P at to before links fs place m n h l r b c x (leaf k y) (leaf k y)
     raised_leaf c k y one parent same = record {
       hole = hole;
       one = one;
@@ -123,7 +138,8 @@ module _ {N A : Type 0} {bytes : A → List ℕ} {P : ℕ} {at to : N → Option
     }
 
     -- the child that is left is an inner node
-    pub merged_node : (c : ℕ) (k : N) (head : Header) (cs : Children N A) → join l r ≡ child c (inner k head cs) no_child → (radix : IsRadix bytes P ((place ++ hole.radix.0) ++ c ∷ []) (inner k head cs)) →
+    pub merged_node : (c : ℕ) (k : N) (head : Header) (cs : Children N A) → join l r ≡ child c (inner k head cs) no_child →
+        (radix : IsRadix bytes P ((place ++ hole.radix.0) ++ c ∷ []) (inner k head cs)) →
         let merged_head = header_of P (hole.radix.0 ++ c ∷ radix.0) (length (bytes_of cs)) in
         to k ≡ Some (inner_node merged_head (slots_of cs)) → ParentHas to fs k → SameBut at to fs (k ∷ m ∷ n ∷ []) →
         NodeRemoved bytes P at to before links fs place m n h l r b c x (inner k head cs) (inner k merged_head cs)
@@ -142,7 +158,8 @@ module _ {N A : Type 0} {bytes : A → List ℕ} {P : ℕ} {at to : N → Option
           same_inners = inner_nodes-moved bytes (length place + h.length_of + 1) (length place) k head merged_head cs (sym (ap (λ z. z.kind) e)) (omega arith);
           below = (there, left_child_below at to fs m h l (child b (leaf n x) no_child) r old.holds old.distinct c k head cs one same);
           parent = parent;
-          same = λ j up out used. same j up (λ i. elim i [ inl e ↦ out (child_in j e) | inr i ↦ elim i [ inl e ↦ out (inl e) | inr i ↦ elim i [ inl e ↦ out (inr (leaf_below l r b n x j e)) | inr i ↦ i ] ] ]) used;
+          same = λ j up out used. same j up (λ i.
+              elim i [ inl e ↦ out (child_in j e) | inr i ↦ elim i [ inl e ↦ out (inl e) | inr i ↦ elim i [ inl e ↦ out (inr (leaf_below l r b n x j e)) | inr i ↦ i ] ] ]) used;
           relinked = relinked;
         }
       where

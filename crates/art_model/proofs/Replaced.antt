@@ -24,7 +24,8 @@ pub record Replaced {N A : Type 0} (bytes : A → List ℕ) (P : ℕ) (at to : N
   pub same : SameBut at to fs (names_of t)
   pub linked : AreLinked links None (leaf_names (plug fs u)) None
 
-module _ {N A : Type 0} {bytes : A → List ℕ} {P : ℕ} {at to : N → Option (Node N A)} {before links : N → Option (Links N)} {root : N} {pairs : List A} {fs : List (Frame N A)} {place : List ℕ} {t u : Tree N A} where
+module _ {N A : Type 0} {bytes : A → List ℕ} {P : ℕ} {at to : N → Option (Node N A)} {before links : N → Option (Links N)} {root : N} {pairs : List A}
+    {fs : List (Frame N A)} {place : List ℕ} {t u : Tree N A} where
   -- The whole is laid out again, for what a local change at a key makes of the pairs.
   pub replaced : IsLaidOut bytes P at before root pairs (plug fs t) → Replaced bytes P at to links fs place t u →
       (key : List ℕ) (F : List A → List A) → IsLocal bytes key F → IsFront place key → pairs_of u ≡ F (pairs_of t) →

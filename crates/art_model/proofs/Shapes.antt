@@ -50,7 +50,8 @@ module _ {N A : Type 0} where
     inner_names_below-shape (child b t cs) = ap₂ (λ (k l : List N). k ++ l) (inner_names-shape t) (inner_names_below-shape cs)
 
 module _ {K V : Type 0} where
-  same_inner : (kind : NodeType) (o : Option Inner) (h : Header) (slots : List (ℕ × OpaqueNodePtr)) → option_map (seen {K = K} {V = V} kind) (option_map held_inner o) ≡ Some (inner_node h slots) → option_map (inner_seen {A = Unit {0}} kind) o ≡ Some (inner_node h slots)
+  same_inner : (kind : NodeType) (o : Option Inner) (h : Header) (slots : List (ℕ × OpaqueNodePtr)) →
+      option_map (seen {K = K} {V = V} kind) (option_map held_inner o) ≡ Some (inner_node h slots) → option_map (inner_seen {A = Unit {0}} kind) o ≡ Some (inner_node h slots)
   same_inner kind None h slots e = absurd cc
   same_inner kind (Some node) h slots e =
       let head : header_at kind node ≡ h = cc in
@@ -67,7 +68,8 @@ module _ {K V : Type 0} where
     end_seen Node256 slot x e = absurd (seen_no_leaf Node256 (map.get s.inners (record { kind = Node256; slot = slot })) x e)
 
     -- where a tree sees an inner node, so does the shape
-    inner_is_seen : (kind : NodeType) (slot : ℕ) (h : Header) (slots : List (ℕ × OpaqueNodePtr)) → option_map (seen kind) (held_in s kind slot) ≡ Some (inner_node h slots) → shape_in s kind slot ≡ Some (inner_node h slots)
+    inner_is_seen : (kind : NodeType) (slot : ℕ) (h : Header) (slots : List (ℕ × OpaqueNodePtr)) →
+        option_map (seen kind) (held_in s kind slot) ≡ Some (inner_node h slots) → shape_in s kind slot ≡ Some (inner_node h slots)
     inner_is_seen Leaf slot h slots e = absurd (seen_no_inner (map.get s.leaves (record { slot = slot })) h slots e)
     inner_is_seen Node4 slot h slots e = same_inner Node4 (map.get s.inners (record { kind = Node4; slot = slot })) h slots e
     inner_is_seen Node16 slot h slots e = same_inner Node16 (map.get s.inners (record { kind = Node16; slot = slot })) h slots e

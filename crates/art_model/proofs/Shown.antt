@@ -41,7 +41,8 @@ module _ {K V : Type 0} (s : Nodes K V) where
     pub no_leaf_gone : (t : Tree OpaqueNodePtr (K × V)) → name_of t ≡ leaf_name p → Holds (node_at s) t → None ≡ map.get s.leaves p → ⊥
     no_leaf_gone t named held gone = subst (LeafIs t) (sym gone) (leaf_is t named held)
 
-    pub leaf_shown : (t : Tree OpaqueNodePtr (K × V)) → name_of t ≡ leaf_name p → Holds (node_at s) t → (shown : LeafNode K V) → Some shown ≡ map.get s.leaves p → t ≡ leaf (leaf_name p) (pair_of shown)
+    pub leaf_shown : (t : Tree OpaqueNodePtr (K × V)) → name_of t ≡ leaf_name p → Holds (node_at s) t → (shown : LeafNode K V) →
+        Some shown ≡ map.get s.leaves p → t ≡ leaf (leaf_name p) (pair_of shown)
     leaf_shown t named held shown there = subst (LeafIs t) (sym there) (leaf_is t named held)
 
   module _ (p : InnerPtr) (proper : p.kind ≢ Leaf) where

@@ -19,7 +19,8 @@ module _ {N A : Type 0} where
 
   pub layouts_have_cases : LayoutsHaveCases N A
   layouts_have_cases at root tree layout (is, plain) =
-      subst (λ n. Stands at n tree (names_of layout) (leaf_names layout)) is.named (subst (λ t. Stands at (name_of layout) t (names_of layout) (leaf_names layout)) plain (stands_from at layout is.holds is.distinct))
+      subst (λ n. Stands at n tree (names_of layout) (leaf_names layout)) is.named
+      (subst (λ t. Stands at (name_of layout) t (names_of layout) (leaf_names layout)) plain (stands_from at layout is.holds is.distinct))
 
   module _ (at : N → Option (Node N A)) where
     mutual

@@ -51,7 +51,8 @@ module _ {N A : Type 0} where
 
       pub frame_below : (cs : Children N A) → Each (λ n. to n ≡ at n) (names_below cs) → HoldsBelow at cs → HoldsBelow to cs
       frame_below no_child same h = tt
-      frame_below (child b t cs) same h = (frame t (Each-left (λ n. to n ≡ at n) (names_of t) (names_below cs) same) h.0, frame_below cs (Each-right (λ n. to n ≡ at n) (names_of t) (names_below cs) same) h.1)
+      frame_below (child b t cs) same h =
+          (frame t (Each-left (λ n. to n ≡ at n) (names_of t) (names_below cs) same) h.0, frame_below cs (Each-right (λ n. to n ≡ at n) (names_of t) (names_below cs) same) h.1)
 
     -- a path
     pub frame_path : (fs : List (Frame N A)) (hole : N) → Each (λ n. to n ≡ at n) (names_before fs) → Each (λ n. to n ≡ at n) (names_after fs) → HoldsPath at hole fs → HoldsPath to hole fs
@@ -125,10 +126,12 @@ module _ {N A : Type 0} where
   parent_before (g ∷ gs) k is = in_right k (names_before gs) (g.mark ∷ names_below g.left) (inl (sym is))
 
   -- the parent is no node of the hole
-  pub parent_apart : (at to : N → Option (Node N A)) (fs : List (Frame N A)) (t : Tree N A) → Holds at (plug fs t) → AreDistinct (names_of (plug fs t)) → (k : N) → IsParent fs k → IsIn k (names_of t) → ⊥
+  pub parent_apart : (at to : N → Option (Node N A)) (fs : List (Frame N A)) (t : Tree N A) → Holds at (plug fs t) →
+      AreDistinct (names_of (plug fs t)) → (k : N) → IsParent fs k → IsIn k (names_of t) → ⊥
   parent_apart at to fs t holds distinct k is i = before_apart at to fs t holds distinct k (parent_before fs k is) i
 
-module _ {N A : Type 0} (at to : N → Option (Node N A)) (g : Frame N A) (gs : List (Frame N A)) (t : Tree N A) (holds : Holds at (plug (g ∷ gs) t)) (distinct : AreDistinct (names_of (plug (g ∷ gs) t))) (same : SameBut at to (g ∷ gs) (names_of t)) where
+module _ {N A : Type 0} (at to : N → Option (Node N A)) (g : Frame N A) (gs : List (Frame N A)) (t : Tree N A) (holds : Holds at (plug (g ∷ gs) t))
+    (distinct : AreDistinct (names_of (plug (g ∷ gs) t))) (same : SameBut at to (g ∷ gs) (names_of t)) where
   mark_first : AreDistinct (names_before gs ++ g.mark ∷ names_below g.left)
   mark_first =
       let all = all_distinct at to (g ∷ gs) t holds distinct in
@@ -138,14 +141,19 @@ module _ {N A : Type 0} (at to : N → Option (Node N A)) (g : Frame N A) (gs : 
   kept_before k i off = same k off (before_apart at to (g ∷ gs) t holds distinct k i) (each_in (IsTaken at) k (names_before (g ∷ gs)) (before_taken at to (g ∷ gs) t holds distinct) i)
 
   same_above : Each (λ k. to k ≡ at k) (names_before gs)
-  same_above = each_from (λ k. to k ≡ at k) (names_before gs) (λ k i. kept_before k (in_left k (names_before gs) (g.mark ∷ names_below g.left) i) (λ e. apart_in (names_before gs) (g.mark ∷ names_below g.left) k mark_first i (inl (sym e))))
+  same_above =
+      each_from (λ k. to k ≡ at k) (names_before gs) (λ k i. kept_before k (in_left k (names_before gs) (g.mark ∷ names_below g.left) i)
+      (λ e. apart_in (names_before gs) (g.mark ∷ names_below g.left) k mark_first i (inl (sym e))))
 
   same_left : Each (λ k. to k ≡ at k) (names_below g.left)
-  same_left = each_from (λ k. to k ≡ at k) (names_below g.left) (λ k i. kept_before k (in_right k (names_before gs) (g.mark ∷ names_below g.left) (inr i)) (λ e. each_in (λ z. g.mark ≢ z) k (names_below g.left) (Pairwise-right ◌≢◌ (names_before gs) (g.mark ∷ names_below g.left) mark_first).0 i (sym e)))
+  same_left =
+      each_from (λ k. to k ≡ at k) (names_below g.left) (λ k i. kept_before k (in_right k (names_before gs) (g.mark ∷ names_below g.left) (inr i))
+      (λ e. each_in (λ z. g.mark ≢ z) k (names_below g.left) (Pairwise-right ◌≢◌ (names_before gs) (g.mark ∷ names_below g.left) mark_first).0 i (sym e)))
 
   same_after : Each (λ k. to k ≡ at k) (names_after (g ∷ gs))
   same_after = each_from (λ k. to k ≡ at k) (names_after (g ∷ gs)) (λ k i. same k
-      (λ e. apart_in (names_before (g ∷ gs) ++ names_of t) (names_after (g ∷ gs)) k (all_distinct at to (g ∷ gs) t holds distinct) (in_left k (names_before (g ∷ gs)) (names_of t) (parent_before (g ∷ gs) k e)) i)
+      (λ e. apart_in (names_before (g ∷ gs) ++ names_of t) (names_after (g ∷ gs)) k (all_distinct at to (g ∷ gs) t holds distinct)
+      (in_left k (names_before (g ∷ gs)) (names_of t) (parent_before (g ∷ gs) k e)) i)
       (λ j. after_apart at to (g ∷ gs) t holds distinct k j i)
       (each_in (IsTaken at) k (names_after (g ∷ gs)) (after_taken at to (g ∷ gs) t holds distinct) i))
 
@@ -153,13 +161,19 @@ module _ {N A : Type 0} (at to : N → Option (Node N A)) (g : Frame N A) (gs : 
   path_replaced name parent =
       let ((e, l, r, path), it) = path_holds at (g ∷ gs) t holds in
       let S = λ (k : N). to k ≡ at k in
-      let same_right = Each-left S (names_below g.right) (names_after gs) same_after in
-      (parent, frame_below at to g.left same_left l, frame_below at to g.right same_right r, frame_path at to gs g.mark same_above (Each-right S (names_below g.right) (names_after gs) same_after) path)
+      let same_right = Each-left S (names_below g.right) (names_after gs) same_after in (
+        parent,
+        frame_below at to g.left same_left l,
+        frame_below at to g.right same_right r,
+        frame_path at to gs g.mark same_above
+            (Each-right S (names_below g.right) (names_after gs) same_after) path,
+      )
 
 -- the replacement law: another tree stands in the hole, the parent knows it, and the rest is as it was
 module _ {N A : Type 0} (at to : N → Option (Node N A)) where
   -- the whole is a layout again
-  pub replace : (fs : List (Frame N A)) (t u : Tree N A) → Holds at (plug fs t) → AreDistinct (names_of (plug fs t)) → ParentHas to fs (name_of u) → Regrown at to t u → SameBut at to fs (names_of t) → Holds to (plug fs u) × AreDistinct (names_of (plug fs u))
+  pub replace : (fs : List (Frame N A)) (t u : Tree N A) → Holds at (plug fs t) → AreDistinct (names_of (plug fs t)) → ParentHas to fs (name_of u) →
+      Regrown at to t u → SameBut at to fs (names_of t) → Holds to (plug fs u) × AreDistinct (names_of (plug fs u))
   replace [] t u holds distinct parent new same = (new.holds, new.distinct)
   replace (g ∷ gs) t u holds distinct parent new same =
       let fs = g ∷ gs in (
@@ -169,5 +183,6 @@ module _ {N A : Type 0} (at to : N → Option (Node N A)) where
       )
 
   -- names of the hole that are not touched have the same nodes as before
-  pub stays : (fs : List (Frame N A)) (t : Tree N A) → Holds at (plug fs t) → AreDistinct (names_of (plug fs t)) → (touched : List N) → SameBut at to fs touched → (k : N) → IsIn k (names_of t) → (IsIn k touched → ⊥) → to k ≡ at k
+  pub stays : (fs : List (Frame N A)) (t : Tree N A) → Holds at (plug fs t) → AreDistinct (names_of (plug fs t)) → (touched : List N) →
+      SameBut at to fs touched → (k : N) → IsIn k (names_of t) → (IsIn k touched → ⊥) → to k ≡ at k
   stays fs t holds distinct touched same k i off = same k (λ is. parent_apart at to fs t holds distinct k is i) off (hole_taken at to fs t holds distinct k i)

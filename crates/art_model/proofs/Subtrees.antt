@@ -30,12 +30,14 @@ module _ {A : Type 0} (at : OpaqueNodePtr → Option (Node OpaqueNodePtr A)) (by
 
   -- where a descent ends at a leaf the key begins with the tree's place, and that of an inner node with its prefix too
   mutual
-    pub descent_front : (t : Tree OpaqueNodePtr A) (place : List ℕ) (ns : List OpaqueNodePtr) (x : A) → Holds at t → IsRadix bytes P place t → IsDescent at (name_of t) ns → at (bottom_of (name_of t) ns) ≡ Some (leaf_node x) → IsFront place (bytes x)
+    pub descent_front : (t : Tree OpaqueNodePtr A) (place : List ℕ) (ns : List OpaqueNodePtr) (x : A) → Holds at t → IsRadix bytes P place t →
+        IsDescent at (name_of t) ns → at (bottom_of (name_of t) ns) ≡ Some (leaf_node x) → IsFront place (bytes x)
     descent_front (leaf n y) place [] x holds radix d e = let same : y ≡ x = cc in subst (λ z. IsFront place (bytes z)) same radix
     descent_front (leaf n y) place (m ∷ ms) x holds radix d e = let h = d.0.3 in absurd cc
     descent_front (inner n h cs) place ns x holds radix d e = front_cut place radix.0 (bytes x) (prefix_front n h cs place ns x holds radix d e)
 
-    pub prefix_front : (n : OpaqueNodePtr) (h : Header) (cs : Children OpaqueNodePtr A) (place : List ℕ) (ns : List OpaqueNodePtr) (x : A) → Holds at (inner n h cs) → (radix : IsRadix bytes P place (inner n h cs)) → IsDescent at n ns → at (bottom_of n ns) ≡ Some (leaf_node x) → IsFront (place ++ radix.0) (bytes x)
+    pub prefix_front : (n : OpaqueNodePtr) (h : Header) (cs : Children OpaqueNodePtr A) (place : List ℕ) (ns : List OpaqueNodePtr) (x : A) →
+        Holds at (inner n h cs) → (radix : IsRadix bytes P place (inner n h cs)) → IsDescent at n ns → at (bottom_of n ns) ≡ Some (leaf_node x) → IsFront (place ++ radix.0) (bytes x)
     prefix_front n h cs place [] x holds radix d e = let f = holds.0 in absurd cc
     prefix_front n h no_child place (m ∷ ms) x holds radix d e = let l = radix.2 in absurd (omega arith)
     prefix_front n h (child b t cs) place (m ∷ ms) x holds radix d e =
@@ -43,10 +45,12 @@ module _ {A : Type 0} (at : OpaqueNodePtr → Option (Node OpaqueNodePtr A)) (by
         let g = d.0.3 in
         let both : ◌≡◌ {A = ℕ × OpaqueNodePtr} (d.0.1, m) (b, name_of t) = cc in
         let same : m ≡ name_of t = ap (λ c. c.1) both in
-        front_cut (place ++ radix.0) (b ∷ []) (bytes x) (descent_front t ((place ++ radix.0) ++ b ∷ []) ms x holds.1.0 radix.4.0 (subst (λ k. IsDescent at k ms) same d.1) (subst (λ k. at (bottom_of k ms) ≡ Some (leaf_node x)) same e))
+        front_cut (place ++ radix.0) (b ∷ []) (bytes x) (descent_front t ((place ++ radix.0) ++ b ∷ []) ms x holds.1.0 radix.4.0
+        (subst (λ k. IsDescent at k ms) same d.1) (subst (λ k. at (bottom_of k ms) ≡ Some (leaf_node x)) same e))
 
   -- the prefix of a node as read is its whole prefix
-  pub read_whole : (n : OpaqueNodePtr) (h : Header) (cs : Children OpaqueNodePtr A) (place part : List ℕ) → Holds at (inner n h cs) → (radix : IsRadix bytes P place (inner n h cs)) → HasPrefix at bytes P (length place) n part → part ≡ radix.0
+  pub read_whole : (n : OpaqueNodePtr) (h : Header) (cs : Children OpaqueNodePtr A) (place part : List ℕ) → Holds at (inner n h cs) →
+      (radix : IsRadix bytes P place (inner n h cs)) → HasPrefix at bytes P (length place) n part → part ≡ radix.0
   read_whole n h cs place part holds radix (k, slots, there, is) =
       let f = holds.0 in
       let same : k ≡ h = cc in
@@ -59,10 +63,12 @@ module _ {A : Type 0} (at : OpaqueNodePtr → Option (Node OpaqueNodePtr A)) (by
       go (inl (l, e)) = e ∙ ap (λ z. z.stored) radix.1 ∙ take_all P radix.0 (let m = long in omega arith)
       go (inr (m, (x, (ns, d, bottom), enough, e))) =
           let (rest, whole) = prefix_front n h cs place ns x holds radix d bottom in
-          e ∙ ap₂ (λ i l. take i (drop (length place) l)) long (whole ∙ append_assoc place radix.0 rest) ∙ ap (take (length radix.0)) (drop-append_seam place (radix.0 ++ rest)) ∙ take-append_seam radix.0 rest
+          e ∙ ap₂ (λ i l. take i (drop (length place) l)) long (whole ∙ append_assoc place radix.0 rest) ∙
+          ap (take (length radix.0)) (drop-append_seam place (radix.0 ++ rest)) ∙ take-append_seam radix.0 rest
 
   -- a trail from the root of a tree ends at a part of it, and is read as the place of that
-  pub trail_sub : (t : Tree OpaqueNodePtr A) (front place : List ℕ) (steps : List (ℕ × OpaqueNodePtr)) → Holds at t → IsRadix bytes P front t → IsTrail at (name_of t) steps → IsReadAs at bytes P front (name_of t) steps place → IsSub t place (end_of (name_of t) steps)
+  pub trail_sub : (t : Tree OpaqueNodePtr A) (front place : List ℕ) (steps : List (ℕ × OpaqueNodePtr)) → Holds at t → IsRadix bytes P front t →
+      IsTrail at (name_of t) steps → IsReadAs at bytes P front (name_of t) steps place → IsSub t place (end_of (name_of t) steps)
   trail_sub t front place [] holds radix trail read = record { tree = t; named = refl; holds = holds; radix = subst (λ p. IsRadix bytes P p t) (sym read) radix; within = λ k i. i; apart = λ d. d }
   trail_sub (leaf n x) front place (s ∷ ss) holds radix ((h, slots, there, under), trail) read = absurd cc
   trail_sub (inner n h cs) front place (s ∷ ss) holds radix ((k, slots, there, under), trail) (part, has, read) =
@@ -72,14 +78,19 @@ module _ {A : Type 0} (at : OpaqueNodePtr → Option (Node OpaqueNodePtr A)) (by
       let whole = read_whole n h cs front part holds radix has in
       let held = HoldsBelow-right at c.left (child s.0 c.tree c.right) (subst (HoldsBelow at) c.whole holds.1) in
       let below = AreRadix-right bytes P (front ++ radix.0) c.left (child s.0 c.tree c.right) (subst (AreRadix bytes P (front ++ radix.0)) c.whole radix.4) in
-      let sub = trail_sub c.tree ((front ++ radix.0) ++ s.0 ∷ []) place ss held.0 below.0 (subst (λ m. IsTrail at m ss) (sym c.named) trail) (subst (λ m. IsReadAs at bytes P ((front ++ radix.0) ++ s.0 ∷ []) m ss place) (sym c.named) (subst (λ p. IsReadAs at bytes P ((front ++ p) ++ s.0 ∷ []) s.1 ss place) whole read)) in
+      let sub =
+      trail_sub c.tree ((front ++ radix.0) ++ s.0 ∷ []) place ss held.0 below.0 (subst (λ m. IsTrail at m ss) (sym c.named) trail)
+      (subst (λ m. IsReadAs at bytes P ((front ++ radix.0) ++ s.0 ∷ []) m ss place) (sym c.named) (subst (λ p. IsReadAs at bytes P ((front ++ p) ++ s.0 ∷ []) s.1 ss place) whole read)) in
       record {
         tree = sub.tree;
         named = sub.named ∙ ap (λ m. end_of m ss) c.named;
         holds = sub.holds;
         radix = sub.radix;
-        apart = λ d. sub.apart (Pairwise-left ◌≢◌ (names_of c.tree) (names_below c.right) (Pairwise-right ◌≢◌ (names_below c.left) (names_below (child s.0 c.tree c.right)) (subst AreDistinct (ap names_below c.whole ∙ names_below-join c.left (child s.0 c.tree c.right)) d.1)));
-        within = λ m i. inr (subst (λ ds. IsIn m (names_below ds)) (sym c.whole) (subst (IsIn m) (sym (names_below-join c.left (child s.0 c.tree c.right))) (in_right m (names_below c.left) (names_below (child s.0 c.tree c.right)) (in_left m (names_of c.tree) (names_below c.right) (sub.within m i)))));
+        apart = λ d. sub.apart (Pairwise-left ◌≢◌ (names_of c.tree) (names_below c.right)
+            (Pairwise-right ◌≢◌ (names_below c.left) (names_below (child s.0 c.tree c.right)) (subst AreDistinct (ap names_below c.whole ∙ names_below-join c.left (child s.0 c.tree c.right)) d.1)));
+        within = λ m i. inr (subst (λ ds. IsIn m (names_below ds)) (sym c.whole)
+            (subst (IsIn m) (sym (names_below-join c.left (child s.0 c.tree c.right)))
+            (in_right m (names_below c.left) (names_below (child s.0 c.tree c.right)) (in_left m (names_of c.tree) (names_below c.right) (sub.within m i)))));
       }
 
   -- ---- descents
@@ -89,7 +100,8 @@ module _ {A : Type 0} (at : OpaqueNodePtr → Option (Node OpaqueNodePtr A)) (by
   is_held (inner n h cs) holds gone = let f = holds.0 in absurd cc
 
   -- a descent from the root of a tree ends at a part of it
-  pub descent_sub : (t : Tree OpaqueNodePtr A) (place : List ℕ) (ns : List OpaqueNodePtr) → Holds at t → IsRadix bytes P place t → IsDescent at (name_of t) ns → (deeper : List ℕ) × (u : Tree OpaqueNodePtr A) × (name_of u ≡ bottom_of (name_of t) ns) × Holds at u × IsRadix bytes P deeper u
+  pub descent_sub : (t : Tree OpaqueNodePtr A) (place : List ℕ) (ns : List OpaqueNodePtr) → Holds at t → IsRadix bytes P place t →
+      IsDescent at (name_of t) ns → (deeper : List ℕ) × (u : Tree OpaqueNodePtr A) × (name_of u ≡ bottom_of (name_of t) ns) × Holds at u × IsRadix bytes P deeper u
   descent_sub t place [] holds radix d = (place, t, refl, holds, radix)
   descent_sub (leaf n x) place (m ∷ ms) holds radix d = let h = d.0.3 in absurd cc
   descent_sub (inner n h no_child) place (m ∷ ms) holds radix d = let l = radix.2 in absurd (omega arith)
@@ -112,8 +124,11 @@ module _ {A : Type 0} (at : OpaqueNodePtr → Option (Node OpaqueNodePtr A)) (by
       let g = d.0.3 in
       let both : ◌≡◌ {A = ℕ × OpaqueNodePtr} (d.0.1, m) (b, name_of t) = cc in
       let same : m ≡ name_of t = ap (λ c. c.1) both in
-      let below = descent_in t ms holds.1.0 (subst (λ k. IsDescent at k ms) same d.1) in
-      (inl refl, Each-weaker (λ k. IsIn k (names_of t)) (λ k. IsIn k (names_of (inner n h (child b t cs)))) (λ k i. inr (in_left k (names_of t) (names_below cs) i)) (m ∷ ms) (subst (λ z. Each (λ k. IsIn k (names_of t)) (z ∷ ms)) (sym same) below))
+      let below = descent_in t ms holds.1.0 (subst (λ k. IsDescent at k ms) same d.1) in (
+        inl refl,
+        Each-weaker (λ k. IsIn k (names_of t)) (λ k. IsIn k (names_of (inner n h (child b t cs))))
+            (λ k i. inr (in_left k (names_of t) (names_below cs) i)) (m ∷ ms) (subst (λ z. Each (λ k. IsIn k (names_of t)) (z ∷ ms)) (sym same) below),
+      )
 
   -- none of which it meets twice
   pub descent_apart : (t : Tree OpaqueNodePtr A) (ns : List OpaqueNodePtr) → Holds at t → AreDistinct (names_of t) → IsDescent at (name_of t) ns → AreDistinct (name_of t ∷ ns)
@@ -127,6 +142,7 @@ module _ {A : Type 0} (at : OpaqueNodePtr → Option (Node OpaqueNodePtr A)) (by
       let same : m ≡ name_of t = ap (λ c. c.1) both in
       let down = subst (λ k. IsDescent at k ms) same d.1 in
       subst (λ z. AreDistinct (n ∷ z ∷ ms)) (sym same) (
-        Each-weaker (λ k. IsIn k (names_of t)) (λ k. n ≢ k) (λ k i. each_in (λ z. n ≢ z) k (names_below (child b t cs)) apart.0 (in_left k (names_of t) (names_below cs) i)) (name_of t ∷ ms) (descent_in t ms holds.1.0 down),
+        Each-weaker (λ k. IsIn k (names_of t)) (λ k. n ≢ k) (λ k i. each_in (λ z. n ≢ z) k (names_below (child b t cs)) apart.0
+            (in_left k (names_of t) (names_below cs) i)) (name_of t ∷ ms) (descent_in t ms holds.1.0 down),
         descent_apart t ms holds.1.0 (Pairwise-left ◌≢◌ (names_of t) (names_below cs) apart.1) down,
       )

@@ -23,12 +23,14 @@ use Rattle.art_model.proofs.Chains.{AreThere, are_there, beside_place, links_lea
 module _ {K V : Type 0} (s : Nodes K V) where
   mutual
     -- a leaf of a layout is there, with one of the layout's pairs
-    pub leaf_at : (t : Tree OpaqueNodePtr (K × V)) → Holds (node_at s) t → (p : LeafPtr) → IsIn (leaf_name p) (leaf_names t) → (y : LeafNode K V) × (get s.leaves p ≡ Some y) × IsIn (pair_of y) (pairs_of t)
+    pub leaf_at : (t : Tree OpaqueNodePtr (K × V)) → Holds (node_at s) t → (p : LeafPtr) → IsIn (leaf_name p) (leaf_names t) → (y : LeafNode K V) ×
+        (get s.leaves p ≡ Some y) × IsIn (pair_of y) (pairs_of t)
     leaf_at (leaf k x) h p (inl e) = let (y, got, same) = leaf_there s p x (ap (node_at s) (sym e) ∙ h) in (y, got, inl (sym same))
     leaf_at (leaf k x) h p (inr i) = absurd i
     leaf_at (inner k head cs) holds p i = leaf_below cs holds.1 p i
 
-    leaf_below : (cs : Children OpaqueNodePtr (K × V)) → HoldsBelow (node_at s) cs → (p : LeafPtr) → IsIn (leaf_name p) (leaf_names_below cs) → (y : LeafNode K V) × (get s.leaves p ≡ Some y) × IsIn (pair_of y) (pairs_below cs)
+    leaf_below : (cs : Children OpaqueNodePtr (K × V)) → HoldsBelow (node_at s) cs → (p : LeafPtr) → IsIn (leaf_name p) (leaf_names_below cs) →
+        (y : LeafNode K V) × (get s.leaves p ≡ Some y) × IsIn (pair_of y) (pairs_below cs)
     leaf_below no_child h p i = absurd i
     leaf_below (child b t cs) h p i = elim (in_either (leaf_name p) (leaf_names t) (leaf_names_below cs) i) [
       | inl j ↦ let (y, got, among) = leaf_at t h.0 p j in (y, got, in_left (pair_of y) (pairs_of t) (pairs_below cs) among)

@@ -65,29 +65,56 @@ module _ {N X : Type 0} {R : N → N → Ordering} (order : IsTotalOrder R) (sam
     -- a name that is placed: it was free, and was not freed before
     pub then_placed : (n : N) (x : X) → get new n ≡ None → (IsIn n freed → ⊥) → Touched old (insert new n x) (n ∷ placed) freed changed
     then_placed n x free fresh =
-        let was = so_far.others n (λ i. (each_in (λ k. (get old k ≡ None) × (get new k ≢ None)) n placed so_far.are_placed i).1 free) fresh (λ i. (each_in (λ k. (get old k ≢ None) × (get new k ≢ None)) n changed so_far.are_changed i).1 free) in
+        let was =
+        so_far.others n (λ i. (each_in (λ k. (get old k ≡ None) × (get new k ≢ None)) n placed so_far.are_placed i).1 free) fresh
+        (λ i. (each_in (λ k. (get old k ≢ None) × (get new k ≢ None)) n changed so_far.are_changed i).1 free) in
         record {
-          are_placed = ((sym was ∙ free, λ e. absurd (cc (here order same new n x))), Each-weaker (λ k. (get old k ≡ None) × (get new k ≢ None)) (λ k. (get old k ≡ None) × (get (insert new n x) k ≢ None)) (λ k h. (h.0, still_placed new n k x h.1)) placed so_far.are_placed);
-          are_freed = each_from (λ k. (get old k ≢ None) × (get (insert new n x) k ≡ None)) freed (λ k i. let h = each_in (λ k. (get old k ≢ None) × (get new k ≡ None)) k freed so_far.are_freed i in (h.0, elsewhere order same new n k x (λ e. fresh (subst (λ z. IsIn z freed) e i)) ∙ h.1));
-          are_changed = Each-weaker (λ k. (get old k ≢ None) × (get new k ≢ None)) (λ k. (get old k ≢ None) × (get (insert new n x) k ≢ None)) (λ k h. (h.0, still_placed new n k x h.1)) changed so_far.are_changed;
+          are_placed = (
+            (sym was ∙ free, λ e. absurd (cc (here order same new n x))),
+            Each-weaker (λ k. (get old k ≡ None) × (get new k ≢ None))
+                (λ k. (get old k ≡ None) × (get (insert new n x) k ≢ None)) (λ k h. (h.0, still_placed new n k x h.1)) placed so_far.are_placed,
+          );
+          are_freed =
+              each_from (λ k. (get old k ≢ None) × (get (insert new n x) k ≡ None)) freed
+              (λ k i. let h = each_in (λ k. (get old k ≢ None) × (get new k ≡ None)) k freed so_far.are_freed
+              i in (h.0, elsewhere order same new n k x (λ e. fresh (subst (λ z. IsIn z freed) e i)) ∙ h.1));
+          are_changed =
+              Each-weaker (λ k. (get old k ≢ None) × (get new k ≢ None)) (λ k. (get old k ≢ None) × (get (insert new n x) k ≢ None))
+              (λ k h. (h.0, still_placed new n k x h.1)) changed so_far.are_changed;
           others = λ k p f c. elsewhere order same new n k x (λ e. p (inl (sym e))) ∙ so_far.others k (λ i. p (inr i)) f c;
         }
 
     -- a name that is changed: it was there, and is
     pub then_changed : (n : N) (g : X → X) → get old n ≢ None → get new n ≢ None → Touched old (change new n g) placed freed (n ∷ changed)
     then_changed n g was is = record {
-      are_placed = Each-weaker (λ k. (get old k ≡ None) × (get new k ≢ None)) (λ k. (get old k ≡ None) × (get (change new n g) k ≢ None)) (λ k h. (h.0, still_changed new n k g h.1)) placed so_far.are_placed;
-      are_freed = Each-weaker (λ k. (get old k ≢ None) × (get new k ≡ None)) (λ k. (get old k ≢ None) × (get (change new n g) k ≡ None)) (λ k h. (h.0, changed_elsewhere order same new n k g (λ e. is (ap (get new) (sym e) ∙ h.1)) ∙ h.1)) freed so_far.are_freed;
-      are_changed = ((was, still_changed new n n g is), Each-weaker (λ k. (get old k ≢ None) × (get new k ≢ None)) (λ k. (get old k ≢ None) × (get (change new n g) k ≢ None)) (λ k h. (h.0, still_changed new n k g h.1)) changed so_far.are_changed);
+      are_placed =
+          Each-weaker (λ k. (get old k ≡ None) × (get new k ≢ None)) (λ k. (get old k ≡ None) × (get (change new n g) k ≢ None)) (λ k h. (h.0, still_changed new n k g h.1)) placed so_far.are_placed;
+      are_freed =
+          Each-weaker (λ k. (get old k ≢ None) × (get new k ≡ None)) (λ k. (get old k ≢ None) × (get (change new n g) k ≡ None))
+          (λ k h. (h.0, changed_elsewhere order same new n k g (λ e. is (ap (get new) (sym e) ∙ h.1)) ∙ h.1)) freed so_far.are_freed;
+      are_changed = (
+        (was, still_changed new n n g is),
+        Each-weaker (λ k. (get old k ≢ None) × (get new k ≢ None))
+            (λ k. (get old k ≢ None) × (get (change new n g) k ≢ None)) (λ k h. (h.0, still_changed new n k g h.1)) changed so_far.are_changed,
+      );
       others = λ k p f c. changed_elsewhere order same new n k g (λ e. c (inl (sym e))) ∙ so_far.others k p f (λ i. c (inr i));
     }
 
     -- a name that is freed: it was there at first, and was not changed before
     pub then_freed : (n : N) → get old n ≢ None → (IsIn n changed → ⊥) → Touched old (remove new n) placed (n ∷ freed) changed
     then_freed n was fresh = record {
-      are_placed = Each-weaker (λ k. (get old k ≡ None) × (get new k ≢ None)) (λ k. (get old k ≡ None) × (get (remove new n) k ≢ None)) (λ k h. (h.0, λ e. h.1 (sym (gone_elsewhere order same new n k (λ f. was (ap (get old) (sym f) ∙ h.0))) ∙ e))) placed so_far.are_placed;
-      are_freed = ((was, gone order same new n), Each-weaker (λ k. (get old k ≢ None) × (get new k ≡ None)) (λ k. (get old k ≢ None) × (get (remove new n) k ≡ None)) (λ k h. (h.0, still_gone new n k h.1)) freed so_far.are_freed);
-      are_changed = each_from (λ k. (get old k ≢ None) × (get (remove new n) k ≢ None)) changed (λ k i. let h = each_in (λ k. (get old k ≢ None) × (get new k ≢ None)) k changed so_far.are_changed i in (h.0, λ e. h.1 (sym (gone_elsewhere order same new n k (λ f. fresh (subst (λ z. IsIn z changed) f i))) ∙ e)));
+      are_placed =
+          Each-weaker (λ k. (get old k ≡ None) × (get new k ≢ None)) (λ k. (get old k ≡ None) × (get (remove new n) k ≢ None))
+          (λ k h. (h.0, λ e. h.1 (sym (gone_elsewhere order same new n k (λ f. was (ap (get old) (sym f) ∙ h.0))) ∙ e))) placed so_far.are_placed;
+      are_freed = (
+        (was, gone order same new n),
+        Each-weaker (λ k. (get old k ≢ None) × (get new k ≡ None))
+            (λ k. (get old k ≢ None) × (get (remove new n) k ≡ None)) (λ k h. (h.0, still_gone new n k h.1)) freed so_far.are_freed,
+      );
+      are_changed =
+          each_from (λ k. (get old k ≢ None) × (get (remove new n) k ≢ None)) changed
+          (λ k i. let h = each_in (λ k. (get old k ≢ None) × (get new k ≢ None)) k changed so_far.are_changed
+          i in (h.0, λ e. h.1 (sym (gone_elsewhere order same new n k (λ f. fresh (subst (λ z. IsIn z changed) f i))) ∙ e)));
       others = λ k p f c. gone_elsewhere order same new n k (λ e. f (inl (sym e))) ∙ so_far.others k p (λ i. f (inr i)) c;
     }
 
@@ -110,20 +137,28 @@ module _ {K V : Type 0} (s t : Nodes K V) where
   held_some X f (Some x) h e = absurd cc
 
   -- what holds of the values of listed names holds of what is held under them
-  module _ (P Q : (X : Type 0) → Option X → Type 0) (p_held : (X : Type 0) (f : X → Held K V) (o : Option X) → P X o → P (Held K V) (option_map f o)) (q_held : (X : Type 0) (f : X → Held K V) (o : Option X) → Q X o → Q (Held K V) (option_map f o)) where
+  module _ (P Q : (X : Type 0) → Option X → Type 0) (p_held : (X : Type 0) (f : X → Held K V) (o : Option X) → P X o → P (Held K V) (option_map f o))
+      (q_held : (X : Type 0) (f : X → Held K V) (o : Option X) → Q X o → Q (Held K V) (option_map f o)) where
     abbrev Listed : OpaqueNodePtr → Type 0
     Listed n = P (Held K V) (held s n) × Q (Held K V) (held t n)
 
-    both_held : (leaves : List LeafPtr) (inners : List InnerPtr) → Each (λ n. P (LeafNode K V) (get s.leaves n) × Q (LeafNode K V) (get t.leaves n)) leaves → Each (λ n. P Inner (get s.inners n) × Q Inner (get t.inners n)) inners → Each IsInner inners → Each Listed (both_names leaves inners)
+    both_held : (leaves : List LeafPtr) (inners : List InnerPtr) →
+        Each (λ n. P (LeafNode K V) (get s.leaves n) × Q (LeafNode K V) (get t.leaves n)) leaves →
+        Each (λ n. P Inner (get s.inners n) × Q Inner (get t.inners n)) inners → Each IsInner inners → Each Listed (both_names leaves inners)
     both_held leaves inners l i k = Each-append Listed (map leaf_name leaves) (map inner_name inners)
-        (each_map leaf_name Listed leaves (Each-weaker (λ n. P (LeafNode K V) (get s.leaves n) × Q (LeafNode K V) (get t.leaves n)) (λ n. Listed (leaf_name n)) (λ n h. (p_held (LeafNode K V) held_leaf (get s.leaves n) h.0, q_held (LeafNode K V) held_leaf (get t.leaves n) h.1)) leaves l))
+        (each_map leaf_name Listed leaves (Each-weaker (λ n. P (LeafNode K V) (get s.leaves n) × Q (LeafNode K V) (get t.leaves n))
+        (λ n. Listed (leaf_name n)) (λ n h. (p_held (LeafNode K V) held_leaf (get s.leaves n) h.0, q_held (LeafNode K V) held_leaf (get t.leaves n) h.1)) leaves l))
         (each_map inner_name Listed inners (each_from (λ n. Listed (inner_name n)) inners (λ n j.
         let h = each_in (λ n. P Inner (get s.inners n) × Q Inner (get t.inners n)) n inners i j in
-        let kind = each_in IsInner n inners k j in
-        (subst (P (Held K V)) (sym (held_in_inner s n.kind n.slot kind)) (p_held Inner held_inner (get s.inners n) h.0), subst (Q (Held K V)) (sym (held_in_inner t n.kind n.slot kind)) (q_held Inner held_inner (get t.inners n) h.1)))))
+        let kind = each_in IsInner n inners k j in (
+          subst (P (Held K V)) (sym (held_in_inner s n.kind n.slot kind)) (p_held Inner held_inner (get s.inners n) h.0),
+          subst (Q (Held K V))
+              (sym (held_in_inner t n.kind n.slot kind)) (q_held Inner held_inner (get t.inners n) h.1),
+        ))))
 
   -- the footprint of the writes to both maps
-  pub footprint_of : {lp lf lc : List LeafPtr} {ip if_ ic : List InnerPtr} → Touched s.leaves t.leaves lp lf lc → Touched s.inners t.inners ip if_ ic → Each IsInner ip → Each IsInner if_ → Each IsInner ic →
+  pub footprint_of : {lp lf lc : List LeafPtr} {ip if_ ic : List InnerPtr} → Touched s.leaves t.leaves lp lf lc →
+      Touched s.inners t.inners ip if_ ic → Each IsInner ip → Each IsInner if_ → Each IsInner ic →
       Footprint s t (both_names lp ip) (both_names lf if_) (both_names lc ic)
   footprint_of {lp} {lf} {lc} {ip} {if_} {ic} l i kp kf kc = record {
     are_placed = both_held (λ X o. o ≡ None) (λ X o. o ≢ None) held_none held_some lp ip l.are_placed i.are_placed kp;
@@ -144,10 +179,19 @@ module _ {K V : Type 0} (s t : Nodes K V) where
   }
 
   -- and how much it is at most
-  pub touches_at_most : {lp lf lc : List LeafPtr} {ip if_ ic : List InnerPtr} (placed freed changed : ℕ) → Touched s.leaves t.leaves lp lf lc → Touched s.inners t.inners ip if_ ic → Each IsInner ip → Each IsInner if_ → Each IsInner ic →
+  pub touches_at_most : {lp lf lc : List LeafPtr} {ip if_ ic : List InnerPtr} (placed freed changed : ℕ) → Touched s.leaves t.leaves lp lf lc →
+      Touched s.inners t.inners ip if_ ic → Each IsInner ip → Each IsInner if_ → Each IsInner ic →
       length lp + length ip ≤ placed → length lf + length if_ ≤ freed → length lc + length ic ≤ changed → TouchesAtMost placed freed changed s t
-  touches_at_most {lp} {lf} {lc} {ip} {if_} {ic} placed freed changed l i kp kf kc p f c =
-      (both_names lp ip, both_names lf if_, both_names lc ic, footprint_of l i kp kf kc, subst (λ z. z ≤ placed) (sym (long lp ip)) p, subst (λ z. z ≤ freed) (sym (long lf if_)) f, subst (λ z. z ≤ changed) (sym (long lc ic)) c)
+  touches_at_most {lp} {lf} {lc} {ip} {if_} {ic} placed freed changed l i kp kf kc p f c = (
+    both_names lp ip,
+    both_names lf if_,
+    both_names lc ic,
+    footprint_of l i kp kf kc,
+    subst (λ z. z ≤ placed) (sym (long lp ip)) p,
+    subst
+        (λ z. z ≤ freed) (sym (long lf if_)) f,
+    subst (λ z. z ≤ changed) (sym (long lc ic)) c,
+  )
     where
       long : (leaves : List LeafPtr) (inners : List InnerPtr) → length (both_names leaves inners) ≡ length leaves + length inners
       long leaves inners = length-append (map leaf_name leaves) (map inner_name inners) ∙ ap₂ (λ a b. a + b) (length-map leaves leaf_name) (length-map inners inner_name)

@@ -7,7 +7,8 @@ use Rattle.art_model.specs.Trails.{way_of, bottom_of, IsDescent, IsPrefix, HasPr
 
 module _ {A : Type 0} (at : OpaqueNodePtr → Option (Node OpaqueNodePtr A)) where
   -- descents from a name end at one leaf
-  pub same_leaf : (name : OpaqueNodePtr) (ns ms : List OpaqueNodePtr) (x y : A) → IsDescent at name ns → at (bottom_of name ns) ≡ Some (leaf_node x) → IsDescent at name ms → at (bottom_of name ms) ≡ Some (leaf_node y) → x ≡ y
+  pub same_leaf : (name : OpaqueNodePtr) (ns ms : List OpaqueNodePtr) (x y : A) → IsDescent at name ns → at (bottom_of name ns) ≡ Some (leaf_node x) →
+      IsDescent at name ms → at (bottom_of name ms) ≡ Some (leaf_node y) → x ≡ y
   same_leaf name [] [] x y d e f g = cc
   same_leaf name [] (m ∷ ms) x y d e f g = let h = f.0.3 in absurd cc
   same_leaf name (n ∷ ns) [] x y d e f g = let h = d.0.3 in absurd cc
@@ -32,7 +33,8 @@ module _ {A : Type 0} (at : OpaqueNodePtr → Option (Node OpaqueNodePtr A)) whe
         go (inr (l, (x, (ns, d1, e1), long, e))) (inr (m, (y, (ms, d2, e2), long2, f))) = e ∙ ap (λ z. take h.length_of (drop d (bytes z))) (same_leaf name ns ms x y d1 e1 d2 e2) ∙ sym f
 
     -- a way is read in one manner
-    same_read : (front : List ℕ) (name : OpaqueNodePtr) (steps others : List (ℕ × OpaqueNodePtr)) (p q : List ℕ) → IsTrail at name steps → IsReadAs at bytes P front name steps p → IsTrail at name others → IsReadAs at bytes P front name others q → way_of steps ≡ way_of others → p ≡ q
+    same_read : (front : List ℕ) (name : OpaqueNodePtr) (steps others : List (ℕ × OpaqueNodePtr)) (p q : List ℕ) → IsTrail at name steps →
+        IsReadAs at bytes P front name steps p → IsTrail at name others → IsReadAs at bytes P front name others q → way_of steps ≡ way_of others → p ≡ q
     same_read front name [] [] p q t r u v e = r ∙ sym v
     same_read front name [] (o ∷ os) p q t r u v e = absurd cc
     same_read front name (s ∷ ss) [] p q t r u v e = absurd cc

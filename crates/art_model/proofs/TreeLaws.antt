@@ -40,7 +40,9 @@ module _ {A : Type 0} (bytes : A → List ℕ) where
       where
         go : (t : Tree (Unit {0}) A) → IsRadix bytes P place t → pairs_of t ≡ x ∷ y ∷ rest → Some t ≡ node_of bytes (λ d group. tree_of bytes group P d) P (length place) (x ∷ y ∷ rest)
         go (leaf u z) radix its = absurd cc
-        go (inner u h cs) radix its = sym (subst (λ xs. node_of bytes (λ d group. tree_of bytes group P d) P (length place) xs ≡ Some (inner tt h cs)) its (rebuild_node bytes P u h cs place radix ∙ ap Some (unmarked_plain (inner u h cs))))
+        go (inner u h cs) radix its =
+            sym (subst (λ xs. node_of bytes (λ d group. tree_of bytes group P d) P (length place) xs ≡ Some (inner tt h cs)) its
+            (rebuild_node bytes P u h cs place radix ∙ ap Some (unmarked_plain (inner u h cs))))
 
     pub has_tree : HasTree bytes P
     has_tree x pairs map = let (t, made, radix, its) = build_root bytes P (x ∷ pairs) map (omega arith) in (t, made, its, radix)

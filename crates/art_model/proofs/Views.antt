@@ -30,7 +30,8 @@ module _ {K V : Type 0} where
   seen_of kind o = option_map (seen kind) (option_map held_inner o)
 
   -- what is seen as an inner node is one
-  pub seen_inner : (kind : NodeType) (o : Option Inner) (h : Header) (slots : List (ℕ × OpaqueNodePtr)) → seen_of kind o ≡ Some (inner_node h slots) → (node : Inner) × (o ≡ Some node) × (header_at kind node ≡ h) × (node.children ≡ slots)
+  pub seen_inner : (kind : NodeType) (o : Option Inner) (h : Header) (slots : List (ℕ × OpaqueNodePtr)) → seen_of kind o ≡ Some (inner_node h slots) →
+      (node : Inner) × (o ≡ Some node) × (header_at kind node ≡ h) × (node.children ≡ slots)
   seen_inner kind None h slots e = absurd cc
   seen_inner kind (Some node) h slots e = (node, refl, cc, cc)
 
@@ -70,14 +71,16 @@ module _ {K V : Type 0} (s : Nodes K V) where
   leaf_name_is p h slots e = seen_no_inner (map.get s.leaves p) h slots e
 
   -- an inner node's name that stands for an inner node
-  pub inner_there : (p : InnerPtr) (h : Header) (slots : List (ℕ × OpaqueNodePtr)) → p.kind ≢ Leaf → node_at s (inner_name p) ≡ Some (inner_node h slots) → (node : Inner) × (map.get s.inners p ≡ Some node) × (header_at p.kind node ≡ h) × (node.children ≡ slots)
+  pub inner_there : (p : InnerPtr) (h : Header) (slots : List (ℕ × OpaqueNodePtr)) → p.kind ≢ Leaf →
+      node_at s (inner_name p) ≡ Some (inner_node h slots) → (node : Inner) × (map.get s.inners p ≡ Some node) × (header_at p.kind node ≡ h) × (node.children ≡ slots)
   inner_there p h slots n e = seen_inner p.kind (map.get s.inners p) h slots (ap (option_map (seen p.kind)) (sym (held_in_inner p.kind p.slot n)) ∙ e)
 
   -- an inner node's name stands for no leaf
   pub inner_name_is : (p : InnerPtr) (x : K × V) → p.kind ≢ Leaf → node_at s (inner_name p) ≡ Some (leaf_node x) → ⊥
   inner_name_is p x n e = seen_no_leaf p.kind (map.get s.inners p) x (ap (option_map (seen p.kind)) (sym (held_in_inner p.kind p.slot n)) ∙ e)
 
-  inner_used : (kind : NodeType) (slot : ℕ) (h : Header) (slots : List (ℕ × OpaqueNodePtr)) → option_map (seen kind) (held_in s kind slot) ≡ Some (inner_node h slots) → is_some (map.get s.inners (record { kind = kind; slot = slot })) ≡ true
+  inner_used : (kind : NodeType) (slot : ℕ) (h : Header) (slots : List (ℕ × OpaqueNodePtr)) →
+      option_map (seen kind) (held_in s kind slot) ≡ Some (inner_node h slots) → is_some (map.get s.inners (record { kind = kind; slot = slot })) ≡ true
   inner_used Leaf slot h slots e = absurd (seen_no_inner (map.get s.leaves (record { slot = slot })) h slots e)
   inner_used Node4 slot h slots e = rw (seen_inner Node4 (map.get s.inners (record { kind = Node4; slot = slot })) h slots e).1 refl
   inner_used Node16 slot h slots e = rw (seen_inner Node16 (map.get s.inners (record { kind = Node16; slot = slot })) h slots e).1 refl
@@ -85,7 +88,8 @@ module _ {K V : Type 0} (s : Nodes K V) where
   inner_used Node256 slot h slots e = rw (seen_inner Node256 (map.get s.inners (record { kind = Node256; slot = slot })) h slots e).1 refl
 
   -- a name that stands for an inner node is one of the store's inner names
-  pub inner_is_used : (n : OpaqueNodePtr) (h : Header) (slots : List (ℕ × OpaqueNodePtr)) → node_at s n ≡ Some (inner_node h slots) → is_some (map.get s.inners (record { kind = n.kind; slot = n.slot })) ≡ true
+  pub inner_is_used : (n : OpaqueNodePtr) (h : Header) (slots : List (ℕ × OpaqueNodePtr)) → node_at s n ≡ Some (inner_node h slots) →
+      is_some (map.get s.inners (record { kind = n.kind; slot = n.slot })) ≡ true
   inner_is_used n h slots e = inner_used n.kind n.slot h slots e
 
 -- a name is that of a leaf, or has an inner kind

@@ -40,7 +40,8 @@ module _ {N : Type 0} where
 
 module _ {N A : Type 0} (bytes : A → List ℕ) (P : ℕ) where
   -- the whole bytes of a node are its place and its whole prefix
-  pub whole_is : (h : Header) (place part : List ℕ) (n : ℕ) (cs : Children N A) → h ≡ header_of P part n → 2 ≤ length (bytes_of cs) → AreRadix bytes P (place ++ part) cs → take (length place + h.length_of) (least_below bytes cs) ≡ place ++ part
+  pub whole_is : (h : Header) (place part : List ℕ) (n : ℕ) (cs : Children N A) → h ≡ header_of P part n → 2 ≤ length (bytes_of cs) →
+      AreRadix bytes P (place ++ part) cs → take (length place + h.length_of) (least_below bytes cs) ≡ place ++ part
   whole_is h place part n cs e two below =
       let l : length place + h.length_of ≡ length (place ++ part) = ap (λ z. length place + z) (ap (λ z. z.length_of) e) ∙ sym (length-append place part) in
       rw l (taken (place ++ part) (least_below bytes cs) (least_way_below bytes P cs (place ++ part) two below))
@@ -55,14 +56,16 @@ module _ {N A : Type 0} (bytes : A → List ℕ) (P : ℕ) where
     whole_way (leaf n x) place h = tt
     whole_way (inner n h cs) place (part, e, two, up, below) = (
       (part, whole_is h place part (length (bytes_of cs)) cs e two below),
-      Each-weaker (Under (place ++ part) cs) (λ e. IsFront place e.1) (λ e u. front_cut place part e.1 (front_cut (place ++ part) (u.0 ∷ []) e.1 u.2)) (inner_nodes_below bytes (length place + h.length_of + 1) cs)
+      Each-weaker (Under (place ++ part) cs) (λ e. IsFront place e.1) (λ e u. front_cut place part e.1 (front_cut (place ++ part) (u.0 ∷ []) e.1 u.2))
+          (inner_nodes_below bytes (length place + h.length_of + 1) cs)
           (whole_under cs (place ++ part) (length place + h.length_of + 1) (λ b. deeper place part b h.length_of (ap (λ z. z.length_of) e)) below),
     )
 
     pub whole_under : (cs : Children N A) (front : List ℕ) (d : ℕ) → ((b : ℕ) → d ≡ length (front ++ b ∷ [])) → AreRadix bytes P front cs → Each (Under front cs) (inner_nodes_below bytes d cs)
     whole_under no_child front d e h = tt
     whole_under (child b t cs) front d e h = Each-append (Under front (child b t cs)) (inner_nodes bytes d t) (inner_nodes_below bytes d cs)
-        (Each-weaker (λ e. IsFront (front ++ b ∷ []) e.1) (Under front (child b t cs)) (λ e f. (b, inl refl, f)) (inner_nodes bytes d t) (subst (λ z. Each (λ e. IsFront (front ++ b ∷ []) e.1) (inner_nodes bytes z t)) (sym (e b)) (whole_way t (front ++ b ∷ []) h.0)))
+        (Each-weaker (λ e. IsFront (front ++ b ∷ []) e.1) (Under front (child b t cs)) (λ e f. (b, inl refl, f)) (inner_nodes bytes d t)
+        (subst (λ z. Each (λ e. IsFront (front ++ b ∷ []) e.1) (inner_nodes bytes z t)) (sym (e b)) (whole_way t (front ++ b ∷ []) h.0)))
         (Each-weaker (Under front cs) (Under front (child b t cs)) (λ e u. (u.0, inr u.1, u.2)) (inner_nodes_below bytes d cs) (whole_under cs front d e h.1))
 
   -- no two inner nodes have the same whole bytes
@@ -73,17 +76,21 @@ module _ {N A : Type 0} (bytes : A → List ℕ) (P : ℕ) where
         let w = whole_is h place part (length (bytes_of cs)) cs e two below in
         let d = length place + h.length_of + 1 in
         let depth = λ (b : ℕ). deeper place part b h.length_of (ap (λ z. z.length_of) e) in (
-          Each-weaker (Under (place ++ part) cs) (λ f. take (length place + h.length_of) (least_below bytes cs) ≢ f.1) (λ f u same. let l = ap length (sym w ∙ same ∙ u.2.1) in absurd (omega (arith, simp length-append at l))) (inner_nodes_below bytes d cs) (whole_under cs (place ++ part) d depth below),
+          Each-weaker (Under (place ++ part) cs) (λ f. take (length place + h.length_of) (least_below bytes cs) ≢ f.1)
+              (λ f u same. let l = ap length (sym w ∙ same ∙ u.2.1) in absurd (omega (arith, simp length-append at l))) (inner_nodes_below bytes d cs) (whole_under cs (place ++ part) d depth below),
           whole_differ_below cs (place ++ part) d depth up below,
         )
 
-    pub whole_differ_below : (cs : Children N A) (front : List ℕ) (d : ℕ) → ((b : ℕ) → d ≡ length (front ++ b ∷ [])) → IsRising (bytes_of cs) → AreRadix bytes P front cs → Pairwise Differ (inner_nodes_below bytes d cs)
+    pub whole_differ_below : (cs : Children N A) (front : List ℕ) (d : ℕ) → ((b : ℕ) → d ≡ length (front ++ b ∷ [])) → IsRising (bytes_of cs) →
+        AreRadix bytes P front cs → Pairwise Differ (inner_nodes_below bytes d cs)
     whole_differ_below no_child front d e up h = tt
     whole_differ_below (child b t cs) front d e up h =
         let own = subst (λ z. Each (λ e. IsFront (front ++ b ∷ []) e.1) (inner_nodes bytes z t)) (sym (e b)) (whole_way t (front ++ b ∷ []) h.0) in
-        Pairwise-append Differ (inner_nodes bytes d t) (inner_nodes_below bytes d cs) (subst (λ z. Pairwise Differ (inner_nodes bytes z t)) (sym (e b)) (whole_differ t (front ++ b ∷ []) h.0)) (whole_differ_below cs front d e up.1 h.1)
+        Pairwise-append Differ (inner_nodes bytes d t) (inner_nodes_below bytes d cs)
+        (subst (λ z. Pairwise Differ (inner_nodes bytes z t)) (sym (e b)) (whole_differ t (front ++ b ∷ []) h.0)) (whole_differ_below cs front d e up.1 h.1)
         (Each-weaker (λ e. IsFront (front ++ b ∷ []) e.1) (λ e. Each (Differ e) (inner_nodes_below bytes d cs)) (λ f k. Each-weaker (Under front cs) (Differ f)
-        (λ g u same. let p = one_way front b u.0 g.1 (subst (λ z. IsFront (front ++ b ∷ []) z) same k) u.2 in let lt = each_in (λ c. b < c) u.0 (bytes_of cs) up.0 u.1 in absurd (omega arith)) (inner_nodes_below bytes d cs) (whole_under cs front d e h.1)) (inner_nodes bytes d t) own)
+        (λ g u same. let p = one_way front b u.0 g.1 (subst (λ z. IsFront (front ++ b ∷ []) z) same k) u.2 in let lt = each_in (λ c. b < c) u.0
+        (bytes_of cs) up.0 u.1 in absurd (omega arith)) (inner_nodes_below bytes d cs) (whole_under cs front d e h.1)) (inner_nodes bytes d t) own)
 
 -- ---- the inner nodes of a plugged path
 
@@ -91,29 +98,35 @@ module _ {N A : Type 0} (bytes : A → List ℕ) where
   -- inner nodes of joined children
   pub inner_nodes_below-join : (d : ℕ) (cs ds : Children N A) → inner_nodes_below bytes d (join cs ds) ≡ inner_nodes_below bytes d cs ++ inner_nodes_below bytes d ds
   inner_nodes_below-join d no_child ds = refl
-  inner_nodes_below-join d (child b t cs) ds = ap (λ z. inner_nodes bytes d t ++ z) (inner_nodes_below-join d cs ds) ∙ sym (append_assoc (inner_nodes bytes d t) (inner_nodes_below bytes d cs) (inner_nodes_below bytes d ds))
+  inner_nodes_below-join d (child b t cs) ds =
+      ap (λ z. inner_nodes bytes d t ++ z) (inner_nodes_below-join d cs ds) ∙ sym (append_assoc (inner_nodes bytes d t) (inner_nodes_below bytes d cs) (inner_nodes_below bytes d ds))
 
 module _ {N A : Type 0} (bytes : A → List ℕ) (P : ℕ) where
   -- the inner nodes before and after a hole, whatever stands in it
   abbrev pub nodes_before : (fs : List (Frame N A)) (place : List ℕ) → IsPath bytes P place fs → List (Entry N)
   nodes_before [] place p = []
-  nodes_before (f ∷ fs) place (outer, part, e, head, two, up, hl, hr, path) = nodes_before fs outer path ++ (f.header.kind, outer ++ part, f.mark) ∷ inner_nodes_below bytes (length outer + f.header.length_of + 1) f.left
+  nodes_before (f ∷ fs) place (outer, part, e, head, two, up, hl, hr, path) =
+      nodes_before fs outer path ++ (f.header.kind, outer ++ part, f.mark) ∷ inner_nodes_below bytes (length outer + f.header.length_of + 1) f.left
 
   abbrev pub nodes_after : (fs : List (Frame N A)) (place : List ℕ) → IsPath bytes P place fs → List (Entry N)
   nodes_after [] place p = []
   nodes_after (f ∷ fs) place (outer, part, e, head, two, up, hl, hr, path) = inner_nodes_below bytes (length outer + f.header.length_of + 1) f.right ++ nodes_after fs outer path
 
   -- the inner nodes before the hole, in it and after it
-  pub inner_nodes-plug : (fs : List (Frame N A)) (place : List ℕ) (t : Tree N A) (p : IsPath bytes P place fs) → IsRadix bytes P place t → inner_nodes bytes 0 (plug fs t) ≡ nodes_before fs place p ++ inner_nodes bytes (length place) t ++ nodes_after fs place p
+  pub inner_nodes-plug : (fs : List (Frame N A)) (place : List ℕ) (t : Tree N A) (p : IsPath bytes P place fs) → IsRadix bytes P place t →
+      inner_nodes bytes 0 (plug fs t) ≡ nodes_before fs place p ++ inner_nodes bytes (length place) t ++ nodes_after fs place p
   unfolding fill_radix
   inner_nodes-plug [] place t p h = ap (λ w. inner_nodes bytes (length w) t) (sym p) ∙ sym (append-nil (inner_nodes bytes (length place) t))
   inner_nodes-plug (f ∷ fs) place t (outer, part, e, head, two, up, hl, hr, path) h =
       let d = length outer + f.header.length_of + 1 in
       let node : IsRadix bytes P outer (fill f t) = fill_radix bytes P f fs place t (outer, part, e, head, two, up, hl, hr, path) h in
-      let own : take (length outer + f.header.length_of) (least_below bytes (join f.left (child f.byte t f.right))) ≡ outer ++ part = whole_is bytes P f.header outer part (length (bytes_of (join f.left (child f.byte t f.right)))) (join f.left (child f.byte t f.right)) node.1 node.2 node.4 in
+      let own : take (length outer + f.header.length_of) (least_below bytes (join f.left (child f.byte t f.right))) ≡ outer ++ part =
+      whole_is bytes P f.header outer part (length (bytes_of (join f.left (child f.byte t f.right)))) (join f.left (child f.byte t f.right)) node.1 node.2 node.4 in
       let deep : d ≡ length place = deeper outer part f.byte f.header.length_of (ap (λ z. z.length_of) head) ∙ ap length (sym e) in
       let below : inner_nodes_below bytes d (join f.left (child f.byte t f.right)) ≡ inner_nodes_below bytes d f.left ++ inner_nodes bytes (length place) t ++ inner_nodes_below bytes d f.right =
-      inner_nodes_below-join bytes d f.left (child f.byte t f.right) ∙ ap (λ z. inner_nodes_below bytes d f.left ++ (inner_nodes bytes z t ++ inner_nodes_below bytes d f.right)) deep ∙ sym (append_assoc (inner_nodes_below bytes d f.left) (inner_nodes bytes (length place) t) (inner_nodes_below bytes d f.right)) in
+      inner_nodes_below-join bytes d f.left (child f.byte t f.right) ∙
+      ap (λ z. inner_nodes_below bytes d f.left ++ (inner_nodes bytes z t ++ inner_nodes_below bytes d f.right)) deep ∙
+      sym (append_assoc (inner_nodes_below bytes d f.left) (inner_nodes bytes (length place) t) (inner_nodes_below bytes d f.right)) in
       inner_nodes-plug fs outer (fill f t) path node
       ∙ ap₂ (λ w z. nodes_before fs outer path ++ ((f.header.kind, w, f.mark) ∷ z) ++ nodes_after fs outer path) own below
       ∙ simp append_assoc
@@ -125,6 +138,7 @@ module _ {N A : Type 0} (bytes : A → List ℕ) (P : ℕ) where
       let was = inner_nodes-plug fs place t p rt in
       let is = inner_nodes-plug fs place u p ru in
       let apart = λ (v : Tree N A) (r : IsRadix bytes P place v). whole_differ bytes P (plug fs v) [] (plug_radix bytes P fs place v p r) in
-      subst (λ xs. KeepNames xs (inner_nodes bytes 0 (plug fs u))) (sym was) (subst (λ xs. KeepNames (nodes_before fs place p ++ inner_nodes bytes (length place) t ++ nodes_after fs place p) xs) (sym is)
+      subst (λ xs. KeepNames xs (inner_nodes bytes 0 (plug fs u))) (sym was)
+      (subst (λ xs. KeepNames (nodes_before fs place p ++ inner_nodes bytes (length place) t ++ nodes_after fs place p) xs) (sym is)
       (keep_between (λ e. e.1) (λ e. e.2) (λ e f. e.0 ≡ f.0) (nodes_before fs place p) (inner_nodes bytes (length place) t) (inner_nodes bytes (length place) u) (nodes_after fs place p)
       (subst (Pairwise Differ) was (apart t rt)) (subst (Pairwise Differ) is (apart u ru)) local))

@@ -45,10 +45,12 @@ module _ {K V : Type 0} (s : Nodes K V) where
   node_at-inner k off o e = ap (option_map (seen k.kind)) (held_in_inner s k.kind k.slot off ∙ ap (option_map held_inner) e)
 
   -- the inner node of the store where a tree sees one
-  pub inner_at : (k : OpaqueNodePtr) (h : Header) (slots : List (ℕ × OpaqueNodePtr)) → node_at s k ≡ Some (inner_node h slots) → (k.kind ≢ Leaf) × (node : Inner) × (get s.inners (as_inner k) ≡ Some node) × (header_at k.kind node ≡ h) × (node.children ≡ slots)
+  pub inner_at : (k : OpaqueNodePtr) (h : Header) (slots : List (ℕ × OpaqueNodePtr)) → node_at s k ≡ Some (inner_node h slots) → (k.kind ≢ Leaf) ×
+      (node : Inner) × (get s.inners (as_inner k) ≡ Some node) × (header_at k.kind node ≡ h) × (node.children ≡ slots)
   inner_at k h slots e = elim (leaf_or k) [
     | inl (p, is) ↦ absurd (seen_no_inner (get s.leaves p) h slots (ap (node_at s) (sym is) ∙ e))
-    | inr off ↦ let (node, there, head, below) = seen_inner k.kind (get s.inners (as_inner k)) h slots (sym (node_at-inner k off (get s.inners (as_inner k)) refl) ∙ e) in (off, node, there, head, below)
+    | inr off ↦ let (node, there, head, below) =
+        seen_inner k.kind (get s.inners (as_inner k)) h slots (sym (node_at-inner k off (get s.inners (as_inner k)) refl) ∙ e) in (off, node, there, head, below)
   ]
 
 -- an inner node as a tree sees it, by parts
@@ -63,10 +65,12 @@ module _ {K V : Type 0} (s t : Nodes K V) where
   -- Leaves that keep their pairs, and inner nodes that keep all, but for the parent and the touched ones: nothing else is seen by a tree.
   pub same_but : (fs : List (Frame OpaqueNodePtr (K × V))) (touched : List OpaqueNodePtr) →
       ((p : LeafPtr) → (IsIn (leaf_name p) touched → ⊥) → get s.leaves p ≢ None → option_map pair_of (get t.leaves p) ≡ option_map pair_of (get s.leaves p)) →
-      ((k : OpaqueNodePtr) → k.kind ≢ Leaf → (IsParent fs k → ⊥) → (IsIn k touched → ⊥) → node_at s k ≢ None → get t.inners (as_inner k) ≡ get s.inners (as_inner k)) → SameBut (node_at s) (node_at t) fs touched
+      ((k : OpaqueNodePtr) → k.kind ≢ Leaf → (IsParent fs k → ⊥) → (IsIn k touched → ⊥) → node_at s k ≢ None →
+      get t.inners (as_inner k) ≡ get s.inners (as_inner k)) → SameBut (node_at s) (node_at t) fs touched
   same_but fs touched leaves inners k up off used = elim (leaf_or k) [
     | inl (p, e) ↦ subst (λ z. node_at t z ≡ node_at s z) (sym e)
-        (node_at-leaf t p ∙ ap (option_map leaf_node) (leaves p (λ i. off (subst (λ z. IsIn z touched) (sym e) i)) (λ free. used (ap (node_at s) e ∙ node_at-leaf s p ∙ ap (λ o. option_map leaf_node (option_map pair_of o)) free))) ∙ sym (node_at-leaf s p))
+        (node_at-leaf t p ∙ ap (option_map leaf_node) (leaves p (λ i. off (subst (λ z. IsIn z touched) (sym e) i))
+        (λ free. used (ap (node_at s) e ∙ node_at-leaf s p ∙ ap (λ o. option_map leaf_node (option_map pair_of o)) free))) ∙ sym (node_at-leaf s p))
     | inr kind ↦ same_inner k kind (inners k kind up off used)
   ]
 
@@ -78,7 +82,8 @@ header_with P part n count h e kind = λ i. record { kind = kind i; length_of = 
 
 module _ {A : Type 0} where
   -- other names than the parent's
-  pub with_child_at-elsewhere : (fs : List (Frame OpaqueNodePtr A)) (name : OpaqueNodePtr) (m : Inners) (k : OpaqueNodePtr) → (IsParent fs k → ⊥) → get (with_child_at (parent_of fs) name m) (as_inner k) ≡ get m (as_inner k)
+  pub with_child_at-elsewhere : (fs : List (Frame OpaqueNodePtr A)) (name : OpaqueNodePtr) (m : Inners) (k : OpaqueNodePtr) → (IsParent fs k → ⊥) →
+      get (with_child_at (parent_of fs) name m) (as_inner k) ≡ get m (as_inner k)
   with_child_at-elsewhere [] name m k off = refl
   with_child_at-elsewhere (f ∷ fs) name m k off = inner_changed_elsewhere m (as_inner f.mark) (as_inner k) (with_child f.byte name) (λ e. off (inner_name_one k f.mark e))
 
@@ -94,37 +99,44 @@ module _ {A : Type 0} where
 
   -- the parent is changed
   pub then_parent : {old new : Inners} {placed freed changed : List InnerPtr} → Touched old new placed freed changed → (fs : List (Frame OpaqueNodePtr A)) (name : OpaqueNodePtr) →
-      ((k : OpaqueNodePtr) → IsParent fs k → get old (as_inner k) ≢ None) → ((k : OpaqueNodePtr) → IsParent fs k → get new (as_inner k) ≢ None) → Touched old (with_child_at (parent_of fs) name new) placed freed (parents fs ++ changed)
+      ((k : OpaqueNodePtr) → IsParent fs k → get old (as_inner k) ≢ None) → ((k : OpaqueNodePtr) → IsParent fs k → get new (as_inner k) ≢ None) →
+      Touched old (with_child_at (parent_of fs) name new) placed freed (parents fs ++ changed)
   then_parent so_far [] name was is = so_far
   then_parent so_far (f ∷ fs) name was is = then_changed inner_cmp_total inner_cmp-IsAntisymmetric so_far (as_inner f.mark) (with_child f.byte name) (was f.mark refl) (is f.mark refl)
 
 module _ {K V : Type 0} (bytes : K × V → List ℕ) (P : ℕ) (s : Nodes K V) where
   -- the parent is there, and has a child under its byte
-  pub parent_there : (fs : List (Frame OpaqueNodePtr (K × V))) (hole : OpaqueNodePtr) → HoldsPath (node_at s) hole fs → (k : OpaqueNodePtr) → IsParent fs k → (k.kind ≢ Leaf) × (get s.inners (as_inner k) ≢ None)
+  pub parent_there : (fs : List (Frame OpaqueNodePtr (K × V))) (hole : OpaqueNodePtr) → HoldsPath (node_at s) hole fs → (k : OpaqueNodePtr) →
+      IsParent fs k → (k.kind ≢ Leaf) × (get s.inners (as_inner k) ≢ None)
   parent_there [] hole holds k is = absurd is
   parent_there (f ∷ fs) hole holds k is =
       let (off, node, there, head, below) = inner_at s f.mark f.header (slots_of f.left ++ (f.byte, hole) ∷ slots_of f.right) holds.0 in
       ((λ e. off (sym (ap (λ (z : OpaqueNodePtr). z.kind) is) ∙ e)), (λ e. let g = sym there ∙ ap (λ z. get s.inners (as_inner z)) (sym is) ∙ e in absurd cc))
 
   -- so it is among inner nodes
-  pub parents_inner : (fs : List (Frame OpaqueNodePtr (K × V))) (hole : OpaqueNodePtr) → HoldsPath (node_at s) hole fs → (touched : List InnerPtr) → Each IsInner touched → Each IsInner (parents fs ++ touched)
+  pub parents_inner : (fs : List (Frame OpaqueNodePtr (K × V))) (hole : OpaqueNodePtr) → HoldsPath (node_at s) hole fs → (touched : List InnerPtr) →
+      Each IsInner touched → Each IsInner (parents fs ++ touched)
   parents_inner [] hole holds touched inner = inner
   parents_inner (f ∷ fs) hole holds touched inner = ((parent_there (f ∷ fs) hole holds f.mark refl).0, inner)
 
   -- and has the hole as the child under its byte
-  pub parent_ready : (fs : List (Frame OpaqueNodePtr (K × V))) (place : List ℕ) (hole : OpaqueNodePtr) → IsPath bytes P place fs → HoldsPath (node_at s) hole fs → IfSome (parent_of fs) (λ p. IsSomeAnd (get s.inners p.0) (λ node. child_at node.children p.1 ≡ Some hole))
+  pub parent_ready : (fs : List (Frame OpaqueNodePtr (K × V))) (place : List ℕ) (hole : OpaqueNodePtr) → IsPath bytes P place fs →
+      HoldsPath (node_at s) hole fs → IfSome (parent_of fs) (λ p. IsSomeAnd (get s.inners p.0) (λ node. child_at node.children p.1 ≡ Some hole))
   parent_ready [] place hole path holds = tt
   parent_ready (f ∷ fs) place hole (outer, part, e, head, two, up, l, r, path) holds =
       let (off, node, there, header, below) = inner_at s f.mark f.header (slots_of f.left ++ (f.byte, hole) ∷ slots_of f.right) holds.0 in
-      subst (λ z. IsSomeAnd z (λ node. child_at node.children f.byte ≡ Some hole)) (sym there) (ap (λ z. child_at z f.byte) below ∙ child_at-there f.left f.byte hole (slots_of f.right) (Pairwise-before ◌<◌ (bytes_of f.left) (bytes_of f.right) f.byte up))
+      subst (λ z. IsSomeAnd z (λ node. child_at node.children f.byte ≡ Some hole)) (sym there)
+      (ap (λ z. child_at z f.byte) below ∙ child_at-there f.left f.byte hole (slots_of f.right) (Pairwise-before ◌<◌ (bytes_of f.left) (bytes_of f.right) f.byte up))
 
   -- after the write the parent has the new name in its hole
   pub parent_written : (t : Nodes K V) (m : Inners) (fs : List (Frame OpaqueNodePtr (K × V))) (place : List ℕ) (hole name : OpaqueNodePtr) → IsPath bytes P place fs → HoldsPath (node_at s) hole fs →
-      ((k : OpaqueNodePtr) → IsParent fs k → get m (as_inner k) ≡ get s.inners (as_inner k)) → ((k : OpaqueNodePtr) → IsParent fs k → get t.inners (as_inner k) ≡ get (with_child_at (parent_of fs) name m) (as_inner k)) → ParentHas (node_at t) fs name
+      ((k : OpaqueNodePtr) → IsParent fs k → get m (as_inner k) ≡ get s.inners (as_inner k)) →
+      ((k : OpaqueNodePtr) → IsParent fs k → get t.inners (as_inner k) ≡ get (with_child_at (parent_of fs) name m) (as_inner k)) → ParentHas (node_at t) fs name
   parent_written t m [] place hole name path holds before after = tt
   parent_written t m (f ∷ fs) place hole name (outer, part, e, head, two, up, l, r, path) holds before after =
       let (off, node, there, header, below) = inner_at s f.mark f.header (slots_of f.left ++ (f.byte, hole) ∷ slots_of f.right) holds.0 in
-      let put : put_child node.children f.byte name ≡ slots_of f.left ++ (f.byte, name) ∷ slots_of f.right = ap (λ z. put_child z f.byte name) below ∙ put_child-there f.left f.byte hole name (slots_of f.right) (Pairwise-before ◌<◌ (bytes_of f.left) (bytes_of f.right) f.byte up) in
+      let put : put_child node.children f.byte name ≡ slots_of f.left ++ (f.byte, name) ∷ slots_of f.right =
+      ap (λ z. put_child z f.byte name) below ∙ put_child-there f.left f.byte hole name (slots_of f.right) (Pairwise-before ◌<◌ (bytes_of f.left) (bytes_of f.right) f.byte up) in
       let got : get t.inners (as_inner f.mark) ≡ Some (with_child f.byte name node) =
       after f.mark refl ∙ inner_changed_at m (as_inner f.mark) (with_child f.byte name) ∙ ap (option_map (with_child f.byte name)) (before f.mark refl ∙ there) in
       node_at-inner t f.mark off (Some (with_child f.byte name node)) got ∙ shown header put

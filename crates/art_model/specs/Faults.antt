@@ -51,7 +51,8 @@ module _ {K V : Type 0} (bytes : K × V → List ℕ) (P : ℕ) (s : Nodes K V) 
 
   -- the leaf names this sibling, which is to come before it or after it
   abbrev pub HasSibling : OpaqueNodePtr → Ordering → OpaqueNodePtr → Type 0
-  HasSibling leaf order sibling = (links : Links OpaqueNodePtr) × (links_at s leaf ≡ Some links) × (((order ≡ Less) × (links.previous ≡ Some sibling)) ⊎ ((order ≡ Greater) × (links.next ≡ Some sibling)))
+  HasSibling leaf order sibling =
+      (links : Links OpaqueNodePtr) × (links_at s leaf ≡ Some links) × (((order ≡ Less) × (links.previous ≡ Some sibling)) ⊎ ((order ≡ Greater) × (links.next ≡ Some sibling)))
 
   -- two different ways end at the name
   abbrev pub IsLoop : OpaqueNodePtr → List ℕ → List ℕ → Type 0
@@ -59,7 +60,8 @@ module _ {K V : Type 0} (bytes : K × V → List ℕ) (P : ℕ) (s : Nodes K V) 
 
   -- the inner node at the place has so many children, fewer than its kind may have; more than its kind has room for it never has
   abbrev pub HasWrongCount : List ℕ → NodeType → ℕ → Type 0
-  HasWrongCount place kind n = (name : OpaqueNodePtr) × (h : Header) × (slots : List (ℕ × OpaqueNodePtr)) × ReachesInner place name h slots × (h.kind ≡ kind) × (length slots ≡ n) × (n < kind_least kind)
+  HasWrongCount place kind n =
+      (name : OpaqueNodePtr) × (h : Header) × (slots : List (ℕ × OpaqueNodePtr)) × ReachesInner place name h slots × (h.kind ≡ kind) × (length slots ≡ n) × (n < kind_least kind)
 
   -- the leaf at the place has this key, which does not begin with the place
   abbrev pub HasForeignKey : List ℕ → List ℕ → Type 0
@@ -74,7 +76,8 @@ module _ {K V : Type 0} (bytes : K × V → List ℕ) (P : ℕ) (s : Nodes K V) 
   -- the root stands for a tree, and a leaf of it has other links than its neighbours in the order of the tree's leaves
   abbrev pub HasWrongLinks : List ℕ → Links OpaqueNodePtr → Links OpaqueNodePtr → Type 0
   HasWrongLinks leaf_key expected actual =
-      (layout : Tree OpaqueNodePtr (K × V)) × (before after : List OpaqueNodePtr) × (name : OpaqueNodePtr) × (x : K × V) × IsLayout (node_at s) root layout × (leaf_names layout ≡ before ++ name ∷ after)
+      (layout : Tree OpaqueNodePtr (K × V)) × (before after : List OpaqueNodePtr) × (name : OpaqueNodePtr) × (x : K × V) ×
+      IsLayout (node_at s) root layout × (leaf_names layout ≡ before ++ name ∷ after)
       × (node_at s name ≡ Some (leaf_node x)) × (bytes x ≡ leaf_key) × (expected ≡ record { previous = last_of before; next = first_of after }) × (links_at s name ≡ Some actual) × (actual ≢ expected)
 
   -- the name leads nowhere: it is met at the place, or as a sibling of the leaf there

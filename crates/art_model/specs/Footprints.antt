@@ -19,7 +19,8 @@ pub record Footprint {K V : Type 0} (old new : Nodes K V) (placed freed changed 
 
 -- at most so many names are placed, freed and changed
 abbrev pub TouchesAtMost : {K V : Type 0} → ℕ → ℕ → ℕ → Nodes K V → Nodes K V → Type 0
-TouchesAtMost most_placed most_freed most_changed old new = (placed freed changed : List OpaqueNodePtr) × Footprint old new placed freed changed × (length placed ≤ most_placed) × (length freed ≤ most_freed) × (length changed ≤ most_changed)
+TouchesAtMost most_placed most_freed most_changed old new =
+    (placed freed changed : List OpaqueNodePtr) × Footprint old new placed freed changed × (length placed ≤ most_placed) × (length freed ≤ most_freed) × (length changed ≤ most_changed)
 
 -- one name is placed, these and no others are freed, and at most so many are changed
 abbrev pub PlacesOneFor : {K V : Type 0} → List OpaqueNodePtr → ℕ → Nodes K V → Nodes K V → Type 0

@@ -61,4 +61,8 @@ module _ {N A : Type 0} (bytes : A → List ℕ) (P : ℕ) where
   -- the path is one of a radix tree, and these bytes lead to its hole
   abbrev pub IsPath : List ℕ → List (Frame N A) → Type 0
   IsPath place [] = place ≡ []
-  IsPath place (f ∷ fs) = (outer part : List ℕ) × (place ≡ (outer ++ part) ++ f.byte ∷ []) × (f.header ≡ header_of P part (length (bytes_of f.left ++ f.byte ∷ bytes_of f.right))) × (1 ≤ length (bytes_of f.left) + length (bytes_of f.right)) × IsRising (bytes_of f.left ++ f.byte ∷ bytes_of f.right) × AreRadix bytes P (outer ++ part) f.left × AreRadix bytes P (outer ++ part) f.right × IsPath outer fs
+  IsPath place (f ∷ fs) =
+      (outer part : List ℕ) × (place ≡ (outer ++ part) ++ f.byte ∷ []) ×
+      (f.header ≡ header_of P part (length (bytes_of f.left ++ f.byte ∷ bytes_of f.right))) ×
+      (1 ≤ length (bytes_of f.left) + length (bytes_of f.right)) × IsRising (bytes_of f.left ++ f.byte ∷ bytes_of f.right) ×
+      AreRadix bytes P (outer ++ part) f.left × AreRadix bytes P (outer ++ part) f.right × IsPath outer fs

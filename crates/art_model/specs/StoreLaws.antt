@@ -52,8 +52,12 @@ module _ (K V : Type 0) where
 
   -- a free name that is not placed stays free
   abbrev pub OthersStayFree : Type 0
-  OthersStayFree = (old new : Nodes K V) (placed freed changed : List OpaqueNodePtr) → Footprint old new placed freed changed → (name : OpaqueNodePtr) → held old name ≡ None → (IsIn name placed → ⊥) → held new name ≡ None
+  OthersStayFree =
+      (old new : Nodes K V) (placed freed changed : List OpaqueNodePtr) → Footprint old new placed freed changed → (name : OpaqueNodePtr) →
+      held old name ≡ None → (IsIn name placed → ⊥) → held new name ≡ None
 
   -- a name that is free afterwards, and is not freed, was free
   abbrev pub OthersWereFree : Type 0
-  OthersWereFree = (old new : Nodes K V) (placed freed changed : List OpaqueNodePtr) → Footprint old new placed freed changed → (name : OpaqueNodePtr) → held new name ≡ None → (IsIn name freed → ⊥) → held old name ≡ None
+  OthersWereFree =
+      (old new : Nodes K V) (placed freed changed : List OpaqueNodePtr) → Footprint old new placed freed changed → (name : OpaqueNodePtr) →
+      held new name ≡ None → (IsIn name freed → ⊥) → held old name ≡ None

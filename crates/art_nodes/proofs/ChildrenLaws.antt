@@ -204,7 +204,8 @@ first_is_least whole cs d same rising = subst (λ (xs : Children). All (λ child
     at k e within (inr later) = omega (arith, rises_by_place whole 0 k d e rising (omega (arith, later)) within)
 
 pub last_is_greatest : (whole cs : Children) (d : Entry) → whole ≡ cs → IsRising whole → All (λ child. child.0 ≤ (get_or whole (length whole - 1) d).0) cs
-last_is_greatest whole cs d same rising = subst (λ (xs : Children). All (λ child. child.0 ≤ (get_or whole (length whole - 1) d).0) xs) same (λ k e within. at k e within (cases_eq k (length whole - 1)))
+last_is_greatest whole cs d same rising =
+    subst (λ (xs : Children). All (λ child. child.0 ≤ (get_or whole (length whole - 1) d).0) xs) same (λ k e within. at k e within (cases_eq k (length whole - 1)))
   where
     at : (k : ℕ) (e : Entry) → k < length whole → (k ≡ length whole - 1) ⊎ (k ≢ length whole - 1) → (get_or whole k e).0 ≤ (get_or whole (length whole - 1) d).0
     at k e within (inl last) = subst (λ j. (get_or whole k e).0 ≤ (get_or whole j d).0) last (same_place whole k e d within)
@@ -218,11 +219,13 @@ pub child_at-children_between : (first last : ℕ) (cs : Children) (b : ℕ) →
 child_at-children_between first last [] b h k = refl
 child_at-children_between first last (c ∷ cs) b h k = step (child_at-children_between first last cs b h k) (by_order c.0 first) (by_order last c.0)
   where
-    step : child_at (children_between first last cs) b ≡ child_at cs b → (c.0 < first) ⊎ ((c.0 ≡ first) ⊎ (first < c.0)) → (last < c.0) ⊎ ((last ≡ c.0) ⊎ (c.0 < last)) → child_at (children_between first last (c ∷ cs)) b ≡ child_at (c ∷ cs) b
+    step : child_at (children_between first last cs) b ≡ child_at cs b → (c.0 < first) ⊎ ((c.0 ≡ first) ⊎ (first < c.0)) → (last < c.0) ⊎
+        ((last ≡ c.0) ⊎ (c.0 < last)) → child_at (children_between first last (c ∷ cs)) b ≡ child_at (c ∷ cs) b
     step rest (inl l) g = ap (λ (t : Children). child_at t b) (between_after first last c cs l) ∙ rest ∙ sym (at_later c cs b (λ e. omega (arith, l, e)))
     step rest (inr g) (inl l) = ap (λ (t : Children). child_at t b) (between_before first last c cs l) ∙ rest ∙ sym (at_later c cs b (λ e. omega (arith, l, e)))
     step rest (inr g) (inr f) =
-        ap (λ (t : Children). child_at t b) (between_here first last c cs (elim g [ inl e ↦ omega (arith, e) | inr l ↦ omega (arith, l) ]) (elim f [ inl e ↦ omega (arith, e) | inr l ↦ omega (arith, l) ]))
+        ap (λ (t : Children). child_at t b) (between_here first last c cs (elim g [ inl e ↦ omega (arith, e) | inr l ↦ omega (arith, l) ])
+        (elim f [ inl e ↦ omega (arith, e) | inr l ↦ omega (arith, l) ]))
         ∙ ap (λ t. cond (eqb c.0 b) (Some c.1) t) rest
 
 pub ruleset children_laws = (child_here, child_elsewhere, put_child-above, IsRising-put_child, child_gone, child_kept, remove_child-absent, IsRising-remove_child)

@@ -36,7 +36,9 @@ IsRising-front (c ∷ before) after rising = (IsBelow-front c.0 before after ris
 
 -- an entry that is in the range comes, and one that is not does not
 pub between_here : (first last : ℕ) (c : Entry) (cs : Children) → first ≤ c.0 → c.0 ≤ last → children_between first last (c ∷ cs) ≡ c ∷ children_between first last cs
-between_here first last c cs h k = ap (λ t. cond (t && leb c.0 last) (c ∷ children_between first last cs) (children_between first last cs)) (le-leb first c.0 h) ∙ ap (λ t. cond t (c ∷ children_between first last cs) (children_between first last cs)) (le-leb c.0 last k)
+between_here first last c cs h k =
+    ap (λ t. cond (t && leb c.0 last) (c ∷ children_between first last cs) (children_between first last cs)) (le-leb first c.0 h) ∙
+    ap (λ t. cond t (c ∷ children_between first last cs) (children_between first last cs)) (le-leb c.0 last k)
 
 pub between_after : (first last : ℕ) (c : Entry) (cs : Children) → c.0 < first → children_between first last (c ∷ cs) ≡ children_between first last cs
 between_after first last c cs h = ap (λ t. cond (t && leb c.0 last) (c ∷ children_between first last cs) (children_between first last cs)) (lt-leb first c.0 h)

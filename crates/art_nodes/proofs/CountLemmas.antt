@@ -19,7 +19,9 @@ one_more false n k m is at_most = omega arith
 -- a map has no more entries than the list that it is of
 len-from_entries : {N X : Type 0} {R : N → N → Ordering} → IsTotalOrder R → (es : List (N × X)) → len (from_entries {R = R} es) ≤ length es
 len-from_entries {N} {X} {R} order [] = let e = len-empty R X in omega arith
-len-from_entries {N} {X} {R} order (e ∷ es) = one_more (contains_key (from_entries {R = R} es) e.0) (length es) (len (from_entries {R = R} es)) (len (insert (from_entries {R = R} es) e.0 e.1)) (len-insert order (from_entries es) e.0 e.1) (len-from_entries {R = R} order es)
+len-from_entries {N} {X} {R} order (e ∷ es) =
+    one_more (contains_key (from_entries {R = R} es) e.0) (length es) (len (from_entries {R = R} es)) (len (insert (from_entries {R = R} es) e.0 e.1))
+    (len-insert order (from_entries es) e.0 e.1) (len-from_entries {R = R} order es)
 
 one_or_none : {Y : Type 0} (o : Option Y) (ys : List Y) (n : ℕ) → length ys ≤ n → length (cons_option o ys) ≤ suc n
 one_or_none None ys n at_most = omega arith

@@ -20,7 +20,8 @@ stored_part : (P : ℕ) (whole : List ℕ) → take (min (length whole) P) whole
 stored_part P whole = let turned : min (length whole) P ≡ min P (length whole) = omega arith in ap (λ (n : ℕ). take n whole) turned ∙ take_min P whole
 
 -- a new header, of bytes that begin as its prefix does
-pub new_header : (P : ℕ) (whole bytes : List ℕ) (header : Prefix) → take (min (length whole) P) bytes ≡ take (min (length whole) P) whole → header ≡ record { len = length whole; stored = take (min (length whole) P) bytes } → header ≡ header_of P whole
+pub new_header : (P : ℕ) (whole bytes : List ℕ) (header : Prefix) → take (min (length whole) P) bytes ≡ take (min (length whole) P) whole →
+    header ≡ record { len = length whole; stored = take (min (length whole) P) bytes } → header ≡ header_of P whole
 new_header P whole bytes header begins is =
     header_by_parts P whole header (ap (λ (h : Prefix). h.len) is) (ap (λ (h : Prefix). h.stored) is ∙ begins ∙ stored_part P whole)
 
@@ -35,7 +36,8 @@ trimmed_header P n whole old new was fits len stored =
     let left : take P (drop n whole) ≡ drop n whole = take_all P (drop n whole) (omega (arith, long, length-drop n whole)) in
     header_by_parts P (drop n whole) new (omega (arith, len, long, length-drop n whole)) (stored ∙ ap (drop n) (stored_of_header P whole old was ∙ all) ∙ sym left)
 
-pub trimmed_by_leaf : (P n depth : ℕ) (whole leaf : List ℕ) (old new : Prefix) → old ≡ header_of P whole → n ≤ old.len → take old.len (drop depth leaf) ≡ whole → new.len ≡ old.len - n → new.stored ≡ take (min (old.len - n) P) (drop (depth + n) leaf) → new ≡ header_of P (drop n whole)
+pub trimmed_by_leaf : (P n depth : ℕ) (whole leaf : List ℕ) (old new : Prefix) → old ≡ header_of P whole → n ≤ old.len →
+    take old.len (drop depth leaf) ≡ whole → new.len ≡ old.len - n → new.stored ≡ take (min (old.len - n) P) (drop (depth + n) leaf) → new ≡ header_of P (drop n whole)
 trimmed_by_leaf P n depth whole leaf old new was within has len stored =
     let long = len_of_header P whole old was in
     let split : n + (old.len - n) ≡ old.len = omega arith in
@@ -69,7 +71,9 @@ same_part k P more bytes within begins =
     ∙ take-take (min k (length more)) (min (length more) P) more (omega arith)
     ∙ take_min k more
 
-pub extended_header : (P : ℕ) (whole more bytes : List ℕ) (old new : Prefix) → old ≡ header_of P whole → take (min (length more) P) bytes ≡ take (min (length more) P) more → new.len ≡ old.len + length more → new.stored ≡ take P (old.stored ++ take (length more) bytes) → new ≡ header_of P (whole ++ more)
+pub extended_header : (P : ℕ) (whole more bytes : List ℕ) (old new : Prefix) → old ≡ header_of P whole →
+    take (min (length more) P) bytes ≡ take (min (length more) P) more → new.len ≡ old.len + length more →
+    new.stored ≡ take P (old.stored ++ take (length more) bytes) → new ≡ header_of P (whole ++ more)
 extended_header P whole more bytes old new was begins len stored =
     let room : P - length (take P whole) ≡ P - length whole = omega (arith, length-take P whole) in
     header_by_parts P (whole ++ more) new (omega (arith, len, len_of_header P whole old was, length-append whole more))

@@ -35,7 +35,8 @@ fewer P bytes k from to e zeros =
     ap (λ (n : ℕ). drop n bytes) (sym e) ∙ sym (drop-drop k from bytes) ∙ ap (drop k) zeros ∙ drop-replicate k (P - from) 0 ∙ ap (λ (n : ℕ). replicate n 0) left
 
 -- the bytes in front after as many more as fit are written behind those that are stored
-module _ (P len n start end : ℕ) (bytes more new : List ℕ) (from : start ≡ min len P) (to : end ≡ min (len + n) P) (long : length bytes ≡ P) (given : min n P ≤ length more) (is : new ≡ take (end - start) more) where
+module _ (P len n start end : ℕ) (bytes more new : List ℕ) (from : start ≡ min len P) (to : end ≡ min (len + n) P) (long : length bytes ≡ P)
+    (given : min n P ≤ length more) (is : new ≡ take (end - start) more) where
   count : length new ≡ end - start
   count = ap length is ∙ length-take-le (end - start) more (omega arith)
 

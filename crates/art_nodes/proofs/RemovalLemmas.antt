@@ -37,13 +37,15 @@ nothing_at cs b d at rising k other = by_value _ refl
         absurd (other (omega (arith, found.0)) (ap (λ i. (get_or cs i d).0) k ∙ found.1))
 
 -- the entries in front after one is taken out of the part that is in use
-pub front_without : {X : Type 0} (es new : List X) (len at : ℕ) → at < len → len ≤ length es → length new ≡ length (take len es) → take (length (take len es) - 1) new ≡ remove (take len es) at → take (len - 1) (new ++ drop len es) ≡ remove (take len es) at
+pub front_without : {X : Type 0} (es new : List X) (len at : ℕ) → at < len → len ≤ length es → length new ≡ length (take len es) →
+    take (length (take len es) - 1) new ≡ remove (take len es) at → take (len - 1) (new ++ drop len es) ≡ remove (take len es) at
 front_without {X} es new len at within fits same written =
     let long : length (take len es) ≡ len = length-take-le len es fits in
     take-append-le (len - 1) new (drop len es) (omega arith) ∙ ap (λ (n : ℕ). take (n - 1) new) (sym long) ∙ written
 
 -- all but the last after the part from a place on is turned by one
-pub shown_rotated : (part r : Children) (at : ℕ) → at < length part → r ≡ drop 1 (mid_of at (length part - at) part) ++ take 1 (mid_of at (length part - at) part) → take (length part - 1) (put_mid at (length part - at) part r) ≡ remove part at
+pub shown_rotated : (part r : Children) (at : ℕ) → at < length part →
+    r ≡ drop 1 (mid_of at (length part - at) part) ++ take 1 (mid_of at (length part - at) part) → take (length part - 1) (put_mid at (length part - at) part r) ≡ remove part at
 shown_rotated part r at within rotated =
     let left : length (remove part at) ≡ length part - 1 = omega (arith, length-append (take at part) (drop (suc at) part), length-take-le at part (omega arith), length-drop (suc at) part) in
     ap (take (length part - 1)) (put_mid-rotated at (length part - at) part r nobody within (omega arith) rotated)

@@ -18,7 +18,8 @@ module _ {K V : Type 0} {bytes : K → List ℕ} {P : ℕ} {IsClone : K × V →
   run_none old shows sound = record { start = old; end = old; starts = shows; ends = shows; start_sound = sound; end_sound = sound; steps = refl }
 
   -- a run, and a step more
-  pub run_more : {from mid to : Shown K V} {cs : List (Command K V)} {rs : List (Reply K V)} {c : Command K V} {r : Reply K V} → IsRun bytes P IsClone from cs rs mid → MakesStep bytes P IsClone mid c r to → IsRun bytes P IsClone from (cs ++ c ∷ []) (rs ++ r ∷ []) to
+  pub run_more : {from mid to : Shown K V} {cs : List (Command K V)} {rs : List (Reply K V)} {c : Command K V} {r : Reply K V} →
+      IsRun bytes P IsClone from cs rs mid → MakesStep bytes P IsClone mid c r to → IsRun bytes P IsClone from (cs ++ c ∷ []) (rs ++ r ∷ []) to
   run_more {from} {mid} {to} {cs} {rs} {c} {r} run step =
       let (new, shows, made) = step run.end run.ends run.end_sound in
       record {

@@ -65,11 +65,17 @@ more_some Node256 goes old new proper off h =
     let f : new Node16 + goes Node16 ≡ old Node16 + 0 = h Node16 in
     let g : new Node48 + goes Node48 ≡ old Node48 + 0 = h Node48 in
     let e : new Node256 + goes Node256 ≡ old Node256 + 1 = h Node256 in
-    rw (le-ltb (old Node4) (new Node4) (omega arith), le-ltb (old Node16) (new Node16) (omega arith), le-ltb (old Node48) (new Node48) (omega arith), lt-ltb (old Node256) (new Node256) (omega arith)) refl
+    rw (
+      le-ltb (old Node4) (new Node4) (omega arith),
+      le-ltb (old Node16) (new Node16) (omega arith),
+      le-ltb (old Node48) (new Node48) (omega arith),
+      lt-ltb (old Node256) (new Node256) (omega arith),
+    ) refl
 more_some Leaf goes old new proper off h = absurd (proper refl)
 
 more_none : (old new : NodeType → ℕ) → ((k : NodeType) → new k ≤ old k) → more_of old new ≡ None
-more_none old new h = rw (le-ltb (old Node4) (new Node4) (h Node4), le-ltb (old Node16) (new Node16) (h Node16), le-ltb (old Node48) (new Node48) (h Node48), le-ltb (old Node256) (new Node256) (h Node256)) refl
+more_none old new h =
+    rw (le-ltb (old Node4) (new Node4) (h Node4), le-ltb (old Node16) (new Node16) (h Node16), le-ltb (old Node48) (new Node48) (h Node48), le-ltb (old Node256) (new Node256) (h Node256)) refl
 
 -- ---- the tree of pairs
 
@@ -79,8 +85,11 @@ module _ {K V N : Type 0} (bytes : K → List ℕ) (P : ℕ) where
 
   module _ (old new : Tree N (K × V)) (was : IsRadix (of_key bytes) P [] old) (is : IsRadix (of_key bytes) P [] new) where
     -- one node of a kind comes, and perhaps one of another goes
-    pub gains : (a : NodeType) (goes : NodeType → ℕ) → a ≢ Leaf → goes a ≡ 0 → ((k : NodeType) → count_of k new + goes k ≡ count_of k old + one k a) → more_of (inner_count bytes P (pairs_of old)) (inner_count bytes P (pairs_of new)) ≡ Some a
-    gains a goes proper off h = more_some a goes (inner_count bytes P (pairs_of old)) (inner_count bytes P (pairs_of new)) proper off (λ k. ap (λ z. z + goes k) (counted new is k) ∙ h k ∙ sym (ap (λ z. z + one k a) (counted old was k)))
+    pub gains : (a : NodeType) (goes : NodeType → ℕ) → a ≢ Leaf → goes a ≡ 0 → ((k : NodeType) → count_of k new + goes k ≡ count_of k old + one k a) →
+        more_of (inner_count bytes P (pairs_of old)) (inner_count bytes P (pairs_of new)) ≡ Some a
+    gains a goes proper off h =
+        more_some a goes (inner_count bytes P (pairs_of old)) (inner_count bytes P (pairs_of new)) proper off
+        (λ k. ap (λ z. z + goes k) (counted new is k) ∙ h k ∙ sym (ap (λ z. z + one k a) (counted old was k)))
 
     -- none comes
     pub loses : ((k : NodeType) → count_of k new ≤ count_of k old) → more_of (inner_count bytes P (pairs_of old)) (inner_count bytes P (pairs_of new)) ≡ None

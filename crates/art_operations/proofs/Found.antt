@@ -60,7 +60,8 @@ module _ {A : Type 0} (bytes : A → List ℕ) (key : List ℕ) where
   -- where the key is not stored nothing is removed
   pub removes_none : (pairs : List A) → remove_reply bytes key pairs ≡ None → remove_key bytes key pairs ≡ pairs
   removes_none pairs none = filter_all (λ x. not (are_same key (bytes x))) pairs
-      (Each-weaker (λ x. are_same key (bytes x) ≡ false) (λ x. not (are_same key (bytes x)) ≡ true) (λ x e. ap not e) pairs (none_passes (λ x. are_same key (bytes x)) pairs (no_first (with_key bytes key pairs) none)))
+      (Each-weaker (λ x. are_same key (bytes x) ≡ false) (λ x. not (are_same key (bytes x)) ≡ true) (λ x e. ap not e) pairs
+      (none_passes (λ x. are_same key (bytes x)) pairs (no_first (with_key bytes key pairs) none)))
 
   -- the pair that is removed has the key
   pub removed_key : (pairs : List A) (x : A) → remove_reply bytes key pairs ≡ Some x → bytes x ≡ key
@@ -86,7 +87,9 @@ module _ {A : Type 0} (bytes : A → List ℕ) (key : List ℕ) where
     where
       go : (has_key bytes key xs ≡ true → is_conflict bytes key xs ≡ false) → (b : Bool) → are_same key (bytes x) ≡ b → is_conflict bytes key (x ∷ xs) ≡ false
       go ih true same =
-          let off = Each-weaker (λ y. Precedes (bytes x) (bytes y)) (λ y. are_related key (bytes y) ≡ false) (λ y p. subst (λ q. are_related q (bytes y) ≡ false) (same_equal key (bytes x) same) p.1) xs rising.0 in
+          let off =
+          Each-weaker (λ y. Precedes (bytes x) (bytes y)) (λ y. are_related key (bytes y) ≡ false)
+          (λ y p. subst (λ q. are_related q (bytes y) ≡ false) (same_equal key (bytes x) same) p.1) xs rising.0 in
           ap₂ (λ a b. a || b) (ap (λ q. are_related key (bytes x) && not q) same ∙ nothing_and (are_related key (bytes x))) (no_conflict bytes key xs off)
       go ih false other =
           let later : has_key bytes key xs ≡ true = rw other at e in
@@ -125,7 +128,9 @@ module _ {K V : Type 0} (bytes : K → List ℕ) where
   takes_key key pairs x e = (sym e, ap (λ k. remove_key (of_key bytes) k pairs) (removed_key (of_key bytes) key.items pairs x e))
 
   -- the tree of a root that is there
-  pub root_tree : (P : ℕ) {s : Nodes K V} {root : Option OpaqueNodePtr} {name : OpaqueNodePtr} (pairs : List (K × V)) (tree : Option (Tree OpaqueNodePtr (K × V))) → root ≡ Some name → IsRootOf (of_key bytes) P s root pairs tree → (layout : Tree OpaqueNodePtr (K × V)) × IsTree (of_key bytes) P s name pairs layout
+  pub root_tree : (P : ℕ) {s : Nodes K V} {root : Option OpaqueNodePtr} {name : OpaqueNodePtr} (pairs : List (K × V))
+      (tree : Option (Tree OpaqueNodePtr (K × V))) → root ≡ Some name → IsRootOf (of_key bytes) P s root pairs tree →
+      (layout : Tree OpaqueNodePtr (K × V)) × IsTree (of_key bytes) P s name pairs layout
   root_tree P {s} {root} {name} pairs tree e is = go tree (subst (λ r. IsRootOf (of_key bytes) P s r pairs tree) e is)
     where
       go : (tree : Option (Tree OpaqueNodePtr (K × V))) → IsRootOf (of_key bytes) P s (Some name) pairs tree → (layout : Tree OpaqueNodePtr (K × V)) × IsTree (of_key bytes) P s name pairs layout
@@ -133,11 +138,13 @@ module _ {K V : Type 0} (bytes : K → List ℕ) where
       go (Some layout) h = (layout, h)
 
   -- a leaf of the tree is there, with its pair
-  pub leaf_found : (P : ℕ) {s : Nodes K V} {name : OpaqueNodePtr} {pairs : List (K × V)} {layout : Tree OpaqueNodePtr (K × V)} {p : LeafPtr} {x : K × V} → IsTree (of_key bytes) P s name pairs layout → HasLeaf layout (leaf_name p) x → (node : LeafNode K V) × (get s.leaves p ≡ Some node) × (pair_of node ≡ x)
+  pub leaf_found : (P : ℕ) {s : Nodes K V} {name : OpaqueNodePtr} {pairs : List (K × V)} {layout : Tree OpaqueNodePtr (K × V)} {p : LeafPtr}
+      {x : K × V} → IsTree (of_key bytes) P s name pairs layout → HasLeaf layout (leaf_name p) x → (node : LeafNode K V) × (get s.leaves p ≡ Some node) × (pair_of node ≡ x)
   leaf_found P {s} {name} {pairs} {layout} {p} {x} by (path, whole) = leaf_there s p x (path_holds (node_at s) path (leaf (leaf_name p) x) (subst (Holds (node_at s)) (sym whole) by.stands.0.holds)).1
 
   -- the length of a match that is found is that of the leaf's key
-  pub match_found : (P : ℕ) {s : Nodes K V} {name : OpaqueNodePtr} {pairs : List (K × V)} {layout : Tree OpaqueNodePtr (K × V)} {p : LeafPtr} {node : LeafNode K V} (matches : List (K × V)) → IsTree (of_key bytes) P s name pairs layout → FindsLeaf layout matches (Some p) → get s.leaves p ≡ Some node →
+  pub match_found : (P : ℕ) {s : Nodes K V} {name : OpaqueNodePtr} {pairs : List (K × V)} {layout : Tree OpaqueNodePtr (K × V)} {p : LeafPtr}
+      {node : LeafNode K V} (matches : List (K × V)) → IsTree (of_key bytes) P s name pairs layout → FindsLeaf layout matches (Some p) → get s.leaves p ≡ Some node →
       length (bytes node.key) ∷ [] ≡ map (λ x. length (bytes x.0)) matches
   match_found P {s} {name} {pairs} {layout} {p} {node} matches by (x, only, has) got =
       let (other, there, its) = leaf_found P by has in
@@ -146,5 +153,6 @@ module _ {K V : Type 0} (bytes : K → List ℕ) where
       ap (λ y. length (bytes y.0) ∷ []) pair ∙ sym (ap (map (λ y. length (bytes y.0))) only)
 
   -- a leaf that is found is there
-  pub found_there : (P : ℕ) {s : Nodes K V} {name : OpaqueNodePtr} {pairs : List (K × V)} {layout : Tree OpaqueNodePtr (K × V)} {p : LeafPtr} (matches : List (K × V)) → IsTree (of_key bytes) P s name pairs layout → FindsLeaf layout matches (Some p) → get s.leaves p ≡ None → ⊥
+  pub found_there : (P : ℕ) {s : Nodes K V} {name : OpaqueNodePtr} {pairs : List (K × V)} {layout : Tree OpaqueNodePtr (K × V)} {p : LeafPtr}
+      (matches : List (K × V)) → IsTree (of_key bytes) P s name pairs layout → FindsLeaf layout matches (Some p) → get s.leaves p ≡ None → ⊥
   found_there P matches by (x, only, has) none = let (other, there, its) = leaf_found P by has in absurd (cc (none, there))

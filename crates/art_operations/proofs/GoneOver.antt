@@ -22,7 +22,8 @@ use Rattle.art_operations.specs.declared.run.Side.TheVariants.{First, Second}
 use Rattle.art_operations.proofs.Moves.{Layout, in_store, nothing, own_pairs}
 
 -- What a clone that was made leaves: the clone in the other store, and no tree in its source.
-pub record HasGone {K V : Type 0} (bytes : K → List ℕ) (P : ℕ) (is_key_clone : K → K → Type 0) (is_value_clone : V → V → Type 0) (s t z w : Nodes K V) (layout : Layout K V) (after : OpaqueNodePtr) : Type 0 where
+pub record HasGone {K V : Type 0} (bytes : K → List ℕ) (P : ℕ) (is_key_clone : K → K → Type 0) (is_value_clone : V → V → Type 0) (s t z w : Nodes K V)
+    (layout : Layout K V) (after : OpaqueNodePtr) : Type 0 where
   pub canonical : (copies : List (K × V)) × AreClones is_key_clone is_value_clone (pairs_of layout) copies × IsCanonical (of_key bytes) P w (Some after) copies
   pub gained : ForTree (of_key bytes) P w after (λ _ copy. KeepsOthers z w [] (names_of copy))
   pub freed : Frees (names_of layout) s t
@@ -44,7 +45,8 @@ module _ {K V : Type 0} (bytes : K → List ℕ) (P : ℕ) (is_key_clone : K →
 
   module _ {s : Nodes K V} {root : OpaqueNodePtr} {layout : Layout K V} (by : IsTree (of_key bytes) P s root (pairs_of layout) layout) where
     pub over_step : {t z w : Nodes K V} {after : OpaqueNodePtr} (now : Side) → now ≡ opposite side → HasGone bytes P is_key_clone is_value_clone s t z w layout after →
-        (new : State K V) × (shown new ≡ on now (of_side side t w) (of_side side w t) (Some after)) × Step bytes P (IsPairClone is_key_clone is_value_clone) (in_store side s z (Some layout)) Clone Cloned new
+        (new : State K V) × (shown new ≡ on now (of_side side t w) (of_side side w t) (Some after)) ×
+        Step bytes P (IsPairClone is_key_clone is_value_clone) (in_store side s z (Some layout)) Clone Cloned new
     over_step {t} {z} {w} {after} now over is =
         let (copies, clones, (copy, by_copy)) = is.canonical in (
           in_store (opposite side) w t (Some copy),

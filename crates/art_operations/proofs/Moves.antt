@@ -28,7 +28,8 @@ module _ {K V : Type 0} where
   abbrev pub in_store : Side → Nodes K V → Nodes K V → Option (Layout K V) → State K V
   in_store side present other tree = record { present = present; other = other; side = side; tree = tree }
 
-  state_is : (old : State K V) (side : Side) (s z : Nodes K V) (root : Option OpaqueNodePtr) → shown old ≡ beside side s z root → (old ≡ in_store side s z old.tree) × (option_map name_of old.tree ≡ root)
+  state_is : (old : State K V) (side : Side) (s z : Nodes K V) (root : Option OpaqueNodePtr) → shown old ≡ beside side s z root →
+      (old ≡ in_store side s z old.tree) × (option_map name_of old.tree ≡ root)
   state_is old side s z root is = go old.side side old.present old.other is
     where
       go : (a b : Side) (t w : Nodes K V) → beside a t w (option_map name_of old.tree) ≡ beside b s z root → (in_store a t w old.tree ≡ in_store b s z old.tree) × (option_map name_of old.tree ≡ root)
@@ -43,11 +44,14 @@ module _ {K V : Type 0} where
 
 module _ {K V : Type 0} (bytes : K → List ℕ) (P : ℕ) where
   -- a root that is canonical for its layout's pairs
-  pub own_pairs : {s : Nodes K V} {root : OpaqueNodePtr} {pairs : List (K × V)} {layout : Layout K V} → IsTree (of_key bytes) P s root pairs layout → IsTree (of_key bytes) P s (name_of layout) (pairs_of layout) layout
-  own_pairs {s} {root} {pairs} {layout} by = subst (λ n. IsTree (of_key bytes) P s n (pairs_of layout) layout) (sym by.stands.0.named) (subst (λ xs. IsTree (of_key bytes) P s root xs layout) (sym (tree_radix by).1) by)
+  pub own_pairs : {s : Nodes K V} {root : OpaqueNodePtr} {pairs : List (K × V)} {layout : Layout K V} → IsTree (of_key bytes) P s root pairs layout →
+      IsTree (of_key bytes) P s (name_of layout) (pairs_of layout) layout
+  own_pairs {s} {root} {pairs} {layout} by =
+      subst (λ n. IsTree (of_key bytes) P s n (pairs_of layout) layout) (sym by.stands.0.named) (subst (λ xs. IsTree (of_key bytes) P s root xs layout) (sym (tree_radix by).1) by)
 
   -- a root is canonical for the pairs of a state that shows it
-  pub sound_canonical : (old : State K V) (side : Side) (s z : Nodes K V) (root : Option OpaqueNodePtr) → shown old ≡ beside side s z root → IsSound bytes P old → (pairs : List (K × V)) × IsCanonical (of_key bytes) P s root pairs
+  pub sound_canonical : (old : State K V) (side : Side) (s z : Nodes K V) (root : Option OpaqueNodePtr) → shown old ≡ beside side s z root →
+      IsSound bytes P old → (pairs : List (K × V)) × IsCanonical (of_key bytes) P s root pairs
   sound_canonical old side s z root is sound =
       let (same, named) = state_is old side s z root is in
       go old.tree named (subst (IsSound bytes P) same sound)
@@ -57,17 +61,20 @@ module _ {K V : Type 0} (bytes : K → List ℕ) (P : ℕ) where
       go (Some layout) e h = subst (λ r. (pairs : List (K × V)) × IsCanonical (of_key bytes) P s r pairs) e (pairs_of layout, (layout, h))
 
   -- the same of both stores as they stand
-  pub on_canonical : (side : Side) (s z : Nodes K V) (root : Option OpaqueNodePtr) (old : State K V) → shown old ≡ on side s z root → IsSound bytes P old → (pairs : List (K × V)) × IsCanonical (of_key bytes) P (of_side side s z) root pairs
+  pub on_canonical : (side : Side) (s z : Nodes K V) (root : Option OpaqueNodePtr) (old : State K V) → shown old ≡ on side s z root →
+      IsSound bytes P old → (pairs : List (K × V)) × IsCanonical (of_key bytes) P (of_side side s z) root pairs
   on_canonical First s z root old is sound = sound_canonical old First s z root is sound
   on_canonical Second s z root old is sound = sound_canonical old Second z s root is sound
 
   -- some state shows a canonical root, and is sound
-  pub canonical_sound : (side : Side) (s z : Nodes K V) (root : Option OpaqueNodePtr) (pairs : List (K × V)) → IsCanonical (of_key bytes) P s root pairs → (old : State K V) × (shown old ≡ beside side s z root) × IsSound bytes P old
+  pub canonical_sound : (side : Side) (s z : Nodes K V) (root : Option OpaqueNodePtr) (pairs : List (K × V)) →
+      IsCanonical (of_key bytes) P s root pairs → (old : State K V) × (shown old ≡ beside side s z root) × IsSound bytes P old
   canonical_sound side s z None pairs h = (in_store side s z None, refl, refl)
   canonical_sound side s z (Some name) pairs (layout, by) = (in_store side s z (Some layout), ap (λ n. beside side s z (Some n)) by.stands.0.named, own_pairs by)
 
   -- the same of both stores as they stand
-  pub on_sound : (side : Side) (s z : Nodes K V) (root : Option OpaqueNodePtr) (pairs : List (K × V)) → IsCanonical (of_key bytes) P (of_side side s z) root pairs → (old : State K V) × (shown old ≡ on side s z root) × IsSound bytes P old
+  pub on_sound : (side : Side) (s z : Nodes K V) (root : Option OpaqueNodePtr) (pairs : List (K × V)) →
+      IsCanonical (of_key bytes) P (of_side side s z) root pairs → (old : State K V) × (shown old ≡ on side s z root) × IsSound bytes P old
   on_sound First s z root pairs h = canonical_sound First s z root pairs h
   on_sound Second s z root pairs h = canonical_sound Second z s root pairs h
 
@@ -91,31 +98,39 @@ module _ {K V : Type 0} (bytes : K → List ℕ) (P : ℕ) (IsClone : K × V →
 module _ {K V : Type 0} {IsClone : K × V → K × V → Type 0} (bytes : K → List ℕ) (P : ℕ) where
   -- a step to any state
   module _ (side : Side) {s z : Nodes K V} {c : Command K V} {r : Reply K V} (to : Shown K V) where
-    pub makes_any : {root : Option OpaqueNodePtr} → ((tree : Option (Layout K V)) → option_map name_of tree ≡ root → IsSound bytes P (in_store side s z tree) → (new : State K V) × (shown new ≡ to) × Step bytes P IsClone (in_store side s z tree) c r new) → MakesStep bytes P IsClone (beside side s z root) c r to
+    pub makes_any : {root : Option OpaqueNodePtr} → ((tree : Option (Layout K V)) → option_map name_of tree ≡ root →
+        IsSound bytes P (in_store side s z tree) → (new : State K V) × (shown new ≡ to) × Step bytes P IsClone (in_store side s z tree) c r new) →
+        MakesStep bytes P IsClone (beside side s z root) c r to
     makes_any {root} step old is sound =
         let (same, named) = state_is old side s z root is in
         let (new, shows, made) = step old.tree named (subst (IsSound bytes P) same sound) in
         (new, shows, subst (λ q. Step bytes P IsClone q c r new) (sym same) made)
 
     -- from the tree of a canonical root
-    pub any_from_root : {root : Option OpaqueNodePtr} {name : OpaqueNodePtr} → root ≡ Some name → ((layout : Layout K V) → IsTree (of_key bytes) P s name (pairs_of layout) layout → (new : State K V) × (shown new ≡ to) × Step bytes P IsClone (in_store side s z (Some layout)) c r new) → MakesStep bytes P IsClone (beside side s z root) c r to
+    pub any_from_root : {root : Option OpaqueNodePtr} {name : OpaqueNodePtr} → root ≡ Some name →
+        ((layout : Layout K V) → IsTree (of_key bytes) P s name (pairs_of layout) layout → (new : State K V) × (shown new ≡ to) ×
+        Step bytes P IsClone (in_store side s z (Some layout)) c r new) → MakesStep bytes P IsClone (beside side s z root) c r to
     any_from_root {root} {name} is step = makes_any (λ tree named sound. go tree (named ∙ is) sound)
       where
-        go : (tree : Option (Layout K V)) → option_map name_of tree ≡ Some name → IsSound bytes P (in_store side s z tree) → (new : State K V) × (shown new ≡ to) × Step bytes P IsClone (in_store side s z tree) c r new
+        go : (tree : Option (Layout K V)) → option_map name_of tree ≡ Some name → IsSound bytes P (in_store side s z tree) → (new : State K V) ×
+            (shown new ≡ to) × Step bytes P IsClone (in_store side s z tree) c r new
         go None e h = absurd cc
         go (Some layout) e h =
             let n : name_of layout ≡ name = cc in
             step layout (subst (λ m. IsTree (of_key bytes) P s m (pairs_of layout) layout) n h)
 
   module _ (side : Side) {s t : Nodes K V} {c : Command K V} {r : Reply K V} (z : Nodes K V) where
-    pub makes_step : {root after : Option OpaqueNodePtr} → ((tree : Option (Layout K V)) → option_map name_of tree ≡ root → IsSound bytes P (in_store side s z tree) → StepFrom bytes P IsClone side s t z tree c r after) → MakesStep bytes P IsClone (beside side s z root) c r (beside side t z after)
+    pub makes_step : {root after : Option OpaqueNodePtr} →
+        ((tree : Option (Layout K V)) → option_map name_of tree ≡ root → IsSound bytes P (in_store side s z tree) →
+        StepFrom bytes P IsClone side s t z tree c r after) → MakesStep bytes P IsClone (beside side s z root) c r (beside side t z after)
     makes_step {root} {after} step old is sound =
         let (same, named) = state_is old side s z root is in
         let (new, shows, made) = step old.tree named (subst (IsSound bytes P) same sound) in
         (in_store side t z new, ap (beside side t z) shows, subst (λ q. Step bytes P IsClone q c r (in_store side t z new)) (sym same) made)
 
     -- a step from no tree
-    pub from_none : {root after : Option OpaqueNodePtr} → root ≡ None → StepFrom bytes P IsClone side s t z None c r after → MakesStep bytes P IsClone (beside side s z root) c r (beside side t z after)
+    pub from_none : {root after : Option OpaqueNodePtr} → root ≡ None → StepFrom bytes P IsClone side s t z None c r after →
+        MakesStep bytes P IsClone (beside side s z root) c r (beside side t z after)
     from_none {root} {after} none step = makes_step (λ tree named sound. go tree (named ∙ none))
       where
         go : (tree : Option (Layout K V)) → option_map name_of tree ≡ None → StepFrom bytes P IsClone side s t z tree c r after
@@ -123,7 +138,9 @@ module _ {K V : Type 0} {IsClone : K × V → K × V → Type 0} (bytes : K → 
         go (Some layout) e = absurd cc
 
     -- a step from the tree of a canonical root
-    pub from_root : {root after : Option OpaqueNodePtr} {name : OpaqueNodePtr} → root ≡ Some name → ((layout : Layout K V) → IsTree (of_key bytes) P s name (pairs_of layout) layout → StepFrom bytes P IsClone side s t z (Some layout) c r after) → MakesStep bytes P IsClone (beside side s z root) c r (beside side t z after)
+    pub from_root : {root after : Option OpaqueNodePtr} {name : OpaqueNodePtr} → root ≡ Some name →
+        ((layout : Layout K V) → IsTree (of_key bytes) P s name (pairs_of layout) layout →
+        StepFrom bytes P IsClone side s t z (Some layout) c r after) → MakesStep bytes P IsClone (beside side s z root) c r (beside side t z after)
     from_root {root} {after} {name} is step = makes_step (λ tree named sound. go tree (named ∙ is) sound)
       where
         go : (tree : Option (Layout K V)) → option_map name_of tree ≡ Some name → IsSound bytes P (in_store side s z tree) → StepFrom bytes P IsClone side s t z tree c r after
@@ -133,22 +150,29 @@ module _ {K V : Type 0} {IsClone : K × V → K × V → Type 0} (bytes : K → 
             step layout (subst (λ m. IsTree (of_key bytes) P s m (pairs_of layout) layout) n h)
 
     -- a step that leaves the root
-    pub from_kept_root : {root : Option OpaqueNodePtr} {name : OpaqueNodePtr} → root ≡ Some name → ((layout : Layout K V) → IsTree (of_key bytes) P s name (pairs_of layout) layout → StepFrom bytes P IsClone side s t z (Some layout) c r (Some name)) → MakesStep bytes P IsClone (beside side s z root) c r (beside side t z root)
+    pub from_kept_root : {root : Option OpaqueNodePtr} {name : OpaqueNodePtr} → root ≡ Some name →
+        ((layout : Layout K V) → IsTree (of_key bytes) P s name (pairs_of layout) layout →
+        StepFrom bytes P IsClone side s t z (Some layout) c r (Some name)) → MakesStep bytes P IsClone (beside side s z root) c r (beside side t z root)
     from_kept_root is step = from_root is (λ layout by. subst (λ after. StepFrom bytes P IsClone side s t z (Some layout) c r after) (sym is) (step layout by))
 
   -- ---- commands that only read, and deletions that find nothing
 
   module _ (side : Side) {s : Nodes K V} {root : Option OpaqueNodePtr} {c : Command K V} (z : Nodes K V) where
     -- what is asked of every tree of the root is answered by a step
-    pub asked : {r : Reply K V} → ((tree : Option (Layout K V)) → Answers bytes IsClone (pairs_in tree) c r (pairs_in tree) → IsSound bytes P (in_store side s z tree) → Step bytes P IsClone (in_store side s z tree) c r (in_store side s z tree)) →
-        ((pairs : List (K × V)) (tree : Option (Layout K V)) → IsRootOf (of_key bytes) P s root pairs tree → Answers bytes IsClone pairs c r pairs) → MakesStep bytes P IsClone (beside side s z root) c r (beside side s z root)
-    asked step answers = makes_step side z (λ tree named sound. (tree, named, step tree (answers (pairs_in tree) tree (subst (λ n. IsRootOf (of_key bytes) P s n (pairs_in tree) tree) named sound)) sound))
+    pub asked : {r : Reply K V} → ((tree : Option (Layout K V)) → Answers bytes IsClone (pairs_in tree) c r (pairs_in tree) →
+        IsSound bytes P (in_store side s z tree) → Step bytes P IsClone (in_store side s z tree) c r (in_store side s z tree)) →
+        ((pairs : List (K × V)) (tree : Option (Layout K V)) → IsRootOf (of_key bytes) P s root pairs tree → Answers bytes IsClone pairs c r pairs) →
+        MakesStep bytes P IsClone (beside side s z root) c r (beside side s z root)
+    asked step answers =
+        makes_step side z (λ tree named sound. (tree, named, step tree (answers (pairs_in tree) tree (subst (λ n. IsRootOf (of_key bytes) P s n (pairs_in tree) tree) named sound)) sound))
 
   module _ (side : Side) {s : Nodes K V} {c : Command K V} (z : Nodes K V) (tree : Option (Layout K V)) where
-    pub found_step : {found : Bool} → Answers bytes IsClone (pairs_in tree) c (Found found) (pairs_in tree) → IsSound bytes P (in_store side s z tree) → Step bytes P IsClone (in_store side s z tree) c (Found found) (in_store side s z tree)
+    pub found_step : {found : Bool} → Answers bytes IsClone (pairs_in tree) c (Found found) (pairs_in tree) →
+        IsSound bytes P (in_store side s z tree) → Step bytes P IsClone (in_store side s z tree) c (Found found) (in_store side s z tree)
     found_step answers sound = record { answers = answers; refuses = tt; sound = sound; changes = nothing z tree (refl, refl); promises = refl }
 
-    pub match_step : {len : Option ℕ} → Answers bytes IsClone (pairs_in tree) c (MatchLen len) (pairs_in tree) → IsSound bytes P (in_store side s z tree) → Step bytes P IsClone (in_store side s z tree) c (MatchLen len) (in_store side s z tree)
+    pub match_step : {len : Option ℕ} → Answers bytes IsClone (pairs_in tree) c (MatchLen len) (pairs_in tree) →
+        IsSound bytes P (in_store side s z tree) → Step bytes P IsClone (in_store side s z tree) c (MatchLen len) (in_store side s z tree)
     match_step answers sound = record { answers = answers; refuses = tt; sound = sound; changes = nothing z tree (refl, refl); promises = refl }
 
   -- a deletion that finds nothing, in no tree and in the tree of a root
@@ -156,5 +180,7 @@ module _ {K V : Type 0} {IsClone : K × V → K × V → Type 0} (bytes : K → 
     pub absent : Answers bytes IsClone [] c (Deleted None) [] → StepFrom bytes P IsClone side s s z None c (Deleted None) None
     absent answers = (None, refl, record { answers = answers; refuses = tt; sound = refl; changes = nothing z None (refl, refl); promises = refl })
 
-    pub absent_at : {root : OpaqueNodePtr} {layout : Layout K V} → IsTree (of_key bytes) P s root (pairs_of layout) layout → Answers bytes IsClone (pairs_of layout) c (Deleted None) (pairs_of layout) → StepFrom bytes P IsClone side s s z (Some layout) c (Deleted None) (Some root)
-    absent_at {root} {layout} by answers = (Some layout, ap Some by.stands.0.named, record { answers = answers; refuses = tt; sound = own_pairs bytes P by; changes = nothing z (Some layout) (refl, refl); promises = refl })
+    pub absent_at : {root : OpaqueNodePtr} {layout : Layout K V} → IsTree (of_key bytes) P s root (pairs_of layout) layout →
+        Answers bytes IsClone (pairs_of layout) c (Deleted None) (pairs_of layout) → StepFrom bytes P IsClone side s s z (Some layout) c (Deleted None) (Some root)
+    absent_at {root} {layout} by answers =
+        (Some layout, ap Some by.stands.0.named, record { answers = answers; refuses = tt; sound = own_pairs bytes P by; changes = nothing z (Some layout) (refl, refl); promises = refl })

@@ -85,7 +85,8 @@ module _ {A : Type 0} (bytes : A → List ℕ) (new : A) (pairs : List A) where
 
 -- ---- insertion
 
-module _ {K V : Type 0} (bytes : K → List ℕ) (P : ℕ) (k : K) (v : V) {fs : List (Frame OpaqueNodePtr (K × V))} {place : List ℕ} {t : Tree OpaqueNodePtr (K × V)} (hole : IsHole (of_key bytes) P fs place t (bytes k)) (was : IsRadix (of_key bytes) P [] (plug fs t)) where
+module _ {K V : Type 0} (bytes : K → List ℕ) (P : ℕ) (k : K) (v : V) {fs : List (Frame OpaqueNodePtr (K × V))} {place : List ℕ}
+    {t : Tree OpaqueNodePtr (K × V)} (hole : IsHole (of_key bytes) P fs place t (bytes k)) (was : IsRadix (of_key bytes) P [] (plug fs t)) where
   -- what is needed for another tree in the hole, where this pair is what is stored for the new one
   module _ (x : K × V) (alike : bytes x.0 ≡ bytes k) (u : Tree OpaqueNodePtr (K × V)) (radix : IsRadix (of_key bytes) P place u) (its : pairs_of u ≡ replace_key (of_key bytes) x (pairs_of t)) where
     all_replaced : IsRadix (of_key bytes) P [] (plug fs u) × (pairs_of (plug fs u) ≡ replace_key (of_key bytes) x (pairs_of (plug fs t)))
@@ -111,7 +112,8 @@ module _ {K V : Type 0} (bytes : K → List ℕ) (P : ℕ) (k : K) (v : V) {fs :
       leaves_needed n e = sym (ap (λ z. cond (has_key (of_key bytes) z (pairs_of (plug fs t))) 0 1) (sym alike) ∙ key_by_length (of_key bytes) x (pairs_of (plug fs t)) n (longer_whole n e))
 
       pub needs_some : (n : ℕ) (a : NodeType) (goes : NodeType → ℕ) → length (pairs_of u) ≡ length (pairs_of t) + n → a ≢ Leaf → goes a ≡ 0 →
-          ((kind : NodeType) → count_of kind u + goes kind ≡ count_of kind t + one kind a) → ◌≡◌ {A = Promise} (record { leaves = n; inner = Some a }) (needs bytes P (Insert k v) (pairs_of (plug fs t)))
+          ((kind : NodeType) → count_of kind u + goes kind ≡ count_of kind t + one kind a) →
+          ◌≡◌ {A = Promise} (record { leaves = n; inner = Some a }) (needs bytes P (Insert k v) (pairs_of (plug fs t)))
       needs_some n a goes longer proper off h = ap₂ (λ x y. record { leaves = x; inner = y }) (leaves_needed n longer)
           (sym (ap (λ ps. more_of (inner_count bytes P (pairs_of (plug fs t))) (inner_count bytes P ps)) (sym all.1)
           ∙ gains bytes P (plug fs t) (plug fs u) was all.0 a goes proper off (λ kind. more_in_hole fs t u kind (goes kind) (one kind a) (h kind))))
@@ -119,10 +121,12 @@ module _ {K V : Type 0} (bytes : K → List ℕ) (P : ℕ) (k : K) (v : V) {fs :
       pub needs_none : (n : ℕ) → length (pairs_of u) ≡ length (pairs_of t) + n →
           ((kind : NodeType) → count_of kind u ≤ count_of kind t) → ◌≡◌ {A = Promise} (record { leaves = n; inner = None }) (needs bytes P (Insert k v) (pairs_of (plug fs t)))
       needs_none n longer h = ap₂ (λ x y. record { leaves = x; inner = y }) (leaves_needed n longer)
-          (sym (ap (λ ps. more_of (inner_count bytes P (pairs_of (plug fs t))) (inner_count bytes P ps)) (sym all.1) ∙ loses bytes P (plug fs t) (plug fs u) was all.0 (λ kind. fewer_in_hole fs t u kind (h kind))))
+          (sym (ap (λ ps. more_of (inner_count bytes P (pairs_of (plug fs t))) (inner_count bytes P ps)) (sym all.1) ∙
+          loses bytes P (plug fs t) (plug fs u) was all.0 (λ kind. fewer_in_hole fs t u kind (h kind))))
 
   -- the same where the pair is the new one and comes to the others
-  module _ (u : Tree OpaqueNodePtr (K × V)) (radix : IsRadix (of_key bytes) P place u) (its : pairs_of u ≡ replace_key (of_key bytes) (k, v) (pairs_of t)) (longer : length (pairs_of u) ≡ length (pairs_of t) + 1) where
+  module _ (u : Tree OpaqueNodePtr (K × V)) (radix : IsRadix (of_key bytes) P place u)
+      (its : pairs_of u ≡ replace_key (of_key bytes) (k, v) (pairs_of t)) (longer : length (pairs_of u) ≡ length (pairs_of t) + 1) where
     is_new : put (of_key bytes) (k, v) (pairs_of (plug fs t)) ≡ replace_key (of_key bytes) (k, v) (pairs_of (plug fs t))
     is_new = put-new (of_key bytes) (k, v) (pairs_of (plug fs t)) (comes_new (k, v) refl u radix its longer)
 
@@ -141,23 +145,30 @@ kind_of-proper n e = subst (λ k. IsInRange k n) e (range_of_kind n)
 one_off : (a b : NodeType) → a ≢ b → one a b ≡ 0
 one_off a b off = ap (λ t. cond t 1 0) (ne_eqb (kind_index a) (kind_index b) (λ e. off (same_kind a b e)))
 
-module _ {K V : Type 0} (bytes : K → List ℕ) (P : ℕ) (k : K) (v : V) {fs : List (Frame OpaqueNodePtr (K × V))} {place : List ℕ} {t : Tree OpaqueNodePtr (K × V)} (hole : IsHole (of_key bytes) P fs place t (bytes k)) (was : IsRadix (of_key bytes) P [] (plug fs t)) where
+module _ {K V : Type 0} (bytes : K → List ℕ) (P : ℕ) (k : K) (v : V) {fs : List (Frame OpaqueNodePtr (K × V))} {place : List ℕ}
+    {t : Tree OpaqueNodePtr (K × V)} (hole : IsHole (of_key bytes) P fs place t (bytes k)) (was : IsRadix (of_key bytes) P [] (plug fs t)) where
   abbrev Branch : Promise
   Branch = record { leaves = 1; inner = Some Node4 }
 
   -- a branch over the tree and a new leaf, which part after the place
-  branch_needs : (u : Tree OpaqueNodePtr (K × V)) (old : List ℕ) (part : ArePart old hole.front.0) → IsRadix (of_key bytes) P ((place ++ part.front) ++ part.x ∷ []) u → pairs_of u ≡ pairs_of t → ((kind : NodeType) → count_of kind u ≡ count_of kind t) → Branch ≡ needs bytes P (Insert k v) (pairs_of (plug fs t))
+  branch_needs : (u : Tree OpaqueNodePtr (K × V)) (old : List ℕ) (part : ArePart old hole.front.0) →
+      IsRadix (of_key bytes) P ((place ++ part.front) ++ part.x ∷ []) u → pairs_of u ≡ pairs_of t →
+      ((kind : NodeType) → count_of kind u ≡ count_of kind t) → Branch ≡ needs bytes P (Insert k v) (pairs_of (plug fs t))
   branch_needs u old part below same counts =
       let new_front : IsFront ((place ++ part.front) ++ part.y ∷ []) (bytes k) = (part.s, hole.front.1 ∙ ap (λ z. place ++ z) part.b_is ∙ simp append_assoc) in
       let (radix, its) = branch (of_key bytes) P place part.front part.x part.y u (name_of u) (name_of u) (k, v) below new_front part.differ in
-      new_needs_some bytes P k v hole was (inner (name_of u) (header_of P part.front 2) (two_children part.x u part.y (leaf (name_of u) (k, v)))) radix (its ∙ ap (replace_key (of_key bytes) (k, v)) same)
+      new_needs_some bytes P k v hole was (inner (name_of u) (header_of P part.front 2) (two_children part.x u part.y (leaf (name_of u) (k, v))))
+      radix (its ∙ ap (replace_key (of_key bytes) (k, v)) same)
       (longer (ltb part.x part.y) ∙ ap (λ z. length z + 1) same) Node4 (λ kind. 0) (λ e. absurd cc) refl (λ kind. more kind (ltb part.x part.y) (counts kind))
     where
-      longer : (first : Bool) → length (pairs_below (cond first (child part.x u (child part.y (leaf (name_of u) (k, v)) no_child)) (child part.y (leaf (name_of u) (k, v)) (child part.x u no_child)))) ≡ length (pairs_of u) + 1
+      longer : (first : Bool) → length (pairs_below
+          (cond first (child part.x u (child part.y (leaf (name_of u) (k, v)) no_child)) (child part.y (leaf (name_of u) (k, v)) (child part.x u no_child)))) ≡ length (pairs_of u) + 1
       longer true = length-append (pairs_of u) ((k, v) ∷ [])
       longer false = let e = length-append (pairs_of u) [] in omega arith
 
-      more : (kind : NodeType) (first : Bool) → count_of kind u ≡ count_of kind t → one kind Node4 + count_below kind (cond first (child part.x u (child part.y (leaf (name_of u) (k, v)) no_child)) (child part.y (leaf (name_of u) (k, v)) (child part.x u no_child))) + 0 ≡ count_of kind t + one kind Node4
+      more : (kind : NodeType) (first : Bool) → count_of kind u ≡ count_of kind t →
+          one kind Node4 + count_below kind (cond first (child part.x u (child part.y (leaf (name_of u) (k, v)) no_child))
+          (child part.y (leaf (name_of u) (k, v)) (child part.x u no_child))) + 0 ≡ count_of kind t + one kind Node4
       more kind true e = omega arith
       more kind false e = omega arith
 
@@ -179,7 +190,8 @@ module _ {K V : Type 0} (bytes : K → List ℕ) (P : ℕ) (k : K) (v : V) {fs :
       let (old, below) : IsFront place (bytes pair.0) = subst (IsRadix (of_key bytes) P place) is hole.radix in
       let apart : are_related (place ++ old) (place ++ hole.front.0) ≡ false = sym (ap₂ are_related below hole.front.1) ∙ related_sym (bytes pair.0) (bytes k) ∙ off in
       let part = unrelated_part old hole.front.0 (sym (related_after place old hole.front.0) ∙ apart) in
-      branch_needs t old part (subst (IsRadix (of_key bytes) P ((place ++ part.front) ++ part.x ∷ [])) (sym is) (part.r, below ∙ ap (λ z. place ++ z) part.a_is ∙ simp append_assoc)) refl (λ kind. refl)
+      branch_needs t old part (subst (IsRadix (of_key bytes) P ((place ++ part.front) ++ part.x ∷ [])) (sym is)
+      (part.r, below ∙ ap (λ z. place ++ z) part.a_is ∙ simp append_assoc)) refl (λ kind. refl)
 
   module _ (header : Header) (cs : Children OpaqueNodePtr (K × V)) (is : t ≡ inner (name_of t) header cs) where
     radix_here : IsRadix (of_key bytes) P place (inner (name_of t) header cs)
@@ -192,7 +204,8 @@ module _ {K V : Type 0} (bytes : K → List ℕ) (P : ℕ) (k : K) (v : V) {fs :
     rest_here = after_front place (bytes k) hole.front.0 hole.front.1
 
     -- a prefix that the key parts from is split
-    prefix_needs : (m : ℕ) (byte : ℕ) → m ≡ shared_len (prefix_of (of_key bytes) (length place) t) (drop (length place) (bytes k)) → slice_get (prefix_of (of_key bytes) (length place) t) m ≡ Some byte → length place + m < length (bytes k) → Branch ≡ needs bytes P (Insert k v) (pairs_of (plug fs t))
+    prefix_needs : (m : ℕ) (byte : ℕ) → m ≡ shared_len (prefix_of (of_key bytes) (length place) t) (drop (length place) (bytes k)) →
+        slice_get (prefix_of (of_key bytes) (length place) t) m ≡ Some byte → length place + m < length (bytes k) → Branch ≡ needs bytes P (Insert k v) (pairs_of (plug fs t))
     prefix_needs m byte shared at short =
         let same : m ≡ shared_len radix_here.0 hole.front.0 = shared ∙ ap₂ shared_len prefix_here rest_here in
         let inside : m < length radix_here.0 = subst (λ z. m < length z) prefix_here (slice_get_within (prefix_of (of_key bytes) (length place) t) m byte at) in
@@ -239,46 +252,61 @@ module _ {K V : Type 0} (bytes : K → List ℕ) (P : ℕ) (k : K) (v : V) {fs :
       more kind =
           let a = count-join kind split.left (child b (leaf (name_of t) (k, v)) split.right) in
           let c = count-join kind split.left split.right in
-          let d : count_of kind t ≡ one kind (kind_of count) + count_below kind (join split.left split.right) = ap (count_of kind) is ∙ ap₂ (λ h z. one kind h + count_below kind z) kind_was split.whole in
+          let d : count_of kind t ≡ one kind (kind_of count) + count_below kind (join split.left split.right) =
+          ap (count_of kind) is ∙ ap₂ (λ h z. one kind h + count_below kind z) kind_was split.whole in
           omega arith
 
-      child_needs : (s : Nodes K V) (p : InnerPtr) → name_of t ≡ inner_name p → Holds (node_at s) t → HasByteLeft s (IntoExisting p) → placed_for s (IntoExisting p) ≡ needs bytes P (Insert k v) (pairs_of (plug fs t))
+      child_needs : (s : Nodes K V) (p : InnerPtr) → name_of t ≡ inner_name p → Holds (node_at s) t → HasByteLeft s (IntoExisting p) →
+          placed_for s (IntoExisting p) ≡ needs bytes P (Insert k v) (pairs_of (plug fs t))
       child_needs s p named holds left =
           let (off, node, got, head, kids) = inner_at s (name_of t) header (slots_of cs) (subst (Holds (node_at s)) is holds).0 in
           let here : get s.inners p ≡ Some node = subst (λ z. get s.inners (as_inner z) ≡ Some node) named got in
           let number : length node.children ≡ count = ap length kids ∙ length-slots_of cs ∙ ap (λ z. length (bytes_of z)) split.whole in
           let own : p.kind ≡ kind_of count = ap (λ (z : OpaqueNodePtr). z.kind) (sym named) ∙ ap (λ h. h.kind) head ∙ kind_was in
           let few : length node.children < 256 = subst (λ o. IfSome o (λ n. length n.children < 256)) here left in
-          let full_is : is_full s p ≡ leb (kind_capacity p.kind) count = subst (λ (o : Option Inner). elim o as (λ _. Bool) [ None ↦ false | Some n ↦ leb (kind_capacity p.kind) (length n.children) ] ≡ leb (kind_capacity p.kind) count) (sym here) (ap (leb (kind_capacity p.kind)) number) in
+          let full_is : is_full s p ≡ leb (kind_capacity p.kind) count =
+          subst (λ (o : Option Inner). elim o as (λ _. Bool) [ None ↦ false | Some n ↦ leb (kind_capacity p.kind) (length n.children) ] ≡ leb
+          (kind_capacity p.kind) count) (sym here) (ap (leb (kind_capacity p.kind)) number) in
           ap (λ (f : Bool). let z : Promise = record { leaves = 1; inner = cond f (Some (larger_kind p.kind)) None } in z) full_is ∙ go p.kind own (omega arith) (leb (kind_capacity p.kind) count) refl
         where
-          go : (kind : NodeType) → kind ≡ kind_of count → count < 256 → (full : Bool) → leb (kind_capacity kind) count ≡ full → ◌≡◌ {A = Promise} (record { leaves = 1; inner = cond full (Some (larger_kind kind)) None }) (needs bytes P (Insert k v) (pairs_of (plug fs t)))
+          go : (kind : NodeType) → kind ≡ kind_of count → count < 256 → (full : Bool) → leb (kind_capacity kind) count ≡ full →
+              ◌≡◌ {A = Promise} (record { leaves = 1; inner = cond full (Some (larger_kind kind)) None }) (needs bytes P (Insert k v) (pairs_of (plug fs t)))
           go kind own few true e =
               let full = leb-true (kind_capacity kind) count e in
               let not_last : kind ≢ Node256 = λ last. let c = ap kind_capacity last in absurd (omega arith) in
               ap (λ (z : NodeType). let y : Promise = record { leaves = 1; inner = Some z } in y) (kind_of-larger kind count own not_last full)
-              ∙ new_needs_some bytes P k v hole was grown grown_is.0 grown_pairs longer (kind_of (suc count)) (λ z. one z (kind_of count)) (kind_of-proper (suc count)) (one_off (kind_of (suc count)) (kind_of count) (λ same. kind_of-full kind count not_last full (own ∙ sym same))) more
+              ∙ new_needs_some bytes P k v hole was grown grown_is.0 grown_pairs longer (kind_of (suc count)) (λ z. one z (kind_of count))
+              (kind_of-proper (suc count)) (one_off (kind_of (suc count)) (kind_of count) (λ same. kind_of-full kind count not_last full (own ∙ sym same))) more
           go kind own few false e =
               let room = kind_of-room kind count own (leb-false (kind_capacity kind) count e) in
-              new_needs_none bytes P k v hole was grown grown_is.0 grown_pairs longer (λ z. let m = more z in let o : one z (kind_of count) ≡ one z (kind_of (suc count)) = ap (one z) (sym own ∙ room) in omega arith)
+              new_needs_none bytes P k v hole was grown grown_is.0 grown_pairs longer
+              (λ z. let m = more z in let o : one z (kind_of count) ≡ one z (kind_of (suc count)) = ap (one z) (sym own ∙ room) in omega arith)
 
     -- the byte after the prefix
-    into_needs : (used : ℕ) → IsFront (prefix_of (of_key bytes) (length place) t) (drop (length place) (bytes k)) → used ≡ length place + length (prefix_of (of_key bytes) (length place) t) → used < length (bytes k) → child_at (slots_of cs) (get_or (bytes k) used 0) ≡ None →
-        (s : Nodes K V) (p : InnerPtr) → name_of t ≡ inner_name p → Holds (node_at s) t → HasByteLeft s (IntoExisting p) → placed_for s (IntoExisting p) ≡ needs bytes P (Insert k v) (pairs_of (plug fs t))
-    into_needs used (q, e) is_used short none = go q (hole.front.1 ∙ ap (λ z. place ++ z) (sym rest_here ∙ e ∙ ap (λ z. z ++ q) prefix_here) ∙ sym (append_assoc place radix_here.0 q)) (is_used ∙ ap (λ z. length place + length z) prefix_here)
+    into_needs : (used : ℕ) → IsFront (prefix_of (of_key bytes) (length place) t) (drop (length place) (bytes k)) →
+        used ≡ length place + length (prefix_of (of_key bytes) (length place) t) → used < length (bytes k) → child_at (slots_of cs) (get_or (bytes k) used 0) ≡ None →
+        (s : Nodes K V) (p : InnerPtr) → name_of t ≡ inner_name p → Holds (node_at s) t → HasByteLeft s (IntoExisting p) →
+        placed_for s (IntoExisting p) ≡ needs bytes P (Insert k v) (pairs_of (plug fs t))
+    into_needs used (q, e) is_used short none =
+        go q (hole.front.1 ∙ ap (λ z. place ++ z) (sym rest_here ∙ e ∙ ap (λ z. z ++ q) prefix_here) ∙ sym (append_assoc place radix_here.0 q))
+        (is_used ∙ ap (λ z. length place + length z) prefix_here)
       where
-        go : (r : List ℕ) → bytes k ≡ (place ++ radix_here.0) ++ r → used ≡ length place + length radix_here.0 → (s : Nodes K V) (p : InnerPtr) → name_of t ≡ inner_name p → Holds (node_at s) t → HasByteLeft s (IntoExisting p) → placed_for s (IntoExisting p) ≡ needs bytes P (Insert k v) (pairs_of (plug fs t))
+        go : (r : List ℕ) → bytes k ≡ (place ++ radix_here.0) ++ r → used ≡ length place + length radix_here.0 → (s : Nodes K V) (p : InnerPtr) →
+            name_of t ≡ inner_name p → Holds (node_at s) t → HasByteLeft s (IntoExisting p) → placed_for s (IntoExisting p) ≡ needs bytes P (Insert k v) (pairs_of (plug fs t))
         go [] whole at = absurd (let l = ap length whole in omega (arith, simp length-append at l))
         go (b ∷ r) whole at =
             let byte : get_or (bytes k) used 0 ≡ b = ap₂ (λ z n. get_or z n 0) whole (at ∙ sym (length-append place radix_here.0)) ∙ get_or-append_seam (place ++ radix_here.0) b r 0 in
             child_needs b (subst (λ z. child_at (slots_of cs) z ≡ None) byte none) (r, whole ∙ sym (append_assoc (place ++ radix_here.0) (b ∷ []) r))
 
   -- at the end node of the key
-  pub kind_needs : (s : Nodes K V) (used : ℕ) (kind : InsertKind) → Holds (node_at s) t → HasByteLeft s kind → IsKindOf (of_key bytes) P (bytes k) t (length place) used kind → placed_for s kind ≡ needs bytes P (Insert k v) (pairs_of (plug fs t))
+  pub kind_needs : (s : Nodes K V) (used : ℕ) (kind : InsertKind) → Holds (node_at s) t → HasByteLeft s kind →
+      IsKindOf (of_key bytes) P (bytes k) t (length place) used kind → placed_for s kind ≡ needs bytes P (Insert k v) (pairs_of (plug fs t))
   kind_needs s used (Exact p) holds left (at, (pair, is, (name, same))) = same_needs pair (is ∙ ap (λ n. leaf n pair) (sym (ap name_of is))) same
   kind_needs s used (SplitLeaf p new) holds left (at, (pair, is, (name, off, shared))) = leaf_needs pair (is ∙ ap (λ n. leaf n pair) (sym (ap name_of is))) off
-  kind_needs s used (MismatchPrefix m p) holds left (at, (header, cs, is, parts, short)) = prefix_needs header cs (is ∙ ap (λ n. inner n header cs) (sym (ap name_of is))) m.matched_bytes m.prefix_byte parts.matched parts.byte short
-  kind_needs s used (IntoExisting p) holds left (header, cs, is, front, at, short, none) = into_needs header cs (is ∙ ap (λ n. inner n header cs) (sym (ap name_of is))) used front at short none s p (ap name_of is) holds left
+  kind_needs s used (MismatchPrefix m p) holds left (at, (header, cs, is, parts, short)) =
+      prefix_needs header cs (is ∙ ap (λ n. inner n header cs) (sym (ap name_of is))) m.matched_bytes m.prefix_byte parts.matched parts.byte short
+  kind_needs s used (IntoExisting p) holds left (header, cs, is, front, at, short, none) =
+      into_needs header cs (is ∙ ap (λ n. inner n header cs) (sym (ap name_of is))) used front at short none s p (ap name_of is) holds left
 
 -- ---- deletion
 
@@ -287,7 +315,8 @@ abbrev placed_of : ParentChange → Promise
 placed_of change = elim change as (λ _. Promise) [ shrinks kind ↦ record { leaves = 0; inner = Some kind } | _ ↦ record { leaves = 0; inner = None } ]
 
 -- what becomes of the parent says which inner node comes
-change_places : (kind : NodeType) (n : ℕ) (more : Option NodeType) → kind ≡ kind_of (suc n) → 1 ≤ n → (n ≡ 1 → None ≡ more) → (2 ≤ n → kind_of n ≡ kind_of (suc n) → None ≡ more) → (2 ≤ n → kind_of n ≢ kind_of (suc n) → Some (kind_of n) ≡ more) →
+change_places : (kind : NodeType) (n : ℕ) (more : Option NodeType) → kind ≡ kind_of (suc n) → 1 ≤ n → (n ≡ 1 → None ≡ more) →
+    (2 ≤ n → kind_of n ≡ kind_of (suc n) → None ≡ more) → (2 ≤ n → kind_of n ≢ kind_of (suc n) → Some (kind_of n) ≡ more) →
     placed_of (change_of kind (suc n)) ≡ record { leaves = 0; inner = more }
 change_places kind n more own some compress keep shrink = go kind own
   where
@@ -296,7 +325,8 @@ change_places kind n more own some compress keep shrink = go kind own
 
     other : (z : NodeType) → z ≢ Node4 → z ≡ kind_of (suc n) → 2 ≤ n → placed_of (cond (leb (suc n) (kind_least z)) (shrinks (smaller_kind z)) keeps) ≡ record { leaves = 0; inner = more }
     other z off is two = elim (cases_Bool (leb (suc n) (kind_least z))) [
-      | inl e ↦ rw e (told (ap Some (kind_of-smaller z n off is (let l = leb-true (suc n) (kind_least z) e in omega arith)) ∙ shrink two (λ same. let l = leb-true (suc n) (kind_least z) e in kind_of-least z n off (omega arith) (is ∙ sym same))))
+      | inl e ↦ rw e (told (ap Some (kind_of-smaller z n off is (let l = leb-true (suc n) (kind_least z) e in omega arith)) ∙
+          shrink two (λ same. let l = leb-true (suc n) (kind_least z) e in kind_of-least z n off (omega arith) (is ∙ sym same))))
       | inr e ↦ rw e (told (keep two (let l = leb-false (suc n) (kind_least z) e in sym (kind_of-spare z n is (omega arith)) ∙ is)))
     ]
 
@@ -311,7 +341,8 @@ change_places kind n more own some compress keep shrink = go kind own
     go Leaf is = absurd (kind_of-proper (suc n) (sym is))
 
 -- one child alone
-module _ {K V : Type 0} (bytes : K → List ℕ) (P : ℕ) (x : K × V) (n : OpaqueNodePtr) (f : Frame OpaqueNodePtr (K × V)) (fs : List (Frame OpaqueNodePtr (K × V))) (was : IsRadix (of_key bytes) P [] (plug (f ∷ fs) (leaf n x))) where
+module _ {K V : Type 0} (bytes : K → List ℕ) (P : ℕ) (x : K × V) (n : OpaqueNodePtr) (f : Frame OpaqueNodePtr (K × V))
+    (fs : List (Frame OpaqueNodePtr (K × V))) (was : IsRadix (of_key bytes) P [] (plug (f ∷ fs) (leaf n x))) where
   abbrev whole : Tree OpaqueNodePtr (K × V)
   whole = inner f.mark f.header (join f.left (child f.byte (leaf n x) f.right))
 
@@ -343,10 +374,14 @@ module _ {K V : Type 0} (bytes : K → List ℕ) (P : ℕ) (x : K × V) (n : Opa
       all_left = changed_at (of_key bytes) P fs place path whole u radix (bytes x.0) (remove_key (of_key bytes) (bytes x.0)) (remove_key-between (of_key bytes) (bytes x.0)) front its
 
       none_comes : ((kind : NodeType) → count_of kind u ≤ count_of kind whole) → None ≡ More
-      none_comes h = sym (ap (λ ps. more_of (inner_count bytes P (pairs_of (plug fs whole))) (inner_count bytes P ps)) (sym all_left.1) ∙ loses bytes P (plug fs whole) (plug fs u) was all_left.0 (λ kind. fewer_in_hole fs whole u kind (h kind)))
+      none_comes h =
+          sym (ap (λ ps. more_of (inner_count bytes P (pairs_of (plug fs whole))) (inner_count bytes P ps)) (sym all_left.1) ∙
+          loses bytes P (plug fs whole) (plug fs u) was all_left.0 (λ kind. fewer_in_hole fs whole u kind (h kind)))
 
       some_comes : (a : NodeType) (goes : NodeType → ℕ) → a ≢ Leaf → goes a ≡ 0 → ((kind : NodeType) → count_of kind u + goes kind ≡ count_of kind whole + one kind a) → Some a ≡ More
-      some_comes a goes proper off h = sym (ap (λ ps. more_of (inner_count bytes P (pairs_of (plug fs whole))) (inner_count bytes P ps)) (sym all_left.1) ∙ gains bytes P (plug fs whole) (plug fs u) was all_left.0 a goes proper off (λ kind. more_in_hole fs whole u kind (goes kind) (one kind a) (h kind)))
+      some_comes a goes proper off h =
+          sym (ap (λ ps. more_of (inner_count bytes P (pairs_of (plug fs whole))) (inner_count bytes P ps)) (sym all_left.1) ∙
+          gains bytes P (plug fs whole) (plug fs u) was all_left.0 a goes proper off (λ kind. more_in_hole fs whole u kind (goes kind) (one kind a) (h kind)))
 
     header_kind : f.header.kind ≡ kind_of (suc left_over)
     header_kind = ap (λ h. h.kind) own.1 ∙ ap kind_of one_more
@@ -362,11 +397,15 @@ module _ {K V : Type 0} (bytes : K → List ℕ) (P : ℕ) (x : K × V) (n : Opa
 
       keep_places : kind_of left_over ≡ kind_of (suc left_over) → None ≡ More
       unfolding stays
-      keep_places same = none_comes stays stays_is.0 stays_is.1 (λ kind. let a = below_count kind in let o : one kind (kind_of left_over) ≡ one kind f.header.kind = ap (one kind) (same ∙ sym header_kind) in omega arith)
+      keep_places same =
+          none_comes stays stays_is.0 stays_is.1 (λ kind. let a = below_count kind in let o : one kind (kind_of left_over) ≡ one kind f.header.kind
+          = ap (one kind) (same ∙ sym header_kind) in omega arith)
 
       shrink_places : kind_of left_over ≢ kind_of (suc left_over) → Some (kind_of left_over) ≡ More
       unfolding stays
-      shrink_places off = some_comes stays stays_is.0 stays_is.1 (kind_of left_over) (λ kind. one kind f.header.kind) (kind_of-proper left_over) (one_off (kind_of left_over) f.header.kind (λ e. off (e ∙ header_kind))) (λ kind. let a = below_count kind in omega arith)
+      shrink_places off =
+          some_comes stays stays_is.0 stays_is.1 (kind_of left_over) (λ kind. one kind f.header.kind) (kind_of-proper left_over)
+          (one_off (kind_of left_over) f.header.kind (λ e. off (e ∙ header_kind))) (λ kind. let a = below_count kind in omega arith)
 
     -- one child stays
     compress_places : left_over ≡ 1 → None ≡ More
@@ -375,9 +414,11 @@ module _ {K V : Type 0} (bytes : K → List ℕ) (P : ℕ) (x : K × V) (n : Opa
         let (radix, its) = child_left (of_key bytes) P place own.0 f.left f.right f.byte c n x v own.3 own.4 is in
         go c v is radix its
       where
-        go : (c : ℕ) (v : Tree OpaqueNodePtr (K × V)) → join f.left f.right ≡ child c v no_child → IsRadix (of_key bytes) P ((place ++ own.0) ++ c ∷ []) v → pairs_of v ≡ remove_key (of_key bytes) (bytes x.0) (pairs_of whole) → None ≡ More
+        go : (c : ℕ) (v : Tree OpaqueNodePtr (K × V)) → join f.left f.right ≡ child c v no_child →
+            IsRadix (of_key bytes) P ((place ++ own.0) ++ c ∷ []) v → pairs_of v ≡ remove_key (of_key bytes) (bytes x.0) (pairs_of whole) → None ≡ More
         go c (leaf k y) is radix its = none_comes (leaf k y) (raised (of_key bytes) P place own.0 c k y radix) its (λ kind. let z : 0 ≤ count_of kind whole = omega arith in z)
-        go c (inner k h cs) is (q, e, two, up, below) its = none_comes (inner k (header_of P (own.0 ++ c ∷ q) (length (bytes_of cs))) cs) (merged (of_key bytes) P place own.0 c q k cs two up below) its (λ kind.
+        go c (inner k h cs) is (q, e, two, up, below) its =
+            none_comes (inner k (header_of P (own.0 ++ c ∷ q) (length (bytes_of cs))) cs) (merged (of_key bytes) P place own.0 c q k cs two up below) its (λ kind.
             let a = below_count kind in
             let b : count_below kind (join f.left f.right) ≡ one kind h.kind + count_below kind cs + 0 = ap (count_below kind) is in
             let d : one kind (kind_of (length (bytes_of cs))) ≡ one kind h.kind = ap (λ z. one kind z.kind) (sym e) in
@@ -391,13 +432,20 @@ module _ {K V : Type 0} (bytes : K → List ℕ) (P : ℕ) (x : K × V) (n : Opa
       let number : length node.children ≡ suc left_over = ap length kids ∙ length-slots_of (join f.left (child f.byte (leaf n x) f.right)) ∙ one_more in
       let kind : f.mark.kind ≡ kind_of (suc left_over) = ap (λ h. h.kind) head ∙ header_kind place path own in
       let change : parent_change s (path_of (f ∷ fs)) ≡ change_of f.mark.kind (suc left_over) =
-      subst (λ (o : Option (InnerPtr × ℕ)). elim o as (λ _. ParentChange) [ None ↦ no_parent | Some (parent, byte) ↦ elim (get s.inners parent) as (λ _. ParentChange) [ None ↦ no_parent | Some z ↦ change_of parent.kind (length z.children) ] ] ≡ change_of f.mark.kind (suc left_over)) (sym (last_step-path_of (f ∷ fs)))
-      (subst (λ (o : Option Inner). elim o as (λ _. ParentChange) [ None ↦ no_parent | Some z ↦ change_of f.mark.kind (length z.children) ] ≡ change_of f.mark.kind (suc left_over)) (sym got) (ap (change_of f.mark.kind) number)) in
+      subst (λ (o : Option (InnerPtr × ℕ)). elim o as (λ _. ParentChange) [
+        | None ↦ no_parent
+        | Some (parent, byte) ↦
+            elim (get s.inners parent) as (λ _. ParentChange) [ None ↦ no_parent | Some z ↦ change_of parent.kind (length z.children) ]
+      ] ≡ change_of
+      f.mark.kind (suc left_over)) (sym (last_step-path_of (f ∷ fs)))
+      (subst (λ (o : Option Inner). elim o as (λ _. ParentChange) [ None ↦ no_parent | Some z ↦ change_of f.mark.kind (length z.children) ] ≡
+      change_of f.mark.kind (suc left_over)) (sym got) (ap (change_of f.mark.kind) number)) in
       let two : 2 ≤ suc left_over = subst (λ z. 2 ≤ z) one_more own.2 in
       ap placed_of change ∙ change_places f.mark.kind left_over More kind (omega arith) (compress_places place path own) (keep_places place path own) (shrink_places place path own)
 
 -- a deletion needs the inner node that comes
-deletion_needs : {K V : Type 0} (IsClone : K × V → K × V → Type 0) (bytes : K → List ℕ) (P : ℕ) (pairs : List (K × V)) (x : K × V) (c : Command K V) → Answers bytes IsClone pairs c (Deleted (Some x)) (remove_key (of_key bytes) (bytes x.0) pairs) →
+deletion_needs : {K V : Type 0} (IsClone : K × V → K × V → Type 0) (bytes : K → List ℕ) (P : ℕ) (pairs : List (K × V)) (x : K × V) (c : Command K V) →
+    Answers bytes IsClone pairs c (Deleted (Some x)) (remove_key (of_key bytes) (bytes x.0) pairs) →
     ◌≡◌ {A = Promise} (record { leaves = 0; inner = more_of (inner_count bytes P pairs) (inner_count bytes P (remove_key (of_key bytes) (bytes x.0) pairs)) }) (needs bytes P c pairs)
 deletion_needs IsClone bytes P pairs x (Insert k v) h = absurd h
 deletion_needs IsClone bytes P pairs x (InsertPrefix k v) h = absurd h
@@ -409,22 +457,33 @@ deletion_needs IsClone bytes P pairs x Clone h = absurd h
 deletion_needs IsClone bytes P pairs x (LongestMatch key) h = absurd h
 
 module _ {K V : Type 0} (bytes : K → List ℕ) (P : ℕ) {s : Nodes K V} {root : OpaqueNodePtr} {layout : Tree OpaqueNodePtr (K × V)} (by : IsTree (of_key bytes) P s root (pairs_of layout) layout) where
-  pub needs_inserted : (k : K) (v : V) (point : InsertPoint) → AnswersTo (of_key bytes) P layout (bytes k) point → HasByteLeft s point.insert_kind → placed_for s point.insert_kind ≡ needs bytes P (Insert k v) (pairs_of layout)
+  pub needs_inserted : (k : K) (v : V) (point : InsertPoint) → AnswersTo (of_key bytes) P layout (bytes k) point → HasByteLeft s point.insert_kind →
+      placed_for s point.insert_kind ≡ needs bytes P (Insert k v) (pairs_of layout)
   needs_inserted k v point at left =
       let was : IsRadix (of_key bytes) P [] (plug at.path at.node) = subst (IsRadix (of_key bytes) P []) (sym at.is_end.whole) (tree_radix by).0 in
       let (place, path, own) = radix_plug (of_key bytes) P at.path at.node was in
       let depth = depth_is (of_key bytes) P at.path place path in
-      let front : IsFront place (bytes k) = subst (λ w. IsFront w (bytes k)) (ap (λ d. take d (least_key (of_key bytes) at.node)) depth ∙ place_is (of_key bytes) P at.node place own) at.is_end.is_front in
+      let front : IsFront place (bytes k) =
+      subst (λ w. IsFront w (bytes k)) (ap (λ d. take d (least_key (of_key bytes) at.node)) depth ∙ place_is (of_key bytes) P at.node place own) at.is_end.is_front in
       let holds = (path_holds (node_at s) at.path at.node (subst (Holds (node_at s)) (sym at.is_end.whole) by.stands.0.holds)).1 in
       subst (λ l. placed_for s point.insert_kind ≡ needs bytes P (Insert k v) (pairs_of l)) at.is_end.whole
-      (kind_needs bytes P k v (record { path = path; radix = own; front = front }) was s point.key_bytes_used point.insert_kind holds left (subst (λ d. IsKindOf (of_key bytes) P (bytes k) at.node d point.key_bytes_used point.insert_kind) depth at.kind_is))
+      (kind_needs bytes P k v (record { path = path; radix = own; front = front }) was s point.key_bytes_used point.insert_kind holds left
+      (subst (λ d. IsKindOf (of_key bytes) P (bytes k) at.node d point.key_bytes_used point.insert_kind) depth at.kind_is))
 
-  pub needs_deleted : (IsClone : K × V → K × V → Type 0) (c : Command K V) (x : K × V) (point : DeletePoint) → LeadsTo layout x point → Answers bytes IsClone (pairs_of layout) c (Deleted (Some x)) (remove_key (of_key bytes) (bytes x.0) (pairs_of layout)) → placed_for_deletion s point.path ≡ needs bytes P c (pairs_of layout)
+  pub needs_deleted : (IsClone : K × V → K × V → Type 0) (c : Command K V) (x : K × V) (point : DeletePoint) → LeadsTo layout x point →
+      Answers bytes IsClone (pairs_of layout) c (Deleted (Some x)) (remove_key (of_key bytes) (bytes x.0) (pairs_of layout)) → placed_for_deletion s point.path ≡ needs bytes P c (pairs_of layout)
   needs_deleted IsClone c x point leads answers =
-      ap (placed_for_deletion s) leads.path_is ∙ subst (λ l. Answers bytes IsClone (pairs_of l) c (Deleted (Some x)) (remove_key (of_key bytes) (bytes x.0) (pairs_of l)) → placed_for_deletion s (path_of leads.path) ≡ needs bytes P c (pairs_of l)) leads.whole
+      ap (placed_for_deletion s) leads.path_is ∙ subst (λ l. Answers bytes IsClone (pairs_of l) c (Deleted (Some x))
+      (remove_key (of_key bytes) (bytes x.0) (pairs_of l)) → placed_for_deletion s (path_of leads.path) ≡ needs bytes P c (pairs_of l)) leads.whole
       (go leads.path (subst (IsRadix (of_key bytes) P []) (sym leads.whole) (tree_radix by).0) (subst (Holds (node_at s)) (sym leads.whole) by.stands.0.holds)) answers
     where
-      go : (fs : List (Frame OpaqueNodePtr (K × V))) → IsRadix (of_key bytes) P [] (plug fs (leaf (leaf_name point.leaf_node_ptr) x)) → Holds (node_at s) (plug fs (leaf (leaf_name point.leaf_node_ptr) x)) →
-          Answers bytes IsClone (pairs_of (plug fs (leaf (leaf_name point.leaf_node_ptr) x))) c (Deleted (Some x)) (remove_key (of_key bytes) (bytes x.0) (pairs_of (plug fs (leaf (leaf_name point.leaf_node_ptr) x)))) → placed_for_deletion s (path_of fs) ≡ needs bytes P c (pairs_of (plug fs (leaf (leaf_name point.leaf_node_ptr) x)))
-      go [] was holds takes = ap (λ ps. let y : Promise = record { leaves = 0; inner = more_of (inner_count bytes P (x ∷ [])) (inner_count bytes P ps) } in y) (sym (alone (of_key bytes) x)) ∙ deletion_needs IsClone bytes P (x ∷ []) x c takes
-      go (f ∷ fs) was holds takes = parent_places bytes P x (leaf_name point.leaf_node_ptr) f fs was s holds ∙ deletion_needs IsClone bytes P (pairs_of (plug (f ∷ fs) (leaf (leaf_name point.leaf_node_ptr) x))) x c takes
+      go : (fs : List (Frame OpaqueNodePtr (K × V))) → IsRadix (of_key bytes) P [] (plug fs (leaf (leaf_name point.leaf_node_ptr) x)) →
+          Holds (node_at s) (plug fs (leaf (leaf_name point.leaf_node_ptr) x)) →
+          Answers bytes IsClone (pairs_of (plug fs (leaf (leaf_name point.leaf_node_ptr) x))) c (Deleted (Some x))
+          (remove_key (of_key bytes) (bytes x.0) (pairs_of (plug fs (leaf (leaf_name point.leaf_node_ptr) x)))) →
+          placed_for_deletion s (path_of fs) ≡ needs bytes P c (pairs_of (plug fs (leaf (leaf_name point.leaf_node_ptr) x)))
+      go [] was holds takes =
+          ap (λ ps. let y : Promise = record { leaves = 0; inner = more_of (inner_count bytes P (x ∷ [])) (inner_count bytes P ps) } in y)
+          (sym (alone (of_key bytes) x)) ∙ deletion_needs IsClone bytes P (x ∷ []) x c takes
+      go (f ∷ fs) was holds takes =
+          parent_places bytes P x (leaf_name point.leaf_node_ptr) f fs was s holds ∙ deletion_needs IsClone bytes P (pairs_of (plug (f ∷ fs) (leaf (leaf_name point.leaf_node_ptr) x))) x c takes

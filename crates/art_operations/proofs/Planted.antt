@@ -60,7 +60,8 @@ module _ {K V : Type 0} (bytes : K → List ℕ) (P : ℕ) {s t : Nodes K V} (z 
     in_place = record {
       leaves = λ a b k m i j e. absurd i;
       inners = λ kind whole k m i j. absurd i;
-      others = others_kept (footprint_of s t leaves_touched inners_touched tt tt tt) (record { placed_in = λ k i. i; freed_in = λ k i. i; changed_in = λ k i. i; old_stays = λ k i. absurd i; new_comes = λ k i. inr i });
+      others = others_kept (footprint_of s t leaves_touched inners_touched tt tt tt)
+          (record { placed_in = λ k i. i; freed_in = λ k i. i; changed_in = λ k i. i; old_stays = λ k i. absurd i; new_comes = λ k i. inr i });
     }
 
     few : TouchesAtMost 2 2 4 s t

@@ -67,11 +67,14 @@ placed_leaf kind count (inr (off, two)) = rw (ne_eqb count 1 (λ e. omega arith)
 
 module _ {K V : Type 0} (bytes : K → List ℕ) (P : ℕ) {s : Nodes K V} {root : OpaqueNodePtr} {layout : Layout K V} (by : IsTree (of_key bytes) P s root (pairs_of layout) layout) where
   -- no inner node comes where a leaf takes the place of a node
-  none_comes : (fs : List (Frame OpaqueNodePtr (K × V))) (place : List ℕ) (node : Layout K V) (x : K × V) → plug fs node ≡ layout → IsHole (of_key bytes) P fs place node (bytes x.0) → Each (λ y. are_related (bytes x.0) (bytes y.0) ≡ true) (pairs_of node) → Each (λ y. bytes y.0 ≢ bytes x.0) (pairs_of node) →
+  none_comes : (fs : List (Frame OpaqueNodePtr (K × V))) (place : List ℕ) (node : Layout K V) (x : K × V) → plug fs node ≡ layout →
+      IsHole (of_key bytes) P fs place node (bytes x.0) → Each (λ y. are_related (bytes x.0) (bytes y.0) ≡ true) (pairs_of node) → Each (λ y. bytes y.0 ≢ bytes x.0) (pairs_of node) →
       more_of (inner_count bytes P (pairs_of layout)) (inner_count bytes P (overwrite (of_key bytes) x (pairs_of layout))) ≡ None
   none_comes fs place node x whole hole related unequal =
       let F = replace_related (of_key bytes) x in
-      let its : F (pairs_of node) ≡ x ∷ [] = ap (add_in_order (of_key bytes) x) (filter_none (λ y. not (are_related (bytes x.0) (bytes y.0))) (pairs_of node) (Each-weaker (λ y. are_related (bytes x.0) (bytes y.0) ≡ true) (λ y. not (are_related (bytes x.0) (bytes y.0)) ≡ false) (λ y e. ap not e) (pairs_of node) related)) in
+      let its : F (pairs_of node) ≡ x ∷ [] =
+      ap (add_in_order (of_key bytes) x) (filter_none (λ y. not (are_related (bytes x.0) (bytes y.0))) (pairs_of node)
+      (Each-weaker (λ y. are_related (bytes x.0) (bytes y.0) ≡ true) (λ y. not (are_related (bytes x.0) (bytes y.0)) ≡ false) (λ y e. ap not e) (pairs_of node) related)) in
       let new = leaf root x in
       let old : IsRadix (of_key bytes) P [] (plug fs node) = subst (IsRadix (of_key bytes) P []) (sym whole) (tree_radix by).0 in
       let (radix, all) = changed_at (of_key bytes) P fs place hole.path node new hole.front (bytes x.0) F (replace_related-between (of_key bytes) x) hole.front (sym its) in
@@ -97,28 +100,37 @@ module _ {K V : Type 0} (bytes : K → List ℕ) (P : ℕ) {s : Nodes K V} {root
         | inl (p, e) ↦
             let l = related_leaf answers (sym e) here in
             let all : related_to (of_key bytes) (bytes k) (pairs_of layout) ≡ pair_of l.shown ∷ [] =
-            ap (λ t. related_to (of_key bytes) (bytes k) (pairs_of t)) (sym l.whole) ∙ related_at (of_key bytes) P l.path l.place (bytes k) (leaf (leaf_name p) (pair_of l.shown)) l.hole.path l.hole.front ∙ rw l.related refl in
-            record { one = inl (ap (λ z. z.kind) e, ap length all); none = none_comes l.path l.place (leaf (leaf_name p) (pair_of l.shown)) (k, v) l.whole l.hole (l.related, tt) (λ e. l.unequal (sym e), tt) }
+            ap (λ t. related_to (of_key bytes) (bytes k) (pairs_of t)) (sym l.whole) ∙
+            related_at (of_key bytes) P l.path l.place (bytes k) (leaf (leaf_name p) (pair_of l.shown)) l.hole.path l.hole.front ∙ rw l.related refl in
+            record {
+              one = inl (ap (λ z. z.kind) e, ap length all);
+              none = none_comes l.path l.place (leaf (leaf_name p) (pair_of l.shown)) (k, v)
+                  l.whole l.hole (l.related, tt) (λ e. l.unequal (sym e), tt);
+            }
         | inr off ↦
             let a = subtree_at answers off here in
             let all : related_to (of_key bytes) (bytes k) (pairs_of layout) ≡ pairs_of a.node =
-            ap (λ t. related_to (of_key bytes) (bytes k) (pairs_of t)) (sym a.whole) ∙ related_at (of_key bytes) P a.path a.place (bytes k) a.node a.hole.path a.hole.front ∙ filter_all (λ y. are_related (bytes k) (bytes y.0)) (pairs_of a.node) a.related in
+            ap (λ t. related_to (of_key bytes) (bytes k) (pairs_of t)) (sym a.whole) ∙
+            related_at (of_key bytes) P a.path a.place (bytes k) a.node a.hole.path a.hole.front ∙ filter_all (λ y. are_related (bytes k) (bytes y.0)) (pairs_of a.node) a.related in
             record { one = inr (off, subst (λ ps. 2 ≤ length ps) (sym all) a.two); none = none_comes a.path a.place a.node (k, v) a.whole a.hole a.related a.unequal }
       ]
 
   -- what is placed is what the command needs
-  pub needs_overwritten : (k : K) (v : V) (point : OverwritePoint) → AnswersToOverwrite (of_key bytes) layout (bytes k) point → placed_for_overwrite point.overwrite_point.kind ≡ needs bytes P (InsertPrefix k v) (pairs_of layout)
+  pub needs_overwritten : (k : K) (v : V) (point : OverwritePoint) → AnswersToOverwrite (of_key bytes) layout (bytes k) point →
+      placed_for_overwrite point.overwrite_point.kind ≡ needs bytes P (InsertPrefix k v) (pairs_of layout)
   needs_overwritten k v point at =
       let o = overwrites k v point at in
       placed_leaf point.overwrite_point.kind (length (related_to (of_key bytes) (bytes k) (pairs_of layout))) o.one
       ∙ ap (λ inner. let y : Promise = record { leaves = cond (eqb (length (related_to (of_key bytes) (bytes k) (pairs_of layout))) 1) 0 1; inner = inner } in y) (sym o.none)
 
   -- and what is touched is what it may touch
-  pub touches_overwritten : (k : K) (v : V) (point : OverwritePoint) → AnswersToOverwrite (of_key bytes) layout (bytes k) point → (t : Nodes K V) → TouchesForNode point.overwrite_point.kind (of_key bytes) (bytes k) s t layout → TouchesBy bytes (Some layout) (InsertPrefix k v) s t
+  pub touches_overwritten : (k : K) (v : V) (point : OverwritePoint) → AnswersToOverwrite (of_key bytes) layout (bytes k) point → (t : Nodes K V) →
+      TouchesForNode point.overwrite_point.kind (of_key bytes) (bytes k) s t layout → TouchesBy bytes (Some layout) (InsertPrefix k v) s t
   touches_overwritten k v point at t touches = go point.overwrite_point.kind (overwrites k v point at).one touches
     where
       at_leaf : (kind : NodeType) → kind ≡ Leaf → TouchesForNode kind (of_key bytes) (bytes k) s t layout → TouchesAtMost 2 2 4 s t
-      at_leaf kind e h = let few : TouchesAtMost 0 0 1 s t = subst (λ q. TouchesForNode q (of_key bytes) (bytes k) s t layout) e h in touches_more 0 0 1 2 2 4 (omega arith) (omega arith) (omega arith) few
+      at_leaf kind e h =
+          let few : TouchesAtMost 0 0 1 s t = subst (λ q. TouchesForNode q (of_key bytes) (bytes k) s t layout) e h in touches_more 0 0 1 2 2 4 (omega arith) (omega arith) (omega arith) few
 
       below : (kind : NodeType) → kind ≢ Leaf → TouchesForNode kind (of_key bytes) (bytes k) s t layout → TouchesRelated (of_key bytes) (bytes k) s t (Some layout)
       below Leaf off h = absurd (off refl)
@@ -127,7 +139,8 @@ module _ {K V : Type 0} (bytes : K → List ℕ) (P : ℕ) {s : Nodes K V} {root
       below Node48 off h = h
       below Node256 off h = h
 
-      go : (kind : NodeType) → IsOne kind (length (related_to (of_key bytes) (bytes k) (pairs_of layout))) → TouchesForNode kind (of_key bytes) (bytes k) s t layout → TouchesBy bytes (Some layout) (InsertPrefix k v) s t
+      go : (kind : NodeType) → IsOne kind (length (related_to (of_key bytes) (bytes k) (pairs_of layout))) →
+          TouchesForNode kind (of_key bytes) (bytes k) s t layout → TouchesBy bytes (Some layout) (InsertPrefix k v) s t
       go kind (inl (e, f)) h = rw f (at_leaf kind e h)
       go kind (inr (off, two)) h = rw (lt-leb (length (related_to (of_key bytes) (bytes k) (pairs_of layout))) 1 (omega arith)) (below kind off h)
 
@@ -145,7 +158,8 @@ one_at_most (x ∷ y ∷ xs) e = absurd (let f = ap (λ z. z.0) e in cc)
 
 module _ {K V : Type 0} (bytes : K → List ℕ) (P : ℕ) {s : Nodes K V} {root : OpaqueNodePtr} {layout : Layout K V} (by : IsTree (of_key bytes) P s root (pairs_of layout) layout) where
   module _ (k : K) (v : V) (free : is_conflict (of_key bytes) (bytes k) (pairs_of layout) ≡ false) where
-    same_parts : (remove_related (of_key bytes) (bytes k) (pairs_of layout) ≡ remove_key (of_key bytes) (bytes k) (pairs_of layout)) × (related_to (of_key bytes) (bytes k) (pairs_of layout) ≡ with_key (of_key bytes) (bytes k) (pairs_of layout))
+    same_parts : (remove_related (of_key bytes) (bytes k) (pairs_of layout) ≡ remove_key (of_key bytes) (bytes k) (pairs_of layout)) ×
+        (related_to (of_key bytes) (bytes k) (pairs_of layout) ≡ with_key (of_key bytes) (bytes k) (pairs_of layout))
     same_parts = same_rest (of_key bytes) (k, v) (bytes k) (pairs_of layout) (free_unrelated (of_key bytes) (k, v) (bytes k) (pairs_of layout) free)
 
     one_has : went (with_key (of_key bytes) (bytes k) (pairs_of layout)) ≡ (first_of (with_key (of_key bytes) (bytes k) (pairs_of layout)), 0)
@@ -154,23 +168,27 @@ module _ {K V : Type 0} (bytes : K → List ℕ) (P : ℕ) {s : Nodes K V} {root
     -- where no unequal key is related an overwrite needs what a put does
     needs_same : needs bytes P (Insert k v) (pairs_of layout) ≡ needs bytes P (InsertPrefix k v) (pairs_of layout)
     needs_same = ap₂ (λ (leaves : ℕ) (inner : Option NodeType). let y : Promise = record { leaves = leaves; inner = inner } in y)
-        (ap (λ b. cond b 0 1) (any_first (λ x. are_same (bytes k) (bytes x.0)) (pairs_of layout)) ∙ one_leaf (with_key (of_key bytes) (bytes k) (pairs_of layout)) one_has ∙ ap (λ xs. cond (eqb (length xs) 1) 0 1) (sym same_parts.1))
+        (ap (λ b. cond b 0 1) (any_first (λ x. are_same (bytes k) (bytes x.0)) (pairs_of layout)) ∙
+        one_leaf (with_key (of_key bytes) (bytes k) (pairs_of layout)) one_has ∙ ap (λ xs. cond (eqb (length xs) 1) 0 1) (sym same_parts.1))
         (ap (λ ps. more_of (inner_count bytes P (pairs_of layout)) (inner_count bytes P ps))
         (sym (put_is_overwrite (of_key bytes) (k, v) (pairs_of layout) (free_unrelated (of_key bytes) (k, v) (bytes k) (pairs_of layout) free))))
 
     few_related : leb (length (related_to (of_key bytes) (bytes k) (pairs_of layout))) 1 ≡ true
     few_related = ap (λ xs. leb (length xs) 1) same_parts.1 ∙ one_at_most (with_key (of_key bytes) (bytes k) (pairs_of layout)) one_has
 
-  pub needs_prefix : (k : K) (v : V) (point : PrefixInsertPoint) → IsPointFor (of_key bytes) P (bytes k) (pairs_of layout) layout point → HasByteLeftFor s point → placed_for_prefix s point ≡ needs bytes P (InsertPrefix k v) (pairs_of layout)
+  pub needs_prefix : (k : K) (v : V) (point : PrefixInsertPoint) → IsPointFor (of_key bytes) P (bytes k) (pairs_of layout) layout point →
+      HasByteLeftFor s point → placed_for_prefix s point ≡ needs bytes P (InsertPrefix k v) (pairs_of layout)
   needs_prefix k v (points.InsertPoint point) (free, at) left = needs_inserted bytes P by k v point at left ∙ needs_same k v free
   needs_prefix k v (points.OverwritePoint point) (related, at) left = needs_overwritten bytes P by k v point at
 
-  touches_prefix : (k : K) (v : V) (point : PrefixInsertPoint) → IsPointFor (of_key bytes) P (bytes k) (pairs_of layout) layout point → (t : Nodes K V) → TouchesForPrefix point (of_key bytes) (bytes k) s t layout → TouchesBy bytes (Some layout) (InsertPrefix k v) s t
+  touches_prefix : (k : K) (v : V) (point : PrefixInsertPoint) → IsPointFor (of_key bytes) P (bytes k) (pairs_of layout) layout point →
+      (t : Nodes K V) → TouchesForPrefix point (of_key bytes) (bytes k) s t layout → TouchesBy bytes (Some layout) (InsertPrefix k v) s t
   touches_prefix k v (points.InsertPoint point) (free, at) t h = rw (few_related k v free) (insertion_touches point.insert_kind h)
   touches_prefix k v (points.OverwritePoint point) (related, at) t h = touches_overwritten bytes P by k v point at t h
 
   -- a refusal is not for one pair alone
-  not_one : (k : K) (v : V) (point : PrefixInsertPoint) → IsPointFor (of_key bytes) P (bytes k) (pairs_of layout) layout point → HasByteLeftFor s point → (is_covered (placed_for_prefix s point) s.promise ≡ true → ⊥) → length (related_to (of_key bytes) (bytes k) (pairs_of layout)) ≢ 1
+  not_one : (k : K) (v : V) (point : PrefixInsertPoint) → IsPointFor (of_key bytes) P (bytes k) (pairs_of layout) layout point →
+      HasByteLeftFor s point → (is_covered (placed_for_prefix s point) s.promise ≡ true → ⊥) → length (related_to (of_key bytes) (bytes k) (pairs_of layout)) ≢ 1
   not_one k v point at left off one = go point at off (ap (λ placed. placed.leaves) (needs_prefix k v point at left) ∙ ap (λ n. cond (eqb n 1) 0 1) one)
     where
       by_kind : (kind : InsertKind) → (is_covered (placed_for s kind) s.promise ≡ true → ⊥) → (placed_for s kind).leaves ≡ 0 → ⊥
@@ -186,12 +204,14 @@ module _ {K V : Type 0} (bytes : K → List ℕ) (P : ℕ) {s : Nodes K V} {root
       over Node48 off none = absurd cc
       over Node256 off none = absurd cc
 
-      go : (q : PrefixInsertPoint) → IsPointFor (of_key bytes) P (bytes k) (pairs_of layout) layout q → (is_covered (placed_for_prefix s q) s.promise ≡ true → ⊥) → (placed_for_prefix s q).leaves ≡ 0 → ⊥
+      go : (q : PrefixInsertPoint) → IsPointFor (of_key bytes) P (bytes k) (pairs_of layout) layout q →
+          (is_covered (placed_for_prefix s q) s.promise ≡ true → ⊥) → (placed_for_prefix s q).leaves ≡ 0 → ⊥
       go (points.InsertPoint p) at off none = by_kind p.insert_kind off none
       go (points.OverwritePoint p) at off none = over p.overwrite_point.kind off none
 
 -- What an applied prefix point leaves of a tree.
-pub record HasAppliedPrefix {K V : Type 0} (bytes : K → List ℕ) (P : ℕ) (s t : Nodes K V) (layout : Layout K V) (pair : K × V) (point : PrefixInsertPoint) (after : OpaqueNodePtr) (existing : Option (LeafNode K V)) (count : ℕ) : Type 0 where
+pub record HasAppliedPrefix {K V : Type 0} (bytes : K → List ℕ) (P : ℕ) (s t : Nodes K V) (layout : Layout K V) (pair : K × V)
+    (point : PrefixInsertPoint) (after : OpaqueNodePtr) (existing : Option (LeafNode K V)) (count : ℕ) : Type 0 where
   pub canonical : IsCanonical (of_key bytes) P t (Some after) (overwrite (of_key bytes) pair (pairs_of layout))
   pub replaced : existing ≡ option_map alone (overwrite_reply (of_key bytes) pair (pairs_of layout)).0
   pub removed : count ≡ (overwrite_reply (of_key bytes) pair (pairs_of layout)).1
@@ -199,8 +219,12 @@ pub record HasAppliedPrefix {K V : Type 0} (bytes : K → List ℕ) (P : ℕ) (s
   pub touches : TouchesForPrefix point (of_key bytes) (bytes pair.0) s t layout
   pub promise : t.promise ≡ promise_after (placed_for_prefix s point) s.promise
 
-module _ {K V : Type 0} {IsClone : K × V → K × V → Type 0} {side : Side} (bytes : K → List ℕ) (P : ℕ) {s t : Nodes K V} {root : OpaqueNodePtr} {layout : Layout K V} (by : IsTree (of_key bytes) P s root (pairs_of layout) layout) {k : K} {v : V} (point : PrefixInsertPoint) (z : Nodes K V) (at : IsPointFor (of_key bytes) P (bytes k) (pairs_of layout) layout point) (left : HasByteLeftFor s point) where
-  pub prefix_step : {after : OpaqueNodePtr} {existing : Option (LeafNode K V)} {count : ℕ} → HasAppliedPrefix bytes P s t layout (k, v) point after existing count → StepFrom bytes P IsClone side s t z (Some layout) (InsertPrefix k v) (Overwrote (option_map pair_of existing) count) (Some after)
+module _ {K V : Type 0} {IsClone : K × V → K × V → Type 0} {side : Side} (bytes : K → List ℕ) (P : ℕ) {s t : Nodes K V} {root : OpaqueNodePtr}
+    {layout : Layout K V} (by : IsTree (of_key bytes) P s root (pairs_of layout) layout) {k : K} {v : V} (point : PrefixInsertPoint) (z : Nodes K V)
+    (at : IsPointFor (of_key bytes) P (bytes k) (pairs_of layout) layout point) (left : HasByteLeftFor s point) where
+  pub prefix_step : {after : OpaqueNodePtr} {existing : Option (LeafNode K V)} {count : ℕ} →
+      HasAppliedPrefix bytes P s t layout (k, v) point after existing count →
+      StepFrom bytes P IsClone side s t z (Some layout) (InsertPrefix k v) (Overwrote (option_map pair_of existing) count) (Some after)
   prefix_step {after} {existing} {count} is =
       let (new, by_new) = is.canonical in (
         Some new,
@@ -214,7 +238,8 @@ module _ {K V : Type 0} {IsClone : K × V → K × V → Type 0} {side : Side} (
         },
       )
 
-  pub prefix_refused : {pair : K × V} → pair ≡ (k, v) → IsRefused s t (placed_for_prefix s point) → StepFrom bytes P IsClone side s t z (Some layout) (InsertPrefix k v) (NoMemory (Some pair)) (Some root)
+  pub prefix_refused : {pair : K × V} → pair ≡ (k, v) → IsRefused s t (placed_for_prefix s point) →
+      StepFrom bytes P IsClone side s t z (Some layout) (InsertPrefix k v) (NoMemory (Some pair)) (Some root)
   prefix_refused handed is = (
     Some layout,
     ap Some by.stands.0.named,

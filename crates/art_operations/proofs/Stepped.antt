@@ -74,15 +74,18 @@ not_false true h = refl
 not_false false h = absurd (h refl)
 
 -- the tree of a root that is named by its layout
-pub at_root : {K V : Type 0} (bytes : K → List ℕ) (P : ℕ) {s : Nodes K V} {root name : OpaqueNodePtr} {layout : Layout K V} → IsTree (of_key bytes) P s root (pairs_of layout) layout → name ≡ name_of layout → IsTree (of_key bytes) P s name (pairs_of layout) layout
+pub at_root : {K V : Type 0} (bytes : K → List ℕ) (P : ℕ) {s : Nodes K V} {root name : OpaqueNodePtr} {layout : Layout K V} →
+    IsTree (of_key bytes) P s root (pairs_of layout) layout → name ≡ name_of layout → IsTree (of_key bytes) P s name (pairs_of layout) layout
 at_root bytes P {s} {root} {name} {layout} by is = subst (λ n. IsTree (of_key bytes) P s n (pairs_of layout) layout) (sym (is ∙ by.stands.0.named)) by
 
 -- a found point is one of the store
-pub is_point : {K V : Type 0} (bytes : K → List ℕ) (P : ℕ) {s : Nodes K V} {root : OpaqueNodePtr} {pairs : List (K × V)} {layout : Layout K V} {key : List ℕ} {point : InsertPoint} → IsTree (of_key bytes) P s root pairs layout → AnswersTo (of_key bytes) P layout key point → IsPointIn (of_key bytes) P s key point
+pub is_point : {K V : Type 0} (bytes : K → List ℕ) (P : ℕ) {s : Nodes K V} {root : OpaqueNodePtr} {pairs : List (K × V)} {layout : Layout K V}
+    {key : List ℕ} {point : InsertPoint} → IsTree (of_key bytes) P s root pairs layout → AnswersTo (of_key bytes) P layout key point → IsPointIn (of_key bytes) P s key point
 is_point bytes P {s} {root} {pairs} {layout} by at = (pairs, layout, subst (λ n. IsTree (of_key bytes) P s n pairs layout) (sym (at.root_is ∙ by.stands.0.named)) by, at)
 
 -- What an applied insert point leaves of a tree.
-pub record HasApplied {K V : Type 0} (bytes : K → List ℕ) (P : ℕ) (s t : Nodes K V) (layout : Layout K V) (pair : K × V) (point : InsertPoint) (after : OpaqueNodePtr) (existing : Option (LeafNode K V)) : Type 0 where
+pub record HasApplied {K V : Type 0} (bytes : K → List ℕ) (P : ℕ) (s t : Nodes K V) (layout : Layout K V) (pair : K × V) (point : InsertPoint)
+    (after : OpaqueNodePtr) (existing : Option (LeafNode K V)) : Type 0 where
   pub canonical : IsCanonical (of_key bytes) P t (Some after) (put (of_key bytes) pair (pairs_of layout))
   pub replaced : existing ≡ option_map alone (put_reply (of_key bytes) pair (pairs_of layout))
   pub kept : (pairs : List (K × V)) (new : Layout K V) → IsTree (of_key bytes) P t after pairs new → ChangesInPlace (of_key bytes) s t (Some layout) (Some new)
@@ -90,7 +93,8 @@ pub record HasApplied {K V : Type 0} (bytes : K → List ℕ) (P : ℕ) (s t : N
   pub promise : t.promise ≡ promise_after (placed_for s point.insert_kind) s.promise
 
 -- the leaf of a delete point has the pair that the point leads to
-pub deleted_pair : {K V : Type 0} (bytes : K → List ℕ) (P : ℕ) {s : Nodes K V} {root : OpaqueNodePtr} {pairs : List (K × V)} {layout : Layout K V} {x : K × V} {point : DeletePoint} (deleted : LeafNode K V) → IsTree (of_key bytes) P s root pairs layout → LeadsTo layout x point →
+pub deleted_pair : {K V : Type 0} (bytes : K → List ℕ) (P : ℕ) {s : Nodes K V} {root : OpaqueNodePtr} {pairs : List (K × V)} {layout : Layout K V}
+    {x : K × V} {point : DeletePoint} (deleted : LeafNode K V) → IsTree (of_key bytes) P s root pairs layout → LeadsTo layout x point →
     IfSome (get s.leaves point.leaf_node_ptr) (λ node. deleted ≡ alone (pair_of node)) → (deleted.key, deleted.value) ≡ x
 deleted_pair bytes P {s} {root} {pairs} {layout} {x} {point} deleted by leads told =
     let held = (path_holds (node_at s) leads.path (leaf (leaf_name point.leaf_node_ptr) x) (subst (Holds (node_at s)) (sym leads.whole) by.stands.0.holds)).1 in
@@ -115,18 +119,23 @@ module _ {K V : Type 0} (bytes : K → List ℕ) (P : ℕ) {s : Nodes K V} {root
   -- ---- insertion
 
   -- what is refused is not covered, so the key is not stored
-  free_key : (k : K) (v : V) (point : InsertPoint) → AnswersTo (of_key bytes) P layout (bytes k) point → HasByteLeft s point.insert_kind → (is_covered (placed_for s point.insert_kind) s.promise ≡ true → ⊥) → has_key (of_key bytes) (bytes k) (pairs_of layout) ≡ false
-  free_key k v point at left uncovered = go point.insert_kind (has_key (of_key bytes) (bytes k) (pairs_of layout)) refl uncovered (ap (λ placed. placed.leaves) (needs_inserted bytes P by k v point at left))
+  free_key : (k : K) (v : V) (point : InsertPoint) → AnswersTo (of_key bytes) P layout (bytes k) point → HasByteLeft s point.insert_kind →
+      (is_covered (placed_for s point.insert_kind) s.promise ≡ true → ⊥) → has_key (of_key bytes) (bytes k) (pairs_of layout) ≡ false
+  free_key k v point at left uncovered =
+      go point.insert_kind (has_key (of_key bytes) (bytes k) (pairs_of layout)) refl uncovered (ap (λ placed. placed.leaves) (needs_inserted bytes P by k v point at left))
     where
-      go : (kind : InsertKind) (stored : Bool) → has_key (of_key bytes) (bytes k) (pairs_of layout) ≡ stored → (is_covered (placed_for s kind) s.promise ≡ true → ⊥) → (placed_for s kind).leaves ≡ cond stored 0 1 → stored ≡ false
+      go : (kind : InsertKind) (stored : Bool) → has_key (of_key bytes) (bytes k) (pairs_of layout) ≡ stored →
+          (is_covered (placed_for s kind) s.promise ≡ true → ⊥) → (placed_for s kind).leaves ≡ cond stored 0 1 → stored ≡ false
       go kind false e off leaves = refl
       go (Exact p) true e off leaves = absurd (off (leb-zero s.promise.leaves))
       go (SplitLeaf p used) true e off leaves = absurd cc
       go (IntoExisting p) true e off leaves = absurd cc
       go (MismatchPrefix mismatch p) true e off leaves = absurd cc
 
-  module _ {IsClone : K × V → K × V → Type 0} {side : Side} {t : Nodes K V} {k : K} {v : V} {point : InsertPoint} (z : Nodes K V) (free : is_conflict (of_key bytes) (bytes k) (pairs_of layout) ≡ false) (at : AnswersTo (of_key bytes) P layout (bytes k) point) (left : HasByteLeft s point.insert_kind) where
-    pub inserted_step : {after : OpaqueNodePtr} {existing : Option (LeafNode K V)} → HasApplied bytes P s t layout (k, v) point after existing → StepFrom bytes P IsClone side s t z (Some layout) (Insert k v) (Inserted (option_map pair_of existing)) (Some after)
+  module _ {IsClone : K × V → K × V → Type 0} {side : Side} {t : Nodes K V} {k : K} {v : V} {point : InsertPoint} (z : Nodes K V)
+      (free : is_conflict (of_key bytes) (bytes k) (pairs_of layout) ≡ false) (at : AnswersTo (of_key bytes) P layout (bytes k) point) (left : HasByteLeft s point.insert_kind) where
+    pub inserted_step : {after : OpaqueNodePtr} {existing : Option (LeafNode K V)} → HasApplied bytes P s t layout (k, v) point after existing →
+        StepFrom bytes P IsClone side s t z (Some layout) (Insert k v) (Inserted (option_map pair_of existing)) (Some after)
     inserted_step {after} {existing} is =
         let (new, by_new) = is.canonical in (
           Some new,
@@ -140,7 +149,8 @@ module _ {K V : Type 0} (bytes : K → List ℕ) (P : ℕ) {s : Nodes K V} {root
           },
         )
 
-    pub refused_step : {pair : K × V} → pair ≡ (k, v) → IsRefused s t (placed_for s point.insert_kind) → StepFrom bytes P IsClone side s t z (Some layout) (Insert k v) (NoMemory (Some pair)) (Some root)
+    pub refused_step : {pair : K × V} → pair ≡ (k, v) → IsRefused s t (placed_for s point.insert_kind) →
+        StepFrom bytes P IsClone side s t z (Some layout) (Insert k v) (NoMemory (Some pair)) (Some root)
     refused_step handed is = (
       Some layout,
       ap Some by.stands.0.named,
@@ -184,7 +194,8 @@ module _ {K V : Type 0} (bytes : K → List ℕ) (P : ℕ) {s : Nodes K V} {root
   -- ---- deletion
 
   -- a deletion touches a few names, whatever command asks for it
-  touched : (IsClone : K × V → K × V → Type 0) (t : Nodes K V) (x : K × V) (d : Command K V) → Answers bytes IsClone (pairs_of layout) d (Deleted (Some x)) (remove_key (of_key bytes) (bytes x.0) (pairs_of layout)) → TouchesAtMost 2 2 4 s t → TouchesBy bytes (Some layout) d s t
+  touched : (IsClone : K × V → K × V → Type 0) (t : Nodes K V) (x : K × V) (d : Command K V) →
+      Answers bytes IsClone (pairs_of layout) d (Deleted (Some x)) (remove_key (of_key bytes) (bytes x.0) (pairs_of layout)) → TouchesAtMost 2 2 4 s t → TouchesBy bytes (Some layout) d s t
   touched IsClone t x (Insert k v) h few = few
   touched IsClone t x (InsertPrefix k v) h few = absurd h
   touched IsClone t x (Delete key) h few = few
@@ -194,7 +205,8 @@ module _ {K V : Type 0} (bytes : K → List ℕ) (P : ℕ) {s : Nodes K V} {root
   touched IsClone t x (Contains key) h few = few
   touched IsClone t x (LongestMatch key) h few = few
 
-  module _ {IsClone : K × V → K × V → Type 0} {side : Side} {t : Nodes K V} {c : Command K V} {x : K × V} {point : DeletePoint} (z : Nodes K V) (leads : LeadsTo layout x point) (takes : Answers bytes IsClone (pairs_of layout) c (Deleted (Some x)) (remove_key (of_key bytes) (bytes x.0) (pairs_of layout))) where
+  module _ {IsClone : K × V → K × V → Type 0} {side : Side} {t : Nodes K V} {c : Command K V} {x : K × V} {point : DeletePoint} (z : Nodes K V)
+      (leads : LeadsTo layout x point) (takes : Answers bytes IsClone (pairs_of layout) c (Deleted (Some x)) (remove_key (of_key bytes) (bytes x.0) (pairs_of layout))) where
     pub deleted_step : {after : Option OpaqueNodePtr} → HasDeleted bytes P s t layout x point after → StepFrom bytes P IsClone side s t z (Some layout) c (Deleted (Some x)) after
     deleted_step {after} is =
         let has = has_tree bytes P t after (remove_key (of_key bytes) (bytes x.0) (pairs_of layout)) is.canonical in (
@@ -204,7 +216,14 @@ module _ {K V : Type 0} (bytes : K → List ℕ) (P : ℕ) {s : Nodes K V} {root
             answers = subst (λ new. Answers bytes IsClone (pairs_of layout) c (Deleted (Some x)) new) (sym has.pairs_are) takes;
             refuses = tt;
             sound = has.sound;
-            changes = record { side = refl; kept = is.kept (remove_key (of_key bytes) (bytes x.0) (pairs_of layout)) has.tree has.is_root; touches = touched IsClone t x c takes (deletion_touches (parent_change s point.path) is.touches); other = refl };
+            changes =
+                record {
+                  side = refl;
+                  kept = is.kept (remove_key (of_key bytes) (bytes x.0) (pairs_of layout)) has.tree has.is_root;
+                  touches = touched
+                      IsClone t x c takes (deletion_touches (parent_change s point.path) is.touches);
+                  other = refl;
+                };
             promises = is.promise ∙ ap (λ placed. promise_after placed s.promise) (needs_deleted bytes P by IsClone c x point leads takes);
           },
         )
@@ -222,7 +241,8 @@ module _ {K V : Type 0} (bytes : K → List ℕ) (P : ℕ) {s : Nodes K V} {root
       },
     )
       where
-        answers : (d : Command K V) → Answers bytes IsClone (pairs_of layout) d (Deleted (Some x)) (remove_key (of_key bytes) (bytes x.0) (pairs_of layout)) → Answers bytes IsClone (pairs_of layout) d (NoMemory None) (pairs_of layout)
+        answers : (d : Command K V) → Answers bytes IsClone (pairs_of layout) d (Deleted (Some x))
+            (remove_key (of_key bytes) (bytes x.0) (pairs_of layout)) → Answers bytes IsClone (pairs_of layout) d (NoMemory None) (pairs_of layout)
         answers (Insert k v) h = absurd h
         answers (InsertPrefix k v) h = absurd h
         answers (Delete key) h = (refl, refl)
@@ -232,7 +252,8 @@ module _ {K V : Type 0} (bytes : K → List ℕ) (P : ℕ) {s : Nodes K V} {root
         answers (Contains key) h = absurd h
         answers (LongestMatch key) h = absurd h
 
-        changes : (d : Command K V) → Answers bytes IsClone (pairs_of layout) d (Deleted (Some x)) (remove_key (of_key bytes) (bytes x.0) (pairs_of layout)) → Changes bytes (in_store side s z (Some layout)) d (NoMemory None) (in_store side t z (Some layout))
+        changes : (d : Command K V) → Answers bytes IsClone (pairs_of layout) d (Deleted (Some x))
+            (remove_key (of_key bytes) (bytes x.0) (pairs_of layout)) → Changes bytes (in_store side s z (Some layout)) d (NoMemory None) (in_store side t z (Some layout))
         changes (Insert k v) h = absurd h
         changes (InsertPrefix k v) h = absurd h
         changes (Delete key) h = nothing z (Some layout) is.same
@@ -242,7 +263,8 @@ module _ {K V : Type 0} (bytes : K → List ℕ) (P : ℕ) {s : Nodes K V} {root
         changes (Contains key) h = absurd h
         changes (LongestMatch key) h = absurd h
 
-        refuses : (d : Command K V) → Answers bytes IsClone (pairs_of layout) d (Deleted (Some x)) (remove_key (of_key bytes) (bytes x.0) (pairs_of layout)) → (is_covered (needs bytes P d (pairs_of layout)) s.promise ≡ true → ⊥) → MayRefuse bytes P d (in_store side s z (Some layout))
+        refuses : (d : Command K V) → Answers bytes IsClone (pairs_of layout) d (Deleted (Some x))
+            (remove_key (of_key bytes) (bytes x.0) (pairs_of layout)) → (is_covered (needs bytes P d (pairs_of layout)) s.promise ≡ true → ⊥) → MayRefuse bytes P d (in_store side s z (Some layout))
         refuses (Insert k v) h off = absurd h
         refuses (InsertPrefix k v) h off = absurd h
         refuses (Delete key) h off = off
@@ -252,7 +274,8 @@ module _ {K V : Type 0} (bytes : K → List ℕ) (P : ℕ) {s : Nodes K V} {root
         refuses (Contains key) h off = absurd h
         refuses (LongestMatch key) h off = absurd h
 
-        promises : (d : Command K V) → Answers bytes IsClone (pairs_of layout) d (Deleted (Some x)) (remove_key (of_key bytes) (bytes x.0) (pairs_of layout)) → t.promise ≡ no_promise → Promises bytes P (in_store side s z (Some layout)) d (NoMemory None) (in_store side t z (Some layout))
+        promises : (d : Command K V) → Answers bytes IsClone (pairs_of layout) d (Deleted (Some x))
+            (remove_key (of_key bytes) (bytes x.0) (pairs_of layout)) → t.promise ≡ no_promise → Promises bytes P (in_store side s z (Some layout)) d (NoMemory None) (in_store side t z (Some layout))
         promises (Insert k v) h void = absurd h
         promises (InsertPrefix k v) h void = absurd h
         promises (Delete key) h void = inr void

@@ -67,4 +67,5 @@ module _ {K V : Type 0} (bytes : K → List ℕ) (P : ℕ) (IsClone : K × V →
 
   -- of all trees of the root: the point leads to a pair that the command takes out
   abbrev pub IsDeletionAt : Nodes K V → OpaqueNodePtr → DeletePoint → Command K V → Type 0
-  IsDeletionAt s root point command = ForTree (of_key bytes) P s root (λ pairs layout. (x : K × V) × LeadsTo layout x point × Answers bytes IsClone pairs command (Deleted (Some x)) (remove_key (of_key bytes) (bytes x.0) pairs))
+  IsDeletionAt s root point command =
+      ForTree (of_key bytes) P s root (λ pairs layout. (x : K × V) × LeadsTo layout x point × Answers bytes IsClone pairs command (Deleted (Some x)) (remove_key (of_key bytes) (bytes x.0) pairs))

@@ -12,7 +12,8 @@ use Rattle.art_model.proofs.Build.{IsSortedAt, sorted_at}
 use Rattle.art_oracle.specs.Build.{pairs_at, leaf_pair, leaf_key, ReadyBelow, count_groups}
 
 module _ {A : Type 0} where
-  length_joined : (b c : ℕ) (x : A) (group : List A) (others : List (ℕ × List A)) (t : Bool) → length {A = ℕ × List A} (cond t ((b, x ∷ group) ∷ others) ((b, x ∷ []) ∷ (c, group) ∷ others)) ≡ cond t 0 1 + length {A = ℕ × List A} ((c, group) ∷ others)
+  length_joined : (b c : ℕ) (x : A) (group : List A) (others : List (ℕ × List A)) (t : Bool) →
+      length {A = ℕ × List A} (cond t ((b, x ∷ group) ∷ others) ((b, x ∷ []) ∷ (c, group) ∷ others)) ≡ cond t 0 1 + length {A = ℕ × List A} ((c, group) ∷ others)
   length_joined b c x group others true = omega arith
   length_joined b c x group others false = omega arith
 
@@ -21,7 +22,8 @@ module _ {A : Type 0} where
   length_added b c x y [] = length_joined b c x (y ∷ []) [] (eqb b c)
   length_added b c x y ((d, group) ∷ others) = by_test (eqb c d)
     where
-      by_test : (u : Bool) → length (add_to_groups b x (cond u ((c, y ∷ group) ∷ others) ((c, y ∷ []) ∷ (d, group) ∷ others))) ≡ cond (eqb b c) 0 1 + length (cond u ((c, y ∷ group) ∷ others) ((c, y ∷ []) ∷ (d, group) ∷ others))
+      by_test : (u : Bool) → length (add_to_groups b x (cond u ((c, y ∷ group) ∷ others) ((c, y ∷ []) ∷ (d, group) ∷ others))) ≡ cond (eqb b c) 0 1 +
+          length (cond u ((c, y ∷ group) ∷ others) ((c, y ∷ []) ∷ (d, group) ∷ others))
       by_test true = length_joined b c x (y ∷ group) others (eqb b c)
       by_test false = length_joined b c x (y ∷ []) ((d, group) ∷ others) (eqb b c)
 
@@ -29,7 +31,8 @@ module _ {A : Type 0} where
   added_le b x [] = omega arith
   added_le b x ((c, group) ∷ others) = let l = length_joined b c x group others (eqb b c) in by_test (eqb b c) l
     where
-      by_test : (t : Bool) → length {A = ℕ × List A} (cond t ((b, x ∷ group) ∷ others) ((b, x ∷ []) ∷ (c, group) ∷ others)) ≡ cond t 0 1 + length {A = ℕ × List A} ((c, group) ∷ others) → length {A = ℕ × List A} (cond t ((b, x ∷ group) ∷ others) ((b, x ∷ []) ∷ (c, group) ∷ others)) ≤ suc (length {A = ℕ × List A} ((c, group) ∷ others))
+      by_test : (t : Bool) → length {A = ℕ × List A} (cond t ((b, x ∷ group) ∷ others) ((b, x ∷ []) ∷ (c, group) ∷ others)) ≡ cond t 0 1 + length
+          {A = ℕ × List A} ((c, group) ∷ others) → length {A = ℕ × List A} (cond t ((b, x ∷ group) ∷ others) ((b, x ∷ []) ∷ (c, group) ∷ others)) ≤ suc (length {A = ℕ × List A} ((c, group) ∷ others))
       by_test true l = omega arith
       by_test false l = omega arith
 
@@ -88,7 +91,8 @@ module _ {K V : Type 0} (bytes : K → List ℕ) (store : finite.FinMap leaf_cmp
       let rest = All-tail There p (q ∷ qs) h in
       let (m, f) = there_is (finite.get store q) (rest 0 q (omega arith)) in
       let s' : IsSortedAt (byte_at (of_key bytes) at) ((l.key, l.value) ∷ pairs_at store (q ∷ qs)) = subst (λ o. IsSortedAt (byte_at (of_key bytes) at) (leaf_pair o ++ pairs_at store (q ∷ qs))) e s in
-      let first : get_or (bytes l.key) at 0 ≤ get_or (bytes m.key) at 0 = (subst (λ o. Each (λ y. get_or (bytes l.key) at 0 ≤ byte_at (of_key bytes) at y) (leaf_pair o ++ pairs_at store qs)) f s'.0).0 in
+      let first : get_or (bytes l.key) at 0 ≤ get_or (bytes m.key) at 0 =
+      (subst (λ o. Each (λ y. get_or (bytes l.key) at 0 ≤ byte_at (of_key bytes) at y) (leaf_pair o ++ pairs_at store qs)) f s'.0).0 in
       (rw (e, f) first, rises_from q qs rest s'.1)
 
   -- the count after so many leaves, the last of them with this byte
@@ -98,12 +102,14 @@ module _ {K V : Type 0} (bytes : K → List ℕ) (store : finite.FinMap leaf_cmp
     pub byte : last < 256
     pub rises : Rises last (drop n leaves)
 
-  pub count_first : (front : List ℕ) (leaves : List LeafPtr) (d : LeafPtr) → 1 ≤ length leaves → ReadyBelow bytes store front leaves at → leaf_byte (get_or leaves 0 d) < 256 → IsCount leaves 1 (leaf_byte (get_or leaves 0 d)) 1
+  pub count_first : (front : List ℕ) (leaves : List LeafPtr) (d : LeafPtr) → 1 ≤ length leaves → ReadyBelow bytes store front leaves at →
+      leaf_byte (get_or leaves 0 d) < 256 → IsCount leaves 1 (leaf_byte (get_or leaves 0 d)) 1
   count_first front [] d some ready small = absurd (omega arith)
   count_first front (p ∷ ps) d some ready small =
       record {
         whole = omega (arith, count_changes p ps ready.there);
         low = omega arith;
         byte = small;
-        rises = rises_from p ps ready.there (subst (λ n. IsSortedAt (byte_at (of_key bytes) n) (pairs_at store (p ∷ ps))) ready.depth_is (sorted_at (of_key bytes) front (pairs_at store (p ∷ ps)) ready.map ready.ways));
+        rises = rises_from p ps ready.there (subst (λ n. IsSortedAt (byte_at (of_key bytes) n) (pairs_at store (p ∷ ps))) ready.depth_is
+            (sorted_at (of_key bytes) front (pairs_at store (p ∷ ps)) ready.map ready.ways));
       }

@@ -107,8 +107,10 @@ module _ {K V : Type 0} (bytes : K → List ℕ) where
   abbrev Before : K × V → K × V → Type 0
   Before a b = Precedes (of_key bytes a) (of_key bytes b)
 
-  map_with : (xs zs : List (K × V)) (new : K × V) (key : List ℕ) → bytes new.0 ≡ key → Each (λ y. Precedes (of_key bytes y) key) xs → Each (λ y. Precedes key (of_key bytes y)) zs → IsMap (of_key bytes) (xs ++ zs) → IsMap (of_key bytes) (xs ++ new ∷ zs)
-  map_with xs zs new key e low high map = Pairwise-with Before xs zs new (subst (λ k. Each (λ y. Precedes (of_key bytes y) k) xs) (sym e) low) (subst (λ k. Each (λ y. Precedes k (of_key bytes y)) zs) (sym e) high) map
+  map_with : (xs zs : List (K × V)) (new : K × V) (key : List ℕ) → bytes new.0 ≡ key → Each (λ y. Precedes (of_key bytes y) key) xs →
+      Each (λ y. Precedes key (of_key bytes y)) zs → IsMap (of_key bytes) (xs ++ zs) → IsMap (of_key bytes) (xs ++ new ∷ zs)
+  map_with xs zs new key e low high map =
+      Pairwise-with Before xs zs new (subst (λ k. Each (λ y. Precedes (of_key bytes y) k) xs) (sym e) low) (subst (λ k. Each (λ y. Precedes k (of_key bytes y)) zs) (sym e) high) map
 
   module _ (pairs : List (K × V)) (at : ℕ) (key : List ℕ) (map : IsMap (of_key bytes) pairs) where
     -- at the place of the pair with the key
@@ -143,7 +145,9 @@ module _ {K V : Type 0} (bytes : K → List ℕ) where
           (map_with (take at pairs) (drop (suc at) pairs) new key e low_here high_here (Pairwise-without Before (take at pairs) (drop (suc at) pairs) is.pair split_map))
 
       pub removed : remove pairs at ≡ remove_key (of_key bytes) key pairs
-      removed = sym (remove_key-one (of_key bytes) key (take at pairs) (drop (suc at) pairs) low_here high_here is.pair is.same) ∙ ap (remove_key (of_key bytes) key) (sym (split_here pairs at is.pair is.here))
+      removed =
+          sym (remove_key-one (of_key bytes) key (take at pairs) (drop (suc at) pairs) low_here high_here is.pair is.same) ∙
+          ap (remove_key (of_key bytes) key) (sym (split_here pairs at is.pair is.here))
 
       pub removed_map : IsMap (of_key bytes) (remove pairs at)
       removed_map = Pairwise-without Before (take at pairs) (drop (suc at) pairs) is.pair split_map
@@ -156,7 +160,8 @@ module _ {K V : Type 0} (bytes : K → List ℕ) where
       others : Each (λ y. are_same key (of_key bytes y) ≡ false) (take at pairs ++ drop at pairs)
       others = Each-append (λ y. are_same key (of_key bytes y) ≡ false) (take at pairs) (drop at pairs)
           (Each-weaker (λ y. is_before (of_key bytes y) key ≡ true) (λ y. are_same key (of_key bytes y) ≡ false) (λ y h. rw (later_no_front (of_key bytes y) key h) refl) (take at pairs) gap.low)
-          (Each-weaker (λ y. is_before key (of_key bytes y) ≡ true) (λ y. are_same key (of_key bytes y) ≡ false) (λ y h. let e = later_no_front key (of_key bytes y) h in rw e (and-false (is_front key (of_key bytes y)))) (drop at pairs) gap.high)
+          (Each-weaker (λ y. is_before key (of_key bytes y) ≡ true) (λ y. are_same key (of_key bytes y) ≡ false)
+          (λ y h. let e = later_no_front key (of_key bytes y) h in rw e (and-false (is_front key (of_key bytes y)))) (drop at pairs) gap.high)
 
       no_other : Each (λ y. are_same key (of_key bytes y) ≡ false) pairs
       no_other = subst (Each (λ y. are_same key (of_key bytes y) ≡ false)) (take-append-drop at pairs) others

@@ -42,13 +42,16 @@ put_last (c ∷ cs) b n h = rw (lt-ltb c.0 b h.0) (ap (λ l. c ∷ l) (put_last 
 module _ {K V : Type 0} where
   pub pairs_at-append : (store : finite.FinMap leaf_cmp (LeafNode K V)) (ps qs : List LeafPtr) → pairs_at store (ps ++ qs) ≡ pairs_at store ps ++ pairs_at store qs
   pairs_at-append store [] qs = refl
-  pairs_at-append store (p ∷ ps) qs = ap (λ l. leaf_pair (finite.get store p) ++ l) (pairs_at-append store ps qs) ∙ sym (append_assoc (leaf_pair (finite.get store p)) (pairs_at store ps) (pairs_at store qs))
+  pairs_at-append store (p ∷ ps) qs =
+      ap (λ l. leaf_pair (finite.get store p) ++ l) (pairs_at-append store ps qs) ∙ sym (append_assoc (leaf_pair (finite.get store p)) (pairs_at store ps) (pairs_at store qs))
 
 module _ {K V : Type 0} (bytes : K → List ℕ) where
   -- the pairs of a group have the group's byte, and those after it have greater ones
-  group_bytes : (store : finite.FinMap leaf_cmp (LeafNode K V)) (at byte : ℕ) (ps : List LeafPtr) → Each (λ p. get_or (leaf_key bytes (finite.get store p)) at 0 ≡ byte) ps → Each (λ x. byte_at (of_key bytes) at x ≡ byte) (pairs_at store ps)
+  group_bytes : (store : finite.FinMap leaf_cmp (LeafNode K V)) (at byte : ℕ) (ps : List LeafPtr) →
+      Each (λ p. get_or (leaf_key bytes (finite.get store p)) at 0 ≡ byte) ps → Each (λ x. byte_at (of_key bytes) at x ≡ byte) (pairs_at store ps)
   group_bytes store at byte [] h = tt
-  group_bytes store at byte (p ∷ ps) h = Each-append (λ x. byte_at (of_key bytes) at x ≡ byte) (leaf_pair (finite.get store p)) (pairs_at store ps) (own (finite.get store p) h.0) (group_bytes store at byte ps h.1)
+  group_bytes store at byte (p ∷ ps) h =
+      Each-append (λ x. byte_at (of_key bytes) at x ≡ byte) (leaf_pair (finite.get store p)) (pairs_at store ps) (own (finite.get store p) h.0) (group_bytes store at byte ps h.1)
     where
       own : (o : Option (LeafNode K V)) → get_or (leaf_key bytes o) at 0 ≡ byte → Each (λ x. byte_at (of_key bytes) at x ≡ byte) (leaf_pair o)
       own None e = tt
@@ -72,7 +75,8 @@ drop_head [] (suc n) q rest e = absurd cc
 drop_head (x ∷ xs) (suc n) q rest e = let (l, g) = drop_head xs n q rest e in (omega arith, g)
 
 module _ {K V : Type 0} (bytes : K → List ℕ) (store : finite.FinMap leaf_cmp (LeafNode K V)) where
-  pub head_pair : (qs : List LeafPtr) → All (λ p. IsSome (finite.get store p)) qs → (y : K × V) (ys : List (K × V)) → pairs_at store qs ≡ y ∷ ys → (q : LeafPtr) × (rest : List LeafPtr) × (qs ≡ q ∷ rest) × (leaf_key bytes (finite.get store q) ≡ bytes y.0)
+  pub head_pair : (qs : List LeafPtr) → All (λ p. IsSome (finite.get store p)) qs → (y : K × V) (ys : List (K × V)) → pairs_at store qs ≡ y ∷ ys →
+      (q : LeafPtr) × (rest : List LeafPtr) × (qs ≡ q ∷ rest) × (leaf_key bytes (finite.get store q) ≡ bytes y.0)
   head_pair [] h y ys e = absurd cc
   head_pair (q ∷ qs) h y ys e = (q, qs, refl, go (finite.get store q) (h 0 q (omega arith)) e)
     where
@@ -81,7 +85,8 @@ module _ {K V : Type 0} (bytes : K → List ℕ) (store : finite.FinMap leaf_cmp
       go (Some l) s e = let f : (l.key, l.value) ≡ y = cc in ap (λ z. bytes z.0) f
 
 module _ {K V : Type 0} (store : finite.FinMap leaf_cmp (LeafNode K V)) where
-  pub first_pair : (leaves : List LeafPtr) (n : ℕ) → 1 ≤ n → 0 < length leaves → All (λ p. IsSome (finite.get store p)) leaves → (x : K × V) × (xs : List (K × V)) × (pairs_at store (take n leaves) ≡ x ∷ xs)
+  pub first_pair : (leaves : List LeafPtr) (n : ℕ) → 1 ≤ n → 0 < length leaves → All (λ p. IsSome (finite.get store p)) leaves → (x : K × V) ×
+      (xs : List (K × V)) × (pairs_at store (take n leaves) ≡ x ∷ xs)
   first_pair [] n one some h = absurd (omega arith)
   first_pair (q ∷ qs) zero one some h = absurd (omega arith)
   first_pair (q ∷ qs) (suc n) one some h = go (finite.get store q) (h 0 q (omega arith))
@@ -104,7 +109,8 @@ module _ {A : Type 0} (byte : A → ℕ) where
           by_test true e = e
           by_test false e = e
 
-  pub count_more : (b : ℕ) (x : A) (xs group others : List A) → group ≡ x ∷ xs → Each (λ z. byte z ≡ b) group → Each (λ z. b < byte z) others → length (groups byte (group ++ others)) ≡ suc (length (groups byte others))
+  pub count_more : (b : ℕ) (x : A) (xs group others : List A) → group ≡ x ∷ xs → Each (λ z. byte z ≡ b) group → Each (λ z. b < byte z) others →
+      length (groups byte (group ++ others)) ≡ suc (length (groups byte others))
   count_more b x xs group others some own above = rw some (ap length (groups-block byte b x xs others (groups byte others) (rw some at own) refl (groups_apart b others above)))
 
 -- a group in front of the leaves, which has one
@@ -117,7 +123,8 @@ pub record Grouped {K V : Type 0} (bytes : K → List ℕ) (store : finite.FinMa
 
 -- a group by the byte of the first leaf
 module _ {K V : Type 0} {bytes : K → List ℕ} {store : finite.FinMap leaf_cmp (LeafNode K V)} {front : List ℕ} {leaves : List LeafPtr} {at byte n : ℕ} where
-  pub grouped : ReadyBelow bytes store front leaves at → IsGroup bytes store leaves at byte n → (p : LeafPtr) → 0 < length leaves → get_or (leaf_key bytes (finite.get store (get_or leaves 0 p))) at 0 ≡ byte → Grouped bytes store front leaves at byte n
+  pub grouped : ReadyBelow bytes store front leaves at → IsGroup bytes store leaves at byte n → (p : LeafPtr) → 0 < length leaves →
+      get_or (leaf_key bytes (finite.get store (get_or leaves 0 p))) at 0 ≡ byte → Grouped bytes store front leaves at byte n
   grouped ready group p long e =
       let (x, xs, some) = first_pair store leaves n (one n refl) long ready.there in
       record { ready = ready; group = group; x = x; xs = xs; some = some }
@@ -126,7 +133,8 @@ module _ {K V : Type 0} {bytes : K → List ℕ} {store : finite.FinMap leaf_cmp
       one zero z = absurd (group.ends p (omega arith) (ap (λ m. get_or (leaf_key bytes (finite.get store (get_or leaves m p))) at 0) z ∙ e))
       one (suc m) z = omega arith
 
-module _ {K V : Type 0} {bytes : K → List ℕ} {store : finite.FinMap leaf_cmp (LeafNode K V)} {front : List ℕ} {leaves : List LeafPtr} {at byte n : ℕ} (G : Grouped bytes store front leaves at byte n) where
+module _ {K V : Type 0} {bytes : K → List ℕ} {store : finite.FinMap leaf_cmp (LeafNode K V)} {front : List ℕ} {leaves : List LeafPtr} {at byte n : ℕ}
+    (G : Grouped bytes store front leaves at byte n) where
   pairs_split : pairs_at store leaves ≡ pairs_at store (take n leaves) ++ pairs_at store (drop n leaves)
   pairs_split = ap (pairs_at store) (sym (take-append-drop n leaves)) ∙ pairs_at-append store (take n leaves) (drop n leaves)
 
@@ -143,7 +151,8 @@ module _ {K V : Type 0} {bytes : K → List ℕ} {store : finite.FinMap leaf_cmp
   group_ready = record {
     there = All-take (λ p. IsSome (finite.get store p)) n leaves G.ready.there;
     map = IsMap-left (of_key bytes) (pairs_at store (take n leaves)) (pairs_at store (drop n leaves)) map_split;
-    ways = with_byte (of_key bytes) front byte (pairs_at store (take n leaves)) (Each-left (λ x. GoesOn front (of_key bytes x)) (pairs_at store (take n leaves)) (pairs_at store (drop n leaves)) ways_split) own_bytes;
+    ways = with_byte (of_key bytes) front byte (pairs_at store (take n leaves))
+        (Each-left (λ x. GoesOn front (of_key bytes x)) (pairs_at store (take n leaves)) (pairs_at store (drop n leaves)) ways_split) own_bytes;
     depth_is = simp length-append (let e = G.ready.depth_is in omega arith);
   }
 
@@ -183,12 +192,14 @@ module _ {K V : Type 0} {bytes : K → List ℕ} {store : finite.FinMap leaf_cmp
   -- the group is one more than the others make
   pub count_split : count_groups bytes store leaves at ≡ suc (count_groups bytes store (drop n leaves) at)
   count_split = subst (λ m. count_groups bytes store leaves m ≡ suc (count_groups bytes store (drop n leaves) m)) G.ready.depth_is
-      (ap (λ l. length (groups (byte_at (of_key bytes) (length front)) l)) pairs_split ∙ count_more (byte_at (of_key bytes) (length front)) byte G.x G.xs (pairs_at store (take n leaves)) (pairs_at store (drop n leaves)) G.some own_bytes others_above)
+      (ap (λ l. length (groups (byte_at (of_key bytes) (length front)) l)) pairs_split ∙
+      count_more (byte_at (of_key bytes) (length front)) byte G.x G.xs (pairs_at store (take n leaves)) (pairs_at store (drop n leaves)) G.some own_bytes others_above)
 
   module _ (from : Inner) (below : AreBelow bytes store leaves at from) where
     -- the node's bytes are below the group's
     pub low : Each (λ c. c.0 < byte) from.children
-    low = Each-weaker (λ c. Each (λ z. c.0 < byte_at (of_key bytes) at z) (pairs_at store leaves)) (λ c. c.0 < byte) (λ c h. first c (subst (Each (λ z. c.0 < byte_at (of_key bytes) at z)) pairs_split h)) from.children below
+    low = Each-weaker (λ c. Each (λ z. c.0 < byte_at (of_key bytes) at z) (pairs_at store leaves)) (λ c. c.0 < byte)
+        (λ c h. first c (subst (Each (λ z. c.0 < byte_at (of_key bytes) at z)) pairs_split h)) from.children below
       where
         first : (c : ℕ × OpaqueNodePtr) → Each (λ z. c.0 < byte_at (of_key bytes) at z) (pairs_at store (take n leaves) ++ pairs_at store (drop n leaves)) → c.0 < byte
         first c h =
@@ -202,17 +213,21 @@ module _ {K V : Type 0} {bytes : K → List ℕ} {store : finite.FinMap leaf_cmp
     below_others name = subst (Each (λ c. Each (λ z. c.0 < byte_at (of_key bytes) at z) (pairs_at store (drop n leaves)))) (sym (put_last from.children byte name low))
         (Each-append (λ c. Each (λ z. c.0 < byte_at (of_key bytes) at z) (pairs_at store (drop n leaves))) from.children ((byte, name) ∷ [])
         (Each-weaker (λ c. Each (λ z. c.0 < byte_at (of_key bytes) at z) (pairs_at store leaves)) (λ c. Each (λ z. c.0 < byte_at (of_key bytes) at z) (pairs_at store (drop n leaves)))
-        (λ c h. Each-right (λ z. c.0 < byte_at (of_key bytes) at z) (pairs_at store (take n leaves)) (pairs_at store (drop n leaves)) (subst (Each (λ z. c.0 < byte_at (of_key bytes) at z)) pairs_split h)) from.children below)
+        (λ c h. Each-right (λ z. c.0 < byte_at (of_key bytes) at z) (pairs_at store (take n leaves)) (pairs_at store (drop n leaves))
+        (subst (Each (λ z. c.0 < byte_at (of_key bytes) at z)) pairs_split h)) from.children below)
         (subst (λ m. Each (λ z. byte < byte_at (of_key bytes) m z) (pairs_at store (drop n leaves))) G.ready.depth_is others_above, tt))
 
     pub length-drafted : (name : OpaqueNodePtr) → length (put_child from.children byte name) ≡ length from.children + 1
     length-drafted name = ap length (put_last from.children byte name low) ∙ length-append from.children ((byte, name) ∷ [])
 
 -- the tree of the first group, then those of the others
-module _ {K V : Type 0} {bytes : K → List ℕ} (P : ℕ) (old mid written new : Nodes K V) {front : List ℕ} {leaves : List LeafPtr} {at b n : ℕ} (G : Grouped bytes old.leaves front leaves at b n) (name : OpaqueNodePtr) (parent : InnerPtr) (from to : Inner)
+module _ {K V : Type 0} {bytes : K → List ℕ} (P : ℕ) (old mid written new : Nodes K V) {front : List ℕ} {leaves : List LeafPtr} {at b n : ℕ}
+    (G : Grouped bytes old.leaves front leaves at b n) (name : OpaqueNodePtr) (parent : InnerPtr) (from to : Inner)
     (inner_kind : parent.kind ≢ Leaf) (there : finite.get old.inners parent ≡ Some from) (below : AreBelow bytes old.leaves leaves at from)
-    (kept : KeepsNodes old mid) (leaves_mid : mid.leaves ≡ old.leaves) (leaves_written : written.leaves ≡ mid.leaves) (change_is : written.inners ≡ change mid.inners parent (with_child b name)) (kept' : KeepsOthers written new parent) where
-  pub compose : Built bytes P (front ++ b ∷ []) (take n leaves) old mid name → BuiltBelow bytes P front (drop n leaves) written new (with_child b name from) to → BuiltBelow bytes P front leaves old new from to
+    (kept : KeepsNodes old mid) (leaves_mid : mid.leaves ≡ old.leaves) (leaves_written : written.leaves ≡ mid.leaves)
+    (change_is : written.inners ≡ change mid.inners parent (with_child b name)) (kept' : KeepsOthers written new parent) where
+  pub compose : Built bytes P (front ++ b ∷ []) (take n leaves) old mid name →
+      BuiltBelow bytes P front (drop n leaves) written new (with_child b name from) to → BuiltBelow bytes P front leaves old new from to
   compose t cs =
       let group = take n leaves in
       let others = drop n leaves in
@@ -220,14 +235,17 @@ module _ {K V : Type 0} {bytes : K → List ℕ} (P : ℕ) (old mid written new 
       let above = others_above G in
       let split : pairs_at old.leaves leaves ≡ pairs_at old.leaves group ++ pairs_at old.leaves others = pairs_split G in
       let others_same : pairs_at written.leaves others ≡ pairs_at old.leaves others = ap (λ m. pairs_at m others) (leaves_written ∙ leaves_mid) in
-      let slots : to.children ≡ from.children ++ (b, name) ∷ slots_of cs.children = cs.slots ∙ ap (λ l. l ++ slots_of cs.children) (put_last from.children b name (low G from below)) ∙ append_assoc from.children ((b, name) ∷ []) (slots_of cs.children) in
+      let slots : to.children ≡ from.children ++ (b, name) ∷ slots_of cs.children =
+      cs.slots ∙ ap (λ l. l ++ slots_of cs.children) (put_last from.children b name (low G from below)) ∙ append_assoc from.children ((b, name) ∷ []) (slots_of cs.children) in
       record {
         children = child b t.tree cs.children;
         prefix = cs.prefix;
         slots = slots ∙ ap (λ m. from.children ++ (b, m) ∷ slots_of cs.children) (sym t.named);
         radix = (t.radix, cs.radix);
         rising = (cs.above b (rw others_same above), cs.rising);
-        count = ap suc (cs.count ∙ ap (λ l. length (groups (byte_at (of_key bytes) (length front)) l)) others_same) ∙ sym (count_more (byte_at (of_key bytes) (length front)) b G.x G.xs (pairs_at old.leaves group) (pairs_at old.leaves others) G.some own above) ∙ ap (λ l. length (groups (byte_at (of_key bytes) (length front)) l)) (sym split);
+        count = ap suc (cs.count ∙ ap (λ l. length (groups (byte_at (of_key bytes) (length front)) l)) others_same) ∙
+            sym (count_more (byte_at (of_key bytes) (length front)) b G.x G.xs (pairs_at old.leaves group) (pairs_at old.leaves others) G.some own
+            above) ∙ ap (λ l. length (groups (byte_at (of_key bytes) (length front)) l)) (sym split);
         above = λ c h. let k = rw split at h in let g = Each-left (λ z. c < byte_at (of_key bytes) (length front) z) (pairs_at old.leaves group) (pairs_at old.leaves others) k in
             let first : c < byte_at (of_key bytes) (length front) G.x = (rw G.some at g).0 in
             let mine : byte_at (of_key bytes) (length front) G.x ≡ b = (rw G.some at own).0 in
@@ -235,10 +253,13 @@ module _ {K V : Type 0} {bytes : K → List ℕ} (P : ℕ) (old mid written new 
         its = ap₂ (λ (p q : List (K × V)). p ++ q) t.its (cs.its ∙ others_same) ∙ sym split;
         leaves_are = ap₂ (λ (p q : List OpaqueNodePtr). p ++ q) t.leaves_are cs.leaves_are ∙ sym (map-append leaf_name group others) ∙ ap (map leaf_name) (take-append-drop n leaves);
         holds = (held_still old mid written parent (with_child b name) from inner_kind there kept leaves_written change_is new kept' t.tree t.holds (apart t), cs.holds);
-        fresh = Each-append (λ n. held old n ≡ None) (inner_names t.tree) (inner_names_below cs.children) t.fresh (Each-weaker (λ n. held written n ≡ None) (λ n. held old n ≡ None) (λ n free. was_free old mid kept n (now_free n free)) (inner_names_below cs.children) cs.fresh);
+        fresh = Each-append (λ n. held old n ≡ None) (inner_names t.tree) (inner_names_below cs.children) t.fresh
+            (Each-weaker (λ n. held written n ≡ None) (λ n. held old n ≡ None) (λ n free. was_free old mid kept n (now_free n free)) (inner_names_below cs.children) cs.fresh);
         added = λ n used. from_rest n (cs.added n used);
         distinct = Pairwise-append ◌≢◌ (inner_names t.tree) (inner_names_below cs.children) t.distinct cs.distinct
-            (Each-weaker (λ n. IsUsed mid n) (λ n. Each (λ k. n ≢ k) (inner_names_below cs.children)) (λ n used. Each-weaker (λ k. held written k ≡ None) (λ k. n ≢ k) (λ k free e. used (ap (held mid) e ∙ now_free k free)) (inner_names_below cs.children) cs.fresh) (inner_names t.tree) (inner_used (node_at mid) (IsUsed mid) (node_used mid) t.tree t.holds));
+            (Each-weaker (λ n. IsUsed mid n) (λ n. Each (λ k. n ≢ k) (inner_names_below cs.children))
+            (λ n used. Each-weaker (λ k. held written k ≡ None) (λ k. n ≢ k) (λ k free e. used (ap (held mid) e ∙ now_free k free))
+            (inner_names_below cs.children) cs.fresh) (inner_names t.tree) (inner_used (node_at mid) (IsUsed mid) (node_used mid) t.tree t.holds));
       }
     where
       now_free : (k : OpaqueNodePtr) → held written k ≡ None → held mid k ≡ None
@@ -264,5 +285,20 @@ module _ {K V : Type 0} {bytes : K → List ℕ} (P : ℕ) (old mid written new 
 -- no leaves make no children
 module _ {K V : Type 0} (bytes : K → List ℕ) (P : ℕ) (old : Nodes K V) (front : List ℕ) (from : Inner) where
   pub empty_below : (leaves : List LeafPtr) → length leaves ≡ 0 → BuiltBelow bytes P front leaves old old from from
-  empty_below [] e = record { children = no_child; prefix = refl; slots = sym (append-nil from.children); radix = tt; rising = tt; count = refl; above = λ b h. tt; its = refl; leaves_are = refl; holds = tt; fresh = tt; added = λ n used. inl used; distinct = tt }
+  empty_below [] e =
+      record {
+        children = no_child;
+        prefix = refl;
+        slots = sym (append-nil from.children);
+        radix = tt;
+        rising = tt;
+        count = refl;
+        above = λ b h. tt;
+        its = refl;
+        leaves_are = refl;
+        holds = tt;
+        fresh = tt;
+        added = λ n used. inl used;
+        distinct = tt;
+      }
   empty_below (p ∷ ps) e = absurd (omega arith)

@@ -42,7 +42,8 @@ copied_is ps n None h = sym (slice_get_past ps n h.3)
 copied_is ps n (Some p) h = ap Some h.1 ∙ sym (slice_get-get_or ps n p.now h.3.0)
 
 module _ {K V : Type 0} where
-  pub pairs_at-same : (m k : finite.FinMap leaf_cmp (LeafNode K V)) (ps : List LeafPtr) → Each (λ p. option_map pair_of (finite.get k p) ≡ option_map pair_of (finite.get m p)) ps → pairs_at k ps ≡ pairs_at m ps
+  pub pairs_at-same : (m k : finite.FinMap leaf_cmp (LeafNode K V)) (ps : List LeafPtr) →
+      Each (λ p. option_map pair_of (finite.get k p) ≡ option_map pair_of (finite.get m p)) ps → pairs_at k ps ≡ pairs_at m ps
   pairs_at-same m k [] h = refl
   pairs_at-same m k (p ∷ ps) h = ap₂ (λ (a b : List (K × V)). a ++ b) (of_pairs (finite.get k p) (finite.get m p) h.0) (pairs_at-same m k ps h.1)
     where
@@ -69,7 +70,8 @@ module _ {K V : Type 0} where
       go (Some x) f s = absurd (let g = ap (finite.get m) e ∙ free in cc)
 
   -- one leaf more
-  module _ (old mid : finite.FinMap leaf_cmp (LeafNode K V)) (names : List LeafPtr) (pairs : List (K × V)) (so_far : IsPlaced old mid names pairs) (q : LeafPtr) (leaf : LeafNode K V) (free : finite.get mid q ≡ None) where
+  module _ (old mid : finite.FinMap leaf_cmp (LeafNode K V)) (names : List LeafPtr) (pairs : List (K × V)) (so_far : IsPlaced old mid names pairs)
+      (q : LeafPtr) (leaf : LeafNode K V) (free : finite.get mid q ≡ None) where
     abbrev new : finite.FinMap leaf_cmp (LeafNode K V)
     new = finite.insert mid q leaf
 
@@ -86,10 +88,12 @@ module _ {K V : Type 0} where
     pub placed_more : IsPlaced old new (names ++ q ∷ []) (pairs ++ pair_of leaf ∷ [])
     placed_more = record {
       there = Each-append (λ p. IsSome (finite.get new p)) names (q ∷ [])
-          (Each-weaker (λ p. IsSome (finite.get mid p) × (p ≢ q)) (λ p. IsSome (finite.get new p)) (λ p h. rw (leaf_elsewhere mid q p leaf h.1) h.0) names (both (λ p. IsSome (finite.get mid p)) (λ p. p ≢ q) names so_far.there apart))
+          (Each-weaker (λ p. IsSome (finite.get mid p) × (p ≢ q)) (λ p. IsSome (finite.get new p)) (λ p h. rw (leaf_elsewhere mid q p leaf h.1) h.0)
+          names (both (λ p. IsSome (finite.get mid p)) (λ p. p ≢ q) names so_far.there apart))
           (here_some, tt);
       its = pairs_at-append new names (q ∷ []) ∙ ap₂ (λ (a b : List (K × V)). a ++ b)
-          (pairs_at-same mid new names (Each-weaker (λ p. p ≢ q) (λ p. option_map pair_of (finite.get new p) ≡ option_map pair_of (finite.get mid p)) (λ p n. ap (option_map pair_of) (leaf_elsewhere mid q p leaf n)) names apart) ∙ so_far.its)
+          (pairs_at-same mid new names (Each-weaker (λ p. p ≢ q) (λ p. option_map pair_of (finite.get new p) ≡ option_map pair_of (finite.get mid p))
+          (λ p n. ap (option_map pair_of) (leaf_elsewhere mid q p leaf n)) names apart) ∙ so_far.its)
           (ap (λ o. leaf_pair o ++ []) (leaf_here mid q leaf));
       distinct = Pairwise-append ◌≢◌ names (q ∷ []) so_far.distinct (tt, tt) (Each-weaker (λ p. p ≢ q) (λ p. Each (λ r. p ≢ r) (q ∷ [])) (λ p n. (n, tt)) names apart);
       fresh = Each-append (λ p. finite.get old p ≡ None) names (q ∷ []) so_far.fresh (was_free (so_far.others q), tt);
@@ -119,7 +123,8 @@ module _ {K V : Type 0} where
       links_in (change m p (with_links previous next)) p ≡ Some (record { previous = option_map leaf_name previous; next = option_map leaf_name next })
   linked_there m p previous next there = ap (λ o. option_and_then links_of (option_map held_leaf o)) (leaf_changed_at m p (with_links previous next)) ∙ go (finite.get m p) there
     where
-      go : (o : Option (LeafNode K V)) → IsSome o → option_and_then links_of (option_map held_leaf (option_map (with_links previous next) o)) ≡ Some (record { previous = option_map leaf_name previous; next = option_map leaf_name next })
+      go : (o : Option (LeafNode K V)) → IsSome o → option_and_then links_of (option_map held_leaf (option_map (with_links previous next) o)) ≡ Some
+          (record { previous = option_map leaf_name previous; next = option_map leaf_name next })
       go None h = absurd cc
       go (Some leaf) h = refl
 
@@ -134,7 +139,8 @@ module _ {K V : Type 0} where
 
   -- the next leaf linked
   module _ (old mid new : Nodes K V) (names : List LeafPtr) (i : ℕ) (previous next : Option LeafPtr) (d : LeafPtr) (within : i < length names) (so_far : IsLinkedTo old mid names i previous)
-      (there : Each (λ p. IsSome (finite.get old.leaves p)) names) (distinct : AreDistinct names) (next_is : next ≡ slice_get names (i + 1)) (written : new.leaves ≡ change mid.leaves (get_or names i d) (with_links previous next)) where
+      (there : Each (λ p. IsSome (finite.get old.leaves p)) names) (distinct : AreDistinct names) (next_is : next ≡ slice_get names (i + 1))
+      (written : new.leaves ≡ change mid.leaves (get_or names i d) (with_links previous next)) where
     abbrev q : LeafPtr
     q = get_or names i d
 
@@ -158,12 +164,15 @@ module _ {K V : Type 0} where
 
     front_linked : AreLinked (links_at new) None (map leaf_name (take i names)) (Some (leaf_name q))
     front_linked = linked-frame (links_at mid) (links_at new) (map leaf_name (take i names)) None (Some (leaf_name q))
-        (each_map leaf_name (λ n. links_at new n ≡ links_at mid n) (take i names) (Each-weaker (λ p. p ≢ q) (λ p. links_at new (leaf_name p) ≡ links_at mid (leaf_name p)) (λ p n. ap (λ o. option_and_then links_of (option_map held_leaf o)) (elsewhere p n)) (take i names) front_apart))
+        (each_map leaf_name (λ n. links_at new n ≡ links_at mid n) (take i names)
+        (Each-weaker (λ p. p ≢ q) (λ p. links_at new (leaf_name p) ≡ links_at mid (leaf_name p))
+        (λ p n. ap (λ o. option_and_then links_of (option_map held_leaf o)) (elsewhere p n)) (take i names) front_apart))
         (subst (λ l. AreLinked (links_at mid) None (map leaf_name (take i names)) (first_or (map leaf_name l) None)) (drop-cons names i d within) so_far.linked)
 
     q_linked : links_at new (leaf_name q) ≡ Some (record { previous = last_or (map leaf_name (take i names)) None; next = first_or (map leaf_name (drop (suc i) names)) None })
     q_linked = ap (λ m. links_in m q) written ∙ linked_there mid.leaves q previous next q_there
-        ∙ ap₂ (λ (a b : Option OpaqueNodePtr). Some (record { previous = a; next = b })) so_far.previous_is (ap (option_map leaf_name) next_is ∙ ap (λ m. option_map leaf_name (slice_get names m)) (add-one i) ∙ next_name names (suc i))
+        ∙ ap₂ (λ (a b : Option OpaqueNodePtr). Some (record { previous = a; next = b })) so_far.previous_is
+        (ap (option_map leaf_name) next_is ∙ ap (λ m. option_map leaf_name (slice_get names m)) (add-one i) ∙ next_name names (suc i))
 
     pub linked_more : IsLinkedTo old new names (i + 1) (Some q)
     linked_more = subst (λ m. IsLinkedTo old new names m (Some q)) (sym (add-one i)) (record {
@@ -177,7 +186,10 @@ module _ {K V : Type 0} where
         named = ap (map leaf_name) front ∙ map-append leaf_name (take i names) (q ∷ [])
 
         pairs : (p : LeafPtr) → (p ≡ q) ⊎ (p ≢ q) → option_map pair_of (finite.get new.leaves p) ≡ option_map pair_of (finite.get old.leaves p)
-        pairs p (inl e) = ap (λ r. option_map pair_of (finite.get new.leaves r)) e ∙ ap (λ m. option_map pair_of (finite.get m q)) written ∙ ap (option_map pair_of) (leaf_changed_at mid.leaves q (with_links previous next)) ∙ relinked_pair (finite.get mid.leaves q) previous next ∙ so_far.keeps.its q ∙ ap (λ r. option_map pair_of (finite.get old.leaves r)) (sym e)
+        pairs p (inl e) =
+            ap (λ r. option_map pair_of (finite.get new.leaves r)) e ∙ ap (λ m. option_map pair_of (finite.get m q)) written ∙
+            ap (option_map pair_of) (leaf_changed_at mid.leaves q (with_links previous next)) ∙
+            relinked_pair (finite.get mid.leaves q) previous next ∙ so_far.keeps.its q ∙ ap (λ r. option_map pair_of (finite.get old.leaves r)) (sym e)
         pairs p (inr n) = ap (option_map pair_of) (elsewhere p n) ∙ so_far.keeps.its p
 
         from_mid : (p : LeafPtr) → p ≢ q → IsIn p names ⊎ (finite.get mid.leaves p ≡ finite.get old.leaves p) → IsIn p names ⊎ (finite.get new.leaves p ≡ finite.get old.leaves p)

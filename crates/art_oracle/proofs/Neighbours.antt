@@ -33,7 +33,8 @@ far_above : (key k l : List ℕ) → is_before key k ≡ true → Precedes k l �
 far_above key k l h p n = false_from_ne_true (is_front key l) (λ e. true≢false (sym (between key k l (before_apart key k h) (precedes_apart k l p) e) ∙ n))
 
 module _ {K V : Type 0} (bytes : K → List ℕ) where
-  pub conflict_split : (key : List ℕ) (at : ℕ) (pairs : List (K × V)) → is_conflict (of_key bytes) key pairs ≡ (is_conflict (of_key bytes) key (take at pairs) || is_conflict (of_key bytes) key (drop at pairs))
+  pub conflict_split : (key : List ℕ) (at : ℕ) (pairs : List (K × V)) →
+      is_conflict (of_key bytes) key pairs ≡ (is_conflict (of_key bytes) key (take at pairs) || is_conflict (of_key bytes) key (drop at pairs))
   conflict_split key at pairs = ap (is_conflict (of_key bytes) key) (sym (take-append-drop at pairs)) ∙ list_any-append (λ x. is_other key (bytes x.0)) (take at pairs) (drop at pairs)
 
   pub map_low : (at : ℕ) (pairs : List (K × V)) → IsMap (of_key bytes) pairs → IsMap (of_key bytes) (take at pairs)
@@ -42,23 +43,29 @@ module _ {K V : Type 0} (bytes : K → List ℕ) where
   pub map_high : (at : ℕ) (pairs : List (K × V)) → IsMap (of_key bytes) pairs → IsMap (of_key bytes) (drop at pairs)
   map_high at pairs h = IsMap-right (of_key bytes) (take at pairs) (drop at pairs) (subst (IsMap (of_key bytes)) (sym (take-append-drop at pairs)) h)
 
-  pub last_decides : (key : List ℕ) (pairs : List (K × V)) (x : K × V) → IsMap (of_key bytes) pairs → AllBefore bytes key pairs → slice_get pairs (length pairs - 1) ≡ Some x → is_conflict (of_key bytes) key pairs ≡ is_front (bytes x.0) key
+  pub last_decides : (key : List ℕ) (pairs : List (K × V)) (x : K × V) → IsMap (of_key bytes) pairs → AllBefore bytes key pairs →
+      slice_get pairs (length pairs - 1) ≡ Some x → is_conflict (of_key bytes) key pairs ≡ is_front (bytes x.0) key
   last_decides key [] x map low e = absurd cc
-  last_decides key (y ∷ []) x map low e = let s : y ≡ x = cc in rw (other_after key (bytes y.0) low.0) (subst (λ z. (is_front (bytes y.0) key || false) ≡ is_front (bytes z.0) key) s (or-false (is_front (bytes y.0) key)))
+  last_decides key (y ∷ []) x map low e =
+      let s : y ≡ x = cc in rw (other_after key (bytes y.0) low.0) (subst (λ z. (is_front (bytes y.0) key || false) ≡ is_front (bytes z.0) key) s (or-false (is_front (bytes y.0) key)))
   last_decides key (y ∷ z ∷ rest) x map low e =
-      rw (other_after key (bytes y.0) low.0, far_below (bytes y.0) (bytes z.0) key map.0.0 low.1.0) (last_decides key (z ∷ rest) x map.1 low.1 (let n : length (y ∷ z ∷ rest) - 1 ≡ suc (length (z ∷ rest) - 1) = omega arith in rw n at e))
+      rw (other_after key (bytes y.0) low.0, far_below (bytes y.0) (bytes z.0) key map.0.0 low.1.0)
+      (last_decides key (z ∷ rest) x map.1 low.1 (let n : length (y ∷ z ∷ rest) - 1 ≡ suc (length (z ∷ rest) - 1) = omega arith in rw n at e))
 
-  none_above : (key k : List ℕ) (pairs : List (K × V)) → is_before key k ≡ true → is_front key k ≡ false → Each (λ y. Precedes k (bytes y.0)) pairs → AllAfter bytes key pairs → is_conflict (of_key bytes) key pairs ≡ false
+  none_above : (key k : List ℕ) (pairs : List (K × V)) → is_before key k ≡ true → is_front key k ≡ false → Each (λ y. Precedes k (bytes y.0)) pairs →
+      AllAfter bytes key pairs → is_conflict (of_key bytes) key pairs ≡ false
   none_above key k [] h n p high = refl
   none_above key k (y ∷ pairs) h n p high = rw (other_before key (bytes y.0) high.0, far_above key k (bytes y.0) h p.0 n) (none_above key k pairs h n p.1 high.1)
 
-  pub first_decides : (key : List ℕ) (x : K × V) (pairs : List (K × V)) → IsMap (of_key bytes) (x ∷ pairs) → AllAfter bytes key (x ∷ pairs) → is_conflict (of_key bytes) key (x ∷ pairs) ≡ is_front key (bytes x.0)
+  pub first_decides : (key : List ℕ) (x : K × V) (pairs : List (K × V)) → IsMap (of_key bytes) (x ∷ pairs) → AllAfter bytes key (x ∷ pairs) →
+      is_conflict (of_key bytes) key (x ∷ pairs) ≡ is_front key (bytes x.0)
   first_decides key x pairs map high = rw (other_before key (bytes x.0) high.0) (go (is_front key (bytes x.0)) refl)
     where
       go : (t : Bool) → is_front key (bytes x.0) ≡ t → (t || is_conflict (of_key bytes) key pairs) ≡ t
       go true e = refl
       go false e = none_above key (bytes x.0) pairs high.0 e map.0 high.1
 
-  pub first_is : (key : List ℕ) (pairs : List (K × V)) (x : K × V) → IsMap (of_key bytes) pairs → AllAfter bytes key pairs → slice_get pairs 0 ≡ Some x → is_conflict (of_key bytes) key pairs ≡ is_front key (bytes x.0)
+  pub first_is : (key : List ℕ) (pairs : List (K × V)) (x : K × V) → IsMap (of_key bytes) pairs → AllAfter bytes key pairs →
+      slice_get pairs 0 ≡ Some x → is_conflict (of_key bytes) key pairs ≡ is_front key (bytes x.0)
   first_is key [] x map high e = absurd cc
   first_is key (y ∷ pairs) x map high e = let s : y ≡ x = cc in subst (λ z. is_conflict (of_key bytes) key (y ∷ pairs) ≡ is_front key (bytes z.0)) s (first_decides key y pairs map high)

@@ -62,7 +62,8 @@ module _ {A : Type 0} (bytes : A → List ℕ) where
   none_before x xs h = (self (bytes x), Each-weaker (λ z. Precedes (bytes x) (bytes z)) (λ z. is_before (bytes z) (bytes x) ≡ false) (λ z p. precedes_apart (bytes x) (bytes z) p) xs h.0)
 
   -- all keys begin with what the first and the last have in common
-  pub share : (way rf rl : List ℕ) (x : A) (xs : List A) → IsMap bytes (x ∷ xs) → Each (λ z. IsFront way (bytes z)) (x ∷ xs) → bytes x ≡ way ++ rf → bytes (last_from x xs) ≡ way ++ rl → Each (λ z. IsFront (way ++ common_front rf rl) (bytes z)) (x ∷ xs)
+  pub share : (way rf rl : List ℕ) (x : A) (xs : List A) → IsMap bytes (x ∷ xs) → Each (λ z. IsFront way (bytes z)) (x ∷ xs) → bytes x ≡ way ++ rf →
+      bytes (last_from x xs) ≡ way ++ rl → Each (λ z. IsFront (way ++ common_front rf rl) (bytes z)) (x ∷ xs)
   share way rf rl x xs map ways e f = go (x ∷ xs) ways (none_before x xs map) (none_after x xs map)
     where
       one : (z : A) → IsFront way (bytes z) → is_before (bytes z) (bytes x) ≡ false → is_before (bytes (last_from x xs)) (bytes z) ≡ false → IsFront (way ++ common_front rf rl) (bytes z)
@@ -72,7 +73,8 @@ module _ {A : Type 0} (bytes : A → List ℕ) where
           let (r, g) = common_between rf rz rl b' a' in
           (r, w ∙ ap (λ l. way ++ l) g ∙ sym (append_assoc way (common_front rf rl) r))
 
-      go : (zs : List A) → Each (λ z. IsFront way (bytes z)) zs → Each (λ z. is_before (bytes z) (bytes x) ≡ false) zs → Each (λ z. is_before (bytes (last_from x xs)) (bytes z) ≡ false) zs → Each (λ z. IsFront (way ++ common_front rf rl) (bytes z)) zs
+      go : (zs : List A) → Each (λ z. IsFront way (bytes z)) zs → Each (λ z. is_before (bytes z) (bytes x) ≡ false) zs →
+          Each (λ z. is_before (bytes (last_from x xs)) (bytes z) ≡ false) zs → Each (λ z. IsFront (way ++ common_front rf rl) (bytes z)) zs
       go [] w b a = tt
       go (z ∷ zs) w b a = (one z w.0 b.0 a.0, go zs w.1 b.1 a.1)
 
@@ -90,7 +92,8 @@ module _ {A : Type 0} (byte : A → ℕ) where
   two_groups x [] n = absurd (n refl)
   two_groups x (y ∷ ys) n = go (two_groups y ys) (eqb (byte x) (byte y)) refl (length_added (byte x) (byte y) x y (groups byte ys))
     where
-      go : (byte y ≢ byte (last_from y ys) → 2 ≤ length (groups byte (y ∷ ys))) → (t : Bool) → eqb (byte x) (byte y) ≡ t → length (groups byte (x ∷ y ∷ ys)) ≡ cond (eqb (byte x) (byte y)) 0 1 + length (groups byte (y ∷ ys)) → 2 ≤ length (groups byte (x ∷ y ∷ ys))
+      go : (byte y ≢ byte (last_from y ys) → 2 ≤ length (groups byte (y ∷ ys))) → (t : Bool) → eqb (byte x) (byte y) ≡ t →
+          length (groups byte (x ∷ y ∷ ys)) ≡ cond (eqb (byte x) (byte y)) 0 1 + length (groups byte (y ∷ ys)) → 2 ≤ length (groups byte (x ∷ y ∷ ys))
       go ih true e l = let more = ih (λ f. n (eqb-true (byte x) (byte y) e ∙ f)) in let l' = rw e at l in omega arith
       go ih false e l = let some = some_group y ys in let l' = rw e at l in omega arith
 
@@ -112,7 +115,8 @@ module _ {K V : Type 0} (bytes : K → List ℕ) (store : finite.FinMap leaf_cmp
     pub first_is : bytes x.0 ≡ kf
     pub last_is : bytes (last_from y ys).0 ≡ kl
 
-  last_key : (q : LeafPtr) (qs : List LeafPtr) (d : LeafPtr) → All There (q ∷ qs) → (y : K × V) × (ys : List (K × V)) × (pairs_at store (q ∷ qs) ≡ y ∷ ys) × (bytes (last_from y ys).0 ≡ leaf_key bytes (finite.get store (get_or (q ∷ qs) (length qs) d)))
+  last_key : (q : LeafPtr) (qs : List LeafPtr) (d : LeafPtr) → All There (q ∷ qs) → (y : K × V) × (ys : List (K × V)) ×
+      (pairs_at store (q ∷ qs) ≡ y ∷ ys) × (bytes (last_from y ys).0 ≡ leaf_key bytes (finite.get store (get_or (q ∷ qs) (length qs) d)))
   last_key q [] d h =
       let (x, one, key) = pair_there (finite.get store q) (h 0 q (omega arith)) in
       (x, [], ap (λ l. l ++ []) one, sym key)
@@ -121,7 +125,8 @@ module _ {K V : Type 0} (bytes : K → List ℕ) (store : finite.FinMap leaf_cmp
       let (y, ys, more, last) = last_key r rs d (All-tail There q (r ∷ rs) h) in
       (x, y ∷ ys, ap₂ (λ (a b : List (K × V)). a ++ b) one more, last)
 
-  pub ends : (leaves : List LeafPtr) (d : LeafPtr) → All There leaves → 1 ≤ length leaves → length leaves ≢ 1 → Ends leaves (leaf_key bytes (finite.get store (get_or leaves 0 d))) (leaf_key bytes (finite.get store (get_or leaves (length leaves - 1) d)))
+  pub ends : (leaves : List LeafPtr) (d : LeafPtr) → All There leaves → 1 ≤ length leaves → length leaves ≢ 1 →
+      Ends leaves (leaf_key bytes (finite.get store (get_or leaves 0 d))) (leaf_key bytes (finite.get store (get_or leaves (length leaves - 1) d)))
   ends [] d h some n = absurd (omega arith)
   ends (q ∷ []) d h some n = absurd (n refl)
   ends (q ∷ r ∷ rs) d h some n =
@@ -131,7 +136,8 @@ module _ {K V : Type 0} (bytes : K → List ℕ) (store : finite.FinMap leaf_cmp
       record { x = x; y = y; ys = ys; pairs_are = ap₂ (λ (a b : List (K × V)). a ++ b) one more; first_is = sym key; last_is = rw m last }
 
   -- what each pair has, each leaf has
-  pub leaves_go_on : (front : List ℕ) (leaves : List LeafPtr) → All There leaves → Each (λ z. GoesOn front (bytes z.0)) (pairs_at store leaves) → All (λ p. length front < length (leaf_key bytes (finite.get store p))) leaves
+  pub leaves_go_on : (front : List ℕ) (leaves : List LeafPtr) → All There leaves → Each (λ z. GoesOn front (bytes z.0)) (pairs_at store leaves) →
+      All (λ p. length front < length (leaf_key bytes (finite.get store p))) leaves
   leaves_go_on front [] h e = All-nil _
   leaves_go_on front (q ∷ qs) h e =
       let (x, one, key) = pair_there (finite.get store q) (h 0 q (omega arith)) in
@@ -166,12 +172,14 @@ module _ {K V : Type 0} where
     placed_kept n name used = placed_others name (λ e. used (ap (held old) e ∙ placed_free old p n free))
 
 module _ {K V : Type 0} (bytes : K → List ℕ) (P : ℕ) where
-  pub leaf_built : (old : Nodes K V) (way : List ℕ) (leaves : List LeafPtr) (depth : ℕ) (d : LeafPtr) (name : OpaqueNodePtr) → Ready bytes old.leaves way leaves depth → length leaves ≡ 1 → name ≡ leaf_name (get_or leaves 0 d) → Built bytes P way leaves old old name
+  pub leaf_built : (old : Nodes K V) (way : List ℕ) (leaves : List LeafPtr) (depth : ℕ) (d : LeafPtr) (name : OpaqueNodePtr) →
+      Ready bytes old.leaves way leaves depth → length leaves ≡ 1 → name ≡ leaf_name (get_or leaves 0 d) → Built bytes P way leaves old old name
   leaf_built old way [] depth d name ready one e = absurd (omega arith)
   leaf_built old way (q ∷ r ∷ rs) depth d name ready one e = absurd (omega arith)
   leaf_built old way (q ∷ []) depth d name ready one e = go (finite.get old.leaves q) refl (ready.there 0 q (omega arith)) ready.ways
     where
-      go : (o : Option (LeafNode K V)) → finite.get old.leaves q ≡ o → IsSome o → Each (λ x. IsFront way (of_key bytes x)) (leaf_pair (finite.get old.leaves q) ++ []) → Built bytes P way (q ∷ []) old old name
+      go : (o : Option (LeafNode K V)) → finite.get old.leaves q ≡ o → IsSome o →
+          Each (λ x. IsFront way (of_key bytes x)) (leaf_pair (finite.get old.leaves q) ++ []) → Built bytes P way (q ∷ []) old old name
       go None i s w = absurd cc
       go (Some l) i s w =
           let w' : Each (λ x. IsFront way (of_key bytes x)) ((l.key, l.value) ∷ []) = subst (λ o. Each (λ x. IsFront way (of_key bytes x)) (leaf_pair o ++ [])) i w in
@@ -188,7 +196,8 @@ module _ {K V : Type 0} (bytes : K → List ℕ) (P : ℕ) where
           }
 
   -- the node that was placed first, with the children that came to it
-  module _ (old mid new : Nodes K V) (way part : List ℕ) (leaves : List LeafPtr) (p : InnerPtr) (same : mid.leaves ≡ old.leaves) (placed : mid.inners ≡ finite.insert old.inners p (started P part)) (free : finite.get old.inners p ≡ None)
+  module _ (old mid new : Nodes K V) (way part : List ℕ) (leaves : List LeafPtr) (p : InnerPtr) (same : mid.leaves ≡ old.leaves)
+      (placed : mid.inners ≡ finite.insert old.inners p (started P part)) (free : finite.get old.inners p ≡ None)
       (kind : p.kind ≡ kind_of (count_groups bytes old.leaves leaves (length (way ++ part)))) (two : 2 ≤ count_groups bytes old.leaves leaves (length (way ++ part)))
       (kept : KeepsOthers mid new p) (under : BuiltUnder bytes P (way ++ part) leaves mid new p (started P part)) where
     abbrev count : ℕ
@@ -216,7 +225,8 @@ module _ {K V : Type 0} (bytes : K → List ℕ) (P : ℕ) where
 
     here : node_at new (inner_name p) ≡ Some (inner_node (header_of P part count) (slots_of under.below.children))
     here = ap (option_map (seen p.kind)) (held_in_inner new p.kind p.slot inner_kind) ∙ ap (λ o. option_map (seen p.kind) (option_map held_inner o)) under.there
-        ∙ ap₂ (λ (k : NodeType) (i : Inner). Some (inner_seen k i)) is (ap₂ (λ f (l : List (ℕ × OpaqueNodePtr)). let i : Inner = record { prefix = f; children = l } in i) under.below.prefix under.below.slots)
+        ∙ ap₂ (λ (k : NodeType) (i : Inner). Some (inner_seen k i)) is
+        (ap₂ (λ f (l : List (ℕ × OpaqueNodePtr)). let i : Inner = record { prefix = f; children = l } in i) under.below.prefix under.below.slots)
 
     pub node_built : Built bytes P way leaves old new (inner_name p)
     node_built = record {
@@ -228,7 +238,8 @@ module _ {K V : Type 0} (bytes : K → List ℕ) (P : ℕ) where
       holds = (here, under.below.holds);
       fresh = (placed_free old p inner_kind free, Each-weaker (λ n. held mid n ≡ None) (λ n. held old n ≡ None) (was_free old mid mid_kept) (inner_names_below under.below.children) under.below.fresh);
       added = λ n used. from_below n (under.below.added n used);
-      distinct = (Each-weaker (λ n. held mid n ≡ None) (λ n. inner_name p ≢ n) (λ n none e. p_used (ap (held mid) e ∙ none)) (inner_names_below under.below.children) under.below.fresh, under.below.distinct);
+      distinct =
+          (Each-weaker (λ n. held mid n ≡ None) (λ n. inner_name p ≢ n) (λ n none e. p_used (ap (held mid) e ∙ none)) (inner_names_below under.below.children) under.below.fresh, under.below.distinct);
     }
       where
         from_mid : (n : OpaqueNodePtr) → IsUsed mid n → (n ≡ inner_name p) ⊎ (n ≢ inner_name p) → IsUsed old n ⊎ IsIn n (inner_name p ∷ inner_names_below under.below.children)
@@ -267,7 +278,8 @@ module _ {K V : Type 0} (bytes : K → List ℕ) (store : finite.FinMap leaf_cmp
       let map' : IsMap (of_key bytes) (e.x ∷ e.y ∷ e.ys) = subst (IsMap (of_key bytes)) e.pairs_are ready.map in
       let ways' : Each (λ z. IsFront way (of_key bytes z)) (e.x ∷ e.y ∷ e.ys) = subst (Each (λ z. IsFront way (of_key bytes z))) e.pairs_are ready.ways in
       let first : bytes e.x.0 ≡ way ++ drop depth kf = after way (bytes e.x.0) kf depth ready.depth_is ways'.0 e.first_is in
-      let last : bytes (last_from e.y e.ys).0 ≡ way ++ drop depth kl = after way (bytes (last_from e.y e.ys).0) kl depth ready.depth_is (last_each (λ z. IsFront way (of_key bytes z)) e.y e.ys ways'.1) e.last_is in
+      let last : bytes (last_from e.y e.ys).0 ≡ way ++ drop depth kl =
+      after way (bytes (last_from e.y e.ys).0) kl depth ready.depth_is (last_each (λ z. IsFront way (of_key bytes z)) e.y e.ys ways'.1) e.last_is in
       let p = part_ways (of_key bytes) way (drop depth kf) (drop depth kl) e.x e.y e.ys map' first last in
       let low_is : drop depth kf ≡ part_of ++ p.x ∷ p.r = p.a_is ∙ ap (λ z. z ++ p.x ∷ p.r) p.is_shared in
       let high_is : drop depth kl ≡ part_of ++ p.y ∷ p.s = p.b_is ∙ ap (λ z. z ++ p.y ∷ p.s) p.is_shared in
@@ -277,14 +289,23 @@ module _ {K V : Type 0} (bytes : K → List ℕ) (store : finite.FinMap leaf_cmp
       let lf : length kf ≡ depth + length (drop depth kf) = ap length (sym e.first_is ∙ first) ∙ length-append way (drop depth kf) ∙ ap (λ m. m + length (drop depth kf)) ready.depth_is in
       let ll : length kl ≡ depth + length (drop depth kl) = ap length (sym e.last_is ∙ last) ∙ length-append way (drop depth kl) ∙ ap (λ m. m + length (drop depth kl)) ready.depth_is in
       let lp : length (drop depth kf) ≡ length part_of + length (p.x ∷ p.r) = ap length low_is ∙ length-append part_of (p.x ∷ p.r) in
-      let byte_f : byte_at (of_key bytes) (length (way ++ part_of)) e.x ≡ p.x = at_byte (of_key bytes) (way ++ part_of) e.x p.x p.r (first ∙ ap (λ l. way ++ l) low_is ∙ sym (append_assoc way part_of (p.x ∷ p.r))) in
-      let byte_l : byte_at (of_key bytes) (length (way ++ part_of)) (last_from e.y e.ys) ≡ p.y = at_byte (of_key bytes) (way ++ part_of) (last_from e.y e.ys) p.y p.s (last ∙ ap (λ l. way ++ l) high_is ∙ sym (append_assoc way part_of (p.y ∷ p.s))) in
+      let byte_f : byte_at (of_key bytes) (length (way ++ part_of)) e.x ≡ p.x =
+      at_byte (of_key bytes) (way ++ part_of) e.x p.x p.r (first ∙ ap (λ l. way ++ l) low_is ∙ sym (append_assoc way part_of (p.x ∷ p.r))) in
+      let byte_l : byte_at (of_key bytes) (length (way ++ part_of)) (last_from e.y e.ys) ≡ p.y =
+      at_byte (of_key bytes) (way ++ part_of) (last_from e.y e.ys) p.y p.s (last ∙ ap (λ l. way ++ l) high_is ∙ sym (append_assoc way part_of (p.y ∷ p.s))) in
       record {
         in_first = omega arith;
         in_last = omega arith;
         at_in_first = omega arith;
         part_is = ap (take (length part_of)) low_is ∙ take_at part_of (p.x ∷ p.r) (length part_of) refl;
-        below = record { there = ready.there; longer = subst (λ m. All (λ q. m < length (leaf_key bytes (finite.get store q))) leaves) at (leaves_go_on bytes store (way ++ part_of) leaves ready.there on); map = ready.map; ways = on; depth_is = at };
+        below = record {
+          there = ready.there;
+          longer = subst (λ m. All (λ q. m < length (leaf_key bytes (finite.get store q))) leaves) at
+              (leaves_go_on bytes store (way ++ part_of) leaves ready.there on);
+          map = ready.map;
+          ways = on;
+          depth_is = at;
+        };
         differ = λ same. p.differ (sym byte_f ∙ same ∙ byte_l);
       }
     where
@@ -292,7 +313,8 @@ module _ {K V : Type 0} (bytes : K → List ℕ) (store : finite.FinMap leaf_cmp
       after way key k depth l (r, w) e = w ∙ ap (λ m. way ++ m) (sym (after_front way key r w) ∙ ap₂ (λ (m : ℕ) (q : List ℕ). drop m q) l e)
 
   -- the same, of the bytes after the way as they were read
-  module _ (len : ℕ) (rf rl : List ℕ) (ready : Ready bytes store way leaves depth) (e : Ends bytes store leaves kf kl) (f : rf ≡ drop depth kf) (l : rl ≡ drop depth kl) (n : len ≡ length (common_front rf rl)) where
+  module _ (len : ℕ) (rf rl : List ℕ) (ready : Ready bytes store way leaves depth) (e : Ends bytes store leaves kf kl) (f : rf ≡ drop depth kf)
+      (l : rl ≡ drop depth kl) (n : len ≡ length (common_front rf rl)) where
     len_is : len ≡ length part_of
     len_is = n ∙ ap₂ (λ (u v : List ℕ). length (common_front u v)) f l
 
@@ -307,4 +329,15 @@ module _ {K V : Type 0} (bytes : K → List ℕ) (store : finite.FinMap leaf_cmp
         let p = parting ready e in
         let part_read : take len rf ≡ part_of = ap₂ (λ (m : ℕ) (u : List ℕ). take m u) len_is f ∙ p.part_is in
         let long : len ≤ length rf = rw n (common_fits rf rl) in
-        record { part = part_of; at_is = ap (λ m. depth + m) len_is; node_is = d ∙ header_started P len rf long ∙ ap (started P) part_read; below = ready_below; x = e.x; y = e.y; ys = e.ys; pairs_are = e.pairs_are; differ = p.differ }
+        record {
+          part = part_of;
+          at_is = ap (λ m. depth + m) len_is;
+          node_is = d ∙ header_started P len rf long ∙
+              ap (started P) part_read;
+          below = ready_below;
+          x = e.x;
+          y = e.y;
+          ys = e.ys;
+          pairs_are = e.pairs_are;
+          differ = p.differ;
+        }

@@ -27,7 +27,8 @@ common_between (x ∷ a) (y ∷ b) (z ∷ c) h k = go (common_between a b c) (eq
     go ih true e (inr (inl l)) = let g : x ≡ z = eqb-true x z e in let k' = rw (lt-ltb z y (omega arith)) at k in absurd (true≢false k')
     go ih true e (inr (inr l)) = let h' = rw (lt-ltb y x l) at h in absurd (true≢false h')
 
-pub common_ends : (a b : List ℕ) (count n : ℕ) → count ≡ min (length a) (length b) → count ≤ n → n ≤ count → length (common_front a b) ≡ n + length (common_front (drop n a) (drop n b)) → count ≡ length (common_front a b)
+pub common_ends : (a b : List ℕ) (count n : ℕ) → count ≡ min (length a) (length b) → count ≤ n → n ≤ count →
+    length (common_front a b) ≡ n + length (common_front (drop n a) (drop n b)) → count ≡ length (common_front a b)
 common_ends a b count n m l k e = go (cases_lt (length a) (length b))
   where
     go : (length a < length b) ⊎ (length b ≤ length a) → count ≡ length (common_front a b)

@@ -34,9 +34,11 @@ module _ {N A : Type 0} (L M : N → Type 0) (apart : (x y : N) → L x → M y 
   mutual
     pub all_distinct : (t : Tree N A) → AreDistinct (leaf_names t) → AreDistinct (inner_names t) → Each L (leaf_names t) → Each M (inner_names t) → AreDistinct (names_of t)
     all_distinct (leaf n x) dl di l m = dl
-    all_distinct (inner n h cs) dl di l m = (names_each_below (λ k. n ≢ k) cs (Each-weaker L (λ k. n ≢ k) (λ k lk e. apart k n lk m.0 (sym e)) (leaf_names_below cs) l) di.0, all_distinct_below cs dl di.1 l m.1)
+    all_distinct (inner n h cs) dl di l m =
+        (names_each_below (λ k. n ≢ k) cs (Each-weaker L (λ k. n ≢ k) (λ k lk e. apart k n lk m.0 (sym e)) (leaf_names_below cs) l) di.0, all_distinct_below cs dl di.1 l m.1)
 
-    pub all_distinct_below : (cs : Children N A) → AreDistinct (leaf_names_below cs) → AreDistinct (inner_names_below cs) → Each L (leaf_names_below cs) → Each M (inner_names_below cs) → AreDistinct (names_below cs)
+    pub all_distinct_below : (cs : Children N A) → AreDistinct (leaf_names_below cs) → AreDistinct (inner_names_below cs) →
+        Each L (leaf_names_below cs) → Each M (inner_names_below cs) → AreDistinct (names_below cs)
     all_distinct_below no_child dl di l m = tt
     all_distinct_below (child b t cs) dl di l m =
         let ll = Each-left L (leaf_names t) (leaf_names_below cs) l in
@@ -47,9 +49,11 @@ module _ {N A : Type 0} (L M : N → Type 0) (apart : (x y : N) → L x → M y 
         (all_distinct t (Pairwise-left ◌≢◌ (leaf_names t) (leaf_names_below cs) dl) (Pairwise-left ◌≢◌ (inner_names t) (inner_names_below cs) di) ll ml)
         (all_distinct_below cs (Pairwise-right ◌≢◌ (leaf_names t) (leaf_names_below cs) dl) (Pairwise-right ◌≢◌ (inner_names t) (inner_names_below cs) di) lr mr)
         (names_each (λ x. Each (λ y. x ≢ y) (names_below cs)) t
-        (Each-weaker (λ x. Each (λ y. x ≢ y) (leaf_names_below cs) × L x) (λ x. Each (λ y. x ≢ y) (names_below cs)) (λ x (d, lx). names_each_below (λ y. x ≢ y) cs d (Each-weaker M (λ y. x ≢ y) (λ y my. apart x y lx my) (inner_names_below cs) mr)) (leaf_names t)
+        (Each-weaker (λ x. Each (λ y. x ≢ y) (leaf_names_below cs) × L x) (λ x. Each (λ y. x ≢ y) (names_below cs))
+        (λ x (d, lx). names_each_below (λ y. x ≢ y) cs d (Each-weaker M (λ y. x ≢ y) (λ y my. apart x y lx my) (inner_names_below cs) mr)) (leaf_names t)
         (both (λ x. Each (λ y. x ≢ y) (leaf_names_below cs)) L (leaf_names t) (Pairwise-across ◌≢◌ (leaf_names t) (leaf_names_below cs) dl) ll))
-        (Each-weaker (λ x. Each (λ y. x ≢ y) (inner_names_below cs) × M x) (λ x. Each (λ y. x ≢ y) (names_below cs)) (λ x (d, mx). names_each_below (λ y. x ≢ y) cs (Each-weaker L (λ y. x ≢ y) (λ y ly e. apart y x ly mx (sym e)) (leaf_names_below cs) lr) d) (inner_names t)
+        (Each-weaker (λ x. Each (λ y. x ≢ y) (inner_names_below cs) × M x) (λ x. Each (λ y. x ≢ y) (names_below cs))
+        (λ x (d, mx). names_each_below (λ y. x ≢ y) cs (Each-weaker L (λ y. x ≢ y) (λ y ly e. apart y x ly mx (sym e)) (leaf_names_below cs) lr) d) (inner_names t)
         (both (λ x. Each (λ y. x ≢ y) (inner_names_below cs)) M (inner_names t) (Pairwise-across ◌≢◌ (inner_names t) (inner_names_below cs) di) ml)))
 
 -- the leaves of a map, placed and linked
@@ -81,21 +85,28 @@ module _ {K V : Type 0} {old new : Nodes K V} {names : List LeafPtr} {pairs : Li
       no_way (x ∷ xs) = ((of_key bytes x, refl), no_way xs)
 
   names_used : Each (IsUsed new) (map leaf_name names)
-  names_used = each_map leaf_name (IsUsed new) names (Each-weaker (λ p. IsSome (finite.get new.leaves p)) (λ p. IsUsed new (leaf_name p)) (λ p h. used (finite.get new.leaves p) h) names H.placed.there)
+  names_used =
+      each_map leaf_name (IsUsed new) names (Each-weaker (λ p. IsSome (finite.get new.leaves p)) (λ p. IsUsed new (leaf_name p)) (λ p h. used (finite.get new.leaves p) h) names H.placed.there)
     where
       used : (o : Option (LeafNode K V)) → IsSome o → option_map held_leaf o ≢ None
       used None h = absurd cc
       used (Some l) h = λ e. absurd cc
 
   names_free : Each (λ n. held old n ≡ None) (map leaf_name names)
-  names_free = each_map leaf_name (λ n. held old n ≡ None) names (Each-weaker (λ p. finite.get old.leaves p ≡ None) (λ p. held old (leaf_name p) ≡ None) (λ p free. ap (option_map held_leaf) free) names H.placed.fresh)
+  names_free =
+      each_map leaf_name (λ n. held old n ≡ None) names (Each-weaker (λ p. finite.get old.leaves p ≡ None) (λ p. held old (leaf_name p) ≡ None)
+      (λ p free. ap (option_map held_leaf) free) names H.placed.fresh)
 
   names_distinct : AreDistinct (map leaf_name names)
   names_distinct = go names H.placed.distinct
     where
       go : (ps : List LeafPtr) → AreDistinct ps → AreDistinct (map leaf_name ps)
       go [] d = tt
-      go (p ∷ ps) d = (each_map leaf_name (λ n. leaf_name p ≢ n) ps (Each-weaker (λ q. p ≢ q) (λ q. leaf_name p ≢ leaf_name q) (λ q n e. n (ap (λ (m : OpaqueNodePtr). let r : LeafPtr = record { slot = m.slot } in r) e)) ps d.0), go ps d.1)
+      go (p ∷ ps) d = (
+        each_map leaf_name (λ n. leaf_name p ≢ n) ps (Each-weaker (λ q. p ≢ q) (λ q. leaf_name p ≢ leaf_name q)
+            (λ q n e. n (ap (λ (m : OpaqueNodePtr). let r : LeafPtr = record { slot = m.slot } in r) e)) ps d.0),
+        go ps d.1,
+      )
 
   name_in : (p : LeafPtr) (ps : List LeafPtr) → IsIn p ps → IsIn (leaf_name p) (map leaf_name ps)
   name_in p [] i = i
@@ -106,7 +117,8 @@ module _ {K V : Type 0} {old new : Nodes K V} {names : List LeafPtr} {pairs : Li
   leaves_others : (kind : NodeType) (slot : ℕ) → IsIn (record { kind = kind; slot = slot }) (map leaf_name names) ⊎ (held_in new kind slot ≡ held_in old kind slot)
   leaves_others Leaf slot = go (H.placed.others (record { slot = slot }))
     where
-      go : IsIn (record { slot = slot }) names ⊎ (finite.get new.leaves (record { slot = slot }) ≡ finite.get old.leaves (record { slot = slot })) → IsIn (record { kind = Leaf; slot = slot }) (map leaf_name names) ⊎ (held_in new Leaf slot ≡ held_in old Leaf slot)
+      go : IsIn (record { slot = slot }) names ⊎ (finite.get new.leaves (record { slot = slot }) ≡ finite.get old.leaves (record { slot = slot })) →
+          IsIn (record { kind = Leaf; slot = slot }) (map leaf_name names) ⊎ (held_in new Leaf slot ≡ held_in old Leaf slot)
       go (inl i) = inl (name_in (record { slot = slot }) names i)
       go (inr e) = inr (ap (option_map held_leaf) e)
   leaves_others Node4 slot = inr (ap (λ m. option_map held_inner (finite.get m (record { kind = Node4; slot = slot }))) H.inners)
@@ -132,7 +144,8 @@ pub whole_kept : {K V : Type 0} {old mid : Nodes K V} {names : List LeafPtr} {pa
 whole_kept {old = old} {mid = mid} H new kept = keeps-trans old mid new (leaves_kept H) kept
 
 -- the tree over the leaves
-module _ {K V : Type 0} {bytes : K → List ℕ} {P : ℕ} {old mid new : Nodes K V} {names : List LeafPtr} {pairs : List (K × V)} {root : OpaqueNodePtr} (H : HasLeaves old mid names pairs) (b : Built bytes P [] names mid new root) (same : new.leaves ≡ mid.leaves) where
+module _ {K V : Type 0} {bytes : K → List ℕ} {P : ℕ} {old mid new : Nodes K V} {names : List LeafPtr} {pairs : List (K × V)} {root : OpaqueNodePtr}
+    (H : HasLeaves old mid names pairs) (b : Built bytes P [] names mid new root) (same : new.leaves ≡ mid.leaves) where
   distinct : AreDistinct (names_of b.tree)
   distinct = all_distinct (IsUsed mid) (λ n. held mid n ≡ None) (λ x y used free e. used (ap (held mid) e ∙ free)) b.tree
       (subst AreDistinct (sym b.leaves_are) (names_distinct H)) b.distinct (subst (Each (IsUsed mid)) (sym b.leaves_are) (names_used H)) b.fresh
@@ -160,7 +173,9 @@ module _ {K V : Type 0} {bytes : K → List ℕ} {P : ℕ} {old mid new : Nodes 
       from_mid (inr i) = inr (b.tree, whole_tree, taken_in takes_inners b.tree name i)
 
   pub whole_fresh : (name : OpaqueNodePtr) → IsInTree (of_key bytes) P new (Some root) pairs name → held old name ≡ None
-  whole_fresh name (layout, is, i) = each_in (λ n. held old n ≡ None) name (names_of b.tree) free (subst (λ t. IsIn name (names_of t)) (has_one_layout (node_at new) root b.tree layout whole_tree.stands.0 is.stands.0) i)
+  whole_fresh name (layout, is, i) =
+      each_in (λ n. held old n ≡ None) name (names_of b.tree) free (subst (λ t. IsIn name (names_of t)) (has_one_layout (node_at new) root b.tree layout whole_tree.stands.0 is.stands.0) i)
     where
       free : Each (λ n. held old n ≡ None) (names_of b.tree)
-      free = names_each (λ n. held old n ≡ None) b.tree (subst (Each (λ n. held old n ≡ None)) (sym b.leaves_are) (names_free H)) (Each-weaker (λ n. held mid n ≡ None) (λ n. held old n ≡ None) (was_free old mid (leaves_kept H)) (inner_names b.tree) b.fresh)
+      free = names_each (λ n. held old n ≡ None) b.tree (subst (Each (λ n. held old n ≡ None)) (sym b.leaves_are) (names_free H))
+          (Each-weaker (λ n. held mid n ≡ None) (λ n. held old n ≡ None) (was_free old mid (leaves_kept H)) (inner_names b.tree) b.fresh)

@@ -27,7 +27,9 @@ module _ {K V : Type 0} where
 
   -- an inner node that is kept is the same in the map
   pub inner_kept : (old new : Nodes K V) (p : InnerPtr) (node : Inner) → p.kind ≢ Leaf → KeepsNodes old new → finite.get old.inners p ≡ Some node → finite.get new.inners p ≡ Some node
-  inner_kept old new p node n kept there = go (finite.get new.inners p) (sym (held_in_inner new p.kind p.slot n) ∙ kept (inner_name p) (inner_is_used old p node n there) ∙ held_in_inner old p.kind p.slot n ∙ ap (option_map held_inner) there)
+  inner_kept old new p node n kept there =
+      go (finite.get new.inners p) (sym (held_in_inner new p.kind p.slot n) ∙ kept (inner_name p) (inner_is_used old p node n there) ∙
+      held_in_inner old p.kind p.slot n ∙ ap (option_map held_inner) there)
     where
       go : (o : Option Inner) → ◌≡◌ {A = Option (Held K V)} (option_map held_inner o) (Some (held_inner node)) → o ≡ Some node
       go None e = absurd cc
@@ -71,7 +73,8 @@ module _ {K V : Type 0} where
       -- a layout without the parent is held as before
       pub held_still : (t : Tree OpaqueNodePtr (K × V)) → Holds (node_at mid) t → Each (λ n. n ≢ inner_name parent) (names_of t) → Holds (node_at new) t
       held_still t holds apart = frame (node_at mid) (node_at new) t
-          (Each-weaker (λ n. (n ≢ inner_name parent) × (node_at mid n ≡ None → ⊥)) (λ n. node_at new n ≡ node_at mid n) one (names_of t) (both (λ n. n ≢ inner_name parent) (λ n. node_at mid n ≡ None → ⊥) (names_of t) apart (all_taken (node_at mid) t holds))) holds
+          (Each-weaker (λ n. (n ≢ inner_name parent) × (node_at mid n ≡ None → ⊥)) (λ n. node_at new n ≡ node_at mid n) one (names_of t)
+          (both (λ n. n ≢ inner_name parent) (λ n. node_at mid n ≡ None → ⊥) (names_of t) apart (all_taken (node_at mid) t holds))) holds
         where
           one : (n : OpaqueNodePtr) → (n ≢ inner_name parent) × (node_at mid n ≡ None → ⊥) → node_at new n ≡ node_at mid n
           one n h =

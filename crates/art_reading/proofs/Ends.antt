@@ -22,7 +22,8 @@ record IsShared (leaf query : List ℕ) (n : ℕ) : Type 0 where
   leaf_is : leaf ≡ front ++ drop n leaf
   query_is : query ≡ front ++ drop n query
 
-shared_front : (behavior : PrefixMatchBehavior) (depth : ℕ) (place leaf query : List ℕ) → length place ≡ depth → depth ≤ length query → IsFront place leaf → (behavior ≡ Pessimistic → IsFront place query) → IsShared leaf query (compared_from behavior depth leaf query)
+shared_front : (behavior : PrefixMatchBehavior) (depth : ℕ) (place leaf query : List ℕ) → length place ≡ depth → depth ≤ length query →
+    IsFront place leaf → (behavior ≡ Pessimistic → IsFront place query) → IsShared leaf query (compared_from behavior depth leaf query)
 shared_front Optimistic depth place leaf query at short leads compared = record { front = []; leaf_is = refl; query_is = refl }
 shared_front Pessimistic depth place leaf query at short leads compared =
     let (r, e) = leads in
@@ -51,13 +52,15 @@ module _ {A : Type 0} (bytes : A → List ℕ) (key : List ℕ) where
   with_key-match_of [] = refl
   with_key-match_of (x ∷ xs) = go (with_key-match_of xs) (is_front (bytes x) key) (is_front key (bytes x)) refl refl
     where
-      go : with_key bytes key (match_of bytes key xs) ≡ with_key bytes key xs → (t u : Bool) → is_front (bytes x) key ≡ t → is_front key (bytes x) ≡ u → with_key bytes key (match_of bytes key (x ∷ xs)) ≡ with_key bytes key (x ∷ xs)
+      go : with_key bytes key (match_of bytes key xs) ≡ with_key bytes key xs → (t u : Bool) → is_front (bytes x) key ≡ t →
+          is_front key (bytes x) ≡ u → with_key bytes key (match_of bytes key (x ∷ xs)) ≡ with_key bytes key (x ∷ xs)
       go ih true true e f = rw (e, f, e) (ap (λ l. x ∷ l) ih)
       go ih true false e f = rw (e, f) ih
       go ih false true e f = rw (e, f) ih
       go ih false false e f = rw (e, f) ih
 
-module _ {K V : Type 0} {bytes : K × V → List ℕ} {key : List ℕ} {pairs : List (K × V)} {layout : Tree OpaqueNodePtr (K × V)} {before after : ℕ} {last : LastLeaf K V} (h : IsLastLeaf bytes key pairs layout before after last) where
+module _ {K V : Type 0} {bytes : K × V → List ℕ} {key : List ℕ} {pairs : List (K × V)} {layout : Tree OpaqueNodePtr (K × V)} {before after : ℕ}
+    {last : LastLeaf K V} (h : IsLastLeaf bytes key pairs layout before after last) where
   shared : IsShared (bytes (pair_of last.node.now)) key (compared_from last.behavior last.depth (bytes (pair_of last.node.now)) key)
   shared = shared_front last.behavior last.depth h.place (bytes (pair_of last.node.now)) key h.depth_is h.is_short h.leads_to h.compared
 
@@ -81,7 +84,9 @@ module _ {K V : Type 0} {bytes : K × V → List ℕ} {key : List ℕ} {pairs : 
     lost_equal f = only_with_key ∙ go (are_same key (bytes (pair_of last.node.now))) refl
       where
         go : (t : Bool) → are_same key (bytes (pair_of last.node.now)) ≡ t → with_key bytes key (pair_of last.node.now ∷ []) ≡ []
-        go true e = absurd (false≢true (sym f ∙ test.1 (ap (λ leaf. drop (compared_from last.behavior last.depth (bytes (pair_of last.node.now)) key) leaf) (same_equal key (bytes (pair_of last.node.now)) e))))
+        go true e =
+            absurd (false≢true (sym f ∙ test.1
+            (ap (λ leaf. drop (compared_from last.behavior last.depth (bytes (pair_of last.node.now)) key) leaf) (same_equal key (bytes (pair_of last.node.now)) e))))
         go false e = rw e refl
 
   -- the comparison of a prefix search

@@ -20,7 +20,8 @@ use Rattle.art_reading.specs.Iterators.{GoesOn, IsIteratorOf, WalksWhole}
 
 module _ {K V : Type 0} where
   -- a leaf with links is there, and names these leaves
-  linked_leaf : (o : Option (LeafNode K V)) (l : Links OpaqueNodePtr) → option_and_then links_of (option_map held_leaf o) ≡ Some l → (leaf : LeafNode K V) × (o ≡ Some leaf) × (option_map leaf_name leaf.previous ≡ l.previous) × (option_map leaf_name leaf.next ≡ l.next)
+  linked_leaf : (o : Option (LeafNode K V)) (l : Links OpaqueNodePtr) → option_and_then links_of (option_map held_leaf o) ≡ Some l →
+      (leaf : LeafNode K V) × (o ≡ Some leaf) × (option_map leaf_name leaf.previous ≡ l.previous) × (option_map leaf_name leaf.next ≡ l.next)
   linked_leaf None l e = absurd cc
   linked_leaf (Some leaf) l e =
       let same : record { previous = option_map leaf_name leaf.previous; next = option_map leaf_name leaf.next } ≡ l = cc in
@@ -74,7 +75,9 @@ module _ {K V : Type 0} (s : Nodes K V) where
   there_in : (names : List OpaqueNodePtr) (before after : Option OpaqueNodePtr) (p : LeafPtr) → AreLinked (links_at s) before names after → IsIn (leaf_name p) names → IsSome (map.get s.leaves p)
   there_in [] before after p linked i = absurd i
   there_in (x ∷ xs) before after p linked (inl e) =
-      let found = linked_leaf (map.get s.leaves p) (record { previous = before; next = first_or xs after }) (subst (λ n. links_at s n ≡ Some (record { previous = before; next = first_or xs after })) e linked.0) in
+      let found =
+      linked_leaf (map.get s.leaves p) (record { previous = before; next = first_or xs after })
+      (subst (λ n. links_at s n ≡ Some (record { previous = before; next = first_or xs after })) e linked.0) in
       rw found.1 refl
   there_in (x ∷ xs) before after p linked (inr i) = there_in xs (Some x) after p linked.1 i
 
@@ -116,7 +119,9 @@ module _ {K V : Type 0} (s : Nodes K V) (a b : LeafPtr) where
   has_next (x ∷ y ∷ ys) other is =
       let e = is.ends.0 in
       let first : x ≡ leaf_name a = cc in
-      let (leaf, there, previous, next) = linked_leaf (map.get s.leaves a) (record { previous = is.segment.before; next = Some y }) (subst (λ n. links_at s n ≡ Some (record { previous = is.segment.before; next = Some y })) first is.segment.linked.0) in
+      let (leaf, there, previous, next) =
+      linked_leaf (map.get s.leaves a) (record { previous = is.segment.before; next = Some y })
+      (subst (λ n. links_at s n ≡ Some (record { previous = is.segment.before; next = Some y })) first is.segment.linked.0) in
       let (p, next_is, same) = named leaf.next y next in
       record { leaf = leaf; there = there; next = p; next_is = next_is; left = record { ends = (ap Some (sym same), is.ends.1); segment = segment_rest (x ∷ []) (y ∷ ys) is.segment } }
 

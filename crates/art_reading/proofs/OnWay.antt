@@ -31,7 +31,8 @@ abbrev pub count_on_way : {N : Type 0} → List ℕ → List (List ℕ × N) →
 count_on_way key nodes = length (match_of (λ node. node.0) key nodes)
 
 -- A node of the tree below which all pairs are that match the key. The nodes above it were counted, and all of them are on the key's way if it is.
-pub record IsOnWay {A : Type 0} (bytes : A → List ℕ) (P : ℕ) (key : List ℕ) (tree : Tree OpaqueNodePtr A) (way : TreePath) (name : OpaqueNodePtr) (depth : ℕ) (behavior : PrefixMatchBehavior) (before now : ℕ) : Type 0 where
+pub record IsOnWay {A : Type 0} (bytes : A → List ℕ) (P : ℕ) (key : List ℕ) (tree : Tree OpaqueNodePtr A) (way : TreePath) (name : OpaqueNodePtr)
+    (depth : ℕ) (behavior : PrefixMatchBehavior) (before now : ℕ) : Type 0 where
   pub path : List (Frame OpaqueNodePtr A)
   pub node : Tree OpaqueNodePtr A
   pub place : List ℕ
@@ -57,7 +58,8 @@ module _ {N : Type 0} (key : List ℕ) (node : List ℕ × N) (nodes : List (Lis
   count_front : IsFront node.0 key → count_on_way key (node ∷ nodes) ≡ 1 + count_on_way key nodes
   count_front (r, e) = let is : is_front node.0 key ≡ true = ap (is_front node.0) e ∙ front_is node.0 r in rw is (omega arith)
 
-module _ {A : Type 0} {bytes : A → List ℕ} {P : ℕ} {key : List ℕ} {tree : Tree OpaqueNodePtr A} {way : TreePath} {name : OpaqueNodePtr} {depth : ℕ} {behavior : PrefixMatchBehavior} {before now : ℕ} (d : IsOnWay bytes P key tree way name depth behavior before now) where
+module _ {A : Type 0} {bytes : A → List ℕ} {P : ℕ} {key : List ℕ} {tree : Tree OpaqueNodePtr A} {way : TreePath} {name : OpaqueNodePtr} {depth : ℕ}
+    {behavior : PrefixMatchBehavior} {before now : ℕ} (d : IsOnWay bytes P key tree way name depth behavior before now) where
   -- the node's own place
   own_place : place_of bytes depth d.node ≡ d.place
   own_place = subst (λ n. place_of bytes n d.node ≡ d.place) d.depth_is (place_is bytes P d.node d.place d.radix)
@@ -122,7 +124,8 @@ module _ {A : Type 0} {bytes : A → List ℕ} {P : ℕ} {key : List ℕ} {tree 
     inner_exactly front =
         let l = subst (λ t. before + count_on_way key (places bytes 0 tree) ≡ now + count_on_way key (places bytes depth t)) at.is (d.exactly front) in
         let own = subst (λ t. place_of bytes depth t ≡ d.place) at.is own_place in
-        let m = count_front key (place_of bytes depth (inner (inner_name p) (header_at p.kind shown) at.children), inner_name p) (places_below bytes (depth + shown.prefix.len + 1) at.children) (subst (λ z. IsFront z key) (sym own) front) in
+        let m = count_front key (place_of bytes depth (inner (inner_name p) (header_at p.kind shown) at.children), inner_name p)
+        (places_below bytes (depth + shown.prefix.len + 1) at.children) (subst (λ z. IsFront z key) (sym own) front) in
         omega arith
 
     -- no pair matches, and no node further down is on the key's way
@@ -131,7 +134,9 @@ module _ {A : Type 0} {bytes : A → List ℕ} {P : ℕ} {key : List ℕ} {tree 
 
     ends_aside : AreAside front key at.children → IsEnd
     ends_aside aside =
-        let none = ap length (none_match (λ node. node.0) key (places_below bytes (depth + shown.prefix.len + 1) at.children) (aside_places bytes P front key (depth + shown.prefix.len + 1) at.children deep radix.4 aside)) in
+        let none =
+        ap length (none_match (λ node. node.0) key (places_below bytes (depth + shown.prefix.len + 1) at.children)
+        (aside_places bytes P front key (depth + shown.prefix.len + 1) at.children deep radix.4 aside)) in
         let l = inner_least in
         (inner_matches ∙ none_match bytes key (pairs_below at.children) (aside_pairs bytes P front key at.children radix.4 aside), omega arith)
 
@@ -146,7 +151,11 @@ module _ {A : Type 0} {bytes : A → List ℕ} {P : ℕ} {key : List ℕ} {tree 
         off : IsFront front key → ⊥
         off (r, e) =
             let rest : drop depth key ≡ radix.0 ++ r = ap (λ n. drop n key) (sym d.depth_is) ∙ after_front d.place key (radix.0 ++ r) (e ∙ append_assoc d.place radix.0 r) in
-            let whole : IsFront shown.prefix.stored (drop depth key) = (drop P radix.0 ++ r, rest ∙ ap (λ xs. xs ++ r) (sym (take-append-drop P radix.0)) ∙ append_assoc (take P radix.0) (drop P radix.0) r ∙ ap (λ xs. xs ++ (drop P radix.0 ++ r)) (sym stored_is)) in
+            let whole : IsFront shown.prefix.stored (drop depth key) = (
+              drop P radix.0 ++ r,
+              rest ∙ ap (λ xs. xs ++ r) (sym (take-append-drop P radix.0)) ∙
+                  append_assoc (take P radix.0) (drop P radix.0) r ∙ ap (λ xs. xs ++ (drop P radix.0 ++ r)) (sym stored_is),
+            ) in
             let all = whole_shared shown.prefix.stored (drop depth key) whole in
             omega arith
 
@@ -173,7 +182,9 @@ module _ {A : Type 0} {bytes : A → List ℕ} {P : ℕ} {key : List ℕ} {tree 
         whole_take (suc n) (x ∷ xs) h = ap (λ l. x ∷ l) (whole_take n xs (omega arith))
 
     -- a child goes on with the key
-    pub goes_on : {to : OpaqueNodePtr} {after : PrefixMatchBehavior} → depth + shown.prefix.len < length key → child_at shown.children (get_or key (depth + shown.prefix.len) 0) ≡ Some to → (after ≡ Pessimistic → IsFront front key) → IsOnWay bytes P key tree (step_down way p (get_or key (depth + shown.prefix.len) 0)) to (depth + shown.prefix.len + 1) after before (now + 1)
+    pub goes_on : {to : OpaqueNodePtr} {after : PrefixMatchBehavior} → depth + shown.prefix.len < length key →
+        child_at shown.children (get_or key (depth + shown.prefix.len) 0) ≡ Some to → (after ≡ Pessimistic → IsFront front key) →
+        IsOnWay bytes P key tree (step_down way p (get_or key (depth + shown.prefix.len) 0)) to (depth + shown.prefix.len + 1) after before (now + 1)
     goes_on {to} {after} long there sure =
         let b = get_or key (length front) 0 in
         let e = ap (λ cs. child_at cs b) (sym at.slots) ∙ ap (λ n. child_at shown.children (get_or key n 0)) front_len ∙ there in
@@ -182,7 +193,9 @@ module _ {A : Type 0} {bytes : A → List ℕ} {P : ℕ} {key : List ℕ} {tree 
         let low = aside_others front key u.left u.others_left in
         let high = aside_others front key u.right u.others_right in
         let frame : Frame OpaqueNodePtr A = record { mark = inner_name p; header = header_at p.kind shown; left = u.left; byte = b; right = u.right } in
-        let count = ap (λ cs. count_on_way key (places_below bytes (depth + shown.prefix.len + 1) cs)) u.whole ∙ ap length (places_between bytes P front key u.left b u.tree u.right below low high (depth + shown.prefix.len + 1) deep) in
+        let count =
+        ap (λ cs. count_on_way key (places_below bytes (depth + shown.prefix.len + 1) cs)) u.whole ∙
+        ap length (places_between bytes P front key u.left b u.tree u.right below low high (depth + shown.prefix.len + 1) deep) in
         record {
           path = frame ∷ d.path;
           node = u.tree;

@@ -61,11 +61,13 @@ module _ (prefix : Prefix) (rest : List ℕ) where
   abbrev pub AllCompared : PrefixMatchBehavior → Type 0
   AllCompared behavior = (behavior ≡ Pessimistic) × (length prefix.stored ≤ shared_len prefix.stored rest) × (prefix.len ≤ length prefix.stored)
 
-  pub ok_compared : (behavior : PrefixMatchBehavior) (m : AttemptOptimisticPrefixMatch) → prefix_match behavior prefix rest ≡ Ok m → behavior_after behavior prefix rest ≡ Pessimistic → AllCompared behavior
+  pub ok_compared : (behavior : PrefixMatchBehavior) (m : AttemptOptimisticPrefixMatch) → prefix_match behavior prefix rest ≡ Ok m →
+      behavior_after behavior prefix rest ≡ Pessimistic → AllCompared behavior
   ok_compared Optimistic m e after = absurd cc
   ok_compared Pessimistic m e after = go (cases_lt (shared_len prefix.stored rest) (length prefix.stored)) (cases_lt (length prefix.stored) prefix.len) (ok_len Pessimistic m e).1
     where
       go : Parts → (length prefix.stored < prefix.len) ⊎ (prefix.len ≤ length prefix.stored) → prefix.len ≤ length rest → AllCompared Pessimistic
       go (inl h) stored l = let k = rw (lt-ltb (shared_len prefix.stored rest) (length prefix.stored) h) at e in absurd cc
       go (inr h) (inr stored) l = (refl, h, stored)
-      go (inr h) (inl stored) l = let k = rw (le-ltb (shared_len prefix.stored rest) (length prefix.stored) h, le-ltb (length rest) prefix.len l, lt-ltb (length prefix.stored) prefix.len stored) at after in absurd cc
+      go (inr h) (inl stored) l =
+          let k = rw (le-ltb (shared_len prefix.stored rest) (length prefix.stored) h, le-ltb (length rest) prefix.len l, lt-ltb (length prefix.stored) prefix.len stored) at after in absurd cc

@@ -31,11 +31,28 @@ use Rattle.art_reading.specs.Walks.{IsLastLeaf}
 use Rattle.art_reading.proofs.Outcomes.{ok_len, err_why, ok_compared}
 use Rattle.art_reading.proofs.OnWay.{IsOnWay, leaf_leads, leaf_whole, leaf_only, leaf_least, leaf_exactly, IsEnd, ends_short, ends_off, ends_childless, still_compared, goes_on}
 
-module _ {K V : Type 0} {s : Nodes K V} {bytes : K × V → List ℕ} {P : ℕ} {root : OpaqueNodePtr} {pairs : List (K × V)} {layout : Tree OpaqueNodePtr (K × V)} (by : IsTree bytes P s root pairs layout) where
+module _ {K V : Type 0} {s : Nodes K V} {bytes : K × V → List ℕ} {P : ℕ} {root : OpaqueNodePtr} {pairs : List (K × V)}
+    {layout : Tree OpaqueNodePtr (K × V)} (by : IsTree bytes P s root pairs layout) where
   pub start : (key : List ℕ) (visits : ℕ) → IsOnWay bytes P key layout Root root 0 Pessimistic visits visits
-  start key visits = record { path = []; way_is = refl; node = layout; place = []; whole = refl; named = by.stands.0.named; radix = (tree_radix by).0; depth_is = refl; compared = λ _. (key, refl); matches = refl; at_least = omega arith; exactly = λ _. refl }
+  start key visits =
+      record {
+        path = [];
+        way_is = refl;
+        node = layout;
+        place = [];
+        whole = refl;
+        named = by.stands.0.named;
+        radix = (tree_radix by).0;
+        depth_is
+            = refl;
+        compared = λ _. (key, refl);
+        matches = refl;
+        at_least = omega arith;
+        exactly = λ _. refl;
+      }
 
-  module _ {key : List ℕ} {way : TreePath} {name : OpaqueNodePtr} {depth : ℕ} {behavior : PrefixMatchBehavior} {before now : ℕ} (d : IsOnWay bytes P key layout way name depth behavior before now) where
+  module _ {key : List ℕ} {way : TreePath} {name : OpaqueNodePtr} {depth : ℕ} {behavior : PrefixMatchBehavior} {before now : ℕ}
+      (d : IsOnWay bytes P key layout way name depth behavior before now) where
     holds : Holds (node_at s) d.node
     holds = (path_holds (node_at s) d.path d.node (subst (Holds (node_at s)) (sym d.whole) by.stands.0.holds)).1
 
@@ -50,7 +67,9 @@ module _ {K V : Type 0} {s : Nodes K V} {bytes : K × V → List ℕ} {P : ℕ} 
     shown_there {p} {shown} proper is there = inner_shown s p proper d.node (d.named ∙ sym is) holds shown there
 
   -- at a leaf the way ends
-  pub last_leaf : {key : List ℕ} {name : OpaqueNodePtr} {before now after : ℕ} (last : LastLeaf K V) → IsOnWay bytes P key layout last.path name last.depth last.behavior before now → leaf_name last.name ≡ name → Some last.node.now ≡ map.get s.leaves last.name → last.depth ≤ length key → after ≡ now + 1 → IsLastLeaf bytes key pairs layout before after last
+  pub last_leaf : {key : List ℕ} {name : OpaqueNodePtr} {before now after : ℕ} (last : LastLeaf K V) →
+      IsOnWay bytes P key layout last.path name last.depth last.behavior before now → leaf_name last.name ≡ name →
+      Some last.node.now ≡ map.get s.leaves last.name → last.depth ≤ length key → after ≡ now + 1 → IsLastLeaf bytes key pairs layout before after last
   last_leaf last d is there short e =
       let n = leaf_name last.name in
       let x = pair_of last.node.now in
@@ -73,7 +92,8 @@ pub record IsRead (shown : Inner) (key : List ℕ) (depth : ℕ) (prefix : Prefi
   pub prefix_is : prefix ≡ shown.prefix
   pub rest_is : rest ≡ drop depth key
 
-pub read : {shown : Inner} {key : List ℕ} {depth len : ℕ} {stored rest : List ℕ} {header : Prefix} → header ≡ shown.prefix → len ≡ header.len → stored ≡ header.stored → rest ≡ drop depth key → IsRead shown key depth (record { len = len; stored = stored }) rest
+pub read : {shown : Inner} {key : List ℕ} {depth len : ℕ} {stored rest : List ℕ} {header : Prefix} → header ≡ shown.prefix → len ≡ header.len →
+    stored ≡ header.stored → rest ≡ drop depth key → IsRead shown key depth (record { len = len; stored = stored }) rest
 read h l t r = record { prefix_is = ap₂ (λ n xs. let z : Prefix = record { len = n; stored = xs } in z) l t ∙ h; rest_is = r }
 
 is_ok : {m : AttemptOptimisticPrefixMatch} (r : Result AttemptOptimisticPrefixMatch PessimisticMismatch) → Some m ≡ result_ok r → r ≡ Ok m
@@ -84,7 +104,12 @@ is_err : (r : Result AttemptOptimisticPrefixMatch PessimisticMismatch) → None 
 is_err (Ok m) e = absurd cc
 is_err (Err m) e = (m, refl)
 
-module _ {K V : Type 0} {s : Nodes K V} {bytes : K × V → List ℕ} {P : ℕ} {root : OpaqueNodePtr} {pairs : List (K × V)} {layout : Tree OpaqueNodePtr (K × V)} {key : List ℕ} {way : TreePath} {name : OpaqueNodePtr} {depth : ℕ} {behavior : PrefixMatchBehavior} {before now after : ℕ} {p : InnerPtr} {shown : Inner} {prefix : Prefix} {rest : List ℕ} {r : Result AttemptOptimisticPrefixMatch PessimisticMismatch} (by : IsTree bytes P s root pairs layout) (d : IsOnWay bytes P key layout way name depth behavior before now) (at : IsShown d.node p shown) (short : depth ≤ length key) (counted : after ≡ now + 1) (reads : IsRead shown key depth prefix rest) (outcome : r ≡ prefix_match behavior prefix rest) where
+module _ {K V : Type 0} {s : Nodes K V} {bytes : K × V → List ℕ} {P : ℕ} {root : OpaqueNodePtr} {pairs : List (K × V)}
+    {layout : Tree OpaqueNodePtr (K × V)} {key : List ℕ} {way : TreePath} {name : OpaqueNodePtr} {depth : ℕ} {behavior : PrefixMatchBehavior}
+    {before now after : ℕ} {p : InnerPtr} {shown : Inner} {prefix : Prefix} {rest : List ℕ}
+    {r : Result AttemptOptimisticPrefixMatch PessimisticMismatch} (by : IsTree bytes P s root pairs layout)
+    (d : IsOnWay bytes P key layout way name depth behavior before now) (at : IsShown d.node p shown) (short : depth ≤ length key)
+    (counted : after ≡ now + 1) (reads : IsRead shown key depth prefix rest) (outcome : r ≡ prefix_match behavior prefix rest) where
   -- no key matches
   abbrev Ends : Type 0
   Ends = (match_of bytes key pairs ≡ []) × (before + length (nodes_on_way bytes key layout) ≤ after)
@@ -121,7 +146,9 @@ module _ {K V : Type 0} {s : Nodes K V} {bytes : K × V → List ℕ} {P : ℕ} 
     stops_childless gone = stops (ends_childless d at (ap (λ n. child_at shown.children (get_or key n 0)) (sym len_is) ∙ sym gone))
 
     -- a child goes on with the key
-    pub steps : {to : OpaqueNodePtr} {behavior' : PrefixMatchBehavior} → behavior' ≡ behavior_after behavior prefix rest → depth + m.matched_bytes < length key → Some to ≡ child_at shown.children (get_or key (depth + m.matched_bytes) 0) → IsOnWay bytes P key layout (step_down way p (get_or key (depth + m.matched_bytes) 0)) to (depth + m.matched_bytes + 1) behavior' before after
+    pub steps : {to : OpaqueNodePtr} {behavior' : PrefixMatchBehavior} → behavior' ≡ behavior_after behavior prefix rest →
+        depth + m.matched_bytes < length key → Some to ≡ child_at shown.children (get_or key (depth + m.matched_bytes) 0) →
+        IsOnWay bytes P key layout (step_down way p (get_or key (depth + m.matched_bytes) 0)) to (depth + m.matched_bytes + 1) behavior' before after
     steps {to} {behavior'} is long there =
         let down = goes_on d at {to = to} {after = behavior'} (let l = len_is in omega arith) (ap (λ n. child_at shown.children (get_or key n 0)) (sym len_is) ∙ sym there)
         (λ sure.

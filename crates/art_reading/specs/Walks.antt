@@ -37,7 +37,8 @@ module _ {K V : Type 0} (bytes : K × V → List ℕ) (key : List ℕ) (pairs : 
 -- the leaf of the key's only pair, with the path to it, or none where there is no such pair
 abbrev pub IsKeysLeaf : {K V : Type 0} → (K × V → List ℕ) → List ℕ → List (K × V) → Tree OpaqueNodePtr (K × V) → Option (LastLeaf K V) → Type 0
 IsKeysLeaf bytes key pairs layout None = with_key bytes key pairs ≡ []
-IsKeysLeaf bytes key pairs layout (Some last) = (with_key bytes key pairs ≡ pair_of last.node.now ∷ []) × ((is : HasLeaf layout (leaf_name last.name) (pair_of last.node.now)) × (last.path ≡ path_of is.0))
+IsKeysLeaf bytes key pairs layout (Some last) =
+    (with_key bytes key pairs ≡ pair_of last.node.now ∷ []) × ((is : HasLeaf layout (leaf_name last.name) (pair_of last.node.now)) × (last.path ≡ path_of is.0))
 
 -- the path leads to the tree's first leaf, or to the last one
 abbrev pub LeadsToEnd : {A : Type 0} → Tree OpaqueNodePtr A → End → TreePath → LeafPtr → Type 0

@@ -32,6 +32,11 @@ answered {bytes = bytes} {P} {s} {key} {point} {pairs} {layout} (others, other, 
     record {
       answers = answers;
       place = place;
-      hole = record { path = path; radix = radix; front = subst (λ w. IsFront w key) (ap (λ d. place_of bytes d answers.node) deep ∙ place_is bytes P answers.node place radix) answers.is_end.is_front };
+      hole = record {
+        path = path;
+        radix = radix;
+        front = subst (λ w. IsFront w key)
+            (ap (λ d. place_of bytes d answers.node) deep ∙ place_is bytes P answers.node place radix) answers.is_end.is_front;
+      };
       deep = deep;
     }

@@ -29,7 +29,8 @@ module _ {K V : Type 0} {bytes : K × V → List ℕ} {P : ℕ} {s t : Nodes K V
 
     -- and the change was one in place
     pub inserted_kept : ForTree bytes P t done.new_root (λ after new. ChangesInPlace bytes s t (Some layout) (Some new))
-    inserted_kept after new by = subst (λ z. ChangesInPlace bytes s t (Some layout) (Some z)) (sym (has_one_map bytes P t done.new_root (put bytes pair pairs) after is.tree new is.canonical by).1) is.kept
+    inserted_kept after new by =
+        subst (λ z. ChangesInPlace bytes s t (Some layout) (Some z)) (sym (has_one_map bytes P t done.new_root (put bytes pair pairs) after is.tree new is.canonical by).1) is.kept
 
 -- ---- where an insertion may be refused
 
@@ -42,7 +43,9 @@ module _ {K V : Type 0} (bytes : K × V → List ℕ) (P : ℕ) (s t : Nodes K V
     if_replaced = IfOk-weaker r (IsInserted bytes P s t point pair pairs layout) (λ done. done.existing_leaf ≡ option_map alone (put_reply bytes pair pairs)) (λ done is. is.replaced) done
 
     pub if_kept : IfOk r (λ done. ForTree bytes P t done.new_root (λ after new. ChangesInPlace bytes s t (Some layout) (Some new)))
-    if_kept = IfOk-weaker r (IsInserted bytes P s t point pair pairs layout) (λ done. ForTree bytes P t done.new_root (λ after new. ChangesInPlace bytes s t (Some layout) (Some new))) (λ done is. inserted_kept is) done
+    if_kept =
+        IfOk-weaker r (IsInserted bytes P s t point pair pairs layout)
+        (λ done. ForTree bytes P t done.new_root (λ after new. ChangesInPlace bytes s t (Some layout) (Some new))) (λ done is. inserted_kept is) done
 
   -- the point answers to some layout
   pub if_leaf : {key : List ℕ} → ((ps : List (K × V)) → stored_for bytes pair (put bytes pair ps) ≡ stored_for bytes pair ps) →
@@ -52,5 +55,7 @@ module _ {K V : Type 0} (bytes : K × V → List ℕ) (P : ℕ) (s t : Nodes K V
       IfOk-weaker r (IsInserted bytes P s t point pair pairs layout)
       (λ done. ForTree bytes P t done.new_root (λ after new. HasInserted new point (stored_for bytes pair after) done)) (λ done is. inserted_leaf is again) (done pairs layout by)
 
-  pub if_root : {key : List ℕ} → IsPointIn bytes P s key point → ForTree bytes P s point.root (λ pairs layout. IfOk r (IsInserted bytes P s t point pair pairs layout)) → IfOk r (λ done. IsCanonicalRoot bytes P t done.new_root)
-  if_root (pairs, layout, by, answers) done = IfOk-weaker r (IsInserted bytes P s t point pair pairs layout) (λ done. IsCanonicalRoot bytes P t done.new_root) (λ done is. (put bytes pair pairs, is.tree, is.canonical)) (done pairs layout by)
+  pub if_root : {key : List ℕ} → IsPointIn bytes P s key point →
+      ForTree bytes P s point.root (λ pairs layout. IfOk r (IsInserted bytes P s t point pair pairs layout)) → IfOk r (λ done. IsCanonicalRoot bytes P t done.new_root)
+  if_root (pairs, layout, by, answers) done =
+      IfOk-weaker r (IsInserted bytes P s t point pair pairs layout) (λ done. IsCanonicalRoot bytes P t done.new_root) (λ done is. (put bytes pair pairs, is.tree, is.canonical)) (done pairs layout by)

@@ -83,7 +83,8 @@ some_child name b None has = has
 some_child name b (Some node) has = ap is_some has
 
 -- the innermost node of a path that is as it was has a child where it had the hole
-pub has_child : {A : Type 0} (old new : Inners) (name : OpaqueNodePtr) (fs : List (Frame OpaqueNodePtr A)) → IfSome (parent_of fs) (λ p. IsSomeAnd (get old p.0) (λ node. child_at node.children p.1 ≡ Some name)) →
+pub has_child : {A : Type 0} (old new : Inners) (name : OpaqueNodePtr) (fs : List (Frame OpaqueNodePtr A)) →
+    IfSome (parent_of fs) (λ p. IsSomeAnd (get old p.0) (λ node. child_at node.children p.1 ≡ Some name)) →
     ((k : OpaqueNodePtr) → IsParent fs k → get new (as_inner k) ≡ get old (as_inner k)) → HasChild new (parent_of fs)
 has_child old new name [] has same = tt
 has_child old new name (f ∷ fs) has same = subst (λ o. IsSomeAnd o (λ node. IsSome (child_at node.children f.byte))) (sym (same f.mark refl)) (some_child name f.byte (get old (as_inner f.mark)) has)
@@ -91,7 +92,8 @@ has_child old new name (f ∷ fs) has same = subst (λ o. IsSomeAnd o (λ node. 
 -- ---- the leaf below its parent
 
 -- The point's leaf is in the store, in the hole of its parent's frame.
-pub record IsBelow {K V : Type 0} (bytes : K × V → List ℕ) (P : ℕ) (s : Nodes K V) (root : OpaqueNodePtr) (pairs : List (K × V)) (layout : Tree OpaqueNodePtr (K × V)) (x : K × V) (point : DeletePoint) (parent : InnerPtr) (byte : ℕ) : Type 0 where
+pub record IsBelow {K V : Type 0} (bytes : K × V → List ℕ) (P : ℕ) (s : Nodes K V) (root : OpaqueNodePtr) (pairs : List (K × V))
+    (layout : Tree OpaqueNodePtr (K × V)) (x : K × V) (point : DeletePoint) (parent : InnerPtr) (byte : ℕ) : Type 0 where
   pub frame : Frame OpaqueNodePtr (K × V)
   pub above : List (Frame OpaqueNodePtr (K × V))
   pub node : LeafNode K V
@@ -135,7 +137,8 @@ taken_since {s = s} {u = u} {name = name} {deleted = deleted} leaves inners take
   inners = taken.inners ∙ inners;
 }
 
-module _ {K V : Type 0} {bytes : K × V → List ℕ} {P : ℕ} {s : Nodes K V} {root : OpaqueNodePtr} {pairs : List (K × V)} {layout : Tree OpaqueNodePtr (K × V)} {x : K × V} {point : DeletePoint} {parent : InnerPtr} {byte : ℕ} where
+module _ {K V : Type 0} {bytes : K × V → List ℕ} {P : ℕ} {s : Nodes K V} {root : OpaqueNodePtr} {pairs : List (K × V)}
+    {layout : Tree OpaqueNodePtr (K × V)} {x : K × V} {point : DeletePoint} {parent : InnerPtr} {byte : ℕ} where
   pub is_below : IsTree bytes P s root pairs layout → LeadsTo layout x point → last_step point.path ≡ Some (parent, byte) → IsBelow bytes P s root pairs layout x point parent byte
   is_below by leads step = frames leads.path leads.whole leads.path_is
     where
@@ -178,11 +181,16 @@ module _ {K V : Type 0} {bytes : K × V → List ℕ} {P : ℕ} {s : Nodes K V} 
     smaller_is_inner is e = smaller_inner parent.kind parent_there.2 (sym is ∙ some_same e)
 
     -- what becomes of the parent is told by its number of children
-    pub change_is : (to : ParentChange) → last_step point.path ≡ Some (parent, byte) → parent_change s point.path ≡ to → change_of at.frame.mark.kind (suc (length (bytes_of (join at.frame.left at.frame.right)))) ≡ to
+    pub change_is : (to : ParentChange) → last_step point.path ≡ Some (parent, byte) → parent_change s point.path ≡ to →
+        change_of at.frame.mark.kind (suc (length (bytes_of (join at.frame.left at.frame.right)))) ≡ to
     change_is to step is =
         let (node, got, off, count) = parent_there in
         let told : parent_change s point.path ≡ change_of parent.kind (length node.children) =
-        ap (λ (o : Option (InnerPtr × ℕ)). elim o as (λ _. ParentChange) [ None ↦ no_parent | Some p ↦ elim (get s.inners p.0) as (λ _. ParentChange) [ None ↦ no_parent | Some i ↦ change_of p.0.kind (length i.children) ] ]) step
+        ap (λ (o : Option (InnerPtr × ℕ)). elim o as (λ _. ParentChange) [
+          | None ↦ no_parent
+          | Some p ↦
+              elim (get s.inners p.0) as (λ _. ParentChange) [ None ↦ no_parent | Some i ↦ change_of p.0.kind (length i.children) ]
+        ]) step
         ∙ ap (λ (o : Option Inner). elim o as (λ _. ParentChange) [ None ↦ no_parent | Some i ↦ change_of parent.kind (length i.children) ]) got in
         ap (λ (p : InnerPtr). change_of p.kind (suc (length (bytes_of (join at.frame.left at.frame.right))))) at.parent_is ∙ ap (change_of parent.kind) (sym count) ∙ sym told ∙ is
 
@@ -205,7 +213,8 @@ module _ {K V : Type 0} {bytes : K × V → List ℕ} {P : ℕ} {s : Nodes K V} 
       parent_stays = record {
         goes = record { here = at.here; leaves = without.leaves ∙ leaves_without };
         spare = let more = keeps_spare at.frame.mark.kind (suc (length (bytes_of (join at.frame.left at.frame.right)))) (change_is at keeps step is) in omega arith;
-        inners = without.inners ∙ ap (λ m. change m parent (without_child byte)) taken.inners ∙ ap (λ p. change s.inners p (without_child byte)) (sym at.parent_is) ∙ ap (λ b. change s.inners (as_inner at.frame.mark) (without_child b)) (sym at.byte_is);
+        inners = without.inners ∙ ap (λ m. change m parent (without_child byte)) taken.inners ∙
+            ap (λ p. change s.inners p (without_child byte)) (sym at.parent_is) ∙ ap (λ b. change s.inners (as_inner at.frame.mark) (without_child b)) (sym at.byte_is);
       }
 
       -- the record of it
@@ -218,7 +227,8 @@ module _ {K V : Type 0} {bytes : K × V → List ℕ} {P : ℕ} {s : Nodes K V} 
             canonical = canonical_from (subst (λ r. IsLaidOut bytes P (node_at t) (links_at t) r (remove_key bytes (bytes x) pairs) tree) same
                 (subst (λ y. IsLaidOut bytes P (node_at t) (links_at t) (root_of at.above root at.frame.mark) (remove_key bytes (bytes y) pairs) tree) at.pair (stays_laid_out at.below parent_stays)));
             deleted = pair_alone;
-            root_is = subst (λ to. IsRootAfter to point.path root (Some root)) (sym is) (subst (λ path. IsRootAfter keeps path root (Some root)) (sym at.path_is) (root_kept_at at.frame at.above root));
+            root_is =
+                subst (λ to. IsRootAfter to point.path root (Some root)) (sym is) (subst (λ path. IsRootAfter keeps path root (Some root)) (sym at.path_is) (root_kept_at at.frame at.above root));
             kept = subst (λ l. ChangesInPlace bytes s t (Some l) (Some tree)) at.whole (stays_in_place at.below parent_stays);
           }
 
@@ -240,9 +250,13 @@ module _ {K V : Type 0} {bytes : K × V → List ℕ} {P : ℕ} {s : Nodes K V} 
           let (off, node, got, head, kids) = parent_is at.below in
           let same : freed ≡ node = some_same (sym there ∙ ap (λ m. get m parent) taken.inners ∙ ap (get s.inners) (sym at.parent_is) ∙ got) in
           let left : length (remove_child freed.children byte) ≡ length (bytes_of (join at.frame.left at.frame.right)) =
-          ap (λ b. length (remove_child freed.children b)) (sym at.byte_is) ∙ ap length (slots_left at.below freed.children (ap (λ z. z.children) same ∙ kids)) ∙ length-slots_of (join at.frame.left at.frame.right) in
-          subst (λ (p : InnerPtr). (p.kind ≢ Node4) × (length (remove_child freed.children byte) ≤ kind_capacity (smaller_kind p.kind))) at.parent_is
-          (fewest.0, subst (λ n. n ≤ kind_capacity (smaller_kind at.frame.mark.kind)) (sym left) (room_in_smaller at.frame.mark.kind (length (bytes_of (join at.frame.left at.frame.right))) fewest.0 fewest.1))
+          ap (λ b. length (remove_child freed.children b)) (sym at.byte_is) ∙
+          ap length (slots_left at.below freed.children (ap (λ z. z.children) same ∙ kids)) ∙ length-slots_of (join at.frame.left at.frame.right) in
+          subst (λ (p : InnerPtr). (p.kind ≢ Node4) × (length (remove_child freed.children byte) ≤ kind_capacity (smaller_kind p.kind))) at.parent_is (
+            fewest.0,
+            subst (λ n. n ≤ kind_capacity (smaller_kind at.frame.mark.kind)) (sym left)
+                (room_in_smaller at.frame.mark.kind (length (bytes_of (join at.frame.left at.frame.right))) fewest.0 fewest.1),
+          )
 
       placed_is : (q : InnerPtr) (node : Inner) → insert (remove u.inners parent) q (without_child byte node) ≡ insert (remove s.inners (as_inner at.frame.mark)) q (without_child at.frame.byte node)
       placed_is q node =
@@ -261,7 +275,8 @@ module _ {K V : Type 0} {bytes : K × V → List ℕ} {P : ℕ} {s : Nodes K V} 
           kind = smaller.kind ∙ ap (λ (p : InnerPtr). smaller_kind p.kind) (sym at.parent_is);
           there = ap (get s.inners) at.parent_is ∙ ap (λ m. get m parent) (sym taken.inners) ∙ smaller.there;
           fresh = ap (λ p. get (remove s.inners p) q) at.parent_is ∙ ap (λ m. get (remove m parent) q) (sym taken.inners) ∙ smaller.fresh;
-          inners = last.inners ∙ ap (λ path. with_child_at (last_step (up path)) (inner_name q) v.inners) at.path_is ∙ ap (λ above. with_child_at above (inner_name q) v.inners) (last_step-up at.frame at.above) ∙ ap (with_child_at (parent_of at.above) (inner_name q)) inners_are;
+          inners = last.inners ∙ ap (λ path. with_child_at (last_step (up path)) (inner_name q) v.inners) at.path_is ∙
+              ap (λ above. with_child_at above (inner_name q) v.inners) (last_step-up at.frame at.above) ∙ ap (with_child_at (parent_of at.above) (inner_name q)) inners_are;
         }
 
         -- before it is written, the grandparent has a child under its byte
@@ -275,16 +290,23 @@ module _ {K V : Type 0} {bytes : K × V → List ℕ} {P : ℕ} {s : Nodes K V} 
 
         module _ {t : Nodes K V} (last : IsInPlace v t point.path q) where
           -- the record of it
-          pub parent_deleted : {new : OpaqueNodePtr} → new ≡ root_with (up point.path) root (inner_name q) → IsDeleted bytes P s t root point x pairs layout (record { new_root = Some new; deleted_leaf = deleted })
+          pub parent_deleted : {new : OpaqueNodePtr} → new ≡ root_with (up point.path) root (inner_name q) →
+              IsDeleted bytes P s t root point x pairs layout (record { new_root = Some new; deleted_leaf = deleted })
           parent_deleted {new} root_is =
-              let answered : new ≡ root_of at.above root (inner_name q) = root_is ∙ ap (λ path. root_with (up path) root (inner_name q)) at.path_is ∙ root_with-up at.frame at.above root (inner_name q) in
+              let answered : new ≡ root_of at.above root (inner_name q) =
+              root_is ∙ ap (λ path. root_with (up path) root (inner_name q)) at.path_is ∙ root_with-up at.frame at.above root (inner_name q) in
               let tree = plug at.above (shrunk at.below (parent_shrinks last)) in
               record {
                 tree = Some tree;
                 canonical = canonical_from (subst (λ r. IsLaidOut bytes P (node_at t) (links_at t) r (remove_key bytes (bytes x) pairs) tree) (sym answered)
-                    (subst (λ y. IsLaidOut bytes P (node_at t) (links_at t) (root_of at.above root (inner_name q)) (remove_key bytes (bytes y) pairs) tree) at.pair (shrinks_laid_out at.below (parent_shrinks last))));
+                    (subst (λ y. IsLaidOut bytes P (node_at t) (links_at t) (root_of at.above root (inner_name q)) (remove_key bytes (bytes y) pairs)
+                    tree) at.pair (shrinks_laid_out at.below (parent_shrinks last))));
                 deleted = pair_alone;
-                root_is = subst (λ change. IsRootAfter change point.path root (Some new)) (sym is) (subst (λ path. IsRootAfter (shrinks to) path root (Some new)) (sym at.path_is) (subst (λ r. IsRootAfter (shrinks to) (path_of (at.frame ∷ at.above)) root (Some r)) (sym answered) (root_after_at at.frame (shrinks to) at.above root (inner_name q) (λ e. absurd cc))));
+                root_is =
+                    subst (λ change. IsRootAfter change point.path root (Some new)) (sym is)
+                    (subst (λ path. IsRootAfter (shrinks to) path root (Some new)) (sym at.path_is)
+                    (subst (λ r. IsRootAfter (shrinks to) (path_of (at.frame ∷ at.above)) root (Some r)) (sym answered)
+                    (root_after_at at.frame (shrinks to) at.above root (inner_name q) (λ e. absurd cc))));
                 kept = subst (λ l. ChangesInPlace bytes s t (Some l) (Some tree)) at.whole (shrinks_in_place at.below (parent_shrinks last));
               }
 

@@ -42,9 +42,11 @@ use Rattle.art_writing.proofs.Branches.{end_laid, end_hole, end_depth}
 -- ---- the leaves beside
 
 -- the links that a leaf has in a chain
-leaf_links : {K V : Type 0} (s : Nodes K V) (xs zs : List OpaqueNodePtr) (p : LeafPtr) (own : LeafNode K V) → get s.leaves p ≡ Some own → AreLinked (links_at s) None (xs ++ leaf_name p ∷ zs) None → (option_map leaf_name own.previous ≡ last_or xs None) × (option_map leaf_name own.next ≡ first_or zs None)
+leaf_links : {K V : Type 0} (s : Nodes K V) (xs zs : List OpaqueNodePtr) (p : LeafPtr) (own : LeafNode K V) → get s.leaves p ≡ Some own →
+    AreLinked (links_at s) None (xs ++ leaf_name p ∷ zs) None → (option_map leaf_name own.previous ≡ last_or xs None) × (option_map leaf_name own.next ≡ first_or zs None)
 leaf_links s xs zs p own here linked =
-    let same : ◌≡◌ {A = Links OpaqueNodePtr} (record { previous = option_map leaf_name own.previous; next = option_map leaf_name own.next }) (record { previous = last_or xs None; next = first_or zs None }) =
+    let same : ◌≡◌ {A = Links OpaqueNodePtr} (record { previous = option_map leaf_name own.previous; next = option_map leaf_name own.next })
+    (record { previous = last_or xs None; next = first_or zs None }) =
     let e = ap (λ o. option_and_then links_of (option_map held_leaf o)) (sym here) ∙ link_of (links_at s) xs zs (leaf_name p) None None linked in cc in
     (ap (λ z. z.previous) same, ap (λ z. z.next) same)
 
@@ -65,19 +67,23 @@ some_leaf (Some own) Q h = (own, refl, h)
 module _ {K V : Type 0} (s : Nodes K V) (fs : List (Frame OpaqueNodePtr (K × V))) (tree : Tree OpaqueNodePtr (K × V)) (linked : AreLinked (links_at s) None (leaf_names (plug fs tree)) None) where
   -- right after the leaves in the hole, or right before them
   pub beside_is : (first : Bool) (previous next : Option LeafPtr) → IsBeside s tree first previous next →
-      (option_map leaf_name previous ≡ last_or (leaves_before fs ++ cond first (leaf_names tree) []) None) × (option_map leaf_name next ≡ first_or (cond first [] (leaf_names tree) ++ leaves_after fs) None)
+      (option_map leaf_name previous ≡ last_or (leaves_before fs ++ cond first (leaf_names tree) []) None) ×
+      (option_map leaf_name next ≡ first_or (cond first [] (leaf_names tree) ++ leaves_after fs) None)
   beside_is true previous next (last, has, is, here) =
       let (own, found, same) = some_leaf (get s.leaves last) (λ own. next ≡ own.next) here in
       let (front, ends) = last_split (leaf_names tree) (leaf_name last) has.0 in
-      let whole : leaf_names (plug fs tree) ≡ (leaves_before fs ++ front) ++ leaf_name last ∷ leaves_after fs = leaf_names-plug fs tree ∙ ap (λ ks. leaves_before fs ++ ks ++ leaves_after fs) ends ∙ simp append_assoc in
+      let whole : leaf_names (plug fs tree) ≡ (leaves_before fs ++ front) ++ leaf_name last ∷ leaves_after fs =
+      leaf_names-plug fs tree ∙ ap (λ ks. leaves_before fs ++ ks ++ leaves_after fs) ends ∙ simp append_assoc in
       let links = leaf_links s (leaves_before fs ++ front) (leaves_after fs) last own found (subst (λ ks. AreLinked (links_at s) None ks None) whole linked) in (
-        ap (option_map leaf_name) is ∙ sym (last_or-append (leaves_before fs) (leaf_names tree) None ∙ ap (λ ks. last_or ks (last_or (leaves_before fs) None)) ends ∙ last_or-append front (leaf_name last ∷ []) (last_or (leaves_before fs) None)),
+        ap (option_map leaf_name) is ∙ sym (last_or-append (leaves_before fs) (leaf_names tree) None ∙
+            ap (λ ks. last_or ks (last_or (leaves_before fs) None)) ends ∙ last_or-append front (leaf_name last ∷ []) (last_or (leaves_before fs) None)),
         ap (option_map leaf_name) same ∙ links.1,
       )
   beside_is false previous next (first, has, is, here) =
       let (own, found, same) = some_leaf (get s.leaves first) (λ own. previous ≡ own.previous) here in
       let (rest, begins) = first_split (leaf_names tree) (leaf_name first) has.0 in
-      let whole : leaf_names (plug fs tree) ≡ leaves_before fs ++ leaf_name first ∷ (rest ++ leaves_after fs) = leaf_names-plug fs tree ∙ ap (λ ks. leaves_before fs ++ ks ++ leaves_after fs) begins ∙ simp append_assoc in
+      let whole : leaf_names (plug fs tree) ≡ leaves_before fs ++ leaf_name first ∷ (rest ++ leaves_after fs) =
+      leaf_names-plug fs tree ∙ ap (λ ks. leaves_before fs ++ ks ++ leaves_after fs) begins ∙ simp append_assoc in
       let links = leaf_links s (leaves_before fs) (rest ++ leaves_after fs) first own found (subst (λ ks. AreLinked (links_at s) None ks None) whole linked) in (
         ap (option_map leaf_name) same ∙ links.0 ∙ ap (λ ks. last_or ks None) (sym (append-nil (leaves_before fs))),
         ap (option_map leaf_name) is ∙ ap (λ ks. first_or (ks ++ leaves_after fs) None) (sym begins),
@@ -133,7 +139,8 @@ unrelated_ways place key other used front fronts apart shared =
     }
 
 -- a key that parts from a prefix after a place parts from what goes on with the prefix
-pub prefix_ways : (place prefix key other : List ℕ) (depth matched : ℕ) → depth ≡ length place → key ≡ place ++ drop depth key → IsFront (place ++ prefix) other → matched ≡ shared_len prefix (drop depth key) → matched < length prefix → depth + matched < length key →
+pub prefix_ways : (place prefix key other : List ℕ) (depth matched : ℕ) → depth ≡ length place → key ≡ place ++ drop depth key →
+    IsFront (place ++ prefix) other → matched ≡ shared_len prefix (drop depth key) → matched < length prefix → depth + matched < length key →
     (ways : AreWays place key other (depth + matched)) × (ways.y ≡ get_or prefix matched 0)
 prefix_ways place prefix key other depth matched deep is (rest, whole) shared inside long =
     let l = ap length is in
@@ -155,26 +162,36 @@ prefix_ways place prefix key other depth matched deep is (rest, whole) shared in
       sym (ap (λ z. get_or z matched 0) f.a_is ∙ get_or_at part f.x f.r 0 matched matched_is),
     )
 
-module _ {K V : Type 0} {bytes : K × V → List ℕ} {P : ℕ} {s : Nodes K V} {key : List ℕ} {point : InsertPoint} {pairs : List (K × V)} {layout : Tree OpaqueNodePtr (K × V)} (by : IsTree bytes P s point.root pairs layout) (at : AnswersTo bytes P layout key point) where
+module _ {K V : Type 0} {bytes : K × V → List ℕ} {P : ℕ} {s : Nodes K V} {key : List ℕ} {point : InsertPoint} {pairs : List (K × V)}
+    {layout : Tree OpaqueNodePtr (K × V)} (by : IsTree bytes P s point.root pairs layout) (at : AnswersTo bytes P layout key point) where
   abbrev place : List ℕ
   place = take (depth_of at.path) key
 
   -- the node stands for a full tree
   pub end_full : {name : OpaqueNodePtr} → name_of at.node ≡ name → IsFullTree s name at.node
   end_full named = (
-    record { named = named; holds = (path_holds (node_at s) at.path at.node (end_laid by at).holds).1; distinct = hole_distinct (node_at s) (node_at s) at.path at.node (end_laid by at).holds (end_laid by at).distinct },
+    record {
+      named = named;
+      holds = (path_holds (node_at s) at.path at.node (end_laid by at).holds).1;
+      distinct = hole_distinct (node_at s)
+          (node_at s) at.path at.node (end_laid by at).holds (end_laid by at).distinct;
+    },
     one_child at.node (have_two_children bytes P place at.node (end_hole by at).radix),
   )
 
   -- what is read for a branch
-  pub branch_is : {used : ℕ} {part : List ℕ} {branch : Branch P} {old_byte new_byte : ℕ} (w : AreWays place key (least_key bytes at.node) used) → point.key_bytes_used ≡ depth_of at.path → part ≡ take (used - point.key_bytes_used) (drop point.key_bytes_used key) → branch.header ≡ header_of P part →
-      branch.old_byte ≡ old_byte → branch.new_byte ≡ new_byte → old_byte ≡ w.y → new_byte ≡ get_or key used 0 → IsBeside s at.node (ltb old_byte new_byte) branch.previous branch.next → IsBranch bytes key at.path at.node branch
+  pub branch_is : {used : ℕ} {part : List ℕ} {branch : Branch P} {old_byte new_byte : ℕ} (w : AreWays place key (least_key bytes at.node) used) →
+      point.key_bytes_used ≡ depth_of at.path → part ≡ take (used - point.key_bytes_used) (drop point.key_bytes_used key) → branch.header ≡ header_of P part →
+      branch.old_byte ≡ old_byte → branch.new_byte ≡ new_byte → old_byte ≡ w.y → new_byte ≡ get_or key used 0 →
+      IsBeside s at.node (ltb old_byte new_byte) branch.previous branch.next → IsBranch bytes key at.path at.node branch
   branch_is {used} {part} {branch} {old_byte} {new_byte} w start part_is header old_is new_is old_byte_is new_byte_is beside =
       let deep : point.key_bytes_used ≡ length place = start ∙ end_depth by at in
       let old : branch.old_byte ≡ w.y = old_is ∙ old_byte_is in
       let new : branch.new_byte ≡ w.x = new_is ∙ new_byte_is ∙ byte_of place w.part w.x w.r key w.key_is used w.used_is in
       let first : ltb old_byte new_byte ≡ ltb branch.old_byte branch.new_byte = ap₂ ltb (sym old_is) (sym new_is) in
-      let links = beside_is s at.path at.node (end_laid by at).linked (ltb branch.old_byte branch.new_byte) branch.previous branch.next (subst (λ t. IsBeside s at.node t branch.previous branch.next) first beside) in
+      let links =
+      beside_is s at.path at.node (end_laid by at).linked (ltb branch.old_byte branch.new_byte) branch.previous branch.next
+      (subst (λ t. IsBeside s at.node t branch.previous branch.next) first beside) in
       record {
         part = w.part;
         header = header ∙ ap (header_of P) (part_is ∙ part_of place w.part w.x w.r key w.key_is point.key_bytes_used used deep w.used_is);
@@ -215,21 +232,28 @@ module _ {K V : Type 0} {bytes : K × V → List ℕ} {P : ℕ} {s : Nodes K V} 
       leaf_ways =
           let (start, (pair, is, (same, apart, shared))) = leaf_kind in
           let own : bytes pair ≡ least_key bytes at.node = ap (least_key bytes) (sym is) in
-          unrelated_ways place key (least_key bytes at.node) used (end_hole by at).front (subst (IsFront place) own (subst (IsRadix bytes P place) is (end_hole by at).radix)) (subst (λ k. are_related key k ≡ false) own apart) (shared ∙ ap (shared_len key) own)
+          unrelated_ways place key (least_key bytes at.node) used (end_hole by at).front
+          (subst (IsFront place) own (subst (IsRadix bytes P place) is (end_hole by at).radix)) (subst (λ k. are_related key k ≡ false) own apart) (shared ∙ ap (shared_len key) own)
 
       -- the bytes are there
       pub leaf_bounds : (point.key_bytes_used ≤ used) × (used < length key) × (used < length (bytes (pair_of shown)))
       leaf_bounds =
           let w = leaf_ways in
           let deep = leaf_start ∙ end_depth by at in
-          let count = w.used_is in
-          (omega arith, long_of place w.part w.x w.r key w.key_is used w.used_is, subst (λ k. used < length k) least_is (long_of place w.part w.y w.q (least_key bytes at.node) w.other_is used w.used_is))
+          let count = w.used_is in (
+            omega arith,
+            long_of place w.part w.x w.r key w.key_is used w.used_is,
+            subst (λ k. used < length k) least_is
+                (long_of place w.part w.y w.q (least_key bytes at.node) w.other_is used w.used_is),
+          )
 
-      pub leaf_branch : {text : List ℕ} {part : List ℕ} {branch : Branch P} {old_byte new_byte : ℕ} → text ≡ bytes (pair_of shown) → part ≡ take (used - point.key_bytes_used) (drop point.key_bytes_used key) → branch.header ≡ header_of P part → branch.old_byte ≡ old_byte → branch.new_byte ≡ new_byte →
+      pub leaf_branch : {text : List ℕ} {part : List ℕ} {branch : Branch P} {old_byte new_byte : ℕ} → text ≡ bytes (pair_of shown) →
+          part ≡ take (used - point.key_bytes_used) (drop point.key_bytes_used key) → branch.header ≡ header_of P part → branch.old_byte ≡ old_byte → branch.new_byte ≡ new_byte →
           old_byte ≡ get_or text used 0 → new_byte ≡ get_or key used 0 → IsBeside s at.node (ltb old_byte new_byte) branch.previous branch.next → IsBranch bytes key at.path at.node branch
       leaf_branch text part header old_is new_is old_byte_is new_byte_is beside =
           let w = leaf_ways in
-          branch_is w leaf_start part header old_is new_is (old_byte_is ∙ ap (λ k. get_or k used 0) (text ∙ sym least_is) ∙ byte_of place w.part w.y w.q (least_key bytes at.node) w.other_is used w.used_is) new_byte_is beside
+          branch_is w leaf_start part header old_is new_is (old_byte_is ∙ ap (λ k. get_or k used 0) (text ∙ sym least_is) ∙
+          byte_of place w.part w.y w.q (least_key bytes at.node) w.other_is used w.used_is) new_byte_is beside
 
   -- ---- at an inner node
 
@@ -263,19 +287,25 @@ module _ {K V : Type 0} {bytes : K × V → List ℕ} {P : ℕ} {s : Nodes K V} 
         let (header, children, is) = inner_found in
         let radix : IsRadix bytes P place (inner (inner_name p) header children) = subst (IsRadix bytes P place) is (end_hole by at).radix in
         let prefix : prefix_of bytes (depth_of at.path) at.node ≡ radix.0 = ap₂ (prefix_of bytes) (end_depth by at) is ∙ prefix_is bytes P (inner_name p) header children place radix in
-        subst (λ z. IsFront (place ++ z) (least_key bytes at.node)) (sym prefix) (subst (λ t. IsFront (place ++ radix.0) (least_key bytes t)) (sym is) (least_way_below bytes P children (place ++ radix.0) radix.2 radix.4))
+        subst (λ z. IsFront (place ++ z) (least_key bytes at.node)) (sym prefix)
+        (subst (λ t. IsFront (place ++ radix.0) (least_key bytes t)) (sym is) (least_way_below bytes P children (place ++ radix.0) radix.2 radix.4))
 
     -- which is longer than what the key has of it
     pub prefix_inside : mismatch.matched_bytes < length (prefix_of bytes (depth_of at.path) at.node)
     prefix_inside = slice_get_within (prefix_of bytes (depth_of at.path) at.node) mismatch.matched_bytes mismatch.prefix_byte parts.byte
 
-    inner_ways : (ways : AreWays place key (least_key bytes at.node) (depth_of at.path + mismatch.matched_bytes)) × (ways.y ≡ get_or (prefix_of bytes (depth_of at.path) at.node) mismatch.matched_bytes 0)
-    inner_ways = prefix_ways place (prefix_of bytes (depth_of at.path) at.node) key (least_key bytes at.node) (depth_of at.path) mismatch.matched_bytes (end_depth by at) (sym (take-append-drop (depth_of at.path) key)) prefix_way parts.matched prefix_inside inner_long
+    inner_ways : (ways : AreWays place key (least_key bytes at.node) (depth_of at.path + mismatch.matched_bytes)) ×
+        (ways.y ≡ get_or (prefix_of bytes (depth_of at.path) at.node) mismatch.matched_bytes 0)
+    inner_ways =
+        prefix_ways place (prefix_of bytes (depth_of at.path) at.node) key (least_key bytes at.node) (depth_of at.path) mismatch.matched_bytes
+        (end_depth by at) (sym (take-append-drop (depth_of at.path) key)) prefix_way parts.matched prefix_inside inner_long
 
-    pub inner_branch : {end : ℕ} {part : List ℕ} {branch : Branch P} {new_byte : ℕ} → end ≡ point.key_bytes_used + mismatch.matched_bytes → part ≡ take (end - point.key_bytes_used) (drop point.key_bytes_used key) → branch.header ≡ header_of P part → branch.old_byte ≡ mismatch.prefix_byte → branch.new_byte ≡ new_byte →
+    pub inner_branch : {end : ℕ} {part : List ℕ} {branch : Branch P} {new_byte : ℕ} → end ≡ point.key_bytes_used + mismatch.matched_bytes →
+        part ≡ take (end - point.key_bytes_used) (drop point.key_bytes_used key) → branch.header ≡ header_of P part → branch.old_byte ≡ mismatch.prefix_byte → branch.new_byte ≡ new_byte →
         new_byte ≡ get_or key end 0 → IsBeside s at.node (ltb mismatch.prefix_byte new_byte) branch.previous branch.next → IsBranch bytes key at.path at.node branch
     inner_branch {end} {part} end_is part_is header old_is new_is new_byte_is beside =
         let (w, old) = inner_ways in
         let used : end ≡ depth_of at.path + mismatch.matched_bytes = end_is ∙ ap (λ d. d + mismatch.matched_bytes) inner_start in
         let prefix_byte = sym (get_or_from_slice_get (prefix_of bytes (depth_of at.path) at.node) mismatch.matched_bytes mismatch.prefix_byte 0 parts.byte) in
-        branch_is w inner_start (part_is ∙ ap (λ n. take (n - point.key_bytes_used) (drop point.key_bytes_used key)) used) header old_is new_is (prefix_byte ∙ sym old) (new_byte_is ∙ ap (λ n. get_or key n 0) used) beside
+        branch_is w inner_start (part_is ∙ ap (λ n. take (n - point.key_bytes_used) (drop point.key_bytes_used key)) used) header old_is new_is
+        (prefix_byte ∙ sym old) (new_byte_is ∙ ap (λ n. get_or key n 0) used) beside

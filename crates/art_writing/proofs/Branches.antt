@@ -55,11 +55,13 @@ use Rattle.art_writing.proofs.Ways.{last_step-path_of, root_with-path_of, root_t
 -- ---- the end of a point's path
 
 -- the leaves before a new one and those after it, which comes right before or right after those in the hole
-leaf_list : {N A : Type 0} (fs : List (Frame N A)) (t : Tree N A) (first : Bool) → leaf_names (plug fs t) ≡ (leaves_before fs ++ cond first (leaf_names t) []) ++ (cond first [] (leaf_names t) ++ leaves_after fs)
+leaf_list : {N A : Type 0} (fs : List (Frame N A)) (t : Tree N A) (first : Bool) →
+    leaf_names (plug fs t) ≡ (leaves_before fs ++ cond first (leaf_names t) []) ++ (cond first [] (leaf_names t) ++ leaves_after fs)
 leaf_list fs t true = leaf_names-plug fs t
 leaf_list fs t false = leaf_names-plug fs t ∙ simp append_assoc
 
-module _ {K V : Type 0} {bytes : K × V → List ℕ} {P : ℕ} {s : Nodes K V} {key : List ℕ} {point : InsertPoint} {pairs : List (K × V)} {layout : Tree OpaqueNodePtr (K × V)} (by : IsTree bytes P s point.root pairs layout) (at : AnswersTo bytes P layout key point) where
+module _ {K V : Type 0} {bytes : K × V → List ℕ} {P : ℕ} {s : Nodes K V} {key : List ℕ} {point : InsertPoint} {pairs : List (K × V)}
+    {layout : Tree OpaqueNodePtr (K × V)} (by : IsTree bytes P s point.root pairs layout) (at : AnswersTo bytes P layout key point) where
   -- the whole is laid out
   pub end_laid : IsLaidOut bytes P (node_at s) (links_at s) point.root pairs (plug at.path at.node)
   end_laid = subst (IsLaidOut bytes P (node_at s) (links_at s) point.root pairs) (sym at.is_end.whole) (laid_out by)
@@ -78,7 +80,9 @@ module _ {K V : Type 0} {bytes : K × V → List ℕ} {P : ℕ} {s : Nodes K V} 
 
   -- the parent has a child under its byte
   pub end_parent : HasChild s.inners (last_step point.path)
-  end_parent = subst (HasChild s.inners) (sym (ap last_step at.path_is ∙ last_step-path_of at.path)) (has (parent_of at.path) (parent_ready bytes P s at.path (take (depth_of at.path) key) (name_of at.node) end_hole.path (path_holds (node_at s) at.path at.node end_laid.holds).0))
+  end_parent =
+      subst (HasChild s.inners) (sym (ap last_step at.path_is ∙ last_step-path_of at.path))
+      (has (parent_of at.path) (parent_ready bytes P s at.path (take (depth_of at.path) key) (name_of at.node) end_hole.path (path_holds (node_at s) at.path at.node end_laid.holds).0))
     where
       some : (o : Option Inner) (b : ℕ) → IsSomeAnd o (λ node. child_at node.children b ≡ Some (name_of at.node)) → IsSomeAnd o (λ node. IsSome (child_at node.children b))
       some None b h = h
@@ -89,30 +93,40 @@ module _ {K V : Type 0} {bytes : K × V → List ℕ} {P : ℕ} {s : Nodes K V} 
       has (Some p) h = some (get s.inners p.0) p.1 h
 
   module _ {branch : Branch P} (is : IsBranch bytes key at.path at.node branch) where
-    ends_there : AreThere s ((leaves_before at.path ++ cond (ltb branch.old_byte branch.new_byte) (leaf_names at.node) []) ++ (cond (ltb branch.old_byte branch.new_byte) [] (leaf_names at.node) ++ leaves_after at.path))
+    ends_there : AreThere s ((leaves_before at.path ++ cond (ltb branch.old_byte branch.new_byte) (leaf_names at.node) []) ++
+        (cond (ltb branch.old_byte branch.new_byte) [] (leaf_names at.node) ++ leaves_after at.path))
     ends_there = subst (AreThere s) (leaf_list at.path at.node (ltb branch.old_byte branch.new_byte)) (are_there s (plug at.path at.node) end_laid.holds)
 
     -- the leaves beside the new one are there
     pub previous_is_there : IsThere s.leaves branch.previous
-    previous_is_there = previous_there s (leaves_before at.path ++ cond (ltb branch.old_byte branch.new_byte) (leaf_names at.node) []) (cond (ltb branch.old_byte branch.new_byte) [] (leaf_names at.node) ++ leaves_after at.path) branch.previous ends_there is.previous
+    previous_is_there =
+        previous_there s (leaves_before at.path ++ cond (ltb branch.old_byte branch.new_byte) (leaf_names at.node) [])
+        (cond (ltb branch.old_byte branch.new_byte) [] (leaf_names at.node) ++ leaves_after at.path) branch.previous ends_there is.previous
 
     pub next_is_there : IsThere s.leaves branch.next
-    next_is_there = next_there s (leaves_before at.path ++ cond (ltb branch.old_byte branch.new_byte) (leaf_names at.node) []) (cond (ltb branch.old_byte branch.new_byte) [] (leaf_names at.node) ++ leaves_after at.path) branch.next ends_there is.next
+    next_is_there =
+        next_there s (leaves_before at.path ++ cond (ltb branch.old_byte branch.new_byte) (leaf_names at.node) [])
+        (cond (ltb branch.old_byte branch.new_byte) [] (leaf_names at.node) ++ leaves_after at.path) branch.next ends_there is.next
 
 -- what is read is read for the key
-pub read_for : {K V : Type 0} {bytes : K × V → List ℕ} {P : ℕ} {s : Nodes K V} {point : InsertPoint} {text key : List ℕ} {branch : Branch P} → text ≡ key → ForEnd bytes P s text point (λ path node. IsBranch bytes text path node branch) → ForEnd bytes P s key point (λ path node. IsBranch bytes key path node branch)
+pub read_for : {K V : Type 0} {bytes : K × V → List ℕ} {P : ℕ} {s : Nodes K V} {point : InsertPoint} {text key : List ℕ} {branch : Branch P} →
+    text ≡ key → ForEnd bytes P s text point (λ path node. IsBranch bytes text path node branch) → ForEnd bytes P s key point (λ path node. IsBranch bytes key path node branch)
 read_for {bytes = bytes} {P} {s} {point} {branch = branch} same read = subst (λ k. ForEnd bytes P s k point (λ path node. IsBranch bytes k path node branch)) same read
 
 -- ---- the branch is placed
 
-module _ {K V : Type 0} {bytes : K × V → List ℕ} {P : ℕ} {s : Nodes K V} {point : InsertPoint} {pairs : List (K × V)} {layout : Tree OpaqueNodePtr (K × V)} {pair : K × V} (by : IsTree bytes P s point.root pairs layout) (at : AnswersTo bytes P layout (bytes pair) point) {branch : Branch P} (is : IsBranch bytes (bytes pair) at.path at.node branch)
+module _ {K V : Type 0} {bytes : K × V → List ℕ} {P : ℕ} {s : Nodes K V} {point : InsertPoint} {pairs : List (K × V)}
+    {layout : Tree OpaqueNodePtr (K × V)} {pair : K × V} (by : IsTree bytes P s point.root pairs layout)
+    (at : AnswersTo bytes P layout (bytes pair) point) {branch : Branch P} (is : IsBranch bytes (bytes pair) at.path at.node branch)
     {mid t : Nodes K V} {old : OpaqueNodePtr} {done : InsertResult K V} (placed : IsPlaced mid t point old branch pair done) where
   abbrev pub new_leaf : LeafNode K V
   new_leaf = record { key = pair.0; value = pair.1; previous = branch.previous; next = branch.next }
 
   -- the store's equations, where the leaves were the same before, and the inner nodes but for those that were touched
-  pub branch_stored : {touched : List InnerPtr} → mid.leaves ≡ s.leaves → Touched s.inners mid.inners [] [] touched → Each IsInner touched → ((k : InnerPtr) → IsIn k touched → IsIn (inner_name k) (names_of at.node)) → name_of at.node ≡ old →
-      BranchStored bytes P s t at.path (take (depth_of at.path) (bytes pair)) at.node placed.node done.leaf_node_ptr is.part branch.old_byte branch.new_byte (record { key = pair.0; value = pair.1; previous = branch.previous; next = branch.next }) mid.inners touched
+  pub branch_stored : {touched : List InnerPtr} → mid.leaves ≡ s.leaves → Touched s.inners mid.inners [] [] touched → Each IsInner touched →
+      ((k : InnerPtr) → IsIn k touched → IsIn (inner_name k) (names_of at.node)) → name_of at.node ≡ old →
+      BranchStored bytes P s t at.path (take (depth_of at.path) (bytes pair)) at.node placed.node done.leaf_node_ptr is.part branch.old_byte
+      branch.new_byte (record { key = pair.0; value = pair.1; previous = branch.previous; next = branch.next }) mid.inners touched
   branch_stored {touched} leaves touches kinds in_node named = record {
     hole = end_hole by at;
     front = is.new_way;
@@ -125,7 +139,8 @@ module _ {K V : Type 0} {bytes : K × V → List ℕ} {P : ℕ} {s : Nodes K V} 
       leaves = placed.leaves ∙ ap (λ m. with_leaf m done.leaf_node_ptr new_leaf) leaves;
     };
     kind = placed.kind;
-    fresh = sym (touches.others placed.node (λ i. i) (λ i. i) (λ i. (each_in (λ k. (get s.inners k ≢ None) × (get mid.inners k ≢ None)) placed.node touched touches.are_changed i).1 placed.node_was_free)) ∙ placed.node_was_free;
+    fresh = sym (touches.others placed.node (λ i. i) (λ i. i) (λ i.
+        (each_in (λ k. (get s.inners k ≢ None) × (get mid.inners k ≢ None)) placed.node touched touches.are_changed i).1 placed.node_was_free)) ∙ placed.node_was_free;
     touches = touches;
     are_inner = kinds;
     in_tree = in_node;
@@ -133,7 +148,8 @@ module _ {K V : Type 0} {bytes : K × V → List ℕ} {P : ℕ} {s : Nodes K V} 
         (ap₂ (λ (name : OpaqueNodePtr) (header : Prefix). with_child branch.new_byte (leaf_name done.leaf_node_ptr) (with_child branch.old_byte name (childless header))) (sym named) is.header);
   }
 
-  module _ {u : Tree OpaqueNodePtr (K × V)} (new : BranchInserted bytes P (node_at s) (node_at t) (links_at s) (links_at t) at.path (take (depth_of at.path) (bytes pair)) at.node u (inner_name placed.node) (leaf_name done.leaf_node_ptr) is.part branch.old_byte branch.new_byte pair) where
+  module _ {u : Tree OpaqueNodePtr (K × V)} (new : BranchInserted bytes P (node_at s) (node_at t) (links_at s) (links_at t) at.path
+      (take (depth_of at.path) (bytes pair)) at.node u (inner_name placed.node) (leaf_name done.leaf_node_ptr) is.part branch.old_byte branch.new_byte pair) where
     abbrev grown : Tree OpaqueNodePtr (K × V)
     grown = inner (inner_name placed.node) (header_of P is.part 2) (two_children branch.old_byte u branch.new_byte (leaf (leaf_name done.leaf_node_ptr) pair))
 
@@ -142,10 +158,13 @@ module _ {K V : Type 0} {bytes : K × V → List ℕ} {P : ℕ} {s : Nodes K V} 
     none_stored =
         let key = bytes pair in
         let front = take (depth_of at.path) key ++ is.part in
-        let ways : Each (λ y. IsFront (front ++ branch.old_byte ∷ []) (bytes y)) (pairs_of at.node) = subst (Each (λ y. IsFront (front ++ branch.old_byte ∷ []) (bytes y))) (same_pairs_of at.node u new.same_entries) (radix_way bytes P u (front ++ branch.old_byte ∷ []) new.radix) in
+        let ways : Each (λ y. IsFront (front ++ branch.old_byte ∷ []) (bytes y)) (pairs_of at.node) =
+        subst (Each (λ y. IsFront (front ++ branch.old_byte ∷ []) (bytes y))) (same_pairs_of at.node u new.same_entries) (radix_way bytes P u (front ++ branch.old_byte ∷ []) new.radix) in
         let none : related_to bytes key (pairs_of at.node) ≡ [] = filter_none (λ y. are_related key (bytes y)) (pairs_of at.node)
-        (Each-weaker (λ y. IsFront (front ++ branch.old_byte ∷ []) (bytes y)) (λ y. are_related key (bytes y) ≡ false) (λ y way. unrelated_after front branch.new_byte branch.old_byte key (bytes y) is.new_way way (λ e. is.apart (sym e))) (pairs_of at.node) ways) in
-        let whole : related_to bytes key pairs ≡ [] = ap (related_to bytes key) (sym (end_laid by at).pairs_are) ∙ related_at bytes P at.path (take (depth_of at.path) key) key at.node (end_hole by at).path (end_hole by at).front ∙ none in
+        (Each-weaker (λ y. IsFront (front ++ branch.old_byte ∷ []) (bytes y)) (λ y. are_related key (bytes y) ≡ false)
+        (λ y way. unrelated_after front branch.new_byte branch.old_byte key (bytes y) is.new_way way (λ e. is.apart (sym e))) (pairs_of at.node) ways) in
+        let whole : related_to bytes key pairs ≡ [] =
+        ap (related_to bytes key) (sym (end_laid by at).pairs_are) ∙ related_at bytes P at.path (take (depth_of at.path) key) key at.node (end_hole by at).path (end_hole by at).front ∙ none in
         ap first_of (sym (filter_filter (λ y. are_same key (bytes y)) (λ y. are_related key (bytes y)) (λ y e. both key (bytes y) e) pairs) ∙ ap (with_key bytes key) whole)
       where
         both : (a b : List ℕ) → are_same a b ≡ true → are_related a b ≡ true
@@ -153,11 +172,20 @@ module _ {K V : Type 0} {bytes : K × V → List ℕ} {P : ℕ} {s : Nodes K V} 
 
     -- the leaf's path
     abbrev leaf_frame : Bool → Frame OpaqueNodePtr (K × V)
-    leaf_frame first = record { mark = inner_name placed.node; header = header_of P is.part 2; left = cond first (child branch.old_byte u no_child) no_child; byte = branch.new_byte; right = cond first no_child (child branch.old_byte u no_child) }
+    leaf_frame first =
+        record {
+          mark = inner_name placed.node;
+          header = header_of P is.part 2;
+          left = cond first (child branch.old_byte u no_child) no_child;
+          byte
+              = branch.new_byte;
+          right = cond first no_child (child branch.old_byte u no_child);
+        }
 
     -- the pair is inserted
     pub branch_done : ((parent : InnerPtr × ℕ) (told : InsertParentNodeChange) → told ≡ NewParent (inner_name parent.0) parent.1 → IsChange point.insert_kind (Some parent) told) →
-        {touched : List InnerPtr} → BranchStored bytes P s t at.path (take (depth_of at.path) (bytes pair)) at.node placed.node done.leaf_node_ptr is.part branch.old_byte branch.new_byte (record { key = pair.0; value = pair.1; previous = branch.previous; next = branch.next }) mid.inners touched →
+        {touched : List InnerPtr} → BranchStored bytes P s t at.path (take (depth_of at.path) (bytes pair)) at.node placed.node done.leaf_node_ptr
+        is.part branch.old_byte branch.new_byte (record { key = pair.0; value = pair.1; previous = branch.previous; next = branch.next }) mid.inners touched →
         IsInserted bytes P s t point pair pairs layout done
     branch_done branches stored = record {
       tree = plug at.path grown;
@@ -176,6 +204,8 @@ module _ {K V : Type 0} {bytes : K × V → List ℕ} {P : ℕ} {s : Nodes K V} 
         root : paths.root_with at.path point.root (inner_name placed.node) ≡ done.new_root
         root = sym (root_with-path_of at.path point.root (inner_name placed.node)) ∙ ap (λ path. root_with path point.root (inner_name placed.node)) (sym at.path_is) ∙ sym placed.root
 
-        filled : (first : Bool) → fill (leaf_frame first) (leaf (leaf_name done.leaf_node_ptr) pair) ≡ inner (inner_name placed.node) (header_of P is.part 2) (cond first (child branch.old_byte u (child branch.new_byte (leaf (leaf_name done.leaf_node_ptr) pair) no_child)) (child branch.new_byte (leaf (leaf_name done.leaf_node_ptr) pair) (child branch.old_byte u no_child)))
+        filled : (first : Bool) → fill (leaf_frame first) (leaf (leaf_name done.leaf_node_ptr) pair) ≡ inner (inner_name placed.node)
+            (header_of P is.part 2) (cond first (child branch.old_byte u (child branch.new_byte (leaf (leaf_name done.leaf_node_ptr) pair) no_child))
+            (child branch.new_byte (leaf (leaf_name done.leaf_node_ptr) pair) (child branch.old_byte u no_child)))
         filled true = refl
         filled false = refl

@@ -19,7 +19,8 @@ use Rattle.art_model.proofs.StoreLaws.{has_children, has_one_map}
 use Rattle.art_writing.specs.declared.clone.CloneResult.{CloneResult}
 use Rattle.art_writing.specs.Cloned.{IsCopied}
 
-module _ {K V : Type 0} (bytes : K → List _) (P : _) (is_key_clone : K → K → Type 0) (is_value_clone : V → V → Type 0) (keep : KeepBytes bytes is_key_clone) {s old new : Nodes K V} {root : OpaqueNodePtr} {pairs : List (K × V)} {layout : Tree OpaqueNodePtr (K × V)} {done : CloneResult}
+module _ {K V : Type 0} (bytes : K → List _) (P : _) (is_key_clone : K → K → Type 0) (is_value_clone : V → V → Type 0)
+    (keep : KeepBytes bytes is_key_clone) {s old new : Nodes K V} {root : OpaqueNodePtr} {pairs : List (K × V)} {layout : Tree OpaqueNodePtr (K × V)} {done : CloneResult}
     (is : IsTree (of_key bytes) P s root pairs layout) (copied : IsCopied (IsPairClone is_key_clone is_value_clone) layout old new done) where
   -- the copy is canonical for clones of the pairs
   pub cloned_tree : AreClones is_key_clone is_value_clone pairs (pairs_of copied.copy) × IsTree (of_key bytes) P new done.root (pairs_of copied.copy) copied.copy
@@ -38,7 +39,11 @@ module _ {K V : Type 0} (bytes : K → List _) (P : _) (is_key_clone : K → K �
     cloned_others = subst (λ z. KeepsOthers old new [] (names_of z)) (sym same_copy) (came_others copied.gains.holds copied.gains.added)
 
     pub cloned_first : HasFirstLeaf copy (leaf_name done.min_leaf)
-    cloned_first = subst (λ z. HasFirstLeaf z (leaf_name done.min_leaf)) (sym same_copy) (first_is_there copied.copy (leaf_name done.min_leaf) (has_children (of_key bytes) P new done.root (pairs_of copied.copy) copied.copy cloned_tree.1).1 copied.first)
+    cloned_first =
+        subst (λ z. HasFirstLeaf z (leaf_name done.min_leaf)) (sym same_copy)
+        (first_is_there copied.copy (leaf_name done.min_leaf) (has_children (of_key bytes) P new done.root (pairs_of copied.copy) copied.copy cloned_tree.1).1 copied.first)
 
     pub cloned_last : HasLastLeaf copy (leaf_name done.max_leaf)
-    cloned_last = subst (λ z. HasLastLeaf z (leaf_name done.max_leaf)) (sym same_copy) (last_is_there copied.copy (leaf_name done.max_leaf) (has_children (of_key bytes) P new done.root (pairs_of copied.copy) copied.copy cloned_tree.1).1 copied.last)
+    cloned_last =
+        subst (λ z. HasLastLeaf z (leaf_name done.max_leaf)) (sym same_copy)
+        (last_is_there copied.copy (leaf_name done.max_leaf) (has_children (of_key bytes) P new done.root (pairs_of copied.copy) copied.copy cloned_tree.1).1 copied.last)

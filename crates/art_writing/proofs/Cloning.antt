@@ -55,7 +55,8 @@ module _ {A : Type 0} where
   rising_bytes (child b t cs) h = (below_all b cs h.0, rising_bytes cs h.1)
 
 -- the first of some leaves and then of others, and the last
-first_more : (min : Option LeafPtr) (xs : List OpaqueNodePtr) (p : LeafPtr) → option_map leaf_name min ≡ first_or xs None → option_map leaf_name (option_or min (Some p)) ≡ first_or xs (Some (leaf_name p))
+first_more : (min : Option LeafPtr) (xs : List OpaqueNodePtr) (p : LeafPtr) → option_map leaf_name min ≡ first_or xs None →
+    option_map leaf_name (option_or min (Some p)) ≡ first_or xs (Some (leaf_name p))
 first_more None [] p e = refl
 first_more None (x ∷ xs) p e = absurd cc
 first_more (Some q) [] p e = absurd cc
@@ -70,7 +71,8 @@ some_or None q = (q, refl)
 some_or (Some p) q = (p, refl)
 
 -- So many children are copied below the new node, and the others are to come.
-pub record IsCloning {K V : Type 0} (IsClone : K × V → K × V → Type 0) (s : Nodes K V) (tree : Tree OpaqueNodePtr (K × V)) (old now : Nodes K V) (parent : InnerPtr) (rest : List (ℕ × OpaqueNodePtr)) (min max : Option LeafPtr) : Type 0 where
+pub record IsCloning {K V : Type 0} (IsClone : K × V → K × V → Type 0) (s : Nodes K V) (tree : Tree OpaqueNodePtr (K × V)) (old now : Nodes K V)
+    (parent : InnerPtr) (rest : List (ℕ × OpaqueNodePtr)) (min max : Option LeafPtr) : Type 0 where
   pub name : OpaqueNodePtr
   pub header : Header
   pub done : Children OpaqueNodePtr (K × V)
@@ -95,10 +97,14 @@ pub record IsCloning {K V : Type 0} (IsClone : K × V → K × V → Type 0) (s 
 module _ {K V : Type 0} (is_key_clone : K → K → Type 0) (is_value_clone : V → V → Type 0) where
   -- a leaf is copied
   pub copied_leaf : (s old new : Nodes K V) (p q : LeafPtr) (root name : OpaqueNodePtr) (tree : Tree OpaqueNodePtr (K × V)) → leaf_name p ≡ root → IsFullTree s root tree → get old.leaves q ≡ None →
-      IsSomeAnd (get s.leaves p) (λ x. (y : LeafNode K V) × IsLeafClone is_key_clone is_value_clone x y × (new.leaves ≡ insert old.leaves q y)) → new.inners ≡ old.inners → new.promise ≡ take_leaf old.promise → name ≡ leaf_name q → IsCopied (IsPairClone is_key_clone is_value_clone) tree old new (record { root = name; min_leaf = q; max_leaf = q })
+      IsSomeAnd (get s.leaves p) (λ x. (y : LeafNode K V) × IsLeafClone is_key_clone is_value_clone x y × (new.leaves ≡ insert old.leaves q y)) →
+      new.inners ≡ old.inners → new.promise ≡ take_leaf old.promise → name ≡ leaf_name q →
+      IsCopied (IsPairClone is_key_clone is_value_clone) tree old new (record { root = name; min_leaf = q; max_leaf = q })
   copied_leaf s old new p q root name tree named (is, full) free placed inners taken e = go (get s.leaves p) refl placed
     where
-      go : (o : Option (LeafNode K V)) → o ≡ get s.leaves p → IsSomeAnd o (λ x. (y : LeafNode K V) × IsLeafClone is_key_clone is_value_clone x y × (new.leaves ≡ insert old.leaves q y)) → IsCopied (IsPairClone is_key_clone is_value_clone) tree old new (record { root = name; min_leaf = q; max_leaf = q })
+      go : (o : Option (LeafNode K V)) → o ≡ get s.leaves p →
+          IsSomeAnd o (λ x. (y : LeafNode K V) × IsLeafClone is_key_clone is_value_clone x y × (new.leaves ≡ insert old.leaves q y)) →
+          IsCopied (IsPairClone is_key_clone is_value_clone) tree old new (record { root = name; min_leaf = q; max_leaf = q })
       go None there h = absurd h
       go (Some x) there (y, clone, leaves) =
           let at = leaf_shown s p tree (is.named ∙ sym named) is.holds x there in
@@ -114,8 +120,10 @@ module _ {K V : Type 0} (is_key_clone : K → K → Type 0) (is_value_clone : V 
 
 module _ {K V : Type 0} (IsClone : K × V → K × V → Type 0) where
   -- an inner node is placed for the children
-  pub cloning_start : (s old now : Nodes K V) (p parent : InnerPtr) (x : Inner) (root : OpaqueNodePtr) (tree : Tree OpaqueNodePtr (K × V)) → p.kind ≢ Leaf → inner_name p ≡ root → IsFullTree s root tree → Some x ≡ get s.inners p →
-      parent.kind ≡ p.kind → get old.inners parent ≡ None → now.inners ≡ insert old.inners parent (childless x.prefix) → now.leaves ≡ old.leaves → now.promise ≡ take_inner p.kind old.promise → AreRising x.children → length x.children ≤ kind_capacity p.kind →
+  pub cloning_start : (s old now : Nodes K V) (p parent : InnerPtr) (x : Inner) (root : OpaqueNodePtr) (tree : Tree OpaqueNodePtr (K × V)) →
+      p.kind ≢ Leaf → inner_name p ≡ root → IsFullTree s root tree → Some x ≡ get s.inners p →
+      parent.kind ≡ p.kind → get old.inners parent ≡ None → now.inners ≡ insert old.inners parent (childless x.prefix) → now.leaves ≡ old.leaves →
+      now.promise ≡ take_inner p.kind old.promise → AreRising x.children → length x.children ≤ kind_capacity p.kind →
       IsCloning IsClone s tree old now parent x.children None None
   cloning_start s old now p parent x root tree off named (is, full) there kind free inners leaves taken rising room =
       let at = inner_shown s p off tree (is.named ∙ sym named) is.holds x there in
@@ -149,26 +157,33 @@ module _ {K V : Type 0} (IsClone : K × V → K × V → Type 0) where
       }
 
   -- the next child's tree, and what there is when it is copied and put below the node
-  pub record NextCloned (s : Nodes K V) (tree : Tree OpaqueNodePtr (K × V)) (old now : Nodes K V) (parent : InnerPtr) (b : ℕ) (name : OpaqueNodePtr) (rest : List (ℕ × OpaqueNodePtr)) (min max : Option LeafPtr) : Type 0 where
+  pub record NextCloned (s : Nodes K V) (tree : Tree OpaqueNodePtr (K × V)) (old now : Nodes K V) (parent : InnerPtr) (b : ℕ) (name : OpaqueNodePtr)
+      (rest : List (ℕ × OpaqueNodePtr)) (min max : Option LeafPtr) : Type 0 where
     pub below : Tree OpaqueNodePtr (K × V)
     pub is_full : IsFullTree s name below
     pub low : tree_height below < tree_height tree
     pub last_there : (next : Nodes K V) (done : CloneResult) → IsCopied IsClone below now next done → IsThere next.leaves max
     pub first_there : (next : Nodes K V) (done : CloneResult) → IsCopied IsClone below now next done → IsThere next.leaves (Some done.min_leaf)
     pub place : (next : Nodes K V) (done : CloneResult) → IsCopied IsClone below now next done → IsSomeAnd (get next.inners parent) (λ node. HasPlace (kind_capacity parent.kind) node.children b)
-    pub then : (next new : Nodes K V) (done : CloneResult) → IsCopied IsClone below now next done → new.leaves ≡ joined next.leaves max (Some done.min_leaf) (Some done.min_leaf) max → new.inners ≡ change next.inners parent (with_child b done.root) → new.promise ≡ next.promise →
+    pub then : (next new : Nodes K V) (done : CloneResult) → IsCopied IsClone below now next done →
+        new.leaves ≡ joined next.leaves max (Some done.min_leaf) (Some done.min_leaf) max → new.inners ≡ change next.inners parent (with_child b done.root) → new.promise ≡ next.promise →
         IsCloning IsClone s tree old new parent rest (option_or min (Some done.min_leaf)) (Some done.max_leaf)
 
-  module _ (s : Nodes K V) (tree : Tree OpaqueNodePtr (K × V)) (old now : Nodes K V) (parent : InnerPtr) (b : ℕ) (name : OpaqueNodePtr) (rest : List (ℕ × OpaqueNodePtr)) (min max : Option LeafPtr) where
+  module _ (s : Nodes K V) (tree : Tree OpaqueNodePtr (K × V)) (old now : Nodes K V) (parent : InnerPtr) (b : ℕ) (name : OpaqueNodePtr)
+      (rest : List (ℕ × OpaqueNodePtr)) (min max : Option LeafPtr) where
     -- the copies' bytes are below the next one
-    copies_low : (f : IsCloning IsClone s tree old now parent ((b, name) ∷ rest) min max) (u : Tree OpaqueNodePtr (K × V)) (c : ℕ) (others : Children OpaqueNodePtr (K × V)) → f.left ≡ child c u others → c ≡ b → Each (λ z. z < b) (bytes_of f.copies)
+    copies_low : (f : IsCloning IsClone s tree old now parent ((b, name) ∷ rest) min max) (u : Tree OpaqueNodePtr (K × V)) (c : ℕ)
+        (others : Children OpaqueNodePtr (K × V)) → f.left ≡ child c u others → c ≡ b → Each (λ z. z < b) (bytes_of f.copies)
     copies_low f u c others is same =
         let up : IsRising (bytes_of f.done ++ c ∷ bytes_of others) = subst IsRising (ap (λ z. bytes_of (join f.done z)) is ∙ bytes_of-join f.done (child c u others)) f.rising in
-        subst (λ z. Each (λ y. y < z) (bytes_of f.copies)) same (subst (Each (λ y. y < c)) (sym (copied_bytes IsClone f.done f.copies f.same)) (Pairwise-before (λ y z. y < z) (bytes_of f.done) (bytes_of others) c up))
+        subst (λ z. Each (λ y. y < z) (bytes_of f.copies)) same (subst (Each (λ y. y < c)) (sym (copied_bytes IsClone f.done f.copies f.same))
+        (Pairwise-before (λ y z. y < z) (bytes_of f.done) (bytes_of others) c up))
 
     -- the step of the stores, whatever the last one is
-    child_gained : (f : IsCloning IsClone s tree old now parent ((b, name) ∷ rest) min max) (u : Tree OpaqueNodePtr (K × V)) (c : ℕ) (others : Children OpaqueNodePtr (K × V)) → f.left ≡ child c u others → c ≡ b → (next new : Nodes K V) (done : CloneResult) (copied : IsCopied IsClone u now next done) →
-        new.leaves ≡ joined next.leaves max (Some done.min_leaf) (Some done.min_leaf) max → new.inners ≡ change next.inners parent (with_child b done.root) → GainsChild old now next new (inner_name parent) f.header f.copies b copied.copy max done.min_leaf
+    child_gained : (f : IsCloning IsClone s tree old now parent ((b, name) ∷ rest) min max) (u : Tree OpaqueNodePtr (K × V)) (c : ℕ)
+        (others : Children OpaqueNodePtr (K × V)) → f.left ≡ child c u others → c ≡ b → (next new : Nodes K V) (done : CloneResult) (copied : IsCopied IsClone u now next done) →
+        new.leaves ≡ joined next.leaves max (Some done.min_leaf) (Some done.min_leaf) max →
+        new.inners ≡ change next.inners parent (with_child b done.root) → GainsChild old now next new (inner_name parent) f.header f.copies b copied.copy max done.min_leaf
     child_gained f u c others is same next new done copied leaves inners = record {
       so_far = f.gains;
       more = copied.gains;
@@ -207,7 +222,9 @@ module _ {K V : Type 0} (IsClone : K × V → K × V → Type 0) where
               low = omega arith;
               last_there = λ next done copied p e none.
                   let g = child_gained f u c others at byte next (put_below next done) done copied refl refl in
-                  let among = taken_in takes_leaves (inner (inner_name parent) f.header f.copies) (leaf_name p) (last_in (leaf_names_below f.copies) (leaf_name p) (sym f.last ∙ ap (option_map leaf_name) e)) in
+                  let among =
+                  taken_in takes_leaves (inner (inner_name parent) f.header f.copies) (leaf_name p)
+                  (last_in (leaf_names_below f.copies) (leaf_name p) (sym f.last ∙ ap (option_map leaf_name) e)) in
                   each_in (IsTaken (node_at now)) (leaf_name p) (inner_name parent ∷ names_below f.copies) (all_taken (node_at now) (inner (inner_name parent) f.header f.copies) f.gains.holds) among
                   (sym (child_seen g (leaf_name p) among) ∙ node_at-leaf next p ∙ ap (λ o. option_map leaf_node (option_map pair_of o)) none);
               first_there = λ next done copied p e. are_there next copied.copy copied.gains.holds p (first_in (leaf_names copied.copy) (leaf_name p) (copied.first ∙ ap (option_map leaf_name) e));
@@ -232,8 +249,12 @@ module _ {K V : Type 0} (IsClone : K × V → K × V → Type 0) where
                 same = copies_joined IsClone f.done f.copies (child c u no_child) (child b copied.copy no_child) f.same (sym byte, copied.same, tt);
                 gains = gained_child (child_gained f u c others at byte next new done copied leaves inners);
                 promise = ap (children_taken others) (kept ∙ copied.promise) ∙ sym (ap (λ z. children_taken z now.promise) at) ∙ f.promise;
-                first = first_more min (leaf_names_below f.copies) done.min_leaf f.first ∙ ap (first_or (leaf_names_below f.copies)) (sym copied.first) ∙ sym (first_or-append (leaf_names_below f.copies) (leaf_names copied.copy) None) ∙ ap (λ z. first_or z None) (sym (all_names f.copies copied.copy));
-                last = sym (ap (λ z. last_or z None) (all_names f.copies copied.copy) ∙ last_or-append (leaf_names_below f.copies) (leaf_names copied.copy) None ∙ last_more (leaf_names copied.copy) (leaf_name done.max_leaf) (last_or (leaf_names_below f.copies) None) copied.last);
+                first = first_more min (leaf_names_below f.copies) done.min_leaf f.first ∙
+                    ap (first_or (leaf_names_below f.copies)) (sym copied.first) ∙
+                    sym (first_or-append (leaf_names_below f.copies) (leaf_names copied.copy) None) ∙ ap (λ z. first_or z None) (sym (all_names f.copies copied.copy));
+                last = sym (ap (λ z. last_or z None) (all_names f.copies copied.copy) ∙
+                    last_or-append (leaf_names_below f.copies) (leaf_names copied.copy) None ∙
+                    last_more (leaf_names copied.copy) (leaf_name done.max_leaf) (last_or (leaf_names_below f.copies) None) copied.last);
                 ends = let (p, e) = some_or min done.min_leaf in inr (p, done.max_leaf, e, refl);
                 holds = holds.1;
                 distinct = Pairwise-right ◌≢◌ (names_of u) (names_below others) distinct;
@@ -252,7 +273,9 @@ module _ {K V : Type 0} (IsClone : K × V → K × V → Type 0) where
     pub leaves : (freed : Nodes K V) → Loses next freed tree → freed.leaves ≡ old.leaves
     pub inners : (freed : Nodes K V) → Loses next freed tree → freed.inners ≡ old.inners
 
-  pub cloning_refused : (s : Nodes K V) (tree : Tree OpaqueNodePtr (K × V)) (old now next : Nodes K V) (parent : InnerPtr) (name : OpaqueNodePtr) (rest : List (ℕ × OpaqueNodePtr)) (min max : Option LeafPtr) → IsCloning IsClone s tree old now parent rest min max → next.leaves ≡ now.leaves → next.inners ≡ now.inners → name ≡ inner_name parent → IsRefused old next name
+  pub cloning_refused : (s : Nodes K V) (tree : Tree OpaqueNodePtr (K × V)) (old now next : Nodes K V) (parent : InnerPtr) (name : OpaqueNodePtr)
+      (rest : List (ℕ × OpaqueNodePtr)) (min max : Option LeafPtr) → IsCloning IsClone s tree old now parent rest min max → next.leaves ≡ now.leaves →
+      next.inners ≡ now.inners → name ≡ inner_name parent → IsRefused old next name
   cloning_refused s tree old now next parent name rest min max f leaves inners named =
       let t = inner (inner_name parent) f.header f.copies in
       record {
@@ -273,10 +296,14 @@ module _ {K V : Type 0} (IsClone : K × V → K × V → Type 0) where
       ]
 
   -- all children are copied
-  pub cloning_end : (s : Nodes K V) (tree : Tree OpaqueNodePtr (K × V)) (old now : Nodes K V) (parent : InnerPtr) (min max : Option LeafPtr) → IsCloning IsClone s tree old now parent [] min max → (p : LeafPtr) × (q : LeafPtr) × (min ≡ Some p) × (max ≡ Some q) × IsCopied IsClone tree old now (record { root = inner_name parent; min_leaf = p; max_leaf = q })
+  pub cloning_end : (s : Nodes K V) (tree : Tree OpaqueNodePtr (K × V)) (old now : Nodes K V) (parent : InnerPtr) (min max : Option LeafPtr) →
+      IsCloning IsClone s tree old now parent [] min max → (p : LeafPtr) × (q : LeafPtr) × (min ≡ Some p) × (max ≡ Some q) ×
+      IsCopied IsClone tree old now (record { root = inner_name parent; min_leaf = p; max_leaf = q })
   cloning_end s tree old now parent min max f = go f.left refl f.slots f.ends
     where
-      go : (left : Children OpaqueNodePtr (K × V)) → f.left ≡ left → [] ≡ slots_of left → (bytes_of f.done ≡ []) ⊎ ((p : LeafPtr) × (q : LeafPtr) × (min ≡ Some p) × (max ≡ Some q)) → (p : LeafPtr) × (q : LeafPtr) × (min ≡ Some p) × (max ≡ Some q) × IsCopied IsClone tree old now (record { root = inner_name parent; min_leaf = p; max_leaf = q })
+      go : (left : Children OpaqueNodePtr (K × V)) → f.left ≡ left → [] ≡ slots_of left → (bytes_of f.done ≡ []) ⊎
+          ((p : LeafPtr) × (q : LeafPtr) × (min ≡ Some p) × (max ≡ Some q)) → (p : LeafPtr) × (q : LeafPtr) × (min ≡ Some p) × (max ≡ Some q) ×
+          IsCopied IsClone tree old now (record { root = inner_name parent; min_leaf = p; max_leaf = q })
       go (child c u others) at slots ends = absurd cc
       go no_child at slots (inl none) =
           let all = ap (λ z. length (bytes_of z)) (ap (join f.done) at ∙ join_none f.done) in
@@ -300,7 +327,9 @@ module _ {K V : Type 0} (IsClone : K × V → K × V → Type 0) where
       )
 
   -- the whole is copied
-  pub cloned_whole : (s : Nodes K V) (tree : Tree OpaqueNodePtr (K × V)) (old now : Nodes K V) (parent : InnerPtr) (min max : Option LeafPtr) (name : OpaqueNodePtr) (p q : LeafPtr) → IsCloning IsClone s tree old now parent [] min max → min ≡ Some p → max ≡ Some q → name ≡ inner_name parent → IsCopied IsClone tree old now (record { root = name; min_leaf = p; max_leaf = q })
+  pub cloned_whole : (s : Nodes K V) (tree : Tree OpaqueNodePtr (K × V)) (old now : Nodes K V) (parent : InnerPtr) (min max : Option LeafPtr)
+      (name : OpaqueNodePtr) (p q : LeafPtr) → IsCloning IsClone s tree old now parent [] min max → min ≡ Some p → max ≡ Some q →
+      name ≡ inner_name parent → IsCopied IsClone tree old now (record { root = name; min_leaf = p; max_leaf = q })
   cloned_whole s tree old now parent min max name p q f e g named =
       let (k, l, h, i, copied) = cloning_end s tree old now parent min max f in
       let first : k ≡ p = cc in
@@ -316,7 +345,8 @@ module _ {K V : Type 0} (IsClone : K × V → K × V → Type 0) where
       }
 
   -- there is an end then
-  pub no_end : (s : Nodes K V) (tree : Tree OpaqueNodePtr (K × V)) (old now : Nodes K V) (parent : InnerPtr) (min max : Option LeafPtr) → IsCloning IsClone s tree old now parent [] min max → (min ≡ None) ⊎ (max ≡ None) → ⊥
+  pub no_end : (s : Nodes K V) (tree : Tree OpaqueNodePtr (K × V)) (old now : Nodes K V) (parent : InnerPtr) (min max : Option LeafPtr) →
+      IsCloning IsClone s tree old now parent [] min max → (min ≡ None) ⊎ (max ≡ None) → ⊥
   no_end s tree old now parent min max f none =
       let (p, q, e, g, copied) = cloning_end s tree old now parent min max f in
       elim none [ inl h ↦ absurd (cc (sym e ∙ h)) | inr h ↦ absurd (cc (sym g ∙ h)) ]

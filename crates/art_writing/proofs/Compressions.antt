@@ -6,9 +6,12 @@ use Rattle.art_nodes.proofs.HeaderLaws.{extended_header, len_of_header, stored_o
 
 -- a prefix, a byte and another prefix behind it
 pub lengthened : (P byte : ℕ) (first rest : List ℕ) (front own one both : Prefix) → front ≡ header_of P first → own ≡ header_of P rest →
-    one.len ≡ front.len + 1 → one.stored ≡ take P (front.stored ++ take 1 (byte ∷ [])) → both.len ≡ one.len + own.len → both.stored ≡ take P (one.stored ++ take own.len own.stored) → both ≡ header_of P (first ++ byte ∷ rest)
+    one.len ≡ front.len + 1 → one.stored ≡ take P (front.stored ++ take 1 (byte ∷ [])) → both.len ≡ one.len + own.len →
+    both.stored ≡ take P (one.stored ++ take own.len own.stored) → both ≡ header_of P (first ++ byte ∷ rest)
 lengthened P byte first rest front own one both is own_is one_len one_stored len stored =
     let more : own.len ≡ length rest = len_of_header P rest own own_is in
-    let begins : take (min (length rest) P) own.stored ≡ take (min (length rest) P) rest = ap (take (min (length rest) P)) (stored_of_header P rest own own_is) ∙ take-take (min (length rest) P) P rest (omega arith) in
+    let begins : take (min (length rest) P) own.stored ≡ take (min (length rest) P) rest =
+    ap (take (min (length rest) P)) (stored_of_header P rest own own_is) ∙ take-take (min (length rest) P) P rest (omega arith) in
     let first_one : one ≡ header_of P (first ++ byte ∷ []) = extended_header P first (byte ∷ []) (byte ∷ []) front one is refl one_len one_stored in
-    extended_header P (first ++ byte ∷ []) rest own.stored one both first_one begins (omega arith) (stored ∙ ap (λ k. take P (one.stored ++ take k own.stored)) more) ∙ ap (header_of P) (append_assoc first (byte ∷ []) rest)
+    extended_header P (first ++ byte ∷ []) rest own.stored one both first_one begins (omega arith)
+    (stored ∙ ap (λ k. take P (one.stored ++ take k own.stored)) more) ∙ ap (header_of P) (append_assoc first (byte ∷ []) rest)

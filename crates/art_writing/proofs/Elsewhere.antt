@@ -20,14 +20,18 @@ use Rattle.art_model.proofs.Stores.{frame}
 use Rattle.art_model.proofs.Views.{held_in_inner, leaf_or}
 
 -- a leaf that is placed leaves what is in use
-pub leaf_elsewhere : {K V : Type 0} (s t : Nodes K V) (n : LeafPtr) (x : LeafNode K V) → get s.leaves n ≡ None → t.leaves ≡ insert s.leaves n x → t.inners ≡ s.inners → (k : OpaqueNodePtr) → held s k ≢ None → held t k ≡ held s k
+pub leaf_elsewhere : {K V : Type 0} (s t : Nodes K V) (n : LeafPtr) (x : LeafNode K V) → get s.leaves n ≡ None → t.leaves ≡ insert s.leaves n x →
+    t.inners ≡ s.inners → (k : OpaqueNodePtr) → held s k ≢ None → held t k ≡ held s k
 leaf_elsewhere s t n x free leaves inners k used = elim (leaf_or k) [
-  | inl (p, e) ↦ subst (λ (z : OpaqueNodePtr). held t z ≡ held s z) (sym e) (ap (option_map held_leaf) (ap (λ m. get m p) leaves ∙ elsewhere s.leaves n p x (λ f. used (ap (held s) e ∙ ap (λ q. held s (leaf_name q)) f ∙ ap (option_map held_leaf) free))))
+  | inl (p, e) ↦ subst (λ (z : OpaqueNodePtr). held t z ≡ held s z) (sym e)
+      (ap (option_map held_leaf) (ap (λ m. get m p) leaves ∙ elsewhere s.leaves n p x (λ f. used (ap (held s) e ∙ ap (λ q. held s (leaf_name q)) f ∙ ap (option_map held_leaf) free))))
   | inr off ↦ held_in_inner t k.kind k.slot off ∙ ap (λ m. option_map held_inner (get m (record { kind = k.kind; slot = k.slot }))) inners ∙ sym (held_in_inner s k.kind k.slot off)
 ]
 
 -- and so does one that is refused
-pub placement_elsewhere : {K V E : Type 0} (s t : Nodes K V) (x : LeafNode K V) (result : Result LeafPtr E) → IfOk result (λ n. t.leaves ≡ insert s.leaves n x) → IfOk result (λ n. get s.leaves n ≡ None) → t.inners ≡ s.inners → OnErr result (t ≡ s) → (k : OpaqueNodePtr) → held s k ≢ None → held t k ≡ held s k
+pub placement_elsewhere : {K V E : Type 0} (s t : Nodes K V) (x : LeafNode K V) (result : Result LeafPtr E) →
+    IfOk result (λ n. t.leaves ≡ insert s.leaves n x) → IfOk result (λ n. get s.leaves n ≡ None) → t.inners ≡ s.inners → OnErr result (t ≡ s) →
+    (k : OpaqueNodePtr) → held s k ≢ None → held t k ≡ held s k
 placement_elsewhere s t x (Ok n) leaves free inners same k used = leaf_elsewhere s t n x free leaves inners k used
 placement_elsewhere s t x (Err e) leaves free inners same k used = ap (λ m. held m k) same
 
@@ -40,13 +44,18 @@ module _ {K V : Type 0} {bytes : K × V → List ℕ} {P : ℕ} {s t : Nodes K V
     stands = (
       record {
         named = by.stands.0.named;
-        holds = frame (node_at s) (node_at t) layout (Each-weaker (λ k. held t k ≡ held s k) (λ k. node_at t k ≡ node_at s k) (λ k e. ap (option_map (seen k.kind)) e) (names_of layout) all_same) by.stands.0.holds;
+        holds = frame (node_at s) (node_at t) layout (Each-weaker (λ k. held t k ≡ held s k) (λ k. node_at t k ≡ node_at s k)
+            (λ k e. ap (option_map (seen k.kind)) e) (names_of layout) all_same) by.stands.0.holds;
         distinct = by.stands.0.distinct;
       },
       by.stands.1,
     );
-    linked = linked-frame (links_at s) (links_at t) (leaf_names layout) None None (Each-weaker (λ k. held t k ≡ held s k) (λ k. links_at t k ≡ links_at s k) (λ k e. ap (option_and_then links_of) e) (leaf_names layout) (among takes_leaves (λ k. held t k ≡ held s k) layout all_same)) by.linked;
+    linked = linked-frame (links_at s) (links_at t) (leaf_names layout) None None
+        (Each-weaker (λ k. held t k ≡ held s k) (λ k. links_at t k ≡ links_at s k) (λ k e. ap (option_and_then links_of) e) (leaf_names layout)
+        (among takes_leaves (λ k. held t k ≡ held s k) layout all_same)) by.linked;
   }
     where
       all_same : Each (λ k. held t k ≡ held s k) (names_of layout)
-      all_same = Each-weaker (IsTaken (node_at s)) (λ k. held t k ≡ held s k) (λ k used. same k (λ e. used (ap (option_map (seen k.kind)) e))) (names_of layout) (all_taken (node_at s) layout by.stands.0.holds)
+      all_same =
+          Each-weaker (IsTaken (node_at s)) (λ k. held t k ≡ held s k) (λ k used. same k (λ e. used (ap (option_map (seen k.kind)) e)))
+          (names_of layout) (all_taken (node_at s) layout by.stands.0.holds)

@@ -66,8 +66,10 @@ pub record IsEntry {K V : Type 0} (bytes : K × V → List ℕ) (P : ℕ) (p : I
   pub gap : IsGap bytes P frames place (inner_name p) header left right b key
   pub path_is : path ≡ path_of frames
 
-module _ {K V : Type 0} {bytes : K × V → List ℕ} {P : ℕ} {s : Nodes K V} {point : InsertPoint} {p : InnerPtr} {key : List ℕ} (answers : IsPointIn bytes P s key point) (into : point.insert_kind ≡ IntoExisting p) where
-  pub entry : {pairs : List (K × V)} {layout : Tree OpaqueNodePtr (K × V)} {b : ℕ} → b ≡ get_or key point.key_bytes_used 0 → IsTree bytes P s point.root pairs layout → IsEntry bytes P p layout key point.path b
+module _ {K V : Type 0} {bytes : K × V → List ℕ} {P : ℕ} {s : Nodes K V} {point : InsertPoint} {p : InnerPtr} {key : List ℕ}
+    (answers : IsPointIn bytes P s key point) (into : point.insert_kind ≡ IntoExisting p) where
+  pub entry : {pairs : List (K × V)} {layout : Tree OpaqueNodePtr (K × V)} {b : ℕ} → b ≡ get_or key point.key_bytes_used 0 →
+      IsTree bytes P s point.root pairs layout → IsEntry bytes P p layout key point.path b
   entry {pairs} {layout} {b} byte by =
       let a = answered answers by in
       let fs = a.answers.path in
@@ -78,11 +80,15 @@ module _ {K V : Type 0} {bytes : K × V → List ℕ} {P : ℕ} {s : Nodes K V} 
       let here : node ≡ inner (inner_name p) header (join split.left split.right) = is ∙ ap (inner (inner_name p) header) split.whole in
       let hole : IsHole bytes P fs a.place (inner (inner_name p) header (join split.left split.right)) key = subst (λ z. IsHole bytes P fs a.place z key) here a.hole in
       let part = hole.radix.0 in
-      let prefix : prefix_of bytes (depth_of fs) node ≡ part = ap (λ d. prefix_of bytes d node) a.deep ∙ ap (prefix_of bytes (length a.place)) here ∙ prefix_is bytes P (inner_name p) header (join split.left split.right) a.place hole.radix in
+      let prefix : prefix_of bytes (depth_of fs) node ≡ part =
+      ap (λ d. prefix_of bytes d node) a.deep ∙ ap (prefix_of bytes (length a.place)) here ∙ prefix_is bytes P (inner_name p) header (join split.left split.right) a.place hole.radix in
       let (rest, key_is) = hole.front in
       let (after, rest_is) = front in
-      let on_way : IsFront (a.place ++ part) key =
-      (after, key_is ∙ ap (λ z. a.place ++ z) (sym (after_front a.place key rest key_is) ∙ ap (λ d. drop d key) (sym a.deep) ∙ rest_is ∙ ap (λ z. z ++ after) prefix) ∙ sym (append_assoc a.place part after)) in
+      let on_way : IsFront (a.place ++ part) key = (
+        after,
+        key_is ∙ ap (λ z. a.place ++ z) (sym (after_front a.place key rest key_is) ∙ ap (λ d. drop d key) (sym a.deep) ∙ rest_is ∙
+            ap (λ z. z ++ after) prefix) ∙ sym (append_assoc a.place part after),
+      ) in
       let deep = a.deep in
       let count = ap length prefix in
       let sum = length-append a.place part in
@@ -103,7 +109,8 @@ module _ {K V : Type 0} {bytes : K × V → List ℕ} {P : ℕ} {s : Nodes K V} 
         path_is = a.answers.path_is;
       }
 
-module _ {K V : Type 0} {bytes : K × V → List ℕ} {P : ℕ} {s : Nodes K V} {p : InnerPtr} {root : OpaqueNodePtr} {pairs : List (K × V)} {layout : Tree OpaqueNodePtr (K × V)} {key : List ℕ} {path : TreePath} {b : ℕ} (by : IsTree bytes P s root pairs layout) (e : IsEntry bytes P p layout key path b) where
+module _ {K V : Type 0} {bytes : K × V → List ℕ} {P : ℕ} {s : Nodes K V} {p : InnerPtr} {root : OpaqueNodePtr} {pairs : List (K × V)}
+    {layout : Tree OpaqueNodePtr (K × V)} {key : List ℕ} {path : TreePath} {b : ℕ} (by : IsTree bytes P s root pairs layout) (e : IsEntry bytes P p layout key path b) where
   abbrev entered : Tree OpaqueNodePtr (K × V)
   entered = inner (inner_name p) e.header (join e.left e.right)
 
@@ -140,7 +147,15 @@ module _ {K V : Type 0} {bytes : K × V → List ℕ} {P : ℕ} {s : Nodes K V} 
   pub entry_gap : HasGap s p b e.left e.right
   entry_gap = record {
     header = e.header;
-    full = (record { named = refl; holds = (path_holds (node_at s) e.frames entered entry_laid.holds).1; distinct = hole_distinct (node_at s) (node_at s) e.frames entered entry_laid.holds entry_laid.distinct }, one_child entered (have_two_children bytes P e.place entered e.gap.hole.radix));
+    full = (
+      record {
+        named = refl;
+        holds = (path_holds (node_at s) e.frames entered entry_laid.holds).1;
+        distinct = hole_distinct (node_at s)
+            (node_at s) e.frames entered entry_laid.holds entry_laid.distinct;
+      },
+      one_child entered (have_two_children bytes P e.place entered e.gap.hole.radix),
+    );
     rising = e.gap.hole.radix.3;
     low = e.gap.low;
     high = e.gap.high;
@@ -154,8 +169,11 @@ module _ {K V : Type 0} {bytes : K × V → List ℕ} {P : ℕ} {s : Nodes K V} 
       go [] is = tt
       go (f ∷ fs) is =
           let up = subst (λ z. IsParent z f.mark) (sym is) refl in
-          let ready = subst (λ z. IfSome (parent_of z) (λ q. IsSomeAnd (map.get s.inners q.0) (λ node. child_at node.children q.1 ≡ Some (inner_name p)))) is (parent_ready bytes P s e.frames e.place (inner_name p) e.gap.hole.path (path_holds (node_at s) e.frames entered entry_laid.holds).0) in
-          let off : as_inner f.mark ≢ p = λ same. parent_apart (node_at s) (node_at s) e.frames entered entry_laid.holds entry_laid.distinct f.mark up (inl (sym (inner_name_one f.mark (inner_name p) same))) in
+          let ready =
+          subst (λ z. IfSome (parent_of z) (λ q. IsSomeAnd (map.get s.inners q.0) (λ node. child_at node.children q.1 ≡ Some (inner_name p)))) is
+          (parent_ready bytes P s e.frames e.place (inner_name p) e.gap.hole.path (path_holds (node_at s) e.frames entered entry_laid.holds).0) in
+          let off : as_inner f.mark ≢ p =
+          λ same. parent_apart (node_at s) (node_at s) e.frames entered entry_laid.holds entry_laid.distinct f.mark up (inl (sym (inner_name_one f.mark (inner_name p) same))) in
           subst (λ o. IsSomeAnd o (λ node. IsSome (child_at node.children f.byte))) (sym (inner_gone_elsewhere s.inners p (as_inner f.mark) off)) (some (map.get s.inners (as_inner f.mark)) ready)
         where
           some : (o : Option Inner) → IsSomeAnd o (λ node. child_at node.children f.byte ≡ Some (inner_name p)) → IsSomeAnd o (λ node. IsSome (child_at node.children f.byte))
@@ -168,7 +186,8 @@ module _ {K V : Type 0} {bytes : K × V → List ℕ} {P : ℕ} {s : Nodes K V} 
   unequal (child c t cs) h off =
       let front = e.place ++ e.gap.hole.radix.0 in
       Each-append (λ x. are_same key (bytes x) ≡ false) (pairs_of t) (pairs_below cs)
-      (Each-weaker (λ x. IsFront (front ++ c ∷ []) (bytes x)) (λ x. are_same key (bytes x) ≡ false) (λ x f. same_related key (bytes x) (unrelated_after front b c key (bytes x) e.gap.front f (λ same. off.0 (sym same)))) (pairs_of t) (radix_way bytes P t (front ++ c ∷ []) h.0))
+      (Each-weaker (λ x. IsFront (front ++ c ∷ []) (bytes x)) (λ x. are_same key (bytes x) ≡ false)
+      (λ x f. same_related key (bytes x) (unrelated_after front b c key (bytes x) e.gap.front f (λ same. off.0 (sym same)))) (pairs_of t) (radix_way bytes P t (front ++ c ∷ []) h.0))
       (unequal cs h.1 off.1)
 
   -- so nothing gives way
@@ -176,13 +195,17 @@ module _ {K V : Type 0} {bytes : K × V → List ℕ} {P : ℕ} {s : Nodes K V} 
   entry_reply =
       let others = subst (Each (λ c. c ≢ b)) (sym (bytes_of-join e.left e.right)) (Each-append (λ c. c ≢ b) (bytes_of e.left) (bytes_of e.right)
       (Each-weaker (λ c. c < b) (λ c. c ≢ b) (λ c l same. omega arith) (bytes_of e.left) e.gap.low) (Each-weaker (λ c. b < c) (λ c. c ≢ b) (λ c l same. omega arith) (bytes_of e.right) e.gap.high)) in
-      ap (λ xs. first_of (with_key bytes key xs)) (sym entry_laid.pairs_are) ∙ ap first_of (with_key-hole bytes P e.frames e.place key entered e.gap.hole.path e.gap.hole.front ∙ filter_none (λ x. are_same key (bytes x)) (pairs_below (join e.left e.right)) (unequal (join e.left e.right) e.gap.hole.radix.4 others))
+      ap (λ xs. first_of (with_key bytes key xs)) (sym entry_laid.pairs_are) ∙
+      ap first_of (with_key-hole bytes P e.frames e.place key entered e.gap.hole.path e.gap.hole.front ∙
+      filter_none (λ x. are_same key (bytes x)) (pairs_below (join e.left e.right)) (unequal (join e.left e.right) e.gap.hole.radix.4 others))
 
 -- ---- what is inserted
 
-module _ {K V : Type 0} {bytes : K × V → List ℕ} {P : ℕ} {s t : Nodes K V} {point : InsertPoint} {p k : InnerPtr} {pairs : List (K × V)} {layout : Tree OpaqueNodePtr (K × V)} {b : ℕ} {n : LeafPtr} {new : K × V} where
+module _ {K V : Type 0} {bytes : K × V → List ℕ} {P : ℕ} {s t : Nodes K V} {point : InsertPoint} {p k : InnerPtr} {pairs : List (K × V)}
+    {layout : Tree OpaqueNodePtr (K × V)} {b : ℕ} {n : LeafPtr} {new : K × V} where
   -- the node, or the larger one in its place, has the leaf as a child
-  pub entered_inserted : {root : OpaqueNodePtr} {done : InsertResult K V} (by : IsTree bytes P s point.root pairs layout) (into : point.insert_kind ≡ IntoExisting p) (e : IsEntry bytes P p layout (bytes new) point.path b) →
+  pub entered_inserted : {root : OpaqueNodePtr} {done : InsertResult K V} (by : IsTree bytes P s point.root pairs layout)
+      (into : point.insert_kind ≡ IntoExisting p) (e : IsEntry bytes P p layout (bytes new) point.path b) →
       ChildAdded bytes P s t point.root pairs e.frames (inner_name p) (inner_name k) e.header e.left e.right b (leaf_name n) new → root ≡ paths.root_with e.frames point.root (inner_name k) →
       done ≡ record { leaf_node_ptr = n; existing_leaf = None; new_root = root; parent_node_change = NewParent (inner_name k) b } → IsInserted bytes P s t point new pairs layout done
   entered_inserted {root} by into e added root_is done_is =
@@ -197,7 +220,8 @@ module _ {K V : Type 0} {bytes : K × V → List ℕ} {P : ℕ} {s t : Nodes K V
               path = frame ∷ e.frames;
               whole = refl;
               change = subst (λ kind. IsChange kind (Some (k, b)) (NewParent (inner_name k) b)) (sym into) refl;
-              root = root_is ∙ sym (ap (λ path. root_with path point.root (inner_name k)) e.path_is ∙ root_with-path_of e.frames point.root (inner_name k)) ∙ root_told point point.path (inner_name k) b;
+              root = root_is ∙ sym (ap (λ path. root_with path point.root (inner_name k)) e.path_is ∙
+                  root_with-path_of e.frames point.root (inner_name k)) ∙ root_told point point.path (inner_name k) b;
             });
         replaced = ap (option_map alone) (sym (put_reply-new bytes new pairs (entry_reply by e)));
         kept = subst (λ z. ChangesInPlace bytes s t (Some z) (Some tree)) e.whole added.kept;

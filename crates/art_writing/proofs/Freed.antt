@@ -46,7 +46,8 @@ module _ {K V : Type 0} where
     pub leaf_freed : (p : LeafPtr) → t.leaves ≡ map.remove s.leaves p → t.inners ≡ s.inners → Frees (leaf_name p ∷ []) s t
     leaf_freed p leaves inners = record {
       beside = λ k off none. elim (leaf_or k) [
-        | inl (q, e) ↦ subst (λ z. held t z ≡ held s z) (sym e) (ap (option_map held_leaf) (ap (λ m. map.get m q) leaves ∙ leaf_gone_elsewhere s.leaves p q (λ f. off (inl (sym (e ∙ ap leaf_name f))))))
+        | inl (q, e) ↦ subst (λ z. held t z ≡ held s z) (sym e) (ap (option_map held_leaf)
+            (ap (λ m. map.get m q) leaves ∙ leaf_gone_elsewhere s.leaves p q (λ f. off (inl (sym (e ∙ ap leaf_name f))))))
         | inr kind ↦ held_in_inner t k.kind k.slot kind ∙ ap (λ m. option_map held_inner (map.get m (record { kind = k.kind; slot = k.slot }))) inners ∙ sym (held_in_inner s k.kind k.slot kind)
       ];
       left = λ k i none. elim i [ inl e ↦ subst (λ z. held t z ≡ None) e (ap (option_map held_leaf) (ap (λ m. map.get m p) leaves ∙ leaf_gone s.leaves p)) | inr j ↦ absurd j ];
@@ -57,7 +58,8 @@ module _ {K V : Type 0} where
 
 module _ {K V : Type 0} where
   -- the first leaf of a walk is freed, and the walk goes on with the others
-  pub first_freed : {s t : Nodes K V} {next : Option (LeafPtr × LeafPtr)} (names : List OpaqueNodePtr) (p : LeafPtr) → AreDistinct names → Some (leaf_name p) ≡ first_of names → IsIteratorOf s next (without_first names) →
+  pub first_freed : {s t : Nodes K V} {next : Option (LeafPtr × LeafPtr)} (names : List OpaqueNodePtr) (p : LeafPtr) → AreDistinct names →
+      Some (leaf_name p) ≡ first_of names → IsIteratorOf s next (without_first names) →
       t.leaves ≡ map.remove s.leaves p → t.inners ≡ s.inners → IsIteratorOf t next (without_first names)
   first_freed [] p distinct e its leaves inners = absurd cc
   first_freed {s} {t} {next} (x ∷ xs) p distinct e its leaves inners =
@@ -86,7 +88,8 @@ module _ {K V : Type 0} where
         go (x ∷ xs) e = absurd cc
 
     -- the first one goes
-    pub one_goes : {u : Nodes K V} {next : Option (LeafPtr × LeafPtr)} → AreDistinct names → (p : LeafPtr) → Some (leaf_name p) ≡ first_of is.rest → IsIteratorOf t next (without_first is.rest) → u.leaves ≡ map.remove t.leaves p → u.inners ≡ t.inners → AreLeft s u names next
+    pub one_goes : {u : Nodes K V} {next : Option (LeafPtr × LeafPtr)} → AreDistinct names → (p : LeafPtr) → Some (leaf_name p) ≡ first_of is.rest →
+        IsIteratorOf t next (without_first is.rest) → u.leaves ≡ map.remove t.leaves p → u.inners ≡ t.inners → AreLeft s u names next
     one_goes {u} {next} distinct p first left leaves inners = go is.rest first is.whole left
       where
         go : (rest : List OpaqueNodePtr) → Some (leaf_name p) ≡ first_of rest → names ≡ is.gone ++ rest → IsIteratorOf t next (without_first rest) → AreLeft s u names next
@@ -122,13 +125,15 @@ below_kept : (b : ℕ) (cs : List (ℕ × OpaqueNodePtr)) → IsBelow b cs → r
 below_kept b [] h = refl
 below_kept b (c ∷ cs) h = rw (ne_eqb c.0 b (λ e. let l = h.0 in omega arith)) (ap (λ z. c ∷ z) (below_kept b cs h.1))
 
-first_gone : (node : Inner) (b : ℕ) (child : OpaqueNodePtr) (rest : List (ℕ × OpaqueNodePtr)) → node.children ≡ (b, child) ∷ rest → IsRising node.children → without_child b node ≡ without_first_child node
+first_gone : (node : Inner) (b : ℕ) (child : OpaqueNodePtr) (rest : List (ℕ × OpaqueNodePtr)) → node.children ≡ (b, child) ∷ rest →
+    IsRising node.children → without_child b node ≡ without_first_child node
 first_gone node b child rest is rising =
     let up = subst IsRising is rising in
     let same : remove_child node.children b ≡ without_first node.children =
     ap (λ z. remove_child z b) is ∙ rw (eq-eqb b b refl) (below_kept b rest up.0) ∙ sym (ap without_first is) in
     ap (λ z. let r : Inner = record node { children = z } in r) same
 
-pub first_taken : (m : map.FinMap inner_cmp Inner) (p : InnerPtr) (node : Inner) (b : ℕ) (child : OpaqueNodePtr) (rest : List (ℕ × OpaqueNodePtr)) → Some node ≡ map.get m p → node.children ≡ (b, child) ∷ rest → IsRising node.children → change m p (without_child b) ≡ change m p without_first_child
+pub first_taken : (m : map.FinMap inner_cmp Inner) (p : InnerPtr) (node : Inner) (b : ℕ) (child : OpaqueNodePtr) (rest : List (ℕ × OpaqueNodePtr)) →
+    Some node ≡ map.get m p → node.children ≡ (b, child) ∷ rest → IsRising node.children → change m p (without_child b) ≡ change m p without_first_child
 first_taken m p node b child rest there is rising =
     changed_from m p (without_child b) (Some node) (sym there) ∙ ap (map.insert m p) (first_gone node b child rest is rising) ∙ sym (changed_from m p without_first_child (Some node) (sym there))

@@ -222,10 +222,12 @@ module _ {K V : Type 0} {s : Nodes K V} {too : Bool} {root : OpaqueNodePtr} wher
       record { node = there.node; got = ap (map.get t.inners) (sym own) ∙ there.got; head = there.head; children = there.children }
 
 -- a write to an inner node leaves what other names hold
-written_elsewhere : {K V : Type 0} (t u : Nodes K V) (p : InnerPtr) (f : Inner → Inner) → u.inners ≡ change t.inners p f → u.leaves ≡ t.leaves → (k : OpaqueNodePtr) → k ≢ inner_name p → held u k ≡ held t k
+written_elsewhere : {K V : Type 0} (t u : Nodes K V) (p : InnerPtr) (f : Inner → Inner) → u.inners ≡ change t.inners p f → u.leaves ≡ t.leaves →
+    (k : OpaqueNodePtr) → k ≢ inner_name p → held u k ≡ held t k
 written_elsewhere t u p f inners leaves k other = elim (leaf_or k) [
   | inl (q, e) ↦ subst (λ z. held u z ≡ held t z) (sym e) (ap (λ m. option_map held_leaf (map.get m q)) leaves)
-  | inr off ↦ held_in_inner u k.kind k.slot off ∙ ap (option_map held_inner) (ap (λ m. map.get m (as_inner k)) inners ∙ inner_changed_elsewhere t.inners p (as_inner k) f (λ e. other (ap inner_name e))) ∙ sym (held_in_inner t k.kind k.slot off)
+  | inr off ↦ held_in_inner u k.kind k.slot off ∙ ap (option_map held_inner)
+      (ap (λ m. map.get m (as_inner k)) inners ∙ inner_changed_elsewhere t.inners p (as_inner k) f (λ e. other (ap inner_name e))) ∙ sym (held_in_inner t k.kind k.slot off)
 ]
 
 -- an inner node is freed
@@ -233,15 +235,21 @@ inner_freed : {K V : Type 0} (t u : Nodes K V) (p : InnerPtr) → p.kind ≢ Lea
 inner_freed t u p off inners leaves = record {
   beside = λ k out none. elim (leaf_or k) [
     | inl (q, e) ↦ subst (λ z. held u z ≡ held t z) (sym e) (ap (λ m. option_map held_leaf (map.get m q)) leaves)
-    | inr kind ↦ held_in_inner u k.kind k.slot kind ∙ ap (option_map held_inner) (ap (λ m. map.get m (as_inner k)) inners ∙ inner_gone_elsewhere t.inners p (as_inner k) (λ e. out (inl (sym (ap inner_name e))))) ∙ sym (held_in_inner t k.kind k.slot kind)
+    | inr kind ↦ held_in_inner u k.kind k.slot kind ∙ ap (option_map held_inner)
+        (ap (λ m. map.get m (as_inner k)) inners ∙ inner_gone_elsewhere t.inners p (as_inner k) (λ e. out (inl (sym (ap inner_name e))))) ∙ sym (held_in_inner t k.kind k.slot kind)
   ];
-  left = λ k i none. elim i [ inl e ↦ subst (λ z. held u z ≡ None) e (held_in_inner u p.kind p.slot off ∙ ap (option_map held_inner) (ap (λ m. map.get m p) inners ∙ inner_gone t.inners p)) | inr z ↦ absurd z ];
+  left = λ k i none. elim i [
+    | inl e ↦ subst (λ z. held u z ≡ None) e
+        (held_in_inner u p.kind p.slot off ∙ ap (option_map held_inner) (ap (λ m. map.get m p) inners ∙ inner_gone t.inners p))
+    | inr z ↦ absurd z
+  ];
   taken = λ k i none. absurd i;
 }
 
 -- leaves below children are among their names
 leaf_below_in : (cs : Shapes) (k : OpaqueNodePtr) → IsIn k (leaf_names_below cs) → IsIn k (names_below cs)
-leaf_below_in cs k i = each_in (λ n. IsIn n (names_below cs)) k (leaf_names_below cs) (among_below takes_leaves (λ n. IsIn n (names_below cs)) cs (each_from (λ n. IsIn n (names_below cs)) (names_below cs) (λ n j. j))) i
+leaf_below_in cs k i =
+    each_in (λ n. IsIn n (names_below cs)) k (leaf_names_below cs) (among_below takes_leaves (λ n. IsIn n (names_below cs)) cs (each_from (λ n. IsIn n (names_below cs)) (names_below cs) (λ n j. j))) i
 
 nothing_more : (b : Bool) (count : ℕ) → count + cond b 0 0 ≡ count
 nothing_more true count = omega arith
@@ -251,16 +259,21 @@ both_counts : {N : Type 0} (b : Bool) (xs ys : List N) → cond b (length (xs ++
 both_counts true xs ys = length-append xs ys
 both_counts false xs ys = refl
 
-module _ {K V : Type 0} {s t u : Nodes K V} {too : Bool} {root : OpaqueNodePtr} {shape : Shape} {count : ℕ} {p : InnerPtr} (off : p.kind ≢ Leaf) (named : inner_name p ≡ root) (is : IsFreeing s t too root shape count) where
+module _ {K V : Type 0} {s t u : Nodes K V} {too : Bool} {root : OpaqueNodePtr} {shape : Shape} {count : ℕ} {p : InnerPtr} (off : p.kind ≢ Leaf)
+    (named : inner_name p ≡ root) (is : IsFreeing s t too root shape count) where
   -- the first child is taken out
-  pub child_taken : (name : OpaqueNodePtr) → IfSome (map.get t.inners p) (λ node. Some name ≡ option_map (λ c. c.1) (first_of node.children)) → u.inners ≡ change t.inners p without_first_child → u.leaves ≡ t.leaves → IsTaken s u too root shape count name
+  pub child_taken : (name : OpaqueNodePtr) → IfSome (map.get t.inners p) (λ node. Some name ≡ option_map (λ c. c.1) (first_of node.children)) →
+      u.inners ≡ change t.inners p without_first_child → u.leaves ≡ t.leaves → IsTaken s u too root shape count name
   child_taken name first inners leaves =
       let has = has_left named is in
-      let its : Some name ≡ option_map (λ c. c.1) (first_of (slots_of is.left)) = subst (λ o. IfSome o (λ node. Some name ≡ option_map (λ c. c.1) (first_of node.children))) has.got first ∙ ap (λ z. option_map (λ c. c.1) (first_of z)) has.children in
+      let its : Some name ≡ option_map (λ c. c.1) (first_of (slots_of is.left)) =
+      subst (λ o. IfSome o (λ node. Some name ≡ option_map (λ c. c.1) (first_of node.children))) has.got first ∙ ap (λ z. option_map (λ c. c.1) (first_of z)) has.children in
       go is.left its is.can is.names_are is.count_is is.apart is.lower (has.children)
     where
-      go : (left : Shapes) → Some name ≡ option_map (λ c. c.1) (first_of (slots_of left)) → CanGo t too root (inner is.mark is.head left) → going too shape ≡ is.mark ∷ (is.gone ++ going_below too left) → leaves_going too shape ≡ count + cond too (length (leaf_names_below left)) 0 →
-          ((k : OpaqueNodePtr) → IsIn k is.gone → IsIn k (is.mark ∷ names_below left) → ⊥) → height_below left < tree_height shape → (has_left named is).node.children ≡ slots_of left → IsTaken s u too root shape count name
+      go : (left : Shapes) → Some name ≡ option_map (λ c. c.1) (first_of (slots_of left)) → CanGo t too root (inner is.mark is.head left) →
+          going too shape ≡ is.mark ∷ (is.gone ++ going_below too left) → leaves_going too shape ≡ count + cond too (length (leaf_names_below left)) 0 →
+          ((k : OpaqueNodePtr) → IsIn k is.gone → IsIn k (is.mark ∷ names_below left) → ⊥) → height_below left < tree_height shape →
+          (has_left named is).node.children ≡ slots_of left → IsTaken s u too root shape count name
       go no_child e can names_are count_is apart lower children = absurd cc
       go (child b tree left) e can names_are count_is apart lower children =
           let mark_is : is.mark ≡ inner_name p = can.layout.named ∙ sym named in
@@ -270,7 +283,8 @@ module _ {K V : Type 0} {s t u : Nodes K V} {too : Bool} {root : OpaqueNodePtr} 
           let still : (k : OpaqueNodePtr) → IsIn k names → held u k ≡ held t k = λ k i. written k (λ f. each_in (λ z. is.mark ≢ z) k names all.0 i (mark_is ∙ sym f)) in
           let has = has_left named is in
           let own : as_inner is.mark ≡ p = ap as_inner mark_is in
-          let got : map.get u.inners (as_inner is.mark) ≡ Some (without_first_child has.node) = ap (λ m. map.get m (as_inner is.mark)) inners ∙ ap (map.get (change t.inners p without_first_child)) own ∙ inner_changed_here t.inners p without_first_child has.node has.got in
+          let got : map.get u.inners (as_inner is.mark) ≡ Some (without_first_child has.node) =
+          ap (λ m. map.get m (as_inner is.mark)) inners ∙ ap (map.get (change t.inners p without_first_child)) own ∙ inner_changed_here t.inners p without_first_child has.node has.got in
           record {
             mark = is.mark;
             head = is.head;
@@ -286,31 +300,44 @@ module _ {K V : Type 0} {s t u : Nodes K V} {too : Bool} {root : OpaqueNodePtr} 
                 named = can.layout.named;
                 holds = (
                   shape_at-inner u is.mark (λ f. off (ap (λ z. z.kind) (sym mark_is) ∙ f)) (Some (without_first_child has.node)) got ∙ shown has.head (ap without_first children),
-                  frame_below (shape_at t) (shape_at u) left (each_from (λ k. shape_at u k ≡ shape_at t k) (names_below left) (λ k i. shape_same t u k (still k (in_right k (names_of tree) (names_below left) i)))) can.layout.holds.1.1,
+                  frame_below (shape_at t) (shape_at u) left (each_from (λ k. shape_at u k ≡ shape_at t k) (names_below left)
+                      (λ k i. shape_same t u k (still k (in_right k (names_of tree) (names_below left) i)))) can.layout.holds.1.1,
                 );
                 distinct = (Each-right (λ k. is.mark ≢ k) (names_of tree) (names_below left) all.0, Pairwise-right ◌≢◌ (names_of tree) (names_below left) all.1);
               };
-              leaves = λ every. each_from (IsUsed u) (leaf_names_below left) (λ k i none. each_in (IsUsed t) k (leaf_names_below left) (Each-right (IsUsed t) (leaf_names tree) (leaf_names_below left) (can.leaves every)) i (sym (still k (in_right k (names_of tree) (names_below left) (leaf_below_in left k i))) ∙ none));
+              leaves = λ every. each_from (IsUsed u) (leaf_names_below left)
+                  (λ k i none. each_in (IsUsed t) k (leaf_names_below left)
+                  (Each-right (IsUsed t) (leaf_names tree) (leaf_names_below left) (can.leaves every)) i
+                  (sym (still k (in_right k (names_of tree) (names_below left) (leaf_below_in left k i))) ∙ none));
             };
             names_are = names_are;
             count_is = count_is ∙ ap (λ z. count + z) (both_counts too (leaf_names tree) (leaf_names_below left));
             apart = apart;
-            tree_apart = λ k i j. elim j [ inl f ↦ each_in (λ z. is.mark ≢ z) k names all.0 (in_left k (names_of tree) (names_below left) i) f | inr h ↦ apart_in (names_of tree) (names_below left) k all.1 i h ];
+            tree_apart =
+                λ k i j. elim j [
+                  | inl f ↦ each_in (λ z. is.mark ≢ z) k names all.0 (in_left k (names_of tree) (names_below left) i) f
+                  | inr h ↦
+                      apart_in (names_of tree) (names_below left) k all.1 i h
+                ];
             tree_lower = omega (arith, lower);
             lower = omega (arith, lower);
             others = λ k other gone. written k (λ f. other (f ∙ sym mark_is)) ∙ is.others k other gone;
             are_gone = λ k i. written k (λ f. apart k i (inl (mark_is ∙ sym f))) ∙ is.are_gone k i;
           }
 
-module _ {K V : Type 0} {s t : Nodes K V} {too : Bool} {root : OpaqueNodePtr} {shape : Shape} {count : ℕ} {p : InnerPtr} (off : p.kind ≢ Leaf) (named : inner_name p ≡ root) (is : IsFreeing s t too root shape count) where
+module _ {K V : Type 0} {s t : Nodes K V} {too : Bool} {root : OpaqueNodePtr} {shape : Shape} {count : ℕ} {p : InnerPtr} (off : p.kind ≢ Leaf)
+    (named : inner_name p ≡ root) (is : IsFreeing s t too root shape count) where
   -- no child was left, and the node goes
-  pub node_freed : {v : Nodes K V} → IfSome (map.get t.inners p) (λ node. None ≡ option_map (λ c. c.1) (first_of node.children)) → v.inners ≡ map.remove t.inners p → v.leaves ≡ t.leaves → Frees (going too shape) s v × (count ≡ leaves_going too shape)
+  pub node_freed : {v : Nodes K V} → IfSome (map.get t.inners p) (λ node. None ≡ option_map (λ c. c.1) (first_of node.children)) →
+      v.inners ≡ map.remove t.inners p → v.leaves ≡ t.leaves → Frees (going too shape) s v × (count ≡ leaves_going too shape)
   node_freed {v} first inners leaves =
       let has = has_left named is in
-      let its : None ≡ option_map (λ c. c.1) (first_of (slots_of is.left)) = subst (λ o. IfSome o (λ node. None ≡ option_map (λ c. c.1) (first_of node.children))) has.got first ∙ ap (λ z. option_map (λ c. c.1) (first_of z)) has.children in
+      let its : None ≡ option_map (λ c. c.1) (first_of (slots_of is.left)) =
+      subst (λ o. IfSome o (λ node. None ≡ option_map (λ c. c.1) (first_of node.children))) has.got first ∙ ap (λ z. option_map (λ c. c.1) (first_of z)) has.children in
       go is.left its is.names_are is.count_is is.apart
     where
-      go : (left : Shapes) → None ≡ option_map (λ c. c.1) (first_of (slots_of left)) → going too shape ≡ is.mark ∷ (is.gone ++ going_below too left) → leaves_going too shape ≡ count + cond too (length (leaf_names_below left)) 0 →
+      go : (left : Shapes) → None ≡ option_map (λ c. c.1) (first_of (slots_of left)) → going too shape ≡ is.mark ∷ (is.gone ++ going_below too left) →
+          leaves_going too shape ≡ count + cond too (length (leaf_names_below left)) 0 →
           ((k : OpaqueNodePtr) → IsIn k is.gone → IsIn k (is.mark ∷ names_below left) → ⊥) → Frees (going too shape) s v × (count ≡ leaves_going too shape)
       go (child b tree left) e names_are count_is apart = absurd cc
       go no_child e names_are count_is apart =
@@ -328,7 +355,8 @@ module _ {K V : Type 0} {s t : Nodes K V} {too : Bool} {root : OpaqueNodePtr} {s
           )
 
 -- the child that was taken out is freed
-pub child_freed : {K V : Type 0} {s t u : Nodes K V} {too : Bool} {root : OpaqueNodePtr} {shape : Shape} {count : ℕ} {name : OpaqueNodePtr} (is : IsTaken s t too root shape count name) → Frees (going too is.tree) t u → (freed_leaves : ℕ) → freed_leaves ≡ leaves_going too is.tree → IsFreeing s u too root shape (count + freed_leaves)
+pub child_freed : {K V : Type 0} {s t u : Nodes K V} {too : Bool} {root : OpaqueNodePtr} {shape : Shape} {count : ℕ} {name : OpaqueNodePtr}
+    (is : IsTaken s t too root shape count name) → Frees (going too is.tree) t u → (freed_leaves : ℕ) → freed_leaves ≡ leaves_going too is.tree → IsFreeing s u too root shape (count + freed_leaves)
 child_freed {K} {V} {s} {t} {u} {too} {root} {shape} {count} is freed freed_leaves leaves = record {
   mark = is.mark;
   head = is.head;
@@ -373,7 +401,8 @@ module _ {K V : Type 0} {s : Nodes K V} {too : Bool} {root : OpaqueNodePtr} {p :
       go None h = absurd (h refl)
       go (Some x) h = refl
 
-  pub leaf_goes : too ≡ true → {t : Nodes K V} → t.leaves ≡ map.remove s.leaves p → t.inners ≡ s.inners → (shape : Shape) → CanGo s too root shape → Frees (going too shape) s t × (1 ≡ leaves_going too shape)
+  pub leaf_goes : too ≡ true → {t : Nodes K V} → t.leaves ≡ map.remove s.leaves p → t.inners ≡ s.inners → (shape : Shape) → CanGo s too root shape →
+      Frees (going too shape) s t × (1 ≡ leaves_going too shape)
   leaf_goes on leaves inners shape can =
       let (x, is) = at_leaf shape can in
       rw (is, on) (leaf_freed p leaves inners, refl)
@@ -381,7 +410,8 @@ module _ {K V : Type 0} {s : Nodes K V} {too : Bool} {root : OpaqueNodePtr} {p :
 -- ---- the measures
 
 -- a child's tree is lower
-pub child_lower : {K V : Type 0} {s u : Nodes K V} {too : Bool} {root : OpaqueNodePtr} {shape : Shape} {count : ℕ} {name : OpaqueNodePtr} → CanGo s too root shape → (is : IsTaken s u too root shape count name) → height_of u name < height_of s root
+pub child_lower : {K V : Type 0} {s u : Nodes K V} {too : Bool} {root : OpaqueNodePtr} {shape : Shape} {count : ℕ} {name : OpaqueNodePtr} →
+    CanGo s too root shape → (is : IsTaken s u too root shape count name) → height_of u name < height_of s root
 child_lower {K} {V} {s} {u} {too} {root} {shape} {count} {name} can is =
     let a = height_of_shape s shape root can.layout in
     let b = height_of_shape u is.tree name is.can.layout in
@@ -389,13 +419,16 @@ child_lower {K} {V} {s} {u} {too} {root} {shape} {count} {name} can is =
     omega arith
 
 -- and the node has one child less
-pub one_child_less : {K V : Type 0} {s t u v : Nodes K V} {too : Bool} {root : OpaqueNodePtr} {shape : Shape} {count : ℕ} {name : OpaqueNodePtr} {p : InnerPtr} → p.kind ≢ Leaf → inner_name p ≡ root → IsFreeing s t too root shape count → (is : IsTaken s u too root shape count name) →
-    IfSome (map.get t.inners p) (λ node. Some name ≡ option_map (λ c. c.1) (first_of node.children)) → u.inners ≡ change t.inners p without_first_child → Frees (going too is.tree) u v → count_children (map.get v.inners p) < count_children (map.get t.inners p)
+pub one_child_less : {K V : Type 0} {s t u v : Nodes K V} {too : Bool} {root : OpaqueNodePtr} {shape : Shape} {count : ℕ} {name : OpaqueNodePtr}
+    {p : InnerPtr} → p.kind ≢ Leaf → inner_name p ≡ root → IsFreeing s t too root shape count → (is : IsTaken s u too root shape count name) →
+    IfSome (map.get t.inners p) (λ node. Some name ≡ option_map (λ c. c.1) (first_of node.children)) →
+    u.inners ≡ change t.inners p without_first_child → Frees (going too is.tree) u v → count_children (map.get v.inners p) < count_children (map.get t.inners p)
 one_child_less {K} {V} {s} {t} {u} {v} {too} {root} {shape} {count} {name} {p} off named before is first inners freed =
     let has = has_left named before in
     let mark_is : is.mark ≡ inner_name p = is.rest.layout.named ∙ sym named in
     let kept : held v (inner_name p) ≡ held u (inner_name p) = freed.beside (inner_name p) (λ i. is.tree_apart (inner_name p) (going_in too is.tree (inner_name p) i) (inl mark_is)) (λ z. z) in
-    let same : map.get v.inners p ≡ map.get u.inners p = same_inner_held K V (map.get v.inners p) (map.get u.inners p) (sym (held_in_inner v p.kind p.slot off) ∙ kept ∙ held_in_inner u p.kind p.slot off) in
+    let same : map.get v.inners p ≡ map.get u.inners p =
+    same_inner_held K V (map.get v.inners p) (map.get u.inners p) (sym (held_in_inner v p.kind p.slot off) ∙ kept ∙ held_in_inner u p.kind p.slot off) in
     let got : map.get v.inners p ≡ Some (without_first_child has.node) = same ∙ ap (λ m. map.get m p) inners ∙ inner_changed_here t.inners p without_first_child has.node has.got in
     let its : Some name ≡ option_map (λ c. c.1) (first_of has.node.children) = subst (λ o. IfSome o (λ node. Some name ≡ option_map (λ c. c.1) (first_of node.children))) has.got first in
     rw (got, has.got) (shorter has.node.children its)
@@ -411,7 +444,9 @@ module _ {K V : Type 0} {s : Nodes K V} {root : OpaqueNodePtr} {layout : Tree Op
   pub all_can : IsLayout (node_at s) root layout → CanGo s true root (shape_of layout)
   all_can is = record {
     layout = (has_shape s root layout is).0;
-    leaves = λ every. subst (Each (IsUsed s)) (sym (leaf_names-shape layout)) (among takes_leaves (IsUsed s) layout (Each-weaker (IsInUse (node_at s)) (IsUsed s) (λ k used e. used (ap (option_map (seen k.kind)) e)) (names_of layout) (all_taken (node_at s) layout is.holds)));
+    leaves = λ every. subst (Each (IsUsed s)) (sym (leaf_names-shape layout))
+        (among takes_leaves (IsUsed s) layout (Each-weaker (IsInUse (node_at s)) (IsUsed s) (λ k used e. used (ap (option_map (seen k.kind)) e))
+        (names_of layout) (all_taken (node_at s) layout is.holds)));
   }
 
 -- so all of its names go

@@ -28,11 +28,17 @@ use Rattle.art_model.proofs.Views as views
 use Rattle.art_writing.specs.Writes.{ComesAfter, ComesBefore, ComesBetween, HasGap}
 
 -- a child of a full tree is one
-full_child : {K V : Type 0} (s : Nodes K V) {name m to : OpaqueNodePtr} {h : Header} (l r : Children OpaqueNodePtr (K × V)) (c : ℕ) (t : Tree OpaqueNodePtr (K × V)) → IsFullTree s name (inner m h (join l (child c t r))) → name_of t ≡ to → IsFullTree s to t
+full_child : {K V : Type 0} (s : Nodes K V) {name m to : OpaqueNodePtr} {h : Header} (l r : Children OpaqueNodePtr (K × V)) (c : ℕ)
+    (t : Tree OpaqueNodePtr (K × V)) → IsFullTree s name (inner m h (join l (child c t r))) → name_of t ≡ to → IsFullTree s to t
 full_child s l r c t (is, full) named =
     let below = HoldsBelow-right (node_at s) l (child c t r) is.holds.1 in
     let distinct = subst AreDistinct (names_below-join l (child c t r)) is.distinct.1 in (
-      record { named = named; holds = below.0; distinct = Pairwise-left (λ n k. n ≢ k) (names_of t) (names_below r) (Pairwise-right (λ n k. n ≢ k) (names_below l) (names_of t ++ names_below r) distinct) },
+      record {
+        named = named;
+        holds = below.0;
+        distinct = Pairwise-left (λ n k. n ≢ k) (names_of t) (names_below r)
+            (Pairwise-right (λ n k. n ≢ k) (names_below l) (names_of t ++ names_below r) distinct);
+      },
       (children_right 1 l (child c t r) full.1).0,
     )
 
@@ -46,16 +52,19 @@ count_between least most (b ∷ bs) up low high inside =
 
 module _ {A : Type 0} (b last : ℕ) where
   -- the children from a byte on that none has are those on the right
-  between_right : (l r : Children OpaqueNodePtr A) → Each (λ c. c < b) (bytes_of l) → Each (λ c. b < c) (bytes_of r) → Each (λ c. c ≤ last) (bytes_of (join l r)) → children_between b last (slots_of (join l r)) ≡ slots_of r
+  between_right : (l r : Children OpaqueNodePtr A) → Each (λ c. c < b) (bytes_of l) → Each (λ c. b < c) (bytes_of r) →
+      Each (λ c. c ≤ last) (bytes_of (join l r)) → children_between b last (slots_of (join l r)) ≡ slots_of r
   between_right no_child no_child low high most = refl
-  between_right no_child (child c t r) low high most = between_here b last (c, name_of t) (slots_of r) (let h = high.0 in omega arith) most.0 ∙ ap (λ z. (c, name_of t) ∷ z) (between_right no_child r tt high.1 most.1)
+  between_right no_child (child c t r) low high most =
+      between_here b last (c, name_of t) (slots_of r) (let h = high.0 in omega arith) most.0 ∙ ap (λ z. (c, name_of t) ∷ z) (between_right no_child r tt high.1 most.1)
   between_right (child c t l) r low high most = between_after b last (c, name_of t) (slots_of (join l r)) low.0 ∙ between_right l r low.1 high most.1
 
   bytes_each : (cs : Children OpaqueNodePtr A) → Each (λ (e : ℕ × OpaqueNodePtr). e.0 ≤ last) (slots_of cs) → Each (λ c. c ≤ last) (bytes_of cs)
   bytes_each no_child h = tt
   bytes_each (child c t cs) h = (h.0, bytes_each cs h.1)
 
-module _ {K V : Type 0} {s : Nodes K V} {p : InnerPtr} {b : ℕ} {l r : Children OpaqueNodePtr (K × V)} {shown : Inner} (proper : p.kind ≢ Leaf) (gap : HasGap s p b l r) (there : Some shown ≡ map.get s.inners p) where
+module _ {K V : Type 0} {s : Nodes K V} {p : InnerPtr} {b : ℕ} {l r : Children OpaqueNodePtr (K × V)} {shown : Inner} (proper : p.kind ≢ Leaf)
+    (gap : HasGap s p b l r) (there : Some shown ≡ map.get s.inners p) where
   -- the node's children
   pub gap_slots : shown.children ≡ slots_of (join l r)
   gap_slots =
@@ -81,8 +90,11 @@ module _ {K V : Type 0} {s : Nodes K V} {p : InnerPtr} {b : ℕ} {l r : Children
         let joined = bytes_of-join l r in
         let up = subst IsRising joined gap.rising in
         let all = subst (Each (λ c. c ≤ greatest)) joined all_most in
-        let left = count_between 0 b (bytes_of l) (Pairwise-left (λ x y. x < y) (bytes_of l) (bytes_of r) up) (Each-weaker (λ c. c < b) (λ c. 0 ≤ c) (λ c h. omega arith) (bytes_of l) gap.low) gap.low (omega arith) in
-        let right = count_between (suc b) 256 (bytes_of r) (Pairwise-right (λ x y. x < y) (bytes_of l) (bytes_of r) up) (Each-weaker (λ c. b < c) (λ c. suc b ≤ c) (λ c h. omega arith) (bytes_of r) gap.high)
+        let left =
+        count_between 0 b (bytes_of l) (Pairwise-left (λ x y. x < y) (bytes_of l) (bytes_of r) up)
+        (Each-weaker (λ c. c < b) (λ c. 0 ≤ c) (λ c h. omega arith) (bytes_of l) gap.low) gap.low (omega arith) in
+        let right =
+        count_between (suc b) 256 (bytes_of r) (Pairwise-right (λ x y. x < y) (bytes_of l) (bytes_of r) up) (Each-weaker (λ c. b < c) (λ c. suc b ≤ c) (λ c h. omega arith) (bytes_of r) gap.high)
         (Each-weaker (λ c. c ≤ greatest) (λ c. c < 256) (λ c h. omega arith) (bytes_of r) (Each-right (λ c. c ≤ greatest) (bytes_of l) (bytes_of r) all)) (omega arith) in
         let n = ap length gap_slots in let m = length-slots_of (join l r) in let j = ap length joined in let k = length-append (bytes_of l) (bytes_of r) in
         subst (λ o. IfSome o (λ node. length node.children < 256)) there (omega arith)
@@ -98,7 +110,8 @@ module _ {K V : Type 0} {s : Nodes K V} {p : InnerPtr} {b : ℕ} where
         let head : ◌≡◌ {A = ℕ × OpaqueNodePtr} (d, name_of t) (c, to) = cc in
         (t, full_child s l r d t gap.full (ap (λ z. z.1) head))
 
-    pub right_before : (l r : Children OpaqueNodePtr (K × V)) (previous next : Option LeafPtr) → HasGap s p b l r → slots_of r ≡ (c, to) ∷ rest → ((t : Tree OpaqueNodePtr (K × V)) → IsFullTree s to t → ComesBefore s t previous next) → ComesBetween s l r previous next
+    pub right_before : (l r : Children OpaqueNodePtr (K × V)) (previous next : Option LeafPtr) → HasGap s p b l r → slots_of r ≡ (c, to) ∷ rest →
+        ((t : Tree OpaqueNodePtr (K × V)) → IsFullTree s to t → ComesBefore s t previous next) → ComesBetween s l r previous next
     right_before l no_child previous next gap e comes = absurd cc
     right_before l (child d t r) previous next gap e comes =
         let head : ◌≡◌ {A = ℕ × OpaqueNodePtr} (d, name_of t) (c, to) = cc in
@@ -106,14 +119,23 @@ module _ {K V : Type 0} {s : Nodes K V} {p : InnerPtr} {b : ℕ} where
 
   module _ {last : ℕ × OpaqueNodePtr} where
     -- the last child on the left
-    pub left_full : (l r : Children OpaqueNodePtr (K × V)) → HasGap s p b l r → slots_of r ≡ [] → slice_get (slots_of (join l r)) (length (slots_of (join l r)) - 1) ≡ Some last → (t : Tree OpaqueNodePtr (K × V)) × IsFullTree s last.1 t
+    pub left_full : (l r : Children OpaqueNodePtr (K × V)) → HasGap s p b l r → slots_of r ≡ [] →
+        slice_get (slots_of (join l r)) (length (slots_of (join l r)) - 1) ≡ Some last → (t : Tree OpaqueNodePtr (K × V)) × IsFullTree s last.1 t
     left_full l (child d t r) gap e at = absurd cc
     left_full l no_child gap e at =
         let (others, t, whole, named) = last_child (join l no_child) last at in
         (t, full_child s others no_child last.0 t (subst (λ z. IsFullTree s (inner_name p) (inner (inner_name p) gap.header z)) whole gap.full) named)
 
-    pub left_after : (l r : Children OpaqueNodePtr (K × V)) (previous next : Option LeafPtr) → HasGap s p b l r → slots_of r ≡ [] → slice_get (slots_of (join l r)) (length (slots_of (join l r)) - 1) ≡ Some last → ((t : Tree OpaqueNodePtr (K × V)) → IsFullTree s last.1 t → ComesAfter s t previous next) → ComesBetween s l r previous next
+    pub left_after : (l r : Children OpaqueNodePtr (K × V)) (previous next : Option LeafPtr) → HasGap s p b l r → slots_of r ≡ [] →
+        slice_get (slots_of (join l r)) (length (slots_of (join l r)) - 1) ≡ Some last →
+        ((t : Tree OpaqueNodePtr (K × V)) → IsFullTree s last.1 t → ComesAfter s t previous next) → ComesBetween s l r previous next
     left_after l (child d t r) previous next gap e at comes = absurd cc
     left_after l no_child previous next gap e at comes =
-        let (others, t, whole, named) = last_child (join l no_child) last at in
-        (others, last.0, t, sym (join_none l) ∙ whole, comes t (full_child s others no_child last.0 t (subst (λ z. IsFullTree s (inner_name p) (inner (inner_name p) gap.header z)) whole gap.full) named))
+        let (others, t, whole, named) = last_child (join l no_child) last at in (
+          others,
+          last.0,
+          t,
+          sym (join_none l) ∙ whole,
+          comes t (full_child s others no_child last.0 t
+              (subst (λ z. IsFullTree s (inner_name p) (inner (inner_name p) gap.header z)) whole gap.full) named),
+        )

@@ -28,7 +28,8 @@ other_kind Node256 last proper e = last refl
 other_kind Leaf last proper e = proper refl
 
 -- what is free once a node of a lesser kind is gone was free
-pub free_before : {P : ℕ} (inners : Inners) (name larger : InnerPtr) (node : AnyInner P) → any_kind node ≡ name.kind → name.kind ≢ Node256 → larger.kind ≡ larger_kind name.kind → map.get (map.remove inners name) larger ≡ None → map.get inners larger ≡ None
+pub free_before : {P : ℕ} (inners : Inners) (name larger : InnerPtr) (node : AnyInner P) → any_kind node ≡ name.kind → name.kind ≢ Node256 →
+    larger.kind ≡ larger_kind name.kind → map.get (map.remove inners name) larger ≡ None → map.get inners larger ≡ None
 free_before inners name larger node own last kind free =
     sym (inner_gone_elsewhere inners name larger (λ e. other_kind name.kind last (λ f. any_is_inner node (own ∙ f)) (sym kind ∙ ap (λ (z : InnerPtr). z.kind) e))) ∙ free
 

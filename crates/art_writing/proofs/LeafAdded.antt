@@ -83,8 +83,11 @@ module _ {K V : Type 0} {bytes : K × V → List ℕ} {P : ℕ} {s : Nodes K V} 
   abbrev after : List OpaqueNodePtr
   after = leaf_names_below e.right ++ leaves_after e.frames
 
-  leaves_are : leaf_names (plug e.frames (inner (inner_name p) e.header (join e.left e.right))) ≡ (leaves_before e.frames ++ leaf_names_below e.left) ++ (leaf_names_below e.right ++ leaves_after e.frames)
-  leaves_are = leaf_names-plug e.frames (inner (inner_name p) e.header (join e.left e.right)) ∙ ap (λ z. leaves_before e.frames ++ z ++ leaves_after e.frames) (leaf_names_below-join e.left e.right) ∙ simp append_assoc
+  leaves_are : leaf_names (plug e.frames (inner (inner_name p) e.header (join e.left e.right))) ≡ (leaves_before e.frames ++ leaf_names_below e.left)
+      ++ (leaf_names_below e.right ++ leaves_after e.frames)
+  leaves_are =
+      leaf_names-plug e.frames (inner (inner_name p) e.header (join e.left e.right)) ∙
+      ap (λ z. leaves_before e.frames ++ z ++ leaves_after e.frames) (leaf_names_below-join e.left e.right) ∙ simp append_assoc
 
   -- ---- the leaves beside the new one
 
@@ -108,9 +111,18 @@ module _ {K V : Type 0} {bytes : K × V → List ℕ} {P : ℕ} {s : Nodes K V} 
 
     -- the leaf is placed in a store that was reserved, and its name is the child's
     module _ (r q : Nodes K V) {n : LeafPtr} {child : OpaqueNodePtr} (r_leaves : r.leaves ≡ s.leaves) (r_inners : r.inners ≡ s.inners) (free : map.get r.leaves n ≡ None)
-        (q_leaves : q.leaves ≡ with_leaf r.leaves n (record { key = new.0; value = new.1; previous = previous; next = next })) (q_inners : q.inners ≡ r.inners) (child_is : child ≡ leaf_name n) (t : Nodes K V) (t_leaves : t.leaves ≡ q.leaves) where
-      placed : LeafPlaced s t (plug e.frames (inner (inner_name p) e.header (join e.left e.right))) (leaves_before e.frames ++ leaf_names_below e.left) (leaf_names_below e.right ++ leaves_after e.frames) n new_leaf
-      placed = record { list = leaves_are; last = links.0; first = links.1; fresh = ap (λ m. map.get m n) (sym r_leaves) ∙ free; leaves = t_leaves ∙ q_leaves ∙ ap (λ m. with_leaf m n new_leaf) r_leaves }
+        (q_leaves : q.leaves ≡ with_leaf r.leaves n (record { key = new.0; value = new.1; previous = previous; next = next }))
+        (q_inners : q.inners ≡ r.inners) (child_is : child ≡ leaf_name n) (t : Nodes K V) (t_leaves : t.leaves ≡ q.leaves) where
+      placed : LeafPlaced s t (plug e.frames (inner (inner_name p) e.header (join e.left e.right)))
+          (leaves_before e.frames ++ leaf_names_below e.left) (leaf_names_below e.right ++ leaves_after e.frames) n new_leaf
+      placed = record {
+        list = leaves_are;
+        last = links.0;
+        first = links.1;
+        fresh = ap (λ m. map.get m n) (sym r_leaves) ∙ free;
+        leaves = t_leaves ∙
+            q_leaves ∙ ap (λ m. with_leaf m n new_leaf) r_leaves;
+      }
 
       -- the node has room
       module _ (room : is_full s p ≡ false) (inners : t.inners ≡ change q.inners p (with_child b child)) where
@@ -122,11 +134,14 @@ module _ {K V : Type 0} {bytes : K × V → List ℕ} {P : ℕ} {s : Nodes K V} 
           inners = inners ∙ ap₂ (λ m name. change m p (with_child b name)) (q_inners ∙ r_inners) child_is;
         }
 
-        pub room_inserted : point.insert_kind ≡ IntoExisting p → (done : InsertResult K V) → done ≡ record { leaf_node_ptr = n; existing_leaf = None; new_root = point.root; parent_node_change = NewParent (inner_name p) b } → IsInserted bytes P s t point new pairs layout done
-        room_inserted into done is = entered_inserted by into e (room_added (entry_laid by e) into_room) (sym (root_stays e.frames (inner (inner_name p) e.header (join e.left e.right)) (entry_laid by e).named)) is
+        pub room_inserted : point.insert_kind ≡ IntoExisting p → (done : InsertResult K V) →
+            done ≡ record { leaf_node_ptr = n; existing_leaf = None; new_root = point.root; parent_node_change = NewParent (inner_name p) b } → IsInserted bytes P s t point new pairs layout done
+        room_inserted into done is =
+            entered_inserted by into e (room_added (entry_laid by e) into_room) (sym (root_stays e.frames (inner (inner_name p) e.header (join e.left e.right)) (entry_laid by e).named)) is
 
         pub room_touched : point.insert_kind ≡ IntoExisting p → Touches point.insert_kind s t
-        room_touched into = subst (λ kind. Touches kind s t) (sym into) (subst (λ full. cond full (TouchesAtMost 2 1 3 s t) (TouchesAtMost 1 0 3 s t)) (sym room) (room_touches (entry_laid by e) into_room))
+        room_touched into =
+            subst (λ kind. Touches kind s t) (sym into) (subst (λ full. cond full (TouchesAtMost 2 1 3 s t) (TouchesAtMost 1 0 3 s t)) (sym room) (room_touches (entry_laid by e) into_room))
 
       -- the node is full, and gives way to a larger one
       module _ (full : is_full s p ≡ true) (not_last : p.kind ≢ Node256) (k : InnerPtr) (kind : k.kind ≡ larger_kind p.kind) (was_free : map.get q.inners k ≡ None)
@@ -135,8 +150,11 @@ module _ {K V : Type 0} {bytes : K × V → List ℕ} {P : ℕ} {s : Nodes K V} 
         HasGrown node = t.inners ≡ with_child_at (last_step point.path) (inner_name k) (map.insert (map.remove s.inners p) k (with_child b (leaf_name n) node))
 
         own : (node : Inner) × (map.get s.inners p ≡ Some node) × HasGrown node
-        own = go (map.get s.inners p) refl (subst (λ m. IsSomeAnd (map.get m p) (λ node. t.inners ≡ with_child_at (last_step point.path) (inner_name k) (map.insert (map.remove m p) k (with_child b (leaf_name n) node)))) (q_inners ∙ r_inners)
-            (subst (λ name. IsSomeAnd (map.get q.inners p) (λ node. t.inners ≡ with_child_at (last_step point.path) (inner_name k) (map.insert (map.remove q.inners p) k (with_child b name node)))) child_is inners))
+        own = go (map.get s.inners p) refl (subst
+            (λ m. IsSomeAnd (map.get m p) (λ node. t.inners ≡ with_child_at (last_step point.path) (inner_name k)
+            (map.insert (map.remove m p) k (with_child b (leaf_name n) node)))) (q_inners ∙ r_inners)
+            (subst (λ name. IsSomeAnd (map.get q.inners p) (λ node. t.inners ≡ with_child_at (last_step point.path) (inner_name k)
+            (map.insert (map.remove q.inners p) k (with_child b name node)))) child_is inners))
           where
             go : (o : Option Inner) → map.get s.inners p ≡ o → IsSomeAnd o HasGrown → (node : Inner) × (map.get s.inners p ≡ Some node) × HasGrown node
             go None is h = absurd h
@@ -152,22 +170,27 @@ module _ {K V : Type 0} {bytes : K × V → List ℕ} {P : ℕ} {s : Nodes K V} 
           placed = placed;
           was_free = ap (λ m. map.get m k) (sym (q_inners ∙ r_inners)) ∙ was_free;
           here = own.1;
-          inners = own.2 ∙ ap (λ step. with_child_at step (inner_name k) (map.insert (map.remove s.inners p) k (with_child b (leaf_name n) own.0))) (ap last_step e.path_is ∙ last_step-path_of e.frames);
+          inners = own.2 ∙ ap (λ step. with_child_at step (inner_name k) (map.insert (map.remove s.inners p) k (with_child b (leaf_name n) own.0)))
+              (ap last_step e.path_is ∙ last_step-path_of e.frames);
         }
 
         pub full_inserted : point.insert_kind ≡ IntoExisting p → {root : OpaqueNodePtr} → root ≡ root_with point.path point.root (inner_name k) → (done : InsertResult K V) →
             done ≡ record { leaf_node_ptr = n; existing_leaf = None; new_root = root; parent_node_change = NewParent (inner_name k) b } → IsInserted bytes P s t point new pairs layout done
         full_inserted into root_is done is =
-            entered_inserted by into e (full_added (entry_laid by e) into_full) (root_is ∙ ap (λ path. root_with path point.root (inner_name k)) e.path_is ∙ root_with-path_of e.frames point.root (inner_name k)) is
+            entered_inserted by into e (full_added (entry_laid by e) into_full)
+            (root_is ∙ ap (λ path. root_with path point.root (inner_name k)) e.path_is ∙ root_with-path_of e.frames point.root (inner_name k)) is
 
         pub full_touched : point.insert_kind ≡ IntoExisting p → Touches point.insert_kind s t
-        full_touched into = subst (λ kind. Touches kind s t) (sym into) (subst (λ full. cond full (TouchesAtMost 2 1 3 s t) (TouchesAtMost 1 0 3 s t)) (sym full) (full_touches (entry_laid by e) into_full))
+        full_touched into =
+            subst (λ kind. Touches kind s t) (sym into) (subst (λ full. cond full (TouchesAtMost 2 1 3 s t) (TouchesAtMost 1 0 3 s t)) (sym full) (full_touches (entry_laid by e) into_full))
 
   -- ---- room for one child more
 
   -- a node that isn't full has it
   pub has_room : is_full s p ≡ false → (q : Inners) → q ≡ s.inners → IsSomeAnd (map.get q p) (λ node. HasPlace (kind_capacity p.kind) node.children b)
-  has_room room q same = subst (λ m. IsSomeAnd (map.get m p) (λ node. HasPlace (kind_capacity p.kind) node.children b)) (sym same) (some (map.get s.inners p) (entry_count by e (λ n. n < kind_capacity p.kind) (leb-false (kind_capacity p.kind) count (sym (entry_full by e) ∙ room))))
+  has_room room q same =
+      subst (λ m. IsSomeAnd (map.get m p) (λ node. HasPlace (kind_capacity p.kind) node.children b)) (sym same)
+      (some (map.get s.inners p) (entry_count by e (λ n. n < kind_capacity p.kind) (leb-false (kind_capacity p.kind) count (sym (entry_full by e) ∙ room))))
     where
       some : (o : Option Inner) → IsSomeAnd o (λ node. length node.children < kind_capacity p.kind) → IsSomeAnd o (λ node. HasPlace (kind_capacity p.kind) node.children b)
       some None h = h
@@ -183,7 +206,9 @@ module _ {K V : Type 0} {bytes : K × V → List ℕ} {P : ℕ} {s : Nodes K V} 
 
   -- and a larger one has room
   pub larger_has_room : p.kind ≢ Node256 → (q : Inners) → q ≡ s.inners → IsSomeAnd (map.get q p) (λ node. HasPlace (kind_capacity (larger_kind p.kind)) node.children b)
-  larger_has_room not_last q same = subst (λ m. IsSomeAnd (map.get m p) (λ node. HasPlace (kind_capacity (larger_kind p.kind)) node.children b)) (sym same) (some (map.get s.inners p) (entry_count by e (λ n. n < kind_capacity (larger_kind p.kind)) (larger_room p.kind count (entry_kind by e) not_last)))
+  larger_has_room not_last q same =
+      subst (λ m. IsSomeAnd (map.get m p) (λ node. HasPlace (kind_capacity (larger_kind p.kind)) node.children b)) (sym same)
+      (some (map.get s.inners p) (entry_count by e (λ n. n < kind_capacity (larger_kind p.kind)) (larger_room p.kind count (entry_kind by e) not_last)))
     where
       some : (o : Option Inner) → IsSomeAnd o (λ node. length node.children < kind_capacity (larger_kind p.kind)) → IsSomeAnd o (λ node. HasPlace (kind_capacity (larger_kind p.kind)) node.children b)
       some None h = h

@@ -71,7 +71,12 @@ answered_over {bytes = bytes} {P} {s} {key} {point} {pairs} {layout} (others, ot
     record {
       answers = answers;
       place = place;
-      hole = record { path = path; radix = radix; front = subst (λ w. IsFront w key) (ap (λ d. place_of bytes d answers.node) deep ∙ place_is bytes P answers.node place radix) answers.is_end.is_front };
+      hole = record {
+        path = path;
+        radix = radix;
+        front = subst (λ w. IsFront w key)
+            (ap (λ d. place_of bytes d answers.node) deep ∙ place_is bytes P answers.node place radix) answers.is_end.is_front;
+      };
       deep = deep;
     }
 
@@ -95,7 +100,8 @@ module _ {K V : Type 0} {bytes : K × V → List ℕ} {P : ℕ} {s : Nodes K V} 
       let a = answered_over answers by in
       go a.answers.path a.place a.answers.node a.answers.is_end.whole a.hole (sym a.answers.name_is ∙ sym named) point.key_bytes_used a.answers.gives_way
     where
-      go : (path : List (Frame OpaqueNodePtr (K × V))) (place : List ℕ) (node : Tree OpaqueNodePtr (K × V)) → plug path node ≡ layout → IsHole bytes P path place node key → name_of node ≡ leaf_name p → (used : ℕ) → IsOverwrittenWith bytes key (depth_of path) used node → IsRelatedLeaf bytes P s p layout key
+      go : (path : List (Frame OpaqueNodePtr (K × V))) (place : List ℕ) (node : Tree OpaqueNodePtr (K × V)) → plug path node ≡ layout →
+          IsHole bytes P path place node key → name_of node ≡ leaf_name p → (used : ℕ) → IsOverwrittenWith bytes key (depth_of path) used node → IsRelatedLeaf bytes P s p layout key
       go path place (inner n h cs) whole hole is used gives =
           let held = (path_holds (node_at s) path (inner n h cs) (subst (Holds (node_at s)) (sym whole) by.stands.0.holds)).1.0 in
           absurd (views.leaf_name_is s p h (slots_of cs) (ap (node_at s) (sym is) ∙ held))
@@ -114,7 +120,8 @@ module _ {K V : Type 0} {bytes : K × V → List ℕ} {P : ℕ} {s : Nodes K V} 
             unequal = λ e. unequal (e ∙ ap bytes own);
           }
 
-module _ {K V : Type 0} {bytes : K × V → List ℕ} {P : ℕ} {s : Nodes K V} {point : OverwritePoint} {p : LeafPtr} (new : K × V) (answers : IsOverwritePointIn bytes P s (bytes new) point) (named : leaf_name p ≡ point.overwrite_point) where
+module _ {K V : Type 0} {bytes : K × V → List ℕ} {P : ℕ} {s : Nodes K V} {point : OverwritePoint} {p : LeafPtr} (new : K × V)
+    (answers : IsOverwritePointIn bytes P s (bytes new) point) (named : leaf_name p ≡ point.overwrite_point) where
   -- the leaf is there
   pub related_leaf_there : IsSome (map.get s.leaves p)
   related_leaf_there =
@@ -125,7 +132,8 @@ module _ {K V : Type 0} {bytes : K × V → List ℕ} {P : ℕ} {s : Nodes K V} 
   module _ (t : Nodes K V) (leaves : t.leaves ≡ change s.leaves p (with_pair new.0 new.1)) (inners : t.inners ≡ s.inners) where
     -- the pair is in, and the old one is answered
     pub leaf_pair_overwritten : (swapped : K × V) (existing : LeafNode K V) → IfSome (map.get s.leaves p) (λ leaf. swapped ≡ (leaf.key, leaf.value)) → existing ≡ alone swapped →
-        ForTree bytes P s point.root (λ pairs layout. IsOverwritten bytes P s t point new pairs layout (record { insert_result = record { leaf_node_ptr = p; existing_leaf = Some existing; new_root = point.root; parent_node_change = NoChange }; leafs_removed = 0 }))
+        ForTree bytes P s point.root (λ pairs layout. IsOverwritten bytes P s t point new pairs layout
+        (record { insert_result = record { leaf_node_ptr = p; existing_leaf = Some existing; new_root = point.root; parent_node_change = NoChange }; leafs_removed = 0 }))
     leaf_pair_overwritten swapped existing pair is pairs layout by =
         let l = related_leaf answers named by in
         let into : IntoLeaf bytes P s t l.path l.place p l.shown new = record { hole = l.hole; here = l.there; write = with_pair new.0 new.1; written = refl; leaves = leaves; inners = inners } in
@@ -159,7 +167,8 @@ pub record IsSubtreeAt {K V : Type 0} (bytes : K × V → List ℕ) (P : ℕ) (s
 
 module _ {A : Type 0} (bytes : A → List ℕ) (P : ℕ) where
   -- what is below an inner node goes on after its prefix
-  goes_on : {N : Type 0} (key front : List ℕ) → IsFront key front → (cs : Children N A) → AreRadix bytes P front cs → Each (λ y. IsFront key (bytes y) × (length key < length (bytes y))) (pairs_below cs)
+  goes_on : {N : Type 0} (key front : List ℕ) → IsFront key front → (cs : Children N A) → AreRadix bytes P front cs →
+      Each (λ y. IsFront key (bytes y) × (length key < length (bytes y))) (pairs_below cs)
   goes_on key front short no_child h = tt
   goes_on key front short (child b t cs) h = Each-append (λ y. IsFront key (bytes y) × (length key < length (bytes y))) (pairs_of t) (pairs_below cs)
       (Each-weaker (λ y. IsFront (front ++ b ∷ []) (bytes y)) (λ y. IsFront key (bytes y) × (length key < length (bytes y))) (λ y way. (
@@ -181,7 +190,8 @@ module _ {K V : Type 0} {bytes : K × V → List ℕ} {P : ℕ} {s : Nodes K V} 
       let a = answered_over answers by in
       go a.answers.path a.place a.answers.node a.answers.is_end.whole a.hole a.deep (sym a.answers.name_is) a.answers.path_is point.key_bytes_used a.answers.gives_way
     where
-      go : (path : List (Frame OpaqueNodePtr (K × V))) (place : List ℕ) (node : Tree OpaqueNodePtr (K × V)) → plug path node ≡ layout → IsHole bytes P path place node key → depth_of path ≡ length place → name_of node ≡ point.overwrite_point → point.path ≡ path_of path →
+      go : (path : List (Frame OpaqueNodePtr (K × V))) (place : List ℕ) (node : Tree OpaqueNodePtr (K × V)) → plug path node ≡ layout →
+          IsHole bytes P path place node key → depth_of path ≡ length place → name_of node ≡ point.overwrite_point → point.path ≡ path_of path →
           (used : ℕ) → IsOverwrittenWith bytes key (depth_of path) used node → IsSubtreeAt bytes P s point layout key
       go path place (leaf n pair) whole hole deep named path_is used gives =
           let held = (path_holds (node_at s) path (leaf n pair) (subst (Holds (node_at s)) (sym whole) by.stands.0.holds)).1 in
@@ -203,11 +213,19 @@ module _ {K V : Type 0} {bytes : K × V → List ℕ} {P : ℕ} {s : Nodes K V} 
             hole = hole;
             path_is = path_is;
             full = (
-              record { named = named; holds = (path_holds (node_at s) path (inner n h cs) laid.holds).1; distinct = hole_distinct (node_at s) (node_at s) path (inner n h cs) laid.holds laid.distinct },
+              record {
+                named = named;
+                holds = (path_holds (node_at s) path (inner n h cs) laid.holds).1;
+                distinct = hole_distinct (node_at s)
+                    (node_at s) path (inner n h cs) laid.holds laid.distinct;
+              },
               one_child (inner n h cs) (have_two_children bytes P place (inner n h cs) hole.radix),
             );
-            related = Each-weaker (λ y. IsFront key (bytes y) × (length key < length (bytes y))) (λ y. are_related key (bytes y) ≡ true) (λ y g. front_related key (bytes y) g.0) (pairs_below cs) below;
-            unequal = Each-weaker (λ y. IsFront key (bytes y) × (length key < length (bytes y))) (λ y. bytes y ≢ key) (λ y g same. let l = ap length same in let m = g.1 in omega arith) (pairs_below cs) below;
+            related =
+                Each-weaker (λ y. IsFront key (bytes y) × (length key < length (bytes y))) (λ y. are_related key (bytes y) ≡ true) (λ y g. front_related key (bytes y) g.0) (pairs_below cs) below;
+            unequal =
+                Each-weaker (λ y. IsFront key (bytes y) × (length key < length (bytes y))) (λ y. bytes y ≢ key)
+                (λ y g same. let l = ap length same in let m = g.1 in omega arith) (pairs_below cs) below;
             two = two_pairs cs hole.radix.2 hole.radix.4;
           }
         where
@@ -225,7 +243,8 @@ module _ {K V : Type 0} (s r : Nodes K V) (same : SameNodes s r) where
   full_stays {name} {tree} full = (
     record {
       named = full.0.named;
-      holds = frame (node_at s) (node_at r) tree (each_from (λ k. node_at r k ≡ node_at s k) (names_of tree) (λ k i. ap (option_map (seen k.kind)) (ap₂ (λ leaves inners. held (record r { leaves = leaves; inners = inners }) k) same.0 same.1))) full.0.holds;
+      holds = frame (node_at s) (node_at r) tree (each_from (λ k. node_at r k ≡ node_at s k) (names_of tree)
+          (λ k i. ap (option_map (seen k.kind)) (ap₂ (λ leaves inners. held (record r { leaves = leaves; inners = inners }) k) same.0 same.1))) full.0.holds;
       distinct = full.0.distinct;
     },
     full.1,
@@ -240,7 +259,8 @@ module _ {N A : Type 0} where
 
     names_pairs_below : (cs : Children N A) → length (leaf_names_below cs) ≡ length (pairs_below cs)
     names_pairs_below no_child = refl
-    names_pairs_below (child b t cs) = length-append (leaf_names t) (leaf_names_below cs) ∙ ap₂ (λ a b. a + b) (names_pairs t) (names_pairs_below cs) ∙ sym (length-append (pairs_of t) (pairs_below cs))
+    names_pairs_below (child b t cs) =
+        length-append (leaf_names t) (leaf_names_below cs) ∙ ap₂ (λ a b. a + b) (names_pairs t) (names_pairs_below cs) ∙ sym (length-append (pairs_of t) (pairs_below cs))
 
 -- more than one went
 went_many : {X : Type 0} (xs : List X) → 2 ≤ length xs → went xs ≡ (None, length xs)
@@ -248,14 +268,16 @@ went_many [] two = absurd (omega arith)
 went_many (x ∷ []) two = absurd (omega arith)
 went_many (x ∷ y ∷ xs) two = refl
 
-for_inner : {K V : Type 0} (kind : NodeType) {bytes : K × V → List ℕ} {key : List ℕ} {s t : Nodes K V} {layout : Tree OpaqueNodePtr (K × V)} → kind ≢ Leaf → TouchesRelated bytes key s t (Some layout) → TouchesForNode kind bytes key s t layout
+for_inner : {K V : Type 0} (kind : NodeType) {bytes : K × V → List ℕ} {key : List ℕ} {s t : Nodes K V} {layout : Tree OpaqueNodePtr (K × V)} →
+    kind ≢ Leaf → TouchesRelated bytes key s t (Some layout) → TouchesForNode kind bytes key s t layout
 for_inner Leaf off h = absurd (off refl)
 for_inner Node4 off h = h
 for_inner Node16 off h = h
 for_inner Node48 off h = h
 for_inner Node256 off h = h
 
-module _ {K V : Type 0} {bytes : K × V → List ℕ} {P : ℕ} {s : Nodes K V} {point : OverwritePoint} {key : List ℕ} {pairs : List (K × V)} {layout : Tree OpaqueNodePtr (K × V)} (by : IsTree bytes P s point.root pairs layout) (at : IsSubtreeAt bytes P s point layout key) where
+module _ {K V : Type 0} {bytes : K × V → List ℕ} {P : ℕ} {s : Nodes K V} {point : OverwritePoint} {key : List ℕ} {pairs : List (K × V)}
+    {layout : Tree OpaqueNodePtr (K × V)} (by : IsTree bytes P s point.root pairs layout) (at : IsSubtreeAt bytes P s point layout key) where
   old_laid : IsLaidOut bytes P (node_at s) (links_at s) point.root pairs (plug at.path at.node)
   old_laid = subst (IsLaidOut bytes P (node_at s) (links_at s) point.root pairs) (sym at.whole) (laid_out by)
 
@@ -266,7 +288,9 @@ module _ {K V : Type 0} {bytes : K × V → List ℕ} {P : ℕ} {s : Nodes K V} 
   links_next previous next comes = (beside_is s at.path at.node old_laid.linked true previous next comes).1
 
   subtree_others : AreThere s (leaves_before at.path ++ leaves_after at.path)
-  subtree_others p i = are_there s (plug at.path at.node) old_laid.holds p (subst (IsIn (leaf_name p)) (sym (leaf_names-plug at.path at.node)) (in_around (leaf_name p) (leaves_before at.path) (leaf_names at.node) (leaves_after at.path) i))
+  subtree_others p i =
+      are_there s (plug at.path at.node) old_laid.holds p (subst (IsIn (leaf_name p)) (sym (leaf_names-plug at.path at.node))
+      (in_around (leaf_name p) (leaves_before at.path) (leaf_names at.node) (leaves_after at.path) i))
 
   -- the leaves beside the subtree are there
   pub subtree_previous : {previous : Option LeafPtr} → option_map leaf_name previous ≡ last_or (leaves_before at.path) None → IsThere s.leaves previous
@@ -277,7 +301,9 @@ module _ {K V : Type 0} {bytes : K × V → List ℕ} {P : ℕ} {s : Nodes K V} 
 
   -- and so is the parent, with a child under its byte
   pub subtree_parent : HasChild s.inners (last_step point.path)
-  subtree_parent = subst (HasChild s.inners) (sym (ap last_step at.path_is ∙ last_step-path_of at.path)) (has (parent_of at.path) (parent_ready bytes P s at.path at.place (name_of at.node) at.hole.path (path_holds (node_at s) at.path at.node old_laid.holds).0))
+  subtree_parent =
+      subst (HasChild s.inners) (sym (ap last_step at.path_is ∙ last_step-path_of at.path))
+      (has (parent_of at.path) (parent_ready bytes P s at.path at.place (name_of at.node) at.hole.path (path_holds (node_at s) at.path at.node old_laid.holds).0))
     where
       some : (o : Option Inner) (b : ℕ) → IsSomeAnd o (λ node. child_at node.children b ≡ Some (name_of at.node)) → IsSomeAnd o (λ node. IsSome (child_at node.children b))
       some None b h = h
@@ -289,17 +315,20 @@ module _ {K V : Type 0} {bytes : K × V → List ℕ} {P : ℕ} {s : Nodes K V} 
 
   -- what is read of the leaves beside it, in a store with the same nodes
   module _ (r : Nodes K V) (same : SameNodes s r) where
-    pub read_previous : (read : Option LeafPtr × Option LeafPtr) → ((tree : Tree OpaqueNodePtr (K × V)) → IsFullTree r point.overwrite_point tree → ComesBefore r tree read.0 read.1) → option_map leaf_name read.0 ≡ last_or (leaves_before at.path) None
+    pub read_previous : (read : Option LeafPtr × Option LeafPtr) →
+        ((tree : Tree OpaqueNodePtr (K × V)) → IsFullTree r point.overwrite_point tree → ComesBefore r tree read.0 read.1) → option_map leaf_name read.0 ≡ last_or (leaves_before at.path) None
     read_previous read told =
         let (f, has, is, here) = told at.node (full_stays s r same at.full) in
         links_previous read.0 read.1 (f, has, is, subst (λ m. IsSomeAnd (map.get m f) (λ leaf. read.0 ≡ leaf.previous)) same.0 here)
 
-    pub read_next : (read : Option LeafPtr × Option LeafPtr) → ((tree : Tree OpaqueNodePtr (K × V)) → IsFullTree r point.overwrite_point tree → ComesAfter r tree read.0 read.1) → option_map leaf_name read.1 ≡ first_or (leaves_after at.path) None
+    pub read_next : (read : Option LeafPtr × Option LeafPtr) →
+        ((tree : Tree OpaqueNodePtr (K × V)) → IsFullTree r point.overwrite_point tree → ComesAfter r tree read.0 read.1) → option_map leaf_name read.1 ≡ first_or (leaves_after at.path) None
     read_next read told =
         let (l, has, is, here) = told at.node (full_stays s r same at.full) in
         links_next read.0 read.1 (l, has, is, subst (λ m. IsSomeAnd (map.get m l) (λ leaf. read.1 ≡ leaf.next)) same.0 here)
 
-  module _ (u : Nodes K V) (n : LeafPtr) (x : LeafNode K V) (fresh : map.get s.leaves n ≡ None) (leaves : u.leaves ≡ with_leaf s.leaves n x) (inners : u.inners ≡ with_child_at (last_step point.path) (leaf_name n) s.inners) where
+  module _ (u : Nodes K V) (n : LeafPtr) (x : LeafNode K V) (fresh : map.get s.leaves n ≡ None) (leaves : u.leaves ≡ with_leaf s.leaves n x)
+      (inners : u.inners ≡ with_child_at (last_step point.path) (leaf_name n) s.inners) where
     parent_inners : u.inners ≡ with_child_at (parent_of at.path) (leaf_name n) s.inners
     parent_inners = inners ∙ ap (λ o. with_child_at o (leaf_name n) s.inners) (ap last_step at.path_is ∙ last_step-path_of at.path)
 
@@ -317,7 +346,8 @@ module _ {K V : Type 0} {bytes : K × V → List ℕ} {P : ℕ} {s : Nodes K V} 
       at.full.1,
     )
 
-    module _ {t : Nodes K V} (new_key : bytes (pair_of x) ≡ key) (last : option_map leaf_name x.previous ≡ last_or (leaves_before at.path) None) (first : option_map leaf_name x.next ≡ first_or (leaves_after at.path) None) (freed : Frees (names_of at.node) u t) where
+    module _ {t : Nodes K V} (new_key : bytes (pair_of x) ≡ key) (last : option_map leaf_name x.previous ≡ last_or (leaves_before at.path) None)
+        (first : option_map leaf_name x.next ≡ first_or (leaves_after at.path) None) (freed : Frees (names_of at.node) u t) where
       into_hole : IntoHole bytes P s u t at.path at.place at.node n x
       into_hole = record {
         hole = subst (IsHole bytes P at.path at.place at.node) (sym new_key) at.hole;
@@ -333,14 +363,17 @@ module _ {K V : Type 0} {bytes : K × V → List ℕ} {P : ℕ} {s : Nodes K V} 
 
       -- the leaf is in, and the number of those that went is answered
       pub subtree_overwritten : (after : OpaqueNodePtr) (count : ℕ) → after ≡ root_with point.path point.root (leaf_name n) → count ≡ length (leaf_names at.node) → point.overwrite_point.kind ≢ Leaf →
-          IsOverwritten bytes P s t point (pair_of x) pairs layout (record { insert_result = record { leaf_node_ptr = n; existing_leaf = None; new_root = after; parent_node_change = NoChange }; leafs_removed = count })
+          IsOverwritten bytes P s t point (pair_of x) pairs layout
+          (record { insert_result = record { leaf_node_ptr = n; existing_leaf = None; new_root = after; parent_node_change = NoChange }; leafs_removed = count })
       subtree_overwritten after count after_is count_is off =
           let into = into_hole in
           let reply : overwrite_reply bytes (pair_of x) pairs ≡ (None, length (pairs_of at.node)) = hole_reply old_laid into ∙ went_many (pairs_of at.node) at.two in
-          let root : after ≡ paths.root_with at.path point.root (leaf_name n) = after_is ∙ ap (λ z. root_with z point.root (leaf_name n)) at.path_is ∙ root_with-path_of at.path point.root (leaf_name n) in
+          let root : after ≡ paths.root_with at.path point.root (leaf_name n) =
+          after_is ∙ ap (λ z. root_with z point.root (leaf_name n)) at.path_is ∙ root_with-path_of at.path point.root (leaf_name n) in
           record {
             tree = plug at.path (leaf (leaf_name n) (pair_of x));
-            canonical = subst (λ z. IsTree bytes P t z (overwrite bytes (pair_of x) pairs) (plug at.path (leaf (leaf_name n) (pair_of x)))) (sym root) (canonical_from (hole_overwritten old_laid into));
+            canonical =
+                subst (λ z. IsTree bytes P t z (overwrite bytes (pair_of x) pairs) (plug at.path (leaf (leaf_name n) (pair_of x)))) (sym root) (canonical_from (hole_overwritten old_laid into));
             leaf = record { has = (at.path, refl); kept = λ kind. absurd (off kind); change = refl };
             existing = ap (λ z. option_map alone z.0) (sym reply);
             removed = count_is ∙ names_pairs at.node ∙ ap (λ z. z.1) (sym reply);
@@ -356,33 +389,42 @@ module _ {K V : Type 0} {bytes : K × V → List ℕ} {P : ℕ} {s : Nodes K V} 
 
 -- ---- read off the whole record, for whatever layout of the new root
 
-module _ {K V : Type 0} {bytes : K × V → List ℕ} {P : ℕ} {s t : Nodes K V} {point : OverwritePoint} {pair : K × V} {pairs : List (K × V)} {layout : Tree OpaqueNodePtr (K × V)} {done : PrefixInsertResult K V} (is : IsOverwritten bytes P s t point pair pairs layout done) where
+module _ {K V : Type 0} {bytes : K × V → List ℕ} {P : ℕ} {s t : Nodes K V} {point : OverwritePoint} {pair : K × V} {pairs : List (K × V)}
+    {layout : Tree OpaqueNodePtr (K × V)} {done : PrefixInsertResult K V} (is : IsOverwritten bytes P s t point pair pairs layout done) where
   -- the new root is canonical
   pub over_canonical : IsCanonical bytes P t (Some done.insert_result.new_root) (overwrite bytes pair pairs)
   over_canonical = (is.tree, is.canonical)
 
   -- its layout has the leaf
   pub over_leaf : ForTree bytes P t done.insert_result.new_root (λ after new. HasOverwritten new point pair done.insert_result)
-  over_leaf after new by = subst (λ z. HasOverwritten z point pair done.insert_result) (sym (has_one_map bytes P t done.insert_result.new_root (overwrite bytes pair pairs) after is.tree new is.canonical by).1) is.leaf
+  over_leaf after new by =
+      subst (λ z. HasOverwritten z point pair done.insert_result) (sym (has_one_map bytes P t done.insert_result.new_root (overwrite bytes pair pairs) after is.tree new is.canonical by).1) is.leaf
 
   -- and the change was one in place
   pub over_kept : ForTree bytes P t done.insert_result.new_root (λ after new. ChangesInPlace bytes s t (Some layout) (Some new))
-  over_kept after new by = subst (λ z. ChangesInPlace bytes s t (Some layout) (Some z)) (sym (has_one_map bytes P t done.insert_result.new_root (overwrite bytes pair pairs) after is.tree new is.canonical by).1) is.kept
+  over_kept after new by =
+      subst (λ z. ChangesInPlace bytes s t (Some layout) (Some z)) (sym (has_one_map bytes P t done.insert_result.new_root (overwrite bytes pair pairs) after is.tree new is.canonical by).1) is.kept
 
 -- where an overwrite may be refused
 module _ {K V : Type 0} (bytes : K × V → List ℕ) (P : ℕ) (s t : Nodes K V) (point : OverwritePoint) (pair : K × V) {E : Type 0} (r : Result (PrefixInsertResult K V) E) where
   module _ (pairs : List (K × V)) (layout : Tree OpaqueNodePtr (K × V)) (done : IfOk r (IsOverwritten bytes P s t point pair pairs layout)) where
     pub if_over_canonical : IfOk r (λ done. IsCanonical bytes P t (Some done.insert_result.new_root) (overwrite bytes pair pairs))
-    if_over_canonical = IfOk-weaker r (IsOverwritten bytes P s t point pair pairs layout) (λ done. IsCanonical bytes P t (Some done.insert_result.new_root) (overwrite bytes pair pairs)) (λ done is. over_canonical is) done
+    if_over_canonical =
+        IfOk-weaker r (IsOverwritten bytes P s t point pair pairs layout)
+        (λ done. IsCanonical bytes P t (Some done.insert_result.new_root) (overwrite bytes pair pairs)) (λ done is. over_canonical is) done
 
     pub if_over_replaced : IfOk r (λ done. done.insert_result.existing_leaf ≡ option_map alone (overwrite_reply bytes pair pairs).0)
-    if_over_replaced = IfOk-weaker r (IsOverwritten bytes P s t point pair pairs layout) (λ done. done.insert_result.existing_leaf ≡ option_map alone (overwrite_reply bytes pair pairs).0) (λ done is. is.existing) done
+    if_over_replaced =
+        IfOk-weaker r (IsOverwritten bytes P s t point pair pairs layout)
+        (λ done. done.insert_result.existing_leaf ≡ option_map alone (overwrite_reply bytes pair pairs).0) (λ done is. is.existing) done
 
     pub if_over_removed : IfOk r (λ done. done.leafs_removed ≡ (overwrite_reply bytes pair pairs).1)
     if_over_removed = IfOk-weaker r (IsOverwritten bytes P s t point pair pairs layout) (λ done. done.leafs_removed ≡ (overwrite_reply bytes pair pairs).1) (λ done is. is.removed) done
 
     pub if_over_kept : IfOk r (λ done. ForTree bytes P t done.insert_result.new_root (λ after new. ChangesInPlace bytes s t (Some layout) (Some new)))
-    if_over_kept = IfOk-weaker r (IsOverwritten bytes P s t point pair pairs layout) (λ done. ForTree bytes P t done.insert_result.new_root (λ after new. ChangesInPlace bytes s t (Some layout) (Some new))) (λ done is. over_kept is) done
+    if_over_kept =
+        IfOk-weaker r (IsOverwritten bytes P s t point pair pairs layout)
+        (λ done. ForTree bytes P t done.insert_result.new_root (λ after new. ChangesInPlace bytes s t (Some layout) (Some new))) (λ done is. over_kept is) done
 
     pub if_over_touches : OnOk r (TouchesForNode point.overwrite_point.kind bytes (bytes pair) s t layout)
     if_over_touches = go r done
@@ -391,8 +433,15 @@ module _ {K V : Type 0} (bytes : K × V → List ℕ) (P : ℕ) (s t : Nodes K V
         go (Ok x) h = h.touches
         go (Err e) h = tt
 
-  pub if_over_leaf : {key : List ℕ} → IsOverwritePointIn bytes P s key point → ForTree bytes P s point.root (λ pairs layout. IfOk r (IsOverwritten bytes P s t point pair pairs layout)) → IfOk r (λ done. ForTree bytes P t done.insert_result.new_root (λ after new. HasOverwritten new point pair done.insert_result))
-  if_over_leaf (pairs, layout, by, answers) done = IfOk-weaker r (IsOverwritten bytes P s t point pair pairs layout) (λ done. ForTree bytes P t done.insert_result.new_root (λ after new. HasOverwritten new point pair done.insert_result)) (λ done is. over_leaf is) (done pairs layout by)
+  pub if_over_leaf : {key : List ℕ} → IsOverwritePointIn bytes P s key point →
+      ForTree bytes P s point.root (λ pairs layout. IfOk r (IsOverwritten bytes P s t point pair pairs layout)) →
+      IfOk r (λ done. ForTree bytes P t done.insert_result.new_root (λ after new. HasOverwritten new point pair done.insert_result))
+  if_over_leaf (pairs, layout, by, answers) done =
+      IfOk-weaker r (IsOverwritten bytes P s t point pair pairs layout)
+      (λ done. ForTree bytes P t done.insert_result.new_root (λ after new. HasOverwritten new point pair done.insert_result)) (λ done is. over_leaf is) (done pairs layout by)
 
-  pub if_over_root : {key : List ℕ} → IsOverwritePointIn bytes P s key point → ForTree bytes P s point.root (λ pairs layout. IfOk r (IsOverwritten bytes P s t point pair pairs layout)) → IfOk r (λ done. IsCanonicalRoot bytes P t done.insert_result.new_root)
-  if_over_root (pairs, layout, by, answers) done = IfOk-weaker r (IsOverwritten bytes P s t point pair pairs layout) (λ done. IsCanonicalRoot bytes P t done.insert_result.new_root) (λ done is. (overwrite bytes pair pairs, is.tree, is.canonical)) (done pairs layout by)
+  pub if_over_root : {key : List ℕ} → IsOverwritePointIn bytes P s key point →
+      ForTree bytes P s point.root (λ pairs layout. IfOk r (IsOverwritten bytes P s t point pair pairs layout)) → IfOk r (λ done. IsCanonicalRoot bytes P t done.insert_result.new_root)
+  if_over_root (pairs, layout, by, answers) done =
+      IfOk-weaker r (IsOverwritten bytes P s t point pair pairs layout) (λ done. IsCanonicalRoot bytes P t done.insert_result.new_root)
+      (λ done is. (overwrite bytes pair pairs, is.tree, is.canonical)) (done pairs layout by)

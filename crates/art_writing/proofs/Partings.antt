@@ -69,7 +69,8 @@ module _ {A : Type 0} (bytes : A → List ℕ) (key : List ℕ) where
   conflict-related [] = refl
   conflict-related (x ∷ xs) = go (conflict-related xs) (are_related key (bytes x)) refl
     where
-      go : is_conflict bytes key (related_to bytes key xs) ≡ is_conflict bytes key xs → (t : Bool) → are_related key (bytes x) ≡ t → is_conflict bytes key (related_to bytes key (x ∷ xs)) ≡ is_conflict bytes key (x ∷ xs)
+      go : is_conflict bytes key (related_to bytes key xs) ≡ is_conflict bytes key xs → (t : Bool) → are_related key (bytes x) ≡ t →
+          is_conflict bytes key (related_to bytes key (x ∷ xs)) ≡ is_conflict bytes key (x ∷ xs)
       go ih true e = rw (e, e) (ap (λ t. not (are_same key (bytes x)) || t) ih)
       go ih false e = rw e ih
 

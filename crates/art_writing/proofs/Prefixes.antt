@@ -48,7 +48,8 @@ module _ {N A : Type 0} (bytes : A → List ℕ) (P : ℕ) (x : A) where
 -- what the comparison of a prefix says, where that is the whole prefix of the node
 module _ {A : Type 0} (bytes : A → List ℕ) (P : ℕ) (key : List ℕ) (node : Tree OpaqueNodePtr A) (depth : ℕ) (leaf_ptr : Option LeafPtr) {prefix rest : List ℕ} where
   compared : (r : Result PrefixMatch ExplicitMismatch) → prefix ≡ prefix_of bytes depth node → rest ≡ drop depth key → IsLeafForPrefix P (prefix_of bytes depth node) node leaf_ptr →
-      IfOk r (λ m. m.matched_bytes ≡ length prefix) → IfOk r (λ m. IsFront prefix rest) → IfErr r (λ m. m.matched_bytes ≡ shared_len prefix rest) → IfErr r (λ m. slice_get prefix m.matched_bytes ≡ Some m.prefix_byte) → IfErr r (λ m. m.leaf_ptr ≡ leaf_ptr) →
+      IfOk r (λ m. m.matched_bytes ≡ length prefix) → IfOk r (λ m. IsFront prefix rest) → IfErr r (λ m. m.matched_bytes ≡ shared_len prefix rest) →
+      IfErr r (λ m. slice_get prefix m.matched_bytes ≡ Some m.prefix_byte) → IfErr r (λ m. m.leaf_ptr ≡ leaf_ptr) →
       IsCompared bytes P key node depth r
   compared (Ok m) whole rest_is least len front shared byte read = (len ∙ ap length whole, subst (λ p. IsFront p (drop depth key)) whole (subst (IsFront prefix) rest_is front))
   compared (Err m) whole rest_is least len front shared byte read = record {
@@ -57,7 +58,8 @@ module _ {A : Type 0} (bytes : A → List ℕ) (P : ℕ) (key : List ℕ) (node 
     least_leaf = subst (IsLeafForPrefix P (prefix_of bytes depth node) node) (sym read) least;
   }
 
-module _ {K V : Type 0} {s : Nodes K V} {bytes : K × V → List ℕ} {P : ℕ} {p : InnerPtr} {depth : ℕ} {node : Tree OpaqueNodePtr (K × V)} (part : IsPart bytes P s (inner_name p) depth node) (proper : p.kind ≢ Leaf) where
+module _ {K V : Type 0} {s : Nodes K V} {bytes : K × V → List ℕ} {P : ℕ} {p : InnerPtr} {depth : ℕ} {node : Tree OpaqueNodePtr (K × V)}
+    (part : IsPart bytes P s (inner_name p) depth node) (proper : p.kind ≢ Leaf) where
   pub node_there : None ≡ map.get s.inners p → ⊥
   node_there gone = no_inner_gone s p proper node part.layout.named part.layout.holds gone
 
@@ -75,7 +77,8 @@ module _ {K V : Type 0} {s : Nodes K V} {bytes : K × V → List ℕ} {P : ℕ} 
     radix = subst (IsRadix bytes P part.place) at.is part.radix
 
     whole_prefix : prefix_of bytes depth node ≡ radix.0
-    whole_prefix = ap (prefix_of bytes depth) at.is ∙ subst (λ n. prefix_of bytes n here ≡ radix.0) part.depth_is (prefix_is bytes P (inner_name p) (header_at p.kind shown) at.children part.place radix)
+    whole_prefix =
+        ap (prefix_of bytes depth) at.is ∙ subst (λ n. prefix_of bytes n here ≡ radix.0) part.depth_is (prefix_is bytes P (inner_name p) (header_at p.kind shown) at.children part.place radix)
 
     len_is : shown.prefix.len ≡ length (prefix_of bytes depth node)
     len_is = ap (λ h. h.length_of) radix.1 ∙ ap length (sym whole_prefix)
@@ -89,8 +92,10 @@ module _ {K V : Type 0} {s : Nodes K V} {bytes : K × V → List ℕ} {P : ℕ} 
     stored_is short = ap (λ h. h.stored) radix.1 ∙ take_all P radix.0 (let l = ap (λ h. h.length_of) radix.1 in omega arith) ∙ sym whole_prefix
 
     -- what the comparison with a prefix that is stored whole says
-    pub matches_stored : {header : Prefix} {len : ℕ} {stored rest : List ℕ} (key : List ℕ) (r : Result PrefixMatch ExplicitMismatch) → header ≡ shown.prefix → len ≡ header.len → len ≤ P → stored ≡ header.stored → rest ≡ drop depth key →
-        IfOk r (λ m. m.matched_bytes ≡ length stored) → IfOk r (λ m. IsFront stored rest) → IfErr r (λ m. m.matched_bytes ≡ shared_len stored rest) → IfErr r (λ m. slice_get stored m.matched_bytes ≡ Some m.prefix_byte) → IfErr r (λ m. m.leaf_ptr ≡ None) → IsCompared bytes P key node depth r
+    pub matches_stored : {header : Prefix} {len : ℕ} {stored rest : List ℕ} (key : List ℕ) (r : Result PrefixMatch ExplicitMismatch) →
+        header ≡ shown.prefix → len ≡ header.len → len ≤ P → stored ≡ header.stored → rest ≡ drop depth key →
+        IfOk r (λ m. m.matched_bytes ≡ length stored) → IfOk r (λ m. IsFront stored rest) → IfErr r (λ m. m.matched_bytes ≡ shared_len stored rest) →
+        IfErr r (λ m. slice_get stored m.matched_bytes ≡ Some m.prefix_byte) → IfErr r (λ m. m.leaf_ptr ≡ None) → IsCompared bytes P key node depth r
     matches_stored key r h l short st rest_is a b c d e =
         let long : shown.prefix.len ≤ P = let k = ap (λ z. z.len) h in omega arith in
         compared bytes P key node depth None r (st ∙ ap (λ z. z.stored) h ∙ stored_is long) rest_is (let k = len_is in omega arith) a b c d e
@@ -110,7 +115,8 @@ module _ {K V : Type 0} {s : Nodes K V} {bytes : K × V → List ℕ} {P : ℕ} 
         least_bytes =
             let (z, here, same) = leaf_there in
             let is : z ≡ l = cc in
-            least_below_is bytes P first.1.0 at.children (part.place ++ radix.0) radix.2 radix.4 (ap (λ t. first_of (pairs_of t)) (sym at.is) ∙ first.1.1) ∙ ap bytes (sym same) ∙ ap (λ y. bytes (pair_of y)) is
+            least_below_is bytes P first.1.0 at.children (part.place ++ radix.0) radix.2 radix.4
+            (ap (λ t. first_of (pairs_of t)) (sym at.is) ∙ first.1.1) ∙ ap bytes (sym same) ∙ ap (λ y. bytes (pair_of y)) is
 
         pub long_enough : depth + shown.prefix.len ≤ length (bytes (pair_of l))
         long_enough =
@@ -127,9 +133,13 @@ module _ {K V : Type 0} {s : Nodes K V} {bytes : K × V → List ℕ} {P : ℕ} 
         prefix_read = ap (λ k. take shown.prefix.len (drop depth k)) (sym least_bytes) ∙ ap (prefix_of bytes depth) (sym at.is)
 
         -- what the comparison with a prefix that is read from the leaf says
-        pub matches_read : {header : Prefix} {len : ℕ} {text prefix rest : List ℕ} (key : List ℕ) (r : Result PrefixMatch ExplicitMismatch) → header ≡ shown.prefix → len ≡ header.len → P < len → text ≡ bytes (pair_of l) → prefix ≡ take (depth + len - depth) (drop depth text) → rest ≡ drop depth key →
-            IfOk r (λ m. m.matched_bytes ≡ length prefix) → IfOk r (λ m. IsFront prefix rest) → IfErr r (λ m. m.matched_bytes ≡ shared_len prefix rest) → IfErr r (λ m. slice_get prefix m.matched_bytes ≡ Some m.prefix_byte) → IfErr r (λ m. m.leaf_ptr ≡ Some q) → IsCompared bytes P key node depth r
+        pub matches_read : {header : Prefix} {len : ℕ} {text prefix rest : List ℕ} (key : List ℕ) (r : Result PrefixMatch ExplicitMismatch) →
+            header ≡ shown.prefix → len ≡ header.len → P < len → text ≡ bytes (pair_of l) → prefix ≡ take (depth + len - depth) (drop depth text) → rest ≡ drop depth key →
+            IfOk r (λ m. m.matched_bytes ≡ length prefix) → IfOk r (λ m. IsFront prefix rest) →
+            IfErr r (λ m. m.matched_bytes ≡ shared_len prefix rest) → IfErr r (λ m. slice_get prefix m.matched_bytes ≡ Some m.prefix_byte) →
+            IfErr r (λ m. m.leaf_ptr ≡ Some q) → IsCompared bytes P key node depth r
         matches_read {header} {len} {text} key r h le long t pr rest_is a b c d e =
             let k = ap (λ z. z.len) h in
             let count : depth + len - depth ≡ shown.prefix.len = omega arith in
-            compared bytes P key node depth (Some q) r (pr ∙ ap (λ n. take n (drop depth text)) count ∙ ap (λ z. take shown.prefix.len (drop depth z)) t ∙ prefix_read) rest_is ((let m = len_is in omega arith), first) a b c d e
+            compared bytes P key node depth (Some q) r (pr ∙ ap (λ n. take n (drop depth text)) count ∙
+            ap (λ z. take shown.prefix.len (drop depth z)) t ∙ prefix_read) rest_is ((let m = len_is in omega arith), first) a b c d e

@@ -64,7 +64,8 @@ found_point tree (Some x) point is = (x, is)
 -- ---- a leaf that is the root
 
 -- The point's leaf is all of the tree.
-pub record IsAlone {K V : Type 0} (bytes : K × V → List ℕ) (P : ℕ) (s : Nodes K V) (root : OpaqueNodePtr) (pairs : List (K × V)) (layout : Tree OpaqueNodePtr (K × V)) (x : K × V) (point : DeletePoint) : Type 0 where
+pub record IsAlone {K V : Type 0} (bytes : K × V → List ℕ) (P : ℕ) (s : Nodes K V) (root : OpaqueNodePtr) (pairs : List (K × V))
+    (layout : Tree OpaqueNodePtr (K × V)) (x : K × V) (point : DeletePoint) : Type 0 where
   pub node : LeafNode K V
   pub here : get s.leaves point.leaf_node_ptr ≡ Some node
   pub pair : pair_of node ≡ x
@@ -96,7 +97,8 @@ module _ {K V : Type 0} {bytes : K × V → List ℕ} {P : ℕ} {s : Nodes K V} 
       goes = record { among = alone_among; leaves = rw at.here at leaves }
 
       -- no tree is left
-      pub alone_deleted : {gone : LeafNode K V} → IsSomeAnd (get s.leaves point.leaf_node_ptr) (λ leaf. gone ≡ alone (leaf.key, leaf.value)) → IsDeleted bytes P s t root point x pairs layout (record { new_root = None; deleted_leaf = gone })
+      pub alone_deleted : {gone : LeafNode K V} → IsSomeAnd (get s.leaves point.leaf_node_ptr) (λ leaf. gone ≡ alone (leaf.key, leaf.value)) →
+          IsDeleted bytes P s t root point x pairs layout (record { new_root = None; deleted_leaf = gone })
       alone_deleted {gone} is = record {
         tree = None;
         canonical = ap (remove_key bytes (bytes x)) (sym at.laid.pairs_are ∙ ap (λ y. y ∷ []) at.pair) ∙ changes.alone bytes x;
@@ -122,12 +124,14 @@ module _ {A : Type 0} where
   sides (child d u (child f w l)) r c v e = absurd cc
 
   -- the keys below a node begin with its whole prefix
-  whole_way : (bytes : A → List ℕ) (P : ℕ) (place : List ℕ) (w : Tree OpaqueNodePtr A) (radix : IsRadix bytes P place w) → Each (λ x. IsFront (place ++ prefix_at bytes P place w radix) (bytes x)) (pairs_of w)
+  whole_way : (bytes : A → List ℕ) (P : ℕ) (place : List ℕ) (w : Tree OpaqueNodePtr A) (radix : IsRadix bytes P place w) →
+      Each (λ x. IsFront (place ++ prefix_at bytes P place w radix) (bytes x)) (pairs_of w)
   whole_way bytes P place (leaf k y) radix = (subst (λ z. IsFront z (bytes y)) (sym (append-nil place)) radix, tt)
   whole_way bytes P place (inner k head cs) radix = radix_below bytes P cs (place ++ radix.0) radix.4
 
 -- The point's leaf stands below a node that has one other child, `v` under the byte `c`.
-pub record IsOneOfTwo {K V : Type 0} (bytes : K × V → List ℕ) (P : ℕ) (s : Nodes K V) (root : OpaqueNodePtr) (pairs : List (K × V)) (layout : Tree OpaqueNodePtr (K × V)) (x : K × V) (point : DeletePoint) (parent : InnerPtr) (byte : ℕ) : Type 0 where
+pub record IsOneOfTwo {K V : Type 0} (bytes : K × V → List ℕ) (P : ℕ) (s : Nodes K V) (root : OpaqueNodePtr) (pairs : List (K × V))
+    (layout : Tree OpaqueNodePtr (K × V)) (x : K × V) (point : DeletePoint) (parent : InnerPtr) (byte : ℕ) : Type 0 where
   pub at : IsBelow bytes P s root pairs layout x point parent byte
   pub place : List ℕ
   pub hole : IsHole bytes P at.above place (with_leaf_in at.frame point.leaf_node_ptr at.node) (bytes (pair_of at.node))
@@ -135,8 +139,10 @@ pub record IsOneOfTwo {K V : Type 0} (bytes : K × V → List ℕ) (P : ℕ) (s 
   pub v : Tree OpaqueNodePtr (K × V)
   pub one : join at.frame.left at.frame.right ≡ child c v no_child
 
-module _ {K V : Type 0} {bytes : K × V → List ℕ} {P : ℕ} {s : Nodes K V} {root : OpaqueNodePtr} {pairs : List (K × V)} {layout : Tree OpaqueNodePtr (K × V)} {x : K × V} {point : DeletePoint} {parent : InnerPtr} {byte : ℕ} where
-  pub is_one_of_two : IsTree bytes P s root pairs layout → LeadsTo layout x point → last_step point.path ≡ Some (parent, byte) → parent_change s point.path ≡ is_compressed → IsOneOfTwo bytes P s root pairs layout x point parent byte
+module _ {K V : Type 0} {bytes : K × V → List ℕ} {P : ℕ} {s : Nodes K V} {root : OpaqueNodePtr} {pairs : List (K × V)}
+    {layout : Tree OpaqueNodePtr (K × V)} {x : K × V} {point : DeletePoint} {parent : InnerPtr} {byte : ℕ} where
+  pub is_one_of_two : IsTree bytes P s root pairs layout → LeadsTo layout x point → last_step point.path ≡ Some (parent, byte) →
+      parent_change s point.path ≡ is_compressed → IsOneOfTwo bytes P s root pairs layout x point parent byte
   is_one_of_two by leads step told =
       let at = is_below by leads step in
       let (place, in_hole) = hole at.below in
@@ -152,7 +158,9 @@ module _ {K V : Type 0} {bytes : K × V → List ℕ} {P : ℕ} {s : Nodes K V} 
 
     -- the child that is left is a radix tree
     pub left_radix : IsRadix bytes P ((two.place ++ two.hole.radix.0) ++ two.c ∷ []) two.v
-    left_radix = (child_left bytes P two.place two.hole.radix.0 at.frame.left at.frame.right at.frame.byte two.c (leaf_name point.leaf_node_ptr) (pair_of at.node) two.v two.hole.radix.3 two.hole.radix.4 two.one).0
+    left_radix =
+        (child_left bytes P two.place two.hole.radix.0 at.frame.left at.frame.right at.frame.byte two.c (leaf_name point.leaf_node_ptr)
+        (pair_of at.node) two.v two.hole.radix.3 two.hole.radix.4 two.one).0
 
     -- its own whole prefix
     pub left_prefix : List ℕ
@@ -160,7 +168,8 @@ module _ {K V : Type 0} {bytes : K × V → List ℕ} {P : ℕ} {s : Nodes K V} 
 
     -- the inner nodes when the node is gone and the child has its prefix
     pub lengthened_inners : Inners
-    lengthened_inners = prefix_written P (two.hole.radix.0 ++ two.c ∷ prefix_at bytes P ((two.place ++ two.hole.radix.0) ++ two.c ∷ []) two.v left_radix) two.v (remove s.inners (as_inner at.frame.mark))
+    lengthened_inners =
+        prefix_written P (two.hole.radix.0 ++ two.c ∷ prefix_at bytes P ((two.place ++ two.hole.radix.0) ++ two.c ∷ []) two.v left_radix) two.v (remove s.inners (as_inner at.frame.mark))
 
     is_compressed_to : (t : Nodes K V) → t.leaves ≡ without_leaf s.leaves point.leaf_node_ptr at.node → t.inners ≡ with_child_at (parent_of at.above) (name_of two.v) lengthened_inners →
         Compressed bytes P s t at.above two.place at.frame.mark at.frame.header at.frame.left at.frame.right at.frame.byte point.leaf_node_ptr at.node two.c two.v
@@ -168,8 +177,13 @@ module _ {K V : Type 0} {bytes : K × V → List ℕ} {P : ℕ} {s : Nodes K V} 
     is_compressed_to t leaves inners = record { hole = two.hole; one = two.one; radix = left_radix; taken = record { among = leaf_among at.below at.here; leaves = leaves }; inners = inners }
 
     -- it was so before any write
-    is_compressed_at : Compressed bytes P s (record s { leaves = without_leaf s.leaves point.leaf_node_ptr at.node; inners = with_child_at (parent_of at.above) (name_of two.v) lengthened_inners }) at.above two.place at.frame.mark at.frame.header at.frame.left at.frame.right at.frame.byte point.leaf_node_ptr at.node two.c two.v
-    is_compressed_at = is_compressed_to (record s { leaves = without_leaf s.leaves point.leaf_node_ptr at.node; inners = with_child_at (parent_of at.above) (name_of two.v) lengthened_inners }) refl refl
+    is_compressed_at : Compressed bytes P s (record
+        s {
+          leaves = without_leaf s.leaves point.leaf_node_ptr at.node;
+          inners = with_child_at (parent_of at.above) (name_of two.v) lengthened_inners;
+        }) at.above two.place at.frame.mark at.frame.header at.frame.left at.frame.right at.frame.byte point.leaf_node_ptr at.node two.c two.v
+    is_compressed_at =
+        is_compressed_to (record s { leaves = without_leaf s.leaves point.leaf_node_ptr at.node; inners = with_child_at (parent_of at.above) (name_of two.v) lengthened_inners }) refl refl
 
     left_held : Holds (node_at s) two.v
     left_held = v_held at.below.laid is_compressed_at
@@ -188,7 +202,8 @@ module _ {K V : Type 0} {bytes : K × V → List ℕ} {P : ℕ} {s : Nodes K V} 
         ap (remove_child any.children) (sym at.byte_is) ∙ slots_left at.below any.children (ap (λ z. z.children) same ∙ kids) ∙ ap slots_of two.one
 
     -- so that is the least one
-    pub least_left : (any : Inner) (shown : Inner) (least : ℕ × OpaqueNodePtr) → get s.inners parent ≡ Some any → shown ≡ without_child byte any → slice_get shown.children 0 ≡ Some least → least ≡ (two.c, name_of two.v)
+    pub least_left : (any : Inner) (shown : Inner) (least : ℕ × OpaqueNodePtr) → get s.inners parent ≡ Some any → shown ≡ without_child byte any →
+        slice_get shown.children 0 ≡ Some least → least ≡ (two.c, name_of two.v)
     least_left any shown least is without first = some_same (sym first ∙ ap (λ z. slice_get z 0) (ap (λ z. z.children) without ∙ other_left any is))
 
     -- its header is that of its whole prefix
@@ -224,7 +239,8 @@ module _ {K V : Type 0} {bytes : K × V → List ℕ} {P : ℕ} {s : Nodes K V} 
       | inl e ↦
           let less : byte < two.c = subst (λ z. z < two.c) at.byte_is (subst (λ cs. Each (λ d. at.frame.byte < d) (bytes_of cs)) e (high at.below)).0 in
           let first : option_map leaf_name at.node.next ≡ Some some.0 =
-          next_is at.below.laid.holds at.below.laid.linked (leaf_among at.below at.here) ∙ ap (λ cs. first_or (leaf_names_below cs ++ leaves_after at.above) None) e ∙ ap (λ ks. first_or ((ks ++ []) ++ leaves_after at.above) None) some.2 in
+          next_is at.below.laid.holds at.below.laid.linked (leaf_among at.below at.here) ∙
+          ap (λ cs. first_or (leaf_names_below cs ++ leaves_after at.above) None) e ∙ ap (λ ks. first_or ((ks ++ []) ++ leaves_after at.above) None) some.2 in
           let (p, is, named) = named_leaf at.node.next some.0 first in
           (p, ap (λ t. cond t at.node.next at.node.previous) (lt-ltb byte two.c less) ∙ is, below_other p (subst (λ ks. IsIn (leaf_name p) ks) (sym some.2) (inl named)))
       | inr e ↦
@@ -233,8 +249,12 @@ module _ {K V : Type 0} {bytes : K × V → List ℕ} {P : ℕ} {s : Nodes K V} 
           let last : option_map leaf_name at.node.previous ≡ Some j =
           previous_is at.below.laid.holds at.below.laid.linked (leaf_among at.below at.here) ∙ last_or-append (leaves_before at.above) (leaf_names_below at.frame.left) None
           ∙ ap (λ ks. last_or ks (last_or (leaves_before at.above) None)) (ap leaf_names_below e ∙ append-nil (leaf_names two.v) ∙ some.2) ∙ end in
-          let (p, is, named) = named_leaf at.node.previous j last in
-          (p, ap (λ t. cond t at.node.next at.node.previous) (le-ltb byte two.c (omega arith)) ∙ is, below_other p (subst (λ ks. IsIn (leaf_name p) ks) (sym some.2) (subst (λ k. IsIn k (some.0 ∷ some.1)) named i)))
+          let (p, is, named) = named_leaf at.node.previous j last in (
+            p,
+            ap (λ t. cond t at.node.next at.node.previous) (le-ltb byte two.c (omega arith)) ∙
+                is,
+            below_other p (subst (λ ks. IsIn (leaf_name p) ks) (sym some.2) (subst (λ k. IsIn k (some.0 ∷ some.1)) named i)),
+          )
     ]
       where
         some : (k : OpaqueNodePtr) × (ks : List OpaqueNodePtr) × (leaf_names two.v ≡ k ∷ ks)
@@ -247,7 +267,8 @@ module _ {K V : Type 0} {bytes : K × V → List ℕ} {P : ℕ} {s : Nodes K V} 
         (subst (λ o. IsSomeAnd o (λ leaf. IsSome (cond (nat_lt byte d) leaf.next leaf.previous))) (sym at.here)
         (subst (λ z. IsSome (cond (nat_lt byte z) at.node.next at.node.previous)) (sym e) (subst IsSome (sym beside_other.1) refl)))
 
-    pub beside_found : (leaves : Leaves K V) (d : ℕ) (p : LeafPtr) → leaves ≡ s.leaves → d ≡ two.c → IfSome (get leaves point.leaf_node_ptr) (λ leaf. cond (nat_lt byte d) leaf.next leaf.previous ≡ Some p) → cond (nat_lt byte two.c) at.node.next at.node.previous ≡ Some p
+    pub beside_found : (leaves : Leaves K V) (d : ℕ) (p : LeafPtr) → leaves ≡ s.leaves → d ≡ two.c →
+        IfSome (get leaves point.leaf_node_ptr) (λ leaf. cond (nat_lt byte d) leaf.next leaf.previous ≡ Some p) → cond (nat_lt byte two.c) at.node.next at.node.previous ≡ Some p
     beside_found leaves d p l e found =
         subst (λ z. cond (nat_lt byte z) at.node.next at.node.previous ≡ Some p) e
         (subst (λ o. IfSome o (λ leaf. cond (nat_lt byte d) leaf.next leaf.previous ≡ Some p)) (ap (λ z. get z point.leaf_node_ptr) l ∙ at.here) found)
@@ -255,7 +276,8 @@ module _ {K V : Type 0} {bytes : K × V → List ℕ} {P : ℕ} {s : Nodes K V} 
     -- ---- what the writes ask for
 
     -- the prefix of the child that is left may be written
-    pub may_lengthen : (leaves : Leaves K V) (inners : Inners) (other : OpaqueNodePtr) (p : LeafPtr) (front : Prefix) → leaves ≡ s.leaves → inners ≡ remove s.inners parent → other ≡ name_of two.v → cond (nat_lt byte two.c) at.node.next at.node.previous ≡ Some p → front ≡ nodes.header_of P two.hole.radix.0 →
+    pub may_lengthen : (leaves : Leaves K V) (inners : Inners) (other : OpaqueNodePtr) (p : LeafPtr) (front : Prefix) → leaves ≡ s.leaves →
+        inners ≡ remove s.inners parent → other ≡ name_of two.v → cond (nat_lt byte two.c) at.node.next at.node.previous ≡ Some p → front ≡ nodes.header_of P two.hole.radix.0 →
         other.kind ≢ Leaf → IsSomeAnd (get leaves p) (λ leaf. IsSomeAnd (get inners (as_inner other)) (λ node. front.len + 1 + node.prefix.len ≤ length (bytes (pair_of leaf))))
     unfolding left_prefix
     may_lengthen leaves inners other p front l i is next front_is kind =
@@ -279,9 +301,11 @@ module _ {K V : Type 0} {bytes : K × V → List ℕ} {P : ℕ} {s : Nodes K V} 
             (node, got, ap (λ z. z.length_of) (is ∙ radix.1))
 
     -- and then the inner nodes are these
-    pub lengthened_is : (was now : Inners) (other : OpaqueNodePtr) (byte' : ℕ) (front : Prefix) → was ≡ remove s.inners parent → other ≡ name_of two.v → byte' ≡ two.c → front ≡ nodes.header_of P two.hole.radix.0 →
+    pub lengthened_is : (was now : Inners) (other : OpaqueNodePtr) (byte' : ℕ) (front : Prefix) → was ≡ remove s.inners parent →
+        other ≡ name_of two.v → byte' ≡ two.c → front ≡ nodes.header_of P two.hole.radix.0 →
         (other.kind ≡ Leaf → now ≡ was) →
-        (other.kind ≢ Leaf → (first rest : List ℕ) → front ≡ nodes.header_of P first → IfSome (get was (as_inner other)) (λ node. node.prefix ≡ nodes.header_of P rest) → now ≡ change was (as_inner other) (with_header (nodes.header_of P (first ++ byte' ∷ rest)))) →
+        (other.kind ≢ Leaf → (first rest : List ℕ) → front ≡ nodes.header_of P first →
+        IfSome (get was (as_inner other)) (λ node. node.prefix ≡ nodes.header_of P rest) → now ≡ change was (as_inner other) (with_header (nodes.header_of P (first ++ byte' ∷ rest)))) →
         now ≡ lengthened_inners
     unfolding lengthened_inners
     lengthened_is was now other byte' front was_is is byte_same front_is as_leaf as_inner_node = go two.v left_radix left_held left_other is
@@ -301,7 +325,8 @@ module _ {K V : Type 0} {bytes : K × V → List ℕ} {P : ℕ} {s : Nodes K V} 
             ap (λ z. get z (as_inner other)) removed ∙ ap (λ z. get (remove s.inners (as_inner at.frame.mark)) (as_inner z)) is
             ∙ inner_gone_elsewhere s.inners (as_inner at.frame.mark) (as_inner k) (λ e. off (inner_name_one k at.frame.mark e)) ∙ got in
             let prefix : node.prefix ≡ nodes.header_of P radix.0 = header_by_parts P radix.0 node.prefix (ap (λ z. z.length_of) (head_is ∙ radix.1)) (ap (λ z. z.stored) (head_is ∙ radix.1)) in
-            as_inner_node (subst (λ (z : OpaqueNodePtr). z.kind ≢ Leaf) (sym is) kind) two.hole.radix.0 radix.0 front_is (subst (λ o. IfSome o (λ node. node.prefix ≡ nodes.header_of P radix.0)) (sym there) prefix)
+            as_inner_node (subst (λ (z : OpaqueNodePtr). z.kind ≢ Leaf) (sym is) kind) two.hole.radix.0 radix.0 front_is
+            (subst (λ o. IfSome o (λ node. node.prefix ≡ nodes.header_of P radix.0)) (sym there) prefix)
             ∙ ap₂ (λ (inners : Inners) (b : ℕ). change inners (as_inner other) (with_header (nodes.header_of P (two.hole.radix.0 ++ b ∷ radix.0)))) removed byte_same
             ∙ ap (λ z. change (remove s.inners (as_inner at.frame.mark)) (as_inner z) (with_header (nodes.header_of P (two.hole.radix.0 ++ two.c ∷ radix.0)))) is
 
@@ -312,30 +337,41 @@ module _ {K V : Type 0} {bytes : K × V → List ℕ} {P : ℕ} {s : Nodes K V} 
     -- the node above has a child where the parent was
     pub above_ready : (inners : Inners) (path : TreePath) → inners ≡ lengthened_inners → path ≡ up point.path → HasChild inners (last_step path)
     above_ready inners path is path_is = subst (HasChild inners) (sym (ap last_step (path_is ∙ ap up at.path_is) ∙ last_step-up at.frame at.above))
-        (has_child s.inners inners at.frame.mark at.above (parent_ready bytes P s at.above two.place at.frame.mark two.hole.path (path_holds (node_at s) at.above (with_leaf_in at.frame point.leaf_node_ptr at.node) at.below.laid.holds).0) (λ k e. ap (λ z. get z (as_inner k)) is ∙ above_is k e))
+        (has_child s.inners inners at.frame.mark at.above (parent_ready bytes P s at.above two.place at.frame.mark two.hole.path
+        (path_holds (node_at s) at.above (with_leaf_in at.frame point.leaf_node_ptr at.node) at.below.laid.holds).0) (λ k e. ap (λ z. get z (as_inner k)) is ∙ above_is k e))
 
     -- ---- what is done
 
-    module _ (t : Nodes K V) (path : TreePath) (other : OpaqueNodePtr) (inners : Inners) (leaves : IsSomeAnd (get s.leaves point.leaf_node_ptr) (λ leaf. t.leaves ≡ without_leaf s.leaves point.leaf_node_ptr leaf))
+    module _ (t : Nodes K V) (path : TreePath) (other : OpaqueNodePtr) (inners : Inners)
+        (leaves : IsSomeAnd (get s.leaves point.leaf_node_ptr) (λ leaf. t.leaves ≡ without_leaf s.leaves point.leaf_node_ptr leaf))
         (path_up : path ≡ up point.path) (is : other ≡ name_of two.v) (lengthened : inners ≡ lengthened_inners) (written : t.inners ≡ with_child_at (last_step path) other inners) where
       done : Compressed bytes P s t at.above two.place at.frame.mark at.frame.header at.frame.left at.frame.right at.frame.byte point.leaf_node_ptr at.node two.c two.v
-      done = is_compressed_to t (rw at.here at leaves) (written ∙ ap (λ o. with_child_at o other inners) (ap last_step (path_up ∙ ap up at.path_is) ∙ last_step-up at.frame at.above) ∙ ap₂ (with_child_at (parent_of at.above)) is lengthened)
+      done = is_compressed_to t (rw at.here at leaves) (written ∙
+          ap (λ o. with_child_at o other inners) (ap last_step (path_up ∙ ap up at.path_is) ∙ last_step-up at.frame at.above) ∙ ap₂ (with_child_at (parent_of at.above)) is lengthened)
 
       -- two names are freed, and at most four are changed
       pub two_touches : parent_change s point.path ≡ is_compressed → TouchesFor (parent_change s point.path) s t
       two_touches told = subst (λ change. TouchesFor change s t) (sym told) (compressed_touches at.below.laid done)
 
       -- the tree without the leaf
-      pub two_deleted : {gone : LeafNode K V} (new_root : OpaqueNodePtr) → parent_change s point.path ≡ is_compressed → IsSomeAnd (get s.leaves point.leaf_node_ptr) (λ leaf. gone ≡ alone (leaf.key, leaf.value)) → new_root ≡ root_with path root other →
+      pub two_deleted : {gone : LeafNode K V} (new_root : OpaqueNodePtr) → parent_change s point.path ≡ is_compressed →
+          IsSomeAnd (get s.leaves point.leaf_node_ptr) (λ leaf. gone ≡ alone (leaf.key, leaf.value)) → new_root ≡ root_with path root other →
           IsDeleted bytes P s t root point x pairs layout (record { new_root = Some new_root; deleted_leaf = gone })
       unfolding done is_compressed_to
       two_deleted {gone} new_root told pair root_is =
-          let same : new_root ≡ paths.root_with at.above root (name_of two.v) = root_is ∙ ap₂ (λ q k. root_with q root k) (path_up ∙ ap up at.path_is) is ∙ root_with-up at.frame at.above root (name_of two.v) in
+          let same : new_root ≡ paths.root_with at.above root (name_of two.v) =
+          root_is ∙ ap₂ (λ q k. root_with q root k) (path_up ∙ ap up at.path_is) is ∙ root_with-up at.frame at.above root (name_of two.v) in
           let tree = plug at.above (with_prefix P (two.hole.radix.0 ++ two.c ∷ prefix_at bytes P ((two.place ++ two.hole.radix.0) ++ two.c ∷ []) two.v left_radix) two.v) in
           record {
             tree = Some tree;
-            canonical = subst (λ r. IsTree bytes P t r (remove_key bytes (bytes x) pairs) tree) (sym same) (subst (λ y. IsTree bytes P t (paths.root_with at.above root (name_of two.v)) (remove_key bytes (bytes y) pairs) tree) at.pair (canonical_from (compressed at.below.laid done)));
+            canonical =
+                subst (λ r. IsTree bytes P t r (remove_key bytes (bytes x) pairs) tree) (sym same)
+                (subst (λ y. IsTree bytes P t (paths.root_with at.above root (name_of two.v)) (remove_key bytes (bytes y) pairs) tree) at.pair (canonical_from (compressed at.below.laid done)));
             deleted = rw at.here at pair ∙ ap alone at.pair;
-            root_is = subst (λ change. IsRootAfter change point.path root (Some new_root)) (sym told) (subst (λ q. IsRootAfter is_compressed q root (Some new_root)) (sym at.path_is) (subst (λ r. IsRootAfter is_compressed (path_of (at.frame ∷ at.above)) root (Some r)) (sym same) (root_after_at at.frame is_compressed at.above root (name_of two.v) (λ e. absurd cc))));
+            root_is =
+                subst (λ change. IsRootAfter change point.path root (Some new_root)) (sym told)
+                (subst (λ q. IsRootAfter is_compressed q root (Some new_root)) (sym at.path_is)
+                (subst (λ r. IsRootAfter is_compressed (path_of (at.frame ∷ at.above)) root (Some r)) (sym same)
+                (root_after_at at.frame is_compressed at.above root (name_of two.v) (λ e. absurd cc))));
             kept = subst (λ old. ChangesInPlace bytes s t (Some old) (Some tree)) at.whole (compressed_in_place at.below.laid done);
           }

@@ -56,7 +56,8 @@ module _ {K V : Type 0} {bytes : K × V → List ℕ} {P : ℕ} {s : Nodes K V} 
         same = ap bytes own ∙ equal;
       }
 
-module _ {K V : Type 0} {bytes : K × V → List ℕ} {P : ℕ} {s : Nodes K V} {point : InsertPoint} {p : LeafPtr} (new : K × V) (answers : IsPointIn bytes P s (bytes new) point) (exact : point.insert_kind ≡ Exact p) where
+module _ {K V : Type 0} {bytes : K × V → List ℕ} {P : ℕ} {s : Nodes K V} {point : InsertPoint} {p : LeafPtr} (new : K × V)
+    (answers : IsPointIn bytes P s (bytes new) point) (exact : point.insert_kind ≡ Exact p) where
   -- the leaf is there
   pub own_leaf_there : IsSome (map.get s.leaves p)
   own_leaf_there =
@@ -89,7 +90,8 @@ module _ {K V : Type 0} {bytes : K × V → List ℕ} {P : ℕ} {s : Nodes K V} 
 
     -- the value is in, and the old one is answered with the key that was handed in
     pub value_replaced : (swapped : V) (existing : LeafNode K V) → IfSome (map.get s.leaves p) (λ leaf. swapped ≡ leaf.value) → existing ≡ alone (new.0, swapped) →
-        ForTree bytes P s point.root (λ pairs layout. IsInserted bytes P s t point new pairs layout (record { leaf_node_ptr = p; existing_leaf = Some existing; new_root = point.root; parent_node_change = NoChange }))
+        ForTree bytes P s point.root (λ pairs layout. IsInserted bytes P s t point new pairs layout
+        (record { leaf_node_ptr = p; existing_leaf = Some existing; new_root = point.root; parent_node_change = NoChange }))
     value_replaced swapped existing value is pairs layout by =
         let l = own_leaf answers exact by in
         let into = into_leaf l in

@@ -42,18 +42,26 @@ use Rattle.art_writing.proofs.Ways.{last_step-path_of}
 use Rattle.art_writing.proofs.Branches.{end_laid, end_depth, end_parent, branch_stored, branch_done}
 use Rattle.art_writing.proofs.BranchReads.{leaf_found, leaf_named, inner_found, inner_named, prefix_way, prefix_inside}
 
-module _ {K V : Type 0} {bytes : K × V → List ℕ} {P : ℕ} {s t : Nodes K V} {root : OpaqueNodePtr} {pairs : List (K × V)} {fs : List (Frame OpaqueNodePtr (K × V))} {place : List ℕ} {m : InnerPtr} {n : LeafPtr} {part : List ℕ} {b c : ℕ} {x : LeafNode K V} {mid : Inners} where
+module _ {K V : Type 0} {bytes : K × V → List ℕ} {P : ℕ} {s t : Nodes K V} {root : OpaqueNodePtr} {pairs : List (K × V)}
+    {fs : List (Frame OpaqueNodePtr (K × V))} {place : List ℕ} {m : InnerPtr} {n : LeafPtr} {part : List ℕ} {b c : ℕ} {x : LeafNode K V} {mid : Inners} where
   -- the node in the hole is a leaf
-  leaf_inserted : (k : OpaqueNodePtr) (y : K × V) (node : Tree OpaqueNodePtr (K × V)) → node ≡ leaf k y → IsLaidOut bytes P (node_at s) (links_at s) root pairs (plug fs node) → BranchStored bytes P s t fs place node m n part b c x mid [] → IsFront ((place ++ part) ++ b ∷ []) (least_key bytes node) →
+  leaf_inserted : (k : OpaqueNodePtr) (y : K × V) (node : Tree OpaqueNodePtr (K × V)) → node ≡ leaf k y →
+      IsLaidOut bytes P (node_at s) (links_at s) root pairs (plug fs node) → BranchStored bytes P s t fs place node m n part b c x mid [] → IsFront ((place ++ part) ++ b ∷ []) (least_key bytes node) →
       BranchInserted bytes P (node_at s) (node_at t) (links_at s) (links_at t) fs place node node (inner_name m) (leaf_name n) part b c (pair_of x)
-  leaf_inserted k y node is = subst (λ z. IsLaidOut bytes P (node_at s) (links_at s) root pairs (plug fs z) → BranchStored bytes P s t fs place z m n part b c x mid [] → IsFront ((place ++ part) ++ b ∷ []) (least_key bytes z) → BranchInserted bytes P (node_at s) (node_at t) (links_at s) (links_at t) fs place z z (inner_name m) (leaf_name n) part b c (pair_of x))
+  leaf_inserted k y node is =
+      subst (λ z. IsLaidOut bytes P (node_at s) (links_at s) root pairs (plug fs z) → BranchStored bytes P s t fs place z m n part b c x mid [] →
+      IsFront ((place ++ part) ++ b ∷ []) (least_key bytes z) → BranchInserted bytes P (node_at s) (node_at t) (links_at s) (links_at t) fs place z z (inner_name m) (leaf_name n) part b c (pair_of x))
       (sym is) (λ old stored way. leaf_branched old stored way)
 
   -- the node in the hole is an inner node, whose prefix goes on after the part with a byte and a rest
-  prefix_inserted : (k : OpaqueNodePtr) (h : Header) (cs : Children OpaqueNodePtr (K × V)) (rest : List ℕ) → mid ≡ change s.inners (as_inner k) (with_header (record { len = length rest; stored = take P rest })) → (node : Tree OpaqueNodePtr (K × V)) → node ≡ inner k h cs →
-      IsLaidOut bytes P (node_at s) (links_at s) root pairs (plug fs node) → BranchStored bytes P s t fs place node m n part b c x mid (as_inner k ∷ []) → prefix_of bytes (length place) node ≡ part ++ b ∷ rest →
+  prefix_inserted : (k : OpaqueNodePtr) (h : Header) (cs : Children OpaqueNodePtr (K × V)) (rest : List ℕ) →
+      mid ≡ change s.inners (as_inner k) (with_header (record { len = length rest; stored = take P rest })) → (node : Tree OpaqueNodePtr (K × V)) → node ≡ inner k h cs →
+      IsLaidOut bytes P (node_at s) (links_at s) root pairs (plug fs node) →
+      BranchStored bytes P s t fs place node m n part b c x mid (as_inner k ∷ []) → prefix_of bytes (length place) node ≡ part ++ b ∷ rest →
       BranchInserted bytes P (node_at s) (node_at t) (links_at s) (links_at t) fs place node (inner k (header_of P rest (length (bytes_of cs))) cs) (inner_name m) (leaf_name n) part b c (pair_of x)
-  prefix_inserted k h cs rest written node is = subst (λ z. IsLaidOut bytes P (node_at s) (links_at s) root pairs (plug fs z) → BranchStored bytes P s t fs place z m n part b c x mid (as_inner k ∷ []) → prefix_of bytes (length place) z ≡ part ++ b ∷ rest →
+  prefix_inserted k h cs rest written node is =
+      subst (λ z. IsLaidOut bytes P (node_at s) (links_at s) root pairs (plug fs z) →
+      BranchStored bytes P s t fs place z m n part b c x mid (as_inner k ∷ []) → prefix_of bytes (length place) z ≡ part ++ b ∷ rest →
       BranchInserted bytes P (node_at s) (node_at t) (links_at s) (links_at t) fs place z (inner k (header_of P rest (length (bytes_of cs))) cs) (inner_name m) (leaf_name n) part b c (pair_of x))
       (sym is) (λ old stored prefix. prefix_branched rest written old stored (sym (prefix_is bytes P k h cs place stored.hole.radix) ∙ prefix))
 
@@ -61,34 +69,43 @@ module _ {K V : Type 0} {bytes : K × V → List ℕ} {P : ℕ} {s t : Nodes K V
 prefix_parts : (prefix part rest more : List ℕ) (b : ℕ) → prefix ++ rest ≡ part ++ b ∷ more → length part < length prefix → prefix ≡ part ++ b ∷ drop (length part + 1) prefix
 prefix_parts prefix part rest more b whole long =
     let front : take (length part + 1) prefix ≡ part ++ b ∷ [] =
-    sym (take-append-le (length part + 1) prefix rest (omega arith)) ∙ ap (take (length part + 1)) (whole ∙ sym (append_assoc part (b ∷ []) more)) ∙ take_at (part ++ b ∷ []) more (length part + 1) (length-append part (b ∷ [])) in
+    sym (take-append-le (length part + 1) prefix rest (omega arith)) ∙ ap (take (length part + 1)) (whole ∙ sym (append_assoc part (b ∷ []) more)) ∙
+    take_at (part ++ b ∷ []) more (length part + 1) (length-append part (b ∷ [])) in
     sym (take-append-drop (length part + 1) prefix) ∙ ap (λ z. z ++ drop (length part + 1) prefix) front ∙ append_assoc part (b ∷ []) (drop (length part + 1) prefix)
 
-module _ {K V : Type 0} {bytes : K × V → List ℕ} {P : ℕ} {s : Nodes K V} {point : InsertPoint} {pairs : List (K × V)} {layout : Tree OpaqueNodePtr (K × V)} {pair : K × V} (by : IsTree bytes P s point.root pairs layout) (at : AnswersTo bytes P layout (bytes pair) point) {branch : Branch P} (is : IsBranch bytes (bytes pair) at.path at.node branch)
+module _ {K V : Type 0} {bytes : K × V → List ℕ} {P : ℕ} {s : Nodes K V} {point : InsertPoint} {pairs : List (K × V)}
+    {layout : Tree OpaqueNodePtr (K × V)} {pair : K × V} (by : IsTree bytes P s point.root pairs layout)
+    (at : AnswersTo bytes P layout (bytes pair) point) {branch : Branch P} (is : IsBranch bytes (bytes pair) at.path at.node branch)
     {mid t : Nodes K V} {done : InsertResult K V} where
-  module _ {p : LeafPtr} {used : ℕ} (kind : point.insert_kind ≡ SplitLeaf p used) {old : OpaqueNodePtr} (named : old ≡ leaf_name p) (same : SameNodes s mid) (placed : IsPlaced mid t point old branch pair done) where
-    leaf_stored : BranchStored bytes P s t at.path (take (depth_of at.path) (bytes pair)) at.node placed.node done.leaf_node_ptr is.part branch.old_byte branch.new_byte (record { key = pair.0; value = pair.1; previous = branch.previous; next = branch.next }) mid.inners []
+  module _ {p : LeafPtr} {used : ℕ} (kind : point.insert_kind ≡ SplitLeaf p used) {old : OpaqueNodePtr} (named : old ≡ leaf_name p)
+      (same : SameNodes s mid) (placed : IsPlaced mid t point old branch pair done) where
+    leaf_stored : BranchStored bytes P s t at.path (take (depth_of at.path) (bytes pair)) at.node placed.node done.leaf_node_ptr is.part
+        branch.old_byte branch.new_byte (record { key = pair.0; value = pair.1; previous = branch.previous; next = branch.next }) mid.inners []
     leaf_stored = branch_stored by at is placed same.0 (subst (λ z. Touched s.inners z [] [] []) (sym same.1) (touched_none s.inners)) tt (λ k i. absurd i) (leaf_named by at kind ∙ sym named)
 
     -- the pair is inserted
     pub leaf_split : IsInserted bytes P s t point pair pairs layout done
     leaf_split =
         let (y, found) = leaf_found by at kind in
-        branch_done by at is placed (leaf_inserted (leaf_name p) y at.node found (end_laid by at) leaf_stored is.old_way) (λ parent told e. subst (λ k. IsChange k (Some parent) told) (sym kind) e) leaf_stored
+        branch_done by at is placed (leaf_inserted (leaf_name p) y at.node found (end_laid by at) leaf_stored is.old_way)
+        (λ parent told e. subst (λ k. IsChange k (Some parent) told) (sym kind) e) leaf_stored
 
     -- two names are placed, and at most three are changed
     pub leaf_split_touches : Touches point.insert_kind s t
     leaf_split_touches = subst (λ k. Touches k s t) (sym kind) (branch_touches (end_laid by at) leaf_stored 3 (omega arith))
 
-  module _ {p : InnerPtr} {mismatch : ExplicitMismatch} (kind : point.insert_kind ≡ MismatchPrefix mismatch p) {old : OpaqueNodePtr} (named : old ≡ inner_name p) {header : Prefix} (leaves : mid.leaves ≡ s.leaves) (inners : mid.inners ≡ change s.inners p (with_header header))
-      (header_is : header ≡ whole_header P (drop (mismatch.matched_bytes + 1) (prefix_of bytes (depth_of at.path) at.node))) (len : branch.header.len ≡ mismatch.matched_bytes) (placed : IsPlaced mid t point old branch pair done) where
+  module _ {p : InnerPtr} {mismatch : ExplicitMismatch} (kind : point.insert_kind ≡ MismatchPrefix mismatch p) {old : OpaqueNodePtr}
+      (named : old ≡ inner_name p) {header : Prefix} (leaves : mid.leaves ≡ s.leaves) (inners : mid.inners ≡ change s.inners p (with_header header))
+      (header_is : header ≡ whole_header P (drop (mismatch.matched_bytes + 1) (prefix_of bytes (depth_of at.path) at.node)))
+      (len : branch.header.len ≡ mismatch.matched_bytes) (placed : IsPlaced mid t point old branch pair done) where
     abbrev rest : List ℕ
     rest = drop (mismatch.matched_bytes + 1) (prefix_of bytes (depth_of at.path) at.node)
 
     written : mid.inners ≡ change s.inners p (with_header (record { len = length rest; stored = take P rest }))
     written = inners ∙ ap (λ z. change s.inners p (with_header z)) header_is
 
-    prefix_stored : BranchStored bytes P s t at.path (take (depth_of at.path) (bytes pair)) at.node placed.node done.leaf_node_ptr is.part branch.old_byte branch.new_byte (record { key = pair.0; value = pair.1; previous = branch.previous; next = branch.next }) mid.inners (p ∷ [])
+    prefix_stored : BranchStored bytes P s t at.path (take (depth_of at.path) (bytes pair)) at.node placed.node done.leaf_node_ptr is.part
+        branch.old_byte branch.new_byte (record { key = pair.0; value = pair.1; previous = branch.previous; next = branch.next }) mid.inners (p ∷ [])
     prefix_stored =
         let (h, cs, found) = inner_found by at kind in
         let held = (path_holds (node_at s) at.path at.node (end_laid by at).holds).1 in
@@ -107,30 +124,39 @@ module _ {K V : Type 0} {bytes : K × V → List ℕ} {P : ℕ} {s : Nodes K V} 
         let count : length is.part ≡ mismatch.matched_bytes = sym (ap (λ z. z.len) is.header) ∙ len in
         let (more, way) = prefix_way by at kind in
         let (after, old_way) = is.old_way in
-        let both : prefix ++ more ≡ is.part ++ branch.old_byte ∷ after = append_cancel_left place (prefix ++ more) (is.part ++ branch.old_byte ∷ after) (sym (append_assoc place prefix more) ∙ sym way ∙ old_way ∙ simp append_assoc) in
-        ap (λ d. prefix_of bytes d at.node) (sym (end_depth by at)) ∙ prefix_parts prefix is.part more after branch.old_byte both (subst (λ n. n < length prefix) (sym count) (prefix_inside by at kind)) ∙ ap (λ n. is.part ++ branch.old_byte ∷ drop (n + 1) prefix) count
+        let both : prefix ++ more ≡ is.part ++ branch.old_byte ∷ after =
+        append_cancel_left place (prefix ++ more) (is.part ++ branch.old_byte ∷ after) (sym (append_assoc place prefix more) ∙ sym way ∙ old_way ∙ simp append_assoc) in
+        ap (λ d. prefix_of bytes d at.node) (sym (end_depth by at)) ∙
+        prefix_parts prefix is.part more after branch.old_byte both (subst (λ n. n < length prefix) (sym count) (prefix_inside by at kind)) ∙
+        ap (λ n. is.part ++ branch.old_byte ∷ drop (n + 1) prefix) count
 
     -- the pair is inserted
     pub prefix_split : IsInserted bytes P s t point pair pairs layout done
     prefix_split =
         let (h, cs, found) = inner_found by at kind in
-        branch_done by at is placed (prefix_inserted (inner_name p) h cs rest written at.node found (end_laid by at) prefix_stored prefix_rest) (λ parent told e. subst (λ k. IsChange k (Some parent) told) (sym kind) e) prefix_stored
+        branch_done by at is placed (prefix_inserted (inner_name p) h cs rest written at.node found (end_laid by at) prefix_stored prefix_rest)
+        (λ parent told e. subst (λ k. IsChange k (Some parent) told) (sym kind) e) prefix_stored
 
     -- two names are placed, and at most four are changed
     pub prefix_split_touches : Touches point.insert_kind s t
     prefix_split_touches = subst (λ k. Touches k s t) (sym kind) (branch_touches (end_laid by at) prefix_stored 4 (omega arith))
 
 -- the header of a node is written
-module _ {K V : Type 0} {bytes : K × V → List ℕ} {P : ℕ} {s : Nodes K V} {key : List ℕ} {point : InsertPoint} {pairs : List (K × V)} {layout : Tree OpaqueNodePtr (K × V)} (by : IsTree bytes P s point.root pairs layout) (at : AnswersTo bytes P layout key point) where
+module _ {K V : Type 0} {bytes : K × V → List ℕ} {P : ℕ} {s : Nodes K V} {key : List ℕ} {point : InsertPoint} {pairs : List (K × V)}
+    {layout : Tree OpaqueNodePtr (K × V)} (by : IsTree bytes P s point.root pairs layout) (at : AnswersTo bytes P layout key point) where
   -- the parent has a child under its byte when the node's header is written
-  pub parent_stays : {after : Inners} {p : InnerPtr} {mismatch : ExplicitMismatch} (header : Prefix) → point.insert_kind ≡ MismatchPrefix mismatch p → after ≡ change s.inners p (with_header header) → HasChild after (last_step point.path)
+  pub parent_stays : {after : Inners} {p : InnerPtr} {mismatch : ExplicitMismatch} (header : Prefix) → point.insert_kind ≡ MismatchPrefix mismatch p →
+      after ≡ change s.inners p (with_header header) → HasChild after (last_step point.path)
   parent_stays {after} {p} header kind written =
       let steps = ap last_step at.path_is ∙ last_step-path_of at.path in
       let (h, cs, found) = inner_found by at kind in
       let own : IsIn (inner_name p) (names_of at.node) = subst (λ t. IsIn (inner_name p) (names_of t)) (sym found) (inl refl) in
       subst (HasChild after) (sym steps) (go at.path (subst (HasChild s.inners) steps (end_parent by at))
-      (λ k up e. parent_apart (node_at s) (node_at s) at.path at.node (end_laid by at).holds (end_laid by at).distinct k up (subst (λ z. IsIn z (names_of at.node)) (sym (inner_name_one k (inner_name p) e)) own)))
+      (λ k up e. parent_apart (node_at s) (node_at s) at.path at.node (end_laid by at).holds (end_laid by at).distinct k up
+      (subst (λ z. IsIn z (names_of at.node)) (sym (inner_name_one k (inner_name p) e)) own)))
     where
       go : (fs : List (Frame OpaqueNodePtr (K × V))) → HasChild s.inners (parent_of fs) → ((k : OpaqueNodePtr) → IsParent fs k → as_inner k ≢ p) → HasChild after (parent_of fs)
       go [] h off = tt
-      go (f ∷ fs) h off = subst (λ o. IsSomeAnd o (λ node. IsSome (child_at node.children f.byte))) (sym (ap (λ z. get z (as_inner f.mark)) written ∙ inner_changed_elsewhere s.inners p (as_inner f.mark) (with_header header) (off f.mark refl))) h
+      go (f ∷ fs) h off =
+          subst (λ o. IsSomeAnd o (λ node. IsSome (child_at node.children f.byte)))
+          (sym (ap (λ z. get z (as_inner f.mark)) written ∙ inner_changed_elsewhere s.inners p (as_inner f.mark) (with_header header) (off f.mark refl))) h

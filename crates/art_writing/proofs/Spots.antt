@@ -62,7 +62,8 @@ module _ {A : Type 0} (bytes : A → List ℕ) (P : ℕ) (key : List ℕ) (node 
       let k = length-drop depth key in
       omega (arith, simp length-append at l)
 
-module _ {K V : Type 0} {s : Nodes K V} {bytes : K × V → List ℕ} {P : ℕ} {root : OpaqueNodePtr} {pairs : List (K × V)} {layout : Tree OpaqueNodePtr (K × V)} (by : IsTree bytes P s root pairs layout) where
+module _ {K V : Type 0} {s : Nodes K V} {bytes : K × V → List ℕ} {P : ℕ} {root : OpaqueNodePtr} {pairs : List (K × V)}
+    {layout : Tree OpaqueNodePtr (K × V)} (by : IsTree bytes P s root pairs layout) where
   pub start : (key : List ℕ) → IsAt bytes P key layout (record { path = Root; name = root; depth = 0 })
   start key = record { frames = []; place = []; node = layout; whole = refl; leads = refl; radix = (tree_radix by).0; on_way = (key, refl); named = by.stands.0.named; depth_is = refl; path_is = refl }
 
@@ -103,7 +104,12 @@ module _ {K V : Type 0} {s : Nodes K V} {bytes : K × V → List ℕ} {P : ℕ} 
           place = d.place;
           depth_is = d.depth_is;
           radix = d.radix;
-          layout = record { named = d.named ∙ sym is; holds = holds; distinct = Pairwise-right (λ n k. n ≢ k) (names_before d.frames) (names_of d.node) (Pairwise-left (λ n k. n ≢ k) (names_before d.frames ++ names_of d.node) (names_after d.frames) all) };
+          layout = record {
+            named = d.named ∙ sym is;
+            holds = holds;
+            distinct = Pairwise-right (λ n k. n ≢ k) (names_before d.frames)
+                (names_of d.node) (Pairwise-left (λ n k. n ≢ k) (names_before d.frames ++ names_of d.node) (names_after d.frames) all);
+          };
         }
 
     -- what is in conflict with the key is below
@@ -118,7 +124,8 @@ module _ {K V : Type 0} {s : Nodes K V} {bytes : K × V → List ℕ} {P : ℕ} 
     deep = depth_is bytes P d.frames d.place d.leads ∙ d.depth_is
 
     -- no longer place is a front of the key, so this is the end node
-    answers : (used : ℕ) (kind : InsertKind) → Each (λ other. IsFront other.0 key → length other.0 ≤ length d.place) (places bytes (length d.place) d.node) → IsKindOf bytes P key d.node depth used kind →
+    answers : (used : ℕ) (kind : InsertKind) → Each (λ other. IsFront other.0 key → length other.0 ≤ length d.place)
+        (places bytes (length d.place) d.node) → IsKindOf bytes P key d.node depth used kind →
         AnswersTo bytes P layout key (record { path = path; insert_kind = kind; key_bytes_used = used; root = root })
     answers used kind longest is =
         record {
@@ -155,17 +162,29 @@ module _ {K V : Type 0} {s : Nodes K V} {bytes : K × V → List ℕ} {P : ℕ} 
       longest_leaf : Each (λ other. IsFront other.0 key → length other.0 ≤ length d.place) (places bytes (length d.place) d.node)
       longest_leaf =
           let radix = subst (IsRadix bytes P d.place) at_leaf d.radix in
-          subst (λ t. Each (λ other. IsFront other.0 key → length other.0 ≤ length d.place) (places bytes (length d.place) t)) (sym at_leaf) ((λ g. rw (place_is bytes P (leaf (leaf_name p) (pair_of shown)) d.place radix) (omega arith)), tt)
+          subst (λ t. Each (λ other. IsFront other.0 key → length other.0 ≤ length d.place) (places bytes (length d.place) t)) (sym at_leaf)
+          ((λ g. rw (place_is bytes P (leaf (leaf_name p) (pair_of shown)) d.place radix) (omega arith)), tt)
 
-      pub leaf_conflict : IsKindFor key p (bytes (pair_of shown)) None → IsPointFor bytes P key pairs layout (OverwritePoint (record { path = path; overwrite_point = name; key_bytes_used = depth; root = root }))
-      leaf_conflict (related, unequal) =
-          (own_pair ∙ first_conflict bytes key (pair_of shown) [] related unequal, overwritten depth longest_leaf (subst (IsOverwrittenWith bytes key depth depth) (sym at_leaf) (refl, related, unequal)))
+      pub leaf_conflict : IsKindFor key p (bytes (pair_of shown)) None →
+          IsPointFor bytes P key pairs layout (OverwritePoint (record { path = path; overwrite_point = name; key_bytes_used = depth; root = root }))
+      leaf_conflict (related, unequal) = (
+        own_pair ∙ first_conflict bytes key (pair_of shown) [] related unequal,
+        overwritten depth longest_leaf
+            (subst (IsOverwrittenWith bytes key depth depth) (sym at_leaf) (refl, related, unequal)),
+      )
 
-      pub leaf_point : (kind : InsertKind) → IsKindAtLeaf key p (bytes (pair_of shown)) kind → IsPointFor bytes P key pairs layout (InsertPoint (record { path = path; insert_kind = kind; key_bytes_used = depth; root = root }))
-      leaf_point (Exact q) (same, equal) =
-          (own_pair ∙ same_conflict bytes key (pair_of shown) equal, answers depth (Exact q) longest_leaf (refl, (pair_of shown, at_leaf ∙ ap (λ z. leaf (leaf_name z) (pair_of shown)) (sym same), (refl, equal))))
-      leaf_point (SplitLeaf q used) (same, unrelated, shared) =
-          (own_pair ∙ no_conflict bytes key (pair_of shown ∷ []) (unrelated, tt), answers depth (SplitLeaf q used) longest_leaf (refl, (pair_of shown, at_leaf ∙ ap (λ z. leaf (leaf_name z) (pair_of shown)) (sym same), (refl, unrelated, shared))))
+      pub leaf_point : (kind : InsertKind) → IsKindAtLeaf key p (bytes (pair_of shown)) kind →
+          IsPointFor bytes P key pairs layout (InsertPoint (record { path = path; insert_kind = kind; key_bytes_used = depth; root = root }))
+      leaf_point (Exact q) (same, equal) = (
+        own_pair ∙ same_conflict bytes key (pair_of shown) equal,
+        answers depth (Exact q) longest_leaf
+            (refl, (pair_of shown, at_leaf ∙ ap (λ z. leaf (leaf_name z) (pair_of shown)) (sym same), (refl, equal))),
+      )
+      leaf_point (SplitLeaf q used) (same, unrelated, shared) = (
+        own_pair ∙ no_conflict bytes key (pair_of shown ∷ []) (unrelated, tt),
+        answers depth (SplitLeaf q used) longest_leaf
+            (refl, (pair_of shown, at_leaf ∙ ap (λ z. leaf (leaf_name z) (pair_of shown)) (sym same), (refl, unrelated, shared))),
+      )
       leaf_point (IntoExisting q) h = absurd h
       leaf_point (MismatchPrefix m q) h = absurd h
 
@@ -202,7 +221,8 @@ module _ {K V : Type 0} {s : Nodes K V} {bytes : K × V → List ℕ} {P : ℕ} 
           let len : (header_at p.kind shown).length_of ≡ length radix.0 = ap (λ h. h.length_of) radix.1 in
           subst (λ t. Each (λ other. IsFront other.0 key → length other.0 ≤ length d.place) (places bytes (length d.place) t)) (sym at.is) (
             (λ g. rw (place_is bytes P here d.place radix) (omega arith)),
-            beside bytes P at.children front key (length d.place + (header_at p.kind shown).length_of + 1) (length d.place) (λ b. deeper d.place radix.0 b (header_at p.kind shown).length_of len) radix.4 aside,
+            beside bytes P at.children front key (length d.place + (header_at p.kind shown).length_of + 1) (length d.place)
+                (λ b. deeper d.place radix.0 b (header_at p.kind shown).length_of len) radix.4 aside,
           )
 
       -- all pairs below go on after the key
@@ -219,12 +239,14 @@ module _ {K V : Type 0} {s : Nodes K V} {bytes : K × V → List ℕ} {P : ℕ} 
               rw e (first_conflict bytes key x (xs ++ pairs_below cs) (front_related key (bytes x) goes) (λ same. let l = ap length same in omega arith))
 
       -- so the node gives way
-      short_point : (used : ℕ) → IsFront (drop depth key) radix.0 → used ≡ used_in_prefix key depth radix.0 → IsPointFor bytes P key pairs layout (OverwritePoint (record { path = path; overwrite_point = name; key_bytes_used = used; root = root }))
+      short_point : (used : ℕ) → IsFront (drop depth key) radix.0 → used ≡ used_in_prefix key depth radix.0 →
+          IsPointFor bytes P key pairs layout (OverwritePoint (record { path = path; overwrite_point = name; key_bytes_used = used; root = root }))
       short_point used (r, e) is =
           let short : IsFront key front = (r, ap (λ l. d.place ++ l) e ∙ sym (append_assoc d.place (drop depth key) r) ∙ ap (λ l. l ++ r) (sym key_is)) in
           let no_longer : length key ≤ length front = let l = ap length short.1 in let k = length-append key r in omega arith in (
             short_conflict short,
-            overwritten used (longest_inner (aside_end front key at.children no_longer)) (subst (IsOverwrittenWith bytes key depth used) (sym at.is) (is ∙ ap (used_in_prefix key depth) (sym here_prefix), subst (IsFront (drop depth key)) (sym here_prefix) (r, e))),
+            overwritten used (longest_inner (aside_end front key at.children no_longer))
+                (subst (IsOverwrittenWith bytes key depth used) (sym at.is) (is ∙ ap (used_in_prefix key depth) (sym here_prefix), subst (IsFront (drop depth key)) (sym here_prefix) (r, e))),
           )
 
       -- the prefix is compared
@@ -237,7 +259,8 @@ module _ {K V : Type 0} {s : Nodes K V} {bytes : K × V → List ℕ} {P : ℕ} 
         used : depth + match.matched_bytes ≡ length front
         used = let l = front_len in let k = c.0 in omega arith
 
-        pub prefix_conflict : length key ≤ depth + match.matched_bytes → IsPointFor bytes P key pairs layout (OverwritePoint (record { path = path; overwrite_point = name; key_bytes_used = depth + match.matched_bytes - 1; root = root }))
+        pub prefix_conflict : length key ≤ depth + match.matched_bytes →
+            IsPointFor bytes P key pairs layout (OverwritePoint (record { path = path; overwrite_point = name; key_bytes_used = depth + match.matched_bytes - 1; root = root }))
         prefix_conflict short =
             let same : drop depth key ≡ radix.0 = go c.1 in
             let l : length key ≡ length front + length on_way.0 = ap length on_way.1 ∙ length-append front on_way.0 in
@@ -257,30 +280,43 @@ module _ {K V : Type 0} {s : Nodes K V} {bytes : K × V → List ℕ} {P : ℕ} 
           next : IsFront (front ++ get_or key (length front) 0 ∷ []) key
           next = front_byte front key on_way (let u = used in omega arith)
 
-          unrelated : (cs : Children OpaqueNodePtr (K × V)) → AreRadix bytes P front cs → Each (λ b. b ≢ get_or key (length front) 0) (bytes_of cs) → Each (λ x. are_related key (bytes x) ≡ false) (pairs_below cs)
+          unrelated : (cs : Children OpaqueNodePtr (K × V)) → AreRadix bytes P front cs → Each (λ b. b ≢ get_or key (length front) 0) (bytes_of cs) →
+              Each (λ x. are_related key (bytes x) ≡ false) (pairs_below cs)
           unrelated no_child h others = tt
           unrelated (child b t cs) h others = Each-append (λ x. are_related key (bytes x) ≡ false) (pairs_of t) (pairs_below cs)
-              (Each-weaker (λ x. IsFront (front ++ b ∷ []) (bytes x)) (λ x. are_related key (bytes x) ≡ false) (λ x f. unrelated_after front (get_or key (length front) 0) b key (bytes x) next f (λ e. others.0 (sym e))) (pairs_of t) (radix_way bytes P t (front ++ b ∷ []) h.0))
+              (Each-weaker (λ x. IsFront (front ++ b ∷ []) (bytes x)) (λ x. are_related key (bytes x) ≡ false)
+              (λ x f. unrelated_after front (get_or key (length front) 0) b key (bytes x) next f (λ e. others.0 (sym e))) (pairs_of t) (radix_way bytes P t (front ++ b ∷ []) h.0))
               (unrelated cs h.1 others.1)
 
           -- no child goes on with the key
-          pub into_point : None ≡ child_at shown.children (get_or key (depth + match.matched_bytes) 0) → IsPointFor bytes P key pairs layout (InsertPoint (record { path = path; insert_kind = IntoExisting p; key_bytes_used = depth + match.matched_bytes; root = root }))
+          pub into_point : None ≡ child_at shown.children (get_or key (depth + match.matched_bytes) 0) →
+              IsPointFor bytes P key pairs layout (InsertPoint (record { path = path; insert_kind = IntoExisting p; key_bytes_used = depth + match.matched_bytes; root = root }))
           into_point none =
-              let gone : child_at (slots_of at.children) (get_or key (depth + match.matched_bytes) 0) ≡ None = ap (λ cs. child_at cs (get_or key (depth + match.matched_bytes) 0)) (sym at.slots) ∙ sym none in
+              let gone : child_at (slots_of at.children) (get_or key (depth + match.matched_bytes) 0) ≡ None =
+              ap (λ cs. child_at cs (get_or key (depth + match.matched_bytes) 0)) (sym at.slots) ∙ sym none in
               let others = no_child_under at.children (get_or key (length front) 0) (ap (λ n. child_at (slots_of at.children) (get_or key n 0)) (sym used) ∙ gone) in (
                 below ∙ no_conflict bytes key (pairs_below at.children) (unrelated at.children radix.4 others),
-                answers (depth + match.matched_bytes) (IntoExisting p) (longest_inner (aside_others front key at.children others)) (header_at p.kind shown, at.children, at.is, c.1, ap (λ n. depth + n) c.0, long, gone),
+                answers (depth + match.matched_bytes) (IntoExisting p) (longest_inner (aside_others front key at.children others))
+                    (header_at p.kind shown, at.children, at.is, c.1, ap (λ n. depth + n) c.0, long, gone),
               )
 
           -- a child goes on with the key
-          pub goes_on : {to : OpaqueNodePtr} → Some to ≡ child_at shown.children (get_or key (depth + match.matched_bytes) 0) → IsAt bytes P key layout (record { path = step_down path p (get_or key (depth + match.matched_bytes) 0); name = to; depth = depth + match.matched_bytes + 1 })
+          pub goes_on : {to : OpaqueNodePtr} → Some to ≡ child_at shown.children (get_or key (depth + match.matched_bytes) 0) →
+              IsAt bytes P key layout (record { path = step_down path p (get_or key (depth + match.matched_bytes) 0); name = to; depth = depth + match.matched_bytes + 1 })
           goes_on {to} there =
               let b = get_or key (depth + match.matched_bytes) 0 in
               let e : child_at (slots_of at.children) b ≡ Some to = ap (λ cs. child_at cs b) (sym at.slots) ∙ sym there in
               let u = child_under at.children b to radix.3 e in
               let f : Frame OpaqueNodePtr (K × V) = record { mark = inner_name p; header = header_at p.kind shown; left = u.left; byte = b; right = u.right } in
               let filled : here ≡ fill f u.tree = ap (inner (inner_name p) (header_at p.kind shown)) u.whole in
-              let node : IsRadix bytes P d.place (fill f u.tree) = (radix.0, subst (λ cs. header_at p.kind shown ≡ header_of P radix.0 (length (bytes_of cs))) u.whole radix.1, subst (λ cs. 2 ≤ length (bytes_of cs)) u.whole radix.2, subst (λ cs. Rattle.art_model.specs.Radix.IsRising (bytes_of cs)) u.whole radix.3, subst (AreRadix bytes P front) u.whole radix.4) in
+              let node : IsRadix bytes P d.place (fill f u.tree) = (
+                radix.0,
+                subst (λ cs. header_at p.kind shown ≡ header_of P radix.0 (length (bytes_of cs))) u.whole radix.1,
+                subst
+                    (λ cs. 2 ≤ length (bytes_of cs)) u.whole radix.2,
+                subst (λ cs. Rattle.art_model.specs.Radix.IsRising (bytes_of cs)) u.whole radix.3,
+                subst (AreRadix bytes P front) u.whole radix.4,
+              ) in
               let down = path_down bytes P d.frames d.place f u.tree d.leads node in
               record {
                 frames = f ∷ d.frames;
@@ -300,7 +336,8 @@ module _ {K V : Type 0} {s : Nodes K V} {bytes : K × V → List ℕ} {P : ℕ} 
         shared_is : m.matched_bytes ≡ shared_len radix.0 (drop depth key)
         shared_is = c.matched ∙ ap (λ l. shared_len l (drop depth key)) whole_prefix
 
-        pub mismatch_conflict : length key ≤ depth + m.matched_bytes → IsPointFor bytes P key pairs layout (OverwritePoint (record { path = path; overwrite_point = name; key_bytes_used = depth; root = root }))
+        pub mismatch_conflict : length key ≤ depth + m.matched_bytes →
+            IsPointFor bytes P key pairs layout (OverwritePoint (record { path = path; overwrite_point = name; key_bytes_used = depth; root = root }))
         mismatch_conflict short =
             let rest : length (drop depth key) ≤ shared_len radix.0 (drop depth key) = let k = ap length key_is in let n = d.depth_is in let q = shared_is in omega (arith, simp length-append at k) in
             let inside = slice_get_within (prefix_of bytes depth d.node) m.matched_bytes m.prefix_byte c.byte in
@@ -317,17 +354,32 @@ module _ {K V : Type 0} {s : Nodes K V} {bytes : K × V → List ℕ} {P : ℕ} 
               let k = ap length key_is in
               let n = d.depth_is in
               let a = part_where radix.0 (drop depth key) (omega arith) (omega (arith, simp length-append at k)) in
-              record { front = d.place ++ a.front; is_shared = ap (λ l. d.place ++ l) a.is_shared ∙ sym (ap (common_front front) key_is ∙ common_front-append d.place radix.0 (drop depth key)); x = a.x; y = a.y; r = a.r; s = a.s; a_is = ap (λ l. d.place ++ l) a.a_is ∙ sym (append_assoc d.place a.front (a.x ∷ a.r)); b_is = key_is ∙ ap (λ l. d.place ++ l) a.b_is ∙ sym (append_assoc d.place a.front (a.y ∷ a.s)); differ = a.differ }
+              record {
+                front = d.place ++ a.front;
+                is_shared = ap (λ l. d.place ++ l) a.is_shared ∙
+                    sym (ap (common_front front) key_is ∙ common_front-append d.place radix.0 (drop depth key));
+                x = a.x;
+                y = a.y;
+                r = a.r;
+                s = a.s;
+                a_is = ap (λ l. d.place ++ l) a.a_is ∙ sym (append_assoc d.place a.front (a.x ∷ a.r));
+                b_is = key_is ∙
+                    ap (λ l. d.place ++ l) a.b_is ∙ sym (append_assoc d.place a.front (a.y ∷ a.s));
+                differ = a.differ;
+              }
 
           unrelated_below : Each (λ x. are_related key (bytes x) ≡ false) (pairs_below at.children)
           unrelated_below =
               let a = parts_at in
               Each-weaker (λ x. IsFront front (bytes x)) (λ x. are_related key (bytes x) ≡ false)
-              (λ x f. unrelated_after a.front a.y a.x key (bytes x) (a.s, a.b_is ∙ sym (append_assoc a.front (a.y ∷ []) a.s)) (front_trans (a.front ++ a.x ∷ []) front (bytes x) (a.r, a.a_is ∙ sym (append_assoc a.front (a.x ∷ []) a.r)) f) (λ e. a.differ (sym e)))
+              (λ x f. unrelated_after a.front a.y a.x key (bytes x) (a.s, a.b_is ∙ sym (append_assoc a.front (a.y ∷ []) a.s))
+              (front_trans (a.front ++ a.x ∷ []) front (bytes x) (a.r, a.a_is ∙ sym (append_assoc a.front (a.x ∷ []) a.r)) f) (λ e. a.differ (sym e)))
               (pairs_below at.children) (radix_below bytes P at.children front radix.4)
 
           pub mismatch_point : IsPointFor bytes P key pairs layout (InsertPoint (record { path = path; insert_kind = MismatchPrefix m p; key_bytes_used = depth; root = root }))
           mismatch_point = (
             below ∙ no_conflict bytes key (pairs_below at.children) unrelated_below,
-            answers depth (MismatchPrefix m p) (longest_inner (aside_off front key at.children (λ f. let t = parted_unrelated parts_at in let r = front_related front key f in absurd cc))) (refl, (header_at p.kind shown, at.children, at.is, c, long)),
+            answers depth (MismatchPrefix m p) (longest_inner
+                (aside_off front key at.children (λ f. let t = parted_unrelated parts_at in let r = front_related front key f in absurd cc)))
+                (refl, (header_at p.kind shown, at.children, at.is, c, long)),
           )

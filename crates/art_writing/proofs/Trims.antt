@@ -26,7 +26,9 @@ use Rattle.art_writing.proofs.Branches.{end_laid, end_hole, end_depth}
 use Rattle.art_writing.proofs.BranchReads.{end_full, inner_found, inner_named, inner_start, inner_least, prefix_inside}
 use Rattle.art_writing.proofs.Prefixes as prefixes
 
-module _ {K V : Type 0} {bytes : K × V → List ℕ} {P : ℕ} {s : Nodes K V} {key : List ℕ} {point : InsertPoint} {pairs : List (K × V)} {layout : Tree OpaqueNodePtr (K × V)} (by : IsTree bytes P s point.root pairs layout) (at : AnswersTo bytes P layout key point) {p : InnerPtr} {mismatch : ExplicitMismatch} (kind : point.insert_kind ≡ MismatchPrefix mismatch p) where
+module _ {K V : Type 0} {bytes : K × V → List ℕ} {P : ℕ} {s : Nodes K V} {key : List ℕ} {point : InsertPoint} {pairs : List (K × V)}
+    {layout : Tree OpaqueNodePtr (K × V)} (by : IsTree bytes P s point.root pairs layout) (at : AnswersTo bytes P layout key point) {p : InnerPtr}
+    {mismatch : ExplicitMismatch} (kind : point.insert_kind ≡ MismatchPrefix mismatch p) where
   abbrev prefix : List ℕ
   prefix = prefix_of bytes (depth_of at.path) at.node
 
@@ -53,7 +55,8 @@ module _ {K V : Type 0} {bytes : K × V → List ℕ} {P : ℕ} {s : Nodes K V} 
     pub trim_whole : mismatch.leaf_ptr ≡ None → old.len ≤ P
     trim_whole none = let l = len_of_header P prefix old own in let short : length prefix ≤ P = subst (IsLeafForPrefix P prefix at.node) none (inner_least by at kind) in omega arith
 
-    pub trim_stored : {new : Prefix} → mismatch.leaf_ptr ≡ None → new.len ≡ old.len - (mismatch.matched_bytes + 1) → new.stored ≡ drop (mismatch.matched_bytes + 1) old.stored → new ≡ header_of P (drop (mismatch.matched_bytes + 1) prefix)
+    pub trim_stored : {new : Prefix} → mismatch.leaf_ptr ≡ None → new.len ≡ old.len - (mismatch.matched_bytes + 1) →
+        new.stored ≡ drop (mismatch.matched_bytes + 1) old.stored → new ≡ header_of P (drop (mismatch.matched_bytes + 1) prefix)
     trim_stored {new} none len stored = trimmed_header P (mismatch.matched_bytes + 1) prefix old new own (trim_whole none) len stored
 
     -- else it is read from the least leaf
@@ -73,8 +76,12 @@ module _ {K V : Type 0} {bytes : K × V → List ℕ} {P : ℕ} {s : Nodes K V} 
             let t = ap length text_is in
             omega arith
 
-        pub trim_read : {new : Prefix} → new.len ≡ old.len - (mismatch.matched_bytes + 1) → new.stored ≡ take (min (old.len - (mismatch.matched_bytes + 1)) P) (drop (point.key_bytes_used + (mismatch.matched_bytes + 1)) text) → new ≡ header_of P (drop (mismatch.matched_bytes + 1) prefix)
+        pub trim_read : {new : Prefix} → new.len ≡ old.len - (mismatch.matched_bytes + 1) →
+            new.stored ≡ take (min (old.len - (mismatch.matched_bytes + 1)) P) (drop (point.key_bytes_used + (mismatch.matched_bytes + 1)) text) →
+            new ≡ header_of P (drop (mismatch.matched_bytes + 1) prefix)
         trim_read {new} len stored = trimmed_by_leaf P (mismatch.matched_bytes + 1) point.key_bytes_used prefix text old new own trim_inside has len stored
           where
             has : take old.len (drop point.key_bytes_used text) ≡ prefix
-            has = ap (λ z. take z.len (drop point.key_bytes_used text)) read ∙ ap (λ d. take shown.prefix.len (drop d text)) (inner_start by at kind) ∙ ap (λ z. take shown.prefix.len (drop (depth_of at.path) z)) text_is ∙ prefixes.prefix_read part proper there first leaf_there
+            has = ap (λ z. take z.len (drop point.key_bytes_used text)) read ∙
+                ap (λ d. take shown.prefix.len (drop d text)) (inner_start by at kind) ∙
+                ap (λ z. take shown.prefix.len (drop (depth_of at.path) z)) text_is ∙ prefixes.prefix_read part proper there first leaf_there

@@ -63,13 +63,15 @@ module _ {A : Type 0} (f : Frame OpaqueNodePtr A) where
       above (ChildOfRoot parent b) = refl
       above (Normal grandparent c parent b) = refl
 
-  above_root : (change : ParentChange) (g : Frame OpaqueNodePtr A) (root : OpaqueNodePtr) (path : TreePath) → IsRootAfter change (step_down (step_down path (as_inner g.mark) g.byte) (as_inner f.mark) f.byte) root (Some root)
+  above_root : (change : ParentChange) (g : Frame OpaqueNodePtr A) (root : OpaqueNodePtr) (path : TreePath) →
+      IsRootAfter change (step_down (step_down path (as_inner g.mark) g.byte) (as_inner f.mark) f.byte) root (Some root)
   above_root change g root Root = refl
   above_root change g root (ChildOfRoot parent b) = refl
   above_root change g root (Normal grandparent c parent b) = refl
 
   -- and that is the one that a deletion answers where the parent gives way
-  pub root_after_at : (change : ParentChange) (fs : List (Frame OpaqueNodePtr A)) (root node : OpaqueNodePtr) → change ≢ keeps → IsRootAfter change (path_of (f ∷ fs)) root (Some (paths.root_with fs root node))
+  pub root_after_at : (change : ParentChange) (fs : List (Frame OpaqueNodePtr A)) (root node : OpaqueNodePtr) → change ≢ keeps →
+      IsRootAfter change (path_of (f ∷ fs)) root (Some (paths.root_with fs root node))
   root_after_at change [] root node gives_way = top change gives_way
     where
       top : (change : ParentChange) → change ≢ keeps → IsTopAfter change root (Some node)

@@ -27,7 +27,8 @@ use Rattle.art_reading.specs.Paths.{last_step}
 
 -- this holds of the path and the node that the point answers to, in each layout of its root
 abbrev pub ForEnd : {K V : Type 0} → (K × V → List ℕ) → ℕ → Nodes K V → List ℕ → InsertPoint → (List (Frame OpaqueNodePtr (K × V)) → Tree OpaqueNodePtr (K × V) → Type 0) → Type 0
-ForEnd {K} {V} bytes P s key point Holds = (pairs : List (K × V)) (layout : Tree OpaqueNodePtr (K × V)) → IsTree bytes P s point.root pairs layout → (at : AnswersTo bytes P layout key point) → Holds at.path at.node
+ForEnd {K} {V} bytes P s key point Holds =
+    (pairs : List (K × V)) (layout : Tree OpaqueNodePtr (K × V)) → IsTree bytes P s point.root pairs layout → (at : AnswersTo bytes P layout key point) → Holds at.path at.node
 
 module _ {A : Type 0} {P : ℕ} (bytes : A → List ℕ) (key : List ℕ) (path : List (Frame OpaqueNodePtr A)) (node : Tree OpaqueNodePtr A) where
   -- After the node's place the key and the keys below go on with the part, and then with different bytes. The new leaf is beside those of the node.
@@ -52,7 +53,8 @@ pub record IsPlaced {K V : Type 0} {P : ℕ} (s t : Nodes K V) (point : InsertPo
   pub node_was_free : map.get s.inners node ≡ None
   pub leaf_was_free : map.get s.leaves done.leaf_node_ptr ≡ None
   pub leaves : t.leaves ≡ with_leaf s.leaves done.leaf_node_ptr (record { key = pair.0; value = pair.1; previous = branch.previous; next = branch.next })
-  pub inners : t.inners ≡ with_child_at (last_step point.path) (inner_name node) (map.insert s.inners node (with_child branch.new_byte (leaf_name done.leaf_node_ptr) (with_child branch.old_byte old (childless branch.header))))
+  pub inners : t.inners ≡ with_child_at (last_step point.path) (inner_name node)
+      (map.insert s.inners node (with_child branch.new_byte (leaf_name done.leaf_node_ptr) (with_child branch.old_byte old (childless branch.header))))
   pub existing : done.existing_leaf ≡ None
   pub change : done.parent_node_change ≡ NewParent (inner_name node) branch.new_byte
   pub root : done.new_root ≡ root_with point.path point.root (inner_name node)

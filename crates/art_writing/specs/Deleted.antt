@@ -80,7 +80,8 @@ IsRootAfter change (ChildOfRoot parent byte) root new = IsTopAfter change root n
 IsRootAfter change (Normal grandparent above parent byte) root new = new ≡ Some root
 
 -- The root is canonical for the pairs without the one of the point; its pair is answered as a leaf alone; the rest stays.
-pub record IsDeleted {K V : Type 0} (bytes : K × V → List ℕ) (P : ℕ) (s t : Nodes K V) (root : OpaqueNodePtr) (point : DeletePoint) (x : K × V) (pairs : List (K × V)) (layout : Tree OpaqueNodePtr (K × V)) (done : DeleteResult K V) : Type 0 where
+pub record IsDeleted {K V : Type 0} (bytes : K × V → List ℕ) (P : ℕ) (s t : Nodes K V) (root : OpaqueNodePtr) (point : DeletePoint) (x : K × V)
+    (pairs : List (K × V)) (layout : Tree OpaqueNodePtr (K × V)) (done : DeleteResult K V) : Type 0 where
   pub tree : Option (Tree OpaqueNodePtr (K × V))
   pub canonical : IsRootOf bytes P t done.new_root (remove_key bytes (bytes x) pairs) tree
   pub deleted : done.deleted_leaf ≡ alone x

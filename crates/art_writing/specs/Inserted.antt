@@ -75,7 +75,8 @@ pub record HasInserted {K V : Type 0} (tree : Tree OpaqueNodePtr (K × V)) (poin
   pub root : done.new_root ≡ root_after point done.parent_node_change
 
 -- The root is canonical for the pairs with the new one; where the key was stored it is answered with the old value, as a leaf alone; the rest stays.
-pub record IsInserted {K V : Type 0} (bytes : K × V → List ℕ) (P : ℕ) (s t : Nodes K V) (point : InsertPoint) (pair : K × V) (pairs : List (K × V)) (layout : Tree OpaqueNodePtr (K × V)) (done : InsertResult K V) : Type 0 where
+pub record IsInserted {K V : Type 0} (bytes : K × V → List ℕ) (P : ℕ) (s t : Nodes K V) (point : InsertPoint) (pair : K × V) (pairs : List (K × V))
+    (layout : Tree OpaqueNodePtr (K × V)) (done : InsertResult K V) : Type 0 where
   pub tree : Tree OpaqueNodePtr (K × V)
   pub canonical : IsTree bytes P t done.new_root (put bytes pair pairs) tree
   pub inserted : HasInserted tree point (stored_for bytes pair pairs) done

@@ -54,7 +54,8 @@ pub record HasOverwritten {K V : Type 0} (tree : Tree OpaqueNodePtr (K × V)) (p
   pub change : done.parent_node_change ≡ NoChange
 
 -- The root is canonical for the pairs with the new one in the place of all with related keys; the answer tells what gave way; the rest stays.
-pub record IsOverwritten {K V : Type 0} (bytes : K × V → List ℕ) (P : ℕ) (s t : Nodes K V) (point : OverwritePoint) (pair : K × V) (pairs : List (K × V)) (layout : Tree OpaqueNodePtr (K × V)) (done : PrefixInsertResult K V) : Type 0 where
+pub record IsOverwritten {K V : Type 0} (bytes : K × V → List ℕ) (P : ℕ) (s t : Nodes K V) (point : OverwritePoint) (pair : K × V)
+    (pairs : List (K × V)) (layout : Tree OpaqueNodePtr (K × V)) (done : PrefixInsertResult K V) : Type 0 where
   pub tree : Tree OpaqueNodePtr (K × V)
   pub canonical : IsTree bytes P t done.insert_result.new_root (overwrite bytes pair pairs) tree
   pub leaf : HasOverwritten tree point pair done.insert_result

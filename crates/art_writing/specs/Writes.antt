@@ -61,4 +61,5 @@ pub record HasGap {K V : Type 0} (s : Nodes K V) (name : InnerPtr) (byte : ℕ) 
 -- a new leaf that comes between these children has these leaves beside it: it is right before the first leaf on the right, or right after the last one where there is none
 abbrev pub ComesBetween : {K V : Type 0} → Nodes K V → Children OpaqueNodePtr (K × V) → Children OpaqueNodePtr (K × V) → Option LeafPtr → Option LeafPtr → Type 0
 ComesBetween s left (child b t right) previous next = ComesBefore s t previous next
-ComesBetween {K} {V} s left no_child previous next = (others : Children OpaqueNodePtr (K × V)) × (b : ℕ) × (t : Tree OpaqueNodePtr (K × V)) × (left ≡ join others (child b t no_child)) × ComesAfter s t previous next
+ComesBetween {K} {V} s left no_child previous next =
+    (others : Children OpaqueNodePtr (K × V)) × (b : ℕ) × (t : Tree OpaqueNodePtr (K × V)) × (left ≡ join others (child b t no_child)) × ComesAfter s t previous next

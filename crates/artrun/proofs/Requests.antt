@@ -15,7 +15,8 @@ at n line = get_or line n 0
 no_key : (key : KeyWord) (word : List ℕ) → word ≡ key.word.now → ¬ (IsKeyWord word) → ⊥
 no_key key word is none = ∥∥₁_elim key.is_key (λ x y. absurd x) (λ k. none (subst IsKeyWord (sym is) k))
 
-pub no_insert : (line words : List ℕ) → line ≡ codes "insert " ++ words → ((key : List ℕ) (value : ℕ) → IsKeyWord key → value < 2 ^ 32 → words ≢ key ++ 32 ∷ decimal value) → (request : Request) → HasSmallValue request → line ≢ line_of request
+pub no_insert : (line words : List ℕ) → line ≡ codes "insert " ++ words →
+    ((key : List ℕ) (value : ℕ) → IsKeyWord key → value < 2 ^ 32 → words ≢ key ++ 32 ∷ decimal value) → (request : Request) → HasSmallValue request → line ≢ line_of request
 no_insert line words is none (Insert key value) small same =
     ∥∥₁_elim key.is_key (λ x y. absurd x) (λ k. none key.word.now value k small (ap (drop 7) (sym is ∙ same)))
 no_insert line words is none (Prefix key value) small same = omega (arith, ap (at 0) (sym is ∙ same))
@@ -30,7 +31,8 @@ no_insert line words is none Back small same = omega (arith, ap (at 0) (sym is �
 no_insert line words is none Nodes small same = omega (arith, ap (at 0) (sym is ∙ same))
 no_insert line words is none Check small same = omega (arith, ap (at 0) (sym is ∙ same))
 
-pub no_prefix : (line words : List ℕ) → line ≡ codes "prefix " ++ words → ((key : List ℕ) (value : ℕ) → IsKeyWord key → value < 2 ^ 32 → words ≢ key ++ 32 ∷ decimal value) → (request : Request) → HasSmallValue request → line ≢ line_of request
+pub no_prefix : (line words : List ℕ) → line ≡ codes "prefix " ++ words →
+    ((key : List ℕ) (value : ℕ) → IsKeyWord key → value < 2 ^ 32 → words ≢ key ++ 32 ∷ decimal value) → (request : Request) → HasSmallValue request → line ≢ line_of request
 no_prefix line words is none (Insert key value) small same = omega (arith, ap (at 0) (sym is ∙ same))
 no_prefix line words is none (Prefix key value) small same =
     ∥∥₁_elim key.is_key (λ x y. absurd x) (λ k. none key.word.now value k small (ap (drop 7) (sym is ∙ same)))

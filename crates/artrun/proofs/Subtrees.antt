@@ -33,7 +33,8 @@ module _ {K V : Type 0} (s : Nodes K V) where
   abbrev pub IsLower : OpaqueNodePtr → OpaqueNodePtr → Type 0
   IsLower root name = IsTreeIn s name × (height_of name < height_of root)
 
-  lower_below : (root : OpaqueNodePtr) (cs : Children OpaqueNodePtr (K × V)) → HoldsBelow (node_at s) cs → AreDistinct (names_below cs) → height_below cs < height_of root → All (λ slot. IsLower root slot.1) (slots_of cs)
+  lower_below : (root : OpaqueNodePtr) (cs : Children OpaqueNodePtr (K × V)) → HoldsBelow (node_at s) cs → AreDistinct (names_below cs) →
+      height_below cs < height_of root → All (λ slot. IsLower root slot.1) (slots_of cs)
   lower_below root no_child holds distinct low = λ k d below. absurd (omega arith)
   lower_below root (child b t cs) holds distinct low =
       let is : IsLayout (node_at s) (name_of t) t = record { named = refl; holds = holds.0; distinct = Pairwise-left ◌≢◌ (names_of t) (names_below cs) distinct } in
@@ -67,7 +68,8 @@ module _ {K V : Type 0} (s : Nodes K V) where
   IsLower_prop : (root name : OpaqueNodePtr) → IsProp (IsLower root name)
   IsLower_prop root name = hlevel (∥∥₁_prop, le_prop)
 
-  pub children_are_lower : (p : InnerPtr) (root : OpaqueNodePtr) → p.kind ≢ Leaf → inner_name p ≡ root → IsTreeIn s root → (node : Inner) → Some node ≡ map.get s.inners p → All (λ slot. IsLower root slot.1) node.children
+  pub children_are_lower : (p : InnerPtr) (root : OpaqueNodePtr) → p.kind ≢ Leaf → inner_name p ≡ root → IsTreeIn s root → (node : Inner) →
+      Some node ≡ map.get s.inners p → All (λ slot. IsLower root slot.1) node.children
   children_are_lower p root proper is tree node there = λ k d below.
       ∥∥₁_elim tree (IsLower_prop root _) (λ found. (subst (Found root) (sym there) (inner_held p root proper is found.0 found.1)) k d below)
 

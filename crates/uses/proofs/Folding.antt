@@ -31,7 +31,8 @@ module _ {K V T Out : Type 0} (OfLeaf : T → LeafNode K V → Out → T → Typ
     joins_all_to (child b t cs) old new out holds (mid, first, folds, joins) =
         joins_to cs mid new first out (pairs_of t) holds.1 (folds_to t old mid first holds.0 folds) joins
 
-    joins_to : (cs : Children OpaqueNodePtr (K × V)) (old new : T) (so_far out : Out) (xs : List (K × V)) → HoldsBelow (node_at s) cs → IsOf xs so_far → Joins OfLeaf OfInner Combines s cs old so_far out new → IsOf (xs ++ pairs_below cs) out
+    joins_to : (cs : Children OpaqueNodePtr (K × V)) (old new : T) (so_far out : Out) (xs : List (K × V)) → HoldsBelow (node_at s) cs →
+        IsOf xs so_far → Joins OfLeaf OfInner Combines s cs old so_far out new → IsOf (xs ++ pairs_below cs) out
     joins_to no_child old new so_far out xs holds of (e, f) = subst (λ ys. IsOf ys out) (sym (append-nil xs)) (subst (IsOf xs) (sym e) of)
     joins_to (child b t cs) old new so_far out xs holds of (mid, own, next, folds, combines, joins) =
         let both = in_both mid so_far own next xs (pairs_of t) combines of (folds_to t old mid own holds.0 folds) in

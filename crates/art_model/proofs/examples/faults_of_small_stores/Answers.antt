@@ -21,15 +21,18 @@ use Rattle.art_model.proofs.examples.faults_of_small_stores.Goals as goal
 
 module _ (leaves : List (LeafPtr × LeafNode Key ℕ)) (inners : List (InnerPtr × Inner)) where
   -- what is seen of a leaf
-  shown_leaf : (slot : ℕ) → T (map.is_sorted leaf_cmp leaves) → node_at (store_of leaves inners) (leaf_at slot) ≡ option_map (seen Leaf) (option_map held_leaf (map.find leaf_cmp (leaf_in slot) leaves))
+  shown_leaf : (slot : ℕ) → T (map.is_sorted leaf_cmp leaves) →
+      node_at (store_of leaves inners) (leaf_at slot) ≡ option_map (seen Leaf) (option_map held_leaf (map.find leaf_cmp (leaf_in slot) leaves))
   shown_leaf slot sorted = ap (λ o. option_map (seen Leaf) (option_map held_leaf o)) (map.get-from_sorted leaf_cmp leaves (leaf_in slot) sorted)
 
   -- its links
-  shown_links : (slot : ℕ) → T (map.is_sorted leaf_cmp leaves) → links_at (store_of leaves inners) (leaf_at slot) ≡ option_and_then links_of (option_map held_leaf (map.find leaf_cmp (leaf_in slot) leaves))
+  shown_links : (slot : ℕ) → T (map.is_sorted leaf_cmp leaves) →
+      links_at (store_of leaves inners) (leaf_at slot) ≡ option_and_then links_of (option_map held_leaf (map.find leaf_cmp (leaf_in slot) leaves))
   shown_links slot sorted = ap (λ o. option_and_then links_of (option_map held_leaf o)) (map.get-from_sorted leaf_cmp leaves (leaf_in slot) sorted)
 
   -- what is seen of an inner node
-  shown_node : (slot : ℕ) → T (map.is_sorted inner_cmp inners) → node_at (store_of leaves inners) (node4 slot) ≡ option_map (seen Node4) (option_map held_inner (map.find inner_cmp (record { kind = Node4; slot = slot }) inners))
+  shown_node : (slot : ℕ) → T (map.is_sorted inner_cmp inners) →
+      node_at (store_of leaves inners) (node4 slot) ≡ option_map (seen Node4) (option_map held_inner (map.find inner_cmp (record { kind = Node4; slot = slot }) inners))
   shown_node slot sorted = ap (λ o. option_map (seen Node4) (option_map held_inner o)) (map.get-from_sorted inner_cmp inners (record { kind = Node4; slot = slot }) sorted)
 
 -- the root is reached on no step, at no bytes
@@ -37,7 +40,8 @@ abbrev at_root : (s : Nodes Key ℕ) (root : OpaqueNodePtr) → Reaches bytes_of
 at_root s root = record { steps = []; is_trail = tt; ends = refl; is_read = refl }
 
 -- a child of the root, which has an empty prefix, is reached at its byte
-abbrev at_child : (s : Nodes Key ℕ) (slots : List (ℕ × OpaqueNodePtr)) (b : ℕ) (name : OpaqueNodePtr) → node_at s (node4 0) ≡ Some (inner_node (of_length 0 []) slots) → child_at slots b ≡ Some name → Reaches bytes_of_pair 2 s (node4 0) (b ∷ []) name
+abbrev at_child : (s : Nodes Key ℕ) (slots : List (ℕ × OpaqueNodePtr)) (b : ℕ) (name : OpaqueNodePtr) →
+    node_at s (node4 0) ≡ Some (inner_node (of_length 0 []) slots) → child_at slots b ≡ Some name → Reaches bytes_of_pair 2 s (node4 0) (b ∷ []) name
 at_child s slots b name there has = record {
   steps = (b, name) ∷ [];
   is_trail = ((of_length 0 [], slots, there, has), tt);
@@ -123,5 +127,11 @@ returns-clause-stored c =
     let there = shown_node leaves (node4_over 0 4 (1 ∷ 2 ∷ []) slots ∷ []) 0 tt in
     let least = shown_leaf leaves (node4_over 0 4 (1 ∷ 2 ∷ []) slots ∷ []) 0 tt in
     let x : Key × ℕ = (1 ∷ 1 ∷ 1 ∷ 1 ∷ 5 ∷ [], 0) in
-    let part : List ℕ = 1 ∷ 1 ∷ 1 ∷ 1 ∷ [] in
-    (node4 0, h, slots, (at_root misstored (node4 0), there), omega arith, (part, (h, slots, there, inr (omega arith, (x, (leaf_at 0 ∷ [], ((h, 5, (6, leaf_at 1) ∷ [], there), tt), least), omega arith, refl))), refl, refl, λ same. absurd cc))
+    let part : List ℕ = 1 ∷ 1 ∷ 1 ∷ 1 ∷ [] in (
+      node4 0,
+      h,
+      slots,
+      (at_root misstored (node4 0), there),
+      omega arith,
+      (part, (h, slots, there, inr (omega arith, (x, (leaf_at 0 ∷ [], ((h, 5, (6, leaf_at 1) ∷ [], there), tt), least), omega arith, refl))), refl, refl, λ same. absurd cc),
+    )

@@ -18,11 +18,15 @@ pub returns-in-DeleteMax : goal.returns-in-DeleteMax
 returns-in-DeleteMax g c = rw c.in-DeleteMax.is (c.delete_max.ensures c.args.side.now c.args.other.now)
 
 pub returns-in-Contains : goal.returns-in-Contains
-returns-in-Contains g c = rw c.in-Contains.is (asked g.K.AsBytes.bytes g.row.P c.args.side.now c.args.other.now (λ tree answers sound. found_step g.K.AsBytes.bytes g.row.P c.args.side.now c.args.other.now tree answers sound)
+returns-in-Contains g c =
+    rw c.in-Contains.is (asked g.K.AsBytes.bytes g.row.P c.args.side.now c.args.other.now
+    (λ tree answers sound. found_step g.K.AsBytes.bytes g.row.P c.args.side.now c.args.other.now tree answers sound)
     (λ pairs tree is. (rw c.deref.ensures.value at (c.contains.ensures pairs tree is), refl)))
 
 pub returns-in-LongestMatch : goal.returns-in-LongestMatch
-returns-in-LongestMatch g c = rw c.in-LongestMatch.is (asked g.K.AsBytes.bytes g.row.P c.args.side.now c.args.other.now (λ tree answers sound. match_step g.K.AsBytes.bytes g.row.P c.args.side.now c.args.other.now tree answers sound)
+returns-in-LongestMatch g c =
+    rw c.in-LongestMatch.is (asked g.K.AsBytes.bytes g.row.P c.args.side.now c.args.other.now
+    (λ tree answers sound. match_step g.K.AsBytes.bytes g.row.P c.args.side.now c.args.other.now tree answers sound)
     (λ pairs tree is. (rw c.deref-in-LongestMatch.ensures.value at (c.longest_match.ensures pairs tree is), refl)))
 
 pub returns-in-Clone : goal.returns-in-Clone

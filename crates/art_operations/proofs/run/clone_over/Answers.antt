@@ -7,7 +7,9 @@ use Rattle.art_operations.proofs.GoneOver.{nothing_cloned, over_step, uncloned_s
 use Rattle.art_operations.proofs.run.clone_over.Goals as goal
 
 pub returns-in_default : goal.returns-in_default
-returns-in_default g c = rw c.in_default.is (from_none g.K.AsBytes.bytes g.row.P c.args.side.now c.args.other.now refl (_, refl, nothing_cloned g.K.AsBytes.bytes g.row.P g.K.Clone.is_clone g.V.Clone.is_clone c.args.side.now))
+returns-in_default g c =
+    rw c.in_default.is (from_none g.K.AsBytes.bytes g.row.P c.args.side.now c.args.other.now refl
+    (_, refl, nothing_cloned g.K.AsBytes.bytes g.row.P g.K.Clone.is_clone g.V.Clone.is_clone c.args.side.now))
 
 pub clone_unchecked-requires : goal.clone_unchecked-requires
 clone_unchecked-requires g c =
@@ -31,4 +33,5 @@ returns-in-Ok g c = any_from_root g.K.AsBytes.bytes g.row.P c.args.side.now _ c.
 
 pub returns-in-Err : goal.returns-in-Err
 returns-in-Err g c = any_from_root g.K.AsBytes.bytes g.row.P c.args.side.now _ c.in-Some.is (λ layout by.
-    rw c.in-Some.is (uncloned_step g.K.AsBytes.bytes g.row.P g.K.Clone.is_clone g.V.Clone.is_clone c.args.side.now by c.args.other.now c.clone_unchecked.new.into (c.in-Err.ensures.leaves, c.in-Err.ensures.inners) c.in-Err.ensures.lessened))
+    rw c.in-Some.is (uncloned_step g.K.AsBytes.bytes g.row.P g.K.Clone.is_clone g.V.Clone.is_clone c.args.side.now by c.args.other.now
+    c.clone_unchecked.new.into (c.in-Err.ensures.leaves, c.in-Err.ensures.inners) c.in-Err.ensures.lessened))

@@ -15,8 +15,11 @@ returns-in-Ok g c side second command deletion =
     from_root bytes g.row.P side second refl (λ layout by.
     let (x, leads, takes) = deletion (pairs_of layout) layout by in
     let leaf = deleted_pair bytes g.row.P c.in-Ok.done.deleted_leaf by leads c.in-Ok.ensures.deleted in
-    subst (λ pair. StepFrom bytes g.row.P (IsPairClone g.K.Clone.is_clone g.V.Clone.is_clone) side c.args.store.now c.apply.new.store second (Some layout) command (Deleted (Some pair)) c.in-Ok.done.new_root) (sym leaf) (deleted_step bytes g.row.P by second leads takes (record {
-      canonical = subst (λ pair. IsCanonical (of_key bytes) g.row.P c.apply.new.store c.in-Ok.done.new_root (remove_key (of_key bytes) (bytes pair.0) (pairs_of layout))) leaf (c.in-Ok.ensures.canonical (pairs_of layout) layout by);
+    subst (λ pair. StepFrom bytes g.row.P (IsPairClone g.K.Clone.is_clone g.V.Clone.is_clone) side c.args.store.now c.apply.new.store second
+    (Some layout) command (Deleted (Some pair)) c.in-Ok.done.new_root) (sym leaf) (deleted_step bytes g.row.P by second leads takes (record {
+      canonical =
+          subst (λ pair. IsCanonical (of_key bytes) g.row.P c.apply.new.store c.in-Ok.done.new_root
+          (remove_key (of_key bytes) (bytes pair.0) (pairs_of layout))) leaf (c.in-Ok.ensures.canonical (pairs_of layout) layout by);
       kept = c.in-Ok.ensures.kept (pairs_of layout) layout by;
       touches = c.in-Ok.ensures.touches;
       promise = c.in-Ok.ensures.promise;
@@ -27,7 +30,8 @@ returns-in-Err g c side second command deletion =
     let bytes = g.K.AsBytes.bytes in
     from_root bytes g.row.P side second refl (λ layout by.
     let (x, leads, takes) = deletion (pairs_of layout) layout by in
-    subst (λ after. StepFrom bytes g.row.P (IsPairClone g.K.Clone.is_clone g.V.Clone.is_clone) side c.args.store.now c.apply.new.store second (Some layout) command (NoMemory None) after) (sym c.requires.root) (kept_step bytes g.row.P by second leads takes (record {
+    subst (λ after. StepFrom bytes g.row.P (IsPairClone g.K.Clone.is_clone g.V.Clone.is_clone) side c.args.store.now c.apply.new.store second
+    (Some layout) command (NoMemory None) after) (sym c.requires.root) (kept_step bytes g.row.P by second leads takes (record {
       same = (c.in-Err.ensures.leaves, c.in-Err.ensures.inners);
       void = c.in-Err.ensures.void;
       uncovered = λ covered. absurd (false≢true (c.in-Err.ensures.succeeds covered));

@@ -18,7 +18,8 @@ returns-in-Ok g c side second =
 pub returns-in-Err : goal.returns-in-Err
 returns-in-Err g c side second =
     let (root, same) = c.in-Err.ensures.refused in
-    rw root (from_none g.K.AsBytes.bytes g.row.P side second c.in_default.is (unplanted_step g.K.AsBytes.bytes g.row.P second c.in_default.is same c.in-Err.ensures.handed_back (λ promised. absurd (false≢true (c.in-Err.ensures.succeeds promised)))))
+    rw root (from_none g.K.AsBytes.bytes g.row.P side second c.in_default.is
+    (unplanted_step g.K.AsBytes.bytes g.row.P second c.in_default.is same c.in-Err.ensures.handed_back (λ promised. absurd (false≢true (c.in-Err.ensures.succeeds promised)))))
 
 pub returns-in-Err-Prefix : goal.returns-in-Err-Prefix
 returns-in-Err-Prefix g c side second =
@@ -26,7 +27,8 @@ returns-in-Err-Prefix g c side second =
     from_kept_root bytes g.row.P side second c.in-Some.is (λ layout by.
     let accepted = c.in-Err-Prefix.ensures.accepted (pairs_of layout) layout by in
     let related = not_false (is_conflict (of_key bytes) c.as_bytes.result.now (pairs_of layout)) (λ free. absurd (false≢true (accepted.1 free))) in
-    conflict_step bytes g.row.P by second (subst (λ key. is_conflict (of_key bytes) key (pairs_of layout) ≡ true) c.as_bytes.ensures related) c.in-Err-Prefix.error ((rw c.in-Err-Prefix.field-0-is at c.in-Err-Prefix.ensures.refused) ∙ c.as_bytes.ensures))
+    conflict_step bytes g.row.P by second (subst (λ key. is_conflict (of_key bytes) key (pairs_of layout) ≡ true) c.as_bytes.ensures related)
+    c.in-Err-Prefix.error ((rw c.in-Err-Prefix.field-0-is at c.in-Err-Prefix.ensures.refused) ∙ c.as_bytes.ensures))
 
 pub returns-in-Err-Memory : goal.returns-in-Err-Memory
 returns-in-Err-Memory g c side second =
@@ -38,14 +40,19 @@ returns-in-Err-Memory g c side second =
 
 pub apply-requires : goal.apply-requires
 apply-requires g c =
-    let (layout, by) = (rw c.in-Some.is at c.requires.1) in
-    (search rules, is_point g.K.AsBytes.bytes g.row.P by (subst (λ key. AnswersTo (of_key g.K.AsBytes.bytes) g.row.P layout key c.in-Ok-search_for_insert_point.point) c.as_bytes.ensures (c.in-Ok-search_for_insert_point.ensures.point c.requires.0 layout by)))
+    let (layout, by) = (rw c.in-Some.is at c.requires.1) in (
+      search rules,
+      is_point g.K.AsBytes.bytes g.row.P by (subst
+          (λ key. AnswersTo (of_key g.K.AsBytes.bytes) g.row.P layout key c.in-Ok-search_for_insert_point.point) c.as_bytes.ensures
+          (c.in-Ok-search_for_insert_point.ensures.point c.requires.0 layout by)),
+    )
 
 pub returns-in-Ok-apply : goal.returns-in-Ok-apply
 returns-in-Ok-apply g c side second =
     let bytes = g.K.AsBytes.bytes in
     from_root bytes g.row.P side second c.in-Some.is (λ layout by.
-    let at = subst (λ key. AnswersTo (of_key bytes) g.row.P layout key c.in-Ok-search_for_insert_point.point) c.as_bytes.ensures (c.in-Ok-search_for_insert_point.ensures.point (pairs_of layout) layout by) in
+    let at = subst (λ key. AnswersTo (of_key bytes) g.row.P layout key c.in-Ok-search_for_insert_point.point) c.as_bytes.ensures
+    (c.in-Ok-search_for_insert_point.ensures.point (pairs_of layout) layout by) in
     let free = subst (λ key. is_conflict (of_key bytes) key (pairs_of layout) ≡ false) c.as_bytes.ensures ((c.in-Ok-search_for_insert_point.ensures.accepted (pairs_of layout) layout by).0 refl) in
     let here = at_root bytes g.row.P by at.root_is in
     let reply : c.map.result ≡ option_map pair_of c.in-Ok-apply.done.existing_leaf = search rules in
@@ -61,7 +68,8 @@ pub returns-in-Err-apply : goal.returns-in-Err-apply
 returns-in-Err-apply g c side second =
     let bytes = g.K.AsBytes.bytes in
     from_kept_root bytes g.row.P side second c.in-Some.is (λ layout by.
-    let at = subst (λ key. AnswersTo (of_key bytes) g.row.P layout key c.in-Ok-search_for_insert_point.point) c.as_bytes.ensures (c.in-Ok-search_for_insert_point.ensures.point (pairs_of layout) layout by) in
+    let at = subst (λ key. AnswersTo (of_key bytes) g.row.P layout key c.in-Ok-search_for_insert_point.point) c.as_bytes.ensures
+    (c.in-Ok-search_for_insert_point.ensures.point (pairs_of layout) layout by) in
     let free = subst (λ key. is_conflict (of_key bytes) key (pairs_of layout) ≡ false) c.as_bytes.ensures ((c.in-Ok-search_for_insert_point.ensures.accepted (pairs_of layout) layout by).0 refl) in
     refused_step bytes g.row.P by second free at c.in-Err-apply.ensures.byte_left (ap₂ (λ a b. (a, b)) c.in-Err-apply.ensures.handed_back.0 c.in-Err-apply.ensures.handed_back.1) (record {
       same = (c.in-Err-apply.ensures.leaves, c.in-Err-apply.ensures.inners);

@@ -19,7 +19,8 @@ returns-in-Ok g c side second =
 pub returns-in-Err : goal.returns-in-Err
 returns-in-Err g c side second =
     let (root, same) = c.in-Err.ensures.refused in
-    rw root (from_none g.K.AsBytes.bytes g.row.P side second c.in_default.is (unplanted_prefix_step g.K.AsBytes.bytes g.row.P second c.in_default.is same c.in-Err.ensures.handed_back (λ promised. absurd (false≢true (c.in-Err.ensures.succeeds promised)))))
+    rw root (from_none g.K.AsBytes.bytes g.row.P side second c.in_default.is
+    (unplanted_prefix_step g.K.AsBytes.bytes g.row.P second c.in_default.is same c.in-Err.ensures.handed_back (λ promised. absurd (false≢true (c.in-Err.ensures.succeeds promised)))))
 
 pub returns-in-Ok-apply : goal.returns-in-Ok-apply
 returns-in-Ok-apply g c side second =

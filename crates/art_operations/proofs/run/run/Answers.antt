@@ -19,8 +19,14 @@ returns-clause-run g c =
 
 pub answer_next-reply-requires : goal.answer_next-reply-requires
 answer_next-reply-requires g c =
-    let run = c.loop-command.invariant.run in
-    (search rules, (on_canonical g.K.AsBytes.bytes g.row.PREFIX_LEN c.loop-command.side c.loop-command.first c.loop-command.second c.loop-command.root run.end run.ends run.end_sound, c.requires.clones))
+    let run = c.loop-command.invariant.run in (
+      search rules,
+      (
+        on_canonical g.K.AsBytes.bytes g.row.PREFIX_LEN c.loop-command.side c.loop-command.first c.loop-command.second c.loop-command.root
+            run.end run.ends run.end_sound,
+        c.requires.clones,
+      ),
+    )
 
 pub loop-command-preserved : goal.loop-command-preserved
 loop-command-preserved g c =

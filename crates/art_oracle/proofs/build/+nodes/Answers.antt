@@ -53,10 +53,14 @@ build_below-build_below-requires g t c κs within =
     let rest : length others + n ≡ length c.args.leaves.now = c.split_at.ensures.back_len in
     let next = with_child c.byte_of-byte.result c.in_ok-child.child node in
     let ready' : ReadyBelow bytes written.leaves front others c.args.at = rw (c.write_child.ensures.leaves, c.in_ok-child.ensures.leaves, c.split_at.ensures.back) (others_ready G) in
-    let low : AreBelow bytes written.leaves others c.args.at next = rw (c.write_child.ensures.leaves, c.in_ok-child.ensures.leaves, c.split_at.ensures.back) (below_others G node below c.in_ok-child.child) in
-    let now = parent_written c.args.store.now c.build_node.new.store written c.args.parent (with_child c.byte_of-byte.result c.in_ok-child.child) node c.requires.inner there c.in_ok-child.ensures.kept c.write_child.ensures.leaves c.write_child.ensures.inners in
+    let low : AreBelow bytes written.leaves others c.args.at next =
+    rw (c.write_child.ensures.leaves, c.in_ok-child.ensures.leaves, c.split_at.ensures.back) (below_others G node below c.in_ok-child.child) in
+    let now =
+    parent_written c.args.store.now c.build_node.new.store written c.args.parent (with_child c.byte_of-byte.result c.in_ok-child.child) node
+    c.requires.inner there c.in_ok-child.ensures.kept c.write_child.ensures.leaves c.write_child.ensures.inners in
     let more : length next.children ≡ length node.children + 1 = length-drafted G node below c.in_ok-child.child in
-    let fewer : count_groups bytes c.args.store.now.leaves c.args.leaves.now c.args.at ≡ 1 + count_groups bytes written.leaves others c.args.at = rw (c.write_child.ensures.leaves, c.in_ok-child.ensures.leaves, c.split_at.ensures.back) (count_split G ∙ omega arith) in
+    let fewer : count_groups bytes c.args.store.now.leaves c.args.leaves.now c.args.at ≡ 1 + count_groups bytes written.leaves others c.args.at =
+    rw (c.write_child.ensures.leaves, c.in_ok-child.ensures.leaves, c.split_at.ensures.back) (count_split G ∙ omega arith) in
     (omega (arith, c.decreases), (within.0, (within.1, (search rules, (search rules, ((front, ready'), ((next, now, low, omega (arith, place)), c.requires.inner)))))))
 
 pub build_below-returns-clause-built : goal.build_below-returns-clause-built
@@ -71,21 +75,35 @@ build_below-returns-clause-built g t c front node ready there below =
     let byte = c.byte_of-byte.result in
     let long : 0 < length c.args.leaves.now = grind (arith, common_steps) in
     let G = grouped ready c.group_end.ensures (record { slot = 0 }) long (sym c.byte_of-byte.ensures.byte) in
-    let first : Built bytes g.row.P (front ++ byte ∷ []) (take n leaves) old mid c.in_ok-child.child = subst (λ l. Built bytes g.row.P (front ++ byte ∷ []) l old mid c.in_ok-child.child) c.split_at.ensures.front
+    let first : Built bytes g.row.P (front ++ byte ∷ []) (take n leaves) old mid c.in_ok-child.child =
+    subst (λ l. Built bytes g.row.P (front ++ byte ∷ []) l old mid c.in_ok-child.child) c.split_at.ensures.front
     (c.in_ok-child.ensures.built (front ++ byte ∷ []) (subst (λ l. Ready bytes old.leaves (front ++ byte ∷ []) l (c.args.at + 1)) (sym c.split_at.ensures.front) (group_ready G))) in
     let next : ReadyBelow bytes written.leaves front c.split_at.result.1.now c.args.at = rw (c.write_child.ensures.leaves, c.in_ok-child.ensures.leaves, c.split_at.ensures.back) (others_ready G) in
-    let low : AreBelow bytes written.leaves c.split_at.result.1.now c.args.at (with_child byte c.in_ok-child.child node) = rw (c.write_child.ensures.leaves, c.in_ok-child.ensures.leaves, c.split_at.ensures.back) (below_others G node below c.in_ok-child.child) in
-    let now = parent_written old mid written c.args.parent (with_child byte c.in_ok-child.child) node c.requires.inner there c.in_ok-child.ensures.kept c.write_child.ensures.leaves c.write_child.ensures.inners in
-    let rest : BuiltUnder bytes g.row.P front (drop n leaves) written new c.args.parent (with_child byte c.in_ok-child.child node) = subst (λ l. BuiltUnder bytes g.row.P front l written new c.args.parent (with_child byte c.in_ok-child.child node)) c.split_at.ensures.back (c.in_ok-build_below.ensures.built front (with_child byte c.in_ok-child.child node) next now low) in
-    record { to = rest.to; there = rest.there; below = compose g.row.P old mid written new G c.in_ok-child.child c.args.parent node rest.to c.requires.inner there below c.in_ok-child.ensures.kept c.in_ok-child.ensures.leaves c.write_child.ensures.leaves c.write_child.ensures.inners c.in_ok-build_below.ensures.kept first rest.below }
+    let low : AreBelow bytes written.leaves c.split_at.result.1.now c.args.at (with_child byte c.in_ok-child.child node) =
+    rw (c.write_child.ensures.leaves, c.in_ok-child.ensures.leaves, c.split_at.ensures.back) (below_others G node below c.in_ok-child.child) in
+    let now =
+    parent_written old mid written c.args.parent (with_child byte c.in_ok-child.child) node c.requires.inner there c.in_ok-child.ensures.kept
+    c.write_child.ensures.leaves c.write_child.ensures.inners in
+    let rest : BuiltUnder bytes g.row.P front (drop n leaves) written new c.args.parent (with_child byte c.in_ok-child.child node) =
+    subst (λ l. BuiltUnder bytes g.row.P front l written new c.args.parent (with_child byte c.in_ok-child.child node)) c.split_at.ensures.back
+    (c.in_ok-build_below.ensures.built front (with_child byte c.in_ok-child.child node) next now low) in
+    record {
+      to = rest.to;
+      there = rest.there;
+      below = compose g.row.P old mid written new G c.in_ok-child.child c.args.parent node rest.to
+          c.requires.inner there below c.in_ok-child.ensures.kept c.in_ok-child.ensures.leaves c.write_child.ensures.leaves c.write_child.ensures.inners
+          c.in_ok-build_below.ensures.kept first rest.below;
+    }
 
 pub build_below-returns-clause-kept : goal.build_below-returns-clause-kept
 build_below-returns-clause-kept g t c =
     let (node, there, below, place) = c.requires.parent in
-    others_kept c.args.store.now c.build_node.new.store c.write_child.new.self c.args.parent (with_child c.byte_of-byte.result c.in_ok-child.child) node c.requires.inner there c.in_ok-child.ensures.kept c.write_child.ensures.leaves c.write_child.ensures.inners c.build_below.new.store c.in_ok-build_below.ensures.kept
+    others_kept c.args.store.now c.build_node.new.store c.write_child.new.self c.args.parent (with_child c.byte_of-byte.result c.in_ok-child.child)
+    node c.requires.inner there c.in_ok-child.ensures.kept c.write_child.ensures.leaves c.write_child.ensures.inners c.build_below.new.store c.in_ok-build_below.ensures.kept
 
 pub build_node-returns-then-leaves-eq1-clause-built : goal.build_node-returns-then-leaves-eq1-clause-built
-build_node-returns-then-leaves-eq1-clause-built g t c way ready = leaf_built g.K.AsBytes.bytes g.row.P c.args.store.now way c.args.leaves.now c.args.depth (record { slot = 0 }) c.to_opaque.result ready c.if-leaves-eq1.true c.to_opaque.ensures
+build_node-returns-then-leaves-eq1-clause-built g t c way ready =
+    leaf_built g.K.AsBytes.bytes g.row.P c.args.store.now way c.args.leaves.now c.args.depth (record { slot = 0 }) c.to_opaque.result ready c.if-leaves-eq1.true c.to_opaque.ensures
 
 pub build_node-build_below-requires : goal.build_node-build_below-requires
 build_node-build_below-requires g t c κs within =
@@ -107,8 +125,22 @@ build_node-build_below-requires g t c κs within =
     let two_at : 2 ≤ n = subst (λ m. 2 ≤ count_groups bytes old.leaves leaves m) s.below.depth_is two in
     let count : count_groups bytes mid.leaves leaves at ≡ n = ap (λ m. count_groups bytes m leaves at) same in
     let none : length node.children ≡ 0 = ap (λ d. length d.children) s.node_is in
-    let deeper = s.at_is in
-    (omega (arith, c.decreases, deeper), (within.0, (within.1, (search rules, (search rules, ((way ++ s.part, ready'), ((node, there, low, omega (arith, c.in_ok-at.ensures.capacity)), (λ e. kind_not_leaf n (sym c.in_ok-at.ensures.kind ∙ e)))))))))
+    let deeper = s.at_is in (
+      omega (arith, c.decreases, deeper),
+      (
+        within.0,
+        (
+          within.1,
+          (
+            search rules,
+            (
+              search rules,
+              ((way ++ s.part, ready'), ((node, there, low, omega (arith, c.in_ok-at.ensures.capacity)), (λ e. kind_not_leaf n (sym c.in_ok-at.ensures.kind ∙ e)))),
+            ),
+          ),
+        ),
+      ),
+    )
 
 pub build_node-returns-clause-built : goal.build_node-returns-clause-built
 build_node-returns-clause-built g t c way ready =
@@ -125,9 +157,12 @@ build_node-returns-clause-built g t c way ready =
     let there : finite.get mid.inners name ≡ Some node = ap (λ m. finite.get m name) placed ∙ inner_here old.inners name node in
     let low : AreBelow bytes mid.leaves leaves at node = rw s.node_is tt in
     let ready' : ReadyBelow bytes mid.leaves (way ++ s.part) leaves at = rw same s.below in
-    let kind : name.kind ≡ kind_of (count_groups bytes old.leaves leaves (length (way ++ s.part))) = c.in_ok-at.ensures.kind ∙ ap (λ m. kind_of (count_groups bytes old.leaves leaves m)) (sym s.below.depth_is) in
-    let b : BuiltUnder bytes g.row.P (way ++ s.part) leaves mid c.build_below.new.store name (started g.row.P s.part) = subst (λ d. BuiltUnder bytes g.row.P (way ++ s.part) leaves mid c.build_below.new.store name d) s.node_is (c.in_ok-build_below.ensures.built (way ++ s.part) node ready' there low) in
-    rw c.to_opaque-2.ensures (node_built bytes g.row.P old mid c.build_below.new.store way s.part leaves name same (placed ∙ ap (finite.insert old.inners name) s.node_is) c.in_ok-at.ensures.fresh kind two c.in_ok-build_below.ensures.kept b)
+    let kind : name.kind ≡ kind_of (count_groups bytes old.leaves leaves (length (way ++ s.part))) =
+    c.in_ok-at.ensures.kind ∙ ap (λ m. kind_of (count_groups bytes old.leaves leaves m)) (sym s.below.depth_is) in
+    let b : BuiltUnder bytes g.row.P (way ++ s.part) leaves mid c.build_below.new.store name (started g.row.P s.part) =
+    subst (λ d. BuiltUnder bytes g.row.P (way ++ s.part) leaves mid c.build_below.new.store name d) s.node_is (c.in_ok-build_below.ensures.built (way ++ s.part) node ready' there low) in
+    rw c.to_opaque-2.ensures (node_built bytes g.row.P old mid c.build_below.new.store way s.part leaves name same
+    (placed ∙ ap (finite.insert old.inners name) s.node_is) c.in_ok-at.ensures.fresh kind two c.in_ok-build_below.ensures.kept b)
 
 pub build_node-returns-clause-kept : goal.build_node-returns-clause-kept
 build_node-returns-clause-kept g t c =
@@ -145,6 +180,9 @@ build_node-returns-clause-kept g t c =
     let there : finite.get mid.inners name ≡ Some node = ap (λ m. finite.get m name) placed ∙ inner_here old.inners name node in
     let low : AreBelow bytes mid.leaves leaves at node = rw s.node_is tt in
     let ready' : ReadyBelow bytes mid.leaves (way ++ s.part) leaves at = rw same s.below in
-    let kind : name.kind ≡ kind_of (count_groups bytes old.leaves leaves (length (way ++ s.part))) = c.in_ok-at.ensures.kind ∙ ap (λ m. kind_of (count_groups bytes old.leaves leaves m)) (sym s.below.depth_is) in
-    let b : BuiltUnder bytes g.row.P (way ++ s.part) leaves mid c.build_below.new.store name (started g.row.P s.part) = subst (λ d. BuiltUnder bytes g.row.P (way ++ s.part) leaves mid c.build_below.new.store name d) s.node_is (c.in_ok-build_below.ensures.built (way ++ s.part) node ready' there low) in
-    node_kept bytes g.row.P old mid c.build_below.new.store way s.part leaves name same (placed ∙ ap (finite.insert old.inners name) s.node_is) c.in_ok-at.ensures.fresh kind two c.in_ok-build_below.ensures.kept b
+    let kind : name.kind ≡ kind_of (count_groups bytes old.leaves leaves (length (way ++ s.part))) =
+    c.in_ok-at.ensures.kind ∙ ap (λ m. kind_of (count_groups bytes old.leaves leaves m)) (sym s.below.depth_is) in
+    let b : BuiltUnder bytes g.row.P (way ++ s.part) leaves mid c.build_below.new.store name (started g.row.P s.part) =
+    subst (λ d. BuiltUnder bytes g.row.P (way ++ s.part) leaves mid c.build_below.new.store name d) s.node_is (c.in_ok-build_below.ensures.built (way ++ s.part) node ready' there low) in
+    node_kept bytes g.row.P old mid c.build_below.new.store way s.part leaves name same (placed ∙ ap (finite.insert old.inners name) s.node_is)
+    c.in_ok-at.ensures.fresh kind two c.in_ok-build_below.ensures.kept b

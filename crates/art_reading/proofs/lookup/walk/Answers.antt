@@ -19,7 +19,8 @@ pub returns-in_err-matched-clause-ends :
 returns-in_err-matched-clause-ends g c pairs layout by =
     let d = c.down.invariant.on_way pairs layout by in
     let at = shown_there by d c.in-Inner.ensures.proper c.in-Inner.ensures.name c.in-Some-inner.ensures.view in
-    rw c.from_residual.ensures (stops_off by d at c.down.invariant.short c.add_one.ensures (read c.header-header.ensures c.prefix_len.ensures c.read_prefix.ensures.stored (take_rest c.args.key_bytes.now c.down.depth)) c.match_stored.ensures.outcome c.in_err-matched.ensures.value)
+    rw c.from_residual.ensures (stops_off by d at c.down.invariant.short c.add_one.ensures
+    (read c.header-header.ensures c.prefix_len.ensures c.read_prefix.ensures.stored (take_rest c.args.key_bytes.now c.down.depth)) c.match_stored.ensures.outcome c.in_err-matched.ensures.value)
 
 pub unreachable-requires-in_default-inner : goal.unreachable-requires-in_default-inner
 unreachable-requires-in_default-inner g c =
@@ -30,14 +31,17 @@ pub returns-then-depth-key_bytes-clause-ends : goal.returns-then-depth-key_bytes
 returns-then-depth-key_bytes-clause-ends g c pairs layout by =
     let d = c.down.invariant.on_way pairs layout by in
     let at = shown_there by d c.in-Inner.ensures.proper c.in-Inner.ensures.name c.in-Some-inner.ensures.view in
-    stops_end by d at c.down.invariant.short c.add_one.ensures (read c.header-header.ensures c.prefix_len.ensures c.read_prefix.ensures.stored (take_rest c.args.key_bytes.now c.down.depth)) c.match_stored.ensures.outcome c.in_ok-matched.ensures.value c.if-depth-key_bytes.true
+    stops_end by d at c.down.invariant.short c.add_one.ensures (read c.header-header.ensures c.prefix_len.ensures c.read_prefix.ensures.stored
+    (take_rest c.args.key_bytes.now c.down.depth)) c.match_stored.ensures.outcome c.in_ok-matched.ensures.value c.if-depth-key_bytes.true
 
 pub returns-in_err-name-clause-ends :
     goal.returns-in_err-name-clause-ends
 returns-in_err-name-clause-ends g c pairs layout by =
     let d = c.down.invariant.on_way pairs layout by in
     let at = shown_there by d c.in-Inner.ensures.proper c.in-Inner.ensures.name c.in-Some-inner.ensures.view in
-    rw c.from_residual-in_err-name.ensures (stops_childless by d at c.down.invariant.short c.add_one.ensures (read c.header-header.ensures c.prefix_len.ensures c.read_prefix.ensures.stored (take_rest c.args.key_bytes.now c.down.depth)) c.match_stored.ensures.outcome c.in_ok-matched.ensures.value c.in_err-name.ensures)
+    rw c.from_residual-in_err-name.ensures (stops_childless by d at c.down.invariant.short c.add_one.ensures
+    (read c.header-header.ensures c.prefix_len.ensures c.read_prefix.ensures.stored (take_rest c.args.key_bytes.now c.down.depth))
+    c.match_stored.ensures.outcome c.in_ok-matched.ensures.value c.in_err-name.ensures)
 
 pub down-preserved : goal.down-preserved
 down-preserved g c = record {
@@ -46,5 +50,7 @@ down-preserved g c = record {
   on_way = λ pairs layout by.
       let d = c.down.invariant.on_way pairs layout by in
       let at = shown_there by d c.in-Inner.ensures.proper c.in-Inner.ensures.name c.in-Some-inner.ensures.view in
-      rw c.step_down-path.ensures (steps by d at c.down.invariant.short c.add_one.ensures (read c.header-header.ensures c.prefix_len.ensures c.read_prefix.ensures.stored (take_rest c.args.key_bytes.now c.down.depth)) c.match_stored.ensures.outcome c.in_ok-matched.ensures.value c.match_stored.ensures.behavior c.if-depth-key_bytes.false c.in_ok-name.ensures);
+      rw c.step_down-path.ensures (steps by d at c.down.invariant.short c.add_one.ensures
+      (read c.header-header.ensures c.prefix_len.ensures c.read_prefix.ensures.stored (take_rest c.args.key_bytes.now c.down.depth))
+      c.match_stored.ensures.outcome c.in_ok-matched.ensures.value c.match_stored.ensures.behavior c.if-depth-key_bytes.false c.in_ok-name.ensures);
 }

@@ -8,7 +8,8 @@ abbrev pub invariant-down : goal.invariant-down
 invariant-down g l = record {
   short : l.depth ≤ length l.key_bytes;
   few : l.visits ≤ l.fn.visits + l.depth;
-  on_way : ForTree (of_key g.K.AsBytes.bytes) g.row.PREFIX_LEN l.store l.fn.root (λ pairs layout. IsOnWay (of_key g.K.AsBytes.bytes) g.row.PREFIX_LEN l.key_bytes layout l.path l.name l.depth l.behavior l.fn.visits l.visits);
+  on_way : ForTree (of_key g.K.AsBytes.bytes) g.row.PREFIX_LEN l.store l.fn.root
+      (λ pairs layout. IsOnWay (of_key g.K.AsBytes.bytes) g.row.PREFIX_LEN l.key_bytes layout l.path l.name l.depth l.behavior l.fn.visits l.visits);
 }
 
 abbrev pub decreases-down : goal.decreases-down

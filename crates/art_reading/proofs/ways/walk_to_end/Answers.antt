@@ -17,16 +17,31 @@ unreachable-requires g c =
 pub child_at_end-byte-requires : goal.child_at_end-byte-requires
 child_at_end-byte-requires g c =
     let (layout, full) = c.requires in
-    let d = c.down.invariant layout full in
-    (search rules, (search rules, (search rules, (search rules, edge_some (IsAlong c.args.end c.down.path) c.args.store.now layout d (edge_shown (IsAlong c.args.end c.down.path) c.args.store.now layout d c.in-Inner.ensures.proper c.in-Inner.ensures.name c.in-Some.ensures.view)))))
+    let d = c.down.invariant layout full in (
+      search rules,
+      (
+        search rules,
+        (
+          search rules,
+          (
+            search rules,
+            edge_some (IsAlong c.args.end c.down.path) c.args.store.now layout d
+                (edge_shown (IsAlong c.args.end c.down.path) c.args.store.now layout d c.in-Inner.ensures.proper c.in-Inner.ensures.name c.in-Some.ensures.view),
+          ),
+        ),
+      ),
+    )
 
 pub down-smaller : goal.down-smaller
 down-smaller g c =
     let (layout, full) = c.requires in
     let d = c.down.invariant layout full in
-    (steps c.down.path c.args.end d (edge_shown (IsAlong c.args.end c.down.path) c.args.store.now layout d c.in-Inner.ensures.proper c.in-Inner.ensures.name c.in-Some.ensures.view) c.child_at_end-byte.result c.child_at_end-byte.ensures).1
+    (steps c.down.path c.args.end d (edge_shown (IsAlong c.args.end c.down.path) c.args.store.now layout d c.in-Inner.ensures.proper
+    c.in-Inner.ensures.name c.in-Some.ensures.view) c.child_at_end-byte.result c.child_at_end-byte.ensures).1
 
 pub down-preserved : goal.down-preserved
 down-preserved g c layout full =
     let d = c.down.invariant layout full in
-    rw c.step_down-path.ensures (steps c.down.path c.args.end d (edge_shown (IsAlong c.args.end c.down.path) c.args.store.now layout d c.in-Inner.ensures.proper c.in-Inner.ensures.name c.in-Some.ensures.view) c.child_at_end-byte.result c.child_at_end-byte.ensures).0
+    rw c.step_down-path.ensures (steps c.down.path c.args.end d
+    (edge_shown (IsAlong c.args.end c.down.path) c.args.store.now layout d c.in-Inner.ensures.proper c.in-Inner.ensures.name
+    c.in-Some.ensures.view) c.child_at_end-byte.result c.child_at_end-byte.ensures).0

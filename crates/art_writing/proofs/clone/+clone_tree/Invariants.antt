@@ -14,5 +14,6 @@ decreases-clone_tree g l = height (node_at l.store.now) (map.len l.store.now.inn
 
 abbrev pub invariant-loop-byte : goal.invariant-loop-byte
 invariant-loop-byte g l =
-    ((tree : Tree OpaqueNodePtr (g.row.K.Denot × g.row.V.Denot)) → IsFullTree l.store l.fn.root tree → IsCloning (IsPairClone g.K.Clone.is_clone g.V.Clone.is_clone) l.store tree l.fn.into l.into l.parent l.byte-iterator l.min_leaf l.max_leaf)
+    ((tree : Tree OpaqueNodePtr (g.row.K.Denot × g.row.V.Denot)) → IsFullTree l.store l.fn.root tree →
+    IsCloning (IsPairClone g.K.Clone.is_clone g.V.Clone.is_clone) l.store tree l.fn.into l.into l.parent l.byte-iterator l.min_leaf l.max_leaf)
     × IsLessened l.fn.into.promise l.into.promise

@@ -14,25 +14,29 @@ clone_tree-requires g c =
 
 pub returns-clause-canonical : goal.returns-clause-canonical
 returns-clause-canonical g c pairs layout is =
-    IfOk-weaker c.clone_tree.result (IsCopied (IsPairClone g.K.Clone.is_clone g.V.Clone.is_clone) layout c.args.into.now c.clone_tree.new.into) _ (λ done copied. cloned_canonical g.K.AsBytes.bytes g.row.PREFIX_LEN g.K.Clone.is_clone g.V.Clone.is_clone c.requires.clones is copied)
+    IfOk-weaker c.clone_tree.result (IsCopied (IsPairClone g.K.Clone.is_clone g.V.Clone.is_clone) layout c.args.into.now c.clone_tree.new.into) _
+    (λ done copied. cloned_canonical g.K.AsBytes.bytes g.row.PREFIX_LEN g.K.Clone.is_clone g.V.Clone.is_clone c.requires.clones is copied)
     (c.clone_tree.ensures.copied layout (has_children (of_key g.K.AsBytes.bytes) g.row.PREFIX_LEN c.args.store.now c.args.root pairs layout is))
 
 pub returns-clause-gained : goal.returns-clause-gained
 returns-clause-gained g c =
     let (pairs, layout, is) = c.requires.root in
-    IfOk-weaker c.clone_tree.result (IsCopied (IsPairClone g.K.Clone.is_clone g.V.Clone.is_clone) layout c.args.into.now c.clone_tree.new.into) _ (λ done copied copies copy one. cloned_others g.K.AsBytes.bytes g.row.PREFIX_LEN g.K.Clone.is_clone g.V.Clone.is_clone c.requires.clones is copied one)
+    IfOk-weaker c.clone_tree.result (IsCopied (IsPairClone g.K.Clone.is_clone g.V.Clone.is_clone) layout c.args.into.now c.clone_tree.new.into) _
+    (λ done copied copies copy one. cloned_others g.K.AsBytes.bytes g.row.PREFIX_LEN g.K.Clone.is_clone g.V.Clone.is_clone c.requires.clones is copied one)
     (c.clone_tree.ensures.copied layout (has_children (of_key g.K.AsBytes.bytes) g.row.PREFIX_LEN c.args.store.now c.args.root pairs layout is))
 
 pub returns-clause-first : goal.returns-clause-first
 returns-clause-first g c =
     let (pairs, layout, is) = c.requires.root in
-    IfOk-weaker c.clone_tree.result (IsCopied (IsPairClone g.K.Clone.is_clone g.V.Clone.is_clone) layout c.args.into.now c.clone_tree.new.into) _ (λ done copied copies copy one. cloned_first g.K.AsBytes.bytes g.row.PREFIX_LEN g.K.Clone.is_clone g.V.Clone.is_clone c.requires.clones is copied one)
+    IfOk-weaker c.clone_tree.result (IsCopied (IsPairClone g.K.Clone.is_clone g.V.Clone.is_clone) layout c.args.into.now c.clone_tree.new.into) _
+    (λ done copied copies copy one. cloned_first g.K.AsBytes.bytes g.row.PREFIX_LEN g.K.Clone.is_clone g.V.Clone.is_clone c.requires.clones is copied one)
     (c.clone_tree.ensures.copied layout (has_children (of_key g.K.AsBytes.bytes) g.row.PREFIX_LEN c.args.store.now c.args.root pairs layout is))
 
 pub returns-clause-last : goal.returns-clause-last
 returns-clause-last g c =
     let (pairs, layout, is) = c.requires.root in
-    IfOk-weaker c.clone_tree.result (IsCopied (IsPairClone g.K.Clone.is_clone g.V.Clone.is_clone) layout c.args.into.now c.clone_tree.new.into) _ (λ done copied copies copy one. cloned_last g.K.AsBytes.bytes g.row.PREFIX_LEN g.K.Clone.is_clone g.V.Clone.is_clone c.requires.clones is copied one)
+    IfOk-weaker c.clone_tree.result (IsCopied (IsPairClone g.K.Clone.is_clone g.V.Clone.is_clone) layout c.args.into.now c.clone_tree.new.into) _
+    (λ done copied copies copy one. cloned_last g.K.AsBytes.bytes g.row.PREFIX_LEN g.K.Clone.is_clone g.V.Clone.is_clone c.requires.clones is copied one)
     (c.clone_tree.ensures.copied layout (has_children (of_key g.K.AsBytes.bytes) g.row.PREFIX_LEN c.args.store.now c.args.root pairs layout is))
 
 pub returns-clause-promise : goal.returns-clause-promise

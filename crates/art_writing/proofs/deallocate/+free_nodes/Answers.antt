@@ -12,10 +12,12 @@ free_leaf-requires g t c =
     (search rules, leaf_is_there c.in-Leaf.ensures.name c.if-leaves_too.true shape can)
 
 pub returns-then-leaves_too-clause-freed : goal.returns-then-leaves_too-clause-freed
-returns-then-leaves_too-clause-freed g t c shape can = (leaf_goes c.in-Leaf.ensures.name c.if-leaves_too.true {t = c.free_leaf.new.self} c.free_leaf.ensures.leaves c.free_leaf.ensures.inners shape can).0
+returns-then-leaves_too-clause-freed g t c shape can =
+    (leaf_goes c.in-Leaf.ensures.name c.if-leaves_too.true {t = c.free_leaf.new.self} c.free_leaf.ensures.leaves c.free_leaf.ensures.inners shape can).0
 
 pub returns-then-leaves_too-clause-count : goal.returns-then-leaves_too-clause-count
-returns-then-leaves_too-clause-count g t c shape can = (leaf_goes c.in-Leaf.ensures.name c.if-leaves_too.true {t = c.free_leaf.new.self} c.free_leaf.ensures.leaves c.free_leaf.ensures.inners shape can).1
+returns-then-leaves_too-clause-count g t c shape can =
+    (leaf_goes c.in-Leaf.ensures.name c.if-leaves_too.true {t = c.free_leaf.new.self} c.free_leaf.ensures.leaves c.free_leaf.ensures.inners shape can).1
 
 pub returns-then-leaves_too-clause-total : goal.returns-then-leaves_too-clause-total
 returns-then-leaves_too-clause-total g t c =
@@ -25,15 +27,24 @@ returns-then-leaves_too-clause-total g t c =
     omega (arith, less, now)
 
 pub children-init : goal.children-init
-children-init g t c = record { freeing = λ shape can. starts c.in-Inner.ensures.proper c.in-Inner.ensures.name shape can; promise = refl; improper = λ name leaf. refl; total = omega arith; few = λ more. absurd (omega arith) }
+children-init g t c =
+    record {
+      freeing = λ shape can. starts c.in-Inner.ensures.proper c.in-Inner.ensures.name shape can;
+      promise = refl;
+      improper = λ name leaf. refl;
+      total = omega arith;
+      few = λ more. absurd (omega arith);
+    }
 
 pub returns-in_default-clause-freed : goal.returns-in_default-clause-freed
 returns-in_default-clause-freed g t c shape can =
-    (node_freed c.in-Inner.ensures.proper c.in-Inner.ensures.name (c.children.invariant.freeing shape can) {v = c.free_node.new.store} c.in_default.ensures.child (c.free_node.ensures.inners ∙ ap (λ m. map.remove m c.in-Inner.inner) c.in_default.ensures.none) (c.free_node.ensures.leaves ∙ c.in_default.ensures.leaves)).0
+    (node_freed c.in-Inner.ensures.proper c.in-Inner.ensures.name (c.children.invariant.freeing shape can) {v = c.free_node.new.store}
+    c.in_default.ensures.child (c.free_node.ensures.inners ∙ ap (λ m. map.remove m c.in-Inner.inner) c.in_default.ensures.none) (c.free_node.ensures.leaves ∙ c.in_default.ensures.leaves)).0
 
 pub returns-in_default-clause-count : goal.returns-in_default-clause-count
 returns-in_default-clause-count g t c shape can =
-    (node_freed c.in-Inner.ensures.proper c.in-Inner.ensures.name (c.children.invariant.freeing shape can) {v = c.free_node.new.store} c.in_default.ensures.child (c.free_node.ensures.inners ∙ ap (λ m. map.remove m c.in-Inner.inner) c.in_default.ensures.none) (c.free_node.ensures.leaves ∙ c.in_default.ensures.leaves)).1
+    (node_freed c.in-Inner.ensures.proper c.in-Inner.ensures.name (c.children.invariant.freeing shape can) {v = c.free_node.new.store}
+    c.in_default.ensures.child (c.free_node.ensures.inners ∙ ap (λ m. map.remove m c.in-Inner.inner) c.in_default.ensures.none) (c.free_node.ensures.leaves ∙ c.in_default.ensures.leaves)).1
 
 pub returns-in_default-clause-improper : goal.returns-in_default-clause-improper
 returns-in_default-clause-improper g t c name leaf =
@@ -44,7 +55,9 @@ returns-in_default-clause-improper g t c name leaf =
 pub free_nodes-count-requires : goal.free_nodes-count-requires
 free_nodes-count-requires g t c κs within =
     let (shape, can) = c.requires in
-    let taken = child_taken c.in-Inner.ensures.proper c.in-Inner.ensures.name (c.children.invariant.freeing shape can) c.in-Some.child c.in-Some.ensures.child c.in-Some.ensures.taken c.in-Some.ensures.leaves in
+    let taken =
+    child_taken c.in-Inner.ensures.proper c.in-Inner.ensures.name (c.children.invariant.freeing shape can) c.in-Some.child c.in-Some.ensures.child
+    c.in-Some.ensures.taken c.in-Some.ensures.leaves in
     let lower = child_lower can taken in
     (omega (arith, lower, c.decreases), (within.0, (within.1, (search rules, (search rules, (taken.tree, taken.can))))))
 
@@ -58,7 +71,9 @@ children-smaller g t c =
 pub children-preserved : goal.children-preserved
 children-preserved g t c = record {
   freeing = λ shape can.
-      let taken = child_taken c.in-Inner.ensures.proper c.in-Inner.ensures.name (c.children.invariant.freeing shape can) c.in-Some.child c.in-Some.ensures.child c.in-Some.ensures.taken c.in-Some.ensures.leaves in
+      let taken =
+      child_taken c.in-Inner.ensures.proper c.in-Inner.ensures.name (c.children.invariant.freeing shape can) c.in-Some.child
+      c.in-Some.ensures.child c.in-Some.ensures.taken c.in-Some.ensures.leaves in
       child_freed taken (c.free_nodes-count.ensures.freed taken.tree taken.can) c.free_nodes-count.result (c.free_nodes-count.ensures.count taken.tree taken.can);
   promise = c.free_nodes-count.ensures.promise ∙ c.in-Some.ensures.promise ∙ c.children.invariant.promise;
   improper = λ name leaf.

@@ -36,6 +36,7 @@ pub leaves-preserved : goal.leaves-preserved
 leaves-preserved g c = record {
   left = λ names is.
       let left = c.leaves.invariant.left names is in
-      one_goes left is.segment.distinct c.in-Some.leaf (c.in-Some.ensures.leaf left.rest left.iterator_of) (c.in-Some.ensures.rest left.rest left.iterator_of) c.free_leaf.ensures.leaves c.free_leaf.ensures.inners;
+      one_goes left is.segment.distinct c.in-Some.leaf (c.in-Some.ensures.leaf left.rest left.iterator_of)
+      (c.in-Some.ensures.rest left.rest left.iterator_of) c.free_leaf.ensures.leaves c.free_leaf.ensures.inners;
   promise = c.free_leaf.ensures.promise ∙ c.leaves.invariant.promise;
 }

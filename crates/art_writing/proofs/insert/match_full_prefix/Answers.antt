@@ -5,7 +5,8 @@ use Rattle.art_writing.proofs.insert.match_full_prefix.Goals as goal
 
 pub returns-then-len : goal.returns-then-len
 returns-then-len g c node part =
-    matches_stored part c.requires.inner c.in-Some.ensures.view c.args.key_bytes.now c.match_prefix.result c.header-header.ensures c.prefix_len-len.ensures c.if-len.true c.read_prefix.ensures.stored (take_rest c.args.key_bytes.now c.args.depth)
+    matches_stored part c.requires.inner c.in-Some.ensures.view c.args.key_bytes.now c.match_prefix.result c.header-header.ensures
+    c.prefix_len-len.ensures c.if-len.true c.read_prefix.ensures.stored (take_rest c.args.key_bytes.now c.args.depth)
     c.match_prefix.ensures.len c.match_prefix.ensures.front c.match_prefix.ensures.shared c.match_prefix.ensures.byte c.match_prefix.ensures.leaf
 
 pub minimum_unchecked-leaf_ptr-requires : goal.minimum_unchecked-leaf_ptr-requires
@@ -37,5 +38,7 @@ slice_bounds-prefix-end g c =
 
 pub returns : goal.returns
 returns g c node part =
-    matches_read part c.requires.inner c.in-Some.ensures.view (c.minimum_unchecked-leaf_ptr.ensures node (is_full part c.requires.inner c.to_opaque.ensures)) c.in-Some-leaf.ensures c.args.key_bytes.now c.match_prefix-2.result c.header-header.ensures c.prefix_len-len.ensures c.if-len.false c.as_bytes.ensures refl (take_rest c.args.key_bytes.now c.args.depth)
+    matches_read part c.requires.inner c.in-Some.ensures.view (c.minimum_unchecked-leaf_ptr.ensures node
+    (is_full part c.requires.inner c.to_opaque.ensures)) c.in-Some-leaf.ensures c.args.key_bytes.now c.match_prefix-2.result
+    c.header-header.ensures c.prefix_len-len.ensures c.if-len.false c.as_bytes.ensures refl (take_rest c.args.key_bytes.now c.args.depth)
     c.match_prefix-2.ensures.len c.match_prefix-2.ensures.front c.match_prefix-2.ensures.shared c.match_prefix-2.ensures.byte c.match_prefix-2.ensures.leaf

@@ -4,4 +4,5 @@ use Rattle.art_model.proofs.Leaves.{there_changed}
 use Rattle.art_writing.proofs.writes.link.Goals as goal
 
 pub set_previous-requires : goal.set_previous-requires
-set_previous-requires g c = (search rules, subst (λ m. IsThere m c.args.next) (sym c.set_next.ensures.leaves) (there_changed c.args.store.now.leaves c.args.previous c.args.next (with_next c.args.next) c.requires.next))
+set_previous-requires g c =
+    (search rules, subst (λ m. IsThere m c.args.next) (sym c.set_next.ensures.leaves) (there_changed c.args.store.now.leaves c.args.previous c.args.next (with_next c.args.next) c.requires.next))

@@ -22,4 +22,5 @@ unfolding with_leaf
 returns-clause-leaves g c =
     let ensured = c.in-Ok.ensures in
     c.set_previous.ensures.leaves
-    ∙ ap (λ m. change_some m c.args.leaf.next (with_previous (Some c.in-Ok.name))) (c.set_next.ensures.leaves ∙ ap (λ m. change_some m c.args.leaf.previous (with_next (Some c.in-Ok.name))) ensured.placed)
+    ∙ ap (λ m. change_some m c.args.leaf.next (with_previous (Some c.in-Ok.name)))
+    (c.set_next.ensures.leaves ∙ ap (λ m. change_some m c.args.leaf.previous (with_next (Some c.in-Ok.name))) ensured.placed)

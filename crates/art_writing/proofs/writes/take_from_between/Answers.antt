@@ -13,8 +13,11 @@ pub free_leaf-leaf-requires : goal.free_leaf-leaf-requires
 free_leaf-leaf-requires g c =
     let m = c.args.store.now.leaves in
     let x = c.in-Some.leaf.now in
-    let all = c.link.ensures.leaves in
-    (search rules, some_there _ (λ gone. joined_there m x.previous x.next x.next x.previous c.args.name x (sym c.leaf.ensures ∙ ap option_copied c.in-Some.is) (sym (ap (λ z. get z c.args.name) all) ∙ gone)))
+    let all = c.link.ensures.leaves in (
+      search rules,
+      some_there _ (λ gone. joined_there m x.previous x.next x.next x.previous c.args.name x
+          (sym c.leaf.ensures ∙ ap option_copied c.in-Some.is) (sym (ap (λ z. get z c.args.name) all) ∙ gone)),
+    )
 
 pub returns-clause-leaf : goal.returns-clause-leaf
 returns-clause-leaf g c =

@@ -14,4 +14,5 @@ decided P xs false h = ((λ t. let no : ⊥ = cc in absurd no), (λ all. absurd 
 pub returns : goal.returns
 returns c =
     decided IsByteWord _ c.all.result (cases_from_all _ _ c.all.result IsByteWord (λ w. IsByteWord w → ⊥) c.all.ensures.ran
-    (YieldsList-from_slice_split _ (λ b. eqb b 46) c.args.word.now c.split.ensures.rest c.split.ensures.done c.split.ensures.closure (λ x b q h. search rules)) (λ x q k. search rules) (λ x q k. search rules))
+    (YieldsList-from_slice_split _ (λ b. eqb b 46) c.args.word.now c.split.ensures.rest c.split.ensures.done c.split.ensures.closure
+    (λ x b q h. search rules)) (λ x q k. search rules) (λ x q k. search rules))

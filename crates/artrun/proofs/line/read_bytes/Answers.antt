@@ -22,13 +22,17 @@ pub loop-digits-preserved : goal.loop-digits-preserved
 loop-digits-preserved c =
     let turn = YieldsList-turn (YieldsList-from_slice_split _ (λ b. eqb b 46) c.args.word.now (ap split_rest c.into_iter-digits-iterator.ensures.into_iter_gives ∙ c.split-digits-items.ensures.rest)
     (ap split_done c.into_iter-digits-iterator.ensures.into_iter_gives ∙ c.split-digits-items.ensures.done)
-    (ap split_callee c.into_iter-digits-iterator.ensures.into_iter_gives ∙ c.split-digits-items.ensures.closure) (λ x b q h. search rules)) c.loop-digits.yielded _ c.loop-digits.yielded_by _ _ c.in-Some.digits c.in-Some.is c.next.ensures.steps in
-    let no : ⊥ = ∥∥₁_elim c.requires (λ x y. absurd x) (λ all. c.in_default.ensures.none (all _ c.in-Some.digits.now turn.0).0 (all _ c.in-Some.digits.now turn.0).1 (turn.1 ∙ (all _ c.in-Some.digits.now turn.0).2)) in
+    (ap split_callee c.into_iter-digits-iterator.ensures.into_iter_gives ∙ c.split-digits-items.ensures.closure) (λ x b q h. search rules))
+    c.loop-digits.yielded _ c.loop-digits.yielded_by _ _ c.in-Some.digits c.in-Some.is c.next.ensures.steps in
+    let no : ⊥ =
+    ∥∥₁_elim c.requires (λ x y. absurd x) (λ all. c.in_default.ensures.none (all _ c.in-Some.digits.now turn.0).0
+    (all _ c.in-Some.digits.now turn.0).1 (turn.1 ∙ (all _ c.in-Some.digits.now turn.0).2)) in
     absurd no
 
 pub returns : goal.returns
 returns c =
     let all = YieldsList-end (YieldsList-from_slice_split _ (λ b. eqb b 46) c.args.word.now (ap split_rest c.into_iter-digits-iterator.ensures.into_iter_gives ∙ c.split-digits-items.ensures.rest)
     (ap split_done c.into_iter-digits-iterator.ensures.into_iter_gives ∙ c.split-digits-items.ensures.done)
-    (ap split_callee c.into_iter-digits-iterator.ensures.into_iter_gives ∙ c.split-digits-items.ensures.closure) (λ x b q h. search rules)) c.loop-digits.yielded _ c.loop-digits.yielded_by _ _ c.in-None.is c.next.ensures.steps in
+    (ap split_callee c.into_iter-digits-iterator.ensures.into_iter_gives ∙ c.split-digits-items.ensures.closure) (λ x b q h. search rules))
+    c.loop-digits.yielded _ c.loop-digits.yielded_by _ _ c.in-None.is c.next.ensures.steps in
     sym all.0 ∙ c.loop-digits.invariant

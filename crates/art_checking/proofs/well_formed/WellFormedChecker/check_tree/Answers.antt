@@ -22,8 +22,19 @@ overflow_sub-result g c =
     let all = c.count.ensures in
     omega arith
 
+pub returns-clause-fits : goal.returns-clause-fits
+returns-clause-fits g c =
+    let few = fewer_leaves c.in_ok-seen.ensures.met in
+    let leaves = c.len-leaves.ensures ∙ c.in_ok-seen.seen.leaves.ok.0 in
+    let all = c.count.ensures in
+    let fits = c.count.type_inv in
+    omega arith
+
 pub returns-clause-well_formed : goal.returns-clause-well_formed
-returns-clause-well_formed g c = well_formed c.in_ok-seen.ensures.met c.len-leaves.result c.count.result (subst (λ ls. AreLinked (links_at c.args.store.now) None (names_of_leaves ls) None) c.deref.ensures.value c.in_ok-check_links.ensures.linked) (c.len-leaves.ensures ∙ c.in_ok-seen.seen.leaves.ok.0) c.count.ensures
+returns-clause-well_formed g c =
+    well_formed c.in_ok-seen.ensures.met c.len-leaves.result c.count.result
+    (subst (λ ls. AreLinked (links_at c.args.store.now) None (names_of_leaves ls) None) c.deref.ensures.value c.in_ok-check_links.ensures.linked)
+    (c.len-leaves.ensures ∙ c.in_ok-seen.seen.leaves.ok.0) c.count.ensures
 
 pub returns-in_err-seen-clause-canonical : goal.returns-in_err-seen-clause-canonical
 returns-in_err-seen-clause-canonical g c canonical =
@@ -35,7 +46,8 @@ returns-in_err-check_links-clause-fault g c =
     let met = c.in_ok-seen.ensures.met in
     let error = c.in_err-check_links.field-0.0 in
     let true_of = c.in_err-check_links.ensures.fault c.args.root met.layout (met_layout met) (sym met.leaves ∙ ap names_of_leaves (sym c.deref.ensures.value)) in
-    passed_on c.from_residual-in_err-check_links.result error (λ e. IsTrueOf (of_key g.K.AsBytes.bytes) g.row.PREFIX_LEN c.args.store.now c.args.root (fault_of e)) c.from_residual-in_err-check_links.ensures.1 true_of
+    passed_on c.from_residual-in_err-check_links.result error (λ e. IsTrueOf (of_key g.K.AsBytes.bytes) g.row.PREFIX_LEN c.args.store.now c.args.root
+    (fault_of e)) c.from_residual-in_err-check_links.ensures.1 true_of
 
 pub returns-in_err-check_links-clause-canonical : goal.returns-in_err-check_links-clause-canonical
 returns-in_err-check_links-clause-canonical g c canonical =

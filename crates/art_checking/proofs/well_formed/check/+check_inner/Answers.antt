@@ -13,7 +13,8 @@ use Rattle.art_checking.specs.Meetings.{place_in}
 use Rattle.art_checking.proofs.Descents.{inner_at}
 use Rattle.art_checking.proofs.Faulty.{passed_on}
 use Rattle.art_checking.proofs.Passed.{HasPassed, IsPassed, passed_none, passed_leaf, passed_inner, passed_more, passed_all, less_to_try, inner_is_there, before_last}
-use Rattle.art_checking.proofs.Walked.{HasWalked, IsFirstLeast, child_reached, first_least, least_known, met_walked, none_below, read_again, rising_right, stands_elsewhere, walked_more, walked_none, walked_then}
+use Rattle.art_checking.proofs.Turns.{turn_from}
+use Rattle.art_checking.proofs.Walked.{HasWalked, IsFirstLeast, first_least, least_known, met_walked, none_below, read_again, stands_elsewhere, walked_more, walked_none, walked_then}
 use Rattle.art_checking.proofs.well_formed.check.+check_inner.Goals as goal
 use Rattle.art_checking.proofs.well_formed.check.+check_inner.Goals.{in-Leaf+in_ok-check_leaf-in-Leaf, in-Inner+in_ok-check_inner-in-Inner}
 
@@ -28,7 +29,9 @@ loop-byte-init g t c =
     let left = sym c.iter-byte-items.ensures.children ∙ sym c.into_iter-byte-iterator.ensures.into_iter_gives in (
       tt,
       tt,
-      subst (IsFirstLeast bytes g.row.P s c.in_ok-least.least) left (first_least bytes g.row.P s name (header_at c.args.name.kind node) node.children c.in_ok-least.least (inner_at s c.args.name node c.requires.proper (sym c.in-Some.ensures.view)) c.in_ok-least.ensures.least),
+      subst (IsFirstLeast bytes g.row.P s c.in_ok-least.least) left
+          (first_least bytes g.row.P s name (header_at c.args.name.kind node) node.children c.in_ok-least.least
+          (inner_at s c.args.name node c.requires.proper (sym c.in-Some.ensures.view)) c.in_ok-least.ensures.least),
       (
         read,
         subst (HasPassed bytes g.row.P s c.args.seen.now c.args.seen.now (place ++ read.part) node.children) left (passed_none c.args.seen.now (place ++ read.part) node.children),
@@ -47,14 +50,12 @@ returns-in_err-meet-clause-fault g t c =
     let child = c.in-Some-2.child in
     let (read, has, walks) = c.loop-byte.invariant.3 in
     let here = (place ++ read.part) ++ byte ∷ [] in
-    let steps = c.in-Some-2.ensures.steps in
-    let slots : slots_of has.children ++ (byte, child) ∷ c.next.new.self ≡ node.children = subst (λ l. slots_of has.children ++ l ≡ node.children) steps has.slots in
-    let walked = subst (HasWalked bytes g.row.P s (place_in c.args.seen.now) (place_in c.loop-byte.seen) place read.part name) steps walks in
+    let turn = turn_from bytes g.row.P s c.args.name node c.requires.proper (sym c.in-Some.ensures.view) c.iter-byte-items.ensures.rising c.in-Some-2.ensures.steps read has walks in
     let at : c.push.new.self.items ≡ here = c.in_ok-push.ensures.items ∙ ap (λ ps. ps ++ byte ∷ []) read.is in
-    let step = child_reached bytes g.row.P s c.args.name node c.requires.proper (sym c.in-Some.ensures.view) c.iter-byte-items.ensures.rising read (slots_of has.children) byte child c.next.new.self slots in
     let put = c.deref.ensures.value ∙ at in
     passed_on c.from_residual-in_err-meet.result c.in_err-meet.field-0.0 (IsTrueBehind bytes g.row.P s (place_in c.args.seen.now) place name) c.from_residual-in_err-meet.ensures.1
-    (λ root all reach. c.in_err-meet.ensures.fault root (walked.walked.reached root all reach) (subst (λ p. Reaches bytes g.row.P s root p child) (sym put) (step root reach)) (λ other e same. stands_elsewhere child walked.free.0 other e (same ∙ put)))
+    (λ root all reach. c.in_err-meet.ensures.fault root (turn.walked.walked.reached root all reach)
+    (subst (λ p. Reaches bytes g.row.P s root p child) (sym put) (turn.step root reach)) (λ other e same. stands_elsewhere child turn.walked.free.0 other e (same ∙ put)))
 
 pub returns-in_err-check_leaf-in-Leaf-clause-fault : goal.returns-in_err-check_leaf-in-Leaf-clause-fault
 returns-in_err-check_leaf-in-Leaf-clause-fault g t c =
@@ -67,14 +68,13 @@ returns-in_err-check_leaf-in-Leaf-clause-fault g t c =
     let child = c.in-Some-2.child in
     let (read, has, walks) = c.loop-byte.invariant.3 in
     let here = (place ++ read.part) ++ byte ∷ [] in
-    let steps = c.in-Some-2.ensures.steps in
-    let slots : slots_of has.children ++ (byte, child) ∷ c.next.new.self ≡ node.children = subst (λ l. slots_of has.children ++ l ≡ node.children) steps has.slots in
-    let walked = subst (HasWalked bytes g.row.P s (place_in c.args.seen.now) (place_in c.loop-byte.seen) place read.part name) steps walks in
+    let turn = turn_from bytes g.row.P s c.args.name node c.requires.proper (sym c.in-Some.ensures.view) c.iter-byte-items.ensures.rising c.in-Some-2.ensures.steps read has walks in
     let at : c.push.new.self.items ≡ here = c.in_ok-push.ensures.items ∙ ap (λ ps. ps ++ byte ∷ []) read.is in
-    let step = child_reached bytes g.row.P s c.args.name node c.requires.proper (sym c.in-Some.ensures.view) c.iter-byte-items.ensures.rising read (slots_of has.children) byte child c.next.new.self slots in
     let put = c.deref-in-Leaf.ensures.value ∙ at in
-    passed_on c.from_residual-in_err-check_leaf-in-Leaf.result c.in_err-check_leaf-in-Leaf.field-0.0 (IsTrueBehind bytes g.row.P s (place_in c.args.seen.now) place name) c.from_residual-in_err-check_leaf-in-Leaf.ensures.1
-    (λ root all reach. c.in_err-check_leaf-in-Leaf.ensures.fault root (subst (Reaches bytes g.row.P s root c.deref-in-Leaf.result.now) (sym c.in-Leaf.ensures.name) (subst (λ p. Reaches bytes g.row.P s root p child) (sym put) (step root reach))))
+    passed_on c.from_residual-in_err-check_leaf-in-Leaf.result c.in_err-check_leaf-in-Leaf.field-0.0
+    (IsTrueBehind bytes g.row.P s (place_in c.args.seen.now) place name) c.from_residual-in_err-check_leaf-in-Leaf.ensures.1
+    (λ root all reach. c.in_err-check_leaf-in-Leaf.ensures.fault root
+    (subst (Reaches bytes g.row.P s root c.deref-in-Leaf.result.now) (sym c.in-Leaf.ensures.name) (subst (λ p. Reaches bytes g.row.P s root p child) (sym put) (turn.step root reach))))
 
 pub returns-in_err-check_inner-in-Inner-clause-fault : goal.returns-in_err-check_inner-in-Inner-clause-fault
 returns-in_err-check_inner-in-Inner-clause-fault g t c =
@@ -87,15 +87,14 @@ returns-in_err-check_inner-in-Inner-clause-fault g t c =
     let child = c.in-Some-2.child in
     let (read, has, walks) = c.loop-byte.invariant.3 in
     let here = (place ++ read.part) ++ byte ∷ [] in
-    let steps = c.in-Some-2.ensures.steps in
-    let slots : slots_of has.children ++ (byte, child) ∷ c.next.new.self ≡ node.children = subst (λ l. slots_of has.children ++ l ≡ node.children) steps has.slots in
-    let walked = subst (HasWalked bytes g.row.P s (place_in c.args.seen.now) (place_in c.loop-byte.seen) place read.part name) steps walks in
+    let turn = turn_from bytes g.row.P s c.args.name node c.requires.proper (sym c.in-Some.ensures.view) c.iter-byte-items.ensures.rising c.in-Some-2.ensures.steps read has walks in
     let at : c.push.new.self.items ≡ here = c.in_ok-push.ensures.items ∙ ap (λ ps. ps ++ byte ∷ []) read.is in
-    let step = child_reached bytes g.row.P s c.args.name node c.requires.proper (sym c.in-Some.ensures.view) c.iter-byte-items.ensures.rising read (slots_of has.children) byte child c.next.new.self slots in
     let met : IsFirstMet c.loop-byte.seen c.meet.new.seen child here = subst (IsFirstMet c.loop-byte.seen c.meet.new.seen child) (c.deref.ensures.value ∙ at) c.in_ok-meet.ensures.met in
-    passed_on c.from_residual-in_err-check_inner-in-Inner.result c.in_err-check_inner-in-Inner.field-0.0 (IsTrueBehind bytes g.row.P s (place_in c.args.seen.now) place name) c.from_residual-in_err-check_inner-in-Inner.ensures.1
-    (λ root all reach. c.in_err-check_inner-in-Inner.ensures.fault root ((met_walked {bytes = bytes} {P = g.row.P} {s = s} met.met).reached root (walked.walked.reached root all reach) (step root reach))
-    (subst (Reaches bytes g.row.P s root c.push.new.self.items) (sym c.in-Inner.ensures.name) (subst (λ p. Reaches bytes g.row.P s root p child) (sym at) (step root reach))))
+    passed_on c.from_residual-in_err-check_inner-in-Inner.result c.in_err-check_inner-in-Inner.field-0.0
+    (IsTrueBehind bytes g.row.P s (place_in c.args.seen.now) place name) c.from_residual-in_err-check_inner-in-Inner.ensures.1
+    (λ root all reach. c.in_err-check_inner-in-Inner.ensures.fault root
+    ((met_walked {bytes = bytes} {P = g.row.P} {s = s} met.met).reached root (turn.walked.walked.reached root all reach) (turn.step root reach))
+    (subst (Reaches bytes g.row.P s root c.push.new.self.items) (sym c.in-Inner.ensures.name) (subst (λ p. Reaches bytes g.row.P s root p child) (sym at) (turn.step root reach))))
 
 pub returns-in_err-check_count-clause-fault : goal.returns-in_err-check_count-clause-fault
 returns-in_err-check_count-clause-fault g t c =
@@ -110,7 +109,19 @@ returns-in_err-check_count-clause-fault g t c =
     passed_on c.from_residual-in_err-check_count.result c.in_err-check_count.field-0.0 (IsTrueBehind bytes g.row.P s (place_in c.args.seen.now) place name) c.from_residual-in_err-check_count.ensures.1
     (λ root all reach. elim c.in_err-check_count.ensures.fault [
       | inl e ↦ subst (IsTrueOf bytes g.row.P s root) (sym e) tt
-      | inr (e, few) ↦ subst (IsTrueOf bytes g.row.P s root) (sym e) (name, header_at c.args.name.kind node, node.children, (subst (λ p. Reaches bytes g.row.P s root p name) (sym cut) reach, inner_at s c.args.name node c.requires.proper (sym c.in-Some.ensures.view)), sym c.in-Some.ensures.kind, refl, few)
+      | inr (e, few) ↦ subst (IsTrueOf bytes g.row.P s root) (sym e) (
+        name,
+        header_at c.args.name.kind node,
+        node.children,
+        (
+          subst (λ p. Reaches bytes g.row.P s root p name) (sym cut) reach,
+          inner_at s
+              c.args.name node c.requires.proper (sym c.in-Some.ensures.view),
+        ),
+        sym c.in-Some.ensures.kind,
+        refl,
+        few,
+      )
     ])
 
 pub check_inner-requires : goal.check_inner-requires
@@ -124,19 +135,18 @@ check_inner-requires g t c κs within =
     let child = c.in-Some-2.child in
     let (read, has, walks) = c.loop-byte.invariant.3 in
     let here = (place ++ read.part) ++ byte ∷ [] in
-    let steps = c.in-Some-2.ensures.steps in
-    let slots : slots_of has.children ++ (byte, child) ∷ c.next.new.self ≡ node.children = subst (λ l. slots_of has.children ++ l ≡ node.children) steps has.slots in
-    let walked = subst (HasWalked bytes g.row.P s (place_in c.args.seen.now) (place_in c.loop-byte.seen) place read.part name) steps walks in
+    let turn = turn_from bytes g.row.P s c.args.name node c.requires.proper (sym c.in-Some.ensures.view) c.iter-byte-items.ensures.rising c.in-Some-2.ensures.steps read has walks in
     let at : c.push.new.self.items ≡ here = c.in_ok-push.ensures.items ∙ ap (λ ps. ps ++ byte ∷ []) read.is in
-    let step = child_reached bytes g.row.P s c.args.name node c.requires.proper (sym c.in-Some.ensures.view) c.iter-byte-items.ensures.rising read (slots_of has.children) byte child c.next.new.self slots in
     let met : IsFirstMet c.loop-byte.seen c.meet.new.seen child here = subst (IsFirstMet c.loop-byte.seen c.meet.new.seen child) (c.deref.ensures.value ∙ at) c.in_ok-meet.ensures.met in
     let proper = c.in-Inner.ensures.proper in
     let same = c.in-Inner.ensures.name in
     let own : IsFirstMet c.loop-byte.seen c.meet.new.seen (inner_name c.in-Inner.inner) here = subst (λ n. IsFirstMet c.loop-byte.seen c.meet.new.seen n here) (sym same) met in
     let (below, there) = inner_is_there s c.in-Inner.inner proper (subst (IsUsed s) (sym same) c.in_ok-meet.ensures.there) in
-    let lower = less_to_try s.inners (place_in c.args.seen.now) (place_in c.loop-byte.seen) (place_in c.meet.new.seen) (names_below has.children) c.in-Inner.inner below here there has.meets own.fresh own.met in
-    let none = subst (NoneBelow (place_in c.meet.new.seen)) (sym at) (none_below met.met walked.free.0) in
-    let first = subst (IsFirstLeast bytes g.row.P s c.loop-byte.least) steps c.loop-byte.invariant.2 in
+    let lower =
+    less_to_try s.inners (place_in c.args.seen.now) (place_in c.loop-byte.seen) (place_in c.meet.new.seen) (names_below turn.passed.children)
+    c.in-Inner.inner below here there turn.passed.meets own.fresh own.met in
+    let none = subst (NoneBelow (place_in c.meet.new.seen)) (sym at) (none_below met.met turn.walked.free.0) in
+    let first = subst (IsFirstLeast bytes g.row.P s c.loop-byte.least) c.in-Some-2.ensures.steps c.loop-byte.invariant.2 in
     let least = subst (λ n. IfSome c.loop-byte.least (λ leaf. IsLeastLeaf bytes g.row.P s n (Some leaf))) (sym same) (least_known bytes g.row.P s c.loop-byte.least byte child c.next.new.self first) in
     (omega (arith, c.decreases, lower), (within.0, (within.1, (search rules, (search rules, (rw there (search rules), (proper, ((λ e. absurd (let h = own.met.here in cc)), (none, least)))))))))
 
@@ -151,11 +161,8 @@ loop-byte-preserved g t c =
     let child = c.in-Some-2.child in
     let (read, has, walks) = c.loop-byte.invariant.3 in
     let here = (place ++ read.part) ++ byte ∷ [] in
-    let steps = c.in-Some-2.ensures.steps in
-    let slots : slots_of has.children ++ (byte, child) ∷ c.next.new.self ≡ node.children = subst (λ l. slots_of has.children ++ l ≡ node.children) steps has.slots in
-    let walked = subst (HasWalked bytes g.row.P s (place_in c.args.seen.now) (place_in c.loop-byte.seen) place read.part name) steps walks in
+    let turn = turn_from bytes g.row.P s c.args.name node c.requires.proper (sym c.in-Some.ensures.view) c.iter-byte-items.ensures.rising c.in-Some-2.ensures.steps read has walks in
     let at : c.push.new.self.items ≡ here = c.in_ok-push.ensures.items ∙ ap (λ ps. ps ++ byte ∷ []) read.is in
-    let step = child_reached bytes g.row.P s c.args.name node c.requires.proper (sym c.in-Some.ensures.view) c.iter-byte-items.ensures.rising read (slots_of has.children) byte child c.next.new.self slots in
     let met : IsFirstMet c.loop-byte.seen c.meet.new.seen child here = subst (IsFirstMet c.loop-byte.seen c.meet.new.seen child) (c.deref.ensures.value ∙ at) c.in_ok-meet.ensures.met in
     let passed : IsPassed bytes g.row.P s c.loop-byte.seen c.match-split.seen here child = elim c.match-split.branch [
       | in-Leaf+in_ok-check_leaf-in-Leaf w ↦
@@ -179,15 +186,14 @@ loop-byte-preserved g t c =
       | in-Leaf+in_ok-check_leaf-in-Leaf w ↦ ap (λ v. v.items) w.place-is ∙ at
       | in-Inner+in_ok-check_inner-in-Inner w ↦ ap (λ v. v.items) w.place-is ∙ w.in_ok-check_inner-in-Inner.ensures.place ∙ at
     ] in
-    let cut = before_last c.match-split.place.items c.pop.new.self.items (place ++ read.part) byte (vec_len c.match-split.place) whole (sym c.match-split.place.ok.0) c.pop.ensures.rest in
-    let rises : IsBelow byte c.next.new.self = (rising_right (slots_of has.children) ((byte, child) ∷ c.next.new.self) (subst IsRising (sym slots) c.iter-byte-items.ensures.rising)).0 in (
+    let cut = before_last c.match-split.place.items c.pop.new.self.items (place ++ read.part) byte (vec_len c.match-split.place) whole (sym c.match-split.place.ok.0) c.pop.ensures.rest in (
       tt,
       tt,
       tt,
       (
         read_again bytes g.row.P s c.pop.new.self.items read cut,
-        passed_more byte child (subst (HasPassed bytes g.row.P s c.args.seen.now c.loop-byte.seen (place ++ read.part) node.children) steps has) passed,
-        walked_more byte child walked rises step more,
+        passed_more byte child turn.passed passed,
+        walked_more byte child turn.walked turn.rises turn.step more,
       ),
     )
 
@@ -199,5 +205,7 @@ returns-clause-checked g t c =
     let name = inner_name c.args.name in
     let node = ref_view c.in-Some.node in
     let (read, has, walks) = c.loop-byte.invariant.3 in
-    passed_all read.part c.args.name node c.requires.proper (sym c.in-Some.ensures.view) (subst (HasPassed bytes g.row.P s c.args.seen.now c.loop-byte.seen (place ++ read.part) node.children) c.in-None.ensures.steps.0 has) read.long read.stored c.iter-byte-items.ensures.rising
-    (subst (λ k. kind_least k ≤ length node.children) c.in-Some.ensures.kind c.in_ok-check_count.ensures.enough) (subst (λ k. length node.children ≤ kind_capacity k) c.in-Some.ensures.kind c.iter-byte-items.ensures.bound)
+    passed_all read.part c.args.name node c.requires.proper (sym c.in-Some.ensures.view)
+    (subst (HasPassed bytes g.row.P s c.args.seen.now c.loop-byte.seen (place ++ read.part) node.children) c.in-None.ensures.steps.0 has) read.long read.stored c.iter-byte-items.ensures.rising
+    (subst (λ k. kind_least k ≤ length node.children) c.in-Some.ensures.kind c.in_ok-check_count.ensures.enough)
+    (subst (λ k. length node.children ≤ kind_capacity k) c.in-Some.ensures.kind c.iter-byte-items.ensures.bound)

@@ -25,27 +25,54 @@ tests : (whole front rest : List ℕ) → whole ≡ front ++ rest → starts_wit
 tests whole front rest e = (starts_is Decides-eqb whole front (starts_with eqb whole front) refl).1 rest e
 
 pub returns-clause-leaf : goal.returns-clause-leaf
-returns-clause-leaf g c = (pair_of c.in-Some.node.now, ap (λ o. option_map (seen Leaf) (option_map held_leaf o)) (sym c.in-Some.ensures), begins (g.K.AsBytes.bytes c.in-Some.node.now.key) c.args.place.now (subst (λ key. true ≡ starts_with eqb key c.args.place.now) c.as_bytes-key.ensures c.if-not-starts_with.ensures.value))
+returns-clause-leaf g c = (
+  pair_of c.in-Some.node.now,
+  ap (λ o. option_map (seen Leaf) (option_map held_leaf o)) (sym c.in-Some.ensures),
+  begins
+      (g.K.AsBytes.bytes c.in-Some.node.now.key) c.args.place.now (subst (λ key. true ≡ starts_with eqb key c.args.place.now) c.as_bytes-key.ensures c.if-not-starts_with.ensures.value),
+)
 
 pub returns-in_err-check_order-clause-fault : goal.returns-in_err-check_order-clause-fault
 returns-in_err-check_order-clause-fault g c =
     passed_on c.from_residual-in_err-check_order.result c.in_err-check_order.field-0.0
-    (λ error. (root : OpaqueNodePtr) → Reaches (of_key g.K.AsBytes.bytes) g.row.P c.args.store.now root c.args.place.now (leaf_name c.args.leaf) → IsTrueOf (of_key g.K.AsBytes.bytes) g.row.P c.args.store.now root (fault_of error))
+    (λ error. (root : OpaqueNodePtr) → Reaches (of_key g.K.AsBytes.bytes) g.row.P c.args.store.now root c.args.place.now (leaf_name c.args.leaf) →
+    IsTrueOf (of_key g.K.AsBytes.bytes) g.row.P c.args.store.now root (fault_of error))
     c.from_residual-in_err-check_order.ensures.1
-    (λ root reach. c.in_err-check_order.ensures.fault root (leaf_name c.args.leaf) (pair_of c.in-Some.node.now) (reach, ap (λ o. option_map (seen Leaf) (option_map held_leaf o)) (sym c.in-Some.ensures)) (sym c.as_bytes-key.ensures)
-    (between c.in-Some.node.now.previous c.in-Some.node.now.next, ap (λ o. option_and_then links_of (option_map held_leaf o)) (sym c.in-Some.ensures), inl (refl, ap (option_map leaf_name) c.in-Some-previous.is)))
+    (λ root reach. c.in_err-check_order.ensures.fault root (leaf_name c.args.leaf) (pair_of c.in-Some.node.now)
+    (reach, ap (λ o. option_map (seen Leaf) (option_map held_leaf o)) (sym c.in-Some.ensures)) (sym c.as_bytes-key.ensures) (
+      between c.in-Some.node.now.previous c.in-Some.node.now.next,
+      ap (λ o. option_and_then links_of (option_map held_leaf o)) (sym c.in-Some.ensures),
+      inl (refl, ap (option_map leaf_name) c.in-Some-previous.is),
+    ))
 
 pub returns-in_err-check_order-2-clause-fault : goal.returns-in_err-check_order-2-clause-fault
 returns-in_err-check_order-2-clause-fault g c =
     passed_on c.from_residual-in_err-check_order-2.result c.in_err-check_order-2.field-0.0
-    (λ error. (root : OpaqueNodePtr) → Reaches (of_key g.K.AsBytes.bytes) g.row.P c.args.store.now root c.args.place.now (leaf_name c.args.leaf) → IsTrueOf (of_key g.K.AsBytes.bytes) g.row.P c.args.store.now root (fault_of error))
+    (λ error. (root : OpaqueNodePtr) → Reaches (of_key g.K.AsBytes.bytes) g.row.P c.args.store.now root c.args.place.now (leaf_name c.args.leaf) →
+    IsTrueOf (of_key g.K.AsBytes.bytes) g.row.P c.args.store.now root (fault_of error))
     c.from_residual-in_err-check_order-2.ensures.1
-    (λ root reach. c.in_err-check_order-2.ensures.fault root (leaf_name c.args.leaf) (pair_of c.in-Some.node.now) (reach, ap (λ o. option_map (seen Leaf) (option_map held_leaf o)) (sym c.in-Some.ensures)) (sym c.as_bytes-key.ensures)
-    (between c.in-Some.node.now.previous c.in-Some.node.now.next, ap (λ o. option_and_then links_of (option_map held_leaf o)) (sym c.in-Some.ensures), inr (refl, ap (option_map leaf_name) c.in-Some-next.is)))
+    (λ root reach. c.in_err-check_order-2.ensures.fault root (leaf_name c.args.leaf) (pair_of c.in-Some.node.now)
+    (reach, ap (λ o. option_map (seen Leaf) (option_map held_leaf o)) (sym c.in-Some.ensures)) (sym c.as_bytes-key.ensures) (
+      between c.in-Some.node.now.previous c.in-Some.node.now.next,
+      ap (λ o. option_and_then links_of (option_map held_leaf o)) (sym c.in-Some.ensures),
+      inr (refl, ap (option_map leaf_name) c.in-Some-next.is),
+    ))
 
 pub returns-then-not-starts_with-clause-fault : goal.returns-then-not-starts_with-clause-fault
-returns-then-not-starts_with-clause-fault g c root reach =
-    (leaf_name c.args.leaf, pair_of c.in-Some.node.now, (subst (λ place. Reaches (of_key g.K.AsBytes.bytes) g.row.P c.args.store.now root place (leaf_name c.args.leaf)) (sym c.in_ok-from_slice.ensures) reach, ap (λ o. option_map (seen Leaf) (option_map held_leaf o)) (sym c.in-Some.ensures)), sym c.as_bytes-key.ensures ∙ sym c.in_ok-copy_of.ensures, λ front. false≢true (sym c.if-not-starts_with.true ∙ c.starts_with.ensures.value ∙ tests c.as_bytes-key.result.now c.args.place.now front.0 (sym c.in_ok-copy_of.ensures ∙ front.1 ∙ ap (λ p. p ++ front.0) c.in_ok-from_slice.ensures)))
+returns-then-not-starts_with-clause-fault g c root reach = (
+  leaf_name c.args.leaf,
+  pair_of c.in-Some.node.now,
+  (
+    subst
+        (λ place. Reaches (of_key g.K.AsBytes.bytes) g.row.P c.args.store.now root place (leaf_name c.args.leaf)) (sym c.in_ok-from_slice.ensures)
+        reach,
+    ap (λ o. option_map (seen Leaf) (option_map held_leaf o)) (sym c.in-Some.ensures),
+  ),
+  sym c.as_bytes-key.ensures ∙
+      sym c.in_ok-copy_of.ensures,
+  λ front. false≢true (sym c.if-not-starts_with.true ∙ c.starts_with.ensures.value ∙
+      tests c.as_bytes-key.result.now c.args.place.now front.0 (sym c.in_ok-copy_of.ensures ∙ front.1 ∙ ap (λ p. p ++ front.0) c.in_ok-from_slice.ensures)),
+)
 
 pub returns-clause-siblings : goal.returns-clause-siblings
 returns-clause-siblings g c node is =
@@ -61,4 +88,6 @@ returns-clause-siblings g c node is =
       | in-Some-next+in_ok-check_order-2 w ↦ subst (λ o. IfSome o (λ l. IsInOrder bytes g.row.P c.args.store.now l Greater key)) (sym w.in-Some-next.is) w.in_ok-check_order-2.ensures.sibling
       | in_default-next w ↦ subst (λ o. IfSome o (λ l. IsInOrder bytes g.row.P c.args.store.now l Greater key)) (sym w.in_default-next.is) tt
     ] in
-    subst (IsBetween bytes g.row.P c.args.store.now) same (subst (λ k. IfSome c.in-Some.node.now.previous (λ l. IsInOrder bytes g.row.P c.args.store.now l Less k) × IfSome c.in-Some.node.now.next (λ l. IsInOrder bytes g.row.P c.args.store.now l Greater k)) c.as_bytes-key.ensures (before, after))
+    subst (IsBetween bytes g.row.P c.args.store.now) same (subst
+    (λ k. IfSome c.in-Some.node.now.previous (λ l. IsInOrder bytes g.row.P c.args.store.now l Less k) ×
+    IfSome c.in-Some.node.now.next (λ l. IsInOrder bytes g.row.P c.args.store.now l Greater k)) c.as_bytes-key.ensures (before, after))

@@ -49,21 +49,31 @@ pub down-preserved : goal.down-preserved
 down-preserved g c =
     let there : map.get c.args.store.now.inners c.in-Inner.inner ≡ Some (ref_view c.in-Some.node) = sym c.in-Some.ensures.view in
     let slots = sym c.iter.ensures.children ∙ c.in-Some-next.ensures.steps in
-    let has : HasLeast (node_at c.args.store.now) (inner_name c.in-Inner.inner) c.in-Some-next.child = (header_at c.in-Inner.inner.kind (ref_view c.in-Some.node), c.in-Some-next.field-0-0, c.next.new.self, inner_at c.args.store.now c.in-Inner.inner (ref_view c.in-Some.node) c.in-Inner.ensures.proper there ∙ ap (λ l. Some (inner_node (header_at c.in-Inner.inner.kind (ref_view c.in-Some.node)) l)) slots) in
+    let has : HasLeast (node_at c.args.store.now) (inner_name c.in-Inner.inner) c.in-Some-next.child = (
+      header_at c.in-Inner.inner.kind (ref_view c.in-Some.node),
+      c.in-Some-next.field-0-0,
+      c.next.new.self,
+      inner_at c.args.store.now
+          c.in-Inner.inner (ref_view c.in-Some.node) c.in-Inner.ensures.proper there ∙ ap (λ l. Some (inner_node (header_at c.in-Inner.inner.kind (ref_view c.in-Some.node)) l)) slots,
+    ) in
     down_more c.in-Inner.inner c.in-Some-next.child c.down.invariant c.in-Inner.ensures.name has
     (λ q e. either (is_eq (derived.cmp-value.it c.in-Inner.inner q)) (contains derived.cmp-value.it c.down.passed q) q (same_inner c.in-Inner.inner q) (sym (c.in_ok-insert.ensures.updates.0 q) ∙ e))
 
 pub returns-in-Leaf : goal.returns-in-Leaf
 returns-in-Leaf g c =
     let mapped : c.map.result ≡ option_map {U = LeafPtr} (λ _. c.in-Leaf.leaf) c.leaf.result = search rules in
-    ends_at_leaf (of_key g.K.AsBytes.bytes) g.row.P c.args.store.now c.down.invariant c.in-Leaf.leaf c.map.result (option_copied c.leaf.result) c.in-Leaf.ensures.name (sym c.leaf.ensures) (mapped ∙ copied c.in-Leaf.leaf c.leaf.result)
+    ends_at_leaf (of_key g.K.AsBytes.bytes) g.row.P c.args.store.now c.down.invariant c.in-Leaf.leaf c.map.result (option_copied c.leaf.result)
+    c.in-Leaf.ensures.name (sym c.leaf.ensures) (mapped ∙ copied c.in-Leaf.leaf c.leaf.result)
 
 pub returns-in_default : goal.returns-in_default
-returns-in_default g c = ends_nowhere (of_key g.K.AsBytes.bytes) g.row.P c.args.store.now c.down.invariant c.in-Inner.inner c.in-Inner.ensures.proper c.in-Inner.ensures.name (sym c.in_default.ensures.view)
+returns-in_default g c =
+    ends_nowhere (of_key g.K.AsBytes.bytes) g.row.P c.args.store.now c.down.invariant c.in-Inner.inner c.in-Inner.ensures.proper c.in-Inner.ensures.name (sym c.in_default.ensures.view)
 
 pub returns-then-not-branch : goal.returns-then-not-branch
 returns-then-not-branch g c = ends_again (of_key g.K.AsBytes.bytes) g.row.P c.args.store.now c.down.invariant c.in-Inner.inner c.in-Inner.ensures.proper c.in-Inner.ensures.name
     (was_old (contains derived.cmp-value.it c.down.passed c.in-Inner.inner) c.in_ok-insert.field-0 c.in_ok-insert.ensures.added c.if-not-branch.true)
 
 pub returns-in_default-next : goal.returns-in_default-next
-returns-in_default-next g c = ends_childless (of_key g.K.AsBytes.bytes) g.row.P c.args.store.now c.down.invariant c.in-Inner.inner c.in-Inner.ensures.proper c.in-Inner.ensures.name (ref_view c.in-Some.node) (sym c.in-Some.ensures.view) (sym c.iter.ensures.children ∙ c.in_default-next.ensures.steps.0)
+returns-in_default-next g c =
+    ends_childless (of_key g.K.AsBytes.bytes) g.row.P c.args.store.now c.down.invariant c.in-Inner.inner c.in-Inner.ensures.proper
+    c.in-Inner.ensures.name (ref_view c.in-Some.node) (sym c.in-Some.ensures.view) (sym c.iter.ensures.children ∙ c.in_default-next.ensures.steps.0)

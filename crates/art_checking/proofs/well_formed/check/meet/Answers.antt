@@ -14,5 +14,9 @@ returns-in-Some-clause-fault g c root reached reach off =
     let first = prefix_bytes c.in_ok-clone.field-0 in
     let at : place_in c.args.seen.now c.args.name ≡ Some first = sym c.in-Some.ensures ∙ ap Some (sym c.in_ok-clone.ensures.cases) in
     let one = reached c.args.name first at in
-    let other = subst (λ place. Reaches bytes g.row.P c.args.store.now root place c.args.name) (sym c.in_ok-from_slice.ensures) reach in
-    (one, other, other_way (node_at c.args.store.now) bytes g.row.P root c.args.name c.args.name first (prefix_bytes c.in_ok-from_slice.field-0) one other (λ e. off first at (e ∙ c.in_ok-from_slice.ensures)))
+    let other = subst (λ place. Reaches bytes g.row.P c.args.store.now root place c.args.name) (sym c.in_ok-from_slice.ensures) reach in (
+      one,
+      other,
+      other_way (node_at c.args.store.now) bytes g.row.P root c.args.name c.args.name first (prefix_bytes c.in_ok-from_slice.field-0) one
+          other (λ e. off first at (e ∙ c.in_ok-from_slice.ensures)),
+    )

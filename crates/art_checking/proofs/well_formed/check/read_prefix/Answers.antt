@@ -30,7 +30,10 @@ returns-in_default-clause-fault g c root reach =
     let node = ref_view c.args.node in
     let long = c.prefix_len-len.ensures in
     let deep : c.len.result ≡ length place = c.len.ensures ∙ c.args.place.now.ok.0 in
-    let read = subst (IsReadFrom bytes g.row.P s name (length place) node.prefix.len) c.in_default.is (subst (λ n. IsReadFrom bytes g.row.P s name (length place) n c.in_ok-found.part) long (subst (λ n. IsReadFrom bytes g.row.P s name n c.prefix_len-len.result c.in_ok-found.part) deep c.in_ok-found.ensures.part)) in
+    let read =
+    subst (IsReadFrom bytes g.row.P s name (length place) node.prefix.len) c.in_default.is
+    (subst (λ n. IsReadFrom bytes g.row.P s name (length place) n c.in_ok-found.part) long
+    (subst (λ n. IsReadFrom bytes g.row.P s name n c.prefix_len-len.result c.in_ok-found.part) deep c.in_ok-found.ensures.part)) in
     subst (λ n. IsUnreadable bytes g.row.P s root (c.in_ok-from_slice.field-0.bytes.items) n) (sym c.to_opaque.ensures)
     (subst (λ p. IsUnreadable bytes g.row.P s root p name) (sym (c.in_ok-from_slice.ensures ∙ c.deref.ensures.value))
     (unreadable bytes g.row.P s c.args.name node place c.requires.proper c.requires.there (subst (λ n. g.row.P < n) long c.if-len.false) root read reach))
@@ -44,14 +47,18 @@ returns-then-ne-clause-fault g c root reach =
     let node = ref_view c.args.node in
     let long = c.prefix_len-len.ensures in
     let deep : c.len.result ≡ length place = c.len.ensures ∙ c.args.place.now.ok.0 in
-    let read = subst (IsReadFrom bytes g.row.P s name (length place) node.prefix.len) c.in-Some.is (subst (λ n. IsReadFrom bytes g.row.P s name (length place) n c.in_ok-found.part) long (subst (λ n. IsReadFrom bytes g.row.P s name n c.prefix_len-len.result c.in_ok-found.part) deep c.in_ok-found.ensures.part)) in
+    let read =
+    subst (IsReadFrom bytes g.row.P s name (length place) node.prefix.len) c.in-Some.is
+    (subst (λ n. IsReadFrom bytes g.row.P s name (length place) n c.in_ok-found.part) long
+    (subst (λ n. IsReadFrom bytes g.row.P s name n c.prefix_len-len.result c.in_ok-found.part) deep c.in_ok-found.ensures.part)) in
     let front : c.split_at.result.0.now ≡ take g.row.P c.in-Some.part.now = c.split_at.ensures.front in
     let stored : c.read_prefix-stored.result.now ≡ node.prefix.stored = c.read_prefix-stored.ensures.stored in
     let off : take g.row.P c.in-Some.part.now ≢ node.prefix.stored = λ e. differs c.split_at.result.0.now c.read_prefix-stored.result.now (sym c.ne.ensures ∙ c.if-ne.true) (front ∙ e ∙ sym stored) in
     subst (λ p. StoresOthers bytes g.row.P s root p c.in_ok-copy_of.field-0.items c.in_ok-copy_of-2.field-0.items) (sym (c.in_ok-from_slice-2.ensures ∙ c.deref-then-ne.ensures.value))
     (subst (λ a. StoresOthers bytes g.row.P s root place a c.in_ok-copy_of-2.field-0.items) (sym (c.in_ok-copy_of.ensures ∙ stored))
     (subst (λ a. StoresOthers bytes g.row.P s root place node.prefix.stored a) (sym (c.in_ok-copy_of-2.ensures ∙ front))
-    (stores_others bytes g.row.P s c.args.name node place c.requires.proper c.requires.there (subst (λ n. g.row.P < n) long c.if-len.false) root c.in-Some.part read c.read_prefix-stored.ensures.count off reach)))
+    (stores_others bytes g.row.P s c.args.name node place c.requires.proper c.requires.there (subst (λ n. g.row.P < n) long c.if-len.false) root
+    c.in-Some.part read c.read_prefix-stored.ensures.count off reach)))
 
 pub returns-clause-prefix : goal.returns-clause-prefix
 returns-clause-prefix g c =
@@ -62,7 +69,10 @@ returns-clause-prefix g c =
     let node = ref_view c.args.node in
     let long = c.prefix_len-len.ensures in
     let deep : c.len.result ≡ length place = c.len.ensures ∙ c.args.place.now.ok.0 in
-    let read = subst (IsReadFrom bytes g.row.P s name (length place) node.prefix.len) c.in-Some.is (subst (λ n. IsReadFrom bytes g.row.P s name (length place) n c.in_ok-found.part) long (subst (λ n. IsReadFrom bytes g.row.P s name n c.prefix_len-len.result c.in_ok-found.part) deep c.in_ok-found.ensures.part)) in
+    let read =
+    subst (IsReadFrom bytes g.row.P s name (length place) node.prefix.len) c.in-Some.is
+    (subst (λ n. IsReadFrom bytes g.row.P s name (length place) n c.in_ok-found.part) long
+    (subst (λ n. IsReadFrom bytes g.row.P s name n c.prefix_len-len.result c.in_ok-found.part) deep c.in_ok-found.ensures.part)) in
     record {
       part = c.in-Some.part.now;
       is = c.in_ok-extend_from_slice-2.ensures.items;

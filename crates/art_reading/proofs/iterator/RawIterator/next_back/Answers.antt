@@ -25,7 +25,8 @@ unreachable-requires-in_default-previous g c =
 pub returns-clause-rest : goal.returns-clause-rest
 returns-clause-rest g c names is =
     let e : c.args.self.now ≡ Some (c.in_ok-start.start, c.in_ok-start.end) = cc in
-    previous_left c.args.store.now c.in_ok-start.start c.in_ok-start.end names (sym c.eq.ensures ∙ c.if-eq.false) (rw e at is) c.in-Some.leaf.now c.in-Some-previous.previous c.in-Some.ensures c.in-Some-previous.is
+    previous_left c.args.store.now c.in_ok-start.start c.in_ok-start.end names (sym c.eq.ensures ∙ c.if-eq.false) (rw e at is) c.in-Some.leaf.now
+    c.in-Some-previous.previous c.in-Some.ensures c.in-Some-previous.is
 
 pub returns-then-eq-clause-there : goal.returns-then-eq-clause-there
 returns-then-eq-clause-there g c =

@@ -3,16 +3,20 @@ use Rattle.art_writing.proofs.Deletions.{canonical_deleted, leaf_deleted, root_d
 use Rattle.art_writing.proofs.delete.DeletePoint.apply.Goals as goal
 
 pub returns-in_default-clause-canonical : goal.returns-in_default-clause-canonical
-returns-in_default-clause-canonical g c = canonical_deleted g.K.AsBytes.bytes g.row.PREFIX_LEN c.args.store.now c.delete_root.new.store c.args.root c.args.self (Ok c.delete_root.result) c.requires c.delete_root.ensures.deleted
+returns-in_default-clause-canonical g c =
+    canonical_deleted g.K.AsBytes.bytes g.row.PREFIX_LEN c.args.store.now c.delete_root.new.store c.args.root c.args.self (Ok c.delete_root.result) c.requires c.delete_root.ensures.deleted
 
 pub returns-in_default-clause-deleted : goal.returns-in_default-clause-deleted
-returns-in_default-clause-deleted g c = leaf_deleted g.K.AsBytes.bytes g.row.PREFIX_LEN c.args.store.now c.delete_root.new.store c.args.root c.args.self (Ok c.delete_root.result) c.requires c.delete_root.ensures.deleted
+returns-in_default-clause-deleted g c =
+    leaf_deleted g.K.AsBytes.bytes g.row.PREFIX_LEN c.args.store.now c.delete_root.new.store c.args.root c.args.self (Ok c.delete_root.result) c.requires c.delete_root.ensures.deleted
 
 pub returns-in_default-clause-root : goal.returns-in_default-clause-root
-returns-in_default-clause-root g c = root_deleted g.K.AsBytes.bytes g.row.PREFIX_LEN c.args.store.now c.delete_root.new.store c.args.root c.args.self (Ok c.delete_root.result) c.requires c.delete_root.ensures.deleted
+returns-in_default-clause-root g c =
+    root_deleted g.K.AsBytes.bytes g.row.PREFIX_LEN c.args.store.now c.delete_root.new.store c.args.root c.args.self (Ok c.delete_root.result) c.requires c.delete_root.ensures.deleted
 
 pub returns-in_default-clause-kept : goal.returns-in_default-clause-kept
-returns-in_default-clause-kept g c = kept_deleted g.K.AsBytes.bytes g.row.PREFIX_LEN c.args.store.now c.delete_root.new.store c.args.root c.args.self (Ok c.delete_root.result) c.requires c.delete_root.ensures.deleted
+returns-in_default-clause-kept g c =
+    kept_deleted g.K.AsBytes.bytes g.row.PREFIX_LEN c.args.store.now c.delete_root.new.store c.args.root c.args.self (Ok c.delete_root.result) c.requires c.delete_root.ensures.deleted
 
 pub unreachable-requires : goal.unreachable-requires
 unreachable-requires g c =
@@ -20,49 +24,65 @@ unreachable-requires g c =
     parent_at by leads (sym c.last_step.ensures ∙ c.in-Some.is) (sym c.in_default-inner.ensures.view)
 
 pub returns-then-num_children-start-clause-canonical : goal.returns-then-num_children-start-clause-canonical
-returns-then-num_children-start-clause-canonical g c = canonical_deleted g.K.AsBytes.bytes g.row.PREFIX_LEN c.args.store.now c.delete_child.new.store c.args.root c.args.self (Ok c.delete_child.result) c.requires c.delete_child.ensures.deleted
+returns-then-num_children-start-clause-canonical g c =
+    canonical_deleted g.K.AsBytes.bytes g.row.PREFIX_LEN c.args.store.now c.delete_child.new.store c.args.root c.args.self (Ok c.delete_child.result) c.requires c.delete_child.ensures.deleted
 
 pub returns-then-num_children-start-clause-deleted : goal.returns-then-num_children-start-clause-deleted
-returns-then-num_children-start-clause-deleted g c = leaf_deleted g.K.AsBytes.bytes g.row.PREFIX_LEN c.args.store.now c.delete_child.new.store c.args.root c.args.self (Ok c.delete_child.result) c.requires c.delete_child.ensures.deleted
+returns-then-num_children-start-clause-deleted g c =
+    leaf_deleted g.K.AsBytes.bytes g.row.PREFIX_LEN c.args.store.now c.delete_child.new.store c.args.root c.args.self (Ok c.delete_child.result) c.requires c.delete_child.ensures.deleted
 
 pub returns-then-num_children-start-clause-root : goal.returns-then-num_children-start-clause-root
-returns-then-num_children-start-clause-root g c = root_deleted g.K.AsBytes.bytes g.row.PREFIX_LEN c.args.store.now c.delete_child.new.store c.args.root c.args.self (Ok c.delete_child.result) c.requires c.delete_child.ensures.deleted
+returns-then-num_children-start-clause-root g c =
+    root_deleted g.K.AsBytes.bytes g.row.PREFIX_LEN c.args.store.now c.delete_child.new.store c.args.root c.args.self (Ok c.delete_child.result) c.requires c.delete_child.ensures.deleted
 
 pub returns-then-num_children-start-clause-kept : goal.returns-then-num_children-start-clause-kept
-returns-then-num_children-start-clause-kept g c = kept_deleted g.K.AsBytes.bytes g.row.PREFIX_LEN c.args.store.now c.delete_child.new.store c.args.root c.args.self (Ok c.delete_child.result) c.requires c.delete_child.ensures.deleted
+returns-then-num_children-start-clause-kept g c =
+    kept_deleted g.K.AsBytes.bytes g.row.PREFIX_LEN c.args.store.now c.delete_child.new.store c.args.root c.args.self (Ok c.delete_child.result) c.requires c.delete_child.ensures.deleted
 
 pub returns-then-eq-clause-canonical : goal.returns-then-eq-clause-canonical
-returns-then-eq-clause-canonical g c = canonical_deleted g.K.AsBytes.bytes g.row.PREFIX_LEN c.args.store.now c.compress_parent.new.store c.args.root c.args.self (Ok c.compress_parent.result) c.requires c.compress_parent.ensures.deleted
+returns-then-eq-clause-canonical g c =
+    canonical_deleted g.K.AsBytes.bytes g.row.PREFIX_LEN c.args.store.now c.compress_parent.new.store c.args.root c.args.self (Ok c.compress_parent.result) c.requires c.compress_parent.ensures.deleted
 
 pub returns-then-eq-clause-deleted : goal.returns-then-eq-clause-deleted
-returns-then-eq-clause-deleted g c = leaf_deleted g.K.AsBytes.bytes g.row.PREFIX_LEN c.args.store.now c.compress_parent.new.store c.args.root c.args.self (Ok c.compress_parent.result) c.requires c.compress_parent.ensures.deleted
+returns-then-eq-clause-deleted g c =
+    leaf_deleted g.K.AsBytes.bytes g.row.PREFIX_LEN c.args.store.now c.compress_parent.new.store c.args.root c.args.self (Ok c.compress_parent.result) c.requires c.compress_parent.ensures.deleted
 
 pub returns-then-eq-clause-root : goal.returns-then-eq-clause-root
-returns-then-eq-clause-root g c = root_deleted g.K.AsBytes.bytes g.row.PREFIX_LEN c.args.store.now c.compress_parent.new.store c.args.root c.args.self (Ok c.compress_parent.result) c.requires c.compress_parent.ensures.deleted
+returns-then-eq-clause-root g c =
+    root_deleted g.K.AsBytes.bytes g.row.PREFIX_LEN c.args.store.now c.compress_parent.new.store c.args.root c.args.self (Ok c.compress_parent.result) c.requires c.compress_parent.ensures.deleted
 
 pub returns-then-eq-clause-kept : goal.returns-then-eq-clause-kept
-returns-then-eq-clause-kept g c = kept_deleted g.K.AsBytes.bytes g.row.PREFIX_LEN c.args.store.now c.compress_parent.new.store c.args.root c.args.self (Ok c.compress_parent.result) c.requires c.compress_parent.ensures.deleted
+returns-then-eq-clause-kept g c =
+    kept_deleted g.K.AsBytes.bytes g.row.PREFIX_LEN c.args.store.now c.compress_parent.new.store c.args.root c.args.self (Ok c.compress_parent.result) c.requires c.compress_parent.ensures.deleted
 
 pub returns-clause-canonical : goal.returns-clause-canonical
-returns-clause-canonical g c = canonical_deleted g.K.AsBytes.bytes g.row.PREFIX_LEN c.args.store.now c.shrink_parent.new.store c.args.root c.args.self c.shrink_parent.result c.requires c.shrink_parent.ensures.deleted
+returns-clause-canonical g c =
+    canonical_deleted g.K.AsBytes.bytes g.row.PREFIX_LEN c.args.store.now c.shrink_parent.new.store c.args.root c.args.self c.shrink_parent.result c.requires c.shrink_parent.ensures.deleted
 
 pub returns-clause-deleted : goal.returns-clause-deleted
-returns-clause-deleted g c = leaf_deleted g.K.AsBytes.bytes g.row.PREFIX_LEN c.args.store.now c.shrink_parent.new.store c.args.root c.args.self c.shrink_parent.result c.requires c.shrink_parent.ensures.deleted
+returns-clause-deleted g c =
+    leaf_deleted g.K.AsBytes.bytes g.row.PREFIX_LEN c.args.store.now c.shrink_parent.new.store c.args.root c.args.self c.shrink_parent.result c.requires c.shrink_parent.ensures.deleted
 
 pub returns-clause-root : goal.returns-clause-root
-returns-clause-root g c = root_deleted g.K.AsBytes.bytes g.row.PREFIX_LEN c.args.store.now c.shrink_parent.new.store c.args.root c.args.self c.shrink_parent.result c.requires c.shrink_parent.ensures.deleted
+returns-clause-root g c =
+    root_deleted g.K.AsBytes.bytes g.row.PREFIX_LEN c.args.store.now c.shrink_parent.new.store c.args.root c.args.self c.shrink_parent.result c.requires c.shrink_parent.ensures.deleted
 
 pub returns-clause-kept : goal.returns-clause-kept
-returns-clause-kept g c = kept_deleted g.K.AsBytes.bytes g.row.PREFIX_LEN c.args.store.now c.shrink_parent.new.store c.args.root c.args.self c.shrink_parent.result c.requires c.shrink_parent.ensures.deleted
+returns-clause-kept g c =
+    kept_deleted g.K.AsBytes.bytes g.row.PREFIX_LEN c.args.store.now c.shrink_parent.new.store c.args.root c.args.self c.shrink_parent.result c.requires c.shrink_parent.ensures.deleted
 
 pub returns-in_default-clause-left : goal.returns-in_default-clause-left
-returns-in_default-clause-left g c = left_deleted g.K.AsBytes.bytes g.row.PREFIX_LEN c.args.store.now c.delete_root.new.store c.args.root c.args.self (Ok c.delete_root.result) c.requires c.delete_root.ensures.deleted
+returns-in_default-clause-left g c =
+    left_deleted g.K.AsBytes.bytes g.row.PREFIX_LEN c.args.store.now c.delete_root.new.store c.args.root c.args.self (Ok c.delete_root.result) c.requires c.delete_root.ensures.deleted
 
 pub returns-then-num_children-start-clause-left : goal.returns-then-num_children-start-clause-left
-returns-then-num_children-start-clause-left g c = left_deleted g.K.AsBytes.bytes g.row.PREFIX_LEN c.args.store.now c.delete_child.new.store c.args.root c.args.self (Ok c.delete_child.result) c.requires c.delete_child.ensures.deleted
+returns-then-num_children-start-clause-left g c =
+    left_deleted g.K.AsBytes.bytes g.row.PREFIX_LEN c.args.store.now c.delete_child.new.store c.args.root c.args.self (Ok c.delete_child.result) c.requires c.delete_child.ensures.deleted
 
 pub returns-then-eq-clause-left : goal.returns-then-eq-clause-left
-returns-then-eq-clause-left g c = left_deleted g.K.AsBytes.bytes g.row.PREFIX_LEN c.args.store.now c.compress_parent.new.store c.args.root c.args.self (Ok c.compress_parent.result) c.requires c.compress_parent.ensures.deleted
+returns-then-eq-clause-left g c =
+    left_deleted g.K.AsBytes.bytes g.row.PREFIX_LEN c.args.store.now c.compress_parent.new.store c.args.root c.args.self (Ok c.compress_parent.result) c.requires c.compress_parent.ensures.deleted
 
 pub returns-clause-left : goal.returns-clause-left
-returns-clause-left g c = left_deleted g.K.AsBytes.bytes g.row.PREFIX_LEN c.args.store.now c.shrink_parent.new.store c.args.root c.args.self c.shrink_parent.result c.requires c.shrink_parent.ensures.deleted
+returns-clause-left g c =
+    left_deleted g.K.AsBytes.bytes g.row.PREFIX_LEN c.args.store.now c.shrink_parent.new.store c.args.root c.args.self c.shrink_parent.result c.requires c.shrink_parent.ensures.deleted

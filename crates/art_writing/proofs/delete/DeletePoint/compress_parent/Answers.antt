@@ -20,25 +20,40 @@ pub leaf_beside-beside-requires : goal.leaf_beside-beside-requires
 leaf_beside-beside-requires g c =
     let (pairs, layout, x, by, leads) = c.requires.answers in
     let at = is_one_of_two by leads c.requires.parent c.requires.compressed in
-    let least = least_left at (any_view c.free_inner-node.result) (ref_view c.as_ref.result) c.min-other_byte.result c.free_inner-node.ensures.node (c.as_ref.ensures.view ∙ c.remove_child.ensures.rest) c.min-other_byte.ensures.first in
+    let least =
+    least_left at (any_view c.free_inner-node.result) (ref_view c.as_ref.result) c.min-other_byte.result c.free_inner-node.ensures.node
+    (c.as_ref.ensures.view ∙ c.remove_child.ensures.rest) c.min-other_byte.ensures.first in
     (search rules, beside_ready at c.free_inner-node.new.self.leaves c.min-other_byte.result.0 c.free_inner-node.ensures.leaves (ap (λ z. z.0) least))
 
 pub lengthen_prefix-requires : goal.lengthen_prefix-requires
 lengthen_prefix-requires g c =
     let (pairs, layout, x, by, leads) = c.requires.answers in
     let at = is_one_of_two by leads c.requires.parent c.requires.compressed in
-    let least = least_left at (any_view c.free_inner-node.result) (ref_view c.as_ref.result) c.min-other_byte.result c.free_inner-node.ensures.node (c.as_ref.ensures.view ∙ c.remove_child.ensures.rest) c.min-other_byte.ensures.first in
+    let least =
+    least_left at (any_view c.free_inner-node.result) (ref_view c.as_ref.result) c.min-other_byte.result c.free_inner-node.ensures.node
+    (c.as_ref.ensures.view ∙ c.remove_child.ensures.rest) c.min-other_byte.ensures.first in
     let front = c.header.ensures ∙ ap (λ z. z.prefix) (c.as_ref-2.ensures.view ∙ c.remove_child.ensures.rest) ∙ own_header at (any_view c.free_inner-node.result) c.free_inner-node.ensures.node in
-    let beside = beside_found at c.free_inner-node.new.self.leaves c.min-other_byte.result.0 c.leaf_beside-beside.result c.free_inner-node.ensures.leaves (ap (λ z. z.0) least) c.leaf_beside-beside.ensures in
-    (search rules, (search rules, may_lengthen at c.free_inner-node.new.self.leaves c.free_inner-node.new.self.inners c.min-other_byte.result.1 c.leaf_beside-beside.result c.header.result c.free_inner-node.ensures.leaves c.free_inner-node.ensures.inners (ap (λ z. z.1) least) beside front))
+    let beside =
+    beside_found at c.free_inner-node.new.self.leaves c.min-other_byte.result.0 c.leaf_beside-beside.result c.free_inner-node.ensures.leaves (ap (λ z. z.0) least) c.leaf_beside-beside.ensures in (
+      search rules,
+      (
+        search rules,
+        may_lengthen at c.free_inner-node.new.self.leaves c.free_inner-node.new.self.inners c.min-other_byte.result.1
+            c.leaf_beside-beside.result c.header.result c.free_inner-node.ensures.leaves c.free_inner-node.ensures.inners (ap (λ z. z.1) least) beside front,
+      ),
+    )
 
 pub replace_at-requires : goal.replace_at-requires
 replace_at-requires g c =
     let (pairs, layout, x, by, leads) = c.requires.answers in
     let at = is_one_of_two by leads c.requires.parent c.requires.compressed in
-    let least = least_left at (any_view c.free_inner-node.result) (ref_view c.as_ref.result) c.min-other_byte.result c.free_inner-node.ensures.node (c.as_ref.ensures.view ∙ c.remove_child.ensures.rest) c.min-other_byte.ensures.first in
+    let least =
+    least_left at (any_view c.free_inner-node.result) (ref_view c.as_ref.result) c.min-other_byte.result c.free_inner-node.ensures.node
+    (c.as_ref.ensures.view ∙ c.remove_child.ensures.rest) c.min-other_byte.ensures.first in
     let front = c.header.ensures ∙ ap (λ z. z.prefix) (c.as_ref-2.ensures.view ∙ c.remove_child.ensures.rest) ∙ own_header at (any_view c.free_inner-node.result) c.free_inner-node.ensures.node in
-    let lengthened = lengthened_is at c.free_inner-node.new.self.inners c.lengthen_prefix.new.store.inners c.min-other_byte.result.1 c.min-other_byte.result.0 c.header.result c.free_inner-node.ensures.inners (ap (λ z. z.1) least) (ap (λ z. z.0) least) front c.lengthen_prefix.ensures.leaf c.lengthen_prefix.ensures.inner in
+    let lengthened =
+    lengthened_is at c.free_inner-node.new.self.inners c.lengthen_prefix.new.store.inners c.min-other_byte.result.1 c.min-other_byte.result.0
+    c.header.result c.free_inner-node.ensures.inners (ap (λ z. z.1) least) (ap (λ z. z.0) least) front c.lengthen_prefix.ensures.leaf c.lengthen_prefix.ensures.inner in
     (search rules, above_ready at c.lengthen_prefix.new.store.inners c.up.result lengthened c.up.ensures)
 
 pub take_from_between-requires : goal.take_from_between-requires
@@ -50,9 +65,13 @@ take_from_between-requires g c =
 pub returns-clause-deleted : goal.returns-clause-deleted
 returns-clause-deleted g c pairs layout by x leads =
     let at = is_one_of_two by leads c.requires.parent c.requires.compressed in
-    let least = least_left at (any_view c.free_inner-node.result) (ref_view c.as_ref.result) c.min-other_byte.result c.free_inner-node.ensures.node (c.as_ref.ensures.view ∙ c.remove_child.ensures.rest) c.min-other_byte.ensures.first in
+    let least =
+    least_left at (any_view c.free_inner-node.result) (ref_view c.as_ref.result) c.min-other_byte.result c.free_inner-node.ensures.node
+    (c.as_ref.ensures.view ∙ c.remove_child.ensures.rest) c.min-other_byte.ensures.first in
     let front = c.header.ensures ∙ ap (λ z. z.prefix) (c.as_ref-2.ensures.view ∙ c.remove_child.ensures.rest) ∙ own_header at (any_view c.free_inner-node.result) c.free_inner-node.ensures.node in
-    let lengthened = lengthened_is at c.free_inner-node.new.self.inners c.lengthen_prefix.new.store.inners c.min-other_byte.result.1 c.min-other_byte.result.0 c.header.result c.free_inner-node.ensures.inners (ap (λ z. z.1) least) (ap (λ z. z.0) least) front c.lengthen_prefix.ensures.leaf c.lengthen_prefix.ensures.inner in
+    let lengthened =
+    lengthened_is at c.free_inner-node.new.self.inners c.lengthen_prefix.new.store.inners c.min-other_byte.result.1 c.min-other_byte.result.0
+    c.header.result c.free_inner-node.ensures.inners (ap (λ z. z.1) least) (ap (λ z. z.0) least) front c.lengthen_prefix.ensures.leaf c.lengthen_prefix.ensures.inner in
     let leaves = c.replace_at.ensures.leaves ∙ c.lengthen_prefix.ensures.leaves ∙ c.free_inner-node.ensures.leaves in
     two_deleted at c.take_from_between.new.store c.up.result c.min-other_byte.result.1 c.lengthen_prefix.new.store.inners
     (subst (λ z. IsSomeAnd (get z c.args.self.leaf_node_ptr) (λ leaf. c.take_from_between.new.store.leaves ≡ without_leaf z c.args.self.leaf_node_ptr leaf)) leaves c.take_from_between.ensures.leaves)
@@ -64,9 +83,13 @@ pub returns-clause-touches : goal.returns-clause-touches
 returns-clause-touches g c =
     let (pairs, layout, x, by, leads) = c.requires.answers in
     let at = is_one_of_two by leads c.requires.parent c.requires.compressed in
-    let least = least_left at (any_view c.free_inner-node.result) (ref_view c.as_ref.result) c.min-other_byte.result c.free_inner-node.ensures.node (c.as_ref.ensures.view ∙ c.remove_child.ensures.rest) c.min-other_byte.ensures.first in
+    let least =
+    least_left at (any_view c.free_inner-node.result) (ref_view c.as_ref.result) c.min-other_byte.result c.free_inner-node.ensures.node
+    (c.as_ref.ensures.view ∙ c.remove_child.ensures.rest) c.min-other_byte.ensures.first in
     let front = c.header.ensures ∙ ap (λ z. z.prefix) (c.as_ref-2.ensures.view ∙ c.remove_child.ensures.rest) ∙ own_header at (any_view c.free_inner-node.result) c.free_inner-node.ensures.node in
-    let lengthened = lengthened_is at c.free_inner-node.new.self.inners c.lengthen_prefix.new.store.inners c.min-other_byte.result.1 c.min-other_byte.result.0 c.header.result c.free_inner-node.ensures.inners (ap (λ z. z.1) least) (ap (λ z. z.0) least) front c.lengthen_prefix.ensures.leaf c.lengthen_prefix.ensures.inner in
+    let lengthened =
+    lengthened_is at c.free_inner-node.new.self.inners c.lengthen_prefix.new.store.inners c.min-other_byte.result.1 c.min-other_byte.result.0
+    c.header.result c.free_inner-node.ensures.inners (ap (λ z. z.1) least) (ap (λ z. z.0) least) front c.lengthen_prefix.ensures.leaf c.lengthen_prefix.ensures.inner in
     let leaves = c.replace_at.ensures.leaves ∙ c.lengthen_prefix.ensures.leaves ∙ c.free_inner-node.ensures.leaves in
     two_touches at c.take_from_between.new.store c.up.result c.min-other_byte.result.1 c.lengthen_prefix.new.store.inners
     (subst (λ z. IsSomeAnd (get z c.args.self.leaf_node_ptr) (λ leaf. c.take_from_between.new.store.leaves ≡ without_leaf z c.args.self.leaf_node_ptr leaf)) leaves c.take_from_between.ensures.leaves)

@@ -8,7 +8,8 @@ take_from_between-requires g c =
     (search rules, alone_ready (is_alone by leads c.requires.parent))
 
 pub returns-clause-deleted : goal.returns-clause-deleted
-returns-clause-deleted g c pairs layout by x leads = alone_deleted (is_alone by leads c.requires.parent) c.take_from_between.new.store c.take_from_between.ensures.leaves c.take_from_between.ensures.inners c.take_from_between.ensures.leaf
+returns-clause-deleted g c pairs layout by x leads =
+    alone_deleted (is_alone by leads c.requires.parent) c.take_from_between.new.store c.take_from_between.ensures.leaves c.take_from_between.ensures.inners c.take_from_between.ensures.leaf
 
 pub returns-clause-touches : goal.returns-clause-touches
 returns-clause-touches g c =

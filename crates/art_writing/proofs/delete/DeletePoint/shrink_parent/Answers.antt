@@ -23,7 +23,8 @@ pub shrink-requires : goal.shrink-requires
 shrink-requires g c =
     let (pairs, layout, x, by, leads) = c.requires.answers in
     let taken : IsTaken c.args.store.now c.take_from_between-deleted_leaf.new.store c.args.self.leaf_node_ptr c.take_from_between-deleted_leaf.result =
-    taken_since {r = c.reserve.new.self} c.reserve.ensures.leaves c.reserve.ensures.inners (record { leaf = c.take_from_between-deleted_leaf.ensures.leaf; leaves = c.take_from_between-deleted_leaf.ensures.leaves; inners = c.take_from_between-deleted_leaf.ensures.inners }) in
+    taken_since {r = c.reserve.new.self} c.reserve.ensures.leaves c.reserve.ensures.inners
+    (record { leaf = c.take_from_between-deleted_leaf.ensures.leaf; leaves = c.take_from_between-deleted_leaf.ensures.leaves; inners = c.take_from_between-deleted_leaf.ensures.inners }) in
     let (larger, fit) = shrinks_fit (is_below by leads c.requires.parent) taken (smaller_kind c.args.parent.kind) c.requires.parent c.requires.shrinks c.free_inner-node.ensures.node in (
       search rules,
       subst (λ kind. (kind ≢ Node4) × (length (any_view c.remove_child.new.self).children ≤ kind_capacity (smaller_kind kind))) (sym (c.remove_child.ensures.kind ∙ c.free_inner-node.ensures.kind))
@@ -34,7 +35,8 @@ pub replace_at-new_root-requires : goal.replace_at-new_root-requires
 replace_at-new_root-requires g c =
     let (pairs, layout, x, by, leads) = c.requires.answers in
     let taken : IsTaken c.args.store.now c.take_from_between-deleted_leaf.new.store c.args.self.leaf_node_ptr c.take_from_between-deleted_leaf.result =
-    taken_since {r = c.reserve.new.self} c.reserve.ensures.leaves c.reserve.ensures.inners (record { leaf = c.take_from_between-deleted_leaf.ensures.leaf; leaves = c.take_from_between-deleted_leaf.ensures.leaves; inners = c.take_from_between-deleted_leaf.ensures.inners }) in
+    taken_since {r = c.reserve.new.self} c.reserve.ensures.leaves c.reserve.ensures.inners
+    (record { leaf = c.take_from_between-deleted_leaf.ensures.leaf; leaves = c.take_from_between-deleted_leaf.ensures.leaves; inners = c.take_from_between-deleted_leaf.ensures.inners }) in
     let smaller : IsSmaller c.take_from_between-deleted_leaf.new.store c.place_inner.new.self c.args.parent c.args.byte c.in-Ok.node (any_view c.free_inner-node.result) = record {
       there = c.free_inner-node.ensures.node;
       kind = c.in-Ok.ensures.kind ∙ c.shrink.ensures.kind ∙ ap smaller_kind (c.remove_child.ensures.kind ∙ c.free_inner-node.ensures.kind);
@@ -48,7 +50,8 @@ replace_at-new_root-requires g c =
 pub returns-clause-deleted : goal.returns-clause-deleted
 returns-clause-deleted g c pairs layout by x leads =
     let taken : IsTaken c.args.store.now c.take_from_between-deleted_leaf.new.store c.args.self.leaf_node_ptr c.take_from_between-deleted_leaf.result =
-    taken_since {r = c.reserve.new.self} c.reserve.ensures.leaves c.reserve.ensures.inners (record { leaf = c.take_from_between-deleted_leaf.ensures.leaf; leaves = c.take_from_between-deleted_leaf.ensures.leaves; inners = c.take_from_between-deleted_leaf.ensures.inners }) in
+    taken_since {r = c.reserve.new.self} c.reserve.ensures.leaves c.reserve.ensures.inners
+    (record { leaf = c.take_from_between-deleted_leaf.ensures.leaf; leaves = c.take_from_between-deleted_leaf.ensures.leaves; inners = c.take_from_between-deleted_leaf.ensures.inners }) in
     let smaller : IsSmaller c.take_from_between-deleted_leaf.new.store c.place_inner.new.self c.args.parent c.args.byte c.in-Ok.node (any_view c.free_inner-node.result) = record {
       there = c.free_inner-node.ensures.node;
       kind = c.in-Ok.ensures.kind ∙ c.shrink.ensures.kind ∙ ap smaller_kind (c.remove_child.ensures.kind ∙ c.free_inner-node.ensures.kind);
@@ -69,7 +72,8 @@ pub returns-clause-touches : goal.returns-clause-touches
 returns-clause-touches g c =
     let (pairs, layout, x, by, leads) = c.requires.answers in
     let taken : IsTaken c.args.store.now c.take_from_between-deleted_leaf.new.store c.args.self.leaf_node_ptr c.take_from_between-deleted_leaf.result =
-    taken_since {r = c.reserve.new.self} c.reserve.ensures.leaves c.reserve.ensures.inners (record { leaf = c.take_from_between-deleted_leaf.ensures.leaf; leaves = c.take_from_between-deleted_leaf.ensures.leaves; inners = c.take_from_between-deleted_leaf.ensures.inners }) in
+    taken_since {r = c.reserve.new.self} c.reserve.ensures.leaves c.reserve.ensures.inners
+    (record { leaf = c.take_from_between-deleted_leaf.ensures.leaf; leaves = c.take_from_between-deleted_leaf.ensures.leaves; inners = c.take_from_between-deleted_leaf.ensures.inners }) in
     let smaller : IsSmaller c.take_from_between-deleted_leaf.new.store c.place_inner.new.self c.args.parent c.args.byte c.in-Ok.node (any_view c.free_inner-node.result) = record {
       there = c.free_inner-node.ensures.node;
       kind = c.in-Ok.ensures.kind ∙ c.shrink.ensures.kind ∙ ap smaller_kind (c.remove_child.ensures.kind ∙ c.free_inner-node.ensures.kind);

@@ -61,7 +61,8 @@ put_larger-requires g c =
         (
           larger_has_room c.args.self (c.args.key, c.args.value) by e last c.place_between-leaf_node_ptr.new.store.inners same,
           (
-            subst (λ promise. IsTrue (promises promise.inner (larger_kind p.kind))) (sym c.place_between-leaf_node_ptr.ensures.promise) (inner_promised c.reserve.new.self.promise (larger_kind p.kind) (ap (covers c.reserve.new.self.promise 1) (sym asked) ∙ covered)),
+            subst (λ promise. IsTrue (promises promise.inner (larger_kind p.kind))) (sym c.place_between-leaf_node_ptr.ensures.promise)
+                (inner_promised c.reserve.new.self.promise (larger_kind p.kind) (ap (covers c.reserve.new.self.promise 1) (sym asked) ∙ covered)),
             subst (λ m. HasChild (map.remove m p) (last_step c.args.self.path)) (sym same) (entry_parent by e),
           ),
         ),
@@ -75,7 +76,10 @@ returns-then-is_some-clause-inserted g c pairs layout by =
     let p = c.args.inner_node_ptr in
     let full = (asked_some p.kind (is_full c.args.store.now p) c.kind_if_full-larger.ensures (sym c.is_some.ensures ∙ c.if-is_some.true)).0 in
     let last = not_of_last c.args.self (c.args.key, c.args.value) by e full c.links_below-previous.ensures.few in
-    full_inserted c.args.self (c.args.key, c.args.value) by e _ _ beside c.reserve.new.self c.place_between-leaf_node_ptr.new.store c.reserve.ensures.leaves c.reserve.ensures.inners c.place_between-leaf_node_ptr.ensures.fresh c.place_between-leaf_node_ptr.ensures.leaves c.place_between-leaf_node_ptr.ensures.inners c.to_opaque-child.ensures c.put_larger.new.store c.put_larger.ensures.leaves full last c.put_larger.result.0 c.put_larger.ensures.kind c.put_larger.ensures.fresh c.put_larger.ensures.inners c.requires.point c.put_larger.ensures.root _ c.new_child.ensures
+    full_inserted c.args.self (c.args.key, c.args.value) by e _ _ beside c.reserve.new.self c.place_between-leaf_node_ptr.new.store
+    c.reserve.ensures.leaves c.reserve.ensures.inners c.place_between-leaf_node_ptr.ensures.fresh c.place_between-leaf_node_ptr.ensures.leaves
+    c.place_between-leaf_node_ptr.ensures.inners c.to_opaque-child.ensures c.put_larger.new.store c.put_larger.ensures.leaves full last
+    c.put_larger.result.0 c.put_larger.ensures.kind c.put_larger.ensures.fresh c.put_larger.ensures.inners c.requires.point c.put_larger.ensures.root _ c.new_child.ensures
 
 pub returns-then-is_some-clause-touches : goal.returns-then-is_some-clause-touches
 returns-then-is_some-clause-touches g c =
@@ -85,7 +89,10 @@ returns-then-is_some-clause-touches g c =
     let p = c.args.inner_node_ptr in
     let full = (asked_some p.kind (is_full c.args.store.now p) c.kind_if_full-larger.ensures (sym c.is_some.ensures ∙ c.if-is_some.true)).0 in
     let last = not_of_last c.args.self (c.args.key, c.args.value) by e full c.links_below-previous.ensures.few in
-    full_touched c.args.self (c.args.key, c.args.value) by e _ _ beside c.reserve.new.self c.place_between-leaf_node_ptr.new.store c.reserve.ensures.leaves c.reserve.ensures.inners c.place_between-leaf_node_ptr.ensures.fresh c.place_between-leaf_node_ptr.ensures.leaves c.place_between-leaf_node_ptr.ensures.inners c.to_opaque-child.ensures c.put_larger.new.store c.put_larger.ensures.leaves full last c.put_larger.result.0 c.put_larger.ensures.kind c.put_larger.ensures.fresh c.put_larger.ensures.inners c.requires.point
+    full_touched c.args.self (c.args.key, c.args.value) by e _ _ beside c.reserve.new.self c.place_between-leaf_node_ptr.new.store
+    c.reserve.ensures.leaves c.reserve.ensures.inners c.place_between-leaf_node_ptr.ensures.fresh c.place_between-leaf_node_ptr.ensures.leaves
+    c.place_between-leaf_node_ptr.ensures.inners c.to_opaque-child.ensures c.put_larger.new.store c.put_larger.ensures.leaves full last
+    c.put_larger.result.0 c.put_larger.ensures.kind c.put_larger.ensures.fresh c.put_larger.ensures.inners c.requires.point
 
 pub returns-then-is_some-clause-promise : goal.returns-then-is_some-clause-promise
 returns-then-is_some-clause-promise g c =
@@ -95,7 +102,8 @@ returns-then-is_some-clause-promise g c =
     c.put_larger.ensures.promise
     ∙ ap (λ promise. inner_taken (Some (larger_kind p.kind)) promise) c.place_between-leaf_node_ptr.ensures.promise
     ∙ ap (λ kind. inner_taken kind (take_leaf c.reserve.new.self.promise)) (sym asked)
-    ∙ after_reserve c.args.store.now c.reserve.new.self c.kind_if_full-larger.result c.reserve.ensures.covered (λ not_covered. not_refused c.reserve.result granted (c.reserve.ensures.granted not_covered))
+    ∙ after_reserve c.args.store.now c.reserve.new.self c.kind_if_full-larger.result c.reserve.ensures.covered
+    (λ not_covered. not_refused c.reserve.result granted (c.reserve.ensures.granted not_covered))
     ∙ ap (λ kind. promise_after (record { leaves = 1; inner = kind }) c.args.store.now.promise) c.kind_if_full-larger.ensures
     ∙ ap (λ kind. promise_after (placed_for c.args.store.now kind) c.args.store.now.promise) (sym c.requires.point)
 
@@ -114,7 +122,10 @@ returns-clause-inserted g c pairs layout by =
     let beside = c.links_below-previous.ensures.beside e.left e.right (entry_gap by e) in
     let p = c.args.inner_node_ptr in
     let room = asked_none p.kind (is_full c.args.store.now p) c.kind_if_full-larger.ensures (sym c.is_some.ensures ∙ c.if-is_some.false) in
-    room_inserted c.args.self (c.args.key, c.args.value) by e _ _ beside c.reserve.new.self c.place_between-leaf_node_ptr.new.store c.reserve.ensures.leaves c.reserve.ensures.inners c.place_between-leaf_node_ptr.ensures.fresh c.place_between-leaf_node_ptr.ensures.leaves c.place_between-leaf_node_ptr.ensures.inners c.to_opaque-child.ensures c.write_child.new.self c.write_child.ensures.leaves room c.write_child.ensures.inners c.requires.point _ c.new_child-2.ensures
+    room_inserted c.args.self (c.args.key, c.args.value) by e _ _ beside c.reserve.new.self c.place_between-leaf_node_ptr.new.store
+    c.reserve.ensures.leaves c.reserve.ensures.inners c.place_between-leaf_node_ptr.ensures.fresh c.place_between-leaf_node_ptr.ensures.leaves
+    c.place_between-leaf_node_ptr.ensures.inners c.to_opaque-child.ensures c.write_child.new.self c.write_child.ensures.leaves room
+    c.write_child.ensures.inners c.requires.point _ c.new_child-2.ensures
 
 pub returns-clause-touches : goal.returns-clause-touches
 returns-clause-touches g c =
@@ -123,4 +134,6 @@ returns-clause-touches g c =
     let beside = c.links_below-previous.ensures.beside e.left e.right (entry_gap by e) in
     let p = c.args.inner_node_ptr in
     let room = asked_none p.kind (is_full c.args.store.now p) c.kind_if_full-larger.ensures (sym c.is_some.ensures ∙ c.if-is_some.false) in
-    room_touched c.args.self (c.args.key, c.args.value) by e _ _ beside c.reserve.new.self c.place_between-leaf_node_ptr.new.store c.reserve.ensures.leaves c.reserve.ensures.inners c.place_between-leaf_node_ptr.ensures.fresh c.place_between-leaf_node_ptr.ensures.leaves c.place_between-leaf_node_ptr.ensures.inners c.to_opaque-child.ensures c.write_child.new.self c.write_child.ensures.leaves room c.write_child.ensures.inners c.requires.point
+    room_touched c.args.self (c.args.key, c.args.value) by e _ _ beside c.reserve.new.self c.place_between-leaf_node_ptr.new.store
+    c.reserve.ensures.leaves c.reserve.ensures.inners c.place_between-leaf_node_ptr.ensures.fresh c.place_between-leaf_node_ptr.ensures.leaves
+    c.place_between-leaf_node_ptr.ensures.inners c.to_opaque-child.ensures c.write_child.new.self c.write_child.ensures.leaves room c.write_child.ensures.inners c.requires.point

@@ -9,8 +9,22 @@ use Rattle.art_writing.proofs.insert.InsertPoint.split_leaf.Goals as goal
 
 pub branch_at_leaf-branch-requires : goal.branch_at_leaf-branch-requires
 branch_at_leaf-branch-requires g c =
-    let (pairs, layout, by, at) = c.requires.answers in
-    (search rules, (search rules, (c.requires.point, (pairs, layout, tree_stays (c.reserve.ensures.leaves, c.reserve.ensures.inners) by, subst (λ k. AnswersTo (of_key g.K.AsBytes.bytes) g.row.P layout k c.args.self) (sym c.as_bytes.ensures) at))))
+    let (pairs, layout, by, at) = c.requires.answers in (
+      search rules,
+      (
+        search rules,
+        (
+          c.requires.point,
+          (
+            pairs,
+            layout,
+            tree_stays (c.reserve.ensures.leaves, c.reserve.ensures.inners) by,
+            subst
+                (λ k. AnswersTo (of_key g.K.AsBytes.bytes) g.row.P layout k c.args.self) (sym c.as_bytes.ensures) at,
+          ),
+        ),
+      ),
+    )
 
 pub place_branch-requires : goal.place_branch-requires
 place_branch-requires g c =

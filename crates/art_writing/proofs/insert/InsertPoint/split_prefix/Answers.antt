@@ -14,8 +14,22 @@ use Rattle.art_writing.proofs.insert.InsertPoint.split_prefix.Goals as goal
 
 pub branch_at_prefix-branch-requires : goal.branch_at_prefix-branch-requires
 branch_at_prefix-branch-requires g c =
-    let (pairs, layout, by, at) = c.requires.answers in
-    (search rules, (search rules, (c.requires.point, (pairs, layout, tree_stays (c.reserve.ensures.leaves, c.reserve.ensures.inners) by, subst (λ k. AnswersTo (of_key g.K.AsBytes.bytes) g.row.P layout k c.args.self) (sym c.as_bytes.ensures) at))))
+    let (pairs, layout, by, at) = c.requires.answers in (
+      search rules,
+      (
+        search rules,
+        (
+          c.requires.point,
+          (
+            pairs,
+            layout,
+            tree_stays (c.reserve.ensures.leaves, c.reserve.ensures.inners) by,
+            subst
+                (λ k. AnswersTo (of_key g.K.AsBytes.bytes) g.row.P layout k c.args.self) (sym c.as_bytes.ensures) at,
+          ),
+        ),
+      ),
+    )
 
 pub trimmed_header-header-requires : goal.trimmed_header-header-requires
 trimmed_header-header-requires g c =
@@ -39,7 +53,12 @@ place_branch-requires g c =
           search rules,
           (
             subst (λ m. IsThere m c.branch_at_prefix-branch.result.previous) (sym c.set_header.ensures.leaves) (previous_is_there (tree_stays {mid = c.reserve.new.self} same by) at is),
-            (subst (λ m. IsThere m c.branch_at_prefix-branch.result.next) (sym c.set_header.ensures.leaves) (next_is_there (tree_stays {mid = c.reserve.new.self} same by) at is), parent_stays (tree_stays {mid = c.reserve.new.self} same by) at c.trimmed_header-header.result c.requires.point c.set_header.ensures.inners),
+            (
+              subst (λ m. IsThere m c.branch_at_prefix-branch.result.next) (sym c.set_header.ensures.leaves)
+                  (next_is_there (tree_stays {mid = c.reserve.new.self} same by) at is),
+              parent_stays (tree_stays {mid = c.reserve.new.self} same by) at
+                  c.trimmed_header-header.result c.requires.point c.set_header.ensures.inners,
+            ),
           ),
         ),
       ),
@@ -50,7 +69,8 @@ returns-clause-inserted g c pairs layout by =
     let same : SameNodes c.args.store.now c.reserve.new.self = (c.reserve.ensures.leaves, c.reserve.ensures.inners) in
     let at = answers_to c.requires.answers by in
     let is = read_for c.as_bytes.ensures c.branch_at_prefix-branch.ensures.branch pairs layout (tree_stays same by) at in
-    prefix_split by at is c.requires.point c.to_opaque-old.ensures (c.set_header.ensures.leaves ∙ c.reserve.ensures.leaves) (c.set_header.ensures.inners ∙ ap (λ m. change m c.args.inner_node_ptr (with_header c.trimmed_header-header.result)) c.reserve.ensures.inners)
+    prefix_split by at is c.requires.point c.to_opaque-old.ensures (c.set_header.ensures.leaves ∙ c.reserve.ensures.leaves)
+    (c.set_header.ensures.inners ∙ ap (λ m. change m c.args.inner_node_ptr (with_header c.trimmed_header-header.result)) c.reserve.ensures.inners)
     (c.trimmed_header-header.ensures (g.K.AsBytes.bytes c.args.key) pairs layout (tree_stays same by) at) c.branch_at_prefix-branch.ensures.len c.place_branch.ensures.placed
 
 pub returns-clause-touches : goal.returns-clause-touches
@@ -58,5 +78,6 @@ returns-clause-touches g c =
     let (pairs, layout, by, at) = c.requires.answers in
     let same : SameNodes c.args.store.now c.reserve.new.self = (c.reserve.ensures.leaves, c.reserve.ensures.inners) in
     let is = read_for c.as_bytes.ensures c.branch_at_prefix-branch.ensures.branch pairs layout (tree_stays same by) at in
-    prefix_split_touches by at is c.requires.point c.to_opaque-old.ensures (c.set_header.ensures.leaves ∙ c.reserve.ensures.leaves) (c.set_header.ensures.inners ∙ ap (λ m. change m c.args.inner_node_ptr (with_header c.trimmed_header-header.result)) c.reserve.ensures.inners)
+    prefix_split_touches by at is c.requires.point c.to_opaque-old.ensures (c.set_header.ensures.leaves ∙ c.reserve.ensures.leaves)
+    (c.set_header.ensures.inners ∙ ap (λ m. change m c.args.inner_node_ptr (with_header c.trimmed_header-header.result)) c.reserve.ensures.inners)
     (c.trimmed_header-header.ensures (g.K.AsBytes.bytes c.args.key) pairs layout (tree_stays same by) at) c.branch_at_prefix-branch.ensures.len c.place_branch.ensures.placed

@@ -6,4 +6,6 @@ pub swap_pair-key-requires : goal.swap_pair-key-requires
 swap_pair-key-requires g c = (search rules, related_leaf_there (c.args.key, c.args.value) c.requires.answers c.requires.point)
 
 pub returns-clause-overwritten : goal.returns-clause-overwritten
-returns-clause-overwritten g c = leaf_pair_overwritten (c.args.key, c.args.value) c.requires.answers c.requires.point c.swap_pair-key.new.self c.swap_pair-key.ensures.leaves c.swap_pair-key.ensures.inners c.swap_pair-key.result c.with_no_siblings.result c.swap_pair-key.ensures.pair c.with_no_siblings.ensures
+returns-clause-overwritten g c =
+    leaf_pair_overwritten (c.args.key, c.args.value) c.requires.answers c.requires.point c.swap_pair-key.new.self c.swap_pair-key.ensures.leaves
+    c.swap_pair-key.ensures.inners c.swap_pair-key.result c.with_no_siblings.result c.swap_pair-key.ensures.pair c.with_no_siblings.ensures

@@ -28,8 +28,18 @@ place_between-leaf_node_ptr-requires g c =
     let (pairs, layout, by, own) = c.requires.answers in
     let at = subtree_at c.requires.answers c.requires.inner by in
     let last = read_previous by at c.reserve.new.self same c.links_before-previous.result c.links_before-previous.ensures in
-    let first = read_next by at c.reserve.new.self same c.links_after-next.result c.links_after-next.ensures in
-    (search rules, (leaf_promised c.reserve.new.self.promise None (not_refused c.reserve.result (sym c.is_err.ensures.value ∙ c.if-is_err.false) c.reserve.ensures.reserved), (subst (λ m. IsThere m c.links_before-previous.result.0) (sym same.0) (subtree_previous by at last), subst (λ m. IsThere m c.links_after-next.result.1) (sym same.0) (subtree_next by at first))))
+    let first = read_next by at c.reserve.new.self same c.links_after-next.result c.links_after-next.ensures in (
+      search rules,
+      (
+        leaf_promised c.reserve.new.self.promise None
+            (not_refused c.reserve.result (sym c.is_err.ensures.value ∙ c.if-is_err.false) c.reserve.ensures.reserved),
+        (
+          subst (λ m. IsThere m c.links_before-previous.result.0) (sym same.0) (subtree_previous by at last),
+          subst
+              (λ m. IsThere m c.links_after-next.result.1) (sym same.0) (subtree_next by at first),
+        ),
+      ),
+    )
 
 pub replace_at-new_root-requires : goal.replace_at-new_root-requires
 replace_at-new_root-requires g c =
@@ -62,5 +72,8 @@ returns-clause-overwritten g c pairs layout by =
     let last = read_previous by at c.reserve.new.self same c.links_before-previous.result c.links_before-previous.ensures in
     let first = read_next by at c.reserve.new.self same c.links_after-next.result c.links_after-next.ensures in
     let still = subtree_still by at c.replace_at-new_root.new.store n x fresh leaves inners in
-    subtree_overwritten by at c.replace_at-new_root.new.store n x fresh leaves inners {t = c.deallocate_tree-leafs_removed.new.store} refl last first (c.deallocate_tree-leafs_removed.ensures.freed at.node still)
-    c.replace_at-new_root.result c.deallocate_tree-leafs_removed.result (c.replace_at-new_root.ensures.root ∙ ap (λ z. root_with c.args.self.path c.args.self.root z) c.to_opaque.ensures) (c.deallocate_tree-leafs_removed.ensures.count at.node still) c.requires.inner
+    subtree_overwritten by at c.replace_at-new_root.new.store n x fresh leaves inners {t = c.deallocate_tree-leafs_removed.new.store} refl last first
+    (c.deallocate_tree-leafs_removed.ensures.freed at.node still)
+    c.replace_at-new_root.result c.deallocate_tree-leafs_removed.result
+    (c.replace_at-new_root.ensures.root ∙ ap (λ z. root_with c.args.self.path c.args.self.root z) c.to_opaque.ensures)
+    (c.deallocate_tree-leafs_removed.ensures.count at.node still) c.requires.inner

@@ -14,4 +14,6 @@ copied (Some x) = refl
 
 pub returns : goal.returns
 unfolding place_in
-returns c = copied c.get.result ∙ ap (option_map prefix_bytes) (c.get.ensures.value ∙ lookup_same (λ k. is_eq (derived.cmp-value.it c.args.name k)) (same_name c.args.name) (is_eq_same c.args.name) c.args.self.now.places.entries)
+returns c =
+    copied c.get.result ∙ ap (option_map prefix_bytes) (c.get.ensures.value ∙
+    lookup_same (λ k. is_eq (derived.cmp-value.it c.args.name k)) (same_name c.args.name) (is_eq_same c.args.name) c.args.self.now.places.entries)

@@ -31,16 +31,22 @@ one_more (Some x) m n e f = absurd cc
 pub returns-clause-places : goal.returns-clause-places
 unfolding place_in
 returns-clause-places c =
-    let same : c.match-split.self.places ≡ c.args.self.now.places = elim c.match-split.branch [ in-Leaf+in_ok-push w ↦ ap (λ seen. seen.places) w.self-is | in_default w ↦ ap (λ seen. seen.places) w.self-is ] in
+    let same : c.match-split.self.places ≡ c.args.self.now.places =
+    elim c.match-split.branch [ in-Leaf+in_ok-push w ↦ ap (λ seen. seen.places) w.self-is | in_default w ↦ ap (λ seen. seen.places) w.self-is ] in
     let h = c.in_ok-insert.ensures.updates in
     record {
       here = ap (option_map prefix_bytes) (sym (found c.insert.new.self c.args.name) ∙ h.1) ∙ ap Some c.in_ok-place.ensures;
-      elsewhere = λ n off. ap (option_map prefix_bytes) (sym (found c.insert.new.self n) ∙ h.2 n (is_eq_same c.args.name n ∙ same_apart c.args.name n (λ e. off (sym e))) ∙ found c.match-split.self.places n) ∙ ap (λ map. option_map prefix_bytes (lookup (same_name n) map.entries)) same;
+      elsewhere =
+          λ n off. ap (option_map prefix_bytes) (sym (found c.insert.new.self n) ∙
+          h.2 n (is_eq_same c.args.name n ∙ same_apart c.args.name n (λ e. off (sym e))) ∙ found c.match-split.self.places n) ∙
+          ap (λ map. option_map prefix_bytes (lookup (same_name n) map.entries)) same;
     }
 
 pub returns-clause-count : goal.returns-clause-count
 returns-clause-count c =
-    let same : c.match-split.self.places ≡ c.args.self.now.places = elim c.match-split.branch [ in-Leaf+in_ok-push w ↦ ap (λ seen. seen.places) w.self-is | in_default w ↦ ap (λ seen. seen.places) w.self-is ] in
+    let same : c.match-split.self.places ≡ c.args.self.now.places =
+    elim c.match-split.branch [ in-Leaf+in_ok-push w ↦ ap (λ seen. seen.places) w.self-is | in_default w ↦ ap (λ seen. seen.places) w.self-is ] in
     one_more c.in_ok-insert.field-0 (length c.insert.new.self.entries) (length c.args.self.now.places.entries)
-    (c.in_ok-insert.ensures.old ∙ ap (λ map. lookup (λ k. is_eq (derived.cmp-value.it c.args.name k)) map.entries) same ∙ found c.args.self.now.places c.args.name ∙ absent c.args.self.now c.args.name c.requires)
+    (c.in_ok-insert.ensures.old ∙ ap (λ map. lookup (λ k. is_eq (derived.cmp-value.it c.args.name k)) map.entries) same ∙
+    found c.args.self.now.places c.args.name ∙ absent c.args.self.now c.args.name c.requires)
     (c.in_ok-insert.ensures.len ∙ ap (λ map. length map.entries + cond (is_some c.in_ok-insert.field-0) 0 1) same)
