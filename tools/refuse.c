@@ -1,7 +1,7 @@
 // Refuses requests for memory of the process that it is preloaded into. REFUSE_AT is the number of
-// the request that is refused, counted from 1 (0 or unset: none); with REFUSE_ALL=1 each later one is
-// refused too. A request for SIGN bytes is a sign of the process that its test is over: no request is counted or
-// refused from then on. At the end it writes 'requests=N refused=M' to the file descriptor REFUSE_FD.
+// the first request that is refused, counted from 1 (0 or unset: none), and REFUSE_FOR how many are refused in a row
+// from it on (0 or unset: all). A request for SIGN bytes is a sign of the process that its test is over: no request is
+// counted or refused from then on. At the end it writes 'requests=N refused=M' to the file descriptor REFUSE_FD.
 #define _GNU_SOURCE
 #include <errno.h>
 #include <stdio.h>
@@ -15,8 +15,8 @@ extern void *__libc_memalign(size_t, size_t);
 
 #define SIGN 12345677
 
-static unsigned long requests, refused, at;
-static int all, descriptor = -1, counting;
+static unsigned long requests, refused, at, in_a_row;
+static int descriptor = -1, counting;
 
 static unsigned long number(const char *name) {
     const char *text = getenv(name);
@@ -25,7 +25,7 @@ static unsigned long number(const char *name) {
 
 __attribute__((constructor)) static void begin(void) {
     at = number("REFUSE_AT");
-    all = number("REFUSE_ALL") == 1;
+    in_a_row = number("REFUSE_FOR");
     if (getenv("REFUSE_FD")) descriptor = (int)number("REFUSE_FD");
     counting = 1;
 }
@@ -34,7 +34,7 @@ static int is_refused(size_t size) {
     if (size == SIGN) counting = 0;
     if (!counting) return 0;
     requests++;
-    if (at == 0 || requests < at || (requests > at && !all)) return 0;
+    if (at == 0 || requests < at || (in_a_row != 0 && requests - at >= in_a_row)) return 0;
     refused++;
     errno = ENOMEM;
     return 1;

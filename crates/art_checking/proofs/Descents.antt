@@ -14,7 +14,7 @@ use Rattle.art_model.specs.Footprints.{IsIn}
 use Rattle.art_model.specs.Layouts.{Node, leaf_node, inner_node, AreDistinct}
 use Rattle.art_model.specs.Stores.{node_at, header_at, held_leaf, held_inner, seen, pair_of}
 use Rattle.art_model.specs.Trails.{bottom_of, HasLeast, IsDescent}
-use Rattle.art_model.specs.Trees.{Header}
+use Rattle.art_model.specs.Trees.{NodeHeader}
 use Rattle.art_model.proofs.Lists.{each_in}
 use Rattle.art_model.proofs.Views.{held_in_inner, leaf_name_is}
 use Rattle.art_checking.specs.Checked.{IsLeastLeaf}
@@ -109,7 +109,7 @@ module _ {K V : Type 0} (bytes : K × V → List ℕ) (P : ℕ) (s : Nodes K V) 
     )
 
 -- the least leaf of a node is that of its least child
-pub least_below : {K V : Type 0} (bytes : K × V → List ℕ) (P : ℕ) (s : Nodes K V) (name : OpaqueNodePtr) (h : Header) (b : ℕ) (first : OpaqueNodePtr)
+pub least_below : {K V : Type 0} (bytes : K × V → List ℕ) (P : ℕ) (s : Nodes K V) (name : OpaqueNodePtr) (h : NodeHeader) (b : ℕ) (first : OpaqueNodePtr)
     (others : List (ℕ × OpaqueNodePtr)) (found : LeafPtr) → node_at s name ≡ Some (inner_node h ((b, first) ∷ others)) →
     IsLeastLeaf bytes P s name (Some found) → IsLeastLeaf bytes P s first (Some found)
 least_below bytes P s name h b first others found there ([], x, d, ends, leaf) = absurd (leaf_name_is s found h ((b, first) ∷ others) (ap (node_at s) (sym ends) ∙ there))

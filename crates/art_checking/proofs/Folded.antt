@@ -11,7 +11,7 @@ use Rattle.art_nodes.specs.declared.node.LeafPtr.{LeafPtr}
 use Rattle.art_nodes.specs.declared.node.InnerPtr.{InnerPtr}
 use Rattle.art_nodes.specs.declared.node.LeafNode.{LeafNode}
 use Rattle.art_nodes.specs.declared.node.OpaqueNodePtr.{OpaqueNodePtr}
-use Rattle.art_model.specs.Trees.{Tree, inner, Children, child, no_child, Header}
+use Rattle.art_model.specs.Trees.{Tree, inner, Subtrees, child, no_child, NodeHeader}
 use Rattle.art_model.specs.Radix.{join, bytes_of, HaveChildren}
 use Rattle.art_model.specs.Layouts.{name_of, slots_of, names_of, names_below, AreDistinct}
 use Rattle.art_model.specs.Stores.{held, held_leaf, held_inner, node_at, header_at}
@@ -21,19 +21,16 @@ use Rattle.art_model.proofs.Edges.{children_right, height_join}
 use Rattle.art_model.proofs.Heights.{height_is, enough_steps}
 use Rattle.art_model.proofs.Pairwises.{Pairwise-left, Pairwise-right}
 use Rattle.art_model.proofs.Paths.{names_below-join}
+use Rattle.art_model.proofs.PlaceLaws.{join_none}
 use Rattle.art_model.proofs.Shown.{no_inner_gone, inner_shown, no_leaf_gone, leaf_shown}
 use Rattle.art_model.proofs.Stores.{HoldsBelow-right}
 use Rattle.art_model.proofs.Views.{held_in_inner}
 use Rattle.art_checking.specs.Folds.{Folds, JoinsAll, Joins}
 
 module _ {N A : Type 0} where
-  join_more : (cs : Children N A) (b : ℕ) (t : Tree N A) (ds : Children N A) → join (join cs (child b t no_child)) ds ≡ join cs (child b t ds)
+  join_more : (cs : Subtrees N A) (b : ℕ) (t : Tree N A) (ds : Subtrees N A) → join (join cs (child b t no_child)) ds ≡ join cs (child b t ds)
   join_more no_child b t ds = refl
   join_more (child c u cs) b t ds = ap (child c u) (join_more cs b t ds)
-
-  join_none : (cs : Children N A) → join cs no_child ≡ cs
-  join_none no_child = refl
-  join_none (child c u cs) = ap (child c u) (join_none cs)
 
 -- ---- a child's tree
 module _ {K V : Type 0} (s : Nodes K V) where
@@ -45,8 +42,8 @@ module _ {K V : Type 0} (s : Nodes K V) where
   held_at_inner p proper shown there = held_in_inner s p.kind p.slot proper ∙ ap (option_map held_inner) (sym there)
 
   -- a child of a full tree has one too, a lower one
-  module _ {name n : OpaqueNodePtr} {h : Header} (l : Children OpaqueNodePtr (K × V)) (b : ℕ) (t : Tree OpaqueNodePtr (K × V))
-      (r : Children OpaqueNodePtr (K × V)) (full : IsFullTree s name (inner n h (join l (child b t r)))) where
+  module _ {name n : OpaqueNodePtr} {h : NodeHeader} (l : Subtrees OpaqueNodePtr (K × V)) (b : ℕ) (t : Tree OpaqueNodePtr (K × V))
+      (r : Subtrees OpaqueNodePtr (K × V)) (full : IsFullTree s name (inner n h (join l (child b t r)))) where
     pub child_full : IsFullTree s (name_of t) t
     child_full =
         let below = subst AreDistinct (names_below-join l (child b t r)) full.0.distinct.1 in (
@@ -73,7 +70,7 @@ module _ {K V T Out : Type 0} (OfLeaf : T → LeafNode K V → Out → T → Typ
   abbrev FoldsIt : Tree OpaqueNodePtr (K × V) → T → Out → T → Type 0
   FoldsIt = Folds OfLeaf OfInner Combines s
 
-  Joins-more : (cs : Children OpaqueNodePtr (K × V)) (b : ℕ) (t : Tree OpaqueNodePtr (K × V)) (old mid new : T) (first joined own next : Out) →
+  Joins-more : (cs : Subtrees OpaqueNodePtr (K × V)) (b : ℕ) (t : Tree OpaqueNodePtr (K × V)) (old mid new : T) (first joined own next : Out) →
       Joins OfLeaf OfInner Combines s cs old first joined mid → FoldsIt t mid own new → Combines new joined own next →
       Joins OfLeaf OfInner Combines s (join cs (child b t no_child)) old first next new
   Joins-more no_child b t old mid new first joined own next (e, f) folds combines =
@@ -84,23 +81,23 @@ module _ {K V T Out : Type 0} (OfLeaf : T → LeafNode K V → Out → T → Typ
   -- Of the children of this node some are joined, and these are left.
   pub record HasJoined (layout : Tree OpaqueNodePtr (K × V)) (name : OpaqueNodePtr) (kind : NodeType) (shown : Inner)
       (left : List (ℕ × OpaqueNodePtr)) (old : T) (joined : Out) (now : T) : Type 0 where
-    pub done : Children OpaqueNodePtr (K × V)
-    pub rest : Children OpaqueNodePtr (K × V)
+    pub done : Subtrees OpaqueNodePtr (K × V)
+    pub rest : Subtrees OpaqueNodePtr (K × V)
     pub is : layout ≡ inner name (header_at kind shown) (join done rest)
     pub slots : slots_of rest ≡ left
     pub joins : JoinsAll OfLeaf OfInner Combines s done old joined now
 
   module _ {name : OpaqueNodePtr} {layout : Tree OpaqueNodePtr (K × V)} (full : IsFullTree s name layout) (kind : NodeType) (shown : Inner) where
     -- The next child of a node has a tree of its own.
-    record HasNext (done rest : Children OpaqueNodePtr (K × V)) (next : ℕ × OpaqueNodePtr) (left : List (ℕ × OpaqueNodePtr)) : Type 0 where
+    record HasNext (done rest : Subtrees OpaqueNodePtr (K × V)) (next : ℕ × OpaqueNodePtr) (left : List (ℕ × OpaqueNodePtr)) : Type 0 where
       tree : Tree OpaqueNodePtr (K × V)
-      others : Children OpaqueNodePtr (K × V)
+      others : Subtrees OpaqueNodePtr (K × V)
       is : rest ≡ child next.0 tree others
       slots : slots_of others ≡ left
       full_tree : IsFullTree s next.1 tree
       lower : height (node_at s) (map.len s.inners) next.1 < height (node_at s) (map.len s.inners) name
 
-    has_next : (done rest : Children OpaqueNodePtr (K × V)) (next : ℕ × OpaqueNodePtr) (left : List (ℕ × OpaqueNodePtr)) →
+    has_next : (done rest : Subtrees OpaqueNodePtr (K × V)) (next : ℕ × OpaqueNodePtr) (left : List (ℕ × OpaqueNodePtr)) →
         layout ≡ inner name (header_at kind shown) (join done rest) → slots_of rest ≡ next ∷ left → HasNext done rest next left
     has_next done no_child next left is slots = absurd cc
     has_next done (child c t others) next left is slots =
@@ -119,7 +116,7 @@ module _ {K V T Out : Type 0} (OfLeaf : T → LeafNode K V → Out → T → Typ
     abbrev IsBelow : OpaqueNodePtr → Type 0
     IsBelow n = ((t : Tree OpaqueNodePtr (K × V)) × IsFullTree s n t) × (height (node_at s) (map.len s.inners) n < height (node_at s) (map.len s.inners) name)
 
-    module _ (cs : Children OpaqueNodePtr (K × V)) (next : ℕ × OpaqueNodePtr) (left : List (ℕ × OpaqueNodePtr))
+    module _ (cs : Subtrees OpaqueNodePtr (K × V)) (next : ℕ × OpaqueNodePtr) (left : List (ℕ × OpaqueNodePtr))
         (is : layout ≡ inner name (header_at kind shown) cs) (slots : slots_of cs ≡ next ∷ left) where
       pub first_child : IsBelow next.1
       first_child = let n = has_next no_child cs next left is slots in ((n.tree, n.full_tree), n.lower)
@@ -154,7 +151,7 @@ module _ {K V T Out : Type 0} (OfLeaf : T → LeafNode K V → Out → T → Typ
             joins = go has.done n.tree n.full_tree has.joins;
           }
         where
-          go : (done : Children OpaqueNodePtr (K × V)) (t : Tree OpaqueNodePtr (K × V)) → IsFullTree s next.1 t →
+          go : (done : Subtrees OpaqueNodePtr (K × V)) (t : Tree OpaqueNodePtr (K × V)) → IsFullTree s next.1 t →
               JoinsAll OfLeaf OfInner Combines s done old joined now → JoinsAll OfLeaf OfInner Combines s (join done (child next.0 t no_child)) old out new
           go no_child t below joins = absurd joins
           go (child c u cs) t below (mid, first, of_u, rest) = (mid, first, of_u, Joins-more cs next.0 t mid now new first joined own out rest (folds t below) combines)
@@ -164,7 +161,7 @@ module _ {K V T Out : Type 0} (OfLeaf : T → LeafNode K V → Out → T → Typ
       HasJoined layout name kind shown [] old joined now → held s name ≡ Some (held_inner shown) → OfInner now kind shown joined out new → FoldsIt layout old out new
   ended {layout} {name} {kind} {shown} old now new joined out has there answers = go has.rest has.slots has.is
     where
-      go : (rest : Children OpaqueNodePtr (K × V)) → slots_of rest ≡ [] → layout ≡ inner name (header_at kind shown) (join has.done rest) → FoldsIt layout old out new
+      go : (rest : Subtrees OpaqueNodePtr (K × V)) → slots_of rest ≡ [] → layout ≡ inner name (header_at kind shown) (join has.done rest) → FoldsIt layout old out new
       go no_child none is = subst (λ z. FoldsIt z old out new) (sym (is ∙ ap (inner name (header_at kind shown)) (join_none has.done))) (shown, now, joined, there, has.joins, answers)
       go (child b t cs) some is = absurd cc
 
@@ -187,7 +184,7 @@ module _ {K V : Type 0} (s : Nodes K V) {name : OpaqueNodePtr} {layout : Tree Op
 
   module _ (kind : NodeType) (shown : Inner) (there : Some shown ≡ map.get s.inners p) (same : kind ≡ p.kind) where
     -- it is as the store shows it
-    pub full_shown : (cs : Children OpaqueNodePtr (K × V)) × (layout ≡ inner name (header_at kind shown) cs) × (shown.children ≡ slots_of cs)
+    pub full_shown : (cs : Subtrees OpaqueNodePtr (K × V)) × (layout ≡ inner name (header_at kind shown) cs) × (shown.children ≡ slots_of cs)
     full_shown =
         let at = inner_shown s p proper layout (full.0.named ∙ sym is) full.0.holds shown there in
         (at.children, at.is ∙ ap₂ (λ n k. inner n (header_at k shown) at.children) is (sym same), at.slots)
@@ -201,6 +198,6 @@ module _ {K V : Type 0} (s : Nodes K V) {name : OpaqueNodePtr} {layout : Tree Op
         let (cs, whole, slots) = full_shown in
         none_left cs (sym slots ∙ none) (subst (HaveChildren 1) whole full.1).0
       where
-        none_left : (cs : Children OpaqueNodePtr (K × V)) → slots_of cs ≡ [] → 1 ≤ length (bytes_of cs) → ⊥
+        none_left : (cs : Subtrees OpaqueNodePtr (K × V)) → slots_of cs ≡ [] → 1 ≤ length (bytes_of cs) → ⊥
         none_left no_child e some = absurd (omega arith)
         none_left (child b t cs) e some = absurd cc

@@ -1,4 +1,5 @@
 pub mod Folded
+pub mod Folding
 pub mod Descents
 pub mod Readings
 pub mod Meetings

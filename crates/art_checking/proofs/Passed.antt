@@ -15,13 +15,14 @@ use Rattle.art_nodes.specs.declared.node.NodeType.TheVariants.{Node4, Node16, No
 use Rattle.art_nodes.specs.declared.node.LeafPtr.{LeafPtr}
 use Rattle.art_nodes.specs.declared.node.InnerPtr.{InnerPtr}
 use Rattle.art_nodes.specs.declared.node.OpaqueNodePtr.{OpaqueNodePtr}
-use Rattle.art_model.specs.Layouts.{leaf_node, inner_node, name_of, slots_of, names_of, names_below, leaf_names, leaf_names_below, leaves_of, inner_names, inner_names_below, Holds, HoldsBelow, AreLinked, IsLayout}
-use Rattle.art_model.specs.Radix.{join, pairs_of, bytes_of, IsRising, IsRadix, AreRadix}
+use Rattle.art_model.specs.Layouts.{leaf_node, inner_node, name_of, slots_of, names_of, names_below, leaf_names, leaf_names_below, inner_names, inner_names_below, Holds, HoldsBelow, AreLinked, IsLayout}
+use Rattle.art_model.specs.Radix.{join, pairs_of, bytes_of, BytesRise, IsRadix, AreRadix}
 use Rattle.art_model.specs.Stores.{node_at, header_at, held_inner, Held, IsUsed, links_at}
-use Rattle.art_model.specs.Trees.{Tree, leaf, inner, Children, child, no_child, Header, header_of, kind_of}
+use Rattle.art_model.specs.Trees.{Tree, leaf, inner, Subtrees, child, no_child, NodeHeader, canonical_header, kind_of}
 use Rattle.art_model.proofs.Canonical.{canonical_from}
 use Rattle.art_model.proofs.Lists.{Each-append}
-use Rattle.art_model.proofs.Paths.{slots_of-join, names_below-join, leaf_names_below-join, pairs_of-leaves, leaf_names-leaves}
+use Rattle.art_model.proofs.OutOf.{two_of_spare}
+use Rattle.art_model.proofs.Paths.{slots_of-join, names_below-join, leaf_names_below-join, length-leaf_names}
 use Rattle.art_model.proofs.Radix.{AreRadix-join}
 use Rattle.art_model.proofs.Slots.{IsInRange, kind_of-range, length-slots_of}
 use Rattle.art_model.proofs.Stores.{HoldsBelow-join}
@@ -46,11 +47,11 @@ in_range Leaf n proper least most = absurd (proper refl)
 
 -- a store's order of children is that of their bytes
 module _ {A : Type 0} where
-  below_rise : (b : ℕ) (cs : Children OpaqueNodePtr A) → entries.IsBelow b (slots_of cs) → Each (λ c. b < c) (bytes_of cs)
+  below_rise : (b : ℕ) (cs : Subtrees OpaqueNodePtr A) → entries.IsBelow b (slots_of cs) → Each (λ c. b < c) (bytes_of cs)
   below_rise b no_child h = tt
   below_rise b (child c t cs) h = (h.0, below_rise b cs h.1)
 
-  bytes_rise : (cs : Children OpaqueNodePtr A) → entries.IsRising (slots_of cs) → IsRising (bytes_of cs)
+  bytes_rise : (cs : Subtrees OpaqueNodePtr A) → entries.IsRising (slots_of cs) → BytesRise (bytes_of cs)
   bytes_rise no_child h = tt
   bytes_rise (child b t cs) h = (below_rise b cs h.0, bytes_rise cs h.1)
 
@@ -89,7 +90,7 @@ pub record IsPassed {K V : Type 0} (bytes : K × V → List ℕ) (P : ℕ) (s : 
 
 -- Of the children of a node, in the bytes that lead to them, some were passed, and these are left.
 pub record HasPassed {K V : Type 0} (bytes : K × V → List ℕ) (P : ℕ) (s : Nodes K V) (old new : Seen) (front : List ℕ) (all left : List (ℕ × OpaqueNodePtr)) : Type 0 where
-  pub children : Children OpaqueNodePtr (K × V)
+  pub children : Subtrees OpaqueNodePtr (K × V)
   pub slots : slots_of children ++ left ≡ all
   pub holds : HoldsBelow (node_at s) children
   pub radix : AreRadix bytes P front children
@@ -173,7 +174,7 @@ module _ {K V : Type 0} {bytes : K × V → List ℕ} {P : ℕ} {s : Nodes K V} 
         radix = (
           part,
           same_header name.kind node part (length (bytes_of cs)) (sym kind) (sym long) (sym stored),
-          two name.kind (length (bytes_of cs))
+          two_of_spare name.kind (length (bytes_of cs))
               proper (subst (λ n. kind_least name.kind ≤ n) (sym count) least),
           bytes_rise cs (subst entries.IsRising (sym slots) rises),
           has.radix,
@@ -184,17 +185,10 @@ module _ {K V : Type 0} {bytes : K × V → List ℕ} {P : ℕ} {s : Nodes K V} 
       }
     where
       same_header : (kind : NodeType) (node : Inner) (part : List ℕ) (n : ℕ) → kind ≡ kind_of n → node.prefix.len ≡ length part →
-          node.prefix.stored ≡ take P part → header_at kind node ≡ header_of P part n
+          node.prefix.stored ≡ take P part → header_at kind node ≡ canonical_header P part n
       same_header kind node part n k l b =
-          ap₂ (λ k l. let h : Header = record { kind = k; length_of = l; stored = node.prefix.stored } in h) k l ∙
-          ap (λ b. let h : Header = record { kind = kind_of n; length_of = length part; stored = b } in h) b
-
-      two : (kind : NodeType) (n : ℕ) → kind ≢ Leaf → kind_least kind ≤ n → 2 ≤ n
-      two Node4 n off l = l
-      two Node16 n off l = omega arith
-      two Node48 n off l = omega arith
-      two Node256 n off l = omega arith
-      two Leaf n off l = absurd (off refl)
+          ap₂ (λ k l. let h : NodeHeader = record { kind = k; length_of = l; stored = node.prefix.stored } in h) k l ∙
+          ap (λ b. let h : NodeHeader = record { kind = kind_of n; length_of = length part; stored = b } in h) b
 
 -- ---- what a step of the check leaves to try
 none_from : {X : Type 0} (o : Option X) → (o ≢ None → ⊥) → o ≡ None
@@ -247,7 +241,7 @@ module _ {N A : Type 0} where
     count_names (leaf n x) = refl
     count_names (inner n h cs) = let below = count_below cs in omega arith
 
-    count_below : (cs : Children N A) → length (names_below cs) ≡ length (leaf_names_below cs) + length (inner_names_below cs)
+    count_below : (cs : Subtrees N A) → length (names_below cs) ≡ length (leaf_names_below cs) + length (inner_names_below cs)
     count_below no_child = refl
     count_below (child b t cs) =
         let own = count_names t in
@@ -256,9 +250,6 @@ module _ {N A : Type 0} where
         let leaves = length-append (leaf_names t) (leaf_names_below cs) in
         let inners = length-append (inner_names t) (inner_names_below cs) in
         omega arith
-
-  count_pairs : (t : Tree N A) → length (leaf_names t) ≡ length (pairs_of t)
-  count_pairs t = ap length (sym (leaf_names-leaves t)) ∙ length_map (λ e. e.1) (leaves_of t) ∙ sym (length_map (λ e. e.0) (leaves_of t)) ∙ ap length (pairs_of-leaves t)
 
 module _ {K V : Type 0} (s : Nodes K V) where
   -- a leaf of a tree is there
@@ -270,7 +261,7 @@ module _ {K V : Type 0} (s : Nodes K V) where
     leaf_names_there (leaf n x) h = ((x, h), tt)
     leaf_names_there (inner n h cs) holds = leaf_names_below_there cs holds.1
 
-    leaf_names_below_there : (cs : Children OpaqueNodePtr (K × V)) → HoldsBelow (node_at s) cs → Each IsLeafName (leaf_names_below cs)
+    leaf_names_below_there : (cs : Subtrees OpaqueNodePtr (K × V)) → HoldsBelow (node_at s) cs → Each IsLeafName (leaf_names_below cs)
     leaf_names_below_there no_child h = tt
     leaf_names_below_there (child b t cs) h = Each-append IsLeafName (leaf_names t) (leaf_names_below cs) (leaf_names_there t h.0) (leaf_names_below_there cs h.1)
 
@@ -330,7 +321,7 @@ module _ {K V : Type 0} {bytes : K × V → List ℕ} {P : ℕ} {s : Nodes K V} 
           linked = subst
               (λ ns. AreLinked (links_at s) None ns None) met.leaves linked;
         }),
-        leaf_count ∙ long ∙ count_pairs t,
+        leaf_count ∙ long ∙ length-leaf_names t,
         omega arith,
         omega arith,
       )

@@ -16,8 +16,9 @@ use Rattle.art_model.specs.Keys.{IsFront}
 use Rattle.art_model.specs.Layouts.{Node, inner_node}
 use Rattle.art_model.specs.Stores.{node_at, header_at}
 use Rattle.art_model.specs.Trails.{end_of, HasChild, IsTrail, HasPrefix, IsReadAs}
-use Rattle.art_model.specs.Trees.{Header}
+use Rattle.art_model.specs.Trees.{NodeHeader}
 use Rattle.art_model.proofs.Lists.{front_cut}
+use Rattle.art_model.proofs.Places.{one_way}
 use Rattle.art_checking.specs.Checked.{IsLeastLeaf, IsRead, IsWalked, NoneBelow, NoneFrom}
 use Rattle.art_checking.specs.Meetings.{Places, IsMet, same_name}
 use Rattle.art_checking.proofs.Descents.{inner_at, least_below}
@@ -78,18 +79,11 @@ module _ {K V : Type 0} (bytes : K × V → List ℕ) (P : ℕ) (s : Nodes K V) 
       reach_child is.part b child reach (header_at p.kind node, node.children, at, is.is_prefix) (header_at p.kind node, node.children, at, under)
 
   -- the same prefix, wherever the bytes are
-  abbrev pub read_again : {place read : List ℕ} {name : OpaqueNodePtr} {h : Header} (again : List ℕ) (is : IsRead bytes P s place read name h) →
+  abbrev pub read_again : {place read : List ℕ} {name : OpaqueNodePtr} {h : NodeHeader} (again : List ℕ) (is : IsRead bytes P s place read name h) →
       again ≡ place ++ is.part → IsRead bytes P s place again name h
   read_again again is same = record { part = is.part; is = same; long = is.long; stored = is.stored; is_prefix = is.is_prefix }
 
 -- ---- places
-same_byte : (front : List ℕ) (b c : ℕ) (whole : List ℕ) → IsFront (front ++ b ∷ []) whole → IsFront (front ++ c ∷ []) whole → b ≡ c
-same_byte [] b c whole (r, e) (q, f) = let g : b ∷ r ≡ c ∷ q = sym e ∙ f in cc
-same_byte (x ∷ xs) b c whole (r, e) (q, f) =
-    let g : x ∷ ((xs ++ b ∷ []) ++ r) ≡ x ∷ ((xs ++ c ∷ []) ++ q) = sym e ∙ f in
-    let h : (xs ++ b ∷ []) ++ r ≡ (xs ++ c ∷ []) ++ q = cc in
-    same_byte xs b c ((xs ++ b ∷ []) ++ r) (r, refl) (q, h)
-
 front_self : (p q : List ℕ) → p ≡ q → IsFront p q
 front_self p q e = ([], sym e ∙ sym (append-nil p))
 
@@ -171,7 +165,7 @@ module _ {K V : Type 0} {bytes : K × V → List ℕ} {P : ℕ} {s : Nodes K V} 
       go : (left : entries.Children) → entries.IsBelow b left → Each (λ step. NoneFrom mid ((place ++ part) ++ step.0 ∷ [])) left → Each (λ step. NoneFrom new ((place ++ part) ++ step.0 ∷ [])) left
       go [] r h = tt
       go (c ∷ cs) r h =
-          (λ n other e f. elim (walked.below n other e) [ inl m ↦ h.0 n other m f | inr f2 ↦ let l = r.0 in let same = same_byte (place ++ part) b c.0 other f2 f in omega arith ], go cs r.1 h.1)
+          (λ n other e f. elim (walked.below n other e) [ inl m ↦ h.0 n other m f | inr f2 ↦ let l = r.0 in let same = one_way (place ++ part) b c.0 other f2 f in omega arith ], go cs r.1 h.1)
 
 -- ---- the least leaf is that of the first child
 module _ {K V : Type 0} (bytes : K × V → List ℕ) (P : ℕ) (s : Nodes K V) where
@@ -181,7 +175,7 @@ module _ {K V : Type 0} (bytes : K × V → List ℕ) (P : ℕ) (s : Nodes K V) 
   IsFirstLeast (Some leaf) [] = Unit {0}
   IsFirstLeast (Some leaf) (step ∷ left) = IsLeastLeaf bytes P s step.1 (Some leaf)
 
-  pub first_least : (name : OpaqueNodePtr) (h : Header) (slots : entries.Children) (found : Option LeafPtr) →
+  pub first_least : (name : OpaqueNodePtr) (h : NodeHeader) (slots : entries.Children) (found : Option LeafPtr) →
       node_at s name ≡ Some (inner_node h slots) → IfSome found (λ leaf. IsLeastLeaf bytes P s name (Some leaf)) → IsFirstLeast found slots
   first_least name h slots None there least = tt
   first_least name h [] (Some leaf) there least = tt

@@ -17,7 +17,7 @@ use Rattle.art_model.specs.Layouts.{leaf_node, name_of, names_of, leaf_names, Ar
 use Rattle.art_model.specs.Radix.{IsRadix}
 use Rattle.art_model.specs.Stores.{node_at, pair_of}
 use Rattle.art_model.specs.Trails.{bottom_of, DescendsTo, IsDescent, IsPrefix}
-use Rattle.art_model.specs.Trees.{Tree, Header}
+use Rattle.art_model.specs.Trees.{Tree, NodeHeader}
 use Rattle.art_checking.specs.Checks.{fault_of}
 use Rattle.art_checking.specs.Meetings.{Places, Meets, IsMet, count_met, leaves_with, place_in}
 use Rattle.art_checking.specs.declared.well_formed.fault.MalformedTreeError.{MalformedTreeError}
@@ -25,7 +25,8 @@ use Rattle.art_checking.specs.declared.well_formed.seen.Seen.{Seen}
 
 -- nothing that was met stands below the place, but what stands there
 abbrev pub NoneBelow : Places → List ℕ → Type 0
-NoneBelow places place = (n : OpaqueNodePtr) (other : List ℕ) → places n ≡ Some other → IsFront place other → other ≡ place
+NoneBelow places place =
+    (n : OpaqueNodePtr) (other : List ℕ) → places n ≡ Some other → IsFront place other → other ≡ place
 
 -- nothing that was met stands there or below
 abbrev pub NoneFrom : Places → List ℕ → Type 0
@@ -33,7 +34,8 @@ NoneFrom places place = (n : OpaqueNodePtr) (other : List ℕ) → places n ≡ 
 
 -- so many of the bytes from a depth on
 abbrev pub IsPartOf : ℕ → ℕ → List ℕ → List ℕ → Type 0
-IsPartOf depth len whole part = (length part ≡ len) × (depth + len ≤ length whole) × (part ≡ take len (drop depth whole))
+IsPartOf depth len whole part =
+    (length part ≡ len) × (depth + len ≤ length whole) × (part ≡ take len (drop depth whole))
 
 -- the names of leaves
 abbrev pub names_of_leaves : List LeafPtr → List OpaqueNodePtr
@@ -53,12 +55,15 @@ module _ {K V : Type 0} (bytes : K × V → List ℕ) (P : ℕ) (s : Nodes K V) 
 
   -- the sibling is a leaf, whose key stands in this order to the key
   abbrev pub IsInOrder : LeafPtr → Ordering → List ℕ → Type 0
-  IsInOrder sibling order key = (node : LeafNode K V) × (finite.get s.leaves sibling ≡ Some node) × (slice_cmp nat_cmp (bytes (pair_of node)) key ≡ order)
+  IsInOrder sibling order key =
+      (node : LeafNode K V) × (finite.get s.leaves sibling ≡ Some node) ×
+      (slice_cmp nat_cmp (bytes (pair_of node)) key ≡ order)
 
   -- the leaf's previous sibling comes before it, and its next one after it
   abbrev pub IsBetween : LeafNode K V → Type 0
   IsBetween node =
-      IfSome node.previous (λ l. IsInOrder l Less (bytes (pair_of node))) × IfSome node.next (λ l. IsInOrder l Greater (bytes (pair_of node)))
+      IfSome node.previous (λ l. IsInOrder l Less (bytes (pair_of node))) ×
+      IfSome node.next (λ l. IsInOrder l Greater (bytes (pair_of node)))
 
   -- From the name on, at the place, the nodes are those of a radix tree, and from the first state to the second all of its names but the root's were met.
   pub record IsChecked (old new : Seen) (place : List ℕ) (name : OpaqueNodePtr) : Type 0 where
@@ -83,13 +88,20 @@ module _ {K V : Type 0} (bytes : K × V → List ℕ) (P : ℕ) (s : Nodes K V) 
 
   -- a walk down least children ends at the leaf, or badly where there is none
   abbrev pub IsLeastLeaf : OpaqueNodePtr → Option LeafPtr → Type 0
-  IsLeastLeaf name None = (ns : List OpaqueNodePtr) × IsDescent (node_at s) name ns × ((root : OpaqueNodePtr) (needed : ℕ) → EndsBadly bytes P s root name ns needed)
-  IsLeastLeaf name (Some leaf) = (ns : List OpaqueNodePtr) × (x : K × V) × IsDescent (node_at s) name ns × (bottom_of name ns ≡ leaf_name leaf) × (node_at s (leaf_name leaf) ≡ Some (leaf_node x))
+  IsLeastLeaf name None =
+      (ns : List OpaqueNodePtr) × IsDescent (node_at s) name ns × ((root : OpaqueNodePtr) (needed : ℕ) →
+      EndsBadly bytes P s root name ns needed)
+  IsLeastLeaf name (Some leaf) =
+      (ns : List OpaqueNodePtr) × (x : K × V) × IsDescent (node_at s) name ns ×
+      (bottom_of name ns ≡ leaf_name leaf) × (node_at s (leaf_name leaf) ≡ Some (leaf_node x))
 
   -- The bytes of the key of the leaf at the end of a descent, from a depth on; or a descent ends badly.
   abbrev pub IsReadFrom : OpaqueNodePtr → ℕ → ℕ → Option (Bor (List ℕ)) → Type 0
-  IsReadFrom name depth len None = (ns : List OpaqueNodePtr) × IsDescent (node_at s) name ns × ((root : OpaqueNodePtr) → EndsBadly bytes P s root name ns (depth + len))
-  IsReadFrom name depth len (Some part) = (x : K × V) × DescendsTo (node_at s) name x × IsPartOf depth len (bytes x) part.now
+  IsReadFrom name depth len None =
+      (ns : List OpaqueNodePtr) × IsDescent (node_at s) name ns ×
+      ((root : OpaqueNodePtr) → EndsBadly bytes P s root name ns (depth + len))
+  IsReadFrom name depth len (Some part) =
+      (x : K × V) × DescendsTo (node_at s) name x × IsPartOf depth len (bytes x) part.now
 
   -- what was met was met at its place, on a trail from the root
   abbrev pub AreReached : OpaqueNodePtr → Places → Type 0
@@ -97,11 +109,14 @@ module _ {K V : Type 0} (bytes : K × V → List ℕ) (P : ℕ) (s : Nodes K V) 
 
   -- the error is true of the store, whatever root the name is reached from
   abbrev pub IsTrueAt : List ℕ → OpaqueNodePtr → MalformedTreeError → Type 0
-  IsTrueAt place name error = (root : OpaqueNodePtr) → Reaches bytes P s root place name → IsTrueOf bytes P s root (fault_of error)
+  IsTrueAt place name error =
+      (root : OpaqueNodePtr) → Reaches bytes P s root place name → IsTrueOf bytes P s root (fault_of error)
 
   -- the same where what was met before is reached too
   abbrev pub IsTrueBehind : Places → List ℕ → OpaqueNodePtr → MalformedTreeError → Type 0
-  IsTrueBehind places place name error = (root : OpaqueNodePtr) → AreReached root places → Reaches bytes P s root place name → IsTrueOf bytes P s root (fault_of error)
+  IsTrueBehind places place name error =
+      (root : OpaqueNodePtr) → AreReached root places → Reaches bytes P s root place name →
+      IsTrueOf bytes P s root (fault_of error)
 
   -- What was met since stands below the place of the name, and on trails where the name and all before do.
   pub record IsWalked (old new : Places) (place : List ℕ) (name : OpaqueNodePtr) : Type 0 where
@@ -109,7 +124,7 @@ module _ {K V : Type 0} (bytes : K × V → List ℕ) (P : ℕ) (s : Nodes K V) 
     pub reached : (root : OpaqueNodePtr) → AreReached root old → Reaches bytes P s root place name → AreReached root new
 
   -- The prefix of a node was put behind the bytes that lead to it.
-  pub record IsRead (place read : List ℕ) (name : OpaqueNodePtr) (h : Header) : Type 0 where
+  pub record IsRead (place read : List ℕ) (name : OpaqueNodePtr) (h : NodeHeader) : Type 0 where
     pub part : List ℕ
     pub is : read ≡ place ++ part
     pub long : length part ≡ h.length_of

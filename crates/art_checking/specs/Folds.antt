@@ -6,22 +6,27 @@ use Rattle.art_nodes.specs.declared.node.LeafNode.{LeafNode}
 use Rattle.art_nodes.specs.declared.node.NodeType.{NodeType}
 use Rattle.art_nodes.specs.declared.node.OpaqueNodePtr.{OpaqueNodePtr}
 use Rattle.art_model.specs.Stores.{held, held_leaf, held_inner}
-use Rattle.art_model.specs.Trees.{Tree, leaf, inner, Children, child, no_child}
+use Rattle.art_model.specs.Trees.{Tree, leaf, inner, Subtrees, child, no_child}
 
 -- T is the visitor and Out its output. Of each hook it is said what it may answer, and which state it may leave.
-module _ {K V T Out : Type 0} (OfLeaf : T → LeafNode K V → Out → T → Type 0) (OfInner : T → NodeType → Inner → Out → Out → T → Type 0) (Combines : T → Out → Out → Out → Type 0) (s : Nodes K V) where
+module _ {K V T Out : Type 0} (OfLeaf : T → LeafNode K V → Out → T → Type 0)
+    (OfInner : T → NodeType → Inner → Out → Out → T → Type 0) (Combines : T → Out → Out → Out → Type 0)
+    (s : Nodes K V) where
   abbrev mutual
     -- A leaf goes to its hook. An inner node's children are joined, and the node goes to its hook with what they gave.
     pub Folds : Tree OpaqueNodePtr (K × V) → T → Out → T → Type 0
     Folds (leaf n x) old out new = (node : LeafNode K V) × (held s n ≡ Some (held_leaf node)) × OfLeaf old node out new
-    Folds (inner n h cs) old out new = (node : Inner) × (mid : T) × (joined : Out) × (held s n ≡ Some (held_inner node)) × JoinsAll cs old joined mid × OfInner mid h.kind node joined out new
+    Folds (inner n h cs) old out new =
+        (node : Inner) × (mid : T) × (joined : Out) × (held s n ≡ Some (held_inner node)) ×
+        JoinsAll cs old joined mid × OfInner mid h.kind node joined out new
 
     -- the first child's output, and then the others
-    pub JoinsAll : Children OpaqueNodePtr (K × V) → T → Out → T → Type 0
+    pub JoinsAll : Subtrees OpaqueNodePtr (K × V) → T → Out → T → Type 0
     JoinsAll no_child old out new = ⊥
     JoinsAll (child b t cs) old out new = (mid : T) × (first : Out) × Folds t old first mid × Joins cs mid first out new
 
     -- what came so far is combined with the output of each further child
-    pub Joins : Children OpaqueNodePtr (K × V) → T → Out → Out → T → Type 0
+    pub Joins : Subtrees OpaqueNodePtr (K × V) → T → Out → Out → T → Type 0
     Joins no_child old so_far out new = (out ≡ so_far) × (new ≡ old)
-    Joins (child b t cs) old so_far out new = (mid : T) × (own next : Out) × Folds t old own mid × Combines mid so_far own next × Joins cs mid next out new
+    Joins (child b t cs) old so_far out new =
+        (mid : T) × (own next : Out) × Folds t old own mid × Combines mid so_far own next × Joins cs mid next out new

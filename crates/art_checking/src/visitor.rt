@@ -30,6 +30,8 @@ pub trait Visitor<K, V, const P: usize> {
     /// What `visit_leaf` may answer, and the visitor after it.
     ghost of_leaf: { Self → LeafNode K V → Self.Output → Self → Type 0 };
 
+    /// The output of nothing, where a fold has to begin with one. `visit_with` never asks for it, since an inner node
+    /// of a canonical tree has two children at least and the join begins with the first one's output.
     fn default_output(&self) -> Self::Output
         ensures { is_default self.now result };
 
@@ -39,8 +41,10 @@ pub trait Visitor<K, V, const P: usize> {
 
     /// Called with an inner node and what its children gave, after these were visited.
     fn visit_inner_node(&mut self, node: InnerRef<'_, P>, children: Self::Output) -> Self::Output
-        ensures { of_inner self.old (ref_kind node.entry) (ref_view node.entry) children result self.new };
+        ensures { of_inner self.old (ref_kind node.entry) (ref_view node.entry)
+            children result self.new };
 
+    /// Called with each leaf once, by rising keys.
     fn visit_leaf(&mut self, leaf: &LeafNode<K, V>) -> Self::Output
         ensures { of_leaf self.old leaf.now result self.new };
 }

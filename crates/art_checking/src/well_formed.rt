@@ -40,6 +40,7 @@ impl KeyPrefix {
         Ok(KeyPrefix { bytes })
     }
 
+    /// The bytes themselves, from the root on: of an inner node, those that end before its prefix.
     pub fn as_slice(&self) -> &[u8]
         ensures { result.now ≡ prefix_bytes self.now }
     {
@@ -70,15 +71,12 @@ pub struct WellFormedTreeStats {
 }
 
 impl WellFormedTreeStats {
+    /// The number of all nodes, leaves and inner ones.
     pub fn total_nodes(self) -> usize
         requires { self.num_leaf + self.num_inner < 2 ^ 64 }
         ensures { result ≡ self.num_leaf + self.num_inner }
     {
-        let WellFormedTreeStats {
-            num_leaf,
-            num_inner,
-        } = self;
-        num_leaf + num_inner
+        self.num_inner + self.num_leaf
     }
 }
 
@@ -87,7 +85,8 @@ impl Add for WellFormedTreeStats {
 
     ghost can_add = { λ a b. (a.num_leaf + b.num_leaf < 2 ^ 64) × (a.num_inner + b.num_inner < 2 ^ 64) };
 
-    ghost add_gives = { λ a b sum. sum ≡ record { num_leaf = a.num_leaf + b.num_leaf; num_inner = a.num_inner + b.num_inner } };
+    ghost add_gives = { λ a b sum.
+        sum ≡ record { num_leaf = a.num_leaf + b.num_leaf; num_inner = a.num_inner + b.num_inner } };
 
     fn add(self, rhs: Self) -> Self {
         WellFormedTreeStats {
@@ -100,7 +99,8 @@ impl Add for WellFormedTreeStats {
 impl AddAssign for WellFormedTreeStats {
     ghost can_add_assign = { λ a b. (a.num_leaf + b.num_leaf < 2 ^ 64) × (a.num_inner + b.num_inner < 2 ^ 64) };
 
-    ghost add_assign_gives = { λ a b sum. sum ≡ record { num_leaf = a.num_leaf + b.num_leaf; num_inner = a.num_inner + b.num_inner } };
+    ghost add_assign_gives = { λ a b sum.
+        sum ≡ record { num_leaf = a.num_leaf + b.num_leaf; num_inner = a.num_inner + b.num_inner } };
 
     fn add_assign(&mut self, rhs: Self) {
         self.num_leaf += rhs.num_leaf;
@@ -108,7 +108,9 @@ impl AddAssign for WellFormedTreeStats {
     }
 }
 
-/// Checks trees.
+/// Checks trees. It reads each node once, and the links of each leaf; it looks up each name in an ordered map of those
+/// that were met, where a name is noted with a copy of all bytes that lead to it. The stack grows with the number of
+/// inner nodes on the longest way down.
 pub struct WellFormedChecker;
 
 impl WellFormedChecker {
@@ -117,14 +119,17 @@ impl WellFormedChecker {
     ghost use Rattle.art_checking.specs.Checks.{fault_of};
     ghost use Rattle.art_checking.specs.declared.well_formed.fault.MalformedTreeError.TheVariants.{EmptyTreeWithLen, OutOfMemory};
 
-    /// Checks the tree below a name, of any store and any name.
+    /// Checks the tree below a name, of any store and any name. Of several faults it answers the one that is met first:
+    /// a node before all below it, children by rising bytes, and the links of the leaves last, in their order.
     pub fn check_tree<K: AsBytes + Drop, V: Drop, const PREFIX_LEN: usize>(
         store: &NodeStore<K, V, PREFIX_LEN>,
         root: OpaqueNodePtr,
     ) -> Result<WellFormedTreeStats, MalformedTreeError>
-        ensures well_formed { IfOk result (λ stats. IsWellFormed (of_key K.bytes) PREFIX_LEN store.now root stats) }
+        ensures well_formed { IfOk result (λ stats.
+            IsWellFormed (of_key K.bytes) PREFIX_LEN store.now root stats) }
         ensures fits { IfOk result (λ stats. stats.num_leaf + stats.num_inner < 2 ^ 64) }
-        ensures fault { IfErr result (λ error. IsTrueOf (of_key K.bytes) PREFIX_LEN store.now root (fault_of error)) }
+        ensures fault { IfErr result (λ error.
+            IsTrueOf (of_key K.bytes) PREFIX_LEN store.now root (fault_of error)) }
         ensures canonical { IsCanonicalRoot (of_key K.bytes) PREFIX_LEN store.now root →
             IfErr result (λ error. error ≡ OutOfMemory) }
     {
@@ -143,13 +148,17 @@ impl WellFormedChecker {
         root: Option<OpaqueNodePtr>,
         len: usize,
     ) -> Result<WellFormedTreeStats, MalformedTreeError>
-        ensures empty { IsNone root → len ≡ 0 → IsOkAnd result (λ stats. (stats.num_leaf ≡ 0) × (stats.num_inner ≡ 0)) }
-        ensures no_tree { IsNone root → len ≢ 0 → IsErrAnd result (λ error. error ≡ EmptyTreeWithLen) }
-        ensures well_formed { IfSome root (λ name. IfOk result (IsWellFormed (of_key K.bytes) PREFIX_LEN store.now name)) }
+        ensures empty { IsNone root → len ≡ 0 → IsOkAnd result (λ stats.
+            (stats.num_leaf ≡ 0) × (stats.num_inner ≡ 0)) }
+        ensures no_tree { IsNone root → len ≢ 0 →
+            IsErrAnd result (λ error. error ≡ EmptyTreeWithLen) }
+        ensures well_formed { IfSome root (λ name.
+            IfOk result (IsWellFormed (of_key K.bytes) PREFIX_LEN store.now name)) }
         ensures fits { IfOk result (λ stats. stats.num_leaf + stats.num_inner < 2 ^ 64) }
         ensures fault { IfSome root (λ name. IfErr result (λ error.
             IsTrueOf (of_key K.bytes) PREFIX_LEN store.now name (fault_of error))) }
-        ensures canonical { IfSome root (λ name. IsCanonicalRoot (of_key K.bytes) PREFIX_LEN store.now name →
+        ensures canonical { IfSome root (λ name.
+            IsCanonicalRoot (of_key K.bytes) PREFIX_LEN store.now name →
             IfErr result (λ error. error ≡ OutOfMemory)) }
     {
         match root {

@@ -3,26 +3,15 @@ ghost use Rattle.art_model.specs.Pairs.{of_key};
 ghost use Rattle.art_model.specs.Roots.{IsCanonicalRoot};
 
 use crate::points::{Deletion, delete, gone_with, refused_deletion, take_out};
-use art_nodes::node::{LeafNode, NodeType, OpaqueNodePtr};
+use art_nodes::node::{NodeType, OpaqueNodePtr};
 use art_nodes::store::NodeStore;
+use art_test_support::crowds::{fill, place_beside};
 use art_test_support::memory::all_memory;
 use art_test_support::nodes::{count_touched, nodes_seen};
-use art_test_support::trees::{Key, keys_after, plant_all, plant_keys, planted_all, promise};
+use art_test_support::trees::{Key, keys_after, plant_all, plant_keys, promise};
 use std::alloc::{AllocError, Global};
+use std::process::Abort;
 use std::test::Fail;
-
-// Places leaves beside a tree: so many, or until there is no memory for one more.
-fn crowd<const P: usize>(store: &mut NodeStore<Key, u32, P>, root: OpaqueNodePtr, count: u8)
-    requires { IsCanonicalRoot (of_key (λ key. key.items)) P store.old root }
-    ensures { IsCanonicalRoot (of_key (λ key. key.items)) P store.new root }
-{
-    for _ in 0..count {
-        let leaf = LeafNode::with_no_siblings(Vec::new(store.alloc()), 0);
-        if store.place_leaf(leaf).is_err() {
-            return;
-        }
-    }
-}
 
 // The kind of the root of so many keys of one byte.
 fn kind_for(count: usize) -> Option<NodeType> {
@@ -181,57 +170,118 @@ fn without_memory_a_promised_shrink_is_made(rt: HostRuntime) -> Result<(), Fail>
     Ok(())
 }
 
-// What a refused deletion touches of the tree, beside leaves that take all that there is room for. The point has to come
-// back.
+// More nodes of one kind than a store has room for before it is asked for.
+const MORE_THAN_FIT: usize = 100_000;
+
+// What a refused deletion touches of the tree, beside leaves and nodes of the smaller kind that take all that there is
+// room for. The point has to come back.
 fn refused_in_crowd<const P: usize>(
     store: &mut NodeStore<Key, u32, P>,
     root: OpaqueNodePtr,
+    kind: NodeType,
 ) -> Result<Option<(bool, (usize, usize))>, Fail>
     requires { IsCanonicalRoot (of_key (λ key. key.items)) P store.old root }
 {
     let before = nodes_seen(store)?;
     let held = all_memory(store.alloc())?;
-    crowd(store, root, u8::MAX);
+    place_beside(store, root, NodeType::Leaf, MORE_THAN_FIT);
+    place_beside(store, root, kind, MORE_THAN_FIT);
     let refused = refused_deletion(store, root, &before, &[2]);
     drop(held);
     Ok(refused.map(|(is_back, (_, freed, changed))| (is_back, (freed, changed))))
 }
 
+// The same in the tree of so many keys of one byte.
+fn refused_of_many(
+    alloc: Global,
+    count: u16,
+    kind: NodeType,
+) -> Result<Option<(bool, (usize, usize))>, Fail> {
+    let mut store: NodeStore<Key, u32, 4> = NodeStore::new(alloc);
+    let root = plant_keys(&mut store, keys_after(alloc, &[], count)?)?;
+    refused_in_crowd(&mut store, root, kind)
+}
+
+// The numbers of children from which a node comes to be of a smaller kind, with that kind.
+const SHRINKING: [(u16, NodeType); 3] = [
+    (5, NodeType::Node4),
+    (17, NodeType::Node16),
+    (49, NodeType::Node48),
+];
+
 #[test]
 fn without_memory_a_shrink_leaves_the_tree(rt: HostRuntime) -> Result<(), Fail> {
-    let mut store: NodeStore<Key, u32, 4> = NodeStore::new(rt.alloc());
-    let root = plant_all(&mut store, &SIX[..5])?;
-    let refused = refused_in_crowd(&mut store, root)?;
-    assert_eq!(rt; refused, Some((true, (0, 0))));
+    for (count, kind) in SHRINKING {
+        assert_eq!(rt;
+            refused_of_many(rt.alloc(), count, kind)?,
+            Some((true, (0, 0)))
+        );
+    }
     Ok(())
 }
 
-// What the deletion of one of five keys touches where it is refused, beside so many other leaves. The point has to
-// come back.
+// Places so many leaves beside a tree, or else fills its store. Answers whether there was memory.
+fn crowd<const P: usize>(
+    store: &mut NodeStore<Key, u32, P>,
+    root: OpaqueNodePtr,
+    others: Option<usize>,
+) -> bool
+    requires { IsCanonicalRoot (of_key (λ key. key.items)) P store.old root }
+    ensures { IsCanonicalRoot (of_key (λ key. key.items)) P store.new root }
+{
+    let Some(others) = others else {
+        return fill(store, root);
+    };
+    place_beside(store, root, NodeType::Leaf, others)
+}
+
+// What the deletion of one of so many keys touches where it is refused, beside so many leaves, or else in a full store.
+// The point has to come back.
 fn touched_by_refusal<const P: usize>(
     store: &mut NodeStore<Key, u32, P>,
-    others: u8,
+    count: u16,
+    others: Option<usize>,
 ) -> Option<(bool, (usize, usize, usize))> {
-    let root = planted_all(store, &SIX[..5]).ok()??;
-    crowd(store, root, others);
+    let alloc = store.alloc();
+    let keys = keys_after(alloc, &[], count).ok()?;
+    let root = plant_keys(store, keys).ok()?;
+    if !crowd(store, root, others) {
+        return None;
+    }
     let before = nodes_seen(store).ok()?;
     refused_deletion(store, root, &before, &[2])
 }
 
 // The same in a store of its own.
-fn touched_beside(alloc: Global, others: u8) -> Option<(bool, (usize, usize, usize))> {
+fn touched_beside(
+    alloc: Global,
+    count: u16,
+    others: Option<usize>,
+) -> Option<(bool, (usize, usize, usize))> {
     let mut store: NodeStore<Key, u32, 4> = NodeStore::new(alloc);
-    touched_by_refusal(&mut store, others)
+    touched_by_refusal(&mut store, count, others)
+}
+
+// Asserts that a refusal gave the point back and touched nothing, and says so.
+fn assert_left(
+    rt: &(impl Abort + Print),
+    told: Option<(bool, (usize, usize, usize))>,
+) -> Result<(), Fail> {
+    if let Some(told) = told {
+        assert_eq!(rt; told, (true, (0, 0, 0)));
+        println!(rt; "asserted")?;
+    }
+    Ok(())
 }
 
 // Says the same with ample memory and with requests for memory refused.
 #[test]
 fn refused_shrinks_leave_the_tree(rt: HostRuntime) -> Result<(), Fail> {
-    for others in 0..12u8 {
-        if let Some(told) = touched_beside(rt.alloc(), others) {
-            assert_eq!(rt; told, (true, (0, 0, 0)));
-            println!(rt; "asserted")?;
-        }
+    for others in 0..12usize {
+        assert_left(&rt, touched_beside(rt.alloc(), 5, Some(others)))?;
+    }
+    for (count, _) in SHRINKING {
+        assert_left(&rt, touched_beside(rt.alloc(), count, None))?;
     }
     Ok(())
 }

@@ -61,6 +61,7 @@ struct Split {
 // Splits the leaf of [1, 2, 3, 4]. Answers what is seen, and what is to be.
 fn split_leaf<const P: usize>(store: &mut NodeStore<Key, u32, P>) -> Result<[Split; 2], Fail> {
     let (root, _, done) = branch(store, &[&[1, 2, 3, 4]], 3, &[1, 2, 9])?;
+    let parent = done.new_root.as_inner().ok_or("an inner node")?;
     let seen = Split {
         done,
         is_made: is_branch(store, done.new_root, 2, &[1, 2], [3, 9]),
@@ -70,7 +71,7 @@ fn split_leaf<const P: usize>(store: &mut NodeStore<Key, u32, P>) -> Result<[Spl
         done: Insertion {
             existing: None,
             change: InsertParentNodeChange::NewParent {
-                new_parent_node: done.new_root,
+                new_parent_node: parent,
                 leaf_node_key_byte: 9,
             },
             touched: (2, 0, 1),
@@ -180,11 +181,13 @@ fn without_memory_a_reserved_split_is_made(rt: HostRuntime) -> Result<(), Fail> 
 // Asserts something where a request for memory of the insertion is refused.
 #[test]
 fn refused_splits_hand_the_pair_back(rt: HostRuntime) -> Result<(), Fail> {
-    let store: NodeStore<Key, u32, 4> = NodeStore::new(rt.alloc());
     let keys: [&[u8]; 4] = [&[255], &[0, 255], &[0, 0, 255], &[0, 0, 0, 255]];
-    if let Ok(Some(refusal)) = refused_insertion(store, &keys) {
-        assert_eq!(rt; refusal, HANDED_BACK);
-        println!(rt; "asserted")?;
+    for is_filled in [false, true] {
+        let store: NodeStore<Key, u32, 4> = NodeStore::new(rt.alloc());
+        if let Ok(Some(refusal)) = refused_insertion(store, &keys, is_filled) {
+            assert_eq!(rt; refusal, HANDED_BACK);
+            println!(rt; "asserted")?;
+        }
     }
     Ok(())
 }
@@ -192,11 +195,13 @@ fn refused_splits_hand_the_pair_back(rt: HostRuntime) -> Result<(), Fail> {
 // The same where a leaf is read for the rest of the prefix.
 #[test]
 fn refused_splits_of_a_prefix_hand_the_pair_back(rt: HostRuntime) -> Result<(), Fail> {
-    let store: NodeStore<Key, u32, 2> = NodeStore::new(rt.alloc());
     let keys: [&[u8]; 3] = [&[7, 1, 1, 1, 1, 5], &[7, 1, 1, 1, 1, 6], &[7, 1, 1, 9]];
-    if let Ok(Some(refusal)) = refused_insertion(store, &keys) {
-        assert_eq!(rt; refusal, HANDED_BACK);
-        println!(rt; "asserted")?;
+    for is_filled in [false, true] {
+        let store: NodeStore<Key, u32, 2> = NodeStore::new(rt.alloc());
+        if let Ok(Some(refusal)) = refused_insertion(store, &keys, is_filled) {
+            assert_eq!(rt; refusal, HANDED_BACK);
+            println!(rt; "asserted")?;
+        }
     }
     Ok(())
 }

@@ -34,7 +34,7 @@ fn growth_seen<const P: usize>(store: &NodeStore<Key, u32, P>, done: Insertion) 
             leaf_node_key_byte,
         } => (
             Some(new_parent_node.kind),
-            child(store, new_parent_node, leaf_node_key_byte),
+            child(store, new_parent_node.to_opaque(), leaf_node_key_byte),
         ),
     };
     Growth {
@@ -59,20 +59,20 @@ fn grow<const P: usize>(
     Ok((root, old, growth_seen(store, seen)))
 }
 
-// What is to come of a key that becomes a child of a node of this kind.
+// What is to come of a key that becomes a child of an inner node.
 fn expected_child(
     seen: Growth,
     new_root: OpaqueNodePtr,
     parent: OpaqueNodePtr,
     byte: u8,
     touched: (usize, usize, usize),
-) -> Growth {
-    Growth {
+) -> Option<Growth> {
+    Some(Growth {
         done: Insertion {
             existing: None,
             new_root,
             change: InsertParentNodeChange::NewParent {
-                new_parent_node: parent,
+                new_parent_node: parent.as_inner()?,
                 leaf_node_key_byte: byte,
             },
             touched,
@@ -81,7 +81,7 @@ fn expected_child(
         parent_kind: Some(parent.kind),
         found: Some(seen.done.leaf.to_opaque()),
         value: Some(9),
-    }
+    })
 }
 
 #[test]
@@ -89,7 +89,7 @@ fn adds_a_child_where_there_is_room(rt: HostRuntime) -> Result<(), Fail> {
     let mut store: NodeStore<Key, u32, 16> = NodeStore::new(rt.alloc());
     let (root, _, seen) = grow(&mut store, &[&[1], &[2]], &[3])?;
     let expected = expected_child(seen, root, root, 3, (1, 0, 2));
-    assert_eq!(rt; seen, expected);
+    assert_eq!(rt; Some(seen), expected);
     Ok(())
 }
 
@@ -103,7 +103,7 @@ fn expected_larger_root<const P: usize>(
         return None;
     }
     let root = seen.done.new_root;
-    let expected = expected_child(seen, root, root, 5, (2, 1, 1));
+    let expected = expected_child(seen, root, root, 5, (2, 1, 1))?;
     Some(Growth {
         parent_kind: Some(NodeType::Node16),
         ..expected
@@ -132,7 +132,7 @@ fn expected_larger_child<const P: usize>(
     seen: Growth,
 ) -> Option<Growth> {
     let larger = child(store, root, 1)?;
-    let expected = expected_child(seen, root, larger, 3, (2, 1, 3));
+    let expected = expected_child(seen, root, larger, 3, (2, 1, 3))?;
     Some(Growth {
         parent_kind: Some(NodeType::Node16),
         ..expected
@@ -271,11 +271,13 @@ fn without_memory_a_value_is_replaced(rt: HostRuntime) -> Result<(), Fail> {
 // Asserts something where a request for memory of the insertion is refused.
 #[test]
 fn refused_children_hand_the_pair_back(rt: HostRuntime) -> Result<(), Fail> {
-    let store: NodeStore<Key, u32, 4> = NodeStore::new(rt.alloc());
     let keys: [&[u8]; 3] = [&[1], &[2], &[3]];
-    if let Ok(Some(refusal)) = refused_insertion(store, &keys) {
-        assert_eq!(rt; refusal, HANDED_BACK);
-        println!(rt; "asserted")?;
+    for is_filled in [false, true] {
+        let store: NodeStore<Key, u32, 4> = NodeStore::new(rt.alloc());
+        if let Ok(Some(refusal)) = refused_insertion(store, &keys, is_filled) {
+            assert_eq!(rt; refusal, HANDED_BACK);
+            println!(rt; "asserted")?;
+        }
     }
     Ok(())
 }
@@ -283,11 +285,13 @@ fn refused_children_hand_the_pair_back(rt: HostRuntime) -> Result<(), Fail> {
 // The same where the node has to grow.
 #[test]
 fn refused_growths_hand_the_pair_back(rt: HostRuntime) -> Result<(), Fail> {
-    let store: NodeStore<Key, u32, 4> = NodeStore::new(rt.alloc());
     let keys: [&[u8]; 5] = [&[1], &[2], &[3], &[4], &[5]];
-    if let Ok(Some(refusal)) = refused_insertion(store, &keys) {
-        assert_eq!(rt; refusal, HANDED_BACK);
-        println!(rt; "asserted")?;
+    for is_filled in [false, true] {
+        let store: NodeStore<Key, u32, 4> = NodeStore::new(rt.alloc());
+        if let Ok(Some(refusal)) = refused_insertion(store, &keys, is_filled) {
+            assert_eq!(rt; refusal, HANDED_BACK);
+            println!(rt; "asserted")?;
+        }
     }
     Ok(())
 }

@@ -17,6 +17,7 @@ use art_test_support::points::{
 };
 use art_test_support::trees::{Key, child, keys_of_three, plant_all, plant_keys, value_of};
 use std::alloc::{AllocError, Global};
+use std::process::Abort;
 use std::test::Fail;
 
 // The root before a prefix insertion, what it had under the key's first byte, and what the insertion did.
@@ -604,10 +605,27 @@ fn without_memory_one_pair_is_replaced(rt: HostRuntime) -> Result<(), Fail> {
     Ok(())
 }
 
-// What is left of a refusal to put a key in the place of the first two of some keys.
-fn refused_over(alloc: Global, others: &[&[u8]], key: &[u8]) -> Option<Refusal> {
+// What is left of a refusal to put a key in the place of the first two of some keys, in a store that may be filled before.
+fn refused_in(alloc: Global, others: &[&[u8]], key: &[u8], is_filled: bool) -> Option<Refusal> {
     let mut store: NodeStore<Key, u32, 4> = NodeStore::new(alloc);
-    refused_prefix_insertion(&mut store, others, key).ok()?
+    refused_prefix_insertion(&mut store, others, key, is_filled).ok()?
+}
+
+// The same in a store with no other nodes, and in a full one.
+fn refused_over(alloc: Global, others: &[&[u8]], key: &[u8]) -> [Option<Refusal>; 2] {
+    [
+        refused_in(alloc, others, key, false),
+        refused_in(alloc, others, key, true),
+    ]
+}
+
+// Asserts that a refusal handed the pair back and changed nothing, and says so.
+fn assert_handed_back(rt: &(impl Abort + Print), refusal: Option<Refusal>) -> Result<(), Fail> {
+    if let Some(refusal) = refusal {
+        assert_eq!(rt; refusal, HANDED_BACK);
+        println!(rt; "asserted")?;
+    }
+    Ok(())
 }
 
 // More and more keys; all but the first two stand beside those.
@@ -640,9 +658,8 @@ const ONE_PREFIX: [&[u8]; 9] = [
 #[test]
 fn refused_overwrites_within_a_prefix_hand_the_pair_back(rt: HostRuntime) -> Result<(), Fail> {
     for count in 3..=BESIDE.len() {
-        if let Some(refusal) = refused_over(rt.alloc(), &BESIDE[..count], &[4, 1, 2]) {
-            assert_eq!(rt; refusal, HANDED_BACK);
-            println!(rt; "asserted")?;
+        for refusal in refused_over(rt.alloc(), &BESIDE[..count], &[4, 1, 2]) {
+            assert_handed_back(&rt, refusal)?;
         }
     }
     Ok(())
@@ -654,9 +671,8 @@ fn refused_overwrites_at_the_end_of_a_prefix_hand_the_pair_back(
     rt: HostRuntime,
 ) -> Result<(), Fail> {
     for count in 3..=BESIDE.len() {
-        if let Some(refusal) = refused_over(rt.alloc(), &BESIDE[..count], &[4, 1, 2, 3]) {
-            assert_eq!(rt; refusal, HANDED_BACK);
-            println!(rt; "asserted")?;
+        for refusal in refused_over(rt.alloc(), &BESIDE[..count], &[4, 1, 2, 3]) {
+            assert_handed_back(&rt, refusal)?;
         }
     }
     Ok(())
@@ -666,9 +682,8 @@ fn refused_overwrites_at_the_end_of_a_prefix_hand_the_pair_back(
 #[test]
 fn refused_overwrites_of_the_root_hand_the_pair_back(rt: HostRuntime) -> Result<(), Fail> {
     for count in 2..=ONE_PREFIX.len() {
-        if let Some(refusal) = refused_over(rt.alloc(), &ONE_PREFIX[..count], &[1, 2]) {
-            assert_eq!(rt; refusal, HANDED_BACK);
-            println!(rt; "asserted")?;
+        for refusal in refused_over(rt.alloc(), &ONE_PREFIX[..count], &[1, 2]) {
+            assert_handed_back(&rt, refusal)?;
         }
     }
     Ok(())
@@ -678,9 +693,8 @@ fn refused_overwrites_of_the_root_hand_the_pair_back(rt: HostRuntime) -> Result<
 #[test]
 fn refused_prefix_insertions_of_a_child_hand_the_pair_back(rt: HostRuntime) -> Result<(), Fail> {
     for count in 2..=ONE_PREFIX.len() {
-        if let Some(refusal) = refused_over(rt.alloc(), &ONE_PREFIX[..count], &[1, 2, 10]) {
-            assert_eq!(rt; refusal, HANDED_BACK);
-            println!(rt; "asserted")?;
+        for refusal in refused_over(rt.alloc(), &ONE_PREFIX[..count], &[1, 2, 10]) {
+            assert_handed_back(&rt, refusal)?;
         }
     }
     Ok(())

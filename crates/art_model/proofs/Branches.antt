@@ -16,7 +16,7 @@ use Rattle.art_nodes.specs.declared.node.OpaqueNodePtr.{OpaqueNodePtr}
 use Rattle.art_nodes.proofs.NameLemmas.{inner_cmp_total, inner_cmp-IsAntisymmetric}
 use Rattle.art_nodes.proofs.StoreLaws.{inner_here, inner_elsewhere, inner_changed_at}
 use Rattle.art_model.specs.Keys.{IsFront}
-use Rattle.art_model.specs.Trees.{Tree, leaf, inner, Children, child, no_child, Header, header_of, kind_of}
+use Rattle.art_model.specs.Trees.{Tree, leaf, inner, Subtrees, child, no_child, NodeHeader, canonical_header, kind_of}
 use Rattle.art_model.specs.Radix.{bytes_of}
 use Rattle.art_model.specs.Paths.{Frame, plug, leaves_before, leaves_after}
 use Rattle.art_model.specs.Layouts.{Node, inner_node, name_of, slots_of, names_of, leaf_names}
@@ -110,7 +110,8 @@ module _ {K V : Type 0} {bytes : K × V → List ℕ} {P : ℕ} {s t : Nodes K V
   }
     where
       shown : (kind : NodeType) → kind ≡ Node4 → (slots : List (ℕ × OpaqueNodePtr)) {rest : List (ℕ × OpaqueNodePtr)} → slots ≡ rest →
-          ◌≡◌ {A = Option (Node OpaqueNodePtr (K × V))} (Some (inner_node (record { kind = kind; length_of = length part; stored = take P part }) slots)) (Some (inner_node (header_of P part 2) rest))
+          ◌≡◌ {A = Option (Node OpaqueNodePtr (K × V))} (Some (inner_node (record { kind = kind; length_of = length part; stored = take P part }) slots))
+          (Some (inner_node (canonical_header P part 2) rest))
       shown kind e slots f = cc
 
   touched_leaves : Touched s.leaves t.leaves (n ∷ []) [] (listed x.next ++ (listed x.previous ++ []))
@@ -147,11 +148,11 @@ module _ {K V : Type 0} {bytes : K × V → List ℕ} {P : ℕ} {s t : Nodes K V
 
   module _ {u : Tree OpaqueNodePtr (K × V)} (done : BranchInserted bytes P (node_at s) (node_at t) (links_at s) (links_at t) fs place tree u (inner_name m) (leaf_name n) part b c (pair_of x)) where
     abbrev grown : Tree OpaqueNodePtr (K × V)
-    grown = inner (inner_name m) (header_of P part 2) (two_children b u c (leaf (leaf_name n) (pair_of x)))
+    grown = inner (inner_name m) (canonical_header P part 2) (two_children b u c (leaf (leaf_name n) (pair_of x)))
 
     abbrev NamesOf : Bool → List OpaqueNodePtr
     NamesOf first =
-        names_of (inner (inner_name m) (header_of P part 2) (cond first (child b u (child c (leaf (leaf_name n) (pair_of x)) no_child))
+        names_of (inner (inner_name m) (canonical_header P part 2) (cond first (child b u (child c (leaf (leaf_name n) (pair_of x)) no_child))
         (child c (leaf (leaf_name n) (pair_of x)) (child b u no_child))))
 
     new_in : (first : Bool) (k : OpaqueNodePtr) → IsIn k (leaf_name n ∷ inner_name m ∷ []) → IsIn k (NamesOf first)
@@ -180,7 +181,7 @@ module _ {K V : Type 0} {bytes : K × V → List ℕ} {P : ℕ} {s t : Nodes K V
     }
 
     -- the tree became another in place
-    pub branch_in_place : ChangesInPlace bytes s t (Some (plug fs tree)) (Some (plug fs (inner (inner_name m) (header_of P part 2) (two_children b u c (leaf (leaf_name n) (pair_of x))))))
+    pub branch_in_place : ChangesInPlace bytes s t (Some (plug fs tree)) (Some (plug fs (inner (inner_name m) (canonical_header P part 2) (two_children b u c (leaf (leaf_name n) (pair_of x))))))
     branch_in_place =
         in_place branch_print P (names_around fs tree grown (leaf_name n ∷ inner_name m ∷ []) []
         (both_names (listed x.next ++ (listed x.previous ++ [])) (parents fs ++ touched)) own_names changed_in) (branch_keeps_leaves old done) (branch_keeps old done)
@@ -188,7 +189,7 @@ module _ {K V : Type 0} {bytes : K × V → List ℕ} {P : ℕ} {s t : Nodes K V
 -- ---- what is split: a leaf, or an inner node's prefix
 
 -- a node's header is written
-pub header_touches : {K V : Type 0} (s : Nodes K V) (k : OpaqueNodePtr) (h : Header) (slots : List (ℕ × OpaqueNodePtr)) (header : Prefix) →
+pub header_touches : {K V : Type 0} (s : Nodes K V) (k : OpaqueNodePtr) (h : NodeHeader) (slots : List (ℕ × OpaqueNodePtr)) (header : Prefix) →
     node_at s k ≡ Some (inner_node h slots) → Touched s.inners (change s.inners (as_inner k) (with_header header)) [] [] (as_inner k ∷ [])
 header_touches s k h slots header held =
     let used : get s.inners (as_inner k) ≢ None = λ e. let (off, node, there, head, below) = inner_at s k h slots held in absurd (cc (there, e)) in
@@ -203,20 +204,20 @@ module _ {K V : Type 0} {bytes : K × V → List ℕ} {P : ℕ} {s t : Nodes K V
   leaf_branched {k} {y} old is front = split_leaf old is.hole front (branch_same old is) (branch_placed old is (leaf k y) refl)
 
   -- an inner node, whose prefix is the part, a byte and a rest: the rest is left to it
-  pub prefix_branched : {k : OpaqueNodePtr} {h : Header} {cs : Children OpaqueNodePtr (K × V)} {mid : Inners} (rest : List ℕ) →
+  pub prefix_branched : {k : OpaqueNodePtr} {h : NodeHeader} {cs : Subtrees OpaqueNodePtr (K × V)} {mid : Inners} (rest : List ℕ) →
       mid ≡ change s.inners (as_inner k) (with_header (record { len = length rest; stored = take P rest })) → IsLaidOut bytes P (node_at s) (links_at s) root pairs (plug fs (inner k h cs)) →
       (is : BranchStored bytes P s t fs place (inner k h cs) m n part b c x mid (as_inner k ∷ [])) → is.hole.radix.0 ≡ part ++ b ∷ rest →
       BranchInserted bytes P (node_at s) (node_at t) (links_at s) (links_at t) fs place (inner k h cs)
-      (inner k (header_of P rest (length (bytes_of cs))) cs) (inner_name m) (leaf_name n) part b c (pair_of x)
+      (inner k (canonical_header P rest (length (bytes_of cs))) cs) (inner_name m) (leaf_name n) part b c (pair_of x)
   prefix_branched {k} {h} {cs} rest written old is prefix =
-      trimmed_node rest old is.hole prefix (branch_same old is) there (branch_placed old is (inner k (header_of P rest (length (bytes_of cs))) cs) refl)
+      trimmed_node rest old is.hole prefix (branch_same old is) there (branch_placed old is (inner k (canonical_header P rest (length (bytes_of cs))) cs) refl)
     where
       shown : (kind : NodeType) (slots : List (ℕ × OpaqueNodePtr)) → kind ≡ kind_of (length (bytes_of cs)) → slots ≡ slots_of cs →
           ◌≡◌ {A = Option (Node OpaqueNodePtr (K × V))} (Some
-          (inner_node (record { kind = kind; length_of = length rest; stored = take P rest }) slots)) (Some (inner_node (header_of P rest (length (bytes_of cs))) (slots_of cs)))
+          (inner_node (record { kind = kind; length_of = length rest; stored = take P rest }) slots)) (Some (inner_node (canonical_header P rest (length (bytes_of cs))) (slots_of cs)))
       shown kind slots e f = cc
 
-      there : node_at t k ≡ Some (inner_node (header_of P rest (length (bytes_of cs))) (slots_of cs))
+      there : node_at t k ≡ Some (inner_node (canonical_header P rest (length (bytes_of cs))) (slots_of cs))
       there =
           let (off, node, found, head, below) = inner_at s k h (slots_of cs) (path_holds (node_at s) fs (inner k h cs) old.holds).1.0 in
           let f = with_header (record { len = length rest; stored = take P rest }) in

@@ -3,8 +3,8 @@ use Rattle.std.proofs.Common.{◌≡◌, ℕ, suc, zero, ◌+◌, ◌<◌, ◌�
 use Rattle.std.specs.List.{AllByRecursion as Each}
 use Rattle.std.proofs.lemmas.Bool.{eqb-false}
 use Rattle.art_model.specs.Keys.{IsFront, Precedes}
-use Rattle.art_model.specs.Trees.{shared_part, add_to_groups, groups, byte_at, Tree, leaf, inner, Children, child, no_child, tree_within, tree_of, node_of, children_of, header_of}
-use Rattle.art_model.specs.Radix.{IsRadix, AreRadix, IsRising, bytes_of, pairs_of, pairs_below}
+use Rattle.art_model.specs.Trees.{shared_part, add_to_groups, groups, byte_at, Tree, leaf, inner, Subtrees, child, no_child, tree_within, tree_of, node_of, children_of, canonical_header}
+use Rattle.art_model.specs.Radix.{IsRadix, AreRadix, BytesRise, bytes_of, pairs_of, pairs_below}
 use Rattle.art_model.specs.Pairs.{IsMap}
 use Rattle.art_model.proofs.Lists.{Each-left, Each-right, after_front, Each-weaker}
 use Rattle.art_model.proofs.Groups.{shared_part-front, shared_part_shared}
@@ -31,7 +31,7 @@ module _ {A : Type 0} where
   IsSortedAt byte (x ∷ xs) = Each (λ y. byte x ≤ byte y) xs × IsSortedAt byte xs
 
   abbrev Groups : (A → ℕ) → List (ℕ × List A) → List A → Type 0
-  Groups byte gs xs = (joined gs ≡ xs) × AreGroups byte gs × IsRising (bytes_in gs)
+  Groups byte gs xs = (joined gs ≡ xs) × AreGroups byte gs × BytesRise (bytes_in gs)
 
   -- where no element is below a byte, no group is
   floor : (byte : A → ℕ) (b : ℕ) (gs : List (ℕ × List A)) → AreGroups byte gs → Each (λ y. b ≤ byte y) (joined gs) → Each (λ c. b ≤ c) (bytes_in gs)
@@ -39,7 +39,7 @@ module _ {A : Type 0} where
   floor byte b ((c, []) ∷ others) h k = absurd (omega arith)
   floor byte b ((c, x ∷ group) ∷ others) h k = (omega (arith, h.1.0, k.0), floor byte b others h.2 (Each-right (λ y. b ≤ byte y) (x ∷ group) (joined others) k))
 
-  add_groups : (byte : A → ℕ) (x : A) (gs : List (ℕ × List A)) → AreGroups byte gs → IsRising (bytes_in gs) → Each (λ c. byte x ≤ c) (bytes_in gs) →
+  add_groups : (byte : A → ℕ) (x : A) (gs : List (ℕ × List A)) → AreGroups byte gs → BytesRise (bytes_in gs) → Each (λ c. byte x ≤ c) (bytes_in gs) →
       Groups byte (add_to_groups (byte x) x gs) (x ∷ joined gs)
   add_groups byte x [] h up low = (refl, (omega arith, (refl, tt), tt), (tt, tt))
   add_groups byte x ((c, group) ∷ others) h up low = go (eqb (byte x) c) refl
@@ -133,9 +133,9 @@ module _ {A : Type 0} (bytes : A → List ℕ) where
 
 module _ {A : Type 0} (bytes : A → List ℕ) (P : ℕ) where
   -- the node of a list, by its parts
-  node_is : (f : ℕ → List A → Option (Tree (Unit {0}) A)) (d e n : ℕ) (xs : List A) (cs : Children (Unit {0}) A) →
+  node_is : (f : ℕ → List A → Option (Tree (Unit {0}) A)) (d e n : ℕ) (xs : List A) (cs : Subtrees (Unit {0}) A) →
       e ≡ d + length (shared_part bytes d xs) → children_of (f (e + 1)) (groups (byte_at bytes e) xs) ≡ cs → length (groups (byte_at bytes e) xs) ≡ n →
-      node_of bytes f P d xs ≡ Some (inner tt (header_of P (shared_part bytes d xs) n) cs)
+      node_of bytes f P d xs ≡ Some (inner tt (canonical_header P (shared_part bytes d xs) n) cs)
   node_is f d e n xs cs depth made count = rw (← depth, made, count) refl
 
   -- pairs whose keys begin with a place have a radix tree there, and grouping gives it
@@ -145,7 +145,7 @@ module _ {A : Type 0} (bytes : A → List ℕ) (P : ℕ) where
 
   build_below : (turns : ℕ) → Builds turns → (front : List ℕ) (gs : List (ℕ × List A)) → AreGroups (byte_at bytes (length front)) gs →
       Each (GoesOn bytes front) (joined gs) → IsMap bytes (joined gs) → length (joined gs) + 1 ≤ turns + length gs →
-      (cs : Children (Unit {0}) A) × (children_of (tree_within bytes turns P (length front + 1)) gs ≡ cs) × AreRadix bytes P front cs × (bytes_of cs ≡ bytes_in gs) × (pairs_below cs ≡ joined gs)
+      (cs : Subtrees (Unit {0}) A) × (children_of (tree_within bytes turns P (length front + 1)) gs ≡ cs) × AreRadix bytes P front cs × (bytes_of cs ≡ bytes_in gs) × (pairs_below cs ≡ joined gs)
   build_below turns ih front [] are on map enough = (no_child, refl, tt, refl, refl)
   build_below turns ih front ((b, g) ∷ gs) are on map enough =
       let long = groups_long bytes (byte_at bytes (length front)) gs are.2 in
@@ -171,10 +171,10 @@ module _ {A : Type 0} (bytes : A → List ℕ) (P : ℕ) where
       let l = ap length e in
       let (cs, made, below, heads, pairs) = build_below turns (build turns) front gs are (rw e on) (rw e sorted) (omega arith) in
       let count : length gs ≡ length (bytes_of cs) = sym (length-bytes_in bytes gs) ∙ ap length (sym heads) in
-      let t = inner tt (header_of P part (length (bytes_of cs))) cs in
+      let t = inner tt (canonical_header P part (length (bytes_of cs))) cs in
       let same : tree_within bytes (suc turns) P (length place) (x ∷ y ∷ xs) ≡ Some t =
       node_is (tree_within bytes turns P) (length place) (length front) (length (bytes_of cs)) (x ∷ y ∷ xs) cs (length-append place part) made count in
-      (t, same, (part, refl, rw (← count) two, subst IsRising (sym heads) up, below), pairs ∙ e)
+      (t, same, (part, refl, rw (← count) two, subst BytesRise (sym heads) up, below), pairs ∙ e)
 
   -- the tree of a map: grouping gives a radix tree of these pairs
   pub build_root : (xs : List A) → IsMap bytes xs → 1 ≤ length xs → (t : Tree (Unit {0}) A) × (tree_of bytes xs P 0 ≡ Some t) × IsRadix bytes P [] t × (pairs_of t ≡ xs)

@@ -1,12 +1,12 @@
 -- a canonical root's layout is a radix tree, and a layout that is one makes the root canonical
 use Rattle.std.proofs.Common.{◌≡◌, ℕ, ◌≤◌, List, [], ◌∷◌, ◌++◌, length, refl, ap, ap₂, sym, ◌∙◌, arith, subst, Option, Some, None}
-use Rattle.art_model.specs.Trees.{Tree, leaf, inner, Children, child, no_child, header_of, tree_of}
-use Rattle.art_model.specs.Radix.{unmarked, all_unmarked, pairs_of, pairs_below, IsRadix, AreRadix, IsRising, bytes_of}
+use Rattle.art_model.specs.Trees.{Tree, leaf, inner, Subtrees, child, no_child, canonical_header, tree_of}
+use Rattle.art_model.specs.Radix.{unmarked, all_unmarked, pairs_of, pairs_below, IsRadix, AreRadix, BytesRise, bytes_of}
 use Rattle.art_model.specs.Pairs.{IsMap}
 use Rattle.art_model.specs.Layouts.{Node, name_of, names_of, leaf_names, Holds, AreDistinct, Links, AreLinked}
 use Rattle.art_nodes.specs.Nodes.{Nodes}
 use Rattle.art_nodes.specs.declared.node.OpaqueNodePtr.{OpaqueNodePtr}
-use Rattle.art_model.specs.Canonical.{IsTree}
+use Rattle.art_model.specs.Canonical.{IsCanonicalTree}
 use Rattle.art_model.specs.Stores.{node_at, links_at}
 use Rattle.art_model.proofs.Build.{build_root}
 use Rattle.art_model.proofs.Rebuild.{rebuild_root}
@@ -18,11 +18,11 @@ module _ {N A : Type 0} where
     pairs_of-unmarked (leaf n x) = refl
     pairs_of-unmarked (inner n h cs) = pairs_below-unmarked cs
 
-    pub pairs_below-unmarked : (cs : Children N A) → pairs_below (all_unmarked cs) ≡ pairs_below cs
+    pub pairs_below-unmarked : (cs : Subtrees N A) → pairs_below (all_unmarked cs) ≡ pairs_below cs
     pairs_below-unmarked no_child = refl
     pairs_below-unmarked (child b t cs) = ap₂ (λ (xs ys : List A). xs ++ ys) (pairs_of-unmarked t) (pairs_below-unmarked cs)
 
-  pub bytes_of-unmarked : (cs : Children N A) → bytes_of (all_unmarked cs) ≡ bytes_of cs
+  pub bytes_of-unmarked : (cs : Subtrees N A) → bytes_of (all_unmarked cs) ≡ bytes_of cs
   bytes_of-unmarked no_child = refl
   bytes_of-unmarked (child b t cs) = ap (λ l. b ∷ l) (bytes_of-unmarked cs)
 
@@ -32,9 +32,9 @@ module _ {N A : Type 0} (bytes : A → List ℕ) (P : ℕ) where
     radix_unmarked (leaf n x) place h = h
     radix_unmarked (inner n h cs) place (part, e, two, up, below) =
         let bs = bytes_of-unmarked cs in
-        (part, e ∙ ap (λ l. header_of P part (length l)) bs, subst (λ l. 2 ≤ length l) bs two, subst IsRising bs up, radix_below_unmarked cs (place ++ part) below)
+        (part, e ∙ ap (λ l. canonical_header P part (length l)) bs, subst (λ l. 2 ≤ length l) bs two, subst BytesRise bs up, radix_below_unmarked cs (place ++ part) below)
 
-    pub radix_below_unmarked : (cs : Children N A) (front : List ℕ) → AreRadix bytes P front (all_unmarked cs) → AreRadix bytes P front cs
+    pub radix_below_unmarked : (cs : Subtrees N A) (front : List ℕ) → AreRadix bytes P front (all_unmarked cs) → AreRadix bytes P front cs
     radix_below_unmarked no_child front h = tt
     radix_below_unmarked (child b t cs) front h = (radix_unmarked t (front ++ b ∷ []) h.0, radix_below_unmarked cs front h.1)
 
@@ -58,17 +58,17 @@ module _ {N A : Type 0} (bytes : A → List ℕ) (P : ℕ) where
 
 module _ {K V : Type 0} {bytes : K × V → List ℕ} {P : ℕ} {s : Nodes K V} {root : OpaqueNodePtr} {pairs : List (K × V)} {layout : Tree OpaqueNodePtr (K × V)} where
   -- a canonical root's layout is a radix tree with its pairs
-  pub tree_radix : IsTree bytes P s root pairs layout → IsRadix bytes P [] layout × (pairs_of layout ≡ pairs)
+  pub tree_radix : IsCanonicalTree bytes P s root pairs layout → IsRadix bytes P [] layout × (pairs_of layout ≡ pairs)
   tree_radix by = radix_from bytes P pairs by.tree layout by.is_map by.is_tree by.stands.1
 
   -- a canonical root is laid out
-  pub laid_out : IsTree bytes P s root pairs layout → IsLaidOut bytes P (node_at s) (links_at s) root pairs layout
+  pub laid_out : IsCanonicalTree bytes P s root pairs layout → IsLaidOut bytes P (node_at s) (links_at s) root pairs layout
   laid_out by =
       let (radix, is) = tree_radix by in
       record { named = by.stands.0.named; radix = radix; pairs_are = is; holds = by.stands.0.holds; distinct = by.stands.0.distinct; linked = by.linked }
 
   -- what is laid out makes the root canonical
-  pub canonical_from : IsLaidOut bytes P (node_at s) (links_at s) root pairs layout → IsTree bytes P s root pairs layout
+  pub canonical_from : IsLaidOut bytes P (node_at s) (links_at s) root pairs layout → IsCanonicalTree bytes P s root pairs layout
   canonical_from l = record {
     is_map = subst (IsMap bytes) l.pairs_are (radix_map bytes P layout [] l.radix);
     tree = unmarked layout;

@@ -15,7 +15,7 @@ use Rattle.art_nodes.specs.declared.node.LeafNode.{LeafNode}
 use Rattle.art_nodes.specs.declared.node.OpaqueNodePtr.{OpaqueNodePtr}
 use Rattle.art_nodes.proofs.NameLemmas.{inner_cmp_total, inner_cmp-IsAntisymmetric}
 use Rattle.art_nodes.proofs.StoreLaws.{inner_changed_at, inner_changed_elsewhere, inner_gone_elsewhere}
-use Rattle.art_model.specs.Trees.{Tree, leaf, inner, Children, child, no_child, Header, header_of}
+use Rattle.art_model.specs.Trees.{Tree, leaf, inner, Subtrees, child, no_child, NodeHeader, canonical_header}
 use Rattle.art_model.specs.Radix.{IsRadix, bytes_of, join}
 use Rattle.art_model.specs.Pairs.{remove_key}
 use Rattle.art_model.specs.Paths.{Frame, plug, leaves_before, leaves_after, HoldsPath}
@@ -27,6 +27,7 @@ use Rattle.art_model.specs.Footprints.{IsIn, TouchesAtMost}
 use Rattle.art_model.proofs.Canonical.{IsLaidOut}
 use Rattle.art_model.proofs.InPlace.{AreNames, in_place}
 use Rattle.art_model.proofs.Lists.{each_in, in_left, in_right}
+use Rattle.art_model.proofs.Names.{own_name}
 use Rattle.art_model.proofs.Paths.{IsHole, root_with}
 use Rattle.art_model.proofs.Stores.{IsParent, ParentHas, SameBut, path_holds, parent_apart, hole_distinct}
 use Rattle.art_model.proofs.Regrown.{left_child_held}
@@ -46,7 +47,7 @@ module _ {A : Type 0} (P : ℕ) (prefix : List ℕ) where
   -- an inner node gets this prefix, a leaf has none
   abbrev pub with_prefix : Tree OpaqueNodePtr A → Tree OpaqueNodePtr A
   with_prefix (leaf k y) = leaf k y
-  with_prefix (inner k head cs) = inner k (header_of P prefix (length (bytes_of cs))) cs
+  with_prefix (inner k head cs) = inner k (canonical_header P prefix (length (bytes_of cs))) cs
 
   -- and so in a store
   abbrev pub prefix_written : Tree OpaqueNodePtr A → Inners → Inners
@@ -65,7 +66,7 @@ prefix_at bytes P place (inner k head cs) radix = radix.0
 
 -- A leaf is taken from a node that has one other child, `v`; the node goes, and `v` takes its place, with the node's prefix and its own byte in front of its own prefix.
 pub record Compressed {K V : Type 0} (bytes : K × V → List ℕ) (P : ℕ) (s t : Nodes K V) (fs : List (Frame OpaqueNodePtr (K × V))) (place : List ℕ)
-    (m : OpaqueNodePtr) (h : Header) (l r : Children OpaqueNodePtr (K × V)) (b : ℕ) (n : LeafPtr) (x : LeafNode K V) (c : ℕ) (v : Tree OpaqueNodePtr (K × V)) : Type 0 where
+    (m : OpaqueNodePtr) (h : NodeHeader) (l r : Subtrees OpaqueNodePtr (K × V)) (b : ℕ) (n : LeafPtr) (x : LeafNode K V) (c : ℕ) (v : Tree OpaqueNodePtr (K × V)) : Type 0 where
   pub hole : IsHole bytes P fs place (inner m h (join l (child b (leaf (leaf_name n) (pair_of x)) r))) (bytes (pair_of x))
   pub one : join l r ≡ child c v no_child
   pub radix : IsRadix bytes P ((place ++ hole.radix.0) ++ c ∷ []) v
@@ -90,18 +91,13 @@ module _ {A : Type 0} where
   rewritten_each Q (leaf j y) h = tt
   rewritten_each Q (inner j head cs) h = (h j (inl refl), tt)
 
-  -- a subtree's own name is one of its names
-  pub own_name : (w : Tree OpaqueNodePtr A) → IsIn (name_of w) (names_of w)
-  own_name (leaf j y) = inl refl
-  own_name (inner j head cs) = inl refl
-
-  -- and it keeps it
+  -- a subtree keeps its name
   name_of-with_prefix : (P : ℕ) (prefix : List ℕ) (w : Tree OpaqueNodePtr A) → name_of (with_prefix P prefix w) ≡ name_of w
   name_of-with_prefix P prefix (leaf j y) = refl
   name_of-with_prefix P prefix (inner j head cs) = refl
 
 module _ {K V : Type 0} {bytes : K × V → List ℕ} {P : ℕ} {s t : Nodes K V} {root : OpaqueNodePtr} {pairs : List (K × V)}
-    {fs : List (Frame OpaqueNodePtr (K × V))} {place : List ℕ} {m : OpaqueNodePtr} {h : Header} {l r : Children OpaqueNodePtr (K × V)} {b : ℕ}
+    {fs : List (Frame OpaqueNodePtr (K × V))} {place : List ℕ} {m : OpaqueNodePtr} {h : NodeHeader} {l r : Subtrees OpaqueNodePtr (K × V)} {b : ℕ}
     {n : LeafPtr} {x : LeafNode K V} {c : ℕ} {v : Tree OpaqueNodePtr (K × V)}
     (old : IsLaidOut bytes P (node_at s) (links_at s) root pairs (plug fs (inner m h (join l (child b (leaf (leaf_name n) (pair_of x)) r)))))
     (is : Compressed bytes P s t fs place m h l r b n x c v) where

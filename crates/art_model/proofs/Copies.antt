@@ -4,10 +4,10 @@ use Rattle.std.specs.List.{AllZip}
 use Rattle.art_nodes.specs.Nodes.{Nodes}
 use Rattle.art_nodes.specs.declared.node.OpaqueNodePtr.{OpaqueNodePtr}
 use Rattle.art_model.specs.Keys.{IsFront}
-use Rattle.art_model.specs.Trees.{Tree, leaf, inner, Children, child, no_child, header_of}
-use Rattle.art_model.specs.Radix.{IsRadix, AreRadix, IsRising, bytes_of, join, pairs_of, pairs_below}
+use Rattle.art_model.specs.Trees.{Tree, leaf, inner, Subtrees, child, no_child, canonical_header}
+use Rattle.art_model.specs.Radix.{IsRadix, AreRadix, BytesRise, bytes_of, join, pairs_of, pairs_below}
 use Rattle.art_model.specs.Layouts.{name_of}
-use Rattle.art_model.specs.Canonical.{IsTree}
+use Rattle.art_model.specs.Canonical.{IsCanonicalTree}
 use Rattle.art_model.specs.Clones.{IsCopy, AreCopies}
 use Rattle.art_model.specs.Gains.{Gains}
 use Rattle.art_model.proofs.Canonical.{tree_radix, canonical_from}
@@ -20,14 +20,14 @@ AllZip-append R (x ∷ xs) (y ∷ ys) zs ws h k = (h.0, AllZip-append R xs ys zs
 
 module _ {N A : Type 0} (IsClone : A → A → Type 0) where
   -- copies stand under the same bytes
-  pub copied_bytes : (cs ds : Children N A) → AreCopies IsClone cs ds → bytes_of ds ≡ bytes_of cs
+  pub copied_bytes : (cs ds : Subtrees N A) → AreCopies IsClone cs ds → bytes_of ds ≡ bytes_of cs
   copied_bytes no_child no_child h = refl
   copied_bytes no_child (child c u ds) h = absurd h
   copied_bytes (child b t cs) no_child h = absurd h
   copied_bytes (child b t cs) (child c u ds) (e, f, h) = rw (e, copied_bytes cs ds h) refl
 
   -- children and then others
-  pub copies_joined : (cs ds others more : Children N A) → AreCopies IsClone cs ds → AreCopies IsClone others more → AreCopies IsClone (join cs others) (join ds more)
+  pub copies_joined : (cs ds others more : Subtrees N A) → AreCopies IsClone cs ds → AreCopies IsClone others more → AreCopies IsClone (join cs others) (join ds more)
   copies_joined no_child no_child others more h k = k
   copies_joined no_child (child c u ds) others more h k = absurd h
   copies_joined (child b t cs) no_child others more h k = absurd h
@@ -41,7 +41,7 @@ module _ {N A : Type 0} (IsClone : A → A → Type 0) where
     copied_pairs (inner n h cs) (leaf m y) k = absurd k
     copied_pairs (inner n h cs) (inner m g ds) k = copied_pairs_below cs ds k.1
 
-    copied_pairs_below : (cs ds : Children N A) → AreCopies IsClone cs ds → AllZip IsClone (pairs_below cs) (pairs_below ds)
+    copied_pairs_below : (cs ds : Subtrees N A) → AreCopies IsClone cs ds → AllZip IsClone (pairs_below cs) (pairs_below ds)
     copied_pairs_below no_child no_child h = tt
     copied_pairs_below no_child (child c u ds) h = absurd h
     copied_pairs_below (child b t cs) no_child h = absurd h
@@ -55,10 +55,15 @@ module _ {N A : Type 0} (IsClone : A → A → Type 0) where
       copied_radix (leaf n x) (inner m g ds) place h r = absurd h
       copied_radix (inner n h cs) (leaf m y) place k r = absurd k
       copied_radix (inner n h cs) (inner m g ds) place (e, k) (part, head, two, up, below) =
-          let same = copied_bytes cs ds k in
-          (part, e ∙ head ∙ ap (λ z. header_of P part (length z)) (sym same), subst (λ z. 2 ≤ length z) (sym same) two, subst IsRising (sym same) up, copied_radix_below cs ds (place ++ part) k below)
+          let same = copied_bytes cs ds k in (
+            part,
+            e ∙ head ∙ ap (λ z. canonical_header P part (length z)) (sym same),
+            subst (λ z. 2 ≤ length z) (sym same) two,
+            subst BytesRise (sym same) up,
+            copied_radix_below cs ds (place ++ part) k below,
+          )
 
-      copied_radix_below : (cs ds : Children N A) (front : List ℕ) → AreCopies IsClone cs ds → AreRadix bytes P front cs → AreRadix bytes P front ds
+      copied_radix_below : (cs ds : Subtrees N A) (front : List ℕ) → AreCopies IsClone cs ds → AreRadix bytes P front cs → AreRadix bytes P front ds
       copied_radix_below no_child no_child front h r = tt
       copied_radix_below no_child (child c u ds) front h r = absurd h
       copied_radix_below (child b t cs) no_child front h r = absurd h
@@ -68,8 +73,8 @@ module _ {N A : Type 0} (IsClone : A → A → Type 0) where
 module _ {K V : Type 0} (IsClone : K × V → K × V → Type 0) (bytes : K × V → List ℕ) (P : ℕ) (keep : (x y : K × V) → IsClone x y → bytes y ≡ bytes x)
     {s old new : Nodes K V} {root : OpaqueNodePtr} {pairs : List (K × V)} {layout : Tree OpaqueNodePtr (K × V)} where
   -- a gained copy of a canonical tree is canonical for clones of its pairs
-  pub copied_tree : (copy : Tree OpaqueNodePtr (K × V)) → IsTree bytes P s root pairs layout → IsCopy IsClone layout copy → Gains old new copy →
-      AllZip IsClone pairs (pairs_of copy) × IsTree bytes P new (name_of copy) (pairs_of copy) copy
+  pub copied_tree : (copy : Tree OpaqueNodePtr (K × V)) → IsCanonicalTree bytes P s root pairs layout → IsCopy IsClone layout copy → Gains old new copy →
+      AllZip IsClone pairs (pairs_of copy) × IsCanonicalTree bytes P new (name_of copy) (pairs_of copy) copy
   copied_tree copy is same gains =
       let (radix, pairs_are) = tree_radix is in (
         subst (λ z. AllZip IsClone z (pairs_of copy)) pairs_are (copied_pairs IsClone layout copy same),

@@ -8,7 +8,7 @@ use Rattle.art_nodes.specs.declared.node.NodeType.TheVariants.{Leaf}
 use Rattle.art_nodes.specs.declared.node.LeafPtr.{LeafPtr}
 use Rattle.art_nodes.specs.declared.node.InnerPtr.{InnerPtr}
 use Rattle.art_nodes.specs.declared.node.OpaqueNodePtr.{OpaqueNodePtr}
-use Rattle.art_model.specs.Trees.{Tree, leaf, inner, Children, child, no_child}
+use Rattle.art_model.specs.Trees.{Tree, leaf, inner, Subtrees, child, no_child}
 use Rattle.art_model.specs.Radix.{bytes_of, join, pairs_of, HaveChildren, HaveChildrenBelow}
 use Rattle.art_model.specs.Pairs.{first_of, last_of}
 use Rattle.art_model.specs.Layouts.{name_of, slots_of, leaf_names, Holds}
@@ -56,13 +56,13 @@ last_of-append (y ∷ z ∷ xs) x = last_of-append (z ∷ xs) x
 
 -- ---- the children at the edges
 module _ {N A : Type 0} where
-  pub first_child : (cs : Children N A) (r : ℕ × N) → slice_get (slots_of cs) 0 ≡ Some r → (t : Tree N A) × (ds : Children N A) × (cs ≡ join no_child (child r.0 t ds)) × (name_of t ≡ r.1)
+  pub first_child : (cs : Subtrees N A) (r : ℕ × N) → slice_get (slots_of cs) 0 ≡ Some r → (t : Tree N A) × (ds : Subtrees N A) × (cs ≡ join no_child (child r.0 t ds)) × (name_of t ≡ r.1)
   first_child no_child r e = absurd cc
   first_child (child b t cs) r e =
       let is : ◌≡◌ {A = ℕ × N} (b, name_of t) r = cc in
       (t, cs, ap (λ z. child z t cs) (ap (λ p. p.0) is), ap (λ p. p.1) is)
 
-  pub last_child : (cs : Children N A) (r : ℕ × N) → slice_get (slots_of cs) (length (slots_of cs) - 1) ≡ Some r → (ds : Children N A) ×
+  pub last_child : (cs : Subtrees N A) (r : ℕ × N) → slice_get (slots_of cs) (length (slots_of cs) - 1) ≡ Some r → (ds : Subtrees N A) ×
       (t : Tree N A) × (cs ≡ join ds (child r.0 t no_child)) × (name_of t ≡ r.1)
   last_child no_child r e = absurd cc
   last_child (child b t no_child) r e =
@@ -73,17 +73,17 @@ module _ {N A : Type 0} where
       let (ds, v, whole, named) = last_child (child c u cs) r (ap (slice_get (slots_of (child b t (child c u cs)))) at ∙ e) in
       (child b t ds, v, ap (child b t) whole, named)
 
-  slots_long : (cs : Children N A) → length (slots_of cs) ≡ length (bytes_of cs)
+  slots_long : (cs : Subtrees N A) → length (slots_of cs) ≡ length (bytes_of cs)
   slots_long no_child = refl
   slots_long (child b t cs) = ap suc (slots_long cs)
 
   -- the children on the right have as many as all do
-  pub children_right : (least : ℕ) (cs ds : Children N A) → HaveChildrenBelow least (join cs ds) → HaveChildrenBelow least ds
+  pub children_right : (least : ℕ) (cs ds : Subtrees N A) → HaveChildrenBelow least (join cs ds) → HaveChildrenBelow least ds
   children_right least no_child ds h = h
   children_right least (child b t cs) ds h = children_right least cs ds h.1
 
   -- a part of the children is no higher than all
-  pub height_join : (cs ds : Children N A) → height_below ds ≤ height_below (join cs ds)
+  pub height_join : (cs ds : Subtrees N A) → height_below ds ≤ height_below (join cs ds)
   height_join no_child ds = omega arith
   height_join (child b t cs) ds = let l = height_join cs ds in omega arith
 
@@ -120,8 +120,8 @@ module _ {K V : Type 0} (side : List (Frame OpaqueNodePtr (K × V)) → Type 0) 
           rw at.slots (let l = full.0 in omega arith)
 
       -- below one of the children, along any side that its frame keeps to
-      pub edge_down : (next : List (Frame OpaqueNodePtr (K × V)) → Type 0) (l : Children OpaqueNodePtr (K × V)) (b : ℕ)
-          (t : Tree OpaqueNodePtr (K × V)) (r : Children OpaqueNodePtr (K × V)) {to : OpaqueNodePtr} → at.children ≡ join l (child b t r) → name_of t ≡ to →
+      pub edge_down : (next : List (Frame OpaqueNodePtr (K × V)) → Type 0) (l : Subtrees OpaqueNodePtr (K × V)) (b : ℕ)
+          (t : Tree OpaqueNodePtr (K × V)) (r : Subtrees OpaqueNodePtr (K × V)) {to : OpaqueNodePtr} → at.children ≡ join l (child b t r) → name_of t ≡ to →
           next (record { mark = inner_name p; header = header_at p.kind shown; left = l; byte = b; right = r } ∷ d.path) →
           IsAtEdge next s tree to × (height (node_at s) (map.len s.inners) to < height (node_at s) (map.len s.inners) name)
       edge_down next l b t r {to} split named along =

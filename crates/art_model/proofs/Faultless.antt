@@ -1,10 +1,9 @@
 -- What a check may find is not true of a canonical root.
-use Rattle.std.proofs.Common.{append_assoc, map, true, ◌≡◌, ◌≢◌, ℕ, ◌+◌, ◌<◌, ◌≤◌, List, [], ◌∷◌, ◌++◌, length, take, refl, ap, ap₂, sym, ◌∙◌, arith, subst, length-append, Option, Some, None, ◌⊎◌, inl, inr}
+use Rattle.std.proofs.Common.{append_assoc, map, ◌≡◌, ◌≢◌, ℕ, ◌+◌, ◌<◌, ◌≤◌, List, [], ◌∷◌, ◌++◌, length, take, refl, ap, ap₂, sym, ◌∙◌, arith, subst, length-append, Option, Some, None, ◌⊎◌, inl, inr}
 use Rattle.std.proofs.lemmas.List.{length-take-le}
-use Rattle.std.proofs.lemmas.Bool.{false≢true}
 use Rattle.std.proofs.lemmas.Cmp.{nat_list_cmp_total}
 use Rattle.std.specs.Cmp.Lexicographic.{slice_cmp}
-use Rattle.std.specs.Ordering.{is_lt, nat_cmp, ordering_reverse}
+use Rattle.std.specs.Ordering.{nat_cmp, ordering_reverse}
 use Rattle.art_nodes.specs.Inner.{child_at}
 use Rattle.std.specs.List.{AllByRecursion as Each}
 use Rattle.art_nodes.specs.Kinds.{kind_least}
@@ -14,19 +13,22 @@ use Rattle.art_nodes.specs.declared.node.NodeType.TheVariants.{Node4, Node16, No
 use Rattle.art_nodes.specs.declared.node.OpaqueNodePtr.{OpaqueNodePtr}
 use Rattle.art_model.specs.Faults.{Fault, loop_found, wrong_children_count, prefix_mismatch, empty_tree_with_len, leaf_sibling_wrong_order, wrong_sibling_links, dead_name, unreadable_prefix, stored_prefix_mismatch, out_of_memory, IsTrueOf, IsLoop, HasWrongOrder, Reaches, HasWrongCount, HasForeignKey, HasWrongLinks, HasSibling, IsDead, StoresOthers, EndsBadly, IsUnreadable}
 use Rattle.std.specs.declared.cmp.Ordering.{Ordering}
-use Rattle.std.specs.declared.cmp.Ordering.TheVariants.{Less, Equal, Greater}
+use Rattle.std.specs.declared.cmp.Ordering.TheVariants.{Less, Greater}
 use Rattle.art_model.specs.Footprints.{IsIn}
 use Rattle.art_model.specs.Keys.{IsFront, Precedes}
-use Rattle.art_model.specs.Layouts.{Node, Links, leaf_node, inner_node, name_of, names_of, names_below, leaf_names, leaves_of, leaves_below, slots_of, AreDistinct, Holds, HoldsBelow, first_or, last_or, AreLinked}
-use Rattle.art_model.specs.Pairs.{first_of, last_of, IsMap}
+use Rattle.art_model.specs.Layouts.{Node, Links, leaf_node, inner_node, name_of, names_of, names_below, leaf_names, entries_of, entries_below, slots_of, AreDistinct, Holds, HoldsBelow, first_or, last_or, AreLinked}
+use Rattle.art_model.specs.Pairs.{IsMap}
 use Rattle.art_model.specs.Radix.{join, bytes_of, pairs_of, IsRadix, AreRadix}
 use Rattle.art_model.specs.Stores.{node_at, links_at}
 use Rattle.art_model.specs.Trails.{end_of, way_of, HasChild, IsDescent, IsTrail, IsReadAs, HasPrefix}
-use Rattle.art_model.specs.Trees.{Tree, leaf, inner, Children, child, no_child, Header, kind_of}
+use Rattle.art_model.specs.Trees.{Tree, leaf, inner, Subtrees, child, no_child, NodeHeader, kind_of}
 use Rattle.art_model.proofs.Canonical.{IsLaidOut}
 use Rattle.std.proofs.lemmas.List.{map-append}
+use Rattle.art_model.proofs.KeyLaws.{before_less}
+use Rattle.art_model.proofs.LeafEnds.{first_or_of, last_or_of}
 use Rattle.art_model.proofs.Links.{first_in, last_in, link_of}
-use Rattle.art_model.proofs.Lists.{Each-append, Each-left, Each-right, each_in, in_either, in_left, in_right, in_map}
+use Rattle.art_model.proofs.Lists.{Each-append, Each-left, Each-right, each_in, in_either, in_left, in_right, in_map, out_map}
+use Rattle.art_model.proofs.Names.{own_name}
 use Rattle.art_model.proofs.Pairwises.{Pairwise-before, Pairwise-after, Pairwise-in, Pairwise-left, Pairwise-right}
 use Rattle.art_model.proofs.Paths.{leaf_names-leaves, names_below-join, pairs_of-leaves}
 use Rattle.art_model.proofs.OnWay.{child_under}
@@ -35,18 +37,6 @@ use Rattle.art_model.proofs.Radix.{AreRadix-right, radix_map}
 use Rattle.art_model.proofs.Slots.{length-slots_of, kind_of-least}
 use Rattle.art_model.proofs.StoreLaws.{has_one_layout}
 use Rattle.art_model.proofs.Subtrees.{IsSub, descent_apart, descent_front, descent_sub, is_held, prefix_front, read_whole, trail_sub}
-
-first_is : {N : Type 0} (ns : List N) → first_or ns None ≡ first_of ns
-first_is [] = refl
-first_is (n ∷ ns) = refl
-
-last_is : {N : Type 0} (ns : List N) → last_or ns None ≡ last_of ns
-last_is [] = refl
-last_is (n ∷ ns) = go n ns
-  where
-    go : {N : Type 0} (n : N) (ns : List N) → last_or ns (Some n) ≡ last_of (n ∷ ns)
-    go n [] = refl
-    go n (m ∷ ms) = go m ms
 
 -- a tree's node has as many children as its kind has at least
 enough : (kind : NodeType) (n : ℕ) → kind ≡ kind_of n → 2 ≤ n → n < kind_least kind → ⊥
@@ -57,60 +47,56 @@ enough Node256 n e two few = kind_of-least Node256 n (λ f. cc) few e
 enough Leaf n e two few = omega arith
 
 -- ---- a leaf among the leaves of a tree
-unmapped : {X Y : Type 0} (f : X → Y) (xs : List X) (y : Y) → IsIn y (map f xs) → (x : X) × IsIn x xs × (f x ≡ y)
-unmapped f [] y i = absurd i
-unmapped f (x ∷ xs) y (inl e) = (x, inl refl, e)
-unmapped f (x ∷ xs) y (inr i) = let (z, j, e) = unmapped f xs y i in (z, inr j, e)
-
 module _ {A : Type 0} (at : OpaqueNodePtr → Option (Node OpaqueNodePtr A)) where
   -- an entry's leaf is there
   abbrev IsHeldAs : A × OpaqueNodePtr → Type 0
   IsHeldAs e = at e.1 ≡ Some (leaf_node e.0)
 
   mutual
-    leaves_held : (t : Tree OpaqueNodePtr A) → Holds at t → Each IsHeldAs (leaves_of t)
+    leaves_held : (t : Tree OpaqueNodePtr A) → Holds at t → Each IsHeldAs (entries_of t)
     leaves_held (leaf n x) h = (h, tt)
     leaves_held (inner n h cs) holds = below_held cs holds.1
 
-    below_held : (cs : Children OpaqueNodePtr A) → HoldsBelow at cs → Each IsHeldAs (leaves_below cs)
+    below_held : (cs : Subtrees OpaqueNodePtr A) → HoldsBelow at cs → Each IsHeldAs (entries_below cs)
     below_held no_child h = tt
-    below_held (child b t cs) h = Each-append IsHeldAs (leaves_of t) (leaves_below cs) (leaves_held t h.0) (below_held cs h.1)
+    below_held (child b t cs) h = Each-append IsHeldAs (entries_of t) (entries_below cs) (leaves_held t h.0) (below_held cs h.1)
 
   mutual
     leaf_split : (t : Tree OpaqueNodePtr A) (k : OpaqueNodePtr) (x : A) → Holds at t → IsIn k (names_of t) → at k ≡ Some (leaf_node x) →
-        (before after : List (A × OpaqueNodePtr)) × (leaves_of t ≡ before ++ (x, k) ∷ after)
+        (before after : List (A × OpaqueNodePtr)) × (entries_of t ≡ before ++ (x, k) ∷ after)
     leaf_split (leaf n y) k x holds (inl e) there = let f = ap at e in let same : y ≡ x = cc in ([], [], ap₂ (λ z m. (z, m) ∷ []) same e)
     leaf_split (leaf n y) k x holds (inr i) there = absurd i
     leaf_split (inner n h cs) k x holds (inl e) there = let f = ap at e in let g = holds.0 in absurd cc
     leaf_split (inner n h cs) k x holds (inr i) there = below_split cs k x holds.1 i there
 
-    below_split : (cs : Children OpaqueNodePtr A) (k : OpaqueNodePtr) (x : A) → HoldsBelow at cs → IsIn k (names_below cs) →
-        at k ≡ Some (leaf_node x) → (before after : List (A × OpaqueNodePtr)) × (leaves_below cs ≡ before ++ (x, k) ∷ after)
+    below_split : (cs : Subtrees OpaqueNodePtr A) (k : OpaqueNodePtr) (x : A) → HoldsBelow at cs → IsIn k (names_below cs) →
+        at k ≡ Some (leaf_node x) → (before after : List (A × OpaqueNodePtr)) × (entries_below cs ≡ before ++ (x, k) ∷ after)
     below_split no_child k x holds i there = absurd i
     below_split (child b t cs) k x holds i there = elim (in_either k (names_of t) (names_below cs) i) [
       | inl j ↦ let (before, after, e) =
-          leaf_split t k x holds.0 j there in (before, after ++ leaves_below cs, ap (λ l. l ++ leaves_below cs) e ∙ append_assoc before ((x, k) ∷ after) (leaves_below cs))
-      | inr j ↦ let (before, after, e) = below_split cs k x holds.1 j there in (leaves_of t ++ before, after, ap (λ l. leaves_of t ++ l) e ∙ sym (append_assoc (leaves_of t) before ((x, k) ∷ after)))
+          leaf_split t k x holds.0 j there in (before, after ++ entries_below cs, ap (λ l. l ++ entries_below cs) e ∙ append_assoc before ((x, k) ∷ after) (entries_below cs))
+      | inr j ↦ let (before, after, e) = below_split cs k x holds.1 j there in
+          (entries_of t ++ before, after, ap (λ l. entries_of t ++ l) e ∙ sym (append_assoc (entries_of t) before ((x, k) ∷ after)))
     ]
 
 -- ---- ways in a tree
 module _ {A : Type 0} where
   -- the name is in the tree under this byte
-  abbrev IsUnderByte : ℕ → OpaqueNodePtr → Children OpaqueNodePtr A → Type 0
+  abbrev IsUnderByte : ℕ → OpaqueNodePtr → Subtrees OpaqueNodePtr A → Type 0
   IsUnderByte b k no_child = ⊥
   IsUnderByte b k (child d t ds) = ((d ≡ b) × IsIn k (names_of t)) ⊎ IsUnderByte b k ds
 
-  under_there : (l : Children OpaqueNodePtr A) (b : ℕ) (u : Tree OpaqueNodePtr A) (r : Children OpaqueNodePtr A) (k : OpaqueNodePtr) → IsIn k (names_of u) → IsUnderByte b k (join l (child b u r))
+  under_there : (l : Subtrees OpaqueNodePtr A) (b : ℕ) (u : Tree OpaqueNodePtr A) (r : Subtrees OpaqueNodePtr A) (k : OpaqueNodePtr) → IsIn k (names_of u) → IsUnderByte b k (join l (child b u r))
   under_there no_child b u r k i = inl (refl, i)
   under_there (child d t ds) b u r k i = inr (under_there ds b u r k i)
 
-  under_below : (cs : Children OpaqueNodePtr A) (b : ℕ) (k : OpaqueNodePtr) → IsUnderByte b k cs → IsIn k (names_below cs)
+  under_below : (cs : Subtrees OpaqueNodePtr A) (b : ℕ) (k : OpaqueNodePtr) → IsUnderByte b k cs → IsIn k (names_below cs)
   under_below no_child b k u = absurd u
   under_below (child d t ds) b k (inl u) = in_left k (names_of t) (names_below ds) u.1
   under_below (child d t ds) b k (inr u) = in_right k (names_of t) (names_below ds) (under_below ds b k u)
 
   -- no name is under two bytes
-  one_byte : (cs : Children OpaqueNodePtr A) (b c : ℕ) (k : OpaqueNodePtr) → AreDistinct (names_below cs) → IsUnderByte b k cs → IsUnderByte c k cs → b ≡ c
+  one_byte : (cs : Subtrees OpaqueNodePtr A) (b c : ℕ) (k : OpaqueNodePtr) → AreDistinct (names_below cs) → IsUnderByte b k cs → IsUnderByte c k cs → b ≡ c
   one_byte no_child b c k apart u v = absurd u
   one_byte (child d t ds) b c k apart (inl u) (inl v) = sym u.0 ∙ v.0
   one_byte (child d t ds) b c k apart (inl u) (inr v) = absurd (Pairwise-in ◌≢◌ (names_of t) (names_below ds) k k apart u.1 (under_below ds c k v) refl)
@@ -119,17 +105,17 @@ module _ {A : Type 0} where
 
   module _ (at : OpaqueNodePtr → Option (Node OpaqueNodePtr A)) (bytes : A → List ℕ) (P : ℕ) where
     -- The first step of a trail from an inner node goes to one of its children, which has a tree.
-    record IsFirst (cs : Children OpaqueNodePtr A) (front : List ℕ) (step : ℕ × OpaqueNodePtr) : Type 0 where
+    record IsFirst (cs : Subtrees OpaqueNodePtr A) (front : List ℕ) (step : ℕ × OpaqueNodePtr) : Type 0 where
       tree : Tree OpaqueNodePtr A
-      left : Children OpaqueNodePtr A
-      right : Children OpaqueNodePtr A
+      left : Subtrees OpaqueNodePtr A
+      right : Subtrees OpaqueNodePtr A
       whole : cs ≡ join left (child step.0 tree right)
       named : name_of tree ≡ step.1
       holds : Holds at tree
       radix : IsRadix bytes P (front ++ step.0 ∷ []) tree
       apart : AreDistinct (names_below cs) → AreDistinct (names_of tree)
 
-    first_step : (n : OpaqueNodePtr) (h : Header) (cs : Children OpaqueNodePtr A) (place : List ℕ) (step : ℕ × OpaqueNodePtr) →
+    first_step : (n : OpaqueNodePtr) (h : NodeHeader) (cs : Subtrees OpaqueNodePtr A) (place : List ℕ) (step : ℕ × OpaqueNodePtr) →
         Holds at (inner n h cs) → (radix : IsRadix bytes P place (inner n h cs)) → HasChild at n step → IsFirst cs (place ++ radix.0) step
     first_step n h cs place step holds radix (k, slots, there, under) =
         let f = holds.0 in
@@ -163,7 +149,7 @@ module _ {A : Type 0} where
         (under_there c.left s.0 c.tree c.right (end_of s.1 ss) (subst (λ m. IsIn (end_of m ss) (names_of c.tree)) c.named i))))
 
     -- below an inner node, under the byte of its first step
-    trail_under : (n : OpaqueNodePtr) (h : Header) (cs : Children OpaqueNodePtr A) (place : List ℕ) (s : ℕ × OpaqueNodePtr)
+    trail_under : (n : OpaqueNodePtr) (h : NodeHeader) (cs : Subtrees OpaqueNodePtr A) (place : List ℕ) (s : ℕ × OpaqueNodePtr)
         (ss : List (ℕ × OpaqueNodePtr)) → Holds at (inner n h cs) → IsRadix bytes P place (inner n h cs) → IsTrail at n (s ∷ ss) → IsUnderByte s.0 (end_of s.1 ss) cs
     trail_under n h cs place s ss holds radix trail =
         let c = first_step n h cs place s holds radix trail.0 in
@@ -230,7 +216,7 @@ module _ {K V : Type 0} (bytes : K × V → List ℕ) (P : ℕ) (s : Nodes K V) 
       let linked = subst (λ ns. AreLinked (links_at s) None ns None) (sym (ap leaf_names same) ∙ names) laid.linked in
       let links = link_of (links_at s) before after name None None linked in
       let found : Some actual ≡ Some expected =
-      sym own ∙ links ∙ ap₂ (λ p n. let l : Links OpaqueNodePtr = record { previous = p; next = n } in Some l) (last_is before) (first_is after) ∙ ap Some (sym wanted) in
+      sym own ∙ links ∙ ap₂ (λ p n. let l : Links OpaqueNodePtr = record { previous = p; next = n } in Some l) (last_or_of before) (first_or_of after) ∙ ap Some (sym wanted) in
       off cc
 
   -- a node has as many children as its kind has at least
@@ -260,7 +246,7 @@ module _ {K V : Type 0} (bytes : K × V → List ℕ) (P : ℕ) (s : Nodes K V) 
       go sub.tree sub.named sub.holds sub.radix (sub.apart laid.distinct) (subst (λ n. IsDescent (node_at s) n ns) (sym sub.named) descent)
       (subst (λ n. EndsBadly bytes P s root n ns (length place + h.length_of)) (sym sub.named) bad)
     where
-      childless : (h : Header) (u : Tree OpaqueNodePtr (K × V)) (deeper : List ℕ) → Holds (node_at s) u → IsRadix bytes P deeper u → node_at s (name_of u) ≡ Some (inner_node h []) → ⊥
+      childless : (h : NodeHeader) (u : Tree OpaqueNodePtr (K × V)) (deeper : List ℕ) → Holds (node_at s) u → IsRadix bytes P deeper u → node_at s (name_of u) ≡ Some (inner_node h []) → ⊥
       childless h (leaf n x) deeper holds radix e = absurd cc
       childless h (inner n k cs) deeper holds radix e =
           let f = holds.0 in
@@ -307,7 +293,7 @@ module _ {K V : Type 0} (bytes : K × V → List ℕ) (P : ℕ) (s : Nodes K V) 
       let order_is = subst (IsMap bytes) xs (radix_map bytes P layout [] laid.radix) in
       elim side [
         | inl (o, e) ↦
-            let (k, i, same) = unmapped (λ z. z.1) before sibling (last_in (map (λ z. z.1) before) sibling (sym (ap (λ l. l.previous) is) ∙ e)) in (
+            let (k, i, same) = out_map (λ z. z.1) sibling before (last_in (map (λ z. z.1) before) sibling (sym (ap (λ l. l.previous) is) ∙ e)) in (
               k,
               same,
               each_in (IsHeldAs (node_at s)) k before (Each-left (IsHeldAs (node_at s)) before ((x, name) ∷ after) held) i,
@@ -318,7 +304,7 @@ module _ {K V : Type 0} (bytes : K × V → List ℕ) (P : ℕ) (s : Nodes K V) 
               ),
             )
         | inr (o, e) ↦
-            let (k, i, same) = unmapped (λ z. z.1) after sibling (first_in (map (λ z. z.1) after) sibling (sym (ap (λ l. l.next) is) ∙ e)) in (
+            let (k, i, same) = out_map (λ z. z.1) sibling after (first_in (map (λ z. z.1) after) sibling (sym (ap (λ l. l.next) is) ∙ e)) in (
               k,
               same,
               each_in (IsHeldAs (node_at s)) k after (Each-right (IsHeldAs (node_at s)) before ((x, name) ∷ after) held).1 i,
@@ -329,10 +315,6 @@ module _ {K V : Type 0} (bytes : K × V → List ℕ) (P : ℕ) (s : Nodes K V) 
               ),
             )
       ]
-    where
-      own_name : (t : Tree OpaqueNodePtr (K × V)) → IsIn (name_of t) (names_of t)
-      own_name (leaf n x) = inl refl
-      own_name (inner n h cs) = inl refl
 
   pub no_dead_name : (place : List ℕ) (name : OpaqueNodePtr) → IsDead bytes P s root place name → ⊥
   no_dead_name place name (gone, inl reach) = no_dead_node place name reach gone
@@ -348,14 +330,9 @@ module _ {K V : Type 0} (bytes : K × V → List ℕ) (P : ℕ) (s : Nodes K V) 
       let z : e.0 ≡ y = cc in
       let keys : slice_cmp nat_cmp (bytes e.0) (bytes x) ≡ actual = ap₂ (slice_cmp nat_cmp) (ap bytes z ∙ own) its ∙ compared in
       elim side [
-        | inl (o, before) ↦ off (sym keys ∙ is_less (slice_cmp nat_cmp (bytes e.0) (bytes x)) before.0 ∙ sym o)
-        | inr (o, after) ↦ off (sym keys ∙ nat_list_cmp_total.antisymm (bytes e.0) (bytes x) ∙ ap ordering_reverse (is_less (slice_cmp nat_cmp (bytes x) (bytes e.0)) after.0) ∙ sym o)
+        | inl (o, before) ↦ off (sym keys ∙ before_less (slice_cmp nat_cmp (bytes e.0) (bytes x)) before.0 ∙ sym o)
+        | inr (o, after) ↦ off (sym keys ∙ nat_list_cmp_total.antisymm (bytes e.0) (bytes x) ∙ ap ordering_reverse (before_less (slice_cmp nat_cmp (bytes x) (bytes e.0)) after.0) ∙ sym o)
       ]
-    where
-      is_less : (o : Ordering) → is_lt o ≡ true → o ≡ Less
-      is_less Less h = refl
-      is_less Equal h = absurd (false≢true h)
-      is_less Greater h = absurd (false≢true h)
 
   pub no_loop : (name : OpaqueNodePtr) (first later : List ℕ) → IsLoop bytes P s root name first later → ⊥
   no_loop name first later (one, other, off) =

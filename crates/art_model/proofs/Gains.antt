@@ -16,7 +16,7 @@ use Rattle.art_nodes.specs.declared.node.InnerPtr.{InnerPtr}
 use Rattle.art_nodes.specs.declared.node.OpaqueNodePtr.{OpaqueNodePtr}
 use Rattle.art_nodes.proofs.NameLemmas.{leaf_cmp_total, inner_cmp_total, leaf_cmp-IsAntisymmetric, inner_cmp-IsAntisymmetric}
 use Rattle.art_nodes.proofs.StoreLaws.{leaf_here, inner_here, inner_changed_here, inner_changed_elsewhere}
-use Rattle.art_model.specs.Trees.{Tree, leaf, inner, Children, child, no_child, Header}
+use Rattle.art_model.specs.Trees.{Tree, leaf, inner, Subtrees, child, no_child, NodeHeader}
 use Rattle.art_model.specs.Radix.{join, bytes_of}
 use Rattle.art_model.specs.Layouts.{leaf_node, inner_node, name_of, slots_of, names_of, names_below, leaf_names, leaf_names_below, inner_names, inner_names_below, Holds, HoldsBelow, AreDistinct, AreLinked, first_or, last_or}
 use Rattle.art_model.specs.Stores.{held, held_leaf, held_inner, seen, node_at, links_at, links_of, pair_of, header_at}
@@ -27,7 +27,7 @@ use Rattle.art_model.specs.Gains.{as_leaf, without, Loses, Gains}
 use Rattle.art_model.proofs.Chains.{links_leaf, relinked_beside}
 use Rattle.art_model.proofs.Leaves.{joined_pair}
 use Rattle.art_model.proofs.Links.{link_up, linked-frame, first_in, last_in}
-use Rattle.art_model.proofs.Lists.{each_in, each_from, in_left, in_right, in_either, in_map}
+use Rattle.art_model.proofs.Lists.{each_in, each_from, in_left, in_right, in_either, in_map, out_map}
 use Rattle.art_model.proofs.Names.{IsTaken, all_taken, taken_in, taken_distinct, takes_leaves, takes_inners}
 use Rattle.art_model.proofs.Pairwises.{Pairwise-append}
 use Rattle.art_model.proofs.Paths.{names_below-join, leaf_names_below-join}
@@ -35,12 +35,6 @@ use Rattle.art_model.proofs.Stores.{frame, frame_below, HoldsBelow-join}
 use Rattle.art_model.proofs.Views.{leaf_or, held_in_inner, leaf_name_is, inner_name_is, same_leaf, same_inner_held}
 use Rattle.art_model.proofs.Without.{is_without, without_in, without_off, without_new, without_both, without_changed}
 use Rattle.art_model.proofs.Writes.{node_at-leaf, node_at-inner, inner_at, inner_name_one, shown, same_inner}
-
--- an element of the images is the image of one
-out_map : {X Y : Type 0} (f : X → Y) (y : Y) (xs : List X) → IsIn y (map f xs) → (x : X) × IsIn x xs × (f x ≡ y)
-out_map f y [] i = absurd i
-out_map f y (x ∷ xs) (inl e) = (x, inl refl, e)
-out_map f y (x ∷ xs) (inr i) = let (z, j, e) = out_map f y xs i in (z, inr j, e)
 
 -- ---- which names of a tree are those of leaves, and which those of inner nodes
 
@@ -52,7 +46,7 @@ module _ {K V : Type 0} (s : Nodes K V) where
     leaf_among (inner n g cs) holds p (inl e) = absurd (leaf_name_is s p g (slots_of cs) (ap (node_at s) (sym e) ∙ holds.0))
     leaf_among (inner n g cs) holds p (inr i) = leaf_among_below cs holds.1 p i
 
-    leaf_among_below : (cs : Children OpaqueNodePtr (K × V)) → HoldsBelow (node_at s) cs → (p : LeafPtr) → IsIn (leaf_name p) (names_below cs) → IsIn (leaf_name p) (leaf_names_below cs)
+    leaf_among_below : (cs : Subtrees OpaqueNodePtr (K × V)) → HoldsBelow (node_at s) cs → (p : LeafPtr) → IsIn (leaf_name p) (names_below cs) → IsIn (leaf_name p) (leaf_names_below cs)
     leaf_among_below no_child h p i = absurd i
     leaf_among_below (child b t cs) h p i = elim (in_either (leaf_name p) (names_of t) (names_below cs) i) [
       | inl j ↦ in_left (leaf_name p) (leaf_names t) (leaf_names_below cs) (leaf_among t h.0 p j)
@@ -67,7 +61,7 @@ module _ {K V : Type 0} (s : Nodes K V) where
     inner_among (inner n g cs) holds k off (inl e) = inl e
     inner_among (inner n g cs) holds k off (inr i) = inr (inner_among_below cs holds.1 k off i)
 
-    inner_among_below : (cs : Children OpaqueNodePtr (K × V)) → HoldsBelow (node_at s) cs → (k : OpaqueNodePtr) → k.kind ≢ Leaf → IsIn k (names_below cs) → IsIn k (inner_names_below cs)
+    inner_among_below : (cs : Subtrees OpaqueNodePtr (K × V)) → HoldsBelow (node_at s) cs → (k : OpaqueNodePtr) → k.kind ≢ Leaf → IsIn k (names_below cs) → IsIn k (inner_names_below cs)
     inner_among_below no_child h k off i = absurd i
     inner_among_below (child b t cs) h k off i = elim (in_either k (names_of t) (names_below cs) i) [
       | inl j ↦ in_left k (inner_names t) (inner_names_below cs) (inner_among t h.0 k off j)
@@ -81,7 +75,7 @@ module _ {K V : Type 0} (s : Nodes K V) where
     leaf_kind (leaf n x) h k (inr i) = absurd i
     leaf_kind (inner n g cs) holds k i = leaf_kind_below cs holds.1 k i
 
-    leaf_kind_below : (cs : Children OpaqueNodePtr (K × V)) → HoldsBelow (node_at s) cs → (k : OpaqueNodePtr) → IsIn k (leaf_names_below cs) → (p : LeafPtr) × (k ≡ leaf_name p)
+    leaf_kind_below : (cs : Subtrees OpaqueNodePtr (K × V)) → HoldsBelow (node_at s) cs → (k : OpaqueNodePtr) → IsIn k (leaf_names_below cs) → (p : LeafPtr) × (k ≡ leaf_name p)
     leaf_kind_below no_child h k i = absurd i
     leaf_kind_below (child b t cs) h k i = elim (in_either k (leaf_names t) (leaf_names_below cs) i) [ inl j ↦ leaf_kind t h.0 k j | inr j ↦ leaf_kind_below cs h.1 k j ]
 
@@ -92,7 +86,7 @@ module _ {K V : Type 0} (s : Nodes K V) where
     inner_kind (inner n g cs) holds k (inl e) = elim (leaf_or k) [ inl (p, is) ↦ absurd (leaf_name_is s p g (slots_of cs) (ap (node_at s) (sym (e ∙ is)) ∙ holds.0)) | inr off ↦ off ]
     inner_kind (inner n g cs) holds k (inr i) = inner_kind_below cs holds.1 k i
 
-    inner_kind_below : (cs : Children OpaqueNodePtr (K × V)) → HoldsBelow (node_at s) cs → (k : OpaqueNodePtr) → IsIn k (inner_names_below cs) → k.kind ≢ Leaf
+    inner_kind_below : (cs : Subtrees OpaqueNodePtr (K × V)) → HoldsBelow (node_at s) cs → (k : OpaqueNodePtr) → IsIn k (inner_names_below cs) → k.kind ≢ Leaf
     inner_kind_below no_child h k i = absurd i
     inner_kind_below (child b t cs) h k i = elim (in_either k (inner_names t) (inner_names_below cs) i) [ inl j ↦ inner_kind t h.0 k j | inr j ↦ inner_kind_below cs h.1 k j ]
 
@@ -132,11 +126,11 @@ module _ {K V : Type 0} {s t : Nodes K V} {tree : Tree OpaqueNodePtr (K × V)} (
 
   -- exactly the tree's names go
   pub lost_others : KeepsOthers s t (names_of tree) []
-  lost_others = record { beside = λ k off _. lost_off k off; left = λ k i _. lost_in k i; taken = λ k i _. absurd i }
+  lost_others = record { beside = λ k off _. lost_off k off; gone = λ k i _. lost_in k i; taken = λ k i _. absurd i }
 
   -- and the other way round they come
   pub came_others : KeepsOthers t s [] (names_of tree)
-  came_others = record { beside = λ k _ off. sym (lost_off k off); left = λ k i _. absurd i; taken = λ k i _. lost_in k i }
+  came_others = record { beside = λ k _ off. sym (lost_off k off); gone = λ k i _. absurd i; taken = λ k i _. lost_in k i }
 
 inner_now : {K V : Type 0} (t : Nodes K V) (q : InnerPtr) → q.kind ≢ Leaf → (o : Option Inner) → held t (inner_name q) ≡ option_map held_inner o → get t.inners q ≡ o
 inner_now {K} {V} t q off o e = same_inner_held K V (get t.inners q) o (sym (held_in_inner t q.kind q.slot off) ∙ e)
@@ -150,14 +144,14 @@ module _ {K V : Type 0} {s t : Nodes K V} {tree : Tree OpaqueNodePtr (K × V)} (
         let (k, j, e) = out_map as_leaf p (leaf_names tree) i in
         let (q, is) = leaf_kind s tree holds k j in
         let same : k ≡ leaf_name p = is ∙ ap leaf_name (sym (ap as_leaf is) ∙ e) in
-        same_leaf (get t.leaves p) None (freed.left (leaf_name p) (taken_in takes_leaves tree (leaf_name p) (subst (λ z. IsIn z (leaf_names tree)) same j)) (λ z. z)))
+        same_leaf (get t.leaves p) None (freed.gone (leaf_name p) (taken_in takes_leaves tree (leaf_name p) (subst (λ z. IsIn z (leaf_names tree)) same j)) (λ z. z)))
         (λ p off. same_leaf (get t.leaves p) (get s.leaves p) (freed.beside (leaf_name p) (λ i. off (in_map as_leaf (leaf_name p) (leaf_names tree) (leaf_among s tree holds p i))) (λ z. z)));
     inners = is_without inner_cmp_total inner_cmp-IsAntisymmetric s.inners t.inners (map as_inner (inner_names tree))
         (λ q i.
         let (k, j, e) = out_map as_inner q (inner_names tree) i in
         let same : k ≡ inner_name q = ap inner_name e in
         let in_tree : IsIn (inner_name q) (inner_names tree) = subst (λ z. IsIn z (inner_names tree)) same j in
-        inner_now t q (inner_kind s tree holds (inner_name q) in_tree) None (freed.left (inner_name q) (taken_in takes_inners tree (inner_name q) in_tree) (λ z. z)))
+        inner_now t q (inner_kind s tree holds (inner_name q) in_tree) None (freed.gone (inner_name q) (taken_in takes_inners tree (inner_name q) in_tree) (λ z. z)))
         (λ q off. elim (leaf_or (inner_name q)) [
           | inl (p, e) ↦ improper q (ap (λ z. z.kind) e)
           | inr kind ↦ inner_now t q kind (get s.inners q) (freed.beside (inner_name q)
@@ -194,18 +188,18 @@ module _ {K V : Type 0} {old new : Nodes K V} where
 
 module _ {N A : Type 0} where
   -- names of joined children's inner nodes
-  pub inner_names_below-join : (cs : Children N A) (b : ℕ) (u : Tree N A) → inner_names_below (join cs (child b u no_child)) ≡ inner_names_below cs ++ inner_names u
+  pub inner_names_below-join : (cs : Subtrees N A) (b : ℕ) (u : Tree N A) → inner_names_below (join cs (child b u no_child)) ≡ inner_names_below cs ++ inner_names u
   inner_names_below-join no_child b u = append-nil (inner_names u)
   inner_names_below-join (child c t cs) b u = rw (inner_names_below-join cs b u) (sym (append_assoc (inner_names t) (inner_names_below cs) (inner_names u)))
 
 -- a child put behind all others
-put_child-last : {A : Type 0} (l : Children OpaqueNodePtr A) (b : ℕ) (t : Tree OpaqueNodePtr A) → Each (λ c. c < b) (bytes_of l) →
+put_child-last : {A : Type 0} (l : Subtrees OpaqueNodePtr A) (b : ℕ) (t : Tree OpaqueNodePtr A) → Each (λ c. c < b) (bytes_of l) →
     put_child (slots_of l) b (name_of t) ≡ slots_of (join l (child b t no_child))
 put_child-last no_child b t low = refl
 put_child-last (child c u l) b t low = rw (lt-ltb c b low.0) (ap (λ z. (c, name_of u) ∷ z) (put_child-last l b t low.1))
 
 -- An inner node that was gained has got a child: a tree that was gained after it.
-pub record GainsChild {K V : Type 0} (old mid next new : Nodes K V) (name : OpaqueNodePtr) (header : Header) (cs : Children OpaqueNodePtr (K × V))
+pub record GainsChild {K V : Type 0} (old mid next new : Nodes K V) (name : OpaqueNodePtr) (header : NodeHeader) (cs : Subtrees OpaqueNodePtr (K × V))
     (b : ℕ) (u : Tree OpaqueNodePtr (K × V)) (last : Option LeafPtr) (first : LeafPtr) : Type 0 where
   pub so_far : Gains old mid (inner name header cs)
   pub more : Gains mid next u
@@ -215,7 +209,7 @@ pub record GainsChild {K V : Type 0} (old mid next new : Nodes K V) (name : Opaq
   pub leaves : new.leaves ≡ joined next.leaves last (Some first) (Some first) last
   pub inners : new.inners ≡ change next.inners (as_inner name) (with_child b (name_of u))
 
-module _ {K V : Type 0} {old mid next new : Nodes K V} {name : OpaqueNodePtr} {header : Header} {cs : Children OpaqueNodePtr (K × V)} {b : ℕ}
+module _ {K V : Type 0} {old mid next new : Nodes K V} {name : OpaqueNodePtr} {header : NodeHeader} {cs : Subtrees OpaqueNodePtr (K × V)} {b : ℕ}
     {u : Tree OpaqueNodePtr (K × V)} {last : Option LeafPtr} {first : LeafPtr} (is : GainsChild old mid next new name header cs b u last first) where
   abbrev others : List OpaqueNodePtr
   others = leaf_names_below cs

@@ -10,7 +10,7 @@ use Rattle.art_nodes.specs.declared.node.OpaqueNodePtr.{OpaqueNodePtr}
 use Rattle.art_nodes.proofs.NameLemmas.{inner_cmp_total}
 use Rattle.art_nodes.proofs.StoreLaws.{gone_elsewhere}
 use Rattle.art_nodes.proofs.NameLemmas.{inner_cmp-IsAntisymmetric}
-use Rattle.art_model.specs.Trees.{Tree, leaf, inner, Children, child, no_child}
+use Rattle.art_model.specs.Trees.{Tree, leaf, inner, Subtrees, child, no_child}
 use Rattle.art_model.specs.Layouts.{Node, name_of, slots_of, names_of, inner_names, inner_names_below, Holds, HoldsBelow, AreDistinct, IsLayout}
 use Rattle.art_model.specs.Heights.{highest, height, tree_height, height_below}
 use Rattle.art_model.specs.Stores.{node_at}
@@ -31,7 +31,7 @@ module _ {N A : Type 0} (at : N → Option (Node N A)) where
     height_is (inner n h cs) zero holds enough = absurd (omega arith)
     height_is (inner n h cs) (suc steps) holds enough = rw holds.0 (ap suc (highest_is cs steps holds.1 (omega arith)))
 
-    pub highest_is : (cs : Children N A) (steps : ℕ) → HoldsBelow at cs → height_below cs ≤ steps → highest (height at steps) (slots_of cs) ≡ height_below cs
+    pub highest_is : (cs : Subtrees N A) (steps : ℕ) → HoldsBelow at cs → height_below cs ≤ steps → highest (height at steps) (slots_of cs) ≡ height_below cs
     highest_is no_child steps h enough = refl
     highest_is (child b t cs) steps h enough = ap₂ max (height_is t steps h.0 (omega arith)) (highest_is cs steps h.1 (omega arith))
 
@@ -42,7 +42,7 @@ module _ {N A : Type 0} where
     height_long (leaf n x) = omega arith
     height_long (inner n h cs) = let l = height_below_long cs in omega arith
 
-    pub height_below_long : (cs : Children N A) → height_below cs ≤ length (inner_names_below cs)
+    pub height_below_long : (cs : Subtrees N A) → height_below cs ≤ length (inner_names_below cs)
     height_below_long no_child = omega arith
     height_below_long (child b t cs) = let l = height_long t in let k = height_below_long cs in rw length-append (omega arith)
 
@@ -75,7 +75,7 @@ module _ {K V : Type 0} (s : Nodes K V) where
     inners_held (leaf n x) h = tt
     inners_held (inner n h cs) holds = (inner_is_used s n h (slots_of cs) holds.0, inners_held_below cs holds.1)
 
-    inners_held_below : (cs : Children OpaqueNodePtr (K × V)) → HoldsBelow (node_at s) cs → Each (λ n. is_some (map.get s.inners (as_inner n)) ≡ true) (inner_names_below cs)
+    inners_held_below : (cs : Subtrees OpaqueNodePtr (K × V)) → HoldsBelow (node_at s) cs → Each (λ n. is_some (map.get s.inners (as_inner n)) ≡ true) (inner_names_below cs)
     inners_held_below no_child h = tt
     inners_held_below (child b t cs) h = Each-append (λ n. is_some (map.get s.inners (as_inner n)) ≡ true) (inner_names t) (inner_names_below cs) (inners_held t h.0) (inners_held_below cs h.1)
 

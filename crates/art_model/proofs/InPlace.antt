@@ -27,7 +27,7 @@ module _ {K V : Type 0} {s t : Nodes K V} {placed freed changed : List OpaqueNod
   pub others_kept : {old new : List OpaqueNodePtr} → AreNames old new placed freed changed → KeepsOthers s t old new
   others_kept {old} {new} names = record {
     beside = λ n not_old not_new. print.others n (λ i. not_new (names.placed_in n i)) (λ i. not_old (names.freed_in n i)) (λ i. not_old (names.changed_in n i));
-    left = λ n is_old not_new. elim (names.old_stays n is_old) [
+    gone = λ n is_old not_new. elim (names.old_stays n is_old) [
       | inl i ↦ absurd (not_new i)
       | inr i ↦ (each_in (λ k. IsUsed s k × (held t k ≡ None)) n freed print.are_freed i).1
     ];

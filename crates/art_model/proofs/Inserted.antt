@@ -2,16 +2,16 @@
 use Rattle.std.proofs.Common.{◌≡◌, ◌≢◌, ℕ, suc, ◌+◌, ◌<◌, List, [], ◌∷◌, ◌++◌, length, refl, ap, sym, ◌∙◌, subst, length-append, arith, append-nil, Option, Some, None, true, false, Bool, cond, ltb, ◌⊎◌, inl, inr}
 use Rattle.std.specs.List.{AllByRecursion as Each}
 use Rattle.art_model.specs.Keys.{IsFront}
-use Rattle.art_model.specs.Trees.{Tree, leaf, inner, Children, child, no_child, Header, header_of, kind_of}
+use Rattle.art_model.specs.Trees.{Tree, leaf, inner, Subtrees, child, no_child, NodeHeader, canonical_header, kind_of}
 use Rattle.art_model.specs.Radix.{IsRadix, AreRadix, bytes_of, join, pairs_of}
 use Rattle.art_model.specs.Pairs.{replace_key}
 use Rattle.art_model.specs.Paths.{Frame, plug, leaves_before, leaves_after}
 use Rattle.art_model.specs.Places.{inner_nodes}
-use Rattle.art_model.specs.Layouts.{Node, leaf_node, inner_node, slots_of, names_of, leaf_names, leaf_names_below, leaves_of, leaves_below, names_below, HoldsBelow, AreDistinct, Links}
+use Rattle.art_model.specs.Layouts.{Node, leaf_node, inner_node, slots_of, names_of, leaf_names, leaf_names_below, entries_of, entries_below, names_below, HoldsBelow, AreDistinct, Links}
 use Rattle.art_model.specs.Footprints.{IsIn}
 use Rattle.art_model.proofs.Lists.{each_in, each_from, in_left, in_around}
 use Rattle.art_model.proofs.Between.{replace_key-between}
-use Rattle.art_model.proofs.Paths.{IsHole, root_with, leaf_names_below-three, leaves_below-three, leaves_below-join, same_pairs_of, same_leaf_names}
+use Rattle.art_model.proofs.Paths.{IsHole, root_with, leaf_names_below-three, entries_below-three, entries_below-join, same_pairs_of, same_leaf_names}
 use Rattle.art_model.proofs.Changes.{two_children, branch, with_child, trimmed}
 use Rattle.art_model.proofs.Wholes.{KeepNames, kept}
 use Rattle.art_model.proofs.Kept.{kept_branch, kept_children, inner_nodes-leaf, inner_nodes-moved, KeepLeaves, kept_leaves, kept_leaves_more}
@@ -22,7 +22,7 @@ use Rattle.art_model.proofs.Regrown.{IsBranch, branch_regrown, children_regrown}
 use Rattle.art_model.proofs.Replaced.{replaced, linked_in_hole}
 
 -- The key goes on from the node in the hole with a byte, and the children stand on both sides of it.
-pub record IsGap {N A : Type 0} (bytes : A → List ℕ) (P : ℕ) (fs : List (Frame N A)) (place : List ℕ) (m : N) (h : Header) (l r : Children N A) (b : ℕ) (key : List ℕ) : Type 0 where
+pub record IsGap {N A : Type 0} (bytes : A → List ℕ) (P : ℕ) (fs : List (Frame N A)) (place : List ℕ) (m : N) (h : NodeHeader) (l r : Subtrees N A) (b : ℕ) (key : List ℕ) : Type 0 where
   pub hole : IsHole bytes P fs place (inner m h (join l r)) key
   pub front : IsFront ((place ++ hole.radix.0) ++ b ∷ []) key
   pub low : Each (λ c. c < b) (bytes_of l)
@@ -35,9 +35,9 @@ module _ {N A : Type 0} (bytes : A → List ℕ) (P : ℕ) (at to : N → Option
     pub radix : IsRadix bytes P ((place ++ part) ++ b ∷ []) u
     pub front : IsFront ((place ++ part) ++ c ∷ []) (bytes new)
     pub apart : b ≢ c
-    pub same_entries : leaves_of u ≡ leaves_of t
+    pub same_entries : entries_of u ≡ entries_of t
     pub same_inners : inner_nodes bytes (length place) t ≡ inner_nodes bytes (length place + length part + 1) u
-    pub branch : IsBranch at to t u m n (header_of P part 2) b c new
+    pub branch : IsBranch at to t u m n (canonical_header P part 2) b c new
     pub parent : ParentHas to fs m
     pub same : SameBut at to fs (names_of t)
     pub relinked : Relinked before links (leaves_before fs ++ cond (ltb b c) (leaf_names t) []) (n ∷ []) (cond (ltb b c) [] (leaf_names t) ++ leaves_after fs)
@@ -49,19 +49,19 @@ module _ {N A : Type 0} (bytes : A → List ℕ) (P : ℕ) (at to : N → Option
     pub node_was_free : at m ≡ None
     pub leaf_was_free : at n ≡ None
     pub differ : m ≢ n
-    pub node : to m ≡ Some (inner_node (header_of P part 2) (slots_of (two_children b u c (leaf n new))))
+    pub node : to m ≡ Some (inner_node (canonical_header P part 2) (slots_of (two_children b u c (leaf n new))))
     pub new_leaf : to n ≡ Some (leaf_node new)
     pub parent : ParentHas to fs m
     pub relinked : Relinked before links (leaves_before fs ++ cond (ltb b c) (leaf_names t) []) (n ∷ []) (cond (ltb b c) [] (leaf_names t) ++ leaves_after fs)
 
   -- The node in the hole has one child more, a new leaf: it has room, or a larger node takes its place.
-  pub record ChildInserted (m node n : N) (h : Header) (l r : Children N A) (b : ℕ) (new : A) : Type 0 where
+  pub record ChildInserted (m node n : N) (h : NodeHeader) (l r : Subtrees N A) (b : ℕ) (new : A) : Type 0 where
     pub gap : IsGap bytes P fs place m h l r b (bytes new)
     pub named : (node ≡ m) ⊎ (at node ≡ None)
     pub same_kind : h.kind ≡ kind_of (suc (length (bytes_of (join l r)))) → m ≡ node
     pub leaf_was_free : at n ≡ None
     pub differ : node ≢ n
-    pub there : to node ≡ Some (inner_node (header_of P gap.hole.radix.0 (suc (length (bytes_of (join l r))))) (slots_of (join l (child b (leaf n new) r))))
+    pub there : to node ≡ Some (inner_node (canonical_header P gap.hole.radix.0 (suc (length (bytes_of (join l r))))) (slots_of (join l (child b (leaf n new) r))))
     pub new_leaf : to n ≡ Some (leaf_node new)
     pub parent : ParentHas to fs node
     pub same : SameBut at to fs (m ∷ [])
@@ -71,7 +71,7 @@ module _ {N A : Type 0} {bytes : A → List ℕ} {P : ℕ} {at to : N → Option
   module _ {t u : Tree N A} {m n : N} {part : List ℕ} {b c : ℕ} {new : A} (old : IsLaidOut bytes P at before root pairs (plug fs t))
       (is : BranchInserted bytes P at to before links fs place t u m n part b c new) where
     abbrev grown : Tree N A
-    grown = inner m (header_of P part 2) (two_children b u c (leaf n new))
+    grown = inner m (canonical_header P part 2) (two_children b u c (leaf n new))
 
     branched : IsRadix bytes P place grown × (pairs_of grown ≡ replace_key bytes new (pairs_of u))
     branched = branch bytes P place part b c u m n new is.radix is.front is.apart
@@ -92,33 +92,33 @@ module _ {N A : Type 0} {bytes : A → List ℕ} {P : ℕ} {at to : N → Option
         go false = ap (λ z. n ∷ z) (append-nil (leaf_names u) ∙ same_leaf_names t u is.same_entries)
 
     -- the root is canonical for the pairs with the new one
-    pub branch_inserted : IsLaidOut bytes P to links (root_with fs root m) (replace_key bytes new pairs) (plug fs (inner m (header_of P part 2) (two_children b u c (leaf n new))))
+    pub branch_inserted : IsLaidOut bytes P to links (root_with fs root m) (replace_key bytes new pairs) (plug fs (inner m (canonical_header P part 2) (two_children b u c (leaf n new))))
     branch_inserted = replaced old (record {
       path = is.hole.path;
       radix = branched.0;
       parent = is.parent;
-      regrown = branch_regrown at to t u m n (header_of P part 2) b c new (path_holds at fs t old.holds).1 (hole_distinct at to fs t old.holds old.distinct) is.branch;
+      regrown = branch_regrown at to t u m n (canonical_header P part 2) b c new (path_holds at fs t old.holds).1 (hole_distinct at to fs t old.holds old.distinct) is.branch;
       same = is.same;
       linked = linked_in_hole fs before links t grown (cond (ltb b c) (leaf_names t) []) [] (n ∷ []) (cond (ltb b c) [] (leaf_names t)) old.distinct old.linked old_leaves new_leaves is.relinked;
     }) (bytes new) (replace_key bytes new) (replace_key-between bytes new) is.hole.front (branched.1 ∙ ap (replace_key bytes new) (same_pairs_of t u is.same_entries))
 
     -- and inner nodes that stay keep their names
-    pub branch_keeps : KeepNames (inner_nodes bytes 0 (plug fs t)) (inner_nodes bytes 0 (plug fs (inner m (header_of P part 2) (two_children b u c (leaf n new)))))
-    branch_keeps = kept bytes P fs place t grown is.hole.path is.hole.radix branched.0 (kept_branch bytes P place t u m n (header_of P part 2) b c new branched.0 is.same_inners)
+    pub branch_keeps : KeepNames (inner_nodes bytes 0 (plug fs t)) (inner_nodes bytes 0 (plug fs (inner m (canonical_header P part 2) (two_children b u c (leaf n new)))))
+    branch_keeps = kept bytes P fs place t grown is.hole.path is.hole.radix branched.0 (kept_branch bytes P place t u m n (canonical_header P part 2) b c new branched.0 is.same_inners)
 
     -- and keys that stay keep their leaves' names
-    pub branch_keeps_leaves : KeepLeaves bytes P (leaves_of (plug fs t)) (leaves_of (plug fs (inner m (header_of P part 2) (two_children b u c (leaf n new)))))
+    pub branch_keeps_leaves : KeepLeaves bytes P (entries_of (plug fs t)) (entries_of (plug fs (inner m (canonical_header P part 2) (two_children b u c (leaf n new)))))
     branch_keeps_leaves =
         kept_leaves bytes P fs t grown old.radix branch_inserted.radix (kept_leaves_more bytes P t grown place branched.0 (λ e i. among e (ltb b c) (subst (IsIn e) (sym is.same_entries) i)))
       where
-        among : (e : A × N) (first : Bool) → IsIn e (leaves_of u) → IsIn e (leaves_below (cond first (child b u (child c (leaf n new) no_child)) (child c (leaf n new) (child b u no_child))))
-        among e true i = in_left e (leaves_of u) ((new, n) ∷ []) i
-        among e false i = inr (in_left e (leaves_of u) [] i)
+        among : (e : A × N) (first : Bool) → IsIn e (entries_of u) → IsIn e (entries_below (cond first (child b u (child c (leaf n new) no_child)) (child c (leaf n new) (child b u no_child))))
+        among e true i = in_left e (entries_of u) ((new, n) ∷ []) i
+        among e false i = inr (in_left e (entries_of u) [] i)
 
-  module _ {m node n : N} {h : Header} {l r : Children N A} {b : ℕ} {new : A}
+  module _ {m node n : N} {h : NodeHeader} {l r : Subtrees N A} {b : ℕ} {new : A}
       (old : IsLaidOut bytes P at before root pairs (plug fs (inner m h (join l r)))) (is : ChildInserted bytes P at to before links fs place m node n h l r b new) where
-    abbrev head : Header
-    head = header_of P is.gap.hole.radix.0 (suc (length (bytes_of (join l r))))
+    abbrev head : NodeHeader
+    head = canonical_header P is.gap.hole.radix.0 (suc (length (bytes_of (join l r))))
 
     with_leaf : IsRadix bytes P place (inner node head (join l (child b (leaf n new) r))) ×
         (pairs_of (inner node head (join l (child b (leaf n new) r))) ≡ replace_key bytes new (pairs_of (inner m h (join l r))))
@@ -126,7 +126,7 @@ module _ {N A : Type 0} {bytes : A → List ℕ} {P : ℕ} {at to : N → Option
 
     -- the root is canonical for the pairs with the new one
     pub child_inserted : IsLaidOut bytes P to links (root_with fs root node) (replace_key bytes new pairs)
-        (plug fs (inner node (header_of P is.gap.hole.radix.0 (suc (length (bytes_of (join l r))))) (join l (child b (leaf n new) r))))
+        (plug fs (inner node (canonical_header P is.gap.hole.radix.0 (suc (length (bytes_of (join l r))))) (join l (child b (leaf n new) r))))
     child_inserted = replaced old (record {
       path = is.gap.hole.path;
       radix = with_leaf.0;
@@ -140,18 +140,18 @@ module _ {N A : Type 0} {bytes : A → List ℕ} {P : ℕ} {at to : N → Option
 
     -- and inner nodes that stay keep their names
     pub child_keeps : KeepNames (inner_nodes bytes 0 (plug fs (inner m h (join l r))))
-        (inner_nodes bytes 0 (plug fs (inner node (header_of P is.gap.hole.radix.0 (suc (length (bytes_of (join l r))))) (join l (child b (leaf n new) r)))))
+        (inner_nodes bytes 0 (plug fs (inner node (canonical_header P is.gap.hole.radix.0 (suc (length (bytes_of (join l r))))) (join l (child b (leaf n new) r)))))
     unfolding with_leaf with_child
     child_keeps = kept bytes P fs place (inner m h (join l r)) (inner node head (join l (child b (leaf n new) r))) is.gap.hole.path is.gap.hole.radix with_leaf.0
         (kept_children bytes P place m node h head (join l r) (join l (child b (leaf n new) r)) is.gap.hole.radix with_leaf.0 refl (λ d. inner_nodes-leaf bytes P d l r b n new) is.same_kind)
 
     -- and keys that stay keep their leaves' names
-    pub child_keeps_leaves : KeepLeaves bytes P (leaves_of (plug fs (inner m h (join l r))))
-        (leaves_of (plug fs (inner node (header_of P is.gap.hole.radix.0 (suc (length (bytes_of (join l r))))) (join l (child b (leaf n new) r)))))
+    pub child_keeps_leaves : KeepLeaves bytes P (entries_of (plug fs (inner m h (join l r))))
+        (entries_of (plug fs (inner node (canonical_header P is.gap.hole.radix.0 (suc (length (bytes_of (join l r))))) (join l (child b (leaf n new) r)))))
     child_keeps_leaves = kept_leaves bytes P fs (inner m h (join l r)) (inner node head (join l (child b (leaf n new) r))) old.radix child_inserted.radix
         (kept_leaves_more bytes P (inner m h (join l r)) (inner node head (join l (child b (leaf n new) r))) place with_leaf.0
-        (λ e i. subst (IsIn e) (sym (leaves_below-three l (child b (leaf n new) no_child) r))
-        (in_around e (leaves_below l) ((new, n) ∷ []) (leaves_below r) (subst (IsIn e) (leaves_below-join l r) i))))
+        (λ e i. subst (IsIn e) (sym (entries_below-three l (child b (leaf n new) no_child) r))
+        (in_around e (entries_below l) ((new, n) ∷ []) (entries_below r) (subst (IsIn e) (entries_below-join l r) i))))
 
   -- ---- what is split: a leaf, or an inner node's prefix
 
@@ -183,13 +183,13 @@ module _ {N A : Type 0} {bytes : A → List ℕ} {P : ℕ} {at to : N → Option
     }
 
     -- an inner node whose whole prefix is the part, a byte and a rest: the rest is its new prefix
-    pub trimmed_node : {k : N} {h : Header} {cs : Children N A} (rest : List ℕ) → IsLaidOut bytes P at before root pairs (plug fs (inner k h cs)) →
+    pub trimmed_node : {k : N} {h : NodeHeader} {cs : Subtrees N A} (rest : List ℕ) → IsLaidOut bytes P at before root pairs (plug fs (inner k h cs)) →
         (hole : IsHole bytes P fs place (inner k h cs) (bytes new)) → hole.radix.0 ≡ part ++ b ∷ rest → SameBut at to fs (k ∷ []) →
-        let head = header_of P rest (length (bytes_of cs)) in
+        let head = canonical_header P rest (length (bytes_of cs)) in
         to k ≡ Some (inner_node head (slots_of cs)) → BranchPlaced bytes P at to before links fs place (inner k h cs) (inner k head cs) m n part b c
         new → BranchInserted bytes P at to before links fs place (inner k h cs) (inner k head cs) m n part b c new
     trimmed_node {k} {h} {cs} rest old hole prefix same there placed =
-        let head = header_of P rest (length (bytes_of cs)) in
+        let head = canonical_header P rest (length (bytes_of cs)) in
         let kind : head.kind ≡ h.kind = sym (ap (λ z. z.kind) hole.radix.1) in
         let long : h.length_of ≡ length (part ++ b ∷ rest) = ap (λ z. z.length_of) hole.radix.1 ∙ ap length prefix in
         let sum = length-append part (b ∷ rest) in

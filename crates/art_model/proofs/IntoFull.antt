@@ -13,7 +13,7 @@ use Rattle.art_nodes.specs.declared.node.LeafNode.{LeafNode}
 use Rattle.art_nodes.specs.declared.node.OpaqueNodePtr.{OpaqueNodePtr}
 use Rattle.art_nodes.proofs.NameLemmas.{inner_cmp_total, inner_cmp-IsAntisymmetric}
 use Rattle.art_nodes.proofs.StoreLaws.{inner_here, inner_elsewhere, inner_gone_elsewhere}
-use Rattle.art_model.specs.Trees.{leaf, inner, Children, Header, header_of, kind_of}
+use Rattle.art_model.specs.Trees.{leaf, inner, Subtrees, NodeHeader, canonical_header, kind_of}
 use Rattle.art_model.specs.Radix.{bytes_of, join}
 use Rattle.art_model.specs.Paths.{Frame, plug, leaves_before, leaves_after}
 use Rattle.art_model.specs.Layouts.{names_of, slots_of, leaf_names_below}
@@ -34,7 +34,7 @@ use Rattle.art_model.proofs.Writes.{shown, parents_inner, inner_at, node_at-inne
 
 -- A leaf is placed, and a larger node takes the place of the full one in the hole, with the leaf as a child under a byte that had none.
 pub record IntoFull {K V : Type 0} (bytes : K × V → List ℕ) (P : ℕ) (s t : Nodes K V) (fs : List (Frame OpaqueNodePtr (K × V))) (place : List ℕ)
-    (m k : OpaqueNodePtr) (h : Header) (l r : Children OpaqueNodePtr (K × V)) (b : ℕ) (n : LeafPtr) (x : LeafNode K V) (full : Inner) : Type 0 where
+    (m k : OpaqueNodePtr) (h : NodeHeader) (l r : Subtrees OpaqueNodePtr (K × V)) (b : ℕ) (n : LeafPtr) (x : LeafNode K V) (full : Inner) : Type 0 where
   pub gap : IsGap bytes P fs place m h l r b (bytes (pair_of x))
   pub no_room : kind_capacity m.kind ≤ length (bytes_of (join l r))
   pub not_last : m.kind ≢ Node256
@@ -46,7 +46,7 @@ pub record IntoFull {K V : Type 0} (bytes : K × V → List ℕ) (P : ℕ) (s t 
   pub inners : t.inners ≡ with_child_at (parent_of fs) k (insert (remove s.inners (as_inner m)) (as_inner k) (with_child b (leaf_name n) full))
 
 module _ {K V : Type 0} {bytes : K × V → List ℕ} {P : ℕ} {s t : Nodes K V} {root : OpaqueNodePtr} {pairs : List (K × V)}
-    {fs : List (Frame OpaqueNodePtr (K × V))} {place : List ℕ} {m k : OpaqueNodePtr} {h : Header} {l r : Children OpaqueNodePtr (K × V)} {b : ℕ} {n : LeafPtr} {x : LeafNode K V} {full : Inner}
+    {fs : List (Frame OpaqueNodePtr (K × V))} {place : List ℕ} {m k : OpaqueNodePtr} {h : NodeHeader} {l r : Subtrees OpaqueNodePtr (K × V)} {b : ℕ} {n : LeafPtr} {x : LeafNode K V} {full : Inner}
     (old : IsLaidOut bytes P (node_at s) (links_at s) root pairs (plug fs (inner m h (join l r)))) (into : IntoFull bytes P s t fs place m k h l r b n x full) where
   abbrev grown : Inner
   grown = with_child b (leaf_name n) full
@@ -112,7 +112,7 @@ module _ {K V : Type 0} {bytes : K × V → List ℕ} {P : ℕ} {s t : Nodes K V
         relinked = placed_relinked old.holds old.distinct into.placed;
       }
     where
-      grown_header : (part : List ℕ) (count other : ℕ) → header_at m.kind full ≡ header_of P part count → k.kind ≡ kind_of other → header_at k.kind grown ≡ header_of P part other
+      grown_header : (part : List ℕ) (count other : ℕ) → header_at m.kind full ≡ canonical_header P part count → k.kind ≡ kind_of other → header_at k.kind grown ≡ canonical_header P part other
       grown_header part count other e kind = λ i. record { kind = kind i; length_of = (e i).length_of; stored = (e i).stored }
 
   abbrev changed : List LeafPtr

@@ -14,10 +14,10 @@ use Rattle.art_nodes.specs.declared.node.LeafNode.{LeafNode}
 use Rattle.art_nodes.specs.declared.node.OpaqueNodePtr.{OpaqueNodePtr}
 use Rattle.art_model.specs.Keys.{are_related, are_same}
 use Rattle.art_model.specs.Pairs.{first_of, went, with_key, related_to, overwrite, overwrite_reply, replace_related, add_in_order}
-use Rattle.art_model.specs.Trees.{Tree, leaf, Children}
+use Rattle.art_model.specs.Trees.{Tree, leaf, Subtrees}
 use Rattle.art_model.specs.Radix.{pairs_of}
 use Rattle.art_model.specs.Paths.{Frame, plug, leaves_before, leaves_after, names_before, names_after, HoldsPath}
-use Rattle.art_model.specs.Layouts.{leaf_node, names_of, names_below, leaf_names, leaf_names_below, leaves_of, name_of, first_or, last_or, AreDistinct, AreLinked, Holds}
+use Rattle.art_model.specs.Layouts.{leaf_node, names_of, names_below, leaf_names, leaf_names_below, entries_of, name_of, first_or, last_or, AreDistinct, AreLinked, Holds}
 use Rattle.art_model.specs.Stores.{Held, held, held_leaf, held_inner, node_at, seen, links_at, pair_of, IsUsed}
 use Rattle.art_model.specs.Writes.{as_inner, parent_of, with_child_at, with_leaf, IsThere}
 use Rattle.art_model.specs.Footprints.{IsIn, Footprint, PlacesOneFor}
@@ -36,7 +36,8 @@ use Rattle.art_model.proofs.Names.{all_taken, among_below, free_apart, taken_dis
 use Rattle.art_model.proofs.Overwritten.{LeafAlone, leaf_alone, leaf_alone_keeps, leaf_alone_keeps_leaves}
 use Rattle.art_model.proofs.Paths.{IsHole, leaf_names-plug, pairs_of-leaves, related_at, root_with}
 use Rattle.art_model.proofs.Pairwises.{Pairwise-left, Pairwise-right, Pairwise-across, Pairwise-append}
-use Rattle.art_model.proofs.Puts.{not_same, overwrite-new, overwrite_reply-new}
+use Rattle.art_model.proofs.Keys.{not_same}
+use Rattle.art_model.proofs.Puts.{overwrite-new, overwrite_reply-new}
 use Rattle.art_model.proofs.Stores.{path_holds, IsParent, SameBut, before_apart, after_apart, parent_apart}
 use Rattle.art_model.proofs.Touches.{Touched, both_names, footprint_of, touched_none}
 use Rattle.art_model.proofs.Views.{held_in_inner}
@@ -58,7 +59,7 @@ pub record IntoHole {K V : Type 0} (bytes : K × V → List ℕ) (P : ℕ) (s u 
 -- ---- a leaf's name beside the hole is none of the hole's
 
 module _ {N A : Type 0} where
-  leaf_below_in : (cs : Children N A) (k : N) → IsIn k (leaf_names_below cs) → IsIn k (names_below cs)
+  leaf_below_in : (cs : Subtrees N A) (k : N) → IsIn k (leaf_names_below cs) → IsIn k (names_below cs)
   leaf_below_in cs k i =
       each_in (λ n. IsIn n (names_below cs)) k (leaf_names_below cs)
       (among_below takes_leaves (λ n. IsIn n (names_below cs)) cs (each_from (λ n. IsIn n (names_below cs)) (names_below cs) (λ n j. j))) i
@@ -86,7 +87,7 @@ module _ {K V : Type 0} {s u t : Nodes K V} {placed changed : List OpaqueNodePtr
     are_placed = each_from (λ k. (held s k ≡ None) × IsUsed t k) placed (λ k i.
         let was = each_in (λ k. (held s k ≡ None) × IsUsed u k) k placed print.are_placed i in
         (was.0, λ none. was.1 (sym (frees.beside k (λ j. each_in (IsUsed s) k freed used j was.0) (λ z. z)) ∙ none)));
-    are_freed = each_from (λ k. IsUsed s k × (held t k ≡ None)) freed (λ k i. (each_in (IsUsed s) k freed used i, frees.left k i (λ z. z)));
+    are_freed = each_from (λ k. IsUsed s k × (held t k ≡ None)) freed (λ k i. (each_in (IsUsed s) k freed used i, frees.gone k i (λ z. z)));
     are_changed = each_from (λ k. IsUsed s k × IsUsed t k) changed (λ k i.
         let was = each_in (λ k. IsUsed s k × IsUsed u k) k changed print.are_changed i in
         (was.0, λ none. was.1 (sym (frees.beside k (λ j. apart k j i) (λ z. z)) ∙ none)));
@@ -274,9 +275,9 @@ module _ {K V : Type 0} {bytes : K × V → List ℕ} {P : ℕ} {s u t : Nodes K
       (leaf_name n, both_names beside (parents fs ++ []), hole_print, omega arith)
 
   -- no key of the hole stays
-  none_stay : KeepLeaves bytes P (leaves_of node) (leaves_of (leaf (leaf_name n) new))
+  none_stay : KeepLeaves bytes P (entries_of node) (entries_of (leaf (leaf_name n) new))
   none_stay e f i (inl j) alike same =
-      let among : IsIn e.0 (pairs_of node) = subst (IsIn e.0) (pairs_of-leaves node) (in_map (λ z. z.0) e (leaves_of node) i) in
+      let among : IsIn e.0 (pairs_of node) = subst (IsIn e.0) (pairs_of-leaves node) (in_map (λ z. z.0) e (entries_of node) i) in
       absurd (each_in (λ y. bytes y ≢ bytes new) e.0 (pairs_of node) into.unequal among (same ∙ ap (λ z. bytes z.0) (sym j)))
   none_stay e f i (inr j) alike same = absurd j
 

@@ -25,11 +25,11 @@ use Rattle.art_model.proofs.Chains.{links_leaf, links_inner}
 use Rattle.art_model.proofs.InHole.{in_hole, names_around, root_stays, with_key-hole}
 use Rattle.art_model.proofs.InPlace.{in_place}
 use Rattle.art_model.proofs.Kept.{kept_leaf}
-use Rattle.art_model.proofs.Keys.{front_same}
+use Rattle.art_model.proofs.Keys.{front_same, not_same}
 use Rattle.art_model.proofs.Leaves.{same_leaf}
 use Rattle.art_model.proofs.Overwritten.{LeafAlone, leaf_alone, leaf_alone_keeps, leaf_alone_keeps_leaves, linked_still}
 use Rattle.art_model.proofs.Paths.{IsHole, related_at}
-use Rattle.art_model.proofs.Puts.{not_same, overwrite-new, overwrite_reply-new, put_reply-old, stored_for-old}
+use Rattle.art_model.proofs.Puts.{overwrite-new, overwrite_reply-new, put_reply-old, stored_for-old}
 use Rattle.art_model.proofs.Stores.{path_holds}
 use Rattle.art_model.proofs.Touches.{Touched, touched_none, then_changed, footprint_of}
 use Rattle.art_model.proofs.Views.{leaf_or}

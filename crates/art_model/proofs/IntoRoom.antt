@@ -13,7 +13,7 @@ use Rattle.art_nodes.specs.declared.node.LeafNode.{LeafNode}
 use Rattle.art_nodes.specs.declared.node.OpaqueNodePtr.{OpaqueNodePtr}
 use Rattle.art_nodes.proofs.NameLemmas.{inner_cmp_total, inner_cmp-IsAntisymmetric}
 use Rattle.art_nodes.proofs.StoreLaws.{inner_changed_at, inner_changed_elsewhere}
-use Rattle.art_model.specs.Trees.{leaf, inner, Children, Header, kind_of}
+use Rattle.art_model.specs.Trees.{leaf, inner, Subtrees, NodeHeader, kind_of}
 use Rattle.art_model.specs.Radix.{bytes_of, join}
 use Rattle.art_model.specs.Paths.{Frame, plug, leaves_before, leaves_after}
 use Rattle.art_model.specs.Layouts.{names_of, slots_of, leaf_names_below}
@@ -34,14 +34,14 @@ use Rattle.art_model.proofs.Writes.{inner_at, node_at-inner, same_but, same_inne
 
 -- A leaf is placed, and the node in the hole, which has room, takes it as a child under a byte that had none.
 pub record IntoRoom {K V : Type 0} (bytes : K × V → List ℕ) (P : ℕ) (s t : Nodes K V) (fs : List (Frame OpaqueNodePtr (K × V))) (place : List ℕ)
-    (m : OpaqueNodePtr) (h : Header) (l r : Children OpaqueNodePtr (K × V)) (b : ℕ) (n : LeafPtr) (x : LeafNode K V) : Type 0 where
+    (m : OpaqueNodePtr) (h : NodeHeader) (l r : Subtrees OpaqueNodePtr (K × V)) (b : ℕ) (n : LeafPtr) (x : LeafNode K V) : Type 0 where
   pub gap : IsGap bytes P fs place m h l r b (bytes (pair_of x))
   pub room : length (bytes_of (join l r)) < kind_capacity m.kind
   pub placed : LeafPlaced s t (plug fs (inner m h (join l r))) (leaves_before fs ++ leaf_names_below l) (leaf_names_below r ++ leaves_after fs) n x
   pub inners : t.inners ≡ change s.inners (as_inner m) (with_child b (leaf_name n))
 
 module _ {K V : Type 0} {bytes : K × V → List ℕ} {P : ℕ} {s t : Nodes K V} {root : OpaqueNodePtr} {pairs : List (K × V)}
-    {fs : List (Frame OpaqueNodePtr (K × V))} {place : List ℕ} {m : OpaqueNodePtr} {h : Header} {l r : Children OpaqueNodePtr (K × V)} {b : ℕ} {n : LeafPtr} {x : LeafNode K V}
+    {fs : List (Frame OpaqueNodePtr (K × V))} {place : List ℕ} {m : OpaqueNodePtr} {h : NodeHeader} {l r : Subtrees OpaqueNodePtr (K × V)} {b : ℕ} {n : LeafPtr} {x : LeafNode K V}
     (old : IsLaidOut bytes P (node_at s) (links_at s) root pairs (plug fs (inner m h (join l r)))) (into : IntoRoom bytes P s t fs place m h l r b n x) where
   others : (k : OpaqueNodePtr) → k ≢ m → get t.inners (as_inner k) ≡ get s.inners (as_inner k)
   others k off = ap (λ z. get z (as_inner k)) into.inners ∙ inner_changed_elsewhere s.inners (as_inner m) (as_inner k) (with_child b (leaf_name n)) (λ e. off (inner_name_one k m e))

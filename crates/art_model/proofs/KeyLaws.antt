@@ -50,7 +50,8 @@ order_is_decided a b = (before_parts a b, go)
     go (inl (y, s, e)) = rw e (ap (λ z. is_lt (slice_cmp nat_cmp z (a ++ y ∷ s))) (sym (append-nil a)) ∙ ap is_lt (cmp-append a [] (y ∷ s)))
     go (inr (front, x, y, r, s, e, f, less)) = rw (e, f, cmp-append front (x ∷ r) (y ∷ s), lt-ltb x y less) refl
 
-before_less : (o : Ordering) → is_lt o ≡ true → o ≡ Less
+-- what the test for a lesser key tells
+pub before_less : (o : Ordering) → is_lt o ≡ true → o ≡ Less
 before_less Less h = refl
 before_less Equal h = absurd (false≢true h)
 before_less Greater h = absurd (false≢true h)

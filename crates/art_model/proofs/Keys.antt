@@ -1,5 +1,5 @@
 -- the order of keys
-use Rattle.std.proofs.Common.{◌≡◌, ℕ, ◌<◌, ◌≤◌, List, [], ◌∷◌, ◌++◌, refl, sym, arith, eqb, eq-eqb, eqb-true, length, length-append, ap, ap₂, ◌∙◌, true, false, Bool, ◌&&◌, ◌||◌, append-nil, ◌⊎◌, inl, inr}
+use Rattle.std.proofs.Common.{◌≡◌, ◌≢◌, ℕ, ◌<◌, ◌≤◌, List, [], ◌∷◌, ◌++◌, refl, sym, arith, eqb, eq-eqb, eqb-true, length, length-append, ap, ap₂, ◌∙◌, true, false, Bool, ◌&&◌, ◌||◌, append-nil, ◌⊎◌, inl, inr}
 use Rattle.std.specs.List.{AllByRecursion as Each}
 use Rattle.std.specs.Cmp.Lexicographic.{slice_cmp}
 use Rattle.std.specs.Ordering.{nat_cmp}
@@ -126,3 +126,11 @@ same_equal a b h =
     go : (r : List ℕ) → b ≡ a ++ r → length r ≡ 0 → b ≡ a
     go [] e z = e ∙ append-nil a
     go (x ∷ r) e z = absurd (omega arith)
+
+-- unequal keys are not the same
+pub not_same : (a b : List ℕ) → a ≢ b → are_same a b ≡ false
+not_same a b off = go (are_same a b) refl
+  where
+    go : (t : Bool) → are_same a b ≡ t → t ≡ false
+    go true e = absurd (off (sym (same_equal a b e)))
+    go false e = refl

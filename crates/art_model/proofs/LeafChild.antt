@@ -1,6 +1,6 @@
 -- A leaf among the children of a node: the names of the node with it and without it.
 use Rattle.std.proofs.Common.{◌≡◌, ℕ, [], ◌∷◌, sym, subst, ◌⊎◌, inl, inr}
-use Rattle.art_model.specs.Trees.{leaf, inner, Children, child, Header}
+use Rattle.art_model.specs.Trees.{leaf, inner, Subtrees, child, NodeHeader}
 use Rattle.art_model.specs.Radix.{join}
 use Rattle.art_model.specs.Layouts.{names_of, names_below}
 use Rattle.art_model.specs.Footprints.{IsIn}
@@ -8,7 +8,7 @@ use Rattle.art_model.proofs.InPlace.{AreNames}
 use Rattle.art_model.proofs.Lists.{in_left, in_right, in_either}
 use Rattle.art_model.proofs.Paths.{names_below-join}
 
-module _ {N A : Type 0} (l r : Children N A) (b : ℕ) (n : N) (x : A) where
+module _ {N A : Type 0} (l r : Subtrees N A) (b : ℕ) (n : N) (x : A) where
   -- the leaf's name is one of those below the node
   pub leaf_below : (k : N) → n ≡ k → IsIn k (names_below (join l (child b (leaf n x) r)))
   leaf_below k e = subst (IsIn k) (sym (names_below-join l (child b (leaf n x) r))) (in_right k (names_below l) (n ∷ names_below r) (inl e))
@@ -29,7 +29,7 @@ module _ {N A : Type 0} (l r : Children N A) (b : ℕ) (n : N) (x : A) where
   ]
 
   -- the leaf comes
-  pub names_with_leaf : (m : N) (h g : Header) → AreNames (names_of (inner m h (join l r))) (names_of (inner m g (join l (child b (leaf n x) r)))) (n ∷ []) [] []
+  pub names_with_leaf : (m : N) (h g : NodeHeader) → AreNames (names_of (inner m h (join l r))) (names_of (inner m g (join l (child b (leaf n x) r)))) (n ∷ []) [] []
   names_with_leaf m h g = record {
     placed_in = λ k i. elim i [ inl e ↦ inr (leaf_below k e) | inr j ↦ absurd j ];
     freed_in = λ k i. absurd i;
@@ -39,7 +39,7 @@ module _ {N A : Type 0} (l r : Children N A) (b : ℕ) (n : N) (x : A) where
   }
 
   -- the leaf comes, and another node takes the place of the one above it
-  pub names_with_both : (m node : N) (h g : Header) → AreNames (names_of (inner m h (join l r))) (names_of (inner node g (join l (child b (leaf n x) r)))) (n ∷ node ∷ []) (m ∷ []) []
+  pub names_with_both : (m node : N) (h g : NodeHeader) → AreNames (names_of (inner m h (join l r))) (names_of (inner node g (join l (child b (leaf n x) r)))) (n ∷ node ∷ []) (m ∷ []) []
   names_with_both m node h g = record {
     placed_in = λ k i. elim i [ inl e ↦ inr (leaf_below k e) | inr (inl e) ↦ inl e | inr (inr j) ↦ absurd j ];
     freed_in = λ k i. elim i [ inl e ↦ inl e | inr j ↦ absurd j ];

@@ -1,6 +1,6 @@
 -- The first and the last leaf of a tree whose inner nodes have children, with the way to each.
 use Rattle.std.proofs.Common.{◌≡◌, ◌++◌, ◌≤◌, length, List, [], ◌∷◌, Option, Some, None, refl, ap, sym, ◌∙◌, subst, arith, append-nil, ◌⊎◌, inl, inr}
-use Rattle.art_model.specs.Trees.{Tree, leaf, inner, Children, child, no_child, Header}
+use Rattle.art_model.specs.Trees.{Tree, leaf, inner, Subtrees, child, no_child, NodeHeader}
 use Rattle.art_model.specs.Radix.{bytes_of, join, pairs_of, pairs_below, HaveChildren, HaveChildrenBelow}
 use Rattle.art_model.specs.Pairs.{first_of, last_of}
 use Rattle.art_model.specs.Paths.{Frame, plug}
@@ -20,11 +20,11 @@ module _ {X : Type 0} where
   last_of_back (z ∷ w ∷ xs) ys x e = last_of_back (w ∷ xs) ys x e
 
   -- both ways to say the first and the last of a list
-  first_or_of : (xs : List X) → first_or xs None ≡ first_of xs
+  pub first_or_of : (xs : List X) → first_or xs None ≡ first_of xs
   first_or_of [] = refl
   first_or_of (x ∷ xs) = refl
 
-  last_or_of : (xs : List X) → last_or xs None ≡ last_of xs
+  pub last_or_of : (xs : List X) → last_or xs None ≡ last_of xs
   last_or_of [] = refl
   last_or_of (x ∷ xs) = go x xs
     where
@@ -65,7 +65,7 @@ module _ {N A : Type 0} where
     ]
 
     -- of children with others on their left
-    last_leaf_below : (m : N) (h : Header) (left cs : Children N A) → HaveChildrenBelow 1 cs → (fs : List (Frame N A)) → (cs ≡ no_child) ⊎
+    last_leaf_below : (m : N) (h : NodeHeader) (left cs : Subtrees N A) → HaveChildrenBelow 1 cs → (fs : List (Frame N A)) → (cs ≡ no_child) ⊎
         EndLeaf last_of last_of (leaf_names_below cs) (pairs_below cs) (plug fs (inner m h (join left cs)))
     last_leaf_below m h left no_child full fs = inl refl
     last_leaf_below m h left (child b t cs) full fs = elim (last_leaf_below m h (join left (child b t no_child)) cs full.1 fs) [
@@ -94,11 +94,21 @@ module _ {N A : Type 0} where
   first_is_there t n full e =
       let found = first_leaf t full [] in
       let same : found.name ≡ n = let f = sym found.name_is ∙ sym (first_or_of (leaf_names t)) ∙ e in cc in
-      subst (HasFirstLeaf t) same (found.name_is, (found.pair, found.pair_is, (found.path, found.whole_is)))
+      subst (HasFirstLeaf t) same (record {
+        name_is = found.name_is;
+        pair = found.pair;
+        pair_is = found.pair_is;
+        has = record { path = found.path; whole = found.whole_is };
+      })
 
   -- and so does the last one's
   pub last_is_there : (t : Tree N A) (n : N) → HaveChildren 1 t → last_or (leaf_names t) None ≡ Some n → HasLastLeaf t n
   last_is_there t n full e =
       let found = last_leaf t full [] in
       let same : found.name ≡ n = let f = sym found.name_is ∙ sym (last_or_of (leaf_names t)) ∙ e in cc in
-      subst (HasLastLeaf t) same (found.name_is, (found.pair, found.pair_is, (found.path, found.whole_is)))
+      subst (HasLastLeaf t) same (record {
+        name_is = found.name_is;
+        pair = found.pair;
+        pair_is = found.pair_is;
+        has = record { path = found.path; whole = found.whole_is };
+      })

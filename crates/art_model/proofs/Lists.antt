@@ -70,6 +70,12 @@ module _ {X Y : Type 0} (f : X → Y) where
   in_map x (y ∷ ys) (inl e) = inl (ap f e)
   in_map x (y ∷ ys) (inr i) = inr (in_map x ys i)
 
+  -- an element of the images is the image of one
+  pub out_map : (y : Y) (xs : List X) → IsIn y (map f xs) → (x : X) × IsIn x xs × (f x ≡ y)
+  out_map y [] i = absurd i
+  out_map y (x ∷ xs) (inl e) = (x, inl refl, e)
+  out_map y (x ∷ xs) (inr i) = let (z, j, e) = out_map y xs i in (z, inr j, e)
+
   -- what holds of each image
   pub each_map : (P : Y → Type 0) (xs : List X) → Each (λ x. P (f x)) xs → Each P (map f xs)
   each_map P [] h = tt

@@ -12,7 +12,7 @@ use Rattle.art_model.specs.Changes.{Change, put_pair, overwrite_with, remove_at,
 use Rattle.art_model.specs.MapLaws.{Tells, KeysAreOnce, MatchesAreOne, MapsAreWhatIsFound, KeysAreDecided, ConflictsAreDecided, MapsStayMaps, PutIsFound, OverwriteIsFound, RemovedIsGone, FirstIsRemovedByKey, LastIsRemovedByKey, PutIsUndone, StoredKeyStays, NewKeyComes, PutKeepsKeys, OverwriteOfKeyIsPut, PutTells, OverwriteTells, RemovalTells, PutCounts, OverwriteCounts, RemovalCounts, SamePairsHaveSameTree}
 use Rattle.art_model.proofs.Between.{add_in_order_first}
 use Rattle.art_model.proofs.Lists.{Each-weaker, filter_none}
-use Rattle.art_model.proofs.Keys.{front_same, same_equal, same_related, related_sym, front_from, precedes_apart}
+use Rattle.art_model.proofs.Keys.{front_same, not_same, same_equal, same_related, related_sym, front_from, precedes_apart}
 use Rattle.art_model.proofs.KeyLaws.{order_is_transitive, order_is_total, order_is_strict, relation_is_decided, sameness_is_decided}
 use Rattle.art_model.proofs.PutOver.{free_unrelated, same_rest, stored_is_free}
 use Rattle.art_model.proofs.Puts.{first_has, has_is_stored, overwrite-new, overwrite-put, overwrite_reply-new, overwrite_reply-put, stored_bytes, stored_value, stored_for-new, stored_for-old}
@@ -41,9 +41,6 @@ or_false false t h = (refl, h)
 -- keys
 equal_related : (a b : List ℕ) → a ≡ b → are_related a b ≡ true
 equal_related a b e = (relation_is_decided a b).1 (inl ([], sym e ∙ sym (append-nil a)))
-
-not_same : (a b : List ℕ) → (a ≡ b → ⊥) → are_same a b ≡ false
-not_same a b h = fails (are_same a b) (λ e. h ((sameness_is_decided a b).0 e))
 
 same_sym : (a b : List ℕ) → are_same a b ≡ false → are_same b a ≡ false
 same_sym a b h = not_same b a (λ e. true≢false (sym ((sameness_is_decided a b).1 (sym e)) ∙ h))

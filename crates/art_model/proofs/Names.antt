@@ -1,8 +1,8 @@
 -- The names of a layout: those of its leaves and of its inner nodes are among them, distinct ones stay distinct, and all are in use.
 use Rattle.std.proofs.Common.{◌≡◌, ◌≢◌, ℕ, List, [], ◌∷◌, ◌++◌, refl, ap, sym, ◌∙◌, subst, Option, None, ◌⊎◌, inl, inr}
 use Rattle.std.specs.List.{AllByRecursion as Each}
-use Rattle.art_model.specs.Trees.{Tree, leaf, inner, Children, child, no_child, Header}
-use Rattle.art_model.specs.Layouts.{Node, AreDistinct, Holds, HoldsBelow, names_of, names_below, leaf_names, leaf_names_below, inner_names, inner_names_below}
+use Rattle.art_model.specs.Trees.{Tree, leaf, inner, Subtrees, child, no_child, NodeHeader}
+use Rattle.art_model.specs.Layouts.{Node, AreDistinct, Holds, HoldsBelow, name_of, names_of, names_below, leaf_names, leaf_names_below, inner_names, inner_names_below}
 use Rattle.art_model.specs.Footprints.{IsIn}
 use Rattle.art_model.proofs.Lists.{Each-append, Each-left, Each-right, Each-weaker, each_in, each_from}
 use Rattle.art_model.proofs.Pairwises.{Pairwise-left, Pairwise-right, Pairwise-append, Pairwise-across, Pairwise-after, Pairwise-in}
@@ -16,23 +16,28 @@ module _ {N : Type 0} where
   pub apart_in : (xs ys : List N) (k : N) → AreDistinct (xs ++ ys) → IsIn k xs → IsIn k ys → ⊥
   apart_in xs ys k d i j = Pairwise-in ◌≢◌ xs ys k k d i j refl
 
+-- a tree's own name is one of its names
+pub own_name : {N A : Type 0} (t : Tree N A) → IsIn (name_of t) (names_of t)
+own_name (leaf n x) = inl refl
+own_name (inner n h cs) = inl refl
+
 -- ---- the names of the leaves, and those of the inner nodes
 
 -- a function that takes some of a layout's names: of each node its own name, or none
-pub record TakesNames {N A : Type 0} (part : Tree N A → List N) (parts : Children N A → List N) : Type 0 where
+pub record TakesNames {N A : Type 0} (part : Tree N A → List N) (parts : Subtrees N A → List N) : Type 0 where
   pub of_leaf : (n : N) (x : A) → (part (leaf n x) ≡ []) ⊎ (part (leaf n x) ≡ n ∷ [])
-  pub of_inner : (n : N) (h : Header) (cs : Children N A) → (part (inner n h cs) ≡ parts cs) ⊎ (part (inner n h cs) ≡ n ∷ parts cs)
+  pub of_inner : (n : N) (h : NodeHeader) (cs : Subtrees N A) → (part (inner n h cs) ≡ parts cs) ⊎ (part (inner n h cs) ≡ n ∷ parts cs)
   pub of_none : parts no_child ≡ []
-  pub of_child : (b : ℕ) (t : Tree N A) (cs : Children N A) → parts (child b t cs) ≡ part t ++ parts cs
+  pub of_child : (b : ℕ) (t : Tree N A) (cs : Subtrees N A) → parts (child b t cs) ≡ part t ++ parts cs
 
-module _ {N A : Type 0} {part : Tree N A → List N} {parts : Children N A → List N} (takes : TakesNames part parts) where
+module _ {N A : Type 0} {part : Tree N A → List N} {parts : Subtrees N A → List N} (takes : TakesNames part parts) where
   mutual
     -- what holds of each name holds of those that are taken
     pub among : (Q : N → Type 0) (t : Tree N A) → Each Q (names_of t) → Each Q (part t)
     among Q (leaf n x) h = elim (takes.of_leaf n x) [ inl e ↦ subst (Each Q) (sym e) tt | inr e ↦ subst (Each Q) (sym e) h ]
     among Q (inner n h cs) k = elim (takes.of_inner n h cs) [ inl e ↦ subst (Each Q) (sym e) (among_below Q cs k.1) | inr e ↦ subst (Each Q) (sym e) (k.0, among_below Q cs k.1) ]
 
-    pub among_below : (Q : N → Type 0) (cs : Children N A) → Each Q (names_below cs) → Each Q (parts cs)
+    pub among_below : (Q : N → Type 0) (cs : Subtrees N A) → Each Q (names_below cs) → Each Q (parts cs)
     among_below Q no_child h = subst (Each Q) (sym takes.of_none) tt
     among_below Q (child b t cs) h =
         subst (Each Q) (sym (takes.of_child b t cs)) (Each-append Q (part t) (parts cs) (among Q t (Each-left Q (names_of t) (names_below cs) h))
@@ -51,7 +56,7 @@ module _ {N A : Type 0} {part : Tree N A → List N} {parts : Children N A → L
       | inr e ↦ subst AreDistinct (sym e) (among_below (λ k. n ≢ k) cs d.0, taken_distinct_below cs d.1)
     ]
 
-    pub taken_distinct_below : (cs : Children N A) → AreDistinct (names_below cs) → AreDistinct (parts cs)
+    pub taken_distinct_below : (cs : Subtrees N A) → AreDistinct (names_below cs) → AreDistinct (parts cs)
     taken_distinct_below no_child d = subst AreDistinct (sym takes.of_none) tt
     taken_distinct_below (child b t cs) d =
         let cross = Pairwise-across ◌≢◌ (names_of t) (names_below cs) d in
@@ -82,7 +87,7 @@ module _ {N A : Type 0} (at : N → Option (Node N A)) where
     all_taken (leaf n x) h = ((λ e. absurd cc), tt)
     all_taken (inner n h cs) holds = ((λ e. let f = holds.0 in absurd cc), all_taken_below cs holds.1)
 
-    pub all_taken_below : (cs : Children N A) → HoldsBelow at cs → Each IsTaken (names_below cs)
+    pub all_taken_below : (cs : Subtrees N A) → HoldsBelow at cs → Each IsTaken (names_below cs)
     all_taken_below no_child h = tt
     all_taken_below (child b t cs) h = Each-append IsTaken (names_of t) (names_below cs) (all_taken t h.0) (all_taken_below cs h.1)
 

@@ -8,8 +8,8 @@ use Rattle.art_nodes.specs.Inner.{child_at}
 use Rattle.art_nodes.specs.declared.node.OpaqueNodePtr.{OpaqueNodePtr}
 use Rattle.art_model.specs.Keys.{IsFront, is_front}
 use Rattle.art_model.specs.Pairs.{match_of}
-use Rattle.art_model.specs.Trees.{Tree, Children, child, no_child}
-use Rattle.art_model.specs.Radix.{pairs_of, pairs_below, AreRadix, IsRising, bytes_of, join}
+use Rattle.art_model.specs.Trees.{Tree, Subtrees, child, no_child}
+use Rattle.art_model.specs.Radix.{pairs_of, pairs_below, AreRadix, BytesRise, bytes_of, join}
 use Rattle.art_model.specs.Layouts.{name_of, slots_of}
 use Rattle.art_model.specs.Places.{places, places_below}
 use Rattle.art_model.proofs.Lists.{filter_none, Each-append, Each-weaker, front_cut, front_trans}
@@ -50,37 +50,37 @@ front_byte front key (b ∷ r, e) long =
     (r, e ∙ ap (λ c. front ++ c ∷ r) (sym here) ∙ sym (append_assoc front (get_or key (length front) 0 ∷ []) r))
 
 -- the key doesn't go on below these children
-abbrev pub AreAside : {N A : Type 0} → List ℕ → List ℕ → Children N A → Type 0
+abbrev pub AreAside : {N A : Type 0} → List ℕ → List ℕ → Subtrees N A → Type 0
 AreAside front key cs = Each (λ b. IsFront (front ++ b ∷ []) key → ⊥) (bytes_of cs)
 
 module _ {N A : Type 0} (front key : List ℕ) where
   -- each of the bytes is another than the key's
-  pub aside_others : (cs : Children N A) → Each (λ b. b ≢ get_or key (length front) 0) (bytes_of cs) → AreAside front key cs
+  pub aside_others : (cs : Subtrees N A) → Each (λ b. b ≢ get_or key (length front) 0) (bytes_of cs) → AreAside front key cs
   aside_others cs others = Each-weaker (λ b. b ≢ get_or key (length front) 0) (λ b. IsFront (front ++ b ∷ []) key → ⊥) (λ b o f. o (sym (byte_after front key b f))) (bytes_of cs) others
 
   -- any bytes will do where the front itself is off
-  aside_all : (cs : Children N A) → ((b : ℕ) → IsFront (front ++ b ∷ []) key → ⊥) → AreAside front key cs
+  aside_all : (cs : Subtrees N A) → ((b : ℕ) → IsFront (front ++ b ∷ []) key → ⊥) → AreAside front key cs
   aside_all cs off = go (bytes_of cs)
     where
       go : (bs : List ℕ) → Each (λ b. IsFront (front ++ b ∷ []) key → ⊥) bs
       go [] = tt
       go (b ∷ bs) = (off b, go bs)
 
-  pub aside_off : (cs : Children N A) → (IsFront front key → ⊥) → AreAside front key cs
+  pub aside_off : (cs : Subtrees N A) → (IsFront front key → ⊥) → AreAside front key cs
   aside_off cs off = aside_all cs (λ b f. off (front_cut front (b ∷ []) key f))
 
-  pub aside_end : (cs : Children N A) → length key ≤ length front → AreAside front key cs
+  pub aside_end : (cs : Subtrees N A) → length key ≤ length front → AreAside front key cs
   aside_end cs end = aside_all cs (λ b f. let l = ap length f.1 in omega (arith, simp length-append at l))
 
 -- nothing is on the key's way below children beside it
 module _ {N A : Type 0} (bytes : A → List ℕ) (P : ℕ) (front key : List ℕ) where
-  pub aside_pairs : (cs : Children N A) → AreRadix bytes P front cs → AreAside front key cs → Each (IsOff bytes key) (pairs_below cs)
+  pub aside_pairs : (cs : Subtrees N A) → AreRadix bytes P front cs → AreAside front key cs → Each (IsOff bytes key) (pairs_below cs)
   aside_pairs no_child radix aside = tt
   aside_pairs (child b t cs) radix aside = Each-append (IsOff bytes key) (pairs_of t) (pairs_below cs)
       (off_front bytes key (front ++ b ∷ []) aside.0 (pairs_of t) (radix_way bytes P t (front ++ b ∷ []) radix.0))
       (aside_pairs cs radix.1 aside.1)
 
-  pub aside_places : (d : ℕ) (cs : Children N A) → d ≡ length front + 1 → AreRadix bytes P front cs → AreAside front key cs → Each (IsOff (λ (node : List ℕ × N). node.0) key) (places_below bytes d cs)
+  pub aside_places : (d : ℕ) (cs : Subtrees N A) → d ≡ length front + 1 → AreRadix bytes P front cs → AreAside front key cs → Each (IsOff (λ (node : List ℕ × N). node.0) key) (places_below bytes d cs)
   aside_places d no_child deep radix aside = tt
   aside_places d (child b t cs) deep radix aside =
       let begin = subst (λ z. Each (λ node. IsFront (front ++ b ∷ []) node.0) (places bytes z t)) (length-append front (b ∷ []) ∙ sym deep) (places_way bytes P t (front ++ b ∷ []) radix.0) in
@@ -88,13 +88,13 @@ module _ {N A : Type 0} (bytes : A → List ℕ) (P : ℕ) (front key : List ℕ
       (off_front (λ (node : List ℕ × N). node.0) key (front ++ b ∷ []) aside.0 (places bytes d t) begin)
       (aside_places d cs deep radix.1 aside.1)
 
-places_below-join : {N A : Type 0} (bytes : A → List ℕ) (d : ℕ) (cs ds : Children N A) → places_below bytes d (join cs ds) ≡ places_below bytes d cs ++ places_below bytes d ds
+places_below-join : {N A : Type 0} (bytes : A → List ℕ) (d : ℕ) (cs ds : Subtrees N A) → places_below bytes d (join cs ds) ≡ places_below bytes d cs ++ places_below bytes d ds
 places_below-join bytes d no_child ds = refl
 places_below-join bytes d (child b t cs) ds =
     ap (λ l. places bytes d t ++ l) (places_below-join bytes d cs ds) ∙ sym (append_assoc (places bytes d t) (places_below bytes d cs) (places_below bytes d ds))
 
 -- all that is on the key's way is below the child between
-module _ {N A : Type 0} (bytes : A → List ℕ) (P : ℕ) (front key : List ℕ) (l : Children N A) (b : ℕ) (t : Tree N A) (r : Children N A)
+module _ {N A : Type 0} (bytes : A → List ℕ) (P : ℕ) (front key : List ℕ) (l : Subtrees N A) (b : ℕ) (t : Tree N A) (r : Subtrees N A)
     (radix : AreRadix bytes P front (join l (child b t r))) (low : AreAside front key l) (high : AreAside front key r) where
   left : AreRadix bytes P front l
   left = AreRadix-left bytes P front l (child b t r) radix
@@ -114,17 +114,17 @@ module _ {N A : Type 0} (bytes : A → List ℕ) (P : ℕ) (front key : List ℕ
       (aside_places bytes P front key d l deep left low) (aside_places bytes P front key d r deep right high)
 
 -- the child that an inner node's slots have under a byte: the others stand under other bytes
-pub record IsUnder {A : Type 0} (cs : Children OpaqueNodePtr A) (b : ℕ) (name : OpaqueNodePtr) : Type 0 where
-  pub left : Children OpaqueNodePtr A
+pub record IsUnder {A : Type 0} (cs : Subtrees OpaqueNodePtr A) (b : ℕ) (name : OpaqueNodePtr) : Type 0 where
+  pub left : Subtrees OpaqueNodePtr A
   pub tree : Tree OpaqueNodePtr A
-  pub right : Children OpaqueNodePtr A
+  pub right : Subtrees OpaqueNodePtr A
   pub whole : cs ≡ join left (child b tree right)
   pub named : name_of tree ≡ name
   pub others_left : Each (λ c. c ≢ b) (bytes_of left)
   pub others_right : Each (λ c. c ≢ b) (bytes_of right)
 
 module _ {A : Type 0} where
-  pub child_under : (cs : Children OpaqueNodePtr A) (b : ℕ) (name : OpaqueNodePtr) → IsRising (bytes_of cs) → child_at (slots_of cs) b ≡ Some name → IsUnder cs b name
+  pub child_under : (cs : Subtrees OpaqueNodePtr A) (b : ℕ) (name : OpaqueNodePtr) → BytesRise (bytes_of cs) → child_at (slots_of cs) b ≡ Some name → IsUnder cs b name
   child_under no_child b name up e = absurd cc
   child_under (child c t cs) b name up e = go (child_under cs b name up.1) (eqb c b) refl e
     where
@@ -154,7 +154,7 @@ module _ {A : Type 0} where
             others_right = u.others_right;
           }
 
-  pub no_child_under : (cs : Children OpaqueNodePtr A) (b : ℕ) → child_at (slots_of cs) b ≡ None → Each (λ c. c ≢ b) (bytes_of cs)
+  pub no_child_under : (cs : Subtrees OpaqueNodePtr A) (b : ℕ) → child_at (slots_of cs) b ≡ None → Each (λ c. c ≢ b) (bytes_of cs)
   no_child_under no_child b e = tt
   no_child_under (child c t cs) b e = go (no_child_under cs b) (eqb c b) refl e
     where

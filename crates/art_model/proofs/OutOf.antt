@@ -17,8 +17,8 @@ use Rattle.art_nodes.specs.declared.node.LeafNode.{LeafNode}
 use Rattle.art_nodes.specs.declared.node.OpaqueNodePtr.{OpaqueNodePtr}
 use Rattle.art_nodes.proofs.NameLemmas.{inner_cmp_total, inner_cmp-IsAntisymmetric}
 use Rattle.art_nodes.proofs.StoreLaws.{inner_here, inner_elsewhere, inner_gone_elsewhere, inner_changed_at, inner_changed_elsewhere}
-use Rattle.art_model.specs.Trees.{Tree, leaf, inner, Children, child, no_child, header_of, kind_of}
-use Rattle.art_model.specs.Radix.{bytes_of, join, pairs_below, IsRising}
+use Rattle.art_model.specs.Trees.{Tree, leaf, inner, Subtrees, child, no_child, canonical_header, kind_of}
+use Rattle.art_model.specs.Radix.{bytes_of, join, pairs_below, BytesRise}
 use Rattle.art_model.specs.Pairs.{remove_key}
 use Rattle.art_model.specs.Paths.{Frame, fill, plug, leaves_before, leaves_after, HoldsPath}
 use Rattle.art_model.specs.Layouts.{name_of, slots_of, names_of}
@@ -46,12 +46,12 @@ use Rattle.art_model.proofs.Writes.{shown, same_inner, parents_inner, inner_at, 
 -- ---- the node without the child, and its kind
 
 module _ {A : Type 0} where
-  remove_child-above : (cs : Children OpaqueNodePtr A) (b : ℕ) → Each (λ c. b < c) (bytes_of cs) → remove_child (slots_of cs) b ≡ slots_of cs
+  remove_child-above : (cs : Subtrees OpaqueNodePtr A) (b : ℕ) → Each (λ c. b < c) (bytes_of cs) → remove_child (slots_of cs) b ≡ slots_of cs
   remove_child-above no_child b h = refl
   remove_child-above (child c t cs) b h = rw (ne_eqb c b (λ e. let l = h.0 in omega arith)) (ap (λ z. (c, name_of t) ∷ z) (remove_child-above cs b h.1))
 
   -- the others stay
-  pub remove_child-there : (l r : Children OpaqueNodePtr A) (b : ℕ) (t : Tree OpaqueNodePtr A) → Each (λ c. c < b) (bytes_of l) →
+  pub remove_child-there : (l r : Subtrees OpaqueNodePtr A) (b : ℕ) (t : Tree OpaqueNodePtr A) → Each (λ c. c < b) (bytes_of l) →
       Each (λ c. b < c) (bytes_of r) → remove_child (slots_of (join l (child b t r))) b ≡ slots_of (join l r)
   remove_child-there no_child r b t low high = rw (eq-eqb b b refl) (remove_child-above r b high)
   remove_child-there (child c u l) r b t low high = rw (ne_eqb c b (λ e. let h = low.0 in omega arith)) (ap (λ z. (c, name_of u) ∷ z) (remove_child-there l r b t low.1 high))
@@ -153,8 +153,8 @@ module _ {K V : Type 0} {bytes : K × V → List ℕ} {P : ℕ} {s : Nodes K V} 
   bytes_are : bytes_of (join f.left (child f.byte (leaf (leaf_name n) (pair_of x)) f.right)) ≡ bytes_of f.left ++ f.byte ∷ bytes_of f.right
   bytes_are = bytes_of-join f.left (child f.byte (leaf (leaf_name n) (pair_of x)) f.right)
 
-  rising : IsRising (bytes_of f.left ++ f.byte ∷ bytes_of f.right)
-  rising = subst IsRising bytes_are hole.1.radix.3
+  rising : BytesRise (bytes_of f.left ++ f.byte ∷ bytes_of f.right)
+  rising = subst BytesRise bytes_are hole.1.radix.3
 
   -- the number of children without the leaf
   pub one_more : length (bytes_of (join f.left (child f.byte (leaf (leaf_name n) (pair_of x)) f.right))) ≡ suc (length (bytes_of (join f.left f.right)))
@@ -187,11 +187,11 @@ module _ {K V : Type 0} {bytes : K × V → List ℕ} {P : ℕ} {s : Nodes K V} 
 
   -- the header with one child fewer
   header_is : (kind : NodeType) (node : Inner) → get s.inners (as_inner f.mark) ≡ Some node →
-      kind ≡ kind_of (length (bytes_of (join f.left f.right))) → header_at kind (without_child f.byte node) ≡ header_of P hole.1.radix.0 (length (bytes_of (join f.left f.right)))
+      kind ≡ kind_of (length (bytes_of (join f.left f.right))) → header_at kind (without_child f.byte node) ≡ canonical_header P hole.1.radix.0 (length (bytes_of (join f.left f.right)))
   header_is kind node there e =
       let same : node ≡ parent_is.1 = let both = parent_is.2 in cc in
-      let head : header_at f.mark.kind node ≡ header_of P hole.1.radix.0 (suc (length (bytes_of (join f.left f.right)))) =
-      ap (header_at f.mark.kind) same ∙ parent_is.3 ∙ hole.1.radix.1 ∙ ap (header_of P hole.1.radix.0) one_more in
+      let head : header_at f.mark.kind node ≡ canonical_header P hole.1.radix.0 (suc (length (bytes_of (join f.left f.right)))) =
+      ap (header_at f.mark.kind) same ∙ parent_is.3 ∙ hole.1.radix.1 ∙ ap (canonical_header P hole.1.radix.0) one_more in
       λ i. record { kind = e i; length_of = (head i).length_of; stored = (head i).stored }
 
   -- ---- the leaf
@@ -250,7 +250,7 @@ module _ {K V : Type 0} {bytes : K × V → List ℕ} {P : ℕ} {s : Nodes K V} 
   module _ {t : Nodes K V} (stays : ParentStays s t f n x) where
     -- the tree without the leaf
     abbrev pub left_out : Tree OpaqueNodePtr (K × V)
-    left_out = inner f.mark (header_of P hole.1.radix.0 (length (bytes_of (join f.left f.right)))) (join f.left f.right)
+    left_out = inner f.mark (canonical_header P hole.1.radix.0 (length (bytes_of (join f.left f.right)))) (join f.left f.right)
 
     -- the root is canonical for the pairs without the one of the leaf
     pub stays_laid_out : IsLaidOut bytes P (node_at t) (links_at t) (root_with fs root f.mark) (remove_key bytes (bytes (pair_of x)) pairs) (plug fs left_out)
@@ -264,7 +264,7 @@ module _ {K V : Type 0} {bytes : K × V → List ℕ} {P : ℕ} {s : Nodes K V} 
 
     are_names : AreNames (names_of (plug fs (with_leaf_in f n x))) (names_of (plug fs left_out)) [] (leaf_name n ∷ []) (both_names (listed x.next ++ (listed x.previous ++ [])) (as_inner f.mark ∷ []))
     are_names = names_around fs (with_leaf_in f n x) left_out [] (leaf_name n ∷ []) (both_names (listed x.next ++ (listed x.previous ++ [])) (as_inner f.mark ∷ []))
-        (names_back (names_with_leaf f.left f.right f.byte (leaf_name n) (pair_of x) f.mark (header_of P hole.1.radix.0 (length (bytes_of (join f.left f.right)))) f.header))
+        (names_back (names_with_leaf f.left f.right f.byte (leaf_name n) (pair_of x) f.mark (canonical_header P hole.1.radix.0 (length (bytes_of (join f.left f.right)))) f.header))
         (both_in (names_of (plug fs (with_leaf_in f n x))) (listed x.next ++ (listed x.previous ++ [])) (as_inner f.mark ∷ []) (beside_stay stays.goes)
         (λ p i. elim i [ inl e ↦ in_hole fs (with_leaf_in f n x) (inner_name p) (inl (ap inner_name e)) | inr j ↦ absurd j ]))
 
@@ -344,7 +344,7 @@ module _ {K V : Type 0} {bytes : K × V → List ℕ} {P : ℕ} {s : Nodes K V} 
 
     -- the tree without the leaf
     abbrev pub shrunk : Tree OpaqueNodePtr (K × V)
-    shrunk = inner (inner_name q) (header_of P hole.1.radix.0 (length (bytes_of (join f.left f.right)))) (join f.left f.right)
+    shrunk = inner (inner_name q) (canonical_header P hole.1.radix.0 (length (bytes_of (join f.left f.right)))) (join f.left f.right)
 
     -- the root is canonical for the pairs without the one of the leaf
     pub shrinks_laid_out : IsLaidOut bytes P (node_at t) (links_at t) (root_with fs root (inner_name q)) (remove_key bytes (bytes (pair_of x)) pairs) (plug fs shrunk)
@@ -363,7 +363,7 @@ module _ {K V : Type 0} {bytes : K × V → List ℕ} {P : ℕ} {s : Nodes K V} 
     smaller_names : AreNames (names_of (plug fs (with_leaf_in f n x))) (names_of (plug fs shrunk)) (inner_name q ∷ []) (leaf_name n ∷ f.mark ∷ [])
         (both_names (listed x.next ++ (listed x.previous ++ [])) (parents fs ++ []))
     smaller_names = names_around fs (with_leaf_in f n x) shrunk (inner_name q ∷ []) (leaf_name n ∷ f.mark ∷ []) (both_names (listed x.next ++ (listed x.previous ++ [])) (parents fs ++ []))
-        (names_back (names_with_both f.left f.right f.byte (leaf_name n) (pair_of x) (inner_name q) f.mark (header_of P hole.1.radix.0 (length (bytes_of (join f.left f.right)))) f.header))
+        (names_back (names_with_both f.left f.right f.byte (leaf_name n) (pair_of x) (inner_name q) f.mark (canonical_header P hole.1.radix.0 (length (bytes_of (join f.left f.right)))) f.header))
         (both_in (names_of (plug fs (with_leaf_in f n x))) (listed x.next ++ (listed x.previous ++ [])) (parents fs ++ []) (beside_stay shrinks.goes)
         (parents_in fs (with_leaf_in f n x) [] (λ p i. absurd i)))
 

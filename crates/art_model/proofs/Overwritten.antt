@@ -4,7 +4,7 @@ use Rattle.art_model.specs.Trees.{Tree, leaf}
 use Rattle.art_model.specs.Radix.{pairs_of}
 use Rattle.art_model.specs.Paths.{Frame, plug}
 use Rattle.art_model.specs.Places.{inner_nodes}
-use Rattle.art_model.specs.Layouts.{Node, leaf_node, names_of, leaf_names, AreLinked, Links, leaves_of}
+use Rattle.art_model.specs.Layouts.{Node, leaf_node, names_of, leaf_names, AreLinked, Links, entries_of}
 use Rattle.art_model.specs.Footprints.{IsIn}
 use Rattle.art_model.proofs.Between.{IsLocal}
 use Rattle.art_model.proofs.Paths.{IsHole, root_with, leaf_names-plug}
@@ -47,7 +47,7 @@ module _ {N A : Type 0} {bytes : A → List ℕ} {P : ℕ} {at to : N → Option
 
   -- and keys that stay keep their leaves' names, where those in the hole do
   pub leaf_alone_keeps_leaves : (F : List A → List A) → IsLocal bytes (bytes new) F → F (pairs_of t) ≡ new ∷ [] →
-      KeepLeaves bytes P (leaves_of t) (leaves_of (leaf n new)) → KeepLeaves bytes P (leaves_of (plug fs t)) (leaves_of (plug fs (leaf n new)))
+      KeepLeaves bytes P (entries_of t) (entries_of (leaf n new)) → KeepLeaves bytes P (entries_of (plug fs t)) (entries_of (plug fs (leaf n new)))
   leaf_alone_keeps_leaves F local its kept_here = kept_leaves bytes P fs t (leaf n new) old.radix (leaf_alone F local its).radix kept_here
 
 -- ---- the chain, where a pair is replaced in its leaf

@@ -1,13 +1,13 @@
 -- Paths: what stands before the hole, in it and after it, and what a change in the hole makes of the whole tree.
-use Rattle.std.proofs.Common.{◌≡◌, ℕ, ◌<◌, ◌≤◌, List, [], ◌∷◌, ◌++◌, length, refl, ap, sym, ◌∙◌, append_assoc, append-nil, arith, length-append, subst, map, ap₂, false}
+use Rattle.std.proofs.Common.{◌≡◌, ℕ, ◌+◌, ◌<◌, ◌≤◌, List, [], ◌∷◌, ◌++◌, length, refl, ap, sym, ◌∙◌, append_assoc, append-nil, arith, length-append, subst, map, ap₂, false}
 use Rattle.std.specs.List.{AllByRecursion as Each}
 use Rattle.std.proofs.lemmas.List.{map-append}
 use Rattle.std.proofs.lemmas.List.Elements.{filter-append}
 use Rattle.art_model.specs.Keys.{IsFront, Precedes, are_related}
 use Rattle.art_model.specs.Pairs.{related_to}
-use Rattle.art_model.specs.Trees.{Tree, leaf, inner, Children, child, no_child, header_of}
-use Rattle.art_model.specs.Radix.{IsRadix, IsRising, bytes_of, join, pairs_of, pairs_below}
-use Rattle.art_model.specs.Layouts.{name_of, slots_of, names_of, names_below, leaf_names, leaf_names_below, leaves_of, leaves_below}
+use Rattle.art_model.specs.Trees.{Tree, leaf, inner, Subtrees, child, no_child, canonical_header}
+use Rattle.art_model.specs.Radix.{IsRadix, BytesRise, bytes_of, join, pairs_of, pairs_below}
+use Rattle.art_model.specs.Layouts.{name_of, slots_of, names_of, names_below, leaf_names, leaf_names_below, entries_of, entries_below}
 use Rattle.art_model.specs.Paths.{Frame, fill, plug, pairs_before, pairs_after, names_before, names_after, leaves_before, leaves_after, IsPath}
 use Rattle.art_model.specs.Footprints.{IsIn}
 use Rattle.art_model.proofs.Rebuild.{radix_way}
@@ -21,32 +21,32 @@ use Rattle.art_model.proofs.Radix.{bytes_of-join, pairs_below-join, AreRadix-joi
 
 module _ {N A : Type 0} where
   -- slots of joined children
-  pub slots_of-join : (cs ds : Children N A) → slots_of (join cs ds) ≡ slots_of cs ++ slots_of ds
+  pub slots_of-join : (cs ds : Subtrees N A) → slots_of (join cs ds) ≡ slots_of cs ++ slots_of ds
   slots_of-join no_child ds = refl
   slots_of-join (child b t cs) ds = ap (λ l. (b, name_of t) ∷ l) (slots_of-join cs ds)
 
   -- names of joined children
-  pub names_below-join : (cs ds : Children N A) → names_below (join cs ds) ≡ names_below cs ++ names_below ds
+  pub names_below-join : (cs ds : Subtrees N A) → names_below (join cs ds) ≡ names_below cs ++ names_below ds
   names_below-join no_child ds = refl
   names_below-join (child b t cs) ds = ap (λ l. names_of t ++ l) (names_below-join cs ds) ∙ sym (append_assoc (names_of t) (names_below cs) (names_below ds))
 
   -- names of joined children's leaves
-  pub leaf_names_below-join : (cs ds : Children N A) → leaf_names_below (join cs ds) ≡ leaf_names_below cs ++ leaf_names_below ds
+  pub leaf_names_below-join : (cs ds : Subtrees N A) → leaf_names_below (join cs ds) ≡ leaf_names_below cs ++ leaf_names_below ds
   leaf_names_below-join no_child ds = refl
   leaf_names_below-join (child b t cs) ds = ap (λ l. leaf_names t ++ l) (leaf_names_below-join cs ds) ∙ sym (append_assoc (leaf_names t) (leaf_names_below cs) (leaf_names_below ds))
 
   -- entries of joined children
-  pub leaves_below-join : (cs ds : Children N A) → leaves_below (join cs ds) ≡ leaves_below cs ++ leaves_below ds
-  leaves_below-join no_child ds = refl
-  leaves_below-join (child b t cs) ds = ap (λ l. leaves_of t ++ l) (leaves_below-join cs ds) ∙ sym (append_assoc (leaves_of t) (leaves_below cs) (leaves_below ds))
+  pub entries_below-join : (cs ds : Subtrees N A) → entries_below (join cs ds) ≡ entries_below cs ++ entries_below ds
+  entries_below-join no_child ds = refl
+  entries_below-join (child b t cs) ds = ap (λ l. entries_of t ++ l) (entries_below-join cs ds) ∙ sym (append_assoc (entries_of t) (entries_below cs) (entries_below ds))
 
   -- entries on the left, in the middle and on the right
-  pub leaves_below-three : (l middle r : Children N A) → leaves_below (join l (join middle r)) ≡ leaves_below l ++ leaves_below middle ++ leaves_below r
-  leaves_below-three l middle r =
-      leaves_below-join l (join middle r) ∙ ap (λ z. leaves_below l ++ z) (leaves_below-join middle r) ∙ sym (append_assoc (leaves_below l) (leaves_below middle) (leaves_below r))
+  pub entries_below-three : (l middle r : Subtrees N A) → entries_below (join l (join middle r)) ≡ entries_below l ++ entries_below middle ++ entries_below r
+  entries_below-three l middle r =
+      entries_below-join l (join middle r) ∙ ap (λ z. entries_below l ++ z) (entries_below-join middle r) ∙ sym (append_assoc (entries_below l) (entries_below middle) (entries_below r))
 
   -- the names of the leaves on the left, in the middle and on the right
-  pub leaf_names_below-three : (l middle r : Children N A) → leaf_names_below (join l (join middle r)) ≡ leaf_names_below l ++ leaf_names_below middle ++ leaf_names_below r
+  pub leaf_names_below-three : (l middle r : Subtrees N A) → leaf_names_below (join l (join middle r)) ≡ leaf_names_below l ++ leaf_names_below middle ++ leaf_names_below r
   leaf_names_below-three l middle r =
       leaf_names_below-join l (join middle r) ∙ ap (λ z. leaf_names_below l ++ z) (leaf_names_below-join middle r) ∙
       sym (append_assoc (leaf_names_below l) (leaf_names_below middle) (leaf_names_below r))
@@ -68,45 +68,56 @@ module _ {N A : Type 0} where
 
   mutual
     -- the pairs of the entries are those of the tree
-    pub pairs_of-leaves : (t : Tree N A) → map (λ e. e.0) (leaves_of t) ≡ pairs_of t
+    pub pairs_of-leaves : (t : Tree N A) → map (λ e. e.0) (entries_of t) ≡ pairs_of t
     pairs_of-leaves (leaf n x) = refl
     pairs_of-leaves (inner n h cs) = pairs_below-leaves cs
 
-    pub pairs_below-leaves : (cs : Children N A) → map (λ e. e.0) (leaves_below cs) ≡ pairs_below cs
+    pub pairs_below-leaves : (cs : Subtrees N A) → map (λ e. e.0) (entries_below cs) ≡ pairs_below cs
     pairs_below-leaves no_child = refl
-    pairs_below-leaves (child b t cs) = map-append (λ e. e.0) (leaves_of t) (leaves_below cs) ∙ ap₂ (λ (xs ys : List A). xs ++ ys) (pairs_of-leaves t) (pairs_below-leaves cs)
+    pairs_below-leaves (child b t cs) = map-append (λ e. e.0) (entries_of t) (entries_below cs) ∙ ap₂ (λ (xs ys : List A). xs ++ ys) (pairs_of-leaves t) (pairs_below-leaves cs)
 
   mutual
     -- and their names are those of the leaves
-    pub leaf_names-leaves : (t : Tree N A) → map (λ e. e.1) (leaves_of t) ≡ leaf_names t
+    pub leaf_names-leaves : (t : Tree N A) → map (λ e. e.1) (entries_of t) ≡ leaf_names t
     leaf_names-leaves (leaf n x) = refl
     leaf_names-leaves (inner n h cs) = leaf_names_below-leaves cs
 
-    pub leaf_names_below-leaves : (cs : Children N A) → map (λ e. e.1) (leaves_below cs) ≡ leaf_names_below cs
+    pub leaf_names_below-leaves : (cs : Subtrees N A) → map (λ e. e.1) (entries_below cs) ≡ leaf_names_below cs
     leaf_names_below-leaves no_child = refl
-    leaf_names_below-leaves (child b t cs) = map-append (λ e. e.1) (leaves_of t) (leaves_below cs) ∙ ap₂ (λ (ks ls : List N). ks ++ ls) (leaf_names-leaves t) (leaf_names_below-leaves cs)
+    leaf_names_below-leaves (child b t cs) = map-append (λ e. e.1) (entries_of t) (entries_below cs) ∙ ap₂ (λ (ks ls : List N). ks ++ ls) (leaf_names-leaves t) (leaf_names_below-leaves cs)
+
+  mutual
+    -- there are as many leaves as pairs
+    pub length-leaf_names : (t : Tree N A) → length (leaf_names t) ≡ length (pairs_of t)
+    length-leaf_names (leaf n x) = refl
+    length-leaf_names (inner n h cs) = length-leaf_names_below cs
+
+    length-leaf_names_below : (cs : Subtrees N A) → length (leaf_names_below cs) ≡ length (pairs_below cs)
+    length-leaf_names_below no_child = refl
+    length-leaf_names_below (child b t cs) =
+        length-append (leaf_names t) (leaf_names_below cs) ∙ ap₂ ◌+◌ (length-leaf_names t) (length-leaf_names_below cs) ∙ sym (length-append (pairs_of t) (pairs_below cs))
 
   -- trees with the same entries have the same pairs and the same leaves
-  pub same_pairs_of : (t u : Tree N A) → leaves_of u ≡ leaves_of t → pairs_of u ≡ pairs_of t
+  pub same_pairs_of : (t u : Tree N A) → entries_of u ≡ entries_of t → pairs_of u ≡ pairs_of t
   same_pairs_of t u e = sym (pairs_of-leaves u) ∙ ap (map (λ e. e.0)) e ∙ pairs_of-leaves t
 
   -- and the same names of leaves
-  pub same_leaf_names : (t u : Tree N A) → leaves_of u ≡ leaves_of t → leaf_names u ≡ leaf_names t
+  pub same_leaf_names : (t u : Tree N A) → entries_of u ≡ entries_of t → leaf_names u ≡ leaf_names t
   same_leaf_names t u e = sym (leaf_names-leaves u) ∙ ap (map (λ e. e.1)) e ∙ leaf_names-leaves t
 
   -- the pairs and names of the leaves before the hole, and of those after it
   abbrev pub entries_before : List (Frame N A) → List (A × N)
   entries_before [] = []
-  entries_before (f ∷ fs) = entries_before fs ++ leaves_below f.left
+  entries_before (f ∷ fs) = entries_before fs ++ entries_below f.left
 
   abbrev pub entries_after : List (Frame N A) → List (A × N)
   entries_after [] = []
-  entries_after (f ∷ fs) = leaves_below f.right ++ entries_after fs
+  entries_after (f ∷ fs) = entries_below f.right ++ entries_after fs
 
   -- the entries before the hole, in it and after it
-  pub leaves_of-plug : (fs : List (Frame N A)) (t : Tree N A) → leaves_of (plug fs t) ≡ entries_before fs ++ leaves_of t ++ entries_after fs
-  leaves_of-plug [] t = sym (append-nil (leaves_of t))
-  leaves_of-plug (f ∷ fs) t = leaves_of-plug fs (fill f t) ∙ simp (leaves_below-join, append_assoc)
+  pub entries_of-plug : (fs : List (Frame N A)) (t : Tree N A) → entries_of (plug fs t) ≡ entries_before fs ++ entries_of t ++ entries_after fs
+  entries_of-plug [] t = sym (append-nil (entries_of t))
+  entries_of-plug (f ∷ fs) t = entries_of-plug fs (fill f t) ∙ simp (entries_below-join, append_assoc)
 
   -- the root's name, where the tree in the hole may have another name
   abbrev pub root_with : List (Frame N A) → N → N → N
@@ -132,9 +143,9 @@ module _ {N A : Type 0} (bytes : A → List ℕ) (P : ℕ) where
       let bs = bytes_of-join f.left (child f.byte t f.right) in
       let count = length-append (bytes_of f.left) (f.byte ∷ bytes_of f.right) in (
         part,
-        head ∙ ap (λ z. header_of P part (length z)) (sym bs),
+        head ∙ ap (λ z. canonical_header P part (length z)) (sym bs),
         rw bs (omega arith),
-        subst IsRising (sym bs) up,
+        subst BytesRise (sym bs) up,
         AreRadix-join bytes P (outer ++ part) f.left (child f.byte t f.right) l (subst (λ w. IsRadix bytes P w t) e h, r),
       )
 
@@ -152,7 +163,7 @@ module _ {N A : Type 0} (bytes : A → List ℕ) (P : ℕ) where
       let r = AreRadix-right bytes P (place ++ part) f.left (child f.byte t f.right) all in
       let count = length-append (bytes_of f.left) (f.byte ∷ bytes_of f.right) in
       let two' : 2 ≤ length (bytes_of f.left ++ f.byte ∷ bytes_of f.right) = rw bs at two in
-      ((place, part, refl, head ∙ ap (λ z. header_of P part (length z)) bs, omega arith, subst IsRising bs up, l, r.1, path), r.0)
+      ((place, part, refl, head ∙ ap (λ z. canonical_header P part (length z)) bs, omega arith, subst BytesRise bs up, l, r.1, path), r.0)
 
   -- keys before and after a place
   pub path_before : (fs : List (Frame N A)) (place key : List ℕ) → IsPath bytes P place fs → IsFront place key → Each (λ x. Precedes (bytes x) key) (pairs_before fs)

@@ -4,8 +4,8 @@ use Rattle.std.specs.List.{AllByRecursion as Each}
 use Rattle.std.proofs.lemmas.Bool.{true≢false}
 use Rattle.art_model.specs.Keys.{IsFront, is_front, is_before}
 use Rattle.art_model.specs.Pairs.{Pairwise}
-use Rattle.art_model.specs.Trees.{Tree, leaf, inner, Children, child, no_child, Header, header_of}
-use Rattle.art_model.specs.Radix.{bytes_of, join, IsRadix, AreRadix, IsRising}
+use Rattle.art_model.specs.Trees.{Tree, leaf, inner, Subtrees, child, no_child, NodeHeader, canonical_header}
+use Rattle.art_model.specs.Radix.{bytes_of, join, IsRadix, AreRadix, BytesRise}
 use Rattle.art_model.specs.Layouts.{name_of}
 use Rattle.art_model.specs.Paths.{Frame, fill, plug, IsPath}
 use Rattle.art_model.specs.Places.{depth_of, place_of, places, places_below, IsEndNode}
@@ -23,12 +23,12 @@ by_test true f g = f refl
 by_test false f g = g refl
 
 -- joined twice, in whatever order
-pub join_assoc : {N A : Type 0} (cs ds es : Children N A) → join (join cs ds) es ≡ join cs (join ds es)
+pub join_assoc : {N A : Type 0} (cs ds es : Subtrees N A) → join (join cs ds) es ≡ join cs (join ds es)
 join_assoc no_child ds es = refl
 join_assoc (child b t cs) ds es = ap (child b t) (join_assoc cs ds es)
 
 -- no children on the right
-pub join_none : {N A : Type 0} (cs : Children N A) → join cs no_child ≡ cs
+pub join_none : {N A : Type 0} (cs : Subtrees N A) → join cs no_child ≡ cs
 join_none no_child = refl
 join_none (child b t cs) = ap (child b t) (join_none cs)
 
@@ -54,7 +54,7 @@ module _ {N A : Type 0} (bytes : A → List ℕ) (P : ℕ) where
   under : (front : List ℕ) (d b : ℕ) (t : Tree N A) → d ≡ length (front ++ b ∷ []) → IsRadix bytes P (front ++ b ∷ []) t → Each (λ p. IsFront (front ++ b ∷ []) p.0) (places bytes d t)
   under front d b t e h = subst (λ z. Each (λ p. IsFront (front ++ b ∷ []) p.0) (places bytes z t)) (sym e) (places_way bytes P t (front ++ b ∷ []) h)
 
-  all_go_on : (Q : ℕ → Type 0) (cs : Children N A) (front : List ℕ) (d : ℕ) → ((b : ℕ) → d ≡ length (front ++ b ∷ [])) → AreRadix bytes P front cs →
+  all_go_on : (Q : ℕ → Type 0) (cs : Subtrees N A) (front : List ℕ) (d : ℕ) → ((b : ℕ) → d ≡ length (front ++ b ∷ [])) → AreRadix bytes P front cs →
       Each Q (bytes_of cs) → Each (GoesOn front Q) (places_below bytes d cs)
   all_go_on Q cs front d e h q =
       Each-weaker (Under bytes P front cs) (GoesOn front Q) (λ p u. (u.0, each_in Q u.0 (bytes_of cs) q u.1, u.2)) (places_below bytes d cs) (places_under bytes P cs front d e h)
@@ -82,7 +82,7 @@ module _ {N A : Type 0} (bytes : A → List ℕ) (P : ℕ) where
           rise_below cs (place ++ part) d depth up below,
         )
 
-    rise_below : (cs : Children N A) (front : List ℕ) (d : ℕ) → ((b : ℕ) → d ≡ length (front ++ b ∷ [])) → IsRising (bytes_of cs) →
+    rise_below : (cs : Subtrees N A) (front : List ℕ) (d : ℕ) → ((b : ℕ) → d ≡ length (front ++ b ∷ [])) → BytesRise (bytes_of cs) →
         AreRadix bytes P front cs → Pairwise Before (places_below bytes d cs)
     rise_below no_child front d e up h = tt
     rise_below (child b t cs) front d e up h =
@@ -131,11 +131,11 @@ module _ {N A : Type 0} (bytes : A → List ℕ) (P : ℕ) where
   abbrev End : List ℕ → Tree N A → Type 0
   End key tree = (path : List (Frame N A)) × (node : Tree N A) × IsEndNode bytes tree key path node
 
-  join_one : (cs ds : Children N A) (b : ℕ) (t : Tree N A) → join (join cs (child b t no_child)) ds ≡ join cs (child b t ds)
+  join_one : (cs ds : Subtrees N A) (b : ℕ) (t : Tree N A) → join (join cs (child b t no_child)) ds ≡ join cs (child b t ds)
   join_one no_child ds b t = refl
   join_one (child c u cs) ds b t = ap (child c u) (join_one cs ds b t)
 
-  off_both : (Q : ℕ → Type 0) (cs : Children N A) (b : ℕ) (t : Tree N A) → Each Q (bytes_of cs) → Q b → Each Q (bytes_of (join cs (child b t no_child)))
+  off_both : (Q : ℕ → Type 0) (cs : Subtrees N A) (b : ℕ) (t : Tree N A) → Each Q (bytes_of cs) → Q b → Each Q (bytes_of (join cs (child b t no_child)))
   off_both Q no_child b t h q = (q, tt)
   off_both Q (child c u cs) b t h q = (h.0, off_both Q cs b t h.1 q)
 
@@ -148,8 +148,8 @@ module _ {N A : Type 0} (bytes : A → List ℕ) (P : ℕ) where
         from_children key n h cs no_child cs refl fs place path part e two up below front tt
 
     -- the key goes on with none of the children on the left
-    from_children : (key : List ℕ) (n : N) (h : Header) (all left cs : Children N A) → join left cs ≡ all → (fs : List (Frame N A)) (place : List ℕ) → IsPath bytes P place fs →
-        (part : List ℕ) → h ≡ header_of P part (length (bytes_of all)) → 2 ≤ length (bytes_of all) → IsRising (bytes_of all) → AreRadix bytes P (place ++ part) all →
+    from_children : (key : List ℕ) (n : N) (h : NodeHeader) (all left cs : Subtrees N A) → join left cs ≡ all → (fs : List (Frame N A)) (place : List ℕ) → IsPath bytes P place fs →
+        (part : List ℕ) → h ≡ canonical_header P part (length (bytes_of all)) → 2 ≤ length (bytes_of all) → BytesRise (bytes_of all) → AreRadix bytes P (place ++ part) all →
         IsFront place key → Each (λ b. IsFront ((place ++ part) ++ b ∷ []) key → ⊥) (bytes_of left) → End key (plug fs (inner n h all))
     from_children key n h all left no_child eq fs place path part e two up below front off =
         let radix : IsRadix bytes P place (inner n h all) = (part, e, two, up, below) in
@@ -169,10 +169,10 @@ module _ {N A : Type 0} (bytes : A → List ℕ) (P : ℕ) where
         let back = sym eq in
         let radix : IsRadix bytes P place (fill f t) = (
           part,
-          subst (λ c. h ≡ header_of P part (length (bytes_of c))) back e,
+          subst (λ c. h ≡ canonical_header P part (length (bytes_of c))) back e,
           subst (λ c. 2 ≤ length (bytes_of c)) back two,
           subst
-              (λ c. IsRising (bytes_of c)) back up,
+              (λ c. BytesRise (bytes_of c)) back up,
           subst (AreRadix bytes P (place ++ part)) back below,
         ) in
         let (longer, under_it) = path_down bytes P fs place f t path radix in
@@ -182,18 +182,19 @@ module _ {N A : Type 0} (bytes : A → List ℕ) (P : ℕ) where
 
   -- ---- end nodes of a key have the same place
 
-  places_left : (Q : (List ℕ × N) → Type 0) (d : ℕ) (cs ds : Children N A) → Each Q (places_below bytes d (join cs ds)) → Each Q (places_below bytes d ds)
+  places_left : (Q : (List ℕ × N) → Type 0) (d : ℕ) (cs ds : Subtrees N A) → Each Q (places_below bytes d (join cs ds)) → Each Q (places_below bytes d ds)
   places_left Q d no_child ds h = h
   places_left Q d (child b t cs) ds h = places_left Q d cs ds (Each-right Q (places bytes d t) (places_below bytes d (join cs ds)) h)
 
   -- what holds of all places of a tree holds of those below a path
-  places_at : (Q : (List ℕ × N) → Type 0) (fs : List (Frame N A)) (t : Tree N A) → Each Q (places bytes 0 (plug fs t)) → Each Q (places bytes (depth_of fs) t)
+  pub places_at : (Q : (List ℕ × N) → Type 0) (fs : List (Frame N A)) (t : Tree N A) → Each Q (places bytes 0 (plug fs t)) → Each Q (places bytes (depth_of fs) t)
   places_at Q [] t h = h
   places_at Q (f ∷ fs) t h =
       let d = depth_of fs + f.header.length_of + 1 in
       Each-left Q (places bytes d t) (places_below bytes d f.right) (places_left Q d f.left (child f.byte t f.right) (places_at Q fs (fill f t) h).1)
 
-  own_place : (Q : (List ℕ × N) → Type 0) (d : ℕ) (t : Tree N A) → Each Q (places bytes d t) → Q (place_of bytes d t, name_of t)
+  -- and so it does of the place of a node
+  pub own_place : (Q : (List ℕ × N) → Type 0) (d : ℕ) (t : Tree N A) → Each Q (places bytes d t) → Q (place_of bytes d t, name_of t)
   own_place Q d (leaf n x) h = h.0
   own_place Q d (inner n h cs) k = k.0
 

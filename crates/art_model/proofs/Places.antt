@@ -2,7 +2,7 @@
 use Rattle.std.proofs.Common.{◌≡◌, ℕ, ◌+◌, ◌<◌, ◌≤◌, List, [], ◌∷◌, ◌++◌, length, take, refl, ap, sym, ◌∙◌, arith, subst, append_assoc, append-nil, length-append, take_at, inl, inr}
 use Rattle.std.specs.List.{AllByRecursion as Each}
 use Rattle.std.proofs.lemmas.List.{append_cancel_left}
-use Rattle.art_model.specs.Trees.{Tree, leaf, inner, Children, child, no_child, Header}
+use Rattle.art_model.specs.Trees.{Tree, leaf, inner, Subtrees, child, no_child, NodeHeader}
 use Rattle.art_model.specs.Radix.{IsRadix, AreRadix, bytes_of, join}
 use Rattle.art_model.specs.Keys.{IsFront}
 use Rattle.art_model.specs.Paths.{Frame, fill, plug, IsPath}
@@ -32,7 +32,7 @@ module _ {N A : Type 0} (bytes : A → List ℕ) (P : ℕ) where
     least_way (leaf n x) place h = h
     least_way (inner n h cs) place (part, e, two, up, below) = front_cut place part (least_below bytes cs) (least_way_below cs (place ++ part) two below)
 
-    pub least_way_below : (cs : Children N A) (front : List ℕ) → 2 ≤ length (bytes_of cs) → AreRadix bytes P front cs → IsFront front (least_below bytes cs)
+    pub least_way_below : (cs : Subtrees N A) (front : List ℕ) → 2 ≤ length (bytes_of cs) → AreRadix bytes P front cs → IsFront front (least_below bytes cs)
     least_way_below no_child front two h = absurd (omega arith)
     least_way_below (child b t cs) front two h = front_cut front (b ∷ []) (least_key bytes t) (least_way t (front ++ b ∷ []) h.0)
 
@@ -41,14 +41,14 @@ module _ {N A : Type 0} (bytes : A → List ℕ) (P : ℕ) where
   place_is t place h = taken place (least_key bytes t) (least_way t place h)
 
   -- the whole prefix, read off the least key
-  pub prefix_is : (n : N) (h : Header) (cs : Children N A) (place : List ℕ) (radix : IsRadix bytes P place (inner n h cs)) → prefix_of bytes (length place) (inner n h cs) ≡ radix.0
+  pub prefix_is : (n : N) (h : NodeHeader) (cs : Subtrees N A) (place : List ℕ) (radix : IsRadix bytes P place (inner n h cs)) → prefix_of bytes (length place) (inner n h cs) ≡ radix.0
   prefix_is n h cs place (part, e, two, up, below) =
       let (r, f) = least_way_below cs (place ++ part) two below in
       let len : h.length_of ≡ length part = ap (λ z. z.length_of) e in
       rw (len, after_front place (least_below bytes cs) (part ++ r) (f ∙ append_assoc place part r)) (take_at part r (length part) refl)
 
   -- the place goes on after the front with the byte of a child
-  abbrev pub Under : List ℕ → Children N A → (List ℕ × N) → Type 0
+  abbrev pub Under : List ℕ → Subtrees N A → (List ℕ × N) → Type 0
   Under front cs p = (c : ℕ) × IsIn c (bytes_of cs) × IsFront (front ++ c ∷ []) p.0
 
   -- all places below a node begin with its own, and go on with the byte of a child
@@ -62,7 +62,7 @@ module _ {N A : Type 0} (bytes : A → List ℕ) (P : ℕ) where
           (places_under cs (place ++ part) (length place + h.length_of + 1) (λ b. deeper place part b h.length_of (ap (λ z. z.length_of) e)) below),
     )
 
-    pub places_under : (cs : Children N A) (front : List ℕ) (d : ℕ) → ((b : ℕ) → d ≡ length (front ++ b ∷ [])) → AreRadix bytes P front cs → Each (Under front cs) (places_below bytes d cs)
+    pub places_under : (cs : Subtrees N A) (front : List ℕ) (d : ℕ) → ((b : ℕ) → d ≡ length (front ++ b ∷ [])) → AreRadix bytes P front cs → Each (Under front cs) (places_below bytes d cs)
     places_under no_child front d e h = tt
     places_under (child b t cs) front d e h = Each-append (Under front (child b t cs)) (places bytes d t) (places_below bytes d cs)
         (Each-weaker (λ p. IsFront (front ++ b ∷ []) p.0) (Under front (child b t cs)) (λ p f. (b, inl refl, f)) (places bytes d t)
@@ -74,13 +74,13 @@ module _ {N A : Type 0} (bytes : A → List ℕ) (P : ℕ) where
   NoLonger key n p = IsFront p.0 key → length p.0 ≤ n
 
   -- children whose bytes the key does not go on with
-  pub beside : (cs : Children N A) (front key : List ℕ) (d n : ℕ) → ((b : ℕ) → d ≡ length (front ++ b ∷ [])) → AreRadix bytes P front cs →
+  pub beside : (cs : Subtrees N A) (front key : List ℕ) (d n : ℕ) → ((b : ℕ) → d ≡ length (front ++ b ∷ [])) → AreRadix bytes P front cs →
       Each (λ b. IsFront (front ++ b ∷ []) key → ⊥) (bytes_of cs) → Each (NoLonger key n) (places_below bytes d cs)
   beside cs front key d n e h off = Each-weaker (Under front cs) (NoLonger key n)
       (λ p u k. absurd (each_in (λ b. IsFront (front ++ b ∷ []) key → ⊥) u.0 (bytes_of cs) off u.1 (front_trans (front ++ u.0 ∷ []) p.0 key u.2 k)))
       (places_below bytes d cs) (places_under cs front d e h)
 
-  places_join : (cs ds : Children N A) (Q : (List ℕ × N) → Type 0) (d : ℕ) → Each Q (places_below bytes d cs) → Each Q (places_below bytes d ds) → Each Q (places_below bytes d (join cs ds))
+  places_join : (cs ds : Subtrees N A) (Q : (List ℕ × N) → Type 0) (d : ℕ) → Each Q (places_below bytes d cs) → Each Q (places_below bytes d ds) → Each Q (places_below bytes d (join cs ds))
   places_join no_child ds Q d h k = k
   places_join (child b t cs) ds Q d h k =
       Each-append Q (places bytes d t) (places_below bytes d (join cs ds)) (Each-left Q (places bytes d t) (places_below bytes d cs) h)

@@ -1,5 +1,5 @@
 -- What a put and an overwrite are, where it is known whether an equal key is stored.
-use Rattle.std.proofs.Common.{◌≡◌, ◌≢◌, ℕ, List, [], ◌∷◌, filter, Option, Some, None, Bool, true, false, cond, is_some, refl, ap, sym, ◌∙◌}
+use Rattle.std.proofs.Common.{◌≡◌, ℕ, List, [], ◌∷◌, filter, Option, Some, None, Bool, true, false, cond, is_some, refl, ap, ◌∙◌}
 use Rattle.std.specs.List.{AllByRecursion as Each, list_any}
 use Rattle.std.specs.Option.{option_map}
 use Rattle.art_model.specs.Keys.{are_same}
@@ -26,14 +26,6 @@ module _ {A : Type 0} where
   pub first_none : (xs : List A) → first_of xs ≡ None → xs ≡ []
   first_none [] e = refl
   first_none (x ∷ xs) e = absurd cc
-
--- unequal keys are not the same
-pub not_same : (a b : List ℕ) → a ≢ b → are_same a b ≡ false
-not_same a b off = go (are_same a b) refl
-  where
-    go : (t : Bool) → are_same a b ≡ t → t ≡ false
-    go true e = absurd (off (sym (same_equal a b e)))
-    go false e = refl
 
 module _ {K V : Type 0} (bytes : K × V → List ℕ) (new : K × V) (pairs : List (K × V)) where
   abbrev Stored : Option (K × V)

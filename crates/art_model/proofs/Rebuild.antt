@@ -4,8 +4,8 @@ use Rattle.std.specs.List.{AllByRecursion as Each}
 use Rattle.std.proofs.lemmas.Bool.{ne_eqb}
 use Rattle.std.proofs.lemmas.List.{get_or_at}
 use Rattle.art_model.specs.Keys.{IsFront}
-use Rattle.art_model.specs.Trees.{shared_part, groups, byte_at, Tree, leaf, inner, Children, child, no_child, Header, tree_within, tree_of, node_of, children_of}
-use Rattle.art_model.specs.Radix.{IsRadix, AreRadix, IsRising, bytes_of, pairs_of, pairs_below, unmarked, all_unmarked}
+use Rattle.art_model.specs.Trees.{shared_part, groups, byte_at, Tree, leaf, inner, Subtrees, child, no_child, NodeHeader, tree_within, tree_of, node_of, children_of}
+use Rattle.art_model.specs.Radix.{IsRadix, AreRadix, BytesRise, bytes_of, pairs_of, pairs_below, unmarked, all_unmarked}
 use Rattle.art_model.proofs.Lists.{Each-append, Each-left, Each-right, front_cut, after_front, Each-weaker}
 use Rattle.art_model.proofs.Groups.{StartsApart, groups-block, shared_part-front, shared_part_shared}
 
@@ -21,7 +21,7 @@ module _ {N A : Type 0} (bytes : A → List ℕ) (P : ℕ) where
     radix_way (inner n h cs) place (part, e, two, up, below) =
         Each-weaker (λ x. IsFront (place ++ part) (bytes x)) (λ x. IsFront place (bytes x)) (λ x f. front_cut place part (bytes x) f) (pairs_below cs) (radix_below cs (place ++ part) below)
 
-    pub radix_below : (cs : Children N A) (front : List ℕ) → AreRadix bytes P front cs → Each (λ x. IsFront front (bytes x)) (pairs_below cs)
+    pub radix_below : (cs : Subtrees N A) (front : List ℕ) → AreRadix bytes P front cs → Each (λ x. IsFront front (bytes x)) (pairs_below cs)
     radix_below no_child front h = tt
     radix_below (child b t cs) front h = Each-append (λ x. IsFront front (bytes x)) (pairs_of t) (pairs_below cs)
         (Each-weaker (λ x. IsFront (front ++ b ∷ []) (bytes x)) (λ x. IsFront front (bytes x)) (λ x f. front_cut front (b ∷ []) (bytes x) f) (pairs_of t) (radix_way t (front ++ b ∷ []) h.0))
@@ -33,11 +33,11 @@ module _ {N A : Type 0} (bytes : A → List ℕ) (P : ℕ) where
     radix_some (leaf n x) place h = (x, [], refl)
     radix_some (inner n h cs) place (part, e, two, up, below) = radix_some_below cs (place ++ part) two below
 
-    pub radix_some_below : (cs : Children N A) (front : List ℕ) → 2 ≤ length (bytes_of cs) → AreRadix bytes P front cs → (x : A) × (xs : List A) × (pairs_below cs ≡ x ∷ xs)
+    pub radix_some_below : (cs : Subtrees N A) (front : List ℕ) → 2 ≤ length (bytes_of cs) → AreRadix bytes P front cs → (x : A) × (xs : List A) × (pairs_below cs ≡ x ∷ xs)
     radix_some_below no_child front two h = absurd (omega arith)
     radix_some_below (child b t cs) front two h = let r = radix_some t (front ++ b ∷ []) h.0 in (r.0, r.1 ++ pairs_below cs, ap (λ xs. xs ++ pairs_below cs) r.2)
 
-  radix_long : (cs : Children N A) (front : List ℕ) → AreRadix bytes P front cs → length (bytes_of cs) ≤ length (pairs_below cs)
+  radix_long : (cs : Subtrees N A) (front : List ℕ) → AreRadix bytes P front cs → length (bytes_of cs) ≤ length (pairs_below cs)
   radix_long no_child front h = omega arith
   radix_long (child b t cs) front h =
       let r = radix_some t (front ++ b ∷ []) h.0 in
@@ -45,19 +45,19 @@ module _ {N A : Type 0} (bytes : A → List ℕ) (P : ℕ) where
       rw (length-append, r.2) (omega arith)
 
   -- the groups are the children's pairs
-  abbrev groups_of : Children N A → List (ℕ × List A)
+  abbrev groups_of : Subtrees N A → List (ℕ × List A)
   groups_of no_child = []
   groups_of (child b t cs) = (b, pairs_of t) ∷ groups_of cs
 
-  length-groups_of : (cs : Children N A) → length (groups_of cs) ≡ length (bytes_of cs)
+  length-groups_of : (cs : Subtrees N A) → length (groups_of cs) ≡ length (bytes_of cs)
   length-groups_of no_child = refl
   length-groups_of (child b t cs) = ap suc (length-groups_of cs)
 
-  apart_from : (b : ℕ) (cs : Children N A) → Each (λ c. b < c) (bytes_of cs) → StartsApart b (groups_of cs)
+  apart_from : (b : ℕ) (cs : Subtrees N A) → Each (λ c. b < c) (bytes_of cs) → StartsApart b (groups_of cs)
   apart_from b no_child h = tt
   apart_from b (child c t cs) h = ne_eqb b c (λ e. omega arith)
 
-  groups_below : (cs : Children N A) (front : List ℕ) → AreRadix bytes P front cs → IsRising (bytes_of cs) → groups (byte_at bytes (length front)) (pairs_below cs) ≡ groups_of cs
+  groups_below : (cs : Subtrees N A) (front : List ℕ) → AreRadix bytes P front cs → BytesRise (bytes_of cs) → groups (byte_at bytes (length front)) (pairs_below cs) ≡ groups_of cs
   groups_below no_child front h up = refl
   groups_below (child b t cs) front h up =
       let r = radix_some t (front ++ b ∷ []) h.0 in
@@ -86,7 +86,7 @@ module _ {N A : Type 0} (bytes : A → List ℕ) (P : ℕ) where
       let f : IsFront s (drop (length front) (bytes r.0)) = (rw r.2 at shared).0 in
       (first.0, rw (after_front front (bytes r.0) (b ∷ first.0) (first.1 ∙ append_assoc front (b ∷ []) first.0)) at f)
 
-  shared_below : (cs : Children N A) (place part : List ℕ) → 2 ≤ length (bytes_of cs) → IsRising (bytes_of cs) → AreRadix bytes P (place ++ part) cs →
+  shared_below : (cs : Subtrees N A) (place part : List ℕ) → 2 ≤ length (bytes_of cs) → BytesRise (bytes_of cs) → AreRadix bytes P (place ++ part) cs →
       shared_part bytes (length place) (pairs_below cs) ≡ part
   shared_below no_child place part two up h = absurd (omega arith)
   shared_below (child b t no_child) place part two up h = absurd (omega arith)
@@ -117,7 +117,7 @@ module _ {N A : Type 0} (bytes : A → List ℕ) (P : ℕ) where
         let ih = rebuild_below cs (place ++ part) turns below (omega arith) in
         tree_two bytes P turns (length place) (pairs_below cs) (omega arith) ∙ rw (s, ← length-append place part, g, length-groups_of bytes P cs, ih, e) refl
 
-    pub rebuild_below : (cs : Children N A) (front : List ℕ) (turns : ℕ) → AreRadix bytes P front cs →
+    pub rebuild_below : (cs : Subtrees N A) (front : List ℕ) (turns : ℕ) → AreRadix bytes P front cs →
         length (pairs_below cs) + 1 ≤ turns + length (bytes_of cs) → children_of (tree_within bytes turns P (length front + 1)) (groups_of bytes P cs) ≡ all_unmarked cs
     rebuild_below no_child front turns h enough = refl
     rebuild_below (child b t cs) front turns h enough =
@@ -128,13 +128,13 @@ module _ {N A : Type 0} (bytes : A → List ℕ) (P : ℕ) where
         rw (← length-append front (b ∷ []), rebuild t (front ++ b ∷ []) turns h.0 (omega arith), rebuild_below cs front turns h.1 (omega arith)) refl
 
   -- the same without a bound on the turns
-  rebuild_each : (cs : Children N A) (front : List ℕ) → AreRadix bytes P front cs → children_of (λ group. tree_of bytes group P (length front + 1)) (groups_of bytes P cs) ≡ all_unmarked cs
+  rebuild_each : (cs : Subtrees N A) (front : List ℕ) → AreRadix bytes P front cs → children_of (λ group. tree_of bytes group P (length front + 1)) (groups_of bytes P cs) ≡ all_unmarked cs
   rebuild_each no_child front h = refl
   rebuild_each (child b t cs) front h =
       let own : tree_of bytes (pairs_of t) P (length front + 1) ≡ Some (unmarked t) = rw (← length-append front (b ∷ [])) (rebuild t (front ++ b ∷ []) (length (pairs_of t)) h.0 (omega arith)) in
       rw (own, rebuild_each cs front h.1) refl
 
-  pub rebuild_node : (n : N) (h : Header) (cs : Children N A) (place : List ℕ) → IsRadix bytes P place (inner n h cs) →
+  pub rebuild_node : (n : N) (h : NodeHeader) (cs : Subtrees N A) (place : List ℕ) → IsRadix bytes P place (inner n h cs) →
       node_of bytes (λ d group. tree_of bytes group P d) P (length place) (pairs_below cs) ≡ Some (unmarked (inner n h cs))
   rebuild_node n h cs place (part, e, two, up, below) =
       let s = shared_below cs place part two up below in

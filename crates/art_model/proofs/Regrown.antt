@@ -1,7 +1,7 @@
 -- The nodes and names of each change: what stands in the hole afterwards is held, under distinct names that are old ones or were free.
 use Rattle.std.proofs.Common.{◌≡◌, ◌≢◌, ℕ, List, [], ◌∷◌, ◌++◌, ap, sym, ◌∙◌, subst, append_assoc, append-nil, Option, Some, None, true, false, Bool, cond, ltb, ◌⊎◌, inl, inr}
 use Rattle.std.specs.List.{AllByRecursion as Each}
-use Rattle.art_model.specs.Trees.{Tree, leaf, inner, Children, child, no_child, Header}
+use Rattle.art_model.specs.Trees.{Tree, leaf, inner, Subtrees, child, no_child, NodeHeader}
 use Rattle.art_model.specs.Radix.{join}
 use Rattle.art_model.specs.Paths.{Frame, plug}
 use Rattle.art_model.specs.Layouts.{Node, leaf_node, inner_node, slots_of, names_of, names_below, Holds, HoldsBelow, AreDistinct}
@@ -23,7 +23,7 @@ module _ {N A : Type 0} (at to : N → Option (Node N A)) where
   -- ---- a branch: a subtree and a new leaf below a new node
 
   -- the tree `u`, which has the names of `t`, stands beside a new leaf below a new node
-  pub record IsBranch (t u : Tree N A) (m n : N) (h : Header) (b c : ℕ) (new : A) : Type 0 where
+  pub record IsBranch (t u : Tree N A) (m n : N) (h : NodeHeader) (b c : ℕ) (new : A) : Type 0 where
     pub same_names : names_of u ≡ names_of t
     pub node_was_free : at m ≡ None
     pub leaf_was_free : at n ≡ None
@@ -32,7 +32,7 @@ module _ {N A : Type 0} (at to : N → Option (Node N A)) where
     pub new_leaf : to n ≡ Some (leaf_node new)
     pub below : Holds to u
 
-  module _ (t u : Tree N A) (m n : N) (h : Header) (b c : ℕ) (new : A) (held : Holds at t) (distinct : AreDistinct (names_of t)) (is : IsBranch t u m n h b c new) where
+  module _ (t u : Tree N A) (m n : N) (h : NodeHeader) (b c : ℕ) (new : A) (held : Holds at t) (distinct : AreDistinct (names_of t)) (is : IsBranch t u m n h b c new) where
     node_apart : Each (λ k. m ≢ k) (names_of u)
     node_apart = subst (Each (λ k. m ≢ k)) (sym is.same_names) (Each-weaker (λ k. k ≢ m) (λ k. m ≢ k) (λ k f e. f (sym e)) (names_of t) (free_apart at m is.node_was_free t held))
 
@@ -73,7 +73,7 @@ module _ {N A : Type 0} (at to : N → Option (Node N A)) where
   -- ---- other children between those on the left and those on the right
 
   -- the node has `middle` between `l` and `r`, where the old one had others; it has the old one's name, or one that was free, as the children in the middle have
-  pub record IsRefilled (m node : N) (h : Header) (l middle r : Children N A) : Type 0 where
+  pub record IsRefilled (m node : N) (h : NodeHeader) (l middle r : Subtrees N A) : Type 0 where
     pub named : (node ≡ m) ⊎ (at node ≡ None)
     pub were_free : Each (λ k. at k ≡ None) (names_below middle)
     pub distinct : AreDistinct (names_below middle)
@@ -81,9 +81,9 @@ module _ {N A : Type 0} (at to : N → Option (Node N A)) where
     pub there : to node ≡ Some (inner_node h (slots_of (join l (join middle r))))
     pub below : HoldsBelow to middle
 
-module _ {N A : Type 0} (at to : N → Option (Node N A)) (fs : List (Frame N A)) (m : N) (h : Header) (l old r : Children N A)
+module _ {N A : Type 0} (at to : N → Option (Node N A)) (fs : List (Frame N A)) (m : N) (h : NodeHeader) (l old r : Subtrees N A)
     (holds : Holds at (plug fs (inner m h (join l (join old r))))) (distinct : AreDistinct (names_of (plug fs (inner m h (join l (join old r)))))) where
-  names_three : (xs : Children N A) → names_below (join l (join xs r)) ≡ names_below l ++ (names_below xs ++ names_below r)
+  names_three : (xs : Subtrees N A) → names_below (join l (join xs r)) ≡ names_below l ++ (names_below xs ++ names_below r)
   names_three xs = names_below-join l (join xs r) ∙ ap (λ z. names_below l ++ z) (names_below-join xs r)
 
   own_distinct : AreDistinct (m ∷ (names_below l ++ (names_below old ++ names_below r)))
@@ -133,7 +133,7 @@ module _ {N A : Type 0} (at to : N → Option (Node N A)) (fs : List (Frame N A)
       (distinct_replaced at (names_below l) (names_below old) [] (names_below r)
       (subst AreDistinct (sym (append_assoc (names_below l) (names_below old) (names_below r))) own_distinct.1) (all_taken_below at l own_held.0) (all_taken_below at r own_held.2) tt tt)
 
-  module _ (node : N) (head : Header) (middle : Children N A) (is : IsRefilled at to m node head l middle r) where
+  module _ (node : N) (head : NodeHeader) (middle : Subtrees N A) (is : IsRefilled at to m node head l middle r) where
     middle_distinct : AreDistinct (names_below l ++ names_below middle ++ names_below r)
     middle_distinct =
         distinct_replaced at (names_below l) (names_below old) (names_below middle) (names_below r)
@@ -141,7 +141,7 @@ module _ {N A : Type 0} (at to : N → Option (Node N A)) (fs : List (Frame N A)
         (all_taken_below at l own_held.0) (all_taken_below at r own_held.2) is.distinct
         (Each-weaker (λ k. at k ≡ None) (λ k. IsIn k (names_below old) ⊎ (at k ≡ None)) (λ k f. inr f) (names_below middle) is.were_free)
 
-    node_differs : (cs : Children N A) → HoldsBelow at cs → Each (λ k. m ≢ k) (names_below cs) → Each (λ k. node ≢ k) (names_below cs)
+    node_differs : (cs : Subtrees N A) → HoldsBelow at cs → Each (λ k. m ≢ k) (names_below cs) → Each (λ k. node ≢ k) (names_below cs)
     node_differs cs held off = elim is.named [
       | inl e ↦ subst (λ z. Each (λ k. z ≢ k) (names_below cs)) (sym e) off
       | inr free ↦ Each-weaker (IsTaken at) (λ k. node ≢ k) (λ k used e. used (sym (ap at e) ∙ free)) (names_below cs) (all_taken_below at cs held)
@@ -222,7 +222,7 @@ module _ {N A : Type 0} (at to : N → Option (Node N A)) (fs : List (Frame N A)
     left_child_holds same = frame at to v (each_from (λ k. to k ≡ at k) (names_of v) (λ k i. left_child_still [] same k i (λ j. j))) left_child_held
 
   -- where the child is an inner node, all below it is
-  pub left_child_below : (c : ℕ) (k : N) (head : Header) (cs : Children N A) → join l r ≡ child c (inner k head cs) no_child → SameBut at to fs (k ∷ m ∷ names_below old) → HoldsBelow to cs
+  pub left_child_below : (c : ℕ) (k : N) (head : NodeHeader) (cs : Subtrees N A) → join l r ≡ child c (inner k head cs) no_child → SameBut at to fs (k ∷ m ∷ names_below old) → HoldsBelow to cs
   left_child_below c k head cs one same =
       let d = left_child_distinct c (inner k head cs) one in
       frame_below at to cs (each_from (λ j. to j ≡ at j) (names_below cs)

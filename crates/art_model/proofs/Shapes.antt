@@ -7,7 +7,7 @@ use Rattle.art_nodes.specs.Nodes.{Nodes}
 use Rattle.art_nodes.specs.declared.node.NodeType.{NodeType}
 use Rattle.art_nodes.specs.declared.node.NodeType.TheVariants.{Node4, Node16, Node48, Node256, Leaf}
 use Rattle.art_nodes.specs.declared.node.OpaqueNodePtr.{OpaqueNodePtr}
-use Rattle.art_model.specs.Trees.{Tree, leaf, inner, Children, child, no_child, Header}
+use Rattle.art_model.specs.Trees.{Tree, leaf, inner, Subtrees, child, no_child, NodeHeader}
 use Rattle.art_model.specs.Layouts.{leaf_node, inner_node, name_of, slots_of, names_of, names_below, leaf_names, leaf_names_below, inner_names, inner_names_below, shape_of, shape_below, Holds, HoldsBelow, AreDistinct}
 use Rattle.art_model.specs.Stores.{held_inner, held_in, seen, inner_seen, header_at, node_at, shape_in, shape_at}
 use Rattle.art_model.specs.StoreLaws.{HasShape}
@@ -18,7 +18,7 @@ module _ {N A : Type 0} where
   name_of-shape (leaf n x) = refl
   name_of-shape (inner n h cs) = refl
 
-  slots_of-shape : (cs : Children N A) → slots_of (shape_below cs) ≡ slots_of cs
+  slots_of-shape : (cs : Subtrees N A) → slots_of (shape_below cs) ≡ slots_of cs
   slots_of-shape no_child = refl
   slots_of-shape (child b t cs) = ap₂ (λ n (l : List (ℕ × N)). (b, n) ∷ l) (name_of-shape t) (slots_of-shape cs)
 
@@ -27,7 +27,7 @@ module _ {N A : Type 0} where
     names_of-shape (leaf n x) = refl
     names_of-shape (inner n h cs) = ap (λ l. n ∷ l) (names_below-shape cs)
 
-    names_below-shape : (cs : Children N A) → names_below (shape_below cs) ≡ names_below cs
+    names_below-shape : (cs : Subtrees N A) → names_below (shape_below cs) ≡ names_below cs
     names_below-shape no_child = refl
     names_below-shape (child b t cs) = ap₂ (λ (k l : List N). k ++ l) (names_of-shape t) (names_below-shape cs)
 
@@ -36,7 +36,7 @@ module _ {N A : Type 0} where
     leaf_names-shape (leaf n x) = refl
     leaf_names-shape (inner n h cs) = leaf_names_below-shape cs
 
-    leaf_names_below-shape : (cs : Children N A) → leaf_names_below (shape_below cs) ≡ leaf_names_below cs
+    leaf_names_below-shape : (cs : Subtrees N A) → leaf_names_below (shape_below cs) ≡ leaf_names_below cs
     leaf_names_below-shape no_child = refl
     leaf_names_below-shape (child b t cs) = ap₂ (λ (k l : List N). k ++ l) (leaf_names-shape t) (leaf_names_below-shape cs)
 
@@ -45,12 +45,12 @@ module _ {N A : Type 0} where
     inner_names-shape (leaf n x) = refl
     inner_names-shape (inner n h cs) = ap (λ l. n ∷ l) (inner_names_below-shape cs)
 
-    inner_names_below-shape : (cs : Children N A) → inner_names_below (shape_below cs) ≡ inner_names_below cs
+    inner_names_below-shape : (cs : Subtrees N A) → inner_names_below (shape_below cs) ≡ inner_names_below cs
     inner_names_below-shape no_child = refl
     inner_names_below-shape (child b t cs) = ap₂ (λ (k l : List N). k ++ l) (inner_names-shape t) (inner_names_below-shape cs)
 
 module _ {K V : Type 0} where
-  same_inner : (kind : NodeType) (o : Option Inner) (h : Header) (slots : List (ℕ × OpaqueNodePtr)) →
+  same_inner : (kind : NodeType) (o : Option Inner) (h : NodeHeader) (slots : List (ℕ × OpaqueNodePtr)) →
       option_map (seen {K = K} {V = V} kind) (option_map held_inner o) ≡ Some (inner_node h slots) → option_map (inner_seen {A = Unit {0}} kind) o ≡ Some (inner_node h slots)
   same_inner kind None h slots e = absurd cc
   same_inner kind (Some node) h slots e =
@@ -68,7 +68,7 @@ module _ {K V : Type 0} where
     end_seen Node256 slot x e = absurd (seen_no_leaf Node256 (map.get s.inners (record { kind = Node256; slot = slot })) x e)
 
     -- where a tree sees an inner node, so does the shape
-    inner_is_seen : (kind : NodeType) (slot : ℕ) (h : Header) (slots : List (ℕ × OpaqueNodePtr)) →
+    inner_is_seen : (kind : NodeType) (slot : ℕ) (h : NodeHeader) (slots : List (ℕ × OpaqueNodePtr)) →
         option_map (seen kind) (held_in s kind slot) ≡ Some (inner_node h slots) → shape_in s kind slot ≡ Some (inner_node h slots)
     inner_is_seen Leaf slot h slots e = absurd (seen_no_inner (map.get s.leaves (record { slot = slot })) h slots e)
     inner_is_seen Node4 slot h slots e = same_inner Node4 (map.get s.inners (record { kind = Node4; slot = slot })) h slots e
@@ -84,7 +84,7 @@ module _ {K V : Type 0} where
         shape_held_below cs holds.1,
       )
 
-      shape_held_below : (cs : Children OpaqueNodePtr (K × V)) → HoldsBelow (node_at s) cs → HoldsBelow (shape_at s) (shape_below cs)
+      shape_held_below : (cs : Subtrees OpaqueNodePtr (K × V)) → HoldsBelow (node_at s) cs → HoldsBelow (shape_at s) (shape_below cs)
       shape_held_below no_child h = tt
       shape_held_below (child b t cs) h = (shape_held t h.0, shape_held_below cs h.1)
 

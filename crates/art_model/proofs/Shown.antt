@@ -9,14 +9,14 @@ use Rattle.art_nodes.specs.declared.node.LeafPtr.{LeafPtr}
 use Rattle.art_nodes.specs.declared.node.InnerPtr.{InnerPtr}
 use Rattle.art_nodes.specs.declared.node.OpaqueNodePtr.{OpaqueNodePtr}
 use Rattle.art_nodes.specs.declared.node.LeafNode.{LeafNode}
-use Rattle.art_model.specs.Trees.{Tree, leaf, inner, Children}
+use Rattle.art_model.specs.Trees.{Tree, leaf, inner, Subtrees}
 use Rattle.art_model.specs.Layouts.{name_of, slots_of, Holds}
 use Rattle.art_model.specs.Stores.{node_at, header_at, pair_of}
 use Rattle.art_model.proofs.Views.{leaf_there, leaf_name_is, inner_there, inner_name_is}
 
 -- the inner node of a layout under this name, as the store shows it
 pub record IsShown {A : Type 0} (t : Tree OpaqueNodePtr A) (p : InnerPtr) (shown : Inner) : Type 0 where
-  pub children : Children OpaqueNodePtr A
+  pub children : Subtrees OpaqueNodePtr A
   pub is : t ≡ inner (inner_name p) (header_at p.kind shown) children
   pub slots : shown.children ≡ slots_of children
 

@@ -7,36 +7,36 @@ use Rattle.art_nodes.specs.Kinds.{kind_capacity, kind_least}
 use Rattle.art_nodes.specs.declared.node.NodeType.{NodeType}
 use Rattle.art_nodes.specs.declared.node.NodeType.TheVariants.{Node4, Node16, Node48, Node256, Leaf}
 use Rattle.art_nodes.specs.declared.node.OpaqueNodePtr.{OpaqueNodePtr}
-use Rattle.art_model.specs.Trees.{Tree, Children, child, no_child, kind_of}
+use Rattle.art_model.specs.Trees.{Tree, Subtrees, child, no_child, kind_of}
 use Rattle.art_model.specs.Radix.{bytes_of, join}
 use Rattle.art_model.specs.Layouts.{slots_of, name_of}
 use Rattle.art_model.proofs.Changes.{two_children}
 
 module _ {N A : Type 0} where
   -- as many slots as bytes
-  pub length-slots_of : (cs : Children N A) → length (slots_of cs) ≡ length (bytes_of cs)
+  pub length-slots_of : (cs : Subtrees N A) → length (slots_of cs) ≡ length (bytes_of cs)
   length-slots_of no_child = refl
   length-slots_of (child b t cs) = ap suc (length-slots_of cs)
 
 module _ {A : Type 0} where
   -- a byte that has a child has another one
-  pub put_child-there : (left : Children OpaqueNodePtr A) (b : ℕ) (old new : OpaqueNodePtr) (rest : List (ℕ × OpaqueNodePtr)) →
+  pub put_child-there : (left : Subtrees OpaqueNodePtr A) (b : ℕ) (old new : OpaqueNodePtr) (rest : List (ℕ × OpaqueNodePtr)) →
       Each (λ c. c < b) (bytes_of left) → put_child (slots_of left ++ (b, old) ∷ rest) b new ≡ slots_of left ++ (b, new) ∷ rest
   put_child-there no_child b old new rest h = rw (le-ltb b b (omega arith), eq-eqb b b refl) refl
   put_child-there (child c t cs) b old new rest h = rw (lt-ltb c b h.0) (ap (λ l. (c, name_of t) ∷ l) (put_child-there cs b old new rest h.1))
 
   -- the child of a byte among others
-  pub child_at-there : (left : Children OpaqueNodePtr A) (b : ℕ) (name : OpaqueNodePtr) (rest : List (ℕ × OpaqueNodePtr)) →
+  pub child_at-there : (left : Subtrees OpaqueNodePtr A) (b : ℕ) (name : OpaqueNodePtr) (rest : List (ℕ × OpaqueNodePtr)) →
       Each (λ c. c < b) (bytes_of left) → child_at (slots_of left ++ (b, name) ∷ rest) b ≡ Some name
   child_at-there no_child b name rest h = rw (eq-eqb b b refl) refl
   child_at-there (child c t cs) b name rest h = rw (ne_eqb c b (λ e. let l = h.0 in omega arith)) (child_at-there cs b name rest h.1)
 
-  put_child-first : (cs : Children OpaqueNodePtr A) (b : ℕ) (t : Tree OpaqueNodePtr A) → Each (λ c. b < c) (bytes_of cs) → put_child (slots_of cs) b (name_of t) ≡ (b, name_of t) ∷ slots_of cs
+  put_child-first : (cs : Subtrees OpaqueNodePtr A) (b : ℕ) (t : Tree OpaqueNodePtr A) → Each (λ c. b < c) (bytes_of cs) → put_child (slots_of cs) b (name_of t) ≡ (b, name_of t) ∷ slots_of cs
   put_child-first no_child b t h = refl
   put_child-first (child c u cs) b t h = rw (le-ltb c b (let l = h.0 in omega arith), ne_eqb c b (λ e. let l = h.0 in omega arith)) refl
 
   -- a child between the others, under a byte that had none
-  pub put_child-new : (l r : Children OpaqueNodePtr A) (b : ℕ) (t : Tree OpaqueNodePtr A) → Each (λ c. c < b) (bytes_of l) →
+  pub put_child-new : (l r : Subtrees OpaqueNodePtr A) (b : ℕ) (t : Tree OpaqueNodePtr A) → Each (λ c. c < b) (bytes_of l) →
       Each (λ c. b < c) (bytes_of r) → put_child (slots_of (join l r)) b (name_of t) ≡ slots_of (join l (child b t r))
   put_child-new no_child r b t low high = put_child-first r b t high
   put_child-new (child c u l) r b t low high = rw (lt-ltb c b low.0) (ap (λ z. (c, name_of u) ∷ z) (put_child-new l r b t low.1 high))

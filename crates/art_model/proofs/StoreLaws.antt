@@ -1,6 +1,6 @@
 -- the laws of names that stand for trees, of canonical roots and of footprints
 use Rattle.std.proofs.Common.{[], ◌≡◌, ℕ, refl, ap, sym, ◌∙◌, subst, Option, Some, None}
-use Rattle.art_model.specs.Trees.{Tree, leaf, inner, Children, child, no_child}
+use Rattle.art_model.specs.Trees.{Tree, leaf, inner, Subtrees, child, no_child}
 use Rattle.art_model.specs.Radix.{pairs_of}
 use Rattle.art_model.specs.Layouts.{Node, inner_node, name_of, slots_of, names_of, leaf_names, Holds, HoldsBelow, AreDistinct}
 use Rattle.art_model.specs.ByCases.{Stands}
@@ -37,7 +37,7 @@ module _ {N A : Type 0} where
           let below = same_below cs ds slots holds.1 helds.1 in
           cc
 
-      same_below : (cs ds : Children N A) → slots_of ds ≡ slots_of cs → HoldsBelow at cs → HoldsBelow at ds → ds ≡ cs
+      same_below : (cs ds : Subtrees N A) → slots_of ds ≡ slots_of cs → HoldsBelow at cs → HoldsBelow at ds → ds ≡ cs
       same_below no_child no_child e h g = refl
       same_below no_child (child c u ds) e h g = absurd cc
       same_below (child b t cs) no_child e h g = absurd cc

@@ -1,7 +1,7 @@
 -- Layouts in a store: what is held stays held where nodes stay (the frame law), and a change in the hole of a path leaves a layout (replacement).
 use Rattle.std.proofs.Common.{◌≡◌, ◌≢◌, List, [], ◌∷◌, ◌++◌, sym, ◌∙◌, subst, Option, Some, None, inl, inr}
 use Rattle.std.specs.List.{AllByRecursion as Each}
-use Rattle.art_model.specs.Trees.{Tree, leaf, inner, Children, child, no_child}
+use Rattle.art_model.specs.Trees.{Tree, leaf, inner, Subtrees, child, no_child}
 use Rattle.art_model.specs.Radix.{join}
 use Rattle.art_model.specs.Paths.{Frame, fill, plug, HoldsPath, names_before, names_after}
 use Rattle.art_model.specs.Layouts.{Node, inner_node, name_of, slots_of, names_of, names_below, Holds, HoldsBelow, AreDistinct}
@@ -14,17 +14,17 @@ use Rattle.art_model.proofs.Names.{IsTaken, all_taken, apart_in, OldOrFree, dist
 module _ {N A : Type 0} where
   module _ (at : N → Option (Node N A)) where
     -- joined children are held where both are
-    pub HoldsBelow-join : (cs ds : Children N A) → HoldsBelow at cs → HoldsBelow at ds → HoldsBelow at (join cs ds)
+    pub HoldsBelow-join : (cs ds : Subtrees N A) → HoldsBelow at cs → HoldsBelow at ds → HoldsBelow at (join cs ds)
     HoldsBelow-join no_child ds h k = k
     HoldsBelow-join (child b t cs) ds h k = (h.0, HoldsBelow-join cs ds h.1 k)
 
     -- and so are those on the left
-    pub HoldsBelow-left : (cs ds : Children N A) → HoldsBelow at (join cs ds) → HoldsBelow at cs
+    pub HoldsBelow-left : (cs ds : Subtrees N A) → HoldsBelow at (join cs ds) → HoldsBelow at cs
     HoldsBelow-left no_child ds h = tt
     HoldsBelow-left (child b t cs) ds h = (h.0, HoldsBelow-left cs ds h.1)
 
     -- and those on the right
-    pub HoldsBelow-right : (cs ds : Children N A) → HoldsBelow at (join cs ds) → HoldsBelow at ds
+    pub HoldsBelow-right : (cs ds : Subtrees N A) → HoldsBelow at (join cs ds) → HoldsBelow at ds
     HoldsBelow-right no_child ds h = h
     HoldsBelow-right (child b t cs) ds h = HoldsBelow-right cs ds h.1
 
@@ -49,7 +49,7 @@ module _ {N A : Type 0} where
       frame (leaf n x) same h = same.0 ∙ h
       frame (inner n h cs) same holds = (same.0 ∙ holds.0, frame_below cs same.1 holds.1)
 
-      pub frame_below : (cs : Children N A) → Each (λ n. to n ≡ at n) (names_below cs) → HoldsBelow at cs → HoldsBelow to cs
+      pub frame_below : (cs : Subtrees N A) → Each (λ n. to n ≡ at n) (names_below cs) → HoldsBelow at cs → HoldsBelow to cs
       frame_below no_child same h = tt
       frame_below (child b t cs) same h =
           (frame t (Each-left (λ n. to n ≡ at n) (names_of t) (names_below cs) same) h.0, frame_below cs (Each-right (λ n. to n ≡ at n) (names_of t) (names_below cs) same) h.1)

@@ -10,7 +10,7 @@ use Rattle.art_model.specs.Keys.{IsFront}
 use Rattle.art_model.specs.Layouts.{Node, leaf_node, name_of, slots_of, names_of, names_below, AreDistinct, Holds, HoldsBelow}
 use Rattle.art_model.specs.Radix.{IsRadix, AreRadix}
 use Rattle.art_model.specs.Trails.{bottom_of, end_of, IsDescent, IsPrefix, HasPrefix, IsTrail, IsReadAs}
-use Rattle.art_model.specs.Trees.{Tree, leaf, inner, Children, child, no_child, Header}
+use Rattle.art_model.specs.Trees.{Tree, leaf, inner, Subtrees, child, no_child, NodeHeader}
 use Rattle.art_model.proofs.Lists.{Each-weaker, each_in, in_left, in_right, front_cut}
 use Rattle.art_model.proofs.OnWay.{child_under}
 use Rattle.art_model.proofs.Paths.{names_below-join}
@@ -36,7 +36,7 @@ module _ {A : Type 0} (at : OpaqueNodePtr → Option (Node OpaqueNodePtr A)) (by
     descent_front (leaf n y) place (m ∷ ms) x holds radix d e = let h = d.0.3 in absurd cc
     descent_front (inner n h cs) place ns x holds radix d e = front_cut place radix.0 (bytes x) (prefix_front n h cs place ns x holds radix d e)
 
-    pub prefix_front : (n : OpaqueNodePtr) (h : Header) (cs : Children OpaqueNodePtr A) (place : List ℕ) (ns : List OpaqueNodePtr) (x : A) →
+    pub prefix_front : (n : OpaqueNodePtr) (h : NodeHeader) (cs : Subtrees OpaqueNodePtr A) (place : List ℕ) (ns : List OpaqueNodePtr) (x : A) →
         Holds at (inner n h cs) → (radix : IsRadix bytes P place (inner n h cs)) → IsDescent at n ns → at (bottom_of n ns) ≡ Some (leaf_node x) → IsFront (place ++ radix.0) (bytes x)
     prefix_front n h cs place [] x holds radix d e = let f = holds.0 in absurd cc
     prefix_front n h no_child place (m ∷ ms) x holds radix d e = let l = radix.2 in absurd (omega arith)
@@ -49,7 +49,7 @@ module _ {A : Type 0} (at : OpaqueNodePtr → Option (Node OpaqueNodePtr A)) (by
         (subst (λ k. IsDescent at k ms) same d.1) (subst (λ k. at (bottom_of k ms) ≡ Some (leaf_node x)) same e))
 
   -- the prefix of a node as read is its whole prefix
-  pub read_whole : (n : OpaqueNodePtr) (h : Header) (cs : Children OpaqueNodePtr A) (place part : List ℕ) → Holds at (inner n h cs) →
+  pub read_whole : (n : OpaqueNodePtr) (h : NodeHeader) (cs : Subtrees OpaqueNodePtr A) (place part : List ℕ) → Holds at (inner n h cs) →
       (radix : IsRadix bytes P place (inner n h cs)) → HasPrefix at bytes P (length place) n part → part ≡ radix.0
   read_whole n h cs place part holds radix (k, slots, there, is) =
       let f = holds.0 in

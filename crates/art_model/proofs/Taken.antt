@@ -7,7 +7,7 @@ use Rattle.art_nodes.specs.Nodes.{Nodes}
 use Rattle.art_nodes.specs.declared.node.LeafPtr.{LeafPtr}
 use Rattle.art_nodes.specs.declared.node.LeafNode.{LeafNode}
 use Rattle.art_nodes.specs.declared.node.OpaqueNodePtr.{OpaqueNodePtr}
-use Rattle.art_model.specs.Trees.{Tree, leaf, inner, Children, child, no_child}
+use Rattle.art_model.specs.Trees.{Tree, leaf, inner, Subtrees, child, no_child}
 use Rattle.art_model.specs.Radix.{IsRadix, pairs_of, pairs_below}
 use Rattle.art_model.specs.Layouts.{Links, leaf_names, leaf_names_below, names_of, Holds, HoldsBelow, AreLinked, first_or, last_or}
 use Rattle.art_model.specs.Stores.{node_at, links_at, pair_of}
@@ -29,7 +29,7 @@ module _ {K V : Type 0} (s : Nodes K V) where
     leaf_at (leaf k x) h p (inr i) = absurd i
     leaf_at (inner k head cs) holds p i = leaf_below cs holds.1 p i
 
-    leaf_below : (cs : Children OpaqueNodePtr (K × V)) → HoldsBelow (node_at s) cs → (p : LeafPtr) → IsIn (leaf_name p) (leaf_names_below cs) →
+    leaf_below : (cs : Subtrees OpaqueNodePtr (K × V)) → HoldsBelow (node_at s) cs → (p : LeafPtr) → IsIn (leaf_name p) (leaf_names_below cs) →
         (y : LeafNode K V) × (get s.leaves p ≡ Some y) × IsIn (pair_of y) (pairs_below cs)
     leaf_below no_child h p i = absurd i
     leaf_below (child b t cs) h p i = elim (in_either (leaf_name p) (leaf_names t) (leaf_names_below cs) i) [

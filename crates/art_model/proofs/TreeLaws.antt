@@ -1,7 +1,7 @@
 -- the laws of the tree of a map
 use Rattle.std.proofs.Common.{◌≡◌, ℕ, ◌+◌, ◌≤◌, List, [], ◌∷◌, ◌++◌, length, drop, refl, ap, ap₂, sym, ◌∙◌, arith, length-append, subst, Some}
 use Rattle.art_model.specs.Keys.{IsFront, common_front}
-use Rattle.art_model.specs.Trees.{Tree, leaf, inner, Children, child, no_child, shared_part, node_of, tree_of}
+use Rattle.art_model.specs.Trees.{Tree, leaf, inner, Subtrees, child, no_child, shared_part, node_of, tree_of}
 use Rattle.art_model.specs.Radix.{pairs_of, unmarked, all_unmarked, bytes_of, HaveChildren, HaveChildrenBelow, IsRadix, AreRadix}
 use Rattle.art_model.specs.Layouts.{leaf_names, leaf_names_below, inner_names, inner_names_below}
 use Rattle.art_model.specs.TreeLaws.{PartIsShared, PartIsLongest, IsBuiltByGrouping, HasTree, IsTreeOfItsPairs, IsOneTree, HaveTwoChildren, HasFewInnerNodes}
@@ -20,7 +20,7 @@ module _ {A : Type 0} where
     unmarked_plain (leaf u x) = refl
     unmarked_plain (inner u h cs) = ap (inner tt h) (all_unmarked_plain cs)
 
-    pub all_unmarked_plain : (cs : Children (Unit {0}) A) → all_unmarked cs ≡ cs
+    pub all_unmarked_plain : (cs : Subtrees (Unit {0}) A) → all_unmarked cs ≡ cs
     all_unmarked_plain no_child = refl
     all_unmarked_plain (child b t cs) = ap₂ (child b) (unmarked_plain t) (all_unmarked_plain cs)
 
@@ -64,7 +64,7 @@ module _ {N A : Type 0} where
       radix_children (leaf n x) place h = tt
       radix_children (inner n h cs) place (part, e, two, up, below) = (two, radix_children_below cs (place ++ part) below)
 
-      radix_children_below : (cs : Children N A) (front : List ℕ) → AreRadix bytes P front cs → HaveChildrenBelow 2 cs
+      radix_children_below : (cs : Subtrees N A) (front : List ℕ) → AreRadix bytes P front cs → HaveChildrenBelow 2 cs
       radix_children_below no_child front h = tt
       radix_children_below (child b t cs) front h = (radix_children t (front ++ b ∷ []) h.0, radix_children_below cs front h.1)
 
@@ -77,7 +77,7 @@ module _ {N A : Type 0} where
     one_child (leaf n x) h = tt
     one_child (inner n h cs) two = (let some = two.0 in omega arith, one_child_below cs two.1)
 
-    one_child_below : (cs : Children N A) → HaveChildrenBelow 2 cs → HaveChildrenBelow 1 cs
+    one_child_below : (cs : Subtrees N A) → HaveChildrenBelow 2 cs → HaveChildrenBelow 1 cs
     one_child_below no_child h = tt
     one_child_below (child b t cs) h = (one_child t h.0, one_child_below cs h.1)
 
@@ -86,7 +86,7 @@ module _ {N A : Type 0} where
     has_few_inner_nodes (leaf n x) h = omega arith
     has_few_inner_nodes (inner n h cs) two = let few = few_below cs two.1 in let some = two.0 in omega arith
 
-    few_below : (cs : Children N A) → HaveChildrenBelow 2 cs → length (inner_names_below cs) + length (bytes_of cs) ≤ length (leaf_names_below cs)
+    few_below : (cs : Subtrees N A) → HaveChildrenBelow 2 cs → length (inner_names_below cs) + length (bytes_of cs) ≤ length (leaf_names_below cs)
     few_below no_child h = omega arith
     few_below (child b t cs) h =
         let own = has_few_inner_nodes t h.0 in

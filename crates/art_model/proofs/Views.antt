@@ -11,7 +11,7 @@ use Rattle.art_nodes.specs.declared.node.LeafPtr.{LeafPtr}
 use Rattle.art_nodes.specs.declared.node.InnerPtr.{InnerPtr}
 use Rattle.art_nodes.specs.declared.node.OpaqueNodePtr.{OpaqueNodePtr}
 use Rattle.art_nodes.specs.declared.node.LeafNode.{LeafNode}
-use Rattle.art_model.specs.Trees.{Header}
+use Rattle.art_model.specs.Trees.{NodeHeader}
 use Rattle.art_model.specs.Layouts.{Node, leaf_node, inner_node}
 use Rattle.art_model.specs.Stores.{Held, held_leaf, held_inner, held_in, seen, node_at, header_at, pair_of}
 
@@ -21,7 +21,7 @@ module _ {K V : Type 0} where
   seen_leaf (Some leaf) x e = (leaf, refl, cc)
 
   -- a leaf is seen as no inner node
-  pub seen_no_inner : (o : Option (LeafNode K V)) (h : Header) (slots : List (ℕ × OpaqueNodePtr)) → option_map (seen Leaf) (option_map held_leaf o) ≡ Some (inner_node h slots) → ⊥
+  pub seen_no_inner : (o : Option (LeafNode K V)) (h : NodeHeader) (slots : List (ℕ × OpaqueNodePtr)) → option_map (seen Leaf) (option_map held_leaf o) ≡ Some (inner_node h slots) → ⊥
   seen_no_inner None h slots e = cc
   seen_no_inner (Some leaf) h slots e = cc
 
@@ -30,7 +30,7 @@ module _ {K V : Type 0} where
   seen_of kind o = option_map (seen kind) (option_map held_inner o)
 
   -- what is seen as an inner node is one
-  pub seen_inner : (kind : NodeType) (o : Option Inner) (h : Header) (slots : List (ℕ × OpaqueNodePtr)) → seen_of kind o ≡ Some (inner_node h slots) →
+  pub seen_inner : (kind : NodeType) (o : Option Inner) (h : NodeHeader) (slots : List (ℕ × OpaqueNodePtr)) → seen_of kind o ≡ Some (inner_node h slots) →
       (node : Inner) × (o ≡ Some node) × (header_at kind node ≡ h) × (node.children ≡ slots)
   seen_inner kind None h slots e = absurd cc
   seen_inner kind (Some node) h slots e = (node, refl, cc, cc)
@@ -67,11 +67,11 @@ module _ {K V : Type 0} (s : Nodes K V) where
   leaf_there p x e = seen_leaf (map.get s.leaves p) x e
 
   -- a leaf's name stands for no inner node
-  pub leaf_name_is : (p : LeafPtr) (h : Header) (slots : List (ℕ × OpaqueNodePtr)) → node_at s (leaf_name p) ≡ Some (inner_node h slots) → ⊥
+  pub leaf_name_is : (p : LeafPtr) (h : NodeHeader) (slots : List (ℕ × OpaqueNodePtr)) → node_at s (leaf_name p) ≡ Some (inner_node h slots) → ⊥
   leaf_name_is p h slots e = seen_no_inner (map.get s.leaves p) h slots e
 
   -- an inner node's name that stands for an inner node
-  pub inner_there : (p : InnerPtr) (h : Header) (slots : List (ℕ × OpaqueNodePtr)) → p.kind ≢ Leaf →
+  pub inner_there : (p : InnerPtr) (h : NodeHeader) (slots : List (ℕ × OpaqueNodePtr)) → p.kind ≢ Leaf →
       node_at s (inner_name p) ≡ Some (inner_node h slots) → (node : Inner) × (map.get s.inners p ≡ Some node) × (header_at p.kind node ≡ h) × (node.children ≡ slots)
   inner_there p h slots n e = seen_inner p.kind (map.get s.inners p) h slots (ap (option_map (seen p.kind)) (sym (held_in_inner p.kind p.slot n)) ∙ e)
 
@@ -79,7 +79,7 @@ module _ {K V : Type 0} (s : Nodes K V) where
   pub inner_name_is : (p : InnerPtr) (x : K × V) → p.kind ≢ Leaf → node_at s (inner_name p) ≡ Some (leaf_node x) → ⊥
   inner_name_is p x n e = seen_no_leaf p.kind (map.get s.inners p) x (ap (option_map (seen p.kind)) (sym (held_in_inner p.kind p.slot n)) ∙ e)
 
-  inner_used : (kind : NodeType) (slot : ℕ) (h : Header) (slots : List (ℕ × OpaqueNodePtr)) →
+  inner_used : (kind : NodeType) (slot : ℕ) (h : NodeHeader) (slots : List (ℕ × OpaqueNodePtr)) →
       option_map (seen kind) (held_in s kind slot) ≡ Some (inner_node h slots) → is_some (map.get s.inners (record { kind = kind; slot = slot })) ≡ true
   inner_used Leaf slot h slots e = absurd (seen_no_inner (map.get s.leaves (record { slot = slot })) h slots e)
   inner_used Node4 slot h slots e = rw (seen_inner Node4 (map.get s.inners (record { kind = Node4; slot = slot })) h slots e).1 refl
@@ -88,7 +88,7 @@ module _ {K V : Type 0} (s : Nodes K V) where
   inner_used Node256 slot h slots e = rw (seen_inner Node256 (map.get s.inners (record { kind = Node256; slot = slot })) h slots e).1 refl
 
   -- a name that stands for an inner node is one of the store's inner names
-  pub inner_is_used : (n : OpaqueNodePtr) (h : Header) (slots : List (ℕ × OpaqueNodePtr)) → node_at s n ≡ Some (inner_node h slots) →
+  pub inner_is_used : (n : OpaqueNodePtr) (h : NodeHeader) (slots : List (ℕ × OpaqueNodePtr)) → node_at s n ≡ Some (inner_node h slots) →
       is_some (map.get s.inners (record { kind = n.kind; slot = n.slot })) ≡ true
   inner_is_used n h slots e = inner_used n.kind n.slot h slots e
 

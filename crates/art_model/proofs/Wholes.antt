@@ -3,8 +3,8 @@ use Rattle.std.proofs.Common.{◌≡◌, ◌≢◌, ℕ, ◌+◌, ◌<◌, ◌�
 use Rattle.std.specs.List.{AllByRecursion as Each}
 use Rattle.art_nodes.specs.declared.node.NodeType.{NodeType}
 use Rattle.art_model.specs.Keys.{IsFront}
-use Rattle.art_model.specs.Trees.{Tree, leaf, inner, Children, child, no_child, Header, header_of}
-use Rattle.art_model.specs.Radix.{IsRadix, AreRadix, IsRising, bytes_of, join}
+use Rattle.art_model.specs.Trees.{Tree, leaf, inner, Subtrees, child, no_child, NodeHeader, canonical_header}
+use Rattle.art_model.specs.Radix.{IsRadix, AreRadix, BytesRise, bytes_of, join}
 use Rattle.art_model.specs.Pairs.{Pairwise}
 use Rattle.art_model.specs.Paths.{Frame, fill, plug, IsPath}
 use Rattle.art_model.specs.Places.{least_below, inner_nodes, inner_nodes_below}
@@ -40,14 +40,14 @@ module _ {N : Type 0} where
 
 module _ {N A : Type 0} (bytes : A → List ℕ) (P : ℕ) where
   -- the whole bytes of a node are its place and its whole prefix
-  pub whole_is : (h : Header) (place part : List ℕ) (n : ℕ) (cs : Children N A) → h ≡ header_of P part n → 2 ≤ length (bytes_of cs) →
+  pub whole_is : (h : NodeHeader) (place part : List ℕ) (n : ℕ) (cs : Subtrees N A) → h ≡ canonical_header P part n → 2 ≤ length (bytes_of cs) →
       AreRadix bytes P (place ++ part) cs → take (length place + h.length_of) (least_below bytes cs) ≡ place ++ part
   whole_is h place part n cs e two below =
       let l : length place + h.length_of ≡ length (place ++ part) = ap (λ z. length place + z) (ap (λ z. z.length_of) e) ∙ sym (length-append place part) in
       rw l (taken (place ++ part) (least_below bytes cs) (least_way_below bytes P cs (place ++ part) two below))
 
   -- the whole bytes go on after the front with the byte of a child
-  abbrev Under : List ℕ → Children N A → Entry N → Type 0
+  abbrev Under : List ℕ → Subtrees N A → Entry N → Type 0
   Under front cs e = (c : ℕ) × IsIn c (bytes_of cs) × IsFront (front ++ c ∷ []) e.1
 
   -- all begin with the place, and below a node they go on with the byte of a child
@@ -61,7 +61,7 @@ module _ {N A : Type 0} (bytes : A → List ℕ) (P : ℕ) where
           (whole_under cs (place ++ part) (length place + h.length_of + 1) (λ b. deeper place part b h.length_of (ap (λ z. z.length_of) e)) below),
     )
 
-    pub whole_under : (cs : Children N A) (front : List ℕ) (d : ℕ) → ((b : ℕ) → d ≡ length (front ++ b ∷ [])) → AreRadix bytes P front cs → Each (Under front cs) (inner_nodes_below bytes d cs)
+    pub whole_under : (cs : Subtrees N A) (front : List ℕ) (d : ℕ) → ((b : ℕ) → d ≡ length (front ++ b ∷ [])) → AreRadix bytes P front cs → Each (Under front cs) (inner_nodes_below bytes d cs)
     whole_under no_child front d e h = tt
     whole_under (child b t cs) front d e h = Each-append (Under front (child b t cs)) (inner_nodes bytes d t) (inner_nodes_below bytes d cs)
         (Each-weaker (λ e. IsFront (front ++ b ∷ []) e.1) (Under front (child b t cs)) (λ e f. (b, inl refl, f)) (inner_nodes bytes d t)
@@ -81,7 +81,7 @@ module _ {N A : Type 0} (bytes : A → List ℕ) (P : ℕ) where
           whole_differ_below cs (place ++ part) d depth up below,
         )
 
-    pub whole_differ_below : (cs : Children N A) (front : List ℕ) (d : ℕ) → ((b : ℕ) → d ≡ length (front ++ b ∷ [])) → IsRising (bytes_of cs) →
+    pub whole_differ_below : (cs : Subtrees N A) (front : List ℕ) (d : ℕ) → ((b : ℕ) → d ≡ length (front ++ b ∷ [])) → BytesRise (bytes_of cs) →
         AreRadix bytes P front cs → Pairwise Differ (inner_nodes_below bytes d cs)
     whole_differ_below no_child front d e up h = tt
     whole_differ_below (child b t cs) front d e up h =
@@ -96,7 +96,7 @@ module _ {N A : Type 0} (bytes : A → List ℕ) (P : ℕ) where
 
 module _ {N A : Type 0} (bytes : A → List ℕ) where
   -- inner nodes of joined children
-  pub inner_nodes_below-join : (d : ℕ) (cs ds : Children N A) → inner_nodes_below bytes d (join cs ds) ≡ inner_nodes_below bytes d cs ++ inner_nodes_below bytes d ds
+  pub inner_nodes_below-join : (d : ℕ) (cs ds : Subtrees N A) → inner_nodes_below bytes d (join cs ds) ≡ inner_nodes_below bytes d cs ++ inner_nodes_below bytes d ds
   inner_nodes_below-join d no_child ds = refl
   inner_nodes_below-join d (child b t cs) ds =
       ap (λ z. inner_nodes bytes d t ++ z) (inner_nodes_below-join d cs ds) ∙ sym (append_assoc (inner_nodes bytes d t) (inner_nodes_below bytes d cs) (inner_nodes_below bytes d ds))

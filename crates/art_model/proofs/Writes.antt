@@ -14,7 +14,7 @@ use Rattle.art_nodes.specs.declared.node.InnerPtr.{InnerPtr}
 use Rattle.art_nodes.specs.declared.node.OpaqueNodePtr.{OpaqueNodePtr}
 use Rattle.art_nodes.proofs.NameLemmas.{inner_cmp_total, inner_cmp-IsAntisymmetric}
 use Rattle.art_nodes.proofs.StoreLaws.{inner_changed_at, inner_changed_elsewhere}
-use Rattle.art_model.specs.Trees.{Header, header_of, kind_of}
+use Rattle.art_model.specs.Trees.{NodeHeader, canonical_header, kind_of}
 use Rattle.art_model.specs.Radix.{bytes_of}
 use Rattle.art_model.specs.Paths.{Frame, IsPath, HoldsPath}
 use Rattle.art_model.specs.Layouts.{Node, leaf_node, inner_node, slots_of}
@@ -45,7 +45,7 @@ module _ {K V : Type 0} (s : Nodes K V) where
   node_at-inner k off o e = ap (option_map (seen k.kind)) (held_in_inner s k.kind k.slot off ∙ ap (option_map held_inner) e)
 
   -- the inner node of the store where a tree sees one
-  pub inner_at : (k : OpaqueNodePtr) (h : Header) (slots : List (ℕ × OpaqueNodePtr)) → node_at s k ≡ Some (inner_node h slots) → (k.kind ≢ Leaf) ×
+  pub inner_at : (k : OpaqueNodePtr) (h : NodeHeader) (slots : List (ℕ × OpaqueNodePtr)) → node_at s k ≡ Some (inner_node h slots) → (k.kind ≢ Leaf) ×
       (node : Inner) × (get s.inners (as_inner k) ≡ Some node) × (header_at k.kind node ≡ h) × (node.children ≡ slots)
   inner_at k h slots e = elim (leaf_or k) [
     | inl (p, is) ↦ absurd (seen_no_inner (get s.leaves p) h slots (ap (node_at s) (sym is) ∙ e))
@@ -54,7 +54,7 @@ module _ {K V : Type 0} (s : Nodes K V) where
   ]
 
 -- an inner node as a tree sees it, by parts
-pub shown : {A : Type 0} {slots rest : List (ℕ × OpaqueNodePtr)} {g h : Header} → g ≡ h → slots ≡ rest → ◌≡◌ {A = Option (Node OpaqueNodePtr A)} (Some (inner_node g slots)) (Some (inner_node h rest))
+pub shown : {A : Type 0} {slots rest : List (ℕ × OpaqueNodePtr)} {g h : NodeHeader} → g ≡ h → slots ≡ rest → ◌≡◌ {A = Option (Node OpaqueNodePtr A)} (Some (inner_node g slots)) (Some (inner_node h rest))
 shown a e = cc
 
 module _ {K V : Type 0} (s t : Nodes K V) where
@@ -75,7 +75,7 @@ module _ {K V : Type 0} (s t : Nodes K V) where
   ]
 
 -- a header with the kind for another number of children
-pub header_with : (P : ℕ) (part : List ℕ) (n count : ℕ) (h : Header) → h ≡ header_of P part n → h.kind ≡ kind_of count → h ≡ header_of P part count
+pub header_with : (P : ℕ) (part : List ℕ) (n count : ℕ) (h : NodeHeader) → h ≡ canonical_header P part n → h.kind ≡ kind_of count → h ≡ canonical_header P part count
 header_with P part n count h e kind = λ i. record { kind = kind i; length_of = (e i).length_of; stored = (e i).stored }
 
 -- ---- the parent's child

@@ -2,7 +2,7 @@
 use Rattle.std.specs.Prelude.{◌≡◌, ℕ, List}
 use Rattle.std.specs.List.{AllZip}
 use Rattle.art_nodes.specs.Clones.{IsPairClone}
-use Rattle.art_model.specs.Trees.{Tree, leaf, inner, Children, child, no_child}
+use Rattle.art_model.specs.Trees.{Tree, leaf, inner, Subtrees, child, no_child}
 
 -- a clone of a key has the same bytes
 abbrev pub KeepBytes : {K : Type 0} → (K → List ℕ) → (K → K → Type 0) → Type 0
@@ -20,7 +20,7 @@ module _ {N A : Type 0} (IsClone : A → A → Type 0) where
     IsCopy (inner n h cs) (inner m g ds) = (g ≡ h) × AreCopies cs ds
     IsCopy tree other = ⊥
 
-    pub AreCopies : Children N A → Children N A → Type 0
+    pub AreCopies : Subtrees N A → Subtrees N A → Type 0
     AreCopies no_child no_child = Unit {0}
     AreCopies (child b t cs) (child c u ds) = (c ≡ b) × IsCopy t u × AreCopies cs ds
     AreCopies children others = ⊥

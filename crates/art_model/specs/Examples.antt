@@ -4,7 +4,7 @@ use Rattle.art_nodes.specs.declared.node.NodeType.{NodeType}
 use Rattle.art_nodes.specs.declared.node.NodeType.TheVariants.{Node4, Leaf}
 use Rattle.art_nodes.specs.declared.node.OpaqueNodePtr.{OpaqueNodePtr}
 use Rattle.art_model.specs.Pairs.{of_key}
-use Rattle.art_model.specs.Trees.{Tree, leaf, inner, Children, child, no_child, Header, tree_of}
+use Rattle.art_model.specs.Trees.{Tree, leaf, inner, Subtrees, child, no_child, NodeHeader, tree_of}
 use Rattle.art_model.specs.Layouts.{Node, leaf_node, inner_node, Links}
 
 -- a key
@@ -24,7 +24,7 @@ abbrev pub bytes_of_pair : Key × ℕ → Key
 bytes_of_pair = of_key (λ key. key)
 
 -- the header of a Node4 with this prefix length and these stored bytes
-abbrev pub of_length : ℕ → List ℕ → Header
+abbrev pub of_length : ℕ → List ℕ → NodeHeader
 of_length length_of stored = record { kind = Node4; length_of = length_of; stored = stored }
 
 -- a Node4 with two children
@@ -37,7 +37,7 @@ one_byte_keys zero first = []
 one_byte_keys (suc n) first = (first ∷ []) ∷ one_byte_keys n (first + 1)
 
 -- their leaves, each under its byte
-abbrev pub one_byte_leaves : ℕ → ℕ → Children (Unit {0}) Key
+abbrev pub one_byte_leaves : ℕ → ℕ → Subtrees (Unit {0}) Key
 one_byte_leaves zero first = no_child
 one_byte_leaves (suc n) first = child first (leaf tt (first ∷ [])) (one_byte_leaves n (first + 1))
 
@@ -98,15 +98,19 @@ leaf_at slot = record { kind = Leaf; slot = slot }
 abbrev pub pictured : Tree OpaqueNodePtr Key
 pictured =
     inner (node4 0) (of_length 0 [])
-    (child 105 (inner (node4 1) (of_length 4 (110 ∷ 116 ∷ [])) (child 97 (leaf (leaf_at 2) interact) (child 101 (leaf (leaf_at 0) interest) no_child)))
+    (child 105 (inner (node4 1) (of_length 4 (110 ∷ 116 ∷ []))
+    (child 97 (leaf (leaf_at 2) interact) (child 101 (leaf (leaf_at 0) interest) no_child)))
     (child 107 (leaf (leaf_at 5) kit) no_child))
 
 -- its nodes by kind and slot
 abbrev pub pictured_in : NodeType → ℕ → Option (Node OpaqueNodePtr Key)
 pictured_in Node4 slot =
     cond (eqb slot 0) (Some (inner_node (of_length 0 []) ((105, node4 1) ∷ (107, leaf_at 5) ∷ [])))
-    (cond (eqb slot 1) (Some (inner_node (of_length 4 (110 ∷ 116 ∷ [])) ((97, leaf_at 2) ∷ (101, leaf_at 0) ∷ []))) None)
-pictured_in Leaf slot = cond (eqb slot 2) (Some (leaf_node interact)) (cond (eqb slot 0) (Some (leaf_node interest)) (cond (eqb slot 5) (Some (leaf_node kit)) None))
+    (cond (eqb slot 1)
+    (Some (inner_node (of_length 4 (110 ∷ 116 ∷ [])) ((97, leaf_at 2) ∷ (101, leaf_at 0) ∷ []))) None)
+pictured_in Leaf slot =
+    cond (eqb slot 2) (Some (leaf_node interact))
+    (cond (eqb slot 0) (Some (leaf_node interest)) (cond (eqb slot 5) (Some (leaf_node kit)) None))
 pictured_in kind slot = None
 
 -- the nodes under its names

@@ -10,7 +10,7 @@ use Rattle.art_nodes.specs.declared.node.NodeType.{NodeType}
 use Rattle.art_nodes.specs.declared.node.OpaqueNodePtr.{OpaqueNodePtr}
 use Rattle.art_model.specs.Keys.{IsFront}
 use Rattle.art_model.specs.Pairs.{first_of, last_of}
-use Rattle.art_model.specs.Trees.{Tree, Header}
+use Rattle.art_model.specs.Trees.{Tree, NodeHeader}
 use Rattle.art_model.specs.Layouts.{leaf_node, inner_node, Links, AreDistinct, leaf_names, IsLayout}
 use Rattle.art_model.specs.Stores.{node_at, links_at}
 use Rattle.art_model.specs.Trails.{bottom_of, way_of, IsDescent, HasPrefix, IsReached}
@@ -42,7 +42,7 @@ module _ {K V : Type 0} (bytes : K × V → List ℕ) (P : ℕ) (s : Nodes K V) 
   Reaches place name = IsReached (node_at s) bytes P root place name
 
   -- it ends at an inner node
-  abbrev pub ReachesInner : List ℕ → OpaqueNodePtr → Header → List (ℕ × OpaqueNodePtr) → Type 0
+  abbrev pub ReachesInner : List ℕ → OpaqueNodePtr → NodeHeader → List (ℕ × OpaqueNodePtr) → Type 0
   ReachesInner place name h slots = Reaches place name × (node_at s name ≡ Some (inner_node h slots))
 
   -- it ends at a leaf
@@ -52,57 +52,71 @@ module _ {K V : Type 0} (bytes : K × V → List ℕ) (P : ℕ) (s : Nodes K V) 
   -- the leaf names this sibling, which is to come before it or after it
   abbrev pub HasSibling : OpaqueNodePtr → Ordering → OpaqueNodePtr → Type 0
   HasSibling leaf order sibling =
-      (links : Links OpaqueNodePtr) × (links_at s leaf ≡ Some links) × (((order ≡ Less) × (links.previous ≡ Some sibling)) ⊎ ((order ≡ Greater) × (links.next ≡ Some sibling)))
+      (links : Links OpaqueNodePtr) × (links_at s leaf ≡ Some links) ×
+      (((order ≡ Less) × (links.previous ≡ Some sibling)) ⊎ ((order ≡ Greater) × (links.next ≡ Some sibling)))
 
   -- two different ways end at the name
   abbrev pub IsLoop : OpaqueNodePtr → List ℕ → List ℕ → Type 0
-  IsLoop name first later = (one : Reaches first name) × (other : Reaches later name) × (way_of one.steps ≢ way_of other.steps)
+  IsLoop name first later =
+      (one : Reaches first name) × (other : Reaches later name) × (way_of one.steps ≢ way_of other.steps)
 
   -- the inner node at the place has so many children, fewer than its kind may have; more than its kind has room for it never has
   abbrev pub HasWrongCount : List ℕ → NodeType → ℕ → Type 0
   HasWrongCount place kind n =
-      (name : OpaqueNodePtr) × (h : Header) × (slots : List (ℕ × OpaqueNodePtr)) × ReachesInner place name h slots × (h.kind ≡ kind) × (length slots ≡ n) × (n < kind_least kind)
+      (name : OpaqueNodePtr) × (h : NodeHeader) × (slots : List (ℕ × OpaqueNodePtr)) ×
+      ReachesInner place name h slots × (h.kind ≡ kind) × (length slots ≡ n) × (n < kind_least kind)
 
   -- the leaf at the place has this key, which does not begin with the place
   abbrev pub HasForeignKey : List ℕ → List ℕ → Type 0
-  HasForeignKey place key = (name : OpaqueNodePtr) × (x : K × V) × ReachesLeaf place name x × (bytes x ≡ key) × (IsFront place key → ⊥)
+  HasForeignKey place key =
+      (name : OpaqueNodePtr) × (x : K × V) × ReachesLeaf place name x × (bytes x ≡ key) × (IsFront place key → ⊥)
 
   -- a leaf names a sibling whose key is not where it should be
   abbrev pub HasWrongOrder : List ℕ → List ℕ → Ordering → Ordering → Type 0
   HasWrongOrder sibling_key leaf_key expected actual =
-      (place : List ℕ) × (name sibling : OpaqueNodePtr) × (x y : K × V) × ReachesLeaf place name x × HasSibling name expected sibling × (node_at s sibling ≡ Some (leaf_node y))
-      × (bytes y ≡ sibling_key) × (bytes x ≡ leaf_key) × (slice_cmp nat_cmp sibling_key leaf_key ≡ actual) × (actual ≢ expected)
+      (place : List ℕ) × (name sibling : OpaqueNodePtr) × (x y : K × V) × ReachesLeaf place name x ×
+      HasSibling name expected sibling × (node_at s sibling ≡ Some (leaf_node y))
+      × (bytes y ≡ sibling_key) × (bytes x ≡ leaf_key) × (slice_cmp nat_cmp sibling_key leaf_key ≡ actual) ×
+      (actual ≢ expected)
 
   -- the root stands for a tree, and a leaf of it has other links than its neighbours in the order of the tree's leaves
   abbrev pub HasWrongLinks : List ℕ → Links OpaqueNodePtr → Links OpaqueNodePtr → Type 0
   HasWrongLinks leaf_key expected actual =
-      (layout : Tree OpaqueNodePtr (K × V)) × (before after : List OpaqueNodePtr) × (name : OpaqueNodePtr) × (x : K × V) ×
+      (layout : Tree OpaqueNodePtr (K × V)) × (before after : List OpaqueNodePtr) × (name : OpaqueNodePtr) ×
+      (x : K × V) ×
       IsLayout (node_at s) root layout × (leaf_names layout ≡ before ++ name ∷ after)
-      × (node_at s name ≡ Some (leaf_node x)) × (bytes x ≡ leaf_key) × (expected ≡ record { previous = last_of before; next = first_of after }) × (links_at s name ≡ Some actual) × (actual ≢ expected)
+      × (node_at s name ≡ Some (leaf_node x)) × (bytes x ≡ leaf_key) ×
+      (expected ≡ record { previous = last_of before; next = first_of after }) ×
+      (links_at s name ≡ Some actual) × (actual ≢ expected)
 
   -- the name leads nowhere: it is met at the place, or as a sibling of the leaf there
   abbrev pub IsDead : List ℕ → OpaqueNodePtr → Type 0
-  IsDead place name = (node_at s name ≡ None) × (Reaches place name ⊎ ((leaf : OpaqueNodePtr) × (x : K × V) × (order : Ordering) × ReachesLeaf place leaf x × HasSibling leaf order name))
+  IsDead place name =
+      (node_at s name ≡ None) ×
+      (Reaches place name ⊎ ((leaf : OpaqueNodePtr) × (x : K × V) × (order : Ordering) ×
+      ReachesLeaf place leaf x × HasSibling leaf order name))
 
   -- a descent that ends at no leaf whose key has so many bytes: at a dead name, at a node without children, at a name that it met before, or at a leaf with a shorter key
   abbrev pub EndsBadly : OpaqueNodePtr → List OpaqueNodePtr → ℕ → Type 0
   EndsBadly name ns needed =
       (node_at s (bottom_of name ns) ≡ None)
-      ⊎ (((h : Header) × (node_at s (bottom_of name ns) ≡ Some (inner_node h [])))
+      ⊎ (((h : NodeHeader) × (node_at s (bottom_of name ns) ≡ Some (inner_node h [])))
       ⊎ ((AreDistinct (name ∷ ns) → ⊥)
       ⊎ ((x : K × V) × (node_at s (bottom_of name ns) ≡ Some (leaf_node x)) × (length (bytes x) < needed))))
 
   -- the prefix of the inner node at the place is longer than what can be stored, and can't be read from a leaf
   abbrev pub IsUnreadable : List ℕ → OpaqueNodePtr → Type 0
   IsUnreadable place name =
-      (h : Header) × (slots : List (ℕ × OpaqueNodePtr)) × ReachesInner place name h slots × (P < h.length_of)
+      (h : NodeHeader) × (slots : List (ℕ × OpaqueNodePtr)) × ReachesInner place name h slots × (P < h.length_of)
       × ((ns : List OpaqueNodePtr) × IsDescent (node_at s) name ns × EndsBadly name ns (length place + h.length_of))
 
   -- the inner node at the place has a prefix longer than what can be stored, and stores other bytes than its least leaf has there
   abbrev pub StoresOthers : List ℕ → List ℕ → List ℕ → Type 0
   StoresOthers place stored actual =
-      (name : OpaqueNodePtr) × (h : Header) × (slots : List (ℕ × OpaqueNodePtr)) × ReachesInner place name h slots × (P < h.length_of)
-      × ((part : List ℕ) × HasPrefix (node_at s) bytes P (length place) name part × (h.stored ≡ stored) × (take (length stored) part ≡ actual) × (actual ≢ stored))
+      (name : OpaqueNodePtr) × (h : NodeHeader) × (slots : List (ℕ × OpaqueNodePtr)) ×
+      ReachesInner place name h slots × (P < h.length_of)
+      × ((part : List ℕ) × HasPrefix (node_at s) bytes P (length place) name part × (h.stored ≡ stored) ×
+      (take (length stored) part ≡ actual) × (actual ≢ stored))
 
   -- The fault is there. Want of memory says nothing of the tree, and with a root no length is wrong.
   abbrev pub IsTrueOf : Fault → Type 0
@@ -110,7 +124,8 @@ module _ {K V : Type 0} (bytes : K × V → List ℕ) (P : ℕ) (s : Nodes K V) 
   IsTrueOf (wrong_children_count place kind n) = HasWrongCount place kind n
   IsTrueOf (prefix_mismatch place key) = HasForeignKey place key
   IsTrueOf empty_tree_with_len = ⊥
-  IsTrueOf (leaf_sibling_wrong_order sibling_key leaf_key expected actual) = HasWrongOrder sibling_key leaf_key expected actual
+  IsTrueOf (leaf_sibling_wrong_order sibling_key leaf_key expected actual) =
+      HasWrongOrder sibling_key leaf_key expected actual
   IsTrueOf (wrong_sibling_links leaf_key expected actual) = HasWrongLinks leaf_key expected actual
   IsTrueOf (dead_name place name) = IsDead place name
   IsTrueOf (unreadable_prefix place name) = IsUnreadable place name

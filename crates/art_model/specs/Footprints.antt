@@ -15,13 +15,17 @@ pub record Footprint {K V : Type 0} (old new : Nodes K V) (placed freed changed 
   pub are_placed : Each (λ name. (held old name ≡ None) × IsUsed new name) placed
   pub are_freed : Each (λ name. IsUsed old name × (held new name ≡ None)) freed
   pub are_changed : Each (λ name. IsUsed old name × IsUsed new name) changed
-  pub others : (name : OpaqueNodePtr) → (IsIn name placed → ⊥) → (IsIn name freed → ⊥) → (IsIn name changed → ⊥) → held new name ≡ held old name
+  pub others : (name : OpaqueNodePtr) → (IsIn name placed → ⊥) → (IsIn name freed → ⊥) →
+      (IsIn name changed → ⊥) → held new name ≡ held old name
 
 -- at most so many names are placed, freed and changed
 abbrev pub TouchesAtMost : {K V : Type 0} → ℕ → ℕ → ℕ → Nodes K V → Nodes K V → Type 0
 TouchesAtMost most_placed most_freed most_changed old new =
-    (placed freed changed : List OpaqueNodePtr) × Footprint old new placed freed changed × (length placed ≤ most_placed) × (length freed ≤ most_freed) × (length changed ≤ most_changed)
+    (placed freed changed : List OpaqueNodePtr) × Footprint old new placed freed changed ×
+    (length placed ≤ most_placed) × (length freed ≤ most_freed) × (length changed ≤ most_changed)
 
 -- one name is placed, these and no others are freed, and at most so many are changed
 abbrev pub PlacesOneFor : {K V : Type 0} → List OpaqueNodePtr → ℕ → Nodes K V → Nodes K V → Type 0
-PlacesOneFor freed most_changed old new = (placed : OpaqueNodePtr) × (changed : List OpaqueNodePtr) × Footprint old new (placed ∷ []) freed changed × (length changed ≤ most_changed)
+PlacesOneFor freed most_changed old new =
+    (placed : OpaqueNodePtr) × (changed : List OpaqueNodePtr) ×
+    Footprint old new (placed ∷ []) freed changed × (length changed ≤ most_changed)

@@ -1,4 +1,4 @@
--- What a store gains or loses as a whole: a tree under names that nothing else has.
+-- What a store gains or loses as a whole: a tree under names that nothing else has. No public clause cites this module.
 use Rattle.std.specs.Prelude.{◌≡◌, List, [], ◌∷◌, None}
 use Rattle.std.specs.Prelude.{map as list_map}
 use Rattle.std.specs.FinMap as map

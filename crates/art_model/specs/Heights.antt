@@ -1,7 +1,7 @@
 -- The height of a tree is the number of inner nodes on its longest way down; it can be read off a store within a number of steps.
 use Rattle.std.specs.Prelude.{ℕ, zero, suc, max, List, [], ◌∷◌, Option, Some, None}
 use Rattle.art_model.specs.Layouts.{Node, leaf_node, inner_node}
-use Rattle.art_model.specs.Trees.{Tree, leaf, inner, Children, child, no_child}
+use Rattle.art_model.specs.Trees.{Tree, leaf, inner, Subtrees, child, no_child}
 
 module _ {N A : Type 0} where
   -- the height of a tree
@@ -10,7 +10,7 @@ module _ {N A : Type 0} where
     tree_height (leaf n x) = 0
     tree_height (inner n h cs) = suc (height_below cs)
 
-    pub height_below : Children N A → ℕ
+    pub height_below : Subtrees N A → ℕ
     height_below no_child = 0
     height_below (child b t cs) = max (tree_height t) (height_below cs)
 

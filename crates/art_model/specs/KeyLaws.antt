@@ -9,7 +9,8 @@ IsProperFront a b = (byte : ℕ) × (rest : List ℕ) × (b ≡ a ++ byte ∷ re
 
 -- after a common front the first key has the smaller byte
 abbrev pub HasSmallerByte : List ℕ → List ℕ → Type 0
-HasSmallerByte a b = (front : List ℕ) × (x y : ℕ) × (r s : List ℕ) × (a ≡ front ++ x ∷ r) × (b ≡ front ++ y ∷ s) × (x < y)
+HasSmallerByte a b =
+    (front : List ℕ) × (x y : ℕ) × (r s : List ℕ) × (a ≡ front ++ x ∷ r) × (b ≡ front ++ y ∷ s) × (x < y)
 
 abbrev pub FrontsAreDecided : Type 0
 FrontsAreDecided = (a b : List ℕ) → Decides (is_front a b) (IsFront a b)
@@ -36,4 +37,6 @@ OrderIsTotal = (a b : List ℕ) → (is_before a b ≡ true) ⊎ ((a ≡ b) ⊎ 
 
 -- the common front is a front of both keys, and every other such front is a front of it
 abbrev pub CommonFrontIsLongest : Type 0
-CommonFrontIsLongest = (a b : List ℕ) → IsFront (common_front a b) a × IsFront (common_front a b) b × ((front : List ℕ) → IsFront front a → IsFront front b → IsFront front (common_front a b))
+CommonFrontIsLongest =
+    (a b : List ℕ) → IsFront (common_front a b) a × IsFront (common_front a b) b ×
+    ((front : List ℕ) → IsFront front a → IsFront front b → IsFront front (common_front a b))

@@ -1,13 +1,13 @@
 -- What a name stands for. A layout is a tree whose marks are names: it says which node is under which name.
 use Rattle.std.specs.Prelude.{◌≡◌, ◌≢◌, ℕ, List, [], ◌∷◌, ◌++◌, Option, Some}
 use Rattle.art_model.specs.Pairs.{Pairwise}
-use Rattle.art_model.specs.Trees.{Tree, leaf, inner, Children, child, no_child, Header}
+use Rattle.art_model.specs.Trees.{Tree, leaf, inner, Subtrees, child, no_child, NodeHeader}
 use Rattle.art_model.specs.Radix.{unmarked}
 
 -- a node as a tree sees it: a leaf is its pair, and an inner node its header and the names of its children
 pub data Node (N A : Type 0) : Type 0 where
   leaf_node : A → Node N A
-  inner_node : Header → List (ℕ × N) → Node N A
+  inner_node : NodeHeader → List (ℕ × N) → Node N A
 
 -- the names of the leaves before and after a leaf
 pub record Links (N : Type 0) : Type 0 where
@@ -25,7 +25,7 @@ module _ {N A : Type 0} where
   name_of (inner n h cs) = n
 
   -- the bytes and names of children
-  abbrev pub slots_of : Children N A → List (ℕ × N)
+  abbrev pub slots_of : Subtrees N A → List (ℕ × N)
   slots_of no_child = []
   slots_of (child b t cs) = (b, name_of t) ∷ slots_of cs
 
@@ -35,7 +35,7 @@ module _ {N A : Type 0} where
     names_of (leaf n x) = n ∷ []
     names_of (inner n h cs) = n ∷ names_below cs
 
-    pub names_below : Children N A → List N
+    pub names_below : Subtrees N A → List N
     names_below no_child = []
     names_below (child b t cs) = names_of t ++ names_below cs
 
@@ -45,19 +45,19 @@ module _ {N A : Type 0} where
     leaf_names (leaf n x) = n ∷ []
     leaf_names (inner n h cs) = leaf_names_below cs
 
-    pub leaf_names_below : Children N A → List N
+    pub leaf_names_below : Subtrees N A → List N
     leaf_names_below no_child = []
     leaf_names_below (child b t cs) = leaf_names t ++ leaf_names_below cs
 
   -- the pairs and names of the leaves, in order
   abbrev mutual
-    pub leaves_of : Tree N A → List (A × N)
-    leaves_of (leaf n x) = (x, n) ∷ []
-    leaves_of (inner n h cs) = leaves_below cs
+    pub entries_of : Tree N A → List (A × N)
+    entries_of (leaf n x) = (x, n) ∷ []
+    entries_of (inner n h cs) = entries_below cs
 
-    pub leaves_below : Children N A → List (A × N)
-    leaves_below no_child = []
-    leaves_below (child b t cs) = leaves_of t ++ leaves_below cs
+    pub entries_below : Subtrees N A → List (A × N)
+    entries_below no_child = []
+    entries_below (child b t cs) = entries_of t ++ entries_below cs
 
   -- the names of the inner nodes
   abbrev mutual
@@ -65,7 +65,7 @@ module _ {N A : Type 0} where
     inner_names (leaf n x) = []
     inner_names (inner n h cs) = n ∷ inner_names_below cs
 
-    pub inner_names_below : Children N A → List N
+    pub inner_names_below : Subtrees N A → List N
     inner_names_below no_child = []
     inner_names_below (child b t cs) = inner_names t ++ inner_names_below cs
 
@@ -75,7 +75,7 @@ module _ {N A : Type 0} where
     shape_of (leaf n x) = leaf n tt
     shape_of (inner n h cs) = inner n h (shape_below cs)
 
-    pub shape_below : Children N A → Children N (Unit {0})
+    pub shape_below : Subtrees N A → Subtrees N (Unit {0})
     shape_below no_child = no_child
     shape_below (child b t cs) = child b (shape_of t) (shape_below cs)
 
@@ -85,7 +85,7 @@ module _ {N A : Type 0} where
     Holds at (leaf n x) = at n ≡ Some (leaf_node x)
     Holds at (inner n h cs) = (at n ≡ Some (inner_node h (slots_of cs))) × HoldsBelow at cs
 
-    pub HoldsBelow : (N → Option (Node N A)) → Children N A → Type 0
+    pub HoldsBelow : (N → Option (Node N A)) → Subtrees N A → Type 0
     HoldsBelow at no_child = Unit {0}
     HoldsBelow at (child b t cs) = Holds at t × HoldsBelow at cs
 
@@ -113,4 +113,5 @@ module _ {N : Type 0} where
   -- each leaf of the list names the one before it and the one after it, between a leaf before the list and one after it
   abbrev pub AreLinked : (N → Option (Links N)) → Option N → List N → Option N → Type 0
   AreLinked links before [] after = Unit {0}
-  AreLinked links before (n ∷ ns) after = (links n ≡ Some (record { previous = before; next = first_or ns after })) × AreLinked links (Some n) ns after
+  AreLinked links before (n ∷ ns) after =
+      (links n ≡ Some (record { previous = before; next = first_or ns after })) × AreLinked links (Some n) ns after

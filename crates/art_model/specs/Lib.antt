@@ -1,30 +1,36 @@
+-- keys, maps of pairs, and their changes
 pub mod Keys
+pub mod KeyLaws
 pub mod Pairs
+pub mod MapLaws
+pub mod Changes
+pub mod Clones
+-- the tree of a map, its places and its paths
 pub mod Trees
 pub mod Radix
+pub mod TreeLaws
+pub mod Heights
+pub mod Places
+pub mod PlaceLaws
+pub mod Paths
+-- trees under the names of a store
 pub mod Layouts
 pub mod Segments
 pub mod ByCases
 pub mod Stores
-pub mod Writes
 pub mod Canonical
-pub mod Paths
-pub mod Places
-pub mod Heights
-pub mod Trails
-pub mod Faults
-pub mod Footprints
-pub mod Kept
-pub mod Promises
-pub mod TreeLaws
 pub mod StoreLaws
-pub mod Examples
-pub mod KeyLaws
-pub mod Changes
-pub mod MapLaws
-pub mod PlaceLaws
 pub mod Roots
 pub mod Lookups
-pub mod Clones
+-- what changes a store, and what a change keeps, touches and takes of a promise
+pub mod Writes
 pub mod Gains
+pub mod Kept
+pub mod Footprints
+pub mod Promises
+-- what may be wrong with a store
+pub mod Trails
+pub mod Faults
+-- examples
+pub mod Examples
 pub mod FaultExamples

@@ -10,17 +10,24 @@ use Rattle.art_model.specs.Pairs.{first_of, last_of, match_of}
 use Rattle.art_model.specs.Paths.{Frame, plug}
 use Rattle.art_model.specs.Places.{places}
 
--- the tree has the leaf of this pair under this name
-abbrev pub HasLeaf : {N A : Type 0} → Tree N A → N → A → Type 0
-HasLeaf {N} {A} tree name x = (path : List (Frame N A)) × (plug path (leaf name x) ≡ tree)
+-- The tree has the leaf of this pair under this name.
+pub record HasLeaf {N A : Type 0} (tree : Tree N A) (name : N) (x : A) : Type 0 where
+  pub path : List (Frame N A)
+  pub whole : plug path (leaf name x) ≡ tree
 
--- the tree's first leaf has this name, and the first pair
-abbrev pub HasFirstLeaf : {N A : Type 0} → Tree N A → N → Type 0
-HasFirstLeaf {N} {A} tree name = (first_of (leaf_names tree) ≡ Some name) × ((x : A) × (first_of (pairs_of tree) ≡ Some x) × HasLeaf tree name x)
+-- The tree's first leaf has this name, and the first pair.
+pub record HasFirstLeaf {N A : Type 0} (tree : Tree N A) (name : N) : Type 0 where
+  pub name_is : first_of (leaf_names tree) ≡ Some name
+  pub pair : A
+  pub pair_is : first_of (pairs_of tree) ≡ Some pair
+  pub has : HasLeaf tree name pair
 
--- the tree's last leaf has this name, and the last pair
-abbrev pub HasLastLeaf : {N A : Type 0} → Tree N A → N → Type 0
-HasLastLeaf {N} {A} tree name = (last_of (leaf_names tree) ≡ Some name) × ((x : A) × (last_of (pairs_of tree) ≡ Some x) × HasLeaf tree name x)
+-- The tree's last leaf has this name, and the last pair.
+pub record HasLastLeaf {N A : Type 0} (tree : Tree N A) (name : N) : Type 0 where
+  pub name_is : last_of (leaf_names tree) ≡ Some name
+  pub pair : A
+  pub pair_is : last_of (pairs_of tree) ≡ Some pair
+  pub has : HasLeaf tree name pair
 
 -- the leaf of the only pair of the list is found, or none where there is no pair
 abbrev pub FindsLeaf : {A : Type 0} → Tree OpaqueNodePtr A → List A → Option LeafPtr → Type 0

@@ -27,86 +27,114 @@ module _ {A : Type 0} (bytes : A → List ℕ) where
 
   -- maps in which the same is found under every key are the same
   abbrev pub MapsAreWhatIsFound : Type 0
-  MapsAreWhatIsFound = (pairs others : List A) → IsMap bytes pairs → IsMap bytes others → ((key : List ℕ) → with_key bytes key others ≡ with_key bytes key pairs) → others ≡ pairs
+  MapsAreWhatIsFound =
+      (pairs others : List A) → IsMap bytes pairs → IsMap bytes others →
+      ((key : List ℕ) → with_key bytes key others ≡ with_key bytes key pairs) → others ≡ pairs
 
   -- whether no pair has a key
   abbrev pub KeysAreDecided : Type 0
-  KeysAreDecided = (key : List ℕ) (pairs : List A) → Decides (not (has_key bytes key pairs)) (Each (λ x. key ≢ bytes x) pairs)
+  KeysAreDecided =
+      (key : List ℕ) (pairs : List A) → Decides (not (has_key bytes key pairs)) (Each (λ x. key ≢ bytes x) pairs)
 
   -- whether every related key is equal
   abbrev pub ConflictsAreDecided : Type 0
-  ConflictsAreDecided = (key : List ℕ) (pairs : List A) → Decides (not (is_conflict bytes key pairs)) (Each (λ x. are_related key (bytes x) ≡ true → key ≡ bytes x) pairs)
+  ConflictsAreDecided =
+      (key : List ℕ) (pairs : List A) →
+      Decides (not (is_conflict bytes key pairs)) (Each (λ x. are_related key (bytes x) ≡ true → key ≡ bytes x) pairs)
 
   -- ---- removals
 
   -- after a removal nothing is found under the key, and what was found before under every other key
   abbrev pub RemovedIsGone : Type 0
-  RemovedIsGone = (key gone : List ℕ) (pairs : List A) → with_key bytes key (remove_key bytes gone pairs) ≡ cond (are_same key gone) [] (with_key bytes key pairs)
+  RemovedIsGone =
+      (key gone : List ℕ) (pairs : List A) → with_key bytes key (remove_key bytes gone pairs) ≡
+      cond (are_same key gone) [] (with_key bytes key pairs)
 
   -- to remove the first pair of a map is to remove its key
   abbrev pub FirstIsRemovedByKey : Type 0
-  FirstIsRemovedByKey = (x : A) (pairs : List A) → IsMap bytes (x ∷ pairs) → remove_key bytes (bytes x) (x ∷ pairs) ≡ pairs
+  FirstIsRemovedByKey =
+      (x : A) (pairs : List A) → IsMap bytes (x ∷ pairs) → remove_key bytes (bytes x) (x ∷ pairs) ≡ pairs
 
   -- to remove the last pair of a map is to remove its key
   abbrev pub LastIsRemovedByKey : Type 0
-  LastIsRemovedByKey = (x : A) (pairs : List A) → IsMap bytes pairs → last_of pairs ≡ Some x → remove_key bytes (bytes x) pairs ≡ without_last pairs
+  LastIsRemovedByKey =
+      (x : A) (pairs : List A) → IsMap bytes pairs → last_of pairs ≡ Some x →
+      remove_key bytes (bytes x) pairs ≡ without_last pairs
 
   -- the reply of a removal is what was found under the key
   abbrev pub RemovalTells : Type 0
-  RemovalTells = (key : List ℕ) (pairs : List A) → IsMap bytes pairs → with_key bytes key pairs ≡ cons_option (remove_reply bytes key pairs) []
+  RemovalTells =
+      (key : List ℕ) (pairs : List A) → IsMap bytes pairs → with_key bytes key pairs ≡
+      cons_option (remove_reply bytes key pairs) []
 
   -- the pairs with the key go
   abbrev pub RemovalCounts : Type 0
-  RemovalCounts = (key : List ℕ) (pairs : List A) → length (remove_key bytes key pairs) + length (with_key bytes key pairs) ≡ length pairs
+  RemovalCounts =
+      (key : List ℕ) (pairs : List A) →
+      length (remove_key bytes key pairs) + length (with_key bytes key pairs) ≡ length pairs
 
 module _ {K : Type 0} (V : Type 0) (bytes : K → List ℕ) where
   -- ---- what changes leave
 
   -- a map stays a map
   abbrev pub MapsStayMaps : Type 0
-  MapsStayMaps = (changes : List (Change (K × V))) (pairs : List (K × V)) → IsMap (of_key bytes) pairs → IsMap (of_key bytes) (after (of_key bytes) changes pairs)
+  MapsStayMaps =
+      (changes : List (Change (K × V))) (pairs : List (K × V)) → IsMap (of_key bytes) pairs →
+      IsMap (of_key bytes) (after (of_key bytes) changes pairs)
 
   -- after a put its value is found under its key, with the key that is stored, and what was found before under every other key
   abbrev pub PutIsFound : Type 0
   PutIsFound = (key : List ℕ) (new : K × V) (pairs : List (K × V)) →
-      with_key (of_key bytes) key (put (of_key bytes) new pairs) ≡ cond (are_same key (bytes new.0)) (stored_for (of_key bytes) new pairs ∷ []) (with_key (of_key bytes) key pairs)
+      with_key (of_key bytes) key (put (of_key bytes) new pairs) ≡
+      cond (are_same key (bytes new.0)) (stored_for (of_key bytes) new pairs ∷ []) (with_key (of_key bytes) key pairs)
 
   -- after an overwrite of a map it is so too, but nothing is found under a related key
   abbrev pub OverwriteIsFound : Type 0
   OverwriteIsFound = (key : List ℕ) (new : K × V) (pairs : List (K × V)) → IsMap (of_key bytes) pairs →
       with_key (of_key bytes) key (overwrite (of_key bytes) new pairs)
-      ≡ cond (are_same key (bytes new.0)) (stored_for (of_key bytes) new pairs ∷ []) (cond (are_related key (bytes new.0)) [] (with_key (of_key bytes) key pairs))
+      ≡ cond (are_same key (bytes new.0)) (stored_for (of_key bytes) new pairs ∷ [])
+      (cond (are_related key (bytes new.0)) [] (with_key (of_key bytes) key pairs))
 
   -- where no key is related to the new one, its removal undoes the put
   abbrev pub PutIsUndone : Type 0
-  PutIsUndone = (new : K × V) (pairs : List (K × V)) → related_to (of_key bytes) (bytes new.0) pairs ≡ [] → remove_key (of_key bytes) (bytes new.0) (put (of_key bytes) new pairs) ≡ pairs
+  PutIsUndone =
+      (new : K × V) (pairs : List (K × V)) → related_to (of_key bytes) (bytes new.0) pairs ≡ [] →
+      remove_key (of_key bytes) (bytes new.0) (put (of_key bytes) new pairs) ≡ pairs
 
   -- ---- which key is stored
 
   -- where an equal key is stored that key stays, with the new value
   abbrev pub StoredKeyStays : Type 0
-  StoredKeyStays = (new old : K × V) (pairs : List (K × V)) → with_key (of_key bytes) (bytes new.0) pairs ≡ old ∷ [] → stored_for (of_key bytes) new pairs ≡ (old.0, new.1)
+  StoredKeyStays =
+      (new old : K × V) (pairs : List (K × V)) → with_key (of_key bytes) (bytes new.0) pairs ≡ old ∷ [] →
+      stored_for (of_key bytes) new pairs ≡ (old.0, new.1)
 
   -- where none is the new pair comes as it is
   abbrev pub NewKeyComes : Type 0
-  NewKeyComes = (new : K × V) (pairs : List (K × V)) → with_key (of_key bytes) (bytes new.0) pairs ≡ [] → stored_for (of_key bytes) new pairs ≡ new
+  NewKeyComes =
+      (new : K × V) (pairs : List (K × V)) → with_key (of_key bytes) (bytes new.0) pairs ≡ [] →
+      stored_for (of_key bytes) new pairs ≡ new
 
   -- so a put of an equal key leaves all keys of a map as they are, each in its place
   abbrev pub PutKeepsKeys : Type 0
-  PutKeepsKeys = (new : K × V) (pairs : List (K × V)) → IsMap (of_key bytes) pairs → has_key (of_key bytes) (bytes new.0) pairs ≡ true →
+  PutKeepsKeys =
+      (new : K × V) (pairs : List (K × V)) → IsMap (of_key bytes) pairs →
+      has_key (of_key bytes) (bytes new.0) pairs ≡ true →
       map (λ x. x.0) (put (of_key bytes) new pairs) ≡ map (λ x. x.0) pairs
 
   -- and an overwrite of an equal key is that put, with its reply and none removed
   abbrev pub OverwriteOfKeyIsPut : Type 0
   OverwriteOfKeyIsPut = (new : K × V) (pairs : List (K × V)) → has_key (of_key bytes) (bytes new.0) pairs ≡ true →
-      (overwrite (of_key bytes) new pairs ≡ put (of_key bytes) new pairs) × (overwrite_reply (of_key bytes) new pairs ≡ (put_reply (of_key bytes) new pairs, 0))
+      (overwrite (of_key bytes) new pairs ≡ put (of_key bytes) new pairs) ×
+      (overwrite_reply (of_key bytes) new pairs ≡ (put_reply (of_key bytes) new pairs, 0))
 
   -- ---- what replies tell
 
   -- the reply of a put is the key that was handed in, with the value that was found under it
   abbrev pub PutTells : Type 0
   PutTells = (new : K × V) (pairs : List (K × V)) → IsMap (of_key bytes) pairs →
-      map (λ old. (new.0, old.1)) (with_key (of_key bytes) (bytes new.0) pairs) ≡ cons_option (put_reply (of_key bytes) new pairs) []
+      map (λ old. (new.0, old.1)) (with_key (of_key bytes) (bytes new.0) pairs) ≡
+      cons_option (put_reply (of_key bytes) new pairs) []
 
   -- where no equal key is stored the reply of an overwrite tells which pairs went
   abbrev pub OverwriteTells : Type 0
@@ -115,12 +143,15 @@ module _ {K : Type 0} (V : Type 0) (bytes : K → List ℕ) where
 
   -- one pair comes, and those with its key go
   abbrev pub PutCounts : Type 0
-  PutCounts = (new : K × V) (pairs : List (K × V)) → length (put (of_key bytes) new pairs) + length (with_key (of_key bytes) (bytes new.0) pairs) ≡ length pairs + 1
+  PutCounts =
+      (new : K × V) (pairs : List (K × V)) →
+      length (put (of_key bytes) new pairs) + length (with_key (of_key bytes) (bytes new.0) pairs) ≡ length pairs + 1
 
   -- one pair comes, and of a map those with related keys go
   abbrev pub OverwriteCounts : Type 0
   OverwriteCounts = (new : K × V) (pairs : List (K × V)) → IsMap (of_key bytes) pairs →
-      length (overwrite (of_key bytes) new pairs) + length (related_to (of_key bytes) (bytes new.0) pairs) ≡ length pairs + 1
+      length (overwrite (of_key bytes) new pairs) + length (related_to (of_key bytes) (bytes new.0) pairs) ≡
+      length pairs + 1
 
   -- ---- the tree
 
@@ -128,4 +159,5 @@ module _ {K : Type 0} (V : Type 0) (bytes : K → List ℕ) where
   abbrev pub SamePairsHaveSameTree : Type 0
   SamePairsHaveSameTree = (P : ℕ) (changes others : List (Change (K × V))) (pairs from : List (K × V)) →
       after (of_key bytes) changes pairs ≡ after (of_key bytes) others from →
-      tree_of (of_key bytes) (after (of_key bytes) changes pairs) P 0 ≡ tree_of (of_key bytes) (after (of_key bytes) others from) P 0
+      tree_of (of_key bytes) (after (of_key bytes) changes pairs) P 0 ≡
+      tree_of (of_key bytes) (after (of_key bytes) others from) P 0

@@ -106,7 +106,8 @@ module _ {K V : Type 0} (bytes : K × V → List ℕ) where
 
   -- what an overwrite answers: what the put does; or of the pairs with related keys the only one, or how many
   abbrev pub overwrite_reply : K × V → List (K × V) → Option (K × V) × ℕ
-  overwrite_reply new pairs = cond (has_key bytes (bytes new) pairs) (put_reply new pairs, 0) (went (related_to bytes (bytes new) pairs))
+  overwrite_reply new pairs =
+      cond (has_key bytes (bytes new) pairs) (put_reply new pairs, 0) (went (related_to bytes (bytes new) pairs))
 
 module _ {K V : Type 0} (bytes : K → List ℕ) where
   -- the bytes of the key of a pair of key and value

@@ -1,16 +1,16 @@
 -- The path to a node: the inner nodes above it, the innermost first, each with a hole where the way goes down.
 use Rattle.std.specs.Prelude.{◌≡◌, ℕ, ◌+◌, ◌≤◌, List, [], ◌∷◌, ◌++◌, length, Option, Some}
-use Rattle.art_model.specs.Trees.{Tree, inner, Children, child, Header, header_of}
-use Rattle.art_model.specs.Radix.{pairs_below, bytes_of, join, IsRising, AreRadix}
+use Rattle.art_model.specs.Trees.{Tree, inner, Subtrees, child, NodeHeader, canonical_header}
+use Rattle.art_model.specs.Radix.{pairs_below, bytes_of, join, BytesRise, AreRadix}
 use Rattle.art_model.specs.Layouts.{Node, inner_node, names_below, leaf_names_below, slots_of, HoldsBelow}
 
 -- an inner node with a hole under one byte, between the children on its left and those on its right
 pub record Frame (N A : Type 0) : Type 0 where
   pub mark : N
-  pub header : Header
-  pub left : Children N A
+  pub header : NodeHeader
+  pub left : Subtrees N A
   pub byte : ℕ
-  pub right : Children N A
+  pub right : Subtrees N A
 
 module _ {N A : Type 0} where
   -- the inner node with a tree in its hole
@@ -55,7 +55,9 @@ module _ {N A : Type 0} where
   -- under each name of the path is the node that the path says, with the name in the hole as its child
   abbrev pub HoldsPath : (N → Option (Node N A)) → N → List (Frame N A) → Type 0
   HoldsPath at hole [] = Unit {0}
-  HoldsPath at hole (f ∷ fs) = (at f.mark ≡ Some (inner_node f.header (slots_of f.left ++ (f.byte, hole) ∷ slots_of f.right))) × HoldsBelow at f.left × HoldsBelow at f.right × HoldsPath at f.mark fs
+  HoldsPath at hole (f ∷ fs) =
+      (at f.mark ≡ Some (inner_node f.header (slots_of f.left ++ (f.byte, hole) ∷ slots_of f.right))) ×
+      HoldsBelow at f.left × HoldsBelow at f.right × HoldsPath at f.mark fs
 
 module _ {N A : Type 0} (bytes : A → List ℕ) (P : ℕ) where
   -- the path is one of a radix tree, and these bytes lead to its hole
@@ -63,6 +65,7 @@ module _ {N A : Type 0} (bytes : A → List ℕ) (P : ℕ) where
   IsPath place [] = place ≡ []
   IsPath place (f ∷ fs) =
       (outer part : List ℕ) × (place ≡ (outer ++ part) ++ f.byte ∷ []) ×
-      (f.header ≡ header_of P part (length (bytes_of f.left ++ f.byte ∷ bytes_of f.right))) ×
-      (1 ≤ length (bytes_of f.left) + length (bytes_of f.right)) × IsRising (bytes_of f.left ++ f.byte ∷ bytes_of f.right) ×
+      (f.header ≡ canonical_header P part (length (bytes_of f.left ++ f.byte ∷ bytes_of f.right))) ×
+      (1 ≤ length (bytes_of f.left) + length (bytes_of f.right)) ×
+      BytesRise (bytes_of f.left ++ f.byte ∷ bytes_of f.right) ×
       AreRadix bytes P (outer ++ part) f.left × AreRadix bytes P (outer ++ part) f.right × IsPath outer fs

@@ -3,7 +3,7 @@ use Rattle.std.specs.Prelude.{◌≡◌, ℕ, ◌+◌, ◌≤◌, List, [], ◌�
 use Rattle.std.specs.List.{AllByRecursion as Each}
 use Rattle.art_nodes.specs.declared.node.NodeType.{NodeType}
 use Rattle.art_model.specs.Keys.{IsFront}
-use Rattle.art_model.specs.Trees.{Tree, leaf, inner, Children, child, no_child}
+use Rattle.art_model.specs.Trees.{Tree, leaf, inner, Subtrees, child, no_child}
 use Rattle.art_model.specs.Paths.{Frame, plug}
 
 module _ {N A : Type 0} where
@@ -19,7 +19,7 @@ module _ {N A : Type 0} (bytes : A → List ℕ) where
     least_key (leaf n x) = bytes x
     least_key (inner n h cs) = least_below cs
 
-    pub least_below : Children N A → List ℕ
+    pub least_below : Subtrees N A → List ℕ
     least_below no_child = []
     least_below (child b t cs) = least_key t
 
@@ -38,7 +38,7 @@ module _ {N A : Type 0} (bytes : A → List ℕ) where
     places d (leaf n x) = (place_of d (leaf n x), n) ∷ []
     places d (inner n h cs) = (place_of d (inner n h cs), n) ∷ places_below (d + h.length_of + 1) cs
 
-    pub places_below : ℕ → Children N A → List (List ℕ × N)
+    pub places_below : ℕ → Subtrees N A → List (List ℕ × N)
     places_below d no_child = []
     places_below d (child b t cs) = places d t ++ places_below d cs
 
@@ -46,9 +46,10 @@ module _ {N A : Type 0} (bytes : A → List ℕ) where
   abbrev mutual
     pub inner_nodes : ℕ → Tree N A → List (NodeType × List ℕ × N)
     inner_nodes d (leaf n x) = []
-    inner_nodes d (inner n h cs) = (h.kind, place_of (d + h.length_of) (inner n h cs), n) ∷ inner_nodes_below (d + h.length_of + 1) cs
+    inner_nodes d (inner n h cs) =
+        (h.kind, place_of (d + h.length_of) (inner n h cs), n) ∷ inner_nodes_below (d + h.length_of + 1) cs
 
-    pub inner_nodes_below : ℕ → Children N A → List (NodeType × List ℕ × N)
+    pub inner_nodes_below : ℕ → Subtrees N A → List (NodeType × List ℕ × N)
     inner_nodes_below d no_child = []
     inner_nodes_below d (child b t cs) = inner_nodes d t ++ inner_nodes_below d cs
 

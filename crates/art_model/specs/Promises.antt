@@ -2,7 +2,7 @@
 use Rattle.std.specs.Prelude.{◌≡◌, ℕ, zero, suc, Bool, true, cond, Option, Some, None}
 use Rattle.art_nodes.specs.Nodes.{Promise, covers, no_promise, take_leaf, take_inner}
 use Rattle.art_nodes.specs.declared.node.NodeType.{NodeType}
-use Rattle.art_model.specs.Trees.{Tree, leaf, inner, Children, child, no_child}
+use Rattle.art_model.specs.Trees.{Tree, leaf, inner, Subtrees, child, no_child}
 
 -- what is left when so many leaves are placed
 abbrev pub leaves_taken : ℕ → Promise → Promise
@@ -20,7 +20,8 @@ is_covered placed promise = covers promise placed.leaves placed.inner
 
 -- what is placed is taken from a promise that covers it; else nothing is promised any more
 abbrev pub promise_after : Promise → Promise → Promise
-promise_after placed promise = cond (is_covered placed promise) (inner_taken placed.inner (leaves_taken placed.leaves promise)) no_promise
+promise_after placed promise =
+    cond (is_covered placed promise) (inner_taken placed.inner (leaves_taken placed.leaves promise)) no_promise
 
 module _ {N A : Type 0} where
   -- what is left when the nodes of a tree are placed one by one, each inner node before its children
@@ -29,7 +30,7 @@ module _ {N A : Type 0} where
     tree_taken (leaf n x) promise = take_leaf promise
     tree_taken (inner n h cs) promise = children_taken cs (take_inner h.kind promise)
 
-    pub children_taken : Children N A → Promise → Promise
+    pub children_taken : Subtrees N A → Promise → Promise
     children_taken no_child promise = promise
     children_taken (child b t cs) promise = children_taken cs (tree_taken t promise)
 

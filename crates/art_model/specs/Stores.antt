@@ -9,7 +9,7 @@ use Rattle.art_nodes.specs.declared.node.NodeType.{NodeType}
 use Rattle.art_nodes.specs.declared.node.NodeType.TheVariants.{Leaf}
 use Rattle.art_nodes.specs.declared.node.OpaqueNodePtr.{OpaqueNodePtr}
 use Rattle.art_nodes.specs.declared.node.LeafNode.{LeafNode}
-use Rattle.art_model.specs.Trees.{Header}
+use Rattle.art_model.specs.Trees.{NodeHeader}
 use Rattle.art_model.specs.Layouts.{Node, leaf_node, inner_node, Links}
 
 -- a node with all that a store has of it
@@ -18,7 +18,7 @@ pub data Held (K V : Type 0) : Type 0 where
   held_inner : Inner → Held K V
 
 -- the header of an inner node whose name has this kind
-abbrev pub header_at : NodeType → Inner → Header
+abbrev pub header_at : NodeType → Inner → NodeHeader
 header_at kind node = record { kind = kind; length_of = node.prefix.len; stored = node.prefix.stored }
 
 -- an inner node as a tree sees it
@@ -54,7 +54,8 @@ module _ {K V : Type 0} where
 
   -- the links of a leaf
   abbrev pub links_of : Held K V → Option (Links OpaqueNodePtr)
-  links_of (held_leaf leaf) = Some (record { previous = option_map leaf_name leaf.previous; next = option_map leaf_name leaf.next })
+  links_of (held_leaf leaf) =
+      Some (record { previous = option_map leaf_name leaf.previous; next = option_map leaf_name leaf.next })
   links_of (held_inner node) = None
 
   -- the links of the leaf under a name

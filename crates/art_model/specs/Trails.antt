@@ -2,7 +2,7 @@
 use Rattle.std.specs.Prelude.{◌≡◌, ℕ, ◌+◌, ◌<◌, ◌≤◌, ◌⊎◌, List, [], ◌∷◌, ◌++◌, length, take, drop, Option, Some}
 use Rattle.art_nodes.specs.Inner.{child_at}
 use Rattle.art_nodes.specs.declared.node.OpaqueNodePtr.{OpaqueNodePtr}
-use Rattle.art_model.specs.Trees.{Header}
+use Rattle.art_model.specs.Trees.{NodeHeader}
 use Rattle.art_model.specs.Layouts.{Node, leaf_node, inner_node}
 
 -- the name that steps end at, each the byte of a child and its name
@@ -23,7 +23,9 @@ bottom_of name (n ∷ ns) = bottom_of n ns
 module _ {A : Type 0} (at : OpaqueNodePtr → Option (Node OpaqueNodePtr A)) where
   -- the node is there, and has this name under this byte
   abbrev pub HasChild : OpaqueNodePtr → ℕ × OpaqueNodePtr → Type 0
-  HasChild name step = (h : Header) × (slots : List (ℕ × OpaqueNodePtr)) × (at name ≡ Some (inner_node h slots)) × (child_at slots step.0 ≡ Some step.1)
+  HasChild name step =
+      (h : NodeHeader) × (slots : List (ℕ × OpaqueNodePtr)) × (at name ≡ Some (inner_node h slots)) ×
+      (child_at slots step.0 ≡ Some step.1)
 
   -- a trail: each step is to a child of the node before, which is there
   abbrev pub IsTrail : OpaqueNodePtr → List (ℕ × OpaqueNodePtr) → Type 0
@@ -32,7 +34,9 @@ module _ {A : Type 0} (at : OpaqueNodePtr → Option (Node OpaqueNodePtr A)) whe
 
   -- the node is there, and this is its least child
   abbrev pub HasLeast : OpaqueNodePtr → OpaqueNodePtr → Type 0
-  HasLeast name least = (h : Header) × (b : ℕ) × (others : List (ℕ × OpaqueNodePtr)) × (at name ≡ Some (inner_node h ((b, least) ∷ others)))
+  HasLeast name least =
+      (h : NodeHeader) × (b : ℕ) × (others : List (ℕ × OpaqueNodePtr)) ×
+      (at name ≡ Some (inner_node h ((b, least) ∷ others)))
 
   -- a descent: each name is the least child of the one before
   abbrev pub IsDescent : OpaqueNodePtr → List OpaqueNodePtr → Type 0
@@ -45,19 +49,24 @@ module _ {A : Type 0} (at : OpaqueNodePtr → Option (Node OpaqueNodePtr A)) whe
 
   module _ (bytes : A → List ℕ) (P : ℕ) where
     -- The prefix of a node with this header, after so many bytes: what is stored, where P bytes can hold it whole, and else so many bytes of the key of the leaf at the end of a descent.
-    abbrev pub IsPrefix : ℕ → OpaqueNodePtr → Header → List ℕ → Type 0
+    abbrev pub IsPrefix : ℕ → OpaqueNodePtr → NodeHeader → List ℕ → Type 0
     IsPrefix d name h part =
         ((h.length_of ≤ P) × (part ≡ h.stored))
-        ⊎ ((P < h.length_of) × ((x : A) × DescendsTo name x × (d + h.length_of ≤ length (bytes x)) × (part ≡ take h.length_of (drop d (bytes x)))))
+        ⊎ ((P < h.length_of) × ((x : A) × DescendsTo name x × (d + h.length_of ≤ length (bytes x)) ×
+        (part ≡ take h.length_of (drop d (bytes x)))))
 
     -- the node is there, and has this prefix after so many bytes
     abbrev pub HasPrefix : ℕ → OpaqueNodePtr → List ℕ → Type 0
-    HasPrefix d name part = (h : Header) × (slots : List (ℕ × OpaqueNodePtr)) × (at name ≡ Some (inner_node h slots)) × IsPrefix d name h part
+    HasPrefix d name part =
+        (h : NodeHeader) × (slots : List (ℕ × OpaqueNodePtr)) × (at name ≡ Some (inner_node h slots)) ×
+        IsPrefix d name h part
 
     -- the prefix of a trail as read, after what was read before: its bytes, each after the prefix of its node
     abbrev pub IsReadAs : List ℕ → OpaqueNodePtr → List (ℕ × OpaqueNodePtr) → List ℕ → Type 0
     IsReadAs front name [] place = place ≡ front
-    IsReadAs front name (step ∷ steps) place = (part : List ℕ) × HasPrefix (length front) name part × IsReadAs (front ++ part ++ step.0 ∷ []) step.1 steps place
+    IsReadAs front name (step ∷ steps) place =
+        (part : List ℕ) × HasPrefix (length front) name part ×
+        IsReadAs (front ++ part ++ step.0 ∷ []) step.1 steps place
 
     -- A trail from the root ends at the name, and is read as this place.
     pub record IsReached (root : OpaqueNodePtr) (place : List ℕ) (name : OpaqueNodePtr) : Type 0 where

@@ -14,30 +14,41 @@ module _ {A : Type 0} (bytes : A → List ℕ) where
 
   -- no longer bytes are
   abbrev pub PartIsLongest : Type 0
-  PartIsLongest = (d : ℕ) (x : A) (pairs : List A) (part : List ℕ) → Each (λ y. IsFront part (drop d (bytes y))) (x ∷ pairs) → IsFront part (shared_part bytes d (x ∷ pairs))
+  PartIsLongest =
+      (d : ℕ) (x : A) (pairs : List A) (part : List ℕ) →
+      Each (λ y. IsFront part (drop d (bytes y))) (x ∷ pairs) → IsFront part (shared_part bytes d (x ∷ pairs))
 
   module _ (P : ℕ) where
     -- two or more pairs of a map, whose keys begin with a place, have an inner node there, over the trees of their groups
     abbrev pub IsBuiltByGrouping : Type 0
-    IsBuiltByGrouping = (place : List ℕ) (x y : A) (rest : List A) → IsMap bytes (x ∷ y ∷ rest) → Each (λ z. IsFront place (bytes z)) (x ∷ y ∷ rest) →
-        tree_of bytes (x ∷ y ∷ rest) P (length place) ≡ node_of bytes (λ d group. tree_of bytes group P d) P (length place) (x ∷ y ∷ rest)
+    IsBuiltByGrouping =
+        (place : List ℕ) (x y : A) (rest : List A) → IsMap bytes (x ∷ y ∷ rest) →
+        Each (λ z. IsFront place (bytes z)) (x ∷ y ∷ rest) →
+        tree_of bytes (x ∷ y ∷ rest) P (length place) ≡ node_of bytes (λ d group.
+        tree_of bytes group P d) P (length place) (x ∷ y ∷ rest)
 
     -- a map that has a pair has a tree, whose leaves have its pairs in order, and which is a radix tree
     abbrev pub HasTree : Type 0
-    HasTree = (x : A) (pairs : List A) → IsMap bytes (x ∷ pairs) → (t : Tree (Unit {0}) A) × (tree_of bytes (x ∷ pairs) P 0 ≡ Some t) × (pairs_of t ≡ x ∷ pairs) × IsRadix bytes P [] t
+    HasTree =
+        (x : A) (pairs : List A) → IsMap bytes (x ∷ pairs) → (t : Tree (Unit {0}) A) ×
+        (tree_of bytes (x ∷ pairs) P 0 ≡ Some t) × (pairs_of t ≡ x ∷ pairs) × IsRadix bytes P [] t
 
     -- the pairs of a radix tree are a map, and it is the tree of that map
     abbrev pub IsTreeOfItsPairs : Type 0
-    IsTreeOfItsPairs = (t : Tree (Unit {0}) A) → IsRadix bytes P [] t → IsMap bytes (pairs_of t) × (tree_of bytes (pairs_of t) P 0 ≡ Some t)
+    IsTreeOfItsPairs =
+        (t : Tree (Unit {0}) A) → IsRadix bytes P [] t → IsMap bytes (pairs_of t) ×
+        (tree_of bytes (pairs_of t) P 0 ≡ Some t)
 
     -- radix trees with the same pairs are the same
     abbrev pub IsOneTree : Type 0
-    IsOneTree = (t u : Tree (Unit {0}) A) → IsRadix bytes P [] t → IsRadix bytes P [] u → pairs_of t ≡ pairs_of u → t ≡ u
+    IsOneTree =
+        (t u : Tree (Unit {0}) A) → IsRadix bytes P [] t → IsRadix bytes P [] u → pairs_of t ≡ pairs_of u → t ≡ u
 
 module _ (N A : Type 0) where
   -- the inner nodes of a radix tree have two or more children each
   abbrev pub HaveTwoChildren : Type 0
-  HaveTwoChildren = (bytes : A → List ℕ) (P : ℕ) (place : List ℕ) (t : Tree N A) → IsRadix bytes P place t → HaveChildren 2 t
+  HaveTwoChildren =
+      (bytes : A → List ℕ) (P : ℕ) (place : List ℕ) (t : Tree N A) → IsRadix bytes P place t → HaveChildren 2 t
 
   -- a tree whose inner nodes have two or more children each has fewer inner nodes than leaves
   abbrev pub HasFewInnerNodes : Type 0

@@ -5,7 +5,7 @@ use Rattle.art_nodes.specs.declared.node.NodeType.TheVariants.{Node4, Node16, No
 use Rattle.art_model.specs.Keys.{common_front}
 
 -- an inner node's kind, the length of its prefix, and the bytes that are stored of the prefix
-pub record Header : Type 0 where
+pub record NodeHeader : Type 0 where
   pub kind : NodeType
   pub length_of : ℕ
   pub stored : List ℕ
@@ -14,19 +14,19 @@ pub record Header : Type 0 where
 mutual
   pub data Tree (N A : Type 0) : Type 0 where
     leaf : N → A → Tree N A
-    inner : N → Header → Children N A → Tree N A
+    inner : N → NodeHeader → Subtrees N A → Tree N A
 
-  pub data Children (N A : Type 0) : Type 0 where
-    no_child : Children N A
-    child : ℕ → Tree N A → Children N A → Children N A
+  pub data Subtrees (N A : Type 0) : Type 0 where
+    no_child : Subtrees N A
+    child : ℕ → Tree N A → Subtrees N A → Subtrees N A
 
 -- the kind of an inner node by the number of its children
 abbrev pub kind_of : ℕ → NodeType
 kind_of n = cond (leb n 4) Node4 (cond (leb n 16) Node16 (cond (leb n 48) Node48 Node256))
 
 -- the header of an inner node with this prefix and so many children, where P bytes can be stored
-abbrev pub header_of : ℕ → List ℕ → ℕ → Header
-header_of P part n = record { kind = kind_of n; length_of = length part; stored = take P part }
+abbrev pub canonical_header : ℕ → List ℕ → ℕ → NodeHeader
+canonical_header P part n = record { kind = kind_of n; length_of = length part; stored = take P part }
 
 module _ {A : Type 0} where
   -- a pair joins the first group where that has its byte, and is else a group of its own in front
@@ -40,12 +40,12 @@ module _ {A : Type 0} where
   groups byte (x ∷ xs) = add_to_groups (byte x) x (groups byte xs)
 
   -- a child in front, where there is a tree for it
-  abbrev pub add_child : ℕ → Option (Tree (Unit {0}) A) → Children (Unit {0}) A → Children (Unit {0}) A
+  abbrev pub add_child : ℕ → Option (Tree (Unit {0}) A) → Subtrees (Unit {0}) A → Subtrees (Unit {0}) A
   add_child b None others = others
   add_child b (Some t) others = child b t others
 
   -- a child for each group
-  abbrev pub children_of : (List A → Option (Tree (Unit {0}) A)) → List (ℕ × List A) → Children (Unit {0}) A
+  abbrev pub children_of : (List A → Option (Tree (Unit {0}) A)) → List (ℕ × List A) → Subtrees (Unit {0}) A
   children_of build [] = no_child
   children_of build ((b, group) ∷ others) = add_child b (build group) (children_of build others)
 
@@ -65,7 +65,7 @@ module _ {A : Type 0} (bytes : A → List ℕ) where
   node_of build P d pairs =
       let part = shared_part d pairs in
       let gs = groups (byte_at (d + length part)) pairs in
-      Some (inner tt (header_of P part (length gs)) (children_of (build (d + length part + 1)) gs))
+      Some (inner tt (canonical_header P part (length gs)) (children_of (build (d + length part + 1)) gs))
 
   -- No pair has no tree, one pair its leaf, more an inner node. The first number bounds the turns.
   abbrev pub tree_within : ℕ → ℕ → ℕ → List A → Option (Tree (Unit {0}) A)

@@ -34,7 +34,8 @@ module _ {K V : Type 0} where
 
   -- the leaf before a place has this next one, and the leaf after it this previous one
   abbrev pub joined : Leaves K V → Option LeafPtr → Option LeafPtr → Option LeafPtr → Option LeafPtr → Leaves K V
-  joined leaves before after next previous = change_some (change_some leaves before (with_next next)) after (with_previous previous)
+  joined leaves before after next previous =
+      change_some (change_some leaves before (with_next next)) after (with_previous previous)
 
   -- a new leaf, which the leaves beside it know
   unfoldable pub with_leaf : Leaves K V → LeafPtr → LeafNode K V → Leaves K V

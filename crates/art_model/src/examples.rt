@@ -17,9 +17,13 @@ pub fn trees_of_few_keys()
     ensures none { tree_of_keys [] 16 ≡ None }
     ensures one { tree_of_keys ((9 ∷ 9 ∷ []) ∷ []) 16 ≡ Some (leaf tt (9 ∷ 9 ∷ [])) }
     ensures long_prefix { tree_of_keys ((7 ∷ 1 ∷ 1 ∷ 1 ∷ 1 ∷ 5 ∷ []) ∷ (7 ∷ 1 ∷ 1 ∷ 1 ∷ 1 ∷ 6 ∷ []) ∷ []) 2
-        ≡ Some (over_two 5 (7 ∷ 1 ∷ []) 5 (leaf tt (7 ∷ 1 ∷ 1 ∷ 1 ∷ 1 ∷ 5 ∷ [])) 6 (leaf tt (7 ∷ 1 ∷ 1 ∷ 1 ∷ 1 ∷ 6 ∷ []))) }
+        ≡ Some (over_two 5 (7 ∷ 1 ∷ [])
+        5 (leaf tt (7 ∷ 1 ∷ 1 ∷ 1 ∷ 1 ∷ 5 ∷ []))
+        6 (leaf tt (7 ∷ 1 ∷ 1 ∷ 1 ∷ 1 ∷ 6 ∷ []))) }
     ensures nested { tree_of_keys ((1 ∷ 2 ∷ []) ∷ (1 ∷ 3 ∷ []) ∷ (2 ∷ []) ∷ []) 16
-        ≡ Some (over_two 0 [] 1 (over_two 0 [] 2 (leaf tt (1 ∷ 2 ∷ [])) 3 (leaf tt (1 ∷ 3 ∷ []))) 2 (leaf tt (2 ∷ []))) }
+        ≡ Some (over_two 0 []
+        1 (over_two 0 [] 2 (leaf tt (1 ∷ 2 ∷ [])) 3 (leaf tt (1 ∷ 3 ∷ [])))
+        2 (leaf tt (2 ∷ []))) }
     ensures twelve { tree_of_keys (zero_keys 12) 16 ≡ Some (zero_tree 11 []) }
 {}
 
@@ -36,8 +40,10 @@ pub fn kinds_by_number_of_children()
 
 /// Keys between others, equal keys, and keys that are fronts of others.
 pub fn puts_into_a_small_map()
-    ensures between { put bytes_of_pair (1 ∷ 2 ∷ 9 ∷ [], 8) ((1 ∷ 3 ∷ [], 6) ∷ (2 ∷ [], 7) ∷ []) ≡ (1 ∷ 2 ∷ 9 ∷ [], 8) ∷ (1 ∷ 3 ∷ [], 6) ∷ (2 ∷ [], 7) ∷ [] }
-    ensures in_place { put bytes_of_pair (1 ∷ 3 ∷ [], 8) three_pairs ≡ (1 ∷ 2 ∷ [], 5) ∷ (1 ∷ 3 ∷ [], 8) ∷ (2 ∷ [], 7) ∷ [] }
+    ensures between { put bytes_of_pair (1 ∷ 2 ∷ 9 ∷ [], 8) ((1 ∷ 3 ∷ [], 6) ∷ (2 ∷ [], 7) ∷ []) ≡
+        (1 ∷ 2 ∷ 9 ∷ [], 8) ∷ (1 ∷ 3 ∷ [], 6) ∷ (2 ∷ [], 7) ∷ [] }
+    ensures in_place { put bytes_of_pair (1 ∷ 3 ∷ [], 8) three_pairs ≡
+        (1 ∷ 2 ∷ [], 5) ∷ (1 ∷ 3 ∷ [], 8) ∷ (2 ∷ [], 7) ∷ [] }
     ensures replaced { put_reply bytes_of_pair (1 ∷ 3 ∷ [], 8) three_pairs ≡ Some (1 ∷ 3 ∷ [], 6) }
     ensures new { put_reply bytes_of_pair (1 ∷ 4 ∷ [], 8) three_pairs ≡ None }
     ensures equal { is_conflict bytes_of_pair (1 ∷ 3 ∷ []) three_pairs ≡ false }
@@ -50,25 +56,34 @@ pub fn puts_into_a_small_map()
 pub fn overwrites_of_a_small_map()
     ensures none { overwrite bytes_of_pair (0 ∷ [], 8) three_pairs ≡ (0 ∷ [], 8) ∷ three_pairs }
     ensures none_gone { overwrite_reply bytes_of_pair (0 ∷ [], 8) three_pairs ≡ (None, 0) }
-    ensures one { overwrite bytes_of_pair (2 ∷ 9 ∷ [], 8) three_pairs ≡ (1 ∷ 2 ∷ [], 5) ∷ (1 ∷ 3 ∷ [], 6) ∷ (2 ∷ 9 ∷ [], 8) ∷ [] }
-    ensures one_gone { overwrite_reply bytes_of_pair (2 ∷ 9 ∷ [], 8) three_pairs ≡ (Some (2 ∷ [], 7), 0) }
+    ensures one { overwrite bytes_of_pair (2 ∷ 9 ∷ [], 8) three_pairs ≡
+        (1 ∷ 2 ∷ [], 5) ∷ (1 ∷ 3 ∷ [], 6) ∷ (2 ∷ 9 ∷ [], 8) ∷ [] }
+    ensures one_gone { overwrite_reply bytes_of_pair (2 ∷ 9 ∷ [], 8) three_pairs ≡
+        (Some (2 ∷ [], 7), 0) }
     ensures two { overwrite bytes_of_pair (1 ∷ [], 8) three_pairs ≡ (1 ∷ [], 8) ∷ (2 ∷ [], 7) ∷ [] }
     ensures two_gone { overwrite_reply bytes_of_pair (1 ∷ [], 8) three_pairs ≡ (None, 2) }
 {}
 
 /// Keys with a tag that their bytes don't show: a stored key stays, and the reply has the one that was handed in.
 pub fn puts_of_equal_keys()
-    ensures put { put bytes_of_tagged ((1 ∷ 2 ∷ [], 2), 20) tagged_pair ≡ ((1 ∷ 2 ∷ [], 1), 20) ∷ [] }
-    ensures put_answer { put_reply bytes_of_tagged ((1 ∷ 2 ∷ [], 2), 20) tagged_pair ≡ Some ((1 ∷ 2 ∷ [], 2), 10) }
-    ensures overwrite { overwrite bytes_of_tagged ((1 ∷ 2 ∷ [], 3), 30) tagged_pair ≡ ((1 ∷ 2 ∷ [], 1), 30) ∷ [] }
-    ensures overwrite_answer { overwrite_reply bytes_of_tagged ((1 ∷ 2 ∷ [], 3), 30) tagged_pair ≡ (Some ((1 ∷ 2 ∷ [], 3), 10), 0) }
-    ensures unequal { overwrite bytes_of_tagged ((1 ∷ [], 4), 40) tagged_pair ≡ ((1 ∷ [], 4), 40) ∷ [] }
-    ensures unequal_answer { overwrite_reply bytes_of_tagged ((1 ∷ [], 4), 40) tagged_pair ≡ (Some ((1 ∷ 2 ∷ [], 1), 10), 0) }
+    ensures put { put bytes_of_tagged ((1 ∷ 2 ∷ [], 2), 20) tagged_pair ≡
+        ((1 ∷ 2 ∷ [], 1), 20) ∷ [] }
+    ensures put_answer { put_reply bytes_of_tagged ((1 ∷ 2 ∷ [], 2), 20) tagged_pair ≡
+        Some ((1 ∷ 2 ∷ [], 2), 10) }
+    ensures overwrite { overwrite bytes_of_tagged ((1 ∷ 2 ∷ [], 3), 30) tagged_pair ≡
+        ((1 ∷ 2 ∷ [], 1), 30) ∷ [] }
+    ensures overwrite_answer { overwrite_reply bytes_of_tagged ((1 ∷ 2 ∷ [], 3), 30) tagged_pair ≡
+        (Some ((1 ∷ 2 ∷ [], 3), 10), 0) }
+    ensures unequal { overwrite bytes_of_tagged ((1 ∷ [], 4), 40) tagged_pair ≡
+        ((1 ∷ [], 4), 40) ∷ [] }
+    ensures unequal_answer { overwrite_reply bytes_of_tagged ((1 ∷ [], 4), 40) tagged_pair ≡
+        (Some ((1 ∷ 2 ∷ [], 1), 10), 0) }
 {}
 
 /// Removals by key and at both ends, and the key that is a front of a query.
 pub fn removals_and_matches_in_a_small_map()
-    ensures present { remove_key bytes_of_pair (1 ∷ 3 ∷ []) three_pairs ≡ (1 ∷ 2 ∷ [], 5) ∷ (2 ∷ [], 7) ∷ [] }
+    ensures present { remove_key bytes_of_pair (1 ∷ 3 ∷ []) three_pairs ≡
+        (1 ∷ 2 ∷ [], 5) ∷ (2 ∷ [], 7) ∷ [] }
     ensures removed { remove_reply bytes_of_pair (1 ∷ 3 ∷ []) three_pairs ≡ Some (1 ∷ 3 ∷ [], 6) }
     ensures absent { remove_key bytes_of_pair (1 ∷ []) three_pairs ≡ three_pairs }
     ensures none_removed { remove_reply bytes_of_pair (1 ∷ []) three_pairs ≡ None }
@@ -76,7 +91,8 @@ pub fn removals_and_matches_in_a_small_map()
     ensures last { last_of three_pairs ≡ Some (2 ∷ [], 7) }
     ensures all_but_first { without_first three_pairs ≡ (1 ∷ 3 ∷ [], 6) ∷ (2 ∷ [], 7) ∷ [] }
     ensures all_but_last { without_last three_pairs ≡ (1 ∷ 2 ∷ [], 5) ∷ (1 ∷ 3 ∷ [], 6) ∷ [] }
-    ensures longer_query { match_of bytes_of_pair (1 ∷ 3 ∷ 9 ∷ []) three_pairs ≡ (1 ∷ 3 ∷ [], 6) ∷ [] }
+    ensures longer_query { match_of bytes_of_pair (1 ∷ 3 ∷ 9 ∷ []) three_pairs ≡
+        (1 ∷ 3 ∷ [], 6) ∷ [] }
     ensures shorter_query { match_of bytes_of_pair (1 ∷ []) three_pairs ≡ [] }
 {}
 
@@ -85,8 +101,11 @@ pub fn a_tree_with_its_names()
     ensures tree { tree_of_keys (interact ∷ interest ∷ kit ∷ []) 2 ≡ Some (unmarked pictured) }
     ensures layout { IsLayout pictured_at (node4 0) pictured }
     ensures linked { AreLinked pictured_links None (leaf_names pictured) None }
-    ensures places { places (λ key. key) 0 pictured ≡ ([], node4 0) ∷ (105 ∷ [], node4 1) ∷ (take 6 interact, leaf_at 2) ∷ (take 6 interest, leaf_at 0) ∷ (107 ∷ [], leaf_at 5) ∷ [] }
-    ensures whole_bytes { inner_nodes (λ key. key) 0 pictured ≡ (Node4, [], node4 0) ∷ (Node4, take 5 interact, node4 1) ∷ [] }
+    ensures places { places (λ key. key) 0 pictured ≡
+        ([], node4 0) ∷ (105 ∷ [], node4 1) ∷ (take 6 interact, leaf_at 2) ∷
+        (take 6 interest, leaf_at 0) ∷ (107 ∷ [], leaf_at 5) ∷ [] }
+    ensures whole_bytes { inner_nodes (λ key. key) 0 pictured ≡
+        (Node4, [], node4 0) ∷ (Node4, take 5 interact, node4 1) ∷ [] }
 {}
 
 /// Faults that small stores have: a dead name, loops, too few children, a misplaced key, false links and

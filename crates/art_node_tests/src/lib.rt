@@ -4,6 +4,8 @@
 #[cfg(test)]
 mod mixed_calls;
 #[cfg(test)]
+mod names;
+#[cfg(test)]
 mod node;
 #[cfg(test)]
 mod store;

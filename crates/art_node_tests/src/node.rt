@@ -281,10 +281,12 @@ fn are_children(mut children: Children<'_>, bytes: &[u8]) -> bool {
 
 // Whether children stand under the bytes from 0 on, each under its own name.
 fn count_up(children: Children<'_>) -> bool {
-    for (index, (byte, child)) in children.enumerate() {
-        if (byte as usize, child) != (index, name(byte)) {
+    let mut next = Some(0u8);
+    for (byte, child) in children {
+        if (Some(byte), child) != (next, name(byte)) {
             return false;
         }
+        next = byte.checked_add(1);
     }
     true
 }

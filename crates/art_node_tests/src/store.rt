@@ -83,7 +83,8 @@ fn place_above<K: AsBytes + Drop, V: Drop, const P: usize>(
     byte: u8,
     child: OpaqueNodePtr,
 ) -> Result<InnerPtr, AllocError>
-    ensures placed { IfOk result (λ name. map.get store.new.inners name ≡ Some (with_child byte child (childless header.entry))) }
+    ensures placed { IfOk result (λ name. map.get store.new.inners name ≡
+        Some (with_child byte child (childless header.entry))) }
     ensures leaves { store.new.leaves ≡ store.old.leaves }
 {
     let node = AnyInner::from_header(NodeType::Node4, header);
@@ -416,11 +417,11 @@ fn place_one_each(store: &mut Store, value: u32) -> ([bool; 2], [bool; 2]) {
     ([is_leaf_placed, is_inner_placed], right)
 }
 
-// Places ten of each; answers whether one was refused, and whether each time both of them and the first
+// Places twenty of each; answers whether one was refused, and whether each time both of them and the first
 // leaf were as they are to be.
-fn place_ten_each(store: &mut Store, first: LeafPtr) -> (bool, bool) {
+fn place_twenty_each(store: &mut Store, first: LeafPtr) -> (bool, bool) {
     let (mut any_refused, mut all_right) = (false, true);
-    for value in 0..10 {
+    for value in 0..20 {
         let (placed, right) = place_one_each(store, value);
         any_refused = any_refused || placed != [true; 2];
         let first_seen = leaf_seen(store, first);
@@ -436,7 +437,7 @@ fn refused_placements_leave_the_nodes(rt: HostRuntime) -> Result<(), Fail> {
     let Ok(first) = store.place_leaf(leaf_of(1, 10)) else {
         return Ok(());
     };
-    let (any_refused, all_right) = place_ten_each(&mut store, first);
+    let (any_refused, all_right) = place_twenty_each(&mut store, first);
     assert!(rt; all_right);
     if any_refused {
         println!(rt; "asserted")?;

@@ -7,8 +7,9 @@ use Rattle.std.specs.declared.cmp.Ordering.{Ordering}
 use Rattle.slab.specs.Slab.{entries_from}
 use Rattle.slab.proofs.SlabLemmas.{length-entries_from}
 use Rattle.std.specs.Prelude.{count_by, is_some}
-use Rattle.art_nodes.specs.StoreView.{leaf_entry, leaves_of}
-use Rattle.art_nodes.specs.declared.store.Node.{Node}
+use Rattle.art_nodes.specs.StoreView.{leaves_of}
+use Rattle.art_nodes.specs.declared.node.LeafNode.{LeafNode}
+use Rattle.art_nodes.specs.declared.node.LeafPtr.{LeafPtr}
 use Rattle.art_nodes.proofs.NameLemmas.{leaf_cmp_total}
 
 -- one entry more
@@ -32,10 +33,14 @@ length-filter_map : {X Y : Type 0} (f : X → Option Y) (xs : List X) → length
 length-filter_map f [] = omega arith
 length-filter_map f (x ∷ xs) = one_or_none (f x) (filter_map f xs) (length xs) (length-filter_map f xs)
 
-pub leaves_of-few : {K V : Type 0} {P : ℕ} (slots : List (Option (Node K V P))) → len (leaves_of slots) ≤ count_by is_some slots
+-- the leaf in a slot, with its name
+abbrev leaf_entry : {K V : Type 0} → ℕ × LeafNode K V → Option (LeafPtr × LeafNode K V)
+leaf_entry e = Some (record { slot = e.0 }, e.1)
+
+pub leaves_of-few : {K V : Type 0} (slots : List (Option (LeafNode K V))) → len (leaves_of slots) ≤ count_by is_some slots
 unfolding leaves_of
 leaves_of-few slots =
-    let a = len-from_entries leaf_cmp_total (filter_map (λ e. leaf_entry e.0 e.1) (entries_from 0 slots)) in
-    let b = length-filter_map (λ e. leaf_entry e.0 e.1) (entries_from 0 slots) in
+    let a = len-from_entries leaf_cmp_total (filter_map leaf_entry (entries_from 0 slots)) in
+    let b = length-filter_map leaf_entry (entries_from 0 slots) in
     let c = length-entries_from 0 slots in
     omega arith

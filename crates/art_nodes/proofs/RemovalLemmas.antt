@@ -5,7 +5,7 @@ use Rattle.std.proofs.lemmas.Slice.{put_mid-rotated}
 use borrow.Rule.Slice.PartMut.{put_mid, mid_of}
 use Rattle.art_nodes.specs.Inner.{Children, IsRising, child_at, remove_child, count_below}
 use Rattle.art_nodes.specs.declared.node.OpaqueNodePtr.{OpaqueNodePtr}
-use Rattle.art_nodes.proofs.TableLemmas.{Entry, nobody, by_order, counted_front, counted_here, place_of_child}
+use Rattle.art_nodes.proofs.TableLemmas.{Entry, by_order, counted_front, counted_here, place_of_child}
 use Rattle.art_nodes.proofs.ChildrenLaws.{at_here, at_later, first_kept, remove_child-between}
 
 -- the entry at the place has the byte: its name is the one under the byte
@@ -43,11 +43,16 @@ front_without {X} es new len at within fits same written =
     let long : length (take len es) ≡ len = length-take-le len es fits in
     take-append-le (len - 1) new (drop len es) (omega arith) ∙ ap (λ (n : ℕ). take (n - 1) new) (sym long) ∙ written
 
+-- an item of a list that has one
+pub an_item : {X : Type 0} (xs : List X) → 0 < length xs → X
+an_item [] some = absurd (omega (arith, some))
+an_item (x ∷ xs) some = x
+
 -- all but the last after the part from a place on is turned by one
-pub shown_rotated : (part r : Children) (at : ℕ) → at < length part →
+pub shown_rotated : {X : Type 0} (part r : List X) (at : ℕ) (d : X) → at < length part →
     r ≡ drop 1 (mid_of at (length part - at) part) ++ take 1 (mid_of at (length part - at) part) → take (length part - 1) (put_mid at (length part - at) part r) ≡ remove part at
-shown_rotated part r at within rotated =
+shown_rotated part r at d within rotated =
     let left : length (remove part at) ≡ length part - 1 = omega (arith, length-append (take at part) (drop (suc at) part), length-take-le at part (omega arith), length-drop (suc at) part) in
-    ap (take (length part - 1)) (put_mid-rotated at (length part - at) part r nobody within (omega arith) rotated)
+    ap (take (length part - 1)) (put_mid-rotated at (length part - at) part r d within (omega arith) rotated)
     ∙ take-append-le (length part - 1) (remove part at) _ (omega (arith, left))
     ∙ take_all (length part - 1) (remove part at) (omega (arith, left))

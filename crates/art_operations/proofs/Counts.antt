@@ -7,22 +7,22 @@ use Rattle.art_nodes.specs.declared.node.NodeType.TheVariants.{Node4, Node16, No
 use Rattle.art_model.specs.Pairs.{of_key}
 use Rattle.art_model.specs.Paths.{Frame, plug, fill}
 use Rattle.art_model.specs.Radix.{IsRadix, join, pairs_of, unmarked, all_unmarked}
-use Rattle.art_model.specs.Trees.{Tree, leaf, inner, Children, child, no_child}
+use Rattle.art_model.specs.Trees.{Tree, leaf, inner, Subtrees, child, no_child}
 use Rattle.art_model.proofs.Rebuild.{rebuild_root}
-use Rattle.art_operations.specs.Needs.{count_of, count_below, more_of, inner_count}
+use Rattle.art_operations.specs.Needs.{count_of, inner_count_below, more_of, inner_count}
 
 -- one where the kinds are the same
 abbrev pub one : NodeType → NodeType → ℕ
 one kind other = cond (eqb (kind_index kind) (kind_index other)) 1 0
 
 module _ {N A : Type 0} (kind : NodeType) where
-  pub count-join : (cs ds : Children N A) → count_below kind (join cs ds) ≡ count_below kind cs + count_below kind ds
+  pub count-join : (cs ds : Subtrees N A) → inner_count_below kind (join cs ds) ≡ inner_count_below kind cs + inner_count_below kind ds
   count-join no_child ds = omega arith
   count-join (child b t cs) ds = ap (λ z. count_of kind t + z) (count-join cs ds) ∙ omega arith
 
   abbrev around : List (Frame N A) → ℕ
   around [] = 0
-  around (f ∷ fs) = one kind f.header.kind + (count_below kind f.left + count_below kind f.right) + around fs
+  around (f ∷ fs) = one kind f.header.kind + (inner_count_below kind f.left + inner_count_below kind f.right) + around fs
 
   count-plug : (fs : List (Frame N A)) (t : Tree N A) → count_of kind (plug fs t) ≡ count_of kind t + around fs
   count-plug [] t = let same : count_of kind t ≡ count_of kind t + 0 = omega arith in same
@@ -31,11 +31,11 @@ module _ {N A : Type 0} (kind : NodeType) where
   mutual
     count-unmarked : (t : Tree N A) → count_of kind (unmarked t) ≡ count_of kind t
     count-unmarked (leaf n x) = refl
-    count-unmarked (inner n h cs) = ap (λ z. one kind h.kind + z) (count_below-unmarked cs)
+    count-unmarked (inner n h cs) = ap (λ z. one kind h.kind + z) (inner_count_below-unmarked cs)
 
-    count_below-unmarked : (cs : Children N A) → count_below kind (all_unmarked cs) ≡ count_below kind cs
-    count_below-unmarked no_child = refl
-    count_below-unmarked (child b t cs) = ap₂ (λ x y. x + y) (count-unmarked t) (count_below-unmarked cs)
+    inner_count_below-unmarked : (cs : Subtrees N A) → inner_count_below kind (all_unmarked cs) ≡ inner_count_below kind cs
+    inner_count_below-unmarked no_child = refl
+    inner_count_below-unmarked (child b t cs) = ap₂ (λ x y. x + y) (count-unmarked t) (inner_count_below-unmarked cs)
 
 -- a change in the hole is one of the whole
 module _ {N A : Type 0} (fs : List (Frame N A)) (t u : Tree N A) where

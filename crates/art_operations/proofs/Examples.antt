@@ -5,7 +5,7 @@ use Rattle.std.specs.Box.{boxed_slice_items}
 use Rattle.std.proofs.lemmas.Bool.{true≢false}
 use Rattle.art_nodes.specs.Nodes.{Promise}
 use Rattle.art_nodes.specs.declared.node.NodeType.TheVariants.{Node4, Node16}
-use Rattle.art_operations.specs.Answers.{Answers, pairs_after}
+use Rattle.art_operations.specs.Answers.{Answers, pairs_after_command}
 use Rattle.art_operations.specs.Needs.{needs}
 use Rattle.art_operations.specs.Runs.{Chain}
 use Rattle.art_writing.specs.declared.insert.InsertPrefixError.{InsertPrefixError}
@@ -95,7 +95,7 @@ no_node = record { leaves = 0; inner = None }
 fifth_comes : needs {V = ℕ} bytes 16 (Insert (5 ∷ []) 0) four ≡ record { leaves = 1; inner = Some Node16 }
 fifth_comes = refl
 
-fifth_goes : needs {V = ℕ} bytes 16 DeleteMax (pairs_after bytes (Insert (5 ∷ []) 0) four) ≡ record { leaves = 0; inner = Some Node4 }
+fifth_goes : needs {V = ℕ} bytes 16 DeleteMax (pairs_after_command bytes (Insert (5 ∷ []) 0) four) ≡ record { leaves = 0; inner = Some Node4 }
 fifth_goes = refl
 
 -- a fourth child needs a leaf alone, and the deletion of any of four nothing
@@ -120,5 +120,5 @@ long = (7 ∷ 1 ∷ 1 ∷ 1 ∷ 1 ∷ 5 ∷ [], 0) ∷ (7 ∷ 1 ∷ 1 ∷ 1 ∷ 
 prefix_split : needs {V = ℕ} bytes 2 (Insert (7 ∷ 1 ∷ 1 ∷ 9 ∷ []) 0) long ≡ record { leaves = 1; inner = Some Node4 }
 prefix_split = refl
 
-prefix_merged : needs {V = ℕ} bytes 2 DeleteMax (pairs_after bytes (Insert (7 ∷ 1 ∷ 1 ∷ 9 ∷ []) 0) long) ≡ no_node
+prefix_merged : needs {V = ℕ} bytes 2 DeleteMax (pairs_after_command bytes (Insert (7 ∷ 1 ∷ 1 ∷ 9 ∷ []) 0) long) ≡ no_node
 prefix_merged = refl

@@ -3,7 +3,7 @@ use Rattle.std.proofs.Common.{◌≡◌, ℕ, List, [], refl, ap, sym, ◌∙◌
 use Rattle.art_nodes.specs.Clones.{IsPairClone}
 use Rattle.art_nodes.specs.Nodes.{Nodes}
 use Rattle.art_nodes.specs.declared.node.OpaqueNodePtr.{OpaqueNodePtr}
-use Rattle.art_model.specs.Canonical.{IsTree, IsCanonical}
+use Rattle.art_model.specs.Canonical.{IsCanonicalTree, IsCanonical}
 use Rattle.art_model.specs.Clones.{AreClones}
 use Rattle.art_model.specs.Kept.{Frees, KeepsOthers}
 use Rattle.art_model.specs.Layouts.{names_of}
@@ -43,7 +43,7 @@ module _ {K V : Type 0} (bytes : K → List ℕ) (P : ℕ) (is_key_clone : K →
       go First = refl
       go Second = refl
 
-  module _ {s : Nodes K V} {root : OpaqueNodePtr} {layout : Layout K V} (by : IsTree (of_key bytes) P s root (pairs_of layout) layout) where
+  module _ {s : Nodes K V} {root : OpaqueNodePtr} {layout : Layout K V} (by : IsCanonicalTree (of_key bytes) P s root (pairs_of layout) layout) where
     pub over_step : {t z w : Nodes K V} {after : OpaqueNodePtr} (now : Side) → now ≡ opposite side → HasGone bytes P is_key_clone is_value_clone s t z w layout after →
         (new : State K V) × (shown new ≡ on now (of_side side t w) (of_side side w t) (Some after)) ×
         Step bytes P (IsPairClone is_key_clone is_value_clone) (in_store side s z (Some layout)) Clone Cloned new

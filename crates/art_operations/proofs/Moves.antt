@@ -3,7 +3,7 @@ use Rattle.std.proofs.Common.{◌≡◌, ℕ, List, [], refl, ap, sym, ◌∙◌
 use Rattle.std.specs.Option.{option_map}
 use Rattle.art_nodes.specs.Nodes.{Nodes}
 use Rattle.art_nodes.specs.declared.node.OpaqueNodePtr.{OpaqueNodePtr}
-use Rattle.art_model.specs.Canonical.{IsTree, IsCanonical}
+use Rattle.art_model.specs.Canonical.{IsCanonicalTree, IsCanonical}
 use Rattle.art_model.specs.Layouts.{name_of}
 use Rattle.art_model.specs.Pairs.{of_key}
 use Rattle.art_model.specs.Radix.{pairs_of}
@@ -44,10 +44,10 @@ module _ {K V : Type 0} where
 
 module _ {K V : Type 0} (bytes : K → List ℕ) (P : ℕ) where
   -- a root that is canonical for its layout's pairs
-  pub own_pairs : {s : Nodes K V} {root : OpaqueNodePtr} {pairs : List (K × V)} {layout : Layout K V} → IsTree (of_key bytes) P s root pairs layout →
-      IsTree (of_key bytes) P s (name_of layout) (pairs_of layout) layout
+  pub own_pairs : {s : Nodes K V} {root : OpaqueNodePtr} {pairs : List (K × V)} {layout : Layout K V} → IsCanonicalTree (of_key bytes) P s root pairs layout →
+      IsCanonicalTree (of_key bytes) P s (name_of layout) (pairs_of layout) layout
   own_pairs {s} {root} {pairs} {layout} by =
-      subst (λ n. IsTree (of_key bytes) P s n (pairs_of layout) layout) (sym by.stands.0.named) (subst (λ xs. IsTree (of_key bytes) P s root xs layout) (sym (tree_radix by).1) by)
+      subst (λ n. IsCanonicalTree (of_key bytes) P s n (pairs_of layout) layout) (sym by.stands.0.named) (subst (λ xs. IsCanonicalTree (of_key bytes) P s root xs layout) (sym (tree_radix by).1) by)
 
   -- a root is canonical for the pairs of a state that shows it
   pub sound_canonical : (old : State K V) (side : Side) (s z : Nodes K V) (root : Option OpaqueNodePtr) → shown old ≡ beside side s z root →
@@ -108,7 +108,7 @@ module _ {K V : Type 0} {IsClone : K × V → K × V → Type 0} (bytes : K → 
 
     -- from the tree of a canonical root
     pub any_from_root : {root : Option OpaqueNodePtr} {name : OpaqueNodePtr} → root ≡ Some name →
-        ((layout : Layout K V) → IsTree (of_key bytes) P s name (pairs_of layout) layout → (new : State K V) × (shown new ≡ to) ×
+        ((layout : Layout K V) → IsCanonicalTree (of_key bytes) P s name (pairs_of layout) layout → (new : State K V) × (shown new ≡ to) ×
         Step bytes P IsClone (in_store side s z (Some layout)) c r new) → MakesStep bytes P IsClone (beside side s z root) c r to
     any_from_root {root} {name} is step = makes_any (λ tree named sound. go tree (named ∙ is) sound)
       where
@@ -117,7 +117,7 @@ module _ {K V : Type 0} {IsClone : K × V → K × V → Type 0} (bytes : K → 
         go None e h = absurd cc
         go (Some layout) e h =
             let n : name_of layout ≡ name = cc in
-            step layout (subst (λ m. IsTree (of_key bytes) P s m (pairs_of layout) layout) n h)
+            step layout (subst (λ m. IsCanonicalTree (of_key bytes) P s m (pairs_of layout) layout) n h)
 
   module _ (side : Side) {s t : Nodes K V} {c : Command K V} {r : Reply K V} (z : Nodes K V) where
     pub makes_step : {root after : Option OpaqueNodePtr} →
@@ -139,7 +139,7 @@ module _ {K V : Type 0} {IsClone : K × V → K × V → Type 0} (bytes : K → 
 
     -- a step from the tree of a canonical root
     pub from_root : {root after : Option OpaqueNodePtr} {name : OpaqueNodePtr} → root ≡ Some name →
-        ((layout : Layout K V) → IsTree (of_key bytes) P s name (pairs_of layout) layout →
+        ((layout : Layout K V) → IsCanonicalTree (of_key bytes) P s name (pairs_of layout) layout →
         StepFrom bytes P IsClone side s t z (Some layout) c r after) → MakesStep bytes P IsClone (beside side s z root) c r (beside side t z after)
     from_root {root} {after} {name} is step = makes_step (λ tree named sound. go tree (named ∙ is) sound)
       where
@@ -147,11 +147,11 @@ module _ {K V : Type 0} {IsClone : K × V → K × V → Type 0} (bytes : K → 
         go None e h = absurd cc
         go (Some layout) e h =
             let n : name_of layout ≡ name = cc in
-            step layout (subst (λ m. IsTree (of_key bytes) P s m (pairs_of layout) layout) n h)
+            step layout (subst (λ m. IsCanonicalTree (of_key bytes) P s m (pairs_of layout) layout) n h)
 
     -- a step that leaves the root
     pub from_kept_root : {root : Option OpaqueNodePtr} {name : OpaqueNodePtr} → root ≡ Some name →
-        ((layout : Layout K V) → IsTree (of_key bytes) P s name (pairs_of layout) layout →
+        ((layout : Layout K V) → IsCanonicalTree (of_key bytes) P s name (pairs_of layout) layout →
         StepFrom bytes P IsClone side s t z (Some layout) c r (Some name)) → MakesStep bytes P IsClone (beside side s z root) c r (beside side t z root)
     from_kept_root is step = from_root is (λ layout by. subst (λ after. StepFrom bytes P IsClone side s t z (Some layout) c r after) (sym is) (step layout by))
 
@@ -180,7 +180,7 @@ module _ {K V : Type 0} {IsClone : K × V → K × V → Type 0} (bytes : K → 
     pub absent : Answers bytes IsClone [] c (Deleted None) [] → StepFrom bytes P IsClone side s s z None c (Deleted None) None
     absent answers = (None, refl, record { answers = answers; refuses = tt; sound = refl; changes = nothing z None (refl, refl); promises = refl })
 
-    pub absent_at : {root : OpaqueNodePtr} {layout : Layout K V} → IsTree (of_key bytes) P s root (pairs_of layout) layout →
+    pub absent_at : {root : OpaqueNodePtr} {layout : Layout K V} → IsCanonicalTree (of_key bytes) P s root (pairs_of layout) layout →
         Answers bytes IsClone (pairs_of layout) c (Deleted None) (pairs_of layout) → StepFrom bytes P IsClone side s s z (Some layout) c (Deleted None) (Some root)
     absent_at {root} {layout} by answers =
         (Some layout, ap Some by.stands.0.named, record { answers = answers; refuses = tt; sound = own_pairs bytes P by; changes = nothing z (Some layout) (refl, refl); promises = refl })

@@ -8,22 +8,22 @@ use Rattle.std.proofs.Math.Seq.{get_or-append_seam}
 use Rattle.std.specs.FinMap.{get}
 use Rattle.std.specs.Option.{is_some}
 use Rattle.art_nodes.specs.Inner.{Inner, child_at}
-use Rattle.art_nodes.specs.Kinds.{kind_capacity, larger_kind, kind_least, smaller_kind}
+use Rattle.art_nodes.specs.Kinds.{kind_capacity, kind_least, larger_kind, next_larger, smaller_kind}
 use Rattle.art_nodes.specs.Names.{leaf_name, inner_name}
 use Rattle.art_nodes.specs.Nodes.{Nodes, Promise}
 use Rattle.art_nodes.specs.declared.node.InnerPtr.{InnerPtr}
 use Rattle.art_nodes.specs.declared.node.NodeType.{NodeType}
 use Rattle.art_nodes.specs.declared.node.NodeType.TheVariants.{Node4, Node16, Node48, Node256, Leaf}
 use Rattle.art_nodes.specs.declared.node.OpaqueNodePtr.{OpaqueNodePtr}
-use Rattle.art_model.specs.Canonical.{IsTree}
+use Rattle.art_model.specs.Canonical.{IsCanonicalTree}
 use Rattle.art_model.specs.Keys.{IsFront, are_related, are_same}
 use Rattle.art_model.specs.Layouts.{name_of, slots_of, Holds}
 use Rattle.art_model.specs.Pairs.{of_key, first_of, has_key, with_key, put, remove_key, replace_key}
 use Rattle.art_model.specs.Paths.{Frame, plug, IsPath}
 use Rattle.art_model.specs.Places.{least_key, prefix_of}
-use Rattle.art_model.specs.Radix.{IsRadix, AreRadix, IsRising, join, bytes_of, pairs_of, pairs_below}
+use Rattle.art_model.specs.Radix.{IsRadix, AreRadix, BytesRise, join, bytes_of, pairs_of, pairs_below}
 use Rattle.art_model.specs.Stores.{node_at}
-use Rattle.art_model.specs.Trees.{Tree, leaf, inner, Children, child, no_child, Header, header_of, kind_of}
+use Rattle.art_model.specs.Trees.{Tree, leaf, inner, Subtrees, child, no_child, NodeHeader, canonical_header, kind_of}
 use Rattle.art_model.proofs.AddedChild.{IsSplit, kind_of-larger, split_at}
 use Rattle.art_model.proofs.Between.{remove_key-between, replace_key-between}
 use Rattle.art_model.proofs.Canonical.{tree_radix}
@@ -37,17 +37,17 @@ use Rattle.art_model.proofs.OutOf.{kind_of-smaller}
 use Rattle.art_model.proofs.Paths.{IsHole, radix_plug, changed_at, pairs_of-plug}
 use Rattle.art_model.proofs.PlaceLaws.{depth_is}
 use Rattle.art_model.proofs.Places.{place_is, prefix_is}
-use Rattle.art_model.proofs.Puts.{put-new, put-old}
+use Rattle.art_model.proofs.Puts.{any_is_first, put-new, put-old}
 use Rattle.art_model.proofs.Radix.{only_child, pairs_below-join, bytes_of-join, AreRadix-right}
-use Rattle.art_model.proofs.Slots.{IsInRange, range_of_kind, kind_of-room, kind_of-full, kind_of-spare, kind_of-least, length-slots_of}
+use Rattle.art_model.proofs.Slots.{IsInRange, range_of_kind, kind_of-range, kind_of-room, kind_of-full, kind_of-spare, kind_of-least, length-slots_of}
 use Rattle.art_model.proofs.Stores.{path_holds}
 use Rattle.art_model.specs.Writes.{as_inner}
 use Rattle.art_model.proofs.Writes.{inner_at}
 use Rattle.art_operations.specs.Answers.{Answers}
-use Rattle.art_writing.specs.Inserted.{placed_for, is_full, HasByteLeft}
+use Rattle.art_writing.specs.Inserted.{placed_for, is_full}
 use Rattle.art_writing.specs.Deleted.{LeadsTo, ParentChange, no_parent, keeps, shrinks, change_of, parent_change, placed_for_deletion}
 use Rattle.art_reading.specs.Matching.{shared_len}
-use Rattle.art_operations.specs.Needs.{needs, count_of, count_below, more_of, inner_count}
+use Rattle.art_operations.specs.Needs.{needs, count_of, inner_count_below, more_of, inner_count}
 use Rattle.art_writing.specs.Points.{AnswersTo, IsKindOf}
 use Rattle.art_reading.specs.Paths.{path_of}
 use Rattle.art_writing.specs.declared.delete.DeletePoint.{DeletePoint}
@@ -58,7 +58,6 @@ use Rattle.art_operations.specs.declared.run.Command.{Command}
 use Rattle.art_operations.specs.declared.run.Command.TheVariants.{Insert, InsertPrefix, Delete, DeleteMin, DeleteMax, Contains, LongestMatch, Clone}
 use Rattle.art_operations.specs.declared.run.Reply.TheVariants.{Deleted}
 use Rattle.art_operations.proofs.Counts.{one, count-join, more_in_hole, fewer_in_hole, gains, loses}
-use Rattle.art_operations.proofs.Found.{any_first}
 use Rattle.art_writing.proofs.Ways.{last_step-path_of}
 
 -- ---- a key that is new, or not
@@ -70,10 +69,10 @@ module _ {A : Type 0} (bytes : A → List ℕ) (new : A) (pairs : List A) where
       go : (found : List A) → with_key bytes (bytes new) pairs ≡ found → n + length (with_key bytes (bytes new) pairs) ≡ 1 → cond (has_key bytes (bytes new) pairs) 0 1 ≡ n
       go [] is c =
           let one_is : 1 ≡ n = let l = ap length is in omega arith in
-          ap (λ b. cond b 0 1) (any_first (λ x. are_same (bytes new) (bytes x)) pairs ∙ ap (λ xs. is_some (first_of xs)) is) ∙ one_is
+          ap (λ b. cond b 0 1) (any_is_first (λ x. are_same (bytes new) (bytes x)) pairs ∙ ap (λ xs. is_some (first_of xs)) is) ∙ one_is
       go (x ∷ xs) is c =
           let none_is : 0 ≡ n = let l = ap length is in omega arith in
-          ap (λ b. cond b 0 1) (any_first (λ y. are_same (bytes new) (bytes y)) pairs ∙ ap (λ ys. is_some (first_of ys)) is) ∙ none_is
+          ap (λ b. cond b 0 1) (any_is_first (λ y. are_same (bytes new) (bytes y)) pairs ∙ ap (λ ys. is_some (first_of ys)) is) ∙ none_is
 
   -- where the list becomes longer by one, no pair had the key
   none_by_length : length (replace_key bytes new pairs) ≡ length pairs + 1 → first_of (with_key bytes (bytes new) pairs) ≡ None
@@ -157,7 +156,7 @@ module _ {K V : Type 0} (bytes : K → List ℕ) (P : ℕ) (k : K) (v : V) {fs :
   branch_needs u old part below same counts =
       let new_front : IsFront ((place ++ part.front) ++ part.y ∷ []) (bytes k) = (part.s, hole.front.1 ∙ ap (λ z. place ++ z) part.b_is ∙ simp append_assoc) in
       let (radix, its) = branch (of_key bytes) P place part.front part.x part.y u (name_of u) (name_of u) (k, v) below new_front part.differ in
-      new_needs_some bytes P k v hole was (inner (name_of u) (header_of P part.front 2) (two_children part.x u part.y (leaf (name_of u) (k, v))))
+      new_needs_some bytes P k v hole was (inner (name_of u) (canonical_header P part.front 2) (two_children part.x u part.y (leaf (name_of u) (k, v))))
       radix (its ∙ ap (replace_key (of_key bytes) (k, v)) same)
       (longer (ltb part.x part.y) ∙ ap (λ z. length z + 1) same) Node4 (λ kind. 0) (λ e. absurd cc) refl (λ kind. more kind (ltb part.x part.y) (counts kind))
     where
@@ -167,7 +166,7 @@ module _ {K V : Type 0} (bytes : K → List ℕ) (P : ℕ) (k : K) (v : V) {fs :
       longer false = let e = length-append (pairs_of u) [] in omega arith
 
       more : (kind : NodeType) (first : Bool) → count_of kind u ≡ count_of kind t →
-          one kind Node4 + count_below kind (cond first (child part.x u (child part.y (leaf (name_of u) (k, v)) no_child))
+          one kind Node4 + inner_count_below kind (cond first (child part.x u (child part.y (leaf (name_of u) (k, v)) no_child))
           (child part.y (leaf (name_of u) (k, v)) (child part.x u no_child))) + 0 ≡ count_of kind t + one kind Node4
       more kind true e = omega arith
       more kind false e = omega arith
@@ -193,7 +192,7 @@ module _ {K V : Type 0} (bytes : K → List ℕ) (P : ℕ) (k : K) (v : V) {fs :
       branch_needs t old part (subst (IsRadix (of_key bytes) P ((place ++ part.front) ++ part.x ∷ [])) (sym is)
       (part.r, below ∙ ap (λ z. place ++ z) part.a_is ∙ simp append_assoc)) refl (λ kind. refl)
 
-  module _ (header : Header) (cs : Children OpaqueNodePtr (K × V)) (is : t ≡ inner (name_of t) header cs) where
+  module _ (header : NodeHeader) (cs : Subtrees OpaqueNodePtr (K × V)) (is : t ≡ inner (name_of t) header cs) where
     radix_here : IsRadix (of_key bytes) P place (inner (name_of t) header cs)
     radix_here = subst (IsRadix (of_key bytes) P place) is hole.radix
 
@@ -212,9 +211,9 @@ module _ {K V : Type 0} (bytes : K → List ℕ) (P : ℕ) (k : K) (v : V) {fs :
         let long = ap length hole.front.1 in
         let part = part_where radix_here.0 hole.front.0 (omega arith) (omega (arith, simp length-append at long)) in
         let count = length (bytes_of cs) in
-        branch_needs (inner (name_of t) (header_of P part.r count) cs) radix_here.0 part
+        branch_needs (inner (name_of t) (canonical_header P part.r count) cs) radix_here.0 part
         (trimmed (of_key bytes) P place part.front part.r part.x (name_of t) header cs radix_here.2 radix_here.3 (subst (λ z. AreRadix (of_key bytes) P (place ++ z) cs) part.a_is radix_here.4))
-        (ap pairs_of (sym is)) (λ kind. ap (λ h. one kind h + count_below kind cs) (sym (ap (λ h. h.kind) radix_here.1)) ∙ ap (count_of kind) (sym is))
+        (ap pairs_of (sym is)) (λ kind. ap (λ h. one kind h + inner_count_below kind cs) (sym (ap (λ h. h.kind) radix_here.1)) ∙ ap (count_of kind) (sym is))
 
     -- a node takes the leaf as its child under a byte that has none
     module _ (b : ℕ) (none : child_at (slots_of cs) b ≡ None) (front : IsFront ((place ++ radix_here.0) ++ b ∷ []) (bytes k)) where
@@ -225,12 +224,12 @@ module _ {K V : Type 0} (bytes : K → List ℕ) (P : ℕ) (k : K) (v : V) {fs :
       count = length (bytes_of (join split.left split.right))
 
       grown : Tree OpaqueNodePtr (K × V)
-      grown = inner (name_of t) (header_of P radix_here.0 (suc count)) (join split.left (child b (leaf (name_of t) (k, v)) split.right))
+      grown = inner (name_of t) (canonical_header P radix_here.0 (suc count)) (join split.left (child b (leaf (name_of t) (k, v)) split.right))
 
       grown_is : IsRadix (of_key bytes) P place grown × (pairs_of grown ≡ replace_key (of_key bytes) (k, v) (pairs_below (join split.left split.right)))
       unfolding grown
       grown_is =
-          with_child (of_key bytes) P place radix_here.0 split.left split.right b (name_of t) (name_of t) (k, v) (subst (λ z. IsRising (bytes_of z)) split.whole radix_here.3) split.low split.high
+          with_child (of_key bytes) P place radix_here.0 split.left split.right b (name_of t) (name_of t) (k, v) (subst (λ z. BytesRise (bytes_of z)) split.whole radix_here.3) split.low split.high
           (let two = subst (λ z. 2 ≤ length (bytes_of z)) split.whole radix_here.2 in omega arith) (subst (AreRadix (of_key bytes) P (place ++ radix_here.0)) split.whole radix_here.4) front
 
       grown_pairs : pairs_of grown ≡ replace_key (of_key bytes) (k, v) (pairs_of t)
@@ -252,61 +251,69 @@ module _ {K V : Type 0} (bytes : K → List ℕ) (P : ℕ) (k : K) (v : V) {fs :
       more kind =
           let a = count-join kind split.left (child b (leaf (name_of t) (k, v)) split.right) in
           let c = count-join kind split.left split.right in
-          let d : count_of kind t ≡ one kind (kind_of count) + count_below kind (join split.left split.right) =
-          ap (count_of kind) is ∙ ap₂ (λ h z. one kind h + count_below kind z) kind_was split.whole in
+          let d : count_of kind t ≡ one kind (kind_of count) + inner_count_below kind (join split.left split.right) =
+          ap (count_of kind) is ∙ ap₂ (λ h z. one kind h + inner_count_below kind z) kind_was split.whole in
           omega arith
 
-      child_needs : (s : Nodes K V) (p : InnerPtr) → name_of t ≡ inner_name p → Holds (node_at s) t → HasByteLeft s (IntoExisting p) →
+      child_needs : (s : Nodes K V) (p : InnerPtr) → name_of t ≡ inner_name p → Holds (node_at s) t →
           placed_for s (IntoExisting p) ≡ needs bytes P (Insert k v) (pairs_of (plug fs t))
-      child_needs s p named holds left =
+      child_needs s p named holds =
           let (off, node, got, head, kids) = inner_at s (name_of t) header (slots_of cs) (subst (Holds (node_at s)) is holds).0 in
           let here : get s.inners p ≡ Some node = subst (λ z. get s.inners (as_inner z) ≡ Some node) named got in
           let number : length node.children ≡ count = ap length kids ∙ length-slots_of cs ∙ ap (λ z. length (bytes_of z)) split.whole in
           let own : p.kind ≡ kind_of count = ap (λ (z : OpaqueNodePtr). z.kind) (sym named) ∙ ap (λ h. h.kind) head ∙ kind_was in
-          let few : length node.children < 256 = subst (λ o. IfSome o (λ n. length n.children < 256)) here left in
           let full_is : is_full s p ≡ leb (kind_capacity p.kind) count =
           subst (λ (o : Option Inner). elim o as (λ _. Bool) [ None ↦ false | Some n ↦ leb (kind_capacity p.kind) (length n.children) ] ≡ leb
           (kind_capacity p.kind) count) (sym here) (ap (leb (kind_capacity p.kind)) number) in
-          ap (λ (f : Bool). let z : Promise = record { leaves = 1; inner = cond f (Some (larger_kind p.kind)) None } in z) full_is ∙ go p.kind own (omega arith) (leb (kind_capacity p.kind) count) refl
+          ap (λ (f : Bool). let z : Promise = record { leaves = 1; inner = cond f (next_larger p.kind) None } in z) full_is ∙ go p.kind own (leb (kind_capacity p.kind) count) refl
         where
-          go : (kind : NodeType) → kind ≡ kind_of count → count < 256 → (full : Bool) → leb (kind_capacity kind) count ≡ full →
-              ◌≡◌ {A = Promise} (record { leaves = 1; inner = cond full (Some (larger_kind kind)) None }) (needs bytes P (Insert k v) (pairs_of (plug fs t)))
-          go kind own few true e =
-              let full = leb-true (kind_capacity kind) count e in
-              let not_last : kind ≢ Node256 = λ last. let c = ap kind_capacity last in absurd (omega arith) in
+          stays : (kind : NodeType) → kind ≡ kind_of count → kind ≡ kind_of (suc count) →
+              ◌≡◌ {A = Promise} (record { leaves = 1; inner = None }) (needs bytes P (Insert k v) (pairs_of (plug fs t)))
+          stays kind own after =
+              new_needs_none bytes P k v hole was grown grown_is.0 grown_pairs longer
+              (λ z. let m = more z in let o : one z (kind_of count) ≡ one z (kind_of (suc count)) = ap (one z) (sym own ∙ after) in omega arith)
+
+          grows : (kind : NodeType) → kind ≡ kind_of count → kind ≢ Node256 → kind_capacity kind ≤ count →
+              ◌≡◌ {A = Promise} (record { leaves = 1; inner = Some (larger_kind kind) }) (needs bytes P (Insert k v) (pairs_of (plug fs t)))
+          grows kind own not_last full =
               ap (λ (z : NodeType). let y : Promise = record { leaves = 1; inner = Some z } in y) (kind_of-larger kind count own not_last full)
               ∙ new_needs_some bytes P k v hole was grown grown_is.0 grown_pairs longer (kind_of (suc count)) (λ z. one z (kind_of count))
               (kind_of-proper (suc count)) (one_off (kind_of (suc count)) (kind_of count) (λ same. kind_of-full kind count not_last full (own ∙ sym same))) more
-          go kind own few false e =
-              let room = kind_of-room kind count own (leb-false (kind_capacity kind) count e) in
-              new_needs_none bytes P k v hole was grown grown_is.0 grown_pairs longer
-              (λ z. let m = more z in let o : one z (kind_of count) ≡ one z (kind_of (suc count)) = ap (one z) (sym own ∙ room) in omega arith)
+
+          go : (kind : NodeType) → kind ≡ kind_of count → (full : Bool) → leb (kind_capacity kind) count ≡ full →
+              ◌≡◌ {A = Promise} (record { leaves = 1; inner = cond full (next_larger kind) None }) (needs bytes P (Insert k v) (pairs_of (plug fs t)))
+          go Node4 own true e = grows Node4 own (λ last. absurd cc) (leb-true 4 count e)
+          go Node16 own true e = grows Node16 own (λ last. absurd cc) (leb-true 16 count e)
+          go Node48 own true e = grows Node48 own (λ last. absurd cc) (leb-true 48 count e)
+          go Node256 own true e = let full = leb-true 256 count e in stays Node256 own (sym (kind_of-range Node256 (suc count) (omega arith)))
+          go Leaf own true e = absurd (kind_of-proper count (sym own))
+          go kind own false e = stays kind own (kind_of-room kind count own (leb-false (kind_capacity kind) count e))
 
     -- the byte after the prefix
     into_needs : (used : ℕ) → IsFront (prefix_of (of_key bytes) (length place) t) (drop (length place) (bytes k)) →
         used ≡ length place + length (prefix_of (of_key bytes) (length place) t) → used < length (bytes k) → child_at (slots_of cs) (get_or (bytes k) used 0) ≡ None →
-        (s : Nodes K V) (p : InnerPtr) → name_of t ≡ inner_name p → Holds (node_at s) t → HasByteLeft s (IntoExisting p) →
+        (s : Nodes K V) (p : InnerPtr) → name_of t ≡ inner_name p → Holds (node_at s) t →
         placed_for s (IntoExisting p) ≡ needs bytes P (Insert k v) (pairs_of (plug fs t))
     into_needs used (q, e) is_used short none =
         go q (hole.front.1 ∙ ap (λ z. place ++ z) (sym rest_here ∙ e ∙ ap (λ z. z ++ q) prefix_here) ∙ sym (append_assoc place radix_here.0 q))
         (is_used ∙ ap (λ z. length place + length z) prefix_here)
       where
         go : (r : List ℕ) → bytes k ≡ (place ++ radix_here.0) ++ r → used ≡ length place + length radix_here.0 → (s : Nodes K V) (p : InnerPtr) →
-            name_of t ≡ inner_name p → Holds (node_at s) t → HasByteLeft s (IntoExisting p) → placed_for s (IntoExisting p) ≡ needs bytes P (Insert k v) (pairs_of (plug fs t))
+            name_of t ≡ inner_name p → Holds (node_at s) t → placed_for s (IntoExisting p) ≡ needs bytes P (Insert k v) (pairs_of (plug fs t))
         go [] whole at = absurd (let l = ap length whole in omega (arith, simp length-append at l))
         go (b ∷ r) whole at =
             let byte : get_or (bytes k) used 0 ≡ b = ap₂ (λ z n. get_or z n 0) whole (at ∙ sym (length-append place radix_here.0)) ∙ get_or-append_seam (place ++ radix_here.0) b r 0 in
             child_needs b (subst (λ z. child_at (slots_of cs) z ≡ None) byte none) (r, whole ∙ sym (append_assoc (place ++ radix_here.0) (b ∷ []) r))
 
   -- at the end node of the key
-  pub kind_needs : (s : Nodes K V) (used : ℕ) (kind : InsertKind) → Holds (node_at s) t → HasByteLeft s kind →
+  pub kind_needs : (s : Nodes K V) (used : ℕ) (kind : InsertKind) → Holds (node_at s) t →
       IsKindOf (of_key bytes) P (bytes k) t (length place) used kind → placed_for s kind ≡ needs bytes P (Insert k v) (pairs_of (plug fs t))
-  kind_needs s used (Exact p) holds left (at, (pair, is, (name, same))) = same_needs pair (is ∙ ap (λ n. leaf n pair) (sym (ap name_of is))) same
-  kind_needs s used (SplitLeaf p new) holds left (at, (pair, is, (name, off, shared))) = leaf_needs pair (is ∙ ap (λ n. leaf n pair) (sym (ap name_of is))) off
-  kind_needs s used (MismatchPrefix m p) holds left (at, (header, cs, is, parts, short)) =
+  kind_needs s used (Exact p) holds (at, (pair, is, (name, same))) = same_needs pair (is ∙ ap (λ n. leaf n pair) (sym (ap name_of is))) same
+  kind_needs s used (SplitLeaf p new) holds (at, (pair, is, (name, off, shared))) = leaf_needs pair (is ∙ ap (λ n. leaf n pair) (sym (ap name_of is))) off
+  kind_needs s used (MismatchPrefix m p) holds (at, (header, cs, is, parts, short)) =
       prefix_needs header cs (is ∙ ap (λ n. inner n header cs) (sym (ap name_of is))) m.matched_bytes m.prefix_byte parts.matched parts.byte short
-  kind_needs s used (IntoExisting p) holds left (header, cs, is, front, at, short, none) =
-      into_needs header cs (is ∙ ap (λ n. inner n header cs) (sym (ap name_of is))) used front at short none s p (ap name_of is) holds left
+  kind_needs s used (IntoExisting p) holds (header, cs, is, front, at, short, none) =
+      into_needs header cs (is ∙ ap (λ n. inner n header cs) (sym (ap name_of is))) used front at short none s p (ap name_of is) holds
 
 -- ---- deletion
 
@@ -359,11 +366,11 @@ module _ {K V : Type 0} (bytes : K → List ℕ) (P : ℕ) (x : K × V) (n : Opa
   More = more_of (inner_count bytes P (pairs_of (plug fs whole))) (inner_count bytes P (remove_key (of_key bytes) (bytes x.0) (pairs_of (plug fs whole))))
 
   module _ (place : List ℕ) (path : IsPath (of_key bytes) P place fs) (own : IsRadix (of_key bytes) P place whole) where
-    below_count : (kind : NodeType) → count_of kind whole ≡ one kind f.header.kind + count_below kind (join f.left f.right)
+    below_count : (kind : NodeType) → count_of kind whole ≡ one kind f.header.kind + inner_count_below kind (join f.left f.right)
     below_count kind =
         let a = count-join kind f.left (child f.byte (leaf n x) f.right) in
         let c = count-join kind f.left f.right in
-        let d : count_of kind whole ≡ one kind f.header.kind + count_below kind (join f.left (child f.byte (leaf n x) f.right)) = refl in
+        let d : count_of kind whole ≡ one kind f.header.kind + inner_count_below kind (join f.left (child f.byte (leaf n x) f.right)) = refl in
         omega arith
 
     front : IsFront place (bytes x.0)
@@ -389,7 +396,7 @@ module _ {K V : Type 0} (bytes : K → List ℕ) (P : ℕ) (x : K × V) (n : Opa
     -- two or more children stay
     module _ (two : 2 ≤ left_over) where
       stays : Tree OpaqueNodePtr (K × V)
-      stays = inner f.mark (header_of P own.0 left_over) (join f.left f.right)
+      stays = inner f.mark (canonical_header P own.0 left_over) (join f.left f.right)
 
       stays_is : IsRadix (of_key bytes) P place stays × (pairs_of stays ≡ remove_key (of_key bytes) (bytes x.0) (pairs_of whole))
       unfolding stays
@@ -418,9 +425,9 @@ module _ {K V : Type 0} (bytes : K → List ℕ) (P : ℕ) (x : K × V) (n : Opa
             IsRadix (of_key bytes) P ((place ++ own.0) ++ c ∷ []) v → pairs_of v ≡ remove_key (of_key bytes) (bytes x.0) (pairs_of whole) → None ≡ More
         go c (leaf k y) is radix its = none_comes (leaf k y) (raised (of_key bytes) P place own.0 c k y radix) its (λ kind. let z : 0 ≤ count_of kind whole = omega arith in z)
         go c (inner k h cs) is (q, e, two, up, below) its =
-            none_comes (inner k (header_of P (own.0 ++ c ∷ q) (length (bytes_of cs))) cs) (merged (of_key bytes) P place own.0 c q k cs two up below) its (λ kind.
+            none_comes (inner k (canonical_header P (own.0 ++ c ∷ q) (length (bytes_of cs))) cs) (merged (of_key bytes) P place own.0 c q k cs two up below) its (λ kind.
             let a = below_count kind in
-            let b : count_below kind (join f.left f.right) ≡ one kind h.kind + count_below kind cs + 0 = ap (count_below kind) is in
+            let b : inner_count_below kind (join f.left f.right) ≡ one kind h.kind + inner_count_below kind cs + 0 = ap (inner_count_below kind) is in
             let d : one kind (kind_of (length (bytes_of cs))) ≡ one kind h.kind = ap (λ z. one kind z.kind) (sym e) in
             omega arith)
 
@@ -456,10 +463,11 @@ deletion_needs IsClone bytes P pairs x (Contains key) h = absurd h
 deletion_needs IsClone bytes P pairs x Clone h = absurd h
 deletion_needs IsClone bytes P pairs x (LongestMatch key) h = absurd h
 
-module _ {K V : Type 0} (bytes : K → List ℕ) (P : ℕ) {s : Nodes K V} {root : OpaqueNodePtr} {layout : Tree OpaqueNodePtr (K × V)} (by : IsTree (of_key bytes) P s root (pairs_of layout) layout) where
-  pub needs_inserted : (k : K) (v : V) (point : InsertPoint) → AnswersTo (of_key bytes) P layout (bytes k) point → HasByteLeft s point.insert_kind →
+module _ {K V : Type 0} (bytes : K → List ℕ) (P : ℕ) {s : Nodes K V} {root : OpaqueNodePtr} {layout : Tree OpaqueNodePtr (K × V)}
+    (by : IsCanonicalTree (of_key bytes) P s root (pairs_of layout) layout) where
+  pub needs_inserted : (k : K) (v : V) (point : InsertPoint) → AnswersTo (of_key bytes) P layout (bytes k) point →
       placed_for s point.insert_kind ≡ needs bytes P (Insert k v) (pairs_of layout)
-  needs_inserted k v point at left =
+  needs_inserted k v point at =
       let was : IsRadix (of_key bytes) P [] (plug at.path at.node) = subst (IsRadix (of_key bytes) P []) (sym at.is_end.whole) (tree_radix by).0 in
       let (place, path, own) = radix_plug (of_key bytes) P at.path at.node was in
       let depth = depth_is (of_key bytes) P at.path place path in
@@ -467,7 +475,7 @@ module _ {K V : Type 0} (bytes : K → List ℕ) (P : ℕ) {s : Nodes K V} {root
       subst (λ w. IsFront w (bytes k)) (ap (λ d. take d (least_key (of_key bytes) at.node)) depth ∙ place_is (of_key bytes) P at.node place own) at.is_end.is_front in
       let holds = (path_holds (node_at s) at.path at.node (subst (Holds (node_at s)) (sym at.is_end.whole) by.stands.0.holds)).1 in
       subst (λ l. placed_for s point.insert_kind ≡ needs bytes P (Insert k v) (pairs_of l)) at.is_end.whole
-      (kind_needs bytes P k v (record { path = path; radix = own; front = front }) was s point.key_bytes_used point.insert_kind holds left
+      (kind_needs bytes P k v (record { path = path; radix = own; front = front }) was s point.key_bytes_used point.insert_kind holds
       (subst (λ d. IsKindOf (of_key bytes) P (bytes k) at.node d point.key_bytes_used point.insert_kind) depth at.kind_is))
 
   pub needs_deleted : (IsClone : K × V → K × V → Type 0) (c : Command K V) (x : K × V) (point : DeletePoint) → LeadsTo layout x point →

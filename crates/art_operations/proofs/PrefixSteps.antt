@@ -10,7 +10,7 @@ use Rattle.art_nodes.specs.declared.node.LeafNode.{LeafNode}
 use Rattle.art_nodes.specs.declared.node.NodeType.{NodeType}
 use Rattle.art_nodes.specs.declared.node.NodeType.TheVariants.{Node4, Node16, Node48, Node256, Leaf}
 use Rattle.art_nodes.specs.declared.node.OpaqueNodePtr.{OpaqueNodePtr}
-use Rattle.art_model.specs.Canonical.{IsCanonical, IsTree}
+use Rattle.art_model.specs.Canonical.{IsCanonical, IsCanonicalTree}
 use Rattle.art_model.specs.Footprints.{TouchesAtMost}
 use Rattle.art_model.specs.Keys.{are_related, are_same}
 use Rattle.art_model.specs.Kept.{ChangesInPlace}
@@ -24,13 +24,14 @@ use Rattle.art_model.proofs.Between.{replace_related-between}
 use Rattle.art_model.proofs.Canonical.{tree_radix}
 use Rattle.art_model.proofs.Filters.{filter_all}
 use Rattle.art_model.proofs.InHole.{with_key-hole}
+use Rattle.art_model.proofs.Keys.{not_same}
 use Rattle.art_model.proofs.Lists.{filter_none, Each-weaker}
 use Rattle.art_model.proofs.Paths.{IsHole, changed_at, related_at}
 use Rattle.art_model.proofs.PutOver.{free_unrelated, one_went, put_is_overwrite, same_rest}
-use Rattle.art_model.proofs.Puts.{not_same, overwrite-new}
+use Rattle.art_model.proofs.Puts.{any_is_first, overwrite-new}
 use Rattle.art_model.proofs.Views.{leaf_or}
 use Rattle.art_operations.specs.Needs.{needs, more_of, inner_count}
-use Rattle.art_writing.specs.Overwritten.{HasByteLeftFor, IsOverwritePointIn, TouchesForNode, TouchesForPrefix, TouchesRelated, placed_for_overwrite, placed_for_prefix}
+use Rattle.art_writing.specs.Overwritten.{IsOverwritePointIn, TouchesForNode, TouchesForPrefix, TouchesRelated, placed_for_overwrite, placed_for_prefix}
 use Rattle.art_writing.specs.Points.{AnswersToOverwrite, IsPointFor}
 use Rattle.art_writing.specs.Inserted.{alone, placed_for}
 use Rattle.art_operations.specs.Steps.{TouchesBy}
@@ -43,7 +44,6 @@ use Rattle.art_operations.specs.declared.run.Side.{Side}
 use Rattle.art_operations.specs.declared.run.Command.TheVariants.{Insert, InsertPrefix}
 use Rattle.art_operations.specs.declared.run.Reply.TheVariants.{Overwrote, NoMemory}
 use Rattle.art_operations.proofs.Counts.{fewer_in_hole, loses}
-use Rattle.art_operations.proofs.Found.{any_first}
 use Rattle.art_operations.proofs.Moves.{Layout, StepFrom, nothing, own_pairs}
 use Rattle.art_operations.proofs.Needed.{needs_inserted}
 use Rattle.art_writing.proofs.Standing.{tree_stays}
@@ -65,7 +65,7 @@ placed_leaf kind count (inr (off, two)) = rw (ne_eqb count 1 (λ e. omega arith)
     inner_places Node48 off = refl
     inner_places Node256 off = refl
 
-module _ {K V : Type 0} (bytes : K → List ℕ) (P : ℕ) {s : Nodes K V} {root : OpaqueNodePtr} {layout : Layout K V} (by : IsTree (of_key bytes) P s root (pairs_of layout) layout) where
+module _ {K V : Type 0} (bytes : K → List ℕ) (P : ℕ) {s : Nodes K V} {root : OpaqueNodePtr} {layout : Layout K V} (by : IsCanonicalTree (of_key bytes) P s root (pairs_of layout) layout) where
   -- no inner node comes where a leaf takes the place of a node
   none_comes : (fs : List (Frame OpaqueNodePtr (K × V))) (place : List ℕ) (node : Layout K V) (x : K × V) → plug fs node ≡ layout →
       IsHole (of_key bytes) P fs place node (bytes x.0) → Each (λ y. are_related (bytes x.0) (bytes y.0) ≡ true) (pairs_of node) → Each (λ y. bytes y.0 ≢ bytes x.0) (pairs_of node) →
@@ -156,7 +156,7 @@ one_at_most [] e = refl
 one_at_most (x ∷ []) e = refl
 one_at_most (x ∷ y ∷ xs) e = absurd (let f = ap (λ z. z.0) e in cc)
 
-module _ {K V : Type 0} (bytes : K → List ℕ) (P : ℕ) {s : Nodes K V} {root : OpaqueNodePtr} {layout : Layout K V} (by : IsTree (of_key bytes) P s root (pairs_of layout) layout) where
+module _ {K V : Type 0} (bytes : K → List ℕ) (P : ℕ) {s : Nodes K V} {root : OpaqueNodePtr} {layout : Layout K V} (by : IsCanonicalTree (of_key bytes) P s root (pairs_of layout) layout) where
   module _ (k : K) (v : V) (free : is_conflict (of_key bytes) (bytes k) (pairs_of layout) ≡ false) where
     same_parts : (remove_related (of_key bytes) (bytes k) (pairs_of layout) ≡ remove_key (of_key bytes) (bytes k) (pairs_of layout)) ×
         (related_to (of_key bytes) (bytes k) (pairs_of layout) ≡ with_key (of_key bytes) (bytes k) (pairs_of layout))
@@ -168,7 +168,7 @@ module _ {K V : Type 0} (bytes : K → List ℕ) (P : ℕ) {s : Nodes K V} {root
     -- where no unequal key is related an overwrite needs what a put does
     needs_same : needs bytes P (Insert k v) (pairs_of layout) ≡ needs bytes P (InsertPrefix k v) (pairs_of layout)
     needs_same = ap₂ (λ (leaves : ℕ) (inner : Option NodeType). let y : Promise = record { leaves = leaves; inner = inner } in y)
-        (ap (λ b. cond b 0 1) (any_first (λ x. are_same (bytes k) (bytes x.0)) (pairs_of layout)) ∙
+        (ap (λ b. cond b 0 1) (any_is_first (λ x. are_same (bytes k) (bytes x.0)) (pairs_of layout)) ∙
         one_leaf (with_key (of_key bytes) (bytes k) (pairs_of layout)) one_has ∙ ap (λ xs. cond (eqb (length xs) 1) 0 1) (sym same_parts.1))
         (ap (λ ps. more_of (inner_count bytes P (pairs_of layout)) (inner_count bytes P ps))
         (sym (put_is_overwrite (of_key bytes) (k, v) (pairs_of layout) (free_unrelated (of_key bytes) (k, v) (bytes k) (pairs_of layout) free))))
@@ -177,9 +177,9 @@ module _ {K V : Type 0} (bytes : K → List ℕ) (P : ℕ) {s : Nodes K V} {root
     few_related = ap (λ xs. leb (length xs) 1) same_parts.1 ∙ one_at_most (with_key (of_key bytes) (bytes k) (pairs_of layout)) one_has
 
   pub needs_prefix : (k : K) (v : V) (point : PrefixInsertPoint) → IsPointFor (of_key bytes) P (bytes k) (pairs_of layout) layout point →
-      HasByteLeftFor s point → placed_for_prefix s point ≡ needs bytes P (InsertPrefix k v) (pairs_of layout)
-  needs_prefix k v (points.InsertPoint point) (free, at) left = needs_inserted bytes P by k v point at left ∙ needs_same k v free
-  needs_prefix k v (points.OverwritePoint point) (related, at) left = needs_overwritten bytes P by k v point at
+      placed_for_prefix s point ≡ needs bytes P (InsertPrefix k v) (pairs_of layout)
+  needs_prefix k v (points.InsertPoint point) (free, at) = needs_inserted bytes P by k v point at ∙ needs_same k v free
+  needs_prefix k v (points.OverwritePoint point) (related, at) = needs_overwritten bytes P by k v point at
 
   touches_prefix : (k : K) (v : V) (point : PrefixInsertPoint) → IsPointFor (of_key bytes) P (bytes k) (pairs_of layout) layout point →
       (t : Nodes K V) → TouchesForPrefix point (of_key bytes) (bytes k) s t layout → TouchesBy bytes (Some layout) (InsertPrefix k v) s t
@@ -188,8 +188,8 @@ module _ {K V : Type 0} (bytes : K → List ℕ) (P : ℕ) {s : Nodes K V} {root
 
   -- a refusal is not for one pair alone
   not_one : (k : K) (v : V) (point : PrefixInsertPoint) → IsPointFor (of_key bytes) P (bytes k) (pairs_of layout) layout point →
-      HasByteLeftFor s point → (is_covered (placed_for_prefix s point) s.promise ≡ true → ⊥) → length (related_to (of_key bytes) (bytes k) (pairs_of layout)) ≢ 1
-  not_one k v point at left off one = go point at off (ap (λ placed. placed.leaves) (needs_prefix k v point at left) ∙ ap (λ n. cond (eqb n 1) 0 1) one)
+      (is_covered (placed_for_prefix s point) s.promise ≡ true → ⊥) → length (related_to (of_key bytes) (bytes k) (pairs_of layout)) ≢ 1
+  not_one k v point at off one = go point at off (ap (λ placed. placed.leaves) (needs_prefix k v point at) ∙ ap (λ n. cond (eqb n 1) 0 1) one)
     where
       by_kind : (kind : InsertKind) → (is_covered (placed_for s kind) s.promise ≡ true → ⊥) → (placed_for s kind).leaves ≡ 0 → ⊥
       by_kind (Exact p) off none = off (leb-zero s.promise.leaves)
@@ -215,13 +215,13 @@ pub record HasAppliedPrefix {K V : Type 0} (bytes : K → List ℕ) (P : ℕ) (s
   pub canonical : IsCanonical (of_key bytes) P t (Some after) (overwrite (of_key bytes) pair (pairs_of layout))
   pub replaced : existing ≡ option_map alone (overwrite_reply (of_key bytes) pair (pairs_of layout)).0
   pub removed : count ≡ (overwrite_reply (of_key bytes) pair (pairs_of layout)).1
-  pub kept : (pairs : List (K × V)) (new : Layout K V) → IsTree (of_key bytes) P t after pairs new → ChangesInPlace (of_key bytes) s t (Some layout) (Some new)
+  pub kept : (pairs : List (K × V)) (new : Layout K V) → IsCanonicalTree (of_key bytes) P t after pairs new → ChangesInPlace (of_key bytes) s t (Some layout) (Some new)
   pub touches : TouchesForPrefix point (of_key bytes) (bytes pair.0) s t layout
   pub promise : t.promise ≡ promise_after (placed_for_prefix s point) s.promise
 
 module _ {K V : Type 0} {IsClone : K × V → K × V → Type 0} {side : Side} (bytes : K → List ℕ) (P : ℕ) {s t : Nodes K V} {root : OpaqueNodePtr}
-    {layout : Layout K V} (by : IsTree (of_key bytes) P s root (pairs_of layout) layout) {k : K} {v : V} (point : PrefixInsertPoint) (z : Nodes K V)
-    (at : IsPointFor (of_key bytes) P (bytes k) (pairs_of layout) layout point) (left : HasByteLeftFor s point) where
+    {layout : Layout K V} (by : IsCanonicalTree (of_key bytes) P s root (pairs_of layout) layout) {k : K} {v : V} (point : PrefixInsertPoint) (z : Nodes K V)
+    (at : IsPointFor (of_key bytes) P (bytes k) (pairs_of layout) layout point) where
   pub prefix_step : {after : OpaqueNodePtr} {existing : Option (LeafNode K V)} {count : ℕ} →
       HasAppliedPrefix bytes P s t layout (k, v) point after existing count →
       StepFrom bytes P IsClone side s t z (Some layout) (InsertPrefix k v) (Overwrote (option_map pair_of existing) count) (Some after)
@@ -234,7 +234,7 @@ module _ {K V : Type 0} {IsClone : K × V → K × V → Type 0} {side : Side} (
           refuses = tt;
           sound = own_pairs bytes P by_new;
           changes = record { side = refl; kept = is.kept (overwrite (of_key bytes) (k, v) (pairs_of layout)) new by_new; touches = touches_prefix bytes P by k v point at t is.touches; other = refl };
-          promises = is.promise ∙ ap (λ placed. promise_after placed s.promise) (needs_prefix bytes P by k v point at left);
+          promises = is.promise ∙ ap (λ placed. promise_after placed s.promise) (needs_prefix bytes P by k v point at);
         },
       )
 
@@ -244,8 +244,8 @@ module _ {K V : Type 0} {IsClone : K × V → K × V → Type 0} {side : Side} (
     Some layout,
     ap Some by.stands.0.named,
     record {
-      answers = (not_one bytes P by k v point at left is.uncovered, ap Some handed, refl);
-      refuses = λ promised. is.uncovered (ap (λ placed. is_covered placed s.promise) (needs_prefix bytes P by k v point at left) ∙ promised);
+      answers = (not_one bytes P by k v point at is.uncovered, ap Some handed, refl);
+      refuses = λ promised. is.uncovered (ap (λ placed. is_covered placed s.promise) (needs_prefix bytes P by k v point at) ∙ promised);
       sound = own_pairs bytes P (tree_stays is.same by);
       changes = nothing z (Some layout) is.same;
       promises = inr is.void;

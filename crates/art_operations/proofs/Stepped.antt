@@ -1,29 +1,23 @@
 -- Applied points make steps: from what an application leaves to the parts of a step.
-use Rattle.std.proofs.Common.{◌≡◌, ℕ, ◌≤◌, List, refl, ap, sym, ◌∙◌, subst, arith, Option, Some, None, Bool, true, false, cond, inl, inr, IfSome}
-use Rattle.std.proofs.Math.Dec.{leb-zero}
+use Rattle.std.proofs.Common.{◌≡◌, ℕ, ◌≤◌, List, refl, ap, sym, ◌∙◌, subst, arith, Option, Some, None, Bool, true, false, cond, inl, inr}
 use Rattle.std.specs.Option.{option_map}
 use Rattle.std.specs.Box.{boxed_slice_items}
-use Rattle.std.specs.FinMap.{get}
-use Rattle.art_nodes.specs.Names.{leaf_name}
 use Rattle.art_nodes.specs.Nodes.{Nodes, Promise, no_promise}
 use Rattle.art_nodes.specs.declared.node.OpaqueNodePtr.{OpaqueNodePtr}
 use Rattle.art_nodes.specs.declared.node.LeafNode.{LeafNode}
-use Rattle.art_model.specs.Canonical.{IsTree, IsCanonical}
+use Rattle.art_model.specs.Canonical.{IsCanonicalTree, IsCanonical}
 use Rattle.art_model.specs.Footprints.{TouchesAtMost}
 use Rattle.art_model.specs.Kept.{ChangesInPlace}
-use Rattle.art_model.specs.Layouts.{name_of, Holds}
+use Rattle.art_model.specs.Layouts.{name_of}
 use Rattle.art_model.specs.Pairs.{of_key, is_conflict, has_key, put, put_reply, remove_key}
 use Rattle.art_model.specs.Promises.{is_covered, promise_after}
 use Rattle.art_model.specs.Radix.{pairs_of}
 use Rattle.art_model.specs.Roots.{ForRoot}
-use Rattle.art_model.specs.Stores.{pair_of, node_at}
-use Rattle.art_model.specs.Trees.{leaf}
-use Rattle.art_model.proofs.Stores.{path_holds}
-use Rattle.art_model.proofs.Views.{leaf_there}
+use Rattle.art_model.specs.Stores.{pair_of}
 use Rattle.art_model.proofs.Canonical.{tree_radix}
 use Rattle.art_operations.specs.Answers.{Answers}
 use Rattle.art_writing.specs.Deleted.{TouchesFor, ParentChange, no_parent, keeps, shrinks, is_compressed, parent_change, LeadsTo, placed_for_deletion}
-use Rattle.art_writing.specs.Inserted.{IsPointIn, HasByteLeft, Touches, alone, is_full, placed_for}
+use Rattle.art_writing.specs.Inserted.{IsPointIn, Touches, alone, is_full, placed_for}
 use Rattle.art_operations.specs.Needs.{needs}
 use Rattle.art_writing.specs.Points.{AnswersTo}
 use Rattle.art_operations.specs.Steps.{Changes, MayRefuse, Promises, TouchesBy}
@@ -39,7 +33,8 @@ use Rattle.art_operations.specs.declared.run.Command.TheVariants.{Insert, Insert
 use Rattle.art_operations.specs.declared.run.Reply.TheVariants.{Inserted, Conflict, Deleted, NoMemory}
 use Rattle.art_writing.proofs.Standing.{tree_stays}
 use Rattle.art_operations.proofs.Moves.{Layout, StepFrom, has_tree, own_pairs, nothing, in_store}
-use Rattle.art_operations.proofs.Found.{conflict_new}
+use Rattle.art_writing.proofs.KeysFound.{conflict_new}
+use Rattle.art_writing.proofs.Unstored.{refused_new}
 use Rattle.art_operations.proofs.Needed.{needs_inserted, needs_deleted}
 
 module _ {K V : Type 0} {s t : Nodes K V} where
@@ -68,39 +63,24 @@ pub pairs_back : {K V : Type 0} (reply : Option (K × V)) → option_map pair_of
 pairs_back None = refl
 pairs_back (Some x) = refl
 
--- what is not false is true
-pub not_false : (b : Bool) → (b ≡ false → ⊥) → b ≡ true
-not_false true h = refl
-not_false false h = absurd (h refl)
-
 -- the tree of a root that is named by its layout
 pub at_root : {K V : Type 0} (bytes : K → List ℕ) (P : ℕ) {s : Nodes K V} {root name : OpaqueNodePtr} {layout : Layout K V} →
-    IsTree (of_key bytes) P s root (pairs_of layout) layout → name ≡ name_of layout → IsTree (of_key bytes) P s name (pairs_of layout) layout
-at_root bytes P {s} {root} {name} {layout} by is = subst (λ n. IsTree (of_key bytes) P s n (pairs_of layout) layout) (sym (is ∙ by.stands.0.named)) by
+    IsCanonicalTree (of_key bytes) P s root (pairs_of layout) layout → name ≡ name_of layout → IsCanonicalTree (of_key bytes) P s name (pairs_of layout) layout
+at_root bytes P {s} {root} {name} {layout} by is = subst (λ n. IsCanonicalTree (of_key bytes) P s n (pairs_of layout) layout) (sym (is ∙ by.stands.0.named)) by
 
 -- a found point is one of the store
 pub is_point : {K V : Type 0} (bytes : K → List ℕ) (P : ℕ) {s : Nodes K V} {root : OpaqueNodePtr} {pairs : List (K × V)} {layout : Layout K V}
-    {key : List ℕ} {point : InsertPoint} → IsTree (of_key bytes) P s root pairs layout → AnswersTo (of_key bytes) P layout key point → IsPointIn (of_key bytes) P s key point
-is_point bytes P {s} {root} {pairs} {layout} by at = (pairs, layout, subst (λ n. IsTree (of_key bytes) P s n pairs layout) (sym (at.root_is ∙ by.stands.0.named)) by, at)
+    {key : List ℕ} {point : InsertPoint} → IsCanonicalTree (of_key bytes) P s root pairs layout → AnswersTo (of_key bytes) P layout key point → IsPointIn (of_key bytes) P s key point
+is_point bytes P {s} {root} {pairs} {layout} by at = (pairs, layout, subst (λ n. IsCanonicalTree (of_key bytes) P s n pairs layout) (sym (at.root_is ∙ by.stands.0.named)) by, at)
 
 -- What an applied insert point leaves of a tree.
 pub record HasApplied {K V : Type 0} (bytes : K → List ℕ) (P : ℕ) (s t : Nodes K V) (layout : Layout K V) (pair : K × V) (point : InsertPoint)
     (after : OpaqueNodePtr) (existing : Option (LeafNode K V)) : Type 0 where
   pub canonical : IsCanonical (of_key bytes) P t (Some after) (put (of_key bytes) pair (pairs_of layout))
   pub replaced : existing ≡ option_map alone (put_reply (of_key bytes) pair (pairs_of layout))
-  pub kept : (pairs : List (K × V)) (new : Layout K V) → IsTree (of_key bytes) P t after pairs new → ChangesInPlace (of_key bytes) s t (Some layout) (Some new)
+  pub kept : (pairs : List (K × V)) (new : Layout K V) → IsCanonicalTree (of_key bytes) P t after pairs new → ChangesInPlace (of_key bytes) s t (Some layout) (Some new)
   pub touches : Touches point.insert_kind s t
   pub promise : t.promise ≡ promise_after (placed_for s point.insert_kind) s.promise
-
--- the leaf of a delete point has the pair that the point leads to
-pub deleted_pair : {K V : Type 0} (bytes : K → List ℕ) (P : ℕ) {s : Nodes K V} {root : OpaqueNodePtr} {pairs : List (K × V)} {layout : Layout K V}
-    {x : K × V} {point : DeletePoint} (deleted : LeafNode K V) → IsTree (of_key bytes) P s root pairs layout → LeadsTo layout x point →
-    IfSome (get s.leaves point.leaf_node_ptr) (λ node. deleted ≡ alone (pair_of node)) → (deleted.key, deleted.value) ≡ x
-deleted_pair bytes P {s} {root} {pairs} {layout} {x} {point} deleted by leads told =
-    let held = (path_holds (node_at s) leads.path (leaf (leaf_name point.leaf_node_ptr) x) (subst (Holds (node_at s)) (sym leads.whole) by.stands.0.holds)).1 in
-    let (node, got, its) = leaf_there s point.leaf_node_ptr x held in
-    let same : deleted ≡ alone (pair_of node) = rw got at told in
-    ap pair_of same ∙ its
 
 -- What an applied delete point leaves of a tree.
 pub record HasDeleted {K V : Type 0} (bytes : K → List ℕ) (P : ℕ) (s t : Nodes K V) (layout : Layout K V) (x : K × V) (point : DeletePoint) (after : Option OpaqueNodePtr) : Type 0 where
@@ -115,25 +95,16 @@ pub record IsRefused {K V : Type 0} (s t : Nodes K V) (placed : Promise) : Type 
   pub void : t.promise ≡ no_promise
   pub uncovered : is_covered placed s.promise ≡ true → ⊥
 
-module _ {K V : Type 0} (bytes : K → List ℕ) (P : ℕ) {s : Nodes K V} {root : OpaqueNodePtr} {layout : Layout K V} (by : IsTree (of_key bytes) P s root (pairs_of layout) layout) where
+module _ {K V : Type 0} (bytes : K → List ℕ) (P : ℕ) {s : Nodes K V} {root : OpaqueNodePtr} {layout : Layout K V} (by : IsCanonicalTree (of_key bytes) P s root (pairs_of layout) layout) where
   -- ---- insertion
 
   -- what is refused is not covered, so the key is not stored
-  free_key : (k : K) (v : V) (point : InsertPoint) → AnswersTo (of_key bytes) P layout (bytes k) point → HasByteLeft s point.insert_kind →
+  free_key : (k : K) (point : InsertPoint) → AnswersTo (of_key bytes) P layout (bytes k) point →
       (is_covered (placed_for s point.insert_kind) s.promise ≡ true → ⊥) → has_key (of_key bytes) (bytes k) (pairs_of layout) ≡ false
-  free_key k v point at left uncovered =
-      go point.insert_kind (has_key (of_key bytes) (bytes k) (pairs_of layout)) refl uncovered (ap (λ placed. placed.leaves) (needs_inserted bytes P by k v point at left))
-    where
-      go : (kind : InsertKind) (stored : Bool) → has_key (of_key bytes) (bytes k) (pairs_of layout) ≡ stored →
-          (is_covered (placed_for s kind) s.promise ≡ true → ⊥) → (placed_for s kind).leaves ≡ cond stored 0 1 → stored ≡ false
-      go kind false e off leaves = refl
-      go (Exact p) true e off leaves = absurd (off (leb-zero s.promise.leaves))
-      go (SplitLeaf p used) true e off leaves = absurd cc
-      go (IntoExisting p) true e off leaves = absurd cc
-      go (MismatchPrefix mismatch p) true e off leaves = absurd cc
+  free_key k point at uncovered = refused_new (at_root bytes P by at.root_is) at uncovered
 
   module _ {IsClone : K × V → K × V → Type 0} {side : Side} {t : Nodes K V} {k : K} {v : V} {point : InsertPoint} (z : Nodes K V)
-      (free : is_conflict (of_key bytes) (bytes k) (pairs_of layout) ≡ false) (at : AnswersTo (of_key bytes) P layout (bytes k) point) (left : HasByteLeft s point.insert_kind) where
+      (free : is_conflict (of_key bytes) (bytes k) (pairs_of layout) ≡ false) (at : AnswersTo (of_key bytes) P layout (bytes k) point) where
     pub inserted_step : {after : OpaqueNodePtr} {existing : Option (LeafNode K V)} → HasApplied bytes P s t layout (k, v) point after existing →
         StepFrom bytes P IsClone side s t z (Some layout) (Insert k v) (Inserted (option_map pair_of existing)) (Some after)
     inserted_step {after} {existing} is =
@@ -145,7 +116,7 @@ module _ {K V : Type 0} (bytes : K → List ℕ) (P : ℕ) {s : Nodes K V} {root
             refuses = tt;
             sound = own_pairs bytes P by_new;
             changes = record { side = refl; kept = is.kept (put (of_key bytes) (k, v) (pairs_of layout)) new by_new; touches = insertion_touches point.insert_kind is.touches; other = refl };
-            promises = is.promise ∙ ap (λ placed. promise_after placed s.promise) (needs_inserted bytes P by k v point at left);
+            promises = is.promise ∙ ap (λ placed. promise_after placed s.promise) (needs_inserted bytes P by k v point at);
           },
         )
 
@@ -155,8 +126,8 @@ module _ {K V : Type 0} (bytes : K → List ℕ) (P : ℕ) {s : Nodes K V} {root
       Some layout,
       ap Some by.stands.0.named,
       record {
-        answers = (free_key k v point at left is.uncovered, ap Some handed, refl);
-        refuses = inr (λ promised. is.uncovered (ap (λ placed. is_covered placed s.promise) (needs_inserted bytes P by k v point at left) ∙ promised));
+        answers = (free_key k point at is.uncovered, ap Some handed, refl);
+        refuses = inr (λ promised. is.uncovered (ap (λ placed. is_covered placed s.promise) (needs_inserted bytes P by k v point at) ∙ promised));
         sound = own_pairs bytes P (tree_stays is.same by);
         changes = nothing z (Some layout) is.same;
         promises = rw free (inr is.void);

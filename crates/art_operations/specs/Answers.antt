@@ -11,29 +11,34 @@ use Rattle.art_operations.specs.declared.run.Reply.TheVariants.{Inserted, Confli
 
 module _ {K V : Type 0} (bytes : K → List ℕ) where
   -- the pairs that a command leaves where it is carried out and is no clone
-  abbrev pub pairs_after : Command K V → List (K × V) → List (K × V)
-  pairs_after (Insert k v) old = put (of_key bytes) (k, v) old
-  pairs_after (InsertPrefix k v) old = overwrite (of_key bytes) (k, v) old
-  pairs_after (Delete key) old = remove_key (of_key bytes) key.items old
-  pairs_after DeleteMin old = without_first old
-  pairs_after DeleteMax old = without_last old
-  pairs_after command old = old
+  abbrev pub pairs_after_command : Command K V → List (K × V) → List (K × V)
+  pairs_after_command (Insert k v) old = put (of_key bytes) (k, v) old
+  pairs_after_command (InsertPrefix k v) old = overwrite (of_key bytes) (k, v) old
+  pairs_after_command (Delete key) old = remove_key (of_key bytes) key.items old
+  pairs_after_command DeleteMin old = without_first old
+  pairs_after_command DeleteMax old = without_last old
+  pairs_after_command command old = old
 
   module _ (IsClone : K × V → K × V → Type 0) where
     -- the reply to a command, from the pairs before to the pairs after, where it is said what a clone of a pair is
     abbrev pub Answers : List (K × V) → Command K V → Reply K V → List (K × V) → Type 0
     Answers old (Insert k v) (Inserted before) new =
-        (is_conflict (of_key bytes) (bytes k) old ≡ false) × (before ≡ put_reply (of_key bytes) (k, v) old) × (new ≡ pairs_after (Insert k v) old)
+        (is_conflict (of_key bytes) (bytes k) old ≡ false) × (before ≡ put_reply (of_key bytes) (k, v) old) ×
+        (new ≡ pairs_after_command (Insert k v) old)
     Answers old (Insert k v) (Conflict key value error) new =
-        (is_conflict (of_key bytes) (bytes k) old ≡ true) × (key ≡ k) × (value ≡ v) × (boxed_slice_items error.byte_repr ≡ bytes k) × (new ≡ old)
-    Answers old (Insert k v) (NoMemory pair) new = (has_key (of_key bytes) (bytes k) old ≡ false) × (pair ≡ Some (k, v)) × (new ≡ old)
+        (is_conflict (of_key bytes) (bytes k) old ≡ true) × (key ≡ k) × (value ≡ v) ×
+        (boxed_slice_items error.byte_repr ≡ bytes k) × (new ≡ old)
+    Answers old (Insert k v) (NoMemory pair) new =
+        (has_key (of_key bytes) (bytes k) old ≡ false) × (pair ≡ Some (k, v)) × (new ≡ old)
     Answers old (InsertPrefix k v) (Overwrote before count) new =
-        ((before, count) ≡ overwrite_reply (of_key bytes) (k, v) old) × (new ≡ pairs_after (InsertPrefix k v) old)
+        ((before, count) ≡ overwrite_reply (of_key bytes) (k, v) old) ×
+        (new ≡ pairs_after_command (InsertPrefix k v) old)
     Answers old (InsertPrefix k v) (NoMemory pair) new =
         (length (related_to (of_key bytes) (bytes k) old) ≢ 1) × (pair ≡ Some (k, v)) × (new ≡ old)
-    Answers old (Delete key) (Deleted pair) new = (pair ≡ remove_reply (of_key bytes) key.items old) × (new ≡ pairs_after (Delete key) old)
-    Answers old DeleteMin (Deleted pair) new = (pair ≡ first_of old) × (new ≡ pairs_after DeleteMin old)
-    Answers old DeleteMax (Deleted pair) new = (pair ≡ last_of old) × (new ≡ pairs_after DeleteMax old)
+    Answers old (Delete key) (Deleted pair) new =
+        (pair ≡ remove_reply (of_key bytes) key.items old) × (new ≡ pairs_after_command (Delete key) old)
+    Answers old DeleteMin (Deleted pair) new = (pair ≡ first_of old) × (new ≡ pairs_after_command DeleteMin old)
+    Answers old DeleteMax (Deleted pair) new = (pair ≡ last_of old) × (new ≡ pairs_after_command DeleteMax old)
     Answers old (Delete key) (NoMemory pair) new = (pair ≡ None) × (new ≡ old)
     Answers old DeleteMin (NoMemory pair) new = (pair ≡ None) × (new ≡ old)
     Answers old DeleteMax (NoMemory pair) new = (pair ≡ None) × (new ≡ old)

@@ -1,17 +1,42 @@
-pub use Rattle.art_checking.specs.Checks
-pub use Rattle.art_checking.specs.Folds
+-- keys, maps of pairs, and their trees
+pub use Rattle.art_model.specs.Keys
+pub use Rattle.art_model.specs.Pairs
+pub use Rattle.art_model.specs.Clones
+pub use Rattle.art_model.specs.Trees
+-- trees under the names of a store
+pub use Rattle.art_model.specs.Layouts
+pub use Rattle.art_model.specs.Stores
+pub use Rattle.art_model.specs.Canonical
+pub use Rattle.art_model.specs.Roots
+-- look-ups and walks
+pub use Rattle.art_model.specs.Lookups
 pub use Rattle.art_reading.specs.Matching
 pub use Rattle.art_reading.specs.Paths
 pub use Rattle.art_reading.specs.Walks
 pub use Rattle.art_reading.specs.Iterators
-pub use Rattle.art_writing.specs.Points
+-- what every change keeps, touches and takes of a promise
+pub use Rattle.art_model.specs.Kept
+pub use Rattle.art_model.specs.Footprints
+pub use Rattle.art_model.specs.Promises
 pub use Rattle.art_writing.specs.Writes
-pub use Rattle.art_writing.specs.Freed
+-- insertion
+pub use Rattle.art_writing.specs.Points
 pub use Rattle.art_writing.specs.Inserted
-pub use Rattle.art_writing.specs.Overwritten
 pub use Rattle.art_writing.specs.Branches
+pub use Rattle.art_writing.specs.Overwritten
+-- deletion, the freeing of trees, and copies
 pub use Rattle.art_writing.specs.Deleted
+pub use Rattle.art_writing.specs.Freed
 pub use Rattle.art_writing.specs.Cloned
+-- visitors, and what may be wrong with a store
+pub use Rattle.art_checking.specs.Folds
+pub use Rattle.art_model.specs.Faults
+pub use Rattle.art_checking.specs.Checks
+-- the map
+pub use Rattle.art_map.specs.MapPairs
+pub use Rattle.art_map.specs.MapAnswers
+pub use Rattle.art_map.specs.MapItems
+-- runs of commands
 pub mod Answers
 pub mod Needs
 pub mod Steps

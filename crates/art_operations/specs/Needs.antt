@@ -4,8 +4,8 @@ use Rattle.art_nodes.specs.Nodes.{Promise, kind_index}
 use Rattle.art_nodes.specs.declared.node.NodeType.{NodeType}
 use Rattle.art_nodes.specs.declared.node.NodeType.TheVariants.{Node4, Node16, Node48, Node256}
 use Rattle.art_model.specs.Pairs.{of_key, has_key, related_to}
-use Rattle.art_model.specs.Trees.{Tree, leaf, inner, Children, child, no_child, tree_of}
-use Rattle.art_operations.specs.Answers.{pairs_after}
+use Rattle.art_model.specs.Trees.{Tree, leaf, inner, Subtrees, child, no_child, tree_of}
+use Rattle.art_operations.specs.Answers.{pairs_after_command}
 use Rattle.art_operations.specs.declared.run.Command.{Command}
 use Rattle.art_operations.specs.declared.run.Command.TheVariants.{Insert, InsertPrefix}
 
@@ -14,11 +14,11 @@ module _ {N A : Type 0} (kind : NodeType) where
   abbrev mutual
     pub count_of : Tree N A → ℕ
     count_of (leaf n x) = 0
-    count_of (inner n h cs) = cond (eqb (kind_index kind) (kind_index h.kind)) 1 0 + count_below cs
+    count_of (inner n h cs) = cond (eqb (kind_index kind) (kind_index h.kind)) 1 0 + inner_count_below cs
 
-    pub count_below : Children N A → ℕ
-    count_below no_child = 0
-    count_below (child b t cs) = count_of t + count_below cs
+    pub inner_count_below : Subtrees N A → ℕ
+    inner_count_below no_child = 0
+    inner_count_below (child b t cs) = count_of t + inner_count_below cs
 
 -- the first kind of which there are more than before, by the number of each kind before and after
 abbrev pub more_of : (NodeType → ℕ) → (NodeType → ℕ) → Option NodeType
@@ -39,4 +39,7 @@ module _ {K V : Type 0} (bytes : K → List ℕ) (P : ℕ) where
 
   -- what a command places where these are the pairs
   abbrev pub needs : Command K V → List (K × V) → Promise
-  needs command pairs = record { leaves = new_leaves command pairs; inner = more_of (inner_count pairs) (inner_count (pairs_after bytes command pairs)) }
+  needs command pairs = record {
+    leaves = new_leaves command pairs;
+    inner = more_of (inner_count pairs) (inner_count (pairs_after_command bytes command pairs));
+  }

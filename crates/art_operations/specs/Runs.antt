@@ -47,7 +47,8 @@ shown state = beside state.side state.present state.other (root_in state)
 
 module _ {K V : Type 0} (bytes : K → List ℕ) (P : ℕ) (IsClone : K × V → K × V → Type 0) where
   -- The commands get these replies, a step each, on the way from a state with a canonical root to the last one.
-  pub record IsRun (from : Shown K V) (commands : List (Command K V)) (replies : List (Reply K V)) (to : Shown K V) : Type 0 where
+  pub record IsRun (from : Shown K V) (commands : List (Command K V)) (replies : List (Reply K V))
+      (to : Shown K V) : Type 0 where
     pub start : State K V
     pub end : State K V
     pub starts : shown start ≡ from
@@ -62,10 +63,13 @@ module _ {K V : Type 0} (bytes : K → List ℕ) (P : ℕ) (IsClone : K × V →
       (new : State K V) × (shown new ≡ to) × Step bytes P IsClone old command reply new
 
   -- a step is made in one store, whatever side it is on and whatever the other one holds
-  abbrev pub StepsAlone : Nodes K V → Option OpaqueNodePtr → Command K V → Reply K V → Nodes K V → Option OpaqueNodePtr → Type 0
-  StepsAlone s root command reply t after = (side : Side) (other : Nodes K V) → MakesStep (beside side s other root) command reply (beside side t other after)
+  abbrev pub StepsAlone : Nodes K V → Option OpaqueNodePtr → Command K V → Reply K V → Nodes K V →
+      Option OpaqueNodePtr → Type 0
+  StepsAlone s root command reply t after =
+      (side : Side) (other : Nodes K V) → MakesStep (beside side s other root) command reply (beside side t other after)
 
   -- of all trees of the root: the point leads to a pair that the command takes out
   abbrev pub IsDeletionAt : Nodes K V → OpaqueNodePtr → DeletePoint → Command K V → Type 0
   IsDeletionAt s root point command =
-      ForTree (of_key bytes) P s root (λ pairs layout. (x : K × V) × LeadsTo layout x point × Answers bytes IsClone pairs command (Deleted (Some x)) (remove_key (of_key bytes) (bytes x.0) pairs))
+      ForTree (of_key bytes) P s root (λ pairs layout. (x : K × V) × LeadsTo layout x point ×
+      Answers bytes IsClone pairs command (Deleted (Some x)) (remove_key (of_key bytes) (bytes x.0) pairs))

@@ -52,7 +52,8 @@ module _ {K V : Type 0} where
     pub other : new.other ≡ old.other
 
   -- what a command touches that is carried out: a few names, or the tree of all pairs with related keys where they are more than one
-  abbrev pub TouchesBy : (K → List ℕ) → Option (Tree OpaqueNodePtr (K × V)) → Command K V → Nodes K V → Nodes K V → Type 0
+  abbrev pub TouchesBy : (K → List ℕ) → Option (Tree OpaqueNodePtr (K × V)) → Command K V → Nodes K V →
+      Nodes K V → Type 0
   TouchesBy bytes tree (InsertPrefix k v) s t =
       cond (leb (length (related_to (of_key bytes) (bytes k) (pairs_in tree))) 1)
       (TouchesAtMost 2 2 4 s t)

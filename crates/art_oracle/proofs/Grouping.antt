@@ -25,7 +25,7 @@ use Rattle.art_model.proofs.Groups.{groups-block, StartsApart}
 use Rattle.art_model.proofs.Build.{IsSortedAt, with_byte, sorted_at}
 use Rattle.art_model.proofs.Lists.{in_left, in_right}
 use Rattle.art_model.proofs.Pairwises.{Pairwise-append}
-use Rattle.art_oracle.specs.Build.{pairs_at, leaf_pair, leaf_key, Ready, ReadyBelow, Built, BuiltBelow, IsGroup, AreBelow, GoesOn, count_groups, KeepsOthers}
+use Rattle.art_oracle.specs.Build.{pairs_at, leaf_pair, leaf_key, Ready, ReadyBelow, Built, BuiltBelow, IsGroup, AreBelow, GoesOn, count_groups, KeepsAllBut}
 use Rattle.art_oracle.specs.Built.{KeepsNodes}
 use Rattle.art_oracle.proofs.Kept.{node_used, was_free, inner_used, names_each}
 use Rattle.art_oracle.proofs.Written.{inner_is_used, free_written, used_written, held_still}
@@ -225,7 +225,7 @@ module _ {K V : Type 0} {bytes : K → List ℕ} (P : ℕ) (old mid written new 
     (G : Grouped bytes old.leaves front leaves at b n) (name : OpaqueNodePtr) (parent : InnerPtr) (from to : Inner)
     (inner_kind : parent.kind ≢ Leaf) (there : finite.get old.inners parent ≡ Some from) (below : AreBelow bytes old.leaves leaves at from)
     (kept : KeepsNodes old mid) (leaves_mid : mid.leaves ≡ old.leaves) (leaves_written : written.leaves ≡ mid.leaves)
-    (change_is : written.inners ≡ change mid.inners parent (with_child b name)) (kept' : KeepsOthers written new parent) where
+    (change_is : written.inners ≡ change mid.inners parent (with_child b name)) (kept' : KeepsAllBut written new parent) where
   pub compose : Built bytes P (front ++ b ∷ []) (take n leaves) old mid name →
       BuiltBelow bytes P front (drop n leaves) written new (with_child b name from) to → BuiltBelow bytes P front leaves old new from to
   compose t cs =

@@ -10,7 +10,7 @@ use Rattle.art_nodes.specs.Nodes.{Nodes, kind_index}
 use Rattle.art_nodes.specs.declared.node.NodeType.{NodeType}
 use Rattle.art_nodes.specs.declared.node.InnerPtr.{InnerPtr}
 use Rattle.art_nodes.specs.declared.node.OpaqueNodePtr.{OpaqueNodePtr}
-use Rattle.art_model.specs.Trees.{Tree, leaf, inner, Children, child, no_child}
+use Rattle.art_model.specs.Trees.{Tree, leaf, inner, Subtrees, child, no_child}
 use Rattle.art_model.specs.Layouts.{Node, names_of, names_below, leaf_names, leaf_names_below, inner_names, inner_names_below, Holds, HoldsBelow}
 use Rattle.art_model.specs.Stores.{node_at, seen, Held, held, held_inner, held_leaf, IsUsed}
 use Rattle.art_model.specs.Writes.{as_inner}
@@ -59,7 +59,7 @@ module _ {N A : Type 0} (at : N → Option (Node N A)) (Q : N → Type 0) (used 
     inner_used (leaf n x) h = tt
     inner_used (inner n h cs) holds = (used n _ holds.0, inner_used_below cs holds.1)
 
-    inner_used_below : (cs : Children N A) → HoldsBelow at cs → Each Q (inner_names_below cs)
+    inner_used_below : (cs : Subtrees N A) → HoldsBelow at cs → Each Q (inner_names_below cs)
     inner_used_below no_child h = tt
     inner_used_below (child b t cs) h = Each-append Q (inner_names t) (inner_names_below cs) (inner_used t h.0) (inner_used_below cs h.1)
 
@@ -73,7 +73,7 @@ module _ {N A : Type 0} where
     names_each Q (leaf n x) l i = l
     names_each Q (inner n h cs) l i = (i.0, names_each_below Q cs l i.1)
 
-    pub names_each_below : (Q : N → Type 0) (cs : Children N A) → Each Q (leaf_names_below cs) → Each Q (inner_names_below cs) → Each Q (names_below cs)
+    pub names_each_below : (Q : N → Type 0) (cs : Subtrees N A) → Each Q (leaf_names_below cs) → Each Q (inner_names_below cs) → Each Q (names_below cs)
     names_each_below Q no_child l i = tt
     names_each_below Q (child b t cs) l i = Each-append Q (names_of t) (names_below cs)
         (names_each Q t (Each-left Q (leaf_names t) (leaf_names_below cs) l) (Each-left Q (inner_names t) (inner_names_below cs) i))

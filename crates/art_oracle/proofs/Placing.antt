@@ -19,7 +19,7 @@ use Rattle.art_nodes.specs.declared.node.OpaqueNodePtr.{OpaqueNodePtr}
 use Rattle.art_nodes.proofs.StoreLaws.{inner_here, inner_elsewhere}
 use Rattle.art_model.specs.Keys.{IsFront, Precedes, common_front, is_before}
 use Rattle.art_model.specs.Pairs.{IsMap, of_key}
-use Rattle.art_model.specs.Trees.{leaf, inner, kind_of, header_of, byte_at, groups}
+use Rattle.art_model.specs.Trees.{leaf, inner, kind_of, canonical_header, byte_at, groups}
 use Rattle.art_model.specs.Radix.{bytes_of}
 use Rattle.art_model.specs.Layouts.{inner_node, slots_of, inner_names_below}
 use Rattle.art_model.specs.Stores.{node_at, seen, inner_seen, held, held_leaf, held_inner, IsUsed}
@@ -28,7 +28,7 @@ use Rattle.art_model.proofs.Lists.{Each-weaker, after_front}
 use Rattle.art_model.proofs.Keys.{precedes_rest, precedes_apart, before_apart, cmp-append}
 use Rattle.art_model.proofs.Build.{go_on, at_byte}
 use Rattle.art_model.proofs.Views.{held_in_inner}
-use Rattle.art_oracle.specs.Build.{pairs_at, leaf_pair, leaf_key, Ready, ReadyBelow, Built, GoesOn, started, last_from, Starts, count_groups, KeepsOthers, BuiltUnder}
+use Rattle.art_oracle.specs.Build.{pairs_at, leaf_pair, leaf_key, Ready, ReadyBelow, Built, GoesOn, started, last_from, Starts, count_groups, KeepsAllBut, BuiltUnder}
 use Rattle.art_oracle.specs.Built.{KeepsNodes}
 use Rattle.art_oracle.proofs.Kept.{name_cases, others_held, was_free}
 use Rattle.art_oracle.proofs.Written.{inner_is_used}
@@ -199,7 +199,7 @@ module _ {K V : Type 0} (bytes : K → List ℕ) (P : ℕ) where
   module _ (old mid new : Nodes K V) (way part : List ℕ) (leaves : List LeafPtr) (p : InnerPtr) (same : mid.leaves ≡ old.leaves)
       (placed : mid.inners ≡ finite.insert old.inners p (started P part)) (free : finite.get old.inners p ≡ None)
       (kind : p.kind ≡ kind_of (count_groups bytes old.leaves leaves (length (way ++ part)))) (two : 2 ≤ count_groups bytes old.leaves leaves (length (way ++ part)))
-      (kept : KeepsOthers mid new p) (under : BuiltUnder bytes P (way ++ part) leaves mid new p (started P part)) where
+      (kept : KeepsAllBut mid new p) (under : BuiltUnder bytes P (way ++ part) leaves mid new p (started P part)) where
     abbrev count : ℕ
     count = length (bytes_of under.below.children)
 
@@ -223,14 +223,14 @@ module _ {K V : Type 0} (bytes : K → List ℕ) (P : ℕ) where
         let mid_is = mid_kept name used in
         kept name (λ e. used (ap (held old) e ∙ placed_free old p inner_kind free)) (λ none. used (sym mid_is ∙ none)) ∙ mid_is
 
-    here : node_at new (inner_name p) ≡ Some (inner_node (header_of P part count) (slots_of under.below.children))
+    here : node_at new (inner_name p) ≡ Some (inner_node (canonical_header P part count) (slots_of under.below.children))
     here = ap (option_map (seen p.kind)) (held_in_inner new p.kind p.slot inner_kind) ∙ ap (λ o. option_map (seen p.kind) (option_map held_inner o)) under.there
         ∙ ap₂ (λ (k : NodeType) (i : Inner). Some (inner_seen k i)) is
         (ap₂ (λ f (l : List (ℕ × OpaqueNodePtr)). let i : Inner = record { prefix = f; children = l } in i) under.below.prefix under.below.slots)
 
     pub node_built : Built bytes P way leaves old new (inner_name p)
     node_built = record {
-      tree = inner (inner_name p) (header_of P part count) under.below.children;
+      tree = inner (inner_name p) (canonical_header P part count) under.below.children;
       named = refl;
       radix = (part, refl, subst (λ m. 2 ≤ m) (sym count_is) two, under.below.rising, under.below.radix);
       its = under.below.its ∙ ap (λ m. pairs_at m leaves) same;

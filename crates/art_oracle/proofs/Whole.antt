@@ -12,10 +12,10 @@ use Rattle.art_nodes.specs.declared.node.LeafNode.{LeafNode}
 use Rattle.art_nodes.specs.declared.node.OpaqueNodePtr.{OpaqueNodePtr}
 use Rattle.art_model.specs.Keys.{IsFront}
 use Rattle.art_model.specs.Pairs.{IsMap, of_key}
-use Rattle.art_model.specs.Trees.{Tree, leaf, inner, Children, child, no_child}
+use Rattle.art_model.specs.Trees.{Tree, leaf, inner, Subtrees, child, no_child}
 use Rattle.art_model.specs.Layouts.{names_of, names_below, leaf_names, leaf_names_below, inner_names, inner_names_below, AreDistinct, AreLinked}
 use Rattle.art_model.specs.Stores.{node_at, links_at, held, held_in, held_leaf, held_inner, links_of, IsUsed}
-use Rattle.art_model.specs.Canonical.{IsTree}
+use Rattle.art_model.specs.Canonical.{IsCanonicalTree}
 use Rattle.art_model.specs.Footprints.{IsIn}
 use Rattle.art_model.proofs.Lists.{Each-left, Each-right, Each-weaker, each_map}
 use Rattle.art_model.proofs.Names.{taken_in, takes_inners, takes_leaves}
@@ -37,7 +37,7 @@ module _ {N A : Type 0} (L M : N → Type 0) (apart : (x y : N) → L x → M y 
     all_distinct (inner n h cs) dl di l m =
         (names_each_below (λ k. n ≢ k) cs (Each-weaker L (λ k. n ≢ k) (λ k lk e. apart k n lk m.0 (sym e)) (leaf_names_below cs) l) di.0, all_distinct_below cs dl di.1 l m.1)
 
-    pub all_distinct_below : (cs : Children N A) → AreDistinct (leaf_names_below cs) → AreDistinct (inner_names_below cs) →
+    pub all_distinct_below : (cs : Subtrees N A) → AreDistinct (leaf_names_below cs) → AreDistinct (inner_names_below cs) →
         Each L (leaf_names_below cs) → Each M (inner_names_below cs) → AreDistinct (names_below cs)
     all_distinct_below no_child dl di l m = tt
     all_distinct_below (child b t cs) dl di l m =
@@ -158,7 +158,7 @@ module _ {K V : Type 0} {bytes : K → List ℕ} {P : ℕ} {old mid new : Nodes 
       every [] = tt
       every (p ∷ ps) = (ap (λ m. option_and_then links_of (option_map held_leaf (finite.get m p))) same, every ps)
 
-  pub whole_tree : IsTree (of_key bytes) P new root pairs b.tree
+  pub whole_tree : IsCanonicalTree (of_key bytes) P new root pairs b.tree
   whole_tree = canonical_from (record { named = b.named; radix = b.radix; pairs_are = b.its ∙ H.placed.its; holds = b.holds; distinct = distinct; linked = linked })
 
   pub whole_added : AddsTree (of_key bytes) P old new (Some root) pairs

@@ -17,7 +17,7 @@ use Rattle.art_model.proofs.Lists.{Each-weaker}
 use Rattle.art_model.proofs.Stores.{frame}
 use Rattle.art_model.proofs.Names.{all_taken}
 use Rattle.art_model.proofs.Views.{held_in_inner}
-use Rattle.art_oracle.specs.Build.{KeepsOthers}
+use Rattle.art_oracle.specs.Build.{KeepsAllBut}
 use Rattle.art_oracle.specs.Built.{KeepsNodes}
 use Rattle.art_oracle.proofs.Kept.{both, name_cases, others_held}
 
@@ -63,8 +63,8 @@ module _ {K V : Type 0} where
         go (inl e) = inner_is_used mid parent from inner_kind (inner_kept old mid parent from inner_kind kept there) (ap (held mid) (sym e) ∙ none)
         go (inr e) = u (written_others n e ∙ none)
 
-    module _ (new : Nodes K V) (kept' : KeepsOthers written new parent) where
-      pub others_kept : KeepsOthers old new parent
+    module _ (new : Nodes K V) (kept' : KeepsAllBut written new parent) where
+      pub others_kept : KeepsAllBut old new parent
       others_kept n e u =
           let mid_is = kept n u in
           let in_mid : IsUsed mid n = λ none. u (sym mid_is ∙ none) in

@@ -12,8 +12,8 @@ use Rattle.art_nodes.specs.declared.node.LeafNode.{LeafNode}
 use Rattle.art_nodes.specs.declared.node.OpaqueNodePtr.{OpaqueNodePtr}
 use Rattle.art_model.specs.Keys.{IsFront}
 use Rattle.art_model.specs.Pairs.{IsMap, of_key}
-use Rattle.art_model.specs.Trees.{Tree, Children, byte_at, groups}
-use Rattle.art_model.specs.Radix.{pairs_of, pairs_below, IsRadix, AreRadix, IsRising, bytes_of}
+use Rattle.art_model.specs.Trees.{Tree, Subtrees, byte_at, groups}
+use Rattle.art_model.specs.Radix.{pairs_of, pairs_below, IsRadix, AreRadix, BytesRise, bytes_of}
 use Rattle.art_model.specs.Layouts.{name_of, slots_of, leaf_names, leaf_names_below, inner_names, inner_names_below, Holds, HoldsBelow, AreDistinct}
 use Rattle.art_model.specs.Stores.{node_at, held, IsUsed, pair_of}
 use Rattle.art_model.specs.Footprints.{IsIn}
@@ -46,11 +46,13 @@ module _ {K V : Type 0} where
   pairs_at store (p ∷ ps) = leaf_pair (finite.get store p) ++ pairs_at store ps
 
   -- every node of the first store but this inner one is in the second as it was
-  abbrev pub KeepsOthers : Nodes K V → Nodes K V → InnerPtr → Type 0
-  KeepsOthers old new parent = (name : OpaqueNodePtr) → name ≢ inner_name parent → IsUsed old name → held new name ≡ held old name
+  abbrev pub KeepsAllBut : Nodes K V → Nodes K V → InnerPtr → Type 0
+  KeepsAllBut old new parent =
+      (name : OpaqueNodePtr) → name ≢ inner_name parent → IsUsed old name → held new name ≡ held old name
 
   -- the pairs have leaves, which were placed under these names
-  pub record IsPlaced (old new : finite.FinMap leaf_cmp (LeafNode K V)) (names : List LeafPtr) (pairs : List (K × V)) : Type 0 where
+  pub record IsPlaced (old new : finite.FinMap leaf_cmp (LeafNode K V)) (names : List LeafPtr)
+      (pairs : List (K × V)) : Type 0 where
     pub there : Each (λ p. IsSome (finite.get new p)) names
     pub its : pairs_at new names ≡ pairs
     pub distinct : AreDistinct names
@@ -64,14 +66,16 @@ module _ {K V : Type 0} where
 
   module _ (bytes : K → List ℕ) where
     -- the leaves of a map whose keys all begin with a way of this length
-    pub record Ready (store : finite.FinMap leaf_cmp (LeafNode K V)) (way : List ℕ) (leaves : List LeafPtr) (depth : ℕ) : Type 0 where
+    pub record Ready (store : finite.FinMap leaf_cmp (LeafNode K V)) (way : List ℕ) (leaves : List LeafPtr)
+        (depth : ℕ) : Type 0 where
       pub there : All (λ p. IsSome (finite.get store p)) leaves
       pub map : IsMap (of_key bytes) (pairs_at store leaves)
       pub ways : Each (λ x. IsFront way (of_key bytes x)) (pairs_at store leaves)
       pub depth_is : length way ≡ depth
 
     -- the leaves of a map whose keys all begin with this front and go on
-    pub record ReadyBelow (store : finite.FinMap leaf_cmp (LeafNode K V)) (front : List ℕ) (leaves : List LeafPtr) (at : ℕ) : Type 0 where
+    pub record ReadyBelow (store : finite.FinMap leaf_cmp (LeafNode K V)) (front : List ℕ)
+        (leaves : List LeafPtr) (at : ℕ) : Type 0 where
       pub there : All (λ p. IsSome (finite.get store p)) leaves
       pub longer : All (λ p. at < length (leaf_key bytes (finite.get store p))) leaves
       pub map : IsMap (of_key bytes) (pairs_at store leaves)
@@ -79,10 +83,12 @@ module _ {K V : Type 0} where
       pub depth_is : length front ≡ at
 
     -- so many leaves in front have this byte, and the next has another
-    pub record IsGroup (store : finite.FinMap leaf_cmp (LeafNode K V)) (leaves : List LeafPtr) (at byte n : ℕ) : Type 0 where
+    pub record IsGroup (store : finite.FinMap leaf_cmp (LeafNode K V)) (leaves : List LeafPtr)
+        (at byte n : ℕ) : Type 0 where
       pub within : n ≤ length leaves
       pub same : Each (λ p. get_or (leaf_key bytes (finite.get store p)) at 0 ≡ byte) (take n leaves)
-      pub ends : (p : LeafPtr) → n < length leaves → get_or (leaf_key bytes (finite.get store (get_or leaves n p))) at 0 ≢ byte
+      pub ends : (p : LeafPtr) → n < length leaves →
+          get_or (leaf_key bytes (finite.get store (get_or leaves n p))) at 0 ≢ byte
 
     -- how many groups the leaves have by their bytes at a depth
     abbrev pub count_groups : finite.FinMap leaf_cmp (LeafNode K V) → List LeafPtr → ℕ → ℕ
@@ -90,11 +96,13 @@ module _ {K V : Type 0} where
 
     -- a node's bytes are below those of the leaves
     abbrev pub AreBelow : finite.FinMap leaf_cmp (LeafNode K V) → List LeafPtr → ℕ → Inner → Type 0
-    AreBelow store leaves at node = Each (λ c. Each (λ x. c.0 < byte_at (of_key bytes) at x) (pairs_at store leaves)) node.children
+    AreBelow store leaves at node =
+        Each (λ c. Each (λ x. c.0 < byte_at (of_key bytes) at x) (pairs_at store leaves)) node.children
 
     module _ (P : ℕ) where
       -- the keys share a part after the way, go on, and the first and the last part there
-      pub record Starts (store : finite.FinMap leaf_cmp (LeafNode K V)) (way : List ℕ) (leaves : List LeafPtr) (depth at : ℕ) (node : Inner) : Type 0 where
+      pub record Starts (store : finite.FinMap leaf_cmp (LeafNode K V)) (way : List ℕ)
+          (leaves : List LeafPtr) (depth at : ℕ) (node : Inner) : Type 0 where
         pub part : List ℕ
         pub at_is : at ≡ depth + length part
         pub node_is : node ≡ started P part
@@ -103,10 +111,12 @@ module _ {K V : Type 0} where
         pub y : K × V
         pub ys : List (K × V)
         pub pairs_are : pairs_at store leaves ≡ x ∷ y ∷ ys
-        pub differ : byte_at (of_key bytes) (length (way ++ part)) x ≢ byte_at (of_key bytes) (length (way ++ part)) (last_from y ys)
+        pub differ : byte_at (of_key bytes) (length (way ++ part)) x ≢ byte_at (of_key bytes)
+            (length (way ++ part)) (last_from y ys)
 
       -- the tree of the leaves under a name, its inner nodes under names that were free
-      pub record Built (way : List ℕ) (leaves : List LeafPtr) (old new : Nodes K V) (name : OpaqueNodePtr) : Type 0 where
+      pub record Built (way : List ℕ) (leaves : List LeafPtr) (old new : Nodes K V) (name : OpaqueNodePtr)
+          : Type 0 where
         pub tree : Tree OpaqueNodePtr (K × V)
         pub named : name_of tree ≡ name
         pub radix : IsRadix (of_key bytes) P way tree
@@ -118,14 +128,17 @@ module _ {K V : Type 0} where
         pub distinct : AreDistinct (inner_names tree)
 
       -- the trees of the groups of the leaves, which came to a node's children
-      pub record BuiltBelow (front : List ℕ) (leaves : List LeafPtr) (old new : Nodes K V) (from to : Inner) : Type 0 where
-        pub children : Children OpaqueNodePtr (K × V)
+      pub record BuiltBelow (front : List ℕ) (leaves : List LeafPtr) (old new : Nodes K V) (from to : Inner)
+          : Type 0 where
+        pub children : Subtrees OpaqueNodePtr (K × V)
         pub prefix : to.prefix ≡ from.prefix
         pub slots : to.children ≡ from.children ++ slots_of children
         pub radix : AreRadix (of_key bytes) P front children
-        pub rising : IsRising (bytes_of children)
+        pub rising : BytesRise (bytes_of children)
         pub count : length (bytes_of children) ≡ count_groups old.leaves leaves (length front)
-        pub above : (b : ℕ) → Each (λ x. b < byte_at (of_key bytes) (length front) x) (pairs_at old.leaves leaves) → Each (λ c. b < c) (bytes_of children)
+        pub above : (b : ℕ) →
+            Each (λ x. b < byte_at (of_key bytes) (length front) x) (pairs_at old.leaves leaves) →
+            Each (λ c. b < c) (bytes_of children)
         pub its : pairs_below children ≡ pairs_at old.leaves leaves
         pub leaves_are : leaf_names_below children ≡ map leaf_name leaves
         pub holds : HoldsBelow (node_at new) children
@@ -134,7 +147,8 @@ module _ {K V : Type 0} where
         pub distinct : AreDistinct (inner_names_below children)
 
       -- the same of a node in the store
-      pub record BuiltUnder (front : List ℕ) (leaves : List LeafPtr) (old new : Nodes K V) (parent : InnerPtr) (from : Inner) : Type 0 where
+      pub record BuiltUnder (front : List ℕ) (leaves : List LeafPtr) (old new : Nodes K V)
+          (parent : InnerPtr) (from : Inner) : Type 0 where
         pub to : Inner
         pub there : finite.get new.inners parent ≡ Some to
         pub below : BuiltBelow front leaves old new from to

@@ -14,7 +14,7 @@ ghost use Rattle.art_model.specs.Trees.{kind_of};
 ghost use Rattle.art_model.specs.Layouts.{AreDistinct, AreLinked};
 ghost use Rattle.art_model.specs.Stores.{held, links_at};
 ghost use Rattle.art_model.specs.Canonical.{IsCanonical};
-ghost use Rattle.art_oracle.specs.Build.{Ready, ReadyBelow, IsGroup, count_groups, leaf_key, AreBelow, Starts, Built, BuiltUnder, KeepsOthers, IsPlaced, KeepsPairs};
+ghost use Rattle.art_oracle.specs.Build.{Ready, ReadyBelow, IsGroup, count_groups, leaf_key, AreBelow, Starts, Built, BuiltUnder, KeepsAllBut, IsPlaced, KeepsPairs};
 ghost use Rattle.art_oracle.specs.Built.{KeepsNodes, AddsTree, IsInTree};
 
 use art_nodes::node::{
@@ -126,7 +126,8 @@ fn start_node<K: AsBytes + Drop, V: Drop, const P: usize>(
 ) -> (usize, AnyInner<P>)
     requires two { 2 ≤ length leaves.now }
     requires ready { (way : List ℕ) × Ready K.bytes store.now.leaves way leaves.now depth }
-    ensures starts { (way : List ℕ) → Ready K.bytes store.now.leaves way leaves.now depth → Starts K.bytes P store.now.leaves way leaves.now depth result.0 (any_view result.1) }
+    ensures starts { (way : List ℕ) → Ready K.bytes store.now.leaves way leaves.now depth →
+        Starts K.bytes P store.now.leaves way leaves.now depth result.0 (any_view result.1) }
     ensures kind { any_kind result.1 ≡ kind_of (count_groups K.bytes store.now.leaves leaves.now result.0) }
     ensures capacity { count_groups K.bytes store.now.leaves leaves.now result.0 ≤ kind_capacity (any_kind result.1) }
 {
@@ -149,11 +150,16 @@ fn place_node<K: AsBytes + Drop, V: Drop, const P: usize>(
 ) -> Result<(usize, InnerPtr), AllocError>
     requires two { 2 ≤ length leaves.now }
     requires ready { (way : List ℕ) × Ready K.bytes store.old.leaves way leaves.now depth }
-    ensures placed { IfOk result (λ placed. (node : Inner) × (store.new.inners ≡ map.insert store.old.inners placed.1 node) × ((way : List ℕ) → Ready K.bytes store.old.leaves way leaves.now depth → Starts K.bytes P store.old.leaves way leaves.now depth placed.0 node)) }
+    ensures placed { IfOk result (λ placed. (node : Inner) ×
+        (store.new.inners ≡ map.insert store.old.inners placed.1 node) ×
+        ((way : List ℕ) → Ready K.bytes store.old.leaves way leaves.now depth →
+        Starts K.bytes P store.old.leaves way leaves.now depth placed.0 node)) }
     ensures fresh { IfOk result (λ placed. map.get store.old.inners placed.1 ≡ None) }
     ensures leaves { OnOk result (store.new.leaves ≡ store.old.leaves) }
-    ensures kind { IfOk result (λ placed. placed.1.kind ≡ kind_of (count_groups K.bytes store.old.leaves leaves.now placed.0)) }
-    ensures capacity { IfOk result (λ placed. count_groups K.bytes store.old.leaves leaves.now placed.0 ≤ kind_capacity placed.1.kind) }
+    ensures kind { IfOk result (λ placed.
+        placed.1.kind ≡ kind_of (count_groups K.bytes store.old.leaves leaves.now placed.0)) }
+    ensures capacity { IfOk result (λ placed.
+        count_groups K.bytes store.old.leaves leaves.now placed.0 ≤ kind_capacity placed.1.kind) }
 {
     let (at, node) = start_node(store, leaves, depth);
     match store.place_inner(node) {
@@ -171,7 +177,9 @@ fn build_node<K: AsBytes + Drop, V: Drop, const P: usize>(
 ) -> Result<OpaqueNodePtr, AllocError>
     requires some { 1 ≤ length leaves.now }
     requires ready { (way : List ℕ) × Ready K.bytes store.old.leaves way leaves.now depth }
-    ensures built { IfOk result (λ name. (way : List ℕ) → Ready K.bytes store.old.leaves way leaves.now depth → Built K.bytes P way leaves.now store.old store.new name) }
+    ensures built { IfOk result (λ name. (way : List ℕ) →
+        Ready K.bytes store.old.leaves way leaves.now depth →
+        Built K.bytes P way leaves.now store.old store.new name) }
     ensures leaves { OnOk result (store.new.leaves ≡ store.old.leaves) }
     ensures kept { OnOk result (KeepsNodes store.old store.new) }
 {
@@ -192,11 +200,16 @@ fn build_below<K: AsBytes + Drop, V: Drop, const P: usize>(
     parent: InnerPtr,
 ) -> Result<(), AllocError>
     requires ready { (front : List ℕ) × ReadyBelow K.bytes store.old.leaves front leaves.now at }
-    requires parent { (node : Inner) × (map.get store.old.inners parent ≡ Some node) × AreBelow K.bytes store.old.leaves leaves.now at node × (length node.children + count_groups K.bytes store.old.leaves leaves.now at ≤ kind_capacity parent.kind) }
+    requires parent { (node : Inner) × (map.get store.old.inners parent ≡ Some node) ×
+        AreBelow K.bytes store.old.leaves leaves.now at node ×
+        (length node.children + count_groups K.bytes store.old.leaves leaves.now at ≤ kind_capacity parent.kind) }
     requires inner { parent.kind ≢ Leaf }
-    ensures built { OnOk result ((front : List ℕ) (node : Inner) → ReadyBelow K.bytes store.old.leaves front leaves.now at → map.get store.old.inners parent ≡ Some node → AreBelow K.bytes store.old.leaves leaves.now at node → BuiltUnder K.bytes P front leaves.now store.old store.new parent node) }
+    ensures built { OnOk result ((front : List ℕ) (node : Inner) →
+        ReadyBelow K.bytes store.old.leaves front leaves.now at →
+        map.get store.old.inners parent ≡ Some node → AreBelow K.bytes store.old.leaves leaves.now at node →
+        BuiltUnder K.bytes P front leaves.now store.old store.new parent node) }
     ensures leaves { OnOk result (store.new.leaves ≡ store.old.leaves) }
-    ensures kept { OnOk result (KeepsOthers store.old store.new parent) }
+    ensures kept { OnOk result (KeepsAllBut store.old store.new parent) }
 {
     if leaves.is_empty() {
         return Ok(());
@@ -257,7 +270,8 @@ pub fn build<K: AsBytes + Drop, V: Drop, const P: usize>(
     ensures canonical { IfOk result (λ root. IsCanonical (of_key K.bytes) P store.new root pairs.items) }
     ensures kept { OnOk result (KeepsNodes store.old store.new) }
     ensures names { IfOk result (λ root. AddsTree (of_key K.bytes) P store.old store.new root pairs.items) }
-    ensures fresh { IfOk result (λ root. (name : OpaqueNodePtr) → IsInTree (of_key K.bytes) P store.new root pairs.items name → held store.old name ≡ None) }
+    ensures fresh { IfOk result (λ root. (name : OpaqueNodePtr) →
+        IsInTree (of_key K.bytes) P store.new root pairs.items name → held store.old name ≡ None) }
 {
     let names = place_leaves(store, pairs)?;
     if names.is_empty() {

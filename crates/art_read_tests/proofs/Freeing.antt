@@ -10,7 +10,7 @@ use Rattle.art_model.specs.Footprints.{IsIn}
 use Rattle.art_model.specs.Kept.{Frees}
 use Rattle.art_model.specs.Layouts.{AreLinked, Holds, HoldsBelow, IsLayout, first_or, inner_names, inner_names_below, names_of, slots_of}
 use Rattle.art_model.specs.Stores.{held, links_at, links_of, shape_at}
-use Rattle.art_model.specs.Trees.{Tree, leaf, inner, Children, child, no_child}
+use Rattle.art_model.specs.Trees.{Tree, leaf, inner, Subtrees, child, no_child}
 use Rattle.art_model.specs.Writes.{as_inner}
 use Rattle.art_model.proofs.Chains.{links_inner}
 use Rattle.art_model.proofs.Lists.{each_from, in_either}
@@ -37,7 +37,7 @@ module _ {K V : Type 0} (s : Nodes K V) where
     inner_kind (inner n h cs) holds k (inl e) = subst (λ z. z.kind ≢ Leaf) e (shape_there s n h (slots_of cs) holds.0).off
     inner_kind (inner n h cs) holds k (inr i) = inner_kind_below cs holds.1 k i
 
-    inner_kind_below : (cs : Children OpaqueNodePtr (Unit {0})) → HoldsBelow (shape_at s) cs → (k : OpaqueNodePtr) → IsIn k (inner_names_below cs) → k.kind ≢ Leaf
+    inner_kind_below : (cs : Subtrees OpaqueNodePtr (Unit {0})) → HoldsBelow (shape_at s) cs → (k : OpaqueNodePtr) → IsIn k (inner_names_below cs) → k.kind ≢ Leaf
     inner_kind_below no_child holds k i = absurd i
     inner_kind_below (child b t cs) holds k i = elim (in_either k (inner_names t) (inner_names_below cs) i) [
       | inl j ↦ inner_kind t holds.0 k j

@@ -97,6 +97,33 @@ fn counts_readings(rt: HostRuntime) -> Result<(), Fail> {
     Ok(())
 }
 
+// What searches of the same tree find that end at a node without a child for the next byte, and how many nodes each reads.
+fn readings_without_child<const P: usize>(
+    store: &NodeStore<Key, u32, P>,
+    root: OpaqueNodePtr,
+) -> [(Option<u32>, usize); 5]
+    requires { IsCanonicalRoot (of_key (λ key. key.items)) P store.now root }
+{
+    [
+        searched(store, root, &[7]),
+        searched(store, root, &[0, 0, 9, 255]),
+        searched(store, root, &[0, 0, 0, 0, 0, 0, 0, 0, 0, 0, 7]),
+        prefix_searched(store, root, &[7, 255]),
+        prefix_searched(store, root, &[0, 254]),
+    ]
+}
+
+#[test]
+fn reads_nothing_for_a_missing_child(rt: HostRuntime) -> Result<(), Fail> {
+    let alloc = rt.alloc();
+    let keys = keys_of_zeros(alloc)?;
+    let mut store: NodeStore<Key, u32, 4> = NodeStore::new(alloc);
+    let root = plant(&mut store, &mut NodeStore::new(alloc), keys)?;
+    let wanted = [(None, 1), (None, 3), (None, 11), (None, 1), (None, 2)];
+    assert_eq!(rt; readings_without_child(&store, root), wanted);
+    Ok(())
+}
+
 // What searches past bytes that no node stores find.
 fn readings_past<const P: usize>(
     store: &NodeStore<Key, u32, P>,

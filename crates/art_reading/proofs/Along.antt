@@ -34,8 +34,12 @@ module _ {K V : Type 0} {s : Nodes K V} {tree : Tree OpaqueNodePtr (K × V)} whe
   module _ (path : TreePath) {name : OpaqueNodePtr} where
     -- at a leaf it ends
     pub ends : (end : End) {p : LeafPtr} → leaf_name p ≡ name → IsAtEdge (IsAlong end path) s tree name → LeadsToEnd tree end path p
-    ends First is d = let (name_is, (x, pair_is, whole)) = first_leaf is d d.along.0 in ((name_is, (x, pair_is, (d.path, whole))), d.along.1)
-    ends Last is d = let (name_is, (x, pair_is, whole)) = last_leaf is d d.along.0 in ((name_is, (x, pair_is, (d.path, whole))), d.along.1)
+    ends First is d =
+        let (name_is, (x, pair_is, whole)) = first_leaf is d d.along.0 in
+        (record { name_is = name_is; pair = x; pair_is = pair_is; has = record { path = d.path; whole = whole } }, d.along.1)
+    ends Last is d =
+        let (name_is, (x, pair_is, whole)) = last_leaf is d d.along.0 in
+        (record { name_is = name_is; pair = x; pair_is = pair_is; has = record { path = d.path; whole = whole } }, d.along.1)
 
     -- at an inner node it goes on below the child at the end
     pub steps : (end : End) {p : InnerPtr} {shown : Inner} (d : IsAtEdge (IsAlong end path) s tree name) → IsShown d.node p shown → (r : ℕ × OpaqueNodePtr) → IsEndChild end shown.children r →

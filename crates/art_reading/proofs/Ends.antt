@@ -75,7 +75,7 @@ module _ {K V : Type 0} {bytes : K × V → List ℕ} {key : List ℕ} {pairs : 
     pub found_equal : r ≡ true → IsKeysLeaf bytes key pairs layout (Some last)
     found_equal t =
         let is : are_same key (bytes (pair_of last.node.now)) ≡ true = ap (are_same key) (equal t) ∙ front_same key in
-        (only_with_key ∙ rw is refl, (h.is_leaf, h.path_is))
+        record { only = only_with_key ∙ rw is refl; is_leaf = h.is_leaf; path_is = h.path_is }
 
     pub counted_equal : r ≡ true → before + length (nodes_on_way bytes key layout) ≡ after
     counted_equal t = h.exactly (subst (IsFront h.place) (equal t) h.leads_to)

@@ -20,7 +20,7 @@ use Rattle.art_reading.specs.Iterators.{GoesOn, IsIteratorOf, WalksWhole}
 
 module _ {K V : Type 0} where
   -- a leaf with links is there, and names these leaves
-  linked_leaf : (o : Option (LeafNode K V)) (l : Links OpaqueNodePtr) → option_and_then links_of (option_map held_leaf o) ≡ Some l →
+  pub linked_leaf : (o : Option (LeafNode K V)) (l : Links OpaqueNodePtr) → option_and_then links_of (option_map held_leaf o) ≡ Some l →
       (leaf : LeafNode K V) × (o ≡ Some leaf) × (option_map leaf_name leaf.previous ≡ l.previous) × (option_map leaf_name leaf.next ≡ l.next)
   linked_leaf None l e = absurd cc
   linked_leaf (Some leaf) l e =
@@ -68,7 +68,7 @@ module _ {K V : Type 0} where
 
   -- the leaves of a canonical root, from the first to the last
   pub walks_whole : WalksWhole K V
-  walks_whole bytes P s root pairs layout first last is begins ends = record { ends = (begins.0, ends.0); segment = tree_segment layout is.stands.0.distinct is.linked }
+  walks_whole bytes P s root pairs layout first last is begins ends = record { ends = (begins.name_is, ends.name_is); segment = tree_segment layout is.stands.0.distinct is.linked }
 
 module _ {K V : Type 0} (s : Nodes K V) where
   -- a leaf that is linked is there

@@ -14,7 +14,7 @@ use Rattle.art_model.specs.Trees.{Tree}
 use Rattle.art_model.specs.Layouts.{Holds}
 use Rattle.art_model.specs.Stores.{node_at, pair_of}
 use Rattle.art_model.specs.Lookups.{nodes_on_way}
-use Rattle.art_model.specs.Canonical.{IsTree}
+use Rattle.art_model.specs.Canonical.{IsCanonicalTree}
 use Rattle.art_model.proofs.Stores.{path_holds}
 use Rattle.art_model.proofs.Canonical.{tree_radix}
 use Rattle.art_model.proofs.Shown.{IsShown, no_leaf_gone, leaf_shown, no_inner_gone, inner_shown}
@@ -32,7 +32,7 @@ use Rattle.art_reading.proofs.Outcomes.{ok_len, err_why, ok_compared}
 use Rattle.art_reading.proofs.OnWay.{IsOnWay, leaf_leads, leaf_whole, leaf_only, leaf_least, leaf_exactly, IsEnd, ends_short, ends_off, ends_childless, still_compared, goes_on}
 
 module _ {K V : Type 0} {s : Nodes K V} {bytes : K × V → List ℕ} {P : ℕ} {root : OpaqueNodePtr} {pairs : List (K × V)}
-    {layout : Tree OpaqueNodePtr (K × V)} (by : IsTree bytes P s root pairs layout) where
+    {layout : Tree OpaqueNodePtr (K × V)} (by : IsCanonicalTree bytes P s root pairs layout) where
   pub start : (key : List ℕ) (visits : ℕ) → IsOnWay bytes P key layout Root root 0 Pessimistic visits visits
   start key visits =
       record {
@@ -76,7 +76,7 @@ module _ {K V : Type 0} {s : Nodes K V} {bytes : K × V → List ℕ} {P : ℕ} 
       let at = leaf_shown s last.name d.node (d.named ∙ sym is) (holds d) last.node.now there in
       record {
         place = d.place;
-        is_leaf = (d.path, leaf_whole d n x at);
+        is_leaf = record { path = d.path; whole = leaf_whole d n x at };
         path_is = d.way_is;
         leads_to = leaf_leads d n x at;
         depth_is = d.depth_is;
@@ -107,7 +107,7 @@ is_err (Err m) e = (m, refl)
 module _ {K V : Type 0} {s : Nodes K V} {bytes : K × V → List ℕ} {P : ℕ} {root : OpaqueNodePtr} {pairs : List (K × V)}
     {layout : Tree OpaqueNodePtr (K × V)} {key : List ℕ} {way : TreePath} {name : OpaqueNodePtr} {depth : ℕ} {behavior : PrefixMatchBehavior}
     {before now after : ℕ} {p : InnerPtr} {shown : Inner} {prefix : Prefix} {rest : List ℕ}
-    {r : Result AttemptOptimisticPrefixMatch PessimisticMismatch} (by : IsTree bytes P s root pairs layout)
+    {r : Result AttemptOptimisticPrefixMatch PessimisticMismatch} (by : IsCanonicalTree bytes P s root pairs layout)
     (d : IsOnWay bytes P key layout way name depth behavior before now) (at : IsShown d.node p shown) (short : depth ≤ length key)
     (counted : after ≡ now + 1) (reads : IsRead shown key depth prefix rest) (outcome : r ≡ prefix_match behavior prefix rest) where
   -- no key matches

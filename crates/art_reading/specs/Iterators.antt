@@ -4,7 +4,7 @@ use Rattle.art_nodes.specs.Names.{leaf_name}
 use Rattle.art_nodes.specs.Nodes.{Nodes}
 use Rattle.art_nodes.specs.declared.node.LeafPtr.{LeafPtr}
 use Rattle.art_nodes.specs.declared.node.OpaqueNodePtr.{OpaqueNodePtr}
-use Rattle.art_model.specs.Canonical.{IsTree}
+use Rattle.art_model.specs.Canonical.{IsCanonicalTree}
 use Rattle.art_model.specs.Footprints.{IsIn}
 use Rattle.art_model.specs.Layouts.{leaf_names}
 use Rattle.art_model.specs.Lookups.{HasFirstLeaf, HasLastLeaf}
@@ -19,7 +19,8 @@ HasEnds None names = names ≡ []
 HasEnds (Some ends) names = (first_of names ≡ Some (leaf_name ends.0)) × (last_of names ≡ Some (leaf_name ends.1))
 
 -- The iterator stands for a segment of a store's leaves, in order, or for the empty list.
-pub record IsIteratorOf {K V : Type 0} (s : Nodes K V) (iterator : Option (LeafPtr × LeafPtr)) (names : List OpaqueNodePtr) : Type 0 where
+pub record IsIteratorOf {K V : Type 0} (s : Nodes K V) (iterator : Option (LeafPtr × LeafPtr))
+    (names : List OpaqueNodePtr) : Type 0 where
   pub ends : HasEnds iterator names
   pub segment : IsSegment (links_at s) names
 
@@ -28,10 +29,15 @@ pub record IsIteratorOf {K V : Type 0} (s : Nodes K V) (iterator : Option (LeafP
 module _ (K V : Type 0) where
   -- an iterator stands for the same leaves in every store in which they have the links that they had
   abbrev pub GoesOn : Type 0
-  GoesOn = (s t : Nodes K V) (iterator : Option (LeafPtr × LeafPtr)) (names : List OpaqueNodePtr) → IsIteratorOf s iterator names →
+  GoesOn =
+      (s t : Nodes K V) (iterator : Option (LeafPtr × LeafPtr)) (names : List OpaqueNodePtr) →
+      IsIteratorOf s iterator names →
       ((name : OpaqueNodePtr) → IsIn name names → links_at t name ≡ links_at s name) → IsIteratorOf t iterator names
 
   -- from the first leaf of a canonical root to the last one an iterator stands for all of its leaves
   abbrev pub WalksWhole : Type 0
-  WalksWhole = (bytes : K × V → List ℕ) (P : ℕ) (s : Nodes K V) (root : OpaqueNodePtr) (pairs : List (K × V)) (layout : Tree OpaqueNodePtr (K × V)) (first last : LeafPtr) →
-      IsTree bytes P s root pairs layout → HasFirstLeaf layout (leaf_name first) → HasLastLeaf layout (leaf_name last) → IsIteratorOf s (Some (first, last)) (leaf_names layout)
+  WalksWhole =
+      (bytes : K × V → List ℕ) (P : ℕ) (s : Nodes K V) (root : OpaqueNodePtr) (pairs : List (K × V))
+      (layout : Tree OpaqueNodePtr (K × V)) (first last : LeafPtr) →
+      IsCanonicalTree bytes P s root pairs layout → HasFirstLeaf layout (leaf_name first) →
+      HasLastLeaf layout (leaf_name last) → IsIteratorOf s (Some (first, last)) (leaf_names layout)

@@ -1,3 +1,8 @@
+-- what look-ups and walks speak of
+pub use Rattle.art_model.specs.Pairs
+pub use Rattle.art_model.specs.Trees
+pub use Rattle.art_model.specs.Roots
+pub use Rattle.art_model.specs.Lookups
 pub mod Matching
 pub mod Paths
 pub mod Walks

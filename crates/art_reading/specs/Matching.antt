@@ -24,11 +24,15 @@ abbrev pub parts_from : List ℕ → List ℕ → Bool
 parts_from rest stored = nat_lt (shared_len stored rest) (length stored)
 
 -- what the comparison of a prefix with the rest of the query answers
-abbrev pub prefix_match : PrefixMatchBehavior → Prefix → List ℕ → Result AttemptOptimisticPrefixMatch PessimisticMismatch
+abbrev pub prefix_match : PrefixMatchBehavior → Prefix → List ℕ →
+    Result AttemptOptimisticPrefixMatch PessimisticMismatch
 prefix_match Optimistic prefix rest = match_by_length prefix.len rest true
 prefix_match Pessimistic prefix rest =
     if parts_from rest prefix.stored then
-    Err (record { matched_bytes = shared_len prefix.stored rest; prefix_byte = slice_get prefix.stored (shared_len prefix.stored rest) })
+    Err (record {
+      matched_bytes = shared_len prefix.stored rest;
+      prefix_byte = slice_get prefix.stored (shared_len prefix.stored rest);
+    })
     else
     match_by_length prefix.len rest (nat_lt (length prefix.stored) prefix.len)
 
@@ -47,8 +51,10 @@ compared_from Pessimistic depth leaf query = min depth (min (length leaf) (lengt
 
 -- what is compared of a leaf's key and of the query is the same
 abbrev pub MatchesLeafKey : PrefixMatchBehavior → ℕ → List ℕ → List ℕ → Type 0
-MatchesLeafKey behavior depth leaf query = let from = compared_from behavior depth leaf query in drop from leaf ≡ drop from query
+MatchesLeafKey behavior depth leaf query =
+    let from = compared_from behavior depth leaf query in drop from leaf ≡ drop from query
 
 -- what is compared of a leaf's key is a front of what is compared of the query
 abbrev pub LeafKeyIsPrefix : PrefixMatchBehavior → ℕ → List ℕ → List ℕ → Type 0
-LeafKeyIsPrefix behavior depth leaf query = let from = compared_from behavior depth leaf query in IsFront (drop from leaf) (drop from query)
+LeafKeyIsPrefix behavior depth leaf query =
+    let from = compared_from behavior depth leaf query in IsFront (drop from leaf) (drop from query)

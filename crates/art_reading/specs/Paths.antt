@@ -1,4 +1,4 @@
--- Paths of code: one step down and up, the last steps of a path of the model, and the parent that a path ends with.
+-- Paths of code: one step down and up, the last steps of a path of the model, the parent that a path ends with, and the root.
 use Rattle.std.specs.Prelude.{ℕ, List, [], ◌∷◌, Option, Some, None}
 use Rattle.art_nodes.specs.declared.node.InnerPtr.{InnerPtr}
 use Rattle.art_nodes.specs.declared.node.OpaqueNodePtr.{OpaqueNodePtr}
@@ -29,3 +29,8 @@ abbrev pub up : TreePath → TreePath
 up Root = Root
 up (ChildOfRoot parent byte) = Root
 up (Normal grandparent above parent byte) = ChildOfRoot grandparent above
+
+-- the root, where the node at the end of the path may be another one
+abbrev pub root_with : TreePath → OpaqueNodePtr → OpaqueNodePtr → OpaqueNodePtr
+root_with Root root node = node
+root_with path root node = root

@@ -15,12 +15,13 @@ use Rattle.art_reading.specs.declared.ways.End.TheVariants.{First, Last}
 use Rattle.art_reading.specs.declared.path.TreePath.{TreePath}
 use Rattle.art_reading.specs.Paths.{path_of}
 
-module _ {K V : Type 0} (bytes : K × V → List ℕ) (key : List ℕ) (pairs : List (K × V)) (layout : Tree OpaqueNodePtr (K × V)) (before after : ℕ) where
+module _ {K V : Type 0} (bytes : K × V → List ℕ) (key : List ℕ) (pairs : List (K × V))
+    (layout : Tree OpaqueNodePtr (K × V)) (before after : ℕ) where
   -- the only leaf that can match the key, and what is left to compare of it: the bytes after its place, or all of them
   pub record IsLastLeaf (last : LastLeaf K V) : Type 0 where
     pub place : List ℕ
     pub is_leaf : HasLeaf layout (leaf_name last.name) (pair_of last.node.now)
-    pub path_is : last.path ≡ path_of is_leaf.0
+    pub path_is : last.path ≡ path_of is_leaf.path
     pub leads_to : IsFront place (bytes (pair_of last.node.now))
     pub depth_is : length place ≡ last.depth
     pub is_short : last.depth ≤ length key
@@ -34,16 +35,24 @@ module _ {K V : Type 0} (bytes : K × V → List ℕ) (key : List ℕ) (pairs : 
   WalkEnds None = (match_of bytes key pairs ≡ []) × (before + length (nodes_on_way bytes key layout) ≤ after)
   WalkEnds (Some last) = IsLastLeaf last
 
+-- The leaf has the key's only pair, and the path leads to it.
+pub record IsOnlyLeaf {K V : Type 0} (bytes : K × V → List ℕ) (key : List ℕ) (pairs : List (K × V))
+    (layout : Tree OpaqueNodePtr (K × V))
+    (last : LastLeaf K V) : Type 0 where
+  pub only : with_key bytes key pairs ≡ pair_of last.node.now ∷ []
+  pub is_leaf : HasLeaf layout (leaf_name last.name) (pair_of last.node.now)
+  pub path_is : last.path ≡ path_of is_leaf.path
+
 -- the leaf of the key's only pair, with the path to it, or none where there is no such pair
-abbrev pub IsKeysLeaf : {K V : Type 0} → (K × V → List ℕ) → List ℕ → List (K × V) → Tree OpaqueNodePtr (K × V) → Option (LastLeaf K V) → Type 0
+abbrev pub IsKeysLeaf : {K V : Type 0} → (K × V → List ℕ) → List ℕ → List (K × V) →
+    Tree OpaqueNodePtr (K × V) → Option (LastLeaf K V) → Type 0
 IsKeysLeaf bytes key pairs layout None = with_key bytes key pairs ≡ []
-IsKeysLeaf bytes key pairs layout (Some last) =
-    (with_key bytes key pairs ≡ pair_of last.node.now ∷ []) × ((is : HasLeaf layout (leaf_name last.name) (pair_of last.node.now)) × (last.path ≡ path_of is.0))
+IsKeysLeaf bytes key pairs layout (Some last) = IsOnlyLeaf bytes key pairs layout last
 
 -- the path leads to the tree's first leaf, or to the last one
 abbrev pub LeadsToEnd : {A : Type 0} → Tree OpaqueNodePtr A → End → TreePath → LeafPtr → Type 0
-LeadsToEnd tree First path leaf = (is : HasFirstLeaf tree (leaf_name leaf)) × (path ≡ path_of is.1.2.0)
-LeadsToEnd tree Last path leaf = (is : HasLastLeaf tree (leaf_name leaf)) × (path ≡ path_of is.1.2.0)
+LeadsToEnd tree First path leaf = (is : HasFirstLeaf tree (leaf_name leaf)) × (path ≡ path_of is.has.path)
+LeadsToEnd tree Last path leaf = (is : HasLastLeaf tree (leaf_name leaf)) × (path ≡ path_of is.has.path)
 
 -- a node's first child, with its byte, or the last one
 abbrev pub IsEndChild : End → List (ℕ × OpaqueNodePtr) → ℕ × OpaqueNodePtr → Type 0

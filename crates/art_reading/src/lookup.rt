@@ -46,8 +46,10 @@ impl PrefixMatchBehavior {
         stored: &[u8],
         rest_of_key: &[u8],
     ) -> Result<AttemptOptimisticPrefixMatch, PessimisticMismatch>
-        ensures outcome { result ≡ prefix_match self.old (record { len = prefix_len; stored = stored.now }) rest_of_key.now }
-        ensures behavior { self.new ≡ behavior_after self.old (record { len = prefix_len; stored = stored.now }) rest_of_key.now }
+        ensures outcome { result ≡ prefix_match self.old
+            (record { len = prefix_len; stored = stored.now }) rest_of_key.now }
+        ensures behavior { self.new ≡ behavior_after self.old
+            (record { len = prefix_len; stored = stored.now }) rest_of_key.now }
     {
         let mut any_implicit_bytes = true;
         if *self == PrefixMatchBehavior::Pessimistic {
@@ -158,6 +160,7 @@ impl Visits {
 }
 
 // Goes down with a key to the only leaf whose key can be a prefix of it, and counts each node that it reads.
+#[inline(always)]
 pub(crate) fn walk<'a, K: AsBytes + Drop, V: Drop, const PREFIX_LEN: usize>(
     store: &'a NodeStore<K, V, PREFIX_LEN>,
     root: OpaqueNodePtr,
@@ -214,6 +217,7 @@ pub(crate) fn walk<'a, K: AsBytes + Drop, V: Drop, const PREFIX_LEN: usize>(
 ///
 /// Its cost is a way down: at most one node more than the key has bytes. Where the bytes of a prefix
 /// are not all stored it passes over the others, and compares the whole key at the leaf.
+#[inline(always)]
 pub fn search_unchecked<K: AsBytes + Drop, V: Drop, const PREFIX_LEN: usize>(
     store: &NodeStore<K, V, PREFIX_LEN>,
     root: OpaqueNodePtr,
@@ -227,6 +231,7 @@ pub fn search_unchecked<K: AsBytes + Drop, V: Drop, const PREFIX_LEN: usize>(
 }
 
 /// The same as `search_unchecked`; each reading of a node is counted.
+#[inline(always)]
 pub fn search_visiting<K: AsBytes + Drop, V: Drop, const PREFIX_LEN: usize>(
     store: &NodeStore<K, V, PREFIX_LEN>,
     root: OpaqueNodePtr,
@@ -252,6 +257,7 @@ pub fn search_visiting<K: AsBytes + Drop, V: Drop, const PREFIX_LEN: usize>(
 /// The leaf whose key is a prefix of these bytes or equal to them, or `None` where there is none.
 ///
 /// It goes the way of `search_unchecked`, at the same cost.
+#[inline(always)]
 pub fn prefix_search_unchecked<K: AsBytes + Drop, V: Drop, const PREFIX_LEN: usize>(
     store: &NodeStore<K, V, PREFIX_LEN>,
     root: OpaqueNodePtr,
@@ -265,6 +271,7 @@ pub fn prefix_search_unchecked<K: AsBytes + Drop, V: Drop, const PREFIX_LEN: usi
 }
 
 /// The same as `prefix_search_unchecked`; each reading of a node is counted.
+#[inline(always)]
 pub fn prefix_search_visiting<K: AsBytes + Drop, V: Drop, const PREFIX_LEN: usize>(
     store: &NodeStore<K, V, PREFIX_LEN>,
     root: OpaqueNodePtr,

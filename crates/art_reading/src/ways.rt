@@ -76,6 +76,7 @@ pub struct LastLeaf<'a, K, V> {
 }
 
 /// Goes down with a key to its own leaf, or to `None` where no stored key is equal to it.
+#[inline(always)]
 pub fn walk_to_key<'a, K: AsBytes + Drop, V: Drop, const PREFIX_LEN: usize>(
     store: &'a NodeStore<K, V, PREFIX_LEN>,
     root: OpaqueNodePtr,

@@ -125,7 +125,8 @@ pub fn ran_from<const P: usize>(
     rows: &[Row<'_>],
 ) -> Result<(Left, Option<OpaqueNodePtr>), AllocError>
     requires { (pairs : List (Vec ℕ Global × ℕ)) × IsCanonical (of_key (λ key. key.items)) P first.old root pairs }
-    ensures { IfOk result (λ done. (pairs : List (Vec ℕ Global × ℕ)) × IsCanonical (of_key (λ key. key.items)) P (of_side done.0.side first.new second.new) done.1 pairs) }
+    ensures { IfOk result (λ done. (pairs : List (Vec ℕ Global × ℕ)) ×
+        IsCanonical (of_key (λ key. key.items)) P (of_side done.0.side first.new second.new) done.1 pairs) }
 {
     let asked = commands(first.alloc(), rows)?;
     match run(first, second, root, asked) {
@@ -151,7 +152,8 @@ pub fn run_without_memory<const P: usize>(
     asked: Vec<Command<Key, u32>>,
 ) -> Result<RunResult<Key, u32>, AllocError>
     requires { (pairs : List (Vec ℕ Global × ℕ)) × IsCanonical (of_key (λ key. key.items)) P first.old root pairs }
-    ensures { IfOk result (λ done. (pairs : List (Vec ℕ Global × ℕ)) × IsCanonical (of_key (λ key. key.items)) P (of_side done.side first.new second.new) done.root pairs) }
+    ensures { IfOk result (λ done. (pairs : List (Vec ℕ Global × ℕ)) ×
+        IsCanonical (of_key (λ key. key.items)) P (of_side done.side first.new second.new) done.root pairs) }
 {
     let alloc = first.alloc();
     let kept_free = Vec::<Reply<Key, u32>>::with_capacity(alloc, asked.len())?;

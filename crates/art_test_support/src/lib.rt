@@ -2,6 +2,7 @@
 #![tactic(auto)]
 
 pub mod commands;
+pub mod crowds;
 pub mod memory;
 pub mod nodes;
 pub mod numbers;

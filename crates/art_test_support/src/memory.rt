@@ -36,21 +36,3 @@ const SIGN: usize = 12_345_677;
 pub fn end_refusals(alloc: Global) {
     drop(Vec::<u8>::with_capacity(alloc, SIGN));
 }
-
-#[cfg(test)]
-mod tests {
-    use super::*;
-    use std::test::Fail;
-
-    #[test]
-    fn nothing_is_left_once_all_is_held(rt: HostRuntime) -> Result<(), Fail> {
-        let alloc = rt.alloc();
-        let held = all_memory(alloc)?;
-        let refused = Vec::<u8>::with_capacity(alloc, 1).is_err();
-        drop(held);
-        let granted = Vec::<u8>::with_capacity(alloc, 1).is_ok();
-        assert!(rt; refused);
-        assert!(rt; granted);
-        Ok(())
-    }
-}

@@ -70,7 +70,8 @@ pub fn has_place<K: AsBytes + Drop, V: Drop, const P: usize>(
     name: InnerPtr,
     byte: u8,
 ) -> bool
-    ensures { IsTrue result → IsSomeAnd (map.get store.now.inners name) (λ node. HasPlace (kind_capacity name.kind) node.children byte) }
+    ensures { IsTrue result → IsSomeAnd (map.get store.now.inners name) (λ node.
+        HasPlace (kind_capacity name.kind) node.children byte) }
 {
     match store.inner(name) {
         Some(node) => !node.is_full() || node.lookup_child(byte).is_some(),

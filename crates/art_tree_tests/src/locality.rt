@@ -417,14 +417,29 @@ enum Deletion {
     Other,
 }
 
-// So many keys below one node, and so many others.
-fn two_groups(alloc: Global, count: u8, others: u8) -> Result<Vec<Key>, AllocError> {
+/// How many keys there are below one node, and below another, and how many in a chain, of which each but one has a
+/// Node4 above it alone.
+#[derive(Clone, Copy)]
+struct Groups {
+    count: u8,
+    others: u8,
+    chained: usize,
+}
+
+// The keys of these groups.
+fn keys_of_groups(alloc: Global, groups: Groups) -> Result<Vec<Key>, AllocError> {
     let mut keys = Vec::new(alloc);
-    for byte in 0..count {
+    for byte in 0..groups.count {
         keys.push([0, byte].to_vec(alloc)?)?;
     }
-    for byte in 0..others {
+    for byte in 0..groups.others {
         keys.push([1, byte].to_vec(alloc)?)?;
+    }
+    for zeros in 0..groups.chained {
+        let mut key = [2].to_vec(alloc)?;
+        key.resize(zeros.saturating_add(1), 0)?;
+        key.push(255)?;
+        keys.push(key)?;
     }
     Ok(keys)
 }
@@ -465,26 +480,44 @@ fn delete_third<const P: usize>(
     })
 }
 
-// What comes of the deletion of the third of so many keys below one node, beside so many others.
-fn deletion_from(alloc: Global, count: u8, others: u8) -> Result<Deletion, AllocError> {
-    let keys = two_groups(alloc, count, others)?;
+// What comes of the deletion of the third key of these groups.
+fn deletion_from(alloc: Global, groups: Groups) -> Result<Deletion, AllocError> {
+    let keys = keys_of_groups(alloc, groups)?;
     let mut store: NodeStore<Key, u32, 4> = NodeStore::new(alloc);
     let root = insert_all(&mut store, &keys)?;
     let before = Snapshot::take(&store)?;
     delete_third(&mut store, root, &before)
 }
 
+// Deletes the third key below a parent of four, which keeps its kind, and of five, which needs a smaller node, beside so
+// many others.
+fn deletions_beside(
+    alloc: Global,
+    others: u8,
+    chained: usize,
+) -> Result<[Deletion; 2], AllocError> {
+    let five = Groups {
+        count: 5,
+        others,
+        chained,
+    };
+    Ok([
+        deletion_from(alloc, Groups { count: 4, ..five })?,
+        deletion_from(alloc, five)?,
+    ])
+}
+
 #[test]
 fn without_memory_a_deletion_is_made_or_refused_whole(rt: HostRuntime) -> Result<(), Fail> {
-    let alloc = rt.alloc();
     let mut refusals = 0usize;
-    for others in 0..16 {
-        // The parent of four children keeps its kind, and that of five needs a smaller node.
-        assert_eq!(rt; deletion_from(alloc, 4, others)?, Deletion::Made);
-        let from_five = deletion_from(alloc, 5, others)?;
-        assert!(rt; from_five != Deletion::Other);
-        if from_five == Deletion::Refused {
-            refusals = refusals.saturating_add(1);
+    for chained in [0, 16] {
+        for others in 0..16 {
+            let [from_four, from_five] = deletions_beside(rt.alloc(), others, chained)?;
+            assert_eq!(rt; from_four, Deletion::Made);
+            assert!(rt; from_five != Deletion::Other);
+            if from_five == Deletion::Refused {
+                refusals = refusals.saturating_add(1);
+            }
         }
     }
     assert!(rt; refusals > 0);

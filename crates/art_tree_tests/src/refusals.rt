@@ -14,7 +14,7 @@ use std::test::Fail;
 
 // Insertions of the keys of one byte from 1 to this one.
 fn insertions_up_to(alloc: Global, most: u8) -> Result<Vec<Command<Key, u32>>, AllocError> {
-    let mut commands = Vec::with_capacity(alloc, 6)?;
+    let mut commands = Vec::with_capacity(alloc, usize::from(most) + 1)?;
     for byte in 1..=most {
         commands.push(Command::Insert(Vec::from_array(alloc, [byte])?, 0))?;
     }
@@ -174,20 +174,21 @@ enum Overwrite {
     Other,
 }
 
-// Overwrites the whole tree of two keys, whose nodes leave no room in the store. None where a refusal fell outside
-// the run.
+// Overwrites the whole tree of so many keys, whose leaves leave no room in the store for one more. None where a refusal
+// fell outside the run.
 fn overwrite_all(
     first: &mut NodeStore<Key, u32, 4>,
     second: &mut NodeStore<Key, u32, 4>,
+    count: u8,
 ) -> Option<Overwrite> {
     let alloc = first.alloc();
-    let commands = insertions_up_to(alloc, 2).ok()?;
+    let commands = insertions_up_to(alloc, count).ok()?;
     let mut overwrite = Vec::with_capacity(alloc, 1).ok()?;
     overwrite.push_reserved(Command::InsertPrefix(Vec::new(alloc), 7));
     let root = root_after(first, second, commands)?;
-    let before = count_nodes(first, 7);
+    let before = count_nodes(first, 20);
     let done = run(first, second, root, overwrite).ok()?;
-    let after = count_nodes(first, 7);
+    let after = count_nodes(first, 20);
     Some(match done.replies.as_slice() {
         [Reply::NoMemory(Some((_, 7)))] => {
             Overwrite::Refused(after == before && done.root == root)
@@ -197,16 +198,26 @@ fn overwrite_all(
     })
 }
 
+// The same in stores of its own.
+fn overwrite_of(alloc: Global, count: u8) -> Option<Overwrite> {
+    overwrite_all(
+        &mut NodeStore::new(alloc),
+        &mut NodeStore::new(alloc),
+        count,
+    )
+}
+
 #[test]
 fn refused_overwrites_leave_the_tree(rt: HostRuntime) -> Result<(), Fail> {
-    let alloc = rt.alloc();
-    match overwrite_all(&mut NodeStore::new(alloc), &mut NodeStore::new(alloc)) {
-        None => {}
-        Some(Overwrite::Refused(is_kept)) => {
-            assert!(rt; is_kept);
-            println!(rt; "asserted")?;
+    for count in [2, 16] {
+        match overwrite_of(rt.alloc(), count) {
+            None => {}
+            Some(Overwrite::Refused(is_kept)) => {
+                assert!(rt; is_kept);
+                println!(rt; "asserted")?;
+            }
+            Some(made) => assert_eq!(rt; made, Overwrite::Made((1, 0))),
         }
-        Some(made) => assert_eq!(rt; made, Overwrite::Made((1, 0))),
     }
     Ok(())
 }

@@ -2,7 +2,7 @@
 use Rattle.std.proofs.Common.{◌≡◌, ℕ, List, [], length, ap, sym, ◌∙◌, subst}
 use Rattle.art_nodes.specs.Nodes.{Nodes}
 use Rattle.art_nodes.specs.declared.node.OpaqueNodePtr.{OpaqueNodePtr}
-use Rattle.art_model.specs.Canonical.{IsTree}
+use Rattle.art_model.specs.Canonical.{IsCanonicalTree}
 use Rattle.art_model.specs.Keys.{IsFront}
 use Rattle.art_model.specs.Places.{depth_of, place_of}
 use Rattle.art_model.specs.Radix.{IsRadix}
@@ -24,7 +24,7 @@ pub record IsAnswered {A : Type 0} (bytes : A → List ℕ) (P : ℕ) (layout : 
   pub deep : depth_of answers.path ≡ length place
 
 pub answered : {K V : Type 0} {bytes : K × V → List ℕ} {P : ℕ} {s : Nodes K V} {key : List ℕ} {point : InsertPoint} {pairs : List (K × V)} {layout : Tree OpaqueNodePtr (K × V)} →
-    IsPointIn bytes P s key point → IsTree bytes P s point.root pairs layout → IsAnswered bytes P layout key point
+    IsPointIn bytes P s key point → IsCanonicalTree bytes P s point.root pairs layout → IsAnswered bytes P layout key point
 answered {bytes = bytes} {P} {s} {key} {point} {pairs} {layout} (others, other, is, own) by =
     let answers : AnswersTo bytes P layout key point = subst (λ z. AnswersTo bytes P z key point) (has_one_map bytes P s point.root pairs others layout other by is).1 own in
     let (place, path, radix) = radix_plug bytes P answers.path answers.node (subst (IsRadix bytes P []) (sym answers.is_end.whole) (tree_radix by).0) in

@@ -13,7 +13,8 @@ use Rattle.art_nodes.specs.declared.node.InnerPtr.{InnerPtr}
 use Rattle.art_nodes.specs.declared.node.LeafPtr.{LeafPtr}
 use Rattle.art_nodes.specs.declared.node.LeafNode.{LeafNode}
 use Rattle.art_nodes.specs.declared.node.OpaqueNodePtr.{OpaqueNodePtr}
-use Rattle.art_model.specs.Canonical.{IsTree}
+use Rattle.art_nodes.proofs.StoreLaws.{inner_fresh_differs, inner_gone_elsewhere}
+use Rattle.art_model.specs.Canonical.{IsCanonicalTree}
 use Rattle.art_model.specs.Kept.{ChangesInPlace}
 use Rattle.art_model.specs.Layouts.{name_of}
 use Rattle.art_model.specs.Pairs.{remove_key}
@@ -32,8 +33,8 @@ use Rattle.art_writing.specs.declared.delete.DeletePoint.{DeletePoint}
 use Rattle.art_reading.specs.declared.path.TreePath.{TreePath}
 use Rattle.art_writing.specs.Deleted.{IsDeleted, IsRootAfter, LeadsTo, TouchesFor, ParentChange, change_of, parent_change, no_parent, keeps, shrinks, is_compressed}
 use Rattle.art_writing.specs.Inserted.{alone}
-use Rattle.art_reading.specs.Paths.{last_step, path_of, up}
-use Rattle.art_writing.specs.Writes.{HasChild, LinksAreThere, root_with}
+use Rattle.art_reading.specs.Paths.{last_step, path_of, up, root_with}
+use Rattle.art_writing.specs.Writes.{HasChild, LinksAreThere}
 use Rattle.art_writing.proofs.Deletions.{leaf_at, some_same}
 use Rattle.art_writing.proofs.Ways.{last_step-path_of, last_step-up, root_with-up, root_after_at, root_kept_at}
 
@@ -117,12 +118,11 @@ pub record IsWithoutChild {K V : Type 0} (u t : Nodes K V) (parent : InnerPtr) (
   pub inners : t.inners ≡ change u.inners parent (without_child byte)
 
 -- Or the parent was freed, and a smaller node placed without the child.
-pub record IsSmaller {K V : Type 0} (u v : Nodes K V) (parent : InnerPtr) (byte : ℕ) (q : InnerPtr) (node : Inner) : Type 0 where
-  pub there : get u.inners parent ≡ Some node
+pub record IsSmaller {K V : Type 0} (u v : Nodes K V) (parent : InnerPtr) (byte : ℕ) (q : InnerPtr) : Type 0 where
   pub kind : q.kind ≡ smaller_kind parent.kind
-  pub fresh : get (remove u.inners parent) q ≡ None
+  pub fresh : get u.inners q ≡ None
   pub leaves : v.leaves ≡ u.leaves
-  pub inners : v.inners ≡ insert (remove u.inners parent) q (without_child byte node)
+  pub inners : IfSome (get u.inners parent) (λ node. v.inners ≡ insert (remove u.inners parent) q (without_child byte node))
 
 -- Then the grandparent, where there is one, has that as its child.
 pub record IsInPlace {K V : Type 0} (v t : Nodes K V) (path : TreePath) (q : InnerPtr) : Type 0 where
@@ -139,7 +139,7 @@ taken_since {s = s} {u = u} {name = name} {deleted = deleted} leaves inners take
 
 module _ {K V : Type 0} {bytes : K × V → List ℕ} {P : ℕ} {s : Nodes K V} {root : OpaqueNodePtr} {pairs : List (K × V)}
     {layout : Tree OpaqueNodePtr (K × V)} {x : K × V} {point : DeletePoint} {parent : InnerPtr} {byte : ℕ} where
-  pub is_below : IsTree bytes P s root pairs layout → LeadsTo layout x point → last_step point.path ≡ Some (parent, byte) → IsBelow bytes P s root pairs layout x point parent byte
+  pub is_below : IsCanonicalTree bytes P s root pairs layout → LeadsTo layout x point → last_step point.path ≡ Some (parent, byte) → IsBelow bytes P s root pairs layout x point parent byte
   is_below by leads step = frames leads.path leads.whole leads.path_is
     where
       frames : (fs : List (Frame OpaqueNodePtr (K × V))) → plug fs (leaf (leaf_name point.leaf_node_ptr) x) ≡ layout → point.path ≡ path_of fs → IsBelow bytes P s root pairs layout x point parent byte
@@ -244,18 +244,19 @@ module _ {K V : Type 0} {bytes : K × V → List ℕ} {P : ℕ} {s : Nodes K V} 
           let (larger, least) = shrinks_least at.frame.mark.kind to (suc (length (bytes_of (join at.frame.left at.frame.right)))) (change_is at (shrinks to) step is) in
           (larger, omega arith)
 
-      -- the node that was freed has room for its other children in the smaller kind
-      pub shrinks_fit : {freed : Inner} → get u.inners parent ≡ Some freed → (parent.kind ≢ Node4) × (length (remove_child freed.children byte) ≤ kind_capacity (smaller_kind parent.kind))
-      shrinks_fit {freed} there =
+      -- the smaller kind has room for the parent's other children
+      pub shrinks_fit : (parent.kind ≢ Node4) × IsSomeAnd (get u.inners parent) (λ node. length (without_child byte node).children ≤ kind_capacity (smaller_kind parent.kind))
+      shrinks_fit =
           let (off, node, got, head, kids) = parent_is at.below in
-          let same : freed ≡ node = some_same (sym there ∙ ap (λ m. get m parent) taken.inners ∙ ap (get s.inners) (sym at.parent_is) ∙ got) in
-          let left : length (remove_child freed.children byte) ≡ length (bytes_of (join at.frame.left at.frame.right)) =
-          ap (λ b. length (remove_child freed.children b)) (sym at.byte_is) ∙
-          ap length (slots_left at.below freed.children (ap (λ z. z.children) same ∙ kids)) ∙ length-slots_of (join at.frame.left at.frame.right) in
-          subst (λ (p : InnerPtr). (p.kind ≢ Node4) × (length (remove_child freed.children byte) ≤ kind_capacity (smaller_kind p.kind))) at.parent_is (
-            fewest.0,
-            subst (λ n. n ≤ kind_capacity (smaller_kind at.frame.mark.kind)) (sym left)
-                (room_in_smaller at.frame.mark.kind (length (bytes_of (join at.frame.left at.frame.right))) fewest.0 fewest.1),
+          let left : length (remove_child node.children byte) ≡ length (bytes_of (join at.frame.left at.frame.right)) =
+          ap (λ b. length (remove_child node.children b)) (sym at.byte_is) ∙ ap length (slots_left at.below node.children kids) ∙ length-slots_of (join at.frame.left at.frame.right) in
+          let there : get u.inners parent ≡ Some node = ap (λ m. get m parent) taken.inners ∙ ap (get s.inners) (sym at.parent_is) ∙ got in
+          let fit : length (remove_child node.children byte) ≤ kind_capacity (smaller_kind at.frame.mark.kind) =
+          subst (λ n. n ≤ kind_capacity (smaller_kind at.frame.mark.kind)) (sym left)
+          (room_in_smaller at.frame.mark.kind (length (bytes_of (join at.frame.left at.frame.right))) fewest.0 fewest.1) in (
+            subst (λ (p : InnerPtr). p.kind ≢ Node4) at.parent_is fewest.0,
+            subst (λ o. IsSomeAnd o (λ node. length (without_child byte node).children ≤ kind_capacity (smaller_kind parent.kind))) (sym there)
+                (subst (λ (p : InnerPtr). length (remove_child node.children byte) ≤ kind_capacity (smaller_kind p.kind)) at.parent_is fit),
           )
 
       placed_is : (q : InnerPtr) (node : Inner) → insert (remove u.inners parent) q (without_child byte node) ≡ insert (remove s.inners (as_inner at.frame.mark)) q (without_child at.frame.byte node)
@@ -263,18 +264,27 @@ module _ {K V : Type 0} {bytes : K × V → List ℕ} {P : ℕ} {s : Nodes K V} 
           ap (λ m. insert (remove m parent) q (without_child byte node)) taken.inners ∙ ap (λ p. insert (remove s.inners p) q (without_child byte node)) (sym at.parent_is)
           ∙ ap (λ b. insert (remove s.inners (as_inner at.frame.mark)) q (without_child b node)) (sym at.byte_is)
 
-      module _ {v : Nodes K V} {q : InnerPtr} {node : Inner} (smaller : IsSmaller u v parent byte q node) where
-        inners_are : v.inners ≡ insert (remove s.inners (as_inner at.frame.mark)) q (without_child at.frame.byte node)
-        inners_are = smaller.inners ∙ placed_is q node
+      module _ {v : Nodes K V} {q : InnerPtr} (smaller : IsSmaller u v parent byte q) where
+        own : Inner
+        own = (parent_there at).0
 
-        parent_shrinks : {t : Nodes K V} → IsInPlace v t point.path q → ParentShrinks s t at.frame at.above point.leaf_node_ptr at.node q node
+        own_there : get u.inners parent ≡ Some own
+        unfolding own
+        own_there = ap (λ m. get m parent) taken.inners ∙ (parent_there at).1
+
+        inners_are : v.inners ≡ insert (remove s.inners (as_inner at.frame.mark)) q (without_child at.frame.byte own)
+        inners_are = subst (λ o. IfSome o (λ node. v.inners ≡ insert (remove u.inners parent) q (without_child byte node))) own_there smaller.inners ∙ placed_is q own
+
+        parent_shrinks : {t : Nodes K V} → IsInPlace v t point.path q → ParentShrinks s t at.frame at.above point.leaf_node_ptr at.node q own
+        unfolding own
         parent_shrinks {t} last = record {
           goes = record { here = at.here; leaves = last.leaves ∙ smaller.leaves ∙ leaves_without };
           least = fewest.1;
           larger = fewest.0;
           kind = smaller.kind ∙ ap (λ (p : InnerPtr). smaller_kind p.kind) (sym at.parent_is);
-          there = ap (get s.inners) at.parent_is ∙ ap (λ m. get m parent) (sym taken.inners) ∙ smaller.there;
-          fresh = ap (λ p. get (remove s.inners p) q) at.parent_is ∙ ap (λ m. get (remove m parent) q) (sym taken.inners) ∙ smaller.fresh;
+          there = ap (get s.inners) at.parent_is ∙ (parent_there at).1;
+          fresh = ap (λ p. get (remove s.inners p) q) at.parent_is ∙ ap (λ m. get (remove m parent) q) (sym taken.inners) ∙
+              inner_gone_elsewhere u.inners parent q (λ e. inner_fresh_differs u.inners q parent own smaller.fresh own_there (sym e)) ∙ smaller.fresh;
           inners = last.inners ∙ ap (λ path. with_child_at (last_step (up path)) (inner_name q) v.inners) at.path_is ∙
               ap (λ above. with_child_at above (inner_name q) v.inners) (last_step-up at.frame at.above) ∙ ap (with_child_at (parent_of at.above) (inner_name q)) inners_are;
         }

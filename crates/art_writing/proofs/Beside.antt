@@ -10,7 +10,7 @@ use Rattle.art_nodes.specs.declared.node.OpaqueNodePtr.{OpaqueNodePtr}
 use Rattle.art_model.specs.Layouts.{AreLinked, Links, first_or, last_or, leaf_names, leaf_names_below}
 use Rattle.art_model.specs.Pairs.{first_of, last_of}
 use Rattle.art_model.specs.Stores.{links_at}
-use Rattle.art_model.specs.Trees.{Children, child, no_child}
+use Rattle.art_model.specs.Trees.{Subtrees, child, no_child}
 use Rattle.art_model.proofs.Chains.{links_leaf}
 use Rattle.art_model.proofs.Links.{link_of, last_or-push}
 use Rattle.art_model.proofs.Paths.{leaf_names_below-join}
@@ -63,16 +63,16 @@ module _ {K V : Type 0} (s : Nodes K V) (xs zs : List OpaqueNodePtr) (linked : A
 
 -- between the children of a node
 module _ {K V : Type 0} (s : Nodes K V) (before after : List OpaqueNodePtr) (previous next : Option LeafPtr) where
-  pub between_links : (l r : Children OpaqueNodePtr (K × V)) → AreLinked (links_at s) None ((before ++ leaf_names_below l) ++ (leaf_names_below r ++ after)) None → ComesBetween s l r previous next →
+  pub between_links : (l r : Subtrees OpaqueNodePtr (K × V)) → AreLinked (links_at s) None ((before ++ leaf_names_below l) ++ (leaf_names_below r ++ after)) None → ComesBetween s l r previous next →
       (option_map leaf_name previous ≡ last_or (before ++ leaf_names_below l) None) × (option_map leaf_name next ≡ first_or (leaf_names_below r ++ after) None)
   between_links l (child c t r) linked (p, has, next_is, previous_is) =
-      let (rest, is) = first_is (leaf_name p) (leaf_names t) has.0 in
+      let (rest, is) = first_is (leaf_name p) (leaf_names t) has.name_is in
       let zs : leaf_names_below (child c t r) ++ after ≡ leaf_name p ∷ ((rest ++ leaf_names_below r) ++ after) = ap (λ z. (z ++ leaf_names_below r) ++ after) is in (
         before_first s (before ++ leaf_names_below l) (leaf_names_below (child c t r) ++ after) linked p ((rest ++ leaf_names_below r) ++ after) previous zs previous_is,
         ap (option_map leaf_name) next_is ∙ sym (ap (λ z. first_or z None) zs),
       )
   between_links l no_child linked (others, c, t, whole, (p, has, previous_is, next_is)) =
-      let (ys, is) = last_is (leaf_name p) (leaf_names t) has.0 in
+      let (ys, is) = last_is (leaf_name p) (leaf_names t) has.name_is in
       let below : leaf_names_below l ≡ leaf_names_below others ++ (ys ++ leaf_name p ∷ []) =
       ap leaf_names_below whole ∙ leaf_names_below-join others (child c t no_child) ∙ ap (λ z. leaf_names_below others ++ z) (append-nil (leaf_names t) ∙ is) in
       let xs : before ++ leaf_names_below l ≡ (before ++ leaf_names_below others ++ ys) ++ leaf_name p ∷ [] =

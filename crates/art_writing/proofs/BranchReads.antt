@@ -11,7 +11,7 @@ use Rattle.art_nodes.specs.declared.node.InnerPtr.{InnerPtr}
 use Rattle.art_nodes.specs.declared.node.LeafPtr.{LeafPtr}
 use Rattle.art_nodes.specs.declared.node.LeafNode.{LeafNode}
 use Rattle.art_nodes.specs.declared.node.OpaqueNodePtr.{OpaqueNodePtr}
-use Rattle.art_model.specs.Canonical.{IsTree}
+use Rattle.art_model.specs.Canonical.{IsCanonicalTree}
 use Rattle.art_model.specs.Keys.{IsFront, are_related}
 use Rattle.art_model.specs.Layouts.{Links, AreLinked, name_of, leaf_names, first_or, last_or}
 use Rattle.art_model.specs.Pairs.{first_of, last_of}
@@ -20,7 +20,7 @@ use Rattle.art_model.specs.Places.{depth_of, least_key, prefix_of}
 use Rattle.art_model.specs.Roots.{IsFullTree}
 use Rattle.art_model.specs.Radix.{IsRadix}
 use Rattle.art_model.specs.Stores.{links_at, links_of, held_leaf, node_at, pair_of}
-use Rattle.art_model.specs.Trees.{Tree, leaf, inner, Children, Header}
+use Rattle.art_model.specs.Trees.{Tree, leaf, inner, Subtrees, NodeHeader}
 use Rattle.art_model.proofs.Fronts.{part_where, unrelated_part}
 use Rattle.art_model.proofs.Links.{link_of, last_or-append}
 use Rattle.art_model.proofs.KeyLaws.{common_front_is_longest}
@@ -71,7 +71,7 @@ module _ {K V : Type 0} (s : Nodes K V) (fs : List (Frame OpaqueNodePtr (K × V)
       (option_map leaf_name next ≡ first_or (cond first [] (leaf_names tree) ++ leaves_after fs) None)
   beside_is true previous next (last, has, is, here) =
       let (own, found, same) = some_leaf (get s.leaves last) (λ own. next ≡ own.next) here in
-      let (front, ends) = last_split (leaf_names tree) (leaf_name last) has.0 in
+      let (front, ends) = last_split (leaf_names tree) (leaf_name last) has.name_is in
       let whole : leaf_names (plug fs tree) ≡ (leaves_before fs ++ front) ++ leaf_name last ∷ leaves_after fs =
       leaf_names-plug fs tree ∙ ap (λ ks. leaves_before fs ++ ks ++ leaves_after fs) ends ∙ simp append_assoc in
       let links = leaf_links s (leaves_before fs ++ front) (leaves_after fs) last own found (subst (λ ks. AreLinked (links_at s) None ks None) whole linked) in (
@@ -81,7 +81,7 @@ module _ {K V : Type 0} (s : Nodes K V) (fs : List (Frame OpaqueNodePtr (K × V)
       )
   beside_is false previous next (first, has, is, here) =
       let (own, found, same) = some_leaf (get s.leaves first) (λ own. previous ≡ own.previous) here in
-      let (rest, begins) = first_split (leaf_names tree) (leaf_name first) has.0 in
+      let (rest, begins) = first_split (leaf_names tree) (leaf_name first) has.name_is in
       let whole : leaf_names (plug fs tree) ≡ leaves_before fs ++ leaf_name first ∷ (rest ++ leaves_after fs) =
       leaf_names-plug fs tree ∙ ap (λ ks. leaves_before fs ++ ks ++ leaves_after fs) begins ∙ simp append_assoc in
       let links = leaf_links s (leaves_before fs) (rest ++ leaves_after fs) first own found (subst (λ ks. AreLinked (links_at s) None ks None) whole linked) in (
@@ -163,7 +163,7 @@ prefix_ways place prefix key other depth matched deep is (rest, whole) shared in
     )
 
 module _ {K V : Type 0} {bytes : K × V → List ℕ} {P : ℕ} {s : Nodes K V} {key : List ℕ} {point : InsertPoint} {pairs : List (K × V)}
-    {layout : Tree OpaqueNodePtr (K × V)} (by : IsTree bytes P s point.root pairs layout) (at : AnswersTo bytes P layout key point) where
+    {layout : Tree OpaqueNodePtr (K × V)} (by : IsCanonicalTree bytes P s point.root pairs layout) (at : AnswersTo bytes P layout key point) where
   abbrev place : List ℕ
   place = take (depth_of at.path) key
 
@@ -268,7 +268,7 @@ module _ {K V : Type 0} {bytes : K × V → List ℕ} {P : ℕ} {s : Nodes K V} 
     inner_named = let (start, (header, children, is, parts, long)) = inner_kind in ap name_of is
 
     -- the node is the inner node
-    pub inner_found : (header : Header) × (children : Children OpaqueNodePtr (K × V)) × (at.node ≡ inner (inner_name p) header children)
+    pub inner_found : (header : NodeHeader) × (children : Subtrees OpaqueNodePtr (K × V)) × (at.node ≡ inner (inner_name p) header children)
     inner_found = let (start, (header, children, is, parts, long)) = inner_kind in (header, children, is)
 
     parts : IsMismatch bytes P key at.node (depth_of at.path) mismatch

@@ -10,7 +10,7 @@ use Rattle.art_nodes.specs.Nodes.{Nodes}
 use Rattle.art_nodes.specs.declared.node.InnerPtr.{InnerPtr}
 use Rattle.art_nodes.specs.declared.node.LeafNode.{LeafNode}
 use Rattle.art_nodes.specs.declared.node.OpaqueNodePtr.{OpaqueNodePtr}
-use Rattle.art_model.specs.Canonical.{IsTree}
+use Rattle.art_model.specs.Canonical.{IsCanonicalTree}
 use Rattle.art_model.specs.Footprints.{IsIn}
 use Rattle.art_model.specs.Kept.{ChangesInPlace}
 use Rattle.art_model.specs.Keys.{IsFront, are_related, are_same}
@@ -20,7 +20,7 @@ use Rattle.art_model.specs.Paths.{Frame, plug, fill, leaves_before, leaves_after
 use Rattle.art_model.specs.Places.{depth_of, least_key}
 use Rattle.art_model.specs.Radix.{pairs_of}
 use Rattle.art_model.specs.Stores.{node_at, links_at}
-use Rattle.art_model.specs.Trees.{Tree, leaf, inner, child, no_child, header_of}
+use Rattle.art_model.specs.Trees.{Tree, leaf, inner, child, no_child, canonical_header}
 use Rattle.art_model.specs.Writes.{IsThere, with_child_at, with_leaf, parent_of}
 use Rattle.art_model.proofs.Branches.{BranchStored, branch_in_place}
 use Rattle.art_model.proofs.Canonical.{IsLaidOut, laid_out, canonical_from}
@@ -44,11 +44,11 @@ use Rattle.art_writing.specs.declared.insert.InsertParentNodeChange.TheVariants.
 use Rattle.art_writing.specs.declared.insert.InsertPoint.{InsertPoint}
 use Rattle.art_writing.specs.declared.insert.InsertResult.{InsertResult}
 use Rattle.art_writing.specs.declared.insert.branch.Branch.{Branch}
-use Rattle.art_writing.specs.Branches.{ForEnd, IsBranch, IsPlaced}
+use Rattle.art_writing.specs.Branches.{ForEnd, IsBranch, IsBranchPlaced}
 use Rattle.art_writing.specs.Inserted.{HasInserted, IsInserted, IsChange, alone, root_after}
 use Rattle.art_writing.specs.Points.{AnswersTo}
-use Rattle.art_writing.specs.Writes.{HasChild, root_with}
-use Rattle.art_reading.specs.Paths.{last_step}
+use Rattle.art_writing.specs.Writes.{HasChild}
+use Rattle.art_reading.specs.Paths.{last_step, root_with}
 use Rattle.art_writing.proofs.Partings.{unrelated_after}
 use Rattle.art_writing.proofs.Ways.{last_step-path_of, root_with-path_of, root_told}
 
@@ -61,7 +61,7 @@ leaf_list fs t true = leaf_names-plug fs t
 leaf_list fs t false = leaf_names-plug fs t ∙ simp append_assoc
 
 module _ {K V : Type 0} {bytes : K × V → List ℕ} {P : ℕ} {s : Nodes K V} {key : List ℕ} {point : InsertPoint} {pairs : List (K × V)}
-    {layout : Tree OpaqueNodePtr (K × V)} (by : IsTree bytes P s point.root pairs layout) (at : AnswersTo bytes P layout key point) where
+    {layout : Tree OpaqueNodePtr (K × V)} (by : IsCanonicalTree bytes P s point.root pairs layout) (at : AnswersTo bytes P layout key point) where
   -- the whole is laid out
   pub end_laid : IsLaidOut bytes P (node_at s) (links_at s) point.root pairs (plug at.path at.node)
   end_laid = subst (IsLaidOut bytes P (node_at s) (links_at s) point.root pairs) (sym at.is_end.whole) (laid_out by)
@@ -116,9 +116,9 @@ read_for {bytes = bytes} {P} {s} {point} {branch = branch} same read = subst (λ
 -- ---- the branch is placed
 
 module _ {K V : Type 0} {bytes : K × V → List ℕ} {P : ℕ} {s : Nodes K V} {point : InsertPoint} {pairs : List (K × V)}
-    {layout : Tree OpaqueNodePtr (K × V)} {pair : K × V} (by : IsTree bytes P s point.root pairs layout)
+    {layout : Tree OpaqueNodePtr (K × V)} {pair : K × V} (by : IsCanonicalTree bytes P s point.root pairs layout)
     (at : AnswersTo bytes P layout (bytes pair) point) {branch : Branch P} (is : IsBranch bytes (bytes pair) at.path at.node branch)
-    {mid t : Nodes K V} {old : OpaqueNodePtr} {done : InsertResult K V} (placed : IsPlaced mid t point old branch pair done) where
+    {mid t : Nodes K V} {old : OpaqueNodePtr} {done : InsertResult K V} (placed : IsBranchPlaced mid t point old branch pair done) where
   abbrev pub new_leaf : LeafNode K V
   new_leaf = record { key = pair.0; value = pair.1; previous = branch.previous; next = branch.next }
 
@@ -151,7 +151,7 @@ module _ {K V : Type 0} {bytes : K × V → List ℕ} {P : ℕ} {s : Nodes K V} 
   module _ {u : Tree OpaqueNodePtr (K × V)} (new : BranchInserted bytes P (node_at s) (node_at t) (links_at s) (links_at t) at.path
       (take (depth_of at.path) (bytes pair)) at.node u (inner_name placed.node) (leaf_name done.leaf_node_ptr) is.part branch.old_byte branch.new_byte pair) where
     abbrev grown : Tree OpaqueNodePtr (K × V)
-    grown = inner (inner_name placed.node) (header_of P is.part 2) (two_children branch.old_byte u branch.new_byte (leaf (leaf_name done.leaf_node_ptr) pair))
+    grown = inner (inner_name placed.node) (canonical_header P is.part 2) (two_children branch.old_byte u branch.new_byte (leaf (leaf_name done.leaf_node_ptr) pair))
 
     -- no pair has the key
     none_stored : first_of (with_key bytes (bytes pair) pairs) ≡ None
@@ -175,7 +175,7 @@ module _ {K V : Type 0} {bytes : K × V → List ℕ} {P : ℕ} {s : Nodes K V} 
     leaf_frame first =
         record {
           mark = inner_name placed.node;
-          header = header_of P is.part 2;
+          header = canonical_header P is.part 2;
           left = cond first (child branch.old_byte u no_child) no_child;
           byte
               = branch.new_byte;
@@ -183,7 +183,7 @@ module _ {K V : Type 0} {bytes : K × V → List ℕ} {P : ℕ} {s : Nodes K V} 
         }
 
     -- the pair is inserted
-    pub branch_done : ((parent : InnerPtr × ℕ) (told : InsertParentNodeChange) → told ≡ NewParent (inner_name parent.0) parent.1 → IsChange point.insert_kind (Some parent) told) →
+    pub branch_done : ((parent : InnerPtr × ℕ) (told : InsertParentNodeChange) → told ≡ NewParent parent.0 parent.1 → IsChange point.insert_kind (Some parent) told) →
         {touched : List InnerPtr} → BranchStored bytes P s t at.path (take (depth_of at.path) (bytes pair)) at.node placed.node done.leaf_node_ptr
         is.part branch.old_byte branch.new_byte (record { key = pair.0; value = pair.1; previous = branch.previous; next = branch.next }) mid.inners touched →
         IsInserted bytes P s t point pair pairs layout done
@@ -195,7 +195,7 @@ module _ {K V : Type 0} {bytes : K × V → List ℕ} {P : ℕ} {s : Nodes K V} 
         path = leaf_frame (ltb branch.old_byte branch.new_byte) ∷ at.path;
         whole = ap (plug at.path) (filled (ltb branch.old_byte branch.new_byte));
         change = branches (placed.node, branch.new_byte) done.parent_node_change placed.change;
-        root = placed.root ∙ root_told point point.path (inner_name placed.node) branch.new_byte ∙ ap (root_after point) (sym placed.change);
+        root = placed.root ∙ root_told point point.path placed.node branch.new_byte ∙ ap (root_after point) (sym placed.change);
       });
       replaced = placed.existing ∙ sym (ap (option_map alone) (put_reply-new bytes pair pairs none_stored));
       kept = subst (λ tree. ChangesInPlace bytes s t (Some tree) (Some (plug at.path grown))) at.is_end.whole (branch_in_place (end_laid by at) stored new);
@@ -205,7 +205,7 @@ module _ {K V : Type 0} {bytes : K × V → List ℕ} {P : ℕ} {s : Nodes K V} 
         root = sym (root_with-path_of at.path point.root (inner_name placed.node)) ∙ ap (λ path. root_with path point.root (inner_name placed.node)) (sym at.path_is) ∙ sym placed.root
 
         filled : (first : Bool) → fill (leaf_frame first) (leaf (leaf_name done.leaf_node_ptr) pair) ≡ inner (inner_name placed.node)
-            (header_of P is.part 2) (cond first (child branch.old_byte u (child branch.new_byte (leaf (leaf_name done.leaf_node_ptr) pair) no_child))
+            (canonical_header P is.part 2) (cond first (child branch.old_byte u (child branch.new_byte (leaf (leaf_name done.leaf_node_ptr) pair) no_child))
             (child branch.new_byte (leaf (leaf_name done.leaf_node_ptr) pair) (child branch.old_byte u no_child)))
         filled true = refl
         filled false = refl

@@ -16,8 +16,8 @@ use Rattle.art_nodes.specs.declared.node.LeafPtr.{LeafPtr}
 use Rattle.art_nodes.specs.declared.node.LeafNode.{LeafNode}
 use Rattle.art_nodes.specs.declared.node.InnerPtr.{InnerPtr}
 use Rattle.art_nodes.specs.declared.node.OpaqueNodePtr.{OpaqueNodePtr}
-use Rattle.art_model.specs.Trees.{Tree, leaf, inner, Children, child, no_child, Header}
-use Rattle.art_model.specs.Radix.{IsRising, bytes_of, join, HaveChildren, HaveChildrenBelow}
+use Rattle.art_model.specs.Trees.{Tree, leaf, inner, Subtrees, child, no_child, NodeHeader}
+use Rattle.art_model.specs.Radix.{BytesRise, bytes_of, join, HaveChildren, HaveChildrenBelow}
 use Rattle.art_model.specs.Heights.{tree_height, height_below}
 use Rattle.art_model.specs.Layouts.{leaf_node, name_of, slots_of, names_of, names_below, leaf_names, leaf_names_below, inner_names, HoldsBelow, AreDistinct, IsLayout, first_or, last_or}
 use Rattle.art_model.specs.Roots.{IsFullTree}
@@ -46,11 +46,11 @@ use Rattle.art_writing.specs.Cloned.{IsCopied}
 
 module _ {A : Type 0} where
   -- the children of a node rise as its bytes do
-  below_all : (b : ℕ) (cs : Children OpaqueNodePtr A) → IsBelow b (slots_of cs) → Each (λ c. b < c) (bytes_of cs)
+  below_all : (b : ℕ) (cs : Subtrees OpaqueNodePtr A) → IsBelow b (slots_of cs) → Each (λ c. b < c) (bytes_of cs)
   below_all b no_child h = tt
   below_all b (child c t cs) h = (h.0, below_all b cs h.1)
 
-  rising_bytes : (cs : Children OpaqueNodePtr A) → AreRising (slots_of cs) → IsRising (bytes_of cs)
+  rising_bytes : (cs : Subtrees OpaqueNodePtr A) → AreRising (slots_of cs) → BytesRise (bytes_of cs)
   rising_bytes no_child h = tt
   rising_bytes (child b t cs) h = (below_all b cs h.0, rising_bytes cs h.1)
 
@@ -74,10 +74,10 @@ some_or (Some p) q = (p, refl)
 pub record IsCloning {K V : Type 0} (IsClone : K × V → K × V → Type 0) (s : Nodes K V) (tree : Tree OpaqueNodePtr (K × V)) (old now : Nodes K V)
     (parent : InnerPtr) (rest : List (ℕ × OpaqueNodePtr)) (min max : Option LeafPtr) : Type 0 where
   pub name : OpaqueNodePtr
-  pub header : Header
-  pub done : Children OpaqueNodePtr (K × V)
-  pub left : Children OpaqueNodePtr (K × V)
-  pub copies : Children OpaqueNodePtr (K × V)
+  pub header : NodeHeader
+  pub done : Subtrees OpaqueNodePtr (K × V)
+  pub left : Subtrees OpaqueNodePtr (K × V)
+  pub copies : Subtrees OpaqueNodePtr (K × V)
   pub is : tree ≡ inner name header (join done left)
   pub slots : rest ≡ slots_of left
   pub same : AreCopies IsClone done copies
@@ -89,7 +89,7 @@ pub record IsCloning {K V : Type 0} (IsClone : K × V → K × V → Type 0) (s 
   pub holds : HoldsBelow (node_at s) left
   pub distinct : AreDistinct (names_below left)
   pub full : HaveChildrenBelow 1 left
-  pub rising : IsRising (bytes_of (join done left))
+  pub rising : BytesRise (bytes_of (join done left))
   pub room : length (bytes_of (join done left)) ≤ kind_capacity parent.kind
   pub some : 1 ≤ length (bytes_of (join done left))
   pub low : height_below left < tree_height tree
@@ -127,7 +127,7 @@ module _ {K V : Type 0} (IsClone : K × V → K × V → Type 0) where
       IsCloning IsClone s tree old now parent x.children None None
   cloning_start s old now p parent x root tree off named (is, full) there kind free inners leaves taken rising room =
       let at = inner_shown s p off tree (is.named ∙ sym named) is.holds x there in
-      let h : Header = header_at p.kind x in
+      let h : NodeHeader = header_at p.kind x in
       let whole : IsLayout (node_at s) root (inner (inner_name p) h at.children) = subst (IsLayout (node_at s) root) at.is is in
       let all : HaveChildren 1 (inner (inner_name p) h at.children) = subst (HaveChildren 1) at.is full in
       let long = length-slots_of at.children in
@@ -173,15 +173,15 @@ module _ {K V : Type 0} (IsClone : K × V → K × V → Type 0) where
       (rest : List (ℕ × OpaqueNodePtr)) (min max : Option LeafPtr) where
     -- the copies' bytes are below the next one
     copies_low : (f : IsCloning IsClone s tree old now parent ((b, name) ∷ rest) min max) (u : Tree OpaqueNodePtr (K × V)) (c : ℕ)
-        (others : Children OpaqueNodePtr (K × V)) → f.left ≡ child c u others → c ≡ b → Each (λ z. z < b) (bytes_of f.copies)
+        (others : Subtrees OpaqueNodePtr (K × V)) → f.left ≡ child c u others → c ≡ b → Each (λ z. z < b) (bytes_of f.copies)
     copies_low f u c others is same =
-        let up : IsRising (bytes_of f.done ++ c ∷ bytes_of others) = subst IsRising (ap (λ z. bytes_of (join f.done z)) is ∙ bytes_of-join f.done (child c u others)) f.rising in
+        let up : BytesRise (bytes_of f.done ++ c ∷ bytes_of others) = subst BytesRise (ap (λ z. bytes_of (join f.done z)) is ∙ bytes_of-join f.done (child c u others)) f.rising in
         subst (λ z. Each (λ y. y < z) (bytes_of f.copies)) same (subst (Each (λ y. y < c)) (sym (copied_bytes IsClone f.done f.copies f.same))
         (Pairwise-before (λ y z. y < z) (bytes_of f.done) (bytes_of others) c up))
 
     -- the step of the stores, whatever the last one is
     child_gained : (f : IsCloning IsClone s tree old now parent ((b, name) ∷ rest) min max) (u : Tree OpaqueNodePtr (K × V)) (c : ℕ)
-        (others : Children OpaqueNodePtr (K × V)) → f.left ≡ child c u others → c ≡ b → (next new : Nodes K V) (done : CloneResult) (copied : IsCopied IsClone u now next done) →
+        (others : Subtrees OpaqueNodePtr (K × V)) → f.left ≡ child c u others → c ≡ b → (next new : Nodes K V) (done : CloneResult) (copied : IsCopied IsClone u now next done) →
         new.leaves ≡ joined next.leaves max (Some done.min_leaf) (Some done.min_leaf) max →
         new.inners ≡ change next.inners parent (with_child b done.root) → GainsChild old now next new (inner_name parent) f.header f.copies b copied.copy max done.min_leaf
     child_gained f u c others is same next new done copied leaves inners = record {
@@ -198,13 +198,13 @@ module _ {K V : Type 0} (IsClone : K × V → K × V → Type 0) where
     abbrev put_below : Nodes K V → CloneResult → Nodes K V
     put_below next done = record { leaves = joined next.leaves max (Some done.min_leaf) (Some done.min_leaf) max; inners = change next.inners parent (with_child b done.root); promise = next.promise }
 
-    all_names : (cs : Children OpaqueNodePtr (K × V)) (u : Tree OpaqueNodePtr (K × V)) → leaf_names_below (join cs (child b u no_child)) ≡ leaf_names_below cs ++ leaf_names u
+    all_names : (cs : Subtrees OpaqueNodePtr (K × V)) (u : Tree OpaqueNodePtr (K × V)) → leaf_names_below (join cs (child b u no_child)) ≡ leaf_names_below cs ++ leaf_names u
     all_names cs u = leaf_names_below-join cs (child b u no_child) ∙ ap (λ z. leaf_names_below cs ++ z) (append-nil (leaf_names u))
 
     pub cloning_next : IsCloning IsClone s tree old now parent ((b, name) ∷ rest) min max → NextCloned s tree old now parent b name rest min max
     cloning_next f = go f.left refl f.slots
       where
-        go : (left : Children OpaqueNodePtr (K × V)) → f.left ≡ left → (b, name) ∷ rest ≡ slots_of left → NextCloned s tree old now parent b name rest min max
+        go : (left : Subtrees OpaqueNodePtr (K × V)) → f.left ≡ left → (b, name) ∷ rest ≡ slots_of left → NextCloned s tree old now parent b name rest min max
         go no_child at slots = absurd cc
         go (child c u others) at slots =
             let slot : ◌≡◌ {A = ℕ × OpaqueNodePtr} (b, name) (c, name_of u) = cc in
@@ -259,7 +259,7 @@ module _ {K V : Type 0} (IsClone : K × V → K × V → Type 0) where
                 holds = holds.1;
                 distinct = Pairwise-right ◌≢◌ (names_of u) (names_below others) distinct;
                 full = full.1;
-                rising = subst (λ z. IsRising (bytes_of z)) later f.rising;
+                rising = subst (λ z. BytesRise (bytes_of z)) later f.rising;
                 room = subst (λ z. length (bytes_of z) ≤ kind_capacity parent.kind) later f.room;
                 some = subst (λ z. 1 ≤ length (bytes_of z)) later f.some;
                 low = omega arith;
@@ -301,7 +301,7 @@ module _ {K V : Type 0} (IsClone : K × V → K × V → Type 0) where
       IsCopied IsClone tree old now (record { root = inner_name parent; min_leaf = p; max_leaf = q })
   cloning_end s tree old now parent min max f = go f.left refl f.slots f.ends
     where
-      go : (left : Children OpaqueNodePtr (K × V)) → f.left ≡ left → [] ≡ slots_of left → (bytes_of f.done ≡ []) ⊎
+      go : (left : Subtrees OpaqueNodePtr (K × V)) → f.left ≡ left → [] ≡ slots_of left → (bytes_of f.done ≡ []) ⊎
           ((p : LeafPtr) × (q : LeafPtr) × (min ≡ Some p) × (max ≡ Some q)) → (p : LeafPtr) × (q : LeafPtr) × (min ≡ Some p) × (max ≡ Some q) ×
           IsCopied IsClone tree old now (record { root = inner_name parent; min_leaf = p; max_leaf = q })
       go (child c u others) at slots ends = absurd cc

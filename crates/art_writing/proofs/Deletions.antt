@@ -7,7 +7,7 @@ use Rattle.art_nodes.specs.Nodes.{Nodes}
 use Rattle.art_nodes.specs.declared.node.InnerPtr.{InnerPtr}
 use Rattle.art_nodes.specs.declared.node.LeafNode.{LeafNode}
 use Rattle.art_nodes.specs.declared.node.OpaqueNodePtr.{OpaqueNodePtr}
-use Rattle.art_model.specs.Canonical.{IsTree, IsCanonical}
+use Rattle.art_model.specs.Canonical.{IsCanonicalTree, IsCanonical}
 use Rattle.art_model.specs.Kept.{ChangesInPlace}
 use Rattle.art_model.specs.Layouts.{leaf_node, Node, Holds}
 use Rattle.art_model.specs.Pairs.{of_key, remove_key}
@@ -37,7 +37,7 @@ when_ok (Ok x) holds = holds x refl
 when_ok (Err e) holds = tt
 
 module _ {K V : Type 0} {bytes : K × V → List ℕ} {P : ℕ} {s : Nodes K V} {root : OpaqueNodePtr} {pairs : List (K × V)}
-    {layout : Tree OpaqueNodePtr (K × V)} (by : IsTree bytes P s root pairs layout) {x : K × V} {point : DeletePoint} (leads : LeadsTo layout x point) where
+    {layout : Tree OpaqueNodePtr (K × V)} (by : IsCanonicalTree bytes P s root pairs layout) {x : K × V} {point : DeletePoint} (leads : LeadsTo layout x point) where
   whole_holds : Holds (node_at s) (plug leads.path (leaf (leaf_name point.leaf_node_ptr) x))
   whole_holds = subst (Holds (node_at s)) (sym leads.whole) by.stands.0.holds
 
@@ -133,7 +133,7 @@ module _ {K V : Type 0} (bytes : K → List ℕ) (P : ℕ) (s t : Nodes K V) (ro
 
 module _ {K V : Type 0} {bytes : K × V → List ℕ} {P : ℕ} {s : Nodes K V} where
   -- a point that was found answers to the store
-  pub point_in : {root : OpaqueNodePtr} {pairs : List (K × V)} {layout : Tree OpaqueNodePtr (K × V)} → IsTree bytes P s root pairs layout →
+  pub point_in : {root : OpaqueNodePtr} {pairs : List (K × V)} {layout : Tree OpaqueNodePtr (K × V)} → IsCanonicalTree bytes P s root pairs layout →
       (pair : Option (K × V)) (point : Option DeletePoint) → IsDeletePoint layout pair point → IfSome point (IsDeletePointIn bytes P s root)
   point_in by pair None is = tt
   point_in by None (Some point) is = absurd is

@@ -9,7 +9,7 @@ use Rattle.art_nodes.specs.declared.node.LeafPtr.{LeafPtr}
 use Rattle.art_nodes.specs.declared.node.LeafNode.{LeafNode}
 use Rattle.art_nodes.specs.declared.node.OpaqueNodePtr.{OpaqueNodePtr}
 use Rattle.art_nodes.proofs.StoreLaws.{leaf_elsewhere as elsewhere}
-use Rattle.art_model.specs.Canonical.{IsTree}
+use Rattle.art_model.specs.Canonical.{IsCanonicalTree}
 use Rattle.art_model.specs.Layouts.{names_of, leaf_names}
 use Rattle.art_model.specs.Stores.{held, held_leaf, held_inner, links_at, links_of, node_at, seen}
 use Rattle.art_model.specs.Trees.{Tree}
@@ -36,7 +36,7 @@ placement_elsewhere s t x (Ok n) leaves free inners same k used = leaf_elsewhere
 placement_elsewhere s t x (Err e) leaves free inners same k used = ap (λ m. held m k) same
 
 module _ {K V : Type 0} {bytes : K × V → List ℕ} {P : ℕ} {s t : Nodes K V} {root : OpaqueNodePtr} {pairs : List (K × V)} {layout : Tree OpaqueNodePtr (K × V)} where
-  pub tree_stays : IsTree bytes P s root pairs layout → ((k : OpaqueNodePtr) → held s k ≢ None → held t k ≡ held s k) → IsTree bytes P t root pairs layout
+  pub tree_stays : IsCanonicalTree bytes P s root pairs layout → ((k : OpaqueNodePtr) → held s k ≢ None → held t k ≡ held s k) → IsCanonicalTree bytes P t root pairs layout
   tree_stays by same = record {
     is_map = by.is_map;
     tree = by.tree;

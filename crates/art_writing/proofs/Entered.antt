@@ -12,7 +12,7 @@ use Rattle.art_nodes.specs.declared.node.InnerPtr.{InnerPtr}
 use Rattle.art_nodes.specs.declared.node.LeafPtr.{LeafPtr}
 use Rattle.art_nodes.specs.declared.node.OpaqueNodePtr.{OpaqueNodePtr}
 use Rattle.art_nodes.proofs.StoreLaws.{inner_gone_elsewhere}
-use Rattle.art_model.specs.Canonical.{IsTree}
+use Rattle.art_model.specs.Canonical.{IsCanonicalTree}
 use Rattle.art_model.specs.Keys.{IsFront, are_same}
 use Rattle.art_model.specs.Kept.{ChangesInPlace}
 use Rattle.art_model.specs.Layouts.{slots_of}
@@ -21,7 +21,7 @@ use Rattle.art_model.specs.Paths.{Frame, plug}
 use Rattle.art_model.specs.Places.{depth_of, prefix_of}
 use Rattle.art_model.specs.Radix.{IsRadix, AreRadix, bytes_of, join, pairs_of, pairs_below}
 use Rattle.art_model.specs.Stores.{node_at, links_at}
-use Rattle.art_model.specs.Trees.{Tree, leaf, inner, Children, child, no_child, Header, kind_of}
+use Rattle.art_model.specs.Trees.{Tree, leaf, inner, Subtrees, child, no_child, NodeHeader, kind_of}
 use Rattle.art_model.specs.Writes.{as_inner, parent_of}
 use Rattle.art_model.proofs.AddedChild.{ChildAdded, split_at}
 use Rattle.art_model.proofs.Canonical.{IsLaidOut, laid_out, canonical_from}
@@ -47,8 +47,8 @@ use Rattle.art_writing.specs.declared.insert.InsertResult.{InsertResult}
 use Rattle.art_reading.specs.declared.path.TreePath.{TreePath}
 use Rattle.art_writing.specs.Inserted.{HasInserted, IsChange, IsInserted, IsPointIn, alone, is_full}
 use Rattle.art_writing.specs.Points.{IsKindOf}
-use Rattle.art_reading.specs.Paths.{last_step, path_of}
-use Rattle.art_writing.specs.Writes.{HasChild, HasGap, root_with}
+use Rattle.art_reading.specs.Paths.{last_step, path_of, root_with}
+use Rattle.art_writing.specs.Writes.{HasChild, HasGap}
 use Rattle.art_writing.proofs.Answered.{answered}
 use Rattle.art_writing.proofs.Partings.{unrelated_after}
 use Rattle.art_writing.proofs.Ways.{last_step-path_of, root_with-path_of, root_told}
@@ -59,9 +59,9 @@ use Rattle.art_writing.proofs.Ways.{last_step-path_of, root_with-path_of, root_t
 pub record IsEntry {K V : Type 0} (bytes : K × V → List ℕ) (P : ℕ) (p : InnerPtr) (layout : Tree OpaqueNodePtr (K × V)) (key : List ℕ) (path : TreePath) (b : ℕ) : Type 0 where
   pub frames : List (Frame OpaqueNodePtr (K × V))
   pub place : List ℕ
-  pub header : Header
-  pub left : Children OpaqueNodePtr (K × V)
-  pub right : Children OpaqueNodePtr (K × V)
+  pub header : NodeHeader
+  pub left : Subtrees OpaqueNodePtr (K × V)
+  pub right : Subtrees OpaqueNodePtr (K × V)
   pub whole : plug frames (inner (inner_name p) header (join left right)) ≡ layout
   pub gap : IsGap bytes P frames place (inner_name p) header left right b key
   pub path_is : path ≡ path_of frames
@@ -69,7 +69,7 @@ pub record IsEntry {K V : Type 0} (bytes : K × V → List ℕ) (P : ℕ) (p : I
 module _ {K V : Type 0} {bytes : K × V → List ℕ} {P : ℕ} {s : Nodes K V} {point : InsertPoint} {p : InnerPtr} {key : List ℕ}
     (answers : IsPointIn bytes P s key point) (into : point.insert_kind ≡ IntoExisting p) where
   pub entry : {pairs : List (K × V)} {layout : Tree OpaqueNodePtr (K × V)} {b : ℕ} → b ≡ get_or key point.key_bytes_used 0 →
-      IsTree bytes P s point.root pairs layout → IsEntry bytes P p layout key point.path b
+      IsCanonicalTree bytes P s point.root pairs layout → IsEntry bytes P p layout key point.path b
   entry {pairs} {layout} {b} byte by =
       let a = answered answers by in
       let fs = a.answers.path in
@@ -110,7 +110,7 @@ module _ {K V : Type 0} {bytes : K × V → List ℕ} {P : ℕ} {s : Nodes K V} 
       }
 
 module _ {K V : Type 0} {bytes : K × V → List ℕ} {P : ℕ} {s : Nodes K V} {p : InnerPtr} {root : OpaqueNodePtr} {pairs : List (K × V)}
-    {layout : Tree OpaqueNodePtr (K × V)} {key : List ℕ} {path : TreePath} {b : ℕ} (by : IsTree bytes P s root pairs layout) (e : IsEntry bytes P p layout key path b) where
+    {layout : Tree OpaqueNodePtr (K × V)} {key : List ℕ} {path : TreePath} {b : ℕ} (by : IsCanonicalTree bytes P s root pairs layout) (e : IsEntry bytes P p layout key path b) where
   abbrev entered : Tree OpaqueNodePtr (K × V)
   entered = inner (inner_name p) e.header (join e.left e.right)
 
@@ -127,7 +127,7 @@ module _ {K V : Type 0} {bytes : K × V → List ℕ} {P : ℕ} {s : Nodes K V} 
   pub entry_kind : p.kind ≡ kind_of (length (bytes_of (join e.left e.right)))
   entry_kind =
       let (off, node, got, head, kids) = inner_at s (inner_name p) e.header (slots_of (join e.left e.right)) (path_holds (node_at s) e.frames entered entry_laid.holds).1.0 in
-      ap (λ (z : Header). z.kind) (head ∙ e.gap.hole.radix.1)
+      ap (λ (z : NodeHeader). z.kind) (head ∙ e.gap.hole.radix.1)
 
   -- whether it is full
   pub entry_full : is_full s p ≡ leb (kind_capacity p.kind) (length (bytes_of (join e.left e.right)))
@@ -181,7 +181,7 @@ module _ {K V : Type 0} {bytes : K × V → List ℕ} {P : ℕ} {s : Nodes K V} 
           some (Some node) h = rw h refl
 
   -- no pair below has the key
-  unequal : (cs : Children OpaqueNodePtr (K × V)) → AreRadix bytes P (e.place ++ e.gap.hole.radix.0) cs → Each (λ c. c ≢ b) (bytes_of cs) → Each (λ x. are_same key (bytes x) ≡ false) (pairs_below cs)
+  unequal : (cs : Subtrees OpaqueNodePtr (K × V)) → AreRadix bytes P (e.place ++ e.gap.hole.radix.0) cs → Each (λ c. c ≢ b) (bytes_of cs) → Each (λ x. are_same key (bytes x) ≡ false) (pairs_below cs)
   unequal no_child h off = tt
   unequal (child c t cs) h off =
       let front = e.place ++ e.gap.hole.radix.0 in
@@ -204,10 +204,10 @@ module _ {K V : Type 0} {bytes : K × V → List ℕ} {P : ℕ} {s : Nodes K V} 
 module _ {K V : Type 0} {bytes : K × V → List ℕ} {P : ℕ} {s t : Nodes K V} {point : InsertPoint} {p k : InnerPtr} {pairs : List (K × V)}
     {layout : Tree OpaqueNodePtr (K × V)} {b : ℕ} {n : LeafPtr} {new : K × V} where
   -- the node, or the larger one in its place, has the leaf as a child
-  pub entered_inserted : {root : OpaqueNodePtr} {done : InsertResult K V} (by : IsTree bytes P s point.root pairs layout)
+  pub entered_inserted : {root : OpaqueNodePtr} {done : InsertResult K V} (by : IsCanonicalTree bytes P s point.root pairs layout)
       (into : point.insert_kind ≡ IntoExisting p) (e : IsEntry bytes P p layout (bytes new) point.path b) →
       ChildAdded bytes P s t point.root pairs e.frames (inner_name p) (inner_name k) e.header e.left e.right b (leaf_name n) new → root ≡ paths.root_with e.frames point.root (inner_name k) →
-      done ≡ record { leaf_node_ptr = n; existing_leaf = None; new_root = root; parent_node_change = NewParent (inner_name k) b } → IsInserted bytes P s t point new pairs layout done
+      done ≡ record { leaf_node_ptr = n; existing_leaf = None; new_root = root; parent_node_change = NewParent k b } → IsInserted bytes P s t point new pairs layout done
   entered_inserted {root} by into e added root_is done_is =
       let tree = plug e.frames (inner (inner_name k) added.header (join e.left (child b (leaf (leaf_name n) new) e.right))) in
       let frame : Frame OpaqueNodePtr (K × V) = record { mark = inner_name k; header = added.header; left = e.left; byte = b; right = e.right } in
@@ -215,13 +215,13 @@ module _ {K V : Type 0} {bytes : K × V → List ℕ} {P : ℕ} {s t : Nodes K V
         tree = tree;
         canonical = canonical_from (subst (λ ps. IsLaidOut bytes P (node_at t) (links_at t) root ps tree) (sym (put-new bytes new pairs (entry_reply by e)))
             (subst (λ r. IsLaidOut bytes P (node_at t) (links_at t) r (replace_key bytes new pairs) tree) (sym root_is) added.laid));
-        inserted = subst (λ x. HasInserted tree point x (record { leaf_node_ptr = n; existing_leaf = None; new_root = root; parent_node_change = NewParent (inner_name k) b }))
+        inserted = subst (λ x. HasInserted tree point x (record { leaf_node_ptr = n; existing_leaf = None; new_root = root; parent_node_change = NewParent k b }))
             (sym (stored_for-new bytes new pairs (entry_reply by e))) (record {
               path = frame ∷ e.frames;
               whole = refl;
-              change = subst (λ kind. IsChange kind (Some (k, b)) (NewParent (inner_name k) b)) (sym into) refl;
+              change = subst (λ kind. IsChange kind (Some (k, b)) (NewParent k b)) (sym into) refl;
               root = root_is ∙ sym (ap (λ path. root_with path point.root (inner_name k)) e.path_is ∙
-                  root_with-path_of e.frames point.root (inner_name k)) ∙ root_told point point.path (inner_name k) b;
+                  root_with-path_of e.frames point.root (inner_name k)) ∙ root_told point point.path k b;
             });
         replaced = ap (option_map alone) (sym (put_reply-new bytes new pairs (entry_reply by e)));
         kept = subst (λ z. ChangesInPlace bytes s t (Some z) (Some tree)) e.whole added.kept;

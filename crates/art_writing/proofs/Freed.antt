@@ -28,15 +28,15 @@ use Rattle.art_reading.proofs.Iterators.{goes_on}
 
 module _ {K V : Type 0} where
   pub frees_none : (s : Nodes K V) → Frees [] s s
-  frees_none s = record { beside = λ k off none. refl; left = λ k i none. absurd i; taken = λ k i none. absurd i }
+  frees_none s = record { beside = λ k off none. refl; gone = λ k i none. absurd i; taken = λ k i none. absurd i }
 
   -- some names, and then others
   pub frees_both : {s t u : Nodes K V} (xs ys : List OpaqueNodePtr) → ((k : OpaqueNodePtr) → IsIn k xs → IsIn k ys → ⊥) → Frees xs s t → Frees ys t u → Frees (xs ++ ys) s u
   frees_both xs ys apart first second = record {
     beside = λ k off none. second.beside k (λ i. off (in_right k xs ys i)) none ∙ first.beside k (λ i. off (in_left k xs ys i)) none;
-    left = λ k i none. elim (in_either k xs ys i) [
-      | inl j ↦ second.beside k (apart k j) none ∙ first.left k j none
-      | inr j ↦ second.left k j none
+    gone = λ k i none. elim (in_either k xs ys i) [
+      | inl j ↦ second.beside k (apart k j) none ∙ first.gone k j none
+      | inr j ↦ second.gone k j none
     ];
     taken = λ k i none. absurd i;
   }
@@ -50,7 +50,7 @@ module _ {K V : Type 0} where
             (ap (λ m. map.get m q) leaves ∙ leaf_gone_elsewhere s.leaves p q (λ f. off (inl (sym (e ∙ ap leaf_name f))))))
         | inr kind ↦ held_in_inner t k.kind k.slot kind ∙ ap (λ m. option_map held_inner (map.get m (record { kind = k.kind; slot = k.slot }))) inners ∙ sym (held_in_inner s k.kind k.slot kind)
       ];
-      left = λ k i none. elim i [ inl e ↦ subst (λ z. held t z ≡ None) e (ap (option_map held_leaf) (ap (λ m. map.get m p) leaves ∙ leaf_gone s.leaves p)) | inr j ↦ absurd j ];
+      gone = λ k i none. elim i [ inl e ↦ subst (λ z. held t z ≡ None) e (ap (option_map held_leaf) (ap (λ m. map.get m p) leaves ∙ leaf_gone s.leaves p)) | inr j ↦ absurd j ];
       taken = λ k i none. absurd i;
     }
 

@@ -19,7 +19,7 @@ use Rattle.art_model.specs.Kept.{Frees}
 use Rattle.art_model.specs.Layouts.{leaf_node, inner_node, slots_of, names_of, names_below, leaf_names, leaf_names_below, inner_names, inner_names_below, shape_of, Holds, HoldsBelow, IsLayout}
 use Rattle.art_model.specs.Pairs.{first_of, without_first}
 use Rattle.art_model.specs.Stores.{held, held_leaf, held_inner, IsUsed, header_at, inner_seen, node_at, seen, shape_in, shape_at}
-use Rattle.art_model.specs.Trees.{Tree, leaf, inner, Children, child, no_child, Header}
+use Rattle.art_model.specs.Trees.{Tree, leaf, inner, Subtrees, child, no_child, NodeHeader}
 use Rattle.art_model.specs.Writes.{as_inner}
 use Rattle.art_model.proofs.Heights.{height_is, height_long, enough_inners}
 use Rattle.art_model.proofs.Lists.{Each-append, Each-left, Each-right, Each-weaker, in_left, in_right, in_either, each_in, each_from}
@@ -36,7 +36,7 @@ abbrev pub Shape : Type 0
 Shape = Tree OpaqueNodePtr (Unit {0})
 
 abbrev pub Shapes : Type 0
-Shapes = Children OpaqueNodePtr (Unit {0})
+Shapes = Subtrees OpaqueNodePtr (Unit {0})
 
 -- ---- what a tree without leaves sees
 
@@ -51,7 +51,7 @@ module _ {K V : Type 0} (s : Nodes K V) where
   pub shape_at-inner : (k : OpaqueNodePtr) → k.kind ≢ Leaf → (o : Option Inner) → map.get s.inners (as_inner k) ≡ o → shape_at s k ≡ option_map (inner_seen k.kind) o
   shape_at-inner k off o e = shape_in_inner k.kind k.slot off ∙ ap (option_map (inner_seen k.kind)) e
 
-  not_leaf : (kind : NodeType) (slot : ℕ) (h : Header) (slots : List (ℕ × OpaqueNodePtr)) → shape_in s kind slot ≡ Some (inner_node h slots) → kind ≢ Leaf
+  not_leaf : (kind : NodeType) (slot : ℕ) (h : NodeHeader) (slots : List (ℕ × OpaqueNodePtr)) → shape_in s kind slot ≡ Some (inner_node h slots) → kind ≢ Leaf
   not_leaf Leaf slot h slots e is = absurd cc
   not_leaf Node4 slot h slots e is = absurd cc
   not_leaf Node16 slot h slots e is = absurd cc
@@ -59,14 +59,14 @@ module _ {K V : Type 0} (s : Nodes K V) where
   not_leaf Node256 slot h slots e is = absurd cc
 
   -- an inner node that is seen is there
-  pub record IsThere (k : OpaqueNodePtr) (h : Header) (slots : List (ℕ × OpaqueNodePtr)) : Type 0 where
+  pub record IsThere (k : OpaqueNodePtr) (h : NodeHeader) (slots : List (ℕ × OpaqueNodePtr)) : Type 0 where
     pub off : k.kind ≢ Leaf
     pub node : Inner
     pub got : map.get s.inners (as_inner k) ≡ Some node
     pub head : header_at k.kind node ≡ h
     pub children : node.children ≡ slots
 
-  pub shape_there : (k : OpaqueNodePtr) (h : Header) (slots : List (ℕ × OpaqueNodePtr)) → shape_at s k ≡ Some (inner_node h slots) → IsThere k h slots
+  pub shape_there : (k : OpaqueNodePtr) (h : NodeHeader) (slots : List (ℕ × OpaqueNodePtr)) → shape_at s k ≡ Some (inner_node h slots) → IsThere k h slots
   shape_there k h slots e =
       let off = not_leaf k.kind k.slot h slots e in
       go off (map.get s.inners (as_inner k)) refl (sym (shape_at-inner k off (map.get s.inners (as_inner k)) refl) ∙ e)
@@ -116,7 +116,7 @@ module _ {N A : Type 0} (too : Bool) where
     going_in (inner n h cs) k (inl e) = inl e
     going_in (inner n h cs) k (inr i) = inr (going_in_below cs k i)
 
-    going_in_below : (cs : Children N A) (k : N) → IsIn k (going_below too cs) → IsIn k (names_below cs)
+    going_in_below : (cs : Subtrees N A) (k : N) → IsIn k (going_below too cs) → IsIn k (names_below cs)
     going_in_below no_child k i = i
     going_in_below (child b t cs) k i = elim (in_either k (going too t) (going_below too cs) i) [
       | inl j ↦ in_left k (names_of t) (names_below cs) (going_in t k j)
@@ -129,7 +129,7 @@ module _ {N A : Type 0} where
     all_going (leaf n x) = refl
     all_going (inner n h cs) = ap (λ z. n ∷ z) (all_going_below cs)
 
-    all_going_below : (cs : Children N A) → going_below true cs ≡ names_below cs
+    all_going_below : (cs : Subtrees N A) → going_below true cs ≡ names_below cs
     all_going_below no_child = refl
     all_going_below (child b t cs) = ap₂ (λ (x y : List N). x ++ y) (all_going t) (all_going_below cs)
 
@@ -154,7 +154,7 @@ count_children (Some node) = length node.children
 -- Of a node's tree some names are gone, and so are the children under them; the node has the others left.
 pub record IsFreeing {K V : Type 0} (s t : Nodes K V) (too : Bool) (root : OpaqueNodePtr) (shape : Shape) (count : ℕ) : Type 0 where
   pub mark : OpaqueNodePtr
-  pub head : Header
+  pub head : NodeHeader
   pub left : Shapes
   pub gone : List OpaqueNodePtr
   pub can : CanGo t too root (inner mark head left)
@@ -168,7 +168,7 @@ pub record IsFreeing {K V : Type 0} (s t : Nodes K V) (too : Bool) (root : Opaqu
 -- The first child was taken out of the node, and is to be freed.
 pub record IsTaken {K V : Type 0} (s t : Nodes K V) (too : Bool) (root : OpaqueNodePtr) (shape : Shape) (count : ℕ) (name : OpaqueNodePtr) : Type 0 where
   pub mark : OpaqueNodePtr
-  pub head : Header
+  pub head : NodeHeader
   pub tree : Shape
   pub left : Shapes
   pub gone : List OpaqueNodePtr
@@ -238,7 +238,7 @@ inner_freed t u p off inners leaves = record {
     | inr kind ↦ held_in_inner u k.kind k.slot kind ∙ ap (option_map held_inner)
         (ap (λ m. map.get m (as_inner k)) inners ∙ inner_gone_elsewhere t.inners p (as_inner k) (λ e. out (inl (sym (ap inner_name e))))) ∙ sym (held_in_inner t k.kind k.slot kind)
   ];
-  left = λ k i none. elim i [
+  gone = λ k i none. elim i [
     | inl e ↦ subst (λ z. held u z ≡ None) e
         (held_in_inner u p.kind p.slot off ∙ ap (option_map held_inner) (ap (λ m. map.get m p) inners ∙ inner_gone t.inners p))
     | inr z ↦ absurd z
@@ -345,8 +345,8 @@ module _ {K V : Type 0} {s t : Nodes K V} {too : Bool} {root : OpaqueNodePtr} {s
           let freed = inner_freed t v p off inners leaves in (
             subst (λ z. Frees z s v) (sym (names_are ∙ ap (λ z. is.mark ∷ z) (append-nil is.gone))) (record {
               beside = λ k out none. freed.beside k (λ i. elim i [ inl f ↦ out (inl (mark_is ∙ f)) | inr z ↦ z ]) none ∙ is.others k (λ f. out (inl (sym f))) (λ i. out (inr i));
-              left = λ k i none. elim i [
-                | inl f ↦ freed.left k (inl (sym mark_is ∙ f)) none
+              gone = λ k i none. elim i [
+                | inl f ↦ freed.gone k (inl (sym mark_is ∙ f)) none
                 | inr j ↦ freed.beside k (λ h. elim h [ inl f ↦ apart k j (inl (mark_is ∙ f)) | inr z ↦ z ]) none ∙ is.are_gone k j
               ];
               taken = λ k i none. absurd i;
@@ -373,7 +373,7 @@ child_freed {K} {V} {s} {t} {u} {too} {root} {shape} {count} is freed freed_leav
   others = λ k other off. freed.beside k (λ j. off (in_right k is.gone (going too is.tree) j)) (λ z. z) ∙ is.others k other (λ j. off (in_left k is.gone (going too is.tree) j));
   are_gone = λ k i. elim (in_either k is.gone (going too is.tree) i) [
     | inl h ↦ freed.beside k (λ j. is.apart k h (inr (in_left k (names_of is.tree) (names_below is.left) (going_in too is.tree k j)))) (λ z. z) ∙ is.are_gone k h
-    | inr h ↦ freed.left k h (λ z. z)
+    | inr h ↦ freed.gone k h (λ z. z)
   ];
 }
 

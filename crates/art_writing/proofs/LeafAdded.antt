@@ -5,7 +5,7 @@ use Rattle.std.specs.FinMap as map
 use Rattle.std.specs.Option.{option_map}
 use Rattle.art_nodes.specs.Changes.{with_child}
 use Rattle.art_nodes.specs.Inner.{Inner, HasPlace}
-use Rattle.art_nodes.specs.Kinds.{kind_capacity, larger_kind}
+use Rattle.art_nodes.specs.Kinds.{kind_capacity, larger_kind, next_larger}
 use Rattle.art_nodes.specs.Names.{leaf_name, inner_name}
 use Rattle.art_nodes.specs.Nodes.{Nodes, change}
 use Rattle.art_nodes.specs.declared.node.NodeType.{NodeType}
@@ -14,7 +14,7 @@ use Rattle.art_nodes.specs.declared.node.InnerPtr.{InnerPtr}
 use Rattle.art_nodes.specs.declared.node.LeafPtr.{LeafPtr}
 use Rattle.art_nodes.specs.declared.node.LeafNode.{LeafNode}
 use Rattle.art_nodes.specs.declared.node.OpaqueNodePtr.{OpaqueNodePtr}
-use Rattle.art_model.specs.Canonical.{IsTree}
+use Rattle.art_model.specs.Canonical.{IsCanonicalTree}
 use Rattle.art_model.specs.Footprints.{TouchesAtMost}
 use Rattle.art_model.specs.Layouts.{AreLinked, leaf_names, leaf_names_below, first_or, last_or}
 use Rattle.art_model.specs.Paths.{plug, leaves_before, leaves_after}
@@ -34,8 +34,8 @@ use Rattle.art_writing.specs.declared.insert.InsertParentNodeChange.TheVariants.
 use Rattle.art_writing.specs.declared.insert.InsertPoint.{InsertPoint}
 use Rattle.art_writing.specs.declared.insert.InsertResult.{InsertResult}
 use Rattle.art_writing.specs.Inserted.{IsInserted, Touches, is_full}
-use Rattle.art_writing.specs.Writes.{ComesBetween, root_with}
-use Rattle.art_reading.specs.Paths.{last_step}
+use Rattle.art_writing.specs.Writes.{ComesBetween}
+use Rattle.art_reading.specs.Paths.{last_step, root_with}
 use Rattle.art_writing.proofs.Beside.{between_links}
 use Rattle.art_writing.proofs.Entered.{IsEntry, entry_laid, entry_kind, entry_full, entry_inner, entry_count, entered_inserted}
 use Rattle.art_writing.proofs.Ways.{last_step-path_of, root_with-path_of}
@@ -58,22 +58,25 @@ larger_room kind n e off = go kind (subst (λ k. IsInRange k n) (sym e) (range_o
     go Node256 h off = absurd (off refl)
     go Leaf h off = absurd h
 
+-- but after the last kind
+next_larger_is : (kind : NodeType) → kind ≢ Node256 → kind ≢ Leaf → next_larger kind ≡ Some (larger_kind kind)
+next_larger_is Node4 not_last proper = refl
+next_larger_is Node16 not_last proper = refl
+next_larger_is Node48 not_last proper = refl
+next_larger_is Node256 not_last proper = absurd (not_last refl)
+next_larger_is Leaf not_last proper = absurd (proper refl)
+
 -- no kind of a leaf is asked for
-pub no_leaf_asked : (kind : NodeType) (full : Bool) → kind ≢ Leaf → cond full (Some (larger_kind kind)) None ≢ Some Leaf
-no_leaf_asked kind true proper e = larger_inner kind proper cc
-no_leaf_asked kind false proper e = absurd cc
-
--- whether one is asked for tells whether the node is full
-pub asked_some : (kind : NodeType) (full : Bool) {asked : Option NodeType} → asked ≡ cond full (Some (larger_kind kind)) None → is_some asked ≡ true → (full ≡ true) × (asked ≡ Some (larger_kind kind))
-asked_some kind true e h = (refl, e)
-asked_some kind false e h = let f = ap is_some e in absurd cc
-
-pub asked_none : (kind : NodeType) (full : Bool) {asked : Option NodeType} → asked ≡ cond full (Some (larger_kind kind)) None → is_some asked ≡ false → full ≡ false
-asked_none kind true e h = let f = ap is_some e in absurd cc
-asked_none kind false e h = refl
+pub no_leaf_asked : (kind : NodeType) (full : Bool) → cond full (next_larger kind) None ≢ Some Leaf
+no_leaf_asked Node4 true e = absurd cc
+no_leaf_asked Node16 true e = absurd cc
+no_leaf_asked Node48 true e = absurd cc
+no_leaf_asked Node256 true e = absurd cc
+no_leaf_asked Leaf true e = absurd cc
+no_leaf_asked kind false e = absurd cc
 
 module _ {K V : Type 0} {bytes : K × V → List ℕ} {P : ℕ} {s : Nodes K V} (point : InsertPoint) {p : InnerPtr} {pairs : List (K × V)} {layout : Tree OpaqueNodePtr (K × V)} (new : K × V) {b : ℕ}
-    (by : IsTree bytes P s point.root pairs layout) (e : IsEntry bytes P p layout (bytes new) point.path b) where
+    (by : IsCanonicalTree bytes P s point.root pairs layout) (e : IsEntry bytes P p layout (bytes new) point.path b) where
   abbrev count : ℕ
   count = length (bytes_of (join e.left e.right))
 
@@ -135,7 +138,7 @@ module _ {K V : Type 0} {bytes : K × V → List ℕ} {P : ℕ} {s : Nodes K V} 
         }
 
         pub room_inserted : point.insert_kind ≡ IntoExisting p → (done : InsertResult K V) →
-            done ≡ record { leaf_node_ptr = n; existing_leaf = None; new_root = point.root; parent_node_change = NewParent (inner_name p) b } → IsInserted bytes P s t point new pairs layout done
+            done ≡ record { leaf_node_ptr = n; existing_leaf = None; new_root = point.root; parent_node_change = NewParent p b } → IsInserted bytes P s t point new pairs layout done
         room_inserted into done is =
             entered_inserted by into e (room_added (entry_laid by e) into_room) (sym (root_stays e.frames (inner (inner_name p) e.header (join e.left e.right)) (entry_laid by e).named)) is
 
@@ -175,7 +178,7 @@ module _ {K V : Type 0} {bytes : K × V → List ℕ} {P : ℕ} {s : Nodes K V} 
         }
 
         pub full_inserted : point.insert_kind ≡ IntoExisting p → {root : OpaqueNodePtr} → root ≡ root_with point.path point.root (inner_name k) → (done : InsertResult K V) →
-            done ≡ record { leaf_node_ptr = n; existing_leaf = None; new_root = root; parent_node_change = NewParent (inner_name k) b } → IsInserted bytes P s t point new pairs layout done
+            done ≡ record { leaf_node_ptr = n; existing_leaf = None; new_root = root; parent_node_change = NewParent k b } → IsInserted bytes P s t point new pairs layout done
         full_inserted into root_is done is =
             entered_inserted by into e (full_added (entry_laid by e) into_full)
             (root_is ∙ ap (λ path. root_with path point.root (inner_name k)) e.path_is ∙ root_with-path_of e.frames point.root (inner_name k)) is
@@ -197,12 +200,31 @@ module _ {K V : Type 0} {bytes : K × V → List ℕ} {P : ℕ} {s : Nodes K V} 
       some (Some node) h = inl h
 
   -- a full one is not of the last kind, where it has fewer children than there are bytes
-  pub not_of_last : is_full s p ≡ true → IfSome (map.get s.inners p) (λ node. length node.children < 256) → p.kind ≢ Node256
-  not_of_last full few last = some (map.get s.inners p) (entry_count by e (λ n. kind_capacity p.kind ≤ n) (leb-true (kind_capacity p.kind) count (sym (entry_full by e) ∙ full))) few
+  not_of_last : IfSome (map.get s.inners p) (λ node. length node.children < 256) → is_full s p ≡ true → p.kind ≢ Node256
+  not_of_last few full last = some (map.get s.inners p) (entry_count by e (λ n. kind_capacity p.kind ≤ n) (leb-true (kind_capacity p.kind) count (sym (entry_full by e) ∙ full))) few
     where
       some : (o : Option Inner) → IsSomeAnd o (λ node. kind_capacity p.kind ≤ length node.children) → IfSome o (λ node. length node.children < 256) → ⊥
       some None h few = h
       some (Some node) h few = let l = ap kind_capacity last in omega arith
+
+  -- whether a kind is asked for tells whether the node is full
+  module _ {asked : Option NodeType} (few : IfSome (map.get s.inners p) (λ node. length node.children < 256)) (is : asked ≡ cond (is_full s p) (next_larger p.kind) None) where
+    asked_larger : is_full s p ≡ true → asked ≡ Some (larger_kind p.kind)
+    asked_larger full = is ∙ ap (λ b. cond b (next_larger p.kind) None) full ∙ next_larger_is p.kind (not_of_last few full) (entry_inner by e)
+
+    pub asked_full : is_some asked ≡ true → (is_full s p ≡ true) × (p.kind ≢ Node256) × (asked ≡ Some (larger_kind p.kind))
+    asked_full h = go (is_full s p) refl
+      where
+        go : (b : Bool) → is_full s p ≡ b → (is_full s p ≡ true) × (p.kind ≢ Node256) × (asked ≡ Some (larger_kind p.kind))
+        go true full = (full, not_of_last few full, asked_larger full)
+        go false room = let none = ap is_some (is ∙ ap (λ b. cond b (next_larger p.kind) None) room) in absurd cc
+
+    pub asked_room : is_some asked ≡ false → is_full s p ≡ false
+    asked_room h = go (is_full s p) refl
+      where
+        go : (b : Bool) → is_full s p ≡ b → is_full s p ≡ false
+        go true full = let some = ap is_some (asked_larger full) in absurd cc
+        go false room = room
 
   -- and a larger one has room
   pub larger_has_room : p.kind ≢ Node256 → (q : Inners) → q ≡ s.inners → IsSomeAnd (map.get q p) (λ node. HasPlace (kind_capacity (larger_kind p.kind)) node.children b)

@@ -43,5 +43,5 @@ module _ {K V : Type 0} (m : Leaves K V) where
 
 -- a leaf of a tree that the store holds is there
 pub tree_leaf_there : {K V : Type 0} (s : Nodes K V) (tree : Tree OpaqueNodePtr (K × V)) (p : LeafPtr) (x : K × V) → Holds (node_at s) tree → HasLeaf tree (leaf_name p) x → None ≡ get s.leaves p → ⊥
-tree_leaf_there s tree p x holds (path, whole) gone =
-    no_leaf_gone s p (leaf (leaf_name p) x) refl (path_holds (node_at s) path (leaf (leaf_name p) x) (subst (Holds (node_at s)) (sym whole) holds)).1 gone
+tree_leaf_there s tree p x holds has gone =
+    no_leaf_gone s p (leaf (leaf_name p) x) refl (path_holds (node_at s) has.path (leaf (leaf_name p) x) (subst (Holds (node_at s)) (sym has.whole) holds)).1 gone

@@ -3,6 +3,8 @@ pub mod Freed
 pub mod FreedTrees
 pub mod LeafWrites
 pub mod Partings
+pub mod KeysFound
+pub mod OneLeaf
 pub mod Spots
 pub mod Prefixes
 pub mod Deletions
@@ -11,6 +13,7 @@ pub mod Compressions
 pub mod Removals
 pub mod DeletePoints
 pub mod Branches
+pub mod Unstored
 pub mod BranchReads
 pub mod Reserved
 pub mod Elsewhere

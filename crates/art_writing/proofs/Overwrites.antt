@@ -14,24 +14,24 @@ use Rattle.art_nodes.specs.declared.node.NodeType.TheVariants.{Node4, Node16, No
 use Rattle.art_nodes.specs.declared.node.LeafNode.{LeafNode}
 use Rattle.art_nodes.specs.declared.node.LeafPtr.{LeafPtr}
 use Rattle.art_nodes.specs.declared.node.OpaqueNodePtr.{OpaqueNodePtr}
-use Rattle.art_model.specs.Canonical.{IsCanonical, IsTree}
+use Rattle.art_model.specs.Canonical.{IsCanonical, IsCanonicalTree}
 use Rattle.art_model.specs.Keys.{IsFront, are_related}
 use Rattle.art_model.specs.Footprints.{IsIn}
 use Rattle.art_model.specs.Kept.{ChangesInPlace, Frees}
-use Rattle.art_model.specs.Layouts.{name_of, names_of, leaf_names, leaf_names_below, slots_of, first_or, last_or, Holds}
+use Rattle.art_model.specs.Layouts.{name_of, names_of, leaf_names, slots_of, first_or, last_or, Holds}
 use Rattle.art_model.specs.Pairs.{overwrite, overwrite_reply, went}
 use Rattle.art_model.specs.Paths.{Frame, plug, leaves_before, leaves_after}
 use Rattle.art_model.specs.Places.{depth_of, place_of, prefix_of}
 use Rattle.art_model.specs.Radix.{IsRadix, AreRadix, bytes_of, pairs_of, pairs_below}
 use Rattle.art_model.specs.Roots.{IsCanonicalRoot, ForTree, IsFullTree}
 use Rattle.art_model.specs.Stores.{held, seen, node_at, links_at, pair_of}
-use Rattle.art_model.specs.Trees.{Tree, leaf, inner, Children, child, no_child}
+use Rattle.art_model.specs.Trees.{Tree, leaf, inner, Subtrees, child, no_child}
 use Rattle.art_model.specs.Writes.{as_inner, parent_of, with_child_at, with_leaf, IsThere}
 use Rattle.art_model.proofs.Canonical.{IsLaidOut, laid_out, canonical_from, tree_radix}
 use Rattle.art_model.proofs.Chains.{AreThere, are_there, previous_there, next_there}
 use Rattle.art_model.proofs.IntoHole.{IntoHole, hole_kept, hole_overwritten, hole_related, hole_reply, hole_touches}
 use Rattle.art_model.proofs.IntoLeaf.{IntoLeaf, leaf_overwritten, leaf_overwrite_kept, leaf_overwrite_reply, leaf_touches}
-use Rattle.art_model.proofs.Paths.{IsHole, leaf_names-plug, radix_plug}
+use Rattle.art_model.proofs.Paths.{IsHole, leaf_names-plug, length-leaf_names, radix_plug}
 use Rattle.art_model.proofs.Paths as paths
 use Rattle.art_model.proofs.PlaceLaws.{depth_is}
 use Rattle.art_model.proofs.Keys.{front_related}
@@ -50,8 +50,8 @@ use Rattle.art_writing.specs.declared.insert.PrefixInsertResult.{PrefixInsertRes
 use Rattle.art_writing.specs.Inserted.{alone}
 use Rattle.art_writing.specs.Overwritten.{HasOverwritten, IsOverwritePointIn, IsOverwritten, TouchesForNode, TouchesRelated}
 use Rattle.art_writing.specs.Points.{AnswersToOverwrite, IsOverwrittenWith}
-use Rattle.art_reading.specs.Paths.{last_step, path_of}
-use Rattle.art_writing.specs.Writes.{ComesAfter, ComesBefore, HasChild, SameNodes, root_with}
+use Rattle.art_reading.specs.Paths.{last_step, path_of, root_with}
+use Rattle.art_writing.specs.Writes.{ComesAfter, ComesBefore, HasChild, SameNodes}
 use Rattle.art_writing.proofs.BranchReads.{beside_is}
 use Rattle.art_writing.proofs.Ways.{last_step-path_of, root_with-path_of}
 
@@ -63,7 +63,7 @@ pub record IsAnsweredOver {A : Type 0} (bytes : A → List ℕ) (P : ℕ) (layou
   pub deep : depth_of answers.path ≡ length place
 
 pub answered_over : {K V : Type 0} {bytes : K × V → List ℕ} {P : ℕ} {s : Nodes K V} {key : List ℕ} {point : OverwritePoint} {pairs : List (K × V)} {layout : Tree OpaqueNodePtr (K × V)} →
-    IsOverwritePointIn bytes P s key point → IsTree bytes P s point.root pairs layout → IsAnsweredOver bytes P layout key point
+    IsOverwritePointIn bytes P s key point → IsCanonicalTree bytes P s point.root pairs layout → IsAnsweredOver bytes P layout key point
 answered_over {bytes = bytes} {P} {s} {key} {point} {pairs} {layout} (others, other, is, own) by =
     let answers : AnswersToOverwrite bytes layout key point = subst (λ z. AnswersToOverwrite bytes z key point) (has_one_map bytes P s point.root pairs others layout other by is).1 own in
     let (place, path, radix) = radix_plug bytes P answers.path answers.node (subst (IsRadix bytes P []) (sym answers.is_end.whole) (tree_radix by).0) in
@@ -95,7 +95,8 @@ pub record IsRelatedLeaf {K V : Type 0} (bytes : K × V → List ℕ) (P : ℕ) 
 
 module _ {K V : Type 0} {bytes : K × V → List ℕ} {P : ℕ} {s : Nodes K V} {point : OverwritePoint} {p : LeafPtr} {pairs : List (K × V)} {layout : Tree OpaqueNodePtr (K × V)} where
   -- it is there where a point names it
-  pub related_leaf : {key : List ℕ} → IsOverwritePointIn bytes P s key point → leaf_name p ≡ point.overwrite_point → IsTree bytes P s point.root pairs layout → IsRelatedLeaf bytes P s p layout key
+  pub related_leaf : {key : List ℕ} → IsOverwritePointIn bytes P s key point → leaf_name p ≡ point.overwrite_point → IsCanonicalTree bytes P s point.root pairs layout →
+      IsRelatedLeaf bytes P s p layout key
   related_leaf {key} answers named by =
       let a = answered_over answers by in
       go a.answers.path a.place a.answers.node a.answers.is_end.whole a.hole (sym a.answers.name_is ∙ sym named) point.key_bytes_used a.answers.gives_way
@@ -143,7 +144,7 @@ module _ {K V : Type 0} {bytes : K × V → List ℕ} {P : ℕ} {s : Nodes K V} 
         record {
           tree = plug l.path (leaf (leaf_name p) new);
           canonical = canonical_from (leaf_overwritten old into l.related l.unequal);
-          leaf = record { has = (l.path, refl); kept = λ kind. named; change = refl };
+          leaf = record { has = record { path = l.path; whole = refl }; kept = λ kind. named; change = refl };
           existing = ap Some (is ∙ ap alone went) ∙ ap (λ z. option_map alone z.0) (sym reply);
           removed = ap (λ z. z.1) (sym reply);
           kept = subst (λ z. ChangesInPlace bytes s t (Some z) (Some (plug l.path (leaf (leaf_name p) new)))) l.whole (leaf_overwrite_kept old into l.related l.unequal);
@@ -167,7 +168,7 @@ pub record IsSubtreeAt {K V : Type 0} (bytes : K × V → List ℕ) (P : ℕ) (s
 
 module _ {A : Type 0} (bytes : A → List ℕ) (P : ℕ) where
   -- what is below an inner node goes on after its prefix
-  goes_on : {N : Type 0} (key front : List ℕ) → IsFront key front → (cs : Children N A) → AreRadix bytes P front cs →
+  goes_on : {N : Type 0} (key front : List ℕ) → IsFront key front → (cs : Subtrees N A) → AreRadix bytes P front cs →
       Each (λ y. IsFront key (bytes y) × (length key < length (bytes y))) (pairs_below cs)
   goes_on key front short no_child h = tt
   goes_on key front short (child b t cs) h = Each-append (λ y. IsFront key (bytes y) × (length key < length (bytes y))) (pairs_of t) (pairs_below cs)
@@ -185,7 +186,8 @@ module _ {A : Type 0} (bytes : A → List ℕ) (P : ℕ) where
           omega arith
 
 module _ {K V : Type 0} {bytes : K × V → List ℕ} {P : ℕ} {s : Nodes K V} {point : OverwritePoint} {pairs : List (K × V)} {layout : Tree OpaqueNodePtr (K × V)} where
-  pub subtree_at : {key : List ℕ} → IsOverwritePointIn bytes P s key point → point.overwrite_point.kind ≢ Leaf → IsTree bytes P s point.root pairs layout → IsSubtreeAt bytes P s point layout key
+  pub subtree_at : {key : List ℕ} → IsOverwritePointIn bytes P s key point → point.overwrite_point.kind ≢ Leaf → IsCanonicalTree bytes P s point.root pairs layout →
+      IsSubtreeAt bytes P s point layout key
   subtree_at {key} answers off by =
       let a = answered_over answers by in
       go a.answers.path a.place a.answers.node a.answers.is_end.whole a.hole a.deep (sym a.answers.name_is) a.answers.path_is point.key_bytes_used a.answers.gives_way
@@ -229,7 +231,7 @@ module _ {K V : Type 0} {bytes : K × V → List ℕ} {P : ℕ} {s : Nodes K V} 
             two = two_pairs cs hole.radix.2 hole.radix.4;
           }
         where
-          two_pairs : (cs : Children OpaqueNodePtr (K × V)) → 2 ≤ length (bytes_of cs) → AreRadix bytes P (place ++ hole.radix.0) cs → 2 ≤ length (pairs_below cs)
+          two_pairs : (cs : Subtrees OpaqueNodePtr (K × V)) → 2 ≤ length (bytes_of cs) → AreRadix bytes P (place ++ hole.radix.0) cs → 2 ≤ length (pairs_below cs)
           two_pairs no_child two h = absurd (omega arith)
           two_pairs (child b t no_child) two h = absurd (omega arith)
           two_pairs (child b t (child c u cs)) two h =
@@ -251,17 +253,6 @@ module _ {K V : Type 0} (s r : Nodes K V) (same : SameNodes s r) where
   )
 
 -- a tree has as many leaves as pairs
-module _ {N A : Type 0} where
-  mutual
-    names_pairs : (t : Tree N A) → length (leaf_names t) ≡ length (pairs_of t)
-    names_pairs (leaf n x) = refl
-    names_pairs (inner n h cs) = names_pairs_below cs
-
-    names_pairs_below : (cs : Children N A) → length (leaf_names_below cs) ≡ length (pairs_below cs)
-    names_pairs_below no_child = refl
-    names_pairs_below (child b t cs) =
-        length-append (leaf_names t) (leaf_names_below cs) ∙ ap₂ (λ a b. a + b) (names_pairs t) (names_pairs_below cs) ∙ sym (length-append (pairs_of t) (pairs_below cs))
-
 -- more than one went
 went_many : {X : Type 0} (xs : List X) → 2 ≤ length xs → went xs ≡ (None, length xs)
 went_many [] two = absurd (omega arith)
@@ -277,7 +268,7 @@ for_inner Node48 off h = h
 for_inner Node256 off h = h
 
 module _ {K V : Type 0} {bytes : K × V → List ℕ} {P : ℕ} {s : Nodes K V} {point : OverwritePoint} {key : List ℕ} {pairs : List (K × V)}
-    {layout : Tree OpaqueNodePtr (K × V)} (by : IsTree bytes P s point.root pairs layout) (at : IsSubtreeAt bytes P s point layout key) where
+    {layout : Tree OpaqueNodePtr (K × V)} (by : IsCanonicalTree bytes P s point.root pairs layout) (at : IsSubtreeAt bytes P s point layout key) where
   old_laid : IsLaidOut bytes P (node_at s) (links_at s) point.root pairs (plug at.path at.node)
   old_laid = subst (IsLaidOut bytes P (node_at s) (links_at s) point.root pairs) (sym at.whole) (laid_out by)
 
@@ -373,10 +364,11 @@ module _ {K V : Type 0} {bytes : K × V → List ℕ} {P : ℕ} {s : Nodes K V} 
           record {
             tree = plug at.path (leaf (leaf_name n) (pair_of x));
             canonical =
-                subst (λ z. IsTree bytes P t z (overwrite bytes (pair_of x) pairs) (plug at.path (leaf (leaf_name n) (pair_of x)))) (sym root) (canonical_from (hole_overwritten old_laid into));
-            leaf = record { has = (at.path, refl); kept = λ kind. absurd (off kind); change = refl };
+                subst (λ z. IsCanonicalTree bytes P t z (overwrite bytes (pair_of x) pairs) (plug at.path (leaf (leaf_name n) (pair_of x))))
+                (sym root) (canonical_from (hole_overwritten old_laid into));
+            leaf = record { has = record { path = at.path; whole = refl }; kept = λ kind. absurd (off kind); change = refl };
             existing = ap (λ z. option_map alone z.0) (sym reply);
-            removed = count_is ∙ names_pairs at.node ∙ ap (λ z. z.1) (sym reply);
+            removed = count_is ∙ length-leaf_names at.node ∙ ap (λ z. z.1) (sym reply);
             kept = subst (λ z. ChangesInPlace bytes s t (Some z) (Some (plug at.path (leaf (leaf_name n) (pair_of x))))) at.whole (hole_kept old_laid into);
             touches = for_inner point.overwrite_point.kind off (record {
               path = at.path;

@@ -5,7 +5,7 @@ use Rattle.std.proofs.lemmas.Bool.{cases_order}
 use Rattle.art_model.specs.Keys.{IsFront, are_related, are_same}
 use Rattle.art_model.specs.Pairs.{is_conflict, related_to}
 use Rattle.art_model.proofs.Lists.{common_front_left}
-use Rattle.art_model.proofs.Keys.{related_sym, front_related, front_same, same_equal, precedes_at}
+use Rattle.art_model.proofs.Keys.{related_sym, front_related, front_same, not_same, precedes_at}
 use Rattle.art_model.proofs.Fronts.{ArePart, front_right, part_where, shared_whole}
 use Rattle.art_reading.specs.Matching.{shared_len}
 
@@ -56,13 +56,6 @@ module _ (a b c : List ℕ) (n : ℕ) (shared : n ≡ shared_len a c) (same : c 
   pub not_less_related : ((n < length a) × (length c ≤ n)) ⊎ (length a ≤ n) → length a ≢ length c → (are_related a b ≡ true) × (a ≢ b)
   not_less_related h other = (subst (λ l. are_related a l ≡ true) same (some_related a c (not_less h)), λ e. other (ap length (e ∙ sym same)))
 
-is_false : (t : Bool) → (t ≡ true → ⊥) → t ≡ false
-is_false true never = absurd (never refl)
-is_false false never = refl
-
-pub unequal_keys : (a b : List ℕ) → a ≢ b → are_same a b ≡ false
-unequal_keys a b never = is_false (are_same a b) (λ e. never (sym (same_equal a b e)))
-
 module _ {A : Type 0} (bytes : A → List ℕ) (key : List ℕ) where
   -- only related keys are in conflict
   pub conflict-related : (xs : List A) → is_conflict bytes key (related_to bytes key xs) ≡ is_conflict bytes key xs
@@ -79,7 +72,7 @@ module _ {A : Type 0} (bytes : A → List ℕ) (key : List ℕ) where
   no_conflict (x ∷ xs) h = rw h.0 (no_conflict xs h.1)
 
   pub first_conflict : (x : A) (xs : List A) → are_related key (bytes x) ≡ true → key ≢ bytes x → is_conflict bytes key (x ∷ xs) ≡ true
-  first_conflict x xs related unequal = rw (related, unequal_keys key (bytes x) unequal) refl
+  first_conflict x xs related unequal = rw (related, not_same key (bytes x) unequal) refl
 
   pub same_conflict : (x : A) → bytes x ≡ key → is_conflict bytes key (x ∷ []) ≡ false
   same_conflict x e =

@@ -16,7 +16,7 @@ use Rattle.art_model.specs.Keys.{IsFront}
 use Rattle.art_model.specs.Lookups.{HasFirstLeaf}
 use Rattle.art_model.specs.Pairs.{first_of}
 use Rattle.art_model.specs.Roots.{IsFullTree}
-use Rattle.art_model.specs.Trees.{Tree, leaf, inner, Children, child, no_child}
+use Rattle.art_model.specs.Trees.{Tree, leaf, inner, Subtrees, child, no_child}
 use Rattle.art_model.specs.Radix.{IsRadix, AreRadix, bytes_of, pairs_of, pairs_below}
 use Rattle.art_model.specs.Layouts.{Holds, IsLayout}
 use Rattle.art_model.specs.Stores.{node_at, header_at, pair_of}
@@ -39,7 +39,7 @@ module _ {N A : Type 0} (bytes : A → List ℕ) (P : ℕ) (x : A) where
     least_is (leaf n y) place h e = let same : y ≡ x = cc in ap bytes same
     least_is (inner n h cs) place (part, head, two, up, below) e = least_below_is cs (place ++ part) two below e
 
-    least_below_is : (cs : Children N A) (front : List ℕ) → 2 ≤ length (bytes_of cs) → AreRadix bytes P front cs → first_of (pairs_below cs) ≡ Some x → least_below bytes cs ≡ bytes x
+    least_below_is : (cs : Subtrees N A) (front : List ℕ) → 2 ≤ length (bytes_of cs) → AreRadix bytes P front cs → first_of (pairs_below cs) ≡ Some x → least_below bytes cs ≡ bytes x
     least_below_is no_child front two h e = absurd (omega arith)
     least_below_is (child b t cs) front two h e =
         let (y, ys, is) = radix_some bytes P t (front ++ b ∷ []) h.0 in
@@ -102,10 +102,10 @@ module _ {K V : Type 0} {s : Nodes K V} {bytes : K × V → List ℕ} {P : ℕ} 
 
     -- a prefix that is read from the least leaf below
     module _ {q : LeafPtr} (first : HasFirstLeaf node (leaf_name q)) where
-      leaf_there : (shown : LeafNode K V) × (map.get s.leaves q ≡ Some shown) × (pair_of shown ≡ first.1.0)
+      leaf_there : (shown : LeafNode K V) × (map.get s.leaves q ≡ Some shown) × (pair_of shown ≡ first.pair)
       leaf_there =
-          let (path, whole) = first.1.2 in
-          views.leaf_there s q first.1.0 (path_holds (node_at s) path (leaf (leaf_name q) first.1.0) (subst (Holds (node_at s)) (sym whole) part.layout.holds)).1
+          let pair = first.pair in
+          views.leaf_there s q pair (path_holds (node_at s) first.has.path (leaf (leaf_name q) pair) (subst (Holds (node_at s)) (sym first.has.whole) part.layout.holds)).1
 
       pub no_leaf_gone : None ≡ map.get s.leaves q → ⊥
       no_leaf_gone gone = let (l, there, same) = leaf_there in absurd cc
@@ -115,8 +115,8 @@ module _ {K V : Type 0} {s : Nodes K V} {bytes : K × V → List ℕ} {P : ℕ} 
         least_bytes =
             let (z, here, same) = leaf_there in
             let is : z ≡ l = cc in
-            least_below_is bytes P first.1.0 at.children (part.place ++ radix.0) radix.2 radix.4
-            (ap (λ t. first_of (pairs_of t)) (sym at.is) ∙ first.1.1) ∙ ap bytes (sym same) ∙ ap (λ y. bytes (pair_of y)) is
+            least_below_is bytes P first.pair at.children (part.place ++ radix.0) radix.2 radix.4
+            (ap (λ t. first_of (pairs_of t)) (sym at.is) ∙ first.pair_is) ∙ ap bytes (sym same) ∙ ap (λ y. bytes (pair_of y)) is
 
         pub long_enough : depth + shown.prefix.len ≤ length (bytes (pair_of l))
         long_enough =

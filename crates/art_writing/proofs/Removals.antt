@@ -4,7 +4,7 @@ use Rattle.std.specs.List.{AllByRecursion as Each}
 use Rattle.std.specs.Option.{option_map}
 use Rattle.std.specs.FinMap.{get, remove}
 use Rattle.std.proofs.lemmas.Bool.{lt-ltb, le-ltb}
-use Rattle.art_nodes.specs.Changes.{with_header, without_child}
+use Rattle.art_nodes.specs.Changes.{with_child, with_header, without_child}
 use Rattle.art_nodes.specs.Inner.{Inner, Prefix, remove_child}
 use Rattle.art_nodes.specs.Inner as nodes
 use Rattle.art_nodes.specs.Names.{leaf_name}
@@ -16,7 +16,7 @@ use Rattle.art_nodes.specs.declared.node.LeafNode.{LeafNode}
 use Rattle.art_nodes.specs.declared.node.OpaqueNodePtr.{OpaqueNodePtr}
 use Rattle.art_nodes.proofs.HeaderLaws.{header_by_parts}
 use Rattle.art_nodes.proofs.StoreLaws.{inner_gone_elsewhere}
-use Rattle.art_model.specs.Canonical.{IsTree}
+use Rattle.art_model.specs.Canonical.{IsCanonicalTree}
 use Rattle.art_model.specs.Footprints.{IsIn}
 use Rattle.art_model.specs.Kept.{ChangesInPlace}
 use Rattle.art_model.specs.Keys.{IsFront}
@@ -25,12 +25,13 @@ use Rattle.art_model.specs.Pairs.{remove_key}
 use Rattle.art_model.specs.Paths.{Frame, plug, leaves_before, leaves_after}
 use Rattle.art_model.specs.Radix.{IsRadix, bytes_of, join, pairs_of}
 use Rattle.art_model.specs.Stores.{node_at, links_at, pair_of}
-use Rattle.art_model.specs.Trees.{Tree, leaf, inner, Children, child, no_child}
+use Rattle.art_model.specs.Trees.{Tree, leaf, inner, Subtrees, child, no_child}
 use Rattle.art_model.specs.Writes.{Leaves, Inners, as_inner, parent_of, without_leaf, with_child_at}
 use Rattle.art_model.proofs.Canonical.{IsLaidOut, laid_out, canonical_from}
 use Rattle.art_model.proofs.Changes.{child_left}
 use Rattle.art_model.proofs.Changes as changes
-use Rattle.art_model.proofs.Compressed.{Compressed, with_prefix, prefix_written, prefix_at, compressed, compressed_touches, compressed_in_place, above_same, off_node, own_name, v_held}
+use Rattle.art_model.proofs.Compressed.{Compressed, with_prefix, prefix_written, prefix_at, compressed, compressed_touches, compressed_in_place, above_same, off_node, v_held}
+use Rattle.art_model.proofs.Names.{own_name}
 use Rattle.art_model.proofs.Emptied.{emptied_touches, emptied_in_place}
 use Rattle.art_model.proofs.Lists.{each_in}
 use Rattle.art_model.proofs.Links.{last_or-append}
@@ -47,8 +48,8 @@ use Rattle.art_model.proofs.Views.{leaf_there, leaf_or, inner_name_is}
 use Rattle.art_model.proofs.Writes.{inner_at, parent_ready, inner_name_one}
 use Rattle.art_writing.specs.Deleted.{IsDeleted, IsDeletePoint, IsRootAfter, LeadsTo, TouchesFor, parent_change, no_parent, is_compressed}
 use Rattle.art_writing.specs.Inserted.{alone}
-use Rattle.art_reading.specs.Paths.{last_step, path_of, up}
-use Rattle.art_writing.specs.Writes.{HasChild, LinksAreThere, root_with}
+use Rattle.art_reading.specs.Paths.{last_step, path_of, up, root_with}
+use Rattle.art_writing.specs.Writes.{HasChild, LinksAreThere}
 use Rattle.art_writing.proofs.Below.{IsBelow, is_below, change_is, compressed_most, has_child}
 use Rattle.art_writing.proofs.Deletions.{some_same}
 use Rattle.art_writing.proofs.Ways.{last_step-path_of, last_step-up, root_with-up, root_after_at}
@@ -74,7 +75,7 @@ pub record IsAlone {K V : Type 0} (bytes : K × V → List ℕ) (P : ℕ) (s : N
   pub path_is : point.path ≡ Root
 
 module _ {K V : Type 0} {bytes : K × V → List ℕ} {P : ℕ} {s : Nodes K V} {root : OpaqueNodePtr} {pairs : List (K × V)} {layout : Tree OpaqueNodePtr (K × V)} {x : K × V} {point : DeletePoint} where
-  pub is_alone : IsTree bytes P s root pairs layout → LeadsTo layout x point → last_step point.path ≡ None → IsAlone bytes P s root pairs layout x point
+  pub is_alone : IsCanonicalTree bytes P s root pairs layout → LeadsTo layout x point → last_step point.path ≡ None → IsAlone bytes P s root pairs layout x point
   is_alone by leads step = frames leads.path leads.whole leads.path_is
     where
       frames : (fs : List (Frame OpaqueNodePtr (K × V))) → plug fs (leaf (leaf_name point.leaf_node_ptr) x) ≡ layout → point.path ≡ path_of fs → IsAlone bytes P s root pairs layout x point
@@ -118,7 +119,7 @@ module _ {K V : Type 0} {bytes : K × V → List ℕ} {P : ℕ} {s : Nodes K V} 
 
 module _ {A : Type 0} where
   -- one child on both sides stands on the right or on the left
-  sides : (l r : Children OpaqueNodePtr A) (c : ℕ) (v : Tree OpaqueNodePtr A) → join l r ≡ child c v no_child → (r ≡ child c v no_child) ⊎ (l ≡ child c v no_child)
+  sides : (l r : Subtrees OpaqueNodePtr A) (c : ℕ) (v : Tree OpaqueNodePtr A) → join l r ≡ child c v no_child → (r ≡ child c v no_child) ⊎ (l ≡ child c v no_child)
   sides no_child r c v e = inl e
   sides (child d u no_child) r c v e = inr cc
   sides (child d u (child f w l)) r c v e = absurd cc
@@ -141,7 +142,7 @@ pub record IsOneOfTwo {K V : Type 0} (bytes : K × V → List ℕ) (P : ℕ) (s 
 
 module _ {K V : Type 0} {bytes : K × V → List ℕ} {P : ℕ} {s : Nodes K V} {root : OpaqueNodePtr} {pairs : List (K × V)}
     {layout : Tree OpaqueNodePtr (K × V)} {x : K × V} {point : DeletePoint} {parent : InnerPtr} {byte : ℕ} where
-  pub is_one_of_two : IsTree bytes P s root pairs layout → LeadsTo layout x point → last_step point.path ≡ Some (parent, byte) →
+  pub is_one_of_two : IsCanonicalTree bytes P s root pairs layout → LeadsTo layout x point → last_step point.path ≡ Some (parent, byte) →
       parent_change s point.path ≡ is_compressed → IsOneOfTwo bytes P s root pairs layout x point parent byte
   is_one_of_two by leads step told =
       let at = is_below by leads step in
@@ -195,24 +196,39 @@ module _ {K V : Type 0} {bytes : K × V → List ℕ} {P : ℕ} {s : Nodes K V} 
     -- ---- the node as it is taken out
 
     -- without the leaf it has the one child
-    pub other_left : (any : Inner) → get s.inners parent ≡ Some any → (without_child byte any).children ≡ (two.c, name_of two.v) ∷ []
+    other_left : (any : Inner) → get s.inners parent ≡ Some any → (without_child byte any).children ≡ (two.c, name_of two.v) ∷ []
     other_left any is =
         let (off, own, got, head, kids) = parent_is at.below in
         let same : any ≡ own = some_same (sym is ∙ ap (get s.inners) (sym at.parent_is) ∙ got) in
         ap (remove_child any.children) (sym at.byte_is) ∙ slots_left at.below any.children (ap (λ z. z.children) same ∙ kids) ∙ ap slots_of two.one
 
-    -- so that is the least one
-    pub least_left : (any : Inner) (shown : Inner) (least : ℕ × OpaqueNodePtr) → get s.inners parent ≡ Some any → shown ≡ without_child byte any →
-        slice_get shown.children 0 ≡ Some least → least ≡ (two.c, name_of two.v)
-    least_left any shown least is without first = some_same (sym first ∙ ap (λ z. slice_get z 0) (ap (λ z. z.children) without ∙ other_left any is))
-
     -- its header is that of its whole prefix
-    pub own_header : (any : Inner) → get s.inners parent ≡ Some any → any.prefix ≡ nodes.header_of P two.hole.radix.0
+    own_header : (any : Inner) → get s.inners parent ≡ Some any → any.prefix ≡ nodes.header_of P two.hole.radix.0
     own_header any is =
         let (off, own, got, head, kids) = parent_is at.below in
         let same : any ≡ own = some_same (sym is ∙ ap (get s.inners) (sym at.parent_is) ∙ got) in
         let shown = head ∙ two.hole.radix.1 in
         header_by_parts P two.hole.radix.0 any.prefix (ap (λ z. z.prefix.len) same ∙ ap (λ z. z.length_of) shown) (ap (λ z. z.prefix.stored) same ∙ ap (λ z. z.stored) shown)
+
+    parent_found : (node : Inner) × (get s.inners parent ≡ Some node)
+    parent_found = let (off, node, got, head, kids) = parent_is at.below in (node, ap (get s.inners) (sym at.parent_is) ∙ got)
+
+    -- so it may be taken out by its other child
+    pub one_left : IsSomeAnd (get s.inners parent) (λ node. length (without_child byte node).children ≡ 1)
+    one_left =
+        let (node, there) = parent_found in
+        subst (λ o. IsSomeAnd o (λ node. length (without_child byte node).children ≡ 1)) (sym there) (ap length (other_left node there))
+
+    -- and what is answered then is its header, and that child
+    module _ (header : Prefix) (d : ℕ) (other : OpaqueNodePtr) (is : IfSome (get s.inners parent) (λ node. without_child byte node ≡ with_child d other (nodes.childless header))) where
+      made_of : without_child byte parent_found.0 ≡ with_child d other (nodes.childless header)
+      made_of = subst (λ o. IfSome o (λ node. without_child byte node ≡ with_child d other (nodes.childless header))) parent_found.1 is
+
+      pub other_is : ◌≡◌ {A = ℕ × OpaqueNodePtr} (d, other) (two.c, name_of two.v)
+      other_is = some_same (ap (λ (z : Inner). slice_get z.children 0) (sym made_of) ∙ ap (λ z. slice_get z 0) (other_left parent_found.0 parent_found.1))
+
+      pub header_is : header ≡ nodes.header_of P two.hole.radix.0
+      header_is = ap (λ (z : Inner). z.prefix) (sym made_of) ∙ own_header parent_found.0 parent_found.1
 
     -- ---- a leaf below the child that is left
 
@@ -365,8 +381,9 @@ module _ {K V : Type 0} {bytes : K × V → List ℕ} {P : ℕ} {s : Nodes K V} 
           record {
             tree = Some tree;
             canonical =
-                subst (λ r. IsTree bytes P t r (remove_key bytes (bytes x) pairs) tree) (sym same)
-                (subst (λ y. IsTree bytes P t (paths.root_with at.above root (name_of two.v)) (remove_key bytes (bytes y) pairs) tree) at.pair (canonical_from (compressed at.below.laid done)));
+                subst (λ r. IsCanonicalTree bytes P t r (remove_key bytes (bytes x) pairs) tree) (sym same)
+                (subst (λ y. IsCanonicalTree bytes P t (paths.root_with at.above root (name_of two.v)) (remove_key bytes (bytes y) pairs) tree)
+                at.pair (canonical_from (compressed at.below.laid done)));
             deleted = rw at.here at pair ∙ ap alone at.pair;
             root_is =
                 subst (λ change. IsRootAfter change point.path root (Some new_root)) (sym told)

@@ -8,7 +8,7 @@ use Rattle.art_nodes.specs.Nodes.{Nodes, change}
 use Rattle.art_nodes.specs.declared.node.LeafNode.{LeafNode}
 use Rattle.art_nodes.specs.declared.node.LeafPtr.{LeafPtr}
 use Rattle.art_nodes.specs.declared.node.OpaqueNodePtr.{OpaqueNodePtr}
-use Rattle.art_model.specs.Canonical.{IsTree}
+use Rattle.art_model.specs.Canonical.{IsCanonicalTree}
 use Rattle.art_model.specs.Kept.{ChangesInPlace}
 use Rattle.art_model.specs.Layouts.{Holds}
 use Rattle.art_model.specs.Paths.{Frame, plug}
@@ -40,7 +40,7 @@ pub record IsOwnLeaf {K V : Type 0} (bytes : K × V → List ℕ) (P : ℕ) (s :
 
 module _ {K V : Type 0} {bytes : K × V → List ℕ} {P : ℕ} {s : Nodes K V} {point : InsertPoint} {p : LeafPtr} {pairs : List (K × V)} {layout : Tree OpaqueNodePtr (K × V)} where
   -- it is there where a point names it
-  pub own_leaf : {key : List ℕ} → IsPointIn bytes P s key point → point.insert_kind ≡ Exact p → IsTree bytes P s point.root pairs layout → IsOwnLeaf bytes P s p layout key
+  pub own_leaf : {key : List ℕ} → IsPointIn bytes P s key point → point.insert_kind ≡ Exact p → IsCanonicalTree bytes P s point.root pairs layout → IsOwnLeaf bytes P s p layout key
   own_leaf {key} answers exact by =
       let a = answered answers by in
       let (used, (pair, is, (same, equal))) = subst (IsKindOf bytes P key a.answers.node _ _) exact a.answers.kind_is in

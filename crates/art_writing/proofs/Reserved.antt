@@ -15,17 +15,21 @@ module _ (promise : Promise) where
       go true u e h = let l = leb-true 1 promise.leaves e in omega arith
       go false u e h = absurd cc
 
-  -- and the inner node still is when the leaf is placed
-  pub inner_promised : (kind : NodeType) → IsTrue (covers promise 1 (Some kind)) → IsTrue (promises (take_leaf promise).inner kind)
-  inner_promised kind h = go promise.leaves refl
+  -- an inner node that is covered is promised
+  pub covered_inner : (leaves : ℕ) (kind : NodeType) → IsTrue (covers promise leaves (Some kind)) → IsTrue (promises promise.inner kind)
+  covered_inner leaves kind h = both (leb leaves promise.leaves) (promises promise.inner kind) h
     where
       both : (t u : Bool) → IsTrue (t && u) → IsTrue u
       both true u h = h
       both false u h = absurd cc
 
+  -- and it still is when the leaf is placed
+  pub inner_promised : (kind : NodeType) → IsTrue (covers promise 1 (Some kind)) → IsTrue (promises (take_leaf promise).inner kind)
+  inner_promised kind h = go promise.leaves refl
+    where
       go : (n : ℕ) → promise.leaves ≡ n → IsTrue (promises (take_leaf promise).inner kind)
       go zero e = let l = leaf_promised (Some kind) h in absurd (omega arith)
-      go (suc n) e = rw e (both (leb 1 promise.leaves) (promises promise.inner kind) h)
+      go (suc n) e = rw e (covered_inner 1 kind h)
 
 -- what is left of a promise that was reserved, or was there
 pub after_reserve : {K V : Type 0} (s r : Nodes K V) (o : Option NodeType) → (IsTrue (covers s.promise 1 o) → r ≡ s) → (IsFalse (covers s.promise 1 o) → r.promise ≡ record { leaves = 1; inner = o }) →

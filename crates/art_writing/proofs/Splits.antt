@@ -11,7 +11,7 @@ use Rattle.art_nodes.specs.declared.node.LeafPtr.{LeafPtr}
 use Rattle.art_nodes.specs.declared.node.LeafNode.{LeafNode}
 use Rattle.art_nodes.specs.declared.node.OpaqueNodePtr.{OpaqueNodePtr}
 use Rattle.art_nodes.proofs.StoreLaws.{inner_changed_elsewhere}
-use Rattle.art_model.specs.Canonical.{IsTree}
+use Rattle.art_model.specs.Canonical.{IsCanonicalTree}
 use Rattle.art_model.specs.Footprints.{IsIn}
 use Rattle.art_model.specs.Keys.{IsFront}
 use Rattle.art_model.specs.Layouts.{inner_node, slots_of, names_of, Holds}
@@ -19,7 +19,7 @@ use Rattle.art_model.specs.Paths.{Frame, plug}
 use Rattle.art_model.specs.Places.{depth_of, least_key, prefix_of}
 use Rattle.art_model.specs.Radix.{bytes_of}
 use Rattle.art_model.specs.Stores.{node_at, links_at, pair_of}
-use Rattle.art_model.specs.Trees.{Tree, leaf, inner, Children, Header, header_of}
+use Rattle.art_model.specs.Trees.{Tree, leaf, inner, Subtrees, NodeHeader, canonical_header}
 use Rattle.art_model.specs.Writes.{Inners, as_inner, parent_of}
 use Rattle.art_model.proofs.Branches.{BranchStored, leaf_branched, prefix_branched, header_touches, branch_touches}
 use Rattle.art_model.proofs.Canonical.{IsLaidOut}
@@ -33,7 +33,7 @@ use Rattle.art_writing.specs.declared.insert.InsertResult.{InsertResult}
 use Rattle.art_writing.specs.declared.insert.branch.Branch.{Branch}
 use Rattle.art_model.proofs.Writes.{inner_at, inner_name_one}
 use Rattle.art_reading.specs.declared.path.ExplicitMismatch.{ExplicitMismatch}
-use Rattle.art_writing.specs.Branches.{IsBranch, IsPlaced}
+use Rattle.art_writing.specs.Branches.{IsBranch, IsBranchPlaced}
 use Rattle.art_writing.specs.Inserted.{IsInserted, IsChange, Touches}
 use Rattle.art_writing.specs.Points.{AnswersTo}
 use Rattle.art_writing.specs.Writes.{HasChild, SameNodes}
@@ -54,15 +54,17 @@ module _ {K V : Type 0} {bytes : K × V → List ℕ} {P : ℕ} {s t : Nodes K V
       (sym is) (λ old stored way. leaf_branched old stored way)
 
   -- the node in the hole is an inner node, whose prefix goes on after the part with a byte and a rest
-  prefix_inserted : (k : OpaqueNodePtr) (h : Header) (cs : Children OpaqueNodePtr (K × V)) (rest : List ℕ) →
+  prefix_inserted : (k : OpaqueNodePtr) (h : NodeHeader) (cs : Subtrees OpaqueNodePtr (K × V)) (rest : List ℕ) →
       mid ≡ change s.inners (as_inner k) (with_header (record { len = length rest; stored = take P rest })) → (node : Tree OpaqueNodePtr (K × V)) → node ≡ inner k h cs →
       IsLaidOut bytes P (node_at s) (links_at s) root pairs (plug fs node) →
       BranchStored bytes P s t fs place node m n part b c x mid (as_inner k ∷ []) → prefix_of bytes (length place) node ≡ part ++ b ∷ rest →
-      BranchInserted bytes P (node_at s) (node_at t) (links_at s) (links_at t) fs place node (inner k (header_of P rest (length (bytes_of cs))) cs) (inner_name m) (leaf_name n) part b c (pair_of x)
+      BranchInserted bytes P (node_at s) (node_at t) (links_at s) (links_at t) fs place node
+      (inner k (canonical_header P rest (length (bytes_of cs))) cs) (inner_name m) (leaf_name n) part b c (pair_of x)
   prefix_inserted k h cs rest written node is =
       subst (λ z. IsLaidOut bytes P (node_at s) (links_at s) root pairs (plug fs z) →
       BranchStored bytes P s t fs place z m n part b c x mid (as_inner k ∷ []) → prefix_of bytes (length place) z ≡ part ++ b ∷ rest →
-      BranchInserted bytes P (node_at s) (node_at t) (links_at s) (links_at t) fs place z (inner k (header_of P rest (length (bytes_of cs))) cs) (inner_name m) (leaf_name n) part b c (pair_of x))
+      BranchInserted bytes P (node_at s) (node_at t) (links_at s) (links_at t) fs place z
+      (inner k (canonical_header P rest (length (bytes_of cs))) cs) (inner_name m) (leaf_name n) part b c (pair_of x))
       (sym is) (λ old stored prefix. prefix_branched rest written old stored (sym (prefix_is bytes P k h cs place stored.hole.radix) ∙ prefix))
 
 -- a prefix that is as long as the part and more, of what goes on after the part with a byte
@@ -74,11 +76,11 @@ prefix_parts prefix part rest more b whole long =
     sym (take-append-drop (length part + 1) prefix) ∙ ap (λ z. z ++ drop (length part + 1) prefix) front ∙ append_assoc part (b ∷ []) (drop (length part + 1) prefix)
 
 module _ {K V : Type 0} {bytes : K × V → List ℕ} {P : ℕ} {s : Nodes K V} {point : InsertPoint} {pairs : List (K × V)}
-    {layout : Tree OpaqueNodePtr (K × V)} {pair : K × V} (by : IsTree bytes P s point.root pairs layout)
+    {layout : Tree OpaqueNodePtr (K × V)} {pair : K × V} (by : IsCanonicalTree bytes P s point.root pairs layout)
     (at : AnswersTo bytes P layout (bytes pair) point) {branch : Branch P} (is : IsBranch bytes (bytes pair) at.path at.node branch)
     {mid t : Nodes K V} {done : InsertResult K V} where
   module _ {p : LeafPtr} {used : ℕ} (kind : point.insert_kind ≡ SplitLeaf p used) {old : OpaqueNodePtr} (named : old ≡ leaf_name p)
-      (same : SameNodes s mid) (placed : IsPlaced mid t point old branch pair done) where
+      (same : SameNodes s mid) (placed : IsBranchPlaced mid t point old branch pair done) where
     leaf_stored : BranchStored bytes P s t at.path (take (depth_of at.path) (bytes pair)) at.node placed.node done.leaf_node_ptr is.part
         branch.old_byte branch.new_byte (record { key = pair.0; value = pair.1; previous = branch.previous; next = branch.next }) mid.inners []
     leaf_stored = branch_stored by at is placed same.0 (subst (λ z. Touched s.inners z [] [] []) (sym same.1) (touched_none s.inners)) tt (λ k i. absurd i) (leaf_named by at kind ∙ sym named)
@@ -97,7 +99,7 @@ module _ {K V : Type 0} {bytes : K × V → List ℕ} {P : ℕ} {s : Nodes K V} 
   module _ {p : InnerPtr} {mismatch : ExplicitMismatch} (kind : point.insert_kind ≡ MismatchPrefix mismatch p) {old : OpaqueNodePtr}
       (named : old ≡ inner_name p) {header : Prefix} (leaves : mid.leaves ≡ s.leaves) (inners : mid.inners ≡ change s.inners p (with_header header))
       (header_is : header ≡ whole_header P (drop (mismatch.matched_bytes + 1) (prefix_of bytes (depth_of at.path) at.node)))
-      (len : branch.header.len ≡ mismatch.matched_bytes) (placed : IsPlaced mid t point old branch pair done) where
+      (len : branch.header.len ≡ mismatch.matched_bytes) (placed : IsBranchPlaced mid t point old branch pair done) where
     abbrev rest : List ℕ
     rest = drop (mismatch.matched_bytes + 1) (prefix_of bytes (depth_of at.path) at.node)
 
@@ -143,7 +145,7 @@ module _ {K V : Type 0} {bytes : K × V → List ℕ} {P : ℕ} {s : Nodes K V} 
 
 -- the header of a node is written
 module _ {K V : Type 0} {bytes : K × V → List ℕ} {P : ℕ} {s : Nodes K V} {key : List ℕ} {point : InsertPoint} {pairs : List (K × V)}
-    {layout : Tree OpaqueNodePtr (K × V)} (by : IsTree bytes P s point.root pairs layout) (at : AnswersTo bytes P layout key point) where
+    {layout : Tree OpaqueNodePtr (K × V)} (by : IsCanonicalTree bytes P s point.root pairs layout) (at : AnswersTo bytes P layout key point) where
   -- the parent has a child under its byte when the node's header is written
   pub parent_stays : {after : Inners} {p : InnerPtr} {mismatch : ExplicitMismatch} (header : Prefix) → point.insert_kind ≡ MismatchPrefix mismatch p →
       after ≡ change s.inners p (with_header header) → HasChild after (last_step point.path)

@@ -14,13 +14,13 @@ use Rattle.art_nodes.specs.declared.node.OpaqueNodePtr.{OpaqueNodePtr}
 use Rattle.art_nodes.specs.declared.node.LeafNode.{LeafNode}
 use Rattle.art_model.specs.Keys.{IsFront, are_related, common_front}
 use Rattle.art_model.specs.Pairs.{is_conflict}
-use Rattle.art_model.specs.Trees.{Tree, leaf, inner, Children, child, no_child, header_of}
+use Rattle.art_model.specs.Trees.{Tree, leaf, inner, Subtrees, child, no_child, canonical_header}
 use Rattle.art_model.specs.Radix.{IsRadix, AreRadix, bytes_of, pairs_of, pairs_below}
 use Rattle.art_model.specs.Layouts.{names_of, slots_of, Holds, AreDistinct}
 use Rattle.art_model.specs.Stores.{node_at, header_at, pair_of}
 use Rattle.art_model.specs.Paths.{Frame, plug, fill, names_before, names_after}
 use Rattle.art_model.specs.Places.{places, depth_of, prefix_of, IsEndNode}
-use Rattle.art_model.specs.Canonical.{IsTree}
+use Rattle.art_model.specs.Canonical.{IsCanonicalTree}
 use Rattle.art_model.proofs.Fronts.{ArePart, front_right, part_where}
 use Rattle.art_model.proofs.Lists.{Each-append, Each-weaker, common_front_right, front_trans, after_front, common_front-append}
 use Rattle.art_model.proofs.Keys.{front_related}
@@ -63,7 +63,7 @@ module _ {A : Type 0} (bytes : A → List ℕ) (P : ℕ) (key : List ℕ) (node 
       omega (arith, simp length-append at l)
 
 module _ {K V : Type 0} {s : Nodes K V} {bytes : K × V → List ℕ} {P : ℕ} {root : OpaqueNodePtr} {pairs : List (K × V)}
-    {layout : Tree OpaqueNodePtr (K × V)} (by : IsTree bytes P s root pairs layout) where
+    {layout : Tree OpaqueNodePtr (K × V)} (by : IsCanonicalTree bytes P s root pairs layout) where
   pub start : (key : List ℕ) → IsAt bytes P key layout (record { path = Root; name = root; depth = 0 })
   start key = record { frames = []; place = []; node = layout; whole = refl; leads = refl; radix = (tree_radix by).0; on_way = (key, refl); named = by.stands.0.named; depth_is = refl; path_is = refl }
 
@@ -229,7 +229,7 @@ module _ {K V : Type 0} {s : Nodes K V} {bytes : K × V → List ℕ} {P : ℕ} 
       short_conflict : IsFront key front → is_conflict bytes key pairs ≡ true
       short_conflict short = below ∙ go at.children radix.2 radix.4
         where
-          go : (cs : Children OpaqueNodePtr (K × V)) → 2 ≤ length (bytes_of cs) → AreRadix bytes P front cs → is_conflict bytes key (pairs_below cs) ≡ true
+          go : (cs : Subtrees OpaqueNodePtr (K × V)) → 2 ≤ length (bytes_of cs) → AreRadix bytes P front cs → is_conflict bytes key (pairs_below cs) ≡ true
           go no_child two h = absurd (omega arith)
           go (child b t cs) two h =
               let (x, xs, e) = radix_some bytes P t (front ++ b ∷ []) h.0 in
@@ -280,7 +280,7 @@ module _ {K V : Type 0} {s : Nodes K V} {bytes : K × V → List ℕ} {P : ℕ} 
           next : IsFront (front ++ get_or key (length front) 0 ∷ []) key
           next = front_byte front key on_way (let u = used in omega arith)
 
-          unrelated : (cs : Children OpaqueNodePtr (K × V)) → AreRadix bytes P front cs → Each (λ b. b ≢ get_or key (length front) 0) (bytes_of cs) →
+          unrelated : (cs : Subtrees OpaqueNodePtr (K × V)) → AreRadix bytes P front cs → Each (λ b. b ≢ get_or key (length front) 0) (bytes_of cs) →
               Each (λ x. are_related key (bytes x) ≡ false) (pairs_below cs)
           unrelated no_child h others = tt
           unrelated (child b t cs) h others = Each-append (λ x. are_related key (bytes x) ≡ false) (pairs_of t) (pairs_below cs)
@@ -311,10 +311,10 @@ module _ {K V : Type 0} {s : Nodes K V} {bytes : K × V → List ℕ} {P : ℕ} 
               let filled : here ≡ fill f u.tree = ap (inner (inner_name p) (header_at p.kind shown)) u.whole in
               let node : IsRadix bytes P d.place (fill f u.tree) = (
                 radix.0,
-                subst (λ cs. header_at p.kind shown ≡ header_of P radix.0 (length (bytes_of cs))) u.whole radix.1,
+                subst (λ cs. header_at p.kind shown ≡ canonical_header P radix.0 (length (bytes_of cs))) u.whole radix.1,
                 subst
                     (λ cs. 2 ≤ length (bytes_of cs)) u.whole radix.2,
-                subst (λ cs. Rattle.art_model.specs.Radix.IsRising (bytes_of cs)) u.whole radix.3,
+                subst (λ cs. Rattle.art_model.specs.Radix.BytesRise (bytes_of cs)) u.whole radix.3,
                 subst (AreRadix bytes P front) u.whole radix.4,
               ) in
               let down = path_down bytes P d.frames d.place f u.tree d.leads node in

@@ -1,13 +1,14 @@
 -- Paths of code and of the model: the last step, the roots that are told, and the same one step up.
 use Rattle.std.proofs.Common.{◌≡◌, ◌≢◌, ℕ, List, [], ◌∷◌, Some, refl}
+use Rattle.art_nodes.specs.Names.{inner_name}
+use Rattle.art_nodes.specs.declared.node.InnerPtr.{InnerPtr}
 use Rattle.art_nodes.specs.declared.node.OpaqueNodePtr.{OpaqueNodePtr}
 use Rattle.art_model.specs.Paths.{Frame}
 use Rattle.art_model.specs.Writes.{as_inner, parent_of}
 use Rattle.art_model.proofs.Paths as paths
 use Rattle.art_writing.specs.Deleted.{IsRootAfter, IsTopAfter, ParentChange, no_parent, keeps, shrinks, is_compressed}
 use Rattle.art_writing.specs.Inserted.{root_after}
-use Rattle.art_reading.specs.Paths.{last_step, path_of, step_down, up}
-use Rattle.art_writing.specs.Writes.{root_with}
+use Rattle.art_reading.specs.Paths.{last_step, path_of, step_down, up, root_with}
 use Rattle.art_writing.specs.declared.insert.InsertParentNodeChange.TheVariants.{NewParent}
 use Rattle.art_writing.specs.declared.insert.InsertPoint.{InsertPoint}
 use Rattle.art_reading.specs.declared.path.TreePath.{TreePath}
@@ -35,7 +36,7 @@ module _ {A : Type 0} where
       down (Normal grandparent c parent b) = refl
 
 -- it is the root by what is told of the parent
-pub root_told : (point : InsertPoint) (path : TreePath) (node : OpaqueNodePtr) (byte : ℕ) → root_with path point.root node ≡ root_after (record point { path = path }) (NewParent node byte)
+pub root_told : (point : InsertPoint) (path : TreePath) (node : InnerPtr) (byte : ℕ) → root_with path point.root (inner_name node) ≡ root_after (record point { path = path }) (NewParent node byte)
 root_told point Root node byte = refl
 root_told point (ChildOfRoot parent b) node byte = refl
 root_told point (Normal grandparent above parent b) node byte = refl

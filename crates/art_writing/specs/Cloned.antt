@@ -1,4 +1,4 @@
--- What is told of a tree that was copied into another store.
+-- What is told of a tree that was copied into another store. No public clause cites this module.
 use Rattle.std.specs.Prelude.{◌≡◌, Some, None}
 use Rattle.art_nodes.specs.Names.{leaf_name}
 use Rattle.art_nodes.specs.Nodes.{Nodes}
@@ -11,7 +11,8 @@ use Rattle.art_model.specs.Promises.{tree_taken}
 use Rattle.art_writing.specs.declared.clone.CloneResult.{CloneResult}
 
 -- The store gained a tree of the first one's form with clones of its pairs, which is taken from its promise; the root and the ends of the leaves are named.
-pub record IsCopied {K V : Type 0} (IsClone : K × V → K × V → Type 0) (tree : Tree OpaqueNodePtr (K × V)) (old new : Nodes K V) (done : CloneResult) : Type 0 where
+pub record IsCopied {K V : Type 0} (IsClone : K × V → K × V → Type 0) (tree : Tree OpaqueNodePtr (K × V))
+    (old new : Nodes K V) (done : CloneResult) : Type 0 where
   pub copy : Tree OpaqueNodePtr (K × V)
   pub named : name_of copy ≡ done.root
   pub same : IsCopy IsClone tree copy

@@ -7,7 +7,7 @@ use Rattle.art_nodes.specs.Nodes.{Nodes, Promise}
 use Rattle.art_nodes.specs.declared.node.NodeType.{NodeType}
 use Rattle.art_nodes.specs.declared.node.NodeType.TheVariants.{Node4}
 use Rattle.art_nodes.specs.declared.node.OpaqueNodePtr.{OpaqueNodePtr}
-use Rattle.art_model.specs.Canonical.{IsTree}
+use Rattle.art_model.specs.Canonical.{IsCanonicalTree}
 use Rattle.art_model.specs.Footprints.{TouchesAtMost}
 use Rattle.art_model.specs.Kept.{ChangesInPlace}
 use Rattle.art_model.specs.Pairs.{remove_key}
@@ -35,7 +35,9 @@ IsDeletePoint tree pair point = ⊥
 
 -- the point answers to the store and the root
 abbrev pub IsDeletePointIn : {K V : Type 0} → (K × V → List ℕ) → ℕ → Nodes K V → OpaqueNodePtr → DeletePoint → Type 0
-IsDeletePointIn {K} {V} bytes P s root point = (pairs : List (K × V)) × (layout : Tree OpaqueNodePtr (K × V)) × (x : K × V) × IsTree bytes P s root pairs layout × LeadsTo layout x point
+IsDeletePointIn {K} {V} bytes P s root point =
+    (pairs : List (K × V)) × (layout : Tree OpaqueNodePtr (K × V)) × (x : K × V) ×
+    IsCanonicalTree bytes P s root pairs layout × LeadsTo layout x point
 
 -- what becomes of a leaf's parent when the leaf goes: there is none; it keeps its kind; a node of the next smaller kind takes its place; its other child does
 pub data ParentChange : Type 0 where
@@ -54,12 +56,16 @@ module _ {K V : Type 0} where
   abbrev pub parent_change : Nodes K V → TreePath → ParentChange
   parent_change s path = elim (last_step path) [
     | None ↦ no_parent
-    | Some (parent, byte) ↦ elim (map.get s.inners parent) [ None ↦ no_parent | Some node ↦ change_of parent.kind (length node.children) ]
+    | Some (parent, byte) ↦
+        elim (map.get s.inners parent) [ None ↦ no_parent | Some node ↦ change_of parent.kind (length node.children) ]
   ]
 
   -- the nodes that a deletion places: the smaller one that takes the parent's place
   abbrev pub placed_for_deletion : Nodes K V → TreePath → Promise
-  placed_for_deletion s path = elim (parent_change s path) [ shrinks kind ↦ record { leaves = 0; inner = Some kind } | _ ↦ record { leaves = 0; inner = None } ]
+  placed_for_deletion s path = elim (parent_change s path) [
+    | shrinks kind ↦ record { leaves = 0; inner = Some kind }
+    | _ ↦ record { leaves = 0; inner = None }
+  ]
 
   -- how many names a deletion places, frees and changes at most
   abbrev pub TouchesFor : ParentChange → Nodes K V → Nodes K V → Type 0
@@ -80,7 +86,8 @@ IsRootAfter change (ChildOfRoot parent byte) root new = IsTopAfter change root n
 IsRootAfter change (Normal grandparent above parent byte) root new = new ≡ Some root
 
 -- The root is canonical for the pairs without the one of the point; its pair is answered as a leaf alone; the rest stays.
-pub record IsDeleted {K V : Type 0} (bytes : K × V → List ℕ) (P : ℕ) (s t : Nodes K V) (root : OpaqueNodePtr) (point : DeletePoint) (x : K × V)
+pub record IsDeleted {K V : Type 0} (bytes : K × V → List ℕ) (P : ℕ) (s t : Nodes K V) (root : OpaqueNodePtr)
+    (point : DeletePoint) (x : K × V)
     (pairs : List (K × V)) (layout : Tree OpaqueNodePtr (K × V)) (done : DeleteResult K V) : Type 0 where
   pub tree : Option (Tree OpaqueNodePtr (K × V))
   pub canonical : IsRootOf bytes P t done.new_root (remove_key bytes (bytes x) pairs) tree

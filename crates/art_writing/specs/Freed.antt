@@ -1,4 +1,4 @@
--- The nodes below a name that go, with the leaves or without them.
+-- The nodes below a name that go, with the leaves or without them. No public clause cites this module.
 use Rattle.std.specs.Prelude.{◌≡◌, ℕ, Bool, true, cond, List, [], ◌∷◌, ◌++◌, length}
 use Rattle.std.specs.List.{AllByRecursion as Each}
 use Rattle.art_nodes.specs.Inner.{Inner}
@@ -7,7 +7,7 @@ use Rattle.art_nodes.specs.declared.node.OpaqueNodePtr.{OpaqueNodePtr}
 use Rattle.art_model.specs.Layouts.{IsLayout, leaf_names}
 use Rattle.art_model.specs.Pairs.{without_first}
 use Rattle.art_model.specs.Stores.{IsUsed, shape_at}
-use Rattle.art_model.specs.Trees.{Tree, leaf, inner, Children, child, no_child}
+use Rattle.art_model.specs.Trees.{Tree, leaf, inner, Subtrees, child, no_child}
 
 -- a node without its first child
 abbrev pub without_first_child : Inner → Inner
@@ -20,7 +20,7 @@ module _ {N A : Type 0} (leaves_too : Bool) where
     going (leaf n x) = cond leaves_too (n ∷ []) []
     going (inner n h cs) = n ∷ going_below cs
 
-    pub going_below : Children N A → List N
+    pub going_below : Subtrees N A → List N
     going_below no_child = []
     going_below (child b t cs) = going t ++ going_below cs
 
@@ -29,6 +29,7 @@ module _ {N A : Type 0} (leaves_too : Bool) where
   leaves_going t = cond leaves_too (length (leaf_names t)) 0
 
 -- The name stands for a tree without leaves, and the leaves are there where they are to go too.
-pub record CanGo {K V : Type 0} (s : Nodes K V) (leaves_too : Bool) (root : OpaqueNodePtr) (shape : Tree OpaqueNodePtr (Unit {0})) : Type 0 where
+pub record CanGo {K V : Type 0} (s : Nodes K V) (leaves_too : Bool) (root : OpaqueNodePtr)
+    (shape : Tree OpaqueNodePtr (Unit {0})) : Type 0 where
   pub layout : IsLayout (shape_at s) root shape
   pub leaves : leaves_too ≡ true → Each (IsUsed s) (leaf_names shape)

@@ -1,15 +1,15 @@
 -- What an applied insert point places and touches, and what it leaves.
-use Rattle.std.specs.Prelude.{◌≡◌, ◌<◌, ℕ, IfSome, Bool, false, cond, leb, List, length, Option, Some, None}
+use Rattle.std.specs.Prelude.{◌≡◌, ℕ, Bool, false, cond, leb, List, length, Option, Some, None}
 use Rattle.std.specs.Option.{option_map}
 use Rattle.std.specs.FinMap as map
-use Rattle.art_nodes.specs.Kinds.{kind_capacity, larger_kind}
+use Rattle.art_nodes.specs.Kinds.{kind_capacity, next_larger}
 use Rattle.art_nodes.specs.Names.{leaf_name, inner_name}
 use Rattle.art_nodes.specs.Nodes.{Nodes, Promise}
 use Rattle.art_nodes.specs.declared.node.NodeType.TheVariants.{Node4}
 use Rattle.art_nodes.specs.declared.node.InnerPtr.{InnerPtr}
 use Rattle.art_nodes.specs.declared.node.LeafNode.{LeafNode}
 use Rattle.art_nodes.specs.declared.node.OpaqueNodePtr.{OpaqueNodePtr}
-use Rattle.art_model.specs.Canonical.{IsTree}
+use Rattle.art_model.specs.Canonical.{IsCanonicalTree}
 use Rattle.art_model.specs.Footprints.{TouchesAtMost}
 use Rattle.art_model.specs.Kept.{ChangesInPlace}
 use Rattle.art_model.specs.Pairs.{put, put_reply, stored_for}
@@ -27,7 +27,9 @@ use Rattle.art_writing.specs.Points.{AnswersTo}
 
 -- the point answers to the store, the root that it names, and the key
 abbrev pub IsPointIn : {K V : Type 0} → (K × V → List ℕ) → ℕ → Nodes K V → List ℕ → InsertPoint → Type 0
-IsPointIn {K} {V} bytes P s key point = (pairs : List (K × V)) × (layout : Tree OpaqueNodePtr (K × V)) × IsTree bytes P s point.root pairs layout × AnswersTo bytes P layout key point
+IsPointIn {K} {V} bytes P s key point =
+    (pairs : List (K × V)) × (layout : Tree OpaqueNodePtr (K × V)) ×
+    IsCanonicalTree bytes P s point.root pairs layout × AnswersTo bytes P layout key point
 
 -- a leaf with no leaves beside it
 abbrev pub alone : {K V : Type 0} → K × V → LeafNode K V
@@ -36,12 +38,13 @@ alone pair = record { key = pair.0; value = pair.1; previous = None; next = None
 module _ {K V : Type 0} where
   -- whether a node has as many children as its kind has room for
   abbrev pub is_full : Nodes K V → InnerPtr → Bool
-  is_full s name = elim (map.get s.inners name) [ None ↦ false | Some node ↦ leb (kind_capacity name.kind) (length node.children) ]
+  is_full s name =
+      elim (map.get s.inners name) [ None ↦ false | Some node ↦ leb (kind_capacity name.kind) (length node.children) ]
 
   -- the nodes that an insertion of each kind places: the leaf, and the inner node above it where that is a new one
   abbrev pub placed_for : Nodes K V → InsertKind → Promise
   placed_for s (Exact p) = record { leaves = 0; inner = None }
-  placed_for s (IntoExisting p) = record { leaves = 1; inner = cond (is_full s p) (Some (larger_kind p.kind)) None }
+  placed_for s (IntoExisting p) = record { leaves = 1; inner = cond (is_full s p) (next_larger p.kind) None }
   placed_for s kind = record { leaves = 1; inner = Some Node4 }
 
   -- how many names an insertion of each kind places, frees and changes at most
@@ -51,34 +54,31 @@ module _ {K V : Type 0} where
   Touches (IntoExisting p) s t = cond (is_full s p) (TouchesAtMost 2 1 3 s t) (TouchesAtMost 1 0 3 s t)
   Touches (MismatchPrefix mismatch p) s t = TouchesAtMost 2 0 4 s t
 
-  -- the node that gets a child more has fewer children than there are bytes
-  abbrev pub HasByteLeft : Nodes K V → InsertKind → Type 0
-  HasByteLeft s (IntoExisting p) = IfSome (map.get s.inners p) (λ node. length node.children < 256)
-  HasByteLeft s kind = Unit {0}
-
 -- what is told of the leaf's parent: nothing where a value was replaced, and else its name and the leaf's byte there
 abbrev pub IsChange : InsertKind → Option (InnerPtr × ℕ) → InsertParentNodeChange → Type 0
 IsChange (Exact p) parent told = told ≡ NoChange
 IsChange kind None told = ⊥
-IsChange kind (Some parent) told = told ≡ NewParent (inner_name parent.0) parent.1
+IsChange kind (Some parent) told = told ≡ NewParent parent.0 parent.1
 
 -- the root after an insertion: the leaf's parent where the point's node was the root and has a parent told, and else the old root
 abbrev pub root_after : InsertPoint → InsertParentNodeChange → OpaqueNodePtr
 root_after point NoChange = point.root
-root_after point (NewParent parent byte) = elim point.path [ Root ↦ parent | _ ↦ point.root ]
+root_after point (NewParent parent byte) = elim point.path [ Root ↦ inner_name parent | _ ↦ point.root ]
 
 -- The tree has the pair's leaf under the name that is answered, and root and parent are told by the leaf's path.
-pub record HasInserted {K V : Type 0} (tree : Tree OpaqueNodePtr (K × V)) (point : InsertPoint) (pair : K × V) (done : InsertResult K V) : Type 0 where
+pub record HasInserted {K V : Type 0} (tree : Tree OpaqueNodePtr (K × V)) (point : InsertPoint)
+    (pair : K × V) (done : InsertResult K V) : Type 0 where
   pub path : List (Frame OpaqueNodePtr (K × V))
   pub whole : plug path (leaf (leaf_name done.leaf_node_ptr) pair) ≡ tree
   pub change : IsChange point.insert_kind (parent_of path) done.parent_node_change
   pub root : done.new_root ≡ root_after point done.parent_node_change
 
 -- The root is canonical for the pairs with the new one; where the key was stored it is answered with the old value, as a leaf alone; the rest stays.
-pub record IsInserted {K V : Type 0} (bytes : K × V → List ℕ) (P : ℕ) (s t : Nodes K V) (point : InsertPoint) (pair : K × V) (pairs : List (K × V))
+pub record IsInserted {K V : Type 0} (bytes : K × V → List ℕ) (P : ℕ) (s t : Nodes K V) (point : InsertPoint)
+    (pair : K × V) (pairs : List (K × V))
     (layout : Tree OpaqueNodePtr (K × V)) (done : InsertResult K V) : Type 0 where
   pub tree : Tree OpaqueNodePtr (K × V)
-  pub canonical : IsTree bytes P t done.new_root (put bytes pair pairs) tree
+  pub canonical : IsCanonicalTree bytes P t done.new_root (put bytes pair pairs) tree
   pub inserted : HasInserted tree point (stored_for bytes pair pairs) done
   pub replaced : done.existing_leaf ≡ option_map alone (put_reply bytes pair pairs)
   pub kept : ChangesInPlace bytes s t (Some layout) (Some tree)

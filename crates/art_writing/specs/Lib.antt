@@ -1,8 +1,25 @@
-pub mod Points
+-- what changes speak of: pairs, canonical roots, and what a change keeps, touches and takes of a promise
+pub use Rattle.art_model.specs.Pairs
+pub use Rattle.art_model.specs.Clones
+pub use Rattle.art_model.specs.Trees
+pub use Rattle.art_model.specs.Layouts
+pub use Rattle.art_model.specs.Stores
+pub use Rattle.art_model.specs.Canonical
+pub use Rattle.art_model.specs.Roots
+pub use Rattle.art_model.specs.Lookups
+pub use Rattle.art_model.specs.Kept
+pub use Rattle.art_model.specs.Footprints
+pub use Rattle.art_model.specs.Promises
+pub use Rattle.art_reading.specs.Matching
+pub use Rattle.art_reading.specs.Paths
+-- the parent that a path ends with, and the leaves beside one
 pub mod Writes
-pub mod Freed
+-- insertion
+pub mod Points
 pub mod Inserted
-pub mod Overwritten
 pub mod Branches
+pub mod Overwritten
+-- deletion, the freeing of trees, and copies
 pub mod Deleted
+pub mod Freed
 pub mod Cloned

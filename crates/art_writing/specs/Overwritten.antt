@@ -6,7 +6,7 @@ use Rattle.art_nodes.specs.Nodes.{Nodes, Promise}
 use Rattle.art_nodes.specs.declared.node.NodeType.{NodeType}
 use Rattle.art_nodes.specs.declared.node.NodeType.TheVariants.{Leaf}
 use Rattle.art_nodes.specs.declared.node.OpaqueNodePtr.{OpaqueNodePtr}
-use Rattle.art_model.specs.Canonical.{IsTree}
+use Rattle.art_model.specs.Canonical.{IsCanonicalTree}
 use Rattle.art_model.specs.Footprints.{TouchesAtMost, PlacesOneFor}
 use Rattle.art_model.specs.Kept.{ChangesInPlace}
 use Rattle.art_model.specs.Layouts.{names_of}
@@ -21,11 +21,12 @@ use Rattle.art_writing.specs.declared.insert.OverwritePoint.{OverwritePoint}
 use Rattle.art_writing.specs.declared.insert.PrefixInsertPoint.{PrefixInsertPoint}
 use Rattle.art_writing.specs.declared.insert.PrefixInsertPoint.TheVariants as points
 use Rattle.art_writing.specs.declared.insert.PrefixInsertResult.{PrefixInsertResult}
-use Rattle.art_writing.specs.Inserted.{HasByteLeft, HasInserted, IsPointIn, Touches, alone, placed_for}
+use Rattle.art_writing.specs.Inserted.{HasInserted, IsPointIn, Touches, alone, placed_for}
 use Rattle.art_writing.specs.Points.{AnswersToOverwrite}
 
 -- The tree has a subtree with the pairs whose keys are related to this one, and no others; a leaf was placed for its nodes, which are freed, and at most three others are changed.
-pub record TouchesRelated {K V : Type 0} (bytes : K × V → List ℕ) (key : List ℕ) (s t : Nodes K V) (tree : Option (Tree OpaqueNodePtr (K × V))) : Type 0 where
+pub record TouchesRelated {K V : Type 0} (bytes : K × V → List ℕ) (key : List ℕ) (s t : Nodes K V)
+    (tree : Option (Tree OpaqueNodePtr (K × V))) : Type 0 where
   pub path : List (Frame OpaqueNodePtr (K × V))
   pub node : Tree OpaqueNodePtr (K × V)
   pub whole : tree ≡ Some (plug path node)
@@ -35,10 +36,13 @@ pub record TouchesRelated {K V : Type 0} (bytes : K × V → List ℕ) (key : Li
 module _ {K V : Type 0} where
   -- the point answers to the store, the root that it names, and the key
   abbrev pub IsOverwritePointIn : (K × V → List ℕ) → ℕ → Nodes K V → List ℕ → OverwritePoint → Type 0
-  IsOverwritePointIn bytes P s key point = (pairs : List (K × V)) × (layout : Tree OpaqueNodePtr (K × V)) × IsTree bytes P s point.root pairs layout × AnswersToOverwrite bytes layout key point
+  IsOverwritePointIn bytes P s key point =
+      (pairs : List (K × V)) × (layout : Tree OpaqueNodePtr (K × V)) ×
+      IsCanonicalTree bytes P s point.root pairs layout × AnswersToOverwrite bytes layout key point
 
   -- what an overwrite touches, by the kind of the node that gives way: the leaf, whose pair is replaced; or the whole subtree
-  abbrev pub TouchesForNode : NodeType → (K × V → List ℕ) → List ℕ → Nodes K V → Nodes K V → Tree OpaqueNodePtr (K × V) → Type 0
+  abbrev pub TouchesForNode : NodeType → (K × V → List ℕ) → List ℕ → Nodes K V → Nodes K V →
+      Tree OpaqueNodePtr (K × V) → Type 0
   TouchesForNode Leaf bytes key s t layout = TouchesAtMost 0 0 1 s t
   TouchesForNode kind bytes key s t layout = TouchesRelated bytes key s t (Some layout)
 
@@ -48,16 +52,18 @@ placed_for_overwrite Leaf = record { leaves = 0; inner = None }
 placed_for_overwrite kind = record { leaves = 1; inner = None }
 
 -- The tree has the pair's leaf under the name that is answered, which is its old name where a leaf's pair was replaced; nothing is told of its parent.
-pub record HasOverwritten {K V : Type 0} (tree : Tree OpaqueNodePtr (K × V)) (point : OverwritePoint) (pair : K × V) (done : InsertResult K V) : Type 0 where
+pub record HasOverwritten {K V : Type 0} (tree : Tree OpaqueNodePtr (K × V)) (point : OverwritePoint)
+    (pair : K × V) (done : InsertResult K V) : Type 0 where
   pub has : HasLeaf tree (leaf_name done.leaf_node_ptr) pair
   pub kept : point.overwrite_point.kind ≡ Leaf → leaf_name done.leaf_node_ptr ≡ point.overwrite_point
   pub change : done.parent_node_change ≡ NoChange
 
 -- The root is canonical for the pairs with the new one in the place of all with related keys; the answer tells what gave way; the rest stays.
-pub record IsOverwritten {K V : Type 0} (bytes : K × V → List ℕ) (P : ℕ) (s t : Nodes K V) (point : OverwritePoint) (pair : K × V)
+pub record IsOverwritten {K V : Type 0} (bytes : K × V → List ℕ) (P : ℕ) (s t : Nodes K V)
+    (point : OverwritePoint) (pair : K × V)
     (pairs : List (K × V)) (layout : Tree OpaqueNodePtr (K × V)) (done : PrefixInsertResult K V) : Type 0 where
   pub tree : Tree OpaqueNodePtr (K × V)
-  pub canonical : IsTree bytes P t done.insert_result.new_root (overwrite bytes pair pairs) tree
+  pub canonical : IsCanonicalTree bytes P t done.insert_result.new_root (overwrite bytes pair pairs) tree
   pub leaf : HasOverwritten tree point pair done.insert_result
   pub existing : done.insert_result.existing_leaf ≡ option_map alone (overwrite_reply bytes pair pairs).0
   pub removed : done.leafs_removed ≡ (overwrite_reply bytes pair pairs).1
@@ -73,24 +79,23 @@ module _ {K V : Type 0} where
   IsPrefixPointIn bytes P s key (points.OverwritePoint point) = IsOverwritePointIn bytes P s key point
 
   -- the tree has the leaf of what is stored for the pair under the name that is answered
-  abbrev pub HasCome : (K × V → List ℕ) → List (K × V) → Tree OpaqueNodePtr (K × V) → PrefixInsertPoint → K × V → InsertResult K V → Type 0
-  HasCome bytes pairs tree (points.InsertPoint point) pair done = HasInserted tree point (stored_for bytes pair pairs) done
+  abbrev pub HasCome : (K × V → List ℕ) → List (K × V) → Tree OpaqueNodePtr (K × V) → PrefixInsertPoint →
+      K × V → InsertResult K V → Type 0
+  HasCome bytes pairs tree (points.InsertPoint point) pair done =
+      HasInserted tree point (stored_for bytes pair pairs) done
   HasCome bytes pairs tree (points.OverwritePoint point) pair done = HasOverwritten tree point pair done
 
   -- what is touched
-  abbrev pub TouchesForPrefix : PrefixInsertPoint → (K × V → List ℕ) → List ℕ → Nodes K V → Nodes K V → Tree OpaqueNodePtr (K × V) → Type 0
+  abbrev pub TouchesForPrefix : PrefixInsertPoint → (K × V → List ℕ) → List ℕ → Nodes K V → Nodes K V →
+      Tree OpaqueNodePtr (K × V) → Type 0
   TouchesForPrefix (points.InsertPoint point) bytes key s t layout = Touches point.insert_kind s t
-  TouchesForPrefix (points.OverwritePoint point) bytes key s t layout = TouchesForNode point.overwrite_point.kind bytes key s t layout
+  TouchesForPrefix (points.OverwritePoint point) bytes key s t layout =
+      TouchesForNode point.overwrite_point.kind bytes key s t layout
 
   -- the nodes that are placed
   abbrev pub placed_for_prefix : Nodes K V → PrefixInsertPoint → Promise
   placed_for_prefix s (points.InsertPoint point) = placed_for s point.insert_kind
   placed_for_prefix s (points.OverwritePoint point) = placed_for_overwrite point.overwrite_point.kind
-
-  -- a node that gets a child more has fewer children than there are bytes
-  abbrev pub HasByteLeftFor : Nodes K V → PrefixInsertPoint → Type 0
-  HasByteLeftFor s (points.InsertPoint point) = HasByteLeft s point.insert_kind
-  HasByteLeftFor s (points.OverwritePoint point) = Unit {0}
 
 -- the root that a point names
 abbrev pub root_of : PrefixInsertPoint → OpaqueNodePtr

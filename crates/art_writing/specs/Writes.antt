@@ -1,4 +1,4 @@
--- What the writes of the operations ask and answer: the parent that a path ends with, and the leaves beside one.
+-- What the writes of the operations ask and answer: a child of the parent that a path ends with, and the leaves beside one.
 use Rattle.std.specs.Prelude.{◌≡◌, ◌<◌, ℕ, Option, Some, None, IsSome, IsSomeAnd, IfSome}
 use Rattle.std.specs.List.{AllByRecursion as Each}
 use Rattle.std.specs.FinMap as map
@@ -9,18 +9,11 @@ use Rattle.art_nodes.specs.declared.node.InnerPtr.{InnerPtr}
 use Rattle.art_nodes.specs.declared.node.LeafPtr.{LeafPtr}
 use Rattle.art_nodes.specs.declared.node.OpaqueNodePtr.{OpaqueNodePtr}
 use Rattle.art_model.specs.Lookups.{HasFirstLeaf, HasLastLeaf}
-use Rattle.art_model.specs.Radix.{IsRising, bytes_of, join}
+use Rattle.art_model.specs.Radix.{BytesRise, bytes_of, join}
 use Rattle.art_model.specs.Roots.{IsFullTree}
-use Rattle.art_model.specs.Trees.{Tree, inner, Children, child, no_child, Header}
+use Rattle.art_model.specs.Trees.{Tree, inner, Subtrees, child, no_child, NodeHeader}
 use Rattle.art_model.specs.Writes.{Leaves, Inners, IsThere}
 use Rattle.art_writing.specs.Inserted.{alone}
-use Rattle.art_reading.specs.declared.path.TreePath.{TreePath}
-use Rattle.art_reading.specs.declared.path.TreePath.TheVariants.{Root}
-
--- the root, where the node at the end of the path may be another one
-abbrev pub root_with : TreePath → OpaqueNodePtr → OpaqueNodePtr → OpaqueNodePtr
-root_with Root root node = node
-root_with path root node = root
 
 -- the parent, where there is one, has a child under its byte
 abbrev pub HasChild : Inners → Option (InnerPtr × ℕ) → Type 0
@@ -40,26 +33,36 @@ pub record IsPlanted {K V : Type 0} (s t : Nodes K V) (name : LeafPtr) (pair : K
 
 -- the leaves that a leaf names are there
 abbrev pub LinksAreThere : {K V : Type 0} → Leaves K V → LeafPtr → Type 0
-LinksAreThere leaves name = IfSome (map.get leaves name) (λ leaf. IsThere leaves leaf.previous × IsThere leaves leaf.next)
+LinksAreThere leaves name =
+    IfSome (map.get leaves name) (λ leaf. IsThere leaves leaf.previous × IsThere leaves leaf.next)
 
 -- a new leaf that comes right before a tree's first leaf has these leaves beside it
-abbrev pub ComesBefore : {K V : Type 0} → Nodes K V → Tree OpaqueNodePtr (K × V) → Option LeafPtr → Option LeafPtr → Type 0
-ComesBefore s tree previous next = (first : LeafPtr) × HasFirstLeaf tree (leaf_name first) × (next ≡ Some first) × IsSomeAnd (map.get s.leaves first) (λ leaf. previous ≡ leaf.previous)
+abbrev pub ComesBefore : {K V : Type 0} → Nodes K V → Tree OpaqueNodePtr (K × V) → Option LeafPtr →
+    Option LeafPtr → Type 0
+ComesBefore s tree previous next =
+    (first : LeafPtr) × HasFirstLeaf tree (leaf_name first) × (next ≡ Some first) ×
+    IsSomeAnd (map.get s.leaves first) (λ leaf. previous ≡ leaf.previous)
 
 -- a new leaf that comes right after a tree's last leaf has these leaves beside it
-abbrev pub ComesAfter : {K V : Type 0} → Nodes K V → Tree OpaqueNodePtr (K × V) → Option LeafPtr → Option LeafPtr → Type 0
-ComesAfter s tree previous next = (last : LeafPtr) × HasLastLeaf tree (leaf_name last) × (previous ≡ Some last) × IsSomeAnd (map.get s.leaves last) (λ leaf. next ≡ leaf.next)
+abbrev pub ComesAfter : {K V : Type 0} → Nodes K V → Tree OpaqueNodePtr (K × V) → Option LeafPtr →
+    Option LeafPtr → Type 0
+ComesAfter s tree previous next =
+    (last : LeafPtr) × HasLastLeaf tree (leaf_name last) × (previous ≡ Some last) ×
+    IsSomeAnd (map.get s.leaves last) (λ leaf. next ≡ leaf.next)
 
 -- the name stands for an inner node of a full tree with these children, those on the left under lesser bytes than this one and those on the right under greater ones
-pub record HasGap {K V : Type 0} (s : Nodes K V) (name : InnerPtr) (byte : ℕ) (left right : Children OpaqueNodePtr (K × V)) : Type 0 where
-  pub header : Header
+pub record HasGap {K V : Type 0} (s : Nodes K V) (name : InnerPtr) (byte : ℕ)
+    (left right : Subtrees OpaqueNodePtr (K × V)) : Type 0 where
+  pub header : NodeHeader
   pub full : IsFullTree s (inner_name name) (inner (inner_name name) header (join left right))
-  pub rising : IsRising (bytes_of (join left right))
+  pub rising : BytesRise (bytes_of (join left right))
   pub low : Each (λ c. c < byte) (bytes_of left)
   pub high : Each (λ c. byte < c) (bytes_of right)
 
 -- a new leaf that comes between these children has these leaves beside it: it is right before the first leaf on the right, or right after the last one where there is none
-abbrev pub ComesBetween : {K V : Type 0} → Nodes K V → Children OpaqueNodePtr (K × V) → Children OpaqueNodePtr (K × V) → Option LeafPtr → Option LeafPtr → Type 0
+abbrev pub ComesBetween : {K V : Type 0} → Nodes K V → Subtrees OpaqueNodePtr (K × V) →
+    Subtrees OpaqueNodePtr (K × V) → Option LeafPtr → Option LeafPtr → Type 0
 ComesBetween s left (child b t right) previous next = ComesBefore s t previous next
 ComesBetween {K} {V} s left no_child previous next =
-    (others : Children OpaqueNodePtr (K × V)) × (b : ℕ) × (t : Tree OpaqueNodePtr (K × V)) × (left ≡ join others (child b t no_child)) × ComesAfter s t previous next
+    (others : Subtrees OpaqueNodePtr (K × V)) × (b : ℕ) × (t : Tree OpaqueNodePtr (K × V)) ×
+    (left ≡ join others (child b t no_child)) × ComesAfter s t previous next

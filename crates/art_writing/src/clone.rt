@@ -50,7 +50,8 @@ pub fn clone_unchecked<K: AsBytes + Clone + Drop, V: Clone + Drop, const PREFIX_
     requires root { IsCanonicalRoot (of_key K.bytes) PREFIX_LEN store.now root }
     requires clones { KeepBytes K.bytes K.is_clone }
     ensures canonical { ForTree (of_key K.bytes) PREFIX_LEN store.now root (λ pairs _. IfOk result (λ done.
-        (copies : List (K × V)) × AreClones K.is_clone V.is_clone pairs copies × IsCanonical (of_key K.bytes) PREFIX_LEN into.new (Some done.root) copies)) }
+        (copies : List (K × V)) × AreClones K.is_clone V.is_clone pairs copies ×
+        IsCanonical (of_key K.bytes) PREFIX_LEN into.new (Some done.root) copies)) }
     ensures gained { IfOk result (λ done. ForTree (of_key K.bytes) PREFIX_LEN into.new done.root (λ _ copy.
         KeepsOthers into.old into.new [] (names_of copy))) }
     ensures first { IfOk result (λ done. ForTree (of_key K.bytes) PREFIX_LEN into.new done.root (λ _ copy.
@@ -132,7 +133,8 @@ fn clone_leaf<K: AsBytes + Clone + Drop, V: Clone + Drop, const P: usize>(
 ) -> Result<LeafPtr, AllocError>
     requires { IsSome (map.get store.now.leaves name) }
     ensures placed { IfOk result (λ copy. IsSomeAnd (map.get store.now.leaves name) (λ leaf.
-        (x : LeafNode K V) × IsLeafClone K.is_clone V.is_clone leaf x × (into.new.leaves ≡ map.insert into.old.leaves copy x))) }
+        (x : LeafNode K V) × IsLeafClone K.is_clone V.is_clone leaf x ×
+        (into.new.leaves ≡ map.insert into.old.leaves copy x))) }
     ensures fresh { IfOk result (λ copy. map.get into.old.leaves copy ≡ None) }
     ensures inners { into.new.inners ≡ into.old.inners }
     ensures promise { OnOk result (into.new.promise ≡ take_leaf into.old.promise) }

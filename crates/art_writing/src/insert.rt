@@ -151,7 +151,7 @@ pub enum InsertParentNodeChange {
     /// The parent has a child more, the leaf. It is a new node, or the one that was there where it
     /// had room.
     NewParent {
-        new_parent_node: OpaqueNodePtr,
+        new_parent_node: InnerPtr,
         /// The byte under which the parent has the leaf.
         leaf_node_key_byte: u8,
     },
@@ -212,8 +212,8 @@ pub fn search_for_prefix_insert_point<K: AsBytes + Drop, V: Drop, const PREFIX_L
     };
     'down: loop {
         match next_step(store, root, key_bytes, spot) {
-            Step::Point(point) => return point,
-            Step::Down(below) => spot = below,
+            SearchStep::Point(point) => return point,
+            SearchStep::Down(below) => spot = below,
         }
     }
 }
@@ -240,13 +240,23 @@ struct Spot {
 
 impl Spot {
     ghost use Rattle.art_writing.specs.declared.insert.PrefixInsertPoint.TheVariants as points;
-    ghost use Rattle.art_writing.specs.declared.insert.Step.TheVariants as steps;
+    ghost use Rattle.art_writing.specs.declared.insert.SearchStep.TheVariants as steps;
 
     // The point at this node.
-    fn point(self, root: OpaqueNodePtr, insert_kind: InsertKind, key_bytes_used: usize) -> Step
-        ensures { result ≡ steps.Point (points.InsertPoint (record { path = self.path; insert_kind = insert_kind; key_bytes_used = key_bytes_used; root = root })) }
+    fn point(
+        self,
+        root: OpaqueNodePtr,
+        insert_kind: InsertKind,
+        key_bytes_used: usize,
+    ) -> SearchStep
+        ensures { result ≡ steps.Point (points.InsertPoint (record {
+          path = self.path;
+          insert_kind = insert_kind;
+          key_bytes_used = key_bytes_used;
+          root = root;
+        })) }
     {
-        Step::Point(PrefixInsertPoint::InsertPoint(InsertPoint {
+        SearchStep::Point(PrefixInsertPoint::InsertPoint(InsertPoint {
             path: self.path,
             insert_kind,
             key_bytes_used,
@@ -255,10 +265,15 @@ impl Spot {
     }
 
     // The point at this node where it gives way.
-    fn overwrite(self, root: OpaqueNodePtr, key_bytes_used: usize) -> Step
-        ensures { result ≡ steps.Point (points.OverwritePoint (record { path = self.path; overwrite_point = self.name; key_bytes_used = key_bytes_used; root = root })) }
+    fn overwrite(self, root: OpaqueNodePtr, key_bytes_used: usize) -> SearchStep
+        ensures { result ≡ steps.Point (points.OverwritePoint (record {
+          path = self.path;
+          overwrite_point = self.name;
+          key_bytes_used = key_bytes_used;
+          root = root;
+        })) }
     {
-        Step::Point(PrefixInsertPoint::OverwritePoint(OverwritePoint {
+        SearchStep::Point(PrefixInsertPoint::OverwritePoint(OverwritePoint {
             path: self.path,
             overwrite_point: self.name,
             key_bytes_used,
@@ -269,7 +284,7 @@ impl Spot {
 
 // Where a step on the way down with a key comes to.
 #[derive(Clone, Copy)]
-enum Step {
+enum SearchStep {
     /// The key's point.
     Point(PrefixInsertPoint),
     /// A child that the key goes on with.
@@ -282,7 +297,7 @@ fn next_step<K: AsBytes + Drop, V: Drop, const PREFIX_LEN: usize>(
     root: OpaqueNodePtr,
     key_bytes: &[u8],
     spot: Spot,
-) -> Step
+) -> SearchStep
     requires root { IsCanonicalRoot (of_key K.bytes) PREFIX_LEN store.now root }
     requires spot { ForTree (of_key K.bytes) PREFIX_LEN store.now root (λ pairs layout.
         IsAt (of_key K.bytes) PREFIX_LEN key_bytes.now layout spot) }
@@ -310,7 +325,7 @@ fn step_at_inner<K: AsBytes + Drop, V: Drop, const PREFIX_LEN: usize>(
     key_bytes: &[u8],
     spot: Spot,
     inner: InnerPtr,
-) -> Step
+) -> SearchStep
     requires root { IsCanonicalRoot (of_key K.bytes) PREFIX_LEN store.now root }
     requires spot { ForTree (of_key K.bytes) PREFIX_LEN store.now root (λ pairs layout.
         IsAt (of_key K.bytes) PREFIX_LEN key_bytes.now layout spot) }
@@ -346,7 +361,7 @@ fn step_at_inner<K: AsBytes + Drop, V: Drop, const PREFIX_LEN: usize>(
         };
         return spot.point(root, insert_kind, depth);
     };
-    Step::Down(Spot {
+    SearchStep::Down(Spot {
         path: spot.path.step_down(inner, byte),
         name: child,
         depth: depth + 1,

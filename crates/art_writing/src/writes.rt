@@ -9,8 +9,8 @@ ghost use Rattle.art_nodes.specs.declared.node.OpaqueNodePtr.{OpaqueNodePtr};
 ghost use Rattle.art_model.specs.Roots.{IsFullTree};
 ghost use Rattle.art_model.specs.Trees.{Tree};
 ghost use Rattle.art_writing.specs.Inserted.{alone};
-ghost use Rattle.art_writing.specs.Writes.{ComesAfter, ComesBefore, HasChild, LinksAreThere, root_with};
-ghost use Rattle.art_reading.specs.Paths.{last_step};
+ghost use Rattle.art_writing.specs.Writes.{ComesAfter, ComesBefore, HasChild, LinksAreThere};
+ghost use Rattle.art_reading.specs.Paths.{last_step, root_with};
 
 use art_nodes::node::{AsBytes, LeafNode, LeafPtr, OpaqueNodePtr, OptionalLeafPtr};
 use art_nodes::store::NodeStore;

@@ -4,3 +4,4 @@ pub mod Requests
 pub mod Subtrees
 pub mod Words
 pub mod Replies
+pub mod Walks

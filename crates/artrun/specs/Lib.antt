@@ -2,3 +2,4 @@ pub mod Keys
 pub mod Lines
 pub mod Trees
 pub mod KeptTrees
+pub mod Walks

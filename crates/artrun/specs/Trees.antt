@@ -12,11 +12,13 @@ use Rattle.art_model.specs.Canonical.{IsCanonical}
 
 -- the name stands for a tree in the store
 abbrev pub IsTreeIn : {K V : Type 0} → Nodes K V → OpaqueNodePtr → Type 0
-IsTreeIn {K} {V} s root = ∥ ((layout : Tree OpaqueNodePtr (K × V)) × IsLayout (node_at s) root layout) ∥₁
+IsTreeIn {K} {V} s root = (layout : Tree OpaqueNodePtr (K × V)) × IsLayout (node_at s) root layout
 
 -- the name stands for a tree in the store, whose inner nodes all have children and whose leaves are linked
 abbrev pub IsLinkedTreeIn : {K V : Type 0} → Nodes K V → OpaqueNodePtr → Type 0
-IsLinkedTreeIn {K} {V} s root = (layout : Tree OpaqueNodePtr (K × V)) × IsFullTree s root layout × AreLinked (links_at s) None (leaf_names layout) None
+IsLinkedTreeIn {K} {V} s root =
+    (layout : Tree OpaqueNodePtr (K × V)) × IsFullTree s root layout ×
+    AreLinked (links_at s) None (leaf_names layout) None
 
 -- a key as a vector of bytes
 abbrev pub Key : Type 0

@@ -87,6 +87,3 @@ fn answer(
         Err(AllocError) => write_no_memory(output),
     }
 }
-
-#[cfg(test)]
-mod tests;

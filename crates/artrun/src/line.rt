@@ -63,7 +63,8 @@ impl<'a> Request<'a> {
     /// What a line without its line feed asks for, or None where there is nothing that it asks for.
     pub fn parse(line: &'a [u8]) -> Option<Self>
         ensures line { IfSome result (λ request. line.now ≡ line_of request) }
-        ensures none { IfNone result ((request : Request) → HasSmallValue request → line.now ≢ line_of request) }
+        ensures none { IfNone result ((request : Request) →
+            HasSmallValue request → line.now ≢ line_of request) }
     {
         if let Some(request) = Self::parse_word(line) {
             return Some(request);
@@ -89,7 +90,10 @@ impl<'a> Request<'a> {
     // What a line of one word asks for.
     fn parse_word(line: &[u8]) -> Option<Self>
         ensures line { IfSome result (λ request. line.now ≡ line_of request) }
-        ensures none { IfNone result ((line.now ≢ codes "first") × (line.now ≢ codes "last") × (line.now ≢ codes "clone") × (line.now ≢ codes "walk") × (line.now ≢ codes "back") × (line.now ≢ codes "nodes") × (line.now ≢ codes "check")) }
+        ensures none { IfNone result (
+            (line.now ≢ codes "first") × (line.now ≢ codes "last") × (line.now ≢ codes "clone")
+            × (line.now ≢ codes "walk") × (line.now ≢ codes "back") × (line.now ≢ codes "nodes")
+            × (line.now ≢ codes "check")) }
     {
         if line == b"first".as_slice() {
             return Some(Request::First);
@@ -127,7 +131,8 @@ fn strip<'a>(line: &'a [u8], front: &[u8]) -> Option<&'a [u8]>
 // A key and a value, with a space between them.
 fn parse_pair(words: &[u8]) -> Option<(KeyWord<'_>, u32)>
     ensures pair { IfSome result (λ pair. words.now ≡ pair.0.word.now ++ 32 ∷ decimal pair.1) }
-    ensures none { IfNone result ((key : List ℕ) (value : ℕ) → IsKeyWord key → value < 2 ^ 32 → words.now ≢ key ++ 32 ∷ decimal value) }
+    ensures none { IfNone result ((key : List ℕ) (value : ℕ) → IsKeyWord key → value < 2 ^ 32 →
+        words.now ≢ key ++ 32 ∷ decimal value) }
 {
     let (key, value) = split_word(words)?;
     Some((KeyWord::parse(key)?, parse_number(value)?))

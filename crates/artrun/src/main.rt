@@ -5,6 +5,7 @@ mod engine;
 mod line;
 mod print;
 mod tree;
+mod walk;
 
 use std::io;
 use std::io::{BufReader, BufWriter};

@@ -5,6 +5,7 @@ ghost use Rattle.art_nodes.specs.declared.node.OpaqueNodePtr.{OpaqueNodePtr};
 ghost use Rattle.art_operations.specs.Iterators.{IsIteratorOf};
 ghost use Rattle.artrun.specs.Trees.{IsLinkedTreeIn, IsTreeIn};
 
+use crate::walk::{Pending, reserve_walk, turn};
 use art_nodes::node::{LeafNode, LeafPtr, NodePtr, OpaqueNodePtr};
 use art_nodes::store::NodeStore;
 use art_operations::iterator::RawIterator;
@@ -149,7 +150,7 @@ fn next_leaf<const P: usize>(
 }
 
 /// Writes the nodes of a tree, a line each: the root, and after each inner node its children in the order of their
-/// bytes, each with all that stands below it.
+/// bytes, each with all that stands below it. Room for what is left of the walk is taken before anything is written.
 pub fn write_nodes<const P: usize>(
     output: &mut impl Write,
     store: &NodeStore<Vec<u8>, u32, P>,
@@ -157,25 +158,34 @@ pub fn write_nodes<const P: usize>(
 ) -> io::Result<()>
     requires { IfSome root (IsTreeIn store.now) }
 {
-    let place = Place {
-        depth: 0,
-        byte: None,
+    let Some(root) = root else {
+        return writeln!(output, "empty");
     };
-    match root {
-        Some(root) => write_subtree(output, store, root, place),
-        None => writeln!(output, "empty"),
+    let Ok(mut pending) = reserve_walk(store, root) else {
+        return write_no_memory(output);
+    };
+    pending.push_reserved(Pending::root(root));
+    for _ in 0..u64::MAX {
+        let Some(next) = turn(&mut pending, store) else {
+            break;
+        };
+        write_node(output, store, next)?;
     }
+    Ok(())
 }
 
-fn write_subtree<const P: usize>(
+fn write_node<const P: usize>(
     output: &mut impl Write,
     store: &NodeStore<Vec<u8>, u32, P>,
-    root: OpaqueNodePtr,
-    place: Place,
+    node: Pending,
 ) -> io::Result<()>
-    requires { IsTreeIn store.now root }
+    requires { IsTreeIn store.now node.name }
 {
-    match root.split() {
+    let place = Place {
+        depth: node.depth,
+        byte: node.byte,
+    };
+    match node.name.split() {
         NodePtr::Leaf(name) => match store.leaf(name) {
             Some(leaf) => writeln!(output, "{place}Leaf {}={}", Key(&leaf.key), leaf.value),
             None => unreachable!(),
@@ -189,15 +199,7 @@ fn write_subtree<const P: usize>(
                 writeln!(
                     output,
                     "{place}{kind} prefix {len} stored {stored} children {count}"
-                )?;
-                for (byte, child) in node.iter() {
-                    let place = Place {
-                        depth: place.depth.saturating_add(1),
-                        byte: Some(byte),
-                    };
-                    write_subtree(output, store, child, place)?;
-                }
-                Ok(())
+                )
             }
             None => unreachable!(),
         },

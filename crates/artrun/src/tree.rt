@@ -71,7 +71,9 @@ impl KeptTree {
     ) -> Result<Reply<Vec<u8>, u32>, AllocError>
         requires { IsKept self.old }
         ensures kept { IsKept self.new }
-        ensures run { IfOk result (λ reply. (side : Side) × IsRun key_bytes 4 (IsPairClone ⟦<Vec<u8> as Clone>⟧.is_clone ⟦<u32 as Clone>⟧.is_clone) (seen self.old) (command ∷ []) (reply ∷ []) (stood side self.new)) }
+        ensures run { IfOk result (λ reply. (side : Side) ×
+            IsRun key_bytes 4 (IsPairClone ⟦<Vec<u8> as Clone>⟧.is_clone ⟦<u32 as Clone>⟧.is_clone)
+            (seen self.old) (command ∷ []) (reply ∷ []) (stood side self.new)) }
         ensures refused { OnErr result (seen self.new ≡ seen self.old) }
     {
         let mut commands = Vec::with_capacity(self.first.alloc(), 1)?;

@@ -7,9 +7,9 @@ use Rattle.art_model.specs.Pairs.{of_key}
 use Rattle.art_model.specs.Radix.{pairs_of}
 use Rattle.art_model.specs.Stores.{node_at}
 use Rattle.art_model.specs.Trees.{Tree}
-use Rattle.art_checking.specs.Folds.{Folds}
+use Rattle.art_operations.specs.Folds.{Folds}
+use Rattle.art_operations.proofs.CallerLemmas.{folds_to}
 use Rattle.uses.specs.Longest.{longest}
-use Rattle.uses.proofs.Folding.{folds_to}
 
 module _ {A : Type 0} (bytes : A → List ℕ) where
   -- the longest key of two lists is the longer one of theirs

@@ -1,7 +1,7 @@
 //! Uses of the operations, as a caller writes them.
 #![tactic(auto)]
 
-ghost use Rattle.std.specs.Prelude.{◌≡◌, List, length, max, Some, IfSome};
+ghost use Rattle.std.specs.Prelude.{◌≡◌, List, length, max, Some, IfSome, IfNone};
 ghost use Rattle.art_nodes.specs.declared.node.OpaqueNodePtr.{OpaqueNodePtr};
 ghost use Rattle.art_model.specs.Canonical.{IsCanonical};
 ghost use Rattle.art_model.specs.Pairs.{of_key, overwrite, put, remove_key, without_first};
@@ -18,8 +18,10 @@ use art_operations::iterator::RawIterator;
 use art_operations::minmax::{maximum_unchecked, minimum_unchecked};
 use art_operations::visitor::{Visitor, visit_with};
 
+pub mod months;
+
 /// Puts a pair in, and answers the root. `None` where the key is related to an unequal stored one, or for
-/// want of memory.
+/// want of memory; then the root stands for what it stood for.
 pub fn put<K: AsBytes + Drop, V: Drop, const P: usize>(
     store: &mut NodeStore<K, V, P>,
     root: OpaqueNodePtr,
@@ -30,6 +32,8 @@ pub fn put<K: AsBytes + Drop, V: Drop, const P: usize>(
     ensures pairs { ForTree (of_key K.bytes) P store.old root (λ pairs _. IfSome result (λ new.
         IsCanonical (of_key K.bytes) P store.new (Some new) (put (of_key K.bytes) (key, value) pairs))) }
     ensures root { IfSome result (IsCanonicalRoot (of_key K.bytes) P store.new) }
+    ensures leaves { IfNone result (store.new.leaves ≡ store.old.leaves) }
+    ensures inners { IfNone result (store.new.inners ≡ store.old.inners) }
 {
     let Ok(point) = search_for_insert_point(store, root, key.as_bytes()) else {
         return None;
@@ -41,7 +45,7 @@ pub fn put<K: AsBytes + Drop, V: Drop, const P: usize>(
 }
 
 /// Puts a pair in, in the place of all with related keys, and answers the root and how many leaves are gone.
-/// `None` for want of memory.
+/// `None` for want of memory; then the root stands for what it stood for.
 pub fn put_over<K: AsBytes + Drop, V: Drop, const P: usize>(
     store: &mut NodeStore<K, V, P>,
     root: OpaqueNodePtr,
@@ -52,6 +56,8 @@ pub fn put_over<K: AsBytes + Drop, V: Drop, const P: usize>(
     ensures pairs { ForTree (of_key K.bytes) P store.old root (λ pairs _. IfSome result (λ new.
         IsCanonical (of_key K.bytes) P store.new (Some new.0) (overwrite (of_key K.bytes) (key, value) pairs))) }
     ensures root { IfSome result (λ new. IsCanonicalRoot (of_key K.bytes) P store.new new.0) }
+    ensures leaves { IfNone result (store.new.leaves ≡ store.old.leaves) }
+    ensures inners { IfNone result (store.new.inners ≡ store.old.inners) }
 {
     let point = search_for_prefix_insert_point(store, root, key.as_bytes());
     match point.apply(store, key, value) {
@@ -61,7 +67,7 @@ pub fn put_over<K: AsBytes + Drop, V: Drop, const P: usize>(
 }
 
 /// Takes the pair of a key out, and answers it with the root that is left, if any. `None` where the key isn't
-/// stored, or for want of memory.
+/// stored, or for want of memory; then the root stands for what it stood for.
 pub fn take<K: AsBytes + Drop, V: Drop, const P: usize>(
     store: &mut NodeStore<K, V, P>,
     root: OpaqueNodePtr,
@@ -70,7 +76,10 @@ pub fn take<K: AsBytes + Drop, V: Drop, const P: usize>(
     requires { IsCanonicalRoot (of_key K.bytes) P store.old root }
     ensures pairs { ForTree (of_key K.bytes) P store.old root (λ pairs _. IfSome result (λ left.
         IsCanonical (of_key K.bytes) P store.new left.0 (remove_key (of_key K.bytes) (K.bytes left.1) pairs))) }
-    ensures root { IfSome result (λ left. IfSome left.0 (IsCanonicalRoot (of_key K.bytes) P store.new)) }
+    ensures root { IfSome result (λ left.
+        IfSome left.0 (IsCanonicalRoot (of_key K.bytes) P store.new)) }
+    ensures leaves { IfNone result (store.new.leaves ≡ store.old.leaves) }
+    ensures inners { IfNone result (store.new.inners ≡ store.old.inners) }
 {
     let point = search_for_delete_point(store, root, key_bytes)?;
     match point.apply(store, root) {
@@ -88,21 +97,24 @@ pub fn walk<K: AsBytes + Drop, V: Drop, const P: usize>(
     root: OpaqueNodePtr,
 ) -> RawIterator
     requires { IsCanonicalRoot (of_key K.bytes) P store.now root }
-    ensures { ForTree (of_key K.bytes) P store.now root (λ _ layout. IsIteratorOf store.now result (leaf_names layout)) }
+    ensures { ForTree (of_key K.bytes) P store.now root (λ _ layout.
+        IsIteratorOf store.now result (leaf_names layout)) }
 {
     let first = minimum_unchecked(store, root);
     let last = maximum_unchecked(store, root);
     RawIterator::new(store, first, last)
 }
 
-/// Takes the next leaf of a walk out of its store, and answers its pair. The walk goes on with the others.
+/// Takes the next leaf of a walk out of its store, and answers its pair. The walk goes on with the others. `None` where
+/// there is no further leaf.
 pub fn take_next<K: AsBytes + Drop, V: Drop, const P: usize>(
     store: &mut NodeStore<K, V, P>,
     leaves: &mut RawIterator,
 ) -> Option<(K, V)>
     requires { (names : List OpaqueNodePtr) × IsIteratorOf store.old leaves.old names }
-    ensures { (names : List OpaqueNodePtr) → IsIteratorOf store.old leaves.old names →
+    ensures rest { (names : List OpaqueNodePtr) → IsIteratorOf store.old leaves.old names →
         IsIteratorOf store.new leaves.new (without_first names) }
+    ensures none { IfNone result (store.new ≡ store.old) }
 {
     let leaf = leaves.next(store)?;
     let node = store.free_leaf(leaf);
@@ -149,7 +161,8 @@ pub fn longest_key<K: AsBytes + Drop, V: Drop, const P: usize>(
     root: OpaqueNodePtr,
 ) -> usize
     requires { IsCanonicalRoot (of_key K.bytes) P store.now root }
-    ensures { ForTree (of_key K.bytes) P store.now root (λ pairs _. result ≡ longest (of_key K.bytes) pairs) }
+    ensures { ForTree (of_key K.bytes) P store.now root (λ pairs _.
+        result ≡ longest (of_key K.bytes) pairs) }
 {
     visit_with(store, root, &mut LongestKey)
 }

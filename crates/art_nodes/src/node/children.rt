@@ -3,45 +3,82 @@ ghost use Rattle.std.specs.Prelude.{◌≡◌, ℕ, ◌+◌, ◌-◌, ◌<◌, �
 ghost use Rattle.std.specs.Iterator.{YieldsFirst, YieldsLast, item_count};
 
 use super::OpaqueNodePtr;
+use super::direct::Direct;
+use super::indexed::Indexed;
+use super::places::{Span, between_in, next_back_in, next_in};
+use super::rows::Rows;
 use std::iter::FusedIterator;
 use std::marker::Model;
 
 /// The children of an inner node by rising bytes, each with its byte, seen as the list of those that have not come yet.
 #[derive(Clone, Drop)]
 pub struct Children<'a> {
-    pub(super) rest: &'a [(u8, OpaqueNodePtr)],
+    rest: Rest<'a>,
+}
+
+// What is left: rows, or the bytes of a table that are still to be visited.
+#[derive(Clone, Copy)]
+enum Rest<'a> {
+    Sorted(Rows<'a>),
+    Indexed(&'a Indexed, Span),
+    Direct(&'a Direct, Span),
 }
 
 impl<'a> Model for Children<'a> {
-    ghost use Rattle.art_nodes.specs.Inner.{Children, IsRising};
+    ghost use Rattle.art_nodes.specs.Inner.{Children};
+    ghost use Rattle.art_nodes.specs.Rests.{IsRest, rest_list};
 
     ghost Value = { Children };
 
-    ghost view = { λ c. c.rest.now };
+    ghost view = { λ c. rest_list c.rest };
 
-    ghost invariant = { λ c. IsRising c.rest.now };
+    ghost invariant = { λ c. IsRest c.rest };
 }
 
 impl<'a> Children<'a> {
-    ghost use Rattle.art_nodes.specs.Inner.{IsRising, child_at, children_between};
+    ghost use Rattle.art_nodes.specs.Inner.{IsAbove, IsRising, children_between};
+    ghost use Rattle.art_nodes.specs.Rows.{AreAligned, rows_of};
 
-    pub(super) fn new(rest: &'a [(u8, OpaqueNodePtr)]) -> Self
-        requires { IsRising rest.now }
-        ensures { result ≡ rest.now }
+    pub(super) fn new(rest: Rows<'a>) -> Self
+        requires aligned { AreAligned rest }
+        requires rising { IsRising (rows_of rest) }
+        ensures { result ≡ rows_of rest.entry }
     {
-        Children { rest }
+        Children {
+            rest: Rest::Sorted(rest),
+        }
     }
 
-    // The name under a byte.
-    pub(super) fn get(&self, byte: u8) -> Option<OpaqueNodePtr>
-        ensures { result ≡ child_at self.now byte }
+    pub(super) fn of_indexed(table: &'a Indexed, left: usize) -> Self
+        requires rising { IsRising table.now }
+        requires bytes { IsAbove 256 table.now }
+        requires count { left ≡ length table.now }
+        ensures { result ≡ table.now }
     {
-        for &(b, name) in self.rest {
-            if b == byte {
-                return Some(name);
-            }
+        let span = Span {
+            from: 0,
+            to: 256,
+            left,
+        };
+        Children {
+            rest: Rest::Indexed(table, span),
         }
-        None
+    }
+
+    pub(super) fn of_direct(table: &'a Direct, left: usize) -> Self
+        requires rising { IsRising table.now }
+        requires bytes { IsAbove 256 table.now }
+        requires count { left ≡ length table.now }
+        ensures { result ≡ table.now }
+    {
+        let span = Span {
+            from: 0,
+            to: 256,
+            left,
+        };
+        Children {
+            rest: Rest::Direct(table, span),
+        }
     }
 
     pub(super) fn least(&self) -> (u8, OpaqueNodePtr)
@@ -49,7 +86,23 @@ impl<'a> Children<'a> {
         ensures first { slice_get self.now 0 ≡ Some result }
         ensures least { All (λ child. result.0 ≤ child.0) self.now }
     {
-        self.rest[0]
+        match self.rest {
+            Rest::Sorted(rows) => rows.entry(0),
+            Rest::Indexed(table, span) => {
+                let mut span = span;
+                match next_in(table, &mut span) {
+                    Some(first) => first,
+                    None => unreachable!(),
+                }
+            }
+            Rest::Direct(table, span) => {
+                let mut span = span;
+                match next_in(table, &mut span) {
+                    Some(first) => first,
+                    None => unreachable!(),
+                }
+            }
+        }
     }
 
     pub(super) fn greatest(&self) -> (u8, OpaqueNodePtr)
@@ -57,17 +110,39 @@ impl<'a> Children<'a> {
         ensures last { slice_get self.now (length self.now - 1) ≡ Some result }
         ensures greatest { All (λ child. child.0 ≤ result.0) self.now }
     {
-        self.rest[self.rest.len() - 1]
+        match self.rest {
+            Rest::Sorted(rows) => rows.entry(rows.len() - 1),
+            Rest::Indexed(table, span) => {
+                let mut span = span;
+                match next_back_in(table, &mut span) {
+                    Some(last) => last,
+                    None => unreachable!(),
+                }
+            }
+            Rest::Direct(table, span) => {
+                let mut span = span;
+                match next_back_in(table, &mut span) {
+                    Some(last) => last,
+                    None => unreachable!(),
+                }
+            }
+        }
     }
 
     // Those under the bytes from first to last.
     pub(super) fn between(&self, first: u8, last: u8) -> Self
         ensures { result ≡ children_between first last self.now }
     {
-        let end = count_below(self.rest, last as usize + 1);
-        let start = count_below(self.rest, first as usize).min(end);
-        Children {
-            rest: &self.rest[start..end],
+        match self.rest {
+            Rest::Sorted(rows) => Children {
+                rest: Rest::Sorted(rows.between(first, last)),
+            },
+            Rest::Indexed(table, span) => Children {
+                rest: Rest::Indexed(table, between_in(table, span, first, last)),
+            },
+            Rest::Direct(table, span) => Children {
+                rest: Rest::Direct(table, between_in(table, span, first, last)),
+            },
         }
     }
 }
@@ -80,13 +155,15 @@ impl<'a> Iterator for Children<'a> {
     ghost remaining = { item_count (λ children. children) };
 
     fn next(&mut self) -> Option<(u8, OpaqueNodePtr)> {
-        let (&first, rest) = self.rest.split_first()?;
-        self.rest = rest;
-        Some(first)
+        match &mut self.rest {
+            Rest::Sorted(rows) => rows.take_first(),
+            Rest::Indexed(table, span) => next_in(*table, span),
+            Rest::Direct(table, span) => next_in(*table, span),
+        }
     }
 
     fn size_hint(&self) -> (usize, Option<usize>) {
-        (self.rest.len(), Some(self.rest.len()))
+        (self.len(), Some(self.len()))
     }
 }
 
@@ -94,33 +171,22 @@ impl<'a> DoubleEndedIterator for Children<'a> {
     ghost next_back_gives = { YieldsLast (λ children. children) };
 
     fn next_back(&mut self) -> Option<(u8, OpaqueNodePtr)> {
-        let (&last, rest) = self.rest.split_last()?;
-        self.rest = rest;
-        Some(last)
+        match &mut self.rest {
+            Rest::Sorted(rows) => rows.take_last(),
+            Rest::Indexed(table, span) => next_back_in(*table, span),
+            Rest::Direct(table, span) => next_back_in(*table, span),
+        }
     }
 }
 
 impl<'a> ExactSizeIterator for Children<'a> {
     fn len(&self) -> usize {
-        self.rest.len()
+        match self.rest {
+            Rest::Sorted(rows) => rows.len(),
+            Rest::Indexed(_, span) => span.left,
+            Rest::Direct(_, span) => span.left,
+        }
     }
 }
 
 impl<'a> FusedIterator for Children<'a> {}
-
-ghost use Rattle.art_nodes.specs.Inner.{count_below};
-
-// How many of these entries have a byte below this one.
-pub(super) fn count_below(entries: &[(u8, OpaqueNodePtr)], byte: usize) -> usize
-    ensures value { result ≡ count_below entries.now byte }
-    ensures bound { result ≤ length entries.now }
-{
-    let mut count = 0;
-    for &(b, _) in entries {
-        if b as usize >= byte {
-            return count;
-        }
-        count += 1;
-    }
-    count
-}

@@ -2,8 +2,11 @@
 ghost use Rattle.std.specs.Prelude.{◌≡◌, ℕ, ◌-◌, ◌<◌, ◌≤◌, min, length, slice_get, Some, All, IsTrue, ◌↔◌};
 
 use super::children::Children;
+use super::direct::Direct;
 use super::header::{FromHeader, Header};
-use super::table::Table;
+use super::indexed::Indexed;
+use super::places::Places;
+use super::table::{Table, get_by_lanes};
 use super::{AnyInner, NodeType, OpaqueNodePtr};
 use std::marker::Model;
 
@@ -79,10 +82,7 @@ pub trait InnerNode<const P: usize>: FromHeader<Header<P>> {
 
     /// The name under a byte.
     fn lookup_child(&self, byte: u8) -> Option<OpaqueNodePtr>
-        ensures { result ≡ child_at (view_of self.now).children byte }
-    {
-        self.iter().get(byte)
-    }
+        ensures { result ≡ child_at (view_of self.now).children byte };
 
     /// The least byte, and the name under it.
     fn min(&self) -> (u8, OpaqueNodePtr)
@@ -116,7 +116,7 @@ pub trait InnerNode<const P: usize>: FromHeader<Header<P>> {
 /// An inner node of up to 4 children.
 #[derive(Drop)]
 pub struct InnerNode4<const P: usize> {
-    pub(super) header: Header<P>,
+    pub(crate) header: Header<P>,
     pub(super) table: Table<4>,
 }
 
@@ -143,6 +143,19 @@ impl<const P: usize> FromHeader<Header<P>> for InnerNode4<P> {
     }
 }
 
+impl<const P: usize> InnerNode4<P> {
+    // A Node16 with the same children.
+    #[inline(never)]
+    pub(crate) fn grown(self) -> InnerNode16<P>
+        ensures { result ≡ self.entry }
+    {
+        InnerNode16 {
+            header: self.header,
+            table: Table::of(self.iter()),
+        }
+    }
+}
+
 impl<const P: usize> InnerNode<P> for InnerNode4<P> {
     ghost use Rattle.art_nodes.specs.declared.node.NodeType.TheVariants as kinds;
 
@@ -158,16 +171,23 @@ impl<const P: usize> InnerNode<P> for InnerNode4<P> {
         self.header
     }
 
+    #[inline(always)]
     fn prefix_len(&self) -> usize {
         self.header.prefix_len()
     }
 
+    #[inline(always)]
     fn read_prefix(&self) -> &[u8] {
         self.header.read_prefix()
     }
 
     fn iter(&self) -> Children<'_> {
         self.table.iter()
+    }
+
+    #[inline(always)]
+    fn lookup_child(&self, byte: u8) -> Option<OpaqueNodePtr> {
+        self.table.get(byte)
     }
 
     fn write_child(&mut self, byte: u8, child: OpaqueNodePtr) {
@@ -183,10 +203,7 @@ impl<const P: usize> InnerNode<P> for InnerNode4<P> {
     }
 
     fn grow(self) -> AnyInner<P> {
-        AnyInner::Node16(InnerNode16 {
-            header: self.header,
-            table: Table::of(self.iter()),
-        })
+        AnyInner::Node16(self.grown())
     }
 
     fn shrink(self) -> AnyInner<P> {
@@ -197,7 +214,7 @@ impl<const P: usize> InnerNode<P> for InnerNode4<P> {
 /// An inner node of up to 16 children.
 #[derive(Drop)]
 pub struct InnerNode16<const P: usize> {
-    pub(super) header: Header<P>,
+    pub(crate) header: Header<P>,
     pub(super) table: Table<16>,
 }
 
@@ -224,6 +241,19 @@ impl<const P: usize> FromHeader<Header<P>> for InnerNode16<P> {
     }
 }
 
+impl<const P: usize> InnerNode16<P> {
+    // A Node48 with the same children.
+    #[inline(never)]
+    pub(crate) fn grown(self) -> InnerNode48<P>
+        ensures { result ≡ self.entry }
+    {
+        InnerNode48 {
+            header: self.header,
+            table: Indexed::of(self.iter()),
+        }
+    }
+}
+
 impl<const P: usize> InnerNode<P> for InnerNode16<P> {
     ghost use Rattle.art_nodes.specs.declared.node.NodeType.TheVariants as kinds;
 
@@ -239,16 +269,23 @@ impl<const P: usize> InnerNode<P> for InnerNode16<P> {
         self.header
     }
 
+    #[inline(always)]
     fn prefix_len(&self) -> usize {
         self.header.prefix_len()
     }
 
+    #[inline(always)]
     fn read_prefix(&self) -> &[u8] {
         self.header.read_prefix()
     }
 
     fn iter(&self) -> Children<'_> {
         self.table.iter()
+    }
+
+    #[inline(always)]
+    fn lookup_child(&self, byte: u8) -> Option<OpaqueNodePtr> {
+        get_by_lanes(&self.table, byte)
     }
 
     fn write_child(&mut self, byte: u8, child: OpaqueNodePtr) {
@@ -264,12 +301,10 @@ impl<const P: usize> InnerNode<P> for InnerNode16<P> {
     }
 
     fn grow(self) -> AnyInner<P> {
-        AnyInner::Node48(InnerNode48 {
-            header: self.header,
-            table: Table::of(self.iter()),
-        })
+        AnyInner::Node48(self.grown())
     }
 
+    #[inline(never)]
     fn shrink(self) -> AnyInner<P> {
         AnyInner::Node4(InnerNode4 {
             header: self.header,
@@ -281,8 +316,8 @@ impl<const P: usize> InnerNode<P> for InnerNode16<P> {
 /// An inner node of up to 48 children.
 #[derive(Drop)]
 pub struct InnerNode48<const P: usize> {
-    pub(super) header: Header<P>,
-    pub(super) table: Table<48>,
+    pub(crate) header: Header<P>,
+    pub(super) table: Indexed,
 }
 
 impl<const P: usize> Model for InnerNode48<P> {
@@ -303,7 +338,20 @@ impl<const P: usize> FromHeader<Header<P>> for InnerNode48<P> {
     fn from_header(header: Header<P>) -> Self {
         InnerNode48 {
             header,
-            table: Table::new(),
+            table: Indexed::new(),
+        }
+    }
+}
+
+impl<const P: usize> InnerNode48<P> {
+    // A Node256 with the same children.
+    #[inline(never)]
+    pub(crate) fn grown(self) -> InnerNodeDirect<P>
+        ensures { result ≡ self.entry }
+    {
+        InnerNodeDirect {
+            header: self.header,
+            table: Direct::of(self.iter()),
         }
     }
 }
@@ -323,16 +371,23 @@ impl<const P: usize> InnerNode<P> for InnerNode48<P> {
         self.header
     }
 
+    #[inline(always)]
     fn prefix_len(&self) -> usize {
         self.header.prefix_len()
     }
 
+    #[inline(always)]
     fn read_prefix(&self) -> &[u8] {
         self.header.read_prefix()
     }
 
     fn iter(&self) -> Children<'_> {
         self.table.iter()
+    }
+
+    #[inline(always)]
+    fn lookup_child(&self, byte: u8) -> Option<OpaqueNodePtr> {
+        self.table.get(byte)
     }
 
     fn write_child(&mut self, byte: u8, child: OpaqueNodePtr) {
@@ -348,12 +403,10 @@ impl<const P: usize> InnerNode<P> for InnerNode48<P> {
     }
 
     fn grow(self) -> AnyInner<P> {
-        AnyInner::Node256(InnerNodeDirect {
-            header: self.header,
-            table: Table::of(self.iter()),
-        })
+        AnyInner::Node256(self.grown())
     }
 
+    #[inline(never)]
     fn shrink(self) -> AnyInner<P> {
         AnyInner::Node16(InnerNode16 {
             header: self.header,
@@ -365,8 +418,8 @@ impl<const P: usize> InnerNode<P> for InnerNode48<P> {
 /// An inner node of up to 256 children.
 #[derive(Drop)]
 pub struct InnerNodeDirect<const P: usize> {
-    pub(super) header: Header<P>,
-    pub(super) table: Table<256>,
+    pub(crate) header: Header<P>,
+    pub(super) table: Direct,
 }
 
 impl<const P: usize> Model for InnerNodeDirect<P> {
@@ -387,7 +440,7 @@ impl<const P: usize> FromHeader<Header<P>> for InnerNodeDirect<P> {
     fn from_header(header: Header<P>) -> Self {
         InnerNodeDirect {
             header,
-            table: Table::new(),
+            table: Direct::new(),
         }
     }
 }
@@ -407,16 +460,23 @@ impl<const P: usize> InnerNode<P> for InnerNodeDirect<P> {
         self.header
     }
 
+    #[inline(always)]
     fn prefix_len(&self) -> usize {
         self.header.prefix_len()
     }
 
+    #[inline(always)]
     fn read_prefix(&self) -> &[u8] {
         self.header.read_prefix()
     }
 
     fn iter(&self) -> Children<'_> {
         self.table.iter()
+    }
+
+    #[inline(always)]
+    fn lookup_child(&self, byte: u8) -> Option<OpaqueNodePtr> {
+        self.table.get(byte)
     }
 
     fn write_child(&mut self, byte: u8, child: OpaqueNodePtr) {
@@ -435,10 +495,11 @@ impl<const P: usize> InnerNode<P> for InnerNodeDirect<P> {
         self.into_any()
     }
 
+    #[inline(never)]
     fn shrink(self) -> AnyInner<P> {
         AnyInner::Node48(InnerNode48 {
             header: self.header,
-            table: Table::of(self.iter()),
+            table: Indexed::of(self.iter()),
         })
     }
 }

@@ -1,58 +1,98 @@
-//! Names under rising bytes.
+//! Up to so many names under rising bytes.
 ghost use Rattle.std.specs.Prelude.{◌≡◌, ℕ, ◌+◌, ◌-◌, ◌<◌, ◌≤◌, List, [], ◌∷◌, ◌++◌, length, take, drop, remove};
 
-use super::children::{Children, count_below};
+use super::children::Children;
+use super::lanes::lanes_before;
+use super::rows::Rows;
 use super::{NodeType, OpaqueNodePtr};
 use std::marker::Model;
-
-// What stands past a table's last entry.
-const VACANT: (u8, OpaqueNodePtr) = (
-    0,
-    OpaqueNodePtr {
-        kind: NodeType::Leaf,
-        slot: 0,
-    },
-);
 
 /// Up to `N` names under rising bytes, seen as their list.
 #[derive(Drop)]
 pub(super) struct Table<const N: usize> {
-    entries: [(u8, OpaqueNodePtr); N],
+    slots: [usize; N],
+    bytes: [u8; N],
+    kinds: [NodeType; N],
     len: usize,
 }
 
 impl<const N: usize> Model for Table<N> {
-    ghost use Rattle.std.specs.Prelude.{◌≤◌, ℕ, List, take};
+    ghost use Rattle.std.specs.Prelude.{◌≡◌, ◌≤◌, length, take};
     ghost use Rattle.art_nodes.specs.Inner.{Children, IsRising};
+    ghost use Rattle.art_nodes.specs.Rows.{rows};
 
     ghost Value = { Children };
 
-    ghost view = { λ t. take t.len t.entries };
+    ghost view = { λ t. take t.len (rows t.bytes t.kinds t.slots) };
 
-    ghost invariant = { λ t. (t.len ≤ N) × IsRising (take t.len t.entries) };
+    ghost invariant = { λ t.
+        (t.len ≤ N)
+        × (length t.kinds ≡ N)
+        × IsRising (take t.len (rows t.bytes t.kinds t.slots)) };
 }
 
 impl<const N: usize> Table<N> {
-    ghost use Rattle.art_nodes.specs.Inner.{HasPlace, IsRising, child_at, count_below, put_child, remove_child};
+    ghost use Rattle.art_nodes.specs.Inner.{HasPlace, IsAbove, IsRising, child_at, put_child, remove_child};
+    ghost use Rattle.art_nodes.specs.Rows.{AreAligned, rows_of};
 
     pub(super) fn new() -> Self
         ensures { result ≡ [] }
     {
         Table {
-            entries: [VACANT; N],
+            slots: [0; N],
+            bytes: [0; N],
+            kinds: [NodeType::Leaf; N],
             len: 0,
         }
     }
 
     // A table of these children.
     pub(super) fn of(children: Children<'_>) -> Self
-        requires { length children ≤ N }
+        requires rising { IsRising children }
+        requires fit { length children ≤ N }
         ensures { result ≡ children.entry }
     {
-        let len = children.rest.len();
-        let mut entries = [VACANT; N];
-        entries[..len].copy_from_slice(children.rest);
-        Table { entries, len }
+        let mut table = Table::new();
+        for (byte, name) in children {
+            table.push(byte, name);
+        }
+        table
+    }
+
+    // Puts a name behind the others.
+    fn push(&mut self, byte: u8, child: OpaqueNodePtr)
+        requires room { length self.old < N }
+        requires rising { IsAbove byte self.old }
+        ensures { self.new ≡ self.old ++ (byte, child) ∷ [] }
+    {
+        let last = self.len;
+        self.bytes[last] = byte;
+        self.kinds[last] = child.kind;
+        self.slots[last] = child.slot;
+        self.len = last + 1;
+    }
+
+    // The names that are there.
+    #[inline(always)]
+    fn rows(&self) -> Rows<'_>
+        ensures aligned { AreAligned result }
+        ensures value { rows_of result ≡ self.now }
+        ensures rising { IsRising self.now }
+        ensures bound { length self.now ≤ N }
+    {
+        Rows {
+            bytes: &self.bytes[..self.len],
+            kinds: &self.kinds[..self.len],
+            slots: &self.slots[..self.len],
+        }
+    }
+
+    // The name under a byte.
+    #[inline(always)]
+    pub(super) fn get(&self, byte: u8) -> Option<OpaqueNodePtr>
+        ensures { result ≡ child_at self.now byte }
+    {
+        self.rows().get(byte)
     }
 
     pub(super) fn iter(&self) -> Children<'_>
@@ -60,19 +100,19 @@ impl<const N: usize> Table<N> {
         ensures rising { IsRising self.now }
         ensures bound { length self.now ≤ N }
     {
-        Children::new(&self.entries[..self.len])
+        Children::new(self.rows())
     }
 
     pub(super) fn write(&mut self, byte: u8, child: OpaqueNodePtr)
         requires { HasPlace N self.old byte }
         ensures { self.new ≡ put_child self.old byte child }
     {
-        let at = self.place(byte);
-        if at < self.len && self.entries[at].0 == byte {
-            self.entries[at].1 = child;
-        } else {
-            insert_into(&mut self.entries[..self.len + 1], at, (byte, child));
-            self.len += 1;
+        match self.rows().search(byte) {
+            Ok(at) => {
+                self.kinds[at] = child.kind;
+                self.slots[at] = child.slot;
+            }
+            Err(at) => self.insert(at, byte, child),
         }
     }
 
@@ -80,37 +120,77 @@ impl<const N: usize> Table<N> {
         ensures removed { result ≡ child_at self.old byte }
         ensures rest { self.new ≡ remove_child self.old byte }
     {
-        let at = self.place(byte);
-        if at < self.len && self.entries[at].0 == byte {
-            let child = self.entries[at].1;
-            remove_from(&mut self.entries[..self.len], at);
-            self.len -= 1;
-            Some(child)
-        } else {
-            None
+        match self.rows().search(byte) {
+            Ok(at) => Some(self.take_out(at, byte)),
+            Err(_) => None,
         }
     }
 
-    // How many entries have a byte below this one.
-    fn place(&self, byte: u8) -> usize
-        ensures value { result ≡ count_below self.now byte }
-        ensures bound { result ≤ length self.now }
+    ghost use Rattle.std.specs.Prelude.{Some, None, IsSome};
+    ghost use Rattle.art_nodes.specs.Inner.{count_below};
+
+    // Puts a name in at its place.
+    fn insert(&mut self, at: usize, byte: u8, child: OpaqueNodePtr)
+        requires room { length self.old < N }
+        requires place { at ≡ count_below self.old byte }
+        requires absent { child_at self.old byte ≡ None }
+        ensures { self.new ≡ put_child self.old byte child }
     {
-        count_below(&self.entries[..self.len], byte as usize)
+        let len = self.len + 1;
+        insert_into(&mut self.bytes[..len], at, byte);
+        insert_into(&mut self.kinds[..len], at, child.kind);
+        insert_into(&mut self.slots[..len], at, child.slot);
+        self.len = len;
+    }
+
+    // Takes out the name at its place.
+    fn take_out(&mut self, at: usize, byte: u8) -> OpaqueNodePtr
+        requires place { at ≡ count_below self.old byte }
+        requires there { IsSome (child_at self.old byte) }
+        ensures removed { Some result ≡ child_at self.old byte }
+        ensures rest { self.new ≡ remove_child self.old byte }
+    {
+        let child = OpaqueNodePtr {
+            kind: self.kinds[at],
+            slot: self.slots[at],
+        };
+        let len = self.len;
+        remove_from(&mut self.bytes[..len], at);
+        remove_from(&mut self.kinds[..len], at);
+        remove_from(&mut self.slots[..len], at);
+        self.len = len - 1;
+        child
     }
 }
 
-// Puts an entry at a place, and lets the last one go.
-fn insert_into(part: &mut [(u8, OpaqueNodePtr)], at: usize, entry: (u8, OpaqueNodePtr))
-    requires { at < length part.old }
-    ensures { part.new ≡ take at part.old ++ entry ∷ take (length part.old - 1 - at) (drop at part.old) }
+ghost use Rattle.art_nodes.specs.Inner.{child_at};
+
+// The name under a byte, by lanes. Those past the last name count as vacant.
+#[inline(always)]
+pub(super) fn get_by_lanes(table: &Table<16>, byte: u8) -> Option<OpaqueNodePtr>
+    ensures { result ≡ child_at table.now byte }
 {
-    part[at..].rotate_right(1);
-    part[at] = entry;
+    let place = lanes_before(&table.bytes, byte);
+    if place >= table.len {
+        return None;
+    }
+    Some(OpaqueNodePtr {
+        kind: table.kinds[place],
+        slot: table.slots[place],
+    })
 }
 
-// Closes the gap where an entry is let go: the later ones move one place to the front.
-fn remove_from(part: &mut [(u8, OpaqueNodePtr)], at: usize)
+// Puts a value at a place, and lets the last one go.
+fn insert_into<T: Copy>(part: &mut [T], at: usize, value: T)
+    requires { at < length part.old }
+    ensures { part.new ≡ take at part.old ++ value ∷ take (length part.old - 1 - at) (drop at part.old) }
+{
+    part[at..].rotate_right(1);
+    part[at] = value;
+}
+
+// Closes the gap where a value is let go: the later ones move one place to the front.
+fn remove_from<T: Copy>(part: &mut [T], at: usize)
     requires { at < length part.old }
     ensures { take (length part.old - 1) part.new ≡ remove part.old at }
 {

@@ -1,16 +1,14 @@
-//! A leaf that is the root goes, or one of the two children of a node, and the other takes that node's place.
-ghost use Rattle.std.specs.Prelude.{◌≡◌, ◌≢◌, ◌+◌, ◌≤◌, ℕ, List, ◌∷◌, ◌++◌, length, IsOk, IsTrue, IsSome, IsSomeAnd, IfSome, IfOk, IfErr, OnOk, OnErr, None, Some, cond, nat_lt};
+//! One of the two children of a node goes, a leaf, and the other takes that node's place.
+ghost use Rattle.std.specs.Prelude.{◌≡◌, ◌≢◌, ◌+◌, ◌≤◌, ℕ, List, ◌∷◌, ◌++◌, length, IsSome, IsSomeAnd, IfSome, Some, cond};
 ghost use Rattle.std.specs.FinMap as map;
 ghost use Rattle.art_nodes.specs.Changes.{with_header};
 ghost use Rattle.art_nodes.specs.Inner.{header_of};
-ghost use Rattle.art_nodes.specs.Nodes.{change, no_promise};
+ghost use Rattle.art_nodes.specs.Nodes.{change};
 ghost use Rattle.art_model.specs.Pairs.{of_key};
-ghost use Rattle.art_model.specs.Promises.{is_covered, promise_after};
 ghost use Rattle.art_model.specs.Roots.{ForTree};
 ghost use Rattle.art_model.specs.Writes.{as_inner};
 ghost use Rattle.art_nodes.specs.declared.node.NodeType.TheVariants.{Leaf};
-ghost use Rattle.art_model.specs.Footprints.{TouchesAtMost};
-ghost use Rattle.art_writing.specs.Deleted.{IsDeleted, IsDeletePointIn, LeadsTo, TouchesFor, parent_change, placed_for_deletion, keeps, is_compressed};
+ghost use Rattle.art_writing.specs.Deleted.{IsDeleted, IsDeletePointIn, LeadsTo, TouchesFor, is_compressed, parent_change};
 ghost use Rattle.art_reading.specs.Paths.{last_step};
 
 use super::{DeletePoint, DeleteResult};
@@ -20,25 +18,6 @@ use art_nodes::store::NodeStore;
 use art_reading::ways::up;
 
 impl DeletePoint {
-    /// Takes the only leaf out of a tree.
-    pub(super) fn delete_root<K: AsBytes + Drop, V: Drop, const P: usize>(
-        self,
-        store: &mut NodeStore<K, V, P>,
-        root: OpaqueNodePtr,
-    ) -> DeleteResult<K, V>
-        requires parent { last_step self.path ≡ None }
-        requires answers { IsDeletePointIn (of_key K.bytes) P store.old root self }
-        ensures deleted { ForTree (of_key K.bytes) P store.old root (λ pairs layout. (x : K × V) → LeadsTo layout x self →
-            IsDeleted (of_key K.bytes) P store.old store.new root self x pairs layout result) }
-        ensures touches { TouchesFor (parent_change store.old self.path) store.old store.new }
-        ensures promise { store.new.promise ≡ store.old.promise }
-    {
-        DeleteResult {
-            new_root: None,
-            deleted_leaf: take_from_between(store, self.leaf_node_ptr),
-        }
-    }
-
     /// Takes a leaf out with its parent, in whose place the other child comes.
     pub(super) fn compress_parent<K: AsBytes + Drop, V: Drop, const P: usize>(
         self,
@@ -50,16 +29,15 @@ impl DeletePoint {
         requires parent { last_step self.path ≡ Some (parent, byte) }
         requires compressed { parent_change store.old self.path ≡ is_compressed }
         requires answers { IsDeletePointIn (of_key K.bytes) P store.old root self }
-        ensures deleted { ForTree (of_key K.bytes) P store.old root (λ pairs layout. (x : K × V) → LeadsTo layout x self →
+        ensures deleted { ForTree (of_key K.bytes) P store.old root (λ pairs layout.
+            (x : K × V) → LeadsTo layout x self →
             IsDeleted (of_key K.bytes) P store.old store.new root self x pairs layout result) }
         ensures touches { TouchesFor (parent_change store.old self.path) store.old store.new }
         ensures promise { store.new.promise ≡ store.old.promise }
     {
-        let mut node = store.free_inner(parent);
-        node.remove_child(byte);
-        let (other_byte, other) = node.as_ref().min();
+        let (header, other_byte, other) = store.take_other(parent, byte);
         let beside = leaf_beside(store, self.leaf_node_ptr, byte < other_byte);
-        lengthen_prefix(store, other, node.as_ref().header(), other_byte, beside);
+        lengthen_prefix(store, other, header, other_byte, beside);
         DeleteResult {
             new_root: Some(replace_at(store, up(self.path), root, other)),
             deleted_leaf: take_from_between(store, self.leaf_node_ptr),
@@ -93,7 +71,8 @@ fn lengthen_prefix<K: AsBytes + Drop, V: Drop, const P: usize>(
     byte: u8,
     below: LeafPtr,
 )
-    requires { name.kind ≢ Leaf → IsSomeAnd (map.get store.old.leaves below) (λ leaf. IsSomeAnd (map.get store.old.inners (as_inner name)) (λ node.
+    requires { name.kind ≢ Leaf → IsSomeAnd (map.get store.old.leaves below) (λ leaf.
+        IsSomeAnd (map.get store.old.inners (as_inner name)) (λ node.
         front.len + 1 + node.prefix.len ≤ length (K.bytes leaf.key))) }
     ensures leaf { name.kind ≡ Leaf → store.new.inners ≡ store.old.inners }
     ensures inner { name.kind ≢ Leaf → (first rest : List ℕ) → front.entry ≡ header_of P first →

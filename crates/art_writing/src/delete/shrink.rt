@@ -1,14 +1,12 @@
-//! A leaf goes, and its parent stays with its kind or gives way to a smaller node.
-ghost use Rattle.std.specs.Prelude.{◌≡◌, IsOk, IsTrue, IfOk, IfErr, OnOk, OnErr, None, Some};
+//! A leaf goes, and its parent gives way to a smaller node.
+ghost use Rattle.std.specs.Prelude.{◌≡◌, IsOk, IsTrue, IfOk, IfErr, OnOk, OnErr, Some};
+ghost use Rattle.art_nodes.specs.Kinds.{smaller_kind};
 ghost use Rattle.art_nodes.specs.Nodes.{no_promise};
 ghost use Rattle.art_model.specs.Pairs.{of_key};
 ghost use Rattle.art_model.specs.Promises.{is_covered, promise_after};
 ghost use Rattle.art_model.specs.Roots.{ForTree};
-ghost use Rattle.art_model.specs.Footprints.{TouchesAtMost};
-ghost use Rattle.art_writing.specs.Deleted.{IsDeleted, IsDeletePointIn, LeadsTo, TouchesFor, parent_change, placed_for_deletion, keeps, is_compressed};
+ghost use Rattle.art_writing.specs.Deleted.{IsDeleted, IsDeletePointIn, LeadsTo, TouchesFor, parent_change, placed_for_deletion, shrinks};
 ghost use Rattle.art_reading.specs.Paths.{last_step};
-ghost use Rattle.art_nodes.specs.Kinds.{kind_least, smaller_kind};
-ghost use Rattle.art_writing.specs.Deleted.{shrinks};
 
 use super::{DeletePoint, DeleteRefused, DeleteResult};
 use crate::writes::{replace_at, take_from_between};
@@ -17,78 +15,42 @@ use art_nodes::store::NodeStore;
 use art_reading::ways::up;
 
 impl DeletePoint {
-    /// Takes a leaf out from below a parent that keeps its kind.
-    pub(super) fn delete_child<K: AsBytes + Drop, V: Drop, const P: usize>(
-        self,
-        store: &mut NodeStore<K, V, P>,
-        root: OpaqueNodePtr,
-        parent: InnerPtr,
-        byte: u8,
-    ) -> DeleteResult<K, V>
-        requires parent { last_step self.path ≡ Some (parent, byte) }
-        requires keeps { parent_change store.old self.path ≡ keeps }
-        requires answers { IsDeletePointIn (of_key K.bytes) P store.old root self }
-        ensures deleted { ForTree (of_key K.bytes) P store.old root (λ pairs layout. (x : K × V) → LeadsTo layout x self →
-            IsDeleted (of_key K.bytes) P store.old store.new root self x pairs layout result) }
-        ensures touches { TouchesFor (parent_change store.old self.path) store.old store.new }
-        ensures promise { store.new.promise ≡ store.old.promise }
-    {
-        let deleted_leaf = take_from_between(store, self.leaf_node_ptr);
-        store.remove_child(parent, byte);
-        DeleteResult {
-            new_root: Some(root),
-            deleted_leaf,
-        }
-    }
-
-    /// Takes a leaf out, and puts a node of the next smaller kind in the place of its parent.
+    /// Takes a leaf out, and puts a node of a smaller kind, the next one, in the place of its parent.
     pub(super) fn shrink_parent<K: AsBytes + Drop, V: Drop, const P: usize>(
         self,
         store: &mut NodeStore<K, V, P>,
         root: OpaqueNodePtr,
         parent: InnerPtr,
         byte: u8,
+        smaller: NodeType,
     ) -> Result<DeleteResult<K, V>, DeleteRefused>
         requires parent { last_step self.path ≡ Some (parent, byte) }
+        requires smaller { smaller ≡ smaller_kind parent.kind }
         requires shrinks { parent_change store.old self.path ≡ shrinks (smaller_kind parent.kind) }
         requires answers { IsDeletePointIn (of_key K.bytes) P store.old root self }
-        ensures deleted { ForTree (of_key K.bytes) P store.old root (λ pairs layout. (x : K × V) → LeadsTo layout x self → IfOk result (λ done.
+        ensures deleted { ForTree (of_key K.bytes) P store.old root (λ pairs layout.
+            (x : K × V) → LeadsTo layout x self → IfOk result (λ done.
             IsDeleted (of_key K.bytes) P store.old store.new root self x pairs layout done)) }
         ensures touches { OnOk result (TouchesFor (parent_change store.old self.path) store.old store.new) }
-        ensures promise { OnOk result (store.new.promise ≡ promise_after (placed_for_deletion store.old self.path) store.old.promise) }
+        ensures promise { OnOk result (store.new.promise ≡
+            promise_after (placed_for_deletion store.old self.path) store.old.promise) }
 
-        ensures succeeds { IsTrue (is_covered (placed_for_deletion store.old self.path) store.old.promise) → IsOk result }
+        ensures succeeds { IsTrue (is_covered (placed_for_deletion store.old self.path) store.old.promise) →
+            IsOk result }
         ensures handed_back { IfErr result (λ refused. refused.point ≡ self) }
         ensures leaves { OnErr result (store.new.leaves ≡ store.old.leaves) }
         ensures inners { OnErr result (store.new.inners ≡ store.old.inners) }
         ensures void { OnErr result (store.new.promise ≡ no_promise) }
     {
-        let smaller = next_smaller(parent.kind);
         if store.reserve(0, Some(smaller)).is_err() {
             return Err(DeleteRefused { point: self });
         }
         let deleted_leaf = take_from_between(store, self.leaf_node_ptr);
-        let mut node = store.free_inner(parent);
-        node.remove_child(byte);
-        let Ok(node) = store.place_inner(node.shrink()) else {
-            unreachable!()
-        };
+        let node = store.put_smaller(parent, byte);
         let new_root = replace_at(store, up(self.path), root, node.to_opaque());
         Ok(DeleteResult {
             new_root: Some(new_root),
             deleted_leaf,
         })
-    }
-}
-
-// The kind with room for fewer children; the smallest is its own.
-fn next_smaller(kind: NodeType) -> NodeType
-    ensures { result ≡ smaller_kind kind }
-{
-    match kind {
-        NodeType::Node4 | NodeType::Node16 => NodeType::Node4,
-        NodeType::Node48 => NodeType::Node16,
-        NodeType::Node256 => NodeType::Node48,
-        NodeType::Leaf => NodeType::Leaf,
     }
 }

@@ -7,7 +7,7 @@ ghost use Rattle.art_model.specs.Kept.{ChangesInPlace};
 ghost use Rattle.art_model.specs.Pairs.{of_key, put, put_reply, stored_for};
 ghost use Rattle.art_model.specs.Promises.{is_covered, promise_after};
 ghost use Rattle.art_model.specs.Roots.{ForTree, IsCanonicalRoot};
-ghost use Rattle.art_writing.specs.Inserted.{HasByteLeft, HasInserted, IsPointIn, Touches, alone, placed_for};
+ghost use Rattle.art_writing.specs.Inserted.{HasInserted, IsPointIn, Touches, alone, placed_for};
 
 use super::{InsertKind, InsertPoint, InsertResult, Refused};
 use art_nodes::node::AsBytes;
@@ -26,8 +26,10 @@ impl InsertPoint {
         value: V,
     ) -> Result<InsertResult<K, V>, Refused<K, V>>
         requires { IsPointIn (of_key K.bytes) PREFIX_LEN store.old (K.bytes key) self }
-        ensures canonical { ForTree (of_key K.bytes) PREFIX_LEN store.old self.root (λ pairs layout. IfOk result (λ done.
-            IsCanonical (of_key K.bytes) PREFIX_LEN store.new (Some done.new_root) (put (of_key K.bytes) (key, value) pairs))) }
+        ensures canonical { ForTree (of_key K.bytes) PREFIX_LEN store.old self.root (λ pairs layout.
+            IfOk result (λ done.
+            IsCanonical (of_key K.bytes) PREFIX_LEN store.new (Some done.new_root)
+            (put (of_key K.bytes) (key, value) pairs))) }
         ensures root { IfOk result (λ done. IsCanonicalRoot (of_key K.bytes) PREFIX_LEN store.new done.new_root) }
         ensures leaf { IfOk result (λ done. ForTree (of_key K.bytes) PREFIX_LEN store.new done.new_root (λ pairs layout.
             HasInserted layout self (stored_for (of_key K.bytes) (key, value) pairs) done)) }
@@ -37,8 +39,8 @@ impl InsertPoint {
             ForTree (of_key K.bytes) PREFIX_LEN store.new done.new_root (λ after new.
             ChangesInPlace (of_key K.bytes) store.old store.new (Some old) (Some new)))) }
         ensures touches { OnOk result (Touches self.insert_kind store.old store.new) }
-        ensures promise { OnOk result (store.new.promise ≡ promise_after (placed_for store.old self.insert_kind) store.old.promise) }
-        ensures byte_left { HasByteLeft store.old self.insert_kind }
+        ensures promise { OnOk result (store.new.promise ≡
+            promise_after (placed_for store.old self.insert_kind) store.old.promise) }
 
         ensures succeeds { IsTrue (is_covered (placed_for store.old self.insert_kind) store.old.promise) → IsOk result }
         ensures handed_back { IfErr result (λ refused. (refused.key ≡ key) × (refused.value ≡ value)) }

@@ -1,8 +1,6 @@
 //! A new node above a leaf and a new one, or above an inner node and a new leaf.
 ghost use Rattle.std.specs.Prelude.{◌≡◌, ℕ, ◌+◌, nat_lt, drop, List, IsOk, IsTrue, IfOk, IfErr, OnOk, OnErr, Some};
-ghost use Rattle.art_nodes.specs.Changes.{with_child};
-ghost use Rattle.art_nodes.specs.Inner.{childless, header_of};
-ghost use Rattle.art_nodes.specs.Kinds.{any_kind, any_view};
+ghost use Rattle.art_nodes.specs.Inner.{header_of};
 ghost use Rattle.art_nodes.specs.Nodes.{covers, no_promise, take_inner, take_leaf};
 ghost use Rattle.art_nodes.specs.declared.node.NodeType.TheVariants.{Node4};
 ghost use Rattle.art_nodes.specs.declared.node.OpaqueNodePtr.{OpaqueNodePtr};
@@ -12,7 +10,7 @@ ghost use Rattle.art_model.specs.Promises.{is_covered, promise_after};
 ghost use Rattle.art_model.specs.Roots.{ForTree, IsFullTree};
 ghost use Rattle.art_model.specs.Trees.{Tree};
 ghost use Rattle.art_model.specs.Writes.{IsThere};
-ghost use Rattle.art_writing.specs.Branches.{ForEnd, IsBeside, IsBranch, IsPlaced};
+ghost use Rattle.art_writing.specs.Branches.{ForEnd, IsBeside, IsBranch, IsBranchPlaced};
 ghost use Rattle.art_writing.specs.Inserted.{IsInserted, IsPointIn, Touches, placed_for};
 ghost use Rattle.art_writing.specs.Writes.{HasChild};
 ghost use Rattle.art_reading.specs.Paths.{last_step};
@@ -21,8 +19,7 @@ ghost use Rattle.art_writing.specs.declared.insert.InsertKind.TheVariants as kin
 use super::{InsertParentNodeChange, InsertPoint, InsertResult, Refused};
 use crate::writes::{links_after, links_before, place_between, replace_at};
 use art_nodes::node::{
-    AnyInner, AsBytes, Header, InnerPtr, LeafNode, LeafPtr, NodeType, OpaqueNodePtr,
-    OptionalLeafPtr,
+    AsBytes, Header, InnerPtr, LeafNode, LeafPtr, NodeType, OpaqueNodePtr, OptionalLeafPtr,
 };
 use art_nodes::store::NodeStore;
 use art_reading::path::ExplicitMismatch;
@@ -37,23 +34,6 @@ struct Branch<const P: usize> {
     // The leaves beside the new one.
     previous: OptionalLeafPtr,
     next: OptionalLeafPtr,
-}
-
-// A node above two others.
-fn above_two<const P: usize>(
-    header: Header<P>,
-    old_byte: u8,
-    old: OpaqueNodePtr,
-    new_byte: u8,
-    new: OpaqueNodePtr,
-) -> AnyInner<P>
-    ensures kind { any_kind result ≡ Node4 }
-    ensures view { any_view result ≡ with_child new_byte new (with_child old_byte old (childless header.entry)) }
-{
-    let mut node = AnyInner::from_header(NodeType::Node4, header);
-    node.write_child(old_byte, old);
-    node.write_child(new_byte, new);
-    node
 }
 
 // What is read before the tree under a name gets a parent with this prefix, and under these bytes it
@@ -97,7 +77,8 @@ impl InsertPoint {
     ) -> Branch<P>
         requires point { self.insert_kind ≡ kinds.SplitLeaf leaf_node_ptr new_key_bytes_used }
         requires answers { IsPointIn (of_key K.bytes) P store.now key_bytes.now self }
-        ensures { ForEnd (of_key K.bytes) P store.now key_bytes.now self (λ path node. IsBranch (of_key K.bytes) key_bytes.now path node result) }
+        ensures { ForEnd (of_key K.bytes) P store.now key_bytes.now self (λ path node.
+            IsBranch (of_key K.bytes) key_bytes.now path node result) }
     {
         let Some(leaf) = store.leaf(leaf_node_ptr) else {
             unreachable!()
@@ -118,7 +99,8 @@ impl InsertPoint {
     ) -> Branch<P>
         requires point { self.insert_kind ≡ kinds.MismatchPrefix mismatch inner_node_ptr }
         requires answers { IsPointIn (of_key K.bytes) P store.now key_bytes.now self }
-        ensures branch { ForEnd (of_key K.bytes) P store.now key_bytes.now self (λ path node. IsBranch (of_key K.bytes) key_bytes.now path node result) }
+        ensures branch { ForEnd (of_key K.bytes) P store.now key_bytes.now self (λ path node.
+            IsBranch (of_key K.bytes) key_bytes.now path node result) }
         ensures len { result.header.len ≡ mismatch.matched_bytes }
     {
         let end = self.key_bytes_used + mismatch.matched_bytes;
@@ -143,7 +125,8 @@ impl InsertPoint {
         requires point { self.insert_kind ≡ kinds.MismatchPrefix mismatch inner_node_ptr }
         requires answers { (key : List ℕ) × IsPointIn (of_key K.bytes) P store.now key self }
         ensures { (key : List ℕ) → ForEnd (of_key K.bytes) P store.now key self (λ path node.
-            result ≡ header_of P (drop (mismatch.matched_bytes + 1) (prefix_of (of_key K.bytes) (depth_of path) node))) }
+            result ≡ header_of P
+            (drop (mismatch.matched_bytes + 1) (prefix_of (of_key K.bytes) (depth_of path) node))) }
     {
         let Some(node) = store.inner(inner_node_ptr) else {
             unreachable!()
@@ -174,7 +157,7 @@ impl InsertPoint {
         requires previous { IsThere store.old.leaves branch.previous }
         requires next { IsThere store.old.leaves branch.next }
         requires parent { HasChild store.old.inners (last_step self.path) }
-        ensures placed { IsPlaced store.old store.new self old branch.entry (key, value) result }
+        ensures placed { IsBranchPlaced store.old store.new self old branch.entry (key, value) result }
         ensures promise { store.new.promise ≡ take_inner Node4 (take_leaf store.old.promise) }
     {
         let leaf = place_between(
@@ -186,18 +169,16 @@ impl InsertPoint {
                 next: branch.next,
             },
         );
-        let node = above_two(
+        let Ok(parent) = store.place_two(
             branch.header,
             branch.old_byte,
             old,
             branch.new_byte,
             leaf.to_opaque(),
-        );
-        let Ok(node) = store.place_inner(node) else {
+        ) else {
             unreachable!()
         };
-        let parent = node.to_opaque();
-        let new_root = replace_at(store, self.path, self.root, parent);
+        let new_root = replace_at(store, self.path, self.root, parent.to_opaque());
         InsertResult {
             leaf_node_ptr: leaf,
             existing_leaf: None,
@@ -223,7 +204,8 @@ impl InsertPoint {
         ensures inserted { ForTree (of_key K.bytes) P store.old self.root (λ pairs layout. IfOk result (λ done.
             IsInserted (of_key K.bytes) P store.old store.new self (key, value) pairs layout done)) }
         ensures touches { OnOk result (Touches self.insert_kind store.old store.new) }
-        ensures promise { OnOk result (store.new.promise ≡ promise_after (placed_for store.old self.insert_kind) store.old.promise) }
+        ensures promise { OnOk result (store.new.promise ≡
+            promise_after (placed_for store.old self.insert_kind) store.old.promise) }
 
         ensures succeeds { IsTrue (is_covered (placed_for store.old self.insert_kind) store.old.promise) → IsOk result }
         ensures handed_back { IfErr result (λ refused. (refused.key ≡ key) × (refused.value ≡ value)) }
@@ -253,7 +235,8 @@ impl InsertPoint {
         ensures inserted { ForTree (of_key K.bytes) P store.old self.root (λ pairs layout. IfOk result (λ done.
             IsInserted (of_key K.bytes) P store.old store.new self (key, value) pairs layout done)) }
         ensures touches { OnOk result (Touches self.insert_kind store.old store.new) }
-        ensures promise { OnOk result (store.new.promise ≡ promise_after (placed_for store.old self.insert_kind) store.old.promise) }
+        ensures promise { OnOk result (store.new.promise ≡
+            promise_after (placed_for store.old self.insert_kind) store.old.promise) }
 
         ensures succeeds { IsTrue (is_covered (placed_for store.old self.insert_kind) store.old.promise) → IsOk result }
         ensures handed_back { IfErr result (λ refused. (refused.key ≡ key) × (refused.value ≡ value)) }

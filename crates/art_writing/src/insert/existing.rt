@@ -4,7 +4,7 @@ ghost use Rattle.art_nodes.specs.Nodes.{no_promise};
 ghost use Rattle.art_model.specs.Pairs.{of_key};
 ghost use Rattle.art_model.specs.Promises.{is_covered, promise_after};
 ghost use Rattle.art_model.specs.Roots.{ForTree};
-ghost use Rattle.art_writing.specs.Inserted.{HasByteLeft, IsInserted, IsPointIn, Touches, placed_for};
+ghost use Rattle.art_writing.specs.Inserted.{IsInserted, IsPointIn, Touches, placed_for};
 ghost use Rattle.art_writing.specs.declared.insert.InsertKind.TheVariants as kinds;
 
 use super::{InsertParentNodeChange, InsertPoint, InsertResult, Refused};
@@ -53,8 +53,8 @@ impl InsertPoint {
         ensures inserted { ForTree (of_key K.bytes) P store.old self.root (λ pairs layout. IfOk result (λ done.
             IsInserted (of_key K.bytes) P store.old store.new self (key, value) pairs layout done)) }
         ensures touches { OnOk result (Touches self.insert_kind store.old store.new) }
-        ensures promise { OnOk result (store.new.promise ≡ promise_after (placed_for store.old self.insert_kind) store.old.promise) }
-        ensures byte_left { HasByteLeft store.old self.insert_kind }
+        ensures promise { OnOk result (store.new.promise ≡
+            promise_after (placed_for store.old self.insert_kind) store.old.promise) }
 
         ensures succeeds { IsTrue (is_covered (placed_for store.old self.insert_kind) store.old.promise) → IsOk result }
         ensures handed_back { IfErr result (λ refused. (refused.key ≡ key) × (refused.value ≡ value)) }
@@ -101,11 +101,11 @@ ghost use Rattle.art_nodes.specs.Names.{inner_name};
 ghost use Rattle.art_nodes.specs.Nodes.{promises, take_inner};
 ghost use Rattle.art_nodes.specs.declared.node.NodeType.TheVariants.{Leaf, Node256};
 ghost use Rattle.art_nodes.specs.declared.node.OpaqueNodePtr.{OpaqueNodePtr};
-ghost use Rattle.art_model.specs.Trees.{Children};
+ghost use Rattle.art_model.specs.Trees.{Subtrees};
 ghost use Rattle.art_model.specs.Writes.{with_child_at};
 ghost use Rattle.art_writing.specs.declared.insert.InsertParentNodeChange.TheVariants.{NewParent};
-ghost use Rattle.art_writing.specs.Writes.{ComesBetween, HasChild, HasGap, root_with};
-ghost use Rattle.art_reading.specs.Paths.{last_step};
+ghost use Rattle.art_writing.specs.Writes.{ComesBetween, HasChild, HasGap};
+ghost use Rattle.art_reading.specs.Paths.{last_step, root_with};
 
 // What an insertion did that put a leaf below a node.
 fn new_child<K, V>(
@@ -114,28 +114,21 @@ fn new_child<K, V>(
     byte: u8,
     new_root: OpaqueNodePtr,
 ) -> InsertResult<K, V>
-    ensures { result ≡ record { leaf_node_ptr = leaf_node_ptr; existing_leaf = None; new_root = new_root; parent_node_change = NewParent (inner_name parent) byte } }
+    ensures { result ≡ record {
+      leaf_node_ptr = leaf_node_ptr;
+      existing_leaf = None;
+      new_root = new_root;
+      parent_node_change = NewParent parent byte;
+    } }
 {
     InsertResult {
         leaf_node_ptr,
         existing_leaf: None,
         new_root,
         parent_node_change: InsertParentNodeChange::NewParent {
-            new_parent_node: parent.to_opaque(),
+            new_parent_node: parent,
             leaf_node_key_byte: byte,
         },
-    }
-}
-
-// The kind with room for more children; the largest is its own.
-fn larger_kind(kind: NodeType) -> NodeType
-    ensures { result ≡ larger_kind kind }
-{
-    match kind {
-        NodeType::Node4 => NodeType::Node16,
-        NodeType::Node16 => NodeType::Node48,
-        NodeType::Node48 | NodeType::Node256 => NodeType::Node256,
-        NodeType::Leaf => NodeType::Leaf,
     }
 }
 
@@ -150,7 +143,11 @@ fn kind_if_full<K: AsBytes + Drop, V: Drop, const P: usize>(
     let Some(node) = store.inner(name) else {
         unreachable!()
     };
-    node.is_full().then_some(larger_kind(name.kind))
+    if node.is_full() {
+        name.kind.larger()
+    } else {
+        None
+    }
 }
 
 // The leaves beside a new one that comes below an inner node, under a byte that has no child yet.
@@ -160,8 +157,10 @@ fn links_below<K: AsBytes + Drop, V: Drop, const P: usize>(
     byte: u8,
 ) -> (OptionalLeafPtr, OptionalLeafPtr)
     requires inner { name.kind ≢ Leaf }
-    requires gap { (left : Children OpaqueNodePtr (K × V)) × (right : Children OpaqueNodePtr (K × V)) × HasGap store.now name byte left right }
-    ensures beside { (left : Children OpaqueNodePtr (K × V)) → (right : Children OpaqueNodePtr (K × V)) → HasGap store.now name byte left right →
+    requires gap { (left : Subtrees OpaqueNodePtr (K × V)) × (right : Subtrees OpaqueNodePtr (K × V)) ×
+        HasGap store.now name byte left right }
+    ensures beside { (left : Subtrees OpaqueNodePtr (K × V)) → (right : Subtrees OpaqueNodePtr (K × V)) →
+        HasGap store.now name byte left right →
         ComesBetween store.now left right result.0 result.1 }
     ensures few { IfSome (map.get store.now.inners name) (λ node. length node.children < 256) }
 {
@@ -193,21 +192,19 @@ fn put_larger<K: AsBytes + Drop, V: Drop, const P: usize>(
     child: OpaqueNodePtr,
 ) -> (InnerPtr, OpaqueNodePtr)
     requires kind { name.kind ≢ Node256 }
-    requires place { IsSomeAnd (map.get store.old.inners name) (λ node. HasPlace (kind_capacity (larger_kind name.kind)) node.children byte) }
+    requires place { IsSomeAnd (map.get store.old.inners name) (λ node.
+        HasPlace (kind_capacity (larger_kind name.kind)) node.children byte) }
     requires promised { IsTrue (promises store.old.promise.inner (larger_kind name.kind)) }
     requires parent { HasChild (map.remove store.old.inners name) (last_step path) }
     ensures fresh { map.get store.old.inners result.0 ≡ None }
     ensures kind { result.0.kind ≡ larger_kind name.kind }
     ensures inners { IsSomeAnd (map.get store.old.inners name) (λ node.
-        store.new.inners ≡ with_child_at (last_step path) (inner_name result.0) (map.insert (map.remove store.old.inners name) result.0 (with_child byte child node))) }
+        store.new.inners ≡ with_child_at (last_step path) (inner_name result.0)
+        (map.insert (map.remove store.old.inners name) result.0 (with_child byte child node))) }
     ensures leaves { store.new.leaves ≡ store.old.leaves }
     ensures promise { store.new.promise ≡ take_inner (larger_kind name.kind) store.old.promise }
     ensures root { result.1 ≡ root_with path root (inner_name result.0) }
 {
-    let mut node = store.free_inner(name).grow();
-    node.write_child(byte, child);
-    let Ok(larger) = store.place_inner(node) else {
-        unreachable!()
-    };
+    let larger = store.put_larger(name, byte, child);
     (larger, replace_at(store, path, root, larger.to_opaque()))
 }

@@ -10,7 +10,7 @@ ghost use Rattle.art_model.specs.Pairs.{of_key, overwrite, overwrite_reply};
 ghost use Rattle.art_model.specs.Promises.{is_covered, promise_after};
 ghost use Rattle.art_model.specs.Roots.{ForTree, IsCanonicalRoot};
 ghost use Rattle.art_writing.specs.Inserted.{alone};
-ghost use Rattle.art_writing.specs.Overwritten.{HasByteLeftFor, HasCome, HasOverwritten, IsOverwritePointIn, IsOverwritten, IsPrefixPointIn, TouchesForNode, TouchesForPrefix, placed_for_overwrite, placed_for_prefix, root_of};
+ghost use Rattle.art_writing.specs.Overwritten.{HasCome, HasOverwritten, IsOverwritePointIn, IsOverwritten, IsPrefixPointIn, TouchesForNode, TouchesForPrefix, placed_for_overwrite, placed_for_prefix, root_of};
 
 use super::{
     InsertParentNodeChange, InsertResult, OverwritePoint, PrefixInsertPoint, PrefixInsertResult,
@@ -33,15 +33,19 @@ impl PrefixInsertPoint {
         value: V,
     ) -> Result<PrefixInsertResult<K, V>, Refused<K, V>>
         requires { IsPrefixPointIn (of_key K.bytes) PREFIX_LEN store.old (K.bytes key) self }
-        ensures canonical { ForTree (of_key K.bytes) PREFIX_LEN store.old (root_of self) (λ pairs layout. IfOk result (λ done.
-            IsCanonical (of_key K.bytes) PREFIX_LEN store.new (Some done.insert_result.new_root) (overwrite (of_key K.bytes) (key, value) pairs))) }
+        ensures canonical { ForTree (of_key K.bytes) PREFIX_LEN store.old (root_of self) (λ pairs layout.
+            IfOk result (λ done.
+            IsCanonical (of_key K.bytes) PREFIX_LEN store.new (Some done.insert_result.new_root)
+            (overwrite (of_key K.bytes) (key, value) pairs))) }
         ensures root { IfOk result (λ done.
             IsCanonicalRoot (of_key K.bytes) PREFIX_LEN store.new done.insert_result.new_root) }
         ensures leaf { IfOk result (λ done.
             ForTree (of_key K.bytes) PREFIX_LEN store.new done.insert_result.new_root (λ pairs layout.
             HasCome (of_key K.bytes) pairs layout self (key, value) done.insert_result)) }
-        ensures replaced { ForTree (of_key K.bytes) PREFIX_LEN store.old (root_of self) (λ pairs layout. IfOk result (λ done.
-            done.insert_result.existing_leaf ≡ option_map alone (overwrite_reply (of_key K.bytes) (key, value) pairs).0)) }
+        ensures replaced { ForTree (of_key K.bytes) PREFIX_LEN store.old (root_of self) (λ pairs layout.
+            IfOk result (λ done.
+            done.insert_result.existing_leaf ≡
+            option_map alone (overwrite_reply (of_key K.bytes) (key, value) pairs).0)) }
         ensures removed { ForTree (of_key K.bytes) PREFIX_LEN store.old (root_of self) (λ pairs layout.
             IfOk result (λ done.
             done.leafs_removed ≡ (overwrite_reply (of_key K.bytes) (key, value) pairs).1)) }
@@ -52,7 +56,6 @@ impl PrefixInsertPoint {
             OnOk result (TouchesForPrefix self (of_key K.bytes) (K.bytes key) store.old store.new layout)) }
         ensures promise { OnOk result (store.new.promise ≡
             promise_after (placed_for_prefix store.old self) store.old.promise) }
-        ensures byte_left { HasByteLeftFor store.old self }
 
         ensures succeeds { IsTrue (is_covered (placed_for_prefix store.old self) store.old.promise) → IsOk result }
         ensures handed_back { IfErr result (λ refused. (refused.key ≡ key) × (refused.value ≡ value)) }
@@ -87,7 +90,8 @@ impl OverwritePoint {
         requires { IsOverwritePointIn (of_key K.bytes) PREFIX_LEN store.old (K.bytes key) self }
         ensures canonical { ForTree (of_key K.bytes) PREFIX_LEN store.old self.root (λ pairs layout.
             IfOk result (λ done.
-            IsCanonical (of_key K.bytes) PREFIX_LEN store.new (Some done.insert_result.new_root) (overwrite (of_key K.bytes) (key, value) pairs))) }
+            IsCanonical (of_key K.bytes) PREFIX_LEN store.new (Some done.insert_result.new_root)
+            (overwrite (of_key K.bytes) (key, value) pairs))) }
         ensures root { IfOk result (λ done.
             IsCanonicalRoot (of_key K.bytes) PREFIX_LEN store.new done.insert_result.new_root) }
         ensures leaf { IfOk result (λ done.
@@ -95,7 +99,8 @@ impl OverwritePoint {
             HasOverwritten layout self (key, value) done.insert_result)) }
         ensures replaced { ForTree (of_key K.bytes) PREFIX_LEN store.old self.root (λ pairs layout.
             IfOk result (λ done.
-            done.insert_result.existing_leaf ≡ option_map alone (overwrite_reply (of_key K.bytes) (key, value) pairs).0)) }
+            done.insert_result.existing_leaf ≡
+            option_map alone (overwrite_reply (of_key K.bytes) (key, value) pairs).0)) }
         ensures removed { ForTree (of_key K.bytes) PREFIX_LEN store.old self.root (λ pairs layout.
             IfOk result (λ done.
             done.leafs_removed ≡ (overwrite_reply (of_key K.bytes) (key, value) pairs).1)) }
@@ -103,11 +108,13 @@ impl OverwritePoint {
             ForTree (of_key K.bytes) PREFIX_LEN store.new done.insert_result.new_root (λ after new.
             ChangesInPlace (of_key K.bytes) store.old store.new (Some old) (Some new)))) }
         ensures touches { ForTree (of_key K.bytes) PREFIX_LEN store.old self.root (λ pairs layout.
-            OnOk result (TouchesForNode self.overwrite_point.kind (of_key K.bytes) (K.bytes key) store.old store.new layout)) }
+            OnOk result (TouchesForNode self.overwrite_point.kind
+            (of_key K.bytes) (K.bytes key) store.old store.new layout)) }
         ensures promise { OnOk result (store.new.promise ≡
             promise_after (placed_for_overwrite self.overwrite_point.kind) store.old.promise) }
 
-        ensures succeeds { IsTrue (is_covered (placed_for_overwrite self.overwrite_point.kind) store.old.promise) → IsOk result }
+        ensures succeeds { IsTrue (is_covered (placed_for_overwrite self.overwrite_point.kind) store.old.promise) →
+            IsOk result }
         ensures handed_back { IfErr result (λ refused. (refused.key ≡ key) × (refused.value ≡ value)) }
         ensures leaves { OnErr result (store.new.leaves ≡ store.old.leaves) }
         ensures inners { OnErr result (store.new.inners ≡ store.old.inners) }
@@ -161,7 +168,8 @@ impl OverwritePoint {
         ensures promise { OnOk result (store.new.promise ≡
             promise_after (placed_for_overwrite self.overwrite_point.kind) store.old.promise) }
 
-        ensures succeeds { IsTrue (is_covered (placed_for_overwrite self.overwrite_point.kind) store.old.promise) → IsOk result }
+        ensures succeeds { IsTrue (is_covered (placed_for_overwrite self.overwrite_point.kind) store.old.promise) →
+            IsOk result }
         ensures handed_back { IfErr result (λ refused. (refused.key ≡ key) × (refused.value ≡ value)) }
         ensures leaves { OnErr result (store.new.leaves ≡ store.old.leaves) }
         ensures inners { OnErr result (store.new.inners ≡ store.old.inners) }

@@ -1,6 +1,6 @@
 use Rattle.std.proofs.Common.{◌≡◌, subst}
 use Rattle.art_model.specs.Pairs.{of_key}
-use Rattle.art_model.proofs.Canonical.{tree_radix}
+use Rattle.art_operations.proofs.CallerLemmas.{tree_radix}
 use Rattle.uses.specs.Longest.{longest}
 use Rattle.uses.proofs.Longest.{folds_longest}
 use Rattle.uses.proofs.longest_key.Goals as goal

@@ -1,7 +1,6 @@
 use Rattle.std.proofs.Common.{rules}
 use Rattle.art_model.specs.Layouts.{leaf_names}
-use Rattle.art_model.proofs.StoreLaws.{has_children}
-use Rattle.art_operations.proofs.Iterators.{walks_whole}
+use Rattle.art_operations.proofs.CallerLemmas.{has_children, walks_whole}
 use Rattle.uses.proofs.walk.Goals as goal
 
 pub minimum_unchecked-first-requires : goal.minimum_unchecked-first-requires

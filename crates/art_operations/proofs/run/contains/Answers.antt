@@ -1,6 +1,6 @@
 use Rattle.std.proofs.Common.{◌∙◌}
 use Rattle.art_model.specs.Pairs.{of_key}
-use Rattle.art_operations.proofs.Found.{found_stored, root_tree}
+use Rattle.art_writing.proofs.KeysFound.{found_stored, root_tree}
 use Rattle.art_operations.proofs.run.contains.Goals as goal
 
 pub returns : goal.returns

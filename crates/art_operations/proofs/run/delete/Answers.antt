@@ -1,7 +1,8 @@
 use Rattle.std.proofs.Common.{rules, refl, sym, ◌≡◌, Some, None, subst}
 use Rattle.art_model.specs.Pairs.{of_key, remove_reply}
 use Rattle.art_model.specs.Radix.{pairs_of}
-use Rattle.art_operations.proofs.Found.{point_none, point_some, removes_none, takes_key}
+use Rattle.art_operations.proofs.Found.{takes_key}
+use Rattle.art_writing.proofs.KeysFound.{point_none, point_some, removes_none}
 use Rattle.art_operations.proofs.Moves.{absent, absent_at, from_none, from_kept_root}
 use Rattle.art_operations.proofs.run.delete.Goals as goal
 

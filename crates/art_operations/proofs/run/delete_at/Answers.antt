@@ -6,7 +6,8 @@ use Rattle.art_model.specs.Pairs.{of_key, remove_key}
 use Rattle.art_model.specs.Radix.{pairs_of}
 use Rattle.art_operations.specs.declared.run.Reply.TheVariants.{Deleted, NoMemory}
 use Rattle.art_operations.proofs.Moves.{StepFrom, from_root}
-use Rattle.art_operations.proofs.Stepped.{deleted_step, kept_step, deleted_pair}
+use Rattle.art_operations.proofs.Stepped.{deleted_step, kept_step}
+use Rattle.art_writing.proofs.KeysFound.{deleted_pair}
 use Rattle.art_operations.proofs.run.delete_at.Goals as goal
 
 pub returns-in-Ok : goal.returns-in-Ok

@@ -7,7 +7,8 @@ use Rattle.art_model.specs.Stores.{pair_of}
 use Rattle.art_writing.specs.Points.{AnswersTo}
 use Rattle.art_operations.proofs.Moves.{from_none, from_root, from_kept_root}
 use Rattle.art_operations.proofs.Planted.{planted_step, unplanted_step}
-use Rattle.art_operations.proofs.Stepped.{inserted_step, refused_step, conflict_step, no_bytes_step, at_root, is_point, not_false}
+use Rattle.art_operations.proofs.Stepped.{inserted_step, refused_step, conflict_step, no_bytes_step, at_root, is_point}
+use Rattle.art_writing.proofs.KeysFound.{not_false}
 use Rattle.art_operations.proofs.run.insert.Goals as goal
 
 pub returns-in-Ok : goal.returns-in-Ok
@@ -56,7 +57,7 @@ returns-in-Ok-apply g c side second =
     let free = subst (λ key. is_conflict (of_key bytes) key (pairs_of layout) ≡ false) c.as_bytes.ensures ((c.in-Ok-search_for_insert_point.ensures.accepted (pairs_of layout) layout by).0 refl) in
     let here = at_root bytes g.row.P by at.root_is in
     let reply : c.map.result ≡ option_map pair_of c.in-Ok-apply.done.existing_leaf = search rules in
-    rw reply (inserted_step bytes g.row.P by second free at c.in-Ok-apply.ensures.byte_left (record {
+    rw reply (inserted_step bytes g.row.P by second free at (record {
       canonical = c.in-Ok-apply.ensures.canonical (pairs_of layout) layout here;
       replaced = c.in-Ok-apply.ensures.replaced (pairs_of layout) layout here;
       kept = c.in-Ok-apply.ensures.kept (pairs_of layout) layout here;
@@ -71,7 +72,7 @@ returns-in-Err-apply g c side second =
     let at = subst (λ key. AnswersTo (of_key bytes) g.row.P layout key c.in-Ok-search_for_insert_point.point) c.as_bytes.ensures
     (c.in-Ok-search_for_insert_point.ensures.point (pairs_of layout) layout by) in
     let free = subst (λ key. is_conflict (of_key bytes) key (pairs_of layout) ≡ false) c.as_bytes.ensures ((c.in-Ok-search_for_insert_point.ensures.accepted (pairs_of layout) layout by).0 refl) in
-    refused_step bytes g.row.P by second free at c.in-Err-apply.ensures.byte_left (ap₂ (λ a b. (a, b)) c.in-Err-apply.ensures.handed_back.0 c.in-Err-apply.ensures.handed_back.1) (record {
+    refused_step bytes g.row.P by second free at (ap₂ (λ a b. (a, b)) c.in-Err-apply.ensures.handed_back.0 c.in-Err-apply.ensures.handed_back.1) (record {
       same = (c.in-Err-apply.ensures.leaves, c.in-Err-apply.ensures.inners);
       void = c.in-Err-apply.ensures.void;
       uncovered = λ covered. absurd (false≢true (c.in-Err-apply.ensures.succeeds covered));

@@ -30,7 +30,7 @@ returns-in-Ok-apply g c side second =
     let at = subst (λ key. IsPointFor (of_key bytes) g.row.P key (pairs_of layout) layout point) c.as_bytes.ensures (c.search_for_prefix_insert_point-at.ensures.point (pairs_of layout) layout by) in
     let here = prefix_at (bytes c.args.key) by point at in
     let reply : c.map.result ≡ option_map pair_of c.in-Ok-apply.done.insert_result.existing_leaf = search rules in
-    rw reply (prefix_step bytes g.row.P by point second at c.in-Ok-apply.ensures.byte_left (record {
+    rw reply (prefix_step bytes g.row.P by point second at (record {
       canonical = c.in-Ok-apply.ensures.canonical (pairs_of layout) layout here;
       replaced = c.in-Ok-apply.ensures.replaced (pairs_of layout) layout here;
       removed = c.in-Ok-apply.ensures.removed (pairs_of layout) layout here;
@@ -45,7 +45,7 @@ returns-in-Err-apply g c side second =
     let point = c.search_for_prefix_insert_point-at.result in
     from_kept_root bytes g.row.P side second c.in-Some.is (λ layout by.
     let at = subst (λ key. IsPointFor (of_key bytes) g.row.P key (pairs_of layout) layout point) c.as_bytes.ensures (c.search_for_prefix_insert_point-at.ensures.point (pairs_of layout) layout by) in
-    prefix_refused bytes g.row.P by point second at c.in-Err-apply.ensures.byte_left (ap₂ (λ a b. (a, b)) c.in-Err-apply.ensures.handed_back.0 c.in-Err-apply.ensures.handed_back.1) (record {
+    prefix_refused bytes g.row.P by point second at (ap₂ (λ a b. (a, b)) c.in-Err-apply.ensures.handed_back.0 c.in-Err-apply.ensures.handed_back.1) (record {
       same = (c.in-Err-apply.ensures.leaves, c.in-Err-apply.ensures.inners);
       void = c.in-Err-apply.ensures.void;
       uncovered = λ covered. absurd (false≢true (c.in-Err-apply.ensures.succeeds covered));

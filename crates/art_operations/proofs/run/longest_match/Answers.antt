@@ -1,6 +1,6 @@
 use Rattle.std.proofs.Common.{◌∙◌, sym, ap, length, [], ◌∷◌}
 use Rattle.art_model.specs.Pairs.{of_key, match_of}
-use Rattle.art_operations.proofs.Found.{root_tree, match_found, found_there}
+use Rattle.art_writing.proofs.KeysFound.{root_tree, match_found, found_there}
 use Rattle.art_operations.proofs.run.longest_match.Goals as goal
 
 pub unreachable-requires : goal.unreachable-requires

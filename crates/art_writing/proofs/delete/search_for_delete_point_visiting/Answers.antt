@@ -1,6 +1,6 @@
 use Rattle.std.proofs.Common.{ap}
 use Rattle.art_model.specs.Pairs.{first_of}
-use Rattle.art_writing.proofs.DeletePoints.{point_there}
+use Rattle.art_writing.proofs.DeletePoints.{leads_to, point_there}
 use Rattle.art_writing.proofs.delete.search_for_delete_point_visiting.Goals as goal
 
 pub returns-in_err-last-clause-point : goal.returns-in_err-last-clause-point
@@ -8,8 +8,8 @@ returns-in_err-last-clause-point g c pairs layout by = rw (c.from_residual.ensur
 
 pub returns-clause-point : goal.returns-clause-point
 returns-clause-point g c pairs layout by =
-    let (only, at) = c.in_ok-last.ensures.leaf pairs layout by in
-    point_there (ap first_of only) (record { path = at.0.0; whole = at.0.1; path_is = at.1 })
+    let last = c.in_ok-last.ensures.leaf pairs layout by in
+    point_there (ap first_of last.only) (leads_to last.is_leaf last.path_is)
 
 pub returns-clause-exactly : goal.returns-clause-exactly
 returns-clause-exactly g c pairs layout by found = c.in_ok-last.ensures.exactly pairs layout by found
@@ -20,5 +20,5 @@ returns-in_err-last-clause-applies g c = rw c.from_residual.ensures tt
 pub returns-clause-applies : goal.returns-clause-applies
 returns-clause-applies g c =
     let (pairs, layout, by) = c.requires.root in
-    let (only, at) = c.in_ok-last.ensures.leaf pairs layout by in
-    (pairs, layout, _, by, record { path = at.0.0; whole = at.0.1; path_is = at.1 })
+    let last = c.in_ok-last.ensures.leaf pairs layout by in
+    (pairs, layout, _, by, leads_to last.is_leaf last.path_is)

@@ -5,4 +5,4 @@ pub unreachable-requires : goal.unreachable-requires
 unreachable-requires g c =
     let (tree, full) = c.requires in
     let found = c.maximum_unchecked-last.ensures tree full in
-    tree_leaf_there c.args.store.now tree c.maximum_unchecked-last.result found.1.0 full.0.holds found.1.2 c.in_default.ensures
+    tree_leaf_there c.args.store.now tree c.maximum_unchecked-last.result found.pair full.0.holds found.has c.in_default.ensures

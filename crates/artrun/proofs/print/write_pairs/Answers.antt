@@ -19,7 +19,7 @@ all_leaves : {K V : Type 0} (s : Nodes K V) (root : OpaqueNodePtr) (first last :
 all_leaves s root first last (layout, full, linked) has_first has_last = (
   leaf_names layout,
   record {
-    ends = ((has_first layout full).0, (has_last layout full).0);
+    ends = ((has_first layout full).name_is, (has_last layout full).name_is);
     segment = tree_segment layout full.0.distinct linked;
   },
 )

@@ -1,5 +1,6 @@
-use Rattle.art_nodes.proofs.RemovalLemmas.{shown_rotated}
+use Rattle.std.proofs.Common.{arith}
+use Rattle.art_nodes.proofs.RemovalLemmas.{an_item, shown_rotated}
 use Rattle.art_nodes.proofs.node.table.remove_from.Goals as goal
 
 pub returns : goal.returns
-returns c = shown_rotated c.args.part.now c.rotate_left.new.self c.args.at c.requires c.rotate_left.ensures.after
+returns g c = shown_rotated c.args.part.now c.rotate_left.new.self c.args.at (an_item c.args.part.now (omega (arith, c.requires))) c.requires c.rotate_left.ensures.after

@@ -1,7 +1,6 @@
 use Rattle.std.proofs.Common.{ap, ◌∙◌, Some}
 use Rattle.std.specs.Prelude.{slice_set}
 use Rattle.art_nodes.specs.StoreView.{leaves_of}
-use Rattle.art_nodes.specs.declared.store.Node.TheVariants.{Leaf}
 use Rattle.art_nodes.specs.Nodes.{change}
 use Rattle.art_nodes.specs.Changes.{with_value}
 use Rattle.art_nodes.proofs.StoreLemmas.{leaves_written}
@@ -9,7 +8,7 @@ use Rattle.art_nodes.proofs.store.NodeStore.swap_value.Goals as goal
 
 pub returns-clause-leaves : goal.returns-clause-leaves
 returns-clause-leaves g c =
-    ap (λ leaf. leaves_of (slice_set c.self.inside.slab.slots c.args.leaf.slot (Some (Leaf leaf))))
-    (λ i. record { key = c.in-Leaf.node.key; value = c.replace.ensures.after i; previous = c.in-Leaf.node.previous; next = c.in-Leaf.node.next }) ∙
-    leaves_written c.self.inside.slab c.args.leaf c.in-Leaf.node (with_value c.args.value) (c.index_mut.ensures.value ∙ ap Some c.in-Leaf.is)
+    ap (λ leaf. leaves_of (slice_set c.self.inside.leaves.slots c.args.leaf.slot (Some leaf)))
+    (λ i. record { key = c.index_mut-found.result.now.key; value = c.replace.ensures.after i; previous = c.index_mut-found.result.now.previous; next = c.index_mut-found.result.now.next })
+    ∙ leaves_written c.self.inside.leaves c.args.leaf _ (with_value c.args.value) c.index_mut-found.ensures.value
     ∙ ap (λ nodes. change nodes.leaves c.args.leaf (with_value c.args.value)) c.self.view_is

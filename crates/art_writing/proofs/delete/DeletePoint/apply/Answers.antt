@@ -39,20 +39,20 @@ pub returns-then-num_children-start-clause-kept : goal.returns-then-num_children
 returns-then-num_children-start-clause-kept g c =
     kept_deleted g.K.AsBytes.bytes g.row.PREFIX_LEN c.args.store.now c.delete_child.new.store c.args.root c.args.self (Ok c.delete_child.result) c.requires c.delete_child.ensures.deleted
 
-pub returns-then-eq-clause-canonical : goal.returns-then-eq-clause-canonical
-returns-then-eq-clause-canonical g c =
+pub returns-in_default-smaller-clause-canonical : goal.returns-in_default-smaller-clause-canonical
+returns-in_default-smaller-clause-canonical g c =
     canonical_deleted g.K.AsBytes.bytes g.row.PREFIX_LEN c.args.store.now c.compress_parent.new.store c.args.root c.args.self (Ok c.compress_parent.result) c.requires c.compress_parent.ensures.deleted
 
-pub returns-then-eq-clause-deleted : goal.returns-then-eq-clause-deleted
-returns-then-eq-clause-deleted g c =
+pub returns-in_default-smaller-clause-deleted : goal.returns-in_default-smaller-clause-deleted
+returns-in_default-smaller-clause-deleted g c =
     leaf_deleted g.K.AsBytes.bytes g.row.PREFIX_LEN c.args.store.now c.compress_parent.new.store c.args.root c.args.self (Ok c.compress_parent.result) c.requires c.compress_parent.ensures.deleted
 
-pub returns-then-eq-clause-root : goal.returns-then-eq-clause-root
-returns-then-eq-clause-root g c =
+pub returns-in_default-smaller-clause-root : goal.returns-in_default-smaller-clause-root
+returns-in_default-smaller-clause-root g c =
     root_deleted g.K.AsBytes.bytes g.row.PREFIX_LEN c.args.store.now c.compress_parent.new.store c.args.root c.args.self (Ok c.compress_parent.result) c.requires c.compress_parent.ensures.deleted
 
-pub returns-then-eq-clause-kept : goal.returns-then-eq-clause-kept
-returns-then-eq-clause-kept g c =
+pub returns-in_default-smaller-clause-kept : goal.returns-in_default-smaller-clause-kept
+returns-in_default-smaller-clause-kept g c =
     kept_deleted g.K.AsBytes.bytes g.row.PREFIX_LEN c.args.store.now c.compress_parent.new.store c.args.root c.args.self (Ok c.compress_parent.result) c.requires c.compress_parent.ensures.deleted
 
 pub returns-clause-canonical : goal.returns-clause-canonical
@@ -79,8 +79,8 @@ pub returns-then-num_children-start-clause-left : goal.returns-then-num_children
 returns-then-num_children-start-clause-left g c =
     left_deleted g.K.AsBytes.bytes g.row.PREFIX_LEN c.args.store.now c.delete_child.new.store c.args.root c.args.self (Ok c.delete_child.result) c.requires c.delete_child.ensures.deleted
 
-pub returns-then-eq-clause-left : goal.returns-then-eq-clause-left
-returns-then-eq-clause-left g c =
+pub returns-in_default-smaller-clause-left : goal.returns-in_default-smaller-clause-left
+returns-in_default-smaller-clause-left g c =
     left_deleted g.K.AsBytes.bytes g.row.PREFIX_LEN c.args.store.now c.compress_parent.new.store c.args.root c.args.self (Ok c.compress_parent.result) c.requires c.compress_parent.ensures.deleted
 
 pub returns-clause-left : goal.returns-clause-left

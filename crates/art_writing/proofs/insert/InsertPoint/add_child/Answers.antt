@@ -8,7 +8,7 @@ use Rattle.art_writing.specs.Inserted.{is_full, placed_for}
 use Rattle.art_writing.specs.Writes.{HasChild}
 use Rattle.art_reading.specs.Paths.{last_step}
 use Rattle.art_writing.proofs.Entered.{entry, entry_there, entry_inner, entry_gap, entry_parent}
-use Rattle.art_writing.proofs.LeafAdded.{no_leaf_asked, previous_is_there, next_is_there, room_inserted, room_touched, full_inserted, full_touched, has_room, not_of_last, larger_has_room, asked_none, asked_some}
+use Rattle.art_writing.proofs.LeafAdded.{no_leaf_asked, previous_is_there, next_is_there, room_inserted, room_touched, full_inserted, full_touched, has_room, larger_has_room, asked_full, asked_room}
 use Rattle.art_writing.proofs.Reserved.{leaf_promised, inner_promised, after_reserve, not_refused}
 use Rattle.art_writing.proofs.insert.InsertPoint.add_child.Goals as goal
 
@@ -25,9 +25,7 @@ links_below-previous-requires g c =
 
 pub reserve-requires : goal.reserve-requires
 reserve-requires g c =
-    let (pairs, layout, by, own) = c.requires.answers in
-    let e = entry c.requires.answers c.requires.point refl by in
-    (search rules, λ asked. no_leaf_asked c.args.inner_node_ptr.kind (is_full c.args.store.now c.args.inner_node_ptr) (entry_inner by e) (sym c.kind_if_full-larger.ensures ∙ asked))
+    (search rules, λ asked. no_leaf_asked c.args.inner_node_ptr.kind (is_full c.args.store.now c.args.inner_node_ptr) (sym c.kind_if_full-larger.ensures ∙ asked))
 
 pub place_between-leaf_node_ptr-requires : goal.place_between-leaf_node_ptr-requires
 place_between-leaf_node_ptr-requires g c =
@@ -51,9 +49,7 @@ put_larger-requires g c =
     let e = entry c.requires.answers c.requires.point (ap (λ l. get_or l c.args.self.key_bytes_used 0) c.as_bytes.ensures) by in
     let same = c.place_between-leaf_node_ptr.ensures.inners ∙ c.reserve.ensures.inners in
     let p = c.args.inner_node_ptr in
-    let full = (asked_some p.kind (is_full c.args.store.now p) c.kind_if_full-larger.ensures (sym c.is_some.ensures ∙ c.if-is_some.true)).0 in
-    let last = not_of_last c.args.self (c.args.key, c.args.value) by e full c.links_below-previous.ensures.few in
-    let asked = (asked_some p.kind (is_full c.args.store.now p) c.kind_if_full-larger.ensures (sym c.is_some.ensures ∙ c.if-is_some.true)).1 in
+    let (full, last, asked) = asked_full c.args.self (c.args.key, c.args.value) by e c.links_below-previous.ensures.few c.kind_if_full-larger.ensures (sym c.is_some.ensures ∙ c.if-is_some.true) in
     let covered = not_refused c.reserve.result (sym c.is_err.ensures.value ∙ c.if-is_err.false) c.reserve.ensures.reserved in (
       search rules,
       (
@@ -74,8 +70,7 @@ returns-then-is_some-clause-inserted g c pairs layout by =
     let e = entry c.requires.answers c.requires.point (ap (λ l. get_or l c.args.self.key_bytes_used 0) c.as_bytes.ensures) by in
     let beside = c.links_below-previous.ensures.beside e.left e.right (entry_gap by e) in
     let p = c.args.inner_node_ptr in
-    let full = (asked_some p.kind (is_full c.args.store.now p) c.kind_if_full-larger.ensures (sym c.is_some.ensures ∙ c.if-is_some.true)).0 in
-    let last = not_of_last c.args.self (c.args.key, c.args.value) by e full c.links_below-previous.ensures.few in
+    let (full, last, asked) = asked_full c.args.self (c.args.key, c.args.value) by e c.links_below-previous.ensures.few c.kind_if_full-larger.ensures (sym c.is_some.ensures ∙ c.if-is_some.true) in
     full_inserted c.args.self (c.args.key, c.args.value) by e _ _ beside c.reserve.new.self c.place_between-leaf_node_ptr.new.store
     c.reserve.ensures.leaves c.reserve.ensures.inners c.place_between-leaf_node_ptr.ensures.fresh c.place_between-leaf_node_ptr.ensures.leaves
     c.place_between-leaf_node_ptr.ensures.inners c.to_opaque-child.ensures c.put_larger.new.store c.put_larger.ensures.leaves full last
@@ -87,8 +82,7 @@ returns-then-is_some-clause-touches g c =
     let e = entry c.requires.answers c.requires.point (ap (λ l. get_or l c.args.self.key_bytes_used 0) c.as_bytes.ensures) by in
     let beside = c.links_below-previous.ensures.beside e.left e.right (entry_gap by e) in
     let p = c.args.inner_node_ptr in
-    let full = (asked_some p.kind (is_full c.args.store.now p) c.kind_if_full-larger.ensures (sym c.is_some.ensures ∙ c.if-is_some.true)).0 in
-    let last = not_of_last c.args.self (c.args.key, c.args.value) by e full c.links_below-previous.ensures.few in
+    let (full, last, asked) = asked_full c.args.self (c.args.key, c.args.value) by e c.links_below-previous.ensures.few c.kind_if_full-larger.ensures (sym c.is_some.ensures ∙ c.if-is_some.true) in
     full_touched c.args.self (c.args.key, c.args.value) by e _ _ beside c.reserve.new.self c.place_between-leaf_node_ptr.new.store
     c.reserve.ensures.leaves c.reserve.ensures.inners c.place_between-leaf_node_ptr.ensures.fresh c.place_between-leaf_node_ptr.ensures.leaves
     c.place_between-leaf_node_ptr.ensures.inners c.to_opaque-child.ensures c.put_larger.new.store c.put_larger.ensures.leaves full last
@@ -96,8 +90,10 @@ returns-then-is_some-clause-touches g c =
 
 pub returns-then-is_some-clause-promise : goal.returns-then-is_some-clause-promise
 returns-then-is_some-clause-promise g c =
+    let (pairs, layout, by, own) = c.requires.answers in
+    let e = entry c.requires.answers c.requires.point (ap (λ l. get_or l c.args.self.key_bytes_used 0) c.as_bytes.ensures) by in
     let p = c.args.inner_node_ptr in
-    let asked = (asked_some p.kind (is_full c.args.store.now p) c.kind_if_full-larger.ensures (sym c.is_some.ensures ∙ c.if-is_some.true)).1 in
+    let (full, last, asked) = asked_full c.args.self (c.args.key, c.args.value) by e c.links_below-previous.ensures.few c.kind_if_full-larger.ensures (sym c.is_some.ensures ∙ c.if-is_some.true) in
     let granted = sym c.is_err.ensures.value ∙ c.if-is_err.false in
     c.put_larger.ensures.promise
     ∙ ap (λ promise. inner_taken (Some (larger_kind p.kind)) promise) c.place_between-leaf_node_ptr.ensures.promise
@@ -113,7 +109,7 @@ write_child-requires g c =
     let e = entry c.requires.answers c.requires.point (ap (λ l. get_or l c.args.self.key_bytes_used 0) c.as_bytes.ensures) by in
     let p = c.args.inner_node_ptr in
     let same = c.place_between-leaf_node_ptr.ensures.inners ∙ c.reserve.ensures.inners in
-    let room = asked_none p.kind (is_full c.args.store.now p) c.kind_if_full-larger.ensures (sym c.is_some.ensures ∙ c.if-is_some.false) in
+    let room = asked_room c.args.self (c.args.key, c.args.value) by e c.links_below-previous.ensures.few c.kind_if_full-larger.ensures (sym c.is_some.ensures ∙ c.if-is_some.false) in
     (search rules, has_room c.args.self (c.args.key, c.args.value) by e room c.place_between-leaf_node_ptr.new.store.inners same)
 
 pub returns-clause-inserted : goal.returns-clause-inserted
@@ -121,7 +117,7 @@ returns-clause-inserted g c pairs layout by =
     let e = entry c.requires.answers c.requires.point (ap (λ l. get_or l c.args.self.key_bytes_used 0) c.as_bytes.ensures) by in
     let beside = c.links_below-previous.ensures.beside e.left e.right (entry_gap by e) in
     let p = c.args.inner_node_ptr in
-    let room = asked_none p.kind (is_full c.args.store.now p) c.kind_if_full-larger.ensures (sym c.is_some.ensures ∙ c.if-is_some.false) in
+    let room = asked_room c.args.self (c.args.key, c.args.value) by e c.links_below-previous.ensures.few c.kind_if_full-larger.ensures (sym c.is_some.ensures ∙ c.if-is_some.false) in
     room_inserted c.args.self (c.args.key, c.args.value) by e _ _ beside c.reserve.new.self c.place_between-leaf_node_ptr.new.store
     c.reserve.ensures.leaves c.reserve.ensures.inners c.place_between-leaf_node_ptr.ensures.fresh c.place_between-leaf_node_ptr.ensures.leaves
     c.place_between-leaf_node_ptr.ensures.inners c.to_opaque-child.ensures c.write_child.new.self c.write_child.ensures.leaves room
@@ -133,7 +129,7 @@ returns-clause-touches g c =
     let e = entry c.requires.answers c.requires.point (ap (λ l. get_or l c.args.self.key_bytes_used 0) c.as_bytes.ensures) by in
     let beside = c.links_below-previous.ensures.beside e.left e.right (entry_gap by e) in
     let p = c.args.inner_node_ptr in
-    let room = asked_none p.kind (is_full c.args.store.now p) c.kind_if_full-larger.ensures (sym c.is_some.ensures ∙ c.if-is_some.false) in
+    let room = asked_room c.args.self (c.args.key, c.args.value) by e c.links_below-previous.ensures.few c.kind_if_full-larger.ensures (sym c.is_some.ensures ∙ c.if-is_some.false) in
     room_touched c.args.self (c.args.key, c.args.value) by e _ _ beside c.reserve.new.self c.place_between-leaf_node_ptr.new.store
     c.reserve.ensures.leaves c.reserve.ensures.inners c.place_between-leaf_node_ptr.ensures.fresh c.place_between-leaf_node_ptr.ensures.leaves
     c.place_between-leaf_node_ptr.ensures.inners c.to_opaque-child.ensures c.write_child.new.self c.write_child.ensures.leaves room c.write_child.ensures.inners c.requires.point

@@ -8,6 +8,6 @@ pub replace_at-new_root-requires : goal.replace_at-new_root-requires
 replace_at-new_root-requires g c = (
   search rules,
   subst (λ m. HasChild m (last_step c.args.self.path)) (sym c.in-Ok.ensures.placed)
-      (child_stays c.place_between-leaf.new.store.inners c.in-Ok.node _ (last_step c.args.self.path) c.in-Ok.ensures.fresh
+      (child_stays c.place_between-leaf.new.store.inners c.in-Ok.parent _ (last_step c.args.self.path) c.in-Ok.ensures.fresh
       (subst (λ m. HasChild m (last_step c.args.self.path)) (sym c.place_between-leaf.ensures.inners) c.requires.parent)),
 )

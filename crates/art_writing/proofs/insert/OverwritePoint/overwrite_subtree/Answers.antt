@@ -2,8 +2,8 @@ use Rattle.std.proofs.Common.{◌∙◌, ap, ap₂, sym, refl, subst, rules, Non
 use Rattle.std.specs.FinMap as map
 use Rattle.art_nodes.specs.declared.node.LeafNode.{LeafNode}
 use Rattle.art_model.specs.Writes.{IsThere, with_child_at, with_leaf}
-use Rattle.art_writing.specs.Writes.{HasChild, SameNodes, root_with}
-use Rattle.art_reading.specs.Paths.{last_step}
+use Rattle.art_writing.specs.Writes.{HasChild, SameNodes}
+use Rattle.art_reading.specs.Paths.{last_step, root_with}
 use Rattle.art_writing.proofs.Reserved.{leaf_promised, not_refused}
 use Rattle.art_writing.proofs.Overwrites.{full_stays, read_next, read_previous, subtree_at, subtree_next, subtree_overwritten, subtree_parent, subtree_previous, subtree_still}
 use Rattle.art_writing.proofs.insert.OverwritePoint.overwrite_subtree.Goals as goal

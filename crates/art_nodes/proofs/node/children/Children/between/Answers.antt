@@ -1,16 +1,17 @@
-use Rattle.std.proofs.Common.{ℕ, ◌+◌, ◌-◌, take, drop, min, ap, ◌∙◌}
-use Rattle.art_nodes.specs.Inner.{children_between, count_below}
-use Rattle.art_nodes.proofs.ChildrenLemmas.{IsRising-part, part_between}
+use Rattle.std.proofs.Common.{sym, ap, subst, ◌∙◌}
+use Rattle.art_nodes.specs.Inner.{children_between}
+use Rattle.art_nodes.specs.Rests.{IsRest, rest_list}
+use Rattle.art_nodes.proofs.Extent.{part_between}
 use Rattle.art_nodes.proofs.node.children.Children.between.Goals as goal
 
-pub invariant_of-result : goal.invariant_of-result
-invariant_of-result c = IsRising-part _ _ _ c.self.invariant
+pub returns-in-Indexed : goal.returns-in-Indexed
+returns-in-Indexed c =
+    part_between c.in-Indexed.table.now (subst IsRest c.in-Indexed.is c.self.invariant).0 c.in-Indexed.span.from c.in-Indexed.span.to
+    c.args.first c.args.last c.between_in.result.from c.between_in.result.to c.between_in.ensures.from c.between_in.ensures.to
+    ∙ ap (children_between c.args.first c.args.last) (sym (ap rest_list c.in-Indexed.is) ∙ c.self.view_is)
 
-pub returns : goal.returns
-returns c =
-    ap (λ (n : ℕ). take (c.count_below-end.result - n) (drop n c.self.inside.rest.now)) c.min-start.ensures
-    ∙ ap (λ (n : ℕ). take (n - min c.count_below.result n) (drop (min c.count_below.result n) c.self.inside.rest.now)) c.count_below-end.ensures.value
-    ∙ ap (λ (n : ℕ). take (count_below c.self.inside.rest.now (c.args.last + 1) - min n (count_below c.self.inside.rest.now (c.args.last + 1)))
-    (drop (min n (count_below c.self.inside.rest.now (c.args.last + 1))) c.self.inside.rest.now)) c.count_below.ensures.value
-    ∙ part_between c.args.first c.args.last c.self.inside.rest.now c.self.invariant
-    ∙ ap (children_between c.args.first c.args.last) c.self.view_is
+pub returns-in-Direct : goal.returns-in-Direct
+returns-in-Direct c =
+    part_between c.in-Direct.table.now (subst IsRest c.in-Direct.is c.self.invariant).0 c.in-Direct.span.from c.in-Direct.span.to
+    c.args.first c.args.last c.between_in-in-Direct.result.from c.between_in-in-Direct.result.to c.between_in-in-Direct.ensures.from c.between_in-in-Direct.ensures.to
+    ∙ ap (children_between c.args.first c.args.last) (sym (ap rest_list c.in-Direct.is) ∙ c.self.view_is)

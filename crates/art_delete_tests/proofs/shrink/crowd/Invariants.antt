@@ -1,7 +1,0 @@
-use Rattle.art_model.specs.Pairs.{of_key}
-use Rattle.art_model.specs.Roots.{IsCanonicalRoot}
-use Rattle.art_delete_tests.proofs.shrink.crowd.Given as goal
-
--- the tree is as it was
-abbrev pub invariant-loop : goal.invariant-loop
-invariant-loop g l = IsCanonicalRoot (of_key (λ key. key.items)) g.row.P l.store l.fn.root

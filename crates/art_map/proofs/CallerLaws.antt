@@ -1,0 +1,37 @@
+-- What a caller finds in a map after a change, whatever the pairs.
+use Rattle.std.proofs.Common.{◌≡◌, ℕ, List, [], ◌∷◌, ap, ◌∙◌, Some, None, false, cond}
+use Rattle.std.specs.Option.{option_map}
+use Rattle.art_model.specs.Keys.{are_same}
+use Rattle.art_model.specs.Pairs.{first_of, of_key, put, remove_key, stored_for, with_key}
+use Rattle.art_model.proofs.Keys.{front_same}
+use Rattle.art_model.proofs.MapLaws.{put_is_found, removed_is_gone}
+use Rattle.art_model.proofs.Puts.{stored_value}
+use Rattle.art_map.specs.MapAnswers.{value_at}
+
+module _ {K V : Type 0} (bytes : K → List ℕ) where
+  -- under the key of a put its value is found
+  pub value_here : (key : K) (value : V) (pairs : List (K × V)) → value_at bytes (bytes key) (put (of_key bytes) (key, value) pairs) ≡ Some value
+  value_here key value pairs =
+      ap (λ xs. option_map (λ x. x.1) (first_of xs)) (put_is_found bytes (bytes key) (key, value) pairs
+      ∙ ap (λ b. cond b (stored_for (of_key bytes) (key, value) pairs ∷ []) (with_key (of_key bytes) (bytes key) pairs)) (front_same (bytes key)))
+      ∙ ap Some (stored_value bytes (key, value) pairs)
+
+  -- and under every other key what was found before
+  pub value_elsewhere : (other : List ℕ) (key : K) (value : V) (pairs : List (K × V)) → are_same other (bytes key) ≡ false →
+      value_at bytes other (put (of_key bytes) (key, value) pairs) ≡ value_at bytes other pairs
+  value_elsewhere other key value pairs apart =
+      ap (λ xs. option_map (λ x. x.1) (first_of xs)) (put_is_found bytes other (key, value) pairs
+      ∙ ap (λ b. cond b (stored_for (of_key bytes) (key, value) pairs ∷ []) (with_key (of_key bytes) other pairs)) apart)
+
+  -- under a key that was removed nothing is found
+  pub value_gone : (key : List ℕ) (pairs : List (K × V)) → value_at bytes key (remove_key (of_key bytes) key pairs) ≡ None
+  value_gone key pairs =
+      ap (λ xs. option_map (λ x. x.1) (first_of xs)) (removed_is_gone (of_key bytes) key key pairs ∙ ap (λ b. cond b [] (with_key (of_key bytes) key pairs)) (front_same key))
+
+  -- and under every other key what was found before
+  pub value_left : (other key : List ℕ) (pairs : List (K × V)) → are_same other key ≡ false → value_at bytes other (remove_key (of_key bytes) key pairs) ≡ value_at bytes other pairs
+  value_left other key pairs apart =
+      ap (λ xs. option_map (λ x. x.1) (first_of xs)) (removed_is_gone (of_key bytes) other key pairs ∙ ap (λ b. cond b [] (with_key (of_key bytes) other pairs)) apart)
+
+-- For callers: `tactic(auto, using(crate::proofs::Laws::map_laws))`, where `proofs/Laws.antt` hands it on.
+pub ruleset map_laws = (value_here, value_elsewhere, value_gone, value_left)

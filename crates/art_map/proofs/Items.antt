@@ -1,0 +1,187 @@
+-- The pairs that a walk of leaves has left.
+use Rattle.std.proofs.Common.{◌≡◌, ℕ, suc, ◌+◌, ◌-◌, List, [], ◌∷◌, ◌++◌, length, refl, ap, ap₂, sym, ◌∙◌, subst, arith, length-append, append_assoc, Option, Some, None}
+use Rattle.std.specs.Option.{option_map}
+use Rattle.std.specs.FinMap as map
+use Rattle.art_nodes.specs.Names.{leaf_name}
+use Rattle.art_nodes.specs.Nodes.{Nodes}
+use Rattle.art_nodes.specs.declared.node.LeafNode.{LeafNode}
+use Rattle.art_nodes.specs.declared.node.LeafPtr.{LeafPtr}
+use Rattle.art_nodes.specs.declared.node.OpaqueNodePtr.{OpaqueNodePtr}
+use Rattle.art_model.specs.Canonical.{IsCanonicalTree}
+use Rattle.art_model.specs.Layouts.{AreLinked, first_or, leaf_names, leaf_names_below, Holds, HoldsBelow}
+use Rattle.art_model.specs.Lookups.{HasFirstLeaf, HasLastLeaf}
+use Rattle.art_model.specs.Pairs.{first_of, last_of, without_first, without_last}
+use Rattle.art_model.specs.Radix.{pairs_of, pairs_below}
+use Rattle.art_model.specs.Roots.{IsRootOf}
+use Rattle.art_model.specs.Stores.{links_at, node_at, pair_of}
+use Rattle.art_model.specs.Trees.{Tree, leaf, inner, Subtrees, child, no_child}
+use Rattle.art_model.proofs.Canonical.{tree_radix}
+use Rattle.art_model.proofs.Paths.{length-leaf_names}
+use Rattle.art_model.proofs.Segments.{but_last, tree_segment}
+use Rattle.art_model.proofs.Views.{leaf_there}
+use Rattle.art_reading.specs.Iterators.{IsIteratorOf}
+use Rattle.art_reading.proofs.Iterators.{empty_iterator, linked_leaf}
+use Rattle.art_map.specs.MapItems.{pairs_from, pairs_left, IsWalk}
+use Rattle.art_map.specs.MapPairs.{HoldsPairs}
+use Rattle.art_map.proofs.Enough.{leaf_used, as_leaf}
+
+module _ {K V : Type 0} (s : Nodes K V) where
+  -- the pairs of the leaves under these names
+  abbrev one_pair : Option (LeafNode K V) → List (K × V)
+  one_pair None = []
+  one_pair (Some node) = pair_of node ∷ []
+
+  abbrev named_pairs : List OpaqueNodePtr → List (K × V)
+  named_pairs [] = []
+  named_pairs (n ∷ ns) = one_pair (map.get s.leaves (as_leaf n)) ++ named_pairs ns
+
+  named_append : (xs ys : List OpaqueNodePtr) → named_pairs (xs ++ ys) ≡ named_pairs xs ++ named_pairs ys
+  named_append [] ys = refl
+  named_append (x ∷ xs) ys =
+      ap (λ z. one_pair (map.get s.leaves (as_leaf x)) ++ z) (named_append xs ys) ∙ sym (append_assoc (one_pair (map.get s.leaves (as_leaf x))) (named_pairs xs) (named_pairs ys))
+
+  from_there : (p : LeafPtr) (node : LeafNode K V) (n : ℕ) → map.get s.leaves p ≡ Some node → pairs_from s (suc n) (Some p) ≡ pair_of node ∷ pairs_from s n node.next
+  unfolding pairs_from
+  from_there p node n there = ap (λ o. let r : List (K × V) = elim o [ None ↦ [] | Some other ↦ pair_of other ∷ pairs_from s n other.next ] in r) there
+
+  mutual
+    unfolding pairs_from
+
+    -- a chain of links gives the pairs of its names
+    chained : (names : List OpaqueNodePtr) (before after o : Option OpaqueNodePtr) (p : Option LeafPtr) → AreLinked (links_at s) before names after →
+        option_map leaf_name p ≡ first_or names o → pairs_from s (length names) p ≡ named_pairs names
+    chained [] before after o p linked e = refl
+    chained (n ∷ ns) before after o None linked e = absurd cc
+    chained (n ∷ ns) before after o (Some p) linked e =
+        let same : leaf_name p ≡ n = cc in
+        let (node, there, previous, next) = linked_leaf (map.get s.leaves p) _ (subst (λ k. links_at s k ≡ Some (record { previous = before; next = first_or ns after })) (sym same) linked.0) in
+        let at : as_leaf n ≡ p = ap as_leaf (sym same) in
+        from_there p node (length ns) there ∙ ap (λ xs. pair_of node ∷ xs) (chained ns (Some n) after after node.next linked.1 next)
+        ∙ sym (ap (λ o. one_pair o ++ named_pairs ns) (ap (map.get s.leaves) at ∙ there))
+
+  first_first : (names : List OpaqueNodePtr) (n : OpaqueNodePtr) → first_of names ≡ Some n → Some n ≡ first_or names None
+  first_first [] n e = absurd cc
+  first_first (x ∷ xs) n e = sym e
+
+  -- so a walk has the pairs of its names left
+  pub left_are : (walk : Option (LeafPtr × LeafPtr)) (names : List OpaqueNodePtr) (len : ℕ) → IsIteratorOf s walk names → len ≡ length names → pairs_left s walk len ≡ named_pairs names
+  left_are None names len is counted =
+      ap (λ n. pairs_from s n None) counted ∙ chained names is.segment.before is.segment.after None None is.segment.linked (ap (λ ns. first_or ns None) (sym is.ends))
+  left_are (Some (a, b)) names len is counted =
+      ap (λ n. pairs_from s n (Some a)) counted ∙ chained names is.segment.before is.segment.after None (Some a) is.segment.linked (first_first names (leaf_name a) is.ends.0)
+
+  mutual
+    unfolding pairs_from
+
+    -- and as many of them
+    chained_len : (names : List OpaqueNodePtr) (before after o : Option OpaqueNodePtr) (p : Option LeafPtr) → AreLinked (links_at s) before names after →
+        option_map leaf_name p ≡ first_or names o → length (pairs_from s (length names) p) ≡ length names
+    chained_len [] before after o p linked e = refl
+    chained_len (n ∷ ns) before after o None linked e = absurd cc
+    chained_len (n ∷ ns) before after o (Some p) linked e =
+        let same : leaf_name p ≡ n = cc in
+        let (node, there, previous, next) = linked_leaf (map.get s.leaves p) _ (subst (λ k. links_at s k ≡ Some (record { previous = before; next = first_or ns after })) (sym same) linked.0) in
+        ap length (from_there p node (length ns) there) ∙ ap suc (chained_len ns (Some n) after after node.next linked.1 next)
+
+  -- a walk has as many pairs left as its length says
+  pub left_len : (walk : Option (LeafPtr × LeafPtr)) (len : ℕ) → IsWalk s walk len → length (pairs_left s walk len) ≡ len
+  left_len None len w =
+      ap (λ n. length (pairs_from s n None)) w.len_is ∙ chained_len w.names w.is.segment.before w.is.segment.after None None w.is.segment.linked
+      (ap (λ ns. first_or ns None) (sym w.is.ends)) ∙ sym w.len_is
+  left_len (Some (a, b)) len w =
+      ap (λ n. length (pairs_from s n (Some a))) w.len_is
+      ∙ chained_len w.names w.is.segment.before w.is.segment.after None (Some a) w.is.segment.linked (first_first w.names (leaf_name a) w.is.ends.0) ∙ sym w.len_is
+
+  mutual
+    leaves_named : (t : Tree OpaqueNodePtr (K × V)) → Holds (node_at s) t → named_pairs (leaf_names t) ≡ pairs_of t
+    leaves_named (leaf n x) h =
+        let is_leaf : leaf_name (as_leaf n) ≡ n = ap (λ kind. let r : OpaqueNodePtr = record { kind = kind; slot = n.slot } in r) (sym (leaf_used s n.kind n.slot x h).0) in
+        let (node, there, pair) = leaf_there s (as_leaf n) x (ap (node_at s) is_leaf ∙ h) in
+        rw there (ap (λ y. y ∷ []) pair)
+    leaves_named (inner n h cs) holds = leaves_named_below cs holds.1
+
+    leaves_named_below : (cs : Subtrees OpaqueNodePtr (K × V)) → HoldsBelow (node_at s) cs → named_pairs (leaf_names_below cs) ≡ pairs_below cs
+    leaves_named_below no_child h = refl
+    leaves_named_below (child b t cs) h = named_append (leaf_names t) (leaf_names_below cs) ∙ ap₂ (λ xs ys. xs ++ ys) (leaves_named t h.0) (leaves_named_below cs h.1)
+
+  -- the first of the names gives the first of the pairs
+  pub first_left : (names : List OpaqueNodePtr) (p : LeafPtr) (node : LeafNode K V) → Some (leaf_name p) ≡ first_of names → map.get s.leaves p ≡ Some node →
+      named_pairs names ≡ pair_of node ∷ named_pairs (without_first names)
+  first_left [] p node e there = absurd cc
+  first_left (n ∷ ns) p node e there = let same : n ≡ leaf_name p = cc in rw (same, there) refl
+
+  -- and the last of them the last one
+  pub last_left : (names : List OpaqueNodePtr) (p : LeafPtr) (node : LeafNode K V) → Some (leaf_name p) ≡ last_of names → map.get s.leaves p ≡ Some node →
+      named_pairs names ≡ named_pairs (without_last names) ++ pair_of node ∷ []
+  last_left [] p node e there = absurd cc
+  last_left (n ∷ ns) p node e there =
+      ap named_pairs (but_last n ns (leaf_name p) (sym e)) ∙ named_append (without_last (n ∷ ns)) (leaf_name p ∷ []) ∙ ap (λ o. named_pairs (without_last (n ∷ ns)) ++ (one_pair o ++ [])) there
+
+-- the names of a list with a first one, or with a last one, are one more than the others
+pub less_first : {N : Type 0} (names : List N) (n : N) → Some n ≡ first_of names → length names ≡ length (without_first names) + 1
+less_first [] n e = absurd cc
+less_first (x ∷ xs) n e = omega arith
+
+pub less_last : {N : Type 0} (names : List N) (n : N) → Some n ≡ last_of names → length names ≡ length (without_last names) + 1
+less_last [] n e = absurd cc
+less_last (x ∷ xs) n e = ap length (but_last x xs n (sym e)) ∙ length-append (without_last (x ∷ xs)) (n ∷ [])
+
+no_last : {N : Type 0} (x : N) (xs : List N) → None ≡ last_of (x ∷ xs) → ⊥
+no_last x [] e = absurd cc
+no_last x (y ∷ ys) e = no_last y ys e
+
+module _ {K V : Type 0} {s : Nodes K V} {walk left : Option (LeafPtr × LeafPtr)} {names : List OpaqueNodePtr} {len : ℕ} (is : IsIteratorOf s walk names) (counted : len ≡ length names) where
+  module _ (after : IsIteratorOf s left (without_first names)) where
+    pub first_ended : None ≡ first_of names → (pairs_left s walk len ≡ []) × (pairs_left s left len ≡ [])
+    first_ended e = go names is counted after e
+      where
+        go : (ns : List OpaqueNodePtr) → IsIteratorOf s walk ns → len ≡ length ns → IsIteratorOf s left (without_first ns) → None ≡ first_of ns →
+            (pairs_left s walk len ≡ []) × (pairs_left s left len ≡ [])
+        go [] one count two f = (left_are s walk [] len one count, left_are s left [] len two count)
+        go (x ∷ xs) one count two f = absurd cc
+
+    pub first_step : (p : LeafPtr) (node : LeafNode K V) → Some (leaf_name p) ≡ first_of names → map.get s.leaves p ≡ Some node → pairs_left s walk len ≡ pair_of node ∷ pairs_left s left (len - 1)
+    first_step p node e there =
+        let less = less_first names (leaf_name p) e in
+        left_are s walk names len is counted ∙ first_left s names p node e there ∙ ap (λ xs. pair_of node ∷ xs) (sym (left_are s left (without_first names) (len - 1) after (omega arith)))
+
+  module _ (after : IsIteratorOf s left (without_last names)) where
+    pub last_ended : None ≡ last_of names → (pairs_left s walk len ≡ []) × (pairs_left s left len ≡ [])
+    last_ended e = go names is counted after e
+      where
+        go : (ns : List OpaqueNodePtr) → IsIteratorOf s walk ns → len ≡ length ns → IsIteratorOf s left (without_last ns) → None ≡ last_of ns →
+            (pairs_left s walk len ≡ []) × (pairs_left s left len ≡ [])
+        go [] one count two f = (left_are s walk [] len one count, left_are s left [] len two count)
+        go (x ∷ xs) one count two f = absurd (no_last x xs f)
+
+    pub last_step : (p : LeafPtr) (node : LeafNode K V) → Some (leaf_name p) ≡ last_of names → map.get s.leaves p ≡ Some node → pairs_left s walk len ≡ pairs_left s left (len - 1) ++ pair_of node ∷ []
+    last_step p node e there =
+        let less = less_last names (leaf_name p) e in
+        left_are s walk names len is counted ∙ last_left s names p node e there ∙ ap (λ xs. xs ++ pair_of node ∷ []) (sym (left_are s left (without_last names) (len - 1) after (omega arith)))
+
+    pub last_walk : (p : LeafPtr) → Some (leaf_name p) ≡ last_of names → IsWalk s left (len - 1)
+    last_walk p e = let less = less_last names (leaf_name p) e in record { names = without_last names; is = after; len_is = omega arith }
+
+module _ {K V : Type 0} {bytes : K × V → List ℕ} {P : ℕ} {s : Nodes K V} {root : OpaqueNodePtr} {pairs : List (K × V)} {layout : Tree OpaqueNodePtr (K × V)}
+    (by : IsCanonicalTree bytes P s root pairs layout) where
+  -- the walk from the first leaf of a tree to the last one
+  pub whole_walk : {p q : LeafPtr} → HasFirstLeaf layout (leaf_name p) → HasLastLeaf layout (leaf_name q) → IsIteratorOf s (Some (p, q)) (leaf_names layout)
+  whole_walk first last = record { ends = (first.name_is, last.name_is); segment = tree_segment layout by.stands.0.distinct by.linked }
+
+  pub whole_len : length (leaf_names layout) ≡ length pairs
+  whole_len = length-leaf_names layout ∙ ap length (tree_radix by).1
+
+  pub whole_pairs : {p q : LeafPtr} {len : ℕ} → HasFirstLeaf layout (leaf_name p) → HasLastLeaf layout (leaf_name q) → len ≡ length pairs → pairs_left s (Some (p, q)) len ≡ pairs
+  whole_pairs {p} {q} {len} first last counted =
+      left_are s (Some (p, q)) (leaf_names layout) len (whole_walk first last) (counted ∙ sym whole_len) ∙ leaves_named s layout by.stands.0.holds ∙ (tree_radix by).1
+
+-- no root has no pairs, and an empty walk none left
+pub none_left : {K V : Type 0} (s : Nodes K V) → pairs_left s None 0 ≡ []
+none_left s = left_are s None [] 0 empty_iterator refl
+
+pub no_pairs : {K V : Type 0} (bytes : K × V → List ℕ) (P : ℕ) (s : Nodes K V) {len : ℕ} {pairs : List (K × V)} → HoldsPairs bytes P s None len pairs → pairs ≡ []
+no_pairs {K} {V} bytes P s {len} {pairs} is = go is.tree is.canonical
+  where
+    go : (tree : Option (Tree OpaqueNodePtr (K × V))) → IsRootOf bytes P s None pairs tree → pairs ≡ []
+    go None h = h
+    go (Some t) h = absurd h

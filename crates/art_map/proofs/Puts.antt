@@ -1,0 +1,179 @@
+-- Pairs that are put.
+use Rattle.std.proofs.Common.{◌≡◌, ℕ, ◌+◌, ◌≤◌, List, [], ◌∷◌, length, not, refl, ap, ap₂, sym, ◌∙◌, arith, Bool, Option, Some, None, true, false, is_some, zero, suc}
+use Rattle.std.proofs.lemmas.Bool.{true≢false}
+use Rattle.std.specs.List.{cons_option}
+use Rattle.std.specs.Option.{option_map}
+use Rattle.std.proofs.lemmas.List.{length-map}
+use Rattle.std.proofs.lemmas.List.Filters.{length-filter_both}
+use Rattle.art_nodes.specs.Names.{leaf_name}
+use Rattle.art_nodes.specs.Nodes.{Nodes}
+use Rattle.art_nodes.specs.declared.node.LeafNode.{LeafNode}
+use Rattle.art_nodes.specs.declared.node.LeafPtr.{LeafPtr}
+use Rattle.art_nodes.specs.declared.node.OpaqueNodePtr.{OpaqueNodePtr}
+use Rattle.art_model.specs.Canonical.{IsCanonicalTree, IsCanonical}
+use Rattle.art_model.specs.Footprints.{IsIn}
+use Rattle.art_model.specs.Kept.{ChangesInPlace, KeepsOthers, names_in}
+use Rattle.art_model.specs.Keys.{are_related}
+use Rattle.art_model.specs.Layouts.{names_of}
+use Rattle.art_model.specs.MapLaws.{Tells}
+use Rattle.art_model.specs.Pairs.{IsMap, first_of, of_key, has_key, is_conflict, overwrite, overwrite_reply, put, put_reply, related_to, with_key}
+use Rattle.art_model.specs.Roots.{IsRootOf}
+use Rattle.art_model.specs.Stores.{held, pair_of}
+use Rattle.art_model.specs.Trees.{Tree, leaf}
+use Rattle.art_model.proofs.MapLaws.{overwrite_counts, overwrite_of_key_is_put, overwrite_tells, put_counts, put_tells}
+use Rattle.art_model.proofs.Puts.{has_is_stored}
+use Rattle.art_writing.specs.Inserted.{alone}
+use Rattle.art_writing.specs.Writes.{IsPlanted}
+use Rattle.art_writing.specs.declared.insert.PrefixInsertResult.{PrefixInsertResult}
+use Rattle.art_writing.proofs.OneLeaf as one_leaf
+use Rattle.art_writing.proofs.Standing.{tree_stays}
+use Rattle.art_map.specs.MapChanges.{gone_count}
+use Rattle.art_map.specs.MapPairs.{HoldsPairs}
+use Rattle.art_map.proofs.Views.{none_other}
+
+module _ {K V : Type 0} (bytes : K × V → List ℕ) (P : ℕ) where
+  -- The pairs have a tree, and the store has no name beside it.
+  pub record HasTreeAt (s : Nodes K V) (root : OpaqueNodePtr) (len : ℕ) (pairs : List (K × V)) : Type 0 where
+    pub layout : Tree OpaqueNodePtr (K × V)
+    pub by : IsCanonicalTree bytes P s root pairs layout
+    pub no_other : (name : OpaqueNodePtr) → (IsIn name (names_of layout) → ⊥) → held s name ≡ None
+    pub len_is : len ≡ length pairs
+
+  -- of a root that is there
+  pub at_root : {s : Nodes K V} {name : OpaqueNodePtr} {len : ℕ} {pairs : List (K × V)} → HoldsPairs bytes P s (Some name) len pairs → HasTreeAt s name len pairs
+  at_root {s} {name} {len} {pairs} is = go is.tree is.canonical is.no_other
+    where
+      go : (tree : Option (Tree OpaqueNodePtr (K × V))) → IsRootOf bytes P s (Some name) pairs tree → ((k : OpaqueNodePtr) → (IsIn k (names_in tree) → ⊥) → held s k ≡ None) →
+          HasTreeAt s name len pairs
+      go None h other = absurd h
+      go (Some layout) h other = record { layout = layout; by = h; no_other = other; len_is = is.len_is }
+
+  module _ (s t : Nodes K V) (same_leaves : t.leaves ≡ s.leaves) (same_inners : t.inners ≡ s.inners) where
+    same_held : (k : OpaqueNodePtr) → held t k ≡ held s k
+    same_held k = ap₂ (λ leaves inners. held (record t { leaves = leaves; inners = inners }) k) same_leaves same_inners
+
+    -- the same nodes stand for the same pairs
+    pub stays : {root : Option OpaqueNodePtr} {len : ℕ} {pairs : List (K × V)} → HoldsPairs bytes P s root len pairs → HoldsPairs bytes P t root len pairs
+    stays {root} {len} {pairs} is = record { tree = is.tree; canonical = go root is.tree is.canonical; no_other = λ name out. same_held name ∙ is.no_other name out; len_is = is.len_is }
+      where
+        go : (root : Option OpaqueNodePtr) (tree : Option (Tree OpaqueNodePtr (K × V))) → IsRootOf bytes P s root pairs tree → IsRootOf bytes P t root pairs tree
+        go None None h = h
+        go None (Some l) h = absurd h
+        go (Some r) None h = absurd h
+        go (Some r) (Some l) h = tree_stays (same_leaves, same_inners) h
+
+  -- what a change of the tree leaves
+  pub left_holds : {s t : Nodes K V} {name root : OpaqueNodePtr} {len more : ℕ} {pairs left : List (K × V)} (has : HasTreeAt s name len pairs) → IsCanonical bytes P t (Some root) left →
+      ((others : List (K × V)) (tree : Tree OpaqueNodePtr (K × V)) → IsCanonicalTree bytes P t root others tree → ChangesInPlace bytes s t (Some has.layout) (Some tree)) → more ≡ length left →
+      HoldsPairs bytes P t (Some root) more left
+  left_holds {left = left} has is kept counted = record {
+    tree = Some is.0;
+    canonical = is.1;
+    no_other = none_other (kept left is.0 is.1).others has.no_other;
+    len_is = counted;
+  }
+
+  -- nothing is left of a tree that was freed
+  pub emptied : {s t : Nodes K V} {name : OpaqueNodePtr} {len : ℕ} {pairs : List (K × V)} (has : HasTreeAt s name len pairs) → KeepsOthers s t (names_of has.layout) [] → HoldsPairs bytes P t None 0 []
+  emptied has freed = record { tree = None; canonical = refl; no_other = none_other freed has.no_other; len_is = refl }
+
+module _ {K V : Type 0} (bytes : K → List ℕ) (new : K × V) (pairs : List (K × V)) (rising : IsMap (of_key bytes) pairs) where
+  -- as many pairs have the key as come back
+  with_key_told : length (with_key (of_key bytes) (bytes new.0) pairs) ≡ length (cons_option (put_reply (of_key bytes) new pairs) [])
+  with_key_told = sym (length-map (with_key (of_key bytes) (bytes new.0) pairs) (λ old. (new.0, old.1))) ∙ ap length (put_tells bytes new pairs rising)
+
+  -- where nothing comes back there is a pair more
+  pub one_more : put_reply (of_key bytes) new pairs ≡ None → length (put (of_key bytes) new pairs) ≡ length pairs + 1
+  one_more none =
+      let counts = put_counts bytes new pairs in
+      let empty : length (with_key (of_key bytes) (bytes new.0) pairs) ≡ 0 = with_key_told ∙ ap (λ o. length (cons_option o [])) none in
+      omega arith
+
+  -- and where a pair does there are as many
+  pub as_many : (x : K × V) → put_reply (of_key bytes) new pairs ≡ Some x → length (put (of_key bytes) new pairs) ≡ length pairs
+  as_many x some =
+      let counts = put_counts bytes new pairs in
+      let one : length (with_key (of_key bytes) (bytes new.0) pairs) ≡ 1 = with_key_told ∙ ap (λ o. length (cons_option o [])) some in
+      omega arith
+
+-- what is made of something is there where that is
+pub is_some-map : {A B : Type 0} (f : A → B) (o : Option A) → is_some (option_map f o) ≡ is_some o
+is_some-map f None = refl
+is_some-map f (Some x) = refl
+
+module _ {K V : Type 0} (bytes : K → List ℕ) (new : K × V) (pairs : List (K × V)) (rising : IsMap (of_key bytes) pairs) where
+  abbrev Related : List (K × V)
+  Related = related_to (of_key bytes) (bytes new.0) pairs
+
+  -- one pair comes, and those with related keys go
+  pub over_counts : length (overwrite (of_key bytes) new pairs) + length Related ≡ length pairs + 1
+  over_counts = overwrite_counts bytes new pairs rising
+
+  -- and these are at most all
+  pub fewer_related : length Related ≤ length pairs
+  fewer_related =
+      let whole = length-filter_both (λ x. not (are_related (bytes new.0) (bytes x.0))) (λ x. are_related (bytes new.0) (bytes x.0)) (λ x. double (are_related (bytes new.0) (bytes x.0))) pairs in
+      omega arith
+    where
+      double : (b : Bool) → b ≡ not (not b)
+      double true = refl
+      double false = refl
+
+  -- what an overwrite tells is how many pairs have related keys
+  pub told_gone : (done : PrefixInsertResult K V) → done.insert_result.existing_leaf ≡ option_map alone (overwrite_reply (of_key bytes) new pairs).0 →
+      done.leafs_removed ≡ (overwrite_reply (of_key bytes) new pairs).1 → gone_count done ≡ length Related
+  told_gone done existing removed = go (has_key (of_key bytes) (bytes new.0) pairs) refl
+    where
+      count : Option (K × V) × ℕ → ℕ
+      count reply = elim reply.0 [ None ↦ reply.1 | Some x ↦ 1 ]
+
+      told : gone_count done ≡ count (overwrite_reply (of_key bytes) new pairs)
+      told = ap₂ (λ (o : Option (LeafNode K V)) (n : ℕ). let r : ℕ = elim o [ None ↦ n | Some x ↦ 1 ] in r) existing removed ∙ alike (overwrite_reply (of_key bytes) new pairs)
+        where
+          alike : (reply : Option (K × V) × ℕ) → (let r : ℕ = elim (option_map alone reply.0) [ None ↦ reply.1 | Some x ↦ 1 ] in r) ≡ count reply
+          alike (None, n) = refl
+          alike (Some x, n) = refl
+
+      counted : (reply : Option (K × V) × ℕ) (gone : List (K × V)) → Tells reply gone → count reply ≡ length gone
+      counted (None, zero) gone h = sym (ap length h)
+      counted (Some x, zero) gone h = sym (ap length h)
+      counted (None, suc n) gone h = sym h.0
+      counted (Some x, suc n) gone h = absurd h
+
+      stored : (o : Option (K × V)) → put_reply (of_key bytes) new pairs ≡ o → has_key (of_key bytes) (bytes new.0) pairs ≡ true → count (o, 0) ≡ length Related
+      stored None e has =
+          absurd (true≢false (sym has ∙ has_is_stored (of_key bytes) new pairs ∙ sym (is_some-map (λ old. (new.0, old.1)) (first_of (with_key (of_key bytes) (bytes new.0) pairs))) ∙ ap is_some e))
+      stored (Some x) e has =
+          let more = over_counts in
+          let many = as_many bytes new pairs rising x e in
+          let same : length (overwrite (of_key bytes) new pairs) ≡ length (put (of_key bytes) new pairs) = ap length (overwrite_of_key_is_put bytes new pairs has).0 in
+          omega arith
+
+      go : (b : Bool) → has_key (of_key bytes) (bytes new.0) pairs ≡ b → gone_count done ≡ length Related
+      go false e = told ∙ counted (overwrite_reply (of_key bytes) new pairs) Related (overwrite_tells bytes new pairs e)
+      go true e = told ∙ ap count (overwrite_of_key_is_put bytes new pairs e).1 ∙ stored (put_reply (of_key bytes) new pairs) refl e
+
+-- the pair of a leaf alone
+pub none_back : {K V : Type 0} (reply : Option (K × V)) → option_map alone reply ≡ None → reply ≡ None
+none_back None e = refl
+none_back (Some x) e = absurd cc
+
+pub some_back : {K V : Type 0} (reply : Option (K × V)) (node : LeafNode K V) → option_map alone reply ≡ Some node → reply ≡ Some (pair_of node)
+some_back None node e = absurd cc
+some_back (Some x) node e = let same : alone x ≡ node = cc in ap (λ l. Some (pair_of l)) same
+
+module _ {K V : Type 0} (bytes : K → List ℕ) (P : ℕ) {s t : Nodes K V} where
+  -- a leaf that is placed where there was no tree
+  pub planted : {len : ℕ} {pairs : List (K × V)} {n : LeafPtr} {k : K} {v : V} → HoldsPairs (of_key bytes) P s None len pairs → IsPlanted s t n (k, v) →
+      HoldsPairs (of_key bytes) P t (Some (leaf_name n)) 1 ((k, v) ∷ [])
+  planted {len} {pairs} {n} {k} {v} is at = go is.tree is.canonical is.no_other
+    where
+      go : (tree : Option (Tree OpaqueNodePtr (K × V))) → IsRootOf (of_key bytes) P s None pairs tree → ((name : OpaqueNodePtr) → (IsIn name (names_in tree) → ⊥) → held s name ≡ None) →
+          HoldsPairs (of_key bytes) P t (Some (leaf_name n)) 1 ((k, v) ∷ [])
+      go (Some l) none other = absurd none
+      go None none other = record {
+        tree = Some (leaf (leaf_name n) (k, v));
+        canonical = one_leaf.planted bytes P at;
+        no_other = none_other (one_leaf.in_place bytes P at).others other;
+        len_is = refl;
+      }

@@ -1,0 +1,104 @@
+-- A removal that may be refused is that of a leaf whose parent shrinks.
+use Rattle.std.proofs.Common.{◌≡◌, ℕ, List, [], ◌∷◌, length, leb, ap, sym, ◌∙◌, subst, arith, Option, Some, None, true, inl, inr}
+use Rattle.std.proofs.Math.Dec.{leb-zero}
+use Rattle.std.proofs.lemmas.Bool.{cases_Bool, leb-true}
+use Rattle.std.specs.FinMap.{get}
+use Rattle.art_nodes.specs.Inner.{Inner}
+use Rattle.art_nodes.specs.Names.{leaf_name}
+use Rattle.art_nodes.specs.Nodes.{Nodes, Promise}
+use Rattle.art_nodes.specs.declared.node.InnerPtr.{InnerPtr}
+use Rattle.art_nodes.specs.declared.node.NodeType.{NodeType}
+use Rattle.art_nodes.specs.declared.node.NodeType.TheVariants.{Node4, Node16, Node48, Node256, Leaf}
+use Rattle.art_nodes.specs.declared.node.OpaqueNodePtr.{OpaqueNodePtr}
+use Rattle.art_model.specs.Canonical.{IsCanonicalTree}
+use Rattle.art_model.specs.Footprints.{IsIn}
+use Rattle.art_model.specs.Layouts.{slots_of, Holds}
+use Rattle.art_model.specs.Pairs.{of_key}
+use Rattle.art_model.specs.Paths.{Frame, fill, plug}
+use Rattle.art_model.specs.Promises.{is_covered}
+use Rattle.art_model.specs.Radix.{IsRadix, join, bytes_of, pairs_of}
+use Rattle.art_model.specs.Stores.{node_at}
+use Rattle.art_model.specs.Trees.{Tree, leaf, child, kind_of}
+use Rattle.art_model.proofs.Canonical.{tree_radix}
+use Rattle.art_model.proofs.Paths.{radix_plug}
+use Rattle.art_model.proofs.Slots.{IsInRange, range_of_kind, length-slots_of}
+use Rattle.art_model.proofs.Stores.{path_holds}
+use Rattle.art_model.proofs.Writes.{inner_at}
+use Rattle.art_reading.specs.Paths.{path_of}
+use Rattle.art_writing.specs.Deleted.{LeadsTo, ParentChange, no_parent, shrinks, change_of, parent_change, placed_for_deletion}
+use Rattle.art_writing.specs.declared.delete.DeletePoint.{DeletePoint}
+use Rattle.art_writing.proofs.Ways.{last_step-path_of}
+use Rattle.art_map.specs.MapAnswers.{HasShrinkingParent}
+
+-- what a change of the parent places
+abbrev placed_of : ParentChange → Promise
+placed_of change = elim change as (λ _. Promise) [ shrinks kind ↦ record { leaves = 0; inner = Some kind } | _ ↦ record { leaves = 0; inner = None } ]
+
+-- something is placed only where a node of its kind has as few children as that can have
+shrinks_at : (promise : Promise) (kind : NodeType) (n : ℕ) → IsInRange kind n → (is_covered (placed_of (change_of kind n)) promise ≡ true → ⊥) → IsIn n (5 ∷ 17 ∷ 49 ∷ [])
+shrinks_at promise Node4 n range off = elim (cases_Bool (leb n 2)) [
+  | inl e ↦ absurd (off (rw e (leb-zero promise.leaves)))
+  | inr e ↦ absurd (off (rw e (leb-zero promise.leaves)))
+]
+shrinks_at promise Node16 n range off = elim (cases_Bool (leb n 5)) [
+  | inl e ↦ inl (let l = leb-true n 5 e in let a = range.0 in omega arith)
+  | inr e ↦ absurd (off (rw e (leb-zero promise.leaves)))
+]
+shrinks_at promise Node48 n range off = elim (cases_Bool (leb n 17)) [
+  | inl e ↦ inr (inl (let l = leb-true n 17 e in let a = range.0 in omega arith))
+  | inr e ↦ absurd (off (rw e (leb-zero promise.leaves)))
+]
+shrinks_at promise Node256 n range off = elim (cases_Bool (leb n 49)) [
+  | inl e ↦ inr (inr (inl (let l = leb-true n 49 e in omega arith)))
+  | inr e ↦ absurd (off (rw e (leb-zero promise.leaves)))
+]
+shrinks_at promise Leaf n range off = absurd range
+
+-- how many children a parent has
+abbrev width_of : {A : Type 0} → Frame OpaqueNodePtr A → OpaqueNodePtr → A → ℕ
+width_of f name x = length (bytes_of (join f.left (child f.byte (leaf name x) f.right)))
+
+module _ {K V : Type 0} (bytes : K → List ℕ) (P : ℕ) {s : Nodes K V} {root : OpaqueNodePtr} {pairs : List (K × V)} {layout : Tree OpaqueNodePtr (K × V)}
+    (by : IsCanonicalTree (of_key bytes) P s root pairs layout) (x : K × V) (name : OpaqueNodePtr) where
+  module _ (f : Frame OpaqueNodePtr (K × V)) (fs : List (Frame OpaqueNodePtr (K × V))) (whole : plug (f ∷ fs) (leaf name x) ≡ layout) where
+    -- the parent has as many children in the store, and the kind of their number
+    parent_is : (f.mark.kind ≡ kind_of (width_of f name x)) × (parent_change s (path_of (f ∷ fs)) ≡ change_of f.mark.kind (width_of f name x))
+    parent_is =
+        let holds = subst (Holds (node_at s)) (sym whole) by.stands.0.holds in
+        let (place, path, own) = radix_plug (of_key bytes) P fs (fill f (leaf name x)) (subst (IsRadix (of_key bytes) P []) (sym whole) (tree_radix by).0) in
+        let (off, node, got, head, kids) = inner_at s f.mark f.header (slots_of (join f.left (child f.byte (leaf name x) f.right))) (path_holds (node_at s) fs (fill f (leaf name x)) holds).1.0 in
+        let number : length node.children ≡ (width_of f name x) = ap length kids ∙ length-slots_of (join f.left (child f.byte (leaf name x) f.right)) in
+        let kind : f.mark.kind ≡ kind_of (width_of f name x) = ap (λ h. h.kind) head ∙ ap (λ h. h.kind) own.1 in (
+          kind,
+          subst (λ (o : Option (InnerPtr × ℕ)). elim o as (λ _. ParentChange) [
+            | None ↦ no_parent
+            | Some (parent, byte) ↦
+                elim (get s.inners parent) as (λ _. ParentChange) [ None ↦ no_parent | Some z ↦ change_of parent.kind (length z.children) ]
+          ] ≡ change_of f.mark.kind (width_of f name x)) (sym (last_step-path_of (f ∷ fs)))
+              (subst (λ (o : Option Inner). elim o as (λ _. ParentChange) [ None ↦ no_parent | Some z ↦ change_of f.mark.kind (length z.children) ] ≡
+              change_of f.mark.kind (width_of f name x)) (sym got) (ap (change_of f.mark.kind) number)),
+        )
+
+    parent_shrinks : (is_covered (placed_for_deletion s (path_of (f ∷ fs))) s.promise ≡ true → ⊥) → IsIn (width_of f name x) (5 ∷ 17 ∷ 49 ∷ [])
+    parent_shrinks off =
+        let (kind, change) = parent_is in
+        shrinks_at s.promise f.mark.kind (width_of f name x) (subst (λ k. IsInRange k (width_of f name x)) (sym kind) (range_of_kind (width_of f name x)))
+        (λ covered. off (ap (λ c. is_covered (placed_of c) s.promise) change ∙ covered))
+
+  -- so what is refused is such a removal
+  pub refused_shrinks : {point : DeletePoint} → leaf_name point.leaf_node_ptr ≡ name → LeadsTo layout x point → (is_covered (placed_for_deletion s point.path) s.promise ≡ true → ⊥) →
+      HasShrinkingParent (of_key bytes) P pairs x
+  refused_shrinks {point} named leads off =
+      go leads.path (subst (λ n. plug leads.path (leaf n x) ≡ layout) named leads.whole) (subst (λ path. is_covered (placed_for_deletion s path) s.promise ≡ true → ⊥) leads.path_is off)
+    where
+      go : (fs : List (Frame OpaqueNodePtr (K × V))) → plug fs (leaf name x) ≡ layout → (is_covered (placed_for_deletion s (path_of fs)) s.promise ≡ true → ⊥) →
+          HasShrinkingParent (of_key bytes) P pairs x
+      go [] whole off = absurd (off (leb-zero s.promise.leaves))
+      go (f ∷ fs) whole off = record {
+        parent = f;
+        above = fs;
+        name = name;
+        radix = subst (IsRadix (of_key bytes) P []) (sym whole) (tree_radix by).0;
+        pairs_are = ap pairs_of whole ∙ (tree_radix by).1;
+        children = parent_shrinks f fs whole off;
+      }

@@ -1,0 +1,150 @@
+-- Pairs that are found, and those that are taken out.
+use Rattle.std.proofs.Common.{◌≡◌, ℕ, ◌-◌, ◌≤◌, List, [], ◌∷◌, ◌++◌, length, filter, refl, ap, sym, ◌∙◌, subst, arith, Option, Some, None, Bool, true, false, IfSome, is_some, option_copied, Bor}
+use Rattle.std.specs.FinMap.{get}
+use Rattle.art_nodes.specs.Names.{leaf_name}
+use Rattle.art_nodes.specs.Nodes.{Nodes}
+use Rattle.art_nodes.specs.declared.node.LeafNode.{LeafNode}
+use Rattle.art_nodes.specs.declared.node.LeafPtr.{LeafPtr}
+use Rattle.art_nodes.specs.declared.node.OpaqueNodePtr.{OpaqueNodePtr}
+use Rattle.art_model.specs.Canonical.{IsCanonicalTree, IsCanonical}
+use Rattle.art_model.specs.Footprints.{IsIn}
+use Rattle.art_model.specs.Kept.{ChangesInPlace}
+use Rattle.art_model.specs.Keys.{are_same}
+use Rattle.art_model.specs.Layouts.{names_of}
+use Rattle.art_model.specs.Lookups.{FindsLeaf, HasFirstLeaf, HasLastLeaf}
+use Rattle.art_model.specs.Pairs.{IsMap, first_of, last_of, without_first, of_key, has_key, remove_key, with_key}
+use Rattle.art_model.specs.Paths.{pairs_before, pairs_after}
+use Rattle.art_model.specs.Radix.{pairs_of}
+use Rattle.art_model.specs.Roots.{ForRoot}
+use Rattle.art_model.specs.Stores.{held, pair_of}
+use Rattle.art_model.specs.Trees.{Tree, leaf}
+use Rattle.art_model.proofs.Canonical.{tree_radix}
+use Rattle.art_model.proofs.Keys.{front_same}
+use Rattle.art_model.proofs.MapLaws.{keys_are_once, removal_counts, first_is_removed_by_key, last_is_removed_by_key}
+use Rattle.art_model.proofs.Paths.{pairs_of-plug}
+use Rattle.art_model.proofs.Puts.{any_is_first}
+use Rattle.art_model.proofs.StoreLaws.{has_one_map}
+use Rattle.art_reading.specs.declared.ways.End.{End}
+use Rattle.art_reading.specs.declared.ways.End.TheVariants.{First, Last}
+use Rattle.art_writing.specs.Deleted.{LeadsTo}
+use Rattle.art_writing.specs.Inserted.{alone}
+use Rattle.art_writing.specs.declared.delete.DeletePoint.{DeletePoint}
+use Rattle.art_writing.proofs.KeysFound.{deleted_pair, leaf_found}
+use Rattle.art_map.specs.MapAnswers.{end_of, value_at, without_end}
+use Rattle.art_map.specs.MapPairs.{HoldsPairs}
+use Rattle.art_map.proofs.Puts.{at_root, is_some-map}
+use Rattle.art_map.proofs.Views.{none_other, with_tree}
+
+-- the value of a leaf that is found
+pub found_value : {K V : Type 0} (bytes : K → List ℕ) (P : ℕ) {s : Nodes K V} {name : OpaqueNodePtr} {pairs : List (K × V)} {layout : Tree OpaqueNodePtr (K × V)} {p : LeafPtr}
+    (node : LeafNode K V) (key : List ℕ) → IsCanonicalTree (of_key bytes) P s name pairs layout →
+    FindsLeaf layout (with_key (of_key bytes) key pairs) (Some p) → get s.leaves p ≡ Some node → Some node.value ≡ value_at bytes key pairs
+found_value bytes P node key by (x, only, has) got =
+    let (other, there, its) = leaf_found bytes P by has in
+    let same : other ≡ node = cc in
+    let pair : pair_of node ≡ x = ap pair_of (sym same) ∙ its in
+    rw only (ap (λ y. Some y.1) pair)
+
+module _ {A : Type 0} (bytes : A → List ℕ) where
+  -- a filter that an element passes leaves one
+  some_pass : (test : A → Bool) (l r : List A) (x : A) → test x ≡ true → 1 ≤ length (filter test (l ++ (x ∷ []) ++ r))
+  some_pass test [] r x e = rw e (omega arith)
+  some_pass test (y ∷ l) r x e = go (some_pass test l r x e) (test y) refl
+    where
+      go : 1 ≤ length (filter test (l ++ (x ∷ []) ++ r)) → (b : Bool) → test y ≡ b → 1 ≤ length (filter test (y ∷ l ++ (x ∷ []) ++ r))
+      go ih true f = rw f (omega arith)
+      go ih false f = rw f ih
+
+  -- one pair goes with the key of a pair of a map
+  one_less : (l m r pairs : List A) (x : A) → l ++ m ++ r ≡ pairs → m ≡ x ∷ [] → IsMap bytes pairs → length (remove_key bytes (bytes x) pairs) ≡ length pairs - 1
+  one_less l m r pairs x e own rising =
+      let counts = removal_counts bytes (bytes x) pairs in
+      let once = keys_are_once bytes (bytes x) pairs rising in
+      let whole = subst (λ ys. l ++ ys ++ r ≡ pairs) own e in
+      let here : 1 ≤ length (with_key bytes (bytes x) pairs) = subst (λ xs. 1 ≤ length (with_key bytes (bytes x) xs)) whole
+      (some_pass (λ y. are_same (bytes x) (bytes y)) l r x (front_same (bytes x))) in
+      omega arith
+
+module _ {K V : Type 0} (bytes : K → List ℕ) (P : ℕ) {s : Nodes K V} {name : OpaqueNodePtr} {pairs : List (K × V)} {layout : Tree OpaqueNodePtr (K × V)}
+    (by : IsCanonicalTree (of_key bytes) P s name pairs layout) where
+  -- what holds pairs holds those of each tree of its root
+  pub for_tree : {len : ℕ} {others : List (K × V)} → HoldsPairs (of_key bytes) P s (Some name) len others →
+      ((k : OpaqueNodePtr) → (IsIn k (names_of layout) → ⊥) → held s k ≡ None) × (len ≡ length pairs)
+  for_tree {len} is =
+      let has = at_root (of_key bytes) P is in
+      let same = has_one_map (of_key bytes) P s name pairs _ layout has.layout by has.by in
+      (subst (λ l. (k : OpaqueNodePtr) → (IsIn k (names_of l) → ⊥) → held s k ≡ None) same.1 has.no_other, has.len_is ∙ ap length same.0)
+
+  -- what an applied delete point leaves
+  pub taken : {t : Nodes K V} {root : Option OpaqueNodePtr} {len : ℕ} {others : List (K × V)} {x : K × V} {point : DeletePoint} (gone : LeafNode K V) →
+      HoldsPairs (of_key bytes) P s (Some name) len others → LeadsTo layout x point →
+      IfSome (get s.leaves point.leaf_node_ptr) (λ node. gone ≡ alone (pair_of node)) → IsCanonical (of_key bytes) P t root (remove_key (of_key bytes) (bytes gone.key) pairs) →
+      ForRoot (of_key bytes) P t root (λ after new. ChangesInPlace (of_key bytes) s t (Some layout) new) →
+      HoldsPairs (of_key bytes) P t root (len - 1) (remove_key (of_key bytes) (bytes x.0) pairs) × (Some (gone.key, gone.value) ≡ Some x)
+  taken {t} {root} {len} {others} {x} {point} gone is leads told canonical kept =
+      let pair = deleted_pair bytes P gone by leads told in
+      let (tree, root_of) = with_tree (of_key bytes) P t root _ (subst (λ q. IsCanonical (of_key bytes) P t root (remove_key (of_key bytes) (bytes q.0) pairs)) pair canonical) in
+      let (other, counted) = for_tree is in
+      let whole : pairs_before leads.path ++ pairs_of (leaf (leaf_name point.leaf_node_ptr) x) ++ pairs_after leads.path ≡ pairs = sym
+      (pairs_of-plug leads.path (leaf (leaf_name point.leaf_node_ptr) x)) ∙ ap pairs_of leads.whole ∙ (tree_radix by).1 in (
+        record {
+          tree = tree;
+          canonical = root_of;
+          no_other = none_other (kept _ tree root_of).others other;
+          len_is =
+              ap (λ n. n - 1) counted ∙ sym (one_less (of_key bytes) (pairs_before leads.path) (pairs_of (leaf (leaf_name point.leaf_node_ptr) x))
+              (pairs_after leads.path) pairs x whole refl by.is_map);
+        },
+        ap Some pair,
+      )
+
+-- to let the first pair go is to remove its key
+module _ {A : Type 0} (bytes : A → List ℕ) where
+  first_goes : (pairs : List A) (x : A) → IsMap bytes pairs → first_of pairs ≡ Some x → remove_key bytes (bytes x) pairs ≡ without_first pairs
+  first_goes [] x rising e = absurd cc
+  first_goes (y ∷ rest) x rising e = let same : y ≡ x = cc in subst (λ q. remove_key bytes (bytes q) (y ∷ rest) ≡ rest) same (first_is_removed_by_key bytes y rest rising)
+
+  -- the same at either end
+  pub end_goes : (end : End) (pairs : List A) (x : A) → IsMap bytes pairs → end_of end pairs ≡ Some x → remove_key bytes (bytes x) pairs ≡ without_end end pairs
+  end_goes First pairs x rising e = first_goes pairs x rising e
+  end_goes Last pairs x rising e = last_is_removed_by_key bytes x pairs rising e
+
+-- ---- what is read off a leaf
+
+module _ {K V : Type 0} (bytes : K → List ℕ) (P : ℕ) {s : Nodes K V} {name : OpaqueNodePtr} {pairs : List (K × V)} {layout : Tree OpaqueNodePtr (K × V)}
+    (by : IsCanonicalTree (of_key bytes) P s name pairs layout) {p : LeafPtr} where
+  -- the leaf that is found has the only pair
+  pub found_pair : (node : LeafNode K V) (matches : List (K × V)) → FindsLeaf layout matches (Some p) → get s.leaves p ≡ Some node → Some (pair_of node) ≡ first_of matches
+  found_pair node matches (x, only, has) got =
+      let (other, there, its) = leaf_found bytes P by has in
+      let same : other ≡ node = cc in
+      rw only (ap Some (ap pair_of (sym same) ∙ its))
+
+  -- the first leaf is there, and has the first pair
+  pub first_is_there : HasFirstLeaf layout (leaf_name p) → get s.leaves p ≡ None → ⊥
+  first_is_there first none = let (other, there, its) = leaf_found bytes P by first.has in absurd (cc (none, there))
+
+  pub first_pair : (node : LeafNode K V) → HasFirstLeaf layout (leaf_name p) → get s.leaves p ≡ Some node → Some (pair_of node) ≡ first_of pairs
+  first_pair node first got =
+      let (other, there, its) = leaf_found bytes P by first.has in
+      let same : other ≡ node = cc in
+      ap Some (ap pair_of (sym same) ∙ its) ∙ sym first.pair_is ∙ ap first_of (tree_radix by).1
+
+  -- and the last leaf is, with the last pair
+  pub last_is_there : HasLastLeaf layout (leaf_name p) → get s.leaves p ≡ None → ⊥
+  last_is_there last none = let (other, there, its) = leaf_found bytes P by last.has in absurd (cc (none, there))
+
+  pub last_pair : (node : LeafNode K V) → HasLastLeaf layout (leaf_name p) → get s.leaves p ≡ Some node → Some (pair_of node) ≡ last_of pairs
+  last_pair node last got =
+      let (other, there, its) = leaf_found bytes P by last.has in
+      let same : other ≡ node = cc in
+      ap Some (ap pair_of (sym same) ∙ its) ∙ sym last.pair_is ∙ ap last_of (tree_radix by).1
+
+-- a value is found exactly where the key is stored
+pub value_stored : {K V : Type 0} (bytes : K → List ℕ) (key : List ℕ) (pairs : List (K × V)) → is_some (value_at bytes key pairs) ≡ has_key (of_key bytes) key pairs
+value_stored bytes key pairs = is_some-map (λ x. x.1) (first_of (with_key (of_key bytes) key pairs)) ∙ sym (any_is_first (λ x. are_same key (bytes x.0)) pairs)
+
+-- a borrow is there where what it lends is
+pub copied_some : {A : Type 0} (o : Option (Bor A)) → is_some o ≡ is_some (option_copied o)
+copied_some None = refl
+copied_some (Some x) = refl

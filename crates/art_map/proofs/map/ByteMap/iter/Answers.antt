@@ -1,0 +1,61 @@
+use Rattle.std.proofs.Common.{rules, ap, sym, ◌∙◌, subst}
+use Rattle.art_model.specs.Layouts.{leaf_names}
+use Rattle.art_model.specs.Pairs.{of_key}
+use Rattle.art_model.proofs.StoreLaws.{has_children}
+use Rattle.art_reading.specs.Iterators.{IsIteratorOf}
+use Rattle.art_map.specs.MapItems.{pairs_left}
+use Rattle.art_map.specs.MapPairs.{HoldsPairs, pairs_at}
+use Rattle.art_map.proofs.Items.{none_left, no_pairs, whole_walk, whole_len, whole_pairs}
+use Rattle.art_map.proofs.Puts.{at_root}
+use Rattle.art_map.proofs.map.ByteMap.iter.Goals as goal
+
+pub returns-in_default : goal.returns-in_default
+returns-in_default g c =
+    let B = of_key g.K.AsBytes.bytes in
+    let pairs = pairs_at c.self.inside.store c.self.inside.root in
+    let is = subst (λ root. HoldsPairs B g.row.P c.self.inside.store root c.self.inside.len pairs) c.in_default.is c.self.invariant in
+    c.new.ensures ∙ ap (λ walk. pairs_left c.self.inside.store walk 0) c.empty.ensures ∙ none_left c.self.inside.store ∙ sym (no_pairs B g.row.P c.self.inside.store is) ∙ c.self.view_is
+
+pub minimum_unchecked-first-requires : goal.minimum_unchecked-first-requires
+minimum_unchecked-first-requires g c =
+    let B = of_key g.K.AsBytes.bytes in
+    let pairs = pairs_at c.self.inside.store c.self.inside.root in
+    let has = at_root B g.row.P (subst (λ root. HoldsPairs B g.row.P c.self.inside.store root c.self.inside.len pairs) c.in-Some.is c.self.invariant) in
+    (search rules, (has.layout, has_children _ _ _ _ _ has.layout has.by))
+
+pub maximum_unchecked-last-requires : goal.maximum_unchecked-last-requires
+maximum_unchecked-last-requires g c =
+    let B = of_key g.K.AsBytes.bytes in
+    let pairs = pairs_at c.self.inside.store c.self.inside.root in
+    let has = at_root B g.row.P (subst (λ root. HoldsPairs B g.row.P c.self.inside.store root c.self.inside.len pairs) c.in-Some.is c.self.invariant) in
+    (search rules, (has.layout, has_children _ _ _ _ _ has.layout has.by))
+
+pub new-walk-requires : goal.new-walk-requires
+new-walk-requires g c =
+    let B = of_key g.K.AsBytes.bytes in
+    let pairs = pairs_at c.self.inside.store c.self.inside.root in
+    let has = at_root B g.row.P (subst (λ root. HoldsPairs B g.row.P c.self.inside.store root c.self.inside.len pairs) c.in-Some.is c.self.invariant) in
+    let full = has_children _ _ _ _ _ has.layout has.by in
+    (search rules, (leaf_names has.layout, whole_walk has.by (c.minimum_unchecked-first.ensures has.layout full) (c.maximum_unchecked-last.ensures has.layout full)))
+
+pub new-requires-2 : goal.new-requires-2
+new-requires-2 g c =
+    let B = of_key g.K.AsBytes.bytes in
+    let pairs = pairs_at c.self.inside.store c.self.inside.root in
+    let has = at_root B g.row.P (subst (λ root. HoldsPairs B g.row.P c.self.inside.store root c.self.inside.len pairs) c.in-Some.is c.self.invariant) in
+    let full = has_children _ _ _ _ _ has.layout has.by in
+    let walks = whole_walk has.by (c.minimum_unchecked-first.ensures has.layout full) (c.maximum_unchecked-last.ensures has.layout full) in
+    record {
+      names = leaf_names has.layout;
+      is = subst (λ walk. IsIteratorOf c.self.inside.store walk (leaf_names has.layout)) (sym c.new-walk.ensures) walks;
+      len_is = has.len_is ∙ sym (whole_len has.by);
+    }
+
+pub returns : goal.returns
+returns g c =
+    let B = of_key g.K.AsBytes.bytes in
+    let pairs = pairs_at c.self.inside.store c.self.inside.root in
+    let has = at_root B g.row.P (subst (λ root. HoldsPairs B g.row.P c.self.inside.store root c.self.inside.len pairs) c.in-Some.is c.self.invariant) in
+    let full = has_children _ _ _ _ _ has.layout has.by in
+    c.new-2.ensures ∙ ap (λ walk. pairs_left c.self.inside.store walk c.self.inside.len) c.new-walk.ensures
+    ∙ whole_pairs has.by (c.minimum_unchecked-first.ensures has.layout full) (c.maximum_unchecked-last.ensures has.layout full) has.len_is ∙ c.self.view_is

@@ -1,0 +1,4 @@
+pub mod MapPairs
+pub mod MapAnswers
+pub mod MapChanges
+pub mod MapItems

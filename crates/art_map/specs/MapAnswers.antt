@@ -1,0 +1,55 @@
+-- What the calls of a map answer, by its pairs.
+use Rattle.std.specs.Prelude.{◌≡◌, ℕ, true, false, List, [], ◌∷◌, length, Option, Some, None}
+use Rattle.std.specs.Box.{boxed_slice_items}
+use Rattle.std.specs.Option.{option_map}
+use Rattle.art_nodes.specs.declared.node.OpaqueNodePtr.{OpaqueNodePtr}
+use Rattle.art_model.specs.Footprints.{IsIn}
+use Rattle.art_model.specs.Pairs.{of_key, first_of, last_of, without_first, without_last, with_key, has_key, is_conflict}
+use Rattle.art_model.specs.Paths.{Frame, fill, plug}
+use Rattle.art_model.specs.Radix.{IsRadix, bytes_of, pairs_of}
+use Rattle.art_model.specs.Trees.{Tree, leaf, inner}
+use Rattle.art_reading.specs.declared.ways.End.{End}
+use Rattle.art_reading.specs.declared.ways.End.TheVariants.{First, Last}
+use Rattle.art_map.specs.declared.map.MapInsertError.{MapInsertError}
+use Rattle.art_map.specs.declared.map.MapInsertError.TheVariants.{Conflict, Memory}
+
+-- The pair is handed back: with the key's bytes where an unequal stored key is related, or for want of memory where no equal key is stored.
+abbrev pub IsRefusalOf : {K V : Type 0} → (K → List ℕ) → K → V → List (K × V) → MapInsertError K V → Type 0
+IsRefusalOf bytes key value pairs (Conflict k v error) =
+    (k ≡ key) × (v ≡ value) × (boxed_slice_items error.byte_repr ≡ bytes key) ×
+    (is_conflict (of_key bytes) (bytes key) pairs ≡ true)
+IsRefusalOf bytes key value pairs (Memory k v) =
+    (k ≡ key) × (v ≡ value) × (has_key (of_key bytes) (bytes key) pairs ≡ false)
+
+-- how many children the top of a tree has
+abbrev pub children_of : {N A : Type 0} → Tree N A → ℕ
+children_of (leaf n x) = 0
+children_of (inner n h cs) = length (bytes_of cs)
+
+-- The radix tree of the pairs has the leaf of this one below a node with 5, 17 or 49 children: when the leaf goes, a smaller node has to be placed.
+pub record HasShrinkingParent {A : Type 0} (bytes : A → List ℕ) (P : ℕ) (pairs : List A) (x : A) : Type 0 where
+  pub parent : Frame OpaqueNodePtr A
+  pub above : List (Frame OpaqueNodePtr A)
+  pub name : OpaqueNodePtr
+  pub radix : IsRadix bytes P [] (plug (parent ∷ above) (leaf name x))
+  pub pairs_are : pairs_of (plug (parent ∷ above) (leaf name x)) ≡ pairs
+  pub children : IsIn (children_of (fill parent (leaf name x))) (5 ∷ 17 ∷ 49 ∷ [])
+
+-- a removal may be refused only of a pair that is there, whose parent shrinks
+abbrev pub MayRefuse : {A : Type 0} → (A → List ℕ) → ℕ → List A → Option A → Type 0
+MayRefuse bytes P pairs None = ⊥
+MayRefuse bytes P pairs (Some x) = HasShrinkingParent bytes P pairs x
+
+-- the pair at an end of a list
+abbrev pub end_of : {A : Type 0} → End → List A → Option A
+end_of First pairs = first_of pairs
+end_of Last pairs = last_of pairs
+
+-- the others
+abbrev pub without_end : {A : Type 0} → End → List A → List A
+without_end First pairs = without_first pairs
+without_end Last pairs = without_last pairs
+
+-- the value under a key
+abbrev pub value_at : {K V : Type 0} → (K → List ℕ) → List ℕ → List (K × V) → Option V
+value_at bytes key pairs = option_map (λ x. x.1) (first_of (with_key (of_key bytes) key pairs))

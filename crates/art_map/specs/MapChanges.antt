@@ -1,0 +1,54 @@
+-- What a change leaves of a store, a root and a length that stand for pairs. No public clause cites this module.
+use Rattle.std.specs.Prelude.{◌≡◌, ℕ, false, List, [], ◌∷◌, length, Option, Some, None, Result, Ok, Err}
+use Rattle.art_nodes.specs.Nodes.{Nodes}
+use Rattle.art_nodes.specs.declared.node.OpaqueNodePtr.{OpaqueNodePtr}
+use Rattle.art_model.specs.Clones.{AreClones}
+use Rattle.art_model.specs.Pairs.{of_key, is_conflict, put, put_reply, overwrite, related_to}
+use Rattle.art_writing.specs.declared.insert.PrefixInsertResult.{PrefixInsertResult}
+use Rattle.art_writing.specs.declared.insert.Refused.{Refused}
+use Rattle.art_map.specs.MapAnswers.{IsRefusalOf, MayRefuse}
+use Rattle.art_map.specs.MapPairs.{HoldsPairs}
+use Rattle.art_map.specs.declared.map.MapInsertError.{MapInsertError}
+use Rattle.art_map.specs.declared.map.MapRefused.{MapRefused}
+
+-- how many pairs gave way: one that came back, or those that were freed
+abbrev pub gone_count : {K V : Type 0} → PrefixInsertResult K V → ℕ
+gone_count done = elim done.insert_result.existing_leaf [ None ↦ done.leafs_removed | Some leaf ↦ 1 ]
+
+module _ {K V : Type 0} (bytes : K → List ℕ) (P : ℕ) where
+  -- the pair is the only one, or it is handed back and there is none
+  abbrev pub HasPlanted : K → V → Result (Unit {0}) (Refused K V) → Nodes K V → Option OpaqueNodePtr → ℕ → Type 0
+  HasPlanted key value (Ok done) t root len = HoldsPairs (of_key bytes) P t root len ((key, value) ∷ [])
+  HasPlanted key value (Err refused) t root len =
+      HoldsPairs (of_key bytes) P t root len [] × (refused.key ≡ key) × (refused.value ≡ value)
+
+module _ {K V : Type 0} (bytes : K → List ℕ) (P : ℕ) (pairs : List (K × V)) where
+  -- the pair was put, or it is handed back and the pairs are as before
+  abbrev pub HasPut : K → V → Result (Option (K × V)) (MapInsertError K V) → Nodes K V →
+      Option OpaqueNodePtr → ℕ → Type 0
+  HasPut key value (Ok replaced) t root len =
+      HoldsPairs (of_key bytes) P t root len (put (of_key bytes) (key, value) pairs) ×
+      (replaced ≡ put_reply (of_key bytes) (key, value) pairs) × (is_conflict (of_key bytes) (bytes key) pairs ≡ false)
+  HasPut key value (Err error) t root len =
+      HoldsPairs (of_key bytes) P t root len pairs × IsRefusalOf bytes key value pairs error
+
+  -- the pair was put in the place of those with related keys, or it is handed back and the pairs are as before
+  abbrev pub HasPutOver : K → V → Result ℕ (Refused K V) → Nodes K V → Option OpaqueNodePtr → ℕ → Type 0
+  HasPutOver key value (Ok gone) t root len =
+      HoldsPairs (of_key bytes) P t root len (overwrite (of_key bytes) (key, value) pairs) ×
+      (gone ≡ length (related_to (of_key bytes) (bytes key) pairs))
+  HasPutOver key value (Err refused) t root len =
+      HoldsPairs (of_key bytes) P t root len pairs × (refused.key ≡ key) × (refused.value ≡ value)
+
+  -- the pair was taken out and these are left, or the pairs are as before
+  abbrev pub HasTaken : Option (K × V) → List (K × V) → Result (Option (K × V)) MapRefused → Nodes K V →
+      Option OpaqueNodePtr → ℕ → Type 0
+  HasTaken pair left (Ok taken) t root len = HoldsPairs (of_key bytes) P t root len left × (taken ≡ pair)
+  HasTaken pair left (Err error) t root len =
+      HoldsPairs (of_key bytes) P t root len pairs × MayRefuse (of_key bytes) P pairs pair
+
+  -- a store, a root and a length stand for clones of the pairs
+  abbrev pub HoldsClones : (K → K → Type 0) → (V → V → Type 0) → Nodes K V → Option OpaqueNodePtr → ℕ → Type 0
+  HoldsClones is_key_clone is_value_clone t root len =
+      (copies : List (K × V)) × AreClones is_key_clone is_value_clone pairs copies ×
+      HoldsPairs (of_key bytes) P t root len copies

@@ -1,0 +1,563 @@
+//! An ordered map from keys of bytes to values. Its contracts speak of lists of pairs alone.
+ghost use Rattle.std.specs.Prelude.{◌≡◌, ◌+◌, ◌<◌, ◌↔◌, [], length, false, true, IsTrue, IfOk, IfErr, OnOk, OnErr, None, Some, option_copied};
+ghost use Rattle.std.specs.FinMap as map;
+ghost use Rattle.std.specs.Option.{option_map};
+ghost use Rattle.art_model.specs.Clones.{KeepBytes};
+ghost use Rattle.art_model.specs.Pairs.{first_of, has_key, is_conflict, last_of, match_of, of_key, overwrite, put, put_reply, related_to, remove_key, remove_reply, without_first, without_last};
+ghost use Rattle.art_model.specs.Roots.{ForTree, IsCanonicalRoot};
+ghost use Rattle.art_writing.specs.Deleted.{IsDeletePoint, IsDeletePointIn, LeadsTo};
+ghost use Rattle.art_map.specs.declared.map.MapInsertError.TheVariants as errors;
+ghost use Rattle.art_map.specs.MapAnswers.{end_of, without_end};
+ghost use Rattle.art_map.specs.MapChanges.{HasPlanted, HasPut, HasPutOver, HasTaken, HoldsClones, gone_count};
+ghost use Rattle.art_map.specs.MapItems.{deref_pair};
+ghost use Rattle.art_map.specs.MapPairs.{HoldsPairs, pairs_at};
+
+use art_nodes::node::{AsBytes, LeafNode, OpaqueNodePtr};
+use art_nodes::store::NodeStore;
+use art_reading::iterator::RawIterator;
+use art_reading::lookup::{prefix_search_unchecked, search_unchecked};
+use art_reading::minmax::{maximum_unchecked, minimum_unchecked};
+use art_reading::ways::End;
+use art_writing::clone::clone_unchecked;
+use art_writing::deallocate::deallocate_tree;
+use art_writing::delete::{
+    DeletePoint, find_maximum_to_delete, find_minimum_to_delete, search_for_delete_point,
+};
+use art_writing::insert::{
+    InsertPrefixError, InsertSearchError, PrefixInsertResult, Refused, search_for_insert_point,
+    search_for_prefix_insert_point,
+};
+use std::alloc::{AllocError, Global};
+use std::fmt;
+use std::marker::Model;
+use thiserror::Error;
+
+mod iter;
+
+pub use iter::{Leaves, MapIter, MapIterOf};
+
+/// A pair that was not inserted.
+#[derive(Debug, Drop, Error)]
+pub enum MapInsertError<K, V> {
+    /// An unequal stored key is related to the key: one of the two is a prefix of the other.
+    #[error("{error}")]
+    Conflict {
+        key: K,
+        value: V,
+        error: InsertPrefixError,
+    },
+    /// There was no memory, and no equal key is stored.
+    #[error("memory allocation failed")]
+    Memory {
+        key: K,
+        value: V,
+    },
+}
+
+/// A removal that was not made, for want of memory.
+#[derive(Clone, Copy, PartialEq, Eq, Debug, Error)]
+#[error("memory allocation failed")]
+pub struct MapRefused;
+
+/// A map whose keys are in the order of their bytes, and none of which is a prefix of another.
+#[derive(Drop)]
+pub struct ByteMap<K: AsBytes, V, const P: usize> {
+    store: NodeStore<K, V, P>,
+    root: Option<OpaqueNodePtr>,
+    len: usize,
+}
+
+impl<K: AsBytes, V, const P: usize> Model for ByteMap<K, V, P> {
+    ghost use Rattle.std.specs.Prelude.{List};
+    ghost use Rattle.std.specs.Coded.{coded×, coded_list};
+
+    ghost Value = { List (K × V) };
+
+    ghost coded = { coded_list (coded× K.code V.code) };
+
+    ghost use Rattle.art_model.specs.Pairs.{of_key};
+    ghost use Rattle.art_map.specs.MapPairs.{HoldsPairs, pairs_at};
+
+    ghost view = { λ m. pairs_at m.store m.root };
+
+    ghost invariant = { λ m.
+        HoldsPairs (of_key K.bytes) P m.store m.root m.len (pairs_at m.store m.root) };
+}
+
+impl<K: AsBytes + Drop, V: Drop, const P: usize> ByteMap<K, V, P> {
+    ghost use Rattle.art_map.specs.MapAnswers.{IsRefusalOf, MayRefuse, value_at};
+
+    /// An empty map, which takes no memory.
+    pub fn new(alloc: Global) -> Self
+        ensures { result ≡ [] }
+    {
+        ByteMap {
+            store: NodeStore::new(alloc),
+            root: None,
+            len: 0,
+        }
+    }
+
+    /// The number of pairs.
+    pub fn len(&self) -> usize
+        ensures { result ≡ length self.now }
+    {
+        self.len
+    }
+
+    /// Whether there is no pair.
+    pub fn is_empty(&self) -> bool
+        ensures { IsTrue result ↔ (self.now ≡ []) }
+    {
+        self.len == 0
+    }
+
+    /// Whether a key with these bytes is stored.
+    pub fn contains_key(&self, key_bytes: &[u8]) -> bool
+        ensures { result ≡ has_key (of_key K.bytes) key_bytes.now self.now }
+    {
+        self.get(key_bytes).is_some()
+    }
+
+    /// The value of the key with these bytes.
+    pub fn get(&self, key_bytes: &[u8]) -> Option<&V>
+        ensures { option_copied result ≡ value_at K.bytes key_bytes.now self.now }
+    {
+        let leaf = search_unchecked(&self.store, self.root?, key_bytes)?;
+        let Some(leaf) = self.store.leaf(leaf) else {
+            unreachable!()
+        };
+        Some(&leaf.value)
+    }
+
+    /// The pair whose key is a prefix of the query. There is at most one.
+    pub fn longest_match(&self, query: &[u8]) -> Option<(&K, &V)>
+        ensures { option_map deref_pair result ≡
+            first_of (match_of (of_key K.bytes) query.now self.now) }
+    {
+        let leaf = prefix_search_unchecked(&self.store, self.root?, query)?;
+        let Some(leaf) = self.store.leaf(leaf) else {
+            unreachable!()
+        };
+        Some((&leaf.key, &leaf.value))
+    }
+
+    /// The first pair.
+    pub fn first_key_value(&self) -> Option<(&K, &V)>
+        ensures { option_map deref_pair result ≡ first_of self.now }
+    {
+        let leaf = minimum_unchecked(&self.store, self.root?);
+        let Some(leaf) = self.store.leaf(leaf) else {
+            unreachable!()
+        };
+        Some((&leaf.key, &leaf.value))
+    }
+
+    /// The last pair.
+    pub fn last_key_value(&self) -> Option<(&K, &V)>
+        ensures { option_map deref_pair result ≡ last_of self.now }
+    {
+        let leaf = maximum_unchecked(&self.store, self.root?);
+        let Some(leaf) = self.store.leaf(leaf) else {
+            unreachable!()
+        };
+        Some((&leaf.key, &leaf.value))
+    }
+
+    /// The pairs in the order of their keys.
+    pub fn iter(&self) -> MapIter<'_, K, V, P>
+        ensures { result ≡ self.now }
+    {
+        let Some(root) = self.root else {
+            return MapIterOf::new(&self.store, RawIterator::empty(), 0);
+        };
+        let first = minimum_unchecked(&self.store, root);
+        let last = maximum_unchecked(&self.store, root);
+        let walk = RawIterator::new(&self.store, first, last);
+        MapIterOf::new(&self.store, walk, self.len)
+    }
+
+    /// Puts a pair in. Where an equal key is stored, that key stays and gets the value, and the key
+    /// that was handed in comes back with the old value.
+    pub fn insert(&mut self, key: K, value: V) -> Result<Option<(K, V)>, MapInsertError<K, V>>
+        ensures pairs { OnOk result (self.new ≡ put (of_key K.bytes) (key, value) self.old) }
+        ensures replaced { IfOk result (λ replaced.
+            replaced ≡ put_reply (of_key K.bytes) (key, value) self.old) }
+        ensures accepted { OnOk result
+            (is_conflict (of_key K.bytes) (K.bytes key) self.old ≡ false) }
+
+        ensures refused { IfErr result (IsRefusalOf K.bytes key value self.old) }
+        ensures kept { OnErr result (self.new ≡ self.old) }
+    {
+        put_in(&mut self.store, &mut self.root, &mut self.len, key, value)
+    }
+
+    /// Puts a pair in, in the place of all pairs with related keys, and answers how many gave way. A
+    /// stored key that is equal stays and gets the value.
+    pub fn insert_over(&mut self, key: K, value: V) -> Result<usize, Refused<K, V>>
+        ensures pairs { OnOk result (self.new ≡ overwrite (of_key K.bytes) (key, value) self.old) }
+        ensures gone { IfOk result (λ gone.
+            gone ≡ length (related_to (of_key K.bytes) (K.bytes key) self.old)) }
+
+        ensures handed_back { IfErr result (λ refused.
+            (refused.key ≡ key) × (refused.value ≡ value)) }
+        ensures kept { OnErr result (self.new ≡ self.old) }
+    {
+        put_over(&mut self.store, &mut self.root, &mut self.len, key, value)
+    }
+
+    /// Takes out the pair of the key with these bytes.
+    pub fn remove(&mut self, key_bytes: &[u8]) -> Result<Option<(K, V)>, MapRefused>
+        ensures pairs { OnOk result
+            (self.new ≡ remove_key (of_key K.bytes) key_bytes.now self.old) }
+        ensures removed { IfOk result (λ removed.
+            removed ≡ remove_reply (of_key K.bytes) key_bytes.now self.old) }
+        ensures kept { OnErr result (self.new ≡ self.old) }
+        ensures refused { OnErr result (MayRefuse (of_key K.bytes) P self.old
+            (remove_reply (of_key K.bytes) key_bytes.now self.old)) }
+    {
+        take_key(&mut self.store, &mut self.root, &mut self.len, key_bytes)
+    }
+
+    /// Takes out the first pair.
+    pub fn pop_first(&mut self) -> Result<Option<(K, V)>, MapRefused>
+        ensures pairs { OnOk result (self.new ≡ without_first self.old) }
+        ensures removed { IfOk result (λ removed. removed ≡ first_of self.old) }
+        ensures kept { OnErr result (self.new ≡ self.old) }
+        ensures refused { OnErr result (MayRefuse (of_key K.bytes) P self.old
+            (first_of self.old)) }
+    {
+        self.pop_end(End::First)
+    }
+
+    /// Takes out the last pair.
+    pub fn pop_last(&mut self) -> Result<Option<(K, V)>, MapRefused>
+        ensures pairs { OnOk result (self.new ≡ without_last self.old) }
+        ensures removed { IfOk result (λ removed. removed ≡ last_of self.old) }
+        ensures kept { OnErr result (self.new ≡ self.old) }
+        ensures refused { OnErr result (MayRefuse (of_key K.bytes) P self.old
+            (last_of self.old)) }
+    {
+        self.pop_end(End::Last)
+    }
+
+    // Takes out the pair at an end.
+    fn pop_end(&mut self, end: End) -> Result<Option<(K, V)>, MapRefused>
+        ensures pairs { OnOk result (self.new ≡ without_end end self.old) }
+        ensures removed { IfOk result (λ removed. removed ≡ end_of end self.old) }
+        ensures kept { OnErr result (self.new ≡ self.old) }
+        ensures refused { OnErr result (MayRefuse (of_key K.bytes) P self.old
+            (end_of end self.old)) }
+    {
+        take_end(&mut self.store, &mut self.root, &mut self.len, end)
+    }
+
+    /// Takes out all pairs.
+    pub fn clear(&mut self)
+        ensures { self.new ≡ [] }
+    {
+        take_all(&mut self.store, &mut self.root, &mut self.len);
+    }
+}
+
+impl<K: AsBytes + Clone + Drop, V: Clone + Drop, const P: usize> ByteMap<K, V, P> {
+    ghost use Rattle.art_model.specs.Clones.{AreClones, KeepBytes};
+
+    /// A map of clones of all pairs, with a store of its own. An `Err` is for want of memory, for a node or
+    /// for the clone of a key or a value.
+    pub fn clone(&self) -> Result<Self, AllocError>
+        requires { KeepBytes K.bytes K.is_clone }
+        ensures { IfOk result (AreClones K.is_clone V.is_clone self.now) }
+    {
+        let mut store = NodeStore::new(self.store.alloc());
+        let Some(root) = self.root else {
+            return Ok(ByteMap {
+                store,
+                root: None,
+                len: 0,
+            });
+        };
+        let root = copy_tree(&self.store, root, self.len, &mut store)?;
+        Ok(ByteMap {
+            store,
+            root: Some(root),
+            len: self.len,
+        })
+    }
+}
+
+impl<'a, K: AsBytes + Drop, V: Drop, const P: usize> IntoIterator for &'a ByteMap<K, V, P> {
+    type Item = (&'a K, &'a V);
+
+    type IntoIter = MapIter<'a, K, V, P>;
+
+    ghost into_iter_gives = { λ map pairs. pairs ≡ map.now };
+
+    fn into_iter(self) -> MapIter<'a, K, V, P> {
+        self.iter()
+    }
+}
+
+impl<K: AsBytes + fmt::Debug + Drop, V: fmt::Debug + Drop, const P: usize> fmt::Debug
+    for ByteMap<K, V, P> {
+    fn fmt<W: fmt::Write>(&self, f: &mut fmt::Formatter<W>) -> fmt::Result {
+        let mut out = f.debug_map();
+        for (key, value) in self.iter() {
+            out.entry(key, value);
+        }
+        out.finish()
+    }
+}
+
+// Puts a pair into the tree, or its value to the equal key that is stored.
+fn put_in<K: AsBytes + Drop, V: Drop, const P: usize>(
+    store: &mut NodeStore<K, V, P>,
+    root: &mut Option<OpaqueNodePtr>,
+    len: &mut usize,
+    key: K,
+    value: V,
+) -> Result<Option<(K, V)>, MapInsertError<K, V>>
+    requires { HoldsPairs (of_key K.bytes) P store.old root.old len.old
+        (pairs_at store.old root.old) }
+    ensures { HasPut K.bytes P (pairs_at store.old root.old) key value result
+        store.new root.new len.new }
+{
+    let Some(name) = *root else {
+        return match plant(store, root, len, key, value) {
+            Ok(()) => Ok(None),
+            Err(refused) => Err(without_memory(refused)),
+        };
+    };
+    let point = match search_for_insert_point(store, name, key.as_bytes()) {
+        Ok(point) => point,
+        Err(InsertSearchError::Prefix(error)) => {
+            return Err(MapInsertError::Conflict { key, value, error });
+        }
+        Err(InsertSearchError::Memory(_)) => return Err(MapInsertError::Memory { key, value }),
+    };
+    match point.apply(store, key, value) {
+        Ok(done) => {
+            *root = Some(done.new_root);
+            let Some(leaf) = done.existing_leaf else {
+                *len = one_more(store, *len);
+                return Ok(None);
+            };
+            Ok(Some((leaf.key, leaf.value)))
+        }
+        Err(refused) => Err(without_memory(refused)),
+    }
+}
+
+// The error that hands back what was refused for want of memory.
+fn without_memory<K, V>(refused: Refused<K, V>) -> MapInsertError<K, V>
+    ensures { result ≡ errors.Memory refused.key refused.value }
+{
+    MapInsertError::Memory {
+        key: refused.key,
+        value: refused.value,
+    }
+}
+
+// Puts a pair into the tree, in the place of all pairs with related keys.
+fn put_over<K: AsBytes + Drop, V: Drop, const P: usize>(
+    store: &mut NodeStore<K, V, P>,
+    root: &mut Option<OpaqueNodePtr>,
+    len: &mut usize,
+    key: K,
+    value: V,
+) -> Result<usize, Refused<K, V>>
+    requires { HoldsPairs (of_key K.bytes) P store.old root.old len.old
+        (pairs_at store.old root.old) }
+    ensures { HasPutOver K.bytes P (pairs_at store.old root.old) key value result
+        store.new root.new len.new }
+{
+    let Some(name) = *root else {
+        return match plant(store, root, len, key, value) {
+            Ok(()) => Ok(0),
+            Err(refused) => Err(refused),
+        };
+    };
+    let point = search_for_prefix_insert_point(store, name, key.as_bytes());
+    match point.apply(store, key, value) {
+        Ok(done) => {
+            let gone = count_gone(&done);
+            *root = Some(done.insert_result.new_root);
+            *len = one_more(store, *len - gone);
+            Ok(gone)
+        }
+        Err(refused) => Err(refused),
+    }
+}
+
+// How many pairs gave way: one that came back, or those that were freed.
+fn count_gone<K, V>(done: &PrefixInsertResult<K, V>) -> usize
+    ensures { result ≡ gone_count done.now }
+{
+    match done.insert_result.existing_leaf {
+        None => done.leafs_removed,
+        Some(_) => 1,
+    }
+}
+
+// One more than a number that is less than that of the leaves.
+fn one_more<K: AsBytes + Drop, V: Drop, const P: usize>(
+    store: &NodeStore<K, V, P>,
+    len: usize,
+) -> usize
+    requires { len < map.len store.now.leaves }
+    ensures { result ≡ len + 1 }
+{
+    store.alloc();
+    len + 1
+}
+
+// Makes a tree of one leaf.
+fn plant<K: AsBytes + Drop, V: Drop, const P: usize>(
+    store: &mut NodeStore<K, V, P>,
+    root: &mut Option<OpaqueNodePtr>,
+    len: &mut usize,
+    key: K,
+    value: V,
+) -> Result<(), Refused<K, V>>
+    requires none { root.old ≡ None }
+    requires holds { HoldsPairs (of_key K.bytes) P store.old None len.old
+        (pairs_at store.old None) }
+    ensures { HasPlanted K.bytes P key value result store.new root.new len.new }
+{
+    match store.place_leaf(LeafNode::with_no_siblings(key, value)) {
+        Ok(leaf) => {
+            *root = Some(leaf.to_opaque());
+            *len = 1;
+            Ok(())
+        }
+        Err((leaf, _)) => Err(Refused {
+            key: leaf.key,
+            value: leaf.value,
+        }),
+    }
+}
+
+// Copies the tree into an empty store, and answers the root of the copy.
+fn copy_tree<K: AsBytes + Clone + Drop, V: Clone + Drop, const P: usize>(
+    store: &NodeStore<K, V, P>,
+    root: OpaqueNodePtr,
+    len: usize,
+    into: &mut NodeStore<K, V, P>,
+) -> Result<OpaqueNodePtr, AllocError>
+    requires holds { HoldsPairs (of_key K.bytes) P store.now (Some root) len
+        (pairs_at store.now (Some root)) }
+    requires no_leaves { into.old.leaves ≡ map.empty }
+    requires no_inners { into.old.inners ≡ map.empty }
+    requires clones { KeepBytes K.bytes K.is_clone }
+    ensures { IfOk result (λ copy.
+        HoldsClones K.bytes P (pairs_at store.now (Some root)) K.is_clone V.is_clone
+        into.new (Some copy) len) }
+{
+    let copy = clone_unchecked(store, root, into)?;
+    Ok(copy.root)
+}
+
+// Takes the pair of a key out of the tree.
+fn take_key<K: AsBytes + Drop, V: Drop, const P: usize>(
+    store: &mut NodeStore<K, V, P>,
+    root: &mut Option<OpaqueNodePtr>,
+    len: &mut usize,
+    key_bytes: &[u8],
+) -> Result<Option<(K, V)>, MapRefused>
+    requires { HoldsPairs (of_key K.bytes) P store.old root.old len.old
+        (pairs_at store.old root.old) }
+    ensures { HasTaken K.bytes P (pairs_at store.old root.old)
+        (remove_reply (of_key K.bytes) key_bytes.now (pairs_at store.old root.old))
+        (remove_key (of_key K.bytes) key_bytes.now (pairs_at store.old root.old)) result
+        store.new root.new len.new }
+{
+    let Some(name) = *root else {
+        return Ok(None);
+    };
+    let Some(point) = search_for_delete_point(store, name, key_bytes) else {
+        return Ok(None);
+    };
+    take_out(store, root, len, name, point)
+}
+
+// Takes the pair at an end out of the tree.
+fn take_end<K: AsBytes + Drop, V: Drop, const P: usize>(
+    store: &mut NodeStore<K, V, P>,
+    root: &mut Option<OpaqueNodePtr>,
+    len: &mut usize,
+    end: End,
+) -> Result<Option<(K, V)>, MapRefused>
+    requires { HoldsPairs (of_key K.bytes) P store.old root.old len.old
+        (pairs_at store.old root.old) }
+    ensures { HasTaken K.bytes P (pairs_at store.old root.old)
+        (end_of end (pairs_at store.old root.old)) (without_end end (pairs_at store.old root.old)) result
+        store.new root.new len.new }
+{
+    let Some(name) = *root else {
+        return Ok(None);
+    };
+    let point = find_end_to_delete(store, name, end);
+    take_out(store, root, len, name, point)
+}
+
+// The point of the leaf at an end of the tree.
+fn find_end_to_delete<K: AsBytes + Drop, V: Drop, const P: usize>(
+    store: &NodeStore<K, V, P>,
+    root: OpaqueNodePtr,
+    end: End,
+) -> DeletePoint
+    requires { IsCanonicalRoot (of_key K.bytes) P store.now root }
+    ensures point { ForTree (of_key K.bytes) P store.now root (λ pairs layout.
+        IsDeletePoint layout (end_of end pairs) (Some result)) }
+    ensures applies { IsDeletePointIn (of_key K.bytes) P store.now root result }
+{
+    match end {
+        End::First => find_minimum_to_delete(store, root),
+        End::Last => find_maximum_to_delete(store, root),
+    }
+}
+
+// Takes all pairs out, with the tree.
+fn take_all<K: AsBytes + Drop, V: Drop, const P: usize>(
+    store: &mut NodeStore<K, V, P>,
+    root: &mut Option<OpaqueNodePtr>,
+    len: &mut usize,
+)
+    requires { HoldsPairs (of_key K.bytes) P store.old root.old len.old
+        (pairs_at store.old root.old) }
+    ensures { HoldsPairs (of_key K.bytes) P store.new root.new len.new [] }
+{
+    let Some(name) = *root else {
+        return;
+    };
+    deallocate_tree(name, store);
+    *root = None;
+    *len = 0;
+}
+
+// Takes the pair of a point out of the tree.
+fn take_out<K: AsBytes + Drop, V: Drop, const P: usize>(
+    store: &mut NodeStore<K, V, P>,
+    root: &mut Option<OpaqueNodePtr>,
+    len: &mut usize,
+    name: OpaqueNodePtr,
+    point: DeletePoint,
+) -> Result<Option<(K, V)>, MapRefused>
+    requires root { root.old ≡ Some name }
+    requires point { IsDeletePointIn (of_key K.bytes) P store.old name point }
+    requires holds { HoldsPairs (of_key K.bytes) P store.old (Some name) len.old
+        (pairs_at store.old (Some name)) }
+    ensures { ForTree (of_key K.bytes) P store.old name (λ pairs layout.
+        (x : K × V) → LeadsTo layout x point →
+        HasTaken K.bytes P pairs (Some x) (remove_key (of_key K.bytes) (K.bytes x.0) pairs) result
+        store.new root.new len.new) }
+{
+    match point.apply(store, name) {
+        Ok(done) => {
+            *root = done.new_root;
+            *len -= 1;
+            Ok(Some((done.deleted_leaf.key, done.deleted_leaf.value)))
+        }
+        Err(_) => Err(MapRefused),
+    }
+}

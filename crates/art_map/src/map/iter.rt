@@ -1,0 +1,124 @@
+//! The pairs of a map, in order.
+ghost use Rattle.std.specs.Prelude.{◌≡◌, length};
+ghost use Rattle.std.specs.Iterator.{at_most};
+ghost use Rattle.art_map.specs.MapItems.{IsWalk, TakesFirst, TakesLast, pairs_left};
+
+use art_nodes::node::AsBytes;
+use art_nodes::store::NodeStore;
+use art_reading::iterator::RawIterator;
+use std::marker::Model;
+
+/// Leaves that a walk goes over.
+pub trait Leaves<K, V> {
+    ghost use Rattle.art_nodes.specs.Nodes.{Nodes};
+
+    ghost seen: { Self → Nodes K V };
+
+    /// The pair of the first leaf that is left.
+    fn step(&self, walk: &mut RawIterator, len: &mut usize) -> Option<(&K, &V)>
+        requires { IsWalk (seen self.now) walk.old len.old }
+        ensures walk { IsWalk (seen self.now) walk.new len.new }
+        ensures pair { TakesFirst (pairs_left (seen self.now) walk.old len.old) result
+            (pairs_left (seen self.now) walk.new len.new) };
+
+    /// The pair of the last leaf that is left.
+    fn step_back(&self, walk: &mut RawIterator, len: &mut usize) -> Option<(&K, &V)>
+        requires { IsWalk (seen self.now) walk.old len.old }
+        ensures walk { IsWalk (seen self.now) walk.new len.new }
+        ensures pair { TakesLast (pairs_left (seen self.now) walk.old len.old) result
+            (pairs_left (seen self.now) walk.new len.new) };
+}
+
+impl<K: AsBytes + Drop, V: Drop, const P: usize> Leaves<K, V> for NodeStore<K, V, P> {
+    ghost seen = { λ s. s };
+
+    fn step(&self, walk: &mut RawIterator, len: &mut usize) -> Option<(&K, &V)> {
+        let name = walk.next(self)?;
+        let Some(leaf) = self.leaf(name) else {
+            unreachable!()
+        };
+        *len -= 1;
+        Some((&leaf.key, &leaf.value))
+    }
+
+    fn step_back(&self, walk: &mut RawIterator, len: &mut usize) -> Option<(&K, &V)> {
+        let name = walk.next_back(self)?;
+        let Some(leaf) = self.leaf(name) else {
+            unreachable!()
+        };
+        *len -= 1;
+        Some((&leaf.key, &leaf.value))
+    }
+}
+
+/// The pairs of a map by rising keys, seen as the list of those that have not come yet.
+#[derive(Drop)]
+pub struct MapIterOf<'a, K, V, S: Leaves<K, V>> {
+    store: &'a S,
+    walk: RawIterator,
+    len: usize,
+    // None: it names the lifetime of what is lent.
+    nothing: Option<(&'a K, &'a V)>,
+}
+
+/// The same, over the store of a map.
+pub type MapIter<'a, K, V, const P: usize> = MapIterOf<'a, K, V, NodeStore<K, V, P>>;
+
+impl<'a, K, V, S: Leaves<K, V>> Model for MapIterOf<'a, K, V, S> {
+    ghost use Rattle.std.specs.Prelude.{List};
+    ghost use Rattle.std.specs.Coded.{coded×, coded_list};
+
+    ghost Value = { List (K × V) };
+
+    ghost coded = { coded_list (coded× K.code V.code) };
+
+    ghost use Rattle.art_map.specs.MapItems.{IsWalk, pairs_left};
+
+    ghost view = { λ m. pairs_left (S.seen m.store.now) m.walk m.len };
+
+    ghost invariant = { λ m. IsWalk (S.seen m.store.now) m.walk m.len };
+}
+
+impl<'a, K, V, S: Leaves<K, V>> MapIterOf<'a, K, V, S> {
+    pub(crate) fn new(store: &'a S, walk: RawIterator, len: usize) -> Self
+        requires { IsWalk (S.seen store.now) walk len }
+        ensures { result ≡ pairs_left (S.seen store.now) walk len }
+    {
+        MapIterOf {
+            store,
+            walk,
+            len,
+            nothing: None,
+        }
+    }
+}
+
+impl<'a, K, V, S: Leaves<K, V>> Iterator for MapIterOf<'a, K, V, S> {
+    type Item = (&'a K, &'a V);
+
+    ghost next_gives = { TakesFirst };
+
+    ghost remaining = { λ s. at_most (length s) };
+
+    fn next(&mut self) -> Option<(&'a K, &'a V)> {
+        self.store.step(&mut self.walk, &mut self.len)
+    }
+
+    fn size_hint(&self) -> (usize, Option<usize>) {
+        (self.len, Some(self.len))
+    }
+}
+
+impl<'a, K, V, S: Leaves<K, V>> ExactSizeIterator for MapIterOf<'a, K, V, S> {
+    fn len(&self) -> usize {
+        self.len
+    }
+}
+
+impl<'a, K, V, S: Leaves<K, V>> DoubleEndedIterator for MapIterOf<'a, K, V, S> {
+    ghost next_back_gives = { TakesLast };
+
+    fn next_back(&mut self) -> Option<(&'a K, &'a V)> {
+        self.store.step_back(&mut self.walk, &mut self.len)
+    }
+}

@@ -1,0 +1,91 @@
+//! Nodes beside a tree, which take the room that its store has.
+ghost use Rattle.std.specs.Prelude.{◌≢◌};
+ghost use Rattle.art_nodes.specs.declared.node.NodeType.TheVariants.{Leaf};
+ghost use Rattle.art_model.specs.Pairs.{of_key};
+ghost use Rattle.art_model.specs.Roots.{IsCanonicalRoot};
+
+use crate::nodes::count_kind;
+use crate::trees::Key;
+use art_nodes::node::{AnyInner, Header, LeafNode, NodeType, OpaqueNodePtr};
+use art_nodes::store::NodeStore;
+
+// A store with a node of a kind has room for so many of that kind before it asks for more.
+const ROOM: usize = 16;
+
+// Places a leaf of the empty key. Answers whether there was memory.
+fn place_leaf<const P: usize>(store: &mut NodeStore<Key, u32, P>, root: OpaqueNodePtr) -> bool
+    requires { IsCanonicalRoot (of_key (λ key. key.items)) P store.old root }
+    ensures { IsCanonicalRoot (of_key (λ key. key.items)) P store.new root }
+{
+    let leaf = LeafNode::with_no_siblings(Vec::new(store.alloc()), 0);
+    store.place_leaf(leaf).is_ok()
+}
+
+// The same for an inner node without children.
+fn place_inner<const P: usize>(
+    store: &mut NodeStore<Key, u32, P>,
+    root: OpaqueNodePtr,
+    kind: NodeType,
+) -> bool
+    requires inner { kind ≢ Leaf }
+    requires canonical { IsCanonicalRoot (of_key (λ key. key.items)) P store.old root }
+    ensures { IsCanonicalRoot (of_key (λ key. key.items)) P store.new root }
+{
+    let node = AnyInner::from_header(kind, Header::new(&[], 0));
+    store.place_inner(node).is_ok()
+}
+
+// The same for a node of any kind.
+fn place_one<const P: usize>(
+    store: &mut NodeStore<Key, u32, P>,
+    root: OpaqueNodePtr,
+    kind: NodeType,
+) -> bool
+    requires { IsCanonicalRoot (of_key (λ key. key.items)) P store.old root }
+    ensures { IsCanonicalRoot (of_key (λ key. key.items)) P store.new root }
+{
+    if kind == NodeType::Leaf {
+        return place_leaf(store, root);
+    }
+    place_inner(store, root, kind)
+}
+
+/// Places so many nodes of a kind beside a tree. Answers whether there was memory for all of them.
+pub fn place_beside<const P: usize>(
+    store: &mut NodeStore<Key, u32, P>,
+    root: OpaqueNodePtr,
+    kind: NodeType,
+    count: usize,
+) -> bool
+    requires { IsCanonicalRoot (of_key (λ key. key.items)) P store.old root }
+    ensures { IsCanonicalRoot (of_key (λ key. key.items)) P store.new root }
+{
+    for _ in 0..count {
+        if !place_one(store, root, kind) {
+            return false;
+        }
+    }
+    true
+}
+
+/// Places nodes of every kind beside a tree, until there is room for no more of any. Answers whether there was memory
+/// for all of them.
+pub fn fill<const P: usize>(store: &mut NodeStore<Key, u32, P>, root: OpaqueNodePtr) -> bool
+    requires { IsCanonicalRoot (of_key (λ key. key.items)) P store.old root }
+    ensures { IsCanonicalRoot (of_key (λ key. key.items)) P store.new root }
+{
+    let kinds = [
+        NodeType::Leaf,
+        NodeType::Node4,
+        NodeType::Node16,
+        NodeType::Node48,
+        NodeType::Node256,
+    ];
+    for kind in kinds {
+        let missing = ROOM.saturating_sub(count_kind(store, kind));
+        if !place_beside(store, root, kind, missing) {
+            return false;
+        }
+    }
+    true
+}

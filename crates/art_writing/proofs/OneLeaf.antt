@@ -1,0 +1,51 @@
+-- A tree of one leaf, where there was no tree.
+use Rattle.std.proofs.Common.{◌≡◌, ℕ, List, [], ◌∷◌, refl, ap, sym, ◌∙◌, subst, Some, None, inr}
+use Rattle.std.specs.Option.{option_map, option_and_then}
+use Rattle.std.specs.FinMap.{get}
+use Rattle.art_nodes.specs.Names.{leaf_name}
+use Rattle.art_nodes.specs.Nodes.{Nodes}
+use Rattle.art_nodes.specs.declared.node.LeafPtr.{LeafPtr}
+use Rattle.art_nodes.specs.declared.node.NodeType.TheVariants.{Leaf}
+use Rattle.art_nodes.proofs.NameLemmas.{leaf_cmp_total, leaf_cmp-IsAntisymmetric}
+use Rattle.art_nodes.proofs.StoreLaws.{leaf_here}
+use Rattle.art_model.specs.Canonical.{IsCanonicalTree}
+use Rattle.art_model.specs.Kept.{ChangesInPlace}
+use Rattle.art_model.specs.Pairs.{of_key}
+use Rattle.art_model.specs.Stores.{held_leaf, seen, links_of}
+use Rattle.art_model.specs.Trees.{leaf}
+use Rattle.art_model.proofs.Canonical.{canonical_from}
+use Rattle.art_model.proofs.InPlace.{others_kept}
+use Rattle.art_model.proofs.Touches.{Touched, touched_none, then_placed, footprint_of}
+use Rattle.art_writing.specs.Inserted.{alone}
+use Rattle.art_writing.specs.Writes.{IsPlanted}
+
+module _ {K V : Type 0} (bytes : K → List ℕ) (P : ℕ) {s t : Nodes K V} {n : LeafPtr} {x : K × V} (is : IsPlanted s t n x) where
+  there : get t.leaves n ≡ Some (alone x)
+  there = ap (λ m. get m n) is.leaves ∙ leaf_here s.leaves n (alone x)
+
+  -- the leaf is the canonical tree of its pair
+  pub planted : IsCanonicalTree (of_key bytes) P t (leaf_name n) (x ∷ []) (leaf (leaf_name n) x)
+  planted = canonical_from (record {
+    named = refl;
+    radix = (bytes x.0, refl);
+    pairs_are = refl;
+    holds = ap (λ o. option_map (seen Leaf) (option_map held_leaf o)) there;
+    distinct = (tt, tt);
+    linked = (ap (λ o. option_and_then links_of (option_map held_leaf o)) there, tt);
+  })
+
+  -- one leaf came, and nothing else
+  pub leaves_touched : Touched s.leaves t.leaves (n ∷ []) [] []
+  leaves_touched = subst (λ m. Touched s.leaves m (n ∷ []) [] []) (sym is.leaves) (then_placed leaf_cmp_total leaf_cmp-IsAntisymmetric (touched_none s.leaves) n (alone x) is.fresh (λ i. i))
+
+  pub inners_touched : Touched s.inners t.inners [] [] []
+  inners_touched = subst (λ m. Touched s.inners m [] [] []) (sym is.inners) (touched_none s.inners)
+
+  -- every other name holds what it held
+  pub in_place : ChangesInPlace (of_key bytes) s t None (Some (leaf (leaf_name n) x))
+  in_place = record {
+    leaves = λ a b k m i j e. absurd i;
+    inners = λ kind whole k m i j. absurd i;
+    others = others_kept (footprint_of s t leaves_touched inners_touched tt tt tt)
+        (record { placed_in = λ k i. i; freed_in = λ k i. i; changed_in = λ k i. i; old_stays = λ k i. absurd i; new_comes = λ k i. inr i });
+  }

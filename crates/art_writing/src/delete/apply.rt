@@ -1,0 +1,68 @@
+//! Delete points, applied.
+ghost use Rattle.std.specs.Prelude.{◌≡◌, IsOk, IsTrue, IfOk, IfErr, IfSome, OnOk, OnErr};
+ghost use Rattle.std.specs.FinMap as map;
+ghost use Rattle.art_nodes.specs.Nodes.{no_promise};
+ghost use Rattle.art_model.specs.Canonical.{IsCanonical};
+ghost use Rattle.art_model.specs.Kept.{ChangesInPlace};
+ghost use Rattle.art_model.specs.Pairs.{of_key, remove_key};
+ghost use Rattle.art_model.specs.Promises.{is_covered, promise_after};
+ghost use Rattle.art_model.specs.Roots.{ForRoot, ForTree, IsCanonicalRoot};
+ghost use Rattle.art_model.specs.Stores.{pair_of};
+ghost use Rattle.art_writing.specs.Inserted.{alone};
+ghost use Rattle.art_writing.specs.Deleted.{IsDeletePointIn, IsRootAfter, TouchesFor, parent_change, placed_for_deletion};
+
+use super::{DeletePoint, DeleteRefused, DeleteResult};
+use art_nodes::node::{AsBytes, OpaqueNodePtr};
+use art_nodes::store::NodeStore;
+use art_reading::ways::last_step;
+
+impl DeletePoint {
+    /// Takes the leaf of the point out of the tree.
+    ///
+    /// Memory is taken only where the leaf's parent shrinks, from 5, 17 or 49 children, and before the
+    /// first change. It is a constant number of writes.
+    pub fn apply<K: AsBytes + Drop, V: Drop, const PREFIX_LEN: usize>(
+        self,
+        store: &mut NodeStore<K, V, PREFIX_LEN>,
+        root: OpaqueNodePtr,
+    ) -> Result<DeleteResult<K, V>, DeleteRefused>
+        requires { IsDeletePointIn (of_key K.bytes) PREFIX_LEN store.old root self }
+        ensures canonical { ForTree (of_key K.bytes) PREFIX_LEN store.old root (λ pairs layout. IfOk result (λ done.
+            IsCanonical (of_key K.bytes) PREFIX_LEN store.new done.new_root
+            (remove_key (of_key K.bytes) (K.bytes done.deleted_leaf.key) pairs))) }
+        ensures left { IfOk result (λ done.
+            IfSome done.new_root (IsCanonicalRoot (of_key K.bytes) PREFIX_LEN store.new)) }
+        ensures deleted { IfOk result (λ done. IfSome (map.get store.old.leaves self.leaf_node_ptr) (λ leaf.
+            done.deleted_leaf ≡ alone (pair_of leaf))) }
+        ensures root { IfOk result (λ done.
+            IsRootAfter (parent_change store.old self.path) self.path root done.new_root) }
+        ensures kept { ForTree (of_key K.bytes) PREFIX_LEN store.old root (λ pairs old. IfOk result (λ done.
+            ForRoot (of_key K.bytes) PREFIX_LEN store.new done.new_root (λ after new.
+            ChangesInPlace (of_key K.bytes) store.old store.new (Some old) new))) }
+        ensures touches { OnOk result (TouchesFor (parent_change store.old self.path) store.old store.new) }
+        ensures promise { OnOk result (store.new.promise ≡
+            promise_after (placed_for_deletion store.old self.path) store.old.promise) }
+
+        ensures succeeds { IsTrue (is_covered (placed_for_deletion store.old self.path) store.old.promise) →
+            IsOk result }
+        ensures handed_back { IfErr result (λ refused. refused.point ≡ self) }
+        ensures leaves { OnErr result (store.new.leaves ≡ store.old.leaves) }
+        ensures inners { OnErr result (store.new.inners ≡ store.old.inners) }
+        ensures void { OnErr result (store.new.promise ≡ no_promise) }
+    {
+        let Some((parent, byte)) = last_step(self.path) else {
+            return Ok(self.delete_root(store, root));
+        };
+        let Some(node) = store.inner(parent) else {
+            unreachable!()
+        };
+        let kind = node.node_type();
+        if node.num_children() > *kind.capacity_range().start() {
+            return Ok(self.delete_child(store, root, parent, byte));
+        }
+        let Some(smaller) = kind.smaller() else {
+            return Ok(self.compress_parent(store, root, parent, byte));
+        };
+        self.shrink_parent(store, root, parent, byte, smaller)
+    }
+}
