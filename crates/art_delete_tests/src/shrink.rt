@@ -1,4 +1,6 @@
 //! Deletions from a parent with more than two children.
+ghost use Rattle.std.specs.Prelude.{IfSome};
+
 ghost use Rattle.art_model.specs.Pairs.{of_key};
 ghost use Rattle.art_model.specs.Roots.{IsCanonicalRoot};
 
@@ -8,7 +10,7 @@ use art_nodes::store::NodeStore;
 use art_test_support::crowds::{fill, place_beside};
 use art_test_support::memory::all_memory;
 use art_test_support::nodes::{count_touched, nodes_seen};
-use art_test_support::trees::{Key, keys_after, plant_all, plant_keys, promise};
+use art_test_support::trees::{Key, keys_after, plant_all, plant_keys, planted, promise};
 use std::alloc::{AllocError, Global};
 use std::process::Abort;
 use std::test::Fail;
@@ -235,21 +237,40 @@ fn crowd<const P: usize>(
     place_beside(store, root, NodeType::Leaf, others)
 }
 
-// What the deletion of one of so many keys touches where it is refused, beside so many leaves, or else in a full store.
-// The point has to come back.
+// The root of the tree of so many keys of one byte.
+fn root_of_many<const P: usize>(
+    store: &mut NodeStore<Key, u32, P>,
+    count: u16,
+) -> Option<OpaqueNodePtr>
+    ensures { IfSome result (λ root. IsCanonicalRoot (of_key (λ key. key.items)) P store.new root) }
+{
+    let alloc = store.alloc();
+    let keys = keys_after(alloc, &[], count).ok()?;
+    planted(store, &mut NodeStore::new(alloc), keys).ok()?
+}
+
+// What the deletion of [2] touches where it is refused. The point has to come back.
 fn touched_by_refusal<const P: usize>(
+    store: &mut NodeStore<Key, u32, P>,
+    root: OpaqueNodePtr,
+) -> Option<(bool, (usize, usize, usize))>
+    requires { IsCanonicalRoot (of_key (λ key. key.items)) P store.old root }
+{
+    let before = nodes_seen(store).ok()?;
+    refused_deletion(store, root, &before, &[2])
+}
+
+// The same in the tree of so many keys of one byte, beside so many leaves, or else in a full store.
+fn touched_in_crowd<const P: usize>(
     store: &mut NodeStore<Key, u32, P>,
     count: u16,
     others: Option<usize>,
 ) -> Option<(bool, (usize, usize, usize))> {
-    let alloc = store.alloc();
-    let keys = keys_after(alloc, &[], count).ok()?;
-    let root = plant_keys(store, keys).ok()?;
+    let root = root_of_many(store, count)?;
     if !crowd(store, root, others) {
         return None;
     }
-    let before = nodes_seen(store).ok()?;
-    refused_deletion(store, root, &before, &[2])
+    touched_by_refusal(store, root)
 }
 
 // The same in a store of its own.
@@ -259,7 +280,7 @@ fn touched_beside(
     others: Option<usize>,
 ) -> Option<(bool, (usize, usize, usize))> {
     let mut store: NodeStore<Key, u32, 4> = NodeStore::new(alloc);
-    touched_by_refusal(&mut store, count, others)
+    touched_in_crowd(&mut store, count, others)
 }
 
 // Asserts that a refusal gave the point back and touched nothing, and says so.
