@@ -30,13 +30,19 @@ fn copy_of(command: &Command<Tagged, u32>) -> Result<Command<Tagged, u32>, Alloc
     })
 }
 
-/// A hundred commands, carried out on a list, and the replies to them.
+/// A hundred commands, and the replies to them.
+struct Hundred {
+    commands: Vec<Command<Tagged, u32>>,
+    replies: Vec<Reply<Tagged, u32>>,
+}
+
+/// Draws a hundred commands, and carries them out on a list.
 fn draw_hundred(
     drawer: &mut Drawer,
     drawn: &mut Drawn,
     pairs: &mut Vec<(Tagged, u32)>,
     is_growing: bool,
-) -> Result<(Vec<Command<Tagged, u32>>, Vec<Reply<Tagged, u32>>), AllocError>
+) -> Result<Hundred, AllocError>
     requires { IsMap (of_key ⟦<Tagged as AsBytes>⟧.bytes) pairs.old.items }
     ensures { IsMap (of_key ⟦<Tagged as AsBytes>⟧.bytes) pairs.new.items }
 {
@@ -49,7 +55,7 @@ fn draw_hundred(
         commands.push(copy_of(&command)?)?;
         replies.push(answer(alloc, pairs, command)?)?;
     }
-    Ok((commands, replies))
+    Ok(Hundred { commands, replies })
 }
 
 /// The replies to commands on a tree. The store that it is in at the end comes to be the first.
@@ -121,6 +127,25 @@ fn compare<const P: usize>(
     kind_if_same((store, root), (&built, built_root), pairs)
 }
 
+/// Carries commands out on a tree. Answers the place of the first reply that is not the list's, and the greatest kind of
+/// node, or None where the tree is not the one that is built of the list's pairs.
+fn carry_out<const P: usize>(
+    first: &mut NodeStore<Tagged, u32, P>,
+    second: &mut NodeStore<Tagged, u32, P>,
+    root: &mut Option<OpaqueNodePtr>,
+    hundred: Hundred,
+    pairs: &[(Tagged, u32)],
+) -> Result<(Option<usize>, Option<NodeType>), AllocError>
+    requires { (stored : List (Tagged × ℕ)) ×
+        IsCanonical (of_key ⟦<Tagged as AsBytes>⟧.bytes) P first.old root.old stored }
+    ensures { (stored : List (Tagged × ℕ)) ×
+        IsCanonical (of_key ⟦<Tagged as AsBytes>⟧.bytes) P first.new root.new stored }
+{
+    let replies = run_all(first, second, root, hundred.commands)?;
+    let other = first_other(&replies, &hundred.replies);
+    Ok((other, compare(first, *root, pairs)?))
+}
+
 /// What one trial met.
 #[derive(Clone, Copy)]
 struct Met {
@@ -146,8 +171,8 @@ impl Met {
 /// for 700.
 fn check<const P: usize>(
     rt: &impl Abort,
-    mut first: NodeStore<Tagged, u32, P>,
-    mut second: NodeStore<Tagged, u32, P>,
+    first: &mut NodeStore<Tagged, u32, P>,
+    second: &mut NodeStore<Tagged, u32, P>,
     shape: KeyShape,
 ) -> Result<Met, Fail> {
     let alloc = first.alloc();
@@ -161,20 +186,27 @@ fn check<const P: usize>(
         was_empty: false,
     };
     for turn in 0..100 {
-        let (commands, want) = draw_hundred(
-            &mut drawer,
-            &mut met.drawn,
-            &mut pairs,
-            turn % 20 < 13,
-        )?;
-        let replies = run_all(&mut first, &mut second, &mut root, commands)?;
-        assert_eq!(rt; first_other(&replies, &want), None);
-        let kind = compare(&first, root, &pairs)?.ok_or("another tree")?;
+        let is_growing = turn % 20 < 13;
+        let hundred = draw_hundred(&mut drawer, &mut met.drawn, &mut pairs, is_growing)?;
+        let (other, kind) = carry_out(first, second, &mut root, hundred, &pairs)?;
+        assert_eq!(rt; other, None);
         met.most_pairs = met.most_pairs.max(pairs.len());
-        met.greatest_kind = met.greatest_kind.max(kind);
+        met.greatest_kind = met.greatest_kind.max(kind.ok_or("another tree")?);
         met.was_empty |= root.is_none();
     }
     Ok(met)
+}
+
+/// Whether a trial is wide.
+fn is_wide<const P: usize>(
+    rt: &impl Abort,
+    alloc: Global,
+    shape: KeyShape,
+    greatest_kind: NodeType,
+) -> Result<bool, Fail> {
+    let mut first: NodeStore<Tagged, u32, P> = NodeStore::new(alloc);
+    let met = check(rt, &mut first, &mut NodeStore::new(alloc), shape)?;
+    Ok(met.is_wide(greatest_kind))
 }
 
 /// Whether a trial for each number of stored bytes is wide.
@@ -185,12 +217,10 @@ fn are_wide(
     greatest_kind: NodeType,
 ) -> Result<[bool; 4], Fail> {
     Ok([
-        check::<0>(rt, NodeStore::new(alloc), NodeStore::new(alloc), shape)?.is_wide(greatest_kind),
-        check::<2>(rt, NodeStore::new(alloc), NodeStore::new(alloc), shape)?.is_wide(greatest_kind),
-        check::<4>(rt, NodeStore::new(alloc), NodeStore::new(alloc), shape)?.is_wide(greatest_kind),
-        check::<16>(rt, NodeStore::new(alloc), NodeStore::new(alloc), shape)?.is_wide(
-            greatest_kind,
-        ),
+        is_wide::<0>(rt, alloc, shape, greatest_kind)?,
+        is_wide::<2>(rt, alloc, shape, greatest_kind)?,
+        is_wide::<4>(rt, alloc, shape, greatest_kind)?,
+        is_wide::<16>(rt, alloc, shape, greatest_kind)?,
     ])
 }
 

@@ -81,14 +81,19 @@ fn left_by<const P: usize>(
     ))
 }
 
+/// The same in stores of its own.
+fn left_with<const P: usize>(alloc: Global) -> Option<Left> {
+    left_by::<P>(&mut NodeStore::new(alloc), &mut NodeStore::new(alloc))
+}
+
 #[test]
 fn commands_are_answered_with_memory(rt: HostRuntime) {
     let alloc = rt.alloc();
     let left = [
-        left_by::<0>(&mut NodeStore::new(alloc), &mut NodeStore::new(alloc)),
-        left_by::<2>(&mut NodeStore::new(alloc), &mut NodeStore::new(alloc)),
-        left_by::<4>(&mut NodeStore::new(alloc), &mut NodeStore::new(alloc)),
-        left_by::<16>(&mut NodeStore::new(alloc), &mut NodeStore::new(alloc)),
+        left_with::<0>(alloc),
+        left_with::<2>(alloc),
+        left_with::<4>(alloc),
+        left_with::<16>(alloc),
     ];
     let wanted = Some((None, Side::Second, true, [(0, 0), (1, 0)]));
     assert_eq!(rt; left, [wanted; 4]);
