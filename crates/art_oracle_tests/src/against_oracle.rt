@@ -31,6 +31,7 @@ fn copy_of(command: &Command<Tagged, u32>) -> Result<Command<Tagged, u32>, Alloc
 }
 
 /// A hundred commands, and the replies to them.
+#[derive(Drop)]
 struct Hundred {
     commands: Vec<Command<Tagged, u32>>,
     replies: Vec<Reply<Tagged, u32>>,

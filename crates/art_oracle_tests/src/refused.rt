@@ -321,6 +321,11 @@ fn tried<const P: usize>(
     }
 }
 
+/// The same in stores of its own.
+fn tried_with<const P: usize>(alloc: Global) -> Result<Outcome, AllocError> {
+    tried::<P>(&mut NodeStore::new(alloc), &mut NodeStore::new(alloc))
+}
+
 /// Asserts what came of a run, and says so once for each refusal that was met.
 fn assert_whole(rt: &(impl Abort + Print), outcome: Outcome) -> Result<(), Fail> {
     assert_ne!(rt; outcome, Outcome::Wrong);
@@ -332,28 +337,20 @@ fn assert_whole(rt: &(impl Abort + Print), outcome: Outcome) -> Result<(), Fail>
 
 #[test]
 fn refused_commands_count_as_not_made_with_0_stored(rt: HostRuntime) -> Result<(), Fail> {
-    let alloc = rt.alloc();
-    let outcome = tried::<0>(&mut NodeStore::new(alloc), &mut NodeStore::new(alloc))?;
-    assert_whole(&rt, outcome)
+    assert_whole(&rt, tried_with::<0>(rt.alloc())?)
 }
 
 #[test]
 fn refused_commands_count_as_not_made_with_2_stored(rt: HostRuntime) -> Result<(), Fail> {
-    let alloc = rt.alloc();
-    let outcome = tried::<2>(&mut NodeStore::new(alloc), &mut NodeStore::new(alloc))?;
-    assert_whole(&rt, outcome)
+    assert_whole(&rt, tried_with::<2>(rt.alloc())?)
 }
 
 #[test]
 fn refused_commands_count_as_not_made_with_4_stored(rt: HostRuntime) -> Result<(), Fail> {
-    let alloc = rt.alloc();
-    let outcome = tried::<4>(&mut NodeStore::new(alloc), &mut NodeStore::new(alloc))?;
-    assert_whole(&rt, outcome)
+    assert_whole(&rt, tried_with::<4>(rt.alloc())?)
 }
 
 #[test]
 fn refused_commands_count_as_not_made_with_16_stored(rt: HostRuntime) -> Result<(), Fail> {
-    let alloc = rt.alloc();
-    let outcome = tried::<16>(&mut NodeStore::new(alloc), &mut NodeStore::new(alloc))?;
-    assert_whole(&rt, outcome)
+    assert_whole(&rt, tried_with::<16>(rt.alloc())?)
 }
