@@ -201,12 +201,12 @@ fn check<const P: usize>(
 /// Whether a trial is wide.
 fn is_wide<const P: usize>(
     rt: &impl Abort,
-    alloc: Global,
+    first: &mut NodeStore<Tagged, u32, P>,
     shape: KeyShape,
     greatest_kind: NodeType,
 ) -> Result<bool, Fail> {
-    let mut first: NodeStore<Tagged, u32, P> = NodeStore::new(alloc);
-    let met = check(rt, &mut first, &mut NodeStore::new(alloc), shape)?;
+    let alloc = first.alloc();
+    let met = check(rt, first, &mut NodeStore::new(alloc), shape)?;
     Ok(met.is_wide(greatest_kind))
 }
 
@@ -217,12 +217,11 @@ fn are_wide(
     shape: KeyShape,
     greatest_kind: NodeType,
 ) -> Result<[bool; 4], Fail> {
-    Ok([
-        is_wide::<0>(rt, alloc, shape, greatest_kind)?,
-        is_wide::<2>(rt, alloc, shape, greatest_kind)?,
-        is_wide::<4>(rt, alloc, shape, greatest_kind)?,
-        is_wide::<16>(rt, alloc, shape, greatest_kind)?,
-    ])
+    let at_0 = is_wide::<0>(rt, &mut NodeStore::new(alloc), shape, greatest_kind)?;
+    let at_2 = is_wide::<2>(rt, &mut NodeStore::new(alloc), shape, greatest_kind)?;
+    let at_4 = is_wide::<4>(rt, &mut NodeStore::new(alloc), shape, greatest_kind)?;
+    let at_16 = is_wide::<16>(rt, &mut NodeStore::new(alloc), shape, greatest_kind)?;
+    Ok([at_0, at_2, at_4, at_16])
 }
 
 #[test]

@@ -81,20 +81,20 @@ fn left_by<const P: usize>(
     ))
 }
 
-/// The same in stores of its own.
-fn left_with<const P: usize>(alloc: Global) -> Option<Left> {
-    left_by::<P>(&mut NodeStore::new(alloc), &mut NodeStore::new(alloc))
+/// The same with a second store of its own.
+fn left_beside<const P: usize>(first: &mut NodeStore<Key, u32, P>) -> Option<Left> {
+    let alloc = first.alloc();
+    left_by(first, &mut NodeStore::new(alloc))
 }
 
 #[test]
 fn commands_are_answered_with_memory(rt: HostRuntime) {
     let alloc = rt.alloc();
-    let left = [
-        left_with::<0>(alloc),
-        left_with::<2>(alloc),
-        left_with::<4>(alloc),
-        left_with::<16>(alloc),
-    ];
+    let at_0 = left_beside::<0>(&mut NodeStore::new(alloc));
+    let at_2 = left_beside::<2>(&mut NodeStore::new(alloc));
+    let at_4 = left_beside::<4>(&mut NodeStore::new(alloc));
+    let at_16 = left_beside::<16>(&mut NodeStore::new(alloc));
+    let left = [at_0, at_2, at_4, at_16];
     let wanted = Some((None, Side::Second, true, [(0, 0), (1, 0)]));
     assert_eq!(rt; left, [wanted; 4]);
 }
@@ -321,9 +321,10 @@ fn tried<const P: usize>(
     }
 }
 
-/// The same in stores of its own.
-fn tried_with<const P: usize>(alloc: Global) -> Result<Outcome, AllocError> {
-    tried::<P>(&mut NodeStore::new(alloc), &mut NodeStore::new(alloc))
+/// The same with a second store of its own.
+fn tried_beside<const P: usize>(first: &mut NodeStore<Key, u32, P>) -> Result<Outcome, AllocError> {
+    let alloc = first.alloc();
+    tried(first, &mut NodeStore::new(alloc))
 }
 
 /// Asserts what came of a run, and says so once for each refusal that was met.
@@ -337,20 +338,24 @@ fn assert_whole(rt: &(impl Abort + Print), outcome: Outcome) -> Result<(), Fail>
 
 #[test]
 fn refused_commands_count_as_not_made_with_0_stored(rt: HostRuntime) -> Result<(), Fail> {
-    assert_whole(&rt, tried_with::<0>(rt.alloc())?)
+    let outcome = tried_beside::<0>(&mut NodeStore::new(rt.alloc()))?;
+    assert_whole(&rt, outcome)
 }
 
 #[test]
 fn refused_commands_count_as_not_made_with_2_stored(rt: HostRuntime) -> Result<(), Fail> {
-    assert_whole(&rt, tried_with::<2>(rt.alloc())?)
+    let outcome = tried_beside::<2>(&mut NodeStore::new(rt.alloc()))?;
+    assert_whole(&rt, outcome)
 }
 
 #[test]
 fn refused_commands_count_as_not_made_with_4_stored(rt: HostRuntime) -> Result<(), Fail> {
-    assert_whole(&rt, tried_with::<4>(rt.alloc())?)
+    let outcome = tried_beside::<4>(&mut NodeStore::new(rt.alloc()))?;
+    assert_whole(&rt, outcome)
 }
 
 #[test]
 fn refused_commands_count_as_not_made_with_16_stored(rt: HostRuntime) -> Result<(), Fail> {
-    assert_whole(&rt, tried_with::<16>(rt.alloc())?)
+    let outcome = tried_beside::<16>(&mut NodeStore::new(rt.alloc()))?;
+    assert_whole(&rt, outcome)
 }

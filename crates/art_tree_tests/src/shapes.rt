@@ -80,19 +80,13 @@ fn shape_from<const P: usize>(
     }
 }
 
-/// The same in a store of its own.
-fn shape_with<const P: usize>(alloc: Global, keys: &[Key]) -> Result<Option<Shape>, AllocError> {
-    shape_from::<P>(&mut NodeStore::new(alloc), keys)
-}
-
 /// The same with each number of stored bytes.
 fn shapes_from(alloc: Global, keys: &[Key]) -> Result<[Option<Shape>; 4], AllocError> {
-    Ok([
-        shape_with::<0>(alloc, keys)?,
-        shape_with::<2>(alloc, keys)?,
-        shape_with::<4>(alloc, keys)?,
-        shape_with::<16>(alloc, keys)?,
-    ])
+    let at_0 = shape_from::<0>(&mut NodeStore::new(alloc), keys)?;
+    let at_2 = shape_from::<2>(&mut NodeStore::new(alloc), keys)?;
+    let at_4 = shape_from::<4>(&mut NodeStore::new(alloc), keys)?;
+    let at_16 = shape_from::<16>(&mut NodeStore::new(alloc), keys)?;
+    Ok([at_0, at_2, at_4, at_16])
 }
 
 #[test]

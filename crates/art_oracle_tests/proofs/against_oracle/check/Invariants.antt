@@ -7,6 +7,6 @@ use Rattle.art_oracle_tests.proofs.against_oracle.check.Given as goal
 -- the root is the canonical tree of some pairs, and the list is a map
 abbrev pub invariant-loop-turn : goal.invariant-loop-turn
 invariant-loop-turn g l = record {
-  canonical : (pairs : List (Tagged × ℕ)) × IsCanonical (of_key (λ key. key.bytes.items)) g.row.P l.first.now l.root pairs;
+  canonical : (pairs : List (Tagged × ℕ)) × IsCanonical (of_key (λ key. key.bytes.items)) g.row.P l.first l.root pairs;
   map : IsMap (of_key (λ key. key.bytes.items)) l.pairs.items;
 }
