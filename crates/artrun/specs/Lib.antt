@@ -2,4 +2,5 @@ pub mod Keys
 pub mod Lines
 pub mod Trees
 pub mod KeptTrees
+pub mod Commands
 pub mod Walks

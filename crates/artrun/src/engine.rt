@@ -1,6 +1,8 @@
 //! Lines in, replies out.
 
-ghost use Rattle.std.specs.Prelude.{◌≤◌};
+ghost use Rattle.std.specs.Prelude.{◌≤◌, None, IfOk};
+ghost use Rattle.art_nodes.specs.Clones.{IsPairClone};
+ghost use Rattle.artrun.specs.Commands.{IsAnswered, IsCommandFor};
 ghost use Rattle.artrun.specs.KeptTrees.{IsKept};
 
 use crate::line::Request;
@@ -56,6 +58,7 @@ fn answer_lines(
     Ok(End::Input)
 }
 
+// Answers a request by a run of the command that it asks for, or by what it asks to see.
 fn answer(
     alloc: Global,
     tree: &mut KeptTree,
@@ -63,27 +66,51 @@ fn answer(
     output: &mut impl Write,
 ) -> io::Result<()>
     requires { IsKept tree.old }
-    ensures { IsKept tree.new }
+    ensures kept { IsKept tree.new }
+    ensures answered { IsAnswered (IsPairClone ⟦<Vec<u8> as Clone>⟧.is_clone ⟦<u32 as Clone>⟧.is_clone)
+        request.entry tree.old tree.new }
 {
-    let command = match request {
-        Request::Insert(key, value) => key.copy(alloc).map(|key| Command::Insert(key, value)),
-        Request::Prefix(key, value) => key.copy(alloc).map(|key| Command::InsertPrefix(key, value)),
-        Request::Delete(key) => key.copy(alloc).map(Command::Delete),
-        Request::First => Ok(Command::DeleteMin),
-        Request::Last => Ok(Command::DeleteMax),
-        Request::Clone => Ok(Command::Clone),
-        Request::Find(key) => key.copy(alloc).map(Command::Contains),
-        Request::Longest(key) => key.copy(alloc).map(Command::LongestMatch),
-        Request::Walk => return tree.write_pairs(output, Order::Rising),
-        Request::Back => return tree.write_pairs(output, Order::Falling),
-        Request::Nodes => return tree.write_nodes(output),
-        Request::Check => return write_check(output, &tree.check()),
-    };
-    let Ok(command) = command else {
-        return write_no_memory(output);
+    let command = match command_of(alloc, request) {
+        Ok(Some(command)) => command,
+        Ok(None) => return show(tree, request, output),
+        Err(AllocError) => return write_no_memory(output),
     };
     match tree.answer(command) {
         Ok(reply) => write_reply(output, &reply),
         Err(AllocError) => write_no_memory(output),
+    }
+}
+
+// The command that a request asks for, where it asks for one.
+fn command_of(
+    alloc: Global,
+    request: Request<'_>,
+) -> Result<Option<Command<Vec<u8>, u32>>, AllocError>
+    ensures { IfOk result (IsCommandFor request.entry) }
+{
+    Ok(Some(match request {
+        Request::Insert(key, value) => Command::Insert(key.copy(alloc)?, value),
+        Request::Prefix(key, value) => Command::InsertPrefix(key.copy(alloc)?, value),
+        Request::Delete(key) => Command::Delete(key.copy(alloc)?),
+        Request::First => Command::DeleteMin,
+        Request::Last => Command::DeleteMax,
+        Request::Clone => Command::Clone,
+        Request::Find(key) => Command::Contains(key.copy(alloc)?),
+        Request::Longest(key) => Command::LongestMatch(key.copy(alloc)?),
+        Request::Walk | Request::Back | Request::Nodes | Request::Check => return Ok(None),
+    }))
+}
+
+// Writes what a request that asks for no command asks to see.
+fn show(tree: &KeptTree, request: Request<'_>, output: &mut impl Write) -> io::Result<()>
+    requires kept { IsKept tree.now }
+    requires no_command { IsCommandFor request None }
+{
+    match request {
+        Request::Walk => tree.write_pairs(output, Order::Rising),
+        Request::Back => tree.write_pairs(output, Order::Falling),
+        Request::Nodes => tree.write_nodes(output),
+        Request::Check => write_check(output, &tree.check()),
+        _ => unreachable!(),
     }
 }
