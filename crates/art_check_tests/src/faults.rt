@@ -4,11 +4,11 @@
 use crate::told::{Told, listed, told_by};
 use art_nodes::node::{LeafPtr, NodeType, OpaqueNodePtr, OptionalLeafPtr};
 use art_nodes::store::NodeStore;
-use art_operations::well_formed::WellFormedChecker;
-use art_test_support::placing::{Plain, linked_leaf, lone_leaf, place_all, plain_node};
+use art_operations::well_formed::{MalformedTreeError, WellFormedChecker, WellFormedTreeStats};
+use art_test_support::placing::{Plain, linked_leaf, lone_leaf, placed_all, plain_node};
 use art_test_support::trees::Key;
+use std::alloc::Global;
 use std::cmp::Ordering;
-use std::test::Fail;
 
 /// Nodes, the place of the root among them, and what the check answers.
 #[derive(Clone, Copy)]
@@ -51,38 +51,64 @@ fn link(at: usize) -> OptionalLeafPtr {
     Some(LeafPtr::from_slot(at))
 }
 
-/// Whether the check answers as it should in a store of its own, and a clone of a fault equals it.
-fn is_told<const P: usize>(empty: &NodeStore<Key, u32, P>, case: Case<'_>) -> Result<bool, Fail> {
-    let mut store: NodeStore<Key, u32, P> = NodeStore::new(empty.alloc());
-    Ok(is_told_in(&mut store, case)?)
-}
-
-/// The same in a store.
-fn is_told_in<const P: usize>(
-    store: &mut NodeStore<Key, u32, P>,
-    case: Case<'_>,
-) -> Result<bool, Fail> {
-    let names = place_all(store, case.nodes)?;
-    let root = *names.get(case.root).ok_or("no root")?;
-    let answer = WellFormedChecker::check_tree(store, root);
-    let is_same = listed(told_by(&answer), &names) == case.told;
-    match &answer {
-        Ok(_) => Ok(is_same),
-        Err(fault) => Ok(is_same && fault.clone()? == *fault),
+/// Whether a clone of a fault equals it.
+fn is_cloned(fault: &MalformedTreeError) -> bool {
+    match fault.clone() {
+        Ok(copy) => copy == *fault,
+        Err(_) => false,
     }
 }
 
-/// The first case in which it does not. The store tells the number of stored bytes.
-fn first_wrong<const P: usize>(
-    empty: &NodeStore<Key, u32, P>,
-    cases: &[Case<'_>],
-) -> Result<Option<usize>, Fail> {
+/// Whether an answer says this, where names have their places in the list as slots, and a clone of a fault equals it.
+fn is_answer(
+    answer: &Result<WellFormedTreeStats, MalformedTreeError>,
+    names: &[OpaqueNodePtr],
+    told: Told<'_>,
+) -> bool {
+    let is_same = listed(told_by(answer), names) == told;
+    match answer {
+        Ok(_) => is_same,
+        Err(fault) => is_same && is_cloned(fault),
+    }
+}
+
+/// The same of the check of a case whose nodes have these names.
+fn is_told_under<const P: usize>(
+    store: &NodeStore<Key, u32, P>,
+    names: &[OpaqueNodePtr],
+    case: Case<'_>,
+) -> bool {
+    match names.get(case.root) {
+        Some(root) => is_answer(
+            &WellFormedChecker::check_tree(store, *root),
+            names,
+            case.told,
+        ),
+        None => false,
+    }
+}
+
+/// The same of a case whose nodes are placed in this store.
+fn is_told_in<const P: usize>(store: &mut NodeStore<Key, u32, P>, case: Case<'_>) -> bool {
+    match placed_all(store, case.nodes) {
+        Ok(Some(names)) => is_told_under(store, &names, case),
+        _ => false,
+    }
+}
+
+/// The same in a store of its own.
+fn is_told<const P: usize>(alloc: Global, case: Case<'_>) -> bool {
+    is_told_in::<P>(&mut NodeStore::new(alloc), case)
+}
+
+/// The first case in which the check does not answer as it should, with so many stored bytes.
+fn first_wrong<const P: usize>(alloc: Global, cases: &[Case<'_>]) -> Option<usize> {
     for (number, case) in cases.iter().enumerate() {
-        if !is_told(empty, *case)? {
-            return Ok(Some(number));
+        if !is_told::<P>(alloc, *case) {
+            return Some(number);
         }
     }
-    Ok(None)
+    None
 }
 
 /// Two inner nodes below a root, each with a prefix, where the last child is the node at this place.
@@ -99,7 +125,7 @@ fn two_branches<'a>(last: &'a [(u8, usize)], end: Plain<'a>) -> [Plain<'a>; 7] {
 }
 
 #[test]
-fn nodes_are_checked_in_the_order_of_the_walk(rt: HostRuntime) -> Result<(), Fail> {
+fn nodes_are_checked_in_the_order_of_the_walk(rt: HostRuntime) {
     let to_root = two_branches(&[(3, 5), (4, 0)], Plain::Gone);
     let few = two_branches(&[(3, 5), (4, 6)], lone_leaf(&[1, 2, 4, 7, 8, 4], 0));
     let foreign = two_branches(&[(3, 5), (4, 6)], lone_leaf(&[255; 6], 0));
@@ -116,15 +142,11 @@ fn nodes_are_checked_in_the_order_of_the_walk(rt: HostRuntime) -> Result<(), Fai
             Told::Dead(&[1, 2, 4, 7, 8, 4], named(NodeType::Leaf, 6)),
         ),
     ];
-    assert_eq!(rt;
-        first_wrong::<16>(&NodeStore::new(rt.alloc()), &cases)?,
-        None
-    );
-    Ok(())
+    assert_eq!(rt; first_wrong::<16>(rt.alloc(), &cases), None);
 }
 
 #[test]
-fn a_name_that_is_met_twice_is_a_loop(rt: HostRuntime) -> Result<(), Fail> {
+fn a_name_that_is_met_twice_is_a_loop(rt: HostRuntime) {
     let twins = [
         plain_node(NodeType::Node4, &[(1, 1), (2, 1)]),
         lone_leaf(&[1], 0),
@@ -145,15 +167,11 @@ fn a_name_that_is_met_twice_is_a_loop(rt: HostRuntime) -> Result<(), Fail> {
             Told::Loop(named(NodeType::Node4, 1), &[1], &[2, 5]),
         ),
     ];
-    assert_eq!(rt;
-        first_wrong::<16>(&NodeStore::new(rt.alloc()), &cases)?,
-        None
-    );
-    Ok(())
+    assert_eq!(rt; first_wrong::<16>(rt.alloc(), &cases), None);
 }
 
 #[test]
-fn siblings_are_to_stand_in_order(rt: HostRuntime) -> Result<(), Fail> {
+fn siblings_are_to_stand_in_order(rt: HostRuntime) {
     let root = plain_node(NodeType::Node4, &[(1, 1), (2, 2)]);
     let itself = [root, linked_leaf(&[1], Some(1), None), lone_leaf(&[2], 0)];
     let behind = [
@@ -178,11 +196,7 @@ fn siblings_are_to_stand_in_order(rt: HostRuntime) -> Result<(), Fail> {
         from_first(&no_previous, Told::Dead(&[], named(NodeType::Leaf, 1))),
         from_first(&no_next, Told::Dead(&[], named(NodeType::Leaf, 2))),
     ];
-    assert_eq!(rt;
-        first_wrong::<16>(&NodeStore::new(rt.alloc()), &cases)?,
-        None
-    );
-    Ok(())
+    assert_eq!(rt; first_wrong::<16>(rt.alloc(), &cases), None);
 }
 
 /// Three leaves below a root, with a leaf beside them, where the first leaf has these links.
@@ -197,7 +211,7 @@ fn three_leaves<'a>(previous: Option<usize>, next: Option<usize>) -> [Plain<'a>;
 }
 
 #[test]
-fn leaves_are_to_name_their_neighbours(rt: HostRuntime) -> Result<(), Fail> {
+fn leaves_are_to_name_their_neighbours(rt: HostRuntime) {
     let right = three_leaves(None, Some(2));
     let third = three_leaves(None, Some(3));
     let beside = three_leaves(Some(4), Some(2));
@@ -211,15 +225,11 @@ fn leaves_are_to_name_their_neighbours(rt: HostRuntime) -> Result<(), Fail> {
         ),
         from_first(&both, Told::Links(&[1], (None, link(2)), (link(4), None))),
     ];
-    assert_eq!(rt;
-        first_wrong::<16>(&NodeStore::new(rt.alloc()), &cases)?,
-        None
-    );
-    Ok(())
+    assert_eq!(rt; first_wrong::<16>(rt.alloc(), &cases), None);
 }
 
 #[test]
-fn a_name_is_to_lead_to_a_node_of_its_kind(rt: HostRuntime) -> Result<(), Fail> {
+fn a_name_is_to_lead_to_a_node_of_its_kind(rt: HostRuntime) {
     let gone = [Plain::Gone];
     let wide = [
         plain_node(NodeType::Node4, &[]),
@@ -239,15 +249,11 @@ fn a_name_is_to_lead_to_a_node_of_its_kind(rt: HostRuntime) -> Result<(), Fail> 
         },
         from_first(&below, Told::Dead(&[2], named(NodeType::Node48, 2))),
     ];
-    assert_eq!(rt;
-        first_wrong::<16>(&NodeStore::new(rt.alloc()), &cases)?,
-        None
-    );
-    Ok(())
+    assert_eq!(rt; first_wrong::<16>(rt.alloc(), &cases), None);
 }
 
 #[test]
-fn inner_nodes_are_to_have_enough_children(rt: HostRuntime) -> Result<(), Fail> {
+fn inner_nodes_are_to_have_enough_children(rt: HostRuntime) {
     let none = [plain_node(NodeType::Node4, &[])];
     let one = [
         plain_node(NodeType::Node4, &[(1, 1), (2, 2)]),
@@ -270,15 +276,11 @@ fn inner_nodes_are_to_have_enough_children(rt: HostRuntime) -> Result<(), Fail> 
         from_first(&wide, Told::Count(&[], NodeType::Node48, 2)),
         from_first(&widest, Told::Count(&[], NodeType::Node256, 1)),
     ];
-    assert_eq!(rt;
-        first_wrong::<16>(&NodeStore::new(rt.alloc()), &cases)?,
-        None
-    );
-    Ok(())
+    assert_eq!(rt; first_wrong::<16>(rt.alloc(), &cases), None);
 }
 
 #[test]
-fn with_nothing_stored_each_prefix_is_read(rt: HostRuntime) -> Result<(), Fail> {
+fn with_nothing_stored_each_prefix_is_read(rt: HostRuntime) {
     let none = [prefixed(NodeType::Node4, 2, &[], &[])];
     let dead = [prefixed(NodeType::Node4, 1, &[], &[(5, 1)]), Plain::Gone];
     let right = [
@@ -298,11 +300,7 @@ fn with_nothing_stored_each_prefix_is_read(rt: HostRuntime) -> Result<(), Fail> 
         from_first(&right, Told::Whole(2, 1)),
         from_first(&other, Told::Prefix(&[1, 6], &[2, 6])),
     ];
-    assert_eq!(rt;
-        first_wrong::<0>(&NodeStore::new(rt.alloc()), &cases)?,
-        None
-    );
-    Ok(())
+    assert_eq!(rt; first_wrong::<0>(rt.alloc(), &cases), None);
 }
 
 /// A root with a prefix of four bytes, of which these are stored, above two leaves.
@@ -315,7 +313,7 @@ fn four_bytes<'a>(stored: &'a [u8], one: &'a [u8], other: &'a [u8]) -> [Plain<'a
 }
 
 #[test]
-fn stored_bytes_are_to_be_those_of_the_least_leaf(rt: HostRuntime) -> Result<(), Fail> {
+fn stored_bytes_are_to_be_those_of_the_least_leaf(rt: HostRuntime) {
     let own = [prefixed(NodeType::Node4, 4, &[1, 1], &[(5, 0)])];
     let short = [
         prefixed(NodeType::Node4, 4, &[1, 1], &[(5, 1), (6, 2)]),
@@ -339,11 +337,7 @@ fn stored_bytes_are_to_be_those_of_the_least_leaf(rt: HostRuntime) -> Result<(),
         from_first(&apart, Told::Prefix(&[1, 1, 1, 1, 6], &[1, 1, 1, 2, 6])),
         from_first(&endless, Told::Unreadable(&[5], named(NodeType::Node4, 1))),
     ];
-    assert_eq!(rt;
-        first_wrong::<2>(&NodeStore::new(rt.alloc()), &cases)?,
-        None
-    );
-    Ok(())
+    assert_eq!(rt; first_wrong::<2>(rt.alloc(), &cases), None);
 }
 
 /// Two keys with 22 times 88 in their common front.
@@ -381,7 +375,7 @@ fn text_tree<'a>(stored: &'a [u8], below: &'a [(u8, usize)]) -> [Plain<'a>; 8] {
 }
 
 #[test]
-fn a_long_prefix_is_read_from_its_least_leaf(rt: HostRuntime) -> Result<(), Fail> {
+fn a_long_prefix_is_read_from_its_least_leaf(rt: HostRuntime) {
     let right = text_tree(&STORED, &[(49, 1), (50, 2)]);
     let wrong = text_tree(&CHANGED, &[(49, 1), (50, 2)]);
     let dead = text_tree(&STORED, &[(49, 1), (50, 7)]);
@@ -390,9 +384,5 @@ fn a_long_prefix_is_read_from_its_least_leaf(rt: HostRuntime) -> Result<(), Fail
         from_first(&wrong, Told::Stored(&[50, 88, 88, 49], &CHANGED, &STORED)),
         from_first(&dead, Told::Dead(&[50], named(NodeType::Node16, 7))),
     ];
-    assert_eq!(rt;
-        first_wrong::<16>(&NodeStore::new(rt.alloc()), &cases)?,
-        None
-    );
-    Ok(())
+    assert_eq!(rt; first_wrong::<16>(rt.alloc(), &cases), None);
 }

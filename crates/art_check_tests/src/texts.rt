@@ -3,31 +3,43 @@
 use crate::told::{Told, fault, told_by_fault};
 use art_nodes::node::{LeafPtr, NodeType, OpaqueNodePtr};
 use art_nodes::store::NodeStore;
-use art_operations::well_formed::WellFormedChecker;
+use art_operations::well_formed::{MalformedTreeError, WellFormedChecker};
 use art_test_support::trees::Key;
 use std::alloc::Global;
 use std::cmp::Ordering;
-use std::test::Fail;
 
-/// The text of a fault. None where what it says is other than what is told, or a clone does not equal it.
-fn text_of(alloc: Global, told: Told<'_>) -> Result<Option<String>, Fail> {
-    let fault = fault(alloc, told)?;
-    let copy = fault.clone()?;
-    if copy != fault || told_by_fault(&copy) != told {
-        return Ok(None);
+/// Whether a fault says this, and a clone equals it and says the same.
+fn is_faithful(fault: &MalformedTreeError, told: Told<'_>) -> bool {
+    match fault.clone() {
+        Ok(copy) => copy == *fault && told_by_fault(&copy) == told,
+        Err(_) => false,
     }
-    Ok(Some(format!(in alloc; "{fault}")?))
+}
+
+/// Whether a fault has this text.
+fn is_printed(alloc: Global, fault: &MalformedTreeError, text: &str) -> bool {
+    match format!(in alloc; "{fault}") {
+        Ok(printed) => printed.as_str() == text,
+        Err(_) => false,
+    }
+}
+
+/// Whether the fault that says this has this text, and a clone of it is the same.
+fn is_right(alloc: Global, told: Told<'_>, text: &str) -> bool {
+    match fault(alloc, told) {
+        Ok(fault) => is_faithful(&fault, told) && is_printed(alloc, &fault, text),
+        Err(_) => false,
+    }
 }
 
 /// Whether each fault has its text. Answers the first that has not.
-fn first_other(alloc: Global, rows: &[(Told<'_>, &str)]) -> Result<Option<usize>, Fail> {
+fn first_other(alloc: Global, rows: &[(Told<'_>, &str)]) -> Option<usize> {
     for (number, (told, text)) in rows.iter().enumerate() {
-        let found = text_of(alloc, *told)?;
-        if found.as_deref() != Some(*text) {
-            return Ok(Some(number));
+        if !is_right(alloc, *told, text) {
+            return Some(number);
         }
     }
-    Ok(None)
+    None
 }
 
 fn named(kind: NodeType, slot: usize) -> OpaqueNodePtr {
@@ -35,7 +47,7 @@ fn named(kind: NodeType, slot: usize) -> OpaqueNodePtr {
 }
 
 #[test]
-fn faults_of_inner_nodes_have_their_texts(rt: HostRuntime) -> Result<(), Fail> {
+fn faults_of_inner_nodes_have_their_texts(rt: HostRuntime) {
     let rows: [(Told<'_>, &str); 8] = [
         (
             Told::Loop(named(NodeType::Node4, 7), &[], &[1, 2]),
@@ -70,12 +82,11 @@ fn faults_of_inner_nodes_have_their_texts(rt: HostRuntime) -> Result<(), Fail> {
             "Found an inner node at location [[9]] that stores the prefix bytes [[1, 2]], but its least leaf has [[1, 1]]",
         ),
     ];
-    assert_eq!(rt; first_other(rt.alloc(), &rows)?, None);
-    Ok(())
+    assert_eq!(rt; first_other(rt.alloc(), &rows), None);
 }
 
 #[test]
-fn faults_of_leaves_and_names_have_their_texts(rt: HostRuntime) -> Result<(), Fail> {
+fn faults_of_leaves_and_names_have_their_texts(rt: HostRuntime) {
     let (one, two) = (Some(LeafPtr::from_slot(1)), Some(LeafPtr::from_slot(2)));
     let rows: [(Told<'_>, &str); 10] = [
         (
@@ -119,25 +130,23 @@ fn faults_of_leaves_and_names_have_their_texts(rt: HostRuntime) -> Result<(), Fa
             "Memory ran out while the tree was checked",
         ),
     ];
-    assert_eq!(rt; first_other(rt.alloc(), &rows)?, None);
-    Ok(())
+    assert_eq!(rt; first_other(rt.alloc(), &rows), None);
 }
 
-/// The text of the fault of a name in a store.
-fn text_at(store: &NodeStore<Key, u32, 4>, name: OpaqueNodePtr) -> Result<String, Fail> {
+/// Whether the fault of a name in a store has this text.
+fn is_printed_at(store: &NodeStore<Key, u32, 4>, name: OpaqueNodePtr, text: &str) -> bool {
     match WellFormedChecker::check_tree(store, name) {
-        Ok(_) => Err("no fault".into()),
-        Err(fault) => Ok(format!(in store.alloc(); "{fault}")?),
+        Ok(_) => false,
+        Err(fault) => is_printed(store.alloc(), &fault, text),
     }
 }
 
 #[test]
-fn an_empty_store_has_no_tree(rt: HostRuntime) -> Result<(), Fail> {
-    let store: NodeStore<Key, u32, 4> = NodeStore::new(rt.alloc());
-    let text = text_at(&store, named(NodeType::Leaf, 0))?;
-    assert_eq!(rt;
-        text.as_str(),
-        "Found a name [Leaf#0] at location [[]] that leads to no node of its kind"
+fn an_empty_store_has_no_tree(rt: HostRuntime) {
+    let is_right = is_printed_at(
+        &NodeStore::new(rt.alloc()),
+        named(NodeType::Leaf, 0),
+        "Found a name [Leaf#0] at location [[]] that leads to no node of its kind",
     );
-    Ok(())
+    assert!(rt; is_right);
 }

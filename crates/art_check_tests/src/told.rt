@@ -9,7 +9,7 @@ use std::cmp::Ordering;
 pub type Links = (OptionalLeafPtr, OptionalLeafPtr);
 
 /// What a check says, with the bytes of its prefixes and keys.
-#[derive(Clone, Copy, PartialEq, Eq, Debug)]
+#[derive(Clone, Copy, PartialEq, Eq)]
 pub enum Told<'a> {
     /// So many leaves and inner nodes.
     Whole(usize, usize),
@@ -37,6 +37,11 @@ pub fn told_by(answer: &Result<WellFormedTreeStats, MalformedTreeError>) -> Told
         Ok(stats) => Told::Whole(stats.num_leaf, stats.num_inner),
         Err(fault) => told_by_fault(fault),
     }
+}
+
+/// Whether an answer says this.
+pub fn says(answer: &Result<WellFormedTreeStats, MalformedTreeError>, told: Told<'_>) -> bool {
+    told_by(answer) == told
 }
 
 /// What a fault says.
