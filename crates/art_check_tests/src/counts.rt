@@ -1,4 +1,5 @@
 //! The check of trees that insertions make, and what counts of nodes are.
+ghost use Rattle.std.specs.Prelude.{◌<◌};
 
 use crate::told::{Told, says};
 use art_nodes::node::OpaqueNodePtr;
@@ -42,7 +43,9 @@ fn counts_from<const P: usize>(
 }
 
 /// The same in stores of its own.
-fn counts_with<const P: usize>(alloc: Global, keys: Vec<Key>) -> Option<(usize, usize, usize)> {
+fn counts_with<const P: usize>(alloc: Global, keys: Vec<Key>) -> Option<(usize, usize, usize)>
+    requires { P < 256 }
+{
     counts_from::<P>(&mut NodeStore::new(alloc), &mut NodeStore::new(alloc), keys)
 }
 

@@ -1,8 +1,9 @@
 //! Checks where there is no memory: all of it held, or each request refused in turn by tools/refusals. A refusal that
 //! falls outside the check that a test is on decides nothing; after one within it the test says that it asserted what
 //! holds then.
+ghost use Rattle.std.specs.Prelude.{◌<◌};
 
-use crate::told::{Told, fault, says, told_by, told_by_fault};
+use crate::told::{Told, fault, named, says, told_by, told_by_fault};
 use art_nodes::node::{NodeType, OpaqueNodePtr};
 use art_nodes::store::NodeStore;
 use art_operations::insert::InsertPrefixError;
@@ -159,7 +160,7 @@ fn check_of_pair<const P: usize>(
     names: &[OpaqueNodePtr],
 ) -> Option<Outcome> {
     let (root, twin) = (*names.first()?, *names.get(1)?);
-    Some(what_comes(store, root, Told::Loop(twin, &[1], &[2])))
+    Some(what_comes(store, root, Told::Loop(named(twin), &[1], &[2])))
 }
 
 /// The check of a leaf that two bytes lead to.
@@ -175,7 +176,9 @@ fn check_of_twins<const P: usize>(store: &mut NodeStore<Key, u32, P>) -> Option<
 }
 
 /// The check of a tree of 53 leaves in a store of its own.
-fn many_checked<const P: usize>(alloc: Global) -> Option<Outcome> {
+fn many_checked<const P: usize>(alloc: Global) -> Option<Outcome>
+    requires { P < 256 }
+{
     check_of_many::<P>(&mut NodeStore::new(alloc), &mut NodeStore::new(alloc))
 }
 
@@ -261,24 +264,27 @@ fn clone_of_conflict(alloc: Global) -> Option<Outcome> {
     })
 }
 
-/// What comes of clones of faults of all kinds.
+/// What faults of all kinds say.
+const FAULTS: [Told<'static>; 10] = [
+    Told::Loop((NodeType::Node48, 3), &[1], &[2, 3]),
+    Told::Count(&[1], NodeType::Node4, 1),
+    Told::Prefix(&[1], &[2, 3]),
+    Told::LenOfNone,
+    Told::Order(&[2], &[1], Ordering::Less, Ordering::Greater),
+    Told::Links(&[1], (None, None), (None, None)),
+    Told::Dead(&[1], (NodeType::Node48, 3)),
+    Told::Unreadable(&[1], (NodeType::Node48, 3)),
+    Told::Stored(&[1], &[1, 2], &[1, 1]),
+    Told::OutOfMemory,
+];
+
+/// What comes of clones of them.
 fn clones_of_faults(alloc: Global) -> [Option<Outcome>; 10] {
-    let (name, links) = (OpaqueNodePtr::from_parts(NodeType::Node48, 3), (None, None));
-    [
-        clone_of(alloc, Told::Loop(name, &[1], &[2, 3])),
-        clone_of(alloc, Told::Count(&[1], NodeType::Node4, 1)),
-        clone_of(alloc, Told::Prefix(&[1], &[2, 3])),
-        clone_of(alloc, Told::LenOfNone),
-        clone_of(
-            alloc,
-            Told::Order(&[2], &[1], Ordering::Less, Ordering::Greater),
-        ),
-        clone_of(alloc, Told::Links(&[1], links, links)),
-        clone_of(alloc, Told::Dead(&[1], name)),
-        clone_of(alloc, Told::Unreadable(&[1], name)),
-        clone_of(alloc, Told::Stored(&[1], &[1, 2], &[1, 1])),
-        clone_of(alloc, Told::OutOfMemory),
-    ]
+    let mut outcomes = [None; 10];
+    for (outcome, told) in outcomes.iter_mut().zip(&FAULTS) {
+        *outcome = clone_of(alloc, *told);
+    }
+    outcomes
 }
 
 #[test]

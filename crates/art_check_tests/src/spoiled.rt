@@ -1,7 +1,8 @@
 //! The check of trees that were spoiled in one place, beside a check that stands apart.
+ghost use Rattle.std.specs.Prelude.{◌<◌};
 
 use crate::spoiling::{draw_keys, names_below, spoil};
-use crate::told::{Told, says};
+use crate::told::{Told, named, says, slots};
 use art_nodes::node::{NodeType, OpaqueNodePtr};
 use art_nodes::store::NodeStore;
 use art_operations::well_formed::WellFormedChecker;
@@ -21,15 +22,19 @@ fn told_by_verdict(verdict: &Verdict) -> Told<'_> {
 
 fn told_by_flaw(flaw: &Flaw) -> Told<'_> {
     match flaw {
-        Flaw::Twice(name, first, later) => Told::Loop(*name, first, later),
+        Flaw::Twice(name, first, later) => Told::Loop(named(*name), first, later),
         Flaw::Children(place, kind, count) => Told::Count(place, *kind, *count),
         Flaw::Key(place, key) => Told::Prefix(place, key),
         Flaw::Order(sibling, key, wanted, order) => Told::Order(sibling, key, *wanted, *order),
         Flaw::Links(key, wanted, links) => {
-            Told::Links(key, (wanted[0], wanted[1]), (links[0], links[1]))
+            Told::Links(
+                key,
+                slots((wanted[0], wanted[1])),
+                slots((links[0], links[1])),
+            )
         }
-        Flaw::NoNode(place, name) => Told::Dead(place, *name),
-        Flaw::NoPrefix(place, name) => Told::Unreadable(place, *name),
+        Flaw::NoNode(place, name) => Told::Dead(place, named(*name)),
+        Flaw::NoPrefix(place, name) => Told::Unreadable(place, named(*name)),
         Flaw::Stored(place, stored, actual) => Told::Stored(place, stored, actual),
     }
 }
@@ -124,7 +129,9 @@ fn try_in<const P: usize>(
 fn try_one<const P: usize>(
     alloc: Global,
     numbers: &mut Numbers,
-) -> Result<Option<usize>, AllocError> {
+) -> Result<Option<usize>, AllocError>
+    requires { P < 256 }
+{
     try_in::<P>(
         &mut NodeStore::new(alloc),
         &mut NodeStore::new(alloc),
@@ -133,7 +140,9 @@ fn try_one<const P: usize>(
 }
 
 /// How often each was told of 2,500 spoiled trees with so many stored bytes, and last how many checks were wrong.
-fn try_many<const P: usize>(alloc: Global) -> Result<[usize; 10], AllocError> {
+fn try_many<const P: usize>(alloc: Global) -> Result<[usize; 10], AllocError>
+    requires { P < 256 }
+{
     let mut numbers = Numbers::new(P as u64);
     let mut counts = [0usize; 10];
     for _ in 0..2_500 {
@@ -147,7 +156,9 @@ fn try_many<const P: usize>(alloc: Global) -> Result<[usize; 10], AllocError> {
 
 /// Whether no check of 2,500 spoiled trees with so many stored bytes was wrong, and each was told but the last of so many: a stored
 /// byte can be wrong only where bytes are stored.
-fn are_told<const P: usize>(alloc: Global) -> bool {
+fn are_told<const P: usize>(alloc: Global) -> bool
+    requires { P < 256 }
+{
     let Ok(counts) = try_many::<P>(alloc) else {
         return false;
     };
