@@ -1,11 +1,14 @@
 //! The check of trees that insertions make, and what counts of nodes are.
+ghost use Rattle.std.specs.Prelude.{◌<◌};
 
-use crate::told::{Told, told_by};
+use crate::told::{Told, says};
 use art_nodes::node::OpaqueNodePtr;
 use art_nodes::store::NodeStore;
 use art_operations::run::{Command, run};
 use art_operations::well_formed::{WellFormedChecker, WellFormedTreeStats};
-use art_test_support::trees::{Key, keys_after, keys_of_three, keys_of_zeros, plant_keys, planted};
+use art_test_support::trees::{
+    Key, keys_after, keys_of_three, keys_of_zeros, planted, planted_all,
+};
 use std::alloc::{AllocError, Global};
 use std::test::Fail;
 
@@ -28,37 +31,34 @@ fn counts_of<const P: usize>(
     }
 }
 
-/// The same of the tree of these keys.
+/// The same of the tree of these keys. The second store is for its planting alone.
 fn counts_from<const P: usize>(
     store: &mut NodeStore<Key, u32, P>,
+    second: &mut NodeStore<Key, u32, P>,
     keys: Vec<Key>,
 ) -> Option<(usize, usize, usize)> {
     let len = keys.len();
-    let alloc = store.alloc();
-    let root = planted(store, &mut NodeStore::new(alloc), keys).ok()??;
+    let root = planted(store, second, keys).ok()??;
     counts_of(store, root, len)
 }
 
-/// The same with 16 stored bytes and with none.
-fn two_counts(alloc: Global, number: usize) -> Result<[Option<(usize, usize, usize)>; 2], Fail> {
-    let many = keys_of(alloc, number)?;
-    let same = keys_of(alloc, number)?;
-    Ok([
-        counts_from::<16>(&mut NodeStore::new(alloc), many),
-        counts_from::<0>(&mut NodeStore::new(alloc), same),
-    ])
+/// The same in stores of its own.
+fn counts_with<const P: usize>(alloc: Global, keys: Vec<Key>) -> Option<(usize, usize, usize)>
+    requires { P < 256 }
+{
+    counts_from::<P>(&mut NodeStore::new(alloc), &mut NodeStore::new(alloc), keys)
 }
 
 /// The keys of the tree of this number.
 fn keys_of(alloc: Global, number: usize) -> Result<Vec<Key>, Fail> {
-    Ok(match number {
-        0 => keys_of_three(alloc, [4, 3, 2])?,
-        1 => keys_of_three(alloc, [51, 2, 3])?,
-        2 => keys_of_three(alloc, [6, 6, 6])?,
-        3 => keys_of_zeros(alloc)?,
-        4 => keys_after(alloc, &[], 256)?,
-        _ => keys_after(alloc, &[7, 7, 7], 1)?,
-    })
+    match number {
+        0 => keys_of_three(alloc, [4, 3, 2]),
+        1 => keys_of_three(alloc, [51, 2, 3]),
+        2 => keys_of_three(alloc, [6, 6, 6]),
+        3 => Ok(keys_of_zeros(alloc)?),
+        4 => Ok(keys_after(alloc, &[], 256)?),
+        _ => Ok(keys_after(alloc, &[7, 7, 7], 1)?),
+    }
 }
 
 #[test]
@@ -71,12 +71,13 @@ fn nodes_of_well_formed_trees_are_counted(rt: HostRuntime) -> Result<(), Fail> {
         (256, 1, 257),
         (1, 0, 1),
     ];
+    let alloc = rt.alloc();
     for (number, counts) in wanted.iter().enumerate() {
-        assert_eq!(rt;
-            two_counts(rt.alloc(), number)?,
-            [Some(*counts); 2],
-            "tree {number}"
-        );
+        let found = [
+            counts_with::<16>(alloc, keys_of(alloc, number)?),
+            counts_with::<0>(alloc, keys_of(alloc, number)?),
+        ];
+        assert_eq!(rt; found, [Some(*counts); 2], "tree {number}");
     }
     Ok(())
 }
@@ -96,65 +97,94 @@ fn insertions_and_deletions(
     Ok(commands)
 }
 
-/// What the check answers after these, for so many leaves.
+/// The root after these. None where memory was refused.
+fn root_after(
+    first: &mut NodeStore<Key, u32, 4>,
+    second: &mut NodeStore<Key, u32, 4>,
+    commands: Vec<Command<Key, u32>>,
+) -> Option<Option<OpaqueNodePtr>> {
+    match run(first, second, None, commands) {
+        Ok(done) => Some(done.root),
+        Err(_) => None,
+    }
+}
+
+/// How many leaves and inner nodes the check of a tree of so many leaves counts. None where it finds a fault.
+fn counts_below(
+    store: &NodeStore<Key, u32, 4>,
+    root: Option<OpaqueNodePtr>,
+    len: usize,
+) -> Option<(usize, usize)> {
+    match WellFormedChecker::check(store, root, len) {
+        Ok(stats) => Some((stats.num_leaf, stats.num_inner)),
+        Err(_) => None,
+    }
+}
+
+/// The same after all insertions and so many deletions.
 fn counts_after(
     first: &mut NodeStore<Key, u32, 4>,
     second: &mut NodeStore<Key, u32, 4>,
     deletions: usize,
-) -> Result<(usize, usize), Fail> {
-    let commands = insertions_and_deletions(first.alloc(), deletions)?;
-    let Ok(done) = run(first, second, None, commands) else {
-        return Err("memory".into());
-    };
-    match WellFormedChecker::check(first, done.root, 256usize.saturating_sub(deletions)) {
-        Ok(stats) => Ok((stats.num_leaf, stats.num_inner)),
-        Err(_) => Err("a fault".into()),
-    }
+) -> Option<(usize, usize)> {
+    let commands = insertions_and_deletions(first.alloc(), deletions).ok()?;
+    let root = root_after(first, second, commands)?;
+    counts_below(first, root, 256usize.saturating_sub(deletions))
+}
+
+/// The same in stores of its own.
+fn counts_left(alloc: Global, deletions: usize) -> Option<(usize, usize)> {
+    counts_after(
+        &mut NodeStore::new(alloc),
+        &mut NodeStore::new(alloc),
+        deletions,
+    )
 }
 
 #[test]
-fn trees_are_well_formed_while_nodes_shrink(rt: HostRuntime) -> Result<(), Fail> {
-    let alloc = rt.alloc();
+fn trees_are_well_formed_while_nodes_shrink(rt: HostRuntime) {
     for left in [0, 1, 2, 3, 4, 5, 15, 16, 17, 47, 48, 49, 255, 256] {
-        let counts = counts_after(
-            &mut NodeStore::new(alloc),
-            &mut NodeStore::new(alloc),
-            256usize.saturating_sub(left),
-        )?;
+        let counts = counts_left(rt.alloc(), 256usize.saturating_sub(left));
         let inner = if left < 2 { 0 } else { 1 };
-        assert_eq!(rt; counts, (left, inner));
+        assert_eq!(rt; counts, Some((left, inner)));
     }
-    Ok(())
 }
 
-/// What the check answers where there is no root.
+/// Whether the check says what it should of so many pairs where there is no root.
 fn without_root<const P: usize>(store: &NodeStore<Key, u32, P>, len: usize) -> bool {
-    let answer = WellFormedChecker::check(store, None, len);
-    told_by(&answer)
-        == match len {
-            0 => Told::Whole(0, 0),
-            _ => Told::LenOfNone,
-        }
+    let wanted = match len {
+        0 => Told::Whole(0, 0),
+        _ => Told::LenOfNone,
+    };
+    says(&WellFormedChecker::check(store, None, len), wanted)
+}
+
+/// The same for three lengths, the first of which is none.
+fn three_without_root(alloc: Global) -> [bool; 3] {
+    let store: NodeStore<Key, u32, 4> = NodeStore::new(alloc);
+    [
+        without_root(&store, 0),
+        without_root(&store, 1),
+        without_root(&store, usize::MAX),
+    ]
 }
 
 #[test]
 fn no_tree_has_no_length(rt: HostRuntime) {
-    let store: NodeStore<Key, u32, 4> = NodeStore::new(rt.alloc());
-    let are_told = [
-        without_root(&store, 0),
-        without_root(&store, 1),
-        without_root(&store, usize::MAX),
-    ];
-    assert_eq!(rt; are_told, [true; 3]);
+    assert_eq!(rt; three_without_root(rt.alloc()), [true; 3]);
+}
+
+/// How many nodes the tree of two keys has, where the check is told two other lengths.
+fn counts_of_two(store: &mut NodeStore<Key, u32, 4>) -> Option<[Option<(usize, usize, usize)>; 2]> {
+    let root = planted_all(store, &[&[1, 0], &[1, 1]]).ok()??;
+    Some([counts_of(store, root, 0), counts_of(store, root, 5)])
 }
 
 #[test]
-fn the_length_of_a_tree_is_not_compared(rt: HostRuntime) -> Result<(), Fail> {
+fn the_length_of_a_tree_is_not_compared(rt: HostRuntime) {
     let mut store: NodeStore<Key, u32, 4> = NodeStore::new(rt.alloc());
-    let root = plant_keys(&mut store, keys_after(rt.alloc(), &[1], 2)?)?;
-    let counts = [counts_of(&store, root, 0), counts_of(&store, root, 5)];
-    assert_eq!(rt; counts, [Some((2, 1, 3)); 2]);
-    Ok(())
+    let counts = counts_of_two(&mut store);
+    assert_eq!(rt; counts, Some([Some((2, 1, 3)); 2]));
 }
 
 #[test]

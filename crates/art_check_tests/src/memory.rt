@@ -1,16 +1,19 @@
 //! Checks where there is no memory: all of it held, or each request refused in turn by tools/refusals. A refusal that
 //! falls outside the check that a test is on decides nothing; after one within it the test says that it asserted what
 //! holds then.
+ghost use Rattle.std.specs.Prelude.{◌<◌};
 
-use crate::told::{Told, fault, told_by, told_by_fault};
+use crate::told::{Told, fault, named, says, told_by, told_by_fault};
 use art_nodes::node::{NodeType, OpaqueNodePtr};
 use art_nodes::store::NodeStore;
 use art_operations::insert::InsertPrefixError;
-use art_operations::well_formed::{KeyPrefix, WellFormedChecker};
+use art_operations::well_formed::{
+    KeyPrefix, MalformedTreeError, WellFormedChecker, WellFormedTreeStats,
+};
 use art_test_support::memory::all_memory;
 use art_test_support::placing::{Plain, lone_leaf, placed_all, plain_node};
 use art_test_support::shapes::count_nodes;
-use art_test_support::trees::{Key, keys_after, plant_all, planted, planted_all};
+use art_test_support::trees::{Key, keys_after, planted, planted_all};
 use std::alloc::{AllocError, Global};
 use std::boxed::BoxedSlice;
 use std::cmp::Ordering;
@@ -18,34 +21,51 @@ use std::test::Fail;
 
 /// Whether a check is refused.
 fn is_refused<const P: usize>(store: &NodeStore<Key, u32, P>, root: OpaqueNodePtr) -> bool {
-    let answer = WellFormedChecker::check(store, Some(root), 0);
-    told_by(&answer) == Told::OutOfMemory
+    says(
+        &WellFormedChecker::check(store, Some(root), 0),
+        Told::OutOfMemory,
+    )
 }
 
 /// Whether there is no tree where there is no root, and a length of none is a fault. It takes no memory.
 fn is_told_without_root<const P: usize>(store: &NodeStore<Key, u32, P>) -> bool {
-    let none = WellFormedChecker::check(store, None, 0);
-    let some = WellFormedChecker::check(store, None, 1);
-    (told_by(&none), told_by(&some)) == (Told::Whole(0, 0), Told::LenOfNone)
+    says(&WellFormedChecker::check(store, None, 0), Told::Whole(0, 0))
+        && says(&WellFormedChecker::check(store, None, 1), Told::LenOfNone)
+}
+
+/// The same of a planted tree and of no root, while all memory is held.
+fn are_refused_without_memory<const P: usize>(
+    store: &NodeStore<Key, u32, P>,
+    root: OpaqueNodePtr,
+) -> Option<[bool; 2]> {
+    let held = all_memory(store.alloc()).ok()?;
+    let seen = [is_refused(store, root), is_told_without_root(store)];
+    drop(held);
+    Some(seen)
+}
+
+/// The same of the tree of two keys.
+fn two_keys_without_memory(store: &mut NodeStore<Key, u32, 4>) -> Option<[bool; 2]> {
+    let root = planted_all(store, &[&[1, 1], &[1, 2]]).ok()??;
+    are_refused_without_memory(store, root)
 }
 
 #[test]
-fn without_memory_there_is_no_verdict(rt: HostRuntime) -> Result<(), Fail> {
+fn without_memory_there_is_no_verdict(rt: HostRuntime) {
     let mut store: NodeStore<Key, u32, 4> = NodeStore::new(rt.alloc());
-    let root = plant_all(&mut store, &[&[1, 1], &[1, 2]])?;
-    let held = all_memory(rt.alloc())?;
-    let seen = [is_refused(&store, root), is_told_without_root(&store)];
-    drop(held);
-    assert_eq!(rt; seen, [true; 2]);
-    Ok(())
+    let seen = two_keys_without_memory(&mut store);
+    assert_eq!(rt; seen, Some([true; 2]));
 }
 
-/// Whether copies and clones of prefixes and faults are refused while all memory is held, but for those of no bytes.
-fn are_clones_refused(alloc: Global) -> Result<[bool; 4], AllocError> {
-    let prefix = KeyPrefix::from_slice(alloc, &[1, 2])?;
-    let with_bytes = fault(alloc, Told::Stored(&[], &[1, 2], &[1, 1]))?;
-    let without = fault(alloc, Told::LenOfNone)?;
-    let held = all_memory(alloc)?;
+/// Whether clones of a prefix and of two faults are refused while all memory is held, and so are copies of bytes, but
+/// for the clone of the second fault, which has no bytes.
+fn are_refused(
+    alloc: Global,
+    prefix: &KeyPrefix,
+    with_bytes: &MalformedTreeError,
+    without: &MalformedTreeError,
+) -> Option<[bool; 4]> {
+    let held = all_memory(alloc).ok()?;
     let seen = [
         prefix.clone().is_err(),
         KeyPrefix::from_slice(alloc, &[1, 2]).is_err(),
@@ -53,33 +73,53 @@ fn are_clones_refused(alloc: Global) -> Result<[bool; 4], AllocError> {
         without.clone().is_ok(),
     ];
     drop(held);
-    Ok(seen)
+    Some(seen)
+}
+
+/// The same of a prefix and faults of its own.
+fn are_clones_refused(alloc: Global) -> Option<[bool; 4]> {
+    let prefix = KeyPrefix::from_slice(alloc, &[1, 2]).ok()?;
+    let with_bytes = fault(alloc, Told::Stored(&[], &[1, 2], &[1, 1])).ok()?;
+    are_refused(
+        alloc,
+        &prefix,
+        &with_bytes,
+        &MalformedTreeError::EmptyTreeWithLen,
+    )
 }
 
 #[test]
-fn without_memory_no_fault_is_cloned(rt: HostRuntime) -> Result<(), Fail> {
-    assert_eq!(rt; are_clones_refused(rt.alloc())?, [true; 4]);
-    Ok(())
+fn without_memory_no_fault_is_cloned(rt: HostRuntime) {
+    assert_eq!(rt; are_clones_refused(rt.alloc()), Some([true; 4]));
 }
 
 /// What comes of a check: it is refused, or it answers as it should, or other than that.
-#[derive(Clone, Copy, PartialEq, Eq, Debug)]
+#[derive(Clone, Copy, PartialEq, Eq)]
 enum Outcome {
     Refused,
     Right,
     Wrong,
 }
 
+/// What came of a check that is to say this.
+fn outcome_of(
+    answer: &Result<WellFormedTreeStats, MalformedTreeError>,
+    wanted: Told<'_>,
+) -> Outcome {
+    match told_by(answer) {
+        Told::OutOfMemory => Outcome::Refused,
+        told if told == wanted => Outcome::Right,
+        _ => Outcome::Wrong,
+    }
+}
+
+/// What comes of the check of a name that is to say this.
 fn what_comes<const P: usize>(
     store: &NodeStore<Key, u32, P>,
     root: OpaqueNodePtr,
     wanted: Told<'_>,
 ) -> Outcome {
-    match told_by(&WellFormedChecker::check_tree(store, root)) {
-        Told::OutOfMemory => Outcome::Refused,
-        told if told == wanted => Outcome::Right,
-        _ => Outcome::Wrong,
-    }
+    outcome_of(&WellFormedChecker::check_tree(store, root), wanted)
 }
 
 /// A tree of all nodes of a store, of which there are fewer where a refusal fell on an insertion.
@@ -88,22 +128,39 @@ fn all_nodes<const P: usize>(store: &NodeStore<Key, u32, P>) -> Told<'_> {
     Told::Whole(leaves, inners)
 }
 
-/// The check of a tree of 53 leaves. None where a refusal falls outside it.
-fn check_of_many<const P: usize>(store: &mut NodeStore<Key, u32, P>) -> Option<Outcome> {
-    let alloc = store.alloc();
-    let mut keys = keys_after(alloc, &[], 50).ok()?;
-    for key in keys_after(alloc, &[50], 3).ok()? {
-        keys.push(key).ok()?;
+/// 53 keys: of one byte below 50, and of 50 and then one of three.
+fn many_keys(alloc: Global) -> Result<Vec<Key>, AllocError> {
+    let mut keys = keys_after(alloc, &[], 50)?;
+    for byte in 0..3u8 {
+        keys.push([50, byte].to_vec(alloc)?)?;
     }
-    let root = planted(store, &mut NodeStore::new(alloc), keys).ok()??;
+    Ok(keys)
+}
+
+/// The check of a tree of 53 leaves. None where a refusal falls outside it. The second store is for its planting alone.
+fn check_of_many<const P: usize>(
+    store: &mut NodeStore<Key, u32, P>,
+    second: &mut NodeStore<Key, u32, P>,
+) -> Option<Outcome> {
+    let keys = many_keys(store.alloc()).ok()?;
+    let root = planted(store, second, keys).ok()??;
     Some(what_comes(store, root, all_nodes(store)))
 }
 
 /// The check of two long keys, whose common front is read from a leaf.
 fn check_of_long_keys<const P: usize>(store: &mut NodeStore<Key, u32, P>) -> Option<Outcome> {
-    let (one, other) = ([7, 7, 7, 7, 7, 1], [7, 7, 7, 7, 7, 2]);
-    let root = planted_all(store, &[&one, &other]).ok()??;
+    let slices: [&[u8]; 2] = [&[7, 7, 7, 7, 7, 1], &[7, 7, 7, 7, 7, 2]];
+    let root = planted_all(store, &slices).ok()??;
     Some(what_comes(store, root, all_nodes(store)))
+}
+
+/// The check of the first of two names, which leads to the other by two bytes.
+fn check_of_pair<const P: usize>(
+    store: &NodeStore<Key, u32, P>,
+    names: &[OpaqueNodePtr],
+) -> Option<Outcome> {
+    let (root, twin) = (*names.first()?, *names.get(1)?);
+    Some(what_comes(store, root, Told::Loop(named(twin), &[1], &[2])))
 }
 
 /// The check of a leaf that two bytes lead to.
@@ -112,20 +169,38 @@ fn check_of_twins<const P: usize>(store: &mut NodeStore<Key, u32, P>) -> Option<
         plain_node(NodeType::Node4, &[(1, 1), (2, 1)]),
         lone_leaf(&[1], 0),
     ];
-    let names = placed_all(store, &nodes).ok()??;
-    let (root, twin) = (*names.first()?, *names.get(1)?);
-    Some(what_comes(store, root, Told::Loop(twin, &[1], &[2])))
+    match placed_all(store, &nodes) {
+        Ok(Some(names)) => check_of_pair(store, &names),
+        _ => None,
+    }
+}
+
+/// The check of a tree of 53 leaves in a store of its own.
+fn many_checked<const P: usize>(alloc: Global) -> Option<Outcome>
+    requires { P < 256 }
+{
+    check_of_many::<P>(&mut NodeStore::new(alloc), &mut NodeStore::new(alloc))
+}
+
+/// The same of two long keys.
+fn long_keys_checked(alloc: Global) -> Option<Outcome> {
+    check_of_long_keys::<2>(&mut NodeStore::new(alloc))
+}
+
+/// The same of a leaf that two bytes lead to.
+fn twins_checked(alloc: Global) -> Option<Outcome> {
+    check_of_twins::<4>(&mut NodeStore::new(alloc))
 }
 
 /// What came of these, where no refusal fell outside, with none for those that were not reached.
 fn outcomes(alloc: Global) -> [Option<Outcome>; 6] {
     [
-        check_of_many::<0>(&mut NodeStore::new(alloc)),
-        check_of_many::<2>(&mut NodeStore::new(alloc)),
-        check_of_many::<4>(&mut NodeStore::new(alloc)),
-        check_of_many::<16>(&mut NodeStore::new(alloc)),
-        check_of_long_keys::<2>(&mut NodeStore::new(alloc)),
-        check_of_twins::<4>(&mut NodeStore::new(alloc)),
+        many_checked::<0>(alloc),
+        many_checked::<2>(alloc),
+        many_checked::<4>(alloc),
+        many_checked::<16>(alloc),
+        long_keys_checked(alloc),
+        twins_checked(alloc),
     ]
 }
 
@@ -139,19 +214,31 @@ fn refused_checks_say_nothing_of_the_tree(rt: HostRuntime) -> Result<(), Fail> {
     Ok(())
 }
 
-/// What comes of the clone of a fault: it is refused and the fault stays, or it is the same fault.
-fn clone_of(alloc: Global, told: Told<'_>) -> Option<Outcome> {
-    let fault = fault(alloc, told).ok()?;
-    let outcome = match fault.clone() {
-        Ok(copy) if copy == fault => Outcome::Right,
+/// What comes of the clone of a fault: it is refused, or it is the same fault, or another.
+fn outcome_of_clone(fault: &MalformedTreeError) -> Outcome {
+    match fault.clone() {
+        Ok(copy) if copy == *fault => Outcome::Right,
         Ok(_) => Outcome::Wrong,
         Err(AllocError) => Outcome::Refused,
-    };
-    Some(if told_by_fault(&fault) == told {
+    }
+}
+
+/// The same, where the fault still says this.
+fn clone_where_told(fault: &MalformedTreeError, told: Told<'_>) -> Outcome {
+    let outcome = outcome_of_clone(fault);
+    if told_by_fault(fault) == told {
         outcome
     } else {
         Outcome::Wrong
-    })
+    }
+}
+
+/// The same of the fault that says this. None where it is refused.
+fn clone_of(alloc: Global, told: Told<'_>) -> Option<Outcome> {
+    match fault(alloc, told) {
+        Ok(fault) => Some(clone_where_told(&fault, told)),
+        Err(AllocError) => None,
+    }
 }
 
 /// The same of a prefix.
@@ -177,24 +264,27 @@ fn clone_of_conflict(alloc: Global) -> Option<Outcome> {
     })
 }
 
-/// What comes of clones of faults of all kinds.
+/// What faults of all kinds say.
+const FAULTS: [Told<'static>; 10] = [
+    Told::Loop((NodeType::Node48, 3), &[1], &[2, 3]),
+    Told::Count(&[1], NodeType::Node4, 1),
+    Told::Prefix(&[1], &[2, 3]),
+    Told::LenOfNone,
+    Told::Order(&[2], &[1], Ordering::Less, Ordering::Greater),
+    Told::Links(&[1], (None, None), (None, None)),
+    Told::Dead(&[1], (NodeType::Node48, 3)),
+    Told::Unreadable(&[1], (NodeType::Node48, 3)),
+    Told::Stored(&[1], &[1, 2], &[1, 1]),
+    Told::OutOfMemory,
+];
+
+/// What comes of clones of them.
 fn clones_of_faults(alloc: Global) -> [Option<Outcome>; 10] {
-    let (name, links) = (OpaqueNodePtr::from_parts(NodeType::Node48, 3), (None, None));
-    [
-        clone_of(alloc, Told::Loop(name, &[1], &[2, 3])),
-        clone_of(alloc, Told::Count(&[1], NodeType::Node4, 1)),
-        clone_of(alloc, Told::Prefix(&[1], &[2, 3])),
-        clone_of(alloc, Told::LenOfNone),
-        clone_of(
-            alloc,
-            Told::Order(&[2], &[1], Ordering::Less, Ordering::Greater),
-        ),
-        clone_of(alloc, Told::Links(&[1], links, links)),
-        clone_of(alloc, Told::Dead(&[1], name)),
-        clone_of(alloc, Told::Unreadable(&[1], name)),
-        clone_of(alloc, Told::Stored(&[1], &[1, 2], &[1, 1])),
-        clone_of(alloc, Told::OutOfMemory),
-    ]
+    let mut outcomes = [None; 10];
+    for (outcome, told) in outcomes.iter_mut().zip(&FAULTS) {
+        *outcome = clone_of(alloc, *told);
+    }
+    outcomes
 }
 
 #[test]

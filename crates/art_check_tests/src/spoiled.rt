@@ -1,14 +1,15 @@
 //! The check of trees that were spoiled in one place, beside a check that stands apart.
+ghost use Rattle.std.specs.Prelude.{◌<◌};
 
 use crate::spoiling::{draw_keys, names_below, spoil};
-use crate::told::{Told, told_by};
+use crate::told::{Told, named, says, slots};
 use art_nodes::node::{NodeType, OpaqueNodePtr};
 use art_nodes::store::NodeStore;
 use art_operations::well_formed::WellFormedChecker;
 use art_oracle::verdicts::{Flaw, Verdict, judge};
 use art_test_support::numbers::Numbers;
 use art_test_support::trees::{Key, planted};
-use std::alloc::AllocError;
+use std::alloc::{AllocError, Global};
 
 /// What a verdict says. One that is unknown says what no check answers here.
 fn told_by_verdict(verdict: &Verdict) -> Told<'_> {
@@ -21,15 +22,19 @@ fn told_by_verdict(verdict: &Verdict) -> Told<'_> {
 
 fn told_by_flaw(flaw: &Flaw) -> Told<'_> {
     match flaw {
-        Flaw::Twice(name, first, later) => Told::Loop(*name, first, later),
+        Flaw::Twice(name, first, later) => Told::Loop(named(*name), first, later),
         Flaw::Children(place, kind, count) => Told::Count(place, *kind, *count),
         Flaw::Key(place, key) => Told::Prefix(place, key),
         Flaw::Order(sibling, key, wanted, order) => Told::Order(sibling, key, *wanted, *order),
         Flaw::Links(key, wanted, links) => {
-            Told::Links(key, (wanted[0], wanted[1]), (links[0], links[1]))
+            Told::Links(
+                key,
+                slots((wanted[0], wanted[1])),
+                slots((links[0], links[1])),
+            )
         }
-        Flaw::NoNode(place, name) => Told::Dead(place, *name),
-        Flaw::NoPrefix(place, name) => Told::Unreadable(place, *name),
+        Flaw::NoNode(place, name) => Told::Dead(place, named(*name)),
+        Flaw::NoPrefix(place, name) => Told::Unreadable(place, named(*name)),
         Flaw::Stored(place, stored, actual) => Told::Stored(place, stored, actual),
     }
 }
@@ -50,18 +55,26 @@ fn number_of(told: Told<'_>) -> usize {
     }
 }
 
+/// The number of what the check tells of a name, where it tells this.
+fn number_if_told<const P: usize>(
+    store: &NodeStore<Key, u32, P>,
+    root: OpaqueNodePtr,
+    wanted: Told<'_>,
+) -> Option<usize> {
+    if says(&WellFormedChecker::check_tree(store, root), wanted) {
+        Some(number_of(wanted))
+    } else {
+        None
+    }
+}
+
 /// The number of what the check tells of a name, where the other check tells the same.
 fn number_if_same<const P: usize>(
     store: &NodeStore<Key, u32, P>,
     root: OpaqueNodePtr,
 ) -> Result<Option<usize>, AllocError> {
-    let answer = WellFormedChecker::check_tree(store, root);
     let verdict = judge(store, root, 10_000)?;
-    let told = told_by(&answer);
-    if told != told_by_verdict(&verdict) {
-        return Ok(None);
-    }
-    Ok(Some(number_of(told)))
+    Ok(number_if_told(store, root, told_by_verdict(&verdict)))
 }
 
 /// Whether the check of a tree counts the nodes that have these names.
@@ -77,11 +90,28 @@ fn is_counted<const P: usize>(
         }
     }
     let inners = names.len().saturating_sub(leaves);
-    told_by(&WellFormedChecker::check_tree(store, root)) == Told::Whole(leaves, inners)
+    says(
+        &WellFormedChecker::check_tree(store, root),
+        Told::Whole(leaves, inners),
+    )
 }
 
-/// Plants a drawn tree, checks it, and checks it again once it is spoiled. Answers the number of what is told then. None where
-/// one of the checks is wrong.
+/// Checks a tree of nodes with these names, and checks it again once it is spoiled. Answers the number of what is told then. None
+/// where one of the checks is wrong.
+fn spoil_and_check<const P: usize>(
+    store: &mut NodeStore<Key, u32, P>,
+    names: &[OpaqueNodePtr],
+    root: OpaqueNodePtr,
+    numbers: &mut Numbers,
+) -> Result<Option<usize>, AllocError> {
+    if !is_counted(store, root, names) {
+        return Ok(None);
+    }
+    let root = spoil(store, names, root, numbers)?;
+    number_if_same(store, root)
+}
+
+/// The same of a drawn tree, which is planted before. The second store is for that alone.
 fn try_in<const P: usize>(
     store: &mut NodeStore<Key, u32, P>,
     second: &mut NodeStore<Key, u32, P>,
@@ -92,29 +122,31 @@ fn try_in<const P: usize>(
         return Ok(None);
     };
     let names = names_below(store, root)?;
-    if !is_counted(store, root, &names) {
-        return Ok(None);
-    }
-    let root = spoil(store, &names, root, numbers)?;
-    number_if_same(store, root)
+    spoil_and_check(store, &names, root, numbers)
 }
 
-/// The same in a store of its own.
+/// The same in stores of its own.
 fn try_one<const P: usize>(
-    empty: &NodeStore<Key, u32, P>,
+    alloc: Global,
     numbers: &mut Numbers,
-) -> Result<Option<usize>, AllocError> {
-    let alloc = empty.alloc();
-    let mut store: NodeStore<Key, u32, P> = NodeStore::new(alloc);
-    try_in(&mut store, &mut NodeStore::new(alloc), numbers)
+) -> Result<Option<usize>, AllocError>
+    requires { P < 256 }
+{
+    try_in::<P>(
+        &mut NodeStore::new(alloc),
+        &mut NodeStore::new(alloc),
+        numbers,
+    )
 }
 
-/// How often each was told of 2,500 spoiled trees, and last how many checks were wrong. The store tells the number of stored bytes.
-fn try_many<const P: usize>(empty: &NodeStore<Key, u32, P>) -> Result<[usize; 10], AllocError> {
+/// How often each was told of 2,500 spoiled trees with so many stored bytes, and last how many checks were wrong.
+fn try_many<const P: usize>(alloc: Global) -> Result<[usize; 10], AllocError>
+    requires { P < 256 }
+{
     let mut numbers = Numbers::new(P as u64);
     let mut counts = [0usize; 10];
     for _ in 0..2_500 {
-        let told = try_one(empty, &mut numbers)?.unwrap_or(9);
+        let told = try_one::<P>(alloc, &mut numbers)?.unwrap_or(9);
         if let Some(count) = counts.get_mut(told) {
             *count = count.saturating_add(1);
         }
@@ -122,10 +154,12 @@ fn try_many<const P: usize>(empty: &NodeStore<Key, u32, P>) -> Result<[usize; 10
     Ok(counts)
 }
 
-/// Whether no check of 2,500 spoiled trees was wrong, and each was told but the last of so many: a stored byte can be wrong only where
-/// bytes are stored. The store tells their number.
-fn are_told<const P: usize>(empty: &NodeStore<Key, u32, P>) -> bool {
-    let Ok(counts) = try_many(empty) else {
+/// Whether no check of 2,500 spoiled trees with so many stored bytes was wrong, and each was told but the last of so many: a stored
+/// byte can be wrong only where bytes are stored.
+fn are_told<const P: usize>(alloc: Global) -> bool
+    requires { P < 256 }
+{
+    let Ok(counts) = try_many::<P>(alloc) else {
         return false;
     };
     for (number, count) in counts.iter().enumerate() {
@@ -140,9 +174,11 @@ fn are_told<const P: usize>(empty: &NodeStore<Key, u32, P>) -> bool {
 #[test]
 fn spoiled_trees_are_told_as_another_check_tells(rt: HostRuntime) {
     let alloc = rt.alloc();
-    let with_none = are_told::<0>(&NodeStore::new(alloc));
-    let with_two = are_told::<2>(&NodeStore::new(alloc));
-    let with_four = are_told::<4>(&NodeStore::new(alloc));
-    let with_many = are_told::<16>(&NodeStore::new(alloc));
-    assert_eq!(rt; [with_none, with_two, with_four, with_many], [true; 4]);
+    let with_each = [
+        are_told::<0>(alloc),
+        are_told::<2>(alloc),
+        are_told::<4>(alloc),
+        are_told::<16>(alloc),
+    ];
+    assert_eq!(rt; with_each, [true; 4]);
 }

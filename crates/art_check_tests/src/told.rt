@@ -5,16 +5,19 @@ use art_operations::well_formed::{KeyPrefix, MalformedTreeError, WellFormedTreeS
 use std::alloc::{AllocError, Global};
 use std::cmp::Ordering;
 
-/// The links of a leaf.
-pub type Links = (OptionalLeafPtr, OptionalLeafPtr);
+/// The kind and the slot of a name.
+pub type Named = (NodeType, usize);
+
+/// The slots of a leaf's links.
+pub type Links = (Option<usize>, Option<usize>);
 
 /// What a check says, with the bytes of its prefixes and keys.
-#[derive(Clone, Copy, PartialEq, Eq, Debug)]
+#[derive(Clone, Copy, PartialEq, Eq)]
 pub enum Told<'a> {
     /// So many leaves and inner nodes.
     Whole(usize, usize),
     /// A name, and the bytes of the first and the later way to it.
-    Loop(OpaqueNodePtr, &'a [u8], &'a [u8]),
+    Loop(Named, &'a [u8], &'a [u8]),
     /// The bytes that lead to a node, its kind, and how many children it has.
     Count(&'a [u8], NodeType, usize),
     /// The bytes that lead to a leaf, and its key.
@@ -24,11 +27,26 @@ pub enum Told<'a> {
     Order(&'a [u8], &'a [u8], Ordering, Ordering),
     /// A leaf's key, and its links as expected and as met.
     Links(&'a [u8], Links, Links),
-    Dead(&'a [u8], OpaqueNodePtr),
-    Unreadable(&'a [u8], OpaqueNodePtr),
+    Dead(&'a [u8], Named),
+    Unreadable(&'a [u8], Named),
     /// The bytes that lead to a node, and those of its prefix as they are stored and as a leaf has them.
     Stored(&'a [u8], &'a [u8], &'a [u8]),
     OutOfMemory,
+}
+
+/// The kind and the slot of a name.
+pub fn named(name: OpaqueNodePtr) -> Named {
+    (name.node_type(), name.slot())
+}
+
+/// The slots of these links.
+pub fn slots((previous, next): (OptionalLeafPtr, OptionalLeafPtr)) -> Links {
+    (slot_of(previous), slot_of(next))
+}
+
+fn slot_of(link: OptionalLeafPtr) -> Option<usize> {
+    let leaf: LeafPtr = link?;
+    Some(leaf.to_opaque().slot())
 }
 
 /// What an answer says.
@@ -39,6 +57,11 @@ pub fn told_by(answer: &Result<WellFormedTreeStats, MalformedTreeError>) -> Told
     }
 }
 
+/// Whether an answer says this.
+pub fn says(answer: &Result<WellFormedTreeStats, MalformedTreeError>, told: Told<'_>) -> bool {
+    told_by(answer) == told
+}
+
 /// What a fault says.
 pub fn told_by_fault(fault: &MalformedTreeError) -> Told<'_> {
     match fault {
@@ -47,7 +70,7 @@ pub fn told_by_fault(fault: &MalformedTreeError) -> Told<'_> {
             first_observed,
             later_observed,
         } => Told::Loop(
-            *node_ptr,
+            named(*node_ptr),
             first_observed.as_slice(),
             later_observed.as_slice(),
         ),
@@ -75,14 +98,14 @@ pub fn told_by_fault(fault: &MalformedTreeError) -> Told<'_> {
             actual_next,
         } => Told::Links(
             leaf_key,
-            (*expected_previous, *expected_next),
-            (*actual_previous, *actual_next),
+            slots((*expected_previous, *expected_next)),
+            slots((*actual_previous, *actual_next)),
         ),
         MalformedTreeError::DeadName { key_prefix, name } => {
-            Told::Dead(key_prefix.as_slice(), *name)
+            Told::Dead(key_prefix.as_slice(), named(*name))
         }
         MalformedTreeError::UnreadablePrefix { key_prefix, name } => {
-            Told::Unreadable(key_prefix.as_slice(), *name)
+            Told::Unreadable(key_prefix.as_slice(), named(*name))
         }
         MalformedTreeError::StoredPrefixMismatch {
             key_prefix,
@@ -93,56 +116,111 @@ pub fn told_by_fault(fault: &MalformedTreeError) -> Told<'_> {
     }
 }
 
+// Why there is no fault: want of memory while its bytes are copied.
+type Made = Result<MalformedTreeError, AllocError>;
+
+fn name_of((kind, slot): Named) -> OpaqueNodePtr {
+    OpaqueNodePtr::from_parts(kind, slot)
+}
+
+fn link_to(slot: Option<usize>) -> OptionalLeafPtr {
+    Some(LeafPtr::from_slot(slot?))
+}
+
+fn loop_found(alloc: Global, name: Named, first: &[u8], later: &[u8]) -> Made {
+    let first_observed = KeyPrefix::from_slice(alloc, first)?;
+    let later_observed = KeyPrefix::from_slice(alloc, later)?;
+    Ok(MalformedTreeError::LoopFound {
+        node_ptr: name_of(name),
+        first_observed,
+        later_observed,
+    })
+}
+
+fn wrong_count(alloc: Global, place: &[u8], kind: NodeType, num_children: usize) -> Made {
+    Ok(MalformedTreeError::WrongChildrenCount {
+        key_prefix: KeyPrefix::from_slice(alloc, place)?,
+        inner_node_type: kind,
+        num_children,
+    })
+}
+
+fn wrong_key(alloc: Global, place: &[u8], key: &[u8]) -> Made {
+    let expected_prefix = KeyPrefix::from_slice(alloc, place)?;
+    let entire_key = key.to_vec(alloc)?;
+    Ok(MalformedTreeError::PrefixMismatch {
+        expected_prefix,
+        entire_key,
+    })
+}
+
+fn wrong_order(
+    alloc: Global,
+    (sibling, key): (&[u8], &[u8]),
+    expected_order: Ordering,
+    actual_order: Ordering,
+) -> Made {
+    let sibling_key = sibling.to_vec(alloc)?;
+    let leaf_key = key.to_vec(alloc)?;
+    Ok(MalformedTreeError::LeafSiblingWrongOrder {
+        sibling_key,
+        leaf_key,
+        expected_order,
+        actual_order,
+    })
+}
+
+fn wrong_links(alloc: Global, key: &[u8], expected: Links, actual: Links) -> Made {
+    Ok(MalformedTreeError::WrongSiblingLinks {
+        leaf_key: key.to_vec(alloc)?,
+        expected_previous: link_to(expected.0),
+        expected_next: link_to(expected.1),
+        actual_previous: link_to(actual.0),
+        actual_next: link_to(actual.1),
+    })
+}
+
+fn dead_name(alloc: Global, place: &[u8], name: Named) -> Made {
+    Ok(MalformedTreeError::DeadName {
+        key_prefix: KeyPrefix::from_slice(alloc, place)?,
+        name: name_of(name),
+    })
+}
+
+fn unreadable(alloc: Global, place: &[u8], name: Named) -> Made {
+    Ok(MalformedTreeError::UnreadablePrefix {
+        key_prefix: KeyPrefix::from_slice(alloc, place)?,
+        name: name_of(name),
+    })
+}
+
+fn wrong_bytes(alloc: Global, place: &[u8], stored: &[u8], actual: &[u8]) -> Made {
+    let key_prefix = KeyPrefix::from_slice(alloc, place)?;
+    let stored = stored.to_vec(alloc)?;
+    let actual = actual.to_vec(alloc)?;
+    Ok(MalformedTreeError::StoredPrefixMismatch {
+        key_prefix,
+        stored,
+        actual,
+    })
+}
+
 /// The fault that says this. What is told of no fault has that of want of memory.
 pub fn fault(alloc: Global, told: Told<'_>) -> Result<MalformedTreeError, AllocError> {
-    Ok(match told {
-        Told::Loop(node_ptr, first, later) => MalformedTreeError::LoopFound {
-            node_ptr,
-            first_observed: KeyPrefix::from_slice(alloc, first)?,
-            later_observed: KeyPrefix::from_slice(alloc, later)?,
-        },
-        Told::Count(place, inner_node_type, num_children) => {
-            MalformedTreeError::WrongChildrenCount {
-                key_prefix: KeyPrefix::from_slice(alloc, place)?,
-                inner_node_type,
-                num_children,
-            }
+    match told {
+        Told::Loop(name, first, later) => loop_found(alloc, name, first, later),
+        Told::Count(place, kind, count) => wrong_count(alloc, place, kind, count),
+        Told::Prefix(place, key) => wrong_key(alloc, place, key),
+        Told::LenOfNone => Ok(MalformedTreeError::EmptyTreeWithLen),
+        Told::Order(sibling, key, expected, actual) => {
+            wrong_order(alloc, (sibling, key), expected, actual)
         }
-        Told::Prefix(place, key) => MalformedTreeError::PrefixMismatch {
-            expected_prefix: KeyPrefix::from_slice(alloc, place)?,
-            entire_key: key.to_vec(alloc)?,
-        },
-        Told::LenOfNone => MalformedTreeError::EmptyTreeWithLen,
-        Told::Order(sibling, key, expected_order, actual_order) => {
-            MalformedTreeError::LeafSiblingWrongOrder {
-                sibling_key: sibling.to_vec(alloc)?,
-                leaf_key: key.to_vec(alloc)?,
-                expected_order,
-                actual_order,
-            }
-        }
-        Told::Links(key, expected, actual) => MalformedTreeError::WrongSiblingLinks {
-            leaf_key: key.to_vec(alloc)?,
-            expected_previous: expected.0,
-            expected_next: expected.1,
-            actual_previous: actual.0,
-            actual_next: actual.1,
-        },
-        Told::Dead(place, name) => MalformedTreeError::DeadName {
-            key_prefix: KeyPrefix::from_slice(alloc, place)?,
-            name,
-        },
-        Told::Unreadable(place, name) => MalformedTreeError::UnreadablePrefix {
-            key_prefix: KeyPrefix::from_slice(alloc, place)?,
-            name,
-        },
-        Told::Stored(place, stored, actual) => MalformedTreeError::StoredPrefixMismatch {
-            key_prefix: KeyPrefix::from_slice(alloc, place)?,
-            stored: stored.to_vec(alloc)?,
-            actual: actual.to_vec(alloc)?,
-        },
-        Told::Whole(..) | Told::OutOfMemory => MalformedTreeError::OutOfMemory,
-    })
+        Told::Links(key, expected, actual) => wrong_links(alloc, key, expected, actual),
+        Told::Dead(place, name) => dead_name(alloc, place, name),
+        Told::Unreadable(place, name) => unreadable(alloc, place, name),
+        Told::Stored(place, stored, actual) => wrong_bytes(alloc, place, stored, actual),
+        Told::Whole(..) | Told::OutOfMemory => Ok(MalformedTreeError::OutOfMemory),
+    }
 }
 
 /// The same, where names have the place in this list as their slot.
@@ -163,13 +241,13 @@ pub fn listed<'a>(told: Told<'a>, names: &[OpaqueNodePtr]) -> Told<'a> {
 }
 
 // A name with its place in a list as its slot.
-fn place_of(name: OpaqueNodePtr, names: &[OpaqueNodePtr]) -> OpaqueNodePtr {
+fn place_of(name: Named, names: &[OpaqueNodePtr]) -> Named {
     for (at, other) in names.iter().enumerate() {
-        if *other == name {
-            return OpaqueNodePtr::from_parts(name.node_type(), at);
+        if named(*other) == name {
+            return (name.0, at);
         }
     }
-    OpaqueNodePtr::from_parts(name.node_type(), usize::MAX)
+    (name.0, usize::MAX)
 }
 
 // The same of links.
@@ -177,7 +255,6 @@ fn links_listed((previous, next): Links, names: &[OpaqueNodePtr]) -> Links {
     (link_listed(previous, names), link_listed(next, names))
 }
 
-fn link_listed(link: OptionalLeafPtr, names: &[OpaqueNodePtr]) -> OptionalLeafPtr {
-    let leaf: LeafPtr = link?;
-    place_of(leaf.to_opaque(), names).as_leaf()
+fn link_listed(link: Option<usize>, names: &[OpaqueNodePtr]) -> Option<usize> {
+    Some(place_of((NodeType::Leaf, link?), names).1)
 }

@@ -1,12 +1,14 @@
 //! Folds of trees, and the bytes that lead to nodes.
 ghost use Rattle.std.specs.Prelude.{⊤};
+ghost use Rattle.art_model.specs.Pairs.{of_key};
+ghost use Rattle.art_model.specs.Roots.{IsCanonicalRoot};
 
-use art_nodes::node::{AsBytes, InnerRef, LeafNode, NodeType};
+use art_nodes::node::{AsBytes, InnerRef, LeafNode, NodeType, OpaqueNodePtr};
 use art_nodes::store::NodeStore;
 use art_operations::insert::InsertPrefixError;
 use art_operations::visitor::{Visitor, visit_with};
 use art_operations::well_formed::KeyPrefix;
-use art_test_support::trees::{Key, plant_all, planted_all};
+use art_test_support::trees::{Key, planted_all};
 use std::alloc::{AllocError, Global};
 use std::boxed::BoxedSlice;
 use std::test::Fail;
@@ -96,26 +98,73 @@ impl<K: AsBytes + Drop, const P: usize> Visitor<K, u32, P> for Met {
     }
 }
 
+/// The fold of a tree by digits, and the same where an inner node adds one.
+fn two_folds<const P: usize>(store: &NodeStore<Key, u32, P>, root: OpaqueNodePtr) -> [u64; 2]
+    requires { IsCanonicalRoot (of_key (λ key. key.items)) P store.now root }
+{
+    [
+        visit_with(store, root, &mut Digits { of_node: 0 }),
+        visit_with(store, root, &mut Digits { of_node: 1 }),
+    ]
+}
+
+/// The same of the tree of these keys.
+fn two_folds_of<const P: usize>(
+    store: &mut NodeStore<Key, u32, P>,
+    slices: &[&[u8]],
+) -> Option<[u64; 2]> {
+    match planted_all(store, slices) {
+        Ok(Some(root)) => Some(two_folds(store, root)),
+        _ => None,
+    }
+}
+
 #[test]
-fn outputs_of_children_are_joined_in_order(rt: HostRuntime) -> Result<(), Fail> {
+fn outputs_of_children_are_joined_in_order(rt: HostRuntime) {
     let mut store: NodeStore<Key, u32, 16> = NodeStore::new(rt.alloc());
-    let root = plant_all(&mut store, &[&[1], &[2], &[3, 1], &[3, 2]])?;
-    let plain = visit_with(&store, root, &mut Digits { of_node: 0 });
-    let hooked = visit_with(&store, root, &mut Digits { of_node: 1 });
-    assert_eq!(rt; (plain, hooked), (154, 156));
-    Ok(())
+    let folds = two_folds_of(&mut store, &[&[1], &[2], &[3, 1], &[3, 2]]);
+    assert_eq!(rt; folds, Some([154, 156]));
 }
 
 #[test]
-fn a_lone_leaf_goes_to_its_hook(rt: HostRuntime) -> Result<(), Fail> {
+fn a_lone_leaf_goes_to_its_hook(rt: HostRuntime) {
     let mut store: NodeStore<Key, u32, 0> = NodeStore::new(rt.alloc());
-    let root = plant_all(&mut store, &[&[9, 9]])?;
-    assert_eq!(rt; visit_with(&store, root, &mut Digits { of_node: 1 }), 1);
-    Ok(())
+    let folds = two_folds_of(&mut store, &[&[9, 9]]);
+    assert_eq!(rt; folds, Some([1, 1]));
+}
+
+/// What is seen of an inner node.
+type Inner = (usize, NodeType, usize, usize);
+
+/// The height of a tree, how many leaves and inner nodes are met, and the first inner ones.
+fn met_below<const P: usize>(
+    store: &NodeStore<Key, u32, P>,
+    root: OpaqueNodePtr,
+) -> (usize, usize, usize, [Inner; 4])
+    requires { IsCanonicalRoot (of_key (λ key. key.items)) P store.now root }
+{
+    let mut met = Met {
+        leaves: 0,
+        inners: [(0, NodeType::Leaf, 0, 0); 4],
+        at: 0,
+    };
+    let height = visit_with(store, root, &mut met);
+    (height, met.leaves, met.at, met.inners)
+}
+
+/// The same of the tree of these keys.
+fn met_in<const P: usize>(
+    store: &mut NodeStore<Key, u32, P>,
+    slices: &[&[u8]],
+) -> Option<(usize, usize, usize, [Inner; 4])> {
+    match planted_all(store, slices) {
+        Ok(Some(root)) => Some(met_below(store, root)),
+        _ => None,
+    }
 }
 
 #[test]
-fn nodes_are_visited_after_what_is_below_them(rt: HostRuntime) -> Result<(), Fail> {
+fn nodes_are_visited_after_what_is_below_them(rt: HostRuntime) {
     let mut store: NodeStore<Key, u32, 2> = NodeStore::new(rt.alloc());
     let slices: [&[u8]; 8] = [
         &[1, 7, 7, 7, 1],
@@ -127,40 +176,30 @@ fn nodes_are_visited_after_what_is_below_them(rt: HostRuntime) -> Result<(), Fai
         &[5, 2, 6, 1],
         &[5, 2, 6, 2],
     ];
-    let root = plant_all(&mut store, &slices)?;
-    let mut met = Met {
-        leaves: 0,
-        inners: [(0, NodeType::Leaf, 0, 0); 4],
-        at: 0,
-    };
-    let height = visit_with(&store, root, &mut met);
+    let met = met_in(&mut store, &slices);
     let wanted = [
         (2, NodeType::Node4, 3, 2),
         (8, NodeType::Node4, 1, 2),
         (8, NodeType::Node4, 0, 2),
         (8, NodeType::Node16, 0, 5),
     ];
-    assert_eq!(rt; (height, met.leaves, met.at, met.inners), (3, 8, 4, wanted));
-    Ok(())
+    assert_eq!(rt; met, Some((3, 8, 4, wanted)));
 }
 
 /// The length of the longest of these keys.
-fn longest_of(
-    store: &mut NodeStore<Key, u32, 2>,
-    slices: &[&[u8]],
-) -> Result<Option<usize>, AllocError> {
-    match planted_all(store, slices)? {
-        Some(root) => Ok(Some(longest_key(store, root))),
-        None => Ok(None),
+fn longest_of(store: &mut NodeStore<Key, u32, 2>, slices: &[&[u8]]) -> Option<usize> {
+    match planted_all(store, slices) {
+        Ok(Some(root)) => Some(longest_key(store, root)),
+        _ => None,
     }
 }
 
 #[test]
-fn the_longest_key_is_found(rt: HostRuntime) -> Result<(), Fail> {
+fn the_longest_key_is_found(rt: HostRuntime) {
     let mut store: NodeStore<Key, u32, 2> = NodeStore::new(rt.alloc());
     let slices: [&[u8]; 4] = [&[1, 7], &[2, 7, 7, 7, 1], &[2, 7, 7, 7, 2], &[9]];
-    assert_eq!(rt; longest_of(&mut store, &slices)?, Some(5));
-    Ok(())
+    let longest = longest_of(&mut store, &slices);
+    assert_eq!(rt; longest, Some(5));
 }
 
 /// Whether no bytes are empty, a copy of bytes holds them, and a clone of it is equal and holds them.
