@@ -67,7 +67,8 @@ fn answer(
 ) -> io::Result<()>
     requires { IsKept tree.old }
     ensures kept { IsKept tree.new }
-    ensures answered { IsAnswered (IsPairClone ⟦<Vec<u8> as Clone>⟧.is_clone ⟦<u32 as Clone>⟧.is_clone)
+    ensures answered { IsAnswered
+        (IsPairClone ⟦<Vec<u8> as Clone>⟧.is_clone ⟦<u32 as Clone>⟧.is_clone)
         request.entry tree.old tree.new }
 {
     let command = match command_of(alloc, request) {
