@@ -7,6 +7,7 @@ mod tree;
 
 use std::collections::BTreeMap;
 use std::hint::black_box;
+use std::mem::forget;
 use std::time::Instant;
 use tree::{Neighbours, Tree, Unlinked};
 
@@ -82,9 +83,12 @@ impl Work {
         let mut keys = keys_of(shape, count, &mut random);
         let (all, width) = (keys.concat(), keys[0].len());
         random.shuffle(&mut keys);
+        let asked = keys.concat();
+        // Not freed: a tree begins on a heap without holes.
+        forget(keys);
         Work {
             keys: all,
-            asked: keys.concat(),
+            asked,
             width,
             count,
             rounds,
