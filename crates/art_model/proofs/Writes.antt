@@ -54,7 +54,8 @@ module _ {K V : Type 0} (s : Nodes K V) where
   ]
 
 -- an inner node as a tree sees it, by parts
-pub shown : {A : Type 0} {slots rest : List (ℕ × OpaqueNodePtr)} {g h : NodeHeader} → g ≡ h → slots ≡ rest → ◌≡◌ {A = Option (Node OpaqueNodePtr A)} (Some (inner_node g slots)) (Some (inner_node h rest))
+pub shown : {A : Type 0} {slots rest : List (ℕ × OpaqueNodePtr)} {g h : NodeHeader} →
+    g ≡ h → slots ≡ rest → ◌≡◌ {A = Option (Node OpaqueNodePtr A)} (Some (inner_node g slots)) (Some (inner_node h rest))
 shown a e = cc
 
 module _ {K V : Type 0} (s t : Nodes K V) where

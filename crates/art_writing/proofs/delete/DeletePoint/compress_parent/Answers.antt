@@ -26,7 +26,8 @@ lengthen_prefix-requires g c =
     let least = other_is at c.take_other-header.result.0 c.take_other-header.result.1 c.take_other-header.result.2 c.take_other-header.ensures.other in
     let front = header_is at c.take_other-header.result.0 c.take_other-header.result.1 c.take_other-header.result.2 c.take_other-header.ensures.other in
     let beside =
-    beside_found at c.take_other-header.new.self.leaves c.take_other-header.result.1 c.leaf_beside-beside.result c.take_other-header.ensures.leaves (ap (λ z. z.0) least) c.leaf_beside-beside.ensures in (
+    beside_found at c.take_other-header.new.self.leaves c.take_other-header.result.1 c.leaf_beside-beside.result
+    c.take_other-header.ensures.leaves (ap (λ z. z.0) least) c.leaf_beside-beside.ensures in (
       search rules,
       (
         search rules,
