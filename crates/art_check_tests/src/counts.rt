@@ -180,10 +180,14 @@ fn counts_of_two(store: &mut NodeStore<Key, u32, 4>) -> Option<[Option<(usize, u
     Some([counts_of(store, root, 0), counts_of(store, root, 5)])
 }
 
+/// The same in a store of its own.
+fn counts_of_two_alone(alloc: Global) -> Option<[Option<(usize, usize, usize)>; 2]> {
+    counts_of_two(&mut NodeStore::new(alloc))
+}
+
 #[test]
 fn the_length_of_a_tree_is_not_compared(rt: HostRuntime) {
-    let mut store: NodeStore<Key, u32, 4> = NodeStore::new(rt.alloc());
-    let counts = counts_of_two(&mut store);
+    let counts = counts_of_two_alone(rt.alloc());
     assert_eq!(rt; counts, Some([Some((2, 1, 3)); 2]));
 }
 

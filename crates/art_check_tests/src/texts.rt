@@ -140,12 +140,14 @@ fn is_printed_at(store: &NodeStore<Key, u32, 4>, name: OpaqueNodePtr, text: &str
     }
 }
 
+/// The same of the name of a leaf in a store that has none.
+fn is_printed_of_none(alloc: Global, text: &str) -> bool {
+    let name = OpaqueNodePtr::from_parts(NodeType::Leaf, 0);
+    is_printed_at(&NodeStore::new(alloc), name, text)
+}
+
 #[test]
 fn an_empty_store_has_no_tree(rt: HostRuntime) {
-    let is_right = is_printed_at(
-        &NodeStore::new(rt.alloc()),
-        OpaqueNodePtr::from_parts(NodeType::Leaf, 0),
-        "Found a name [Leaf#0] at location [[]] that leads to no node of its kind",
-    );
-    assert!(rt; is_right);
+    let text = "Found a name [Leaf#0] at location [[]] that leads to no node of its kind";
+    assert!(rt; is_printed_of_none(rt.alloc(), text));
 }
