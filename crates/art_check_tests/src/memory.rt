@@ -268,7 +268,7 @@ fn clone_of_conflict(alloc: Global) -> Option<Outcome> {
 }
 
 /// What faults of all kinds say.
-const FAULTS: [Told<'static>; 10] = [
+static FAULTS: [Told<'static>; 10] = [
     Told::Loop((NodeType::Node48, 3), &[1], &[2, 3]),
     Told::Count(&[1], NodeType::Node4, 1),
     Told::Prefix(&[1], &[2, 3]),

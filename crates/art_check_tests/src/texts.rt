@@ -43,7 +43,7 @@ fn first_other(alloc: Global, rows: &[(Told<'_>, &str)]) -> Option<usize> {
 }
 
 /// What faults of inner nodes say, and their texts.
-const OF_INNER_NODES: [(Told<'static>, &str); 8] = [
+static OF_INNER_NODES: [(Told<'static>, &str); 8] = [
     (
         Told::Loop((NodeType::Node4, 7), &[], &[1, 2]),
         "Found a loop in the tree containing the node [Node4#7]. First observed that node at [[]], then later observed the same node at [[1, 2]]",
@@ -84,7 +84,7 @@ fn faults_of_inner_nodes_have_their_texts(rt: HostRuntime) {
 }
 
 /// What the other faults say, and their texts.
-const OF_LEAVES_AND_NAMES: [(Told<'static>, &str); 10] = [
+static OF_LEAVES_AND_NAMES: [(Told<'static>, &str); 10] = [
     (
         Told::Prefix(&[1, 2], &[255, 255]),
         "Found a leaf that had a mismatched key from the expected prefix! Expected the leaf key to start with [[1, 2]], but the leaf key was [[255, 255]]",

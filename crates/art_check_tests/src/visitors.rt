@@ -173,7 +173,7 @@ fn met_with(alloc: Global, slices: &[&[u8]]) -> Option<(usize, usize, usize, [In
 }
 
 /// Keys of which some share two bytes of a prefix or more.
-const EIGHT: [&[u8]; 8] = [
+static EIGHT: [&[u8]; 8] = [
     &[1, 7, 7, 7, 1],
     &[1, 7, 7, 7, 2],
     &[2],
@@ -185,7 +185,7 @@ const EIGHT: [&[u8]; 8] = [
 ];
 
 /// The inner nodes of their tree: how many leaves are met before each, its kind, prefix's length and children.
-const INNERS: [Inner; 4] = [
+static INNERS: [Inner; 4] = [
     (2, NodeType::Node4, 3, 2),
     (8, NodeType::Node4, 1, 2),
     (8, NodeType::Node4, 0, 2),
@@ -212,7 +212,7 @@ fn longest_with(alloc: Global, slices: &[&[u8]]) -> Option<usize> {
 }
 
 /// Keys of which the longest are neither the least nor the greatest.
-const FOUR: [&[u8]; 4] = [&[1, 7], &[2, 7, 7, 7, 1], &[2, 7, 7, 7, 2], &[9]];
+static FOUR: [&[u8]; 4] = [&[1, 7], &[2, 7, 7, 7, 1], &[2, 7, 7, 7, 2], &[9]];
 
 #[test]
 fn the_longest_key_is_found(rt: HostRuntime) {
