@@ -1,5 +1,5 @@
-//! What the check finds in nodes that were placed one by one. A name in what is told has its place in the list of nodes as
-//! its slot.
+//! What the check finds in nodes that were placed one by one. A name in what is told has its place in the list of nodes
+//! as its slot.
 ghost use Rattle.std.specs.Prelude.{◌<◌};
 
 use crate::told::{Told, listed, told_by};
@@ -118,7 +118,7 @@ fn first_wrong<const P: usize>(alloc: Global, cases: &[Case<'_>]) -> Option<usiz
     None
 }
 
-/// Two inner nodes below a root, each with a prefix, where the second one has these children, and this node stands last.
+/// Two inner nodes below a root, each with a prefix, where the second one has these children and this node stands last.
 macro_rules! two_branches {
     ($children:expr, $last:expr) => {
         [
@@ -134,7 +134,7 @@ macro_rules! two_branches {
 }
 
 /// The last child is the root, or a leaf of its place, or one of another place, or no node.
-const BRANCHES: [Case<'static>; 4] = [
+static BRANCHES: [Case<'static>; 4] = [
     from_first!(
         two_branches!([(3, 5), (4, 0)], Plain::Gone),
         Told::Loop((NodeType::Node16, 0), &[], &[1, 2, 4, 7, 8, 4])
@@ -159,7 +159,7 @@ fn nodes_are_checked_in_the_order_of_the_walk(rt: HostRuntime) {
 }
 
 /// A leaf under two bytes of its parent, a node below itself, and a node and a leaf with two parents.
-const LOOPS: [Case<'static>; 3] = [
+static LOOPS: [Case<'static>; 3] = [
     from_first!(
         [
             inner!(Node4, 0, [], [(1, 1), (2, 1)]),
@@ -189,7 +189,7 @@ fn a_name_that_is_met_twice_is_a_loop(rt: HostRuntime) {
 }
 
 /// A leaf whose sibling is itself, one behind it, one before it, itself as a lone leaf, and no node on either side.
-const SIBLINGS: [Case<'static>; 6] = [
+static SIBLINGS: [Case<'static>; 6] = [
     from_first!(
         [
             inner!(Node4, 0, [], [(1, 1), (2, 2)]),
@@ -251,7 +251,7 @@ macro_rules! three_leaves {
 }
 
 /// The first leaf names its neighbours, or leaves one out, or names the leaf beside the tree, or that alone.
-const NEIGHBOURS: [Case<'static>; 4] = [
+static NEIGHBOURS: [Case<'static>; 4] = [
     from_first!(three_leaves!(None, Some(2)), Told::Whole(3, 1)),
     from_first!(
         three_leaves!(None, Some(3)),
@@ -273,7 +273,7 @@ fn leaves_are_to_name_their_neighbours(rt: HostRuntime) {
 }
 
 /// No node under the root's name, a name of another kind as the root, and such a name as a child.
-const DEAD_NAMES: [Case<'static>; 3] = [
+static DEAD_NAMES: [Case<'static>; 3] = [
     from_first!([Plain::Gone], Told::Dead(&[], (NodeType::Leaf, 0))),
     Case {
         nodes: &[
@@ -299,7 +299,7 @@ fn a_name_is_to_lead_to_a_node_of_its_kind(rt: HostRuntime) {
 }
 
 /// A root without children, a node with one, and nodes of the greater kinds with few.
-const FEW_CHILDREN: [Case<'static>; 4] = [
+static FEW_CHILDREN: [Case<'static>; 4] = [
     from_first!(
         [inner!(Node4, 0, [], [])],
         Told::Count(&[], NodeType::Node4, 0)
@@ -334,7 +334,7 @@ fn inner_nodes_are_to_have_enough_children(rt: HostRuntime) {
 
 /// Prefixes of which nothing is stored: above no leaf, above no node, above two leaves that share it, and above two
 /// that do not.
-const NOTHING_STORED: [Case<'static>; 4] = [
+static NOTHING_STORED: [Case<'static>; 4] = [
     from_first!(
         [inner!(Node4, 2, [], [])],
         Told::Unreadable(&[], (NodeType::Node4, 0))
@@ -379,7 +379,7 @@ macro_rules! four_bytes {
 
 /// Prefixes of which two bytes are stored: above itself, above leaves that are too short, above leaves with other
 /// bytes, with the same, and with different ones, and one that no leaf is long enough for.
-const TWO_STORED: [Case<'static>; 6] = [
+static TWO_STORED: [Case<'static>; 6] = [
     from_first!(
         [inner!(Node4, 4, [1, 1], [(5, 0)])],
         Told::Unreadable(&[], (NodeType::Node4, 0))
@@ -455,7 +455,7 @@ macro_rules! text_tree {
 }
 
 /// The stored bytes are right, or one is wrong, or the node above has another kind than its name.
-const LONG_PREFIXES: [Case<'static>; 3] = [
+static LONG_PREFIXES: [Case<'static>; 3] = [
     from_first!(text_tree!(STORED, 2), Told::Whole(4, 3)),
     from_first!(
         text_tree!(CHANGED, 2),

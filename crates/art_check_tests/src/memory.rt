@@ -50,11 +50,14 @@ fn two_keys_without_memory(store: &mut NodeStore<Key, u32, 4>) -> Option<[bool; 
     are_refused_without_memory(store, root)
 }
 
+/// The same in a store of its own.
+fn without_memory(alloc: Global) -> Option<[bool; 2]> {
+    two_keys_without_memory(&mut NodeStore::new(alloc))
+}
+
 #[test]
 fn without_memory_there_is_no_verdict(rt: HostRuntime) {
-    let mut store: NodeStore<Key, u32, 4> = NodeStore::new(rt.alloc());
-    let seen = two_keys_without_memory(&mut store);
-    assert_eq!(rt; seen, Some([true; 2]));
+    assert_eq!(rt; without_memory(rt.alloc()), Some([true; 2]));
 }
 
 /// Whether clones of a prefix and of two faults are refused while all memory is held, and so are copies of bytes, but
@@ -265,7 +268,7 @@ fn clone_of_conflict(alloc: Global) -> Option<Outcome> {
 }
 
 /// What faults of all kinds say.
-const FAULTS: [Told<'static>; 10] = [
+static FAULTS: [Told<'static>; 10] = [
     Told::Loop((NodeType::Node48, 3), &[1], &[2, 3]),
     Told::Count(&[1], NodeType::Node4, 1),
     Told::Prefix(&[1], &[2, 3]),

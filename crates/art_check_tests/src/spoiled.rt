@@ -96,8 +96,8 @@ fn is_counted<const P: usize>(
     )
 }
 
-/// Checks a tree of nodes with these names, and checks it again once it is spoiled. Answers the number of what is told then. None
-/// where one of the checks is wrong.
+/// Checks a tree of nodes with these names, and checks it again once it is spoiled. Answers the number of what is told
+/// then. None where one of the checks is wrong.
 fn spoil_and_check<const P: usize>(
     store: &mut NodeStore<Key, u32, P>,
     names: &[OpaqueNodePtr],
@@ -154,8 +154,8 @@ fn try_many<const P: usize>(alloc: Global) -> Result<[usize; 10], AllocError>
     Ok(counts)
 }
 
-/// Whether no check of 2,500 spoiled trees with so many stored bytes was wrong, and each was told but the last of so many: a stored
-/// byte can be wrong only where bytes are stored.
+/// Whether no check of 2,500 spoiled trees with so many stored bytes was wrong, and each was told but the last of so
+/// many: a stored byte can be wrong only where bytes are stored.
 fn are_told<const P: usize>(alloc: Global) -> bool
     requires { P < 256 }
 {

@@ -78,8 +78,8 @@ pub fn names_below<const P: usize>(
     Ok(names)
 }
 
-/// Spoils one place of a tree whose nodes have these names, or leaves it as it is. Answers the root's name, which may be another
-/// then.
+/// Spoils one place of a tree whose nodes have these names, or leaves it as it is. Answers the root's name, which may be
+/// another then.
 pub fn spoil<const P: usize>(
     store: &mut NodeStore<Key, u32, P>,
     names: &[OpaqueNodePtr],

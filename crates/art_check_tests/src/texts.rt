@@ -43,7 +43,7 @@ fn first_other(alloc: Global, rows: &[(Told<'_>, &str)]) -> Option<usize> {
 }
 
 /// What faults of inner nodes say, and their texts.
-const OF_INNER_NODES: [(Told<'static>, &str); 8] = [
+static OF_INNER_NODES: [(Told<'static>, &str); 8] = [
     (
         Told::Loop((NodeType::Node4, 7), &[], &[1, 2]),
         "Found a loop in the tree containing the node [Node4#7]. First observed that node at [[]], then later observed the same node at [[1, 2]]",
@@ -84,7 +84,7 @@ fn faults_of_inner_nodes_have_their_texts(rt: HostRuntime) {
 }
 
 /// What the other faults say, and their texts.
-const OF_LEAVES_AND_NAMES: [(Told<'static>, &str); 10] = [
+static OF_LEAVES_AND_NAMES: [(Told<'static>, &str); 10] = [
     (
         Told::Prefix(&[1, 2], &[255, 255]),
         "Found a leaf that had a mismatched key from the expected prefix! Expected the leaf key to start with [[1, 2]], but the leaf key was [[255, 255]]",
@@ -140,12 +140,14 @@ fn is_printed_at(store: &NodeStore<Key, u32, 4>, name: OpaqueNodePtr, text: &str
     }
 }
 
+/// The same of the name of a leaf in a store that has none.
+fn is_printed_of_none(alloc: Global, text: &str) -> bool {
+    let name = OpaqueNodePtr::from_parts(NodeType::Leaf, 0);
+    is_printed_at(&NodeStore::new(alloc), name, text)
+}
+
 #[test]
 fn an_empty_store_has_no_tree(rt: HostRuntime) {
-    let is_right = is_printed_at(
-        &NodeStore::new(rt.alloc()),
-        OpaqueNodePtr::from_parts(NodeType::Leaf, 0),
-        "Found a name [Leaf#0] at location [[]] that leads to no node of its kind",
-    );
-    assert!(rt; is_right);
+    let text = "Found a name [Leaf#0] at location [[]] that leads to no node of its kind";
+    assert!(rt; is_printed_of_none(rt.alloc(), text));
 }

@@ -44,6 +44,7 @@ pub fn slots((previous, next): (OptionalLeafPtr, OptionalLeafPtr)) -> Links {
     (slot_of(previous), slot_of(next))
 }
 
+// The slot of a link.
 fn slot_of(link: OptionalLeafPtr) -> Option<usize> {
     let leaf: LeafPtr = link?;
     Some(leaf.to_opaque().slot())
@@ -116,17 +117,20 @@ pub fn told_by_fault(fault: &MalformedTreeError) -> Told<'_> {
     }
 }
 
-// Why there is no fault: want of memory while its bytes are copied.
+// A fault, or want of memory for its bytes.
 type Made = Result<MalformedTreeError, AllocError>;
 
+// The name of this kind and slot.
 fn name_of((kind, slot): Named) -> OpaqueNodePtr {
     OpaqueNodePtr::from_parts(kind, slot)
 }
 
+// The link to the leaf in this slot.
 fn link_to(slot: Option<usize>) -> OptionalLeafPtr {
     Some(LeafPtr::from_slot(slot?))
 }
 
+// A loop, with both ways to it.
 fn loop_found(alloc: Global, name: Named, first: &[u8], later: &[u8]) -> Made {
     let first_observed = KeyPrefix::from_slice(alloc, first)?;
     let later_observed = KeyPrefix::from_slice(alloc, later)?;
@@ -137,14 +141,7 @@ fn loop_found(alloc: Global, name: Named, first: &[u8], later: &[u8]) -> Made {
     })
 }
 
-fn wrong_count(alloc: Global, place: &[u8], kind: NodeType, num_children: usize) -> Made {
-    Ok(MalformedTreeError::WrongChildrenCount {
-        key_prefix: KeyPrefix::from_slice(alloc, place)?,
-        inner_node_type: kind,
-        num_children,
-    })
-}
-
+// A key of another place.
 fn wrong_key(alloc: Global, place: &[u8], key: &[u8]) -> Made {
     let expected_prefix = KeyPrefix::from_slice(alloc, place)?;
     let entire_key = key.to_vec(alloc)?;
@@ -154,22 +151,19 @@ fn wrong_key(alloc: Global, place: &[u8], key: &[u8]) -> Made {
     })
 }
 
-fn wrong_order(
-    alloc: Global,
-    (sibling, key): (&[u8], &[u8]),
-    expected_order: Ordering,
-    actual_order: Ordering,
-) -> Made {
-    let sibling_key = sibling.to_vec(alloc)?;
-    let leaf_key = key.to_vec(alloc)?;
+// A sibling on the wrong side, with the orders expected and met.
+fn wrong_order(alloc: Global, keys: (&[u8], &[u8]), orders: (Ordering, Ordering)) -> Made {
+    let sibling_key = keys.0.to_vec(alloc)?;
+    let leaf_key = keys.1.to_vec(alloc)?;
     Ok(MalformedTreeError::LeafSiblingWrongOrder {
         sibling_key,
         leaf_key,
-        expected_order,
-        actual_order,
+        expected_order: orders.0,
+        actual_order: orders.1,
     })
 }
 
+// Links as expected and as met.
 fn wrong_links(alloc: Global, key: &[u8], expected: Links, actual: Links) -> Made {
     Ok(MalformedTreeError::WrongSiblingLinks {
         leaf_key: key.to_vec(alloc)?,
@@ -180,20 +174,7 @@ fn wrong_links(alloc: Global, key: &[u8], expected: Links, actual: Links) -> Mad
     })
 }
 
-fn dead_name(alloc: Global, place: &[u8], name: Named) -> Made {
-    Ok(MalformedTreeError::DeadName {
-        key_prefix: KeyPrefix::from_slice(alloc, place)?,
-        name: name_of(name),
-    })
-}
-
-fn unreadable(alloc: Global, place: &[u8], name: Named) -> Made {
-    Ok(MalformedTreeError::UnreadablePrefix {
-        key_prefix: KeyPrefix::from_slice(alloc, place)?,
-        name: name_of(name),
-    })
-}
-
+// Stored bytes that the least leaf does not have.
 fn wrong_bytes(alloc: Global, place: &[u8], stored: &[u8], actual: &[u8]) -> Made {
     let key_prefix = KeyPrefix::from_slice(alloc, place)?;
     let stored = stored.to_vec(alloc)?;
@@ -209,15 +190,27 @@ fn wrong_bytes(alloc: Global, place: &[u8], stored: &[u8], actual: &[u8]) -> Mad
 pub fn fault(alloc: Global, told: Told<'_>) -> Result<MalformedTreeError, AllocError> {
     match told {
         Told::Loop(name, first, later) => loop_found(alloc, name, first, later),
-        Told::Count(place, kind, count) => wrong_count(alloc, place, kind, count),
+        Told::Count(place, inner_node_type, num_children) => {
+            Ok(MalformedTreeError::WrongChildrenCount {
+                key_prefix: KeyPrefix::from_slice(alloc, place)?,
+                inner_node_type,
+                num_children,
+            })
+        }
         Told::Prefix(place, key) => wrong_key(alloc, place, key),
         Told::LenOfNone => Ok(MalformedTreeError::EmptyTreeWithLen),
         Told::Order(sibling, key, expected, actual) => {
-            wrong_order(alloc, (sibling, key), expected, actual)
+            wrong_order(alloc, (sibling, key), (expected, actual))
         }
         Told::Links(key, expected, actual) => wrong_links(alloc, key, expected, actual),
-        Told::Dead(place, name) => dead_name(alloc, place, name),
-        Told::Unreadable(place, name) => unreadable(alloc, place, name),
+        Told::Dead(place, name) => Ok(MalformedTreeError::DeadName {
+            key_prefix: KeyPrefix::from_slice(alloc, place)?,
+            name: name_of(name),
+        }),
+        Told::Unreadable(place, name) => Ok(MalformedTreeError::UnreadablePrefix {
+            key_prefix: KeyPrefix::from_slice(alloc, place)?,
+            name: name_of(name),
+        }),
         Told::Stored(place, stored, actual) => wrong_bytes(alloc, place, stored, actual),
         Told::Whole(..) | Told::OutOfMemory => Ok(MalformedTreeError::OutOfMemory),
     }
@@ -255,6 +248,7 @@ fn links_listed((previous, next): Links, names: &[OpaqueNodePtr]) -> Links {
     (link_listed(previous, names), link_listed(next, names))
 }
 
+// The same of one link.
 fn link_listed(link: Option<usize>, names: &[OpaqueNodePtr]) -> Option<usize> {
     Some(place_of((NodeType::Leaf, link?), names).1)
 }

@@ -1,5 +1,5 @@
 //! Folds of trees, and the bytes that lead to nodes.
-ghost use Rattle.std.specs.Prelude.{⊤};
+ghost use Rattle.std.specs.Prelude.{◌<◌, ⊤};
 ghost use Rattle.art_model.specs.Pairs.{of_key};
 ghost use Rattle.art_model.specs.Roots.{IsCanonicalRoot};
 
@@ -11,7 +11,6 @@ use art_operations::well_formed::KeyPrefix;
 use art_test_support::trees::{Key, planted_all};
 use std::alloc::{AllocError, Global};
 use std::boxed::BoxedSlice;
-use std::test::Fail;
 use uses::longest_key;
 
 /// Each output is ten times what came so far and the next child's, and an inner node adds a number.
@@ -119,17 +118,22 @@ fn two_folds_of<const P: usize>(
     }
 }
 
+/// The same in a store of its own.
+fn two_folds_with<const P: usize>(alloc: Global, slices: &[&[u8]]) -> Option<[u64; 2]>
+    requires { P < 256 }
+{
+    two_folds_of::<P>(&mut NodeStore::new(alloc), slices)
+}
+
 #[test]
 fn outputs_of_children_are_joined_in_order(rt: HostRuntime) {
-    let mut store: NodeStore<Key, u32, 16> = NodeStore::new(rt.alloc());
-    let folds = two_folds_of(&mut store, &[&[1], &[2], &[3, 1], &[3, 2]]);
+    let folds = two_folds_with::<16>(rt.alloc(), &[&[1], &[2], &[3, 1], &[3, 2]]);
     assert_eq!(rt; folds, Some([154, 156]));
 }
 
 #[test]
 fn a_lone_leaf_goes_to_its_hook(rt: HostRuntime) {
-    let mut store: NodeStore<Key, u32, 0> = NodeStore::new(rt.alloc());
-    let folds = two_folds_of(&mut store, &[&[9, 9]]);
+    let folds = two_folds_with::<0>(rt.alloc(), &[&[9, 9]]);
     assert_eq!(rt; folds, Some([1, 1]));
 }
 
@@ -163,27 +167,35 @@ fn met_in<const P: usize>(
     }
 }
 
+/// The same in a store of its own.
+fn met_with(alloc: Global, slices: &[&[u8]]) -> Option<(usize, usize, usize, [Inner; 4])> {
+    met_in::<2>(&mut NodeStore::new(alloc), slices)
+}
+
+/// Keys of which some share two bytes of a prefix or more.
+static EIGHT: [&[u8]; 8] = [
+    &[1, 7, 7, 7, 1],
+    &[1, 7, 7, 7, 2],
+    &[2],
+    &[3],
+    &[4],
+    &[5, 1],
+    &[5, 2, 6, 1],
+    &[5, 2, 6, 2],
+];
+
+/// The inner nodes of their tree: how many leaves are met before each, its kind, prefix's length and children.
+static INNERS: [Inner; 4] = [
+    (2, NodeType::Node4, 3, 2),
+    (8, NodeType::Node4, 1, 2),
+    (8, NodeType::Node4, 0, 2),
+    (8, NodeType::Node16, 0, 5),
+];
+
 #[test]
 fn nodes_are_visited_after_what_is_below_them(rt: HostRuntime) {
-    let mut store: NodeStore<Key, u32, 2> = NodeStore::new(rt.alloc());
-    let slices: [&[u8]; 8] = [
-        &[1, 7, 7, 7, 1],
-        &[1, 7, 7, 7, 2],
-        &[2],
-        &[3],
-        &[4],
-        &[5, 1],
-        &[5, 2, 6, 1],
-        &[5, 2, 6, 2],
-    ];
-    let met = met_in(&mut store, &slices);
-    let wanted = [
-        (2, NodeType::Node4, 3, 2),
-        (8, NodeType::Node4, 1, 2),
-        (8, NodeType::Node4, 0, 2),
-        (8, NodeType::Node16, 0, 5),
-    ];
-    assert_eq!(rt; met, Some((3, 8, 4, wanted)));
+    let met = met_with(rt.alloc(), &EIGHT);
+    assert_eq!(rt; met, Some((3, 8, 4, INNERS)));
 }
 
 /// The length of the longest of these keys.
@@ -194,12 +206,17 @@ fn longest_of(store: &mut NodeStore<Key, u32, 2>, slices: &[&[u8]]) -> Option<us
     }
 }
 
+/// The same in a store of its own.
+fn longest_with(alloc: Global, slices: &[&[u8]]) -> Option<usize> {
+    longest_of(&mut NodeStore::new(alloc), slices)
+}
+
+/// Keys of which the longest are neither the least nor the greatest.
+static FOUR: [&[u8]; 4] = [&[1, 7], &[2, 7, 7, 7, 1], &[2, 7, 7, 7, 2], &[9]];
+
 #[test]
 fn the_longest_key_is_found(rt: HostRuntime) {
-    let mut store: NodeStore<Key, u32, 2> = NodeStore::new(rt.alloc());
-    let slices: [&[u8]; 4] = [&[1, 7], &[2, 7, 7, 7, 1], &[2, 7, 7, 7, 2], &[9]];
-    let longest = longest_of(&mut store, &slices);
-    assert_eq!(rt; longest, Some(5));
+    assert_eq!(rt; longest_with(rt.alloc(), &FOUR), Some(5));
 }
 
 /// Whether no bytes are empty, a copy of bytes holds them, and a clone of it is equal and holds them.
@@ -221,19 +238,25 @@ fn is_before(alloc: Global, bytes: &[u8], others: &[u8]) -> Result<bool, AllocEr
     Ok(prefix < other && prefix != other)
 }
 
+/// What is seen of two bytes and of none.
+fn prefixes_seen(alloc: Global) -> Option<[[bool; 4]; 2]> {
+    let with_bytes = prefix_seen(alloc, &[1, 2]).ok()?;
+    Some([with_bytes, prefix_seen(alloc, &[]).ok()?])
+}
+
+/// Whether a front is before the whole, in two cases, and a lesser byte decides, one way and the other.
+fn orders_seen(alloc: Global) -> Option<[bool; 4]> {
+    let of_none = is_before(alloc, &[], &[0]).ok()?;
+    let of_front = is_before(alloc, &[1, 2], &[1, 2, 0]).ok()?;
+    let of_lesser = is_before(alloc, &[1, 2, 255], &[1, 3]).ok()?;
+    let of_greater = is_before(alloc, &[1, 3], &[1, 2]).ok()?;
+    Some([of_none, of_front, of_lesser, of_greater])
+}
+
 #[test]
-fn key_prefixes_hold_their_bytes(rt: HostRuntime) -> Result<(), Fail> {
-    let alloc = rt.alloc();
-    let seen = [prefix_seen(alloc, &[1, 2])?, prefix_seen(alloc, &[])?];
-    assert_eq!(rt; seen, [[true; 4]; 2]);
-    let orders = [
-        is_before(alloc, &[], &[0])?,
-        is_before(alloc, &[1, 2], &[1, 2, 0])?,
-        is_before(alloc, &[1, 2, 255], &[1, 3])?,
-        is_before(alloc, &[1, 3], &[1, 2])?,
-    ];
-    assert_eq!(rt; orders, [true, true, true, false]);
-    Ok(())
+fn key_prefixes_hold_their_bytes(rt: HostRuntime) {
+    assert_eq!(rt; prefixes_seen(rt.alloc()), Some([[true; 4]; 2]));
+    assert_eq!(rt; orders_seen(rt.alloc()), Some([true, true, true, false]));
 }
 
 /// Whether a clone of an error about these bytes equals it.
@@ -244,9 +267,13 @@ fn is_cloned(alloc: Global, bytes: &[u8]) -> Result<bool, AllocError> {
     Ok(copy == error && *copy.byte_repr == *bytes)
 }
 
+/// The same of two bytes and of none.
+fn are_cloned(alloc: Global) -> Option<[bool; 2]> {
+    let with_bytes = is_cloned(alloc, &[1, 2]).ok()?;
+    Some([with_bytes, is_cloned(alloc, &[]).ok()?])
+}
+
 #[test]
-fn clones_of_errors_equal_them(rt: HostRuntime) -> Result<(), Fail> {
-    let are_cloned = [is_cloned(rt.alloc(), &[1, 2])?, is_cloned(rt.alloc(), &[])?];
-    assert_eq!(rt; are_cloned, [true; 2]);
-    Ok(())
+fn clones_of_errors_equal_them(rt: HostRuntime) {
+    assert_eq!(rt; are_cloned(rt.alloc()), Some([true; 2]));
 }
