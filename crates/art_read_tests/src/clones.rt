@@ -12,16 +12,23 @@ use art_test_support::memory::end_refusals;
 use art_test_support::nodes::{Seen, count_touched, nodes_seen};
 use art_test_support::shapes::count_nodes;
 use art_test_support::side_by_side::kind_if_same;
-use art_test_support::trees::{
-    Key, keys, keys_after, keys_of_three, planted, planted_all, value_of,
-};
+use art_test_support::trees::{Key, keys, keys_after, planted, planted_all, value_of};
 use std::alloc::{AllocError, Global};
 use std::process::Abort;
 use std::test::Fail;
 
-// What a run in stores of its own leaves.
+// What a run leaves.
+fn left_in<const P: usize>(
+    first: &mut NodeStore<Key, u32, P>,
+    second: &mut NodeStore<Key, u32, P>,
+    rows: &[Row<'_>],
+) -> Option<Left> {
+    ran(first, second, rows).ok()
+}
+
+// The same in stores of its own.
 fn left_by(alloc: Global, rows: &[Row<'_>]) -> Option<Left> {
-    ran::<4>(&mut NodeStore::new(alloc), &mut NodeStore::new(alloc), rows).ok()
+    left_in::<4>(&mut NodeStore::new(alloc), &mut NodeStore::new(alloc), rows)
 }
 
 #[test]
@@ -226,15 +233,25 @@ fn keys_with_fronts(alloc: Global) -> Result<Vec<Key>, AllocError> {
     Ok(keys)
 }
 
+// All keys of three bytes, less than 4, 3 and 2.
+fn keys_of_three(alloc: Global) -> Result<Vec<Key>, AllocError> {
+    let mut keys = Vec::new(alloc);
+    for number in 0..24u8 {
+        let (a, b, c) = (number / 6, number / 2 % 3, number % 2);
+        keys.push([a, b, c].to_vec(alloc)?)?;
+    }
+    Ok(keys)
+}
+
 // The keys of the tree of this number, in order.
-fn keys_of(alloc: Global, number: usize) -> Result<Vec<Key>, Fail> {
+fn keys_of(alloc: Global, number: usize) -> Result<Vec<Key>, AllocError> {
     match number {
-        0 => keys_of_three(alloc, [4, 3, 2]),
-        1 => Ok(keys(alloc, &[&[0, 0], &[65, 229], &[171, 171]])?),
-        2 => Ok(keys_of_two(alloc)?),
-        3 => Ok(keys_of_fewer_zeros(alloc, 126)?),
-        4 => Ok(keys_with_fronts(alloc)?),
-        _ => Ok(keys(alloc, &[&[0, 0, 0, 0, 0]])?),
+        0 => keys_of_three(alloc),
+        1 => keys(alloc, &[&[0, 0], &[65, 229], &[171, 171]]),
+        2 => keys_of_two(alloc),
+        3 => keys_of_fewer_zeros(alloc, 126),
+        4 => keys_with_fronts(alloc),
+        _ => keys(alloc, &[&[0, 0, 0, 0, 0]]),
     }
 }
 
