@@ -52,7 +52,8 @@ fn is_leaf_of<const P: usize>(
     Some(leaf.key.as_slice() == key)
 }
 
-// What a run leaves: whether the root is a leaf of the second store with the key [2], and how many nodes each store has.
+// What a run leaves, whether the root is a leaf of the second store with the key [2], and how many nodes each
+// store has.
 type GoneOver = (Left, Option<bool>, [(usize, usize); 2]);
 
 fn gone_over<const P: usize>(
@@ -170,8 +171,8 @@ fn cloned<const P: usize>(
     Ok((count_nodes(into, 700), kind.is_some(), ends))
 }
 
-// Plants the tree of these keys, which are in order and those of these pairs, and clones it. The second store is for the
-// planting alone.
+// Plants the tree of these keys, which are in order and those of these pairs, and clones it. The second store is
+// for the planting alone.
 fn cloned_tree<const P: usize>(
     store: &mut NodeStore<Key, u32, P>,
     second: &mut NodeStore<Key, u32, P>,
@@ -272,7 +273,22 @@ fn a_clone_is_the_same_tree(rt: HostRuntime) -> Result<(), Fail> {
     Ok(())
 }
 
-// What a clone touches in the other store, where it is refused.
+// What a clone touches of these nodes in the other store, where it is refused.
+fn touched_beside<const P: usize>(
+    store: &NodeStore<Key, u32, P>,
+    root: OpaqueNodePtr,
+    into: &mut NodeStore<Key, u32, P>,
+    before: &[Seen],
+) -> Option<(usize, usize, usize)>
+    requires { IsCanonicalRoot (of_key (λ key. key.items)) P store.now root }
+{
+    match clone_unchecked(store, root, into) {
+        Ok(_) => None,
+        Err(_) => Some(count_touched(into, before)),
+    }
+}
+
+// The same of all nodes.
 fn touched_by_clone<const P: usize>(
     store: &NodeStore<Key, u32, P>,
     root: OpaqueNodePtr,
@@ -280,10 +296,9 @@ fn touched_by_clone<const P: usize>(
 ) -> Option<(usize, usize, usize)>
     requires { IsCanonicalRoot (of_key (λ key. key.items)) P store.now root }
 {
-    let before = nodes_seen(into).ok()?;
-    match clone_unchecked(store, root, into) {
-        Ok(_) => None,
-        Err(_) => Some(count_touched(into, &before)),
+    match nodes_seen(into) {
+        Ok(before) => touched_beside(store, root, into, &before),
+        Err(_) => None,
     }
 }
 
