@@ -1,4 +1,5 @@
 //! Clones of trees, from one store into another.
+ghost use Rattle.std.specs.Prelude.{◌<◌};
 ghost use Rattle.art_model.specs.Pairs.{of_key};
 ghost use Rattle.art_model.specs.Roots.{IsCanonicalRoot};
 
@@ -8,26 +9,37 @@ use art_operations::clone::clone_unchecked;
 use art_operations::run::Side;
 use art_test_support::commands::{Asked, Left, Row, Told, ran, ran_from, ran_without_memory};
 use art_test_support::memory::end_refusals;
-use art_test_support::nodes::{count_touched, nodes_seen};
+use art_test_support::nodes::{Seen, count_touched, nodes_seen};
 use art_test_support::shapes::count_nodes;
 use art_test_support::side_by_side::kind_if_same;
-use art_test_support::trees::{Key, keys, keys_after, keys_of_three, plant, planted, value_of};
+use art_test_support::trees::{Key, keys, keys_after, planted, planted_all, value_of};
 use std::alloc::{AllocError, Global};
 use std::process::Abort;
 use std::test::Fail;
 
+// What a run leaves.
+fn left_in<const P: usize>(
+    first: &mut NodeStore<Key, u32, P>,
+    second: &mut NodeStore<Key, u32, P>,
+    rows: &[Row<'_>],
+) -> Option<Left> {
+    ran(first, second, rows).ok()
+}
+
+// The same in stores of its own.
+fn left_by(alloc: Global, rows: &[Row<'_>]) -> Option<Left> {
+    left_in::<4>(&mut NodeStore::new(alloc), &mut NodeStore::new(alloc), rows)
+}
+
 #[test]
 fn clones_no_tree(rt: HostRuntime) {
-    let alloc = rt.alloc();
     let rows: [Row<'_>; 1] = [(Asked::Clone, Told::Cloned)];
-    let mut first: NodeStore<Key, u32, 4> = NodeStore::new(alloc);
-    let left = ran(&mut first, &mut NodeStore::new(alloc), &rows).ok();
     let wanted = Left {
         wrong: None,
         has_root: false,
         side: Side::First,
     };
-    assert_eq!(rt; left, Some(wanted));
+    assert_eq!(rt; left_by(rt.alloc(), &rows), Some(wanted));
 }
 
 // Whether a root is a leaf with this key.
@@ -40,27 +52,40 @@ fn is_leaf_of<const P: usize>(
     Some(leaf.key.as_slice() == key)
 }
 
+// What a run leaves, whether the root is a leaf of the second store with the key [2], and how many nodes each
+// store has.
+type GoneOver = (Left, Option<bool>, [(usize, usize); 2]);
+
+fn gone_over<const P: usize>(
+    first: &mut NodeStore<Key, u32, P>,
+    second: &mut NodeStore<Key, u32, P>,
+    rows: &[Row<'_>],
+) -> Option<GoneOver> {
+    let (left, root) = ran_from(first, second, None, rows).ok()?;
+    let counts = [count_nodes(first, 4), count_nodes(second, 4)];
+    Some((left, is_leaf_of(second, root, &[2]), counts))
+}
+
+// The same in stores of its own.
+fn gone_over_with(alloc: Global, rows: &[Row<'_>]) -> Option<GoneOver> {
+    gone_over::<4>(&mut NodeStore::new(alloc), &mut NodeStore::new(alloc), rows)
+}
+
 #[test]
-fn goes_over_to_the_other_store(rt: HostRuntime) -> Result<(), Fail> {
-    let alloc = rt.alloc();
+fn goes_over_to_the_other_store(rt: HostRuntime) {
     let rows: [Row<'_>; 4] = [
         (Asked::Insert(&[1], 1), Told::Inserted(None)),
         (Asked::Insert(&[2], 2), Told::Inserted(None)),
         (Asked::Clone, Told::Cloned),
         (Asked::Delete(&[1]), Told::Deleted(Some((&[1], 1)))),
     ];
-    let mut first: NodeStore<Key, u32, 4> = NodeStore::new(alloc);
-    let mut second = NodeStore::new(alloc);
-    let (left, root) = ran_from(&mut first, &mut second, None, &rows)?;
     let wanted = Left {
         wrong: None,
         has_root: true,
         side: Side::Second,
     };
-    let counts = [count_nodes(&first, 4), count_nodes(&second, 4)];
-    let seen = (left, is_leaf_of(&second, root, &[2]), counts);
-    assert_eq!(rt; seen, (wanted, Some(true), [(0, 0), (1, 0)]));
-    Ok(())
+    let seen = gone_over_with(rt.alloc(), &rows);
+    assert_eq!(rt; seen, Some((wanted, Some(true), [(0, 0), (1, 0)])));
 }
 
 // What is left of a clone without memory: what the run leaves, the value of the root, and how many nodes each
@@ -71,34 +96,36 @@ type Kept = (Left, Option<u32>, [(usize, usize); 2]);
 fn kept_without_memory<const P: usize>(
     first: &mut NodeStore<Key, u32, P>,
     second: &mut NodeStore<Key, u32, P>,
-) -> Result<Option<Kept>, AllocError> {
+) -> Option<Kept> {
     let insertion: [Row<'_>; 1] = [(Asked::Insert(&[1], 10), Told::Inserted(None))];
     let clone: [Row<'_>; 1] = [(Asked::Clone, Told::NoMemory(None))];
-    let (before, root) = ran_from(first, second, None, &insertion)?;
+    let (before, root) = ran_from(first, second, None, &insertion).ok()?;
     match before.side {
         Side::First => {
-            let left = ran_without_memory(first, second, root, &clone)?;
+            let left = ran_without_memory(first, second, root, &clone).ok()?;
             let leaf = root.and_then(|root| root.as_leaf());
             let value = leaf.and_then(|leaf| value_of(first, leaf));
             let counts = [count_nodes(first, 4), count_nodes(second, 4)];
-            Ok(Some((left, value, counts)))
+            Some((left, value, counts))
         }
-        Side::Second => Ok(None),
+        Side::Second => None,
     }
 }
 
+// The same in stores of its own.
+fn kept_with(alloc: Global) -> Option<Kept> {
+    kept_without_memory::<4>(&mut NodeStore::new(alloc), &mut NodeStore::new(alloc))
+}
+
 #[test]
-fn without_memory_a_clone_changes_nothing(rt: HostRuntime) -> Result<(), Fail> {
-    let alloc = rt.alloc();
-    let mut first: NodeStore<Key, u32, 4> = NodeStore::new(alloc);
-    let kept = kept_without_memory(&mut first, &mut NodeStore::new(alloc))?;
+fn without_memory_a_clone_changes_nothing(rt: HostRuntime) {
     let wanted = Left {
         wrong: None,
         has_root: true,
         side: Side::First,
     };
+    let kept = kept_with(rt.alloc());
     assert_eq!(rt; kept, Some((wanted, Some(10), [(1, 0), (0, 0)])));
-    Ok(())
 }
 
 // Pairs of these keys, each with its place as its value.
@@ -144,16 +171,36 @@ fn cloned<const P: usize>(
     Ok((count_nodes(into, 700), kind.is_some(), ends))
 }
 
-// Plants the tree of these keys, which are in order, and clones it.
+// Plants the tree of these keys, which are in order and those of these pairs, and clones it. The second store is
+// for the planting alone.
 fn cloned_tree<const P: usize>(
     store: &mut NodeStore<Key, u32, P>,
+    second: &mut NodeStore<Key, u32, P>,
     into: &mut NodeStore<Key, u32, P>,
     keys: Vec<Key>,
-) -> Result<Cloned, Fail> {
-    let alloc = store.alloc();
-    let pairs = numbered(&keys, alloc)?;
-    let root = plant(store, &mut NodeStore::new(alloc), keys)?;
-    Ok(cloned(store, root, into, &pairs)?)
+    pairs: &[(Key, u32)],
+) -> Option<Cloned> {
+    let root = planted(store, second, keys).ok()??;
+    cloned(store, root, into, pairs).ok()
+}
+
+// The same in stores of its own.
+fn cloned_beside(alloc: Global, keys: Vec<Key>, pairs: &[(Key, u32)]) -> Option<Cloned> {
+    cloned_tree::<16>(
+        &mut NodeStore::new(alloc),
+        &mut NodeStore::new(alloc),
+        &mut NodeStore::new(alloc),
+        keys,
+        pairs,
+    )
+}
+
+// The same of these keys alone.
+fn cloned_with(alloc: Global, keys: Vec<Key>) -> Option<Cloned> {
+    match numbered(&keys, alloc) {
+        Ok(pairs) => cloned_beside(alloc, keys, &pairs),
+        Err(_) => None,
+    }
 }
 
 // All keys of two bytes, each less than 18.
@@ -187,30 +234,61 @@ fn keys_with_fronts(alloc: Global) -> Result<Vec<Key>, AllocError> {
     Ok(keys)
 }
 
-// Lists of keys, each in order, with how many leaves and inner nodes their tree has.
-fn rows(alloc: Global) -> Result<[(Vec<Key>, (usize, usize)); 6], Fail> {
-    Ok([
-        (keys_of_three(alloc, [4, 3, 2])?, (24, 17)),
-        (keys(alloc, &[&[0, 0], &[65, 229], &[171, 171]])?, (3, 1)),
-        (keys_of_two(alloc)?, (324, 19)),
-        (keys_of_fewer_zeros(alloc, 126)?, (127, 126)),
-        (keys_with_fronts(alloc)?, (27, 13)),
-        (keys(alloc, &[&[0, 0, 0, 0, 0]])?, (1, 0)),
-    ])
+// All keys of three bytes, less than 4, 3 and 2.
+fn keys_of_three(alloc: Global) -> Result<Vec<Key>, AllocError> {
+    let mut keys = Vec::new(alloc);
+    for number in 0..24u8 {
+        let (a, b, c) = (number / 6, number / 2 % 3, number % 2);
+        keys.push([a, b, c].to_vec(alloc)?)?;
+    }
+    Ok(keys)
 }
+
+// The keys of the tree of this number, in order.
+fn keys_of(alloc: Global, number: usize) -> Result<Vec<Key>, AllocError> {
+    match number {
+        0 => keys_of_three(alloc),
+        1 => keys(alloc, &[&[0, 0], &[65, 229], &[171, 171]]),
+        2 => keys_of_two(alloc),
+        3 => keys_of_fewer_zeros(alloc, 126),
+        4 => keys_with_fronts(alloc),
+        _ => keys(alloc, &[&[0, 0, 0, 0, 0]]),
+    }
+}
+
+// How many leaves and inner nodes these trees have.
+const COUNTS: [(usize, usize); 6] = [(24, 17), (3, 1), (324, 19), (127, 126), (27, 13), (1, 0)];
 
 #[test]
 fn a_clone_is_the_same_tree(rt: HostRuntime) -> Result<(), Fail> {
     let alloc = rt.alloc();
-    for (keys, counts) in rows(alloc)? {
-        let mut store: NodeStore<Key, u32, 16> = NodeStore::new(alloc);
-        let made = cloned_tree(&mut store, &mut NodeStore::new(alloc), keys)?;
-        assert_eq!(rt; made, (counts, true, [Some(true); 2]));
+    for (number, counts) in COUNTS.iter().enumerate() {
+        let made = cloned_with(alloc, keys_of(alloc, number)?);
+        assert_eq!(rt;
+            made,
+            Some((*counts, true, [Some(true); 2])),
+            "tree {number}"
+        );
     }
     Ok(())
 }
 
-// What a clone touches in the other store, where it is refused.
+// What a clone touches of these nodes in the other store, where it is refused.
+fn touched_beside<const P: usize>(
+    store: &NodeStore<Key, u32, P>,
+    root: OpaqueNodePtr,
+    into: &mut NodeStore<Key, u32, P>,
+    before: &[Seen],
+) -> Option<(usize, usize, usize)>
+    requires { IsCanonicalRoot (of_key (λ key. key.items)) P store.now root }
+{
+    match clone_unchecked(store, root, into) {
+        Ok(_) => None,
+        Err(_) => Some(count_touched(into, before)),
+    }
+}
+
+// The same of all nodes.
 fn touched_by_clone<const P: usize>(
     store: &NodeStore<Key, u32, P>,
     root: OpaqueNodePtr,
@@ -218,10 +296,9 @@ fn touched_by_clone<const P: usize>(
 ) -> Option<(usize, usize, usize)>
     requires { IsCanonicalRoot (of_key (λ key. key.items)) P store.now root }
 {
-    let before = nodes_seen(into).ok()?;
-    match clone_unchecked(store, root, into) {
-        Ok(_) => None,
-        Err(_) => Some(count_touched(into, &before)),
+    match nodes_seen(into) {
+        Ok(before) => touched_beside(store, root, into, &before),
+        Err(_) => None,
     }
 }
 
@@ -230,17 +307,18 @@ fn touched_by_refused<const P: usize>(
     store: &mut NodeStore<Key, u32, P>,
     into: &mut NodeStore<Key, u32, P>,
 ) -> Option<(usize, usize, usize)> {
-    let alloc = store.alloc();
-    let five = keys(alloc, &[&[1], &[2], &[3], &[4], &[5]]).ok()?;
-    let root = planted(store, &mut NodeStore::new(alloc), five).ok()??;
+    let root = planted_all(store, &[&[1], &[2], &[3], &[4], &[5]]).ok()??;
     touched_by_clone(store, root, into)
+}
+
+// The same in stores of its own.
+fn touched_alone(alloc: Global) -> Option<(usize, usize, usize)> {
+    touched_by_refused::<4>(&mut NodeStore::new(alloc), &mut NodeStore::new(alloc))
 }
 
 #[test]
 fn refused_clones_leave_no_node(rt: HostRuntime) -> Result<(), Fail> {
-    let alloc = rt.alloc();
-    let mut store: NodeStore<Key, u32, 4> = NodeStore::new(alloc);
-    if let Some(touched) = touched_by_refused(&mut store, &mut NodeStore::new(alloc)) {
+    if let Some(touched) = touched_alone(rt.alloc()) {
         assert_eq!(rt; touched, (0, 0, 0));
         println!(rt; "asserted")?;
     }
@@ -257,11 +335,14 @@ fn touched_beside_a_leaf<const P: usize>(
     touched_by_refused(store, into)
 }
 
+// The same in stores of its own.
+fn touched_with(alloc: Global) -> Option<(usize, usize, usize)> {
+    touched_beside_a_leaf::<4>(&mut NodeStore::new(alloc), &mut NodeStore::new(alloc))
+}
+
 #[test]
 fn refused_clones_leave_the_nodes_that_were_there(rt: HostRuntime) -> Result<(), Fail> {
-    let alloc = rt.alloc();
-    let mut store: NodeStore<Key, u32, 4> = NodeStore::new(alloc);
-    if let Some(touched) = touched_beside_a_leaf(&mut store, &mut NodeStore::new(alloc)) {
+    if let Some(touched) = touched_with(rt.alloc()) {
         assert_eq!(rt; touched, (0, 0, 0));
         println!(rt; "asserted")?;
     }
@@ -270,11 +351,11 @@ fn refused_clones_leave_the_nodes_that_were_there(rt: HostRuntime) -> Result<(),
 
 // The keys of one byte up to 49, and three that begin with 50.
 fn keys_of_many(alloc: Global) -> Result<Vec<Key>, AllocError> {
-    let mut all = keys_after(alloc, &[], 50)?;
-    for key in keys_after(alloc, &[50], 3)? {
-        all.push(key)?;
+    let mut keys = keys_after(alloc, &[], 50)?;
+    for byte in 0..3u8 {
+        keys.push([50, byte].to_vec(alloc)?)?;
     }
-    Ok(all)
+    Ok(keys)
 }
 
 // What comes of a clone: it is refused, and what it touches in the other store; or it is made, whether both trees are
@@ -285,45 +366,80 @@ enum Outcome {
     Made(bool, (usize, usize)),
 }
 
-// Clones the tree of many keys beside a leaf, and judges with memory what came of it. None where a refusal fell outside
-// the clone.
+// The pairs of the tree of many keys.
+fn pairs_of_many(alloc: Global) -> Result<Vec<(Key, u32)>, AllocError> {
+    let keys = keys_of_many(alloc)?;
+    numbered(&keys, alloc)
+}
+
+// What a clone of that tree is that was made.
+fn judged<const P: usize>(
+    (store, root): (&NodeStore<Key, u32, P>, OpaqueNodePtr),
+    (into, copy): (&NodeStore<Key, u32, P>, OpaqueNodePtr),
+) -> Result<Outcome, AllocError> {
+    let pairs = pairs_of_many(store.alloc())?;
+    let kind = kind_if_same((store, Some(root)), (into, Some(copy)), &pairs)?;
+    Ok(Outcome::Made(kind.is_some(), count_nodes(into, 100)))
+}
+
+// Clones the tree of many keys beside these nodes, and judges with memory what came of it.
+fn clone_beside<const P: usize>(
+    store: &NodeStore<Key, u32, P>,
+    root: OpaqueNodePtr,
+    into: &mut NodeStore<Key, u32, P>,
+    before: &[Seen],
+) -> Result<Outcome, AllocError>
+    requires { IsCanonicalRoot (of_key (λ key. key.items)) P store.now root }
+{
+    let cloned = clone_unchecked(store, root, into);
+    end_refusals(store.alloc());
+    match cloned {
+        Ok(copy) => judged((store, root), (into, copy.root)),
+        Err(AllocError) => Ok(Outcome::Refused(count_touched(into, before))),
+    }
+}
+
+// The same beside all nodes that are there. None where a refusal fell outside the clone.
 fn clone_tried<const P: usize>(
     store: &NodeStore<Key, u32, P>,
     root: OpaqueNodePtr,
     into: &mut NodeStore<Key, u32, P>,
-) -> Result<Option<Outcome>, AllocError>
+) -> Option<Outcome>
     requires { IsCanonicalRoot (of_key (λ key. key.items)) P store.now root }
 {
-    let alloc = store.alloc();
-    let Ok(before) = nodes_seen(into) else {
-        return Ok(None);
-    };
-    let cloned = clone_unchecked(store, root, into);
-    end_refusals(alloc);
-    match cloned {
-        Ok(copy) => {
-            let pairs = numbered(&keys_of_many(alloc)?, alloc)?;
-            let kind = kind_if_same((store, Some(root)), (into, Some(copy.root)), &pairs)?;
-            Ok(Some(Outcome::Made(kind.is_some(), count_nodes(into, 100))))
-        }
-        Err(AllocError) => Ok(Some(Outcome::Refused(count_touched(into, &before)))),
+    match nodes_seen(into) {
+        Ok(before) => clone_beside(store, root, into, &before).ok(),
+        Err(_) => None,
     }
 }
 
 // Plants the tree of many keys, and a leaf in the other store, before the clone. None where an insertion was refused.
+// The second store is for the planting alone.
 fn clone_of_many<const P: usize>(
     store: &mut NodeStore<Key, u32, P>,
+    second: &mut NodeStore<Key, u32, P>,
     into: &mut NodeStore<Key, u32, P>,
 ) -> Option<Outcome> {
     let alloc = store.alloc();
     let key = [9].to_vec(alloc).ok()?;
     into.place_leaf(LeafNode::with_no_siblings(key, 90)).ok()?;
     let all = keys_of_many(alloc).ok()?;
-    let root = planted(store, &mut NodeStore::new(alloc), all).ok()??;
+    let root = planted(store, second, all).ok()??;
     if count_nodes(store, 100) != (53, 2) {
         return None;
     }
-    clone_tried(store, root, into).ok()?
+    clone_tried(store, root, into)
+}
+
+// The same in stores of its own.
+fn clone_of_many_with<const P: usize>(alloc: Global) -> Option<Outcome>
+    requires { P < 256 }
+{
+    clone_of_many::<P>(
+        &mut NodeStore::new(alloc),
+        &mut NodeStore::new(alloc),
+        &mut NodeStore::new(alloc),
+    )
 }
 
 // Asserts what came of a clone, and says so where it was refused.
@@ -341,32 +457,24 @@ fn assert_whole(rt: &(impl Abort + Print), outcome: Option<Outcome>) -> Result<(
 
 #[test]
 fn refused_clones_of_many_leave_the_other_store_with_0_stored(rt: HostRuntime) -> Result<(), Fail> {
-    let alloc = rt.alloc();
-    let outcome = clone_of_many::<0>(&mut NodeStore::new(alloc), &mut NodeStore::new(alloc));
-    assert_whole(&rt, outcome)
+    assert_whole(&rt, clone_of_many_with::<0>(rt.alloc()))
 }
 
 #[test]
 fn refused_clones_of_many_leave_the_other_store_with_2_stored(rt: HostRuntime) -> Result<(), Fail> {
-    let alloc = rt.alloc();
-    let outcome = clone_of_many::<2>(&mut NodeStore::new(alloc), &mut NodeStore::new(alloc));
-    assert_whole(&rt, outcome)
+    assert_whole(&rt, clone_of_many_with::<2>(rt.alloc()))
 }
 
 #[test]
 fn refused_clones_of_many_leave_the_other_store_with_4_stored(rt: HostRuntime) -> Result<(), Fail> {
-    let alloc = rt.alloc();
-    let outcome = clone_of_many::<4>(&mut NodeStore::new(alloc), &mut NodeStore::new(alloc));
-    assert_whole(&rt, outcome)
+    assert_whole(&rt, clone_of_many_with::<4>(rt.alloc()))
 }
 
 #[test]
 fn refused_clones_of_many_leave_the_other_store_with_16_stored(
     rt: HostRuntime,
 ) -> Result<(), Fail> {
-    let alloc = rt.alloc();
-    let outcome = clone_of_many::<16>(&mut NodeStore::new(alloc), &mut NodeStore::new(alloc));
-    assert_whole(&rt, outcome)
+    assert_whole(&rt, clone_of_many_with::<16>(rt.alloc()))
 }
 
 // Whether a leaf has the key [1], and its value and links.
@@ -381,17 +489,28 @@ fn leaf_seen(leaf: &LeafNode<Key, u32>) -> Leaf {
     )
 }
 
-#[test]
-fn a_leaf_is_cloned_without_siblings(rt: HostRuntime) -> Result<(), Fail> {
-    let (previous, next) = (Some(LeafPtr::from_slot(3)), Some(LeafPtr::from_slot(4)));
+// A leaf with such links and its clone.
+fn leaf_and_clone(
+    alloc: Global,
+    previous: Option<LeafPtr>,
+    next: Option<LeafPtr>,
+) -> Option<[Leaf; 2]> {
+    let key = [1].to_vec(alloc).ok()?;
     let leaf = LeafNode {
-        key: [1].to_vec(rt.alloc())?,
+        key,
         value: 1,
         previous,
         next,
     };
-    let copy = leaf.clone_without_siblings()?;
-    let seen = [leaf_seen(&leaf), leaf_seen(&copy)];
-    assert_eq!(rt; seen, [(true, 1, previous, next), (true, 1, None, None)]);
-    Ok(())
+    match leaf.clone_without_siblings() {
+        Ok(copy) => Some([leaf_seen(&leaf), leaf_seen(&copy)]),
+        Err(_) => None,
+    }
+}
+
+#[test]
+fn a_leaf_is_cloned_without_siblings(rt: HostRuntime) {
+    let (previous, next) = (Some(LeafPtr::from_slot(3)), Some(LeafPtr::from_slot(4)));
+    let wanted = [(true, 1, previous, next), (true, 1, None, None)];
+    assert_eq!(rt; leaf_and_clone(rt.alloc(), previous, next), Some(wanted));
 }

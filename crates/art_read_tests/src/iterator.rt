@@ -8,11 +8,10 @@ use art_nodes::node::{OpaqueNodePtr, OptionalLeafPtr};
 use art_nodes::store::NodeStore;
 use art_operations::deallocate::{deallocate_leaves, deallocate_tree_non_leaves};
 use art_operations::iterator::RawIterator;
-use art_test_support::nodes::{count_touched, nodes_seen};
+use art_test_support::nodes::{Seen, count_touched, nodes_seen};
 use art_test_support::shapes::count_nodes;
-use art_test_support::trees::{Key, plant_all, value_of};
-use std::alloc::AllocError;
-use std::test::Fail;
+use art_test_support::trees::{Key, planted_all, value_of};
+use std::alloc::Global;
 use uses::{take_next, walk};
 
 // All leaves of a tree.
@@ -68,13 +67,27 @@ fn from_both_ends<const P: usize>(
     ]
 }
 
+// The keys of the tree of five leaves.
+const FIVE: [&[u8]; 5] = [&[1], &[2], &[3], &[4], &[5]];
+
+// The same of the tree of these keys.
+fn both_ends_of<const P: usize>(
+    store: &mut NodeStore<Key, u32, P>,
+    slices: &[&[u8]],
+) -> Option<[Option<u32>; 7]> {
+    let root = planted_all(store, slices).ok()??;
+    Some(from_both_ends(store, root))
+}
+
+// The same in a store of its own.
+fn both_ends_with(alloc: Global, slices: &[&[u8]]) -> Option<[Option<u32>; 7]> {
+    both_ends_of::<4>(&mut NodeStore::new(alloc), slices)
+}
+
 #[test]
-fn comes_from_both_ends(rt: HostRuntime) -> Result<(), Fail> {
-    let mut store: NodeStore<Key, u32, 4> = NodeStore::new(rt.alloc());
-    let root = plant_all(&mut store, &[&[1], &[2], &[3], &[4], &[5]])?;
+fn comes_from_both_ends(rt: HostRuntime) {
     let came = [Some(0), Some(4), Some(1), Some(3), Some(2), None, None];
-    assert_eq!(rt; from_both_ends(&store, root), came);
-    Ok(())
+    assert_eq!(rt; both_ends_with(rt.alloc(), &FIVE), Some(came));
 }
 
 // What comes of some leaves, from the back first.
@@ -129,13 +142,24 @@ fn from_between<const P: usize>(
     Some(from_the_back(between(store, root)?, store))
 }
 
+// The same of the tree of these keys.
+fn between_of<const P: usize>(
+    store: &mut NodeStore<Key, u32, P>,
+    slices: &[&[u8]],
+) -> Option<[Option<u32>; 4]> {
+    let root = planted_all(store, slices).ok()??;
+    from_between(store, root)
+}
+
+// The same in a store of its own.
+fn between_with(alloc: Global, slices: &[&[u8]]) -> Option<[Option<u32>; 4]> {
+    between_of::<4>(&mut NodeStore::new(alloc), slices)
+}
+
 #[test]
-fn a_part_comes_from_both_ends(rt: HostRuntime) -> Result<(), Fail> {
-    let mut store: NodeStore<Key, u32, 4> = NodeStore::new(rt.alloc());
-    let root = plant_all(&mut store, &[&[1], &[2], &[3], &[4], &[5]])?;
+fn a_part_comes_from_both_ends(rt: HostRuntime) {
     let came = [Some(3), Some(1), Some(2), None];
-    assert_eq!(rt; from_between(&store, root), Some(came));
-    Ok(())
+    assert_eq!(rt; between_with(rt.alloc(), &FIVE), Some(came));
 }
 
 // What comes of no leaf, and of all leaves of a tree.
@@ -151,45 +175,75 @@ fn from_none_and_all<const P: usize>(
     ]
 }
 
+// The same of the tree of these keys.
+fn none_and_all_of<const P: usize>(
+    store: &mut NodeStore<Key, u32, P>,
+    slices: &[&[u8]],
+) -> Option<[[Option<u32>; 4]; 2]> {
+    let root = planted_all(store, slices).ok()??;
+    Some(from_none_and_all(store, root))
+}
+
+// The same in a store of its own.
+fn none_and_all_with(alloc: Global, slices: &[&[u8]]) -> Option<[[Option<u32>; 4]; 2]> {
+    none_and_all_of::<4>(&mut NodeStore::new(alloc), slices)
+}
+
 #[test]
-fn none_or_one_leaf_comes(rt: HostRuntime) -> Result<(), Fail> {
-    let mut store: NodeStore<Key, u32, 4> = NodeStore::new(rt.alloc());
-    let root = plant_all(&mut store, &[&[1]])?;
+fn none_or_one_leaf_comes(rt: HostRuntime) {
     let came = [[None; 4], [Some(0), None, None, None]];
-    assert_eq!(rt; from_none_and_all(&store, root), came);
-    Ok(())
+    assert_eq!(rt; none_and_all_with(rt.alloc(), &[&[1]]), Some(came));
 }
 
 #[test]
-fn two_leaves_come(rt: HostRuntime) -> Result<(), Fail> {
-    let mut store: NodeStore<Key, u32, 4> = NodeStore::new(rt.alloc());
-    let root = plant_all(&mut store, &[&[1], &[2]])?;
+fn two_leaves_come(rt: HostRuntime) {
     let came = [[None; 4], [Some(1), Some(0), None, None]];
-    assert_eq!(rt; from_none_and_all(&store, root), came);
-    Ok(())
+    assert_eq!(rt; none_and_all_with(rt.alloc(), &[&[1], &[2]]), Some(came));
 }
 
-// What the freeing of the leaves between the first and the last one touches.
+// What the freeing of the leaves between the first and the last one touches of these nodes.
+fn touched_of<const P: usize>(
+    store: &mut NodeStore<Key, u32, P>,
+    root: OpaqueNodePtr,
+    before: &[Seen],
+) -> Option<(usize, usize, usize)>
+    requires { IsCanonicalRoot (λ pair. pair.0.items) P store.old root }
+{
+    let leaves = between(store, root)?;
+    deallocate_leaves(leaves, store);
+    Some(count_touched(store, before))
+}
+
+// The same of all nodes.
 fn touched_between<const P: usize>(
     store: &mut NodeStore<Key, u32, P>,
     root: OpaqueNodePtr,
-) -> Result<Option<(usize, usize, usize)>, AllocError>
+) -> Option<(usize, usize, usize)>
     requires { IsCanonicalRoot (λ pair. pair.0.items) P store.old root }
 {
-    let before = nodes_seen(store)?;
-    let Some(leaves) = between(store, root) else {
-        return Ok(None);
-    };
-    deallocate_leaves(leaves, store);
-    Ok(Some(count_touched(store, &before)))
+    match nodes_seen(store) {
+        Ok(before) => touched_of(store, root, &before),
+        Err(_) => None,
+    }
+}
+
+// The same of the tree of these keys.
+fn touched_in<const P: usize>(
+    store: &mut NodeStore<Key, u32, P>,
+    slices: &[&[u8]],
+) -> Option<(usize, usize, usize)> {
+    let root = planted_all(store, slices).ok()??;
+    touched_between(store, root)
+}
+
+// The same in a store of its own.
+fn touched_with(alloc: Global, slices: &[&[u8]]) -> Option<(usize, usize, usize)> {
+    touched_in::<4>(&mut NodeStore::new(alloc), slices)
 }
 
 #[test]
-fn a_part_is_freed_and_no_other_leaf_written(rt: HostRuntime) -> Result<(), Fail> {
-    let mut store: NodeStore<Key, u32, 4> = NodeStore::new(rt.alloc());
-    let root = plant_all(&mut store, &[&[1], &[2], &[3], &[4], &[5]])?;
-    assert_eq!(rt; touched_between(&mut store, root)?, Some((0, 3, 0)));
-    Ok(())
+fn a_part_is_freed_and_no_other_leaf_written(rt: HostRuntime) {
+    assert_eq!(rt; touched_with(rt.alloc(), &FIVE), Some((0, 3, 0)));
 }
 
 // The value of the first leaf that is left, which is freed.
@@ -220,14 +274,25 @@ fn freed_in_turn<const P: usize>(
     ]
 }
 
+// The same of the tree of these keys, and how many nodes are left.
+type Freed = ([Option<u32>; 4], (usize, usize));
+
+fn freed_of<const P: usize>(store: &mut NodeStore<Key, u32, P>, slices: &[&[u8]]) -> Option<Freed> {
+    let root = planted_all(store, slices).ok()??;
+    let came = freed_in_turn(store, root);
+    Some((came, count_nodes(store, 4)))
+}
+
+// The same in a store of its own.
+fn freed_with(alloc: Global, slices: &[&[u8]]) -> Option<Freed> {
+    freed_of::<4>(&mut NodeStore::new(alloc), slices)
+}
+
 #[test]
-fn a_leaf_that_came_may_be_freed(rt: HostRuntime) -> Result<(), Fail> {
-    let mut store: NodeStore<Key, u32, 4> = NodeStore::new(rt.alloc());
-    let root = plant_all(&mut store, &[&[1], &[2], &[3]])?;
-    let came = freed_in_turn(&mut store, root);
-    let left = count_nodes(&store, 4);
-    assert_eq!(rt; (came, left), ([Some(0), Some(1), Some(2), None], (0, 1)));
-    Ok(())
+fn a_leaf_that_came_may_be_freed(rt: HostRuntime) {
+    let freed = freed_with(rt.alloc(), &[&[1], &[2], &[3]]);
+    let came = [Some(0), Some(1), Some(2), None];
+    assert_eq!(rt; freed, Some((came, (0, 1))));
 }
 
 // Frees the leaves of a tree and then its inner nodes. Answers how many nodes there are before and after that.
@@ -260,26 +325,45 @@ fn free_inners_first<const P: usize>(
     [before, between, count_nodes(store, 40)]
 }
 
-#[test]
-fn leaves_and_then_inner_nodes_are_freed(rt: HostRuntime) -> Result<(), Fail> {
-    let mut store: NodeStore<Key, u32, 4> = NodeStore::new(rt.alloc());
-    let root = plant_all(
-        &mut store,
-        &[&[1, 1], &[1, 2], &[2], &[3, 4, 5], &[3, 4, 6]],
-    )?;
-    let counts = free_leaves_first(&mut store, root);
-    assert_eq!(rt; counts, [(5, 3), (0, 3), (0, 0)]);
-    Ok(())
+// Keys of a tree of three inner nodes.
+const THREE_INNERS: [&[u8]; 5] = [&[1, 1], &[1, 2], &[2], &[3, 4, 5], &[3, 4, 6]];
+
+// Plants the tree of these keys, and frees its leaves first.
+fn leaves_first_of<const P: usize>(
+    store: &mut NodeStore<Key, u32, P>,
+    slices: &[&[u8]],
+) -> Option<[(usize, usize); 3]> {
+    let root = planted_all(store, slices).ok()??;
+    Some(free_leaves_first(store, root))
+}
+
+// The same in a store of its own.
+fn leaves_first_with(alloc: Global, slices: &[&[u8]]) -> Option<[(usize, usize); 3]> {
+    leaves_first_of::<4>(&mut NodeStore::new(alloc), slices)
 }
 
 #[test]
-fn inner_nodes_and_then_leaves_are_freed(rt: HostRuntime) -> Result<(), Fail> {
-    let mut store: NodeStore<Key, u32, 4> = NodeStore::new(rt.alloc());
-    let root = plant_all(
-        &mut store,
-        &[&[1, 1], &[1, 2], &[2], &[3, 4, 5], &[3, 4, 6]],
-    )?;
-    let counts = free_inners_first(&mut store, root);
-    assert_eq!(rt; counts, [(5, 3), (5, 0), (0, 0)]);
-    Ok(())
+fn leaves_and_then_inner_nodes_are_freed(rt: HostRuntime) {
+    let counts = leaves_first_with(rt.alloc(), &THREE_INNERS);
+    assert_eq!(rt; counts, Some([(5, 3), (0, 3), (0, 0)]));
+}
+
+// Plants the tree of these keys, and frees its inner nodes first.
+fn inners_first_of<const P: usize>(
+    store: &mut NodeStore<Key, u32, P>,
+    slices: &[&[u8]],
+) -> Option<[(usize, usize); 3]> {
+    let root = planted_all(store, slices).ok()??;
+    Some(free_inners_first(store, root))
+}
+
+// The same in a store of its own.
+fn inners_first_with(alloc: Global, slices: &[&[u8]]) -> Option<[(usize, usize); 3]> {
+    inners_first_of::<4>(&mut NodeStore::new(alloc), slices)
+}
+
+#[test]
+fn inner_nodes_and_then_leaves_are_freed(rt: HostRuntime) {
+    let counts = inners_first_with(rt.alloc(), &THREE_INNERS);
+    assert_eq!(rt; counts, Some([(5, 3), (5, 0), (0, 0)]));
 }

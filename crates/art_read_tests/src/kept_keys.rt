@@ -1,7 +1,7 @@
 //! Keys that are told apart where they are equal: a stored one stays.
 use art_nodes::node::{AsBytes, OpaqueNodePtr};
 use art_nodes::store::NodeStore;
-use art_operations::run::{Command, Reply, run};
+use art_operations::run::{Command, Reply, RunResult, run};
 use art_test_support::tagged::Tagged;
 use std::alloc::{AllocError, Global};
 
@@ -61,15 +61,43 @@ fn is_stored(store: &NodeStore<Tagged, u32, 4>, root: OpaqueNodePtr, row: Row<'_
     Some((leaf.key.as_bytes(), leaf.key.tag, leaf.value) == row.stored)
 }
 
-// Carries the insertions of these rows out in stores of their own. Answers whether the last one is told as it is to be,
-// and leaves what is to be stored.
-fn last_seen(alloc: Global, rows: &[Row<'_>]) -> Option<(bool, bool)> {
-    let mut first: NodeStore<Tagged, u32, 4> = NodeStore::new(alloc);
-    let asked = commands(alloc, rows).ok()?;
-    let done = run(&mut first, &mut NodeStore::new(alloc), None, asked).ok()?;
-    let row = *rows.last()?;
+// Whether the last reply of a run tells what it is to tell, and the run leaves what is to be stored.
+fn last_of(
+    store: &NodeStore<Tagged, u32, 4>,
+    done: &RunResult<Tagged, u32>,
+    row: Row<'_>,
+) -> Option<(bool, bool)> {
     let told = is_told(done.replies.last()?, row);
-    Some((told, is_stored(&first, done.root?, row)?))
+    Some((told, is_stored(store, done.root?, row)?))
+}
+
+// The same of these insertions, of which this row is the last.
+fn last_after(
+    first: &mut NodeStore<Tagged, u32, 4>,
+    second: &mut NodeStore<Tagged, u32, 4>,
+    asked: Vec<Command<Tagged, u32>>,
+    row: Row<'_>,
+) -> Option<(bool, bool)> {
+    match run(first, second, None, asked) {
+        Ok(done) => last_of(first, &done, row),
+        Err(_) => None,
+    }
+}
+
+// The same of the insertions of these rows.
+fn last_in(
+    first: &mut NodeStore<Tagged, u32, 4>,
+    second: &mut NodeStore<Tagged, u32, 4>,
+    rows: &[Row<'_>],
+) -> Option<(bool, bool)> {
+    let row = *rows.last()?;
+    let asked = commands(first.alloc(), rows).ok()?;
+    last_after(first, second, asked, row)
+}
+
+// The same in stores of its own.
+fn last_seen(alloc: Global, rows: &[Row<'_>]) -> Option<(bool, bool)> {
+    last_in(&mut NodeStore::new(alloc), &mut NodeStore::new(alloc), rows)
 }
 
 #[test]

@@ -1,4 +1,5 @@
 //! Searches.
+ghost use Rattle.std.specs.Prelude.{◌<◌};
 ghost use Rattle.art_model.specs.Pairs.{of_key};
 ghost use Rattle.art_model.specs.Roots.{IsCanonicalRoot};
 
@@ -12,8 +13,8 @@ use art_operations::lookup::{
     search_visiting,
 };
 use art_operations::path::{AttemptOptimisticPrefixMatch, PessimisticMismatch};
-use art_test_support::trees::{Key, keys, keys_of_zeros, plant, plant_all, planted, value_of};
-use std::test::Fail;
+use art_test_support::trees::{Key, keys_of_zeros, planted, planted_all, value_of};
+use std::alloc::Global;
 
 // The value of the leaf that a search finds.
 fn found<K: AsBytes + Drop, const P: usize>(
@@ -80,12 +81,23 @@ fn readings<const P: usize>(
     ]
 }
 
+// Plants that tree, and reads. The second store is for the planting alone.
+fn readings_in<const P: usize>(
+    store: &mut NodeStore<Key, u32, P>,
+    second: &mut NodeStore<Key, u32, P>,
+) -> Option<[(Option<u32>, usize); 5]> {
+    let keys = keys_of_zeros(store.alloc()).ok()?;
+    let root = planted(store, second, keys).ok()??;
+    Some(readings(store, root))
+}
+
+// The same in stores of its own.
+fn readings_with(alloc: Global) -> Option<[(Option<u32>, usize); 5]> {
+    readings_in::<4>(&mut NodeStore::new(alloc), &mut NodeStore::new(alloc))
+}
+
 #[test]
-fn counts_readings(rt: HostRuntime) -> Result<(), Fail> {
-    let alloc = rt.alloc();
-    let keys = keys_of_zeros(alloc)?;
-    let mut store: NodeStore<Key, u32, 4> = NodeStore::new(alloc);
-    let root = plant(&mut store, &mut NodeStore::new(alloc), keys)?;
+fn counts_readings(rt: HostRuntime) {
     let wanted = [
         (Some(0), 2),
         (Some(11), 12),
@@ -93,8 +105,7 @@ fn counts_readings(rt: HostRuntime) -> Result<(), Fail> {
         (None, 1),
         (Some(0), 2),
     ];
-    assert_eq!(rt; readings(&store, root), wanted);
-    Ok(())
+    assert_eq!(rt; readings_with(rt.alloc()), Some(wanted));
 }
 
 // What searches of the same tree find that end at a node without a child for the next byte, and how many nodes each reads.
@@ -113,22 +124,31 @@ fn readings_without_child<const P: usize>(
     ]
 }
 
-#[test]
-fn reads_nothing_for_a_missing_child(rt: HostRuntime) -> Result<(), Fail> {
-    let alloc = rt.alloc();
-    let keys = keys_of_zeros(alloc)?;
-    let mut store: NodeStore<Key, u32, 4> = NodeStore::new(alloc);
-    let root = plant(&mut store, &mut NodeStore::new(alloc), keys)?;
-    let wanted = [(None, 1), (None, 3), (None, 11), (None, 1), (None, 2)];
-    assert_eq!(rt; readings_without_child(&store, root), wanted);
-    Ok(())
+// Plants that tree, and reads so. The second store is for the planting alone.
+fn readings_without_child_in<const P: usize>(
+    store: &mut NodeStore<Key, u32, P>,
+    second: &mut NodeStore<Key, u32, P>,
+) -> Option<[(Option<u32>, usize); 5]> {
+    let keys = keys_of_zeros(store.alloc()).ok()?;
+    let root = planted(store, second, keys).ok()??;
+    Some(readings_without_child(store, root))
 }
 
-// What searches past bytes that no node stores find.
-fn readings_past<const P: usize>(
-    store: &NodeStore<Key, u32, P>,
-    root: OpaqueNodePtr,
-) -> ([(Option<u32>, usize); 2], [Option<u32>; 2])
+// The same in stores of its own.
+fn readings_without_child_with(alloc: Global) -> Option<[(Option<u32>, usize); 5]> {
+    readings_without_child_in::<4>(&mut NodeStore::new(alloc), &mut NodeStore::new(alloc))
+}
+
+#[test]
+fn reads_nothing_for_a_missing_child(rt: HostRuntime) {
+    let wanted = [(None, 1), (None, 3), (None, 11), (None, 1), (None, 2)];
+    assert_eq!(rt; readings_without_child_with(rt.alloc()), Some(wanted));
+}
+
+// What searches past bytes that no node stores find, with how many nodes each of the first two reads.
+type Past = ([(Option<u32>, usize); 2], [Option<u32>; 2]);
+
+fn readings_past<const P: usize>(store: &NodeStore<Key, u32, P>, root: OpaqueNodePtr) -> Past
     requires { IsCanonicalRoot (of_key (λ key. key.items)) P store.now root }
 {
     (
@@ -143,13 +163,21 @@ fn readings_past<const P: usize>(
     )
 }
 
+// The same of the tree of two keys.
+fn readings_past_in<const P: usize>(store: &mut NodeStore<Key, u32, P>) -> Option<Past> {
+    let root = planted_all(store, &[&[1, 1, 1, 1, 5], &[1, 1, 1, 1, 6]]).ok()??;
+    Some(readings_past(store, root))
+}
+
+// The same in a store of its own.
+fn readings_past_with(alloc: Global) -> Option<Past> {
+    readings_past_in::<2>(&mut NodeStore::new(alloc))
+}
+
 #[test]
-fn compares_the_whole_key_after_skipped_bytes(rt: HostRuntime) -> Result<(), Fail> {
-    let mut store: NodeStore<Key, u32, 2> = NodeStore::new(rt.alloc());
-    let root = plant_all(&mut store, &[&[1, 1, 1, 1, 5], &[1, 1, 1, 1, 6]])?;
+fn compares_the_whole_key_after_skipped_bytes(rt: HostRuntime) {
     let wanted = ([(None, 2), (None, 2)], [Some(0), Some(1)]);
-    assert_eq!(rt; readings_past(&store, root), wanted);
-    Ok(())
+    assert_eq!(rt; readings_past_with(rt.alloc()), Some(wanted));
 }
 
 // The length of a node's prefix, and how many bytes of it are stored.
@@ -174,13 +202,23 @@ fn found_below<const P: usize>(
     ]
 }
 
+// The lengths of such a prefix and what is found below it.
+type Below = (Option<(usize, usize)>, [Option<u32>; 2]);
+
+fn below_in<const P: usize>(store: &mut NodeStore<Key, u32, P>) -> Option<Below> {
+    let root = planted_all(store, &[&[5, 5, 1], &[5, 5, 2]]).ok()??;
+    Some((prefix_lens(store, root), found_below(store, root)))
+}
+
+// The same in a store of its own.
+fn below_with(alloc: Global) -> Option<Below> {
+    below_in::<0>(&mut NodeStore::new(alloc))
+}
+
 #[test]
-fn finds_below_a_prefix_of_which_nothing_is_stored(rt: HostRuntime) -> Result<(), Fail> {
-    let mut store: NodeStore<Key, u32, 0> = NodeStore::new(rt.alloc());
-    let root = plant_all(&mut store, &[&[5, 5, 1], &[5, 5, 2]])?;
-    let seen = (prefix_lens(&store, root), found_below(&store, root));
-    assert_eq!(rt; seen, (Some((2, 0)), [None, Some(1)]));
-    Ok(())
+fn finds_below_a_prefix_of_which_nothing_is_stored(rt: HostRuntime) {
+    let seen = below_with(rt.alloc());
+    assert_eq!(rt; seen, Some((Some((2, 0)), [None, Some(1)])));
 }
 
 // What the same searches find in a tree whose prefixes are stored up to some length.
@@ -197,24 +235,29 @@ fn found_at<const P: usize>(store: &NodeStore<Key, u32, P>, root: OpaqueNodePtr)
 }
 
 // Plants two keys, and searches.
-fn answers_at<const P: usize>(
-    store: &mut NodeStore<Key, u32, P>,
-    second: &mut NodeStore<Key, u32, P>,
-) -> Option<[Option<u32>; 5]> {
-    let keys = keys(store.alloc(), &[&[1, 2, 3], &[1, 2, 4]]).ok()?;
-    let root = planted(store, second, keys).ok()??;
+fn answers_at<const P: usize>(store: &mut NodeStore<Key, u32, P>) -> Option<[Option<u32>; 5]> {
+    let root = planted_all(store, &[&[1, 2, 3], &[1, 2, 4]]).ok()??;
     Some(found_at(store, root))
+}
+
+// The same in a store of its own.
+fn answers_with<const P: usize>(alloc: Global) -> Option<[Option<u32>; 5]>
+    requires { P < 256 }
+{
+    answers_at::<P>(&mut NodeStore::new(alloc))
 }
 
 #[test]
 fn answers_the_same_at_every_length(rt: HostRuntime) {
     let alloc = rt.alloc();
-    let at_0 = answers_at::<0>(&mut NodeStore::new(alloc), &mut NodeStore::new(alloc));
-    let at_2 = answers_at::<2>(&mut NodeStore::new(alloc), &mut NodeStore::new(alloc));
-    let at_4 = answers_at::<4>(&mut NodeStore::new(alloc), &mut NodeStore::new(alloc));
-    let at_16 = answers_at::<16>(&mut NodeStore::new(alloc), &mut NodeStore::new(alloc));
+    let answers = [
+        answers_with::<0>(alloc),
+        answers_with::<2>(alloc),
+        answers_with::<4>(alloc),
+        answers_with::<16>(alloc),
+    ];
     let wanted = [Some(0), None, None, Some(1), None];
-    assert_eq!(rt; [at_0, at_2, at_4, at_16], [Some(wanted); 4]);
+    assert_eq!(rt; answers, [Some(wanted); 4]);
 }
 
 // What came of the comparison of a prefix, and how the next ones are to be made.
@@ -309,7 +352,6 @@ fn compares_a_leaf_from_the_depth_on_or_whole(rt: HostRuntime) {
         pessimistic.matches_leaf_key(&leaf, &[9, 9, 9], 4),
         pessimistic.matches_leaf_key(&leaf, &[9, 9], 4),
     ];
-    assert_eq!(rt; equal, [true, false, false, true, true, false]);
     let front = [
         pessimistic.leaf_key_is_prefix(&leaf, &[9, 2, 3, 4], 1),
         optimistic.leaf_key_is_prefix(&leaf, &[9, 2, 3, 4], 1),
@@ -317,5 +359,9 @@ fn compares_a_leaf_from_the_depth_on_or_whole(rt: HostRuntime) {
         optimistic.leaf_key_is_prefix(&leaf, &[1, 2], 1),
         pessimistic.leaf_key_is_prefix(&leaf, &[1, 2], 9),
     ];
-    assert_eq!(rt; front, [true, false, true, false, false]);
+    let wanted = (
+        [true, false, false, true, true, false],
+        [true, false, true, false, false],
+    );
+    assert_eq!(rt; (equal, front), wanted);
 }

@@ -6,8 +6,8 @@ use art_nodes::node::{AsBytes, NodeType, OpaqueNodePtr};
 use art_nodes::store::NodeStore;
 use art_operations::minmax::{maximum_unchecked, minimum_unchecked};
 use art_test_support::shapes::end_of_chain;
-use art_test_support::trees::{Key, keys_of_three, keys_of_zeros, plant, plant_all, value_of};
-use std::alloc::AllocError;
+use art_test_support::trees::{Key, keys_of_three, keys_of_zeros, planted, planted_all, value_of};
+use std::alloc::{AllocError, Global};
 use std::test::Fail;
 
 // The values of the first and the last leaf.
@@ -52,32 +52,72 @@ fn count_sixes<const P: usize>(
     Ok(None)
 }
 
+// The ends of a tree, and how many such nodes it has.
+type Sixes = ((Option<u32>, Option<u32>), Option<Option<usize>>);
+
+// The same of the tree of these keys. The second store is for its planting alone.
+fn sixes_in<const P: usize>(
+    store: &mut NodeStore<Key, u32, P>,
+    second: &mut NodeStore<Key, u32, P>,
+    keys: Vec<Key>,
+) -> Option<Sixes> {
+    let root = planted(store, second, keys).ok()??;
+    Some((ends(store, root), count_sixes(store, root).ok()))
+}
+
+// The same in stores of its own.
+fn sixes_with(alloc: Global, keys: Vec<Key>) -> Option<Sixes> {
+    sixes_in::<16>(&mut NodeStore::new(alloc), &mut NodeStore::new(alloc), keys)
+}
+
 #[test]
 fn finds_the_ends_of_three_levels(rt: HostRuntime) -> Result<(), Fail> {
     let alloc = rt.alloc();
-    let keys = keys_of_three(alloc, [6, 6, 6])?;
-    let mut store: NodeStore<Key, u32, 16> = NodeStore::new(alloc);
-    let root = plant(&mut store, &mut NodeStore::new(alloc), keys)?;
-    let seen = (ends(&store, root), count_sixes(&store, root).ok());
-    assert_eq!(rt; seen, ((Some(0), Some(215)), Some(Some(43))));
+    let seen = sixes_with(alloc, keys_of_three(alloc, [6, 6, 6])?);
+    assert_eq!(rt; seen, Some(((Some(0), Some(215)), Some(Some(43)))));
     Ok(())
 }
 
-#[test]
-fn a_leaf_is_both_ends(rt: HostRuntime) -> Result<(), Fail> {
-    let mut store: NodeStore<Key, u32, 16> = NodeStore::new(rt.alloc());
-    let root = plant_all(&mut store, &[&[0, 0, 0]])?;
-    assert_eq!(rt; ends(&store, root), (Some(0), Some(0)));
-    Ok(())
+// The ends of the tree of these keys.
+fn ends_of<const P: usize>(
+    store: &mut NodeStore<Key, u32, P>,
+    slices: &[&[u8]],
+) -> Option<(Option<u32>, Option<u32>)> {
+    let root = planted_all(store, slices).ok()??;
+    Some(ends(store, root))
+}
+
+// The same in a store of its own.
+fn ends_with(alloc: Global, slices: &[&[u8]]) -> Option<(Option<u32>, Option<u32>)> {
+    ends_of::<16>(&mut NodeStore::new(alloc), slices)
 }
 
 #[test]
-fn finds_the_ends_of_a_deep_tree(rt: HostRuntime) -> Result<(), Fail> {
-    let alloc = rt.alloc();
-    let keys = keys_of_zeros(alloc)?;
-    let mut store: NodeStore<Key, u32, 2> = NodeStore::new(alloc);
-    let root = plant(&mut store, &mut NodeStore::new(alloc), keys)?;
-    let seen = (ends(&store, root), end_of_chain(&store, root).is_some());
-    assert_eq!(rt; seen, ((Some(11), Some(0)), true));
-    Ok(())
+fn a_leaf_is_both_ends(rt: HostRuntime) {
+    let seen = ends_with(rt.alloc(), &[&[0, 0, 0]]);
+    assert_eq!(rt; seen, Some((Some(0), Some(0))));
+}
+
+// The ends of a tree, and whether it is a chain.
+type Chain = ((Option<u32>, Option<u32>), bool);
+
+// The same of the tree of keys of zeros. The second store is for its planting alone.
+fn chain_in<const P: usize>(
+    store: &mut NodeStore<Key, u32, P>,
+    second: &mut NodeStore<Key, u32, P>,
+) -> Option<Chain> {
+    let keys = keys_of_zeros(store.alloc()).ok()?;
+    let root = planted(store, second, keys).ok()??;
+    Some((ends(store, root), end_of_chain(store, root).is_some()))
+}
+
+// The same in stores of its own.
+fn chain_with(alloc: Global) -> Option<Chain> {
+    chain_in::<2>(&mut NodeStore::new(alloc), &mut NodeStore::new(alloc))
+}
+
+#[test]
+fn finds_the_ends_of_a_deep_tree(rt: HostRuntime) {
+    let seen = chain_with(rt.alloc());
+    assert_eq!(rt; seen, Some(((Some(11), Some(0)), true)));
 }

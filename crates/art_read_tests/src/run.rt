@@ -1,4 +1,6 @@
 //! Runs of commands.
+ghost use Rattle.std.specs.Prelude.{◌<◌};
+
 use art_nodes::node::{LeafNode, LeafPtr};
 use art_nodes::store::NodeStore;
 use art_operations::insert::InsertPrefixError;
@@ -10,7 +12,6 @@ use art_test_support::memory::all_memory;
 use art_test_support::trees::{Key, value_of};
 use std::alloc::{AllocError, Global};
 use std::boxed::BoxedSlice;
-use std::test::Fail;
 
 // What a run leaves that tells what is wanted.
 const A_TREE: Left = Left {
@@ -26,10 +27,25 @@ const NO_TREE: Left = Left {
     side: Side::First,
 };
 
-// What a run in stores of its own leaves.
+// What a run leaves.
+fn left_in<const P: usize>(
+    first: &mut NodeStore<Key, u32, P>,
+    second: &mut NodeStore<Key, u32, P>,
+    rows: &[Row<'_>],
+) -> Option<Left> {
+    ran(first, second, rows).ok()
+}
+
+// The same in stores of its own.
+fn left_at<const P: usize>(alloc: Global, rows: &[Row<'_>]) -> Option<Left>
+    requires { P < 256 }
+{
+    left_in::<P>(&mut NodeStore::new(alloc), &mut NodeStore::new(alloc), rows)
+}
+
+// The same where four bytes of a prefix are stored.
 fn left_by(alloc: Global, rows: &[Row<'_>]) -> Option<Left> {
-    let mut first: NodeStore<Key, u32, 4> = NodeStore::new(alloc);
-    ran(&mut first, &mut NodeStore::new(alloc), rows).ok()
+    left_at::<4>(alloc, rows)
 }
 
 #[test]
@@ -42,31 +58,13 @@ fn refuses_a_related_key(rt: HostRuntime) {
             Told::Conflict(&[1, 2], 12, &[1, 2]),
         ),
     ];
-    let at_0 = ran::<0>(
-        &mut NodeStore::new(alloc),
-        &mut NodeStore::new(alloc),
-        &rows,
-    )
-    .ok();
-    let at_2 = ran::<2>(
-        &mut NodeStore::new(alloc),
-        &mut NodeStore::new(alloc),
-        &rows,
-    )
-    .ok();
-    let at_4 = ran::<4>(
-        &mut NodeStore::new(alloc),
-        &mut NodeStore::new(alloc),
-        &rows,
-    )
-    .ok();
-    let at_16 = ran::<16>(
-        &mut NodeStore::new(alloc),
-        &mut NodeStore::new(alloc),
-        &rows,
-    )
-    .ok();
-    assert_eq!(rt; [at_0, at_2, at_4, at_16], [Some(A_TREE); 4]);
+    let left = [
+        left_at::<0>(alloc, &rows),
+        left_at::<2>(alloc, &rows),
+        left_at::<4>(alloc, &rows),
+        left_at::<16>(alloc, &rows),
+    ];
+    assert_eq!(rt; left, [Some(A_TREE); 4]);
 }
 
 #[test]
@@ -133,22 +131,35 @@ fn deletes_at_the_ends(rt: HostRuntime) {
     assert_eq!(rt; left_by(rt.alloc(), &rows), Some(NO_TREE));
 }
 
-// The text of the error of a key, and whether a copy of the error is equal to it.
-fn shown(alloc: Global, key: &[u8]) -> Result<(String, bool), Fail> {
-    let byte_repr = BoxedSlice::from_slice(alloc, key)?;
+// Whether an error has this text.
+fn is_shown(alloc: Global, error: &InsertPrefixError, wanted: &str) -> bool {
+    match format!(in alloc; "{error}") {
+        Ok(text) => text.as_str() == wanted,
+        Err(_) => false,
+    }
+}
+
+// Whether a copy of an error is equal to it.
+fn is_copied(error: &InsertPrefixError) -> bool {
+    match error.clone() {
+        Ok(copy) => copy == *error,
+        Err(_) => false,
+    }
+}
+
+// Whether the error of a key has this text, and a copy of it is equal to it.
+fn is_shown_and_copied(alloc: Global, key: &[u8], wanted: &str) -> Option<(bool, bool)> {
+    let byte_repr = BoxedSlice::from_slice(alloc, key).ok()?;
     let error = InsertPrefixError { byte_repr };
-    let text = format!(in alloc; "{error}")?;
-    let copy = error.clone()?;
-    Ok((text, copy == error))
+    Some((is_shown(alloc, &error, wanted), is_copied(&error)))
 }
 
 #[test]
-fn prints_and_copies_an_error(rt: HostRuntime) -> Result<(), Fail> {
-    let (text, is_copied) = shown(rt.alloc(), &[1, 2])?;
+fn prints_and_copies_an_error(rt: HostRuntime) {
     let wanted =
         "Attempted to insert a key [[1, 2]] which is either a prefix of an existing key or an existing key is a prefix of the new key.";
-    assert_eq!(rt; (text.as_str(), is_copied), (wanted, true));
-    Ok(())
+    let seen = is_shown_and_copied(rt.alloc(), &[1, 2], wanted);
+    assert_eq!(rt; seen, Some((true, true)));
 }
 
 // The value that a command is to insert.
@@ -184,31 +195,53 @@ fn place<const P: usize>(
     store.place_leaf(leaf).map_err(|refused| refused.1)
 }
 
+// How many commands come back and the value of the first, and the value of a leaf that stands beside.
+type Back = (Option<(usize, Option<u32>)>, Option<u32>);
+
+fn handed_back_beside<const P: usize>(
+    first: &mut NodeStore<Key, u32, P>,
+    second: &mut NodeStore<Key, u32, P>,
+    rows: &[Row<'_>],
+) -> Option<Back> {
+    let leaf = place(first, &[9], 90).ok()?;
+    let asked = commands(first.alloc(), rows).ok()?;
+    let back = handed_back(first, second, asked).ok()?;
+    Some((back, value_of(first, leaf)))
+}
+
+// The same in stores of its own.
+fn handed_back_with(alloc: Global, rows: &[Row<'_>]) -> Option<Back> {
+    handed_back_beside::<4>(&mut NodeStore::new(alloc), &mut NodeStore::new(alloc), rows)
+}
+
 #[test]
-fn without_memory_a_run_hands_the_commands_back(rt: HostRuntime) -> Result<(), Fail> {
-    let alloc = rt.alloc();
-    let mut first: NodeStore<Key, u32, 4> = NodeStore::new(alloc);
-    let leaf = place(&mut first, &[9], 90)?;
+fn without_memory_a_run_hands_the_commands_back(rt: HostRuntime) {
     let rows: [Row<'_>; 2] = [
         (Asked::Insert(&[1], 10), Told::Inserted(None)),
         (Asked::Delete(&[1]), Told::Deleted(Some((&[1], 10)))),
     ];
-    let asked = commands(alloc, &rows)?;
-    let back = handed_back(&mut first, &mut NodeStore::new(alloc), asked)?;
-    assert_eq!(rt;
-        (back, value_of(&first, leaf)),
-        (Some((2, Some(10))), Some(90))
-    );
-    Ok(())
+    let back = handed_back_with(rt.alloc(), &rows);
+    assert_eq!(rt; back, Some((Some((2, Some(10))), Some(90))));
+}
+
+// What a run without memory leaves.
+fn left_without_memory<const P: usize>(
+    first: &mut NodeStore<Key, u32, P>,
+    second: &mut NodeStore<Key, u32, P>,
+    rows: &[Row<'_>],
+) -> Option<Left> {
+    ran_without_memory(first, second, None, rows).ok()
+}
+
+// The same in stores of its own.
+fn left_without_memory_by(alloc: Global, rows: &[Row<'_>]) -> Option<Left> {
+    left_without_memory::<4>(&mut NodeStore::new(alloc), &mut NodeStore::new(alloc), rows)
 }
 
 #[test]
 fn without_memory_an_insertion_leaves_the_pairs(rt: HostRuntime) {
-    let alloc = rt.alloc();
     let rows: [Row<'_>; 1] = [(Asked::Insert(&[1], 10), Told::NoMemory(Some((&[1], 10))))];
-    let mut first: NodeStore<Key, u32, 4> = NodeStore::new(alloc);
-    let ran = ran_without_memory(&mut first, &mut NodeStore::new(alloc), None, &rows).ok();
-    assert_eq!(rt; ran, Some(NO_TREE));
+    assert_eq!(rt; left_without_memory_by(rt.alloc(), &rows), Some(NO_TREE));
 }
 
 // Asks commands, and then others without memory.
@@ -217,20 +250,29 @@ fn ran_in_turn<const P: usize>(
     second: &mut NodeStore<Key, u32, P>,
     rows: &[Row<'_>],
     later: &[Row<'_>],
-) -> Result<Option<(Left, Left)>, AllocError> {
-    let (before, root) = ran_from(first, second, None, rows)?;
+) -> Option<(Left, Left)> {
+    let (before, root) = ran_from(first, second, None, rows).ok()?;
     match before.side {
         Side::First => {
-            let after = ran_without_memory(first, second, root, later)?;
-            Ok(Some((before, after)))
+            let after = ran_without_memory(first, second, root, later).ok()?;
+            Some((before, after))
         }
-        Side::Second => Ok(None),
+        Side::Second => None,
     }
 }
 
+// The same in stores of its own.
+fn ran_in_turn_with(alloc: Global, rows: &[Row<'_>], later: &[Row<'_>]) -> Option<(Left, Left)> {
+    ran_in_turn::<4>(
+        &mut NodeStore::new(alloc),
+        &mut NodeStore::new(alloc),
+        rows,
+        later,
+    )
+}
+
 #[test]
-fn without_memory_a_conflict_leaves_the_pairs(rt: HostRuntime) -> Result<(), Fail> {
-    let alloc = rt.alloc();
+fn without_memory_a_conflict_leaves_the_pairs(rt: HostRuntime) {
     let stored: [Row<'_>; 1] = [(Asked::Insert(&[1], 10), Told::Inserted(None))];
     let rows: [Row<'_>; 4] = [
         (
@@ -241,8 +283,6 @@ fn without_memory_a_conflict_leaves_the_pairs(rt: HostRuntime) -> Result<(), Fai
         (Asked::Contains(&[1]), Told::Found(true)),
         (Asked::Delete(&[1]), Told::Deleted(Some((&[1], 11)))),
     ];
-    let mut first: NodeStore<Key, u32, 4> = NodeStore::new(alloc);
-    let ran = ran_in_turn(&mut first, &mut NodeStore::new(alloc), &stored, &rows)?;
+    let ran = ran_in_turn_with(rt.alloc(), &stored, &rows);
     assert_eq!(rt; ran, Some((A_TREE, NO_TREE)));
-    Ok(())
 }
