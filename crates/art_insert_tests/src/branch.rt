@@ -6,6 +6,7 @@ use art_nodes::store::NodeStore;
 use art_operations::insert::InsertParentNodeChange;
 use art_test_support::points::Insertion;
 use art_test_support::trees::{Key, child, planted_all, promise};
+use std::alloc::Global;
 use std::test::Fail;
 
 // Whether an inner node has this length of prefix, these bytes stored of it, and children under two bytes.
@@ -78,10 +79,14 @@ fn split_leaf<const P: usize>(store: &mut NodeStore<Key, u32, P>) -> Option<[Spl
     Some([seen, expected])
 }
 
+// The same in a store of its own.
+fn split_leaf_with(alloc: Global) -> Option<[Split; 2]> {
+    split_leaf::<16>(&mut NodeStore::new(alloc))
+}
+
 #[test]
 fn splits_the_root_leaf(rt: HostRuntime) -> Result<(), Fail> {
-    let found = split_leaf::<16>(&mut NodeStore::new(rt.alloc()));
-    let [seen, expected] = found.ok_or("no split")?;
+    let [seen, expected] = split_leaf_with(rt.alloc()).ok_or("no split")?;
     assert_eq!(rt; seen, expected);
     Ok(())
 }
@@ -108,10 +113,14 @@ fn split_long<const P: usize>(store: &mut NodeStore<Key, u32, P>) -> Option<[Spl
     Some([seen, expected])
 }
 
+// The same in a store of its own.
+fn split_long_with(alloc: Global) -> Option<[Split; 2]> {
+    split_long::<2>(&mut NodeStore::new(alloc))
+}
+
 #[test]
 fn splits_a_prefix_that_is_longer_than_stored(rt: HostRuntime) -> Result<(), Fail> {
-    let found = split_long::<2>(&mut NodeStore::new(rt.alloc()));
-    let [seen, expected] = found.ok_or("no split")?;
+    let [seen, expected] = split_long_with(rt.alloc()).ok_or("no split")?;
     assert_eq!(rt; seen, expected);
     Ok(())
 }
@@ -141,10 +150,14 @@ fn split_child<const P: usize>(store: &mut NodeStore<Key, u32, P>) -> Option<[Sp
     Some([seen, expected])
 }
 
+// The same in a store of its own.
+fn split_child_with(alloc: Global) -> Option<[Split; 2]> {
+    split_child::<16>(&mut NodeStore::new(alloc))
+}
+
 #[test]
 fn splits_the_prefix_of_a_child(rt: HostRuntime) -> Result<(), Fail> {
-    let found = split_child::<16>(&mut NodeStore::new(rt.alloc()));
-    let [seen, expected] = found.ok_or("no split")?;
+    let [seen, expected] = split_child_with(rt.alloc()).ok_or("no split")?;
     assert_eq!(rt; seen, expected);
     Ok(())
 }
@@ -157,10 +170,14 @@ fn is_split_without_memory<const P: usize>(store: &mut NodeStore<Key, u32, P>) -
     Some(is_branch(store, root, 2, &[1, 2], [3, 9]))
 }
 
+// The same in a store of its own.
+fn is_split_with(alloc: Global) -> Option<bool> {
+    is_split_without_memory::<16>(&mut NodeStore::new(alloc))
+}
+
 #[test]
 fn without_memory_a_reserved_split_is_made(rt: HostRuntime) {
-    let is_split = is_split_without_memory::<16>(&mut NodeStore::new(rt.alloc()));
-    assert_eq!(rt; is_split, Some(true));
+    assert_eq!(rt; is_split_with(rt.alloc()), Some(true));
 }
 
 // Asserts something where a request for memory of the insertion is refused.

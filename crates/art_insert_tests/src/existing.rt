@@ -2,12 +2,14 @@
 ghost use Rattle.art_model.specs.Pairs.{of_key};
 ghost use Rattle.art_model.specs.Roots.{IsCanonicalRoot};
 
-use crate::effect::{assert_handed_back, inserted_without_memory, insertion_of, refused_beside};
+use crate::effect::{
+    assert_handed_back, inserted_without_memory, insertion_of, planted_keys, refused_beside,
+};
 use art_nodes::node::{NodeType, OpaqueNodePtr};
 use art_nodes::store::NodeStore;
 use art_operations::insert::InsertParentNodeChange;
 use art_test_support::points::{Gone, Insertion};
-use art_test_support::trees::{Key, child, keys_after, planted, planted_all, value_of};
+use art_test_support::trees::{Key, child, keys_after, planted_all, value_of};
 use std::alloc::Global;
 use std::test::Fail;
 
@@ -86,10 +88,14 @@ fn grow_beside<const P: usize>(store: &mut NodeStore<Key, u32, P>) -> Option<[Gr
     Some([seen, expected_child(seen, root, root, 3, (1, 0, 2))?])
 }
 
+// The same in a store of its own.
+fn grow_beside_with(alloc: Global) -> Option<[Growth; 2]> {
+    grow_beside::<16>(&mut NodeStore::new(alloc))
+}
+
 #[test]
 fn adds_a_child_where_there_is_room(rt: HostRuntime) -> Result<(), Fail> {
-    let found = grow_beside::<16>(&mut NodeStore::new(rt.alloc()));
-    let [seen, expected] = found.ok_or("no child")?;
+    let [seen, expected] = grow_beside_with(rt.alloc()).ok_or("no child")?;
     assert_eq!(rt; seen, expected);
     Ok(())
 }
@@ -117,10 +123,14 @@ fn grow_root<const P: usize>(store: &mut NodeStore<Key, u32, P>) -> Option<[Grow
     Some([seen, expected_larger_root(store, root, seen)?])
 }
 
+// The same in a store of its own.
+fn grow_root_with(alloc: Global) -> Option<[Growth; 2]> {
+    grow_root::<16>(&mut NodeStore::new(alloc))
+}
+
 #[test]
 fn puts_a_larger_root_in_the_place_of_a_full_one(rt: HostRuntime) -> Result<(), Fail> {
-    let found = grow_root::<16>(&mut NodeStore::new(rt.alloc()));
-    let [seen, expected] = found.ok_or("another root")?;
+    let [seen, expected] = grow_root_with(rt.alloc()).ok_or("another root")?;
     assert_eq!(rt; seen, expected);
     Ok(())
 }
@@ -146,10 +156,14 @@ fn grow_child<const P: usize>(store: &mut NodeStore<Key, u32, P>) -> Option<[Gro
     Some([seen, expected_larger_child(store, root, seen)?])
 }
 
+// The same in a store of its own.
+fn grow_child_with(alloc: Global) -> Option<[Growth; 2]> {
+    grow_child::<16>(&mut NodeStore::new(alloc))
+}
+
 #[test]
 fn tells_the_parent_of_a_larger_child(rt: HostRuntime) -> Result<(), Fail> {
-    let found = grow_child::<16>(&mut NodeStore::new(rt.alloc()));
-    let [seen, expected] = found.ok_or("a child")?;
+    let [seen, expected] = grow_child_with(rt.alloc()).ok_or("a child")?;
     assert_eq!(rt; seen, expected);
     Ok(())
 }
@@ -157,22 +171,21 @@ fn tells_the_parent_of_a_larger_child(rt: HostRuntime) -> Result<(), Fail> {
 // What comes of the root of so many keys of one byte with one more.
 fn grown_from(alloc: Global, count: u8) -> Option<(NodeType, bool)> {
     let all = keys_after(alloc, &[], u16::from(count)).ok()?;
-    grown_in::<16>(
-        &mut NodeStore::new(alloc),
-        &mut NodeStore::new(alloc),
-        all,
-        count,
-    )
+    grown_with(alloc, all, count)
 }
 
-// The same in a store. The second one is for the planting alone.
+// The same of these keys and this byte, in a store of its own.
+fn grown_with(alloc: Global, all: Vec<Key>, byte: u8) -> Option<(NodeType, bool)> {
+    grown_in::<16>(&mut NodeStore::new(alloc), all, byte)
+}
+
+// The same in a store.
 fn grown_in<const P: usize>(
     store: &mut NodeStore<Key, u32, P>,
-    second: &mut NodeStore<Key, u32, P>,
     all: Vec<Key>,
     byte: u8,
 ) -> Option<(NodeType, bool)> {
-    let root = planted(store, second, all).ok()??;
+    let root = planted_keys(store, all)?;
     with_one_more(store, root, byte)
 }
 
@@ -227,10 +240,14 @@ fn replace_child<const P: usize>(store: &mut NodeStore<Key, u32, P>) -> Option<[
     Some([seen, expected_in_place(root, name, 1)?])
 }
 
+// The same in a store of its own.
+fn replace_child_with(alloc: Global) -> Option<[Growth; 2]> {
+    replace_child::<16>(&mut NodeStore::new(alloc))
+}
+
 #[test]
 fn hands_back_the_old_value(rt: HostRuntime) -> Result<(), Fail> {
-    let found = replace_child::<16>(&mut NodeStore::new(rt.alloc()));
-    let [seen, expected] = found.ok_or("a leaf")?;
+    let [seen, expected] = replace_child_with(rt.alloc()).ok_or("a leaf")?;
     assert_eq!(rt; seen, expected);
     Ok(())
 }
@@ -241,10 +258,14 @@ fn replace_empty<const P: usize>(store: &mut NodeStore<Key, u32, P>) -> Option<[
     Some([seen, expected_in_place(root, Some(root), 0)?])
 }
 
+// The same in a store of its own.
+fn replace_empty_with(alloc: Global) -> Option<[Growth; 2]> {
+    replace_empty::<16>(&mut NodeStore::new(alloc))
+}
+
 #[test]
 fn replaces_the_value_of_the_empty_key(rt: HostRuntime) -> Result<(), Fail> {
-    let found = replace_empty::<16>(&mut NodeStore::new(rt.alloc()));
-    let [seen, expected] = found.ok_or("a leaf")?;
+    let [seen, expected] = replace_empty_with(rt.alloc()).ok_or("a leaf")?;
     assert_eq!(rt; seen, expected);
     Ok(())
 }
@@ -256,10 +277,14 @@ fn is_replaced_without_memory<const P: usize>(store: &mut NodeStore<Key, u32, P>
     Some(is_replaced)
 }
 
+// The same in a store of its own.
+fn is_replaced_with(alloc: Global) -> Option<bool> {
+    is_replaced_without_memory::<16>(&mut NodeStore::new(alloc))
+}
+
 #[test]
 fn without_memory_a_value_is_replaced(rt: HostRuntime) {
-    let is_replaced = is_replaced_without_memory::<16>(&mut NodeStore::new(rt.alloc()));
-    assert_eq!(rt; is_replaced, Some(true));
+    assert_eq!(rt; is_replaced_with(rt.alloc()), Some(true));
 }
 
 // Asserts something where a request for memory of the insertion is refused.

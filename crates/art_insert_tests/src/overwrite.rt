@@ -2,7 +2,7 @@
 ghost use Rattle.art_model.specs.Pairs.{of_key};
 ghost use Rattle.art_model.specs.Roots.{IsCanonicalRoot};
 
-use crate::effect::assert_handed_back;
+use crate::effect::{assert_handed_back, planted_keys};
 use art_nodes::node::{OpaqueNodePtr, OptionalLeafPtr};
 use art_nodes::store::NodeStore;
 use art_operations::insert::{
@@ -16,7 +16,7 @@ use art_test_support::nodes::{Seen, count_nodes, nodes_seen};
 use art_test_support::points::{
     Gone, Insertion, Refusal, insertion_seen, prefix_insert, refused_prefix_insertion,
 };
-use art_test_support::trees::{Key, child, keys_of_three, planted, planted_all, value_of};
+use art_test_support::trees::{Key, child, keys_of_three, planted_all, value_of};
 use std::alloc::Global;
 use std::test::Fail;
 
@@ -263,19 +263,18 @@ fn gives_way_at_the_root(rt: HostRuntime) -> Result<(), Fail> {
     Ok(())
 }
 
-// What comes of the empty key in the tree of these. The second store is for its planting alone.
+// What comes of the empty key in the tree of these.
 fn overwritten_by_empty<const P: usize>(
     store: &mut NodeStore<Key, u32, P>,
-    second: &mut NodeStore<Key, u32, P>,
     all: Vec<Key>,
 ) -> Option<Outcome> {
-    let root = planted(store, second, all).ok()??;
+    let root = planted_keys(store, all)?;
     overwrite(store, root, &[], &[])
 }
 
-// The same in stores of its own.
+// The same in a store of its own.
 fn tried_by_empty(alloc: Global, all: Vec<Key>) -> Option<Outcome> {
-    overwritten_by_empty::<16>(&mut NodeStore::new(alloc), &mut NodeStore::new(alloc), all)
+    overwritten_by_empty::<16>(&mut NodeStore::new(alloc), all)
 }
 
 #[test]
@@ -497,10 +496,14 @@ fn points_found<const P: usize>(store: &mut NodeStore<Key, u32, P>) -> Option<[b
     Some(have_insert_points(store, root))
 }
 
+// The same in a store of its own.
+fn points_found_with(alloc: Global) -> Option<[bool; 4]> {
+    points_found::<2>(&mut NodeStore::new(alloc))
+}
+
 #[test]
 fn finds_the_points_of_insertions(rt: HostRuntime) {
-    let found = points_found::<2>(&mut NodeStore::new(rt.alloc()));
-    assert_eq!(rt; found, Some([true; 4]));
+    assert_eq!(rt; points_found_with(rt.alloc()), Some([true; 4]));
 }
 
 // What a prefix insertion tells: the value of the pair that gave way, and how many leaves went.
@@ -552,7 +555,17 @@ struct Texts {
     values: [Option<u32>; 3],
 }
 
-// What is told of three texts that come one after another.
+// What is to be told of abb, b and ab, of which the first two are stored before.
+const TEXTS: Texts = Texts {
+    replies: [
+        Some((Kind::Exact, (Some(0), 0))),
+        Some((Kind::Exact, (Some(1), 0))),
+        Some((Kind::Overwrite, (Some(0xAA), 0))),
+    ],
+    values: [None, Some(0xBB), Some(0xCC)],
+};
+
+// What is told of these three, one after another.
 fn told_of_texts<const P: usize>(store: &mut NodeStore<Key, u32, P>, root: OpaqueNodePtr) -> Texts
     requires { IsCanonicalRoot (of_key (λ key. key.items)) P store.old root }
 {
@@ -576,18 +589,14 @@ fn texts_told<const P: usize>(store: &mut NodeStore<Key, u32, P>) -> Option<Text
     Some(told_of_texts(store, root))
 }
 
+// The same in a store of its own.
+fn texts_told_with(alloc: Global) -> Option<Texts> {
+    texts_told::<16>(&mut NodeStore::new(alloc))
+}
+
 #[test]
 fn a_shorter_text_takes_the_place_of_a_longer_one(rt: HostRuntime) {
-    let found = texts_told::<16>(&mut NodeStore::new(rt.alloc()));
-    let expected = Texts {
-        replies: [
-            Some((Kind::Exact, (Some(0), 0))),
-            Some((Kind::Exact, (Some(1), 0))),
-            Some((Kind::Overwrite, (Some(0xAA), 0))),
-        ],
-        values: [None, Some(0xBB), Some(0xCC)],
-    };
-    assert_eq!(rt; found, Some(expected));
+    assert_eq!(rt; texts_told_with(rt.alloc()), Some(TEXTS));
 }
 
 // What a prefix insertion tells while all memory is held.
@@ -615,16 +624,21 @@ fn replaced_without_memory<const P: usize>(
     told_without_memory(store, root, key)
 }
 
+// The same in a store of its own.
+fn replaced_with(alloc: Global, key: &[u8]) -> Option<(Option<u32>, usize)> {
+    replaced_without_memory::<16>(&mut NodeStore::new(alloc), key)
+}
+
 #[test]
 fn without_memory_one_pair_is_replaced(rt: HostRuntime) {
     let keys: [&[u8]; 3] = [&[1, 2], &[1, 2, 3], &[1, 2, 3, 4]];
     for key in keys {
-        let told = replaced_without_memory::<16>(&mut NodeStore::new(rt.alloc()), key);
-        assert_eq!(rt; told, Some((Some(1), 0)));
+        assert_eq!(rt; replaced_with(rt.alloc(), key), Some((Some(1), 0)));
     }
 }
 
-// What is left of a refusal to put a key in the place of the first two of some keys, in a store that may be filled before.
+// What is left of a refusal to put a key in the place of the first two of some keys, in a store that may be filled
+// before.
 fn refused_in(alloc: Global, others: &[&[u8]], key: &[u8], is_filled: bool) -> Option<Refusal> {
     let mut store: NodeStore<Key, u32, 4> = NodeStore::new(alloc);
     let answer = refused_prefix_insertion(&mut store, others, key, is_filled);

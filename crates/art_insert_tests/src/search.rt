@@ -8,6 +8,7 @@ use art_operations::insert::{InsertKind, InsertPoint, InsertSearchError, search_
 use art_operations::path::{ExplicitMismatch, TreePath};
 use art_test_support::memory::all_memory;
 use art_test_support::trees::{Key, child, planted_all, value_of};
+use std::alloc::Global;
 use std::test::Fail;
 
 const LONG: [&[u8]; 2] = [&[7, 1, 1, 1, 1, 5], &[7, 1, 1, 1, 1, 6]];
@@ -89,10 +90,14 @@ fn read_leaf<const P: usize>(store: &mut NodeStore<Key, u32, P>) -> Option<[[Tol
     Some([told_of_long(store, root), expected])
 }
 
+// The same in a store of its own.
+fn read_leaf_with(alloc: Global) -> Option<[[Told; 3]; 2]> {
+    read_leaf::<2>(&mut NodeStore::new(alloc))
+}
+
 #[test]
 fn reads_a_leaf_for_a_long_prefix(rt: HostRuntime) -> Result<(), Fail> {
-    let found = read_leaf::<2>(&mut NodeStore::new(rt.alloc()));
-    let [told, expected] = found.ok_or("a child")?;
+    let [told, expected] = read_leaf_with(rt.alloc()).ok_or("a child")?;
     assert_eq!(rt; told, expected);
     Ok(())
 }
@@ -105,10 +110,14 @@ fn read_prefix<const P: usize>(store: &mut NodeStore<Key, u32, P>) -> Option<[[T
     Some([told_of_long(store, root), expected])
 }
 
+// The same in a store of its own.
+fn read_prefix_with(alloc: Global) -> Option<[[Told; 3]; 2]> {
+    read_prefix::<16>(&mut NodeStore::new(alloc))
+}
+
 #[test]
 fn reads_no_leaf_for_a_stored_prefix(rt: HostRuntime) -> Result<(), Fail> {
-    let found = read_prefix::<16>(&mut NodeStore::new(rt.alloc()));
-    let [told, expected] = found.ok_or("an inner root")?;
+    let [told, expected] = read_prefix_with(rt.alloc()).ok_or("an inner root")?;
     assert_eq!(rt; told, expected);
     Ok(())
 }
@@ -130,10 +139,17 @@ fn read_related<const P: usize>(store: &mut NodeStore<Key, u32, P>) -> Option<[T
     Some(told_of_related(store, root))
 }
 
+// The same in a store of its own.
+fn read_related_with(alloc: Global) -> Option<[Told; 3]> {
+    read_related::<16>(&mut NodeStore::new(alloc))
+}
+
 #[test]
 fn refuses_related_keys(rt: HostRuntime) {
-    let told = read_related::<16>(&mut NodeStore::new(rt.alloc()));
-    assert_eq!(rt; told, Some([Told::Related(true); 3]));
+    assert_eq!(rt;
+        read_related_with(rt.alloc()),
+        Some([Told::Related(true); 3])
+    );
 }
 
 // What is to be told where the root gets a child more.
@@ -148,10 +164,14 @@ fn told_beside<const P: usize>(store: &mut NodeStore<Key, u32, P>) -> Option<[To
     Some([told_of(store, root, &[3]), beside_children(root)?])
 }
 
+// The same in a store of its own.
+fn told_beside_with(alloc: Global) -> Option<[Told; 2]> {
+    told_beside::<16>(&mut NodeStore::new(alloc))
+}
+
 #[test]
 fn stands_beside_the_children_of_a_node(rt: HostRuntime) -> Result<(), Fail> {
-    let found = told_beside::<16>(&mut NodeStore::new(rt.alloc()));
-    let [told, expected] = found.ok_or("an inner root")?;
+    let [told, expected] = told_beside_with(rt.alloc()).ok_or("an inner root")?;
     assert_eq!(rt; told, expected);
     Ok(())
 }
@@ -171,10 +191,14 @@ fn told_parted<const P: usize>(store: &mut NodeStore<Key, u32, P>) -> Option<[To
     Some([told_of(store, root, &[1, 2, 9]), beside_leaf(root)?])
 }
 
+// The same in a store of its own.
+fn told_parted_with(alloc: Global) -> Option<[Told; 2]> {
+    told_parted::<16>(&mut NodeStore::new(alloc))
+}
+
 #[test]
 fn splits_a_leaf(rt: HostRuntime) -> Result<(), Fail> {
-    let found = told_parted::<16>(&mut NodeStore::new(rt.alloc()));
-    let [told, expected] = found.ok_or("a leaf")?;
+    let [told, expected] = told_parted_with(rt.alloc()).ok_or("a leaf")?;
     assert_eq!(rt; told, expected);
     Ok(())
 }
@@ -192,10 +216,14 @@ fn told_of_empty<const P: usize>(store: &mut NodeStore<Key, u32, P>) -> Option<[
     Some([told, [at_leaf(root)?, Told::Related(true)]])
 }
 
+// The same in a store of its own.
+fn told_of_empty_with(alloc: Global) -> Option<[[Told; 2]; 2]> {
+    told_of_empty::<16>(&mut NodeStore::new(alloc))
+}
+
 #[test]
 fn finds_the_leaf_of_the_empty_key(rt: HostRuntime) -> Result<(), Fail> {
-    let found = told_of_empty::<16>(&mut NodeStore::new(rt.alloc()));
-    let [told, expected] = found.ok_or("a leaf")?;
+    let [told, expected] = told_of_empty_with(rt.alloc()).ok_or("a leaf")?;
     assert_eq!(rt; told, expected);
     Ok(())
 }
@@ -290,10 +318,14 @@ fn read_below<const P: usize>(store: &mut NodeStore<Key, u32, P>) -> Option<[Bel
     compared_below(store, root)
 }
 
+// The same in a store of its own.
+fn read_below_with(alloc: Global) -> Option<[Below; 2]> {
+    read_below::<0>(&mut NodeStore::new(alloc))
+}
+
 #[test]
 fn names_parents_and_grandparents(rt: HostRuntime) -> Result<(), Fail> {
-    let found = read_below::<0>(&mut NodeStore::new(rt.alloc()));
-    let [seen, expected] = found.ok_or("other kinds of nodes")?;
+    let [seen, expected] = read_below_with(rt.alloc()).ok_or("other kinds of nodes")?;
     assert_eq!(rt; seen, expected);
     Ok(())
 }
@@ -318,8 +350,12 @@ fn told_without_memory<const P: usize>(store: &mut NodeStore<Key, u32, P>) -> Op
     Some(told)
 }
 
+// The same in a store of its own.
+fn told_with_none(alloc: Global) -> Option<[bool; 3]> {
+    told_without_memory::<2>(&mut NodeStore::new(alloc))
+}
+
 #[test]
 fn without_memory_only_a_refusal_fails(rt: HostRuntime) {
-    let told = told_without_memory::<2>(&mut NodeStore::new(rt.alloc()));
-    assert_eq!(rt; told, Some([true; 3]));
+    assert_eq!(rt; told_with_none(rt.alloc()), Some([true; 3]));
 }
