@@ -1,16 +1,12 @@
 //! Insertions that split a leaf or a prefix.
-ghost use Rattle.art_model.specs.Pairs.{of_key};
-ghost use Rattle.art_model.specs.Roots.{IsCanonicalRoot};
 
+use crate::effect::{assert_handed_back, inserted_without_memory, insertion_of, refused_beside};
 use art_nodes::node::{NodeType, OpaqueNodePtr};
 use art_nodes::store::NodeStore;
 use art_operations::insert::InsertParentNodeChange;
-use art_test_support::memory::all_memory;
-use art_test_support::nodes::plant_seen;
-use art_test_support::points::{
-    HANDED_BACK, Insertion, insert, inserted, insertion_seen, refused_insertion,
-};
-use art_test_support::trees::{Key, child, plant_all, promise};
+use art_test_support::points::Insertion;
+use art_test_support::trees::{Key, child, planted_all, promise};
+use std::alloc::Global;
 use std::test::Fail;
 
 // Whether an inner node has this length of prefix, these bytes stored of it, and children under two bytes.
@@ -31,7 +27,8 @@ fn is_branch<const P: usize>(
         && node.prefix_len() == len
         && node.read_prefix() == stored
         && node.num_children() == 2
-        && bytes.iter().all(|byte| node.lookup_child(*byte).is_some())
+        && child(store, name, bytes[0]).is_some()
+        && child(store, name, bytes[1]).is_some()
 }
 
 // Plants a tree of some keys and inserts one. Answers the old root, what it had under a byte, and what the
@@ -41,11 +38,10 @@ fn branch<const P: usize>(
     slices: &[&[u8]],
     byte: u8,
     key: &[u8],
-) -> Result<(OpaqueNodePtr, Option<OpaqueNodePtr>, Insertion), Fail> {
-    let (root, before) = plant_seen(store, slices)?;
+) -> Option<(OpaqueNodePtr, Option<OpaqueNodePtr>, Insertion)> {
+    let root = planted_all(store, slices).ok()??;
     let old = child(store, root, byte);
-    let done = inserted(store, root, key.to_vec(store.alloc())?)?;
-    Ok((root, old, insertion_seen(store, &before, &done, key)))
+    Some((root, old, insertion_of(store, root, key)?))
 }
 
 // What is seen of a split.
@@ -59,9 +55,9 @@ struct Split {
 }
 
 // Splits the leaf of [1, 2, 3, 4]. Answers what is seen, and what is to be.
-fn split_leaf<const P: usize>(store: &mut NodeStore<Key, u32, P>) -> Result<[Split; 2], Fail> {
+fn split_leaf<const P: usize>(store: &mut NodeStore<Key, u32, P>) -> Option<[Split; 2]> {
     let (root, _, done) = branch(store, &[&[1, 2, 3, 4]], 3, &[1, 2, 9])?;
-    let parent = done.new_root.as_inner().ok_or("an inner node")?;
+    let parent = done.new_root.as_inner()?;
     let seen = Split {
         done,
         is_made: is_branch(store, done.new_root, 2, &[1, 2], [3, 9]),
@@ -80,19 +76,23 @@ fn split_leaf<const P: usize>(store: &mut NodeStore<Key, u32, P>) -> Result<[Spl
         is_made: true,
         found: Some(root),
     };
-    Ok([seen, expected])
+    Some([seen, expected])
+}
+
+// The same in a store of its own.
+fn split_leaf_with(alloc: Global) -> Option<[Split; 2]> {
+    split_leaf::<16>(&mut NodeStore::new(alloc))
 }
 
 #[test]
 fn splits_the_root_leaf(rt: HostRuntime) -> Result<(), Fail> {
-    let mut store: NodeStore<Key, u32, 16> = NodeStore::new(rt.alloc());
-    let [seen, expected] = split_leaf(&mut store)?;
+    let [seen, expected] = split_leaf_with(rt.alloc()).ok_or("no split")?;
     assert_eq!(rt; seen, expected);
     Ok(())
 }
 
 // The same for a prefix of which two bytes are stored, after three bytes.
-fn split_long<const P: usize>(store: &mut NodeStore<Key, u32, P>) -> Result<[Split; 2], Fail> {
+fn split_long<const P: usize>(store: &mut NodeStore<Key, u32, P>) -> Option<[Split; 2]> {
     let slices: [&[u8]; 2] = [&[7, 1, 1, 1, 1, 5], &[7, 1, 1, 1, 1, 6]];
     let (root, _, done) = branch(store, &slices, 5, &[7, 1, 1, 9])?;
     let is_made = is_branch(store, done.new_root, 3, &[7, 1], [1, 9])
@@ -110,23 +110,27 @@ fn split_long<const P: usize>(store: &mut NodeStore<Key, u32, P>) -> Result<[Spl
         is_made: true,
         found: Some(root),
     };
-    Ok([seen, expected])
+    Some([seen, expected])
+}
+
+// The same in a store of its own.
+fn split_long_with(alloc: Global) -> Option<[Split; 2]> {
+    split_long::<2>(&mut NodeStore::new(alloc))
 }
 
 #[test]
 fn splits_a_prefix_that_is_longer_than_stored(rt: HostRuntime) -> Result<(), Fail> {
-    let mut store: NodeStore<Key, u32, 2> = NodeStore::new(rt.alloc());
-    let [seen, expected] = split_long(&mut store)?;
+    let [seen, expected] = split_long_with(rt.alloc()).ok_or("no split")?;
     assert_eq!(rt; seen, expected);
     Ok(())
 }
 
 // The same for the prefix of the node at [1], after one byte. The node is below the new one then.
-fn split_child<const P: usize>(store: &mut NodeStore<Key, u32, P>) -> Result<[Split; 2], Fail> {
+fn split_child<const P: usize>(store: &mut NodeStore<Key, u32, P>) -> Option<[Split; 2]> {
     let slices: [&[u8]; 4] = [&[0], &[1, 1, 1, 5], &[1, 1, 1, 6], &[2]];
     let (root, below, done) = branch(store, &slices, 1, &[1, 1, 9])?;
-    let old = below.ok_or("a child")?;
-    let parent = child(store, root, 1).ok_or("a child")?;
+    let old = below?;
+    let parent = child(store, root, 1)?;
     let is_made = is_branch(store, parent, 1, &[1], [1, 9])
         && is_branch(store, old, 0, &[], [5, 6]);
     let seen = Split {
@@ -143,51 +147,45 @@ fn split_child<const P: usize>(store: &mut NodeStore<Key, u32, P>) -> Result<[Sp
         is_made: true,
         found: below,
     };
-    Ok([seen, expected])
+    Some([seen, expected])
+}
+
+// The same in a store of its own.
+fn split_child_with(alloc: Global) -> Option<[Split; 2]> {
+    split_child::<16>(&mut NodeStore::new(alloc))
 }
 
 #[test]
 fn splits_the_prefix_of_a_child(rt: HostRuntime) -> Result<(), Fail> {
-    let mut store: NodeStore<Key, u32, 16> = NodeStore::new(rt.alloc());
-    let [seen, expected] = split_child(&mut store)?;
+    let [seen, expected] = split_child_with(rt.alloc()).ok_or("no split")?;
     assert_eq!(rt; seen, expected);
     Ok(())
 }
 
 // Whether [1, 2, 9] comes in beside [1, 2, 3, 4] while all memory is held but for the nodes that it needs.
-fn is_split_without_memory<const P: usize>(
-    store: &mut NodeStore<Key, u32, P>,
-    root: OpaqueNodePtr,
-) -> Result<bool, Fail>
-    requires { IsCanonicalRoot (of_key (λ key. key.items)) P store.old root }
-{
-    let alloc = store.alloc();
-    promise(store, root, 1, NodeType::Node4)?;
-    let key = [1, 2, 9].to_vec(alloc)?;
-    let held = all_memory(alloc)?;
-    let (root, done) = insert(store, root, key, 1);
-    drop(held);
-    Ok(matches!(done, Some(Ok(_))) && is_branch(store, root, 2, &[1, 2], [3, 9]))
+fn is_split_without_memory<const P: usize>(store: &mut NodeStore<Key, u32, P>) -> Option<bool> {
+    let root = planted_all(store, &[&[1, 2, 3, 4]]).ok()??;
+    promise(store, root, 1, NodeType::Node4).ok()?;
+    let (root, _) = inserted_without_memory(store, root, &[1, 2, 9], 1)?;
+    Some(is_branch(store, root, 2, &[1, 2], [3, 9]))
+}
+
+// The same in a store of its own.
+fn is_split_with(alloc: Global) -> Option<bool> {
+    is_split_without_memory::<16>(&mut NodeStore::new(alloc))
 }
 
 #[test]
-fn without_memory_a_reserved_split_is_made(rt: HostRuntime) -> Result<(), Fail> {
-    let mut store: NodeStore<Key, u32, 16> = NodeStore::new(rt.alloc());
-    let root = plant_all(&mut store, &[&[1, 2, 3, 4]])?;
-    assert!(rt; is_split_without_memory(&mut store, root)?);
-    Ok(())
+fn without_memory_a_reserved_split_is_made(rt: HostRuntime) {
+    assert_eq!(rt; is_split_with(rt.alloc()), Some(true));
 }
 
 // Asserts something where a request for memory of the insertion is refused.
 #[test]
 fn refused_splits_hand_the_pair_back(rt: HostRuntime) -> Result<(), Fail> {
     let keys: [&[u8]; 4] = [&[255], &[0, 255], &[0, 0, 255], &[0, 0, 0, 255]];
-    for is_filled in [false, true] {
-        let store: NodeStore<Key, u32, 4> = NodeStore::new(rt.alloc());
-        if let Ok(Some(refusal)) = refused_insertion(store, &keys, is_filled) {
-            assert_eq!(rt; refusal, HANDED_BACK);
-            println!(rt; "asserted")?;
-        }
+    for refusal in refused_beside::<4>(rt.alloc(), &keys) {
+        assert_handed_back(&rt, refusal)?;
     }
     Ok(())
 }
@@ -196,12 +194,8 @@ fn refused_splits_hand_the_pair_back(rt: HostRuntime) -> Result<(), Fail> {
 #[test]
 fn refused_splits_of_a_prefix_hand_the_pair_back(rt: HostRuntime) -> Result<(), Fail> {
     let keys: [&[u8]; 3] = [&[7, 1, 1, 1, 1, 5], &[7, 1, 1, 1, 1, 6], &[7, 1, 1, 9]];
-    for is_filled in [false, true] {
-        let store: NodeStore<Key, u32, 2> = NodeStore::new(rt.alloc());
-        if let Ok(Some(refusal)) = refused_insertion(store, &keys, is_filled) {
-            assert_eq!(rt; refusal, HANDED_BACK);
-            println!(rt; "asserted")?;
-        }
+    for refusal in refused_beside::<2>(rt.alloc(), &keys) {
+        assert_handed_back(&rt, refusal)?;
     }
     Ok(())
 }

@@ -2,15 +2,14 @@
 ghost use Rattle.art_model.specs.Pairs.{of_key};
 ghost use Rattle.art_model.specs.Roots.{IsCanonicalRoot};
 
+use crate::effect::{
+    assert_handed_back, inserted_without_memory, insertion_of, planted_keys, refused_beside,
+};
 use art_nodes::node::{NodeType, OpaqueNodePtr};
 use art_nodes::store::NodeStore;
 use art_operations::insert::InsertParentNodeChange;
-use art_test_support::memory::all_memory;
-use art_test_support::nodes::plant_seen;
-use art_test_support::points::{
-    Gone, HANDED_BACK, Insertion, insert, inserted, insertion_seen, refused_insertion,
-};
-use art_test_support::trees::{Key, child, keys_after, plant_all, plant_keys, value_of};
+use art_test_support::points::{Gone, Insertion};
+use art_test_support::trees::{Key, child, keys_after, planted_all, value_of};
 use std::alloc::Global;
 use std::test::Fail;
 
@@ -51,12 +50,11 @@ fn grow<const P: usize>(
     store: &mut NodeStore<Key, u32, P>,
     slices: &[&[u8]],
     key: &[u8],
-) -> Result<(OpaqueNodePtr, Option<OpaqueNodePtr>, Growth), Fail> {
-    let (root, before) = plant_seen(store, slices)?;
+) -> Option<(OpaqueNodePtr, Option<OpaqueNodePtr>, Growth)> {
+    let root = planted_all(store, slices).ok()??;
     let old = key.last().and_then(|byte| child(store, root, *byte));
-    let done = inserted(store, root, key.to_vec(store.alloc())?)?;
-    let seen = insertion_seen(store, &before, &done, key);
-    Ok((root, old, growth_seen(store, seen)))
+    let done = insertion_of(store, root, key)?;
+    Some((root, old, growth_seen(store, done)))
 }
 
 // What is to come of a key that becomes a child of an inner node.
@@ -84,12 +82,21 @@ fn expected_child(
     })
 }
 
+// Inserts a third key of one byte. Answers what is seen, and what is to be.
+fn grow_beside<const P: usize>(store: &mut NodeStore<Key, u32, P>) -> Option<[Growth; 2]> {
+    let (root, _, seen) = grow(store, &[&[1], &[2]], &[3])?;
+    Some([seen, expected_child(seen, root, root, 3, (1, 0, 2))?])
+}
+
+// The same in a store of its own.
+fn grow_beside_with(alloc: Global) -> Option<[Growth; 2]> {
+    grow_beside::<16>(&mut NodeStore::new(alloc))
+}
+
 #[test]
 fn adds_a_child_where_there_is_room(rt: HostRuntime) -> Result<(), Fail> {
-    let mut store: NodeStore<Key, u32, 16> = NodeStore::new(rt.alloc());
-    let (root, _, seen) = grow(&mut store, &[&[1], &[2]], &[3])?;
-    let expected = expected_child(seen, root, root, 3, (1, 0, 2));
-    assert_eq!(rt; Some(seen), expected);
+    let [seen, expected] = grow_beside_with(rt.alloc()).ok_or("no child")?;
+    assert_eq!(rt; seen, expected);
     Ok(())
 }
 
@@ -111,16 +118,19 @@ fn expected_larger_root<const P: usize>(
 }
 
 // Inserts a fifth key of one byte. Answers what is seen, and what is to be.
-fn grow_root<const P: usize>(store: &mut NodeStore<Key, u32, P>) -> Result<[Growth; 2], Fail> {
+fn grow_root<const P: usize>(store: &mut NodeStore<Key, u32, P>) -> Option<[Growth; 2]> {
     let (root, _, seen) = grow(store, &[&[1], &[2], &[3], &[4]], &[5])?;
-    let expected = expected_larger_root(store, root, seen).ok_or("another root")?;
-    Ok([seen, expected])
+    Some([seen, expected_larger_root(store, root, seen)?])
+}
+
+// The same in a store of its own.
+fn grow_root_with(alloc: Global) -> Option<[Growth; 2]> {
+    grow_root::<16>(&mut NodeStore::new(alloc))
 }
 
 #[test]
 fn puts_a_larger_root_in_the_place_of_a_full_one(rt: HostRuntime) -> Result<(), Fail> {
-    let mut store: NodeStore<Key, u32, 16> = NodeStore::new(rt.alloc());
-    let [seen, expected] = grow_root(&mut store)?;
+    let [seen, expected] = grow_root_with(rt.alloc()).ok_or("another root")?;
     assert_eq!(rt; seen, expected);
     Ok(())
 }
@@ -140,27 +150,43 @@ fn expected_larger_child<const P: usize>(
 }
 
 // The same for a fifth key below [1].
-fn grow_child<const P: usize>(store: &mut NodeStore<Key, u32, P>) -> Result<[Growth; 2], Fail> {
+fn grow_child<const P: usize>(store: &mut NodeStore<Key, u32, P>) -> Option<[Growth; 2]> {
     let slices: [&[u8]; 6] = [&[0], &[1, 1], &[1, 2], &[1, 4], &[1, 5], &[2]];
     let (root, _, seen) = grow(store, &slices, &[1, 3])?;
-    let expected = expected_larger_child(store, root, seen).ok_or("a child")?;
-    Ok([seen, expected])
+    Some([seen, expected_larger_child(store, root, seen)?])
+}
+
+// The same in a store of its own.
+fn grow_child_with(alloc: Global) -> Option<[Growth; 2]> {
+    grow_child::<16>(&mut NodeStore::new(alloc))
 }
 
 #[test]
 fn tells_the_parent_of_a_larger_child(rt: HostRuntime) -> Result<(), Fail> {
-    let mut store: NodeStore<Key, u32, 16> = NodeStore::new(rt.alloc());
-    let [seen, expected] = grow_child(&mut store)?;
+    let [seen, expected] = grow_child_with(rt.alloc()).ok_or("a child")?;
     assert_eq!(rt; seen, expected);
     Ok(())
 }
 
 // What comes of the root of so many keys of one byte with one more.
-fn grown_from(alloc: Global, count: u8) -> Result<(NodeType, bool), Fail> {
-    let all = keys_after(alloc, &[], u16::from(count))?;
-    let mut store: NodeStore<Key, u32, 16> = NodeStore::new(alloc);
-    let root = plant_keys(&mut store, all)?;
-    with_one_more(&mut store, root, count)
+fn grown_from(alloc: Global, count: u8) -> Option<(NodeType, bool)> {
+    let all = keys_after(alloc, &[], u16::from(count)).ok()?;
+    grown_with(alloc, all, count)
+}
+
+// The same of these keys and this byte, in a store of its own.
+fn grown_with(alloc: Global, all: Vec<Key>, byte: u8) -> Option<(NodeType, bool)> {
+    grown_in::<16>(&mut NodeStore::new(alloc), all, byte)
+}
+
+// The same in a store.
+fn grown_in<const P: usize>(
+    store: &mut NodeStore<Key, u32, P>,
+    all: Vec<Key>,
+    byte: u8,
+) -> Option<(NodeType, bool)> {
+    let root = planted_keys(store, all)?;
+    with_one_more(store, root, byte)
 }
 
 // The kind of the root once it has one key of one byte more, and whether it has that key's leaf.
@@ -168,22 +194,19 @@ fn with_one_more<const P: usize>(
     store: &mut NodeStore<Key, u32, P>,
     root: OpaqueNodePtr,
     byte: u8,
-) -> Result<(NodeType, bool), Fail>
+) -> Option<(NodeType, bool)>
     requires { IsCanonicalRoot (of_key (λ key. key.items)) P store.old root }
 {
-    let key = [byte].to_vec(store.alloc())?;
-    let done = inserted(store, root, key)?;
+    let done = insertion_of(store, root, &[byte])?;
     let found = child(store, done.new_root, byte);
-    let is_there = found == Some(done.leaf_node_ptr.to_opaque());
-    Ok((done.new_root.kind, is_there))
+    Some((done.new_root.kind, found == Some(done.leaf.to_opaque())))
 }
 
 #[test]
-fn grows_to_each_kind(rt: HostRuntime) -> Result<(), Fail> {
+fn grows_to_each_kind(rt: HostRuntime) {
     for (count, kind) in [(16u8, NodeType::Node48), (48, NodeType::Node256)] {
-        assert_eq!(rt; grown_from(rt.alloc(), count)?, (kind, true));
+        assert_eq!(rt; grown_from(rt.alloc(), count), Some((kind, true)));
     }
-    Ok(())
 }
 
 // What is to come of a stored key, by the name of its leaf and the old value.
@@ -212,72 +235,64 @@ fn expected_in_place(
 }
 
 // Inserts a key that is stored below the root.
-fn replace_child<const P: usize>(store: &mut NodeStore<Key, u32, P>) -> Result<[Growth; 2], Fail> {
+fn replace_child<const P: usize>(store: &mut NodeStore<Key, u32, P>) -> Option<[Growth; 2]> {
     let (root, name, seen) = grow(store, &[&[1, 1], &[1, 2]], &[1, 2])?;
-    Ok([seen, expected_in_place(root, name, 1).ok_or("a leaf")?])
+    Some([seen, expected_in_place(root, name, 1)?])
+}
+
+// The same in a store of its own.
+fn replace_child_with(alloc: Global) -> Option<[Growth; 2]> {
+    replace_child::<16>(&mut NodeStore::new(alloc))
 }
 
 #[test]
 fn hands_back_the_old_value(rt: HostRuntime) -> Result<(), Fail> {
-    let mut store: NodeStore<Key, u32, 16> = NodeStore::new(rt.alloc());
-    let [seen, expected] = replace_child(&mut store)?;
+    let [seen, expected] = replace_child_with(rt.alloc()).ok_or("a leaf")?;
     assert_eq!(rt; seen, expected);
     Ok(())
 }
 
 // Inserts the empty key where it is the only one.
-fn replace_empty<const P: usize>(store: &mut NodeStore<Key, u32, P>) -> Result<[Growth; 2], Fail> {
+fn replace_empty<const P: usize>(store: &mut NodeStore<Key, u32, P>) -> Option<[Growth; 2]> {
     let (root, _, seen) = grow(store, &[&[]], &[])?;
-    Ok([
-        seen,
-        expected_in_place(root, Some(root), 0).ok_or("a leaf")?,
-    ])
+    Some([seen, expected_in_place(root, Some(root), 0)?])
+}
+
+// The same in a store of its own.
+fn replace_empty_with(alloc: Global) -> Option<[Growth; 2]> {
+    replace_empty::<16>(&mut NodeStore::new(alloc))
 }
 
 #[test]
 fn replaces_the_value_of_the_empty_key(rt: HostRuntime) -> Result<(), Fail> {
-    let mut store: NodeStore<Key, u32, 16> = NodeStore::new(rt.alloc());
-    let [seen, expected] = replace_empty(&mut store)?;
+    let [seen, expected] = replace_empty_with(rt.alloc()).ok_or("a leaf")?;
     assert_eq!(rt; seen, expected);
     Ok(())
 }
 
 // Whether [1, 2] gets another value, while all memory is held.
-fn is_replaced_without_memory<const P: usize>(
-    store: &mut NodeStore<Key, u32, P>,
-    root: OpaqueNodePtr,
-) -> Result<bool, Fail>
-    requires { IsCanonicalRoot (of_key (λ key. key.items)) P store.old root }
-{
-    let alloc = store.alloc();
-    let key = [1, 2].to_vec(alloc)?;
-    let held = all_memory(alloc)?;
-    let done = insert(store, root, key, 2).1;
-    drop(held);
-    match done {
-        Some(Ok(done)) => Ok(done.existing_leaf.is_some()),
-        _ => Ok(false),
-    }
+fn is_replaced_without_memory<const P: usize>(store: &mut NodeStore<Key, u32, P>) -> Option<bool> {
+    let root = planted_all(store, &[&[1, 2]]).ok()??;
+    let (_, is_replaced) = inserted_without_memory(store, root, &[1, 2], 2)?;
+    Some(is_replaced)
+}
+
+// The same in a store of its own.
+fn is_replaced_with(alloc: Global) -> Option<bool> {
+    is_replaced_without_memory::<16>(&mut NodeStore::new(alloc))
 }
 
 #[test]
-fn without_memory_a_value_is_replaced(rt: HostRuntime) -> Result<(), Fail> {
-    let mut store: NodeStore<Key, u32, 16> = NodeStore::new(rt.alloc());
-    let root = plant_all(&mut store, &[&[1, 2]])?;
-    assert!(rt; is_replaced_without_memory(&mut store, root)?);
-    Ok(())
+fn without_memory_a_value_is_replaced(rt: HostRuntime) {
+    assert_eq!(rt; is_replaced_with(rt.alloc()), Some(true));
 }
 
 // Asserts something where a request for memory of the insertion is refused.
 #[test]
 fn refused_children_hand_the_pair_back(rt: HostRuntime) -> Result<(), Fail> {
     let keys: [&[u8]; 3] = [&[1], &[2], &[3]];
-    for is_filled in [false, true] {
-        let store: NodeStore<Key, u32, 4> = NodeStore::new(rt.alloc());
-        if let Ok(Some(refusal)) = refused_insertion(store, &keys, is_filled) {
-            assert_eq!(rt; refusal, HANDED_BACK);
-            println!(rt; "asserted")?;
-        }
+    for refusal in refused_beside::<4>(rt.alloc(), &keys) {
+        assert_handed_back(&rt, refusal)?;
     }
     Ok(())
 }
@@ -286,12 +301,8 @@ fn refused_children_hand_the_pair_back(rt: HostRuntime) -> Result<(), Fail> {
 #[test]
 fn refused_growths_hand_the_pair_back(rt: HostRuntime) -> Result<(), Fail> {
     let keys: [&[u8]; 5] = [&[1], &[2], &[3], &[4], &[5]];
-    for is_filled in [false, true] {
-        let store: NodeStore<Key, u32, 4> = NodeStore::new(rt.alloc());
-        if let Ok(Some(refusal)) = refused_insertion(store, &keys, is_filled) {
-            assert_eq!(rt; refusal, HANDED_BACK);
-            println!(rt; "asserted")?;
-        }
+    for refusal in refused_beside::<4>(rt.alloc(), &keys) {
+        assert_handed_back(&rt, refusal)?;
     }
     Ok(())
 }

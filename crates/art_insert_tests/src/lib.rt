@@ -4,6 +4,8 @@
 #[cfg(test)]
 mod branch;
 #[cfg(test)]
+mod effect;
+#[cfg(test)]
 mod existing;
 #[cfg(test)]
 mod overwrite;

@@ -2,6 +2,7 @@
 ghost use Rattle.art_model.specs.Pairs.{of_key};
 ghost use Rattle.art_model.specs.Roots.{IsCanonicalRoot};
 
+use crate::effect::{assert_handed_back, planted_keys};
 use art_nodes::node::{OpaqueNodePtr, OptionalLeafPtr};
 use art_nodes::store::NodeStore;
 use art_operations::insert::{
@@ -11,13 +12,12 @@ use art_operations::insert::{
 use art_operations::lookup::search_unchecked;
 use art_operations::path::TreePath;
 use art_test_support::memory::all_memory;
-use art_test_support::nodes::{Seen, count_nodes, nodes_seen, plant_seen};
+use art_test_support::nodes::{Seen, count_nodes, nodes_seen};
 use art_test_support::points::{
-    Gone, HANDED_BACK, Insertion, Refusal, insertion_seen, prefix_insert, refused_prefix_insertion,
+    Gone, Insertion, Refusal, insertion_seen, prefix_insert, refused_prefix_insertion,
 };
-use art_test_support::trees::{Key, child, keys_of_three, plant_all, plant_keys, value_of};
-use std::alloc::{AllocError, Global};
-use std::process::Abort;
+use art_test_support::trees::{Key, child, keys_of_three, planted_all, value_of};
+use std::alloc::Global;
 use std::test::Fail;
 
 // The root before a prefix insertion, what it had under the key's first byte, and what the insertion did.
@@ -57,41 +57,78 @@ fn after_insertion<const P: usize>(
     })
 }
 
-// Plants a tree of some keys, each with its place as its value, and puts a key with the value 9 in the place of all
-// related ones. A pair that gives way is to have the key `old`.
-fn overwritten<const P: usize>(
-    store: &mut NodeStore<Key, u32, P>,
-    slices: &[&[u8]],
-    key: &[u8],
-    old: &[u8],
-) -> Result<Outcome, Fail> {
-    let (root, before) = plant_seen(store, slices)?;
-    Ok(overwrite(store, root, &before, key, old)?)
-}
-
-// The same in a tree that is there.
-fn overwrite<const P: usize>(
+// Puts a key with the value 9 in the place of all related ones, where the store had these nodes. Answers what that did,
+// and how many leaves went.
+fn applied<const P: usize>(
     store: &mut NodeStore<Key, u32, P>,
     root: OpaqueNodePtr,
     before: &[Seen],
     key: &[u8],
     old: &[u8],
-) -> Result<Outcome, Fail>
+) -> Option<(Insertion, usize)>
+    requires { IsCanonicalRoot (of_key (λ key. key.items)) P store.old root }
+{
+    let copy = key.to_vec(store.alloc()).ok()?;
+    match prefix_insert(store, root, copy, 9).1 {
+        Ok(done) => {
+            let seen = insertion_seen(store, before, &done.insert_result, old);
+            Some((seen, done.leafs_removed))
+        }
+        Err(_) => None,
+    }
+}
+
+// The same in a tree that is there.
+fn applied_in<const P: usize>(
+    store: &mut NodeStore<Key, u32, P>,
+    root: OpaqueNodePtr,
+    key: &[u8],
+    old: &[u8],
+) -> Option<(Insertion, usize)>
+    requires { IsCanonicalRoot (of_key (λ key. key.items)) P store.old root }
+{
+    match nodes_seen(store) {
+        Ok(before) => applied(store, root, &before, key, old),
+        Err(_) => None,
+    }
+}
+
+// The same, with what was there and what there is. A pair that gives way is to have the key `old`.
+fn overwrite<const P: usize>(
+    store: &mut NodeStore<Key, u32, P>,
+    root: OpaqueNodePtr,
+    key: &[u8],
+    old: &[u8],
+) -> Option<Outcome>
     requires { IsCanonicalRoot (of_key (λ key. key.items)) P store.old root }
 {
     let below = key.first().and_then(|byte| child(store, root, *byte));
     let point = search_for_prefix_insert_point(store, root, key);
-    let answer = prefix_insert(store, root, key.to_vec(store.alloc())?, 9).1;
-    let applied = answer.ok().ok_or("memory")?;
-    let done = insertion_seen(store, before, &applied.insert_result, old);
-    Ok(Outcome {
+    let (done, removed) = applied_in(store, root, key, old)?;
+    Some(Outcome {
         root,
         below,
         point,
         done,
-        removed: applied.leafs_removed,
-        after: after_insertion(store, done, key).ok_or("the leaf")?,
+        removed,
+        after: after_insertion(store, done, key)?,
     })
+}
+
+// The same in the tree of some keys, each with its place as its value.
+fn overwritten<const P: usize>(
+    store: &mut NodeStore<Key, u32, P>,
+    slices: &[&[u8]],
+    key: &[u8],
+    old: &[u8],
+) -> Option<Outcome> {
+    let root = planted_all(store, slices).ok()??;
+    overwrite(store, root, key, old)
+}
+
+// The same in a store of its own.
+fn tried(alloc: Global, slices: &[&[u8]], key: &[u8], old: &[u8]) -> Option<Outcome> {
+    overwritten::<16>(&mut NodeStore::new(alloc), slices, key, old)
 }
 
 // The point of a key that takes the place of the root.
@@ -156,18 +193,9 @@ fn expected_below(seen: Outcome, case: Case<'_>) -> Option<Outcome> {
 }
 
 // What comes of such a key, and what is to come.
-fn overwrite_below<const P: usize>(
-    store: &mut NodeStore<Key, u32, P>,
-    case: Case<'_>,
-) -> Result<[Outcome; 2], Fail> {
-    let seen = overwritten(store, case.slices, case.key, &[])?;
-    Ok([seen, expected_below(seen, case).ok_or("an inner root")?])
-}
-
-// The same in a store of its own.
-fn tried_below(alloc: Global, case: Case<'_>) -> Result<[Outcome; 2], Fail> {
-    let mut store: NodeStore<Key, u32, 16> = NodeStore::new(alloc);
-    overwrite_below(&mut store, case)
+fn tried_below(alloc: Global, case: Case<'_>) -> Option<[Outcome; 2]> {
+    let seen = tried(alloc, case.slices, case.key, &[])?;
+    Some([seen, expected_below(seen, case)?])
 }
 
 #[test]
@@ -197,7 +225,7 @@ fn gives_way_below_an_inner_node(rt: HostRuntime) -> Result<(), Fail> {
         ..within
     };
     for case in [at_end, between, within, at_long_end] {
-        let [seen, expected] = tried_below(rt.alloc(), case)?;
+        let [seen, expected] = tried_below(rt.alloc(), case).ok_or("an inner root")?;
         assert_eq!(rt; seen, expected);
     }
     Ok(())
@@ -224,37 +252,35 @@ fn expected_at_root(seen: Outcome, used: usize, leaves: usize, inners: usize) ->
     }
 }
 
-// What came of a key in the place of the whole tree of these.
-fn tried_at_root(alloc: Global, slices: &[&[u8]], key: &[u8]) -> Result<Outcome, Fail> {
-    let mut store: NodeStore<Key, u32, 16> = NodeStore::new(alloc);
-    overwritten(&mut store, slices, key, &[])
-}
-
 #[test]
 fn gives_way_at_the_root(rt: HostRuntime) -> Result<(), Fail> {
     let slices: [&[u8]; 2] = [&[4, 1, 2, 7], &[4, 1, 2, 8]];
     let cases: [(&[u8], usize); 4] = [(&[], 0), (&[4], 0), (&[4, 1], 0), (&[4, 1, 2], 2)];
     for (key, used) in cases {
-        let seen = tried_at_root(rt.alloc(), &slices, key)?;
+        let seen = tried(rt.alloc(), &slices, key, &[]).ok_or("memory")?;
         assert_eq!(rt; seen, expected_at_root(seen, used, 2, 1));
     }
     Ok(())
 }
 
-// What comes of the empty key in the tree of 24 keys.
+// What comes of the empty key in the tree of these.
 fn overwritten_by_empty<const P: usize>(
     store: &mut NodeStore<Key, u32, P>,
-) -> Result<Outcome, Fail> {
-    let all = keys_of_three(store.alloc(), [4, 3, 2])?;
-    let root = plant_keys(store, all)?;
-    let before = nodes_seen(store)?;
-    overwrite(store, root, &before, &[], &[])
+    all: Vec<Key>,
+) -> Option<Outcome> {
+    let root = planted_keys(store, all)?;
+    overwrite(store, root, &[], &[])
+}
+
+// The same in a store of its own.
+fn tried_by_empty(alloc: Global, all: Vec<Key>) -> Option<Outcome> {
+    overwritten_by_empty::<16>(&mut NodeStore::new(alloc), all)
 }
 
 #[test]
 fn the_empty_key_takes_the_place_of_all(rt: HostRuntime) -> Result<(), Fail> {
-    let mut store: NodeStore<Key, u32, 16> = NodeStore::new(rt.alloc());
-    let seen = overwritten_by_empty(&mut store)?;
+    let all = keys_of_three(rt.alloc(), [4, 3, 2])?;
+    let seen = tried_by_empty(rt.alloc(), all).ok_or("memory")?;
     assert_eq!(rt; seen, expected_at_root(seen, 0, 24, 17));
     Ok(())
 }
@@ -288,25 +314,15 @@ fn expected_for_leaf(
 }
 
 // What comes of a key in the place of the only other, and what is to come.
-fn replace_one<const P: usize>(
-    store: &mut NodeStore<Key, u32, P>,
-    old: &[u8],
-    key: &[u8],
-) -> Result<[Outcome; 2], Fail> {
-    let seen = overwritten(store, &[old], key, old)?;
+fn tried_for_one(alloc: Global, old: &[u8], key: &[u8]) -> Option<[Outcome; 2]> {
+    let seen = tried(alloc, &[old], key, old)?;
     let after = After {
         nodes: (1, 0),
         has_key: true,
         values: [None, Some(9), None],
     };
-    let expected = expected_for_leaf(seen, at_root(seen.root, 0), seen.root, 0, after);
-    Ok([seen, expected.ok_or("a leaf")?])
-}
-
-// The same in a store of its own.
-fn tried_for_one(alloc: Global, old: &[u8], key: &[u8]) -> Result<[Outcome; 2], Fail> {
-    let mut store: NodeStore<Key, u32, 16> = NodeStore::new(alloc);
-    replace_one(&mut store, old, key)
+    let expected = expected_for_leaf(seen, at_root(seen.root, 0), seen.root, 0, after)?;
+    Some([seen, expected])
 }
 
 #[test]
@@ -318,7 +334,7 @@ fn replaces_one_leaf(rt: HostRuntime) -> Result<(), Fail> {
         (&[], &[1]),
     ];
     for (old, key) in cases {
-        let [seen, expected] = tried_for_one(rt.alloc(), old, key)?;
+        let [seen, expected] = tried_for_one(rt.alloc(), old, key).ok_or("a leaf")?;
         assert_eq!(rt; seen, expected);
     }
     Ok(())
@@ -336,20 +352,11 @@ fn expected_between(seen: Outcome) -> Option<Outcome> {
     expected_for_leaf(seen, point, leaf, 1, after)
 }
 
-// What comes of that key, and what is to come.
-fn replace_between<const P: usize>(
-    store: &mut NodeStore<Key, u32, P>,
-) -> Result<[Outcome; 2], Fail> {
-    let slices: [&[u8]; 3] = [&[0], &[1, 2, 3], &[2]];
-    let seen = overwritten(store, &slices, &[1, 2], &[1, 2, 3])?;
-    Ok([seen, expected_between(seen).ok_or("a leaf")?])
-}
-
 #[test]
 fn replaces_one_leaf_between_others(rt: HostRuntime) -> Result<(), Fail> {
-    let mut store: NodeStore<Key, u32, 16> = NodeStore::new(rt.alloc());
-    let [seen, expected] = replace_between(&mut store)?;
-    assert_eq!(rt; seen, expected);
+    let slices: [&[u8]; 3] = [&[0], &[1, 2, 3], &[2]];
+    let seen = tried(rt.alloc(), &slices, &[1, 2], &[1, 2, 3]).ok_or("memory")?;
+    assert_eq!(rt; Some(seen), expected_between(seen));
     Ok(())
 }
 
@@ -389,9 +396,8 @@ struct Ordinary {
 }
 
 // What comes of a key that is related to no other.
-fn tried_apart(alloc: Global, slices: &[&[u8]], key: &[u8]) -> Result<Ordinary, Fail> {
-    let mut store: NodeStore<Key, u32, 16> = NodeStore::new(alloc);
-    let seen = overwritten(&mut store, slices, key, key)?;
+fn tried_apart(alloc: Global, slices: &[&[u8]], key: &[u8]) -> Option<Ordinary> {
+    let seen = tried(alloc, slices, key, key)?;
     let told = match seen.done.change {
         InsertParentNodeChange::NoChange => None,
         InsertParentNodeChange::NewParent {
@@ -399,7 +405,7 @@ fn tried_apart(alloc: Global, slices: &[&[u8]], key: &[u8]) -> Result<Ordinary, 
             ..
         } => Some(leaf_node_key_byte),
     };
-    Ok(Ordinary {
+    Some(Ordinary {
         kind: kind_of(seen.point),
         existing: seen.done.existing.map(|pair| pair.value),
         removed: seen.removed,
@@ -410,7 +416,7 @@ fn tried_apart(alloc: Global, slices: &[&[u8]], key: &[u8]) -> Result<Ordinary, 
 }
 
 #[test]
-fn comes_in_beside_unrelated_keys(rt: HostRuntime) -> Result<(), Fail> {
+fn comes_in_beside_unrelated_keys(rt: HostRuntime) {
     let into = Ordinary {
         kind: Kind::IntoExisting,
         existing: None,
@@ -447,9 +453,8 @@ fn comes_in_beside_unrelated_keys(rt: HostRuntime) -> Result<(), Fail> {
         (&long, &[7, 1, 1, 9], split_prefix),
     ];
     for (slices, key, expected) in cases {
-        assert_eq!(rt; tried_apart(rt.alloc(), slices, key)?, expected);
+        assert_eq!(rt; tried_apart(rt.alloc(), slices, key), Some(expected));
     }
-    Ok(())
 }
 
 // Whether the point of each of these keys is the one that an insertion finds too.
@@ -484,13 +489,21 @@ fn has_insert_point<const P: usize>(
     }
 }
 
-#[test]
-fn finds_the_points_of_insertions(rt: HostRuntime) -> Result<(), Fail> {
-    let mut store: NodeStore<Key, u32, 2> = NodeStore::new(rt.alloc());
+// The same in the tree of two keys with one prefix.
+fn points_found<const P: usize>(store: &mut NodeStore<Key, u32, P>) -> Option<[bool; 4]> {
     let slices: [&[u8]; 2] = [&[7, 1, 1, 1, 1, 5, 1], &[7, 1, 1, 1, 1, 6]];
-    let root = plant_all(&mut store, &slices)?;
-    assert_eq!(rt; have_insert_points(&store, root), [true; 4]);
-    Ok(())
+    let root = planted_all(store, &slices).ok()??;
+    Some(have_insert_points(store, root))
+}
+
+// The same in a store of its own.
+fn points_found_with(alloc: Global) -> Option<[bool; 4]> {
+    points_found::<2>(&mut NodeStore::new(alloc))
+}
+
+#[test]
+fn finds_the_points_of_insertions(rt: HostRuntime) {
+    assert_eq!(rt; points_found_with(rt.alloc()), Some([true; 4]));
 }
 
 // What a prefix insertion tells: the value of the pair that gave way, and how many leaves went.
@@ -515,62 +528,75 @@ fn stored<const P: usize>(
     value_of(store, search_unchecked(store, root, key)?)
 }
 
-// The root after a prefix insertion, the kind of its point, and what it tells.
+// The root after a prefix insertion, the kind of its point, and what it tells, if there was memory for the key.
 fn insert_text<const P: usize>(
     store: &mut NodeStore<Key, u32, P>,
     root: OpaqueNodePtr,
-    key: Key,
+    text: &[u8],
     value: u32,
-) -> (OpaqueNodePtr, (Kind, (Option<u32>, usize)))
+) -> (OpaqueNodePtr, Option<(Kind, (Option<u32>, usize))>)
     requires { IsCanonicalRoot (of_key (λ key. key.items)) P store.old root }
     ensures { IsCanonicalRoot (of_key (λ key. key.items)) P store.new result.0 }
 {
-    let kind = kind_of(search_for_prefix_insert_point(store, root, key.as_slice()));
+    let kind = kind_of(search_for_prefix_insert_point(store, root, text));
+    let Ok(key) = text.to_vec(store.alloc()) else {
+        return (root, None);
+    };
     let (root, answer) = prefix_insert(store, root, key, value);
-    (root, (kind, told(answer)))
+    (root, Some((kind, told(answer))))
 }
 
-// What three prefix insertions tell, one after another, and the values of their keys then.
-fn told_of_text<const P: usize>(
-    store: &mut NodeStore<Key, u32, P>,
-    root: OpaqueNodePtr,
-    keys: [Key; 3],
-) -> ([(Kind, (Option<u32>, usize)); 3], [Option<u32>; 3])
+// What is told of three texts.
+#[derive(Clone, Copy, PartialEq, Eq, Debug)]
+struct Texts {
+    // What the prefix insertion of each told.
+    replies: [Option<(Kind, (Option<u32>, usize))>; 3],
+    // Their values once all came.
+    values: [Option<u32>; 3],
+}
+
+// What is to be told of abb, b and ab, of which the first two are stored before.
+const TEXTS: Texts = Texts {
+    replies: [
+        Some((Kind::Exact, (Some(0), 0))),
+        Some((Kind::Exact, (Some(1), 0))),
+        Some((Kind::Overwrite, (Some(0xAA), 0))),
+    ],
+    values: [None, Some(0xBB), Some(0xCC)],
+};
+
+// What is told of these three, one after another.
+fn told_of_texts<const P: usize>(store: &mut NodeStore<Key, u32, P>, root: OpaqueNodePtr) -> Texts
     requires { IsCanonicalRoot (of_key (λ key. key.items)) P store.old root }
 {
-    let [first, second, third] = keys;
-    let (root, first) = insert_text(store, root, first, 0xAA);
-    let (root, second) = insert_text(store, root, second, 0xBB);
-    let (root, third) = insert_text(store, root, third, 0xCC);
+    let (root, first) = insert_text(store, root, b"abb", 0xAA);
+    let (root, second) = insert_text(store, root, b"b", 0xBB);
+    let (root, third) = insert_text(store, root, b"ab", 0xCC);
     let values = [
         stored(store, root, b"abb"),
         stored(store, root, b"b"),
         stored(store, root, b"ab"),
     ];
-    ([first, second, third], values)
+    Texts {
+        replies: [first, second, third],
+        values,
+    }
 }
 
-// The text of three keys.
-fn text(alloc: Global) -> Result<[Key; 3], Fail> {
-    Ok([
-        b"abb".to_vec(alloc)?,
-        b"b".to_vec(alloc)?,
-        b"ab".to_vec(alloc)?,
-    ])
+// The same where the first two are stored.
+fn texts_told<const P: usize>(store: &mut NodeStore<Key, u32, P>) -> Option<Texts> {
+    let root = planted_all(store, &[b"abb", b"b"]).ok()??;
+    Some(told_of_texts(store, root))
+}
+
+// The same in a store of its own.
+fn texts_told_with(alloc: Global) -> Option<Texts> {
+    texts_told::<16>(&mut NodeStore::new(alloc))
 }
 
 #[test]
-fn a_shorter_text_takes_the_place_of_a_longer_one(rt: HostRuntime) -> Result<(), Fail> {
-    let mut store: NodeStore<Key, u32, 16> = NodeStore::new(rt.alloc());
-    let root = plant_all(&mut store, &[b"abb", b"b"])?;
-    let seen = told_of_text(&mut store, root, text(rt.alloc())?);
-    let replies = [
-        (Kind::Exact, (Some(0), 0)),
-        (Kind::Exact, (Some(1), 0)),
-        (Kind::Overwrite, (Some(0xAA), 0)),
-    ];
-    assert_eq!(rt; seen, (replies, [None, Some(0xBB), Some(0xCC)]));
-    Ok(())
+fn a_shorter_text_takes_the_place_of_a_longer_one(rt: HostRuntime) {
+    assert_eq!(rt; texts_told_with(rt.alloc()), Some(TEXTS));
 }
 
 // What a prefix insertion tells while all memory is held.
@@ -578,37 +604,46 @@ fn told_without_memory<const P: usize>(
     store: &mut NodeStore<Key, u32, P>,
     root: OpaqueNodePtr,
     key: &[u8],
-) -> Result<(Option<u32>, usize), AllocError>
+) -> Option<(Option<u32>, usize)>
     requires { IsCanonicalRoot (of_key (λ key. key.items)) P store.old root }
 {
     let alloc = store.alloc();
-    let key = key.to_vec(alloc)?;
-    let held = all_memory(alloc)?;
-    let answer = prefix_insert(store, root, key, 9).1;
+    let copy = key.to_vec(alloc).ok()?;
+    let held = all_memory(alloc).ok()?;
+    let answer = prefix_insert(store, root, copy, 9).1;
     drop(held);
-    Ok(told(answer))
+    Some(told(answer))
 }
 
 // The same in the tree of [0], [1, 2, 3] and [2].
-fn replaced_without_memory(alloc: Global, key: &[u8]) -> Result<(Option<u32>, usize), Fail> {
-    let mut store: NodeStore<Key, u32, 16> = NodeStore::new(alloc);
-    let root = plant_all(&mut store, &[&[0], &[1, 2, 3], &[2]])?;
-    Ok(told_without_memory(&mut store, root, key)?)
+fn replaced_without_memory<const P: usize>(
+    store: &mut NodeStore<Key, u32, P>,
+    key: &[u8],
+) -> Option<(Option<u32>, usize)> {
+    let root = planted_all(store, &[&[0], &[1, 2, 3], &[2]]).ok()??;
+    told_without_memory(store, root, key)
+}
+
+// The same in a store of its own.
+fn replaced_with(alloc: Global, key: &[u8]) -> Option<(Option<u32>, usize)> {
+    replaced_without_memory::<16>(&mut NodeStore::new(alloc), key)
 }
 
 #[test]
-fn without_memory_one_pair_is_replaced(rt: HostRuntime) -> Result<(), Fail> {
+fn without_memory_one_pair_is_replaced(rt: HostRuntime) {
     let keys: [&[u8]; 3] = [&[1, 2], &[1, 2, 3], &[1, 2, 3, 4]];
     for key in keys {
-        assert_eq!(rt; replaced_without_memory(rt.alloc(), key)?, (Some(1), 0));
+        assert_eq!(rt; replaced_with(rt.alloc(), key), Some((Some(1), 0)));
     }
-    Ok(())
 }
 
-// What is left of a refusal to put a key in the place of the first two of some keys, in a store that may be filled before.
+// What is left of a refusal to put a key in the place of the first two of some keys, in a store that may be filled
+// before.
 fn refused_in(alloc: Global, others: &[&[u8]], key: &[u8], is_filled: bool) -> Option<Refusal> {
     let mut store: NodeStore<Key, u32, 4> = NodeStore::new(alloc);
-    refused_prefix_insertion(&mut store, others, key, is_filled).ok()?
+    let answer = refused_prefix_insertion(&mut store, others, key, is_filled);
+    drop(store);
+    answer.ok()?
 }
 
 // The same in a store with no other nodes, and in a full one.
@@ -617,15 +652,6 @@ fn refused_over(alloc: Global, others: &[&[u8]], key: &[u8]) -> [Option<Refusal>
         refused_in(alloc, others, key, false),
         refused_in(alloc, others, key, true),
     ]
-}
-
-// Asserts that a refusal handed the pair back and changed nothing, and says so.
-fn assert_handed_back(rt: &(impl Abort + Print), refusal: Option<Refusal>) -> Result<(), Fail> {
-    if let Some(refusal) = refusal {
-        assert_eq!(rt; refusal, HANDED_BACK);
-        println!(rt; "asserted")?;
-    }
-    Ok(())
 }
 
 // More and more keys; all but the first two stand beside those.

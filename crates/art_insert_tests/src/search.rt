@@ -7,8 +7,8 @@ use art_nodes::store::NodeStore;
 use art_operations::insert::{InsertKind, InsertPoint, InsertSearchError, search_for_insert_point};
 use art_operations::path::{ExplicitMismatch, TreePath};
 use art_test_support::memory::all_memory;
-use art_test_support::trees::{Key, child, plant_all, value_of};
-use std::alloc::AllocError;
+use art_test_support::trees::{Key, child, planted_all, value_of};
+use std::alloc::Global;
 use std::test::Fail;
 
 const LONG: [&[u8]; 2] = [&[7, 1, 1, 1, 1, 5], &[7, 1, 1, 1, 1, 6]];
@@ -83,33 +83,41 @@ fn told_of_long<const P: usize>(store: &NodeStore<Key, u32, P>, root: OpaqueNode
 }
 
 // What is told of the same keys where a leaf is read, and what is to be.
-fn read_leaf<const P: usize>(store: &mut NodeStore<Key, u32, P>) -> Result<[[Told; 3]; 2], Fail> {
-    let root = plant_all(store, &LONG)?;
-    let point = parted_at_least(store, root).ok_or("a child")?;
+fn read_leaf<const P: usize>(store: &mut NodeStore<Key, u32, P>) -> Option<[[Told; 3]; 2]> {
+    let root = planted_all(store, &LONG).ok()??;
+    let point = parted_at_least(store, root)?;
     let expected = [point, Told::Related(true), Told::Related(true)];
-    Ok([told_of_long(store, root), expected])
+    Some([told_of_long(store, root), expected])
+}
+
+// The same in a store of its own.
+fn read_leaf_with(alloc: Global) -> Option<[[Told; 3]; 2]> {
+    read_leaf::<2>(&mut NodeStore::new(alloc))
 }
 
 #[test]
 fn reads_a_leaf_for_a_long_prefix(rt: HostRuntime) -> Result<(), Fail> {
-    let mut store: NodeStore<Key, u32, 2> = NodeStore::new(rt.alloc());
-    let [told, expected] = read_leaf(&mut store)?;
+    let [told, expected] = read_leaf_with(rt.alloc()).ok_or("a child")?;
     assert_eq!(rt; told, expected);
     Ok(())
 }
 
 // The same where no leaf is read.
-fn read_prefix<const P: usize>(store: &mut NodeStore<Key, u32, P>) -> Result<[[Told; 3]; 2], Fail> {
-    let root = plant_all(store, &LONG)?;
-    let point = parted(root, None).ok_or("an inner root")?;
+fn read_prefix<const P: usize>(store: &mut NodeStore<Key, u32, P>) -> Option<[[Told; 3]; 2]> {
+    let root = planted_all(store, &LONG).ok()??;
+    let point = parted(root, None)?;
     let expected = [point, Told::Related(true), Told::Related(true)];
-    Ok([told_of_long(store, root), expected])
+    Some([told_of_long(store, root), expected])
+}
+
+// The same in a store of its own.
+fn read_prefix_with(alloc: Global) -> Option<[[Told; 3]; 2]> {
+    read_prefix::<16>(&mut NodeStore::new(alloc))
 }
 
 #[test]
 fn reads_no_leaf_for_a_stored_prefix(rt: HostRuntime) -> Result<(), Fail> {
-    let mut store: NodeStore<Key, u32, 16> = NodeStore::new(rt.alloc());
-    let [told, expected] = read_prefix(&mut store)?;
+    let [told, expected] = read_prefix_with(rt.alloc()).ok_or("an inner root")?;
     assert_eq!(rt; told, expected);
     Ok(())
 }
@@ -125,13 +133,23 @@ fn told_of_related<const P: usize>(store: &NodeStore<Key, u32, P>, root: OpaqueN
     ]
 }
 
+// The same where the leaf is that of [1, 2, 3].
+fn read_related<const P: usize>(store: &mut NodeStore<Key, u32, P>) -> Option<[Told; 3]> {
+    let root = planted_all(store, &[&[1, 2, 3]]).ok()??;
+    Some(told_of_related(store, root))
+}
+
+// The same in a store of its own.
+fn read_related_with(alloc: Global) -> Option<[Told; 3]> {
+    read_related::<16>(&mut NodeStore::new(alloc))
+}
+
 #[test]
-fn refuses_related_keys(rt: HostRuntime) -> Result<(), Fail> {
-    let mut store: NodeStore<Key, u32, 16> = NodeStore::new(rt.alloc());
-    let root = plant_all(&mut store, &[&[1, 2, 3]])?;
-    let told = told_of_related(&store, root);
-    assert_eq!(rt; told, [Told::Related(true); 3]);
-    Ok(())
+fn refuses_related_keys(rt: HostRuntime) {
+    assert_eq!(rt;
+        read_related_with(rt.alloc()),
+        Some([Told::Related(true); 3])
+    );
 }
 
 // What is to be told where the root gets a child more.
@@ -141,16 +159,19 @@ fn beside_children(root: OpaqueNodePtr) -> Option<Told> {
 }
 
 // What is told of [3] beside [1] and [2], and what is to be.
-fn told_beside<const P: usize>(store: &mut NodeStore<Key, u32, P>) -> Result<[Told; 2], Fail> {
-    let root = plant_all(store, &[&[1], &[2]])?;
-    let expected = beside_children(root).ok_or("an inner root")?;
-    Ok([told_of(store, root, &[3]), expected])
+fn told_beside<const P: usize>(store: &mut NodeStore<Key, u32, P>) -> Option<[Told; 2]> {
+    let root = planted_all(store, &[&[1], &[2]]).ok()??;
+    Some([told_of(store, root, &[3]), beside_children(root)?])
+}
+
+// The same in a store of its own.
+fn told_beside_with(alloc: Global) -> Option<[Told; 2]> {
+    told_beside::<16>(&mut NodeStore::new(alloc))
 }
 
 #[test]
 fn stands_beside_the_children_of_a_node(rt: HostRuntime) -> Result<(), Fail> {
-    let mut store: NodeStore<Key, u32, 16> = NodeStore::new(rt.alloc());
-    let [told, expected] = told_beside(&mut store)?;
+    let [told, expected] = told_beside_with(rt.alloc()).ok_or("an inner root")?;
     assert_eq!(rt; told, expected);
     Ok(())
 }
@@ -165,16 +186,19 @@ fn beside_leaf(root: OpaqueNodePtr) -> Option<Told> {
 }
 
 // What is told of [1, 2, 9] beside [1, 2, 3, 4], and what is to be.
-fn told_parted<const P: usize>(store: &mut NodeStore<Key, u32, P>) -> Result<[Told; 2], Fail> {
-    let root = plant_all(store, &[&[1, 2, 3, 4]])?;
-    let expected = beside_leaf(root).ok_or("a leaf")?;
-    Ok([told_of(store, root, &[1, 2, 9]), expected])
+fn told_parted<const P: usize>(store: &mut NodeStore<Key, u32, P>) -> Option<[Told; 2]> {
+    let root = planted_all(store, &[&[1, 2, 3, 4]]).ok()??;
+    Some([told_of(store, root, &[1, 2, 9]), beside_leaf(root)?])
+}
+
+// The same in a store of its own.
+fn told_parted_with(alloc: Global) -> Option<[Told; 2]> {
+    told_parted::<16>(&mut NodeStore::new(alloc))
 }
 
 #[test]
 fn splits_a_leaf(rt: HostRuntime) -> Result<(), Fail> {
-    let mut store: NodeStore<Key, u32, 16> = NodeStore::new(rt.alloc());
-    let [told, expected] = told_parted(&mut store)?;
+    let [told, expected] = told_parted_with(rt.alloc()).ok_or("a leaf")?;
     assert_eq!(rt; told, expected);
     Ok(())
 }
@@ -186,19 +210,20 @@ fn at_leaf(root: OpaqueNodePtr) -> Option<Told> {
 }
 
 // What is told of the empty key and of another where the empty one is stored, and what is to be.
-fn told_of_empty<const P: usize>(
-    store: &mut NodeStore<Key, u32, P>,
-) -> Result<[[Told; 2]; 2], Fail> {
-    let root = plant_all(store, &[&[]])?;
-    let own = at_leaf(root).ok_or("a leaf")?;
+fn told_of_empty<const P: usize>(store: &mut NodeStore<Key, u32, P>) -> Option<[[Told; 2]; 2]> {
+    let root = planted_all(store, &[&[]]).ok()??;
     let told = [told_of(store, root, &[]), told_of(store, root, &[1])];
-    Ok([told, [own, Told::Related(true)]])
+    Some([told, [at_leaf(root)?, Told::Related(true)]])
+}
+
+// The same in a store of its own.
+fn told_of_empty_with(alloc: Global) -> Option<[[Told; 2]; 2]> {
+    told_of_empty::<16>(&mut NodeStore::new(alloc))
 }
 
 #[test]
 fn finds_the_leaf_of_the_empty_key(rt: HostRuntime) -> Result<(), Fail> {
-    let mut store: NodeStore<Key, u32, 16> = NodeStore::new(rt.alloc());
-    let [told, expected] = told_of_empty(&mut store)?;
+    let [told, expected] = told_of_empty_with(rt.alloc()).ok_or("a leaf")?;
     assert_eq!(rt; told, expected);
     Ok(())
 }
@@ -287,11 +312,20 @@ fn compared_below<const P: usize>(
     Some([told_below(store, root, value)?, expected_below(names)?])
 }
 
+// The same in the tree of these and of others.
+fn read_below<const P: usize>(store: &mut NodeStore<Key, u32, P>) -> Option<[Below; 2]> {
+    let root = planted_all(store, &[&[1, 2, 3], &[1, 2, 4], &[1, 5], &[6]]).ok()??;
+    compared_below(store, root)
+}
+
+// The same in a store of its own.
+fn read_below_with(alloc: Global) -> Option<[Below; 2]> {
+    read_below::<0>(&mut NodeStore::new(alloc))
+}
+
 #[test]
 fn names_parents_and_grandparents(rt: HostRuntime) -> Result<(), Fail> {
-    let mut store: NodeStore<Key, u32, 0> = NodeStore::new(rt.alloc());
-    let root = plant_all(&mut store, &[&[1, 2, 3], &[1, 2, 4], &[1, 5], &[6]])?;
-    let [seen, expected] = compared_below(&store, root).ok_or("other kinds of nodes")?;
+    let [seen, expected] = read_below_with(rt.alloc()).ok_or("other kinds of nodes")?;
     assert_eq!(rt; seen, expected);
     Ok(())
 }
@@ -307,24 +341,21 @@ fn told_of_each<const P: usize>(store: &NodeStore<Key, u32, P>, root: OpaqueNode
     ]
 }
 
-// The same while all memory is held.
-fn told_without_memory<const P: usize>(
-    store: &NodeStore<Key, u32, P>,
-    root: OpaqueNodePtr,
-) -> Result<[bool; 3], AllocError>
-    requires { IsCanonicalRoot (of_key (λ key. key.items)) P store.now root }
-{
-    let held = all_memory(store.alloc())?;
+// The same in their tree, while all memory is held.
+fn told_without_memory<const P: usize>(store: &mut NodeStore<Key, u32, P>) -> Option<[bool; 3]> {
+    let root = planted_all(store, &LONG).ok()??;
+    let held = all_memory(store.alloc()).ok()?;
     let told = told_of_each(store, root);
     drop(held);
-    Ok(told)
+    Some(told)
+}
+
+// The same in a store of its own.
+fn told_with_none(alloc: Global) -> Option<[bool; 3]> {
+    told_without_memory::<2>(&mut NodeStore::new(alloc))
 }
 
 #[test]
-fn without_memory_only_a_refusal_fails(rt: HostRuntime) -> Result<(), Fail> {
-    let mut store: NodeStore<Key, u32, 2> = NodeStore::new(rt.alloc());
-    let root = plant_all(&mut store, &LONG)?;
-    let told = told_without_memory(&store, root)?;
-    assert_eq!(rt; told, [true; 3]);
-    Ok(())
+fn without_memory_only_a_refusal_fails(rt: HostRuntime) {
+    assert_eq!(rt; told_with_none(rt.alloc()), Some([true; 3]));
 }
