@@ -1,6 +1,5 @@
 //! Deletions from a parent with more than two children.
 ghost use Rattle.std.specs.Prelude.{IfSome};
-
 ghost use Rattle.art_model.specs.Pairs.{of_key};
 ghost use Rattle.art_model.specs.Roots.{IsCanonicalRoot};
 
