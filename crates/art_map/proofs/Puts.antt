@@ -16,7 +16,7 @@ use Rattle.art_model.specs.Kept.{ChangesInPlace, KeepsOthers, names_in}
 use Rattle.art_model.specs.Keys.{are_related}
 use Rattle.art_model.specs.Layouts.{names_of}
 use Rattle.art_model.specs.MapLaws.{Tells}
-use Rattle.art_model.specs.Pairs.{IsMap, first_of, of_key, has_key, is_conflict, overwrite, overwrite_reply, put, put_reply, related_to, with_key}
+use Rattle.art_model.specs.Pairs.{IsMap, first_of, of_key, has_key, overwrite, overwrite_reply, put, put_reply, related_to, with_key}
 use Rattle.art_model.specs.Roots.{IsRootOf}
 use Rattle.art_model.specs.Stores.{held, pair_of}
 use Rattle.art_model.specs.Trees.{Tree, leaf}

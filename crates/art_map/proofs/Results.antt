@@ -1,8 +1,8 @@
 -- What a change leaves, by the pairs that are read off.
-use Rattle.std.proofs.Common.{◌≡◌, ℕ, List, Option, Result, Ok, Err, OnOk, OnErr, IfOk}
+use Rattle.std.proofs.Common.{◌≡◌, ◌≢◌, ℕ, List, length, Option, Result, Ok, Err, OnOk, OnErr, IfOk}
 use Rattle.art_nodes.specs.Nodes.{Nodes}
 use Rattle.art_nodes.specs.declared.node.OpaqueNodePtr.{OpaqueNodePtr}
-use Rattle.art_model.specs.Pairs.{of_key, overwrite, put}
+use Rattle.art_model.specs.Pairs.{of_key, overwrite, put, related_to}
 use Rattle.art_writing.specs.declared.insert.Refused.{Refused}
 use Rattle.art_map.specs.MapAnswers.{MayRefuse}
 use Rattle.art_map.specs.MapChanges.{HasPut, HasPutOver, HasTaken}
@@ -37,6 +37,10 @@ module _ {K V : Type 0} (bytes : K → List ℕ) (P : ℕ) (pairs : List (K × V
     pub over_kept : (result : Result ℕ (Refused K V)) → HasPutOver bytes P pairs key value result t root len → OnErr result (pairs_at t root ≡ pairs)
     over_kept (Ok gone) h = tt
     over_kept (Err refused) h = view_of (of_key bytes) P t h.0
+
+    pub over_refused : (result : Result ℕ (Refused K V)) → HasPutOver bytes P pairs key value result t root len → OnErr result (length (related_to (of_key bytes) (bytes key) pairs) ≢ 1)
+    over_refused (Ok gone) h = tt
+    over_refused (Err refused) (held, same_key, same_value, off) = off
 
   module _ (pair : Option (K × V)) (left : List (K × V)) where
     pub taken_holds : (result : Result (Option (K × V)) MapRefused) → HasTaken bytes P pairs pair left result t root len → HoldsPairs (of_key bytes) P t root len (pairs_at t root)

@@ -1,5 +1,5 @@
 -- What a change leaves of a store, a root and a length that stand for pairs. No public clause cites this module.
-use Rattle.std.specs.Prelude.{◌≡◌, ℕ, false, List, [], ◌∷◌, length, Option, Some, None, Result, Ok, Err}
+use Rattle.std.specs.Prelude.{◌≡◌, ◌≢◌, ℕ, false, List, [], ◌∷◌, length, Option, Some, None, Result, Ok, Err}
 use Rattle.art_nodes.specs.Nodes.{Nodes}
 use Rattle.art_nodes.specs.declared.node.OpaqueNodePtr.{OpaqueNodePtr}
 use Rattle.art_model.specs.Clones.{AreClones}
@@ -32,13 +32,14 @@ module _ {K V : Type 0} (bytes : K → List ℕ) (P : ℕ) (pairs : List (K × V
   HasPut key value (Err error) t root len =
       HoldsPairs (of_key bytes) P t root len pairs × IsRefusalOf bytes key value pairs error
 
-  -- the pair was put in the place of those with related keys, or it is handed back and the pairs are as before
+  -- the pair was put in the place of those with related keys, or it is handed back, the pairs are as before, and it was not to take the place of just one
   abbrev pub HasPutOver : K → V → Result ℕ (Refused K V) → Nodes K V → Option OpaqueNodePtr → ℕ → Type 0
   HasPutOver key value (Ok gone) t root len =
       HoldsPairs (of_key bytes) P t root len (overwrite (of_key bytes) (key, value) pairs) ×
       (gone ≡ length (related_to (of_key bytes) (bytes key) pairs))
   HasPutOver key value (Err refused) t root len =
-      HoldsPairs (of_key bytes) P t root len pairs × (refused.key ≡ key) × (refused.value ≡ value)
+      HoldsPairs (of_key bytes) P t root len pairs × (refused.key ≡ key) × (refused.value ≡ value) ×
+      (length (related_to (of_key bytes) (bytes key) pairs) ≢ 1)
 
   -- the pair was taken out and these are left, or the pairs are as before
   abbrev pub HasTaken : Option (K × V) → List (K × V) → Result (Option (K × V)) MapRefused → Nodes K V →

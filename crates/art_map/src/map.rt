@@ -1,5 +1,5 @@
 //! An ordered map from keys of bytes to values. Its contracts speak of lists of pairs alone.
-ghost use Rattle.std.specs.Prelude.{◌≡◌, ◌+◌, ◌<◌, ◌↔◌, [], length, false, true, IsTrue, IfOk, IfErr, OnOk, OnErr, None, Some, option_copied};
+ghost use Rattle.std.specs.Prelude.{◌≡◌, ◌≢◌, ◌+◌, ◌<◌, ◌↔◌, [], length, false, true, IsTrue, IfOk, IfErr, OnOk, OnErr, None, Some, option_copied};
 ghost use Rattle.std.specs.FinMap as map;
 ghost use Rattle.std.specs.Option.{option_map};
 ghost use Rattle.art_model.specs.Clones.{KeepBytes};
@@ -193,7 +193,8 @@ impl<K: AsBytes + Drop, V: Drop, const P: usize> ByteMap<K, V, P> {
     }
 
     /// Puts a pair in, in the place of all pairs with related keys, and answers how many gave way. A
-    /// stored key that is equal stays and gets the value.
+    /// stored key that is equal stays and gets the value. It is refused only for want of memory, and
+    /// takes none where just one pair gives way.
     pub fn insert_over(&mut self, key: K, value: V) -> Result<usize, Refused<K, V>>
         ensures pairs { OnOk result (self.new ≡ overwrite (of_key K.bytes) (key, value) self.old) }
         ensures gone { IfOk result (λ gone.
@@ -202,6 +203,8 @@ impl<K: AsBytes + Drop, V: Drop, const P: usize> ByteMap<K, V, P> {
         ensures handed_back { IfErr result (λ refused.
             (refused.key ≡ key) × (refused.value ≡ value)) }
         ensures kept { OnErr result (self.new ≡ self.old) }
+        ensures refused { OnErr result
+            (length (related_to (of_key K.bytes) (K.bytes key) self.old) ≢ 1) }
     {
         put_over(&mut self.store, &mut self.root, &mut self.len, key, value)
     }

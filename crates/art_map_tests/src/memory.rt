@@ -75,9 +75,9 @@ fn is_right(
     }
 }
 
-// Whether removals of pairs of a map of five are right, and what the other calls answer, while there is no
-// memory.
-fn starve(alloc: Global, map: &mut Map) -> Result<([bool; 3], [Option<u32>; 3]), AllocError> {
+// Whether removals of pairs of a map of five are right, and an insertion over just one pair, and what the other
+// calls answer, while there is no memory.
+fn starve(alloc: Global, map: &mut Map) -> Result<([bool; 4], [Option<u32>; 3]), AllocError> {
     let held = all_memory(alloc)?;
     let answers = [
         map.get(&[3]).copied(),
@@ -87,6 +87,7 @@ fn starve(alloc: Global, map: &mut Map) -> Result<([bool; 3], [Option<u32>; 3]),
         },
         map.iter().next_back().map(|pair| *pair.1),
     ];
+    let over = matches!(map.insert_over([3], 3), Ok(1));
     let before = map.len();
     let removed = map.remove(&[3]);
     let first = is_right(removed, 3, before, map);
@@ -97,7 +98,7 @@ fn starve(alloc: Global, map: &mut Map) -> Result<([bool; 3], [Option<u32>; 3]),
     let removed = map.pop_last();
     let third = is_right(removed, 5, before, map);
     drop(held);
-    Ok(([first, second, third], answers))
+    Ok(([over, first, second, third], answers))
 }
 
 #[test]
@@ -108,7 +109,7 @@ fn without_memory_calls_are_right_or_refused(rt: HostRuntime) -> Result<(), Fail
     let told = starve(alloc, &mut map)?;
     assert_eq!(rt;
         (filled, told),
-        (true, ([true, true, true], [Some(3), Some(3), Some(5)]))
+        (true, ([true; 4], [Some(3), Some(3), Some(5)]))
     );
     Ok(())
 }

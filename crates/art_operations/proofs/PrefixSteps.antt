@@ -1,9 +1,8 @@
 -- Applied prefix points make steps: what an overwrite needs, and what it touches.
-use Rattle.std.proofs.Common.{◌≡◌, ◌≢◌, ℕ, ◌≤◌, List, [], ◌∷◌, length, leb, eqb, cond, is_some, Option, true, false, not, refl, ap, ap₂, sym, ◌∙◌, subst, arith, Some, None, ◌⊎◌, inl, inr}
+use Rattle.std.proofs.Common.{◌≡◌, ◌≢◌, ℕ, List, [], ◌∷◌, length, leb, eqb, cond, is_some, Option, true, false, not, refl, ap, ap₂, sym, ◌∙◌, subst, arith, Some, None, inl, inr}
 use Rattle.std.proofs.lemmas.Bool.{ne_eqb, lt-leb}
 use Rattle.std.specs.List.{AllByRecursion as Each}
 use Rattle.std.specs.Option.{option_map}
-use Rattle.std.proofs.Math.Dec.{leb-zero}
 use Rattle.art_nodes.specs.Names.{leaf_name}
 use Rattle.art_nodes.specs.Nodes.{Nodes, Promise}
 use Rattle.art_nodes.specs.declared.node.LeafNode.{LeafNode}
@@ -22,22 +21,19 @@ use Rattle.art_model.specs.Stores.{pair_of}
 use Rattle.art_model.specs.Trees.{leaf}
 use Rattle.art_model.proofs.Between.{replace_related-between}
 use Rattle.art_model.proofs.Canonical.{tree_radix}
-use Rattle.art_model.proofs.Filters.{filter_all}
 use Rattle.art_model.proofs.InHole.{with_key-hole}
 use Rattle.art_model.proofs.Keys.{not_same}
 use Rattle.art_model.proofs.Lists.{filter_none, Each-weaker}
-use Rattle.art_model.proofs.Paths.{IsHole, changed_at, related_at}
+use Rattle.art_model.proofs.Paths.{IsHole, changed_at}
 use Rattle.art_model.proofs.PutOver.{free_unrelated, one_went, put_is_overwrite, same_rest}
 use Rattle.art_model.proofs.Puts.{any_is_first, overwrite-new}
 use Rattle.art_model.proofs.Views.{leaf_or}
 use Rattle.art_operations.specs.Needs.{needs, more_of, inner_count}
 use Rattle.art_writing.specs.Overwritten.{IsOverwritePointIn, TouchesForNode, TouchesForPrefix, TouchesRelated, placed_for_overwrite, placed_for_prefix}
 use Rattle.art_writing.specs.Points.{AnswersToOverwrite, IsPointFor}
-use Rattle.art_writing.specs.Inserted.{alone, placed_for}
+use Rattle.art_writing.specs.Inserted.{alone}
 use Rattle.art_operations.specs.Steps.{TouchesBy}
 use Rattle.art_writing.specs.declared.insert.OverwritePoint.{OverwritePoint}
-use Rattle.art_writing.specs.declared.insert.InsertKind.{InsertKind}
-use Rattle.art_writing.specs.declared.insert.InsertKind.TheVariants.{MismatchPrefix, SplitLeaf, Exact, IntoExisting}
 use Rattle.art_writing.specs.declared.insert.PrefixInsertPoint.{PrefixInsertPoint}
 use Rattle.art_writing.specs.declared.insert.PrefixInsertPoint.TheVariants as points
 use Rattle.art_operations.specs.declared.run.Side.{Side}
@@ -48,11 +44,8 @@ use Rattle.art_operations.proofs.Moves.{Layout, StepFrom, nothing, own_pairs}
 use Rattle.art_operations.proofs.Needed.{needs_inserted}
 use Rattle.art_writing.proofs.Standing.{tree_stays}
 use Rattle.art_writing.proofs.Overwrites.{related_leaf, subtree_at}
+use Rattle.art_writing.proofs.RelatedPairs.{IsOne, not_alone, related_count}
 use Rattle.art_operations.proofs.Stepped.{IsRefused, at_root, insertion_touches, pairs_back, touches_more}
-
--- what is overwritten: one pair, in its leaf, or more, below an inner node
-abbrev pub IsOne : NodeType → ℕ → Type 0
-IsOne kind count = ((kind ≡ Leaf) × (count ≡ 1)) ⊎ ((kind ≢ Leaf) × (2 ≤ count))
 
 placed_leaf : (kind : NodeType) (count : ℕ) → IsOne kind count → placed_for_overwrite kind ≡ record { leaves = cond (eqb count 1) 0 1; inner = None }
 placed_leaf kind count (inl (e, f)) = rw (e, f) refl
@@ -96,23 +89,14 @@ module _ {K V : Type 0} (bytes : K → List ℕ) (P : ℕ) {s : Nodes K V} {root
   overwrites k v point at =
       let here = at_root bytes P by at.root_is in
       let answers : IsOverwritePointIn (of_key bytes) P s (bytes k) point = (pairs_of layout, layout, here, at) in
+      let one = related_count (of_key bytes) P by point at in
       elim (leaf_or point.overwrite_point) [
         | inl (p, e) ↦
             let l = related_leaf answers (sym e) here in
-            let all : related_to (of_key bytes) (bytes k) (pairs_of layout) ≡ pair_of l.shown ∷ [] =
-            ap (λ t. related_to (of_key bytes) (bytes k) (pairs_of t)) (sym l.whole) ∙
-            related_at (of_key bytes) P l.path l.place (bytes k) (leaf (leaf_name p) (pair_of l.shown)) l.hole.path l.hole.front ∙ rw l.related refl in
-            record {
-              one = inl (ap (λ z. z.kind) e, ap length all);
-              none = none_comes l.path l.place (leaf (leaf_name p) (pair_of l.shown)) (k, v)
-                  l.whole l.hole (l.related, tt) (λ e. l.unequal (sym e), tt);
-            }
+            record { one = one; none = none_comes l.path l.place (leaf (leaf_name p) (pair_of l.shown)) (k, v) l.whole l.hole (l.related, tt) (λ e. l.unequal (sym e), tt) }
         | inr off ↦
             let a = subtree_at answers off here in
-            let all : related_to (of_key bytes) (bytes k) (pairs_of layout) ≡ pairs_of a.node =
-            ap (λ t. related_to (of_key bytes) (bytes k) (pairs_of t)) (sym a.whole) ∙
-            related_at (of_key bytes) P a.path a.place (bytes k) a.node a.hole.path a.hole.front ∙ filter_all (λ y. are_related (bytes k) (bytes y.0)) (pairs_of a.node) a.related in
-            record { one = inr (off, subst (λ ps. 2 ≤ length ps) (sym all) a.two); none = none_comes a.path a.place a.node (k, v) a.whole a.hole a.related a.unequal }
+            record { one = one; none = none_comes a.path a.place a.node (k, v) a.whole a.hole a.related a.unequal }
       ]
 
   -- what is placed is what the command needs
@@ -186,29 +170,6 @@ module _ {K V : Type 0} (bytes : K → List ℕ) (P : ℕ) {s : Nodes K V} {root
   touches_prefix k v (points.InsertPoint point) (free, at) t h = rw (few_related k v free) (insertion_touches point.insert_kind h)
   touches_prefix k v (points.OverwritePoint point) (related, at) t h = touches_overwritten bytes P by k v point at t h
 
-  -- a refusal is not for one pair alone
-  not_one : (k : K) (v : V) (point : PrefixInsertPoint) → IsPointFor (of_key bytes) P (bytes k) (pairs_of layout) layout point →
-      (is_covered (placed_for_prefix s point) s.promise ≡ true → ⊥) → length (related_to (of_key bytes) (bytes k) (pairs_of layout)) ≢ 1
-  not_one k v point at off one = go point at off (ap (λ placed. placed.leaves) (needs_prefix k v point at) ∙ ap (λ n. cond (eqb n 1) 0 1) one)
-    where
-      by_kind : (kind : InsertKind) → (is_covered (placed_for s kind) s.promise ≡ true → ⊥) → (placed_for s kind).leaves ≡ 0 → ⊥
-      by_kind (Exact p) off none = off (leb-zero s.promise.leaves)
-      by_kind (SplitLeaf p used) off none = absurd cc
-      by_kind (IntoExisting p) off none = absurd cc
-      by_kind (MismatchPrefix mismatch p) off none = absurd cc
-
-      over : (kind : NodeType) → (is_covered (placed_for_overwrite kind) s.promise ≡ true → ⊥) → (placed_for_overwrite kind).leaves ≡ 0 → ⊥
-      over Leaf off none = off (leb-zero s.promise.leaves)
-      over Node4 off none = absurd cc
-      over Node16 off none = absurd cc
-      over Node48 off none = absurd cc
-      over Node256 off none = absurd cc
-
-      go : (q : PrefixInsertPoint) → IsPointFor (of_key bytes) P (bytes k) (pairs_of layout) layout q →
-          (is_covered (placed_for_prefix s q) s.promise ≡ true → ⊥) → (placed_for_prefix s q).leaves ≡ 0 → ⊥
-      go (points.InsertPoint p) at off none = by_kind p.insert_kind off none
-      go (points.OverwritePoint p) at off none = over p.overwrite_point.kind off none
-
 -- What an applied prefix point leaves of a tree.
 pub record HasAppliedPrefix {K V : Type 0} (bytes : K → List ℕ) (P : ℕ) (s t : Nodes K V) (layout : Layout K V) (pair : K × V)
     (point : PrefixInsertPoint) (after : OpaqueNodePtr) (existing : Option (LeafNode K V)) (count : ℕ) : Type 0 where
@@ -244,7 +205,7 @@ module _ {K V : Type 0} {IsClone : K × V → K × V → Type 0} {side : Side} (
     Some layout,
     ap Some by.stands.0.named,
     record {
-      answers = (not_one bytes P by k v point at is.uncovered, ap Some handed, refl);
+      answers = (not_alone (of_key bytes) P by (bytes k) (k, v) point at is.uncovered, ap Some handed, refl);
       refuses = λ promised. is.uncovered (ap (λ placed. is_covered placed s.promise) (needs_prefix bytes P by k v point at) ∙ promised);
       sound = own_pairs bytes P (tree_stays is.same by);
       changes = nothing z (Some layout) is.same;

@@ -24,6 +24,7 @@ pub mod Applied
 pub mod Answered
 pub mod Replaced
 pub mod Overwrites
+pub mod RelatedPairs
 pub mod Gaps
 pub mod Larger
 pub mod Entered
