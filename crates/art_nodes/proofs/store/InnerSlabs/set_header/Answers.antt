@@ -10,12 +10,15 @@ returns-in-Node4-clause-nodes g c =
 
 pub returns-in-Node16-clause-nodes : goal.returns-in-Node16-clause-nodes
 returns-in-Node16-clause-nodes g c =
-    written_of c.args.self.now _ c.args.name (with_header c.args.header) _ _ Node16 c.in-Node16.is (only16 c.args.self.now _) c.index_mut-in-Node16.ensures.value refl c.set_header-in-Node16.ensures
+    written_of c.args.self.now _ c.args.name (with_header c.args.header) _ _ Node16 c.in-Node16.is
+    (only16 c.args.self.now _) c.index_mut-in-Node16.ensures.value refl c.set_header-in-Node16.ensures
 
 pub returns-in-Node48-clause-nodes : goal.returns-in-Node48-clause-nodes
 returns-in-Node48-clause-nodes g c =
-    written_of c.args.self.now _ c.args.name (with_header c.args.header) _ _ Node48 c.in-Node48.is (only48 c.args.self.now _) c.index_mut-in-Node48.ensures.value refl c.set_header-in-Node48.ensures
+    written_of c.args.self.now _ c.args.name (with_header c.args.header) _ _ Node48 c.in-Node48.is
+    (only48 c.args.self.now _) c.index_mut-in-Node48.ensures.value refl c.set_header-in-Node48.ensures
 
 pub returns-in-Node256-clause-nodes : goal.returns-in-Node256-clause-nodes
 returns-in-Node256-clause-nodes g c =
-    written_of c.args.self.now _ c.args.name (with_header c.args.header) _ _ Node256 c.in-Node256.is (only256 c.args.self.now _) c.index_mut-in-Node256.ensures.value refl c.set_header-in-Node256.ensures
+    written_of c.args.self.now _ c.args.name (with_header c.args.header) _ _ Node256 c.in-Node256.is
+    (only256 c.args.self.now _) c.index_mut-in-Node256.ensures.value refl c.set_header-in-Node256.ensures
