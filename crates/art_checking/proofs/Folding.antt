@@ -1,11 +1,11 @@
 -- For callers: what a fold answers, said of the tree's pairs. To show are three steps: for a leaf's pair, for the hook of an inner node, and for two lists in a row where their outputs are joined.
 use Rattle.std.proofs.Common.{◌≡◌, List, [], ◌∷◌, ◌++◌, sym, ap, ◌∙◌, subst, append-nil, append_assoc, Option, Some}
 use Rattle.std.specs.Option.{option_map}
-use Rattle.art_nodes.specs.Inner.{Inner}
+use Rattle.art_inner.specs.Inner.{Inner}
 use Rattle.art_nodes.specs.Nodes.{Nodes}
-use Rattle.art_nodes.specs.declared.node.LeafNode.{LeafNode}
-use Rattle.art_nodes.specs.declared.node.NodeType.{NodeType}
-use Rattle.art_nodes.specs.declared.node.OpaqueNodePtr.{OpaqueNodePtr}
+use Rattle.art_parts.specs.declared.leaf.LeafNode.{LeafNode}
+use Rattle.art_parts.specs.declared.names.NodeType.{NodeType}
+use Rattle.art_parts.specs.declared.names.OpaqueNodePtr.{OpaqueNodePtr}
 use Rattle.art_model.specs.Layouts.{Node, leaf_node, Holds, HoldsBelow}
 use Rattle.art_model.specs.Radix.{pairs_of, pairs_below}
 use Rattle.art_model.specs.Stores.{node_at, pair_of, seen}

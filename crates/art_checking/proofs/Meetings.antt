@@ -6,14 +6,14 @@ use Rattle.std.specs.declared.cmp.Ordering.TheVariants.{Less, Equal, Greater}
 use Rattle.std.specs.List.{AllByRecursion as Each}
 use Rattle.std.specs.Map.{lookup}
 use Rattle.std.specs.Ordering.{is_eq, nat_cmp}
-use Rattle.art_nodes.specs.Codes.{kind_at, kind_at-index}
-use Rattle.art_nodes.specs.Nodes.{kind_index}
-use Rattle.art_nodes.specs.declared.node.NodeType.{NodeType}
-use Rattle.art_nodes.specs.declared.node.NodeType.TheVariants.{Node4, Node16, Node48, Node256, Leaf}
-use Rattle.art_nodes.specs.declared.node.OpaqueNodePtr.{OpaqueNodePtr}
-use Rattle.art_nodes.specs.contracts.node.OpaqueNodePtrOrd.TheImpl as derived
-use Rattle.art_nodes.specs.contracts.node.InnerPtrOrd.TheImpl as derived_inner
-use Rattle.art_nodes.specs.declared.node.InnerPtr.{InnerPtr}
+use Rattle.art_parts.specs.Codes.{kind_at, kind_at-index}
+use Rattle.art_parts.specs.Kinds.{kind_index}
+use Rattle.art_parts.specs.declared.names.NodeType.{NodeType}
+use Rattle.art_parts.specs.declared.names.NodeType.TheVariants.{Node4, Node16, Node48, Node256, Leaf}
+use Rattle.art_parts.specs.declared.names.OpaqueNodePtr.{OpaqueNodePtr}
+use Rattle.art_parts.specs.contracts.names.OpaqueNodePtrOrd.TheImpl as derived
+use Rattle.art_parts.specs.contracts.names.InnerPtrOrd.TheImpl as derived_inner
+use Rattle.art_parts.specs.declared.names.InnerPtr.{InnerPtr}
 use Rattle.art_model.specs.Footprints.{IsIn}
 use Rattle.art_model.proofs.Lists.{Each-append, each_in, each_from, in_left, in_right}
 use Rattle.art_model.proofs.Pairwises.{Pairwise-append}

@@ -5,16 +5,16 @@ use Rattle.std.proofs.Common.{is_some, IsSome, ◌-◌, length-append, ◌≡◌
 use Rattle.std.specs.FinMap as finite
 use Rattle.std.specs.List.{AllByRecursion as Each}
 use Rattle.std.specs.Option.{option_map}
-use Rattle.art_nodes.specs.Inner.{Inner}
-use Rattle.art_nodes.specs.Inner as entries
-use Rattle.art_nodes.specs.Kinds.{kind_capacity, kind_least}
-use Rattle.art_nodes.specs.Names.{leaf_name, inner_name}
-use Rattle.art_nodes.specs.Nodes.{Nodes, inner_cmp}
-use Rattle.art_nodes.specs.declared.node.NodeType.{NodeType}
-use Rattle.art_nodes.specs.declared.node.NodeType.TheVariants.{Node4, Node16, Node48, Node256, Leaf}
-use Rattle.art_nodes.specs.declared.node.LeafPtr.{LeafPtr}
-use Rattle.art_nodes.specs.declared.node.InnerPtr.{InnerPtr}
-use Rattle.art_nodes.specs.declared.node.OpaqueNodePtr.{OpaqueNodePtr}
+use Rattle.art_inner.specs.Inner.{Inner}
+use Rattle.art_inner.specs.Inner as entries
+use Rattle.art_parts.specs.Kinds.{kind_capacity, kind_least}
+use Rattle.art_parts.specs.Names.{leaf_name, inner_name, inner_cmp}
+use Rattle.art_nodes.specs.Nodes.{Nodes}
+use Rattle.art_parts.specs.declared.names.NodeType.{NodeType}
+use Rattle.art_parts.specs.declared.names.NodeType.TheVariants.{Node4, Node16, Node48, Node256, Leaf}
+use Rattle.art_parts.specs.declared.names.LeafPtr.{LeafPtr}
+use Rattle.art_parts.specs.declared.names.InnerPtr.{InnerPtr}
+use Rattle.art_parts.specs.declared.names.OpaqueNodePtr.{OpaqueNodePtr}
 use Rattle.art_model.specs.Layouts.{leaf_node, inner_node, name_of, slots_of, names_of, names_below, leaf_names, leaf_names_below, inner_names, inner_names_below, Holds, HoldsBelow, AreLinked, IsLayout}
 use Rattle.art_model.specs.Radix.{join, pairs_of, bytes_of, BytesRise, IsRadix, AreRadix}
 use Rattle.art_model.specs.Stores.{node_at, header_at, held_inner, Held, IsUsed, links_at}

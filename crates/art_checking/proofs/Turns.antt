@@ -1,12 +1,12 @@
 -- One turn of the walk over the children of a node.
 use Rattle.std.proofs.Common.{◌≡◌, ◌≢◌, ℕ, List, [], ◌∷◌, ◌++◌, Some, sym, subst}
 use Rattle.std.specs.FinMap as map
-use Rattle.art_nodes.specs.Inner.{Inner, Children, IsBelow, IsRising}
-use Rattle.art_nodes.specs.Names.{inner_name}
+use Rattle.art_inner.specs.Inner.{Inner, Children, IsBelow, IsRising}
+use Rattle.art_parts.specs.Names.{inner_name}
 use Rattle.art_nodes.specs.Nodes.{Nodes}
-use Rattle.art_nodes.specs.declared.node.InnerPtr.{InnerPtr}
-use Rattle.art_nodes.specs.declared.node.NodeType.TheVariants.{Leaf}
-use Rattle.art_nodes.specs.declared.node.OpaqueNodePtr.{OpaqueNodePtr}
+use Rattle.art_parts.specs.declared.names.InnerPtr.{InnerPtr}
+use Rattle.art_parts.specs.declared.names.NodeType.TheVariants.{Leaf}
+use Rattle.art_parts.specs.declared.names.OpaqueNodePtr.{OpaqueNodePtr}
 use Rattle.art_model.specs.Faults.{Reaches}
 use Rattle.art_model.specs.Layouts.{slots_of}
 use Rattle.art_model.specs.Stores.{header_at}

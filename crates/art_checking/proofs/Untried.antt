@@ -6,10 +6,10 @@ use Rattle.std.specs.List.{list_any}
 use Rattle.std.specs.Ordering.{is_eq, eq_by_cmp}
 use Rattle.std.specs.declared.cmp.Ordering.{Ordering}
 use Rattle.std.specs.declared.cmp.Ordering.TheVariants.{Less, Equal, Greater}
-use Rattle.art_nodes.proofs.NameLemmas.{inner_cmp-IsAntisymmetric}
-use Rattle.art_nodes.specs.Inner.{Inner}
-use Rattle.art_nodes.specs.Nodes.{inner_cmp}
-use Rattle.art_nodes.specs.declared.node.InnerPtr.{InnerPtr}
+use Rattle.art_parts.proofs.NameLemmas.{inner_cmp-IsAntisymmetric}
+use Rattle.art_inner.specs.Inner.{Inner}
+use Rattle.art_parts.specs.Names.{inner_cmp}
+use Rattle.art_parts.specs.declared.names.InnerPtr.{InnerPtr}
 use Rattle.art_model.specs.Footprints.{IsIn}
 use Rattle.art_checking.specs.Untried.{untried}
 

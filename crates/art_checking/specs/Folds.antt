@@ -1,10 +1,10 @@
 -- A fold of a visitor over a tree, children in the order of their bytes.
 use Rattle.std.specs.Prelude.{◌≡◌, Some}
-use Rattle.art_nodes.specs.Inner.{Inner}
+use Rattle.art_inner.specs.Inner.{Inner}
 use Rattle.art_nodes.specs.Nodes.{Nodes}
-use Rattle.art_nodes.specs.declared.node.LeafNode.{LeafNode}
-use Rattle.art_nodes.specs.declared.node.NodeType.{NodeType}
-use Rattle.art_nodes.specs.declared.node.OpaqueNodePtr.{OpaqueNodePtr}
+use Rattle.art_parts.specs.declared.leaf.LeafNode.{LeafNode}
+use Rattle.art_parts.specs.declared.names.NodeType.{NodeType}
+use Rattle.art_parts.specs.declared.names.OpaqueNodePtr.{OpaqueNodePtr}
 use Rattle.art_model.specs.Stores.{held, held_leaf, held_inner}
 use Rattle.art_model.specs.Trees.{Tree, leaf, inner, Subtrees, child, no_child}
 

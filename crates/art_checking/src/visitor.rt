@@ -1,9 +1,9 @@
 //! Visitors, which fold a tree.
-ghost use Rattle.art_nodes.specs.Inner.{Inner};
-ghost use Rattle.art_nodes.specs.Kinds.{ref_kind, ref_view};
-ghost use Rattle.art_nodes.specs.declared.node.LeafNode.{LeafNode};
-ghost use Rattle.art_nodes.specs.declared.node.NodeType.{NodeType};
-ghost use Rattle.art_nodes.specs.declared.node.OpaqueNodePtr.{OpaqueNodePtr};
+ghost use Rattle.art_inner.specs.Inner.{Inner};
+ghost use Rattle.art_inner.specs.Views.{ref_kind, ref_view};
+ghost use Rattle.art_parts.specs.declared.leaf.LeafNode.{LeafNode};
+ghost use Rattle.art_parts.specs.declared.names.NodeType.{NodeType};
+ghost use Rattle.art_parts.specs.declared.names.OpaqueNodePtr.{OpaqueNodePtr};
 ghost use Rattle.art_model.specs.Pairs.{of_key};
 ghost use Rattle.art_model.specs.Roots.{ForTree, IsCanonicalRoot, IsFullTree};
 ghost use Rattle.art_model.specs.Trees.{Tree};

@@ -4,14 +4,15 @@ use Rattle.std.specs.List.{AllByRecursion as Each}
 use Rattle.std.specs.Option.{option_map}
 use Rattle.std.specs.FinMap as map
 use Rattle.std.proofs.lemmas.Bool.{false≢true}
-use Rattle.art_nodes.specs.Inner.{Inner}
-use Rattle.art_nodes.specs.Nodes.{Nodes, leaf_cmp}
-use Rattle.art_nodes.specs.declared.node.LeafNode.{LeafNode}
-use Rattle.art_nodes.specs.declared.node.LeafPtr.{LeafPtr}
-use Rattle.art_nodes.specs.declared.node.NodeType.{NodeType}
-use Rattle.art_nodes.specs.declared.node.NodeType.TheVariants.{Node4, Node16, Node48, Node256, Leaf}
-use Rattle.art_nodes.specs.declared.node.OpaqueNodePtr.{OpaqueNodePtr}
-use Rattle.art_nodes.proofs.NameLemmas.{leaf_cmp_total, leaf_cmp-IsAntisymmetric}
+use Rattle.art_inner.specs.Inner.{Inner}
+use Rattle.art_nodes.specs.Nodes.{Nodes}
+use Rattle.art_parts.specs.Names.{leaf_cmp}
+use Rattle.art_parts.specs.declared.leaf.LeafNode.{LeafNode}
+use Rattle.art_parts.specs.declared.names.LeafPtr.{LeafPtr}
+use Rattle.art_parts.specs.declared.names.NodeType.{NodeType}
+use Rattle.art_parts.specs.declared.names.NodeType.TheVariants.{Node4, Node16, Node48, Node256, Leaf}
+use Rattle.art_parts.specs.declared.names.OpaqueNodePtr.{OpaqueNodePtr}
+use Rattle.art_parts.proofs.NameLemmas.{leaf_cmp_total, leaf_cmp-IsAntisymmetric}
 use Rattle.art_nodes.proofs.StoreLaws.{gone_elsewhere}
 use Rattle.art_model.specs.Canonical.{IsCanonicalTree}
 use Rattle.art_model.specs.Layouts.{leaf_node, leaf_names, leaf_names_below, Holds, HoldsBelow, AreDistinct}

@@ -5,11 +5,11 @@ use Rattle.std.specs.List.{cons_option}
 use Rattle.std.specs.Option.{option_map}
 use Rattle.std.proofs.lemmas.List.{length-map}
 use Rattle.std.proofs.lemmas.List.Filters.{length-filter_both}
-use Rattle.art_nodes.specs.Names.{leaf_name}
+use Rattle.art_parts.specs.Names.{leaf_name}
 use Rattle.art_nodes.specs.Nodes.{Nodes}
-use Rattle.art_nodes.specs.declared.node.LeafNode.{LeafNode}
-use Rattle.art_nodes.specs.declared.node.LeafPtr.{LeafPtr}
-use Rattle.art_nodes.specs.declared.node.OpaqueNodePtr.{OpaqueNodePtr}
+use Rattle.art_parts.specs.declared.leaf.LeafNode.{LeafNode}
+use Rattle.art_parts.specs.declared.names.LeafPtr.{LeafPtr}
+use Rattle.art_parts.specs.declared.names.OpaqueNodePtr.{OpaqueNodePtr}
 use Rattle.art_model.specs.Canonical.{IsCanonicalTree, IsCanonical}
 use Rattle.art_model.specs.Footprints.{IsIn}
 use Rattle.art_model.specs.Kept.{ChangesInPlace, KeepsOthers, names_in}

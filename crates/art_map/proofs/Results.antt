@@ -1,7 +1,7 @@
 -- What a change leaves, by the pairs that are read off.
 use Rattle.std.proofs.Common.{◌≡◌, ◌≢◌, ℕ, List, length, Option, Result, Ok, Err, OnOk, OnErr, IfOk}
 use Rattle.art_nodes.specs.Nodes.{Nodes}
-use Rattle.art_nodes.specs.declared.node.OpaqueNodePtr.{OpaqueNodePtr}
+use Rattle.art_parts.specs.declared.names.OpaqueNodePtr.{OpaqueNodePtr}
 use Rattle.art_model.specs.Pairs.{of_key, overwrite, put, related_to}
 use Rattle.art_writing.specs.declared.insert.Refused.{Refused}
 use Rattle.art_map.specs.MapAnswers.{MayRefuse}

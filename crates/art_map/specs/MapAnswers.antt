@@ -2,7 +2,7 @@
 use Rattle.std.specs.Prelude.{◌≡◌, ℕ, true, false, List, [], ◌∷◌, length, Option, Some, None}
 use Rattle.std.specs.Box.{boxed_slice_items}
 use Rattle.std.specs.Option.{option_map}
-use Rattle.art_nodes.specs.declared.node.OpaqueNodePtr.{OpaqueNodePtr}
+use Rattle.art_parts.specs.declared.names.OpaqueNodePtr.{OpaqueNodePtr}
 use Rattle.art_model.specs.Footprints.{IsIn}
 use Rattle.art_model.specs.Pairs.{of_key, first_of, last_of, without_first, without_last, with_key, has_key, is_conflict}
 use Rattle.art_model.specs.Paths.{Frame, fill, plug}

@@ -1,7 +1,7 @@
 -- What a change leaves of a store, a root and a length that stand for pairs. No public clause cites this module.
 use Rattle.std.specs.Prelude.{◌≡◌, ◌≢◌, ℕ, false, List, [], ◌∷◌, length, Option, Some, None, Result, Ok, Err}
 use Rattle.art_nodes.specs.Nodes.{Nodes}
-use Rattle.art_nodes.specs.declared.node.OpaqueNodePtr.{OpaqueNodePtr}
+use Rattle.art_parts.specs.declared.names.OpaqueNodePtr.{OpaqueNodePtr}
 use Rattle.art_model.specs.Clones.{AreClones}
 use Rattle.art_model.specs.Pairs.{of_key, is_conflict, put, put_reply, overwrite, related_to}
 use Rattle.art_writing.specs.declared.insert.PrefixInsertResult.{PrefixInsertResult}

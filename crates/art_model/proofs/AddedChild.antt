@@ -2,12 +2,12 @@
 use Rattle.std.proofs.Common.{◌≡◌, ◌≢◌, ℕ, suc, ◌<◌, ◌≤◌, List, [], length, Some, None, refl, ap, sym, ◌∙◌, subst, arith, eq-eqb, inl, inr}
 use Rattle.std.specs.List.{AllByRecursion as Each}
 use Rattle.std.proofs.lemmas.Bool.{cases_order, ne_eqb}
-use Rattle.art_nodes.specs.Inner.{child_at}
-use Rattle.art_nodes.specs.Kinds.{kind_capacity, larger_kind}
+use Rattle.art_inner.specs.Inner.{child_at}
+use Rattle.art_parts.specs.Kinds.{kind_capacity, larger_kind}
 use Rattle.art_nodes.specs.Nodes.{Nodes}
-use Rattle.art_nodes.specs.declared.node.NodeType.{NodeType}
-use Rattle.art_nodes.specs.declared.node.NodeType.TheVariants.{Node4, Node16, Node48, Node256, Leaf}
-use Rattle.art_nodes.specs.declared.node.OpaqueNodePtr.{OpaqueNodePtr}
+use Rattle.art_parts.specs.declared.names.NodeType.{NodeType}
+use Rattle.art_parts.specs.declared.names.NodeType.TheVariants.{Node4, Node16, Node48, Node256, Leaf}
+use Rattle.art_parts.specs.declared.names.OpaqueNodePtr.{OpaqueNodePtr}
 use Rattle.art_model.specs.Trees.{leaf, inner, Subtrees, child, no_child, NodeHeader, canonical_header, kind_of}
 use Rattle.art_model.specs.Radix.{BytesRise, bytes_of, join}
 use Rattle.art_model.specs.Paths.{Frame, plug}

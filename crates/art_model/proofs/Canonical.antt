@@ -5,7 +5,7 @@ use Rattle.art_model.specs.Radix.{unmarked, all_unmarked, pairs_of, pairs_below,
 use Rattle.art_model.specs.Pairs.{IsMap}
 use Rattle.art_model.specs.Layouts.{Node, name_of, names_of, leaf_names, Holds, AreDistinct, Links, AreLinked}
 use Rattle.art_nodes.specs.Nodes.{Nodes}
-use Rattle.art_nodes.specs.declared.node.OpaqueNodePtr.{OpaqueNodePtr}
+use Rattle.art_parts.specs.declared.names.OpaqueNodePtr.{OpaqueNodePtr}
 use Rattle.art_model.specs.Canonical.{IsCanonicalTree}
 use Rattle.art_model.specs.Stores.{node_at, links_at}
 use Rattle.art_model.proofs.Build.{build_root}

@@ -2,13 +2,13 @@
 use Rattle.std.proofs.Common.{◌≡◌, ◌≢◌, List, [], ◌∷◌, ◌++◌, Option, Some, None, refl, ap, sym, ◌∙◌, subst, inl, inr}
 use Rattle.std.specs.Option.{option_map, option_and_then}
 use Rattle.std.specs.FinMap.{get}
-use Rattle.art_nodes.specs.Inner.{Inner}
-use Rattle.art_nodes.specs.Names.{leaf_name}
+use Rattle.art_inner.specs.Inner.{Inner}
+use Rattle.art_parts.specs.Names.{leaf_name}
 use Rattle.art_nodes.specs.Nodes.{Nodes}
-use Rattle.art_nodes.specs.declared.node.NodeType.TheVariants.{Leaf}
-use Rattle.art_nodes.specs.declared.node.LeafPtr.{LeafPtr}
-use Rattle.art_nodes.specs.declared.node.OpaqueNodePtr.{OpaqueNodePtr}
-use Rattle.art_nodes.specs.declared.node.LeafNode.{LeafNode}
+use Rattle.art_parts.specs.declared.names.NodeType.TheVariants.{Leaf}
+use Rattle.art_parts.specs.declared.names.LeafPtr.{LeafPtr}
+use Rattle.art_parts.specs.declared.names.OpaqueNodePtr.{OpaqueNodePtr}
+use Rattle.art_parts.specs.declared.leaf.LeafNode.{LeafNode}
 use Rattle.art_model.specs.Layouts.{leaf_node, leaf_names, Holds, Links, AreLinked, AreDistinct, first_or, last_or}
 use Rattle.art_model.specs.Stores.{node_at, pair_of, held_leaf, held_inner, links_at, links_of}
 use Rattle.art_model.specs.Writes.{IsThere, with_next, with_previous, joined, with_leaf, without_leaf}

@@ -3,17 +3,17 @@ use Rattle.std.proofs.Common.{◌≡◌, ◌≢◌, ℕ, ◌≤◌, List, [], �
 use Rattle.std.specs.List.{AllByRecursion as Each}
 use Rattle.std.specs.Option.{option_map}
 use Rattle.std.specs.FinMap.{get, remove}
-use Rattle.art_nodes.specs.Changes.{with_header}
-use Rattle.art_nodes.specs.Inner as nodes
-use Rattle.art_nodes.specs.Names.{leaf_name, inner_name}
+use Rattle.art_inner.specs.Changes.{with_header}
+use Rattle.art_parts.specs.Headers as headers
+use Rattle.art_parts.specs.Names.{leaf_name, inner_name}
 use Rattle.art_nodes.specs.Nodes.{Nodes, change}
-use Rattle.art_nodes.specs.declared.node.NodeType.{NodeType}
-use Rattle.art_nodes.specs.declared.node.NodeType.TheVariants.{Leaf}
-use Rattle.art_nodes.specs.declared.node.LeafPtr.{LeafPtr}
-use Rattle.art_nodes.specs.declared.node.InnerPtr.{InnerPtr}
-use Rattle.art_nodes.specs.declared.node.LeafNode.{LeafNode}
-use Rattle.art_nodes.specs.declared.node.OpaqueNodePtr.{OpaqueNodePtr}
-use Rattle.art_nodes.proofs.NameLemmas.{inner_cmp_total, inner_cmp-IsAntisymmetric}
+use Rattle.art_parts.specs.declared.names.NodeType.{NodeType}
+use Rattle.art_parts.specs.declared.names.NodeType.TheVariants.{Leaf}
+use Rattle.art_parts.specs.declared.names.LeafPtr.{LeafPtr}
+use Rattle.art_parts.specs.declared.names.InnerPtr.{InnerPtr}
+use Rattle.art_parts.specs.declared.leaf.LeafNode.{LeafNode}
+use Rattle.art_parts.specs.declared.names.OpaqueNodePtr.{OpaqueNodePtr}
+use Rattle.art_parts.proofs.NameLemmas.{inner_cmp_total, inner_cmp-IsAntisymmetric}
 use Rattle.art_nodes.proofs.StoreLaws.{inner_changed_at, inner_changed_elsewhere, inner_gone_elsewhere}
 use Rattle.art_model.specs.Trees.{Tree, leaf, inner, Subtrees, child, no_child, NodeHeader, canonical_header}
 use Rattle.art_model.specs.Radix.{IsRadix, bytes_of, join}
@@ -52,7 +52,7 @@ module _ {A : Type 0} (P : ℕ) (prefix : List ℕ) where
   -- and so in a store
   abbrev pub prefix_written : Tree OpaqueNodePtr A → Inners → Inners
   prefix_written (leaf k y) inners = inners
-  prefix_written (inner k head cs) inners = change inners (as_inner k) (with_header (nodes.header_of P prefix))
+  prefix_written (inner k head cs) inners = change inners (as_inner k) (with_header (headers.header_of P prefix))
 
 -- the node whose prefix is written
 abbrev pub rewritten : {A : Type 0} → Tree OpaqueNodePtr A → List OpaqueNodePtr
@@ -162,7 +162,7 @@ module _ {K V : Type 0} {bytes : K × V → List ℕ} {P : ℕ} {s t : Nodes K V
       go : (w : Tree OpaqueNodePtr (K × V)) (prefix : List ℕ) → (IsIn k (rewritten w) → ⊥) → get (prefix_written P prefix w (remove s.inners (as_inner m))) (as_inner k) ≡ get s.inners (as_inner k)
       go (leaf j y) prefix f = without
       go (inner j head cs) prefix f =
-          inner_changed_elsewhere (remove s.inners (as_inner m)) (as_inner j) (as_inner k) (with_header (nodes.header_of P prefix)) (λ e. f (inl (sym (inner_name_one k j e)))) ∙ without
+          inner_changed_elsewhere (remove s.inners (as_inner m)) (as_inner j) (as_inner k) (with_header (headers.header_of P prefix)) (λ e. f (inl (sym (inner_name_one k j e)))) ∙ without
 
   -- the parent is still as it was then
   pub above_same : (k : OpaqueNodePtr) → IsParent fs k → get middle (as_inner k) ≡ get s.inners (as_inner k)
@@ -205,10 +205,10 @@ module _ {K V : Type 0} {bytes : K × V → List ℕ} {P : ℕ} {s t : Nodes K V
       go (inner k head cs) one radix holds apart new has same =
           let prefix = is.hole.radix.0 ++ c ∷ radix.0 in
           let (off, node, got, head_is, kids) = inner_at s k head (slots_of cs) holds.0 in
-          let there : get t.inners (as_inner k) ≡ Some (with_header (nodes.header_of P prefix) node) =
-          new ∙ inner_changed_at (remove s.inners (as_inner m)) (as_inner k) (with_header (nodes.header_of P prefix))
-          ∙ ap (option_map (with_header (nodes.header_of P prefix))) (inner_gone_elsewhere s.inners (as_inner m) (as_inner k) (λ e. apart (inner_name_one k m e)) ∙ got) in
-          merged_node old is.hole relinked c k head cs one radix (node_at-inner t k off (Some (with_header (nodes.header_of P prefix) node)) there ∙
+          let there : get t.inners (as_inner k) ≡ Some (with_header (headers.header_of P prefix) node) =
+          new ∙ inner_changed_at (remove s.inners (as_inner m)) (as_inner k) (with_header (headers.header_of P prefix))
+          ∙ ap (option_map (with_header (headers.header_of P prefix))) (inner_gone_elsewhere s.inners (as_inner m) (as_inner k) (λ e. apart (inner_name_one k m e)) ∙ got) in
+          merged_node old is.hole relinked c k head cs one radix (node_at-inner t k off (Some (with_header (headers.header_of P prefix) node)) there ∙
           shown prefix (ap (λ z. z.kind) (head_is ∙ radix.1)) kids) has same
 
   -- the root is canonical for the pairs without the key
@@ -230,7 +230,7 @@ module _ {K V : Type 0} {bytes : K × V → List ℕ} {P : ℕ} {s t : Nodes K V
       go : (w : Tree OpaqueNodePtr (K × V)) (prefix : List ℕ) → ((k : OpaqueNodePtr) → IsIn k (rewritten w) → get s.inners (as_inner k) ≢ None) → ((k : OpaqueNodePtr) → IsIn k (rewritten w) → k ≢ m) →
           Touched s.inners (prefix_written P prefix w (remove s.inners (as_inner m))) [] (as_inner m ∷ []) (map as_inner (rewritten w))
       go (leaf j y) prefix there apart = freed
-      go (inner j head cs) prefix there apart = then_changed inner_cmp_total inner_cmp-IsAntisymmetric freed (as_inner j) (with_header (nodes.header_of P prefix)) (there j (inl refl))
+      go (inner j head cs) prefix there apart = then_changed inner_cmp_total inner_cmp-IsAntisymmetric freed (as_inner j) (with_header (headers.header_of P prefix)) (there j (inl refl))
           (λ e. there j (inl refl) (sym (inner_gone_elsewhere s.inners (as_inner m) (as_inner j) (λ f. apart j (inl refl) (inner_name_one j m f))) ∙ e))
 
   touched_inners : Touched s.inners t.inners [] (as_inner m ∷ []) (parents fs ++ map as_inner (rewritten v))

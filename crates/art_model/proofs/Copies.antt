@@ -2,7 +2,7 @@
 use Rattle.std.proofs.Common.{◌≡◌, ◌≤◌, ℕ, List, [], ◌∷◌, ◌++◌, length, ap, sym, ◌∙◌, subst, refl}
 use Rattle.std.specs.List.{AllZip}
 use Rattle.art_nodes.specs.Nodes.{Nodes}
-use Rattle.art_nodes.specs.declared.node.OpaqueNodePtr.{OpaqueNodePtr}
+use Rattle.art_parts.specs.declared.names.OpaqueNodePtr.{OpaqueNodePtr}
 use Rattle.art_model.specs.Keys.{IsFront}
 use Rattle.art_model.specs.Trees.{Tree, leaf, inner, Subtrees, child, no_child, canonical_header}
 use Rattle.art_model.specs.Radix.{IsRadix, AreRadix, BytesRise, bytes_of, join, pairs_of, pairs_below}

@@ -4,13 +4,13 @@ use Rattle.std.proofs.lemmas.List.{length-take-le}
 use Rattle.std.proofs.lemmas.Cmp.{nat_list_cmp_total}
 use Rattle.std.specs.Cmp.Lexicographic.{slice_cmp}
 use Rattle.std.specs.Ordering.{nat_cmp, ordering_reverse}
-use Rattle.art_nodes.specs.Inner.{child_at}
+use Rattle.art_inner.specs.Inner.{child_at}
 use Rattle.std.specs.List.{AllByRecursion as Each}
-use Rattle.art_nodes.specs.Kinds.{kind_least}
+use Rattle.art_parts.specs.Kinds.{kind_least}
 use Rattle.art_nodes.specs.Nodes.{Nodes}
-use Rattle.art_nodes.specs.declared.node.NodeType.{NodeType}
-use Rattle.art_nodes.specs.declared.node.NodeType.TheVariants.{Node4, Node16, Node48, Node256, Leaf}
-use Rattle.art_nodes.specs.declared.node.OpaqueNodePtr.{OpaqueNodePtr}
+use Rattle.art_parts.specs.declared.names.NodeType.{NodeType}
+use Rattle.art_parts.specs.declared.names.NodeType.TheVariants.{Node4, Node16, Node48, Node256, Leaf}
+use Rattle.art_parts.specs.declared.names.OpaqueNodePtr.{OpaqueNodePtr}
 use Rattle.art_model.specs.Faults.{Fault, loop_found, wrong_children_count, prefix_mismatch, empty_tree_with_len, leaf_sibling_wrong_order, wrong_sibling_links, dead_name, unreadable_prefix, stored_prefix_mismatch, out_of_memory, IsTrueOf, IsLoop, HasWrongOrder, Reaches, HasWrongCount, HasForeignKey, HasWrongLinks, HasSibling, IsDead, StoresOthers, EndsBadly, IsUnreadable}
 use Rattle.std.specs.declared.cmp.Ordering.{Ordering}
 use Rattle.std.specs.declared.cmp.Ordering.TheVariants.{Less, Greater}

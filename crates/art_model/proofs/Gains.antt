@@ -5,16 +5,16 @@ use Rattle.std.specs.Option.{option_map, option_and_then}
 use Rattle.std.specs.FinMap.{get, insert}
 use Rattle.std.proofs.lemmas.Bool.{lt-ltb}
 use Rattle.std.proofs.lemmas.List.{map-append}
-use Rattle.art_nodes.specs.Changes.{with_child}
-use Rattle.art_nodes.specs.Inner.{Inner, put_child}
-use Rattle.art_nodes.specs.Names.{leaf_name, inner_name}
+use Rattle.art_inner.specs.Changes.{with_child}
+use Rattle.art_inner.specs.Inner.{Inner, put_child}
+use Rattle.art_parts.specs.Names.{leaf_name, inner_name}
 use Rattle.art_nodes.specs.Nodes.{Nodes, change}
-use Rattle.art_nodes.specs.declared.node.NodeType.TheVariants.{Leaf}
-use Rattle.art_nodes.specs.declared.node.LeafPtr.{LeafPtr}
-use Rattle.art_nodes.specs.declared.node.LeafNode.{LeafNode}
-use Rattle.art_nodes.specs.declared.node.InnerPtr.{InnerPtr}
-use Rattle.art_nodes.specs.declared.node.OpaqueNodePtr.{OpaqueNodePtr}
-use Rattle.art_nodes.proofs.NameLemmas.{leaf_cmp_total, inner_cmp_total, leaf_cmp-IsAntisymmetric, inner_cmp-IsAntisymmetric}
+use Rattle.art_parts.specs.declared.names.NodeType.TheVariants.{Leaf}
+use Rattle.art_parts.specs.declared.names.LeafPtr.{LeafPtr}
+use Rattle.art_parts.specs.declared.leaf.LeafNode.{LeafNode}
+use Rattle.art_parts.specs.declared.names.InnerPtr.{InnerPtr}
+use Rattle.art_parts.specs.declared.names.OpaqueNodePtr.{OpaqueNodePtr}
+use Rattle.art_parts.proofs.NameLemmas.{leaf_cmp_total, inner_cmp_total, leaf_cmp-IsAntisymmetric, inner_cmp-IsAntisymmetric}
 use Rattle.art_nodes.proofs.StoreLaws.{leaf_here, inner_here, inner_changed_here, inner_changed_elsewhere}
 use Rattle.art_model.specs.Trees.{Tree, leaf, inner, Subtrees, child, no_child, NodeHeader}
 use Rattle.art_model.specs.Radix.{join, bytes_of}

@@ -1,7 +1,7 @@
 -- What a change in place keeps, from the lists of names that it touches and from the model's lists of nodes.
 use Rattle.std.proofs.Common.{◌≡◌, ℕ, List, [], refl, sym, Option, None, ◌⊎◌, inl, inr}
 use Rattle.art_nodes.specs.Nodes.{Nodes}
-use Rattle.art_nodes.specs.declared.node.OpaqueNodePtr.{OpaqueNodePtr}
+use Rattle.art_parts.specs.declared.names.OpaqueNodePtr.{OpaqueNodePtr}
 use Rattle.art_model.specs.Trees.{Tree}
 use Rattle.art_model.specs.Stores.{held, IsUsed}
 use Rattle.art_model.specs.Footprints.{IsIn, Footprint}

@@ -3,11 +3,11 @@ use Rattle.std.proofs.Common.{◌≡◌, ◌≢◌, ℕ, List, [], ◌∷◌, �
 use Rattle.std.proofs.lemmas.Bool.{cases_eq}
 use Rattle.std.specs.Option.{option_map}
 use Rattle.std.specs.FinMap.{get, insert}
-use Rattle.art_nodes.specs.Names.{leaf_name}
-use Rattle.art_nodes.specs.declared.node.LeafPtr.{LeafPtr}
-use Rattle.art_nodes.specs.declared.node.OpaqueNodePtr.{OpaqueNodePtr}
-use Rattle.art_nodes.specs.declared.node.LeafNode.{LeafNode}
-use Rattle.art_nodes.proofs.NameLemmas.{leaf_cmp_total, leaf_cmp-IsAntisymmetric}
+use Rattle.art_parts.specs.Names.{leaf_name}
+use Rattle.art_parts.specs.declared.names.LeafPtr.{LeafPtr}
+use Rattle.art_parts.specs.declared.names.OpaqueNodePtr.{OpaqueNodePtr}
+use Rattle.art_parts.specs.declared.leaf.LeafNode.{LeafNode}
+use Rattle.art_parts.proofs.NameLemmas.{leaf_cmp_total, leaf_cmp-IsAntisymmetric}
 use Rattle.art_nodes.proofs.StoreLaws.{leaf_here, leaf_elsewhere, leaf_gone_elsewhere, leaf_changed_at, leaf_changed_elsewhere}
 use Rattle.art_model.specs.Stores.{pair_of}
 use Rattle.art_model.specs.Writes.{IsThere, Leaves, with_next, with_previous, change_some, joined, with_leaf, without_leaf}

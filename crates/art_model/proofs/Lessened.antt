@@ -1,8 +1,9 @@
 -- Promises of which less and less is left.
 use Rattle.std.proofs.Common.{◌≡◌, ℕ, zero, suc, Bool, true, false, ◌&&◌, cond, leb, eqb, eqb-true, eq-eqb, Option, Some, None, refl, ◌∙◌, arith}
 use Rattle.std.proofs.lemmas.Bool.{le-leb, leb-true}
-use Rattle.art_nodes.specs.Nodes.{Promise, covers, promises, no_promise, take_leaf, take_inner, kind_index}
-use Rattle.art_nodes.specs.declared.node.NodeType.{NodeType}
+use Rattle.art_nodes.specs.Nodes.{Promise, covers, promises, no_promise, take_leaf, take_inner}
+use Rattle.art_parts.specs.Kinds.{kind_index}
+use Rattle.art_parts.specs.declared.names.NodeType.{NodeType}
 use Rattle.art_model.specs.Promises.{IsLessened}
 
 both : (a b : Bool) → (a && b) ≡ true → (a ≡ true) × (b ≡ true)

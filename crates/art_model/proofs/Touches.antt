@@ -7,14 +7,14 @@ use Rattle.std.specs.Ordering.{eq_by_cmp}
 use Rattle.std.specs.Cmp.{IsTotalOrder}
 use Rattle.std.specs.FinMap.{FinMap, IsAntisymmetric, get, insert, remove, get-insert, get-remove}
 use Rattle.std.specs.declared.cmp.Ordering.{Ordering}
-use Rattle.art_nodes.specs.Inner.{Inner}
-use Rattle.art_nodes.specs.declared.node.LeafNode.{LeafNode}
-use Rattle.art_nodes.specs.Names.{leaf_name, inner_name}
+use Rattle.art_inner.specs.Inner.{Inner}
+use Rattle.art_parts.specs.declared.leaf.LeafNode.{LeafNode}
+use Rattle.art_parts.specs.Names.{leaf_name, inner_name}
 use Rattle.art_nodes.specs.Nodes.{Nodes, change}
-use Rattle.art_nodes.specs.declared.node.NodeType.TheVariants.{Leaf}
-use Rattle.art_nodes.specs.declared.node.LeafPtr.{LeafPtr}
-use Rattle.art_nodes.specs.declared.node.InnerPtr.{InnerPtr}
-use Rattle.art_nodes.specs.declared.node.OpaqueNodePtr.{OpaqueNodePtr}
+use Rattle.art_parts.specs.declared.names.NodeType.TheVariants.{Leaf}
+use Rattle.art_parts.specs.declared.names.LeafPtr.{LeafPtr}
+use Rattle.art_parts.specs.declared.names.InnerPtr.{InnerPtr}
+use Rattle.art_parts.specs.declared.names.OpaqueNodePtr.{OpaqueNodePtr}
 use Rattle.art_nodes.proofs.StoreLaws.{elsewhere, here, gone, gone_elsewhere, changed_from, changed_elsewhere}
 use Rattle.art_model.specs.Stores.{Held, held_leaf, held_inner, held}
 use Rattle.art_model.specs.Footprints.{IsIn, Footprint, TouchesAtMost}

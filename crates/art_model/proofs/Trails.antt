@@ -1,7 +1,7 @@
 -- a way from a root is read in one manner, so that other places have other ways
 use Rattle.std.proofs.Common.{◌≡◌, ◌≢◌, ℕ, List, [], ◌∷◌, ◌++◌, length, take, drop, ap, ap₂, sym, ◌∙◌, arith, subst, Option, Some, inl, inr}
-use Rattle.art_nodes.specs.Inner.{child_at}
-use Rattle.art_nodes.specs.declared.node.OpaqueNodePtr.{OpaqueNodePtr}
+use Rattle.art_inner.specs.Inner.{child_at}
+use Rattle.art_parts.specs.declared.names.OpaqueNodePtr.{OpaqueNodePtr}
 use Rattle.art_model.specs.Layouts.{Node, leaf_node}
 use Rattle.art_model.specs.Trails.{way_of, bottom_of, IsDescent, IsPrefix, HasPrefix, IsTrail, IsReadAs, IsReached}
 

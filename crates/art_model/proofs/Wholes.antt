@@ -1,7 +1,7 @@
 -- The whole bytes of inner nodes: no two nodes of a tree have the same ones, so names that stay are told by them.
 use Rattle.std.proofs.Common.{◌≡◌, ◌≢◌, ℕ, ◌+◌, ◌<◌, ◌≤◌, List, [], ◌∷◌, ◌++◌, length, take, refl, ap, ap₂, sym, ◌∙◌, arith, subst, append_assoc, append-nil, length-append, inl, inr}
 use Rattle.std.specs.List.{AllByRecursion as Each}
-use Rattle.art_nodes.specs.declared.node.NodeType.{NodeType}
+use Rattle.art_parts.specs.declared.names.NodeType.{NodeType}
 use Rattle.art_model.specs.Keys.{IsFront}
 use Rattle.art_model.specs.Trees.{Tree, leaf, inner, Subtrees, child, no_child, NodeHeader, canonical_header}
 use Rattle.art_model.specs.Radix.{IsRadix, AreRadix, BytesRise, bytes_of, join}

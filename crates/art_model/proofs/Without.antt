@@ -4,7 +4,7 @@ use Rattle.std.specs.Cmp.{IsTotalOrder}
 use Rattle.std.specs.FinMap.{FinMap, IsAntisymmetric, get, insert, remove, same_map}
 use Rattle.std.specs.declared.cmp.Ordering.{Ordering}
 use Rattle.art_nodes.specs.Nodes.{change}
-use Rattle.art_nodes.proofs.NameLemmas.{same_or_not}
+use Rattle.art_parts.proofs.NameLemmas.{same_or_not}
 use Rattle.art_nodes.proofs.StoreLaws.{elsewhere, gone, gone_elsewhere, changed_elsewhere}
 use Rattle.art_model.specs.Footprints.{IsIn}
 use Rattle.art_model.specs.Gains.{without}

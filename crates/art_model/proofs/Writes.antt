@@ -3,16 +3,16 @@ use Rattle.std.proofs.Common.{◌≡◌, ◌≢◌, ℕ, ◌+◌, ◌<◌, ◌�
 use Rattle.std.specs.List.{AllByRecursion as Each}
 use Rattle.std.specs.Option.{option_map}
 use Rattle.std.specs.FinMap.{get}
-use Rattle.art_nodes.specs.Inner.{Inner, put_child, child_at}
-use Rattle.art_nodes.specs.Changes.{with_child}
-use Rattle.art_nodes.specs.Names.{leaf_name}
+use Rattle.art_inner.specs.Inner.{Inner, put_child, child_at}
+use Rattle.art_inner.specs.Changes.{with_child}
+use Rattle.art_parts.specs.Names.{leaf_name}
 use Rattle.art_nodes.specs.Nodes.{Nodes}
-use Rattle.art_nodes.specs.declared.node.NodeType.TheVariants.{Leaf}
-use Rattle.art_nodes.specs.declared.node.LeafPtr.{LeafPtr}
-use Rattle.art_nodes.specs.declared.node.LeafNode.{LeafNode}
-use Rattle.art_nodes.specs.declared.node.InnerPtr.{InnerPtr}
-use Rattle.art_nodes.specs.declared.node.OpaqueNodePtr.{OpaqueNodePtr}
-use Rattle.art_nodes.proofs.NameLemmas.{inner_cmp_total, inner_cmp-IsAntisymmetric}
+use Rattle.art_parts.specs.declared.names.NodeType.TheVariants.{Leaf}
+use Rattle.art_parts.specs.declared.names.LeafPtr.{LeafPtr}
+use Rattle.art_parts.specs.declared.leaf.LeafNode.{LeafNode}
+use Rattle.art_parts.specs.declared.names.InnerPtr.{InnerPtr}
+use Rattle.art_parts.specs.declared.names.OpaqueNodePtr.{OpaqueNodePtr}
+use Rattle.art_parts.proofs.NameLemmas.{inner_cmp_total, inner_cmp-IsAntisymmetric}
 use Rattle.art_nodes.proofs.StoreLaws.{inner_changed_at, inner_changed_elsewhere}
 use Rattle.art_model.specs.Trees.{NodeHeader, canonical_header, kind_of}
 use Rattle.art_model.specs.Radix.{bytes_of}

@@ -1,7 +1,7 @@
 -- A root that is the canonical tree of pairs.
 use Rattle.std.specs.Prelude.{◌≡◌, ℕ, List, [], Option, Some, None}
 use Rattle.art_nodes.specs.Nodes.{Nodes}
-use Rattle.art_nodes.specs.declared.node.OpaqueNodePtr.{OpaqueNodePtr}
+use Rattle.art_parts.specs.declared.names.OpaqueNodePtr.{OpaqueNodePtr}
 use Rattle.art_model.specs.Trees.{Tree, tree_of}
 use Rattle.art_model.specs.Pairs.{IsMap}
 use Rattle.art_model.specs.Layouts.{StandsFor, AreLinked, leaf_names}

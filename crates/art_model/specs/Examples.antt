@@ -1,8 +1,8 @@
 -- Small maps and their trees, to be compared with what the definitions compute. Where values don't matter a pair is its key alone.
 use Rattle.std.specs.Prelude.{ℕ, zero, suc, ◌+◌, cond, eqb, List, [], ◌∷◌, ◌++◌, Option, Some, None}
-use Rattle.art_nodes.specs.declared.node.NodeType.{NodeType}
-use Rattle.art_nodes.specs.declared.node.NodeType.TheVariants.{Node4, Leaf}
-use Rattle.art_nodes.specs.declared.node.OpaqueNodePtr.{OpaqueNodePtr}
+use Rattle.art_parts.specs.declared.names.NodeType.{NodeType}
+use Rattle.art_parts.specs.declared.names.NodeType.TheVariants.{Node4, Leaf}
+use Rattle.art_parts.specs.declared.names.OpaqueNodePtr.{OpaqueNodePtr}
 use Rattle.art_model.specs.Pairs.{of_key}
 use Rattle.art_model.specs.Trees.{Tree, leaf, inner, Subtrees, child, no_child, NodeHeader, tree_of}
 use Rattle.art_model.specs.Layouts.{Node, leaf_node, inner_node, Links}

@@ -2,13 +2,13 @@
 use Rattle.std.specs.Prelude.{ℕ, List, [], ◌∷◌, Option, Some, None}
 use Rattle.std.specs.FinMap as map
 use Rattle.std.specs.Option.{option_map}
-use Rattle.art_nodes.specs.Inner.{Inner}
+use Rattle.art_inner.specs.Inner.{Inner}
 use Rattle.art_nodes.specs.Nodes.{Nodes, no_promise}
-use Rattle.art_nodes.specs.declared.node.InnerPtr.{InnerPtr}
-use Rattle.art_nodes.specs.declared.node.LeafNode.{LeafNode}
-use Rattle.art_nodes.specs.declared.node.LeafPtr.{LeafPtr}
-use Rattle.art_nodes.specs.declared.node.NodeType.TheVariants.{Node4}
-use Rattle.art_nodes.specs.declared.node.OpaqueNodePtr.{OpaqueNodePtr}
+use Rattle.art_parts.specs.declared.names.InnerPtr.{InnerPtr}
+use Rattle.art_parts.specs.declared.leaf.LeafNode.{LeafNode}
+use Rattle.art_parts.specs.declared.names.LeafPtr.{LeafPtr}
+use Rattle.art_parts.specs.declared.names.NodeType.TheVariants.{Node4}
+use Rattle.art_parts.specs.declared.names.OpaqueNodePtr.{OpaqueNodePtr}
 use Rattle.art_model.specs.Examples.{Key, node4, leaf_at}
 
 -- the store of these nodes, each list by rising names

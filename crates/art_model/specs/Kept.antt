@@ -1,8 +1,8 @@
 -- What a change in place keeps: the names of the nodes that stay, and every node beside the tree.
 use Rattle.std.specs.Prelude.{◌≡◌, ℕ, List, [], Option, Some, None}
 use Rattle.art_nodes.specs.Nodes.{Nodes}
-use Rattle.art_nodes.specs.declared.node.NodeType.{NodeType}
-use Rattle.art_nodes.specs.declared.node.OpaqueNodePtr.{OpaqueNodePtr}
+use Rattle.art_parts.specs.declared.names.NodeType.{NodeType}
+use Rattle.art_parts.specs.declared.names.OpaqueNodePtr.{OpaqueNodePtr}
 use Rattle.art_model.specs.Trees.{Tree}
 use Rattle.art_model.specs.Layouts.{names_of, entries_of}
 use Rattle.art_model.specs.Places.{inner_nodes}

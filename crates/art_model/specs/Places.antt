@@ -1,7 +1,7 @@
 -- The place of a node is the bytes that lead to it, prefixes and children's bytes from the root on. It is a front of every key below the node, so it is read off the least of them.
 use Rattle.std.specs.Prelude.{◌≡◌, ℕ, ◌+◌, ◌≤◌, List, [], ◌∷◌, ◌++◌, length, take, drop}
 use Rattle.std.specs.List.{AllByRecursion as Each}
-use Rattle.art_nodes.specs.declared.node.NodeType.{NodeType}
+use Rattle.art_parts.specs.declared.names.NodeType.{NodeType}
 use Rattle.art_model.specs.Keys.{IsFront}
 use Rattle.art_model.specs.Trees.{Tree, leaf, inner, Subtrees, child, no_child}
 use Rattle.art_model.specs.Paths.{Frame, plug}

@@ -1,7 +1,7 @@
 -- What becomes of a store's promise when nodes are placed. What an operation places is written as a promise too.
 use Rattle.std.specs.Prelude.{◌≡◌, ℕ, zero, suc, Bool, true, cond, Option, Some, None}
 use Rattle.art_nodes.specs.Nodes.{Promise, covers, no_promise, take_leaf, take_inner}
-use Rattle.art_nodes.specs.declared.node.NodeType.{NodeType}
+use Rattle.art_parts.specs.declared.names.NodeType.{NodeType}
 use Rattle.art_model.specs.Trees.{Tree, leaf, inner, Subtrees, child, no_child}
 
 -- what is left when so many leaves are placed

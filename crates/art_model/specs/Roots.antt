@@ -1,7 +1,7 @@
 -- What a call asks and says of a canonical root: of the pairs it is canonical for, and of the layout that says where their tree is.
 use Rattle.std.specs.Prelude.{◌≡◌, ℕ, List, [], Option, Some, None}
 use Rattle.art_nodes.specs.Nodes.{Nodes}
-use Rattle.art_nodes.specs.declared.node.OpaqueNodePtr.{OpaqueNodePtr}
+use Rattle.art_parts.specs.declared.names.OpaqueNodePtr.{OpaqueNodePtr}
 use Rattle.art_model.specs.Trees.{Tree}
 use Rattle.art_model.specs.Radix.{HaveChildren}
 use Rattle.art_model.specs.Layouts.{IsLayout}

@@ -1,7 +1,7 @@
 -- Radix trees, and the tree of a map: its pairs grouped by the byte after the part that their keys share.
 use Rattle.std.specs.Prelude.{ℕ, zero, suc, ◌+◌, cond, eqb, leb, List, [], ◌∷◌, length, take, drop, get_or, Option, Some, None}
-use Rattle.art_nodes.specs.declared.node.NodeType.{NodeType}
-use Rattle.art_nodes.specs.declared.node.NodeType.TheVariants.{Node4, Node16, Node48, Node256}
+use Rattle.art_parts.specs.declared.names.NodeType.{NodeType}
+use Rattle.art_parts.specs.declared.names.NodeType.TheVariants.{Node4, Node16, Node48, Node256}
 use Rattle.art_model.specs.Keys.{common_front}
 
 -- an inner node's kind, the length of its prefix, and the bytes that are stored of the prefix

@@ -1,13 +1,14 @@
 -- What writes make of a store's maps: a leaf comes between two others or goes, and a parent has another node in its hole.
 use Rattle.std.specs.Prelude.{◌≡◌, ◌≢◌, ℕ, List, [], ◌∷◌, Option, Some, None}
 use Rattle.std.specs.FinMap as map
-use Rattle.art_nodes.specs.Inner.{Inner}
-use Rattle.art_nodes.specs.Changes.{with_child}
-use Rattle.art_nodes.specs.Nodes.{leaf_cmp, inner_cmp, change}
-use Rattle.art_nodes.specs.declared.node.LeafPtr.{LeafPtr}
-use Rattle.art_nodes.specs.declared.node.InnerPtr.{InnerPtr}
-use Rattle.art_nodes.specs.declared.node.OpaqueNodePtr.{OpaqueNodePtr}
-use Rattle.art_nodes.specs.declared.node.LeafNode.{LeafNode}
+use Rattle.art_inner.specs.Inner.{Inner}
+use Rattle.art_inner.specs.Changes.{with_child}
+use Rattle.art_nodes.specs.Nodes.{change}
+use Rattle.art_parts.specs.Names.{leaf_cmp, inner_cmp}
+use Rattle.art_parts.specs.declared.names.LeafPtr.{LeafPtr}
+use Rattle.art_parts.specs.declared.names.InnerPtr.{InnerPtr}
+use Rattle.art_parts.specs.declared.names.OpaqueNodePtr.{OpaqueNodePtr}
+use Rattle.art_parts.specs.declared.leaf.LeafNode.{LeafNode}
 use Rattle.art_model.specs.Paths.{Frame}
 
 -- leaves under their names

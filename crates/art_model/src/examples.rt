@@ -2,7 +2,7 @@
 
 ghost use Rattle.std.specs.Prelude.{◌≡◌, ℕ, List, [], ◌∷◌, take, Option, Some, None, true, false};
 ghost use Rattle.std.specs.declared.cmp.Ordering.TheVariants.{Equal, Greater};
-ghost use Rattle.art_nodes.specs.declared.node.NodeType.TheVariants.{Node4, Node16, Node48, Node256};
+ghost use Rattle.art_parts.specs.declared.names.NodeType.TheVariants.{Node4, Node16, Node48, Node256};
 ghost use Rattle.art_model.specs.Pairs.{first_of, last_of, without_first, without_last, put, put_reply, overwrite, overwrite_reply, remove_key, remove_reply, match_of, is_conflict};
 ghost use Rattle.art_model.specs.Trees.{Tree, leaf};
 ghost use Rattle.art_model.specs.Radix.{unmarked};

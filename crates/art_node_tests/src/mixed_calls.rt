@@ -1,8 +1,8 @@
 //! Mixed calls of a store, each compared with a plain list of names and nodes.
 ghost use Rattle.std.specs.Prelude.{IsTrue, IsSomeAnd};
 ghost use Rattle.std.specs.FinMap as map;
-ghost use Rattle.art_nodes.specs.Inner.{HasPlace};
-ghost use Rattle.art_nodes.specs.Kinds.{kind_capacity};
+ghost use Rattle.art_inner.specs.Inner.{HasPlace};
+ghost use Rattle.art_parts.specs.Kinds.{kind_capacity};
 
 use art_nodes::node::{
     AnyInner, Header, InnerPtr, InnerRef, LeafNode, LeafPtr, NodeType, OpaqueNodePtr,

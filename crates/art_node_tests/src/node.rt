@@ -1,5 +1,6 @@
 ghost use Rattle.std.specs.Prelude.{◌≡◌, ℕ, ◌+◌, ◌≤◌, length, take, drop};
-ghost use Rattle.art_nodes.specs.Inner.{child_at, header_of};
+ghost use Rattle.art_inner.specs.Inner.{child_at};
+ghost use Rattle.art_parts.specs.Headers.{header_of};
 
 use art_nodes::node::{
     AnyInner, AsBytes, Children, FromHeader, Header, InnerNode, InnerNode4, InnerNode16,

@@ -2,8 +2,9 @@
 
 ghost use Rattle.std.specs.Prelude.{◌≡◌, ◌≢◌, Some, None, IsSome, IfSome, IfOk};
 ghost use Rattle.std.specs.FinMap as map;
-ghost use Rattle.art_nodes.specs.Changes.{with_links, with_child};
-ghost use Rattle.art_nodes.specs.Inner.{child_at, childless};
+ghost use Rattle.art_inner.specs.Changes.{with_child};
+ghost use Rattle.art_nodes.specs.LeafChanges.{with_links};
+ghost use Rattle.art_inner.specs.Inner.{child_at, childless};
 
 use art_nodes::node::{
     AnyInner, AsBytes, Header, InnerPtr, InnerRef, LeafNode, LeafPtr, NodeType, OpaqueNodePtr,

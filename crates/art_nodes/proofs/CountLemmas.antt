@@ -8,9 +8,9 @@ use Rattle.slab.specs.Slab.{entries_from}
 use Rattle.slab.proofs.SlabLemmas.{length-entries_from}
 use Rattle.std.specs.Prelude.{count_by, is_some}
 use Rattle.art_nodes.specs.StoreView.{leaves_of}
-use Rattle.art_nodes.specs.declared.node.LeafNode.{LeafNode}
-use Rattle.art_nodes.specs.declared.node.LeafPtr.{LeafPtr}
-use Rattle.art_nodes.proofs.NameLemmas.{leaf_cmp_total}
+use Rattle.art_parts.specs.declared.leaf.LeafNode.{LeafNode}
+use Rattle.art_parts.specs.declared.names.LeafPtr.{LeafPtr}
+use Rattle.art_parts.proofs.NameLemmas.{leaf_cmp_total}
 
 -- one entry more
 one_more : (there : Bool) (n k m : ℕ) → m ≡ cond there k (k + 1) → k ≤ n → m ≤ suc n

@@ -1,15 +1,16 @@
 -- A node of the next smaller kind in the place of another, and what is left of one of two children.
 use Rattle.std.proofs.Common.{◌≡◌, ◌≢◌, ℕ, [], ◌∷◌, length, slice_get, Some, None, refl, ap, sym, ◌∙◌}
 use Rattle.std.specs.FinMap.{FinMap, get, remove}
-use Rattle.art_nodes.specs.Changes.{with_child}
-use Rattle.art_nodes.specs.Inner.{Children, Inner, childless}
-use Rattle.art_nodes.specs.Kinds.{any_kind, smaller_kind}
-use Rattle.art_nodes.specs.Nodes.{inner_cmp}
-use Rattle.art_nodes.specs.declared.node.AnyInner.{AnyInner}
-use Rattle.art_nodes.specs.declared.node.AnyInner.TheVariants as any
-use Rattle.art_nodes.specs.declared.node.InnerPtr.{InnerPtr}
-use Rattle.art_nodes.specs.declared.node.OpaqueNodePtr.{OpaqueNodePtr}
-use Rattle.art_nodes.specs.declared.node.NodeType.TheVariants.{Node4}
+use Rattle.art_inner.specs.Changes.{with_child}
+use Rattle.art_inner.specs.Inner.{Children, Inner, childless}
+use Rattle.art_inner.specs.Views.{any_kind}
+use Rattle.art_parts.specs.Kinds.{smaller_kind}
+use Rattle.art_parts.specs.Names.{inner_cmp}
+use Rattle.art_inner.specs.declared.any.AnyInner.{AnyInner}
+use Rattle.art_inner.specs.declared.any.AnyInner.TheVariants as any
+use Rattle.art_parts.specs.declared.names.InnerPtr.{InnerPtr}
+use Rattle.art_parts.specs.declared.names.OpaqueNodePtr.{OpaqueNodePtr}
+use Rattle.art_parts.specs.declared.names.NodeType.TheVariants.{Node4}
 use Rattle.art_nodes.proofs.StoreLaws.{inner_gone_elsewhere}
 
 -- the next smaller kind is another one

@@ -7,7 +7,7 @@ use Rattle.std.specs.FinMap.{FinMap, IsAntisymmetric, find, get, insert, remove,
 use Rattle.std.specs.declared.cmp.Ordering.{Ordering}
 use Rattle.slab.specs.Slab.{entries_from}
 use Rattle.art_nodes.specs.Nodes.{change}
-use Rattle.art_nodes.proofs.NameLemmas.{apart, same_or_not}
+use Rattle.art_parts.proofs.NameLemmas.{apart, same_or_not}
 use Rattle.art_nodes.proofs.StoreLaws.{here, elsewhere, gone, gone_elsewhere, changed_from}
 
 -- each slot gives an entry, whose name has the slot's number, and `pick` is what a slot has under a name

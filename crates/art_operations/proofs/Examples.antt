@@ -4,7 +4,7 @@ use Rattle.std.specs.Global.{Vec}
 use Rattle.std.specs.Box.{boxed_slice_items}
 use Rattle.std.proofs.lemmas.Bool.{true≢false}
 use Rattle.art_nodes.specs.Nodes.{Promise}
-use Rattle.art_nodes.specs.declared.node.NodeType.TheVariants.{Node4, Node16}
+use Rattle.art_parts.specs.declared.names.NodeType.TheVariants.{Node4, Node16}
 use Rattle.art_operations.specs.Answers.{Answers, pairs_after_command}
 use Rattle.art_operations.specs.Needs.{needs}
 use Rattle.art_operations.specs.Runs.{Chain}

@@ -1,8 +1,8 @@
 -- The steps of a clone: to the other store, or refused.
 use Rattle.std.proofs.Common.{◌≡◌, ℕ, List, [], refl, ap, sym, ◌∙◌, subst, Option, Some, None}
-use Rattle.art_nodes.specs.Clones.{IsPairClone}
+use Rattle.art_parts.specs.Clones.{IsPairClone}
 use Rattle.art_nodes.specs.Nodes.{Nodes}
-use Rattle.art_nodes.specs.declared.node.OpaqueNodePtr.{OpaqueNodePtr}
+use Rattle.art_parts.specs.declared.names.OpaqueNodePtr.{OpaqueNodePtr}
 use Rattle.art_model.specs.Canonical.{IsCanonicalTree, IsCanonical}
 use Rattle.art_model.specs.Clones.{AreClones}
 use Rattle.art_model.specs.Kept.{Frees, KeepsOthers}

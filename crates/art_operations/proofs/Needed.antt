@@ -1,20 +1,19 @@
 -- What applied points place is what their commands need.
-use Rattle.std.proofs.Common.{◌≡◌, ◌≢◌, ℕ, suc, ◌+◌, ◌<◌, ◌≤◌, List, [], ◌∷◌, ◌++◌, length, drop, take, cond, ltb, leb, get_or, slice_get, Bool, true, false, refl, ap, ap₂, sym, ◌∙◌, subst, arith, append_assoc, length-append, Option, Some, None, inl, inr}
-use Rattle.art_nodes.proofs.NameLemmas.{same_kind}
-use Rattle.art_nodes.specs.Nodes.{kind_index}
+use Rattle.std.proofs.Common.{◌≡◌, ◌≢◌, ℕ, suc, ◌+◌, ◌<◌, ◌≤◌, List, [], ◌∷◌, ◌++◌, length, drop, take, cond, ltb, leb, get_or, slice_get, Bool, true, false, refl, ap, ap₂, sym, ◌∙◌, subst, arith, append_assoc, length-append, Option, Some, None, inl, inr, IfSome}
+use Rattle.art_parts.proofs.NameLemmas.{same_kind}
+use Rattle.art_parts.specs.Kinds.{kind_index, kind_capacity, kind_least, larger_kind, next_larger, smaller_kind}
 use Rattle.std.proofs.lemmas.Bool.{cases_Bool, leb-true, leb-false, ne_eqb}
 use Rattle.std.proofs.lemmas.Option.{slice_get_within}
 use Rattle.std.proofs.Math.Seq.{get_or-append_seam}
 use Rattle.std.specs.FinMap.{get}
 use Rattle.std.specs.Option.{is_some}
-use Rattle.art_nodes.specs.Inner.{Inner, child_at}
-use Rattle.art_nodes.specs.Kinds.{kind_capacity, kind_least, larger_kind, next_larger, smaller_kind}
-use Rattle.art_nodes.specs.Names.{leaf_name, inner_name}
+use Rattle.art_inner.specs.Inner.{Inner, child_at}
+use Rattle.art_parts.specs.Names.{leaf_name, inner_name}
 use Rattle.art_nodes.specs.Nodes.{Nodes, Promise}
-use Rattle.art_nodes.specs.declared.node.InnerPtr.{InnerPtr}
-use Rattle.art_nodes.specs.declared.node.NodeType.{NodeType}
-use Rattle.art_nodes.specs.declared.node.NodeType.TheVariants.{Node4, Node16, Node48, Node256, Leaf}
-use Rattle.art_nodes.specs.declared.node.OpaqueNodePtr.{OpaqueNodePtr}
+use Rattle.art_parts.specs.declared.names.InnerPtr.{InnerPtr}
+use Rattle.art_parts.specs.declared.names.NodeType.{NodeType}
+use Rattle.art_parts.specs.declared.names.NodeType.TheVariants.{Node4, Node16, Node48, Node256, Leaf}
+use Rattle.art_parts.specs.declared.names.OpaqueNodePtr.{OpaqueNodePtr}
 use Rattle.art_model.specs.Canonical.{IsCanonicalTree}
 use Rattle.art_model.specs.Keys.{IsFront, are_related, are_same}
 use Rattle.art_model.specs.Layouts.{name_of, slots_of, Holds}

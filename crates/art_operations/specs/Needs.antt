@@ -1,8 +1,9 @@
 -- What a command has placed in a store, as its pairs tell: a leaf, and an inner node of the kind of which the tree then has more.
 use Rattle.std.specs.Prelude.{ℕ, ◌+◌, cond, eqb, ltb, List, length, Option, Some, None}
-use Rattle.art_nodes.specs.Nodes.{Promise, kind_index}
-use Rattle.art_nodes.specs.declared.node.NodeType.{NodeType}
-use Rattle.art_nodes.specs.declared.node.NodeType.TheVariants.{Node4, Node16, Node48, Node256}
+use Rattle.art_nodes.specs.Nodes.{Promise}
+use Rattle.art_parts.specs.Kinds.{kind_index}
+use Rattle.art_parts.specs.declared.names.NodeType.{NodeType}
+use Rattle.art_parts.specs.declared.names.NodeType.TheVariants.{Node4, Node16, Node48, Node256}
 use Rattle.art_model.specs.Pairs.{of_key, has_key, related_to}
 use Rattle.art_model.specs.Trees.{Tree, leaf, inner, Subtrees, child, no_child, tree_of}
 use Rattle.art_operations.specs.Answers.{pairs_after_command}

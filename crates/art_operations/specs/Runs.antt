@@ -1,7 +1,7 @@
 -- Runs of commands.
 use Rattle.std.specs.Prelude.{◌≡◌, ℕ, List, [], ◌∷◌, Option, Some}
 use Rattle.art_nodes.specs.Nodes.{Nodes}
-use Rattle.art_nodes.specs.declared.node.OpaqueNodePtr.{OpaqueNodePtr}
+use Rattle.art_parts.specs.declared.names.OpaqueNodePtr.{OpaqueNodePtr}
 use Rattle.art_model.specs.Pairs.{of_key, remove_key}
 use Rattle.art_model.specs.Roots.{ForTree}
 use Rattle.art_operations.specs.Answers.{Answers}

@@ -3,9 +3,9 @@ use Rattle.std.proofs.Common.{◌≡◌, ℕ, suc, ◌+◌, ◌<◌, ◌≤◌, 
 use Rattle.std.specs.List.{AllByRecursion as Each, All}
 use Rattle.std.specs.FinMap as finite
 use Rattle.std.proofs.lemmas.List.Elements.{All-tail}
-use Rattle.art_nodes.specs.Nodes.{leaf_cmp}
-use Rattle.art_nodes.specs.declared.node.LeafPtr.{LeafPtr}
-use Rattle.art_nodes.specs.declared.node.LeafNode.{LeafNode}
+use Rattle.art_parts.specs.Names.{leaf_cmp}
+use Rattle.art_parts.specs.declared.names.LeafPtr.{LeafPtr}
+use Rattle.art_parts.specs.declared.leaf.LeafNode.{LeafNode}
 use Rattle.art_model.specs.Pairs.{of_key}
 use Rattle.art_model.specs.Trees.{byte_at, groups, add_to_groups}
 use Rattle.art_model.proofs.Build.{IsSortedAt, sorted_at}

@@ -5,15 +5,15 @@ use Rattle.std.specs.FinMap as finite
 use Rattle.std.proofs.lemmas.Bool.{lt-ltb, ne_eqb}
 use Rattle.std.proofs.lemmas.List.{take-append-drop, length-append}
 use Rattle.std.proofs.lemmas.List.Elements.{All-take, All-drop}
-use Rattle.art_nodes.specs.Inner.{Inner, put_child}
-use Rattle.art_nodes.specs.Changes.{with_child}
-use Rattle.art_nodes.specs.Names.{leaf_name, inner_name}
-use Rattle.art_nodes.specs.Nodes.{Nodes, leaf_cmp, change}
-use Rattle.art_nodes.specs.declared.node.InnerPtr.{InnerPtr}
-use Rattle.art_nodes.specs.declared.node.NodeType.TheVariants.{Leaf}
-use Rattle.art_nodes.specs.declared.node.LeafPtr.{LeafPtr}
-use Rattle.art_nodes.specs.declared.node.LeafNode.{LeafNode}
-use Rattle.art_nodes.specs.declared.node.OpaqueNodePtr.{OpaqueNodePtr}
+use Rattle.art_inner.specs.Inner.{Inner, put_child}
+use Rattle.art_inner.specs.Changes.{with_child}
+use Rattle.art_parts.specs.Names.{leaf_name, inner_name, leaf_cmp}
+use Rattle.art_nodes.specs.Nodes.{Nodes, change}
+use Rattle.art_parts.specs.declared.names.InnerPtr.{InnerPtr}
+use Rattle.art_parts.specs.declared.names.NodeType.TheVariants.{Leaf}
+use Rattle.art_parts.specs.declared.names.LeafPtr.{LeafPtr}
+use Rattle.art_parts.specs.declared.leaf.LeafNode.{LeafNode}
+use Rattle.art_parts.specs.declared.names.OpaqueNodePtr.{OpaqueNodePtr}
 use Rattle.art_model.specs.Pairs.{IsMap, of_key}
 use Rattle.art_model.specs.Trees.{child, no_child, byte_at, groups, add_to_groups}
 use Rattle.art_model.specs.Layouts.{slots_of, names_of, inner_names, inner_names_below}

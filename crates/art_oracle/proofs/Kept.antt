@@ -4,12 +4,13 @@ use Rattle.std.proofs.lemmas.Bool.{eqb-false}
 use Rattle.std.specs.FinMap as finite
 use Rattle.std.specs.Option.{option_map}
 use Rattle.std.specs.List.{AllByRecursion as Each}
-use Rattle.art_nodes.specs.Names.{inner_name}
-use Rattle.art_nodes.specs.Codes.{kind_at, kind_at-index}
-use Rattle.art_nodes.specs.Nodes.{Nodes, kind_index}
-use Rattle.art_nodes.specs.declared.node.NodeType.{NodeType}
-use Rattle.art_nodes.specs.declared.node.InnerPtr.{InnerPtr}
-use Rattle.art_nodes.specs.declared.node.OpaqueNodePtr.{OpaqueNodePtr}
+use Rattle.art_parts.specs.Names.{inner_name}
+use Rattle.art_parts.specs.Codes.{kind_at, kind_at-index}
+use Rattle.art_nodes.specs.Nodes.{Nodes}
+use Rattle.art_parts.specs.Kinds.{kind_index}
+use Rattle.art_parts.specs.declared.names.NodeType.{NodeType}
+use Rattle.art_parts.specs.declared.names.InnerPtr.{InnerPtr}
+use Rattle.art_parts.specs.declared.names.OpaqueNodePtr.{OpaqueNodePtr}
 use Rattle.art_model.specs.Trees.{Tree, leaf, inner, Subtrees, child, no_child}
 use Rattle.art_model.specs.Layouts.{Node, names_of, names_below, leaf_names, leaf_names_below, inner_names, inner_names_below, Holds, HoldsBelow}
 use Rattle.art_model.specs.Stores.{node_at, seen, Held, held, held_inner, held_leaf, IsUsed}

@@ -8,12 +8,12 @@ use Rattle.std.specs.FinMap as finite
 use Rattle.std.proofs.lemmas.List.{take-append-drop}
 use Rattle.std.proofs.lemmas.List.Elements.{All-cons, All-nil}
 use Rattle.std.proofs.Math.Seq.{drop-cons, take-suc}
-use Rattle.art_nodes.specs.Changes.{with_links}
-use Rattle.art_nodes.specs.Names.{leaf_name}
-use Rattle.art_nodes.specs.Nodes.{Nodes, leaf_cmp, change}
-use Rattle.art_nodes.specs.declared.node.LeafPtr.{LeafPtr}
-use Rattle.art_nodes.specs.declared.node.LeafNode.{LeafNode}
-use Rattle.art_nodes.specs.declared.node.OpaqueNodePtr.{OpaqueNodePtr}
+use Rattle.art_nodes.specs.LeafChanges.{with_links}
+use Rattle.art_parts.specs.Names.{leaf_name, leaf_cmp}
+use Rattle.art_nodes.specs.Nodes.{Nodes, change}
+use Rattle.art_parts.specs.declared.names.LeafPtr.{LeafPtr}
+use Rattle.art_parts.specs.declared.leaf.LeafNode.{LeafNode}
+use Rattle.art_parts.specs.declared.names.OpaqueNodePtr.{OpaqueNodePtr}
 use Rattle.art_nodes.proofs.StoreLaws.{leaf_here, leaf_elsewhere, leaf_changed_at, leaf_changed_elsewhere}
 use Rattle.art_model.specs.Layouts.{Links, AreDistinct, AreLinked, first_or, last_or}
 use Rattle.art_model.specs.Stores.{links_at, links_of, held_leaf, pair_of}

@@ -3,12 +3,12 @@ use Rattle.std.proofs.Common.{◌≡◌, ◌≢◌, ap, sym, ◌∙◌, ◌⊎�
 use Rattle.std.specs.Option.{option_map}
 use Rattle.std.specs.List.{AllByRecursion as Each}
 use Rattle.std.specs.FinMap as finite
-use Rattle.art_nodes.specs.Inner.{Inner}
-use Rattle.art_nodes.specs.Names.{inner_name}
+use Rattle.art_inner.specs.Inner.{Inner}
+use Rattle.art_parts.specs.Names.{inner_name}
 use Rattle.art_nodes.specs.Nodes.{Nodes, change}
-use Rattle.art_nodes.specs.declared.node.NodeType.TheVariants.{Leaf}
-use Rattle.art_nodes.specs.declared.node.InnerPtr.{InnerPtr}
-use Rattle.art_nodes.specs.declared.node.OpaqueNodePtr.{OpaqueNodePtr}
+use Rattle.art_parts.specs.declared.names.NodeType.TheVariants.{Leaf}
+use Rattle.art_parts.specs.declared.names.InnerPtr.{InnerPtr}
+use Rattle.art_parts.specs.declared.names.OpaqueNodePtr.{OpaqueNodePtr}
 use Rattle.art_nodes.proofs.StoreLaws.{inner_changed_here, inner_changed_elsewhere}
 use Rattle.art_model.specs.Trees.{Tree}
 use Rattle.art_model.specs.Layouts.{names_of, Holds}

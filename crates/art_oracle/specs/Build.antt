@@ -3,13 +3,13 @@ use Rattle.std.specs.Prelude.{◌≡◌, ◌≢◌, ℕ, ◌+◌, ◌<◌, ◌�
 use Rattle.std.specs.Option.{option_map}
 use Rattle.std.specs.List.{AllByRecursion as Each, All}
 use Rattle.std.specs.FinMap as finite
-use Rattle.art_nodes.specs.Inner.{Inner}
-use Rattle.art_nodes.specs.Names.{leaf_name, inner_name}
-use Rattle.art_nodes.specs.Nodes.{Nodes, leaf_cmp}
-use Rattle.art_nodes.specs.declared.node.LeafPtr.{LeafPtr}
-use Rattle.art_nodes.specs.declared.node.InnerPtr.{InnerPtr}
-use Rattle.art_nodes.specs.declared.node.LeafNode.{LeafNode}
-use Rattle.art_nodes.specs.declared.node.OpaqueNodePtr.{OpaqueNodePtr}
+use Rattle.art_inner.specs.Inner.{Inner}
+use Rattle.art_parts.specs.Names.{leaf_name, inner_name, leaf_cmp}
+use Rattle.art_nodes.specs.Nodes.{Nodes}
+use Rattle.art_parts.specs.declared.names.LeafPtr.{LeafPtr}
+use Rattle.art_parts.specs.declared.names.InnerPtr.{InnerPtr}
+use Rattle.art_parts.specs.declared.leaf.LeafNode.{LeafNode}
+use Rattle.art_parts.specs.declared.names.OpaqueNodePtr.{OpaqueNodePtr}
 use Rattle.art_model.specs.Keys.{IsFront}
 use Rattle.art_model.specs.Pairs.{IsMap, of_key}
 use Rattle.art_model.specs.Trees.{Tree, Subtrees, byte_at, groups}

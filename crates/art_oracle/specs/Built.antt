@@ -1,7 +1,7 @@
 -- What building a tree leaves of a store.
 use Rattle.std.specs.Prelude.{◌≡◌, ℕ, List, Option, Some, None, ◌⊎◌}
 use Rattle.art_nodes.specs.Nodes.{Nodes}
-use Rattle.art_nodes.specs.declared.node.OpaqueNodePtr.{OpaqueNodePtr}
+use Rattle.art_parts.specs.declared.names.OpaqueNodePtr.{OpaqueNodePtr}
 use Rattle.art_model.specs.Trees.{Tree}
 use Rattle.art_model.specs.Layouts.{names_of}
 use Rattle.art_model.specs.Stores.{held, IsUsed}

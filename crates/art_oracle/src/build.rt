@@ -3,11 +3,12 @@ ghost use Rattle.std.specs.Prelude.{◌≡◌, ◌≢◌, ℕ, ◌+◌, ◌*◌,
 ghost use Rattle.std.specs.Prelude.{map as list_map};
 ghost use Rattle.std.specs.FinMap as map;
 ghost use Rattle.std.specs.List.{AllByRecursion as Each};
-ghost use Rattle.art_nodes.specs.Names.{leaf_name};
-ghost use Rattle.art_nodes.specs.Inner.{Inner};
-ghost use Rattle.art_nodes.specs.Kinds.{any_kind, any_view, kind_capacity};
-ghost use Rattle.art_nodes.specs.declared.node.NodeType.TheVariants.{Leaf};
-ghost use Rattle.art_nodes.specs.declared.node.OpaqueNodePtr.{OpaqueNodePtr};
+ghost use Rattle.art_parts.specs.Names.{leaf_name};
+ghost use Rattle.art_inner.specs.Inner.{Inner};
+ghost use Rattle.art_inner.specs.Views.{any_kind, any_view};
+ghost use Rattle.art_parts.specs.Kinds.{kind_capacity};
+ghost use Rattle.art_parts.specs.declared.names.NodeType.TheVariants.{Leaf};
+ghost use Rattle.art_parts.specs.declared.names.OpaqueNodePtr.{OpaqueNodePtr};
 ghost use Rattle.art_model.specs.Keys.{common_front};
 ghost use Rattle.art_model.specs.Pairs.{IsMap, of_key};
 ghost use Rattle.art_model.specs.Trees.{kind_of};

@@ -1,6 +1,6 @@
 //! Walks of leaves.
 ghost use Rattle.std.specs.Prelude.{List, IfSome};
-ghost use Rattle.art_nodes.specs.declared.node.OpaqueNodePtr.{OpaqueNodePtr};
+ghost use Rattle.art_parts.specs.declared.names.OpaqueNodePtr.{OpaqueNodePtr};
 ghost use Rattle.art_operations.specs.Iterators.{IsIteratorOf};
 ghost use Rattle.art_model.specs.Roots.{IsCanonicalRoot};
 

@@ -1,10 +1,10 @@
 -- the way down with a key: what a look-up keeps at each node
 use Rattle.std.proofs.Common.{◌≡◌, ℕ, ◌+◌, ◌<◌, ◌≤◌, suc, zero, List, [], ◌∷◌, ◌++◌, length, take, drop, get_or, refl, ap, ap₂, sym, ◌∙◌, arith, subst, append_assoc, length-append, Some, None, Bool, true, false, cond}
 use Rattle.std.proofs.lemmas.List.{take-append-drop}
-use Rattle.art_nodes.specs.Inner.{Inner, child_at}
-use Rattle.art_nodes.specs.Names.{inner_name}
-use Rattle.art_nodes.specs.declared.node.InnerPtr.{InnerPtr}
-use Rattle.art_nodes.specs.declared.node.OpaqueNodePtr.{OpaqueNodePtr}
+use Rattle.art_inner.specs.Inner.{Inner, child_at}
+use Rattle.art_parts.specs.Names.{inner_name}
+use Rattle.art_parts.specs.declared.names.InnerPtr.{InnerPtr}
+use Rattle.art_parts.specs.declared.names.OpaqueNodePtr.{OpaqueNodePtr}
 use Rattle.art_model.specs.Keys.{IsFront, is_front}
 use Rattle.art_model.specs.Pairs.{match_of}
 use Rattle.art_model.specs.Trees.{Tree, leaf, inner, child}

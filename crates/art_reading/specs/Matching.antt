@@ -1,6 +1,6 @@
 -- How a look-up compares the prefix of an inner node, and the key of a leaf, with its query.
 use Rattle.std.specs.Prelude.{◌≡◌, ℕ, min, ◌||◌, nat_lt, if◌then◌else◌, length, slice_get, drop, Bool, true, List, None, Result, Ok, Err}
-use Rattle.art_nodes.specs.Inner.{Prefix}
+use Rattle.art_parts.specs.Headers.{Prefix}
 use Rattle.art_model.specs.Keys.{IsFront, common_front}
 use Rattle.art_reading.specs.declared.lookup.PrefixMatchBehavior.{PrefixMatchBehavior}
 use Rattle.art_reading.specs.declared.lookup.PrefixMatchBehavior.TheVariants.{Pessimistic, Optimistic}

@@ -1,7 +1,7 @@
 -- Paths of code: one step down and up, the last steps of a path of the model, the parent that a path ends with, and the root.
 use Rattle.std.specs.Prelude.{ℕ, List, [], ◌∷◌, Option, Some, None}
-use Rattle.art_nodes.specs.declared.node.InnerPtr.{InnerPtr}
-use Rattle.art_nodes.specs.declared.node.OpaqueNodePtr.{OpaqueNodePtr}
+use Rattle.art_parts.specs.declared.names.InnerPtr.{InnerPtr}
+use Rattle.art_parts.specs.declared.names.OpaqueNodePtr.{OpaqueNodePtr}
 use Rattle.art_model.specs.Paths.{Frame}
 use Rattle.art_model.specs.Writes.{as_inner}
 use Rattle.art_reading.specs.declared.path.TreePath.{TreePath}

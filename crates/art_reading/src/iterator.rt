@@ -2,8 +2,8 @@
 ghost use Rattle.std.specs.Prelude.{◌≡◌, List, [], None, Some, IsSome, IfSome};
 ghost use Rattle.std.specs.FinMap as map;
 ghost use Rattle.std.specs.Option.{option_map};
-ghost use Rattle.art_nodes.specs.Names.{leaf_name};
-ghost use Rattle.art_nodes.specs.declared.node.OpaqueNodePtr.{OpaqueNodePtr};
+ghost use Rattle.art_parts.specs.Names.{leaf_name};
+ghost use Rattle.art_parts.specs.declared.names.OpaqueNodePtr.{OpaqueNodePtr};
 ghost use Rattle.art_model.specs.Pairs.{first_of, last_of, without_first, without_last};
 ghost use Rattle.art_reading.specs.Iterators.{GoesOn, IsIteratorOf, WalksWhole};
 
@@ -24,7 +24,7 @@ pub struct RawIterator {
 
 impl Model for RawIterator {
     ghost use Rattle.std.specs.Prelude.{Option};
-    ghost use Rattle.art_nodes.specs.declared.node.LeafPtr.{LeafPtr};
+    ghost use Rattle.art_parts.specs.declared.names.LeafPtr.{LeafPtr};
 
     ghost Value = { Option (LeafPtr × LeafPtr) };
 

@@ -1,6 +1,6 @@
 //! The first and the last leaf of a tree.
-ghost use Rattle.art_nodes.specs.Names.{leaf_name};
-ghost use Rattle.art_nodes.specs.declared.node.OpaqueNodePtr.{OpaqueNodePtr};
+ghost use Rattle.art_parts.specs.Names.{leaf_name};
+ghost use Rattle.art_parts.specs.declared.names.OpaqueNodePtr.{OpaqueNodePtr};
 ghost use Rattle.art_model.specs.Lookups.{HasFirstLeaf, HasLastLeaf};
 ghost use Rattle.art_model.specs.Roots.{IsFullTree};
 ghost use Rattle.art_model.specs.Trees.{Tree};

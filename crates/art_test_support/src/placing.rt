@@ -1,8 +1,8 @@
 //! Nodes that tests place one by one, so that they can have trees that no insertion makes.
 ghost use Rattle.std.specs.Prelude.{IsTrue, IsSomeAnd};
 ghost use Rattle.std.specs.FinMap as map;
-ghost use Rattle.art_nodes.specs.Inner.{HasPlace};
-ghost use Rattle.art_nodes.specs.Kinds.{kind_capacity};
+ghost use Rattle.art_inner.specs.Inner.{HasPlace};
+ghost use Rattle.art_parts.specs.Kinds.{kind_capacity};
 
 use crate::trees::Key;
 use art_nodes::node::{

@@ -1,9 +1,9 @@
 -- What is told of a clone, from the copy of a canonical tree.
 use Rattle.std.proofs.Common.{◌≡◌, List, [], Some, sym, subst}
-use Rattle.art_nodes.specs.Clones.{IsPairClone}
-use Rattle.art_nodes.specs.Names.{leaf_name}
+use Rattle.art_parts.specs.Clones.{IsPairClone}
+use Rattle.art_parts.specs.Names.{leaf_name}
 use Rattle.art_nodes.specs.Nodes.{Nodes}
-use Rattle.art_nodes.specs.declared.node.OpaqueNodePtr.{OpaqueNodePtr}
+use Rattle.art_parts.specs.declared.names.OpaqueNodePtr.{OpaqueNodePtr}
 use Rattle.art_model.specs.Canonical.{IsCanonical, IsCanonicalTree}
 use Rattle.art_model.specs.Clones.{AreClones, KeepBytes}
 use Rattle.art_model.specs.Kept.{KeepsOthers}

@@ -4,18 +4,17 @@ use Rattle.std.specs.List.{AllByRecursion as Each}
 use Rattle.std.specs.Option.{option_map, option_or}
 use Rattle.std.specs.FinMap.{get, insert}
 use Rattle.std.proofs.lemmas.List.{length-append}
-use Rattle.art_nodes.specs.Changes.{with_child}
-use Rattle.art_nodes.specs.Clones.{IsLeafClone, IsPairClone}
-use Rattle.art_nodes.specs.Inner.{Inner, HasPlace, IsBelow, childless}
-use Rattle.art_nodes.specs.Inner.{IsRising as AreRising}
-use Rattle.art_nodes.specs.Kinds.{kind_capacity}
-use Rattle.art_nodes.specs.Names.{leaf_name, inner_name}
+use Rattle.art_inner.specs.Changes.{with_child}
+use Rattle.art_parts.specs.Clones.{IsLeafClone, IsPairClone}
+use Rattle.art_inner.specs.Inner.{Inner, HasPlace, IsBelow, childless, IsRising as AreRising}
+use Rattle.art_parts.specs.Kinds.{kind_capacity}
+use Rattle.art_parts.specs.Names.{leaf_name, inner_name}
 use Rattle.art_nodes.specs.Nodes.{Nodes, change, take_leaf, take_inner}
-use Rattle.art_nodes.specs.declared.node.NodeType.TheVariants.{Leaf}
-use Rattle.art_nodes.specs.declared.node.LeafPtr.{LeafPtr}
-use Rattle.art_nodes.specs.declared.node.LeafNode.{LeafNode}
-use Rattle.art_nodes.specs.declared.node.InnerPtr.{InnerPtr}
-use Rattle.art_nodes.specs.declared.node.OpaqueNodePtr.{OpaqueNodePtr}
+use Rattle.art_parts.specs.declared.names.NodeType.TheVariants.{Leaf}
+use Rattle.art_parts.specs.declared.names.LeafPtr.{LeafPtr}
+use Rattle.art_parts.specs.declared.leaf.LeafNode.{LeafNode}
+use Rattle.art_parts.specs.declared.names.InnerPtr.{InnerPtr}
+use Rattle.art_parts.specs.declared.names.OpaqueNodePtr.{OpaqueNodePtr}
 use Rattle.art_model.specs.Trees.{Tree, leaf, inner, Subtrees, child, no_child, NodeHeader}
 use Rattle.art_model.specs.Radix.{BytesRise, bytes_of, join, HaveChildren, HaveChildrenBelow}
 use Rattle.art_model.specs.Heights.{tree_height, height_below}

@@ -1,8 +1,8 @@
 -- A node goes with one of its two children, and the other takes its place.
 use Rattle.std.proofs.Common.{◌≡◌, ℕ, ◌+◌, List, [], ◌∷◌, ◌++◌, length, take, min, refl, ap, ◌∙◌, arith, append_assoc}
 use Rattle.std.proofs.lemmas.List.{take-take}
-use Rattle.art_nodes.specs.Inner.{Prefix, header_of}
-use Rattle.art_nodes.proofs.HeaderLaws.{extended_header, len_of_header, stored_of_header}
+use Rattle.art_parts.specs.Headers.{Prefix, header_of}
+use Rattle.art_parts.proofs.HeaderLaws.{extended_header, len_of_header, stored_of_header}
 
 -- a prefix, a byte and another prefix behind it
 pub lengthened : (P byte : ℕ) (first rest : List ℕ) (front own one both : Prefix) → front ≡ header_of P first → own ≡ header_of P rest →

@@ -1,7 +1,7 @@
 -- points at which leaves go
 use Rattle.std.proofs.Common.{◌≡◌, sym, subst, Option, Some}
-use Rattle.art_nodes.specs.Names.{leaf_name}
-use Rattle.art_nodes.specs.declared.node.OpaqueNodePtr.{OpaqueNodePtr}
+use Rattle.art_parts.specs.Names.{leaf_name}
+use Rattle.art_parts.specs.declared.names.OpaqueNodePtr.{OpaqueNodePtr}
 use Rattle.art_model.specs.Lookups.{HasLeaf}
 use Rattle.art_model.specs.Trees.{Tree}
 use Rattle.art_reading.specs.Paths.{path_of}

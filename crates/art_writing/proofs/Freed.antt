@@ -3,15 +3,15 @@ use Rattle.std.proofs.Common.{◌≡◌, ◌≢◌, ℕ, ◌-◌, suc, List, [],
 use Rattle.std.specs.Option.{option_map, option_and_then}
 use Rattle.std.specs.FinMap as map
 use Rattle.std.proofs.lemmas.Bool.{false≢true, eq-eqb, ne_eqb}
-use Rattle.art_nodes.specs.Inner.{Inner, IsBelow, IsRising, remove_child}
-use Rattle.art_nodes.specs.Names.{leaf_name}
-use Rattle.art_nodes.specs.Changes.{without_child}
-use Rattle.art_nodes.specs.Nodes.{Nodes, leaf_cmp, inner_cmp, change}
-use Rattle.art_nodes.specs.declared.node.LeafPtr.{LeafPtr}
-use Rattle.art_nodes.specs.declared.node.InnerPtr.{InnerPtr}
-use Rattle.art_nodes.specs.declared.node.LeafNode.{LeafNode}
-use Rattle.art_nodes.specs.declared.node.OpaqueNodePtr.{OpaqueNodePtr}
-use Rattle.art_nodes.proofs.NameLemmas.{leaf_cmp_total}
+use Rattle.art_inner.specs.Inner.{Inner, IsBelow, IsRising, remove_child}
+use Rattle.art_parts.specs.Names.{leaf_name, leaf_cmp, inner_cmp}
+use Rattle.art_inner.specs.Changes.{without_child}
+use Rattle.art_nodes.specs.Nodes.{Nodes, change}
+use Rattle.art_parts.specs.declared.names.LeafPtr.{LeafPtr}
+use Rattle.art_parts.specs.declared.names.InnerPtr.{InnerPtr}
+use Rattle.art_parts.specs.declared.leaf.LeafNode.{LeafNode}
+use Rattle.art_parts.specs.declared.names.OpaqueNodePtr.{OpaqueNodePtr}
+use Rattle.art_parts.proofs.NameLemmas.{leaf_cmp_total}
 use Rattle.art_nodes.proofs.StoreLaws.{changed_from, leaf_gone, leaf_gone_elsewhere}
 use Rattle.art_model.specs.Footprints.{IsIn}
 use Rattle.art_model.specs.Kept.{Frees}

@@ -3,14 +3,14 @@ use Rattle.std.proofs.Common.{◌≡◌, ◌≢◌, ℕ, suc, ◌+◌, ◌-◌, 
 use Rattle.std.specs.List.{AllByRecursion as Each}
 use Rattle.std.specs.FinMap as map
 use Rattle.std.proofs.lemmas.List.Elements.{recursion_from_All}
-use Rattle.art_nodes.specs.Inner.{Inner, children_between}
-use Rattle.art_nodes.specs.Names.{inner_name}
+use Rattle.art_inner.specs.Inner.{Inner, children_between}
+use Rattle.art_parts.specs.Names.{inner_name}
 use Rattle.art_nodes.specs.Nodes.{Nodes}
-use Rattle.art_nodes.specs.declared.node.NodeType.TheVariants.{Leaf}
-use Rattle.art_nodes.specs.declared.node.InnerPtr.{InnerPtr}
-use Rattle.art_nodes.specs.declared.node.LeafPtr.{LeafPtr}
-use Rattle.art_nodes.specs.declared.node.OpaqueNodePtr.{OpaqueNodePtr}
-use Rattle.art_nodes.proofs.ChildrenLemmas.{between_here, between_after}
+use Rattle.art_parts.specs.declared.names.NodeType.TheVariants.{Leaf}
+use Rattle.art_parts.specs.declared.names.InnerPtr.{InnerPtr}
+use Rattle.art_parts.specs.declared.names.LeafPtr.{LeafPtr}
+use Rattle.art_parts.specs.declared.names.OpaqueNodePtr.{OpaqueNodePtr}
+use Rattle.art_inner.proofs.ChildrenLemmas.{between_here, between_after}
 use Rattle.art_model.specs.Layouts.{AreDistinct, name_of, names_of, names_below, slots_of}
 use Rattle.art_model.specs.Radix.{BytesRise, bytes_of, join}
 use Rattle.art_model.specs.Roots.{IsFullTree}

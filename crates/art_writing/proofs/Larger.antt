@@ -1,8 +1,8 @@
 -- A larger node in the place of a full one: the parent is still there.
 use Rattle.std.proofs.Common.{◌≡◌, ◌≢◌, ℕ, Option, Some, None, IsSome, IsSomeAnd, refl, ap, sym, ◌∙◌, subst}
 use Rattle.std.specs.FinMap as map
-use Rattle.art_nodes.specs.Inner.{Inner, child_at}
-use Rattle.art_nodes.specs.declared.node.InnerPtr.{InnerPtr}
+use Rattle.art_inner.specs.Inner.{Inner, child_at}
+use Rattle.art_parts.specs.declared.names.InnerPtr.{InnerPtr}
 use Rattle.art_nodes.proofs.StoreLaws.{inner_elsewhere, inner_gone_elsewhere}
 use Rattle.art_model.specs.Writes.{Inners}
 use Rattle.art_writing.specs.Writes.{HasChild}

@@ -3,17 +3,17 @@ use Rattle.std.proofs.Common.{◌≡◌, ◌≢◌, ℕ, ◌<◌, ◌≤◌, Lis
 use Rattle.std.proofs.lemmas.Bool.{leb-true, leb-false}
 use Rattle.std.specs.FinMap as map
 use Rattle.std.specs.Option.{option_map}
-use Rattle.art_nodes.specs.Changes.{with_child}
-use Rattle.art_nodes.specs.Inner.{Inner, HasPlace}
-use Rattle.art_nodes.specs.Kinds.{kind_capacity, larger_kind, next_larger}
-use Rattle.art_nodes.specs.Names.{leaf_name, inner_name}
+use Rattle.art_inner.specs.Changes.{with_child}
+use Rattle.art_inner.specs.Inner.{Inner, HasPlace}
+use Rattle.art_parts.specs.Kinds.{kind_capacity, larger_kind, next_larger}
+use Rattle.art_parts.specs.Names.{leaf_name, inner_name}
 use Rattle.art_nodes.specs.Nodes.{Nodes, change}
-use Rattle.art_nodes.specs.declared.node.NodeType.{NodeType}
-use Rattle.art_nodes.specs.declared.node.NodeType.TheVariants.{Node4, Node16, Node48, Node256, Leaf}
-use Rattle.art_nodes.specs.declared.node.InnerPtr.{InnerPtr}
-use Rattle.art_nodes.specs.declared.node.LeafPtr.{LeafPtr}
-use Rattle.art_nodes.specs.declared.node.LeafNode.{LeafNode}
-use Rattle.art_nodes.specs.declared.node.OpaqueNodePtr.{OpaqueNodePtr}
+use Rattle.art_parts.specs.declared.names.NodeType.{NodeType}
+use Rattle.art_parts.specs.declared.names.NodeType.TheVariants.{Node4, Node16, Node48, Node256, Leaf}
+use Rattle.art_parts.specs.declared.names.InnerPtr.{InnerPtr}
+use Rattle.art_parts.specs.declared.names.LeafPtr.{LeafPtr}
+use Rattle.art_parts.specs.declared.leaf.LeafNode.{LeafNode}
+use Rattle.art_parts.specs.declared.names.OpaqueNodePtr.{OpaqueNodePtr}
 use Rattle.art_model.specs.Canonical.{IsCanonicalTree}
 use Rattle.art_model.specs.Footprints.{TouchesAtMost}
 use Rattle.art_model.specs.Layouts.{AreLinked, leaf_names, leaf_names_below, first_or, last_or}

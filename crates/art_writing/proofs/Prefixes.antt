@@ -3,15 +3,16 @@ use Rattle.std.proofs.Common.{◌≡◌, ◌≢◌, ℕ, ◌+◌, ◌-◌, ◌<�
 use Rattle.std.specs.Result.{IfOk, IfErr}
 use Rattle.std.proofs.lemmas.List.{take_all}
 use Rattle.std.specs.FinMap as map
-use Rattle.art_nodes.specs.Inner.{Inner, Prefix, header_of as whole_header}
-use Rattle.art_nodes.specs.Names.{leaf_name, inner_name}
+use Rattle.art_inner.specs.Inner.{Inner}
+use Rattle.art_parts.specs.Headers.{Prefix, header_of as whole_header}
+use Rattle.art_parts.specs.Names.{leaf_name, inner_name}
 use Rattle.art_nodes.specs.Nodes.{Nodes}
-use Rattle.art_nodes.specs.declared.node.NodeType.TheVariants.{Leaf}
-use Rattle.art_nodes.specs.declared.node.LeafPtr.{LeafPtr}
-use Rattle.art_nodes.specs.declared.node.InnerPtr.{InnerPtr}
-use Rattle.art_nodes.specs.declared.node.OpaqueNodePtr.{OpaqueNodePtr}
-use Rattle.art_nodes.specs.declared.node.LeafNode.{LeafNode}
-use Rattle.art_nodes.proofs.HeaderLaws.{header_by_parts}
+use Rattle.art_parts.specs.declared.names.NodeType.TheVariants.{Leaf}
+use Rattle.art_parts.specs.declared.names.LeafPtr.{LeafPtr}
+use Rattle.art_parts.specs.declared.names.InnerPtr.{InnerPtr}
+use Rattle.art_parts.specs.declared.names.OpaqueNodePtr.{OpaqueNodePtr}
+use Rattle.art_parts.specs.declared.leaf.LeafNode.{LeafNode}
+use Rattle.art_parts.proofs.HeaderLaws.{header_by_parts}
 use Rattle.art_model.specs.Keys.{IsFront}
 use Rattle.art_model.specs.Lookups.{HasFirstLeaf}
 use Rattle.art_model.specs.Pairs.{first_of}

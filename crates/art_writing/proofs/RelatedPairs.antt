@@ -1,11 +1,11 @@
 -- How many pairs are related to the key of a point: one where they are in a leaf, so that a refusal is for no pair alone.
 use Rattle.std.proofs.Common.{◌≡◌, ◌≢◌, ℕ, ◌≤◌, List, [], ◌∷◌, length, is_some, true, false, refl, ap, sym, ◌∙◌, subst, arith, ◌⊎◌, inl, inr}
 use Rattle.std.proofs.Math.Dec.{leb-zero}
-use Rattle.art_nodes.specs.Names.{leaf_name}
+use Rattle.art_parts.specs.Names.{leaf_name}
 use Rattle.art_nodes.specs.Nodes.{Nodes}
-use Rattle.art_nodes.specs.declared.node.NodeType.{NodeType}
-use Rattle.art_nodes.specs.declared.node.NodeType.TheVariants.{Leaf}
-use Rattle.art_nodes.specs.declared.node.OpaqueNodePtr.{OpaqueNodePtr}
+use Rattle.art_parts.specs.declared.names.NodeType.{NodeType}
+use Rattle.art_parts.specs.declared.names.NodeType.TheVariants.{Leaf}
+use Rattle.art_parts.specs.declared.names.OpaqueNodePtr.{OpaqueNodePtr}
 use Rattle.art_model.specs.Canonical.{IsCanonicalTree}
 use Rattle.art_model.specs.Keys.{are_related, are_same}
 use Rattle.art_model.specs.Layouts.{name_of}

@@ -4,17 +4,19 @@ use Rattle.std.specs.List.{AllByRecursion as Each}
 use Rattle.std.specs.Option.{option_map}
 use Rattle.std.specs.FinMap.{get, remove}
 use Rattle.std.proofs.lemmas.Bool.{lt-ltb, le-ltb}
-use Rattle.art_nodes.specs.Changes.{with_child, with_header, without_child}
-use Rattle.art_nodes.specs.Inner.{Inner, Prefix, remove_child}
-use Rattle.art_nodes.specs.Inner as nodes
-use Rattle.art_nodes.specs.Names.{leaf_name}
+use Rattle.art_inner.specs.Changes.{with_child, with_header, without_child}
+use Rattle.art_inner.specs.Inner.{Inner, remove_child}
+use Rattle.art_parts.specs.Headers.{Prefix}
+use Rattle.art_inner.specs.Inner as nodes
+use Rattle.art_parts.specs.Headers as headers
+use Rattle.art_parts.specs.Names.{leaf_name}
 use Rattle.art_nodes.specs.Nodes.{Nodes, change}
-use Rattle.art_nodes.specs.declared.node.NodeType.TheVariants.{Leaf}
-use Rattle.art_nodes.specs.declared.node.LeafPtr.{LeafPtr}
-use Rattle.art_nodes.specs.declared.node.InnerPtr.{InnerPtr}
-use Rattle.art_nodes.specs.declared.node.LeafNode.{LeafNode}
-use Rattle.art_nodes.specs.declared.node.OpaqueNodePtr.{OpaqueNodePtr}
-use Rattle.art_nodes.proofs.HeaderLaws.{header_by_parts}
+use Rattle.art_parts.specs.declared.names.NodeType.TheVariants.{Leaf}
+use Rattle.art_parts.specs.declared.names.LeafPtr.{LeafPtr}
+use Rattle.art_parts.specs.declared.names.InnerPtr.{InnerPtr}
+use Rattle.art_parts.specs.declared.leaf.LeafNode.{LeafNode}
+use Rattle.art_parts.specs.declared.names.OpaqueNodePtr.{OpaqueNodePtr}
+use Rattle.art_parts.proofs.HeaderLaws.{header_by_parts}
 use Rattle.art_nodes.proofs.StoreLaws.{inner_gone_elsewhere}
 use Rattle.art_model.specs.Canonical.{IsCanonicalTree}
 use Rattle.art_model.specs.Footprints.{IsIn}
@@ -203,7 +205,7 @@ module _ {K V : Type 0} {bytes : K × V → List ℕ} {P : ℕ} {s : Nodes K V} 
         ap (remove_child any.children) (sym at.byte_is) ∙ slots_left at.below any.children (ap (λ z. z.children) same ∙ kids) ∙ ap slots_of two.one
 
     -- its header is that of its whole prefix
-    own_header : (any : Inner) → get s.inners parent ≡ Some any → any.prefix ≡ nodes.header_of P two.hole.radix.0
+    own_header : (any : Inner) → get s.inners parent ≡ Some any → any.prefix ≡ headers.header_of P two.hole.radix.0
     own_header any is =
         let (off, own, got, head, kids) = parent_is at.below in
         let same : any ≡ own = some_same (sym is ∙ ap (get s.inners) (sym at.parent_is) ∙ got) in
@@ -227,7 +229,7 @@ module _ {K V : Type 0} {bytes : K × V → List ℕ} {P : ℕ} {s : Nodes K V} 
       pub other_is : ◌≡◌ {A = ℕ × OpaqueNodePtr} (d, other) (two.c, name_of two.v)
       other_is = some_same (ap (λ (z : Inner). slice_get z.children 0) (sym made_of) ∙ ap (λ z. slice_get z 0) (other_left parent_found.0 parent_found.1))
 
-      pub header_is : header ≡ nodes.header_of P two.hole.radix.0
+      pub header_is : header ≡ headers.header_of P two.hole.radix.0
       header_is = ap (λ (z : Inner). z.prefix) (sym made_of) ∙ own_header parent_found.0 parent_found.1
 
     -- ---- a leaf below the child that is left
@@ -293,7 +295,7 @@ module _ {K V : Type 0} {bytes : K × V → List ℕ} {P : ℕ} {s : Nodes K V} 
 
     -- the prefix of the child that is left may be written
     pub may_lengthen : (leaves : Leaves K V) (inners : Inners) (other : OpaqueNodePtr) (p : LeafPtr) (front : Prefix) → leaves ≡ s.leaves →
-        inners ≡ remove s.inners parent → other ≡ name_of two.v → cond (nat_lt byte two.c) at.node.next at.node.previous ≡ Some p → front ≡ nodes.header_of P two.hole.radix.0 →
+        inners ≡ remove s.inners parent → other ≡ name_of two.v → cond (nat_lt byte two.c) at.node.next at.node.previous ≡ Some p → front ≡ headers.header_of P two.hole.radix.0 →
         other.kind ≢ Leaf → IsSomeAnd (get leaves p) (λ leaf. IsSomeAnd (get inners (as_inner other)) (λ node. front.len + 1 + node.prefix.len ≤ length (bytes (pair_of leaf))))
     unfolding left_prefix
     may_lengthen leaves inners other p front l i is next front_is kind =
@@ -318,10 +320,10 @@ module _ {K V : Type 0} {bytes : K × V → List ℕ} {P : ℕ} {s : Nodes K V} 
 
     -- and then the inner nodes are these
     pub lengthened_is : (was now : Inners) (other : OpaqueNodePtr) (byte' : ℕ) (front : Prefix) → was ≡ remove s.inners parent →
-        other ≡ name_of two.v → byte' ≡ two.c → front ≡ nodes.header_of P two.hole.radix.0 →
+        other ≡ name_of two.v → byte' ≡ two.c → front ≡ headers.header_of P two.hole.radix.0 →
         (other.kind ≡ Leaf → now ≡ was) →
-        (other.kind ≢ Leaf → (first rest : List ℕ) → front ≡ nodes.header_of P first →
-        IfSome (get was (as_inner other)) (λ node. node.prefix ≡ nodes.header_of P rest) → now ≡ change was (as_inner other) (with_header (nodes.header_of P (first ++ byte' ∷ rest)))) →
+        (other.kind ≢ Leaf → (first rest : List ℕ) → front ≡ headers.header_of P first →
+        IfSome (get was (as_inner other)) (λ node. node.prefix ≡ headers.header_of P rest) → now ≡ change was (as_inner other) (with_header (headers.header_of P (first ++ byte' ∷ rest)))) →
         now ≡ lengthened_inners
     unfolding lengthened_inners
     lengthened_is was now other byte' front was_is is byte_same front_is as_leaf as_inner_node = go two.v left_radix left_held left_other is
@@ -340,11 +342,11 @@ module _ {K V : Type 0} {bytes : K × V → List ℕ} {P : ℕ} {s : Nodes K V} 
             let there : get was (as_inner other) ≡ Some node =
             ap (λ z. get z (as_inner other)) removed ∙ ap (λ z. get (remove s.inners (as_inner at.frame.mark)) (as_inner z)) is
             ∙ inner_gone_elsewhere s.inners (as_inner at.frame.mark) (as_inner k) (λ e. off (inner_name_one k at.frame.mark e)) ∙ got in
-            let prefix : node.prefix ≡ nodes.header_of P radix.0 = header_by_parts P radix.0 node.prefix (ap (λ z. z.length_of) (head_is ∙ radix.1)) (ap (λ z. z.stored) (head_is ∙ radix.1)) in
+            let prefix : node.prefix ≡ headers.header_of P radix.0 = header_by_parts P radix.0 node.prefix (ap (λ z. z.length_of) (head_is ∙ radix.1)) (ap (λ z. z.stored) (head_is ∙ radix.1)) in
             as_inner_node (subst (λ (z : OpaqueNodePtr). z.kind ≢ Leaf) (sym is) kind) two.hole.radix.0 radix.0 front_is
-            (subst (λ o. IfSome o (λ node. node.prefix ≡ nodes.header_of P radix.0)) (sym there) prefix)
-            ∙ ap₂ (λ (inners : Inners) (b : ℕ). change inners (as_inner other) (with_header (nodes.header_of P (two.hole.radix.0 ++ b ∷ radix.0)))) removed byte_same
-            ∙ ap (λ z. change (remove s.inners (as_inner at.frame.mark)) (as_inner z) (with_header (nodes.header_of P (two.hole.radix.0 ++ two.c ∷ radix.0)))) is
+            (subst (λ o. IfSome o (λ node. node.prefix ≡ headers.header_of P radix.0)) (sym there) prefix)
+            ∙ ap₂ (λ (inners : Inners) (b : ℕ). change inners (as_inner other) (with_header (headers.header_of P (two.hole.radix.0 ++ b ∷ radix.0)))) removed byte_same
+            ∙ ap (λ z. change (remove s.inners (as_inner at.frame.mark)) (as_inner z) (with_header (headers.header_of P (two.hole.radix.0 ++ two.c ∷ radix.0)))) is
 
     above_is : (k : OpaqueNodePtr) → IsParent at.above k → get lengthened_inners (as_inner k) ≡ get s.inners (as_inner k)
     unfolding lengthened_inners is_compressed_at is_compressed_to

@@ -1,8 +1,9 @@
 -- what is reserved for a leaf and an inner node, and what is left of it
 use Rattle.std.proofs.Common.{◌≡◌, ℕ, zero, suc, ◌<◌, Bool, true, false, ◌&&◌, IsTrue, IsFalse, Option, Some, None, Result, Ok, Err, OnOk, is_err, refl, ap, ◌∙◌, leb, arith, eq-eqb}
 use Rattle.std.proofs.lemmas.Bool.{leb-true}
-use Rattle.art_nodes.specs.Nodes.{Nodes, Promise, covers, promises, kind_index, take_leaf}
-use Rattle.art_nodes.specs.declared.node.NodeType.{NodeType}
+use Rattle.art_nodes.specs.Nodes.{Nodes, Promise, covers, promises, take_leaf}
+use Rattle.art_parts.specs.Kinds.{kind_index}
+use Rattle.art_parts.specs.declared.names.NodeType.{NodeType}
 use Rattle.art_model.specs.Promises.{inner_taken, promise_after}
 
 module _ (promise : Promise) where

@@ -1,7 +1,7 @@
 -- A store with the same nodes under the same names, as it is once memory is reserved.
 use Rattle.std.proofs.Common.{◌≡◌, ℕ, List, refl, ap₂, sym, ◌∙◌, subst}
 use Rattle.art_nodes.specs.Nodes.{Nodes}
-use Rattle.art_nodes.specs.declared.node.OpaqueNodePtr.{OpaqueNodePtr}
+use Rattle.art_parts.specs.declared.names.OpaqueNodePtr.{OpaqueNodePtr}
 use Rattle.art_model.specs.Canonical.{IsCanonicalTree}
 use Rattle.art_model.specs.Stores.{held}
 use Rattle.art_model.specs.Trees.{Tree}

@@ -1,8 +1,8 @@
 -- Paths of code and of the model: the last step, the roots that are told, and the same one step up.
 use Rattle.std.proofs.Common.{◌≡◌, ◌≢◌, ℕ, List, [], ◌∷◌, Some, refl}
-use Rattle.art_nodes.specs.Names.{inner_name}
-use Rattle.art_nodes.specs.declared.node.InnerPtr.{InnerPtr}
-use Rattle.art_nodes.specs.declared.node.OpaqueNodePtr.{OpaqueNodePtr}
+use Rattle.art_parts.specs.Names.{inner_name}
+use Rattle.art_parts.specs.declared.names.InnerPtr.{InnerPtr}
+use Rattle.art_parts.specs.declared.names.OpaqueNodePtr.{OpaqueNodePtr}
 use Rattle.art_model.specs.Paths.{Frame}
 use Rattle.art_model.specs.Writes.{as_inner, parent_of}
 use Rattle.art_model.proofs.Paths as paths

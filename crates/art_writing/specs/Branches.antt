@@ -2,14 +2,15 @@
 use Rattle.std.specs.Prelude.{◌≡◌, ◌≢◌, ℕ, cond, ltb, List, [], ◌∷◌, ◌++◌, take, Bool, true, false, Option, None}
 use Rattle.std.specs.Option.{option_map}
 use Rattle.std.specs.FinMap as map
-use Rattle.art_nodes.specs.Changes.{with_child}
-use Rattle.art_nodes.specs.Inner.{childless, header_of}
-use Rattle.art_nodes.specs.Names.{leaf_name, inner_name}
+use Rattle.art_inner.specs.Changes.{with_child}
+use Rattle.art_inner.specs.Inner.{childless}
+use Rattle.art_parts.specs.Headers.{header_of}
+use Rattle.art_parts.specs.Names.{leaf_name, inner_name}
 use Rattle.art_nodes.specs.Nodes.{Nodes}
-use Rattle.art_nodes.specs.declared.node.InnerPtr.{InnerPtr}
-use Rattle.art_nodes.specs.declared.node.LeafPtr.{LeafPtr}
-use Rattle.art_nodes.specs.declared.node.NodeType.TheVariants.{Node4}
-use Rattle.art_nodes.specs.declared.node.OpaqueNodePtr.{OpaqueNodePtr}
+use Rattle.art_parts.specs.declared.names.InnerPtr.{InnerPtr}
+use Rattle.art_parts.specs.declared.names.LeafPtr.{LeafPtr}
+use Rattle.art_parts.specs.declared.names.NodeType.TheVariants.{Node4}
+use Rattle.art_parts.specs.declared.names.OpaqueNodePtr.{OpaqueNodePtr}
 use Rattle.art_model.specs.Canonical.{IsCanonicalTree}
 use Rattle.art_model.specs.Keys.{IsFront}
 use Rattle.art_model.specs.Layouts.{leaf_names, first_or, last_or}

@@ -1,8 +1,8 @@
 -- What is told of a tree that was copied into another store. No public clause cites this module.
 use Rattle.std.specs.Prelude.{◌≡◌, Some, None}
-use Rattle.art_nodes.specs.Names.{leaf_name}
+use Rattle.art_parts.specs.Names.{leaf_name}
 use Rattle.art_nodes.specs.Nodes.{Nodes}
-use Rattle.art_nodes.specs.declared.node.OpaqueNodePtr.{OpaqueNodePtr}
+use Rattle.art_parts.specs.declared.names.OpaqueNodePtr.{OpaqueNodePtr}
 use Rattle.art_model.specs.Trees.{Tree}
 use Rattle.art_model.specs.Layouts.{name_of, leaf_names, first_or, last_or}
 use Rattle.art_model.specs.Clones.{IsCopy}

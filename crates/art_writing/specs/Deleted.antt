@@ -1,12 +1,12 @@
 -- The points at which leaves go, what an applied delete point places and touches, and what it leaves.
 use Rattle.std.specs.Prelude.{◌≡◌, ℕ, cond, leb, List, length, Option, Some, None}
 use Rattle.std.specs.FinMap as map
-use Rattle.art_nodes.specs.Kinds.{kind_least, smaller_kind}
-use Rattle.art_nodes.specs.Names.{leaf_name}
+use Rattle.art_parts.specs.Kinds.{kind_least, smaller_kind}
+use Rattle.art_parts.specs.Names.{leaf_name}
 use Rattle.art_nodes.specs.Nodes.{Nodes, Promise}
-use Rattle.art_nodes.specs.declared.node.NodeType.{NodeType}
-use Rattle.art_nodes.specs.declared.node.NodeType.TheVariants.{Node4}
-use Rattle.art_nodes.specs.declared.node.OpaqueNodePtr.{OpaqueNodePtr}
+use Rattle.art_parts.specs.declared.names.NodeType.{NodeType}
+use Rattle.art_parts.specs.declared.names.NodeType.TheVariants.{Node4}
+use Rattle.art_parts.specs.declared.names.OpaqueNodePtr.{OpaqueNodePtr}
 use Rattle.art_model.specs.Canonical.{IsCanonicalTree}
 use Rattle.art_model.specs.Footprints.{TouchesAtMost}
 use Rattle.art_model.specs.Kept.{ChangesInPlace}

@@ -1,9 +1,9 @@
 -- The nodes below a name that go, with the leaves or without them. No public clause cites this module.
 use Rattle.std.specs.Prelude.{◌≡◌, ℕ, Bool, true, cond, List, [], ◌∷◌, ◌++◌, length}
 use Rattle.std.specs.List.{AllByRecursion as Each}
-use Rattle.art_nodes.specs.Inner.{Inner}
+use Rattle.art_inner.specs.Inner.{Inner}
 use Rattle.art_nodes.specs.Nodes.{Nodes}
-use Rattle.art_nodes.specs.declared.node.OpaqueNodePtr.{OpaqueNodePtr}
+use Rattle.art_parts.specs.declared.names.OpaqueNodePtr.{OpaqueNodePtr}
 use Rattle.art_model.specs.Layouts.{IsLayout, leaf_names}
 use Rattle.art_model.specs.Pairs.{without_first}
 use Rattle.art_model.specs.Stores.{IsUsed, shape_at}

@@ -1,15 +1,16 @@
 //! The copying of a tree into another store.
 ghost use Rattle.std.specs.Prelude.{◌≡◌, ◌≢◌, List, [], Some, None, IsSome, IsSomeAnd, IfOk, OnOk, OnErr};
 ghost use Rattle.std.specs.FinMap as map;
-ghost use Rattle.art_nodes.specs.Changes.{with_child};
-ghost use Rattle.art_nodes.specs.Clones.{IsLeafClone, IsPairClone};
-ghost use Rattle.art_nodes.specs.Inner.{HasPlace, childless};
-ghost use Rattle.art_nodes.specs.Kinds.{kind_capacity, ref_kind, ref_view};
-ghost use Rattle.art_nodes.specs.Names.{leaf_name};
+ghost use Rattle.art_inner.specs.Changes.{with_child};
+ghost use Rattle.art_parts.specs.Clones.{IsLeafClone, IsPairClone};
+ghost use Rattle.art_inner.specs.Inner.{HasPlace, childless};
+ghost use Rattle.art_inner.specs.Views.{ref_kind, ref_view};
+ghost use Rattle.art_parts.specs.Kinds.{kind_capacity};
+ghost use Rattle.art_parts.specs.Names.{leaf_name};
 ghost use Rattle.art_nodes.specs.Nodes.{change, take_inner, take_leaf};
-ghost use Rattle.art_nodes.specs.declared.node.LeafNode.{LeafNode};
-ghost use Rattle.art_nodes.specs.declared.node.NodeType.TheVariants.{Leaf};
-ghost use Rattle.art_nodes.specs.declared.node.OpaqueNodePtr.{OpaqueNodePtr};
+ghost use Rattle.art_parts.specs.declared.leaf.LeafNode.{LeafNode};
+ghost use Rattle.art_parts.specs.declared.names.NodeType.TheVariants.{Leaf};
+ghost use Rattle.art_parts.specs.declared.names.OpaqueNodePtr.{OpaqueNodePtr};
 ghost use Rattle.art_model.specs.Canonical.{IsCanonical};
 ghost use Rattle.art_model.specs.Clones.{AreClones, KeepBytes};
 ghost use Rattle.art_model.specs.Kept.{KeepsOthers};

@@ -3,9 +3,9 @@ ghost use Rattle.std.specs.Prelude.{◌≡◌, ◌≢◌, ◌+◌, ◌≤◌, �
 ghost use Rattle.std.specs.FinMap as map;
 ghost use Rattle.std.specs.Option.{option_map};
 ghost use Rattle.art_nodes.specs.Nodes.{change};
-ghost use Rattle.art_nodes.specs.declared.node.InnerPtr.{InnerPtr};
-ghost use Rattle.art_nodes.specs.declared.node.NodeType.TheVariants.{Leaf};
-ghost use Rattle.art_nodes.specs.declared.node.OpaqueNodePtr.{OpaqueNodePtr};
+ghost use Rattle.art_parts.specs.declared.names.InnerPtr.{InnerPtr};
+ghost use Rattle.art_parts.specs.declared.names.NodeType.TheVariants.{Leaf};
+ghost use Rattle.art_parts.specs.declared.names.OpaqueNodePtr.{OpaqueNodePtr};
 ghost use Rattle.art_model.specs.Kept.{Frees};
 ghost use Rattle.art_model.specs.Layouts.{IsLayout, inner_names, leaf_names, names_of};
 ghost use Rattle.art_model.specs.Pairs.{first_of};

@@ -1,8 +1,8 @@
 //! Insertion: the point at which a key comes into a tree.
 ghost use Rattle.std.specs.Prelude.{◌≡◌, ◌≢◌, ◌≤◌, ◌↔◌, length, true, false, IsOk, IfOk, IfErr};
-ghost use Rattle.art_nodes.specs.Names.{inner_name};
-ghost use Rattle.art_nodes.specs.declared.node.NodeType.TheVariants.{Leaf};
-ghost use Rattle.art_nodes.specs.declared.node.OpaqueNodePtr.{OpaqueNodePtr};
+ghost use Rattle.art_parts.specs.Names.{inner_name};
+ghost use Rattle.art_parts.specs.declared.names.NodeType.TheVariants.{Leaf};
+ghost use Rattle.art_parts.specs.declared.names.OpaqueNodePtr.{OpaqueNodePtr};
 ghost use Rattle.art_model.specs.Keys.{IsFront};
 ghost use Rattle.art_model.specs.Pairs.{is_conflict, of_key};
 ghost use Rattle.art_model.specs.Roots.{ForTree, IsCanonicalRoot};

@@ -2,10 +2,10 @@
 //! another child.
 ghost use Rattle.std.specs.Prelude.{◌≡◌, ◌<◌, None, IsSome, IfSome, IsSomeAnd};
 ghost use Rattle.std.specs.FinMap as map;
-ghost use Rattle.art_nodes.specs.Inner.{child_at};
+ghost use Rattle.art_inner.specs.Inner.{child_at};
 ghost use Rattle.art_nodes.specs.Nodes.{take_leaf};
 ghost use Rattle.art_model.specs.Writes.{change_some, joined, with_child_at, with_leaf, with_next, with_previous, without_leaf, IsThere};
-ghost use Rattle.art_nodes.specs.declared.node.OpaqueNodePtr.{OpaqueNodePtr};
+ghost use Rattle.art_parts.specs.declared.names.OpaqueNodePtr.{OpaqueNodePtr};
 ghost use Rattle.art_model.specs.Roots.{IsFullTree};
 ghost use Rattle.art_model.specs.Trees.{Tree};
 ghost use Rattle.art_writing.specs.Inserted.{alone};

@@ -3,12 +3,12 @@ use Rattle.std.proofs.Common.{◌≡◌, ◌≢◌, ℕ, [], ◌∷◌, List, re
 use Rattle.std.specs.List.{AllByRecursion as Each}
 use Rattle.std.specs.Option.{IfSome}
 use Rattle.std.specs.FinMap as map
-use Rattle.art_nodes.specs.Names.{leaf_name, inner_name}
+use Rattle.art_parts.specs.Names.{leaf_name, inner_name}
 use Rattle.art_nodes.specs.Nodes.{Nodes}
-use Rattle.art_nodes.specs.declared.node.NodeType.TheVariants.{Leaf}
-use Rattle.art_nodes.specs.declared.node.LeafPtr.{LeafPtr}
-use Rattle.art_nodes.specs.declared.node.InnerPtr.{InnerPtr}
-use Rattle.art_nodes.specs.declared.node.OpaqueNodePtr.{OpaqueNodePtr}
+use Rattle.art_parts.specs.declared.names.NodeType.TheVariants.{Leaf}
+use Rattle.art_parts.specs.declared.names.LeafPtr.{LeafPtr}
+use Rattle.art_parts.specs.declared.names.InnerPtr.{InnerPtr}
+use Rattle.art_parts.specs.declared.names.OpaqueNodePtr.{OpaqueNodePtr}
 use Rattle.art_model.specs.Trees.{leaf, inner, Subtrees, child, no_child}
 use Rattle.art_model.specs.Layouts.{name_of, slots_of, names_of, names_below, HoldsBelow, AreDistinct, IsLayout}
 use Rattle.art_model.specs.Pairs.{of_key}

@@ -1,7 +1,7 @@
 //! Lines in, replies out.
 
 ghost use Rattle.std.specs.Prelude.{◌≤◌, None, IfOk};
-ghost use Rattle.art_nodes.specs.Clones.{IsPairClone};
+ghost use Rattle.art_parts.specs.Clones.{IsPairClone};
 ghost use Rattle.artrun.specs.Commands.{IsAnswered, IsCommandFor};
 ghost use Rattle.artrun.specs.KeptTrees.{IsKept};
 

@@ -1,7 +1,7 @@
 //! What is written in reply.
 ghost use Rattle.std.specs.Prelude.{IfSome, IsSome, List};
 ghost use Rattle.std.specs.FinMap as map;
-ghost use Rattle.art_nodes.specs.declared.node.OpaqueNodePtr.{OpaqueNodePtr};
+ghost use Rattle.art_parts.specs.declared.names.OpaqueNodePtr.{OpaqueNodePtr};
 ghost use Rattle.art_operations.specs.Iterators.{IsIteratorOf};
 ghost use Rattle.artrun.specs.Trees.{IsLinkedTreeIn, IsTreeIn};
 

@@ -1,6 +1,6 @@
 //! The tree that the lines so far have left, and the stores that it lives in.
 ghost use Rattle.std.specs.Prelude.{◌≡◌, ◌∷◌, [], None, IfOk, IfErr, OnErr};
-ghost use Rattle.art_nodes.specs.Clones.{IsPairClone};
+ghost use Rattle.art_parts.specs.Clones.{IsPairClone};
 ghost use Rattle.art_model.specs.Faults.{out_of_memory};
 ghost use Rattle.art_operations.specs.Checks.{fault_of};
 ghost use Rattle.art_operations.specs.Runs.{IsRun};

@@ -2,7 +2,7 @@
 #![tactic(auto)]
 
 ghost use Rattle.std.specs.Prelude.{◌≡◌, List, length, max, Some, IfSome, IfNone};
-ghost use Rattle.art_nodes.specs.declared.node.OpaqueNodePtr.{OpaqueNodePtr};
+ghost use Rattle.art_parts.specs.declared.names.OpaqueNodePtr.{OpaqueNodePtr};
 ghost use Rattle.art_model.specs.Canonical.{IsCanonical};
 ghost use Rattle.art_model.specs.Pairs.{of_key, overwrite, put, remove_key, without_first};
 ghost use Rattle.art_model.specs.Layouts.{leaf_names};

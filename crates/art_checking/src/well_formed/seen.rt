@@ -1,7 +1,7 @@
 //! What a check has met.
 ghost use Rattle.std.specs.Prelude.{◌≡◌, ◌+◌, None, OnOk, []};
 ghost use Rattle.std.specs.Option.{option_map};
-ghost use Rattle.art_nodes.specs.declared.node.OpaqueNodePtr.{OpaqueNodePtr};
+ghost use Rattle.art_parts.specs.declared.names.OpaqueNodePtr.{OpaqueNodePtr};
 ghost use Rattle.art_checking.specs.Checks.{prefix_bytes};
 ghost use Rattle.art_checking.specs.Meetings.{IsMet, count_met, leaves_with, place_in};
 

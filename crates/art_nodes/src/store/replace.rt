@@ -6,11 +6,11 @@ use crate::node::{AsBytes, Header, InnerPtr, OpaqueNodePtr};
 
 impl<K: AsBytes + Drop, V: Drop, const P: usize> NodeStore<K, V, P> {
     ghost use Rattle.std.specs.FinMap as map;
-    ghost use Rattle.art_nodes.specs.Changes.{with_child, without_child};
-    ghost use Rattle.art_nodes.specs.Inner.{childless};
-    ghost use Rattle.art_nodes.specs.Kinds.{kind_capacity, smaller_kind};
+    ghost use Rattle.art_inner.specs.Changes.{with_child, without_child};
+    ghost use Rattle.art_inner.specs.Inner.{childless};
+    ghost use Rattle.art_parts.specs.Kinds.{kind_capacity, smaller_kind};
     ghost use Rattle.art_nodes.specs.Nodes.{promises, take_inner};
-    ghost use Rattle.art_nodes.specs.declared.node.NodeType.TheVariants.{Node4};
+    ghost use Rattle.art_parts.specs.declared.names.NodeType.TheVariants.{Node4};
 
     /// Takes an inner node out, and places one of the next smaller kind without the child under a
     /// byte, as promised.

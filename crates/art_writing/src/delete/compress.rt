@@ -1,13 +1,13 @@
 //! One of the two children of a node goes, a leaf, and the other takes that node's place.
 ghost use Rattle.std.specs.Prelude.{◌≡◌, ◌≢◌, ◌+◌, ◌≤◌, ℕ, List, ◌∷◌, ◌++◌, length, IsSome, IsSomeAnd, IfSome, Some, cond};
 ghost use Rattle.std.specs.FinMap as map;
-ghost use Rattle.art_nodes.specs.Changes.{with_header};
-ghost use Rattle.art_nodes.specs.Inner.{header_of};
+ghost use Rattle.art_inner.specs.Changes.{with_header};
+ghost use Rattle.art_parts.specs.Headers.{header_of};
 ghost use Rattle.art_nodes.specs.Nodes.{change};
 ghost use Rattle.art_model.specs.Pairs.{of_key};
 ghost use Rattle.art_model.specs.Roots.{ForTree};
 ghost use Rattle.art_model.specs.Writes.{as_inner};
-ghost use Rattle.art_nodes.specs.declared.node.NodeType.TheVariants.{Leaf};
+ghost use Rattle.art_parts.specs.declared.names.NodeType.TheVariants.{Leaf};
 ghost use Rattle.art_writing.specs.Deleted.{IsDeleted, IsDeletePointIn, LeadsTo, TouchesFor, is_compressed, parent_change};
 ghost use Rattle.art_reading.specs.Paths.{last_step};
 

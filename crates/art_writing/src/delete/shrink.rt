@@ -1,6 +1,6 @@
 //! A leaf goes, and its parent gives way to a smaller node.
 ghost use Rattle.std.specs.Prelude.{◌≡◌, IsOk, IsTrue, IfOk, IfErr, OnOk, OnErr, Some};
-ghost use Rattle.art_nodes.specs.Kinds.{smaller_kind};
+ghost use Rattle.art_parts.specs.Kinds.{smaller_kind};
 ghost use Rattle.art_nodes.specs.Nodes.{no_promise};
 ghost use Rattle.art_model.specs.Pairs.{of_key};
 ghost use Rattle.art_model.specs.Promises.{is_covered, promise_after};

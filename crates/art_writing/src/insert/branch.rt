@@ -1,9 +1,9 @@
 //! A new node above a leaf and a new one, or above an inner node and a new leaf.
 ghost use Rattle.std.specs.Prelude.{◌≡◌, ℕ, ◌+◌, nat_lt, drop, List, IsOk, IsTrue, IfOk, IfErr, OnOk, OnErr, Some};
-ghost use Rattle.art_nodes.specs.Inner.{header_of};
+ghost use Rattle.art_parts.specs.Headers.{header_of};
 ghost use Rattle.art_nodes.specs.Nodes.{covers, no_promise, take_inner, take_leaf};
-ghost use Rattle.art_nodes.specs.declared.node.NodeType.TheVariants.{Node4};
-ghost use Rattle.art_nodes.specs.declared.node.OpaqueNodePtr.{OpaqueNodePtr};
+ghost use Rattle.art_parts.specs.declared.names.NodeType.TheVariants.{Node4};
+ghost use Rattle.art_parts.specs.declared.names.OpaqueNodePtr.{OpaqueNodePtr};
 ghost use Rattle.art_model.specs.Pairs.{of_key};
 ghost use Rattle.art_model.specs.Places.{depth_of, prefix_of};
 ghost use Rattle.art_model.specs.Promises.{is_covered, promise_after};

@@ -94,13 +94,14 @@ impl InsertPoint {
 
 ghost use Rattle.std.specs.Prelude.{◌≢◌, ◌<◌, ◌≤◌, All, IsSome, IsSomeAnd, IfSome, None, length};
 ghost use Rattle.std.specs.FinMap as map;
-ghost use Rattle.art_nodes.specs.Changes.{with_child};
-ghost use Rattle.art_nodes.specs.Inner.{HasPlace};
-ghost use Rattle.art_nodes.specs.Kinds.{kind_capacity, larger_kind, ref_view};
-ghost use Rattle.art_nodes.specs.Names.{inner_name};
+ghost use Rattle.art_inner.specs.Changes.{with_child};
+ghost use Rattle.art_inner.specs.Inner.{HasPlace};
+ghost use Rattle.art_inner.specs.Views.{ref_view};
+ghost use Rattle.art_parts.specs.Kinds.{kind_capacity, larger_kind};
+ghost use Rattle.art_parts.specs.Names.{inner_name};
 ghost use Rattle.art_nodes.specs.Nodes.{promises, take_inner};
-ghost use Rattle.art_nodes.specs.declared.node.NodeType.TheVariants.{Leaf, Node256};
-ghost use Rattle.art_nodes.specs.declared.node.OpaqueNodePtr.{OpaqueNodePtr};
+ghost use Rattle.art_parts.specs.declared.names.NodeType.TheVariants.{Leaf, Node256};
+ghost use Rattle.art_parts.specs.declared.names.OpaqueNodePtr.{OpaqueNodePtr};
 ghost use Rattle.art_model.specs.Trees.{Subtrees};
 ghost use Rattle.art_model.specs.Writes.{with_child_at};
 ghost use Rattle.art_writing.specs.declared.insert.InsertParentNodeChange.TheVariants.{NewParent};

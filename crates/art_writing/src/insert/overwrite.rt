@@ -1,9 +1,9 @@
 //! A leaf in the place of all pairs with related keys.
 ghost use Rattle.std.specs.Prelude.{◌≡◌, ◌≢◌, IsOk, IsTrue, IfOk, IfErr, OnOk, OnErr, Some};
 ghost use Rattle.std.specs.Option.{option_map};
-ghost use Rattle.art_nodes.specs.Names.{leaf_name};
+ghost use Rattle.art_parts.specs.Names.{leaf_name};
 ghost use Rattle.art_nodes.specs.Nodes.{no_promise};
-ghost use Rattle.art_nodes.specs.declared.node.NodeType.TheVariants.{Leaf};
+ghost use Rattle.art_parts.specs.declared.names.NodeType.TheVariants.{Leaf};
 ghost use Rattle.art_model.specs.Canonical.{IsCanonical};
 ghost use Rattle.art_model.specs.Kept.{ChangesInPlace};
 ghost use Rattle.art_model.specs.Pairs.{of_key, overwrite, overwrite_reply};

@@ -1,6 +1,6 @@
 use Rattle.std.specs.FinMap as map
-use Rattle.art_nodes.specs.Kinds.{ref_kind, ref_view}
-use Rattle.art_nodes.specs.declared.node.OpaqueNodePtr.{OpaqueNodePtr}
+use Rattle.art_inner.specs.Views.{ref_kind, ref_view}
+use Rattle.art_parts.specs.declared.names.OpaqueNodePtr.{OpaqueNodePtr}
 use Rattle.art_model.specs.Heights.{height}
 use Rattle.art_model.specs.Roots.{IsFullTree}
 use Rattle.art_model.specs.Stores.{node_at}

@@ -3,13 +3,14 @@ use Rattle.std.proofs.Common.{T, ◌≡◌, ℕ, List, [], ◌∷◌, Some, None
 use Rattle.std.specs.FinMap as map
 use Rattle.std.specs.Option.{option_map, option_and_then}
 use Rattle.std.specs.declared.cmp.Ordering.TheVariants.{Less}
-use Rattle.art_nodes.specs.Inner.{Inner, child_at}
-use Rattle.art_nodes.specs.Nodes.{Nodes, leaf_cmp, inner_cmp}
-use Rattle.art_nodes.specs.declared.node.InnerPtr.{InnerPtr}
-use Rattle.art_nodes.specs.declared.node.LeafNode.{LeafNode}
-use Rattle.art_nodes.specs.declared.node.LeafPtr.{LeafPtr}
-use Rattle.art_nodes.specs.declared.node.NodeType.TheVariants.{Node4, Leaf}
-use Rattle.art_nodes.specs.declared.node.OpaqueNodePtr.{OpaqueNodePtr}
+use Rattle.art_inner.specs.Inner.{Inner, child_at}
+use Rattle.art_nodes.specs.Nodes.{Nodes}
+use Rattle.art_parts.specs.Names.{leaf_cmp, inner_cmp}
+use Rattle.art_parts.specs.declared.names.InnerPtr.{InnerPtr}
+use Rattle.art_parts.specs.declared.leaf.LeafNode.{LeafNode}
+use Rattle.art_parts.specs.declared.names.LeafPtr.{LeafPtr}
+use Rattle.art_parts.specs.declared.names.NodeType.TheVariants.{Node4, Leaf}
+use Rattle.art_parts.specs.declared.names.OpaqueNodePtr.{OpaqueNodePtr}
 use Rattle.art_model.specs.Examples.{Key, bytes_of_pair, of_length, node4, leaf_at}
 use Rattle.art_model.specs.FaultExamples.{store_of, leaf_in, leaf_between, node4_over, looped, shared, self_linked, linked_to_nothing, misplaced, unreadable, misstored}
 use Rattle.art_model.specs.Faults.{Reaches}

@@ -1,5 +1,5 @@
 use Rattle.std.proofs.Common.{◌≡◌}
-use Rattle.art_nodes.specs.Inner.{child_at}
+use Rattle.art_inner.specs.Inner.{child_at}
 use Rattle.art_node_tests.proofs.node.find_child.Given as goal
 
 abbrev pub invariant-loop-b : goal.invariant-loop-b

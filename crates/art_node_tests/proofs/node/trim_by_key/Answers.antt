@@ -1,5 +1,5 @@
 use Rattle.std.proofs.Common.{refl}
-use Rattle.art_nodes.proofs.HeaderLaws.{trimmed_by_leaf}
+use Rattle.art_parts.proofs.HeaderLaws.{trimmed_by_leaf}
 use Rattle.art_node_tests.proofs.node.trim_by_key.Goals as goal
 
 pub returns : goal.returns

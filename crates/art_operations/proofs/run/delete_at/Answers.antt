@@ -1,7 +1,7 @@
 use Rattle.std.proofs.Common.{refl, sym, subst, Some, None}
 use Rattle.std.proofs.lemmas.Bool.{false≢true}
 use Rattle.art_model.specs.Canonical.{IsCanonical}
-use Rattle.art_nodes.specs.Clones.{IsPairClone}
+use Rattle.art_parts.specs.Clones.{IsPairClone}
 use Rattle.art_model.specs.Pairs.{of_key, remove_key}
 use Rattle.art_model.specs.Radix.{pairs_of}
 use Rattle.art_operations.specs.declared.run.Reply.TheVariants.{Deleted, NoMemory}

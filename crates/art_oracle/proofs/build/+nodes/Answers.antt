@@ -1,7 +1,7 @@
 use Rattle.std.proofs.Common.{rules, ◌≡◌, ◌≤◌, ◌<◌, ◌+◌, ◌∷◌, [], ◌++◌, length, take, drop, arith, sym, ap, ◌∙◌, subst, inl, Some}
 use Rattle.std.specs.FinMap as finite
 use Rattle.std.proofs.lemmas.Grind.{common_steps}
-use Rattle.art_nodes.specs.Changes.{with_child}
+use Rattle.art_inner.specs.Changes.{with_child}
 use Rattle.art_nodes.proofs.StoreLaws.{inner_here}
 use Rattle.art_model.specs.Pairs.{of_key}
 use Rattle.art_model.specs.Trees.{byte_at, kind_of}

@@ -1,6 +1,6 @@
 use Rattle.std.proofs.Common.{sym, ap, ◌∙◌, rules}
 use Rattle.std.specs.Option.{option_map}
-use Rattle.art_nodes.specs.Names.{leaf_name}
+use Rattle.art_parts.specs.Names.{leaf_name}
 use Rattle.art_read_tests.proofs.iterator.again.Goals as goal
 
 pub new-requires : goal.new-requires

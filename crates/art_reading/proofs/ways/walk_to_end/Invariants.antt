@@ -1,5 +1,5 @@
 use Rattle.std.specs.FinMap as map
-use Rattle.art_nodes.specs.declared.node.OpaqueNodePtr.{OpaqueNodePtr}
+use Rattle.art_parts.specs.declared.names.OpaqueNodePtr.{OpaqueNodePtr}
 use Rattle.art_model.specs.Trees.{Tree}
 use Rattle.art_model.specs.Stores.{node_at}
 use Rattle.art_model.specs.Heights.{height}

@@ -1,6 +1,7 @@
 use Rattle.std.proofs.Common.{rules, arith, ap, sym, ◌∙◌, subst, ◌≤◌, length, None, inl, inr}
-use Rattle.art_nodes.specs.Clones.{IsPairClone}
-use Rattle.art_nodes.specs.Kinds.{kind_capacity, ref_view}
+use Rattle.art_parts.specs.Clones.{IsPairClone}
+use Rattle.art_inner.specs.Views.{ref_view}
+use Rattle.art_parts.specs.Kinds.{kind_capacity}
 use Rattle.art_nodes.specs.Nodes.{take_inner}
 use Rattle.art_model.specs.Layouts.{shape_of}
 use Rattle.art_model.proofs.Gains.{frees_lost}

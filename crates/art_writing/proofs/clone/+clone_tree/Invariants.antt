@@ -1,6 +1,6 @@
 use Rattle.std.specs.FinMap as map
-use Rattle.art_nodes.specs.Clones.{IsPairClone}
-use Rattle.art_nodes.specs.declared.node.OpaqueNodePtr.{OpaqueNodePtr}
+use Rattle.art_parts.specs.Clones.{IsPairClone}
+use Rattle.art_parts.specs.declared.names.OpaqueNodePtr.{OpaqueNodePtr}
 use Rattle.art_model.specs.Heights.{height}
 use Rattle.art_model.specs.Promises.{IsLessened}
 use Rattle.art_model.specs.Roots.{IsFullTree}

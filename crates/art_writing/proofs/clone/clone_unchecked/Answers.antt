@@ -1,6 +1,6 @@
 use Rattle.std.proofs.Common.{rules}
 use Rattle.std.proofs.lemmas.Result.{IfOk-weaker}
-use Rattle.art_nodes.specs.Clones.{IsPairClone}
+use Rattle.art_parts.specs.Clones.{IsPairClone}
 use Rattle.art_model.specs.Pairs.{of_key}
 use Rattle.art_model.proofs.StoreLaws.{has_children}
 use Rattle.art_writing.specs.Cloned.{IsCopied}

@@ -1,5 +1,5 @@
 use Rattle.std.proofs.Common.{◌∙◌, sym}
-use Rattle.art_nodes.specs.Kinds.{ref_view}
+use Rattle.art_inner.specs.Views.{ref_view}
 use Rattle.art_writing.proofs.Freed.{first_taken}
 use Rattle.art_writing.proofs.deallocate.take_first_child.Goals as goal
 

@@ -1,5 +1,5 @@
 use Rattle.std.proofs.Common.{List}
-use Rattle.art_nodes.specs.declared.node.OpaqueNodePtr.{OpaqueNodePtr}
+use Rattle.art_parts.specs.declared.names.OpaqueNodePtr.{OpaqueNodePtr}
 use Rattle.art_operations.specs.Iterators.{IsIteratorOf}
 use Rattle.artrun.proofs.print.write_pairs.Given as goal
 

@@ -1,5 +1,5 @@
 use Rattle.std.proofs.Common.{length, ap, sym, ◌∙◌}
-use Rattle.art_nodes.specs.Kinds.{ref_view}
+use Rattle.art_inner.specs.Views.{ref_view}
 use Rattle.artrun.specs.Walks.{below}
 use Rattle.artrun.proofs.Walks.{below-inner, below-leaf, below-none, length-falling}
 use Rattle.artrun.proofs.walk.count_children.Goals as goal

@@ -1,6 +1,6 @@
 use Rattle.std.proofs.Common.{ap, sym, ◌∙◌}
 use Rattle.std.specs.Vec.{vec_capacity}
-use Rattle.art_nodes.specs.Kinds.{ref_view}
+use Rattle.art_inner.specs.Views.{ref_view}
 use Rattle.artrun.specs.Walks.{below, falling}
 use Rattle.artrun.proofs.Walks.{below-inner, room_for}
 use Rattle.artrun.proofs.walk.push_below.Goals as goal

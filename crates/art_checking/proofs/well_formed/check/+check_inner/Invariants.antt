@@ -1,7 +1,7 @@
 use Rattle.std.proofs.Common.{◌++◌, is_some}
 use Rattle.std.specs.FinMap as map
-use Rattle.art_nodes.specs.Kinds.{ref_view}
-use Rattle.art_nodes.specs.Names.{inner_name}
+use Rattle.art_inner.specs.Views.{ref_view}
+use Rattle.art_parts.specs.Names.{inner_name}
 use Rattle.art_model.specs.Pairs.{of_key}
 use Rattle.art_model.specs.Stores.{header_at}
 use Rattle.art_checking.specs.Checked.{IsRead}

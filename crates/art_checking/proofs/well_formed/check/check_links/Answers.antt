@@ -3,10 +3,10 @@ use Rattle.std.proofs.lemmas.Bool.{false≢true}
 use Rattle.std.proofs.lemmas.Grind.{common_steps}
 use Rattle.std.specs.List.{slice_get}
 use Rattle.std.specs.Option.{option_eq, option_map, option_and_then}
-use Rattle.art_nodes.specs.Names.{leaf_name}
-use Rattle.art_nodes.specs.contracts.node.LeafPtrPartialEq.TheImpl as derived
-use Rattle.art_nodes.specs.declared.node.LeafPtr.{LeafPtr}
-use Rattle.art_nodes.specs.declared.node.OpaqueNodePtr.{OpaqueNodePtr}
+use Rattle.art_parts.specs.Names.{leaf_name}
+use Rattle.art_parts.specs.contracts.names.LeafPtrPartialEq.TheImpl as derived
+use Rattle.art_parts.specs.declared.names.LeafPtr.{LeafPtr}
+use Rattle.art_parts.specs.declared.names.OpaqueNodePtr.{OpaqueNodePtr}
 use Rattle.art_model.specs.Layouts.{Links}
 use Rattle.art_model.specs.Pairs.{first_of as first_name, last_of}
 use Rattle.art_model.specs.Stores.{held_leaf, links_of, pair_of}

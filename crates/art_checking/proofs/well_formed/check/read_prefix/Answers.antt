@@ -3,8 +3,8 @@ use Rattle.std.proofs.lemmas.Bool.{true≢false, false≢true}
 use Rattle.std.proofs.lemmas.Bool.Decides.{Decides-eqb}
 use Rattle.std.proofs.lemmas.Slice.Eq.{slice_eq-Decides}
 use Rattle.std.specs.Cmp.Lexicographic.{pointwise}
-use Rattle.art_nodes.specs.Kinds.{ref_view}
-use Rattle.art_nodes.specs.Names.{inner_name}
+use Rattle.art_inner.specs.Views.{ref_view}
+use Rattle.art_parts.specs.Names.{inner_name}
 use Rattle.art_model.specs.Faults.{IsUnreadable, StoresOthers}
 use Rattle.art_model.specs.Pairs.{of_key}
 use Rattle.art_checking.specs.Checked.{IsReadFrom}

@@ -1,4 +1,4 @@
-use Rattle.art_nodes.specs.declared.node.NodeType.TheVariants.{Node16}
+use Rattle.art_parts.specs.declared.names.NodeType.TheVariants.{Node16}
 use Rattle.art_nodes.proofs.StoreLemmas.{inners_placed, only16}
 use Rattle.art_nodes.proofs.store.InnerSlabs.insert_node16.Goals as goal
 

@@ -1,4 +1,4 @@
-use Rattle.art_nodes.specs.declared.node.NodeType.TheVariants.{Node4}
+use Rattle.art_parts.specs.declared.names.NodeType.TheVariants.{Node4}
 use Rattle.art_nodes.proofs.StoreLemmas.{inners_placed, only4}
 use Rattle.art_nodes.proofs.store.InnerSlabs.insert_node4.Goals as goal
 

@@ -1,6 +1,6 @@
 use Rattle.std.proofs.Common.{ap, sym, ◌∙◌}
 use Rattle.std.specs.FinMap.{insert}
-use Rattle.art_nodes.specs.Kinds.{any_view}
+use Rattle.art_inner.specs.Views.{any_view}
 use Rattle.art_nodes.specs.StoreView.{inners_of}
 use Rattle.art_nodes.proofs.store.InnerSlabs.insert_reserved.Goals as goal
 

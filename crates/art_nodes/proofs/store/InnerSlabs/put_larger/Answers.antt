@@ -1,7 +1,7 @@
 use Rattle.std.proofs.Common.{ap, ◌∙◌}
-use Rattle.art_nodes.specs.Changes.{with_child}
+use Rattle.art_inner.specs.Changes.{with_child}
 use Rattle.art_nodes.specs.StoreView.{inners_of}
-use Rattle.art_nodes.specs.declared.node.NodeType.TheVariants.{Node4, Node16, Node48}
+use Rattle.art_parts.specs.declared.names.NodeType.TheVariants.{Node4, Node16, Node48}
 use Rattle.art_nodes.proofs.StoreLemmas.{free_before, freed_of, only4, only16, only48, put_over, there_of}
 use Rattle.art_nodes.proofs.store.InnerSlabs.put_larger.Goals as goal
 

@@ -1,4 +1,4 @@
-use Rattle.art_nodes.specs.declared.node.NodeType.TheVariants.{Node4, Node16, Node48, Node256}
+use Rattle.art_parts.specs.declared.names.NodeType.TheVariants.{Node4, Node16, Node48, Node256}
 use Rattle.art_nodes.proofs.StoreLemmas.{freed_of, only4, only16, only48, only256}
 use Rattle.art_nodes.proofs.store.InnerSlabs.remove.Goals as goal
 

@@ -1,25 +1,24 @@
-use Rattle.std.proofs.Common.{ap, refl}
-use Rattle.art_nodes.specs.Changes.{with_header}
-use Rattle.art_nodes.specs.declared.node.NodeType.TheVariants.{Node4, Node16, Node48, Node256}
+use Rattle.std.proofs.Common.{refl}
+use Rattle.art_inner.specs.Changes.{with_header}
+use Rattle.art_parts.specs.declared.names.NodeType.TheVariants.{Node4, Node16, Node48, Node256}
 use Rattle.art_nodes.proofs.StoreLemmas.{written_of, only4, only16, only48, only256}
 use Rattle.art_nodes.proofs.store.InnerSlabs.set_header.Goals as goal
 
 pub returns-in-Node4-clause-nodes : goal.returns-in-Node4-clause-nodes
 returns-in-Node4-clause-nodes g c =
-    written_of c.args.self.now _ c.args.name (with_header c.args.header) _ _ Node4 c.in-Node4.is (only4 c.args.self.now _) c.index_mut.ensures.value refl
-    (ap (with_header c.args.header) c.behind-self.view_is)
+    written_of c.args.self.now _ c.args.name (with_header c.args.header) _ _ Node4 c.in-Node4.is (only4 c.args.self.now _) c.index_mut.ensures.value refl c.set_header.ensures
 
 pub returns-in-Node16-clause-nodes : goal.returns-in-Node16-clause-nodes
 returns-in-Node16-clause-nodes g c =
-    written_of c.args.self.now _ c.args.name (with_header c.args.header) _ _ Node16 c.in-Node16.is (only16 c.args.self.now _) c.index_mut-in-Node16.ensures.value refl
-    (ap (with_header c.args.header) c.behind-self-in-Node16.view_is)
+    written_of c.args.self.now _ c.args.name (with_header c.args.header) _ _ Node16 c.in-Node16.is
+    (only16 c.args.self.now _) c.index_mut-in-Node16.ensures.value refl c.set_header-in-Node16.ensures
 
 pub returns-in-Node48-clause-nodes : goal.returns-in-Node48-clause-nodes
 returns-in-Node48-clause-nodes g c =
-    written_of c.args.self.now _ c.args.name (with_header c.args.header) _ _ Node48 c.in-Node48.is (only48 c.args.self.now _) c.index_mut-in-Node48.ensures.value refl
-    (ap (with_header c.args.header) c.behind-self-in-Node48.view_is)
+    written_of c.args.self.now _ c.args.name (with_header c.args.header) _ _ Node48 c.in-Node48.is
+    (only48 c.args.self.now _) c.index_mut-in-Node48.ensures.value refl c.set_header-in-Node48.ensures
 
 pub returns-in-Node256-clause-nodes : goal.returns-in-Node256-clause-nodes
 returns-in-Node256-clause-nodes g c =
-    written_of c.args.self.now _ c.args.name (with_header c.args.header) _ _ Node256 c.in-Node256.is (only256 c.args.self.now _) c.index_mut-in-Node256.ensures.value refl
-    (ap (with_header c.args.header) c.behind-self-in-Node256.view_is)
+    written_of c.args.self.now _ c.args.name (with_header c.args.header) _ _ Node256 c.in-Node256.is
+    (only256 c.args.self.now _) c.index_mut-in-Node256.ensures.value refl c.set_header-in-Node256.ensures

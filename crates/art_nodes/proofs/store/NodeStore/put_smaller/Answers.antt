@@ -1,9 +1,10 @@
 use Rattle.std.proofs.Common.{rules, ◌≡◌, ◌≢◌, ◌≤◌, ◌∙◌, IfSome, IsSomeAnd, ap, length, subst, sym}
 use Rattle.std.specs.FinMap.{get, insert, remove}
-use Rattle.art_nodes.specs.Changes.{without_child}
-use Rattle.art_nodes.specs.Inner.{Inner}
-use Rattle.art_nodes.specs.Kinds.{any_view, kind_capacity, smaller_kind}
-use Rattle.art_nodes.specs.declared.node.NodeType.TheVariants.{Node4}
+use Rattle.art_inner.specs.Changes.{without_child}
+use Rattle.art_inner.specs.Inner.{Inner}
+use Rattle.art_inner.specs.Views.{any_view}
+use Rattle.art_parts.specs.Kinds.{kind_capacity, smaller_kind}
+use Rattle.art_parts.specs.declared.names.NodeType.TheVariants.{Node4}
 use Rattle.art_nodes.proofs.ReplaceLemmas.{free_before, other_smaller}
 use Rattle.art_nodes.proofs.store.NodeStore.put_smaller.Goals as goal
 

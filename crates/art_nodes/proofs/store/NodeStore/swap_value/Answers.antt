@@ -2,7 +2,7 @@ use Rattle.std.proofs.Common.{ap, ◌∙◌, Some}
 use Rattle.std.specs.Prelude.{slice_set}
 use Rattle.art_nodes.specs.StoreView.{leaves_of}
 use Rattle.art_nodes.specs.Nodes.{change}
-use Rattle.art_nodes.specs.Changes.{with_value}
+use Rattle.art_nodes.specs.LeafChanges.{with_value}
 use Rattle.art_nodes.proofs.StoreLemmas.{leaves_written}
 use Rattle.art_nodes.proofs.store.NodeStore.swap_value.Goals as goal
 

@@ -1,7 +1,7 @@
 use Rattle.std.proofs.Common.{◌≡◌, ◌∙◌, IfSome, IsSomeAnd, ap, length, subst, sym}
-use Rattle.art_nodes.specs.Changes.{with_child, without_child}
-use Rattle.art_nodes.specs.Inner.{childless}
-use Rattle.art_nodes.specs.Kinds.{ref_view}
+use Rattle.art_inner.specs.Changes.{with_child, without_child}
+use Rattle.art_inner.specs.Inner.{childless}
+use Rattle.art_inner.specs.Views.{ref_view}
 use Rattle.art_nodes.proofs.ReplaceLemmas.{of_one_child}
 use Rattle.art_nodes.proofs.store.NodeStore.take_other.Goals as goal
 

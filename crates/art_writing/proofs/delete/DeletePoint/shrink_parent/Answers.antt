@@ -1,5 +1,5 @@
 use Rattle.std.proofs.Common.{rules, ◌∙◌, IsTrue, ap, subst, sym}
-use Rattle.art_nodes.specs.Kinds.{smaller_kind}
+use Rattle.art_parts.specs.Kinds.{smaller_kind}
 use Rattle.art_nodes.specs.Nodes.{promises}
 use Rattle.art_model.specs.Writes.{with_child_at}
 use Rattle.art_reading.specs.Paths.{last_step, up, root_with}

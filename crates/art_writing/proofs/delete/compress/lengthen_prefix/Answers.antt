@@ -1,8 +1,8 @@
 use Rattle.std.proofs.Common.{◌≡◌, ◌+◌, ◌++◌, take, IfSome, ap, ap₂, sym, ◌∙◌, subst}
 use Rattle.std.specs.FinMap as map
-use Rattle.art_nodes.specs.Changes.{with_header}
-use Rattle.art_nodes.specs.Inner.{header_of}
-use Rattle.art_nodes.specs.Kinds.{ref_view}
+use Rattle.art_inner.specs.Changes.{with_header}
+use Rattle.art_parts.specs.Headers.{header_of}
+use Rattle.art_inner.specs.Views.{ref_view}
 use Rattle.art_nodes.specs.Nodes.{change}
 use Rattle.art_model.specs.Writes.{as_inner}
 use Rattle.art_writing.proofs.Compressions.{lengthened}

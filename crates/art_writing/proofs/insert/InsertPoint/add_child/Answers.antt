@@ -1,6 +1,6 @@
 use Rattle.std.proofs.Common.{rules, ◌∙◌, ap, sym, refl, subst, get_or, Some, IsTrue}
 use Rattle.std.specs.FinMap as map
-use Rattle.art_nodes.specs.Kinds.{larger_kind}
+use Rattle.art_parts.specs.Kinds.{larger_kind}
 use Rattle.art_nodes.specs.Nodes.{covers, promises, take_leaf}
 use Rattle.art_model.specs.Promises.{inner_taken, promise_after}
 use Rattle.art_model.specs.Writes.{IsThere}

@@ -1,5 +1,5 @@
 use Rattle.std.proofs.Common.{rules, ap, sym, ◌∙◌, subst}
-use Rattle.art_nodes.specs.Changes.{with_header}
+use Rattle.art_inner.specs.Changes.{with_header}
 use Rattle.art_nodes.specs.Nodes.{change}
 use Rattle.art_model.specs.Pairs.{of_key}
 use Rattle.art_model.specs.Writes.{IsThere}

@@ -1,6 +1,6 @@
 use Rattle.std.proofs.Common.{◌∙◌, ap, ap₂, sym, refl, subst, rules, None}
 use Rattle.std.specs.FinMap as map
-use Rattle.art_nodes.specs.declared.node.LeafNode.{LeafNode}
+use Rattle.art_parts.specs.declared.leaf.LeafNode.{LeafNode}
 use Rattle.art_model.specs.Writes.{IsThere, with_child_at, with_leaf}
 use Rattle.art_writing.specs.Writes.{HasChild, SameNodes}
 use Rattle.art_reading.specs.Paths.{last_step, root_with}

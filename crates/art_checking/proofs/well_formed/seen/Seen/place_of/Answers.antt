@@ -1,7 +1,7 @@
 use Rattle.std.proofs.Common.{Option, ap, ◌∙◌, refl, Some, None, ◌≡◌, ℕ, List, Bor}
 use Rattle.std.specs.Option.{option_map, option_copied}
 use Rattle.std.specs.Ordering.{is_eq}
-use Rattle.art_nodes.specs.contracts.node.OpaqueNodePtrOrd.TheImpl as derived
+use Rattle.art_parts.specs.contracts.names.OpaqueNodePtrOrd.TheImpl as derived
 use Rattle.art_checking.specs.Checks.{prefix_bytes}
 use Rattle.art_checking.specs.Meetings.{place_in, same_name}
 use Rattle.art_checking.specs.declared.well_formed.KeyPrefix.{KeyPrefix}

@@ -3,8 +3,8 @@ use Rattle.std.specs.Map.{lookup}
 use Rattle.std.specs.Option.{option_map}
 use Rattle.std.specs.Ordering.{is_eq}
 use Rattle.std.specs.BTreeMap.{BTreeMap}
-use Rattle.art_nodes.specs.contracts.node.OpaqueNodePtrOrd.TheImpl as derived
-use Rattle.art_nodes.specs.declared.node.OpaqueNodePtr.{OpaqueNodePtr}
+use Rattle.art_parts.specs.contracts.names.OpaqueNodePtrOrd.TheImpl as derived
+use Rattle.art_parts.specs.declared.names.OpaqueNodePtr.{OpaqueNodePtr}
 use Rattle.art_checking.specs.Checks.{prefix_bytes}
 use Rattle.art_checking.specs.Meetings.{place_in, same_name}
 use Rattle.art_checking.specs.declared.well_formed.KeyPrefix.{KeyPrefix}

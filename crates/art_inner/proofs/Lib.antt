@@ -1,0 +1,9 @@
+pub mod TableLemmas
+pub mod ChildrenLemmas
+pub mod ChildrenLaws
+pub mod RemovalLemmas
+pub mod Extent
+pub mod DirectLemmas
+pub mod IndexedLemmas
+pub mod RowsLemmas
+pub mod RowTables

@@ -1,0 +1,155 @@
+-- Three lists side by side go through the parts of lists, so what is done to each is done to the children.
+use Rattle.std.proofs.Common.{◌≡◌, ℕ, zero, suc, ◌<◌, ◌≤◌, cond, ltb, List, [], ◌∷◌, ◌++◌, length, get_or, set, take, drop, remove, slice_get, Option, Some, None, is_some, ◌≢◌, refl, sym, ap, ◌∙◌, inl, inr, arith}
+use Rattle.std.specs.Option.{option_map}
+use Rattle.art_parts.specs.declared.names.NodeType.TheVariants.{Leaf}
+use Rattle.art_inner.specs.Inner.{Children, IsBelow, IsRising, child_at, count_below}
+use Rattle.art_inner.specs.Rows.{rows, bytes_below}
+use Rattle.art_parts.specs.declared.names.NodeType.{NodeType}
+use Rattle.art_parts.specs.declared.names.OpaqueNodePtr.{OpaqueNodePtr}
+use Rattle.art_inner.proofs.TableLemmas.{Entry, nobody, none_is_not, counted_front, counted_here}
+use Rattle.art_parts.proofs.Comparisons.{by_order}
+use Rattle.art_inner.proofs.RemovalLemmas.{nothing_at}
+use Rattle.art_inner.proofs.ChildrenLaws.{at_here, at_later}
+
+pub length-rows : (bs : List ℕ) (ks : List NodeType) (ss : List ℕ) → length ks ≡ length bs → length ss ≡ length bs → length (rows bs ks ss) ≡ length bs
+length-rows [] ks ss e f = refl
+length-rows (b ∷ bs) [] ss e f = absurd (omega (arith, e))
+length-rows (b ∷ bs) (k ∷ ks) [] e f = absurd (omega (arith, f))
+length-rows (b ∷ bs) (k ∷ ks) (s ∷ ss) e f = omega (arith, length-rows bs ks ss (omega (arith, e)) (omega (arith, f)))
+
+pub rows-take : (n : ℕ) (bs : List ℕ) (ks : List NodeType) (ss : List ℕ) → take n (rows bs ks ss) ≡ rows (take n bs) (take n ks) (take n ss)
+rows-take zero bs ks ss = refl
+rows-take (suc n) [] ks ss = refl
+rows-take (suc n) (b ∷ bs) [] ss = refl
+rows-take (suc n) (b ∷ bs) (k ∷ ks) [] = refl
+rows-take (suc n) (b ∷ bs) (k ∷ ks) (s ∷ ss) = ap (λ (t : Children). (b, record { kind = k; slot = s }) ∷ t) (rows-take n bs ks ss)
+
+pub rows-drop : (n : ℕ) (bs : List ℕ) (ks : List NodeType) (ss : List ℕ) → length ks ≡ length bs → length ss ≡ length bs → drop n (rows bs ks ss) ≡ rows (drop n bs) (drop n ks) (drop n ss)
+rows-drop zero bs ks ss e f = refl
+rows-drop (suc n) [] ks ss e f = refl
+rows-drop (suc n) (b ∷ bs) [] ss e f = absurd (omega (arith, e))
+rows-drop (suc n) (b ∷ bs) (k ∷ ks) [] e f = absurd (omega (arith, f))
+rows-drop (suc n) (b ∷ bs) (k ∷ ks) (s ∷ ss) e f = rows-drop n bs ks ss (omega (arith, e)) (omega (arith, f))
+
+pub rows-append : (bs ds : List ℕ) (ks ls : List NodeType) (ss ts : List ℕ) → length ks ≡ length bs → length ss ≡ length bs → rows (bs ++ ds) (ks ++ ls) (ss ++ ts) ≡ rows bs ks ss ++ rows ds ls ts
+rows-append [] ds [] ls [] ts e f = refl
+rows-append [] ds (k ∷ ks) ls ss ts e f = absurd (omega (arith, e))
+rows-append [] ds [] ls (s ∷ ss) ts e f = absurd (omega (arith, f))
+rows-append (b ∷ bs) ds [] ls ss ts e f = absurd (omega (arith, e))
+rows-append (b ∷ bs) ds (k ∷ ks) ls [] ts e f = absurd (omega (arith, f))
+rows-append (b ∷ bs) ds (k ∷ ks) ls (s ∷ ss) ts e f = ap (λ (t : Children). (b, record { kind = k; slot = s }) ∷ t) (rows-append bs ds ks ls ss ts (omega (arith, e)) (omega (arith, f)))
+
+pub rows-set : (at : ℕ) (bs : List ℕ) (ks : List NodeType) (ss : List ℕ) (b : ℕ) (n : OpaqueNodePtr) → length ks ≡ length bs → length ss ≡ length bs →
+    set (rows bs ks ss) at (b, n) ≡ rows (set bs at b) (set ks at n.kind) (set ss at n.slot)
+rows-set at [] ks ss b n e f = refl
+rows-set at (x ∷ bs) [] ss b n e f = absurd (omega (arith, e))
+rows-set at (x ∷ bs) (k ∷ ks) [] b n e f = absurd (omega (arith, f))
+rows-set zero (x ∷ bs) (k ∷ ks) (s ∷ ss) b n e f = refl
+rows-set (suc at) (x ∷ bs) (k ∷ ks) (s ∷ ss) b n e f = ap (λ (t : Children). (x, record { kind = k; slot = s }) ∷ t) (rows-set at bs ks ss b n (omega (arith, e)) (omega (arith, f)))
+
+pub rows-read : (at : ℕ) (bs : List ℕ) (ks : List NodeType) (ss : List ℕ) (d : ℕ) (l : NodeType) (t : ℕ) → length ks ≡ length bs → length ss ≡ length bs → at < length bs →
+    get_or (rows bs ks ss) at (d, record { kind = l; slot = t }) ≡ (get_or bs at d, record { kind = get_or ks at l; slot = get_or ss at t })
+rows-read at [] ks ss d l t e f h = absurd (omega (arith, h))
+rows-read at (x ∷ bs) [] ss d l t e f h = absurd (omega (arith, e))
+rows-read at (x ∷ bs) (k ∷ ks) [] d l t e f h = absurd (omega (arith, f))
+rows-read zero (x ∷ bs) (k ∷ ks) (s ∷ ss) d l t e f h = refl
+rows-read (suc at) (x ∷ bs) (k ∷ ks) (s ∷ ss) d l t e f h = rows-read at bs ks ss d l t (omega (arith, e)) (omega (arith, f)) (omega (arith, h))
+
+-- a place is found by the bytes alone
+pub rows-below : (bs : List ℕ) (ks : List NodeType) (ss : List ℕ) (b : ℕ) → length ks ≡ length bs → length ss ≡ length bs → count_below (rows bs ks ss) b ≡ bytes_below bs b
+rows-below [] ks ss b e f = refl
+rows-below (x ∷ bs) [] ss b e f = absurd (omega (arith, e))
+rows-below (x ∷ bs) (k ∷ ks) [] b e f = absurd (omega (arith, f))
+rows-below (x ∷ bs) (k ∷ ks) (s ∷ ss) b e f = ap (λ (n : ℕ). cond (ltb x b) (suc n) 0) (rows-below bs ks ss b (omega (arith, e)) (omega (arith, f)))
+
+-- a byte that comes later is above
+byte_above : (x : ℕ) (cs : Children) (k : ℕ) (c : Entry) → IsBelow x cs → slice_get cs k ≡ Some c → x < c.0
+byte_above x [] k c below there = absurd (none_is_not (ap is_some (ap (λ (o : Option Entry). option_map (λ (e : Entry). e.1) o) there)))
+byte_above x (d ∷ cs) zero c below there = let is : d ≡ c = cc in omega (arith, below.0, ap (λ (e : Entry). e.0) is)
+byte_above x (d ∷ cs) (suc k) c below there = byte_above x cs k c below.1 there
+
+pub rows-get : (at : ℕ) (bs : List ℕ) (ks : List NodeType) (ss : List ℕ) (d : ℕ) (l : NodeType) (t : ℕ) → length ks ≡ length bs → length ss ≡ length bs →
+    at < length bs → slice_get (rows bs ks ss) at ≡ Some (get_or bs at d, record { kind = get_or ks at l; slot = get_or ss at t })
+rows-get at [] ks ss d l t e f h = absurd (omega (arith, h))
+rows-get at (x ∷ bs) [] ss d l t e f h = absurd (omega (arith, e))
+rows-get at (x ∷ bs) (k ∷ ks) [] d l t e f h = absurd (omega (arith, f))
+rows-get zero (x ∷ bs) (k ∷ ks) (s ∷ ss) d l t e f h = refl
+rows-get (suc at) (x ∷ bs) (k ∷ ks) (s ∷ ss) d l t e f h = rows-get at bs ks ss d l t (omega (arith, e)) (omega (arith, f)) (omega (arith, h))
+
+-- the name under a byte that stands at a place
+pub child_in_place : (cs : Children) (k b : ℕ) (c : Entry) → IsRising cs → slice_get cs k ≡ Some c → c.0 ≡ b → child_at cs b ≡ Some c.1
+child_in_place [] k b c rising there same = absurd (none_is_not (ap is_some (ap (λ (o : Option Entry). option_map (λ (e : Entry). e.1) o) there)))
+child_in_place (d ∷ cs) zero b c rising there same = let is : d ≡ c = cc in at_here d cs b (ap (λ (e : Entry). e.0) is ∙ same) ∙ ap (λ (e : Entry). Some e.1) is
+child_in_place (d ∷ cs) (suc k) b c rising there same = at_later d cs b (λ e. omega (arith, e, same, byte_above d.0 cs k c rising.0 there)) ∙ child_in_place cs k b c rising.1 there same
+
+pub read_there : (cs : Children) (k : ℕ) (d : Entry) → k < length cs → slice_get cs k ≡ Some (get_or cs k d)
+read_there [] k d within = absurd (omega (arith, within))
+read_there (c ∷ cs) zero d within = refl
+read_there (c ∷ cs) (suc k) d within = read_there cs k d (omega (arith, within))
+
+-- a byte that stands nowhere has no name
+pub rows-absent : (bs : List ℕ) (ks : List NodeType) (ss : List ℕ) (b : ℕ) → ((k : ℕ) → k < length bs → get_or bs k 0 ≢ b) → child_at (rows bs ks ss) b ≡ None
+rows-absent [] ks ss b other = refl
+rows-absent (x ∷ bs) [] ss b other = refl
+rows-absent (x ∷ bs) (k ∷ ks) [] b other = refl
+rows-absent (x ∷ bs) (k ∷ ks) (s ∷ ss) b other =
+    at_later (x, record { kind = k; slot = s }) (rows bs ks ss) b (other 0 (omega arith)) ∙ rows-absent bs ks ss b (λ i h. other (suc i) (omega (arith, h)))
+
+-- a byte that does not stand at the place where it would has no name
+pub rows-not_at : (bs : List ℕ) (ks : List NodeType) (ss : List ℕ) (at b : ℕ) → length ks ≡ length bs → length ss ≡ length bs → IsRising (rows bs ks ss) →
+    at ≡ bytes_below bs b → (at < length bs → get_or bs at 0 ≢ b) → child_at (rows bs ks ss) b ≡ None
+rows-not_at bs ks ss at b e f rising place other =
+    nothing_at (rows bs ks ss) b nobody at rising (place ∙ sym (rows-below bs ks ss b e f))
+    (λ within same. let near : at < length bs = omega (arith, within, length-rows bs ks ss e f) in
+    other near (ap (λ (x : Entry). x.0) (sym (rows-read at bs ks ss 0 Leaf 0 e f near)) ∙ same))
+
+-- a list is its front and its last
+pub last_apart : (cs : Children) (k : ℕ) (c : Entry) → slice_get cs k ≡ Some c → length cs ≡ suc k → cs ≡ take k cs ++ c ∷ []
+last_apart [] k c there long = absurd (omega (arith, long))
+last_apart (d ∷ []) zero c there long = cc
+last_apart (d ∷ e ∷ cs) zero c there long = absurd (omega (arith, long))
+last_apart (d ∷ cs) (suc k) c there long = ap (λ (t : Children). d ∷ t) (last_apart cs k c there (omega (arith, long)))
+
+-- as a list's front and one item more
+pub take_set_end : {X : Type 0} (es : List X) (len : ℕ) (x : X) → len < length es → take (suc len) (set es len x) ≡ take len es ++ x ∷ []
+take_set_end [] len x within = absurd (omega (arith, within))
+take_set_end (e ∷ es) zero x within = refl
+take_set_end (e ∷ es) (suc len) x within = ap (λ t. e ∷ t) (take_set_end es len x (omega (arith, within)))
+
+-- kind and slot are set where the byte stands
+pub rows-renamed : (at : ℕ) (bs : List ℕ) (ks : List NodeType) (ss : List ℕ) (b : ℕ) (n : OpaqueNodePtr) → length ks ≡ length bs → length ss ≡ length bs →
+    at < length bs → get_or bs at 0 ≡ b → rows bs (set ks at n.kind) (set ss at n.slot) ≡ set (rows bs ks ss) at (b, n)
+rows-renamed at [] ks ss b n e f h same = absurd (omega (arith, h))
+rows-renamed at (x ∷ bs) [] ss b n e f h same = absurd (omega (arith, e))
+rows-renamed at (x ∷ bs) (k ∷ ks) [] b n e f h same = absurd (omega (arith, f))
+rows-renamed zero (x ∷ bs) (k ∷ ks) (s ∷ ss) b n e f h same = ap (λ (y : ℕ). (y, n) ∷ rows bs ks ss) same
+rows-renamed (suc at) (x ∷ bs) (k ∷ ks) (s ∷ ss) b n e f h same =
+    ap (λ (t : Children). (x, record { kind = k; slot = s }) ∷ t) (rows-renamed at bs ks ss b n (omega (arith, e)) (omega (arith, f)) (omega (arith, h)) same)
+
+-- a byte, a kind and a slot come in between
+pub rows-between : (at : ℕ) (bs : List ℕ) (ks : List NodeType) (ss : List ℕ) (b : ℕ) (n : OpaqueNodePtr) → length ks ≡ length bs → length ss ≡ length bs → at ≤ length bs →
+    rows (take at bs ++ b ∷ drop at bs) (take at ks ++ n.kind ∷ drop at ks) (take at ss ++ n.slot ∷ drop at ss) ≡ take at (rows bs ks ss) ++ (b, n) ∷ drop at (rows bs ks ss)
+rows-between zero bs ks ss b n e f h = refl
+rows-between (suc at) [] ks ss b n e f h = absurd (omega (arith, h))
+rows-between (suc at) (x ∷ bs) [] ss b n e f h = absurd (omega (arith, e))
+rows-between (suc at) (x ∷ bs) (k ∷ ks) [] b n e f h = absurd (omega (arith, f))
+rows-between (suc at) (x ∷ bs) (k ∷ ks) (s ∷ ss) b n e f h =
+    ap (λ (t : Children). (x, record { kind = k; slot = s }) ∷ t) (rows-between at bs ks ss b n (omega (arith, e)) (omega (arith, f)) (omega (arith, h)))
+
+-- those at a place are taken out
+pub rows-remove : (at : ℕ) (bs : List ℕ) (ks : List NodeType) (ss : List ℕ) → length ks ≡ length bs → length ss ≡ length bs →
+    rows (remove bs at) (remove ks at) (remove ss at) ≡ remove (rows bs ks ss) at
+rows-remove zero [] ks ss e f = refl
+rows-remove (suc at) [] ks ss e f = refl
+rows-remove at (x ∷ bs) [] ss e f = absurd (omega (arith, e))
+rows-remove at (x ∷ bs) (k ∷ ks) [] e f = absurd (omega (arith, f))
+rows-remove zero (x ∷ bs) (k ∷ ks) (s ∷ ss) e f = refl
+rows-remove (suc at) (x ∷ bs) (k ∷ ks) (s ∷ ss) e f = ap (λ (t : Children). (x, record { kind = k; slot = s }) ∷ t) (rows-remove at bs ks ss (omega (arith, e)) (omega (arith, f)))
+
+-- no more are below a byte than there are
+pub count_below-bound : (cs : Children) (b : ℕ) → count_below cs b ≤ length cs
+count_below-bound [] b = omega arith
+count_below-bound (c ∷ cs) b = elim (by_order c.0 b) [
+  | inl h ↦ omega (arith, counted_front c cs b h, count_below-bound cs b)
+  | inr h ↦ omega (arith, counted_here c cs b (elim h [ inl e ↦ omega (arith, e) | inr g ↦ omega (arith, g) ]))
+]

@@ -1,0 +1,14 @@
+-- names and headers
+pub use Rattle.art_parts.specs.Kinds
+pub use Rattle.art_parts.specs.Headers
+-- inner nodes
+pub mod Inner
+pub mod Views
+pub mod Changes
+-- their tables
+pub mod Tables
+pub mod Rows
+pub mod Spans
+pub mod Direct
+pub mod Indexed
+pub mod Rests

@@ -1,0 +1,25 @@
+-- Children whose bytes, kinds and slots stand in three lists. No public clause cites this module.
+use Rattle.std.specs.Prelude.{◌≡◌, length, ℕ, suc, List, [], ◌∷◌, cond, nat_lt}
+use Rattle.art_inner.specs.Inner.{Children}
+use Rattle.art_parts.specs.declared.names.NodeType.{NodeType}
+use Rattle.art_inner.specs.declared.rows.Rows.{Rows}
+
+-- one child for each place that all three have
+abbrev pub rows : List ℕ → List NodeType → List ℕ → Children
+rows [] kinds slots = []
+rows (b ∷ bytes) [] slots = []
+rows (b ∷ bytes) (k ∷ kinds) [] = []
+rows (b ∷ bytes) (k ∷ kinds) (s ∷ slots) = (b, record { kind = k; slot = s }) ∷ rows bytes kinds slots
+
+-- how many bytes in front are below this one
+abbrev pub bytes_below : List ℕ → ℕ → ℕ
+bytes_below [] b = 0
+bytes_below (x ∷ bytes) b = cond (nat_lt x b) (suc (bytes_below bytes b)) 0
+
+-- there are as many kinds and slots as bytes
+abbrev pub AreAligned : Rows → Type 0
+AreAligned r = (length r.kinds.now ≡ length r.bytes.now) × (length r.slots.now ≡ length r.bytes.now)
+
+-- the children that lent lists stand for
+abbrev pub rows_of : Rows → Children
+rows_of r = rows r.bytes.now r.kinds.now r.slots.now

@@ -1,0 +1,286 @@
+//! Inner nodes of any kind.
+ghost use Rattle.std.specs.Prelude.{◌≡◌, ◌≢◌, ℕ, ◌-◌, min, ◌<◌, ◌≤◌, length, Some, All, slice_get, IsTrue, ◌↔◌};
+
+use crate::children::Children;
+use crate::inner::{InnerNode, InnerNode4, InnerNode16, InnerNode48, InnerNodeDirect};
+use crate::places::Places;
+use crate::table::get_by_lanes;
+use art_parts::header::{FromHeader, Header};
+use art_parts::names::{NodeType, OpaqueNodePtr};
+use std::alloc::AllocError;
+
+/// An inner node of any kind.
+#[derive(Drop)]
+pub enum AnyInner<const P: usize> {
+    Node4(InnerNode4<P>),
+    Node16(InnerNode16<P>),
+    Node48(InnerNode48<P>),
+    Node256(InnerNodeDirect<P>),
+}
+
+/// A reference to an inner node of one of four types.
+pub enum InnerRefOf<'a, A, B, C, D> {
+    Node4(&'a A),
+    Node16(&'a B),
+    Node48(&'a C),
+    Node256(&'a D),
+}
+
+impl<A, B, C, D> Clone for InnerRefOf<'_, A, B, C, D> {
+    fn clone(&self) -> Result<Self, AllocError> {
+        Ok(*self)
+    }
+}
+
+impl<A, B, C, D> Copy for InnerRefOf<'_, A, B, C, D> {}
+
+/// A reference to an inner node of any kind. It is an alias, since an `impl` of a trait whose method
+/// takes a type with a lifetime and a const parameter gets no proof.
+pub type InnerRef<'a, const P: usize> = InnerRefOf<
+    'a,
+    InnerNode4<P>,
+    InnerNode16<P>,
+    InnerNode48<P>,
+    InnerNodeDirect<P>,
+>;
+
+impl<const P: usize> AnyInner<P> {
+    ghost use Rattle.art_inner.specs.Inner.{HasPlace, child_at, childless};
+    ghost use Rattle.art_inner.specs.Changes.{with_child, with_header, without_child};
+    ghost use Rattle.art_inner.specs.Views.{any_kind, any_view, ref_kind, ref_view};
+    ghost use Rattle.art_parts.specs.Kinds.{kind_capacity, larger_kind, smaller_kind};
+    ghost use Rattle.art_parts.specs.declared.names.NodeType.TheVariants.{Leaf};
+    ghost use Rattle.art_parts.specs.declared.names.NodeType.TheVariants as kinds;
+
+    /// A node of this kind with no child.
+    pub fn from_header(kind: NodeType, header: Header<P>) -> Self
+        requires { kind ≢ Leaf }
+        ensures kind { any_kind result ≡ kind }
+        ensures view { any_view result ≡ childless header.entry }
+    {
+        match kind {
+            NodeType::Node4 => AnyInner::Node4(InnerNode4::from_header(header)),
+            NodeType::Node16 => AnyInner::Node16(InnerNode16::from_header(header)),
+            NodeType::Node48 => AnyInner::Node48(InnerNode48::from_header(header)),
+            NodeType::Node256 => AnyInner::Node256(InnerNodeDirect::from_header(header)),
+            NodeType::Leaf => unreachable!(),
+        }
+    }
+
+    pub fn node_type(&self) -> NodeType
+        ensures kind { result ≡ any_kind self.now }
+        ensures inner { any_kind self.now ≢ Leaf }
+    {
+        match self {
+            AnyInner::Node4(_) => NodeType::Node4,
+            AnyInner::Node16(_) => NodeType::Node16,
+            AnyInner::Node48(_) => NodeType::Node48,
+            AnyInner::Node256(_) => NodeType::Node256,
+        }
+    }
+
+    /// Puts a child under a byte, in place of the one that is there.
+    pub fn write_child(&mut self, byte: u8, child: OpaqueNodePtr)
+        requires { HasPlace (kind_capacity (any_kind self.old)) (any_view self.old).children byte }
+        ensures kind { any_kind self.new ≡ any_kind self.old }
+        ensures view { any_view self.new ≡ with_child byte child (any_view self.old) }
+    {
+        match self {
+            AnyInner::Node4(node) => node.write_child(byte, child),
+            AnyInner::Node16(node) => node.write_child(byte, child),
+            AnyInner::Node48(node) => node.write_child(byte, child),
+            AnyInner::Node256(node) => node.write_child(byte, child),
+        }
+    }
+
+    /// Takes out the child under a byte, and answers its name.
+    pub fn remove_child(&mut self, byte: u8) -> Option<OpaqueNodePtr>
+        ensures removed { result ≡ child_at (any_view self.old).children byte }
+        ensures kind { any_kind self.new ≡ any_kind self.old }
+        ensures rest { any_view self.new ≡ without_child byte (any_view self.old) }
+    {
+        match self {
+            AnyInner::Node4(node) => node.remove_child(byte),
+            AnyInner::Node16(node) => node.remove_child(byte),
+            AnyInner::Node48(node) => node.remove_child(byte),
+            AnyInner::Node256(node) => node.remove_child(byte),
+        }
+    }
+
+    /// The node of the next larger kind.
+    pub fn grow(self) -> Self
+        requires { any_kind self ≢ kinds.Node256 }
+        ensures kind { any_kind result ≡ larger_kind (any_kind self.entry) }
+        ensures view { any_view result ≡ any_view self.entry }
+    {
+        match self {
+            AnyInner::Node4(node) => node.grow(),
+            AnyInner::Node16(node) => node.grow(),
+            AnyInner::Node48(node) => node.grow(),
+            AnyInner::Node256(node) => node.grow(),
+        }
+    }
+
+    /// The node of the next smaller kind.
+    pub fn shrink(self) -> Self
+        requires smaller { any_kind self ≢ kinds.Node4 }
+        requires fit { length (any_view self).children ≤ kind_capacity (smaller_kind (any_kind self)) }
+        ensures kind { any_kind result ≡ smaller_kind (any_kind self.entry) }
+        ensures view { any_view result ≡ any_view self.entry }
+    {
+        match self {
+            AnyInner::Node4(node) => node.shrink(),
+            AnyInner::Node16(node) => node.shrink(),
+            AnyInner::Node48(node) => node.shrink(),
+            AnyInner::Node256(node) => node.shrink(),
+        }
+    }
+
+    pub fn set_header(&mut self, header: Header<P>)
+        ensures kind { any_kind self.new ≡ any_kind self.old }
+        ensures view { any_view self.new ≡ with_header header.entry (any_view self.old) }
+    {
+        match self {
+            AnyInner::Node4(node) => node.set_header(header),
+            AnyInner::Node16(node) => node.set_header(header),
+            AnyInner::Node48(node) => node.set_header(header),
+            AnyInner::Node256(node) => node.set_header(header),
+        }
+    }
+
+    #[inline(always)]
+    pub fn as_ref(&self) -> InnerRef<'_, P>
+        ensures kind { ref_kind result ≡ any_kind self.now }
+        ensures view { ref_view result ≡ any_view self.now }
+    {
+        match self {
+            AnyInner::Node4(node) => InnerRef::Node4(node),
+            AnyInner::Node16(node) => InnerRef::Node16(node),
+            AnyInner::Node48(node) => InnerRef::Node48(node),
+            AnyInner::Node256(node) => InnerRef::Node256(node),
+        }
+    }
+}
+
+impl<'a, const P: usize> InnerRef<'a, P> {
+    ghost use Rattle.art_inner.specs.Inner.{IsRising, child_at, children_between};
+    ghost use Rattle.art_inner.specs.Views.{ref_kind, ref_view};
+    ghost use Rattle.art_parts.specs.Kinds.{kind_capacity};
+    ghost use Rattle.art_parts.specs.declared.names.NodeType.TheVariants.{Leaf};
+
+    #[inline(always)]
+    pub fn node_type(&self) -> NodeType
+        ensures kind { result ≡ ref_kind self.now }
+        ensures inner { ref_kind self.now ≢ Leaf }
+    {
+        match self {
+            InnerRef::Node4(_) => NodeType::Node4,
+            InnerRef::Node16(_) => NodeType::Node16,
+            InnerRef::Node48(_) => NodeType::Node48,
+            InnerRef::Node256(_) => NodeType::Node256,
+        }
+    }
+
+    pub fn header(&self) -> Header<P>
+        ensures { result ≡ (ref_view self.now).prefix }
+    {
+        match self {
+            InnerRef::Node4(node) => node.header(),
+            InnerRef::Node16(node) => node.header(),
+            InnerRef::Node48(node) => node.header(),
+            InnerRef::Node256(node) => node.header(),
+        }
+    }
+
+    /// The length of the prefix, which may be more than is stored.
+    #[inline(always)]
+    pub fn prefix_len(&self) -> usize
+        ensures { result ≡ (ref_view self.now).prefix.len }
+    {
+        match self {
+            InnerRef::Node4(node) => node.prefix_len(),
+            InnerRef::Node16(node) => node.prefix_len(),
+            InnerRef::Node48(node) => node.prefix_len(),
+            InnerRef::Node256(node) => node.prefix_len(),
+        }
+    }
+
+    /// The stored bytes of the prefix.
+    #[inline(always)]
+    pub fn read_prefix(&self) -> &[u8]
+        ensures stored { result.now ≡ (ref_view self.now).prefix.stored }
+        ensures count { length (ref_view self.now).prefix.stored ≡ min (ref_view self.now).prefix.len P }
+    {
+        match self {
+            InnerRef::Node4(node) => node.read_prefix(),
+            InnerRef::Node16(node) => node.read_prefix(),
+            InnerRef::Node48(node) => node.read_prefix(),
+            InnerRef::Node256(node) => node.read_prefix(),
+        }
+    }
+
+    /// The children by rising bytes.
+    pub fn iter(&self) -> Children<'a>
+        ensures children { result ≡ (ref_view self.now).children }
+        ensures rising { IsRising (ref_view self.now).children }
+        ensures bound { length (ref_view self.now).children ≤ kind_capacity (ref_kind self.now) }
+    {
+        match *self {
+            InnerRef::Node4(node) => node.table.iter(),
+            InnerRef::Node16(node) => node.table.iter(),
+            InnerRef::Node48(node) => node.table.iter(),
+            InnerRef::Node256(node) => node.table.iter(),
+        }
+    }
+
+    pub fn num_children(&self) -> usize
+        ensures value { result ≡ length (ref_view self.now).children }
+        ensures bound { length (ref_view self.now).children ≤ kind_capacity (ref_kind self.now) }
+    {
+        self.iter().len()
+    }
+
+    pub fn is_full(&self) -> bool
+        ensures { IsTrue result ↔ (kind_capacity (ref_kind self.now) ≤ length (ref_view self.now).children) }
+    {
+        self.num_children() >= self.node_type().capacity()
+    }
+
+    /// The name under a byte.
+    #[inline(always)]
+    pub fn lookup_child(&self, byte: u8) -> Option<OpaqueNodePtr>
+        ensures { result ≡ child_at (ref_view self.now).children byte }
+    {
+        match *self {
+            InnerRef::Node4(node) => node.table.get(byte),
+            InnerRef::Node16(node) => get_by_lanes(&node.table, byte),
+            InnerRef::Node48(node) => node.table.get(byte),
+            InnerRef::Node256(node) => node.table.get(byte),
+        }
+    }
+
+    /// The least byte, and the name under it.
+    pub fn min(&self) -> (u8, OpaqueNodePtr)
+        requires { 0 < length (ref_view self.now).children }
+        ensures first { slice_get (ref_view self.now).children 0 ≡ Some result }
+        ensures least { All (λ child. result.0 ≤ child.0) (ref_view self.now).children }
+    {
+        self.iter().least()
+    }
+
+    /// The greatest byte, and the name under it.
+    pub fn max(&self) -> (u8, OpaqueNodePtr)
+        requires { 0 < length (ref_view self.now).children }
+        ensures last { slice_get (ref_view self.now).children (length (ref_view self.now).children - 1) ≡ Some result }
+        ensures greatest { All (λ child. child.0 ≤ result.0) (ref_view self.now).children }
+    {
+        self.iter().greatest()
+    }
+
+    /// The children under the bytes from `first` to `last`, both included: none where `last` is less.
+    pub fn range(&self, first: u8, last: u8) -> Children<'a>
+        ensures { result ≡ children_between first last (ref_view self.now).children }
+    {
+        self.iter().between(first, last)
+    }
+}

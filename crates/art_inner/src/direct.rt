@@ -1,0 +1,145 @@
+//! Names with a place for each byte.
+ghost use Rattle.std.specs.Prelude.{◌≡◌, ℕ, ◌≤◌, [], length, Some};
+
+use crate::children::Children;
+use crate::places::Places;
+use art_parts::names::{NodeType, OpaqueNodePtr};
+use std::marker::Model;
+
+// The kind of the name that stands in a place. One byte says it and whether there is one.
+#[derive(Clone, Copy)]
+enum Place {
+    Node4,
+    Node16,
+    Node48,
+    Node256,
+    Leaf,
+    Vacant,
+}
+
+/// A place for each byte, seen as the list of the names under rising bytes.
+#[derive(Drop)]
+pub(crate) struct Direct {
+    slots: [usize; 256],
+    places: [Place; 256],
+    len: usize,
+}
+
+impl Model for Direct {
+    ghost use Rattle.std.specs.Prelude.{◌≡◌, length};
+    ghost use Rattle.art_inner.specs.Inner.{Children};
+    ghost use Rattle.art_inner.specs.Tables.{listed};
+    ghost use Rattle.art_inner.specs.Direct.{direct_at};
+
+    ghost Value = { Children };
+
+    ghost view = { λ t. listed (direct_at t.slots t.places) };
+
+    ghost invariant = { λ t. t.len ≡ length (listed (direct_at t.slots t.places)) };
+}
+
+impl Direct {
+    ghost use Rattle.art_inner.specs.Inner.{IsRising, child_at, put_child, remove_child};
+
+    pub(crate) fn new() -> Self
+        ensures { result ≡ [] }
+    {
+        Direct {
+            slots: vacant_slots(),
+            places: vacant_places(),
+            len: 0,
+        }
+    }
+
+    // A table of these children.
+    pub(crate) fn of(children: Children<'_>) -> Self
+        requires rising { IsRising children }
+        ensures { result ≡ children.entry }
+    {
+        let mut table = Direct::new();
+        for (byte, name) in children {
+            table.write(byte, name);
+        }
+        table
+    }
+
+    pub(crate) fn iter(&self) -> Children<'_>
+        ensures children { result ≡ self.now }
+        ensures rising { IsRising self.now }
+        ensures bound { length self.now ≤ 256 }
+    {
+        Children::of_direct(self, self.len)
+    }
+
+    pub(crate) fn write(&mut self, byte: u8, child: OpaqueNodePtr)
+        ensures { self.new ≡ put_child self.old byte child }
+    {
+        let len = match self.get(byte) {
+            Some(_) => self.len,
+            None => self.len + 1,
+        };
+        self.places[byte as usize] = place_of(child.kind);
+        self.slots[byte as usize] = child.slot;
+        self.len = len;
+    }
+
+    pub(crate) fn remove(&mut self, byte: u8) -> Option<OpaqueNodePtr>
+        ensures removed { result ≡ child_at self.old byte }
+        ensures rest { self.new ≡ remove_child self.old byte }
+    {
+        let child = self.get(byte)?;
+        self.places[byte as usize] = Place::Vacant;
+        self.len -= 1;
+        Some(child)
+    }
+}
+
+impl Places for Direct {
+    ghost children_of = { λ t. t };
+
+    #[inline(always)]
+    fn get(&self, byte: u8) -> Option<OpaqueNodePtr> {
+        name_in(self.places[byte as usize], self.slots[byte as usize])
+    }
+}
+
+ghost use Rattle.art_inner.specs.Direct.{in_place};
+ghost use Rattle.std.specs.Prelude.{replicate};
+ghost use Rattle.art_inner.specs.declared.direct.Place.TheVariants as place;
+
+fn vacant_slots() -> [usize; 256] {
+    [0; 256]
+}
+
+fn vacant_places() -> [Place; 256]
+    ensures { result ≡ replicate 256 place.Vacant }
+{
+    [Place::Vacant; 256]
+}
+
+#[inline(always)]
+fn name_in(place: Place, slot: usize) -> Option<OpaqueNodePtr>
+    ensures { result ≡ in_place place slot }
+{
+    let kind = match place {
+        Place::Node4 => NodeType::Node4,
+        Place::Node16 => NodeType::Node16,
+        Place::Node48 => NodeType::Node48,
+        Place::Node256 => NodeType::Node256,
+        Place::Leaf => NodeType::Leaf,
+        Place::Vacant => return None,
+    };
+    Some(OpaqueNodePtr { kind, slot })
+}
+
+fn place_of(kind: NodeType) -> Place
+    ensures { (slot : ℕ) → in_place result slot ≡ Some (record { kind = kind; slot = slot }) }
+{
+    match kind {
+        NodeType::Node4 => Place::Node4,
+        NodeType::Node16 => Place::Node16,
+        NodeType::Node48 => Place::Node48,
+        NodeType::Node256 => Place::Node256,
+        NodeType::Leaf => Place::Leaf,
+    }
+}

@@ -1,0 +1,546 @@
+//! Inner nodes of each kind.
+ghost use Rattle.std.specs.Prelude.{◌≡◌, ℕ, ◌-◌, ◌<◌, ◌≤◌, min, length, slice_get, Some, All, IsTrue, ◌↔◌};
+
+use crate::any::AnyInner;
+use crate::children::Children;
+use crate::direct::Direct;
+use crate::indexed::Indexed;
+use crate::places::Places;
+use crate::table::{Table, get_by_lanes};
+use art_parts::header::{FromHeader, Header};
+use art_parts::names::{NodeType, OpaqueNodePtr};
+use std::marker::Model;
+
+/// An inner node of one kind.
+pub trait InnerNode<const P: usize>: FromHeader<Header<P>> {
+    ghost use Rattle.art_inner.specs.Changes.{with_child, without_child};
+    ghost use Rattle.art_inner.specs.Inner.{HasPlace, Inner, IsRising, child_at, childless, children_between};
+    ghost use Rattle.art_parts.specs.Headers.{Prefix};
+    ghost use Rattle.art_inner.specs.Views.{any_kind, any_view};
+    ghost use Rattle.art_parts.specs.Kinds.{kind_capacity, larger_kind, smaller_kind};
+    ghost use Rattle.art_parts.specs.declared.names.NodeType.{NodeType};
+
+    const TYPE: NodeType;
+
+    ghost TYPE: { NodeType };
+
+    /// What a node is seen as.
+    ghost view_of: { Self → Inner };
+
+    fn header(&self) -> Header<P>
+        ensures { result ≡ (view_of self.now).prefix };
+
+    /// The length of the prefix, which may be more than is stored.
+    fn prefix_len(&self) -> usize
+        ensures { result ≡ (view_of self.now).prefix.len };
+
+    /// The stored bytes of the prefix.
+    fn read_prefix(&self) -> &[u8]
+        ensures stored { result.now ≡ (view_of self.now).prefix.stored }
+        ensures count { length (view_of self.now).prefix.stored ≡ min (view_of self.now).prefix.len P };
+
+    /// The children by rising bytes.
+    fn iter(&self) -> Children<'_>
+        ensures children { result ≡ (view_of self.now).children }
+        ensures rising { IsRising (view_of self.now).children }
+        ensures bound { length (view_of self.now).children ≤ kind_capacity TYPE };
+
+    /// Puts a child under a byte, in place of the one that is there.
+    fn write_child(&mut self, byte: u8, child: OpaqueNodePtr)
+        requires { HasPlace (kind_capacity TYPE) (view_of self.old).children byte }
+        ensures { view_of self.new ≡ with_child byte child (view_of self.old) };
+
+    /// Takes out the child under a byte, and answers its name.
+    fn remove_child(&mut self, byte: u8) -> Option<OpaqueNodePtr>
+        ensures removed { result ≡ child_at (view_of self.old).children byte }
+        ensures rest { view_of self.new ≡ without_child byte (view_of self.old) };
+
+    fn into_any(self) -> AnyInner<P>
+        ensures kind { any_kind result ≡ TYPE }
+        ensures view { any_view result ≡ view_of self };
+
+    /// The node of the next larger kind. A node of the largest kind stays what it is.
+    fn grow(self) -> AnyInner<P>
+        ensures kind { any_kind result ≡ larger_kind TYPE }
+        ensures view { any_view result ≡ view_of self };
+
+    /// The node of the next smaller kind. A node of the smallest kind stays what it is.
+    fn shrink(self) -> AnyInner<P>
+        requires { length (view_of self).children ≤ kind_capacity (smaller_kind TYPE) }
+        ensures kind { any_kind result ≡ smaller_kind TYPE }
+        ensures view { any_view result ≡ view_of self };
+
+    fn num_children(&self) -> usize
+        ensures value { result ≡ length (view_of self.now).children }
+        ensures bound { length (view_of self.now).children ≤ kind_capacity TYPE }
+    {
+        self.iter().len()
+    }
+
+    fn is_full(&self) -> bool
+        ensures { IsTrue result ↔ (kind_capacity TYPE ≤ length (view_of self.now).children) }
+    {
+        self.num_children() >= Self::TYPE.capacity()
+    }
+
+    /// The name under a byte.
+    fn lookup_child(&self, byte: u8) -> Option<OpaqueNodePtr>
+        ensures { result ≡ child_at (view_of self.now).children byte };
+
+    /// The least byte, and the name under it.
+    fn min(&self) -> (u8, OpaqueNodePtr)
+        requires { 0 < length (view_of self.now).children }
+        ensures first { slice_get (view_of self.now).children 0 ≡ Some result }
+        ensures least { All (λ child. result.0 ≤ child.0) (view_of self.now).children }
+    {
+        self.iter().least()
+    }
+
+    /// The greatest byte, and the name under it.
+    fn max(&self) -> (u8, OpaqueNodePtr)
+        requires { 0 < length (view_of self.now).children }
+        ensures last { slice_get (view_of self.now).children (length (view_of self.now).children - 1) ≡ Some result }
+        ensures greatest { All (λ child. child.0 ≤ result.0) (view_of self.now).children }
+    {
+        self.iter().greatest()
+    }
+
+    /// The children under the bytes from `first` to `last`, both included: none where `last` is less.
+    fn range(&self, first: u8, last: u8) -> Children<'_>
+        ensures { result ≡ children_between first last (view_of self.now).children }
+    {
+        self.iter().between(first, last)
+    }
+
+    /// A new node has no child.
+    ghost starts_childless: { (header : Prefix) (node : Self) → Self.FromHeader.starts header node → view_of node ≡ childless header };
+}
+
+/// An inner node of up to 4 children.
+#[derive(Drop)]
+pub struct InnerNode4<const P: usize> {
+    header: Header<P>,
+    pub(crate) table: Table<4>,
+}
+
+impl<const P: usize> Model for InnerNode4<P> {
+    ghost use Rattle.art_inner.specs.Inner.{Inner, IsSize};
+
+    ghost Value = { Inner };
+
+    ghost view = { λ n. record { prefix = n.header; children = n.table } };
+
+    ghost invariant = { λ _. IsSize P };
+}
+
+impl<const P: usize> FromHeader<Header<P>> for InnerNode4<P> {
+    ghost use Rattle.art_inner.specs.Inner.{childless};
+
+    ghost starts = { λ h n. n ≡ childless h };
+
+    fn from_header(header: Header<P>) -> Self {
+        InnerNode4 {
+            header,
+            table: Table::new(),
+        }
+    }
+}
+
+impl<const P: usize> InnerNode4<P> {
+    ghost use Rattle.art_inner.specs.Changes.{with_header};
+
+    /// Gives the node another header.
+    pub fn set_header(&mut self, header: Header<P>)
+        ensures { self.new ≡ with_header header.entry self.old }
+    {
+        self.header = header
+    }
+
+    /// A Node16 with the same children.
+    #[inline(never)]
+    pub fn grown(self) -> InnerNode16<P>
+        ensures { result ≡ self.entry }
+    {
+        InnerNode16 {
+            header: self.header,
+            table: Table::of(self.iter()),
+        }
+    }
+}
+
+impl<const P: usize> InnerNode<P> for InnerNode4<P> {
+    ghost use Rattle.art_parts.specs.declared.names.NodeType.TheVariants as kinds;
+
+    const TYPE: NodeType = NodeType::Node4;
+
+    ghost TYPE = { kinds.Node4 };
+
+    ghost view_of = { λ n. n };
+
+    ghost starts_childless = { λ header node starts. starts };
+
+    fn header(&self) -> Header<P> {
+        self.header
+    }
+
+    #[inline(always)]
+    fn prefix_len(&self) -> usize {
+        self.header.prefix_len()
+    }
+
+    #[inline(always)]
+    fn read_prefix(&self) -> &[u8] {
+        self.header.read_prefix()
+    }
+
+    fn iter(&self) -> Children<'_> {
+        self.table.iter()
+    }
+
+    #[inline(always)]
+    fn lookup_child(&self, byte: u8) -> Option<OpaqueNodePtr> {
+        self.table.get(byte)
+    }
+
+    fn write_child(&mut self, byte: u8, child: OpaqueNodePtr) {
+        self.table.write(byte, child)
+    }
+
+    fn remove_child(&mut self, byte: u8) -> Option<OpaqueNodePtr> {
+        self.table.remove(byte)
+    }
+
+    fn into_any(self) -> AnyInner<P> {
+        AnyInner::Node4(self)
+    }
+
+    fn grow(self) -> AnyInner<P> {
+        AnyInner::Node16(self.grown())
+    }
+
+    fn shrink(self) -> AnyInner<P> {
+        self.into_any()
+    }
+}
+
+/// An inner node of up to 16 children.
+#[derive(Drop)]
+pub struct InnerNode16<const P: usize> {
+    header: Header<P>,
+    pub(crate) table: Table<16>,
+}
+
+impl<const P: usize> Model for InnerNode16<P> {
+    ghost use Rattle.art_inner.specs.Inner.{Inner, IsSize};
+
+    ghost Value = { Inner };
+
+    ghost view = { λ n. record { prefix = n.header; children = n.table } };
+
+    ghost invariant = { λ _. IsSize P };
+}
+
+impl<const P: usize> FromHeader<Header<P>> for InnerNode16<P> {
+    ghost use Rattle.art_inner.specs.Inner.{childless};
+
+    ghost starts = { λ h n. n ≡ childless h };
+
+    fn from_header(header: Header<P>) -> Self {
+        InnerNode16 {
+            header,
+            table: Table::new(),
+        }
+    }
+}
+
+impl<const P: usize> InnerNode16<P> {
+    ghost use Rattle.art_inner.specs.Changes.{with_header};
+
+    /// Gives the node another header.
+    pub fn set_header(&mut self, header: Header<P>)
+        ensures { self.new ≡ with_header header.entry self.old }
+    {
+        self.header = header
+    }
+
+    /// A Node48 with the same children.
+    #[inline(never)]
+    pub fn grown(self) -> InnerNode48<P>
+        ensures { result ≡ self.entry }
+    {
+        InnerNode48 {
+            header: self.header,
+            table: Indexed::of(self.iter()),
+        }
+    }
+}
+
+impl<const P: usize> InnerNode<P> for InnerNode16<P> {
+    ghost use Rattle.art_parts.specs.declared.names.NodeType.TheVariants as kinds;
+
+    const TYPE: NodeType = NodeType::Node16;
+
+    ghost TYPE = { kinds.Node16 };
+
+    ghost view_of = { λ n. n };
+
+    ghost starts_childless = { λ header node starts. starts };
+
+    fn header(&self) -> Header<P> {
+        self.header
+    }
+
+    #[inline(always)]
+    fn prefix_len(&self) -> usize {
+        self.header.prefix_len()
+    }
+
+    #[inline(always)]
+    fn read_prefix(&self) -> &[u8] {
+        self.header.read_prefix()
+    }
+
+    fn iter(&self) -> Children<'_> {
+        self.table.iter()
+    }
+
+    #[inline(always)]
+    fn lookup_child(&self, byte: u8) -> Option<OpaqueNodePtr> {
+        get_by_lanes(&self.table, byte)
+    }
+
+    fn write_child(&mut self, byte: u8, child: OpaqueNodePtr) {
+        self.table.write(byte, child)
+    }
+
+    fn remove_child(&mut self, byte: u8) -> Option<OpaqueNodePtr> {
+        self.table.remove(byte)
+    }
+
+    fn into_any(self) -> AnyInner<P> {
+        AnyInner::Node16(self)
+    }
+
+    fn grow(self) -> AnyInner<P> {
+        AnyInner::Node48(self.grown())
+    }
+
+    #[inline(never)]
+    fn shrink(self) -> AnyInner<P> {
+        AnyInner::Node4(InnerNode4 {
+            header: self.header,
+            table: Table::of(self.iter()),
+        })
+    }
+}
+
+/// An inner node of up to 48 children.
+#[derive(Drop)]
+pub struct InnerNode48<const P: usize> {
+    header: Header<P>,
+    pub(crate) table: Indexed,
+}
+
+impl<const P: usize> Model for InnerNode48<P> {
+    ghost use Rattle.art_inner.specs.Inner.{Inner, IsSize};
+
+    ghost Value = { Inner };
+
+    ghost view = { λ n. record { prefix = n.header; children = n.table } };
+
+    ghost invariant = { λ _. IsSize P };
+}
+
+impl<const P: usize> FromHeader<Header<P>> for InnerNode48<P> {
+    ghost use Rattle.art_inner.specs.Inner.{childless};
+
+    ghost starts = { λ h n. n ≡ childless h };
+
+    fn from_header(header: Header<P>) -> Self {
+        InnerNode48 {
+            header,
+            table: Indexed::new(),
+        }
+    }
+}
+
+impl<const P: usize> InnerNode48<P> {
+    ghost use Rattle.art_inner.specs.Changes.{with_header};
+
+    /// Gives the node another header.
+    pub fn set_header(&mut self, header: Header<P>)
+        ensures { self.new ≡ with_header header.entry self.old }
+    {
+        self.header = header
+    }
+
+    /// A Node256 with the same children.
+    #[inline(never)]
+    pub fn grown(self) -> InnerNodeDirect<P>
+        ensures { result ≡ self.entry }
+    {
+        InnerNodeDirect {
+            header: self.header,
+            table: Direct::of(self.iter()),
+        }
+    }
+}
+
+impl<const P: usize> InnerNode<P> for InnerNode48<P> {
+    ghost use Rattle.art_parts.specs.declared.names.NodeType.TheVariants as kinds;
+
+    const TYPE: NodeType = NodeType::Node48;
+
+    ghost TYPE = { kinds.Node48 };
+
+    ghost view_of = { λ n. n };
+
+    ghost starts_childless = { λ header node starts. starts };
+
+    fn header(&self) -> Header<P> {
+        self.header
+    }
+
+    #[inline(always)]
+    fn prefix_len(&self) -> usize {
+        self.header.prefix_len()
+    }
+
+    #[inline(always)]
+    fn read_prefix(&self) -> &[u8] {
+        self.header.read_prefix()
+    }
+
+    fn iter(&self) -> Children<'_> {
+        self.table.iter()
+    }
+
+    #[inline(always)]
+    fn lookup_child(&self, byte: u8) -> Option<OpaqueNodePtr> {
+        self.table.get(byte)
+    }
+
+    fn write_child(&mut self, byte: u8, child: OpaqueNodePtr) {
+        self.table.write(byte, child)
+    }
+
+    fn remove_child(&mut self, byte: u8) -> Option<OpaqueNodePtr> {
+        self.table.remove(byte)
+    }
+
+    fn into_any(self) -> AnyInner<P> {
+        AnyInner::Node48(self)
+    }
+
+    fn grow(self) -> AnyInner<P> {
+        AnyInner::Node256(self.grown())
+    }
+
+    #[inline(never)]
+    fn shrink(self) -> AnyInner<P> {
+        AnyInner::Node16(InnerNode16 {
+            header: self.header,
+            table: Table::of(self.iter()),
+        })
+    }
+}
+
+/// An inner node of up to 256 children.
+#[derive(Drop)]
+pub struct InnerNodeDirect<const P: usize> {
+    header: Header<P>,
+    pub(crate) table: Direct,
+}
+
+impl<const P: usize> Model for InnerNodeDirect<P> {
+    ghost use Rattle.art_inner.specs.Inner.{Inner, IsSize};
+
+    ghost Value = { Inner };
+
+    ghost view = { λ n. record { prefix = n.header; children = n.table } };
+
+    ghost invariant = { λ _. IsSize P };
+}
+
+impl<const P: usize> FromHeader<Header<P>> for InnerNodeDirect<P> {
+    ghost use Rattle.art_inner.specs.Inner.{childless};
+
+    ghost starts = { λ h n. n ≡ childless h };
+
+    fn from_header(header: Header<P>) -> Self {
+        InnerNodeDirect {
+            header,
+            table: Direct::new(),
+        }
+    }
+}
+
+impl<const P: usize> InnerNodeDirect<P> {
+    ghost use Rattle.art_inner.specs.Changes.{with_header};
+
+    /// Gives the node another header.
+    pub fn set_header(&mut self, header: Header<P>)
+        ensures { self.new ≡ with_header header.entry self.old }
+    {
+        self.header = header
+    }
+}
+
+impl<const P: usize> InnerNode<P> for InnerNodeDirect<P> {
+    ghost use Rattle.art_parts.specs.declared.names.NodeType.TheVariants as kinds;
+
+    const TYPE: NodeType = NodeType::Node256;
+
+    ghost TYPE = { kinds.Node256 };
+
+    ghost view_of = { λ n. n };
+
+    ghost starts_childless = { λ header node starts. starts };
+
+    fn header(&self) -> Header<P> {
+        self.header
+    }
+
+    #[inline(always)]
+    fn prefix_len(&self) -> usize {
+        self.header.prefix_len()
+    }
+
+    #[inline(always)]
+    fn read_prefix(&self) -> &[u8] {
+        self.header.read_prefix()
+    }
+
+    fn iter(&self) -> Children<'_> {
+        self.table.iter()
+    }
+
+    #[inline(always)]
+    fn lookup_child(&self, byte: u8) -> Option<OpaqueNodePtr> {
+        self.table.get(byte)
+    }
+
+    fn write_child(&mut self, byte: u8, child: OpaqueNodePtr) {
+        self.table.write(byte, child)
+    }
+
+    fn remove_child(&mut self, byte: u8) -> Option<OpaqueNodePtr> {
+        self.table.remove(byte)
+    }
+
+    fn into_any(self) -> AnyInner<P> {
+        AnyInner::Node256(self)
+    }
+
+    fn grow(self) -> AnyInner<P> {
+        self.into_any()
+    }
+
+    #[inline(never)]
+    fn shrink(self) -> AnyInner<P> {
+        AnyInner::Node48(InnerNode48 {
+            header: self.header,
+            table: Indexed::of(self.iter()),
+        })
+    }
+}

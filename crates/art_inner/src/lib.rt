@@ -1,0 +1,12 @@
+//! Inner nodes of a radix tree.
+#![tactic(auto)]
+
+pub mod any;
+pub mod children;
+mod direct;
+mod indexed;
+pub mod inner;
+mod lanes;
+mod places;
+mod rows;
+mod table;

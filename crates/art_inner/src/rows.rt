@@ -1,0 +1,167 @@
+//! Names under rising bytes, lent: bytes, kinds and slots in slices of their own.
+ghost use Rattle.std.specs.Prelude.{◌≡◌, ◌≢◌, ℕ, ◌-◌, ◌<◌, ◌≤◌, List, [], ◌++◌, length, take, drop, None, IfSome, IfNone, IfOk, IfErr, IsSome, IsTrue, ◌↔◌, slice_get, slice_index_or, Some};
+ghost use Rattle.std.specs.List.{cons_option};
+
+use art_parts::names::{NodeType, OpaqueNodePtr};
+
+/// Bytes, and the kind and the slot of the name under each.
+#[derive(Clone, Copy)]
+pub(crate) struct Rows<'a> {
+    pub(crate) bytes: &'a [u8],
+    pub(crate) kinds: &'a [NodeType],
+    pub(crate) slots: &'a [usize],
+}
+
+impl<'a> Rows<'a> {
+    ghost use Rattle.art_inner.specs.Inner.{IsRising, child_at, children_between, count_below};
+    ghost use Rattle.art_inner.specs.Rows.{AreAligned, rows_of};
+
+    pub(crate) fn len(&self) -> usize
+        requires { AreAligned self.now }
+        ensures rows { result ≡ length (rows_of self.now) }
+        ensures bytes { result ≡ length self.now.bytes.now }
+    {
+        self.bytes.len()
+    }
+
+    // The byte at a place, and the name under it.
+    #[inline(always)]
+    pub(crate) fn entry(&self, place: usize) -> (u8, OpaqueNodePtr)
+        requires aligned { AreAligned self.now }
+        requires within { place < length self.now.bytes.now }
+        ensures byte { result.0 ≡ slice_index_or self.now.bytes.now place 0 }
+        ensures entry { slice_get (rows_of self.now) place ≡ Some result }
+    {
+        let name = OpaqueNodePtr {
+            kind: self.kinds[place],
+            slot: self.slots[place],
+        };
+        (self.bytes[place], name)
+    }
+
+    // Those at the places from one to another, which is left out.
+    pub(crate) fn part(&self, from: usize, to: usize) -> Self
+        requires aligned { AreAligned self.now }
+        requires order { from ≤ to }
+        requires within { to ≤ length self.now.bytes.now }
+        ensures aligned { AreAligned result }
+        ensures value { rows_of result ≡ take (to - from) (drop from (rows_of self.now)) }
+    {
+        Rows {
+            bytes: &self.bytes[from..to],
+            kinds: &self.kinds[from..to],
+            slots: &self.slots[from..to],
+        }
+    }
+
+    // Those under the bytes from first to last.
+    pub(crate) fn between(&self, first: u8, last: u8) -> Self
+        requires aligned { AreAligned self.now }
+        requires rising { IsRising (rows_of self.now) }
+        ensures aligned { AreAligned result }
+        ensures rising { IsRising (rows_of result) }
+        ensures value { rows_of result ≡ children_between first last (rows_of self.now) }
+    {
+        let end = bytes_below(self.bytes, last as usize + 1);
+        let start = bytes_below(self.bytes, first as usize).min(end);
+        self.part(start, end)
+    }
+
+    pub(crate) fn take_first(&mut self) -> Option<(u8, OpaqueNodePtr)>
+        requires { AreAligned self.old }
+        ensures aligned { AreAligned self.new }
+        ensures gives { rows_of self.old ≡ cons_option result (rows_of self.new) }
+        ensures done { IfNone result (rows_of self.new ≡ []) }
+    {
+        let len = self.len();
+        if len == 0 {
+            return None;
+        }
+        let first = self.entry(0);
+        *self = self.part(1, len);
+        Some(first)
+    }
+
+    pub(crate) fn take_last(&mut self) -> Option<(u8, OpaqueNodePtr)>
+        requires { AreAligned self.old }
+        ensures aligned { AreAligned self.new }
+        ensures gives { rows_of self.old ≡ rows_of self.new ++ cons_option result [] }
+        ensures done { IfNone result (rows_of self.new ≡ []) }
+    {
+        let len = self.len();
+        if len == 0 {
+            return None;
+        }
+        let last = self.entry(len - 1);
+        *self = self.part(0, len - 1);
+        Some(last)
+    }
+
+    // The name under a byte.
+    #[inline(always)]
+    pub(crate) fn get(&self, byte: u8) -> Option<OpaqueNodePtr>
+        requires aligned { AreAligned self.now }
+        requires rising { IsRising (rows_of self.now) }
+        ensures { result ≡ child_at (rows_of self.now) byte }
+    {
+        match position(self.bytes, byte) {
+            Some(place) => Some(self.entry(place).1),
+            None => None,
+        }
+    }
+
+    // The place of a byte, or where it would come in.
+    pub(crate) fn search(&self, byte: u8) -> Result<usize, usize>
+        requires aligned { AreAligned self.now }
+        requires rising { IsRising (rows_of self.now) }
+        ensures found { IfOk result (λ at. IsSome (child_at (rows_of self.now) byte)) }
+        ensures place { IfOk result (λ at. at ≡ count_below (rows_of self.now) byte) }
+        ensures absent { IfErr result (λ at. child_at (rows_of self.now) byte ≡ None) }
+        ensures between { IfErr result (λ at. at ≡ count_below (rows_of self.now) byte) }
+    {
+        let at = bytes_below(self.bytes, byte as usize);
+        if is_at(self.bytes, at, byte) {
+            Ok(at)
+        } else {
+            Err(at)
+        }
+    }
+}
+
+ghost use Rattle.art_inner.specs.Rows.{bytes_below};
+
+// How many bytes in front are below this one.
+fn bytes_below(bytes: &[u8], byte: usize) -> usize
+    ensures value { result ≡ bytes_below bytes.now byte }
+    ensures bound { result ≤ length bytes.now }
+{
+    let mut count = 0;
+    for &b in bytes {
+        if b as usize >= byte {
+            return count;
+        }
+        count += 1;
+    }
+    count
+}
+
+// Whether this byte stands at a place.
+fn is_at(bytes: &[u8], at: usize, byte: u8) -> bool
+    ensures { IsTrue result ↔ ((at < length bytes.now) × (slice_index_or bytes.now at 0 ≡ byte)) }
+{
+    at < bytes.len() && bytes[at] == byte
+}
+
+// A place at which the byte stands.
+#[inline(always)]
+fn position(bytes: &[u8], byte: u8) -> Option<usize>
+    ensures found { IfSome result (λ at. (at < length bytes.now) × (slice_index_or bytes.now at 0 ≡ byte)) }
+    ensures absent { IfNone result ((k : ℕ) → k < length bytes.now → slice_index_or bytes.now k 0 ≢ byte) }
+{
+    for at in 0..bytes.len() {
+        if bytes[at] == byte {
+            return Some(at);
+        }
+    }
+    None
+}

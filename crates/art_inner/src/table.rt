@@ -1,0 +1,198 @@
+//! Up to so many names under rising bytes.
+ghost use Rattle.std.specs.Prelude.{◌≡◌, ℕ, ◌+◌, ◌-◌, ◌<◌, ◌≤◌, List, [], ◌∷◌, ◌++◌, length, take, drop, remove};
+
+use crate::children::Children;
+use crate::lanes::lanes_before;
+use crate::rows::Rows;
+use art_parts::names::{NodeType, OpaqueNodePtr};
+use std::marker::Model;
+
+/// Up to `N` names under rising bytes, seen as their list.
+#[derive(Drop)]
+pub(crate) struct Table<const N: usize> {
+    slots: [usize; N],
+    bytes: [u8; N],
+    kinds: [NodeType; N],
+    len: usize,
+}
+
+impl<const N: usize> Model for Table<N> {
+    ghost use Rattle.std.specs.Prelude.{◌≡◌, ◌≤◌, length, take};
+    ghost use Rattle.art_inner.specs.Inner.{Children, IsRising};
+    ghost use Rattle.art_inner.specs.Rows.{rows};
+
+    ghost Value = { Children };
+
+    ghost view = { λ t. take t.len (rows t.bytes t.kinds t.slots) };
+
+    ghost invariant = { λ t.
+        (t.len ≤ N)
+        × (length t.kinds ≡ N)
+        × IsRising (take t.len (rows t.bytes t.kinds t.slots)) };
+}
+
+impl<const N: usize> Table<N> {
+    ghost use Rattle.art_inner.specs.Inner.{HasPlace, IsAbove, IsRising, child_at, put_child, remove_child};
+    ghost use Rattle.art_inner.specs.Rows.{AreAligned, rows_of};
+
+    pub(crate) fn new() -> Self
+        ensures { result ≡ [] }
+    {
+        Table {
+            slots: [0; N],
+            bytes: [0; N],
+            kinds: [NodeType::Leaf; N],
+            len: 0,
+        }
+    }
+
+    // A table of these children.
+    pub(crate) fn of(children: Children<'_>) -> Self
+        requires rising { IsRising children }
+        requires fit { length children ≤ N }
+        ensures { result ≡ children.entry }
+    {
+        let mut table = Table::new();
+        for (byte, name) in children {
+            table.push(byte, name);
+        }
+        table
+    }
+
+    // Puts a name behind the others.
+    fn push(&mut self, byte: u8, child: OpaqueNodePtr)
+        requires room { length self.old < N }
+        requires rising { IsAbove byte self.old }
+        ensures { self.new ≡ self.old ++ (byte, child) ∷ [] }
+    {
+        let last = self.len;
+        self.bytes[last] = byte;
+        self.kinds[last] = child.kind;
+        self.slots[last] = child.slot;
+        self.len = last + 1;
+    }
+
+    // The names that are there.
+    #[inline(always)]
+    fn rows(&self) -> Rows<'_>
+        ensures aligned { AreAligned result }
+        ensures value { rows_of result ≡ self.now }
+        ensures rising { IsRising self.now }
+        ensures bound { length self.now ≤ N }
+    {
+        Rows {
+            bytes: &self.bytes[..self.len],
+            kinds: &self.kinds[..self.len],
+            slots: &self.slots[..self.len],
+        }
+    }
+
+    // The name under a byte.
+    #[inline(always)]
+    pub(crate) fn get(&self, byte: u8) -> Option<OpaqueNodePtr>
+        ensures { result ≡ child_at self.now byte }
+    {
+        self.rows().get(byte)
+    }
+
+    pub(crate) fn iter(&self) -> Children<'_>
+        ensures children { result ≡ self.now }
+        ensures rising { IsRising self.now }
+        ensures bound { length self.now ≤ N }
+    {
+        Children::new(self.rows())
+    }
+
+    pub(crate) fn write(&mut self, byte: u8, child: OpaqueNodePtr)
+        requires { HasPlace N self.old byte }
+        ensures { self.new ≡ put_child self.old byte child }
+    {
+        match self.rows().search(byte) {
+            Ok(at) => {
+                self.kinds[at] = child.kind;
+                self.slots[at] = child.slot;
+            }
+            Err(at) => self.insert(at, byte, child),
+        }
+    }
+
+    pub(crate) fn remove(&mut self, byte: u8) -> Option<OpaqueNodePtr>
+        ensures removed { result ≡ child_at self.old byte }
+        ensures rest { self.new ≡ remove_child self.old byte }
+    {
+        match self.rows().search(byte) {
+            Ok(at) => Some(self.take_out(at, byte)),
+            Err(_) => None,
+        }
+    }
+
+    ghost use Rattle.std.specs.Prelude.{Some, None, IsSome};
+    ghost use Rattle.art_inner.specs.Inner.{count_below};
+
+    // Puts a name in at its place.
+    fn insert(&mut self, at: usize, byte: u8, child: OpaqueNodePtr)
+        requires room { length self.old < N }
+        requires place { at ≡ count_below self.old byte }
+        requires absent { child_at self.old byte ≡ None }
+        ensures { self.new ≡ put_child self.old byte child }
+    {
+        let len = self.len + 1;
+        insert_into(&mut self.bytes[..len], at, byte);
+        insert_into(&mut self.kinds[..len], at, child.kind);
+        insert_into(&mut self.slots[..len], at, child.slot);
+        self.len = len;
+    }
+
+    // Takes out the name at its place.
+    fn take_out(&mut self, at: usize, byte: u8) -> OpaqueNodePtr
+        requires place { at ≡ count_below self.old byte }
+        requires there { IsSome (child_at self.old byte) }
+        ensures removed { Some result ≡ child_at self.old byte }
+        ensures rest { self.new ≡ remove_child self.old byte }
+    {
+        let child = OpaqueNodePtr {
+            kind: self.kinds[at],
+            slot: self.slots[at],
+        };
+        let len = self.len;
+        remove_from(&mut self.bytes[..len], at);
+        remove_from(&mut self.kinds[..len], at);
+        remove_from(&mut self.slots[..len], at);
+        self.len = len - 1;
+        child
+    }
+}
+
+ghost use Rattle.art_inner.specs.Inner.{child_at};
+
+// The name under a byte, by lanes. Those past the last name count as vacant.
+#[inline(always)]
+pub(crate) fn get_by_lanes(table: &Table<16>, byte: u8) -> Option<OpaqueNodePtr>
+    ensures { result ≡ child_at table.now byte }
+{
+    let place = lanes_before(&table.bytes, byte);
+    if place >= table.len {
+        return None;
+    }
+    Some(OpaqueNodePtr {
+        kind: table.kinds[place],
+        slot: table.slots[place],
+    })
+}
+
+// Puts a value at a place, and lets the last one go.
+fn insert_into<T: Copy>(part: &mut [T], at: usize, value: T)
+    requires { at < length part.old }
+    ensures { part.new ≡ take at part.old ++ value ∷ take (length part.old - 1 - at) (drop at part.old) }
+{
+    part[at..].rotate_right(1);
+    part[at] = value;
+}
+
+// Closes the gap where a value is let go: the later ones move one place to the front.
+fn remove_from<T: Copy>(part: &mut [T], at: usize)
+    requires { at < length part.old }
+    ensures { take (length part.old - 1) part.new ≡ remove part.old at }
+{
+    part[at..].rotate_left(1);
+}

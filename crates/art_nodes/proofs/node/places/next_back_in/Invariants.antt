@@ -1,9 +1,0 @@
-use Rattle.std.proofs.Common.{◌-◌, ◌≡◌}
-use Rattle.art_nodes.specs.Spans.{IsSpan, part_left}
-use Rattle.art_nodes.proofs.node.places.next_back_in.Given as goal
-
-abbrev pub invariant-loop-span : goal.invariant-loop-span
-invariant-loop-span g l = (part_left (g.T.Places.children_of l.table) l.initial.span ≡ part_left (g.T.Places.children_of l.table) l.span) × IsSpan (g.T.Places.children_of l.table) l.span
-
-abbrev pub decreases-loop-span : goal.decreases-loop-span
-decreases-loop-span g l = l.span.to - l.span.from

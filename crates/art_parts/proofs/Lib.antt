@@ -1,0 +1,4 @@
+pub mod NameLemmas
+pub mod Comparisons
+pub mod HeaderLemmas
+pub mod HeaderLaws

@@ -1,0 +1,6 @@
+pub mod Kinds
+pub mod Names
+pub mod Headers
+pub mod HeaderBack
+pub mod Codes
+pub mod Clones
