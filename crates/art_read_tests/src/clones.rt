@@ -279,20 +279,6 @@ fn touched_by_refused<const P: usize>(
     touched_by_clone(store, root, into)
 }
 
-// The same in stores of its own.
-fn touched_alone(alloc: Global) -> Option<(usize, usize, usize)> {
-    touched_by_refused::<4>(&mut NodeStore::new(alloc), &mut NodeStore::new(alloc))
-}
-
-#[test]
-fn refused_clones_leave_no_node(rt: HostRuntime) -> Result<(), Fail> {
-    if let Some(touched) = touched_alone(rt.alloc()) {
-        assert_eq!(rt; touched, (0, 0, 0));
-        println!(rt; "asserted")?;
-    }
-    Ok(())
-}
-
 // Places a leaf. None where it is refused.
 fn place_nine<const P: usize>(store: &mut NodeStore<Key, u32, P>) -> Option<()> {
     let Ok(key) = [9].to_vec(store.alloc()) else {
@@ -304,23 +290,39 @@ fn place_nine<const P: usize>(store: &mut NodeStore<Key, u32, P>) -> Option<()> 
     }
 }
 
-// The same where the other store has a leaf.
-fn touched_beside_a_leaf<const P: usize>(
+// The same where the other store may have a leaf.
+fn touched_beside_some<const P: usize>(
     store: &mut NodeStore<Key, u32, P>,
     into: &mut NodeStore<Key, u32, P>,
+    has_leaf: bool,
 ) -> Option<(usize, usize, usize)> {
-    place_nine(into)?;
+    if has_leaf {
+        place_nine(into)?;
+    }
     touched_by_refused(store, into)
 }
 
 // The same in stores of its own.
-fn touched_with(alloc: Global) -> Option<(usize, usize, usize)> {
-    touched_beside_a_leaf::<4>(&mut NodeStore::new(alloc), &mut NodeStore::new(alloc))
+fn touched_with(alloc: Global, has_leaf: bool) -> Option<(usize, usize, usize)> {
+    touched_beside_some::<4>(
+        &mut NodeStore::new(alloc),
+        &mut NodeStore::new(alloc),
+        has_leaf,
+    )
+}
+
+#[test]
+fn refused_clones_leave_no_node(rt: HostRuntime) -> Result<(), Fail> {
+    if let Some(touched) = touched_with(rt.alloc(), false) {
+        assert_eq!(rt; touched, (0, 0, 0));
+        println!(rt; "asserted")?;
+    }
+    Ok(())
 }
 
 #[test]
 fn refused_clones_leave_the_nodes_that_were_there(rt: HostRuntime) -> Result<(), Fail> {
-    if let Some(touched) = touched_with(rt.alloc()) {
+    if let Some(touched) = touched_with(rt.alloc(), true) {
         assert_eq!(rt; touched, (0, 0, 0));
         println!(rt; "asserted")?;
     }

@@ -329,47 +329,62 @@ fn compares_stored_bytes_and_then_lengths(rt: HostRuntime) {
     assert_eq!(rt; (first, seen), (pessimistic, wanted));
 }
 
+// Compares the prefix of a node of one kind with a key that begins with it.
+fn compared_whole<N: InnerNode<4>>(header: Header<4>) -> Compared {
+    let node = N::from_header(header);
+    compared(&node, PrefixMatchBehavior::Pessimistic, &[7, 8, 9])
+}
+
 #[test]
 fn stays_pessimistic_where_all_is_stored(rt: HostRuntime) {
     let whole = Ok(AttemptOptimisticPrefixMatch {
         matched_bytes: 2,
         any_implicit_bytes: false,
     });
-    let pessimistic = PrefixMatchBehavior::Pessimistic;
     let header: Header<4> = Header::new(&[7, 8], 2);
-    let rest = [7, 8, 9];
     let seen = [
-        compared(&InnerNode4::from_header(header), pessimistic, &rest),
-        compared(&InnerNode16::from_header(header), pessimistic, &rest),
-        compared(&InnerNode48::from_header(header), pessimistic, &rest),
-        compared(&InnerNodeDirect::from_header(header), pessimistic, &rest),
+        compared_whole::<InnerNode4<4>>(header),
+        compared_whole::<InnerNode16<4>>(header),
+        compared_whole::<InnerNode48<4>>(header),
+        compared_whole::<InnerNodeDirect<4>>(header),
     ];
-    assert_eq!(rt; seen, [(whole, pessimistic); 4]);
+    assert_eq!(rt; seen, [(whole, PrefixMatchBehavior::Pessimistic); 4]);
 }
 
-#[test]
-fn compares_a_leaf_from_the_depth_on_or_whole(rt: HostRuntime) {
+// Whether keys are equal to [1, 2, 3] from a depth on or whole.
+fn equal_to_leaf() -> [bool; 6] {
     let pessimistic = PrefixMatchBehavior::Pessimistic;
     let optimistic = PrefixMatchBehavior::Optimistic;
     let leaf = LeafNode::with_no_siblings([1, 2, 3], ());
-    let equal = [
+    [
         pessimistic.matches_leaf_key(&leaf, &[9, 9, 3], 2),
         optimistic.matches_leaf_key(&leaf, &[9, 9, 3], 2),
         pessimistic.matches_leaf_key(&leaf, &[9, 9, 3, 4], 2),
         optimistic.matches_leaf_key(&leaf, &[1, 2, 3], 2),
         pessimistic.matches_leaf_key(&leaf, &[9, 9, 9], 4),
         pessimistic.matches_leaf_key(&leaf, &[9, 9], 4),
-    ];
-    let front = [
+    ]
+}
+
+// Whether [1, 2, 3] is the front of keys from a depth on or whole.
+fn front_is_leaf() -> [bool; 5] {
+    let pessimistic = PrefixMatchBehavior::Pessimistic;
+    let optimistic = PrefixMatchBehavior::Optimistic;
+    let leaf = LeafNode::with_no_siblings([1, 2, 3], ());
+    [
         pessimistic.leaf_key_is_prefix(&leaf, &[9, 2, 3, 4], 1),
         optimistic.leaf_key_is_prefix(&leaf, &[9, 2, 3, 4], 1),
         optimistic.leaf_key_is_prefix(&leaf, &[1, 2, 3, 4], 1),
         optimistic.leaf_key_is_prefix(&leaf, &[1, 2], 1),
         pessimistic.leaf_key_is_prefix(&leaf, &[1, 2], 9),
-    ];
+    ]
+}
+
+#[test]
+fn compares_a_leaf_from_the_depth_on_or_whole(rt: HostRuntime) {
     let wanted = (
         [true, false, false, true, true, false],
         [true, false, true, false, false],
     );
-    assert_eq!(rt; (equal, front), wanted);
+    assert_eq!(rt; (equal_to_leaf(), front_is_leaf()), wanted);
 }

@@ -4,7 +4,7 @@ ghost use Rattle.std.specs.Prelude.{◌<◌};
 use art_nodes::node::{LeafNode, LeafPtr, OpaqueNodePtr};
 use art_nodes::store::NodeStore;
 use art_operations::insert::InsertPrefixError;
-use art_operations::run::{Command, Side, run};
+use art_operations::run::{Command, RunResult, Side, run};
 use art_test_support::commands::{
     Asked, Left, Row, Told, commands, ran, ran_from, ran_without_memory,
 };
@@ -181,19 +181,27 @@ fn value_in(command: Option<&Command<Key, u32>>) -> Option<u32> {
     }
 }
 
-// How many commands a run without memory hands back, and the value that the first is to insert.
+// How many commands a refused run handed back, and the value that the first is to insert. None where it was not refused.
+fn back_in(
+    ran: &Result<RunResult<Key, u32>, (Vec<Command<Key, u32>>, AllocError)>,
+) -> Option<(usize, Option<u32>)> {
+    match ran {
+        Ok(_) => None,
+        Err((asked, AllocError)) => Some((asked.len(), value_in(asked.first()))),
+    }
+}
+
+// The same of a run of these commands without memory.
 fn handed_back<const P: usize>(
     first: &mut NodeStore<Key, u32, P>,
     second: &mut NodeStore<Key, u32, P>,
-    asked: Vec<Command<Key, u32>>,
+    rows: &[Row<'_>],
 ) -> Result<Option<(usize, Option<u32>)>, AllocError> {
+    let asked = commands(first.alloc(), rows)?;
     let held = all_memory(first.alloc())?;
-    let refused = run(first, second, None, asked);
+    let ran = run(first, second, None, asked);
     drop(held);
-    match refused {
-        Ok(_) => Ok(None),
-        Err((asked, AllocError)) => Ok(Some((asked.len(), value_in(asked.first())))),
-    }
+    Ok(back_in(&ran))
 }
 
 // Places a leaf.
@@ -215,8 +223,7 @@ fn handed_back_beside<const P: usize>(
     rows: &[Row<'_>],
 ) -> Option<Back> {
     let leaf = place(first, &[9], 90).ok()?;
-    let asked = commands(first.alloc(), rows).ok()?;
-    let back = handed_back(first, second, asked).ok()?;
+    let back = handed_back(first, second, rows).ok()?;
     Some((back, value_of(first, leaf)))
 }
 
