@@ -135,7 +135,8 @@ fn from_none_and_all<const P: usize>(
     ]
 }
 
-// What comes of the leaves of a tree: from both ends, of those between the first and the last one, and of none and all.
+// What comes of the leaves of a tree: from both ends, of those between the first and the last one,
+// and of none and all.
 #[derive(Clone, Copy)]
 struct Came {
     from_both_ends: [Option<u32>; 7],

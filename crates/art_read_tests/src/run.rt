@@ -181,7 +181,8 @@ fn value_in(command: Option<&Command<Key, u32>>) -> Option<u32> {
     }
 }
 
-// How many commands a refused run handed back, and the value that the first is to insert. None where it was not refused.
+// How many commands a refused run handed back, and the value that the first is to insert. None
+// where it was not refused.
 fn back_in(
     ran: &Result<RunResult<Key, u32>, (Vec<Command<Key, u32>>, AllocError)>,
 ) -> Option<(usize, Option<u32>)> {
@@ -244,8 +245,8 @@ fn without_memory_a_run_hands_the_commands_back(rt: HostRuntime) {
     assert_eq!(rt; back, Some((Some((2, Some(10))), Some(90))));
 }
 
-/// What the first and the later ones of some commands leave, the value of the leaf that is the root between them, once
-/// all were asked, and how many nodes each store has then.
+/// What the first and the later ones of some commands leave, the value of the leaf that is the root
+/// between them, once all were asked, and how many nodes each store has then.
 pub type InTurn = ([Left; 2], Option<u32>, [(usize, usize); 2]);
 
 // The value of a root that is a leaf.
