@@ -7,7 +7,7 @@ use art_nodes::store::NodeStore;
 use art_operations::run::{Command, run};
 use art_operations::well_formed::{WellFormedChecker, WellFormedTreeStats};
 use art_test_support::trees::{
-    Key, keys_after, keys_of_three, keys_of_zeros, planted, planted_all,
+    Key, keys_after, keys_of_three, keys_of_zeros, planted_all, planted_keys,
 };
 use std::alloc::{AllocError, Global};
 use std::test::Fail;
@@ -31,22 +31,21 @@ fn counts_of<const P: usize>(
     }
 }
 
-/// The same of the tree of these keys. The second store is for its planting alone.
+/// The same of the tree of these keys.
 fn counts_from<const P: usize>(
     store: &mut NodeStore<Key, u32, P>,
-    second: &mut NodeStore<Key, u32, P>,
     keys: Vec<Key>,
 ) -> Option<(usize, usize, usize)> {
     let len = keys.len();
-    let root = planted(store, second, keys).ok()??;
+    let root = planted_keys(store, keys).ok()??;
     counts_of(store, root, len)
 }
 
-/// The same in stores of its own.
+/// The same in a store of its own.
 fn counts_with<const P: usize>(alloc: Global, keys: Vec<Key>) -> Option<(usize, usize, usize)>
     requires { P < 256 }
 {
-    counts_from::<P>(&mut NodeStore::new(alloc), &mut NodeStore::new(alloc), keys)
+    counts_from::<P>(&mut NodeStore::new(alloc), keys)
 }
 
 /// The keys of the tree of this number.

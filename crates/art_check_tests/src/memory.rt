@@ -13,7 +13,7 @@ use art_operations::well_formed::{
 use art_test_support::memory::all_memory;
 use art_test_support::placing::{Plain, lone_leaf, placed_all, plain_node};
 use art_test_support::shapes::count_nodes;
-use art_test_support::trees::{Key, keys_after, planted, planted_all};
+use art_test_support::trees::{Key, keys_after, planted_all, planted_keys};
 use std::alloc::{AllocError, Global};
 use std::boxed::BoxedSlice;
 use std::cmp::Ordering;
@@ -140,13 +140,10 @@ fn many_keys(alloc: Global) -> Result<Vec<Key>, AllocError> {
     Ok(keys)
 }
 
-/// The check of a tree of 53 leaves. None where a refusal falls outside it. The second store is for its planting alone.
-fn check_of_many<const P: usize>(
-    store: &mut NodeStore<Key, u32, P>,
-    second: &mut NodeStore<Key, u32, P>,
-) -> Option<Outcome> {
+/// The check of a tree of 53 leaves. None where a refusal falls outside it.
+fn check_of_many<const P: usize>(store: &mut NodeStore<Key, u32, P>) -> Option<Outcome> {
     let keys = many_keys(store.alloc()).ok()?;
-    let root = planted(store, second, keys).ok()??;
+    let root = planted_keys(store, keys).ok()??;
     Some(what_comes(store, root, all_nodes(store)))
 }
 
@@ -182,7 +179,7 @@ fn check_of_twins<const P: usize>(store: &mut NodeStore<Key, u32, P>) -> Option<
 fn many_checked<const P: usize>(alloc: Global) -> Option<Outcome>
     requires { P < 256 }
 {
-    check_of_many::<P>(&mut NodeStore::new(alloc), &mut NodeStore::new(alloc))
+    check_of_many::<P>(&mut NodeStore::new(alloc))
 }
 
 /// The same of two long keys.

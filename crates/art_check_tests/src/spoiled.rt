@@ -8,7 +8,7 @@ use art_nodes::store::NodeStore;
 use art_operations::well_formed::WellFormedChecker;
 use art_oracle::verdicts::{Flaw, Verdict, judge};
 use art_test_support::numbers::Numbers;
-use art_test_support::trees::{Key, planted};
+use art_test_support::trees::{Key, planted_keys};
 use std::alloc::{AllocError, Global};
 
 /// What a verdict says. One that is unknown says what no check answers here.
@@ -111,32 +111,27 @@ fn spoil_and_check<const P: usize>(
     number_if_same(store, root)
 }
 
-/// The same of a drawn tree, which is planted before. The second store is for that alone.
+/// The same of a drawn tree, which is planted before.
 fn try_in<const P: usize>(
     store: &mut NodeStore<Key, u32, P>,
-    second: &mut NodeStore<Key, u32, P>,
     numbers: &mut Numbers,
 ) -> Result<Option<usize>, AllocError> {
     let keys = draw_keys(store.alloc(), numbers)?;
-    let Some(root) = planted(store, second, keys)? else {
+    let Some(root) = planted_keys(store, keys)? else {
         return Ok(None);
     };
     let names = names_below(store, root)?;
     spoil_and_check(store, &names, root, numbers)
 }
 
-/// The same in stores of its own.
+/// The same in a store of its own.
 fn try_one<const P: usize>(
     alloc: Global,
     numbers: &mut Numbers,
 ) -> Result<Option<usize>, AllocError>
     requires { P < 256 }
 {
-    try_in::<P>(
-        &mut NodeStore::new(alloc),
-        &mut NodeStore::new(alloc),
-        numbers,
-    )
+    try_in::<P>(&mut NodeStore::new(alloc), numbers)
 }
 
 /// How often each was told of 2,500 spoiled trees with so many stored bytes, and last how many checks were wrong.

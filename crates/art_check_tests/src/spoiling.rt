@@ -26,14 +26,18 @@ pub fn draw_keys(alloc: Global, numbers: &mut Numbers) -> Result<Vec<Key>, Alloc
     let mut keys = Vec::new(alloc);
     let (shape, count) = (numbers.below(4), numbers.below(60));
     for _ in 0..=count {
-        keys.push(match shape {
-            0 => [numbers.byte()].to_vec(alloc)?,
-            1 => few_bytes(alloc, numbers)?,
-            2 => long_key(alloc, numbers, 5)?,
-            _ => long_key(alloc, numbers, 18)?,
-        })?;
+        keys.push(draw_key(alloc, numbers, shape)?)?;
     }
     Ok(keys)
+}
+
+fn draw_key(alloc: Global, numbers: &mut Numbers, shape: usize) -> Result<Key, AllocError> {
+    match shape {
+        0 => [numbers.byte()].to_vec(alloc),
+        1 => few_bytes(alloc, numbers),
+        2 => long_key(alloc, numbers, 5),
+        _ => long_key(alloc, numbers, 18),
+    }
 }
 
 fn few_bytes(alloc: Global, numbers: &mut Numbers) -> Result<Key, AllocError> {
@@ -56,24 +60,33 @@ fn long_key(alloc: Global, numbers: &mut Numbers, len: usize) -> Result<Key, All
     Ok(key)
 }
 
+// Puts the names of a node's children into a list.
+fn push_children<const P: usize>(
+    store: &NodeStore<Key, u32, P>,
+    name: OpaqueNodePtr,
+    names: &mut Vec<OpaqueNodePtr>,
+) -> Result<(), AllocError> {
+    if let NodePtr::Inner(inner) = name.split() {
+        if let Some(node) = store.inner(inner) {
+            for (_, child) in node.iter() {
+                names.push(child)?;
+            }
+        }
+    }
+    Ok(())
+}
+
 /// The names of a tree's nodes, with the root first.
 pub fn names_below<const P: usize>(
     store: &NodeStore<Key, u32, P>,
     root: OpaqueNodePtr,
 ) -> Result<Vec<OpaqueNodePtr>, AllocError> {
-    let mut names = Vec::new(store.alloc());
-    names.push(root)?;
+    let mut names = Vec::from_array(store.alloc(), [root])?;
     for at in 0..MOST_NODES {
         let Some(name) = names.get(at).copied() else {
             break;
         };
-        if let NodePtr::Inner(inner) = name.split() {
-            if let Some(node) = store.inner(inner) {
-                for (_, child) in node.iter() {
-                    names.push(child)?;
-                }
-            }
-        }
+        push_children(store, name, &mut names)?;
     }
     Ok(names)
 }

@@ -107,36 +107,6 @@ fn two_folds<const P: usize>(store: &NodeStore<Key, u32, P>, root: OpaqueNodePtr
     ]
 }
 
-/// The same of the tree of these keys.
-fn two_folds_of<const P: usize>(
-    store: &mut NodeStore<Key, u32, P>,
-    slices: &[&[u8]],
-) -> Option<[u64; 2]> {
-    match planted_all(store, slices) {
-        Ok(Some(root)) => Some(two_folds(store, root)),
-        _ => None,
-    }
-}
-
-/// The same in a store of its own.
-fn two_folds_with<const P: usize>(alloc: Global, slices: &[&[u8]]) -> Option<[u64; 2]>
-    requires { P < 256 }
-{
-    two_folds_of::<P>(&mut NodeStore::new(alloc), slices)
-}
-
-#[test]
-fn outputs_of_children_are_joined_in_order(rt: HostRuntime) {
-    let folds = two_folds_with::<16>(rt.alloc(), &[&[1], &[2], &[3, 1], &[3, 2]]);
-    assert_eq!(rt; folds, Some([154, 156]));
-}
-
-#[test]
-fn a_lone_leaf_goes_to_its_hook(rt: HostRuntime) {
-    let folds = two_folds_with::<0>(rt.alloc(), &[&[9, 9]]);
-    assert_eq!(rt; folds, Some([1, 1]));
-}
-
 /// What is seen of an inner node.
 type Inner = (usize, NodeType, usize, usize);
 
@@ -156,20 +126,43 @@ fn met_below<const P: usize>(
     (height, met.leaves, met.at, met.inners)
 }
 
+/// What folds of a tree give: those by digits, what is met, and the length of the longest key.
+#[derive(Clone, Copy)]
+struct Folds {
+    by_digits: [u64; 2],
+    met: (usize, usize, usize, [Inner; 4]),
+    longest: usize,
+}
+
 /// The same of the tree of these keys.
-fn met_in<const P: usize>(
-    store: &mut NodeStore<Key, u32, P>,
-    slices: &[&[u8]],
-) -> Option<(usize, usize, usize, [Inner; 4])> {
+fn folds_of<const P: usize>(store: &mut NodeStore<Key, u32, P>, slices: &[&[u8]]) -> Option<Folds> {
     match planted_all(store, slices) {
-        Ok(Some(root)) => Some(met_below(store, root)),
+        Ok(Some(root)) => Some(Folds {
+            by_digits: two_folds(store, root),
+            met: met_below(store, root),
+            longest: longest_key(store, root),
+        }),
         _ => None,
     }
 }
 
 /// The same in a store of its own.
-fn met_with(alloc: Global, slices: &[&[u8]]) -> Option<(usize, usize, usize, [Inner; 4])> {
-    met_in::<2>(&mut NodeStore::new(alloc), slices)
+fn folds_with<const P: usize>(alloc: Global, slices: &[&[u8]]) -> Option<Folds>
+    requires { P < 256 }
+{
+    folds_of::<P>(&mut NodeStore::new(alloc), slices)
+}
+
+#[test]
+fn outputs_of_children_are_joined_in_order(rt: HostRuntime) {
+    let folds = folds_with::<16>(rt.alloc(), &[&[1], &[2], &[3, 1], &[3, 2]]);
+    assert_eq!(rt; folds.map(|folds| folds.by_digits), Some([154, 156]));
+}
+
+#[test]
+fn a_lone_leaf_goes_to_its_hook(rt: HostRuntime) {
+    let folds = folds_with::<0>(rt.alloc(), &[&[9, 9]]);
+    assert_eq!(rt; folds.map(|folds| folds.by_digits), Some([1, 1]));
 }
 
 /// Keys of which some share two bytes of a prefix or more.
@@ -194,21 +187,8 @@ static INNERS: [Inner; 4] = [
 
 #[test]
 fn nodes_are_visited_after_what_is_below_them(rt: HostRuntime) {
-    let met = met_with(rt.alloc(), &EIGHT);
-    assert_eq!(rt; met, Some((3, 8, 4, INNERS)));
-}
-
-/// The length of the longest of these keys.
-fn longest_of(store: &mut NodeStore<Key, u32, 2>, slices: &[&[u8]]) -> Option<usize> {
-    match planted_all(store, slices) {
-        Ok(Some(root)) => Some(longest_key(store, root)),
-        _ => None,
-    }
-}
-
-/// The same in a store of its own.
-fn longest_with(alloc: Global, slices: &[&[u8]]) -> Option<usize> {
-    longest_of(&mut NodeStore::new(alloc), slices)
+    let folds = folds_with::<2>(rt.alloc(), &EIGHT);
+    assert_eq!(rt; folds.map(|folds| folds.met), Some((3, 8, 4, INNERS)));
 }
 
 /// Keys of which the longest are neither the least nor the greatest.
@@ -216,7 +196,8 @@ static FOUR: [&[u8]; 4] = [&[1, 7], &[2, 7, 7, 7, 1], &[2, 7, 7, 7, 2], &[9]];
 
 #[test]
 fn the_longest_key_is_found(rt: HostRuntime) {
-    assert_eq!(rt; longest_with(rt.alloc(), &FOUR), Some(5));
+    let folds = folds_with::<2>(rt.alloc(), &FOUR);
+    assert_eq!(rt; folds.map(|folds| folds.longest), Some(5));
 }
 
 /// Whether no bytes are empty, a copy of bytes holds them, and a clone of it is equal and holds them.

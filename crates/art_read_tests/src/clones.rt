@@ -1,45 +1,34 @@
 //! Clones of trees, from one store into another.
-ghost use Rattle.std.specs.Prelude.{◌<◌};
+ghost use Rattle.std.specs.Prelude.{◌<◌, IfSome};
 ghost use Rattle.art_model.specs.Pairs.{of_key};
 ghost use Rattle.art_model.specs.Roots.{IsCanonicalRoot};
 
+use crate::run::{left_by, ran_in_turn_with};
 use art_nodes::node::{LeafNode, LeafPtr, OpaqueNodePtr};
 use art_nodes::store::NodeStore;
 use art_operations::clone::clone_unchecked;
 use art_operations::run::Side;
-use art_test_support::commands::{Asked, Left, Row, Told, ran, ran_from, ran_without_memory};
+use art_test_support::commands::{Asked, Left, Row, Told, ran_from};
 use art_test_support::memory::end_refusals;
 use art_test_support::nodes::{Seen, count_touched, nodes_seen};
 use art_test_support::shapes::count_nodes;
 use art_test_support::side_by_side::kind_if_same;
-use art_test_support::trees::{Key, keys, keys_after, planted, planted_all, value_of};
+use art_test_support::trees::{Key, keys, keys_after, planted_all, planted_keys};
 use std::alloc::{AllocError, Global};
 use std::process::Abort;
 use std::test::Fail;
 
-// What a run leaves.
-fn left_in<const P: usize>(
-    first: &mut NodeStore<Key, u32, P>,
-    second: &mut NodeStore<Key, u32, P>,
-    rows: &[Row<'_>],
-) -> Option<Left> {
-    ran(first, second, rows).ok()
-}
-
-// The same in stores of its own.
-fn left_by(alloc: Global, rows: &[Row<'_>]) -> Option<Left> {
-    left_in::<4>(&mut NodeStore::new(alloc), &mut NodeStore::new(alloc), rows)
-}
+// A clone alone.
+static CLONE: [Row<'static>; 1] = [(Asked::Clone, Told::Cloned)];
 
 #[test]
 fn clones_no_tree(rt: HostRuntime) {
-    let rows: [Row<'_>; 1] = [(Asked::Clone, Told::Cloned)];
     let wanted = Left {
         wrong: None,
         has_root: false,
         side: Side::First,
     };
-    assert_eq!(rt; left_by(rt.alloc(), &rows), Some(wanted));
+    assert_eq!(rt; left_by(rt.alloc(), &CLONE), Some(wanted));
 }
 
 // Whether a root is a leaf with this key.
@@ -71,51 +60,30 @@ fn gone_over_with(alloc: Global, rows: &[Row<'_>]) -> Option<GoneOver> {
     gone_over::<4>(&mut NodeStore::new(alloc), &mut NodeStore::new(alloc), rows)
 }
 
+// A clone, and a deletion from what it makes.
+static GOING_OVER: [Row<'static>; 4] = [
+    (Asked::Insert(&[1], 1), Told::Inserted(None)),
+    (Asked::Insert(&[2], 2), Told::Inserted(None)),
+    (Asked::Clone, Told::Cloned),
+    (Asked::Delete(&[1]), Told::Deleted(Some((&[1], 1)))),
+];
+
 #[test]
 fn goes_over_to_the_other_store(rt: HostRuntime) {
-    let rows: [Row<'_>; 4] = [
-        (Asked::Insert(&[1], 1), Told::Inserted(None)),
-        (Asked::Insert(&[2], 2), Told::Inserted(None)),
-        (Asked::Clone, Told::Cloned),
-        (Asked::Delete(&[1]), Told::Deleted(Some((&[1], 1)))),
-    ];
     let wanted = Left {
         wrong: None,
         has_root: true,
         side: Side::Second,
     };
-    let seen = gone_over_with(rt.alloc(), &rows);
+    let seen = gone_over_with(rt.alloc(), &GOING_OVER);
     assert_eq!(rt; seen, Some((wanted, Some(true), [(0, 0), (1, 0)])));
 }
 
-// What is left of a clone without memory: what the run leaves, the value of the root, and how many nodes each
-// store has.
-type Kept = (Left, Option<u32>, [(usize, usize); 2]);
+// The only pair.
+static STORED: [Row<'static>; 1] = [(Asked::Insert(&[1], 10), Told::Inserted(None))];
 
-// Inserts [1] with 10, and clones without memory.
-fn kept_without_memory<const P: usize>(
-    first: &mut NodeStore<Key, u32, P>,
-    second: &mut NodeStore<Key, u32, P>,
-) -> Option<Kept> {
-    let insertion: [Row<'_>; 1] = [(Asked::Insert(&[1], 10), Told::Inserted(None))];
-    let clone: [Row<'_>; 1] = [(Asked::Clone, Told::NoMemory(None))];
-    let (before, root) = ran_from(first, second, None, &insertion).ok()?;
-    match before.side {
-        Side::First => {
-            let left = ran_without_memory(first, second, root, &clone).ok()?;
-            let leaf = root.and_then(|root| root.as_leaf());
-            let value = leaf.and_then(|leaf| value_of(first, leaf));
-            let counts = [count_nodes(first, 4), count_nodes(second, 4)];
-            Some((left, value, counts))
-        }
-        Side::Second => None,
-    }
-}
-
-// The same in stores of its own.
-fn kept_with(alloc: Global) -> Option<Kept> {
-    kept_without_memory::<4>(&mut NodeStore::new(alloc), &mut NodeStore::new(alloc))
-}
+// A clone that there is no memory for.
+static NOT_CLONED: [Row<'static>; 1] = [(Asked::Clone, Told::NoMemory(None))];
 
 #[test]
 fn without_memory_a_clone_changes_nothing(rt: HostRuntime) {
@@ -124,8 +92,8 @@ fn without_memory_a_clone_changes_nothing(rt: HostRuntime) {
         has_root: true,
         side: Side::First,
     };
-    let kept = kept_with(rt.alloc());
-    assert_eq!(rt; kept, Some((wanted, Some(10), [(1, 0), (0, 0)])));
+    let kept = ran_in_turn_with(rt.alloc(), &STORED, &NOT_CLONED);
+    assert_eq!(rt; kept, Some(([wanted; 2], Some(10), [(1, 0), (0, 0)])));
 }
 
 // Pairs of these keys, each with its place as its value.
@@ -171,23 +139,20 @@ fn cloned<const P: usize>(
     Ok((count_nodes(into, 700), kind.is_some(), ends))
 }
 
-// Plants the tree of these keys, which are in order and those of these pairs, and clones it. The second store is
-// for the planting alone.
+// Plants the tree of these keys, which are in order and those of these pairs, and clones it.
 fn cloned_tree<const P: usize>(
     store: &mut NodeStore<Key, u32, P>,
-    second: &mut NodeStore<Key, u32, P>,
     into: &mut NodeStore<Key, u32, P>,
     keys: Vec<Key>,
     pairs: &[(Key, u32)],
 ) -> Option<Cloned> {
-    let root = planted(store, second, keys).ok()??;
+    let root = planted_keys(store, keys).ok()??;
     cloned(store, root, into, pairs).ok()
 }
 
 // The same in stores of its own.
 fn cloned_beside(alloc: Global, keys: Vec<Key>, pairs: &[(Key, u32)]) -> Option<Cloned> {
     cloned_tree::<16>(
-        &mut NodeStore::new(alloc),
         &mut NodeStore::new(alloc),
         &mut NodeStore::new(alloc),
         keys,
@@ -256,21 +221,24 @@ fn keys_of(alloc: Global, number: usize) -> Result<Vec<Key>, AllocError> {
     }
 }
 
+// What a clone of the tree of this number is.
+fn cloned_of(alloc: Global, number: usize) -> Option<Cloned> {
+    match keys_of(alloc, number) {
+        Ok(keys) => cloned_with(alloc, keys),
+        Err(_) => None,
+    }
+}
+
 // How many leaves and inner nodes these trees have.
-const COUNTS: [(usize, usize); 6] = [(24, 17), (3, 1), (324, 19), (127, 126), (27, 13), (1, 0)];
+static COUNTS: [(usize, usize); 6] = [(24, 17), (3, 1), (324, 19), (127, 126), (27, 13), (1, 0)];
 
 #[test]
-fn a_clone_is_the_same_tree(rt: HostRuntime) -> Result<(), Fail> {
+fn a_clone_is_the_same_tree(rt: HostRuntime) {
     let alloc = rt.alloc();
     for (number, counts) in COUNTS.iter().enumerate() {
-        let made = cloned_with(alloc, keys_of(alloc, number)?);
-        assert_eq!(rt;
-            made,
-            Some((*counts, true, [Some(true); 2])),
-            "tree {number}"
-        );
+        let wanted = (*counts, true, [Some(true); 2]);
+        assert_eq!(rt; cloned_of(alloc, number), Some(wanted), "tree {number}");
     }
-    Ok(())
 }
 
 // What a clone touches of these nodes in the other store, where it is refused.
@@ -311,38 +279,50 @@ fn touched_by_refused<const P: usize>(
     touched_by_clone(store, root, into)
 }
 
+// Places a leaf. None where it is refused.
+fn place_nine<const P: usize>(store: &mut NodeStore<Key, u32, P>) -> Option<()> {
+    let Ok(key) = [9].to_vec(store.alloc()) else {
+        return None;
+    };
+    match store.place_leaf(LeafNode::with_no_siblings(key, 90)) {
+        Ok(_) => Some(()),
+        Err(_) => None,
+    }
+}
+
+// The same where the other store may have a leaf.
+fn touched_beside_some<const P: usize>(
+    store: &mut NodeStore<Key, u32, P>,
+    into: &mut NodeStore<Key, u32, P>,
+    has_leaf: bool,
+) -> Option<(usize, usize, usize)> {
+    if has_leaf {
+        place_nine(into)?;
+    }
+    touched_by_refused(store, into)
+}
+
 // The same in stores of its own.
-fn touched_alone(alloc: Global) -> Option<(usize, usize, usize)> {
-    touched_by_refused::<4>(&mut NodeStore::new(alloc), &mut NodeStore::new(alloc))
+fn touched_with(alloc: Global, has_leaf: bool) -> Option<(usize, usize, usize)> {
+    touched_beside_some::<4>(
+        &mut NodeStore::new(alloc),
+        &mut NodeStore::new(alloc),
+        has_leaf,
+    )
 }
 
 #[test]
 fn refused_clones_leave_no_node(rt: HostRuntime) -> Result<(), Fail> {
-    if let Some(touched) = touched_alone(rt.alloc()) {
+    if let Some(touched) = touched_with(rt.alloc(), false) {
         assert_eq!(rt; touched, (0, 0, 0));
         println!(rt; "asserted")?;
     }
     Ok(())
 }
 
-// The same where the other store has a leaf.
-fn touched_beside_a_leaf<const P: usize>(
-    store: &mut NodeStore<Key, u32, P>,
-    into: &mut NodeStore<Key, u32, P>,
-) -> Option<(usize, usize, usize)> {
-    let key = [9].to_vec(store.alloc()).ok()?;
-    into.place_leaf(LeafNode::with_no_siblings(key, 90)).ok()?;
-    touched_by_refused(store, into)
-}
-
-// The same in stores of its own.
-fn touched_with(alloc: Global) -> Option<(usize, usize, usize)> {
-    touched_beside_a_leaf::<4>(&mut NodeStore::new(alloc), &mut NodeStore::new(alloc))
-}
-
 #[test]
 fn refused_clones_leave_the_nodes_that_were_there(rt: HostRuntime) -> Result<(), Fail> {
-    if let Some(touched) = touched_with(rt.alloc()) {
+    if let Some(touched) = touched_with(rt.alloc(), true) {
         assert_eq!(rt; touched, (0, 0, 0));
         println!(rt; "asserted")?;
     }
@@ -413,21 +393,26 @@ fn clone_tried<const P: usize>(
     }
 }
 
-// Plants the tree of many keys, and a leaf in the other store, before the clone. None where an insertion was refused.
-// The second store is for the planting alone.
+// Plants the tree of many keys. None where an insertion was refused.
+fn many_planted<const P: usize>(store: &mut NodeStore<Key, u32, P>) -> Option<OpaqueNodePtr>
+    ensures { IfSome result (λ root. IsCanonicalRoot (of_key (λ key. key.items)) P store.new root) }
+{
+    let Ok(keys) = keys_of_many(store.alloc()) else {
+        return None;
+    };
+    match planted_keys(store, keys) {
+        Ok(Some(root)) if count_nodes(store, 100) == (53, 2) => Some(root),
+        _ => None,
+    }
+}
+
+// Plants the tree of many keys, and a leaf in the other store, before the clone.
 fn clone_of_many<const P: usize>(
     store: &mut NodeStore<Key, u32, P>,
-    second: &mut NodeStore<Key, u32, P>,
     into: &mut NodeStore<Key, u32, P>,
 ) -> Option<Outcome> {
-    let alloc = store.alloc();
-    let key = [9].to_vec(alloc).ok()?;
-    into.place_leaf(LeafNode::with_no_siblings(key, 90)).ok()?;
-    let all = keys_of_many(alloc).ok()?;
-    let root = planted(store, second, all).ok()??;
-    if count_nodes(store, 100) != (53, 2) {
-        return None;
-    }
+    place_nine(into)?;
+    let root = many_planted(store)?;
     clone_tried(store, root, into)
 }
 
@@ -435,22 +420,25 @@ fn clone_of_many<const P: usize>(
 fn clone_of_many_with<const P: usize>(alloc: Global) -> Option<Outcome>
     requires { P < 256 }
 {
-    clone_of_many::<P>(
-        &mut NodeStore::new(alloc),
-        &mut NodeStore::new(alloc),
-        &mut NodeStore::new(alloc),
-    )
+    clone_of_many::<P>(&mut NodeStore::new(alloc), &mut NodeStore::new(alloc))
+}
+
+// What is to come of a clone where this came of it.
+fn wanted_where(outcome: Outcome) -> Outcome {
+    match outcome {
+        Outcome::Refused(_) => Outcome::Refused((0, 0, 0)),
+        Outcome::Made(..) => Outcome::Made(true, (54, 2)),
+    }
 }
 
 // Asserts what came of a clone, and says so where it was refused.
 fn assert_whole(rt: &(impl Abort + Print), outcome: Option<Outcome>) -> Result<(), Fail> {
-    match outcome {
-        None => {}
-        Some(Outcome::Refused(touched)) => {
-            assert_eq!(rt; touched, (0, 0, 0));
-            println!(rt; "asserted")?;
-        }
-        Some(made) => assert_eq!(rt; made, Outcome::Made(true, (54, 2))),
+    let Some(outcome) = outcome else {
+        return Ok(());
+    };
+    assert_eq!(rt; outcome, wanted_where(outcome));
+    if let Outcome::Refused(_) = outcome {
+        println!(rt; "asserted")?;
     }
     Ok(())
 }

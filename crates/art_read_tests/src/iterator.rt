@@ -68,27 +68,7 @@ fn from_both_ends<const P: usize>(
 }
 
 // The keys of the tree of five leaves.
-const FIVE: [&[u8]; 5] = [&[1], &[2], &[3], &[4], &[5]];
-
-// The same of the tree of these keys.
-fn both_ends_of<const P: usize>(
-    store: &mut NodeStore<Key, u32, P>,
-    slices: &[&[u8]],
-) -> Option<[Option<u32>; 7]> {
-    let root = planted_all(store, slices).ok()??;
-    Some(from_both_ends(store, root))
-}
-
-// The same in a store of its own.
-fn both_ends_with(alloc: Global, slices: &[&[u8]]) -> Option<[Option<u32>; 7]> {
-    both_ends_of::<4>(&mut NodeStore::new(alloc), slices)
-}
-
-#[test]
-fn comes_from_both_ends(rt: HostRuntime) {
-    let came = [Some(0), Some(4), Some(1), Some(3), Some(2), None, None];
-    assert_eq!(rt; both_ends_with(rt.alloc(), &FIVE), Some(came));
-}
+static FIVE: [&[u8]; 5] = [&[1], &[2], &[3], &[4], &[5]];
 
 // What comes of some leaves, from the back first.
 fn from_the_back<const P: usize>(
@@ -142,26 +122,6 @@ fn from_between<const P: usize>(
     Some(from_the_back(between(store, root)?, store))
 }
 
-// The same of the tree of these keys.
-fn between_of<const P: usize>(
-    store: &mut NodeStore<Key, u32, P>,
-    slices: &[&[u8]],
-) -> Option<[Option<u32>; 4]> {
-    let root = planted_all(store, slices).ok()??;
-    from_between(store, root)
-}
-
-// The same in a store of its own.
-fn between_with(alloc: Global, slices: &[&[u8]]) -> Option<[Option<u32>; 4]> {
-    between_of::<4>(&mut NodeStore::new(alloc), slices)
-}
-
-#[test]
-fn a_part_comes_from_both_ends(rt: HostRuntime) {
-    let came = [Some(3), Some(1), Some(2), None];
-    assert_eq!(rt; between_with(rt.alloc(), &FIVE), Some(came));
-}
-
 // What comes of no leaf, and of all leaves of a tree.
 fn from_none_and_all<const P: usize>(
     store: &NodeStore<Key, u32, P>,
@@ -175,30 +135,56 @@ fn from_none_and_all<const P: usize>(
     ]
 }
 
+// What comes of the leaves of a tree: from both ends, of those between the first and the last one,
+// and of none and all.
+#[derive(Clone, Copy)]
+struct Came {
+    from_both_ends: [Option<u32>; 7],
+    from_between: Option<[Option<u32>; 4]>,
+    from_none_and_all: [[Option<u32>; 4]; 2],
+}
+
 // The same of the tree of these keys.
-fn none_and_all_of<const P: usize>(
-    store: &mut NodeStore<Key, u32, P>,
-    slices: &[&[u8]],
-) -> Option<[[Option<u32>; 4]; 2]> {
+fn came_in<const P: usize>(store: &mut NodeStore<Key, u32, P>, slices: &[&[u8]]) -> Option<Came> {
     let root = planted_all(store, slices).ok()??;
-    Some(from_none_and_all(store, root))
+    Some(Came {
+        from_both_ends: from_both_ends(store, root),
+        from_between: from_between(store, root),
+        from_none_and_all: from_none_and_all(store, root),
+    })
 }
 
 // The same in a store of its own.
-fn none_and_all_with(alloc: Global, slices: &[&[u8]]) -> Option<[[Option<u32>; 4]; 2]> {
-    none_and_all_of::<4>(&mut NodeStore::new(alloc), slices)
+fn came_with(alloc: Global, slices: &[&[u8]]) -> Option<Came> {
+    came_in::<4>(&mut NodeStore::new(alloc), slices)
+}
+
+#[test]
+fn comes_from_both_ends(rt: HostRuntime) {
+    let wanted = [Some(0), Some(4), Some(1), Some(3), Some(2), None, None];
+    let came = came_with(rt.alloc(), &FIVE);
+    assert_eq!(rt; came.map(|came| came.from_both_ends), Some(wanted));
+}
+
+#[test]
+fn a_part_comes_from_both_ends(rt: HostRuntime) {
+    let wanted = [Some(3), Some(1), Some(2), None];
+    let came = came_with(rt.alloc(), &FIVE);
+    assert_eq!(rt; came.and_then(|came| came.from_between), Some(wanted));
 }
 
 #[test]
 fn none_or_one_leaf_comes(rt: HostRuntime) {
-    let came = [[None; 4], [Some(0), None, None, None]];
-    assert_eq!(rt; none_and_all_with(rt.alloc(), &[&[1]]), Some(came));
+    let wanted = [[None; 4], [Some(0), None, None, None]];
+    let came = came_with(rt.alloc(), &[&[1]]);
+    assert_eq!(rt; came.map(|came| came.from_none_and_all), Some(wanted));
 }
 
 #[test]
 fn two_leaves_come(rt: HostRuntime) {
-    let came = [[None; 4], [Some(1), Some(0), None, None]];
-    assert_eq!(rt; none_and_all_with(rt.alloc(), &[&[1], &[2]]), Some(came));
+    let wanted = [[None; 4], [Some(1), Some(0), None, None]];
+    let came = came_with(rt.alloc(), &[&[1], &[2]]);
+    assert_eq!(rt; came.map(|came| came.from_none_and_all), Some(wanted));
 }
 
 // What the freeing of the leaves between the first and the last one touches of these nodes.
@@ -326,44 +312,39 @@ fn free_inners_first<const P: usize>(
 }
 
 // Keys of a tree of three inner nodes.
-const THREE_INNERS: [&[u8]; 5] = [&[1, 1], &[1, 2], &[2], &[3, 4, 5], &[3, 4, 6]];
+static THREE_INNERS: [&[u8]; 5] = [&[1, 1], &[1, 2], &[2], &[3, 4, 5], &[3, 4, 6]];
 
-// Plants the tree of these keys, and frees its leaves first.
-fn leaves_first_of<const P: usize>(
+// Plants the tree of these keys, and frees its leaves first or its inner nodes.
+fn freed_apart<const P: usize>(
     store: &mut NodeStore<Key, u32, P>,
     slices: &[&[u8]],
+    leaves_first: bool,
 ) -> Option<[(usize, usize); 3]> {
     let root = planted_all(store, slices).ok()??;
-    Some(free_leaves_first(store, root))
+    Some(if leaves_first {
+        free_leaves_first(store, root)
+    } else {
+        free_inners_first(store, root)
+    })
 }
 
 // The same in a store of its own.
-fn leaves_first_with(alloc: Global, slices: &[&[u8]]) -> Option<[(usize, usize); 3]> {
-    leaves_first_of::<4>(&mut NodeStore::new(alloc), slices)
+fn freed_apart_with(
+    alloc: Global,
+    slices: &[&[u8]],
+    leaves_first: bool,
+) -> Option<[(usize, usize); 3]> {
+    freed_apart::<4>(&mut NodeStore::new(alloc), slices, leaves_first)
 }
 
 #[test]
 fn leaves_and_then_inner_nodes_are_freed(rt: HostRuntime) {
-    let counts = leaves_first_with(rt.alloc(), &THREE_INNERS);
+    let counts = freed_apart_with(rt.alloc(), &THREE_INNERS, true);
     assert_eq!(rt; counts, Some([(5, 3), (0, 3), (0, 0)]));
-}
-
-// Plants the tree of these keys, and frees its inner nodes first.
-fn inners_first_of<const P: usize>(
-    store: &mut NodeStore<Key, u32, P>,
-    slices: &[&[u8]],
-) -> Option<[(usize, usize); 3]> {
-    let root = planted_all(store, slices).ok()??;
-    Some(free_inners_first(store, root))
-}
-
-// The same in a store of its own.
-fn inners_first_with(alloc: Global, slices: &[&[u8]]) -> Option<[(usize, usize); 3]> {
-    inners_first_of::<4>(&mut NodeStore::new(alloc), slices)
 }
 
 #[test]
 fn inner_nodes_and_then_leaves_are_freed(rt: HostRuntime) {
-    let counts = inners_first_with(rt.alloc(), &THREE_INNERS);
+    let counts = freed_apart_with(rt.alloc(), &THREE_INNERS, false);
     assert_eq!(rt; counts, Some([(5, 3), (5, 0), (0, 0)]));
 }

@@ -100,40 +100,42 @@ fn last_seen(alloc: Global, rows: &[Row<'_>]) -> Option<(bool, bool)> {
     last_in(&mut NodeStore::new(alloc), &mut NodeStore::new(alloc), rows)
 }
 
+// Insertions of one key, and one of its front in the place of it.
+static ROWS: [Row<'static>; 4] = [
+    Row {
+        is_prefix: false,
+        asked: (&[1, 2], 1, 10),
+        told: None,
+        stored: (&[1, 2], 1, 10),
+    },
+    Row {
+        is_prefix: false,
+        asked: (&[1, 2], 2, 20),
+        told: Some((&[1, 2], 2, 10)),
+        stored: (&[1, 2], 1, 20),
+    },
+    Row {
+        is_prefix: true,
+        asked: (&[1, 2], 3, 30),
+        told: Some((&[1, 2], 3, 20)),
+        stored: (&[1, 2], 1, 30),
+    },
+    Row {
+        is_prefix: true,
+        asked: (&[1], 4, 40),
+        told: Some((&[1, 2], 1, 30)),
+        stored: (&[1], 4, 40),
+    },
+];
+
 #[test]
 fn a_stored_key_stays(rt: HostRuntime) {
-    let rows: [Row<'_>; 4] = [
-        Row {
-            is_prefix: false,
-            asked: (&[1, 2], 1, 10),
-            told: None,
-            stored: (&[1, 2], 1, 10),
-        },
-        Row {
-            is_prefix: false,
-            asked: (&[1, 2], 2, 20),
-            told: Some((&[1, 2], 2, 10)),
-            stored: (&[1, 2], 1, 20),
-        },
-        Row {
-            is_prefix: true,
-            asked: (&[1, 2], 3, 30),
-            told: Some((&[1, 2], 3, 20)),
-            stored: (&[1, 2], 1, 30),
-        },
-        Row {
-            is_prefix: true,
-            asked: (&[1], 4, 40),
-            told: Some((&[1, 2], 1, 30)),
-            stored: (&[1], 4, 40),
-        },
-    ];
     let alloc = rt.alloc();
     let seen = [
-        last_seen(alloc, &rows[..1]),
-        last_seen(alloc, &rows[..2]),
-        last_seen(alloc, &rows[..3]),
-        last_seen(alloc, &rows),
+        last_seen(alloc, &ROWS[..1]),
+        last_seen(alloc, &ROWS[..2]),
+        last_seen(alloc, &ROWS[..3]),
+        last_seen(alloc, &ROWS),
     ];
     assert_eq!(rt; seen, [Some((true, true)); 4]);
 }

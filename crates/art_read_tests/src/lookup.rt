@@ -13,7 +13,7 @@ use art_operations::lookup::{
     search_visiting,
 };
 use art_operations::path::{AttemptOptimisticPrefixMatch, PessimisticMismatch};
-use art_test_support::trees::{Key, keys_of_zeros, planted, planted_all, value_of};
+use art_test_support::trees::{Key, keys_of_zeros, planted_all, planted_keys, value_of};
 use std::alloc::Global;
 
 // The value of the leaf that a search finds.
@@ -64,37 +64,67 @@ fn prefix_searched<K: AsBytes + Drop, const P: usize>(
     (leaf.and_then(|leaf| value_of(store, leaf)), visits.count())
 }
 
-// What searches of a tree of keys of zeros find, and how many nodes each reads.
+// A search or a prefix search for a key.
+#[derive(Clone, Copy)]
+enum Search {
+    Whole(&'static [u8]),
+    Prefix(&'static [u8]),
+}
+
+// What a search finds, and how many nodes it reads.
+fn reading<const P: usize>(
+    store: &NodeStore<Key, u32, P>,
+    root: OpaqueNodePtr,
+    search: Search,
+) -> (Option<u32>, usize)
+    requires { IsCanonicalRoot (of_key (λ key. key.items)) P store.now root }
+{
+    match search {
+        Search::Whole(key_bytes) => searched(store, root, key_bytes),
+        Search::Prefix(key_bytes) => prefix_searched(store, root, key_bytes),
+    }
+}
+
+// The same of five searches.
 fn readings<const P: usize>(
     store: &NodeStore<Key, u32, P>,
     root: OpaqueNodePtr,
+    searches: &[Search; 5],
 ) -> [(Option<u32>, usize); 5]
     requires { IsCanonicalRoot (of_key (λ key. key.items)) P store.now root }
 {
-    let eleven = [0, 0, 0, 0, 0, 0, 0, 0, 0, 0, 0, 255];
     [
-        searched(store, root, &[255]),
-        searched(store, root, &eleven),
-        searched(store, root, &[0, 0, 0, 0]),
-        searched(store, root, &[]),
-        prefix_searched(store, root, &[255, 9]),
+        reading(store, root, searches[0]),
+        reading(store, root, searches[1]),
+        reading(store, root, searches[2]),
+        reading(store, root, searches[3]),
+        reading(store, root, searches[4]),
     ]
 }
 
-// Plants that tree, and reads. The second store is for the planting alone.
+// The same of the tree of keys of zeros.
 fn readings_in<const P: usize>(
     store: &mut NodeStore<Key, u32, P>,
-    second: &mut NodeStore<Key, u32, P>,
+    searches: &[Search; 5],
 ) -> Option<[(Option<u32>, usize); 5]> {
     let keys = keys_of_zeros(store.alloc()).ok()?;
-    let root = planted(store, second, keys).ok()??;
-    Some(readings(store, root))
+    let root = planted_keys(store, keys).ok()??;
+    Some(readings(store, root, searches))
 }
 
-// The same in stores of its own.
-fn readings_with(alloc: Global) -> Option<[(Option<u32>, usize); 5]> {
-    readings_in::<4>(&mut NodeStore::new(alloc), &mut NodeStore::new(alloc))
+// The same in a store of its own.
+fn readings_with(alloc: Global, searches: &[Search; 5]) -> Option<[(Option<u32>, usize); 5]> {
+    readings_in::<4>(&mut NodeStore::new(alloc), searches)
 }
+
+// Searches that end at a leaf, or for a key that is the front of others.
+static OF_FRONTS: [Search; 5] = [
+    Search::Whole(&[255]),
+    Search::Whole(&[0, 0, 0, 0, 0, 0, 0, 0, 0, 0, 0, 255]),
+    Search::Whole(&[0, 0, 0, 0]),
+    Search::Whole(&[]),
+    Search::Prefix(&[255, 9]),
+];
 
 #[test]
 fn counts_readings(rt: HostRuntime) {
@@ -105,44 +135,22 @@ fn counts_readings(rt: HostRuntime) {
         (None, 1),
         (Some(0), 2),
     ];
-    assert_eq!(rt; readings_with(rt.alloc()), Some(wanted));
+    assert_eq!(rt; readings_with(rt.alloc(), &OF_FRONTS), Some(wanted));
 }
 
-// What searches of the same tree find that end at a node without a child for the next byte, and how many nodes each reads.
-fn readings_without_child<const P: usize>(
-    store: &NodeStore<Key, u32, P>,
-    root: OpaqueNodePtr,
-) -> [(Option<u32>, usize); 5]
-    requires { IsCanonicalRoot (of_key (λ key. key.items)) P store.now root }
-{
-    [
-        searched(store, root, &[7]),
-        searched(store, root, &[0, 0, 9, 255]),
-        searched(store, root, &[0, 0, 0, 0, 0, 0, 0, 0, 0, 0, 7]),
-        prefix_searched(store, root, &[7, 255]),
-        prefix_searched(store, root, &[0, 254]),
-    ]
-}
-
-// Plants that tree, and reads so. The second store is for the planting alone.
-fn readings_without_child_in<const P: usize>(
-    store: &mut NodeStore<Key, u32, P>,
-    second: &mut NodeStore<Key, u32, P>,
-) -> Option<[(Option<u32>, usize); 5]> {
-    let keys = keys_of_zeros(store.alloc()).ok()?;
-    let root = planted(store, second, keys).ok()??;
-    Some(readings_without_child(store, root))
-}
-
-// The same in stores of its own.
-fn readings_without_child_with(alloc: Global) -> Option<[(Option<u32>, usize); 5]> {
-    readings_without_child_in::<4>(&mut NodeStore::new(alloc), &mut NodeStore::new(alloc))
-}
+// Searches that end at a node without a child for the next byte.
+static WITHOUT_CHILD: [Search; 5] = [
+    Search::Whole(&[7]),
+    Search::Whole(&[0, 0, 9, 255]),
+    Search::Whole(&[0, 0, 0, 0, 0, 0, 0, 0, 0, 0, 7]),
+    Search::Prefix(&[7, 255]),
+    Search::Prefix(&[0, 254]),
+];
 
 #[test]
 fn reads_nothing_for_a_missing_child(rt: HostRuntime) {
     let wanted = [(None, 1), (None, 3), (None, 11), (None, 1), (None, 2)];
-    assert_eq!(rt; readings_without_child_with(rt.alloc()), Some(wanted));
+    assert_eq!(rt; readings_with(rt.alloc(), &WITHOUT_CHILD), Some(wanted));
 }
 
 // What searches past bytes that no node stores find, with how many nodes each of the first two reads.
@@ -321,47 +329,62 @@ fn compares_stored_bytes_and_then_lengths(rt: HostRuntime) {
     assert_eq!(rt; (first, seen), (pessimistic, wanted));
 }
 
+// Compares the prefix of a node of one kind with a key that begins with it.
+fn compared_whole<N: InnerNode<4>>(header: Header<4>) -> Compared {
+    let node = N::from_header(header);
+    compared(&node, PrefixMatchBehavior::Pessimistic, &[7, 8, 9])
+}
+
 #[test]
 fn stays_pessimistic_where_all_is_stored(rt: HostRuntime) {
     let whole = Ok(AttemptOptimisticPrefixMatch {
         matched_bytes: 2,
         any_implicit_bytes: false,
     });
-    let pessimistic = PrefixMatchBehavior::Pessimistic;
     let header: Header<4> = Header::new(&[7, 8], 2);
-    let rest = [7, 8, 9];
     let seen = [
-        compared(&InnerNode4::from_header(header), pessimistic, &rest),
-        compared(&InnerNode16::from_header(header), pessimistic, &rest),
-        compared(&InnerNode48::from_header(header), pessimistic, &rest),
-        compared(&InnerNodeDirect::from_header(header), pessimistic, &rest),
+        compared_whole::<InnerNode4<4>>(header),
+        compared_whole::<InnerNode16<4>>(header),
+        compared_whole::<InnerNode48<4>>(header),
+        compared_whole::<InnerNodeDirect<4>>(header),
     ];
-    assert_eq!(rt; seen, [(whole, pessimistic); 4]);
+    assert_eq!(rt; seen, [(whole, PrefixMatchBehavior::Pessimistic); 4]);
 }
 
-#[test]
-fn compares_a_leaf_from_the_depth_on_or_whole(rt: HostRuntime) {
+// Whether keys are equal to [1, 2, 3] from a depth on or whole.
+fn equal_to_leaf() -> [bool; 6] {
     let pessimistic = PrefixMatchBehavior::Pessimistic;
     let optimistic = PrefixMatchBehavior::Optimistic;
     let leaf = LeafNode::with_no_siblings([1, 2, 3], ());
-    let equal = [
+    [
         pessimistic.matches_leaf_key(&leaf, &[9, 9, 3], 2),
         optimistic.matches_leaf_key(&leaf, &[9, 9, 3], 2),
         pessimistic.matches_leaf_key(&leaf, &[9, 9, 3, 4], 2),
         optimistic.matches_leaf_key(&leaf, &[1, 2, 3], 2),
         pessimistic.matches_leaf_key(&leaf, &[9, 9, 9], 4),
         pessimistic.matches_leaf_key(&leaf, &[9, 9], 4),
-    ];
-    let front = [
+    ]
+}
+
+// Whether [1, 2, 3] is the front of keys from a depth on or whole.
+fn front_is_leaf() -> [bool; 5] {
+    let pessimistic = PrefixMatchBehavior::Pessimistic;
+    let optimistic = PrefixMatchBehavior::Optimistic;
+    let leaf = LeafNode::with_no_siblings([1, 2, 3], ());
+    [
         pessimistic.leaf_key_is_prefix(&leaf, &[9, 2, 3, 4], 1),
         optimistic.leaf_key_is_prefix(&leaf, &[9, 2, 3, 4], 1),
         optimistic.leaf_key_is_prefix(&leaf, &[1, 2, 3, 4], 1),
         optimistic.leaf_key_is_prefix(&leaf, &[1, 2], 1),
         pessimistic.leaf_key_is_prefix(&leaf, &[1, 2], 9),
-    ];
+    ]
+}
+
+#[test]
+fn compares_a_leaf_from_the_depth_on_or_whole(rt: HostRuntime) {
     let wanted = (
         [true, false, false, true, true, false],
         [true, false, true, false, false],
     );
-    assert_eq!(rt; (equal, front), wanted);
+    assert_eq!(rt; (equal_to_leaf(), front_is_leaf()), wanted);
 }

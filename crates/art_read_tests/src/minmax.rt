@@ -2,11 +2,13 @@
 ghost use Rattle.art_model.specs.Pairs.{of_key};
 ghost use Rattle.art_model.specs.Roots.{IsCanonicalRoot};
 
-use art_nodes::node::{AsBytes, NodeType, OpaqueNodePtr};
+use art_nodes::node::{AsBytes, InnerRef, NodePtr, NodeType, OpaqueNodePtr};
 use art_nodes::store::NodeStore;
 use art_operations::minmax::{maximum_unchecked, minimum_unchecked};
 use art_test_support::shapes::end_of_chain;
-use art_test_support::trees::{Key, keys_of_three, keys_of_zeros, planted, planted_all, value_of};
+use art_test_support::trees::{
+    Key, keys_of_three, keys_of_zeros, planted_all, planted_keys, value_of,
+};
 use std::alloc::{AllocError, Global};
 use std::test::Fail;
 
@@ -23,57 +25,81 @@ fn ends<K: AsBytes + Drop, const P: usize>(
     )
 }
 
-// How many inner nodes a tree has of which each is a Node16 with six children. None where it has another one.
-fn count_sixes<const P: usize>(
+// Whether a node is a Node16 with six children.
+fn is_six<const P: usize>(node: InnerRef<'_, P>) -> bool {
+    node.node_type() == NodeType::Node16 && node.num_children() == 6
+}
+
+// Puts the children of a node into a list. Answers whether it is a leaf, or an inner node as above.
+fn open<const P: usize>(
     store: &NodeStore<Key, u32, P>,
-    root: OpaqueNodePtr,
+    name: OpaqueNodePtr,
+    names: &mut Vec<OpaqueNodePtr>,
+) -> Result<bool, AllocError> {
+    let NodePtr::Inner(name) = name.split() else {
+        return Ok(true);
+    };
+    let Some(node) = store.inner(name) else {
+        return Ok(false);
+    };
+    for (_, child) in node.iter() {
+        names.push(child)?;
+    }
+    Ok(is_six(node))
+}
+
+// How many inner nodes there are below these names, and none where one of them is another one.
+fn count_below<const P: usize>(
+    store: &NodeStore<Key, u32, P>,
+    names: &mut Vec<OpaqueNodePtr>,
 ) -> Result<Option<usize>, AllocError> {
-    let mut names = Vec::new(store.alloc());
-    names.push(root)?;
     let mut count = 0usize;
     for _ in 0..1_000 {
         let Some(name) = names.pop() else {
             return Ok(Some(count));
         };
-        let Some(inner) = name.as_inner() else {
-            continue;
-        };
-        let Some(node) = store.inner(inner) else {
-            return Ok(None);
-        };
-        if inner.kind != NodeType::Node16 || node.num_children() != 6 {
+        if !open(store, name, names)? {
             return Ok(None);
         }
-        for (_, child) in node.iter() {
-            names.push(child)?;
+        if name.node_type() != NodeType::Leaf {
+            count = count.saturating_add(1);
         }
-        count = count.saturating_add(1);
     }
     Ok(None)
+}
+
+// How many inner nodes a tree has of which each is a Node16 with six children. None where it has another one.
+fn count_sixes<const P: usize>(
+    store: &NodeStore<Key, u32, P>,
+    root: OpaqueNodePtr,
+) -> Result<Option<usize>, AllocError> {
+    let mut names = Vec::from_array(store.alloc(), [root])?;
+    count_below(store, &mut names)
 }
 
 // The ends of a tree, and how many such nodes it has.
 type Sixes = ((Option<u32>, Option<u32>), Option<Option<usize>>);
 
-// The same of the tree of these keys. The second store is for its planting alone.
-fn sixes_in<const P: usize>(
-    store: &mut NodeStore<Key, u32, P>,
-    second: &mut NodeStore<Key, u32, P>,
-    keys: Vec<Key>,
-) -> Option<Sixes> {
-    let root = planted(store, second, keys).ok()??;
+// The same of the tree of these keys.
+fn sixes_in<const P: usize>(store: &mut NodeStore<Key, u32, P>, keys: Vec<Key>) -> Option<Sixes> {
+    let root = planted_keys(store, keys).ok()??;
     Some((ends(store, root), count_sixes(store, root).ok()))
 }
 
-// The same in stores of its own.
+// The same in a store of its own.
 fn sixes_with(alloc: Global, keys: Vec<Key>) -> Option<Sixes> {
-    sixes_in::<16>(&mut NodeStore::new(alloc), &mut NodeStore::new(alloc), keys)
+    sixes_in::<16>(&mut NodeStore::new(alloc), keys)
+}
+
+// The same of a tree of three levels.
+fn sixes_of_three_levels(alloc: Global) -> Result<Option<Sixes>, Fail> {
+    let keys = keys_of_three(alloc, [6, 6, 6])?;
+    Ok(sixes_with(alloc, keys))
 }
 
 #[test]
 fn finds_the_ends_of_three_levels(rt: HostRuntime) -> Result<(), Fail> {
-    let alloc = rt.alloc();
-    let seen = sixes_with(alloc, keys_of_three(alloc, [6, 6, 6])?);
+    let seen = sixes_of_three_levels(rt.alloc())?;
     assert_eq!(rt; seen, Some(((Some(0), Some(215)), Some(Some(43)))));
     Ok(())
 }
@@ -101,19 +127,16 @@ fn a_leaf_is_both_ends(rt: HostRuntime) {
 // The ends of a tree, and whether it is a chain.
 type Chain = ((Option<u32>, Option<u32>), bool);
 
-// The same of the tree of keys of zeros. The second store is for its planting alone.
-fn chain_in<const P: usize>(
-    store: &mut NodeStore<Key, u32, P>,
-    second: &mut NodeStore<Key, u32, P>,
-) -> Option<Chain> {
+// The same of the tree of keys of zeros.
+fn chain_in<const P: usize>(store: &mut NodeStore<Key, u32, P>) -> Option<Chain> {
     let keys = keys_of_zeros(store.alloc()).ok()?;
-    let root = planted(store, second, keys).ok()??;
+    let root = planted_keys(store, keys).ok()??;
     Some((ends(store, root), end_of_chain(store, root).is_some()))
 }
 
-// The same in stores of its own.
+// The same in a store of its own.
 fn chain_with(alloc: Global) -> Option<Chain> {
-    chain_in::<2>(&mut NodeStore::new(alloc), &mut NodeStore::new(alloc))
+    chain_in::<2>(&mut NodeStore::new(alloc))
 }
 
 #[test]

@@ -1,14 +1,15 @@
 //! Runs of commands.
 ghost use Rattle.std.specs.Prelude.{◌<◌};
 
-use art_nodes::node::{LeafNode, LeafPtr};
+use art_nodes::node::{LeafNode, LeafPtr, OpaqueNodePtr};
 use art_nodes::store::NodeStore;
 use art_operations::insert::InsertPrefixError;
-use art_operations::run::{Command, Side, run};
+use art_operations::run::{Command, RunResult, Side, run};
 use art_test_support::commands::{
     Asked, Left, Row, Told, commands, ran, ran_from, ran_without_memory,
 };
 use art_test_support::memory::all_memory;
+use art_test_support::shapes::count_nodes;
 use art_test_support::trees::{Key, value_of};
 use std::alloc::{AllocError, Global};
 use std::boxed::BoxedSlice;
@@ -43,58 +44,64 @@ fn left_at<const P: usize>(alloc: Global, rows: &[Row<'_>]) -> Option<Left>
     left_in::<P>(&mut NodeStore::new(alloc), &mut NodeStore::new(alloc), rows)
 }
 
-// The same where four bytes of a prefix are stored.
-fn left_by(alloc: Global, rows: &[Row<'_>]) -> Option<Left> {
+/// The same where four bytes of a prefix are stored.
+pub fn left_by(alloc: Global, rows: &[Row<'_>]) -> Option<Left> {
     left_at::<4>(alloc, rows)
 }
+
+// A key, and one that it is the front of.
+static RELATED: [Row<'static>; 2] = [
+    (Asked::Insert(&[1], 10), Told::Inserted(None)),
+    (
+        Asked::Insert(&[1, 2], 12),
+        Told::Conflict(&[1, 2], 12, &[1, 2]),
+    ),
+];
 
 #[test]
 fn refuses_a_related_key(rt: HostRuntime) {
     let alloc = rt.alloc();
-    let rows: [Row<'_>; 2] = [
-        (Asked::Insert(&[1], 10), Told::Inserted(None)),
-        (
-            Asked::Insert(&[1, 2], 12),
-            Told::Conflict(&[1, 2], 12, &[1, 2]),
-        ),
-    ];
     let left = [
-        left_at::<0>(alloc, &rows),
-        left_at::<2>(alloc, &rows),
-        left_at::<4>(alloc, &rows),
-        left_at::<16>(alloc, &rows),
+        left_at::<0>(alloc, &RELATED),
+        left_at::<2>(alloc, &RELATED),
+        left_at::<4>(alloc, &RELATED),
+        left_at::<16>(alloc, &RELATED),
     ];
     assert_eq!(rt; left, [Some(A_TREE); 4]);
 }
 
+// Insertions in the place of related keys.
+static OVER_RELATED: [Row<'static>; 7] = [
+    (Asked::Insert(&[1, 2], 1), Told::Inserted(None)),
+    (Asked::Insert(&[1, 3], 2), Told::Inserted(None)),
+    (Asked::Insert(&[2], 3), Told::Inserted(None)),
+    (Asked::InsertPrefix(&[1], 9), Told::Overwrote(None, 2)),
+    (
+        Asked::InsertPrefix(&[1, 5], 4),
+        Told::Overwrote(Some((&[1], 9)), 0),
+    ),
+    (Asked::Contains(&[1]), Told::Found(false)),
+    (Asked::InsertPrefix(&[], 7), Told::Overwrote(None, 2)),
+];
+
 #[test]
 fn overwrites_related_keys(rt: HostRuntime) {
-    let rows: [Row<'_>; 7] = [
-        (Asked::Insert(&[1, 2], 1), Told::Inserted(None)),
-        (Asked::Insert(&[1, 3], 2), Told::Inserted(None)),
-        (Asked::Insert(&[2], 3), Told::Inserted(None)),
-        (Asked::InsertPrefix(&[1], 9), Told::Overwrote(None, 2)),
-        (
-            Asked::InsertPrefix(&[1, 5], 4),
-            Told::Overwrote(Some((&[1], 9)), 0),
-        ),
-        (Asked::Contains(&[1]), Told::Found(false)),
-        (Asked::InsertPrefix(&[], 7), Told::Overwrote(None, 2)),
-    ];
-    assert_eq!(rt; left_by(rt.alloc(), &rows), Some(A_TREE));
+    assert_eq!(rt; left_by(rt.alloc(), &OVER_RELATED), Some(A_TREE));
 }
+
+// Commands on one key, and on one that is not stored.
+static EACH: [Row<'static>; 6] = [
+    (Asked::Insert(&[5], 1), Told::Inserted(None)),
+    (Asked::Insert(&[5], 2), Told::Inserted(Some((&[5], 1)))),
+    (Asked::Contains(&[5]), Told::Found(true)),
+    (Asked::Contains(&[5, 0]), Told::Found(false)),
+    (Asked::Delete(&[5]), Told::Deleted(Some((&[5], 2)))),
+    (Asked::Delete(&[5]), Told::Deleted(None)),
+];
 
 #[test]
 fn answers_each_command(rt: HostRuntime) {
-    let rows: [Row<'_>; 6] = [
-        (Asked::Insert(&[5], 1), Told::Inserted(None)),
-        (Asked::Insert(&[5], 2), Told::Inserted(Some((&[5], 1)))),
-        (Asked::Contains(&[5]), Told::Found(true)),
-        (Asked::Contains(&[5, 0]), Told::Found(false)),
-        (Asked::Delete(&[5]), Told::Deleted(Some((&[5], 2)))),
-        (Asked::Delete(&[5]), Told::Deleted(None)),
-    ];
-    assert_eq!(rt; left_by(rt.alloc(), &rows), Some(NO_TREE));
+    assert_eq!(rt; left_by(rt.alloc(), &EACH), Some(NO_TREE));
 }
 
 #[test]
@@ -102,33 +109,37 @@ fn runs_no_commands(rt: HostRuntime) {
     assert_eq!(rt; left_by(rt.alloc(), &[]), Some(NO_TREE));
 }
 
+// Matches before and after the only key.
+static LONGEST: [Row<'static>; 4] = [
+    (Asked::LongestMatch(&[1, 2, 3, 4]), Told::MatchLen(None)),
+    (Asked::Insert(&[1, 2, 3], 10), Told::Inserted(None)),
+    (Asked::LongestMatch(&[1, 2, 3, 4]), Told::MatchLen(Some(3))),
+    (Asked::LongestMatch(&[1, 2]), Told::MatchLen(None)),
+];
+
 #[test]
 fn measures_the_longest_match(rt: HostRuntime) {
-    let rows: [Row<'_>; 4] = [
-        (Asked::LongestMatch(&[1, 2, 3, 4]), Told::MatchLen(None)),
-        (Asked::Insert(&[1, 2, 3], 10), Told::Inserted(None)),
-        (Asked::LongestMatch(&[1, 2, 3, 4]), Told::MatchLen(Some(3))),
-        (Asked::LongestMatch(&[1, 2]), Told::MatchLen(None)),
-    ];
-    assert_eq!(rt; left_by(rt.alloc(), &rows), Some(A_TREE));
+    assert_eq!(rt; left_by(rt.alloc(), &LONGEST), Some(A_TREE));
 }
+
+// Five keys, and deletions at either end until none is left.
+static AT_THE_ENDS: [Row<'static>; 11] = [
+    (Asked::Insert(&[1], 1), Told::Inserted(None)),
+    (Asked::Insert(&[2], 2), Told::Inserted(None)),
+    (Asked::Insert(&[3], 3), Told::Inserted(None)),
+    (Asked::Insert(&[4], 4), Told::Inserted(None)),
+    (Asked::Insert(&[5], 5), Told::Inserted(None)),
+    (Asked::DeleteMin, Told::Deleted(Some((&[1], 1)))),
+    (Asked::DeleteMax, Told::Deleted(Some((&[5], 5)))),
+    (Asked::DeleteMax, Told::Deleted(Some((&[4], 4)))),
+    (Asked::DeleteMax, Told::Deleted(Some((&[3], 3)))),
+    (Asked::DeleteMax, Told::Deleted(Some((&[2], 2)))),
+    (Asked::DeleteMax, Told::Deleted(None)),
+];
 
 #[test]
 fn deletes_at_the_ends(rt: HostRuntime) {
-    let rows: [Row<'_>; 11] = [
-        (Asked::Insert(&[1], 1), Told::Inserted(None)),
-        (Asked::Insert(&[2], 2), Told::Inserted(None)),
-        (Asked::Insert(&[3], 3), Told::Inserted(None)),
-        (Asked::Insert(&[4], 4), Told::Inserted(None)),
-        (Asked::Insert(&[5], 5), Told::Inserted(None)),
-        (Asked::DeleteMin, Told::Deleted(Some((&[1], 1)))),
-        (Asked::DeleteMax, Told::Deleted(Some((&[5], 5)))),
-        (Asked::DeleteMax, Told::Deleted(Some((&[4], 4)))),
-        (Asked::DeleteMax, Told::Deleted(Some((&[3], 3)))),
-        (Asked::DeleteMax, Told::Deleted(Some((&[2], 2)))),
-        (Asked::DeleteMax, Told::Deleted(None)),
-    ];
-    assert_eq!(rt; left_by(rt.alloc(), &rows), Some(NO_TREE));
+    assert_eq!(rt; left_by(rt.alloc(), &AT_THE_ENDS), Some(NO_TREE));
 }
 
 // Whether an error has this text.
@@ -170,19 +181,28 @@ fn value_in(command: Option<&Command<Key, u32>>) -> Option<u32> {
     }
 }
 
-// How many commands a run without memory hands back, and the value that the first is to insert.
+// How many commands a refused run handed back, and the value that the first is to insert. None
+// where it was not refused.
+fn back_in(
+    ran: &Result<RunResult<Key, u32>, (Vec<Command<Key, u32>>, AllocError)>,
+) -> Option<(usize, Option<u32>)> {
+    match ran {
+        Ok(_) => None,
+        Err((asked, AllocError)) => Some((asked.len(), value_in(asked.first()))),
+    }
+}
+
+// The same of a run of these commands without memory.
 fn handed_back<const P: usize>(
     first: &mut NodeStore<Key, u32, P>,
     second: &mut NodeStore<Key, u32, P>,
-    asked: Vec<Command<Key, u32>>,
+    rows: &[Row<'_>],
 ) -> Result<Option<(usize, Option<u32>)>, AllocError> {
+    let asked = commands(first.alloc(), rows)?;
     let held = all_memory(first.alloc())?;
-    let refused = run(first, second, None, asked);
+    let ran = run(first, second, None, asked);
     drop(held);
-    match refused {
-        Ok(_) => Ok(None),
-        Err((asked, AllocError)) => Ok(Some((asked.len(), value_in(asked.first())))),
-    }
+    Ok(back_in(&ran))
 }
 
 // Places a leaf.
@@ -204,8 +224,7 @@ fn handed_back_beside<const P: usize>(
     rows: &[Row<'_>],
 ) -> Option<Back> {
     let leaf = place(first, &[9], 90).ok()?;
-    let asked = commands(first.alloc(), rows).ok()?;
-    let back = handed_back(first, second, asked).ok()?;
+    let back = handed_back(first, second, rows).ok()?;
     Some((back, value_of(first, leaf)))
 }
 
@@ -214,34 +233,28 @@ fn handed_back_with(alloc: Global, rows: &[Row<'_>]) -> Option<Back> {
     handed_back_beside::<4>(&mut NodeStore::new(alloc), &mut NodeStore::new(alloc), rows)
 }
 
+// Commands that come back.
+static BACK: [Row<'static>; 2] = [
+    (Asked::Insert(&[1], 10), Told::Inserted(None)),
+    (Asked::Delete(&[1]), Told::Deleted(Some((&[1], 10)))),
+];
+
 #[test]
 fn without_memory_a_run_hands_the_commands_back(rt: HostRuntime) {
-    let rows: [Row<'_>; 2] = [
-        (Asked::Insert(&[1], 10), Told::Inserted(None)),
-        (Asked::Delete(&[1]), Told::Deleted(Some((&[1], 10)))),
-    ];
-    let back = handed_back_with(rt.alloc(), &rows);
+    let back = handed_back_with(rt.alloc(), &BACK);
     assert_eq!(rt; back, Some((Some((2, Some(10))), Some(90))));
 }
 
-// What a run without memory leaves.
-fn left_without_memory<const P: usize>(
-    first: &mut NodeStore<Key, u32, P>,
-    second: &mut NodeStore<Key, u32, P>,
-    rows: &[Row<'_>],
-) -> Option<Left> {
-    ran_without_memory(first, second, None, rows).ok()
-}
+/// What the first and the later ones of some commands leave, the value of the leaf that is the root
+/// between them, once all were asked, and how many nodes each store has then.
+pub type InTurn = ([Left; 2], Option<u32>, [(usize, usize); 2]);
 
-// The same in stores of its own.
-fn left_without_memory_by(alloc: Global, rows: &[Row<'_>]) -> Option<Left> {
-    left_without_memory::<4>(&mut NodeStore::new(alloc), &mut NodeStore::new(alloc), rows)
-}
-
-#[test]
-fn without_memory_an_insertion_leaves_the_pairs(rt: HostRuntime) {
-    let rows: [Row<'_>; 1] = [(Asked::Insert(&[1], 10), Told::NoMemory(Some((&[1], 10))))];
-    assert_eq!(rt; left_without_memory_by(rt.alloc(), &rows), Some(NO_TREE));
+// The value of a root that is a leaf.
+fn value_at<const P: usize>(
+    store: &NodeStore<Key, u32, P>,
+    root: Option<OpaqueNodePtr>,
+) -> Option<u32> {
+    value_of(store, root?.as_leaf()?)
 }
 
 // Asks commands, and then others without memory.
@@ -250,19 +263,20 @@ fn ran_in_turn<const P: usize>(
     second: &mut NodeStore<Key, u32, P>,
     rows: &[Row<'_>],
     later: &[Row<'_>],
-) -> Option<(Left, Left)> {
+) -> Option<InTurn> {
     let (before, root) = ran_from(first, second, None, rows).ok()?;
     match before.side {
         Side::First => {
             let after = ran_without_memory(first, second, root, later).ok()?;
-            Some((before, after))
+            let counts = [count_nodes(first, 4), count_nodes(second, 4)];
+            Some(([before, after], value_at(first, root), counts))
         }
         Side::Second => None,
     }
 }
 
-// The same in stores of its own.
-fn ran_in_turn_with(alloc: Global, rows: &[Row<'_>], later: &[Row<'_>]) -> Option<(Left, Left)> {
+/// The same in stores of its own.
+pub fn ran_in_turn_with(alloc: Global, rows: &[Row<'_>], later: &[Row<'_>]) -> Option<InTurn> {
     ran_in_turn::<4>(
         &mut NodeStore::new(alloc),
         &mut NodeStore::new(alloc),
@@ -271,18 +285,31 @@ fn ran_in_turn_with(alloc: Global, rows: &[Row<'_>], later: &[Row<'_>]) -> Optio
     )
 }
 
+// An insertion that there is no memory for.
+static UNSTORED: [Row<'static>; 1] = [(Asked::Insert(&[1], 10), Told::NoMemory(Some((&[1], 10))))];
+
+#[test]
+fn without_memory_an_insertion_leaves_the_pairs(rt: HostRuntime) {
+    let ran = ran_in_turn_with(rt.alloc(), &[], &UNSTORED);
+    assert_eq!(rt; ran, Some(([NO_TREE; 2], None, [(0, 0); 2])));
+}
+
+// The key that is stored.
+static STORED: [Row<'static>; 1] = [(Asked::Insert(&[1], 10), Told::Inserted(None))];
+
+// What is told without memory where it is.
+static AFTER_STORED: [Row<'static>; 4] = [
+    (
+        Asked::Insert(&[1, 2], 12),
+        Told::NoMemory(Some((&[1, 2], 12))),
+    ),
+    (Asked::Insert(&[1], 11), Told::Inserted(Some((&[1], 10)))),
+    (Asked::Contains(&[1]), Told::Found(true)),
+    (Asked::Delete(&[1]), Told::Deleted(Some((&[1], 11)))),
+];
+
 #[test]
 fn without_memory_a_conflict_leaves_the_pairs(rt: HostRuntime) {
-    let stored: [Row<'_>; 1] = [(Asked::Insert(&[1], 10), Told::Inserted(None))];
-    let rows: [Row<'_>; 4] = [
-        (
-            Asked::Insert(&[1, 2], 12),
-            Told::NoMemory(Some((&[1, 2], 12))),
-        ),
-        (Asked::Insert(&[1], 11), Told::Inserted(Some((&[1], 10)))),
-        (Asked::Contains(&[1]), Told::Found(true)),
-        (Asked::Delete(&[1]), Told::Deleted(Some((&[1], 11)))),
-    ];
-    let ran = ran_in_turn_with(rt.alloc(), &stored, &rows);
-    assert_eq!(rt; ran, Some((A_TREE, NO_TREE)));
+    let ran = ran_in_turn_with(rt.alloc(), &STORED, &AFTER_STORED);
+    assert_eq!(rt; ran, Some(([A_TREE, NO_TREE], None, [(0, 0); 2])));
 }

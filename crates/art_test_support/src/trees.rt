@@ -105,8 +105,18 @@ pub fn plant_keys<const P: usize>(
 ) -> Result<OpaqueNodePtr, Fail>
     ensures { IfOk result (λ root. IsCanonicalRoot (of_key (λ key. key.items)) P store.new root) }
 {
+    Ok(planted_keys(store, all)?.ok_or("no key")?)
+}
+
+/// The same as `planted`, with a second store of its own.
+pub fn planted_keys<const P: usize>(
+    store: &mut NodeStore<Key, u32, P>,
+    all: Vec<Key>,
+) -> Result<Option<OpaqueNodePtr>, AllocError>
+    ensures { IfOk result (λ root. IfSome root (λ root. IsCanonicalRoot (of_key (λ key. key.items)) P store.new root)) }
+{
     let alloc = store.alloc();
-    plant(store, &mut NodeStore::new(alloc), all)
+    planted(store, &mut NodeStore::new(alloc), all)
 }
 
 /// Plants a tree of copies of these keys, with a second store of its own.
@@ -126,9 +136,8 @@ pub fn planted_all<const P: usize>(
 ) -> Result<Option<OpaqueNodePtr>, AllocError>
     ensures { IfOk result (λ root. IfSome root (λ root. IsCanonicalRoot (of_key (λ key. key.items)) P store.new root)) }
 {
-    let alloc = store.alloc();
-    let all = keys(alloc, slices)?;
-    planted(store, &mut NodeStore::new(alloc), all)
+    let all = keys(store.alloc(), slices)?;
+    planted_keys(store, all)
 }
 
 /// All keys of three bytes, each byte less than its limit.
