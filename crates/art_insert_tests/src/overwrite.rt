@@ -2,7 +2,7 @@
 ghost use Rattle.art_model.specs.Pairs.{of_key};
 ghost use Rattle.art_model.specs.Roots.{IsCanonicalRoot};
 
-use crate::effect::{assert_handed_back, planted_keys};
+use crate::effect::assert_handed_back;
 use art_nodes::node::{OpaqueNodePtr, OptionalLeafPtr};
 use art_nodes::store::NodeStore;
 use art_operations::insert::{
@@ -16,7 +16,7 @@ use art_test_support::nodes::{Seen, count_nodes, nodes_seen};
 use art_test_support::points::{
     Gone, Insertion, Refusal, insertion_seen, prefix_insert, refused_prefix_insertion,
 };
-use art_test_support::trees::{Key, child, keys_of_three, planted_all, value_of};
+use art_test_support::trees::{Key, child, keys_of_three, planted_all, planted_keys, value_of};
 use std::alloc::Global;
 use std::test::Fail;
 
