@@ -1,4 +1,5 @@
 //! Deletions from a parent with two children.
+ghost use Rattle.std.specs.Prelude.{◌<◌};
 ghost use Rattle.art_model.specs.Pairs.{of_key};
 ghost use Rattle.art_model.specs.Roots.{IsCanonicalRoot};
 
@@ -6,8 +7,8 @@ use crate::points::{Deletion, delete, gone_with};
 use art_nodes::node::{InnerPtr, LeafPtr, NodePtr, NodeType, OpaqueNodePtr};
 use art_nodes::store::NodeStore;
 use art_test_support::memory::all_memory;
-use art_test_support::nodes::{count_nodes, count_touched, plant_seen};
-use art_test_support::trees::{Key, child, plant_all};
+use art_test_support::nodes::{Seen, count_nodes, count_touched, nodes_seen};
+use art_test_support::trees::{Key, child, planted_all};
 use std::alloc::Global;
 use std::test::Fail;
 
@@ -22,23 +23,39 @@ struct Deleted {
     nodes: (usize, usize),
 }
 
+// Deletes a key where the store had these nodes.
+fn deleted_since<const P: usize>(
+    store: &mut NodeStore<Key, u32, P>,
+    root: OpaqueNodePtr,
+    before: &[Seen],
+    byte: u8,
+    key: &[u8],
+) -> Option<Deleted>
+    requires { IsCanonicalRoot (of_key (λ key. key.items)) P store.old root }
+{
+    let other = child(store, root, byte);
+    let done = delete(store, root, key)?;
+    Some(Deleted {
+        root,
+        other,
+        done,
+        touched: count_touched(store, before),
+        nodes: count_nodes(store),
+    })
+}
+
 // Plants a tree of some keys, and deletes one of them.
 fn deleted_from<const P: usize>(
     store: &mut NodeStore<Key, u32, P>,
     slices: &[&[u8]],
     byte: u8,
     key: &[u8],
-) -> Result<Deleted, Fail> {
-    let (root, before) = plant_seen(store, slices)?;
-    let other = child(store, root, byte);
-    let done = delete(store, root, key).ok_or("a deletion")?;
-    Ok(Deleted {
-        root,
-        other,
-        done,
-        touched: count_touched(store, &before),
-        nodes: count_nodes(store),
-    })
+) -> Option<Deleted> {
+    let root = planted_all(store, slices).ok()??;
+    match nodes_seen(store) {
+        Ok(before) => deleted_since(store, root, &before, byte, key),
+        Err(_) => None,
+    }
 }
 
 // An inner node, and whether it stores some bytes of its prefix.
@@ -85,7 +102,7 @@ struct Raised {
 }
 
 // Deletes [1, 2, 9] beside [1, 2, 3, 4]. Answers what is seen, and what is to be.
-fn delete_beside<const P: usize>(store: &mut NodeStore<Key, u32, P>) -> Result<[Raised; 2], Fail> {
+fn delete_beside<const P: usize>(store: &mut NodeStore<Key, u32, P>) -> Option<[Raised; 2]> {
     let slices: [&[u8]; 2] = [&[1, 2, 3, 4], &[1, 2, 9]];
     let seen = deleted_from(store, &slices, 3, &[1, 2, 9])?;
     let parent = seen.root.as_inner();
@@ -102,13 +119,17 @@ fn delete_beside<const P: usize>(store: &mut NodeStore<Key, u32, P>) -> Result<[
         had_other: true,
         has_parent: Some(false),
     };
-    Ok([raised, expected])
+    Some([raised, expected])
+}
+
+// The same in a store of its own.
+fn delete_beside_with(alloc: Global) -> Option<[Raised; 2]> {
+    delete_beside::<16>(&mut NodeStore::new(alloc))
 }
 
 #[test]
 fn raises_the_other_leaf(rt: HostRuntime) -> Result<(), Fail> {
-    let mut store: NodeStore<Key, u32, 16> = NodeStore::new(rt.alloc());
-    let [seen, expected] = delete_beside(&mut store)?;
+    let [seen, expected] = delete_beside_with(rt.alloc()).ok_or("a deletion")?;
     assert_eq!(rt; seen, expected);
     Ok(())
 }
@@ -121,26 +142,27 @@ struct Merged {
 }
 
 // Deletes [7, 1, 1, 9] beside two keys with a longer prefix.
-fn merge_long<const P: usize>(store: &mut NodeStore<Key, u32, P>) -> Result<Merged, Fail> {
+fn merge_long<const P: usize>(store: &mut NodeStore<Key, u32, P>) -> Option<Merged> {
     let slices: [&[u8]; 3] = [&[7, 1, 1, 1, 1, 5], &[7, 1, 1, 1, 1, 6], &[7, 1, 1, 9]];
     let seen = deleted_from(store, &slices, 1, &[7, 1, 1, 9])?;
-    let root = outline_of(store, seen.done.new_root, &[7, 1]).ok_or("an inner root")?;
-    Ok(Merged {
+    Some(Merged {
         touched: seen.touched,
-        root,
+        root: outline_of(store, seen.done.new_root, &[7, 1])?,
     })
 }
 
+// The same in a store of its own.
+fn merge_long_with(alloc: Global) -> Option<Merged> {
+    merge_long::<2>(&mut NodeStore::new(alloc))
+}
+
 #[test]
-fn merges_a_prefix_that_is_not_stored_whole(rt: HostRuntime) -> Result<(), Fail> {
-    let mut store: NodeStore<Key, u32, 2> = NodeStore::new(rt.alloc());
+fn merges_a_prefix_that_is_not_stored_whole(rt: HostRuntime) {
     let expected = Merged {
         touched: (0, 2, 2),
         root: pair_below(5),
     };
-    let merged = merge_long(&mut store)?;
-    assert_eq!(rt; merged, expected);
-    Ok(())
+    assert_eq!(rt; merge_long_with(rt.alloc()), Some(expected));
 }
 
 // Whether two leaves have the same pair.
@@ -178,15 +200,12 @@ fn are_same_inners<const P: usize>(
     Some(are_same)
 }
 
-// Whether two trees of at most 100 nodes are the same but for the names of their nodes.
-fn are_alike<const P: usize>(
+// Whether the nodes of these pairs of names, and those below, are the same but for their names, if they are at most 100.
+fn are_alike_below<const P: usize>(
     store: &NodeStore<Key, u32, P>,
-    root: OpaqueNodePtr,
     other: &NodeStore<Key, u32, P>,
-    other_root: OpaqueNodePtr,
+    pairs: &mut Vec<(OpaqueNodePtr, OpaqueNodePtr)>,
 ) -> Option<bool> {
-    let mut pairs = Vec::new(store.alloc());
-    pairs.push((root, other_root)).ok()?;
     for _ in 0..100 {
         let Some((name, other_name)) = pairs.pop() else {
             return Some(true);
@@ -196,7 +215,7 @@ fn are_alike<const P: usize>(
                 are_same_leaves(store, leaf, other, other_leaf)?
             }
             (NodePtr::Inner(inner), NodePtr::Inner(other_inner)) => {
-                are_same_inners(store, inner, other, other_inner, &mut pairs)?
+                are_same_inners(store, inner, other, other_inner, pairs)?
             }
             _ => false,
         };
@@ -207,71 +226,84 @@ fn are_alike<const P: usize>(
     Some(false)
 }
 
+// The same of two trees.
+fn are_alike<const P: usize>(
+    store: &NodeStore<Key, u32, P>,
+    root: OpaqueNodePtr,
+    other: &NodeStore<Key, u32, P>,
+    other_root: OpaqueNodePtr,
+) -> Option<bool> {
+    let mut pairs = Vec::with_capacity(store.alloc(), 1).ok()?;
+    pairs.push_reserved((root, other_root));
+    are_alike_below(store, other, &mut pairs)
+}
+
 // How many slots a deletion of an inserted key places, frees and changes, and whether the tree is the one of the other
 // keys, with the root that it had.
 fn undone<const P: usize>(
     store: &mut NodeStore<Key, u32, P>,
     other: &mut NodeStore<Key, u32, P>,
-) -> Result<((usize, usize, usize), bool), Fail> {
+) -> Option<((usize, usize, usize), bool)> {
     let slices: [&[u8]; 5] = [&[0], &[1, 1, 1, 5], &[1, 1, 1, 6], &[2], &[1, 1, 9]];
     let seen = deleted_from(store, &slices, 1, &[1, 1, 9])?;
-    let other_root = plant_all(other, &slices[..4])?;
-    let same = are_alike(store, seen.root, other, other_root).ok_or("all nodes")?;
-    Ok((seen.touched, same && seen.done.new_root == Some(seen.root)))
+    let other_root = planted_all(other, &slices[..4]).ok()??;
+    let same = are_alike(store, seen.root, other, other_root)?;
+    Some((seen.touched, same && seen.done.new_root == Some(seen.root)))
 }
 
-// The same where none of a prefix is stored.
-fn undone_at_0(alloc: Global) -> Result<((usize, usize, usize), bool), Fail> {
-    undone::<0>(&mut NodeStore::new(alloc), &mut NodeStore::new(alloc))
+// The same in stores of its own.
+fn undone_with<const P: usize>(alloc: Global) -> Option<((usize, usize, usize), bool)>
+    requires { P < 256 }
+{
+    undone::<P>(&mut NodeStore::new(alloc), &mut NodeStore::new(alloc))
 }
 
-// The same where four bytes are.
-fn undone_at_4(alloc: Global) -> Result<((usize, usize, usize), bool), Fail> {
-    undone::<4>(&mut NodeStore::new(alloc), &mut NodeStore::new(alloc))
-}
-
-// The same where sixteen are.
-fn undone_at_16(alloc: Global) -> Result<((usize, usize, usize), bool), Fail> {
-    undone::<16>(&mut NodeStore::new(alloc), &mut NodeStore::new(alloc))
+// The same where none of a prefix is stored, where four bytes are, and where sixteen are.
+fn undone_at_each(alloc: Global) -> [Option<((usize, usize, usize), bool)>; 3] {
+    [
+        undone_with::<0>(alloc),
+        undone_with::<4>(alloc),
+        undone_with::<16>(alloc),
+    ]
 }
 
 #[test]
-fn undoes_an_insertion(rt: HostRuntime) -> Result<(), Fail> {
-    let alloc = rt.alloc();
-    let at_each_length = [
-        undone_at_0(alloc)?,
-        undone_at_4(alloc)?,
-        undone_at_16(alloc)?,
-    ];
-    assert_eq!(rt; at_each_length, [((0, 2, 4), true); 3]);
-    Ok(())
+fn undoes_an_insertion(rt: HostRuntime) {
+    let wanted = ((0, 2, 4), true);
+    assert_eq!(rt; undone_at_each(rt.alloc()), [Some(wanted); 3]);
 }
 
 // The root that is left without [1, 9], where [1, 1] is to be its prefix, while all memory is held.
 fn outline_without_memory<const P: usize>(
     store: &mut NodeStore<Key, u32, P>,
     root: OpaqueNodePtr,
-) -> Result<Outline, Fail>
+) -> Option<Outline>
     requires { IsCanonicalRoot (of_key (λ key. key.items)) P store.old root }
 {
-    let held = all_memory(store.alloc())?;
+    let held = all_memory(store.alloc()).ok()?;
     let done = delete(store, root, &[1, 9]);
     drop(held);
-    let left = done.and_then(|done| done.new_root);
-    Ok(outline_of(store, left, &[1, 1]).ok_or("an inner root")?)
+    outline_of(store, done?.new_root, &[1, 1])
+}
+
+// The same in the tree of three keys.
+fn compress_without_memory<const P: usize>(store: &mut NodeStore<Key, u32, P>) -> Option<Outline> {
+    let root = planted_all(store, &[&[1, 1, 5], &[1, 1, 6], &[1, 9]]).ok()??;
+    outline_without_memory(store, root)
+}
+
+// The same in a store of its own.
+fn compress_with_none(alloc: Global) -> Option<Outline> {
+    compress_without_memory::<4>(&mut NodeStore::new(alloc))
 }
 
 #[test]
-fn without_memory_a_parent_is_compressed(rt: HostRuntime) -> Result<(), Fail> {
-    let mut store: NodeStore<Key, u32, 4> = NodeStore::new(rt.alloc());
-    let root = plant_all(&mut store, &[&[1, 1, 5], &[1, 1, 6], &[1, 9]])?;
-    let left = outline_without_memory(&mut store, root)?;
-    assert_eq!(rt; left, pair_below(2));
-    Ok(())
+fn without_memory_a_parent_is_compressed(rt: HostRuntime) {
+    assert_eq!(rt; compress_with_none(rt.alloc()), Some(pair_below(2)));
 }
 
 // Deletes the only key.
-fn delete_last<const P: usize>(store: &mut NodeStore<Key, u32, P>) -> Result<[Deleted; 2], Fail> {
+fn delete_last<const P: usize>(store: &mut NodeStore<Key, u32, P>) -> Option<[Deleted; 2]> {
     let seen = deleted_from(store, &[&[1, 2, 3]], 1, &[1, 2, 3])?;
     let expected = Deleted {
         done: Deletion {
@@ -281,13 +313,17 @@ fn delete_last<const P: usize>(store: &mut NodeStore<Key, u32, P>) -> Result<[De
         nodes: (0, 0),
         ..seen
     };
-    Ok([seen, expected])
+    Some([seen, expected])
+}
+
+// The same in a store of its own.
+fn delete_last_with(alloc: Global) -> Option<[Deleted; 2]> {
+    delete_last::<16>(&mut NodeStore::new(alloc))
 }
 
 #[test]
 fn leaves_nothing_of_one_leaf(rt: HostRuntime) -> Result<(), Fail> {
-    let mut store: NodeStore<Key, u32, 16> = NodeStore::new(rt.alloc());
-    let [seen, expected] = delete_last(&mut store)?;
+    let [seen, expected] = delete_last_with(rt.alloc()).ok_or("a deletion")?;
     assert_eq!(rt; seen, expected);
     Ok(())
 }

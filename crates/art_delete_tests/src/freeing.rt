@@ -6,7 +6,7 @@ use art_nodes::node::{LeafPtr, OpaqueNodePtr};
 use art_nodes::store::NodeStore;
 use art_operations::deallocate::{deallocate_tree, deallocate_tree_non_leaves};
 use art_test_support::nodes::{count_nodes, count_touched, nodes_seen};
-use art_test_support::trees::{Key, child, keys_of_three, plant_all, plant_keys, value_of};
+use art_test_support::trees::{Key, child, keys_of_three, planted_all, planted_keys, value_of};
 use std::alloc::Global;
 use std::test::Fail;
 
@@ -22,15 +22,12 @@ struct Left {
 }
 
 // Frees a tree.
-fn free_all<const P: usize>(
-    store: &mut NodeStore<Key, u32, P>,
-    root: OpaqueNodePtr,
-) -> Result<Left, Fail>
+fn free_all<const P: usize>(store: &mut NodeStore<Key, u32, P>, root: OpaqueNodePtr) -> Option<Left>
     requires { IsCanonicalRoot (of_key (λ key. key.items)) P store.old root }
 {
-    let before = nodes_seen(store)?;
+    let before = nodes_seen(store).ok()?;
     let count = deallocate_tree(root, store);
-    Ok(Left {
+    Some(Left {
         count,
         nodes: count_nodes(store),
         touched: count_touched(store, &before),
@@ -41,12 +38,12 @@ fn free_all<const P: usize>(
 fn free_inner_nodes<const P: usize>(
     store: &mut NodeStore<Key, u32, P>,
     root: OpaqueNodePtr,
-) -> Result<Left, Fail>
+) -> Option<Left>
     requires { IsCanonicalRoot (of_key (λ key. key.items)) P store.old root }
 {
-    let before = nodes_seen(store)?;
+    let before = nodes_seen(store).ok()?;
     deallocate_tree_non_leaves(root, store);
-    Ok(Left {
+    Some(Left {
         count: 0,
         nodes: count_nodes(store),
         touched: count_touched(store, &before),
@@ -54,18 +51,14 @@ fn free_inner_nodes<const P: usize>(
 }
 
 // Plants a tree of these keys, and frees it.
-fn freed<const P: usize>(
-    store: &mut NodeStore<Key, u32, P>,
-    slices: &[&[u8]],
-) -> Result<Left, Fail> {
-    let root = plant_all(store, slices)?;
+fn freed<const P: usize>(store: &mut NodeStore<Key, u32, P>, slices: &[&[u8]]) -> Option<Left> {
+    let root = planted_all(store, slices).ok()??;
     free_all(store, root)
 }
 
-// Frees the tree of these keys.
-fn freed_of(alloc: Global, slices: &[&[u8]]) -> Result<Left, Fail> {
-    let mut store: NodeStore<Key, u32, 4> = NodeStore::new(alloc);
-    freed(&mut store, slices)
+// The same in a store of its own.
+fn freed_of(alloc: Global, slices: &[&[u8]]) -> Option<Left> {
+    freed::<4>(&mut NodeStore::new(alloc), slices)
 }
 
 // What is left of a tree of so many leaves and inner nodes.
@@ -77,32 +70,39 @@ fn nothing_of(leaves: usize, inners: usize) -> Left {
     }
 }
 
-const FOUR: [&[u8]; 4] = [&[1, 2, 3], &[1, 2, 4], &[1, 5], &[6]];
+static FOUR: [&[u8]; 4] = [&[1, 2, 3], &[1, 2, 4], &[1, 5], &[6]];
 
 #[test]
-fn a_freed_tree_leaves_nothing(rt: HostRuntime) -> Result<(), Fail> {
+fn a_freed_tree_leaves_nothing(rt: HostRuntime) {
     let cases: [(&[&[u8]], usize, usize); 3] = [
         (&[&[1, 2, 3]], 1, 0),
         (&FOUR, 4, 3),
         (&[&[0], &[1], &[2], &[3], &[4], &[5]], 6, 1),
     ];
     for (slices, leaves, inners) in cases {
-        assert_eq!(rt; freed_of(rt.alloc(), slices)?, nothing_of(leaves, inners));
+        let left = freed_of(rt.alloc(), slices);
+        assert_eq!(rt; left, Some(nothing_of(leaves, inners)));
     }
-    Ok(())
 }
 
-// Frees the tree of 24 keys.
-fn freed_of_many<const P: usize>(store: &mut NodeStore<Key, u32, P>) -> Result<Left, Fail> {
-    let all = keys_of_three(store.alloc(), [4, 3, 2])?;
-    let root = plant_keys(store, all)?;
+// Frees the tree of these keys.
+fn freed_of_many<const P: usize>(
+    store: &mut NodeStore<Key, u32, P>,
+    all: Vec<Key>,
+) -> Option<Left> {
+    let root = planted_keys(store, all)?;
     free_all(store, root)
+}
+
+// The same in a store of its own.
+fn freed_with(alloc: Global, all: Vec<Key>) -> Option<Left> {
+    freed_of_many::<16>(&mut NodeStore::new(alloc), all)
 }
 
 #[test]
 fn a_tree_of_many_nodes_is_freed(rt: HostRuntime) -> Result<(), Fail> {
-    let mut store: NodeStore<Key, u32, 16> = NodeStore::new(rt.alloc());
-    assert_eq!(rt; freed_of_many(&mut store)?, nothing_of(24, 17));
+    let all = keys_of_three(rt.alloc(), [4, 3, 2])?;
+    assert_eq!(rt; freed_with(rt.alloc(), all), Some(nothing_of(24, 17)));
     Ok(())
 }
 
@@ -124,35 +124,46 @@ fn leaves_of<const P: usize>(
 // What comes of the tree of four keys whose inner nodes are freed, and the values of the leaves then.
 fn leaves_left<const P: usize>(
     store: &mut NodeStore<Key, u32, P>,
-) -> Result<(Left, [Option<u32>; 4]), Fail> {
-    let root = plant_all(store, &FOUR)?;
-    let names = leaves_of(store, root).ok_or("four leaves")?;
+) -> Option<(Left, [Option<u32>; 4])> {
+    let root = planted_all(store, &FOUR).ok()??;
+    let names = leaves_of(store, root)?;
     let left = free_inner_nodes(store, root)?;
-    Ok((left, names.map(|leaf| value_of(store, leaf))))
+    Some((left, names.map(|leaf| value_of(store, leaf))))
+}
+
+// The same in a store of its own.
+fn leaves_left_with(alloc: Global) -> Option<(Left, [Option<u32>; 4])> {
+    leaves_left::<4>(&mut NodeStore::new(alloc))
 }
 
 #[test]
-fn leaves_stay_where_inner_nodes_are_freed(rt: HostRuntime) -> Result<(), Fail> {
-    let mut store: NodeStore<Key, u32, 4> = NodeStore::new(rt.alloc());
+fn leaves_stay_where_inner_nodes_are_freed(rt: HostRuntime) {
     let expected = Left {
         count: 0,
         nodes: (4, 0),
         touched: (0, 3, 0),
     };
-    let left = leaves_left(&mut store)?;
-    assert_eq!(rt; left, (expected, [Some(0), Some(1), Some(2), Some(3)]));
-    Ok(())
+    let values = [Some(0), Some(1), Some(2), Some(3)];
+    assert_eq!(rt; leaves_left_with(rt.alloc()), Some((expected, values)));
+}
+
+// Frees the inner nodes of the tree of one key.
+fn one_left<const P: usize>(store: &mut NodeStore<Key, u32, P>) -> Option<Left> {
+    let root = planted_all(store, &[&[1, 2, 3]]).ok()??;
+    free_inner_nodes(store, root)
+}
+
+// The same in a store of its own.
+fn one_left_with(alloc: Global) -> Option<Left> {
+    one_left::<4>(&mut NodeStore::new(alloc))
 }
 
 #[test]
-fn a_leaf_has_no_inner_nodes_to_free(rt: HostRuntime) -> Result<(), Fail> {
-    let mut store: NodeStore<Key, u32, 4> = NodeStore::new(rt.alloc());
-    let root = plant_all(&mut store, &[&[1, 2, 3]])?;
+fn a_leaf_has_no_inner_nodes_to_free(rt: HostRuntime) {
     let expected = Left {
         count: 0,
         nodes: (1, 0),
         touched: (0, 0, 0),
     };
-    assert_eq!(rt; free_inner_nodes(&mut store, root)?, expected);
-    Ok(())
+    assert_eq!(rt; one_left_with(rt.alloc()), Some(expected));
 }

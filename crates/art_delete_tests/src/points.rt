@@ -1,5 +1,5 @@
 //! Deletions of the tests.
-ghost use Rattle.std.specs.Prelude.{IfOk, IfSome};
+ghost use Rattle.std.specs.Prelude.{IfSome};
 ghost use Rattle.art_model.specs.Pairs.{of_key};
 ghost use Rattle.art_model.specs.Roots.{IsCanonicalRoot};
 ghost use Rattle.art_operations.specs.Deleted.{IsDeletePointIn};
@@ -10,7 +10,6 @@ use art_operations::delete::{DeletePoint, search_for_delete_point};
 use art_test_support::nodes::{Seen, count_touched};
 use art_test_support::points::{Gone, gone_pair};
 use art_test_support::trees::Key;
-use std::test::Fail;
 
 /// The point of a key, if there is one.
 pub fn point_of<K: AsBytes + Drop, const P: usize>(
@@ -24,19 +23,18 @@ pub fn point_of<K: AsBytes + Drop, const P: usize>(
     search_for_delete_point(store, root, key_bytes)
 }
 
-/// Takes a key out, and answers the root that is left.
+/// Takes a key out, and answers the root that is left. The outer `None` is for an absent key or a refusal.
 pub fn take_out<K: AsBytes + Drop, const P: usize>(
     store: &mut NodeStore<K, u32, P>,
     root: OpaqueNodePtr,
     key_bytes: &[u8],
-) -> Result<Option<OpaqueNodePtr>, Fail>
+) -> Option<Option<OpaqueNodePtr>>
     requires { IsCanonicalRoot (of_key K.bytes) P store.old root }
-    ensures { IfOk result (λ left. IfSome left (λ root. IsCanonicalRoot (of_key K.bytes) P store.new root)) }
+    ensures { IfSome result (λ left. IfSome left (λ root. IsCanonicalRoot (of_key K.bytes) P store.new root)) }
 {
-    let point = point_of(store, root, key_bytes).ok_or("no such key")?;
-    match point.apply(store, root) {
-        Ok(done) => Ok(done.new_root),
-        Err(_) => Err("refused".into()),
+    match point_of(store, root, key_bytes)?.apply(store, root) {
+        Ok(done) => Some(done.new_root),
+        Err(_) => None,
     }
 }
 

@@ -11,8 +11,9 @@ use art_operations::delete::{
 use art_operations::lookup::Visits;
 use art_operations::path::TreePath;
 use art_test_support::trees::{
-    Key, child, keys_of_three, keys_of_zeros, plant_all, plant_keys, value_of,
+    Key, child, keys_of_three, keys_of_zeros, planted_all, planted_keys, value_of,
 };
+use std::alloc::Global;
 use std::test::Fail;
 
 // The point of a key, and how many nodes the search reads.
@@ -59,14 +60,26 @@ fn point_at_root(root: OpaqueNodePtr) -> Option<DeletePoint> {
     })
 }
 
+// The points of the only leaf, as they are found, and as they are to be.
+fn points_of_one<const P: usize>(
+    store: &mut NodeStore<Key, u32, P>,
+) -> Option<[[Option<DeletePoint>; 3]; 2]> {
+    let root = planted_all(store, &[&[1, 2, 3]]).ok()??;
+    let found = search_for_delete_point(store, root, &[1, 2, 3]);
+    let [first, last] = ends(store, root);
+    let seen = [found, Some(first), Some(last)];
+    Some([seen, [point_at_root(root); 3]])
+}
+
+// The same in a store of its own.
+fn points_of_one_with(alloc: Global) -> Option<[[Option<DeletePoint>; 3]; 2]> {
+    points_of_one::<16>(&mut NodeStore::new(alloc))
+}
+
 #[test]
 fn names_no_parent_of_the_root(rt: HostRuntime) -> Result<(), Fail> {
-    let mut store: NodeStore<Key, u32, 16> = NodeStore::new(rt.alloc());
-    let root = plant_all(&mut store, &[&[1, 2, 3]])?;
-    let found = search_for_delete_point(&store, root, &[1, 2, 3]);
-    let [first, last] = ends(&store, root);
-    let seen = [found, Some(first), Some(last)];
-    assert_eq!(rt; seen, [point_at_root(root); 3]);
+    let [seen, expected] = points_of_one_with(rt.alloc()).ok_or("memory")?;
+    assert_eq!(rt; seen, expected);
     Ok(())
 }
 
@@ -124,12 +137,23 @@ fn found_points<const P: usize>(
     ]
 }
 
+// The points in the tree of four keys, as they are found, and as they are to be.
+fn points_of_four<const P: usize>(
+    store: &mut NodeStore<Key, u32, P>,
+) -> Option<[[(Option<DeletePoint>, usize); 3]; 2]> {
+    let root = planted_all(store, &[&[1, 2, 3], &[1, 2, 4], &[1, 5], &[6]]).ok()??;
+    Some([found_points(store, root), expected_points(store, root)?])
+}
+
+// The same in a store of its own.
+fn points_of_four_with(alloc: Global) -> Option<[[(Option<DeletePoint>, usize); 3]; 2]> {
+    points_of_four::<0>(&mut NodeStore::new(alloc))
+}
+
 #[test]
 fn names_parents_and_grandparents(rt: HostRuntime) -> Result<(), Fail> {
-    let mut store: NodeStore<Key, u32, 0> = NodeStore::new(rt.alloc());
-    let root = plant_all(&mut store, &[&[1, 2, 3], &[1, 2, 4], &[1, 5], &[6]])?;
-    let expected = expected_points(&store, root);
-    assert_eq!(rt; Some(found_points(&store, root)), expected);
+    let [seen, expected] = points_of_four_with(rt.alloc()).ok_or("other kinds of nodes")?;
+    assert_eq!(rt; seen, expected);
     Ok(())
 }
 
@@ -149,13 +173,22 @@ fn first_found<'a, const P: usize>(
     None
 }
 
+// Whether none of these keys has a point in the tree of three others.
+fn has_none<const P: usize>(store: &mut NodeStore<Key, u32, P>, keys: &[&[u8]]) -> Option<bool> {
+    let root = planted_all(store, &[&[1, 2, 3], &[1, 2, 4], &[6]]).ok()??;
+    Some(first_found(store, root, keys).is_none())
+}
+
+// The same in a store of its own.
+fn has_none_with(alloc: Global, keys: &[&[u8]]) -> Option<bool> {
+    has_none::<16>(&mut NodeStore::new(alloc), keys)
+}
+
+static ABSENT: [&[u8]; 6] = [&[], &[1], &[1, 2], &[1, 2, 5], &[1, 2, 3, 4], &[7]];
+
 #[test]
-fn finds_no_point_of_an_absent_key(rt: HostRuntime) -> Result<(), Fail> {
-    let mut store: NodeStore<Key, u32, 16> = NodeStore::new(rt.alloc());
-    let root = plant_all(&mut store, &[&[1, 2, 3], &[1, 2, 4], &[6]])?;
-    let absent: [&[u8]; 6] = [&[], &[1], &[1, 2], &[1, 2, 5], &[1, 2, 3, 4], &[7]];
-    assert_eq!(rt; first_found(&store, root, &absent), None);
-    Ok(())
+fn finds_no_point_of_an_absent_key(rt: HostRuntime) {
+    assert_eq!(rt; has_none_with(rt.alloc(), &ABSENT), Some(true));
 }
 
 // The values of four keys, two of which are absent, and how many nodes the searches read.
@@ -173,24 +206,45 @@ fn counted_below_zeros<const P: usize>(
     ]
 }
 
-#[test]
-fn counts_readings(rt: HostRuntime) -> Result<(), Fail> {
-    let zeros = keys_of_zeros(rt.alloc())?;
-    let mut store: NodeStore<Key, u32, 4> = NodeStore::new(rt.alloc());
-    let root = plant_keys(&mut store, zeros)?;
-    let expected = [(Some(0), 2), (Some(11), 12), (None, 5), (None, 1)];
-    assert_eq!(rt; counted_below_zeros(&store, root), expected);
-    Ok(())
+// The same in the tree of these keys.
+fn counted_zeros<const P: usize>(
+    store: &mut NodeStore<Key, u32, P>,
+    zeros: Vec<Key>,
+) -> Option<[(Option<u32>, usize); 4]> {
+    let root = planted_keys(store, zeros)?;
+    Some(counted_below_zeros(store, root))
+}
+
+// The same in a store of its own.
+fn counted_zeros_with(alloc: Global) -> Option<[(Option<u32>, usize); 4]> {
+    let zeros = keys_of_zeros(alloc).ok()?;
+    counted_zeros::<4>(&mut NodeStore::new(alloc), zeros)
 }
 
 #[test]
-fn compares_the_whole_key_after_skipped_bytes(rt: HostRuntime) -> Result<(), Fail> {
-    let mut store: NodeStore<Key, u32, 2> = NodeStore::new(rt.alloc());
-    let root = plant_all(&mut store, &[&[1, 1, 1, 1, 5], &[1, 1, 1, 1, 6]])?;
-    let other = counted(&store, root, &[1, 1, 9, 1, 5]);
-    let own = counted(&store, root, &[1, 1, 1, 1, 5]);
-    assert_eq!(rt; [other, own], [(None, 2), (Some(0), 2)]);
-    Ok(())
+fn counts_readings(rt: HostRuntime) {
+    let expected = [(Some(0), 2), (Some(11), 12), (None, 5), (None, 1)];
+    assert_eq!(rt; counted_zeros_with(rt.alloc()), Some(expected));
+}
+
+// The same for a key that is not that of the leaf that it leads to, and for that one.
+fn counted_skipped<const P: usize>(
+    store: &mut NodeStore<Key, u32, P>,
+) -> Option<[(Option<u32>, usize); 2]> {
+    let root = planted_all(store, &[&[1, 1, 1, 1, 5], &[1, 1, 1, 1, 6]]).ok()??;
+    let other = counted(store, root, &[1, 1, 9, 1, 5]);
+    Some([other, counted(store, root, &[1, 1, 1, 1, 5])])
+}
+
+// The same in a store of its own.
+fn counted_skipped_with(alloc: Global) -> Option<[(Option<u32>, usize); 2]> {
+    counted_skipped::<2>(&mut NodeStore::new(alloc))
+}
+
+#[test]
+fn compares_the_whole_key_after_skipped_bytes(rt: HostRuntime) {
+    let seen = counted_skipped_with(rt.alloc());
+    assert_eq!(rt; seen, Some([(None, 2), (Some(0), 2)]));
 }
 
 // The point of the leaf that three bytes lead to from the root, each from a node to its child.
@@ -232,12 +286,25 @@ fn points_with<const P: usize>(
     }
 }
 
+// The points of both ends of the tree of these keys, as they are found, and as they are to be.
+fn both_ends<const P: usize>(
+    store: &mut NodeStore<Key, u32, P>,
+    all: Vec<Key>,
+) -> Option<[[DeletePoint; 2]; 2]> {
+    let root = planted_keys(store, all)?;
+    let expected = points_with(store, root, [[0, 0, 0], [3, 2, 1]], [0, 23])?;
+    Some([ends(store, root), expected])
+}
+
+// The same in a store of its own.
+fn both_ends_with(alloc: Global, all: Vec<Key>) -> Option<[[DeletePoint; 2]; 2]> {
+    both_ends::<16>(&mut NodeStore::new(alloc), all)
+}
+
 #[test]
 fn finds_the_points_of_both_ends(rt: HostRuntime) -> Result<(), Fail> {
     let all = keys_of_three(rt.alloc(), [4, 3, 2])?;
-    let mut store: NodeStore<Key, u32, 16> = NodeStore::new(rt.alloc());
-    let root = plant_keys(&mut store, all)?;
-    let expected = points_with(&store, root, [[0, 0, 0], [3, 2, 1]], [0, 23]);
-    assert_eq!(rt; Some(ends(&store, root)), expected);
+    let [seen, expected] = both_ends_with(rt.alloc(), all).ok_or("other leaves")?;
+    assert_eq!(rt; seen, expected);
     Ok(())
 }

@@ -7,6 +7,7 @@ use art_operations::insert::InsertParentNodeChange;
 use art_test_support::points::Insertion;
 use art_test_support::trees::{Key, child, planted_all, promise};
 use std::alloc::Global;
+use std::process::Abort;
 use std::test::Fail;
 
 // Whether an inner node has this length of prefix, these bytes stored of it, and children under two bytes.
@@ -54,6 +55,13 @@ struct Split {
     found: Option<OpaqueNodePtr>,
 }
 
+// Asserts that what is to be seen of a split is seen.
+fn assert_split(rt: &impl Abort, splits: Option<[Split; 2]>) -> Result<(), Fail> {
+    let [seen, expected] = splits.ok_or("no split")?;
+    assert_eq!(rt; seen, expected);
+    Ok(())
+}
+
 // Splits the leaf of [1, 2, 3, 4]. Answers what is seen, and what is to be.
 fn split_leaf<const P: usize>(store: &mut NodeStore<Key, u32, P>) -> Option<[Split; 2]> {
     let (root, _, done) = branch(store, &[&[1, 2, 3, 4]], 3, &[1, 2, 9])?;
@@ -86,9 +94,7 @@ fn split_leaf_with(alloc: Global) -> Option<[Split; 2]> {
 
 #[test]
 fn splits_the_root_leaf(rt: HostRuntime) -> Result<(), Fail> {
-    let [seen, expected] = split_leaf_with(rt.alloc()).ok_or("no split")?;
-    assert_eq!(rt; seen, expected);
-    Ok(())
+    assert_split(&rt, split_leaf_with(rt.alloc()))
 }
 
 // The same for a prefix of which two bytes are stored, after three bytes.
@@ -120,9 +126,7 @@ fn split_long_with(alloc: Global) -> Option<[Split; 2]> {
 
 #[test]
 fn splits_a_prefix_that_is_longer_than_stored(rt: HostRuntime) -> Result<(), Fail> {
-    let [seen, expected] = split_long_with(rt.alloc()).ok_or("no split")?;
-    assert_eq!(rt; seen, expected);
-    Ok(())
+    assert_split(&rt, split_long_with(rt.alloc()))
 }
 
 // The same for the prefix of the node at [1], after one byte. The node is below the new one then.
@@ -157,9 +161,7 @@ fn split_child_with(alloc: Global) -> Option<[Split; 2]> {
 
 #[test]
 fn splits_the_prefix_of_a_child(rt: HostRuntime) -> Result<(), Fail> {
-    let [seen, expected] = split_child_with(rt.alloc()).ok_or("no split")?;
-    assert_eq!(rt; seen, expected);
-    Ok(())
+    assert_split(&rt, split_child_with(rt.alloc()))
 }
 
 // Whether [1, 2, 9] comes in beside [1, 2, 3, 4] while all memory is held but for the nodes that it needs.

@@ -1,5 +1,5 @@
 //! What an insertion does to a tree, and what is left of a refused one.
-ghost use Rattle.std.specs.Prelude.{◌<◌, IfSome};
+ghost use Rattle.std.specs.Prelude.{◌<◌};
 ghost use Rattle.art_model.specs.Pairs.{of_key};
 ghost use Rattle.art_model.specs.Roots.{IsCanonicalRoot};
 
@@ -10,22 +10,10 @@ use art_test_support::nodes::{Seen, nodes_seen};
 use art_test_support::points::{
     HANDED_BACK, Insertion, Refusal, insert, insertion_seen, refused_insertion,
 };
-use art_test_support::trees::{Key, planted};
+use art_test_support::trees::Key;
 use std::alloc::Global;
 use std::process::Abort;
 use std::test::Fail;
-
-/// The root of the tree of these keys, which it plants with a second store of its own.
-pub fn planted_keys<const P: usize>(
-    store: &mut NodeStore<Key, u32, P>,
-    all: Vec<Key>,
-) -> Option<OpaqueNodePtr>
-    ensures { IfSome result (λ root. IsCanonicalRoot (of_key (λ key. key.items)) P store.new root) }
-{
-    let alloc = store.alloc();
-    let answer = planted(store, &mut NodeStore::new(alloc), all);
-    answer.ok()?
-}
 
 /// What the insertion of a key with the value 9 does.
 pub fn insertion_of<const P: usize>(

@@ -2,15 +2,14 @@
 ghost use Rattle.art_model.specs.Pairs.{of_key};
 ghost use Rattle.art_model.specs.Roots.{IsCanonicalRoot};
 
-use crate::effect::{
-    assert_handed_back, inserted_without_memory, insertion_of, planted_keys, refused_beside,
-};
+use crate::effect::{assert_handed_back, inserted_without_memory, insertion_of, refused_beside};
 use art_nodes::node::{NodeType, OpaqueNodePtr};
 use art_nodes::store::NodeStore;
 use art_operations::insert::InsertParentNodeChange;
 use art_test_support::points::{Gone, Insertion};
-use art_test_support::trees::{Key, child, keys_after, planted_all, value_of};
+use art_test_support::trees::{Key, child, keys_after, planted_all, planted_keys, value_of};
 use std::alloc::Global;
+use std::process::Abort;
 use std::test::Fail;
 
 // What an insertion did, and what there is then.
@@ -44,17 +43,68 @@ fn growth_seen<const P: usize>(store: &NodeStore<Key, u32, P>, done: Insertion) 
     }
 }
 
-// Plants a tree of some keys and inserts one. Answers the old root, what it had under the key's last byte, and
-// what the insertion did.
-fn grow<const P: usize>(
-    store: &mut NodeStore<Key, u32, P>,
-    slices: &[&[u8]],
+// An insertion into the tree of some keys.
+#[derive(Clone, Copy)]
+struct Case<'a> {
+    slices: &'a [&'a [u8]],
+    key: &'a [u8],
+    // A byte below the root.
+    byte: u8,
+    wanted: Wanted,
+}
+
+// What is to come of the key.
+#[derive(Clone, Copy)]
+enum Wanted {
+    /// It becomes a child of the root, which has room for it.
+    Child,
+    /// It becomes a child of a larger root, where the old one is gone.
+    LargerRoot,
+    /// It becomes a child of a larger node under the byte.
+    LargerChild,
+    /// It gets another value than this one, in the leaf of the same name.
+    InPlace(u32),
+}
+
+// What an insertion did, and what there was and is.
+#[derive(Clone, Copy)]
+struct Grown {
+    root: OpaqueNodePtr,
+    // What the old root had under the key's last byte, or the root where the key is empty.
+    old: Option<OpaqueNodePtr>,
+    // What the old root has under the case's byte.
+    after: Option<OpaqueNodePtr>,
+    seen: Growth,
+}
+
+// What a root has under the last byte of a key, or the root where the key is empty.
+fn below_last<const P: usize>(
+    store: &NodeStore<Key, u32, P>,
+    root: OpaqueNodePtr,
     key: &[u8],
-) -> Option<(OpaqueNodePtr, Option<OpaqueNodePtr>, Growth)> {
-    let root = planted_all(store, slices).ok()??;
-    let old = key.last().and_then(|byte| child(store, root, *byte));
-    let done = insertion_of(store, root, key)?;
-    Some((root, old, growth_seen(store, done)))
+) -> Option<OpaqueNodePtr> {
+    match key.last() {
+        Some(byte) => child(store, root, *byte),
+        None => Some(root),
+    }
+}
+
+// Plants the tree of a case and inserts its key.
+fn grow<const P: usize>(store: &mut NodeStore<Key, u32, P>, case: Case<'_>) -> Option<Grown> {
+    let root = planted_all(store, case.slices).ok()??;
+    let old = below_last(store, root, case.key);
+    let done = insertion_of(store, root, case.key)?;
+    Some(Grown {
+        root,
+        old,
+        after: child(store, root, case.byte),
+        seen: growth_seen(store, done),
+    })
+}
+
+// The same in a store of its own.
+fn grown_by(alloc: Global, case: Case<'_>) -> Option<Grown> {
+    grow::<16>(&mut NodeStore::new(alloc), case)
 }
 
 // What is to come of a key that becomes a child of an inner node.
@@ -82,90 +132,129 @@ fn expected_child(
     })
 }
 
-// Inserts a third key of one byte. Answers what is seen, and what is to be.
-fn grow_beside<const P: usize>(store: &mut NodeStore<Key, u32, P>) -> Option<[Growth; 2]> {
-    let (root, _, seen) = grow(store, &[&[1], &[2]], &[3])?;
-    Some([seen, expected_child(seen, root, root, 3, (1, 0, 2))?])
+// The same where the inner node is a larger one in the place of a full Node4.
+fn expected_larger(
+    seen: Growth,
+    new_root: OpaqueNodePtr,
+    parent: OpaqueNodePtr,
+    byte: u8,
+    touched: (usize, usize, usize),
+) -> Option<Growth> {
+    let expected = expected_child(seen, new_root, parent, byte, touched)?;
+    Some(Growth {
+        parent_kind: Some(NodeType::Node16),
+        ..expected
+    })
 }
 
-// The same in a store of its own.
-fn grow_beside_with(alloc: Global) -> Option<[Growth; 2]> {
-    grow_beside::<16>(&mut NodeStore::new(alloc))
+// What is to come of a key that makes the root larger, where the old root is gone.
+fn expected_larger_root(grown: Grown, byte: u8) -> Option<Growth> {
+    if grown.after.is_some() {
+        return None;
+    }
+    let root = grown.seen.done.new_root;
+    expected_larger(grown.seen, root, root, byte, (2, 1, 1))
+}
+
+// What is to come of a stored key, by the name of its leaf and the old value.
+fn expected_in_place(root: OpaqueNodePtr, name: OpaqueNodePtr, value: u32) -> Option<Growth> {
+    Some(Growth {
+        done: Insertion {
+            leaf: name.as_leaf()?,
+            existing: Some(Gone {
+                has_key: true,
+                value,
+                previous: None,
+                next: None,
+            }),
+            new_root: root,
+            change: InsertParentNodeChange::NoChange,
+            touched: (0, 0, 1),
+        },
+        parent_kind: None,
+        found: None,
+        value: Some(9),
+    })
+}
+
+// What is to come of the key of a case, whose last byte is this.
+fn expected(grown: Grown, wanted: Wanted, byte: u8) -> Option<Growth> {
+    let (root, seen) = (grown.root, grown.seen);
+    match wanted {
+        Wanted::Child => expected_child(seen, root, root, byte, (1, 0, 2)),
+        Wanted::LargerRoot => expected_larger_root(grown, byte),
+        Wanted::LargerChild => expected_larger(seen, root, grown.after?, byte, (2, 1, 3)),
+        Wanted::InPlace(value) => expected_in_place(root, grown.old?, value),
+    }
+}
+
+// What came of the key of a case, and what is to come.
+fn compared(alloc: Global, case: Case<'_>) -> Option<[Growth; 2]> {
+    let grown = grown_by(alloc, case)?;
+    let byte = case.key.last().copied().unwrap_or(0);
+    Some([grown.seen, expected(grown, case.wanted, byte)?])
+}
+
+// Asserts that what is to come of a case comes.
+fn assert_grown(rt: &impl Abort, alloc: Global, case: Case<'_>) -> Result<(), Fail> {
+    let [seen, expected] = compared(alloc, case).ok_or("other kinds of nodes")?;
+    assert_eq!(rt; seen, expected);
+    Ok(())
 }
 
 #[test]
 fn adds_a_child_where_there_is_room(rt: HostRuntime) -> Result<(), Fail> {
-    let [seen, expected] = grow_beside_with(rt.alloc()).ok_or("no child")?;
-    assert_eq!(rt; seen, expected);
-    Ok(())
-}
-
-// What is to come of a fifth key beside four of one byte, where the old root is gone.
-fn expected_larger_root<const P: usize>(
-    store: &NodeStore<Key, u32, P>,
-    old_root: OpaqueNodePtr,
-    seen: Growth,
-) -> Option<Growth> {
-    if child(store, old_root, 4).is_some() {
-        return None;
-    }
-    let root = seen.done.new_root;
-    let expected = expected_child(seen, root, root, 5, (2, 1, 1))?;
-    Some(Growth {
-        parent_kind: Some(NodeType::Node16),
-        ..expected
-    })
-}
-
-// Inserts a fifth key of one byte. Answers what is seen, and what is to be.
-fn grow_root<const P: usize>(store: &mut NodeStore<Key, u32, P>) -> Option<[Growth; 2]> {
-    let (root, _, seen) = grow(store, &[&[1], &[2], &[3], &[4]], &[5])?;
-    Some([seen, expected_larger_root(store, root, seen)?])
-}
-
-// The same in a store of its own.
-fn grow_root_with(alloc: Global) -> Option<[Growth; 2]> {
-    grow_root::<16>(&mut NodeStore::new(alloc))
+    let case = Case {
+        slices: &[&[1], &[2]],
+        key: &[3],
+        byte: 3,
+        wanted: Wanted::Child,
+    };
+    assert_grown(&rt, rt.alloc(), case)
 }
 
 #[test]
 fn puts_a_larger_root_in_the_place_of_a_full_one(rt: HostRuntime) -> Result<(), Fail> {
-    let [seen, expected] = grow_root_with(rt.alloc()).ok_or("another root")?;
-    assert_eq!(rt; seen, expected);
-    Ok(())
-}
-
-// What is to come of a key that makes the node at [1] larger.
-fn expected_larger_child<const P: usize>(
-    store: &NodeStore<Key, u32, P>,
-    root: OpaqueNodePtr,
-    seen: Growth,
-) -> Option<Growth> {
-    let larger = child(store, root, 1)?;
-    let expected = expected_child(seen, root, larger, 3, (2, 1, 3))?;
-    Some(Growth {
-        parent_kind: Some(NodeType::Node16),
-        ..expected
-    })
-}
-
-// The same for a fifth key below [1].
-fn grow_child<const P: usize>(store: &mut NodeStore<Key, u32, P>) -> Option<[Growth; 2]> {
-    let slices: [&[u8]; 6] = [&[0], &[1, 1], &[1, 2], &[1, 4], &[1, 5], &[2]];
-    let (root, _, seen) = grow(store, &slices, &[1, 3])?;
-    Some([seen, expected_larger_child(store, root, seen)?])
-}
-
-// The same in a store of its own.
-fn grow_child_with(alloc: Global) -> Option<[Growth; 2]> {
-    grow_child::<16>(&mut NodeStore::new(alloc))
+    let case = Case {
+        slices: &[&[1], &[2], &[3], &[4]],
+        key: &[5],
+        byte: 4,
+        wanted: Wanted::LargerRoot,
+    };
+    assert_grown(&rt, rt.alloc(), case)
 }
 
 #[test]
 fn tells_the_parent_of_a_larger_child(rt: HostRuntime) -> Result<(), Fail> {
-    let [seen, expected] = grow_child_with(rt.alloc()).ok_or("a child")?;
-    assert_eq!(rt; seen, expected);
-    Ok(())
+    let case = Case {
+        slices: &[&[0], &[1, 1], &[1, 2], &[1, 4], &[1, 5], &[2]],
+        key: &[1, 3],
+        byte: 1,
+        wanted: Wanted::LargerChild,
+    };
+    assert_grown(&rt, rt.alloc(), case)
+}
+
+#[test]
+fn hands_back_the_old_value(rt: HostRuntime) -> Result<(), Fail> {
+    let case = Case {
+        slices: &[&[1, 1], &[1, 2]],
+        key: &[1, 2],
+        byte: 2,
+        wanted: Wanted::InPlace(1),
+    };
+    assert_grown(&rt, rt.alloc(), case)
+}
+
+#[test]
+fn replaces_the_value_of_the_empty_key(rt: HostRuntime) -> Result<(), Fail> {
+    let case = Case {
+        slices: &[&[]],
+        key: &[],
+        byte: 0,
+        wanted: Wanted::InPlace(0),
+    };
+    assert_grown(&rt, rt.alloc(), case)
 }
 
 // What comes of the root of so many keys of one byte with one more.
@@ -207,67 +296,6 @@ fn grows_to_each_kind(rt: HostRuntime) {
     for (count, kind) in [(16u8, NodeType::Node48), (48, NodeType::Node256)] {
         assert_eq!(rt; grown_from(rt.alloc(), count), Some((kind, true)));
     }
-}
-
-// What is to come of a stored key, by the name of its leaf and the old value.
-fn expected_in_place(
-    root: OpaqueNodePtr,
-    name: Option<OpaqueNodePtr>,
-    value: u32,
-) -> Option<Growth> {
-    Some(Growth {
-        done: Insertion {
-            leaf: name?.as_leaf()?,
-            existing: Some(Gone {
-                has_key: true,
-                value,
-                previous: None,
-                next: None,
-            }),
-            new_root: root,
-            change: InsertParentNodeChange::NoChange,
-            touched: (0, 0, 1),
-        },
-        parent_kind: None,
-        found: None,
-        value: Some(9),
-    })
-}
-
-// Inserts a key that is stored below the root.
-fn replace_child<const P: usize>(store: &mut NodeStore<Key, u32, P>) -> Option<[Growth; 2]> {
-    let (root, name, seen) = grow(store, &[&[1, 1], &[1, 2]], &[1, 2])?;
-    Some([seen, expected_in_place(root, name, 1)?])
-}
-
-// The same in a store of its own.
-fn replace_child_with(alloc: Global) -> Option<[Growth; 2]> {
-    replace_child::<16>(&mut NodeStore::new(alloc))
-}
-
-#[test]
-fn hands_back_the_old_value(rt: HostRuntime) -> Result<(), Fail> {
-    let [seen, expected] = replace_child_with(rt.alloc()).ok_or("a leaf")?;
-    assert_eq!(rt; seen, expected);
-    Ok(())
-}
-
-// Inserts the empty key where it is the only one.
-fn replace_empty<const P: usize>(store: &mut NodeStore<Key, u32, P>) -> Option<[Growth; 2]> {
-    let (root, _, seen) = grow(store, &[&[]], &[])?;
-    Some([seen, expected_in_place(root, Some(root), 0)?])
-}
-
-// The same in a store of its own.
-fn replace_empty_with(alloc: Global) -> Option<[Growth; 2]> {
-    replace_empty::<16>(&mut NodeStore::new(alloc))
-}
-
-#[test]
-fn replaces_the_value_of_the_empty_key(rt: HostRuntime) -> Result<(), Fail> {
-    let [seen, expected] = replace_empty_with(rt.alloc()).ok_or("a leaf")?;
-    assert_eq!(rt; seen, expected);
-    Ok(())
 }
 
 // Whether [1, 2] gets another value, while all memory is held.

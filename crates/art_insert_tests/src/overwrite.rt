@@ -2,7 +2,7 @@
 ghost use Rattle.art_model.specs.Pairs.{of_key};
 ghost use Rattle.art_model.specs.Roots.{IsCanonicalRoot};
 
-use crate::effect::{assert_handed_back, planted_keys};
+use crate::effect::assert_handed_back;
 use art_nodes::node::{OpaqueNodePtr, OptionalLeafPtr};
 use art_nodes::store::NodeStore;
 use art_operations::insert::{
@@ -16,8 +16,9 @@ use art_test_support::nodes::{Seen, count_nodes, nodes_seen};
 use art_test_support::points::{
     Gone, Insertion, Refusal, insertion_seen, prefix_insert, refused_prefix_insertion,
 };
-use art_test_support::trees::{Key, child, keys_of_three, planted_all, value_of};
+use art_test_support::trees::{Key, child, keys_of_three, planted_all, planted_keys, value_of};
 use std::alloc::Global;
+use std::process::Abort;
 use std::test::Fail;
 
 // The root before a prefix insertion, what it had under the key's first byte, and what the insertion did.
@@ -198,35 +199,49 @@ fn tried_below(alloc: Global, case: Case<'_>) -> Option<[Outcome; 2]> {
     Some([seen, expected_below(seen, case)?])
 }
 
-#[test]
-fn gives_way_below_an_inner_node(rt: HostRuntime) -> Result<(), Fail> {
-    let at_end = Case {
+// Asserts that what is to come of a key comes.
+fn assert_comes(rt: &impl Abort, outcomes: Option<[Outcome; 2]>) -> Result<(), Fail> {
+    let [seen, expected] = outcomes.ok_or("other kinds of nodes")?;
+    assert_eq!(rt; seen, expected);
+    Ok(())
+}
+
+// Keys in the place of two leaves at the end of the others and between them, within a prefix and at its end.
+static BELOW: [Case<'static>; 4] = [
+    Case {
         slices: &[&[1, 2], &[1, 3], &[2]],
         key: &[1],
         used: 0,
         changed: 2,
         values: [None, Some(9), Some(2)],
-    };
-    let between = Case {
+    },
+    Case {
         slices: &[&[0], &[1, 2], &[1, 3], &[2]],
+        key: &[1],
+        used: 0,
         changed: 3,
         values: [Some(0), Some(9), Some(3)],
-        ..at_end
-    };
-    let within = Case {
+    },
+    Case {
         slices: &[&[4, 1, 2, 3, 7], &[4, 1, 2, 3, 8], &[5]],
         key: &[4, 1, 2],
         used: 1,
-        ..at_end
-    };
-    let at_long_end = Case {
+        changed: 2,
+        values: [None, Some(9), Some(2)],
+    },
+    Case {
+        slices: &[&[4, 1, 2, 3, 7], &[4, 1, 2, 3, 8], &[5]],
         key: &[4, 1, 2, 3],
         used: 3,
-        ..within
-    };
-    for case in [at_end, between, within, at_long_end] {
-        let [seen, expected] = tried_below(rt.alloc(), case).ok_or("an inner root")?;
-        assert_eq!(rt; seen, expected);
+        changed: 2,
+        values: [None, Some(9), Some(2)],
+    },
+];
+
+#[test]
+fn gives_way_below_an_inner_node(rt: HostRuntime) -> Result<(), Fail> {
+    for case in &BELOW {
+        assert_comes(&rt, tried_below(rt.alloc(), *case))?;
     }
     Ok(())
 }
@@ -252,37 +267,42 @@ fn expected_at_root(seen: Outcome, used: usize, leaves: usize, inners: usize) ->
     }
 }
 
+// Keys in the place of the whole tree, and how many of their bytes are used.
+static AT_ROOT: [(&[u8], usize); 4] = [(&[], 0), (&[4], 0), (&[4, 1], 0), (&[4, 1, 2], 2)];
+
+// What comes of such a key in the tree of two others, and what is to come.
+fn tried_at_root(alloc: Global, key: &[u8], used: usize) -> Option<[Outcome; 2]> {
+    let seen = tried(alloc, &[&[4, 1, 2, 7], &[4, 1, 2, 8]], key, &[])?;
+    Some([seen, expected_at_root(seen, used, 2, 1)])
+}
+
 #[test]
 fn gives_way_at_the_root(rt: HostRuntime) -> Result<(), Fail> {
-    let slices: [&[u8]; 2] = [&[4, 1, 2, 7], &[4, 1, 2, 8]];
-    let cases: [(&[u8], usize); 4] = [(&[], 0), (&[4], 0), (&[4, 1], 0), (&[4, 1, 2], 2)];
-    for (key, used) in cases {
-        let seen = tried(rt.alloc(), &slices, key, &[]).ok_or("memory")?;
-        assert_eq!(rt; seen, expected_at_root(seen, used, 2, 1));
+    for (key, used) in &AT_ROOT {
+        assert_comes(&rt, tried_at_root(rt.alloc(), key, *used))?;
     }
     Ok(())
 }
 
-// What comes of the empty key in the tree of these.
+// What comes of the empty key in the tree of these, and what is to come.
 fn overwritten_by_empty<const P: usize>(
     store: &mut NodeStore<Key, u32, P>,
     all: Vec<Key>,
-) -> Option<Outcome> {
+) -> Option<[Outcome; 2]> {
     let root = planted_keys(store, all)?;
-    overwrite(store, root, &[], &[])
+    let seen = overwrite(store, root, &[], &[])?;
+    Some([seen, expected_at_root(seen, 0, 24, 17)])
 }
 
 // The same in a store of its own.
-fn tried_by_empty(alloc: Global, all: Vec<Key>) -> Option<Outcome> {
+fn tried_by_empty(alloc: Global, all: Vec<Key>) -> Option<[Outcome; 2]> {
     overwritten_by_empty::<16>(&mut NodeStore::new(alloc), all)
 }
 
 #[test]
 fn the_empty_key_takes_the_place_of_all(rt: HostRuntime) -> Result<(), Fail> {
     let all = keys_of_three(rt.alloc(), [4, 3, 2])?;
-    let seen = tried_by_empty(rt.alloc(), all).ok_or("memory")?;
-    assert_eq!(rt; seen, expected_at_root(seen, 0, 24, 17));
-    Ok(())
+    assert_comes(&rt, tried_by_empty(rt.alloc(), all))
 }
 
 // What is to come of a key in the place of one pair, with what there is to be afterwards.
@@ -325,17 +345,18 @@ fn tried_for_one(alloc: Global, old: &[u8], key: &[u8]) -> Option<[Outcome; 2]> 
     Some([seen, expected])
 }
 
+// Keys, each with one in its place.
+static FOR_ONE: [(&[u8], &[u8]); 4] = [
+    (&[1, 2, 3], &[1, 2]),
+    (&[1, 2, 3], &[1, 2, 3, 4]),
+    (&[1, 2, 3], &[]),
+    (&[], &[1]),
+];
+
 #[test]
 fn replaces_one_leaf(rt: HostRuntime) -> Result<(), Fail> {
-    let cases: [(&[u8], &[u8]); 4] = [
-        (&[1, 2, 3], &[1, 2]),
-        (&[1, 2, 3], &[1, 2, 3, 4]),
-        (&[1, 2, 3], &[]),
-        (&[], &[1]),
-    ];
-    for (old, key) in cases {
-        let [seen, expected] = tried_for_one(rt.alloc(), old, key).ok_or("a leaf")?;
-        assert_eq!(rt; seen, expected);
+    for (old, key) in &FOR_ONE {
+        assert_comes(&rt, tried_for_one(rt.alloc(), old, key))?;
     }
     Ok(())
 }
@@ -352,12 +373,15 @@ fn expected_between(seen: Outcome) -> Option<Outcome> {
     expected_for_leaf(seen, point, leaf, 1, after)
 }
 
+// What comes of this key, and what is to come.
+fn tried_between(alloc: Global) -> Option<[Outcome; 2]> {
+    let seen = tried(alloc, &[&[0], &[1, 2, 3], &[2]], &[1, 2], &[1, 2, 3])?;
+    Some([seen, expected_between(seen)?])
+}
+
 #[test]
 fn replaces_one_leaf_between_others(rt: HostRuntime) -> Result<(), Fail> {
-    let slices: [&[u8]; 3] = [&[0], &[1, 2, 3], &[2]];
-    let seen = tried(rt.alloc(), &slices, &[1, 2], &[1, 2, 3]).ok_or("memory")?;
-    assert_eq!(rt; Some(seen), expected_between(seen));
-    Ok(())
+    assert_comes(&rt, tried_between(rt.alloc()))
 }
 
 // The kind of a point.
@@ -415,45 +439,62 @@ fn tried_apart(alloc: Global, slices: &[&[u8]], key: &[u8]) -> Option<Ordinary> 
     })
 }
 
+// Keys that are related to no other, and what comes of each.
+static APART: [(&[&[u8]], &[u8], Ordinary); 4] = [
+    (
+        &[&[1], &[2]],
+        &[3],
+        Ordinary {
+            kind: Kind::IntoExisting,
+            existing: None,
+            removed: 0,
+            keeps_root: true,
+            told: Some(3),
+            touched: (1, 0, 2),
+        },
+    ),
+    (
+        &[&[1], &[2]],
+        &[2],
+        Ordinary {
+            kind: Kind::Exact,
+            existing: Some(1),
+            removed: 0,
+            keeps_root: true,
+            told: None,
+            touched: (0, 0, 1),
+        },
+    ),
+    (
+        &[&[1, 2, 3, 4]],
+        &[1, 2, 9],
+        Ordinary {
+            kind: Kind::SplitLeaf,
+            existing: None,
+            removed: 0,
+            keeps_root: false,
+            told: Some(9),
+            touched: (2, 0, 1),
+        },
+    ),
+    (
+        &[&[7, 1, 1, 1, 1, 5], &[7, 1, 1, 1, 1, 6]],
+        &[7, 1, 1, 9],
+        Ordinary {
+            kind: Kind::MismatchPrefix,
+            existing: None,
+            removed: 0,
+            keeps_root: false,
+            told: Some(9),
+            touched: (2, 0, 2),
+        },
+    ),
+];
+
 #[test]
 fn comes_in_beside_unrelated_keys(rt: HostRuntime) {
-    let into = Ordinary {
-        kind: Kind::IntoExisting,
-        existing: None,
-        removed: 0,
-        keeps_root: true,
-        told: Some(3),
-        touched: (1, 0, 2),
-    };
-    let exact = Ordinary {
-        kind: Kind::Exact,
-        existing: Some(1),
-        told: None,
-        touched: (0, 0, 1),
-        ..into
-    };
-    let split_leaf = Ordinary {
-        kind: Kind::SplitLeaf,
-        keeps_root: false,
-        told: Some(9),
-        touched: (2, 0, 1),
-        ..into
-    };
-    let split_prefix = Ordinary {
-        kind: Kind::MismatchPrefix,
-        touched: (2, 0, 2),
-        ..split_leaf
-    };
-    let two: [&[u8]; 2] = [&[1], &[2]];
-    let long: [&[u8]; 2] = [&[7, 1, 1, 1, 1, 5], &[7, 1, 1, 1, 1, 6]];
-    let cases: [(&[&[u8]], &[u8], Ordinary); 4] = [
-        (&two, &[3], into),
-        (&two, &[2], exact),
-        (&[&[1, 2, 3, 4]], &[1, 2, 9], split_leaf),
-        (&long, &[7, 1, 1, 9], split_prefix),
-    ];
-    for (slices, key, expected) in cases {
-        assert_eq!(rt; tried_apart(rt.alloc(), slices, key), Some(expected));
+    for (slices, key, expected) in &APART {
+        assert_eq!(rt; tried_apart(rt.alloc(), slices, key), Some(*expected));
     }
 }
 
@@ -655,7 +696,7 @@ fn refused_over(alloc: Global, others: &[&[u8]], key: &[u8]) -> [Option<Refusal>
 }
 
 // More and more keys; all but the first two stand beside those.
-const BESIDE: [&[u8]; 9] = [
+static BESIDE: [&[u8]; 9] = [
     &[4, 1, 2, 3, 7],
     &[4, 1, 2, 3, 8],
     &[5],
@@ -668,7 +709,7 @@ const BESIDE: [&[u8]; 9] = [
 ];
 
 // More and more keys with one prefix.
-const ONE_PREFIX: [&[u8]; 9] = [
+static ONE_PREFIX: [&[u8]; 9] = [
     &[1, 2, 1],
     &[1, 2, 2],
     &[1, 2, 3],

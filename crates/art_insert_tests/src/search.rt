@@ -1,4 +1,5 @@
 //! Points of keys.
+ghost use Rattle.std.specs.Prelude.{◌<◌};
 ghost use Rattle.art_model.specs.Pairs.{of_key};
 ghost use Rattle.art_model.specs.Roots.{IsCanonicalRoot};
 
@@ -11,7 +12,7 @@ use art_test_support::trees::{Key, child, planted_all, value_of};
 use std::alloc::Global;
 use std::test::Fail;
 
-const LONG: [&[u8]; 2] = [&[7, 1, 1, 1, 1, 5], &[7, 1, 1, 1, 1, 6]];
+static LONG: [&[u8]; 2] = [&[7, 1, 1, 1, 1, 5], &[7, 1, 1, 1, 1, 6]];
 
 // What a search for a point tells.
 #[derive(Clone, Copy, PartialEq, Eq, Debug)]
@@ -39,7 +40,7 @@ fn told_of<const P: usize>(
     }
 }
 
-// What is to be told where something is to be done at the root.
+// The point where something is to be done at the root.
 fn at_root(root: OpaqueNodePtr, insert_kind: InsertKind) -> Told {
     Told::Point(InsertPoint {
         path: TreePath::Root,
@@ -62,121 +63,13 @@ fn parted(root: OpaqueNodePtr, leaf_ptr: OptionalLeafPtr) -> Option<Told> {
     Some(at_root(root, insert_kind))
 }
 
-// The same where the first leaf is read for the prefix.
-fn parted_at_least<const P: usize>(
-    store: &NodeStore<Key, u32, P>,
-    root: OpaqueNodePtr,
-) -> Option<Told> {
-    let least = child(store, root, 5)?.as_leaf()?;
-    parted(root, Some(least))
-}
-
-// What is told of a key that parts from a long prefix, and of two that end in it or with it.
-fn told_of_long<const P: usize>(store: &NodeStore<Key, u32, P>, root: OpaqueNodePtr) -> [Told; 3]
-    requires { IsCanonicalRoot (of_key (λ key. key.items)) P store.now root }
-{
-    [
-        told_of(store, root, &[7, 1, 1, 9]),
-        told_of(store, root, &[7, 1, 1, 1]),
-        told_of(store, root, &[7, 1, 1, 1, 1]),
-    ]
-}
-
-// What is told of the same keys where a leaf is read, and what is to be.
-fn read_leaf<const P: usize>(store: &mut NodeStore<Key, u32, P>) -> Option<[[Told; 3]; 2]> {
-    let root = planted_all(store, &LONG).ok()??;
-    let point = parted_at_least(store, root)?;
-    let expected = [point, Told::Related(true), Told::Related(true)];
-    Some([told_of_long(store, root), expected])
-}
-
-// The same in a store of its own.
-fn read_leaf_with(alloc: Global) -> Option<[[Told; 3]; 2]> {
-    read_leaf::<2>(&mut NodeStore::new(alloc))
-}
-
-#[test]
-fn reads_a_leaf_for_a_long_prefix(rt: HostRuntime) -> Result<(), Fail> {
-    let [told, expected] = read_leaf_with(rt.alloc()).ok_or("a child")?;
-    assert_eq!(rt; told, expected);
-    Ok(())
-}
-
-// The same where no leaf is read.
-fn read_prefix<const P: usize>(store: &mut NodeStore<Key, u32, P>) -> Option<[[Told; 3]; 2]> {
-    let root = planted_all(store, &LONG).ok()??;
-    let point = parted(root, None)?;
-    let expected = [point, Told::Related(true), Told::Related(true)];
-    Some([told_of_long(store, root), expected])
-}
-
-// The same in a store of its own.
-fn read_prefix_with(alloc: Global) -> Option<[[Told; 3]; 2]> {
-    read_prefix::<16>(&mut NodeStore::new(alloc))
-}
-
-#[test]
-fn reads_no_leaf_for_a_stored_prefix(rt: HostRuntime) -> Result<(), Fail> {
-    let [told, expected] = read_prefix_with(rt.alloc()).ok_or("an inner root")?;
-    assert_eq!(rt; told, expected);
-    Ok(())
-}
-
-// What is told of two keys that end in the key of a leaf or go on after it, and of the empty one.
-fn told_of_related<const P: usize>(store: &NodeStore<Key, u32, P>, root: OpaqueNodePtr) -> [Told; 3]
-    requires { IsCanonicalRoot (of_key (λ key. key.items)) P store.now root }
-{
-    [
-        told_of(store, root, &[1, 2]),
-        told_of(store, root, &[1, 2, 3, 4]),
-        told_of(store, root, &[]),
-    ]
-}
-
-// The same where the leaf is that of [1, 2, 3].
-fn read_related<const P: usize>(store: &mut NodeStore<Key, u32, P>) -> Option<[Told; 3]> {
-    let root = planted_all(store, &[&[1, 2, 3]]).ok()??;
-    Some(told_of_related(store, root))
-}
-
-// The same in a store of its own.
-fn read_related_with(alloc: Global) -> Option<[Told; 3]> {
-    read_related::<16>(&mut NodeStore::new(alloc))
-}
-
-#[test]
-fn refuses_related_keys(rt: HostRuntime) {
-    assert_eq!(rt;
-        read_related_with(rt.alloc()),
-        Some([Told::Related(true); 3])
-    );
-}
-
-// What is to be told where the root gets a child more.
+// The same where the root gets a child more.
 fn beside_children(root: OpaqueNodePtr) -> Option<Told> {
     let inner_node_ptr = root.as_inner()?;
     Some(at_root(root, InsertKind::IntoExisting { inner_node_ptr }))
 }
 
-// What is told of [3] beside [1] and [2], and what is to be.
-fn told_beside<const P: usize>(store: &mut NodeStore<Key, u32, P>) -> Option<[Told; 2]> {
-    let root = planted_all(store, &[&[1], &[2]]).ok()??;
-    Some([told_of(store, root, &[3]), beside_children(root)?])
-}
-
-// The same in a store of its own.
-fn told_beside_with(alloc: Global) -> Option<[Told; 2]> {
-    told_beside::<16>(&mut NodeStore::new(alloc))
-}
-
-#[test]
-fn stands_beside_the_children_of_a_node(rt: HostRuntime) -> Result<(), Fail> {
-    let [told, expected] = told_beside_with(rt.alloc()).ok_or("an inner root")?;
-    assert_eq!(rt; told, expected);
-    Ok(())
-}
-
-// What is to be told where the root is a leaf that gets a parent with a prefix of two bytes.
+// The same where the root is a leaf that gets a parent with a prefix of two bytes.
 fn beside_leaf(root: OpaqueNodePtr) -> Option<Told> {
     let insert_kind = InsertKind::SplitLeaf {
         leaf_node_ptr: root.as_leaf()?,
@@ -185,47 +78,148 @@ fn beside_leaf(root: OpaqueNodePtr) -> Option<Told> {
     Some(at_root(root, insert_kind))
 }
 
-// What is told of [1, 2, 9] beside [1, 2, 3, 4], and what is to be.
-fn told_parted<const P: usize>(store: &mut NodeStore<Key, u32, P>) -> Option<[Told; 2]> {
-    let root = planted_all(store, &[&[1, 2, 3, 4]]).ok()??;
-    Some([told_of(store, root, &[1, 2, 9]), beside_leaf(root)?])
-}
-
-// The same in a store of its own.
-fn told_parted_with(alloc: Global) -> Option<[Told; 2]> {
-    told_parted::<16>(&mut NodeStore::new(alloc))
-}
-
-#[test]
-fn splits_a_leaf(rt: HostRuntime) -> Result<(), Fail> {
-    let [told, expected] = told_parted_with(rt.alloc()).ok_or("a leaf")?;
-    assert_eq!(rt; told, expected);
-    Ok(())
-}
-
-// What is to be told where the root is the leaf of the key.
+// The same where the root is the leaf of the key.
 fn at_leaf(root: OpaqueNodePtr) -> Option<Told> {
     let leaf_node_ptr = root.as_leaf()?;
     Some(at_root(root, InsertKind::Exact { leaf_node_ptr }))
 }
 
-// What is told of the empty key and of another where the empty one is stored, and what is to be.
-fn told_of_empty<const P: usize>(store: &mut NodeStore<Key, u32, P>) -> Option<[[Told; 2]; 2]> {
-    let root = planted_all(store, &[&[]]).ok()??;
-    let told = [told_of(store, root, &[]), told_of(store, root, &[1])];
-    Some([told, [at_leaf(root)?, Told::Related(true)]])
+// What is to be told of a key.
+#[derive(Clone, Copy)]
+enum Wanted {
+    /// That it parts from the root's prefix, where the first leaf is read for it.
+    PartsByLeaf,
+    /// The same where no leaf is read.
+    Parts,
+    Related,
+    BesideChildren,
+    BesideLeaf,
+    AtLeaf,
+}
+
+// A tree's root, what that has under 5, and what is told of a key.
+#[derive(Clone, Copy)]
+struct Seen {
+    root: OpaqueNodePtr,
+    below: Option<OpaqueNodePtr>,
+    told: Told,
+}
+
+// What is to be told of a key, in full.
+fn expected(seen: Seen, wanted: Wanted) -> Option<Told> {
+    match wanted {
+        Wanted::PartsByLeaf => parted(seen.root, Some(seen.below?.as_leaf()?)),
+        Wanted::Parts => parted(seen.root, None),
+        Wanted::Related => Some(Told::Related(true)),
+        Wanted::BesideChildren => beside_children(seen.root),
+        Wanted::BesideLeaf => beside_leaf(seen.root),
+        Wanted::AtLeaf => at_leaf(seen.root),
+    }
+}
+
+// Whether a key was told as wanted.
+fn is_told(seen: Option<Seen>, wanted: Wanted) -> bool {
+    match seen {
+        Some(seen) => expected(seen, wanted) == Some(seen.told),
+        None => false,
+    }
+}
+
+// What is seen of a key in the tree of these.
+fn seen_in<const P: usize>(
+    store: &mut NodeStore<Key, u32, P>,
+    slices: &[&[u8]],
+    key: &[u8],
+) -> Option<Seen> {
+    let root = planted_all(store, slices).ok()??;
+    Some(Seen {
+        root,
+        below: child(store, root, 5),
+        told: told_of(store, root, key),
+    })
 }
 
 // The same in a store of its own.
-fn told_of_empty_with(alloc: Global) -> Option<[[Told; 2]; 2]> {
-    told_of_empty::<16>(&mut NodeStore::new(alloc))
+fn seen_with<const P: usize>(alloc: Global, slices: &[&[u8]], key: &[u8]) -> Option<Seen>
+    requires { P < 256 }
+{
+    seen_in::<P>(&mut NodeStore::new(alloc), slices, key)
+}
+
+// The first of these keys that is not told as wanted.
+fn first_untold<const P: usize>(
+    alloc: Global,
+    slices: &[&[u8]],
+    rows: &[(&[u8], Wanted)],
+) -> Option<usize>
+    requires { P < 256 }
+{
+    for (at, (key, wanted)) in rows.iter().enumerate() {
+        if !is_told(seen_with::<P>(alloc, slices, key), *wanted) {
+            return Some(at);
+        }
+    }
+    None
+}
+
+// A key that parts from a long prefix, and two that end in it or with it.
+static BY_LEAF: [(&[u8], Wanted); 3] = [
+    (&[7, 1, 1, 9], Wanted::PartsByLeaf),
+    (&[7, 1, 1, 1], Wanted::Related),
+    (&[7, 1, 1, 1, 1], Wanted::Related),
+];
+
+#[test]
+fn reads_a_leaf_for_a_long_prefix(rt: HostRuntime) {
+    assert_eq!(rt; first_untold::<2>(rt.alloc(), &LONG, &BY_LEAF), None);
+}
+
+// The same keys.
+static BY_PREFIX: [(&[u8], Wanted); 3] = [
+    (&[7, 1, 1, 9], Wanted::Parts),
+    (&[7, 1, 1, 1], Wanted::Related),
+    (&[7, 1, 1, 1, 1], Wanted::Related),
+];
+
+#[test]
+fn reads_no_leaf_for_a_stored_prefix(rt: HostRuntime) {
+    assert_eq!(rt; first_untold::<16>(rt.alloc(), &LONG, &BY_PREFIX), None);
+}
+
+// Two keys that end in the key of a leaf or go on after it, and the empty one.
+static RELATED: [(&[u8], Wanted); 3] = [
+    (&[1, 2], Wanted::Related),
+    (&[1, 2, 3, 4], Wanted::Related),
+    (&[], Wanted::Related),
+];
+
+#[test]
+fn refuses_related_keys(rt: HostRuntime) {
+    assert_eq!(rt;
+        first_untold::<16>(rt.alloc(), &[&[1, 2, 3]], &RELATED),
+        None
+    );
 }
 
 #[test]
-fn finds_the_leaf_of_the_empty_key(rt: HostRuntime) -> Result<(), Fail> {
-    let [told, expected] = told_of_empty_with(rt.alloc()).ok_or("a leaf")?;
-    assert_eq!(rt; told, expected);
-    Ok(())
+fn stands_beside_the_children_of_a_node(rt: HostRuntime) {
+    let rows: [(&[u8], Wanted); 1] = [(&[3], Wanted::BesideChildren)];
+    assert_eq!(rt; first_untold::<16>(rt.alloc(), &[&[1], &[2]], &rows), None);
+}
+
+#[test]
+fn splits_a_leaf(rt: HostRuntime) {
+    let rows: [(&[u8], Wanted); 1] = [(&[1, 2, 9], Wanted::BesideLeaf)];
+    assert_eq!(rt;
+        first_untold::<16>(rt.alloc(), &[&[1, 2, 3, 4]], &rows),
+        None
+    );
+}
+
+#[test]
+fn finds_the_leaf_of_the_empty_key(rt: HostRuntime) {
+    let rows: [(&[u8], Wanted); 2] = [(&[], Wanted::AtLeaf), (&[1], Wanted::Related)];
+    assert_eq!(rt; first_untold::<16>(rt.alloc(), &[&[]], &rows), None);
 }
 
 // The paths and the used bytes of two keys beside the nodes at [1] and [1, 2], and the point of a stored key.

@@ -140,6 +140,18 @@ pub fn planted_all<const P: usize>(
     planted_keys(store, all)
 }
 
+/// The root of the tree of these keys, which it plants with a second store of its own, if there is one.
+pub fn planted_keys<const P: usize>(
+    store: &mut NodeStore<Key, u32, P>,
+    all: Vec<Key>,
+) -> Option<OpaqueNodePtr>
+    ensures { IfSome result (λ root. IsCanonicalRoot (of_key (λ key. key.items)) P store.new root) }
+{
+    let alloc = store.alloc();
+    let answer = planted(store, &mut NodeStore::new(alloc), all);
+    answer.ok()?
+}
+
 /// All keys of three bytes, each byte less than its limit.
 pub fn keys_of_three(alloc: Global, limits: [u8; 3]) -> Result<Vec<Key>, Fail> {
     let mut keys = Vec::new(alloc);

@@ -4,36 +4,45 @@ use art_nodes::node::{InnerRef, LeafNode, NodePtr, OpaqueNodePtr};
 use art_nodes::store::NodeStore;
 use art_test_support::placing::{Plain, leaf_at};
 use art_test_support::trees::Key;
-use std::process::Abort;
 
-/// Sees that a store has these nodes under these names.
-pub fn assert_all<const P: usize>(
-    rt: &impl Abort,
+/// The place of the first node that a store does not have as wanted under the name at that place, or that has no name or
+/// is missing.
+pub fn first_wrong<const P: usize>(
     store: &NodeStore<Key, u32, P>,
     names: &[OpaqueNodePtr],
     nodes: &[Plain<'_>],
-) {
-    assert_eq!(rt; names.len(), nodes.len());
-    for (name, node) in names.iter().zip(nodes) {
-        match name.split() {
-            NodePtr::Leaf(leaf) => match store.leaf(leaf) {
-                Some(found) => assert_leaf(rt, found, *node, names),
-                None => assert!(rt; false, "no leaf {name}"),
-            },
-            NodePtr::Inner(inner) => match store.inner(inner) {
-                Some(found) => assert_inner(rt, found, *node, names),
-                None => assert!(rt; false, "no node {name}"),
-            },
+) -> Option<usize> {
+    for (at, (name, node)) in names.iter().zip(nodes).enumerate() {
+        if !is_read(store, names, *name, *node) {
+            return Some(at);
         }
+    }
+    if names.len() == nodes.len() {
+        return None;
+    }
+    Some(names.len().min(nodes.len()))
+}
+
+// Whether a store has a node under a name.
+fn is_read<const P: usize>(
+    store: &NodeStore<Key, u32, P>,
+    names: &[OpaqueNodePtr],
+    name: OpaqueNodePtr,
+    want: Plain<'_>,
+) -> bool {
+    match name.split() {
+        NodePtr::Leaf(leaf) => match store.leaf(leaf) {
+            Some(found) => is_leaf(found, want, names),
+            None => false,
+        },
+        NodePtr::Inner(inner) => match store.inner(inner) {
+            Some(found) => is_inner(found, want, names),
+            None => false,
+        },
     }
 }
 
-fn assert_leaf(
-    rt: &impl Abort,
-    found: &LeafNode<Key, u32>,
-    want: Plain<'_>,
-    names: &[OpaqueNodePtr],
-) {
+fn is_leaf(found: &LeafNode<Key, u32>, want: Plain<'_>, names: &[OpaqueNodePtr]) -> bool {
     let Plain::Leaf {
         key,
         value,
@@ -41,21 +50,19 @@ fn assert_leaf(
         next,
     } = want
     else {
-        assert!(rt; false, "a leaf");
-        return;
+        return false;
     };
-    assert_eq!(rt; found.key.as_slice(), key);
-    assert_eq!(rt; found.value, value);
-    assert_eq!(rt; found.previous, leaf_at(names, previous));
-    assert_eq!(rt; found.next, leaf_at(names, next));
+    found.key.as_slice() == key
+        && found.value == value
+        && found.previous == leaf_at(names, previous)
+        && found.next == leaf_at(names, next)
 }
 
-fn assert_inner<const P: usize>(
-    rt: &impl Abort,
+fn is_inner<const P: usize>(
     found: InnerRef<'_, P>,
     want: Plain<'_>,
     names: &[OpaqueNodePtr],
-) {
+) -> bool {
     let Plain::Inner {
         kind,
         prefix_len,
@@ -63,17 +70,24 @@ fn assert_inner<const P: usize>(
         children,
     } = want
     else {
-        assert!(rt; false, "an inner node");
-        return;
+        return false;
     };
-    assert_eq!(rt; found.node_type(), kind);
-    assert_eq!(rt; found.prefix_len(), prefix_len);
-    assert_eq!(rt; found.read_prefix(), prefix);
-    let mut seen = found.iter();
-    for (byte, at) in children {
-        let child = names.get(*at).copied();
-        assert!(rt; child.is_some());
-        assert_eq!(rt; seen.next(), child.map(|child| (*byte, child)));
+    found.node_type() == kind
+        && found.prefix_len() == prefix_len
+        && found.read_prefix() == prefix
+        && has_children(found, children, names)
+}
+
+// Whether a node has these children, in this order, and no others.
+fn has_children<const P: usize>(
+    found: InnerRef<'_, P>,
+    children: &[(u8, usize)],
+    names: &[OpaqueNodePtr],
+) -> bool {
+    for ((byte, child), (wanted, at)) in found.iter().zip(children) {
+        if byte != *wanted || names.get(*at).copied() != Some(child) {
+            return false;
+        }
     }
-    assert_eq!(rt; seen.next(), None);
+    found.iter().count() == children.len()
 }

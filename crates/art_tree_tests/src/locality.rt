@@ -1,205 +1,88 @@
-//! What a command touches, over all nodes of a store: the names that come into use, those that go out of it, and
-//! those that have another node.
-ghost use Rattle.std.specs.Prelude.{IfOk, Some};
+//! What a command touches, over all nodes of a store.
+ghost use Rattle.std.specs.Prelude.{◌<◌, Some, IfSome};
 ghost use Rattle.art_tree_tests.specs.Trees.{HasTree};
 
-use crate::trees::{boxed_keys, insert_all};
-use art_nodes::node::{AsBytes, LeafPtr, NodePtr, NodeType, OpaqueNodePtr};
+use art_nodes::node::{NodeType, OpaqueNodePtr};
 use art_nodes::store::NodeStore;
-use art_operations::run::{Command, Side};
-use art_test_support::commands::{Asked, Row, Told, ran_from, run_without_memory, told_by};
-use art_test_support::trees::{Key, keys};
+use art_operations::run::{Command, Reply, Side};
+use art_test_support::commands::{
+    Asked, Row, Told, commands, first_wrong, ran_from, run_without_memory,
+};
+use art_test_support::nodes::{Seen, count_nodes, count_touched, is_still, nodes_seen};
+use art_test_support::trees::{Key, child, keys_of_three, planted_all, planted_keys};
 use std::alloc::{AllocError, Global};
 use std::test::Fail;
 
-// No test's store has more slots.
-const SLOTS: usize = 500;
-
-const KINDS: [NodeType; 5] = [
-    NodeType::Node4,
-    NodeType::Node16,
-    NodeType::Node48,
-    NodeType::Node256,
-    NodeType::Leaf,
-];
-
-#[derive(PartialEq, Eq, Drop)]
-enum Node {
-    Leaf {
-        key: Vec<u8>,
-        value: u32,
-        links: (Option<LeafPtr>, Option<LeafPtr>),
-    },
-    Inner {
-        prefix_len: usize,
-        stored: Vec<u8>,
-        children: Vec<(u8, OpaqueNodePtr)>,
-    },
-}
-
-/// All nodes of a store, each with its name.
-#[derive(Drop)]
-struct Snapshot {
-    nodes: Vec<(OpaqueNodePtr, Node)>,
-}
-
-impl Snapshot {
-    fn take<K: AsBytes + Drop, const P: usize>(
-        store: &NodeStore<K, u32, P>,
-    ) -> Result<Self, AllocError> {
-        let mut nodes = Vec::new(store.alloc());
-        for kind in KINDS {
-            for slot in 0..SLOTS {
-                let name = OpaqueNodePtr::from_parts(kind, slot);
-                if let Some(node) = node_under(store, name)? {
-                    nodes.push((name, node))?;
-                }
-            }
-        }
-        Ok(Snapshot { nodes })
-    }
-
-    fn node(&self, name: OpaqueNodePtr) -> Option<&Node> {
-        for (other, node) in &self.nodes {
-            if *other == name {
-                return Some(node);
-            }
-        }
-        None
-    }
-
-    /// The key of the leaf under a name.
-    fn key(&self, name: OpaqueNodePtr) -> Option<&[u8]> {
-        match self.node(name)? {
-            Node::Leaf { key, .. } => Some(key.as_slice()),
-            Node::Inner { .. } => None,
-        }
-    }
-
-    /// The name of the leaf of a key.
-    fn name_of(&self, key_bytes: &[u8]) -> Option<OpaqueNodePtr> {
-        for (name, node) in &self.nodes {
-            if let Node::Leaf { key, .. } = node {
-                if key.as_slice() == key_bytes {
-                    return Some(*name);
-                }
-            }
-        }
-        None
-    }
-}
-
-// The node under a name, if there is one.
-fn node_under<K: AsBytes + Drop, const P: usize>(
-    store: &NodeStore<K, u32, P>,
-    name: OpaqueNodePtr,
-) -> Result<Option<Node>, AllocError> {
-    match name.split() {
-        NodePtr::Leaf(name) => {
-            let Some(leaf) = store.leaf(name) else {
-                return Ok(None);
-            };
-            Ok(Some(Node::Leaf {
-                key: leaf.key.as_bytes().to_vec(store.alloc())?,
-                value: leaf.value,
-                links: (leaf.previous, leaf.next),
-            }))
-        }
-        NodePtr::Inner(name) => {
-            let Some(node) = store.inner(name) else {
-                return Ok(None);
-            };
-            let mut children = Vec::new(store.alloc());
-            for child in node.iter() {
-                children.push(child)?;
-            }
-            Ok(Some(Node::Inner {
-                prefix_len: node.prefix_len(),
-                stored: node.read_prefix().to_vec(store.alloc())?,
-                children,
-            }))
-        }
-    }
-}
-
 /// How many names came into use, went out of it, and have another node.
-#[derive(Clone, Copy, PartialEq, Eq, Debug)]
-struct Touched {
-    placed: usize,
-    freed: usize,
-    changed: usize,
-}
+type Touched = (usize, usize, usize);
 
-const NOTHING: Touched = Touched {
-    placed: 0,
-    freed: 0,
-    changed: 0,
-};
-
-impl Touched {
-    fn between(before: &Snapshot, after: &Snapshot) -> Self {
-        let mut touched = NOTHING;
-        for (name, old) in &before.nodes {
-            match after.node(*name) {
-                None => touched.freed = touched.freed.saturating_add(1),
-                Some(new) => {
-                    if old != new {
-                        touched.changed = touched.changed.saturating_add(1);
-                    }
-                }
-            }
-        }
-        for (name, _) in &after.nodes {
-            if before.node(*name).is_none() {
-                touched.placed = touched.placed.saturating_add(1);
-            }
-        }
-        touched
-    }
-}
-
-// Asks a command. Answers whether the reply is the one of the row.
+// Asks a command, with a second store for the run alone. Answers whether the reply is the one of the row.
 fn is_answered<const P: usize>(
     store: &mut NodeStore<Key, u32, P>,
+    second: &mut NodeStore<Key, u32, P>,
     root: &mut Option<OpaqueNodePtr>,
     row: Row<'_>,
-) -> Result<bool, AllocError>
+) -> Option<bool>
     requires { HasTree P store.old root.old }
-    ensures { IfOk result (λ _. HasTree P store.new root.new) }
+    ensures { IfSome result (λ _. HasTree P store.new root.new) }
 {
-    let mut second = NodeStore::new(store.alloc());
-    let (left, new_root) = ran_from(store, &mut second, *root, &[row])?;
+    let (left, new_root) = ran_from(store, second, *root, &[row]).ok()?;
     match left.side {
         Side::First => {
             *root = new_root;
-            Ok(left.wrong.is_none())
+            Some(left.wrong.is_none())
         }
-        Side::Second => Err(AllocError),
+        Side::Second => None,
     }
 }
 
-// What a command touches, or None where the reply is not the one of the row.
+// The same with a second store of its own.
+fn is_answered_alone<const P: usize>(
+    store: &mut NodeStore<Key, u32, P>,
+    root: &mut Option<OpaqueNodePtr>,
+    row: Row<'_>,
+) -> Option<bool>
+    requires { HasTree P store.old root.old }
+    ensures { IfSome result (λ _. HasTree P store.new root.new) }
+{
+    let alloc = store.alloc();
+    is_answered(store, &mut NodeStore::new(alloc), root, row)
+}
+
+// What a command touches in a store that had these nodes. None where the reply is not the one of the row.
+fn touched_since<const P: usize>(
+    store: &mut NodeStore<Key, u32, P>,
+    root: &mut Option<OpaqueNodePtr>,
+    row: Row<'_>,
+    before: &[Seen],
+) -> Option<Touched>
+    requires { HasTree P store.old root.old }
+    ensures { IfSome result (λ _. HasTree P store.new root.new) }
+{
+    if !is_answered_alone(store, root, row)? {
+        return None;
+    }
+    Some(count_touched(store, before))
+}
+
+// The same since there were the nodes of now.
 fn touched_by<const P: usize>(
     store: &mut NodeStore<Key, u32, P>,
     root: &mut Option<OpaqueNodePtr>,
     row: Row<'_>,
-) -> Result<Option<Touched>, AllocError>
+) -> Option<Touched>
     requires { HasTree P store.old root.old }
-    ensures { IfOk result (λ _. HasTree P store.new root.new) }
+    ensures { IfSome result (λ _. HasTree P store.new root.new) }
 {
-    let before = Snapshot::take(store)?;
-    let is_right = is_answered(store, root, row)?;
-    let after = Snapshot::take(store)?;
-    if is_right {
-        Ok(Some(Touched::between(&before, &after)))
-    } else {
-        Ok(None)
+    match nodes_seen(store) {
+        Ok(before) => touched_since(store, root, row, &before),
+        Err(_) => None,
     }
 }
 
-/// What is seen of two snapshots, one before and one after the insertion of a key behind all others.
+/// What is seen of the nodes before and after the insertion of a key behind all others.
 #[derive(Clone, Copy, PartialEq, Eq, Debug)]
-struct Seen {
+struct SeenBehind {
     nodes_before: usize,
     touched: Touched,
     is_root_changed: bool,
@@ -208,124 +91,169 @@ struct Seen {
     keeps_keys: bool,
 }
 
-impl Seen {
-    fn between(
-        before: &Snapshot,
-        after: &Snapshot,
-        root: OpaqueNodePtr,
-        last_key: &[u8],
-    ) -> Option<Self> {
-        let last = before.name_of(last_key)?;
-        Some(Seen {
-            nodes_before: before.nodes.len(),
-            touched: Touched::between(before, after),
-            is_root_changed: before.node(root) != after.node(root),
-            is_last_changed: before.node(last) != after.node(last),
-            keeps_keys: before
-                .nodes
-                .iter()
-                .all(|(name, _)| before.key(*name) == after.key(*name)),
-        })
+// Whether a name has another node than it had, or none.
+fn is_changed<const P: usize>(
+    store: &NodeStore<Key, u32, P>,
+    before: &[Seen],
+    name: OpaqueNodePtr,
+) -> bool {
+    for seen in before {
+        if seen.name() == name {
+            return !is_still(store, seen);
+        }
+    }
+    false
+}
+
+// Whether a name has a leaf of the key that it had, if it had one.
+fn keeps_key<const P: usize>(store: &NodeStore<Key, u32, P>, seen: &Seen) -> bool {
+    let Some(name) = seen.name().as_leaf() else {
+        return true;
+    };
+    match store.leaf(name) {
+        Some(leaf) => seen.key() == Some(leaf.key.as_slice()),
+        None => false,
     }
 }
 
-// What an insertion of a key behind that of the last leaf does, where it is replied to as told and keeps the root.
-fn seen_of_insertion<const P: usize>(
-    store: &mut NodeStore<Key, u32, P>,
-    root: OpaqueNodePtr,
-    row: Row<'_>,
-    last_key: &[u8],
-) -> Result<Option<Seen>, AllocError>
-    requires { HasTree P store.old (Some root) }
-{
-    let before = Snapshot::take(store)?;
-    let mut new_root = Some(root);
-    let is_right = is_answered(store, &mut new_root, row)?;
-    let after = Snapshot::take(store)?;
-    if is_right && new_root == Some(root) {
-        Ok(Seen::between(&before, &after, root, last_key))
-    } else {
-        Ok(None)
+// Whether each name of a leaf has the key that it had.
+fn keeps_keys<const P: usize>(store: &NodeStore<Key, u32, P>, before: &[Seen]) -> bool {
+    for seen in before {
+        if !keeps_key(store, seen) {
+            return false;
+        }
+    }
+    true
+}
+
+// What is seen where the insertion touched this.
+fn behind_seen<const P: usize>(
+    store: &NodeStore<Key, u32, P>,
+    before: &[Seen],
+    [root, last]: [OpaqueNodePtr; 2],
+    touched: Touched,
+) -> SeenBehind {
+    SeenBehind {
+        nodes_before: before.len(),
+        touched,
+        is_root_changed: is_changed(store, before, root),
+        is_last_changed: is_changed(store, before, last),
+        keeps_keys: keeps_keys(store, before),
     }
 }
+
+/// The insertion of a key behind all others.
+static BEHIND_ALL: Row<'static> = (Asked::Insert(&[60, 0, 0], 7), Told::Inserted(None));
+
+// What the insertion does, where it is replied to as told and keeps the root.
+fn behind_since<const P: usize>(
+    store: &mut NodeStore<Key, u32, P>,
+    root: OpaqueNodePtr,
+    before: &[Seen],
+    last: OpaqueNodePtr,
+) -> Option<SeenBehind>
+    requires { HasTree P store.old (Some root) }
+{
+    let mut new_root = Some(root);
+    let touched = touched_since(store, &mut new_root, BEHIND_ALL, before)?;
+    if new_root != Some(root) {
+        return None;
+    }
+    Some(behind_seen(store, before, [root, last], touched))
+}
+
+// The same in the tree of these keys, of which [50, 1, 2] is the last.
+fn behind_last<const P: usize>(
+    store: &mut NodeStore<Key, u32, P>,
+    keys: Vec<Key>,
+) -> Option<SeenBehind> {
+    let root = planted_keys(store, keys)?;
+    let last = child(store, child(store, child(store, root, 50)?, 1)?, 2)?;
+    match nodes_seen(store) {
+        Ok(before) => behind_since(store, root, &before, last),
+        Err(_) => None,
+    }
+}
+
+// The same in a store of its own.
+fn behind_last_with(alloc: Global, keys: Vec<Key>) -> Option<SeenBehind> {
+    behind_last::<16>(&mut NodeStore::new(alloc), keys)
+}
+
+/// What is to be seen: the root and the last leaf have another node.
+static BEHIND: SeenBehind = SeenBehind {
+    nodes_before: 306 + 154,
+    touched: (1, 0, 2),
+    is_root_changed: true,
+    is_last_changed: true,
+    keeps_keys: true,
+};
 
 #[test]
 fn a_child_more_of_a_large_root_changes_it_and_the_last_leaf(rt: HostRuntime) -> Result<(), Fail> {
-    let keys = boxed_keys(rt.alloc(), [50, 1, 2])?;
-    let mut store: NodeStore<Key, u32, 16> = NodeStore::new(rt.alloc());
-    let root = insert_all(&mut store, &keys)?.ok_or("a root")?;
-    let row = (Asked::Insert(&[60, 0, 0], 7), Told::Inserted(None));
-    let seen = seen_of_insertion(&mut store, root, row, &[50, 1, 2])?;
-    let wanted = Seen {
-        nodes_before: 306 + 154,
-        touched: Touched {
-            placed: 1,
-            freed: 0,
-            changed: 2,
-        },
-        is_root_changed: true,
-        is_last_changed: true,
-        keeps_keys: true,
-    };
-    assert_eq!(rt; seen, Some(wanted));
+    let keys = keys_of_three(rt.alloc(), [51, 2, 3])?;
+    assert_eq!(rt; behind_last_with(rt.alloc(), keys), Some(BEHIND));
     Ok(())
 }
 
 /// What an insertion touches, what the deletion of the same key touches, what both do together, and whether the root
 /// is the same again.
-type PutAndRemoved = ([Option<Touched>; 3], bool);
+type PutAndRemoved = ([Touched; 3], bool);
 
-// Inserts a key into the prefix of a node, and deletes it.
+// Inserts a key into the prefix of a node, and deletes it, where the store had these nodes.
 fn put_and_remove<const P: usize>(
     store: &mut NodeStore<Key, u32, P>,
-    root: &mut Option<OpaqueNodePtr>,
-) -> Result<PutAndRemoved, AllocError>
-    requires { HasTree P store.old root.old }
+    planted: OpaqueNodePtr,
+    first: &[Seen],
+) -> Option<PutAndRemoved>
+    requires { HasTree P store.old (Some planted) }
 {
-    let planted = *root;
-    let first = Snapshot::take(store)?;
+    let mut root = Some(planted);
     let put = (Asked::Insert(&[1, 1, 9], 4), Told::Inserted(None));
-    let placed = touched_by(store, root, put)?;
+    let placed = touched_by(store, &mut root, put)?;
     let remove = (
         Asked::Delete(&[1, 1, 9]),
         Told::Deleted(Some((&[1, 1, 9], 4))),
     );
-    let freed = touched_by(store, root, remove)?;
-    let both = Touched::between(&first, &Snapshot::take(store)?);
-    Ok(([placed, freed, Some(both)], *root == planted))
+    let freed = touched_by(store, &mut root, remove)?;
+    let both = count_touched(store, first);
+    Some(([placed, freed, both], root == Some(planted)))
 }
 
 // The same in the tree of four keys.
-fn put_and_remove_at<const P: usize>(
-    store: &mut NodeStore<Key, u32, P>,
-) -> Result<PutAndRemoved, AllocError> {
-    let four = keys(store.alloc(), &[&[0], &[1, 1, 1, 5], &[1, 1, 1, 6], &[2]])?;
-    let mut root = insert_all(store, &four)?;
-    put_and_remove(store, &mut root)
+fn put_and_remove_in<const P: usize>(store: &mut NodeStore<Key, u32, P>) -> Option<PutAndRemoved> {
+    let slices: [&[u8]; 4] = [&[0], &[1, 1, 1, 5], &[1, 1, 1, 6], &[2]];
+    let root = planted_all(store, &slices).ok()??;
+    match nodes_seen(store) {
+        Ok(first) => put_and_remove(store, root, &first),
+        Err(_) => None,
+    }
+}
+
+// The same in a store of its own.
+fn put_and_remove_with<const P: usize>(alloc: Global) -> Option<PutAndRemoved>
+    requires { P < 256 }
+{
+    put_and_remove_in::<P>(&mut NodeStore::new(alloc))
+}
+
+// The same with each number of stored bytes.
+fn put_and_remove_at_each(alloc: Global) -> [Option<PutAndRemoved>; 3] {
+    [
+        put_and_remove_with::<0>(alloc),
+        put_and_remove_with::<1>(alloc),
+        put_and_remove_with::<16>(alloc),
+    ]
 }
 
 #[test]
 fn a_split_prefix_is_merged_again(rt: HostRuntime) {
-    let alloc = rt.alloc();
-    let at_0 = put_and_remove_at::<0>(&mut NodeStore::new(alloc)).ok();
-    let at_1 = put_and_remove_at::<1>(&mut NodeStore::new(alloc)).ok();
-    let at_16 = put_and_remove_at::<16>(&mut NodeStore::new(alloc)).ok();
-    let put = Touched {
-        placed: 2,
-        freed: 0,
-        changed: 4,
-    };
-    let removed = Touched {
-        placed: 0,
-        freed: 2,
-        changed: 4,
-    };
-    let wanted = ([Some(put), Some(removed), Some(NOTHING)], true);
-    assert_eq!(rt; [at_0, at_1, at_16], [Some(wanted); 3]);
+    let wanted = ([(2, 0, 4), (0, 2, 4), (0, 0, 0)], true);
+    assert_eq!(rt; put_and_remove_at_each(rt.alloc()), [Some(wanted); 3]);
 }
 
 /// Each kind that the root of keys of one byte can have, with the least number of keys for it.
-const ROOT_KINDS: [(usize, NodeType); 5] = [
+static ROOT_KINDS: [(usize, NodeType); 5] = [
     (1, NodeType::Leaf),
     (2, NodeType::Node4),
     (5, NodeType::Node16),
@@ -336,9 +264,9 @@ const ROOT_KINDS: [(usize, NodeType); 5] = [
 // The kind of the root of so many keys of one byte.
 fn kind_for(count: usize) -> Option<NodeType> {
     let mut kind = None;
-    for (least, root_kind) in ROOT_KINDS {
-        if least <= count {
-            kind = Some(root_kind);
+    for (least, root_kind) in &ROOT_KINDS {
+        if *least <= count {
+            kind = Some(*root_kind);
         }
     }
     kind
@@ -350,24 +278,22 @@ fn is_small_step<const P: usize>(
     root: &mut Option<OpaqueNodePtr>,
     row: Row<'_>,
     count: usize,
-) -> Result<bool, AllocError>
+) -> Option<bool>
     requires { HasTree P store.old root.old }
-    ensures { IfOk result (λ _. HasTree P store.new root.new) }
+    ensures { IfSome result (λ _. HasTree P store.new root.new) }
 {
-    let Some(touched) = touched_by(store, root, row)? else {
-        return Ok(false);
-    };
+    let (placed, freed, changed) = touched_by(store, root, row)?;
     let is_kind = root.map(|root| root.node_type()) == kind_for(count);
-    Ok(is_kind && touched.placed <= 2 && touched.freed <= 2 && touched.changed <= 4)
+    Some(is_kind && placed <= 2 && freed <= 2 && changed <= 4)
 }
 
 // Inserts all keys of one byte. Answers how many of these steps are small.
 fn count_small_insertions<const P: usize>(
     store: &mut NodeStore<Key, u32, P>,
     root: &mut Option<OpaqueNodePtr>,
-) -> Result<usize, AllocError>
+) -> Option<usize>
     requires { HasTree P store.old root.old }
-    ensures { IfOk result (λ _. HasTree P store.new root.new) }
+    ensures { IfSome result (λ _. HasTree P store.new root.new) }
 {
     let mut small = 0usize;
     for byte in 0..=255u8 {
@@ -376,16 +302,16 @@ fn count_small_insertions<const P: usize>(
             small = small.saturating_add(1);
         }
     }
-    Ok(small)
+    Some(small)
 }
 
 // Deletes the last pair again and again. Answers how many of these steps are small.
 fn count_small_deletions<const P: usize>(
     store: &mut NodeStore<Key, u32, P>,
     root: &mut Option<OpaqueNodePtr>,
-) -> Result<usize, AllocError>
+) -> Option<usize>
     requires { HasTree P store.old root.old }
-    ensures { IfOk result (λ _. HasTree P store.new root.new) }
+    ensures { IfSome result (λ _. HasTree P store.new root.new) }
 {
     let mut small = 0usize;
     for last in (0..=255u8).rev() {
@@ -394,18 +320,30 @@ fn count_small_deletions<const P: usize>(
             small = small.saturating_add(1);
         }
     }
-    Ok(small)
+    Some(small)
+}
+
+/// How many insertions and how many deletions are small, the root after them, and how many leaves and inner nodes are
+/// left.
+type GrownAndShrunk = (usize, usize, Option<OpaqueNodePtr>, (usize, usize));
+
+// What comes of all insertions and all deletions.
+fn grown_and_shrunk<const P: usize>(store: &mut NodeStore<Key, u32, P>) -> Option<GrownAndShrunk> {
+    let mut root = None;
+    let grown = count_small_insertions(store, &mut root)?;
+    let shrunk = count_small_deletions(store, &mut root)?;
+    Some((grown, shrunk, root, count_nodes(store)))
+}
+
+// The same in a store of its own.
+fn grown_and_shrunk_with(alloc: Global) -> Option<GrownAndShrunk> {
+    grown_and_shrunk::<16>(&mut NodeStore::new(alloc))
 }
 
 #[test]
-fn a_root_grows_and_shrinks_through_every_kind(rt: HostRuntime) -> Result<(), Fail> {
-    let mut store: NodeStore<Key, u32, 16> = NodeStore::new(rt.alloc());
-    let mut root = None;
-    let grown = count_small_insertions(&mut store, &mut root)?;
-    let shrunk = count_small_deletions(&mut store, &mut root)?;
-    let left = Snapshot::take(&store)?.nodes.len();
-    assert_eq!(rt; (grown, shrunk, root, left), (256, 256, None, 0));
-    Ok(())
+fn a_root_grows_and_shrinks_through_every_kind(rt: HostRuntime) {
+    let done = grown_and_shrunk_with(rt.alloc());
+    assert_eq!(rt; done, Some((256, 256, None, (0, 0))));
 }
 
 /// What came of a deletion.
@@ -426,100 +364,163 @@ struct Groups {
     chained: usize,
 }
 
+// A key of 2, of so many zeros, and of 255.
+fn chained_key(alloc: Global, zeros: usize) -> Result<Key, AllocError> {
+    let mut key = [2].to_vec(alloc)?;
+    key.resize(zeros.saturating_add(1), 0)?;
+    key.push(255)?;
+    Ok(key)
+}
+
+// Puts so many keys of a byte and of another into a list.
+fn push_pairs(keys: &mut Vec<Key>, alloc: Global, front: u8, count: u8) -> Result<(), AllocError> {
+    for byte in 0..count {
+        keys.push([front, byte].to_vec(alloc)?)?;
+    }
+    Ok(())
+}
+
+// Puts the keys of these groups into a list.
+fn push_groups(keys: &mut Vec<Key>, alloc: Global, groups: Groups) -> Result<(), AllocError> {
+    push_pairs(keys, alloc, 0, groups.count)?;
+    push_pairs(keys, alloc, 1, groups.others)?;
+    for zeros in 0..groups.chained {
+        keys.push(chained_key(alloc, zeros)?)?;
+    }
+    Ok(())
+}
+
 // The keys of these groups.
 fn keys_of_groups(alloc: Global, groups: Groups) -> Result<Vec<Key>, AllocError> {
     let mut keys = Vec::new(alloc);
-    for byte in 0..groups.count {
-        keys.push([0, byte].to_vec(alloc)?)?;
-    }
-    for byte in 0..groups.others {
-        keys.push([1, byte].to_vec(alloc)?)?;
-    }
-    for zeros in 0..groups.chained {
-        let mut key = [2].to_vec(alloc)?;
-        key.resize(zeros.saturating_add(1), 0)?;
-        key.push(255)?;
-        keys.push(key)?;
-    }
+    push_groups(&mut keys, alloc, groups)?;
     Ok(keys)
 }
 
-// What came of the deletion of [0, 2], by the reply to it and what it touched.
-fn deletion_told(told: Told<'_>, touched: Touched) -> Deletion {
-    if told == Told::Deleted(Some((&[0, 2], 2))) && touched != NOTHING {
+/// The deletion of [0, 2], where it is made.
+static THIRD: [Row<'static>; 1] = [(Asked::Delete(&[0, 2]), Told::Deleted(Some((&[0, 2], 2))))];
+
+/// The same where it is refused.
+static NO_THIRD: [Row<'static>; 1] = [(Asked::Delete(&[0, 2]), Told::NoMemory(None))];
+
+// What came of the deletion, by the reply to it and what it touched.
+fn deletion_told(replies: &[Reply<Key, u32>], touched: Touched) -> Deletion {
+    let is_touched = touched != (0, 0, 0);
+    if is_touched && first_wrong(replies, &THIRD).is_none() {
         return Deletion::Made;
     }
-    if told == Told::NoMemory(None) && touched == NOTHING {
+    if !is_touched && first_wrong(replies, &NO_THIRD).is_none() {
         return Deletion::Refused;
     }
     Deletion::Other
 }
 
-// A list of one deletion.
-fn deletion_of(alloc: Global, key: &[u8]) -> Result<Vec<Command<Key, u32>>, AllocError> {
-    let mut commands = Vec::new(alloc);
-    commands.push(Command::Delete(key.to_vec(alloc)?))?;
-    Ok(commands)
+// Runs the deletion without memory, where the store had these nodes. Answers what came of it.
+fn delete_by<const P: usize>(
+    store: &mut NodeStore<Key, u32, P>,
+    second: &mut NodeStore<Key, u32, P>,
+    root: OpaqueNodePtr,
+    before: &[Seen],
+    asked: Vec<Command<Key, u32>>,
+) -> Option<Deletion>
+    requires { HasTree P store.old (Some root) }
+{
+    match run_without_memory(store, second, Some(root), asked) {
+        Ok(done) => Some(deletion_told(&done.replies, count_touched(store, before))),
+        Err(_) => None,
+    }
 }
 
-// Deletes [0, 2] without memory. Answers what came of it by the reply and what the deletion touched since then.
+// The same with a second store of its own.
 fn delete_third<const P: usize>(
     store: &mut NodeStore<Key, u32, P>,
-    root: Option<OpaqueNodePtr>,
-    before: &Snapshot,
-) -> Result<Deletion, AllocError>
-    requires { HasTree P store.old root }
+    root: OpaqueNodePtr,
+    before: &[Seen],
+) -> Option<Deletion>
+    requires { HasTree P store.old (Some root) }
 {
-    let asked = deletion_of(store.alloc(), &[0, 2])?;
-    let mut second = NodeStore::new(store.alloc());
-    let done = run_without_memory(store, &mut second, root, asked)?;
-    let touched = Touched::between(before, &Snapshot::take(store)?);
-    Ok(match done.replies.as_slice() {
-        [reply] => deletion_told(told_by(reply), touched),
-        _ => Deletion::Other,
-    })
+    let alloc = store.alloc();
+    let asked = commands(alloc, &THIRD).ok()?;
+    delete_by(store, &mut NodeStore::new(alloc), root, before, asked)
 }
 
-// What comes of the deletion of the third key of these groups.
-fn deletion_from(alloc: Global, groups: Groups) -> Result<Deletion, AllocError> {
-    let keys = keys_of_groups(alloc, groups)?;
-    let mut store: NodeStore<Key, u32, 4> = NodeStore::new(alloc);
-    let root = insert_all(&mut store, &keys)?;
-    let before = Snapshot::take(&store)?;
-    delete_third(&mut store, root, &before)
+// The same in the tree of these keys.
+fn deletion_in<const P: usize>(
+    store: &mut NodeStore<Key, u32, P>,
+    keys: Vec<Key>,
+) -> Option<Deletion> {
+    let root = planted_keys(store, keys)?;
+    match nodes_seen(store) {
+        Ok(before) => delete_third(store, root, &before),
+        Err(_) => None,
+    }
+}
+
+// The same in a store of its own.
+fn deletion_from(alloc: Global, groups: Groups) -> Option<Deletion> {
+    let keys = keys_of_groups(alloc, groups).ok()?;
+    deletion_in::<4>(&mut NodeStore::new(alloc), keys)
+}
+
+/// How many deletions of each of two kinds came out in which way.
+#[derive(Clone, Copy)]
+struct Deletions {
+    made_from_four: usize,
+    made_from_five: usize,
+    refused_from_five: usize,
+}
+
+impl Deletions {
+    // Counts what came of one deletion of each kind.
+    fn count(&mut self, from_four: Deletion, from_five: Deletion) {
+        if from_four == Deletion::Made {
+            self.made_from_four = self.made_from_four.saturating_add(1);
+        }
+        match from_five {
+            Deletion::Made => self.made_from_five = self.made_from_five.saturating_add(1),
+            Deletion::Refused => self.refused_from_five = self.refused_from_five.saturating_add(1),
+            Deletion::Other => {}
+        }
+    }
 }
 
 // Deletes the third key below a parent of four, which keeps its kind, and of five, which needs a smaller node, beside so
 // many others.
-fn deletions_beside(
-    alloc: Global,
-    others: u8,
-    chained: usize,
-) -> Result<[Deletion; 2], AllocError> {
+fn delete_beside(counts: &mut Deletions, alloc: Global, others: u8, chained: usize) -> Option<()> {
     let five = Groups {
         count: 5,
         others,
         chained,
     };
-    Ok([
-        deletion_from(alloc, Groups { count: 4, ..five })?,
-        deletion_from(alloc, five)?,
-    ])
+    let from_four = deletion_from(alloc, Groups { count: 4, ..five })?;
+    counts.count(from_four, deletion_from(alloc, five)?);
+    Some(())
+}
+
+// What came of these deletions, beside none to fifteen others each time, with no chain and with one of sixteen keys.
+fn count_deletions(alloc: Global) -> Option<Deletions> {
+    let mut counts = Deletions {
+        made_from_four: 0,
+        made_from_five: 0,
+        refused_from_five: 0,
+    };
+    for chained in [0, 16] {
+        for others in 0..16 {
+            delete_beside(&mut counts, alloc, others, chained)?;
+        }
+    }
+    Some(counts)
+}
+
+// How many deletions from four were made, how many from five were made or refused, and whether any was refused.
+fn deletions_told(alloc: Global) -> Option<(usize, usize, bool)> {
+    let counts = count_deletions(alloc)?;
+    let refused = counts.refused_from_five;
+    let from_five = counts.made_from_five.saturating_add(refused);
+    Some((counts.made_from_four, from_five, refused > 0))
 }
 
 #[test]
-fn without_memory_a_deletion_is_made_or_refused_whole(rt: HostRuntime) -> Result<(), Fail> {
-    let mut refusals = 0usize;
-    for chained in [0, 16] {
-        for others in 0..16 {
-            let [from_four, from_five] = deletions_beside(rt.alloc(), others, chained)?;
-            assert_eq!(rt; from_four, Deletion::Made);
-            assert!(rt; from_five != Deletion::Other);
-            if from_five == Deletion::Refused {
-                refusals = refusals.saturating_add(1);
-            }
-        }
-    }
-    assert!(rt; refusals > 0);
-    Ok(())
+fn without_memory_a_deletion_is_made_or_refused_whole(rt: HostRuntime) {
+    assert_eq!(rt; deletions_told(rt.alloc()), Some((32, 32, true)));
 }

@@ -1,32 +1,30 @@
 //! Calls whose requests for memory are refused, in turn, by tools/refusals. A refusal that falls outside the call that
 //! a test is on decides nothing; after one within it the test says that it asserted what holds then.
-ghost use Rattle.std.specs.Prelude.{IfSome};
-ghost use Rattle.art_tree_tests.specs.Trees.{HasTree};
+ghost use Rattle.art_model.specs.Pairs.{of_key};
+ghost use Rattle.art_model.specs.Roots.{IsCanonicalRoot};
 
 use crate::trees::shape_of;
 use art_nodes::node::{LeafPtr, OpaqueNodePtr};
 use art_nodes::store::NodeStore;
-use art_operations::run::{Command, Reply, Side, run};
+use art_operations::run::{Command, Reply, RunResult, run};
+use art_test_support::commands::{Asked, Row, Told, commands, ran_from};
 use art_test_support::shapes::count_nodes;
-use art_test_support::trees::Key;
+use art_test_support::trees::{Key, planted_all};
 use std::alloc::{AllocError, Global};
 use std::test::Fail;
 
-// Insertions of the keys of one byte from 1 to this one.
-fn insertions_up_to(alloc: Global, most: u8) -> Result<Vec<Command<Key, u32>>, AllocError> {
-    let mut commands = Vec::with_capacity(alloc, usize::from(most) + 1)?;
-    for byte in 1..=most {
-        commands.push(Command::Insert(Vec::from_array(alloc, [byte])?, 0))?;
-    }
-    Ok(commands)
-}
-
-// Five insertions, and one of a key in conflict.
-fn insertions(alloc: Global) -> Result<Vec<Command<Key, u32>>, AllocError> {
-    let mut commands = insertions_up_to(alloc, 5)?;
-    commands.push(Command::Insert(Vec::from_array(alloc, [1u8, 2])?, 0))?;
-    Ok(commands)
-}
+/// Five insertions, and one of a key in conflict.
+static INSERTIONS: [Row<'static>; 6] = [
+    (Asked::Insert(&[1], 0), Told::Inserted(None)),
+    (Asked::Insert(&[2], 0), Told::Inserted(None)),
+    (Asked::Insert(&[3], 0), Told::Inserted(None)),
+    (Asked::Insert(&[4], 0), Told::Inserted(None)),
+    (Asked::Insert(&[5], 0), Told::Inserted(None)),
+    (
+        Asked::Insert(&[1, 2], 0),
+        Told::Conflict(&[1, 2], 0, &[1, 2]),
+    ),
+];
 
 /// How many replies there are, and how many say what.
 #[derive(Clone, Copy)]
@@ -65,39 +63,49 @@ enum Outcome {
 }
 
 // How many leaves a tree has. The outer None is for want of memory.
-fn count_leaves(
-    store: &NodeStore<Key, u32, 4>,
+fn count_leaves<const P: usize>(
+    store: &NodeStore<Key, u32, P>,
     root: Option<OpaqueNodePtr>,
 ) -> Option<Option<usize>> {
     let Some(root) = root else {
         return Some(Some(0));
     };
-    let shape = shape_of(store.alloc(), store, root).ok()?;
+    let shape = shape_of(store, root).ok()?;
     Some(shape.map(|shape| shape.leaves))
 }
 
-// Runs the insertions. None where a refusal fell outside the run.
-fn run_insertions(
-    first: &mut NodeStore<Key, u32, 4>,
-    second: &mut NodeStore<Key, u32, 4>,
+// What comes of a run that left this.
+fn outcome_of<const P: usize>(
+    store: &NodeStore<Key, u32, P>,
+    done: &RunResult<Key, u32>,
 ) -> Option<Outcome> {
-    let commands = insertions(first.alloc()).ok()?;
-    match run(first, second, None, commands) {
-        Ok(done) => {
-            let leaves = count_leaves(first, done.root)?;
-            Some(Outcome::Ran(count_replies(&done.replies), leaves))
-        }
-        Err((commands, AllocError)) => {
+    let leaves = count_leaves(store, done.root)?;
+    Some(Outcome::Ran(count_replies(&done.replies), leaves))
+}
+
+// Runs the insertions. None where a refusal fell outside the run.
+fn run_insertions<const P: usize>(
+    first: &mut NodeStore<Key, u32, P>,
+    second: &mut NodeStore<Key, u32, P>,
+) -> Option<Outcome> {
+    let asked = commands(first.alloc(), &INSERTIONS).ok()?;
+    match run(first, second, None, asked) {
+        Ok(done) => outcome_of(first, &done),
+        Err((asked, AllocError)) => {
             let is_empty = first.leaf(LeafPtr::from_slot(0)).is_none();
-            Some(Outcome::HandedBack(commands.len(), is_empty))
+            Some(Outcome::HandedBack(asked.len(), is_empty))
         }
     }
 }
 
+// The same in stores of its own.
+fn run_insertions_with(alloc: Global) -> Option<Outcome> {
+    run_insertions::<4>(&mut NodeStore::new(alloc), &mut NodeStore::new(alloc))
+}
+
 #[test]
 fn refused_commands_leave_the_tree_of_the_others(rt: HostRuntime) -> Result<(), Fail> {
-    let alloc = rt.alloc();
-    match run_insertions(&mut NodeStore::new(alloc), &mut NodeStore::new(alloc)) {
+    match run_insertions_with(rt.alloc()) {
         None => {}
         Some(Outcome::HandedBack(count, is_empty)) => {
             assert_eq!(rt; (count, is_empty), (6, true));
@@ -118,45 +126,45 @@ fn refused_commands_leave_the_tree_of_the_others(rt: HostRuntime) -> Result<(), 
     Ok(())
 }
 
-// The root that commands leave in the first store. None where there was no memory for the list of replies.
-fn root_after(
-    first: &mut NodeStore<Key, u32, 4>,
-    second: &mut NodeStore<Key, u32, 4>,
-    commands: Vec<Command<Key, u32>>,
-) -> Option<Option<OpaqueNodePtr>>
-    ensures { IfSome result (λ root. HasTree 4 first.new root) }
+/// The keys of the insertions.
+static SIX: [&[u8]; 6] = [&[1], &[2], &[3], &[4], &[5], &[1, 2]];
+
+/// A clone that is refused.
+static NO_CLONE: [Row<'static>; 1] = [(Asked::Clone, Told::NoMemory(None))];
+
+// Whether a clone is refused. None where a refusal fell outside the run.
+fn is_clone_refused<const P: usize>(
+    first: &mut NodeStore<Key, u32, P>,
+    second: &mut NodeStore<Key, u32, P>,
+    root: OpaqueNodePtr,
+) -> Option<bool>
+    requires { IsCanonicalRoot (of_key (λ key. key.items)) P first.old root }
 {
-    match run(first, second, None, commands) {
-        Ok(done) => match done.side {
-            Side::First => Some(done.root),
-            Side::Second => None,
-        },
-        Err(_) => None,
-    }
+    let (left, _) = ran_from(first, second, Some(root), &NO_CLONE).ok()?;
+    Some(left.wrong.is_none())
 }
 
 // How many nodes the first store has before a clone that is refused, and both have after it.
-fn counts_at_refused_clone(
-    first: &mut NodeStore<Key, u32, 4>,
-    second: &mut NodeStore<Key, u32, 4>,
+fn counts_at_refused_clone<const P: usize>(
+    first: &mut NodeStore<Key, u32, P>,
+    second: &mut NodeStore<Key, u32, P>,
 ) -> Option<[(usize, usize); 3]> {
-    let commands = insertions(first.alloc()).ok()?;
-    let mut clone = Vec::with_capacity(first.alloc(), 1).ok()?;
-    clone.push_reserved(Command::Clone);
-    let root = root_after(first, second, commands)?;
+    let root = planted_all(first, &SIX).ok()??;
     let before = count_nodes(first, 6);
-    let done = run(first, second, root, clone).ok()?;
-    match done.replies.as_slice() {
-        [Reply::NoMemory(None)] => { Some([before, count_nodes(first, 6), count_nodes(second, 6)]) }
-        _ => None,
+    if !is_clone_refused(first, second, root)? {
+        return None;
     }
+    Some([before, count_nodes(first, 6), count_nodes(second, 6)])
+}
+
+// The same in stores of its own.
+fn counts_with(alloc: Global) -> Option<[(usize, usize); 3]> {
+    counts_at_refused_clone::<4>(&mut NodeStore::new(alloc), &mut NodeStore::new(alloc))
 }
 
 #[test]
 fn refused_clones_leave_both_stores(rt: HostRuntime) -> Result<(), Fail> {
-    let alloc = rt.alloc();
-    let counts = counts_at_refused_clone(&mut NodeStore::new(alloc), &mut NodeStore::new(alloc));
-    if let Some(counts) = counts {
+    if let Some(counts) = counts_with(rt.alloc()) {
         let [before, first, second] = counts;
         assert_eq!(rt; [first, second], [before, (0, 0)]);
         println!(rt; "asserted")?;
@@ -174,43 +182,86 @@ enum Overwrite {
     Other,
 }
 
-// Overwrites the whole tree of so many keys, whose leaves leave no room in the store for one more. None where a refusal
-// fell outside the run.
-fn overwrite_all(
-    first: &mut NodeStore<Key, u32, 4>,
-    second: &mut NodeStore<Key, u32, 4>,
-    count: u8,
-) -> Option<Overwrite> {
-    let alloc = first.alloc();
-    let commands = insertions_up_to(alloc, count).ok()?;
-    let mut overwrite = Vec::with_capacity(alloc, 1).ok()?;
-    overwrite.push_reserved(Command::InsertPrefix(Vec::new(alloc), 7));
-    let root = root_after(first, second, commands)?;
-    let before = count_nodes(first, 20);
-    let done = run(first, second, root, overwrite).ok()?;
-    let after = count_nodes(first, 20);
-    Some(match done.replies.as_slice() {
-        [Reply::NoMemory(Some((_, 7)))] => {
-            Overwrite::Refused(after == before && done.root == root)
-        }
-        [Reply::Overwrote(..)] => Overwrite::Made(after),
+/// Sixteen keys of one byte.
+static SIXTEEN: [&[u8]; 16] = [
+    &[1],
+    &[2],
+    &[3],
+    &[4],
+    &[5],
+    &[6],
+    &[7],
+    &[8],
+    &[9],
+    &[10],
+    &[11],
+    &[12],
+    &[13],
+    &[14],
+    &[15],
+    &[16],
+];
+
+// What comes of an overwrite by these replies, where nothing was touched or so many nodes are left.
+fn overwrite_told(replies: &[Reply<Key, u32>], is_kept: bool, left: (usize, usize)) -> Overwrite {
+    match replies {
+        [Reply::NoMemory(Some((_, 7)))] => Overwrite::Refused(is_kept),
+        [Reply::Overwrote(..)] => Overwrite::Made(left),
         _ => Overwrite::Other,
-    })
+    }
+}
+
+// Runs an overwrite.
+fn overwrite_by<const P: usize>(
+    first: &mut NodeStore<Key, u32, P>,
+    second: &mut NodeStore<Key, u32, P>,
+    root: OpaqueNodePtr,
+    overwrite: Vec<Command<Key, u32>>,
+) -> Option<Overwrite>
+    requires { IsCanonicalRoot (of_key (λ key. key.items)) P first.old root }
+{
+    let before = count_nodes(first, 20);
+    match run(first, second, Some(root), overwrite) {
+        Ok(done) => {
+            let after = count_nodes(first, 20);
+            let is_kept = after == before && done.root == Some(root);
+            Some(overwrite_told(&done.replies, is_kept, after))
+        }
+        Err(_) => None,
+    }
+}
+
+/// An overwrite of a whole tree that is refused.
+static NO_OVERWRITE: [Row<'static>; 1] = [(
+    Asked::InsertPrefix(&[], 7),
+    Told::NoMemory(Some((&[], 7))),
+)];
+
+// Overwrites the whole tree of these keys, whose leaves leave no room in the store for one more. None where a refusal
+// fell outside the run.
+fn overwrite_all<const P: usize>(
+    first: &mut NodeStore<Key, u32, P>,
+    second: &mut NodeStore<Key, u32, P>,
+    slices: &[&[u8]],
+) -> Option<Overwrite> {
+    let root = planted_all(first, slices).ok()??;
+    let overwrite = commands(first.alloc(), &NO_OVERWRITE).ok()?;
+    overwrite_by(first, second, root, overwrite)
 }
 
 // The same in stores of its own.
-fn overwrite_of(alloc: Global, count: u8) -> Option<Overwrite> {
-    overwrite_all(
+fn overwrite_of(alloc: Global, slices: &[&[u8]]) -> Option<Overwrite> {
+    overwrite_all::<4>(
         &mut NodeStore::new(alloc),
         &mut NodeStore::new(alloc),
-        count,
+        slices,
     )
 }
 
 #[test]
 fn refused_overwrites_leave_the_tree(rt: HostRuntime) -> Result<(), Fail> {
-    for count in [2, 16] {
-        match overwrite_of(rt.alloc(), count) {
+    for count in [2usize, 16] {
+        match overwrite_of(rt.alloc(), &SIXTEEN[..count]) {
             None => {}
             Some(Overwrite::Refused(is_kept)) => {
                 assert!(rt; is_kept);
