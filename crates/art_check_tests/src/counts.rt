@@ -37,7 +37,7 @@ fn counts_from<const P: usize>(
     keys: Vec<Key>,
 ) -> Option<(usize, usize, usize)> {
     let len = keys.len();
-    let root = planted_keys(store, keys).ok()??;
+    let root = planted_keys(store, keys)?;
     counts_of(store, root, len)
 }
 

@@ -143,7 +143,7 @@ fn many_keys(alloc: Global) -> Result<Vec<Key>, AllocError> {
 /// The check of a tree of 53 leaves. None where a refusal falls outside it.
 fn check_of_many<const P: usize>(store: &mut NodeStore<Key, u32, P>) -> Option<Outcome> {
     let keys = many_keys(store.alloc()).ok()?;
-    let root = planted_keys(store, keys).ok()??;
+    let root = planted_keys(store, keys)?;
     Some(what_comes(store, root, all_nodes(store)))
 }
 

@@ -8,7 +8,7 @@ use art_nodes::store::NodeStore;
 use art_operations::well_formed::WellFormedChecker;
 use art_oracle::verdicts::{Flaw, Verdict, judge};
 use art_test_support::numbers::Numbers;
-use art_test_support::trees::{Key, planted_keys};
+use art_test_support::trees::{Key, try_planted_keys};
 use std::alloc::{AllocError, Global};
 
 /// What a verdict says. One that is unknown says what no check answers here.
@@ -117,7 +117,7 @@ fn try_in<const P: usize>(
     numbers: &mut Numbers,
 ) -> Result<Option<usize>, AllocError> {
     let keys = draw_keys(store.alloc(), numbers)?;
-    let Some(root) = planted_keys(store, keys)? else {
+    let Some(root) = try_planted_keys(store, keys)? else {
         return Ok(None);
     };
     let names = names_below(store, root)?;

@@ -146,7 +146,7 @@ fn cloned_tree<const P: usize>(
     keys: Vec<Key>,
     pairs: &[(Key, u32)],
 ) -> Option<Cloned> {
-    let root = planted_keys(store, keys).ok()??;
+    let root = planted_keys(store, keys)?;
     cloned(store, root, into, pairs).ok()
 }
 
@@ -401,7 +401,7 @@ fn many_planted<const P: usize>(store: &mut NodeStore<Key, u32, P>) -> Option<Op
         return None;
     };
     match planted_keys(store, keys) {
-        Ok(Some(root)) if count_nodes(store, 100) == (53, 2) => Some(root),
+        Some(root) if count_nodes(store, 100) == (53, 2) => Some(root),
         _ => None,
     }
 }

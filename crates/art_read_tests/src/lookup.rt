@@ -108,7 +108,7 @@ fn readings_in<const P: usize>(
     searches: &[Search; 5],
 ) -> Option<[(Option<u32>, usize); 5]> {
     let keys = keys_of_zeros(store.alloc()).ok()?;
-    let root = planted_keys(store, keys).ok()??;
+    let root = planted_keys(store, keys)?;
     Some(readings(store, root, searches))
 }
 

@@ -82,7 +82,7 @@ type Sixes = ((Option<u32>, Option<u32>), Option<Option<usize>>);
 
 // The same of the tree of these keys.
 fn sixes_in<const P: usize>(store: &mut NodeStore<Key, u32, P>, keys: Vec<Key>) -> Option<Sixes> {
-    let root = planted_keys(store, keys).ok()??;
+    let root = planted_keys(store, keys)?;
     Some((ends(store, root), count_sixes(store, root).ok()))
 }
 
@@ -130,7 +130,7 @@ type Chain = ((Option<u32>, Option<u32>), bool);
 // The same of the tree of keys of zeros.
 fn chain_in<const P: usize>(store: &mut NodeStore<Key, u32, P>) -> Option<Chain> {
     let keys = keys_of_zeros(store.alloc()).ok()?;
-    let root = planted_keys(store, keys).ok()??;
+    let root = planted_keys(store, keys)?;
     Some((ends(store, root), end_of_chain(store, root).is_some()))
 }
 

@@ -105,11 +105,11 @@ pub fn plant_keys<const P: usize>(
 ) -> Result<OpaqueNodePtr, Fail>
     ensures { IfOk result (λ root. IsCanonicalRoot (of_key (λ key. key.items)) P store.new root) }
 {
-    Ok(planted_keys(store, all)?.ok_or("no key")?)
+    Ok(try_planted_keys(store, all)?.ok_or("no key")?)
 }
 
 /// The same as `planted`, with a second store of its own.
-pub fn planted_keys<const P: usize>(
+pub fn try_planted_keys<const P: usize>(
     store: &mut NodeStore<Key, u32, P>,
     all: Vec<Key>,
 ) -> Result<Option<OpaqueNodePtr>, AllocError>
@@ -117,6 +117,16 @@ pub fn planted_keys<const P: usize>(
 {
     let alloc = store.alloc();
     planted(store, &mut NodeStore::new(alloc), all)
+}
+
+/// The same, or `None` for want of memory too.
+pub fn planted_keys<const P: usize>(
+    store: &mut NodeStore<Key, u32, P>,
+    all: Vec<Key>,
+) -> Option<OpaqueNodePtr>
+    ensures { IfSome result (λ root. IsCanonicalRoot (of_key (λ key. key.items)) P store.new root) }
+{
+    try_planted_keys(store, all).ok()?
 }
 
 /// Plants a tree of copies of these keys, with a second store of its own.
@@ -137,19 +147,7 @@ pub fn planted_all<const P: usize>(
     ensures { IfOk result (λ root. IfSome root (λ root. IsCanonicalRoot (of_key (λ key. key.items)) P store.new root)) }
 {
     let all = keys(store.alloc(), slices)?;
-    planted_keys(store, all)
-}
-
-/// The root of the tree of these keys, which it plants with a second store of its own, if there is one.
-pub fn planted_keys<const P: usize>(
-    store: &mut NodeStore<Key, u32, P>,
-    all: Vec<Key>,
-) -> Option<OpaqueNodePtr>
-    ensures { IfSome result (λ root. IsCanonicalRoot (of_key (λ key. key.items)) P store.new root) }
-{
-    let alloc = store.alloc();
-    let answer = planted(store, &mut NodeStore::new(alloc), all);
-    answer.ok()?
+    try_planted_keys(store, all)
 }
 
 /// All keys of three bytes, each byte less than its limit.
