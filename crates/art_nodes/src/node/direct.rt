@@ -1,6 +1,7 @@
 //! Names with a place for each byte.
-ghost use Rattle.std.specs.Prelude.{◌≡◌, ℕ, ◌≤◌, [], length, Some};
+ghost use Rattle.std.specs.Prelude.{◌≡◌, ℕ, ◌<◌, ◌≤◌, [], length, Some, None};
 
+use super::beside::nearest;
 use super::children::Children;
 use super::places::Places;
 use super::{NodeType, OpaqueNodePtr};
@@ -39,6 +40,7 @@ impl Model for Direct {
 }
 
 impl Direct {
+    ghost use Rattle.art_nodes.specs.Beside.{IsBeside};
     ghost use Rattle.art_nodes.specs.Inner.{IsRising, child_at, put_child, remove_child};
 
     pub(super) fn new() -> Self
@@ -69,6 +71,17 @@ impl Direct {
         ensures bound { length self.now ≤ 256 }
     {
         Children::of_direct(self, self.len)
+    }
+
+    // The nearest child on either side of a byte that has none.
+    pub(super) fn beside(&self, byte: u8) -> (u8, OpaqueNodePtr)
+        requires some { 0 < length self.now }
+        requires absent { child_at self.now byte ≡ None }
+        ensures beside { IsBeside self.now byte result }
+        ensures few { length self.now < 256 }
+    {
+        prove!(self.len > 0);
+        nearest(self, byte)
     }
 
     pub(super) fn write(&mut self, byte: u8, child: OpaqueNodePtr)

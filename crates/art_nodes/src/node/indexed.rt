@@ -1,6 +1,7 @@
 //! Up to 48 names, with a table of the places of bytes.
-ghost use Rattle.std.specs.Prelude.{◌≡◌, ◌≢◌, ℕ, ◌+◌, ◌≤◌, [], length, Some, replicate, slice_index_or};
+ghost use Rattle.std.specs.Prelude.{◌≡◌, ◌≢◌, ℕ, ◌+◌, ◌<◌, ◌≤◌, [], length, Some, None, replicate, slice_index_or};
 
+use super::beside::nearest;
 use super::children::Children;
 use super::places::Places;
 use super::{NodeType, OpaqueNodePtr};
@@ -33,6 +34,7 @@ impl Model for Indexed {
 }
 
 impl Indexed {
+    ghost use Rattle.art_nodes.specs.Beside.{IsBeside};
     ghost use Rattle.art_nodes.specs.Inner.{HasPlace, IsRising, child_at, put_child, remove_child};
 
     pub(super) fn new() -> Self
@@ -65,6 +67,17 @@ impl Indexed {
         ensures bound { length self.now ≤ 48 }
     {
         Children::of_indexed(self, self.len)
+    }
+
+    // The nearest child on either side of a byte that has none.
+    pub(super) fn beside(&self, byte: u8) -> (u8, OpaqueNodePtr)
+        requires some { 0 < length self.now }
+        requires absent { child_at self.now byte ≡ None }
+        ensures beside { IsBeside self.now byte result }
+        ensures bound { length self.now ≤ 48 }
+    {
+        prove!(self.len > 0);
+        nearest(self, byte)
     }
 
     pub(super) fn write(&mut self, byte: u8, child: OpaqueNodePtr)

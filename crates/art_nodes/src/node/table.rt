@@ -32,6 +32,7 @@ impl<const N: usize> Model for Table<N> {
 }
 
 impl<const N: usize> Table<N> {
+    ghost use Rattle.art_nodes.specs.Beside.{IsBeside};
     ghost use Rattle.art_nodes.specs.Inner.{HasPlace, IsAbove, IsRising, child_at, put_child, remove_child};
     ghost use Rattle.art_nodes.specs.Rows.{AreAligned, rows_of};
 
@@ -101,6 +102,17 @@ impl<const N: usize> Table<N> {
         ensures bound { length self.now ≤ N }
     {
         Children::new(self.rows())
+    }
+
+    // The first child from a byte on, or the last one where there is none.
+    pub(super) fn beside(&self, byte: u8) -> (u8, OpaqueNodePtr)
+        requires { 0 < length self.now }
+        ensures beside { IsBeside self.now byte result }
+        ensures bound { length self.now ≤ N }
+    {
+        let rows = self.rows();
+        let below = rows.count_below(byte);
+        rows.entry(below.min(rows.len() - 1))
     }
 
     pub(super) fn write(&mut self, byte: u8, child: OpaqueNodePtr)
