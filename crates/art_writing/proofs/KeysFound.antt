@@ -1,6 +1,6 @@
 -- What is found under a key in a list of pairs, and in a tree.
-use Rattle.std.proofs.Common.{◌≡◌, ℕ, List, [], ◌∷◌, length, map, filter, refl, ap, ap₂, sym, ◌&&◌, ◌||◌, ◌∙◌, subst, Option, Some, None, Bool, true, false, not, IfSome}
-use Rattle.std.specs.List.{AllByRecursion as Each, list_any}
+use Rattle.std.proofs.Common.{◌≡◌, ℕ, List, [], ◌∷◌, length, map, refl, ap, ap₂, sym, ◌&&◌, ◌||◌, ◌∙◌, subst, Option, Some, None, Bool, true, false, not, IfSome}
+use Rattle.std.specs.List.{AllByRecursion as Each}
 use Rattle.std.specs.Option.{is_some}
 use Rattle.std.proofs.lemmas.Bool.{true≢false}
 use Rattle.std.specs.FinMap.{get}
