@@ -193,11 +193,16 @@ pub(super) fn get_by_lanes(table: &Table<16>, byte: u8) -> Option<OpaqueNodePtr>
 }
 
 // Puts a value at a place, and lets the last one go.
+#[inline(always)]
 fn insert_into<T: Copy>(part: &mut [T], at: usize, value: T)
     requires { at < length part.old }
     ensures { part.new ≡ take at part.old ++ value ∷ take (length part.old - 1 - at) (drop at part.old) }
 {
-    part[at..].rotate_right(1);
+    let mut place = part.len() - 1;
+    while place > at {
+        part[place] = part[place - 1];
+        place -= 1;
+    }
     part[at] = value;
 }
 
