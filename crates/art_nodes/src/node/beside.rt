@@ -1,5 +1,5 @@
-//! The child beside a byte: the nearest one in a table with a place for each byte, and else the first
-//! above it, or the last below it where there is none.
+//! The child beside a byte: the nearest one in a table with a place for each byte, and else the
+//! first above it, or the last below it where there is none.
 ghost use Rattle.std.specs.Prelude.{◌≡◌, ◌≢◌, ℕ, ◌+◌, ◌<◌, length, Some, None, IsSome, IfSome, IfNone};
 ghost use Rattle.art_nodes.specs.Beside.{IsBeside};
 ghost use Rattle.art_nodes.specs.Inner.{child_at};
@@ -28,7 +28,8 @@ impl<'a, const P: usize> InnerRef<'a, P> {
 
 // The nearest child on either side of a byte.
 pub(super) fn nearest<T: Places>(table: &T, byte: u8) -> (u8, OpaqueNodePtr)
-    requires { (other : ℕ) × (other < 256) × (other ≢ byte) × IsSome (child_at (T.children_of table.now) other) }
+    requires { (other : ℕ) × (other < 256) × (other ≢ byte) ×
+        IsSome (child_at (T.children_of table.now) other) }
     ensures { IsBeside (T.children_of table.now) byte result }
 {
     for distance in 1..=u8::MAX {
@@ -45,9 +46,11 @@ pub(super) fn nearest<T: Places>(table: &T, byte: u8) -> (u8, OpaqueNodePtr)
 // The child so far below a byte.
 #[inline(always)]
 fn child_below<T: Places>(table: &T, byte: u8, distance: u8) -> Option<(u8, OpaqueNodePtr)>
-    ensures there { IfSome result (λ child. child_at (T.children_of table.now) child.0 ≡ Some child.1) }
+    ensures there { IfSome result (λ child.
+        child_at (T.children_of table.now) child.0 ≡ Some child.1) }
     ensures place { IfSome result (λ child. child.0 + distance ≡ byte) }
-    ensures none { IfNone result ((k : ℕ) → k + distance ≡ byte → child_at (T.children_of table.now) k ≡ None) }
+    ensures none { IfNone result ((k : ℕ) → k + distance ≡ byte →
+        child_at (T.children_of table.now) k ≡ None) }
 {
     let below = byte.checked_sub(distance)?;
     let name = table.get(below)?;
@@ -57,7 +60,8 @@ fn child_below<T: Places>(table: &T, byte: u8, distance: u8) -> Option<(u8, Opaq
 // The child so far above a byte.
 #[inline(always)]
 fn child_above<T: Places>(table: &T, byte: u8, distance: u8) -> Option<(u8, OpaqueNodePtr)>
-    ensures there { IfSome result (λ child. child_at (T.children_of table.now) child.0 ≡ Some child.1) }
+    ensures there { IfSome result (λ child.
+        child_at (T.children_of table.now) child.0 ≡ Some child.1) }
     ensures place { IfSome result (λ child. child.0 ≡ byte + distance) }
     ensures none { IfNone result ((k : ℕ) → k < 256 → k ≡ byte + distance →
         child_at (T.children_of table.now) k ≡ None) }

@@ -154,7 +154,8 @@ impl<const P: usize> InnerSlabs<P> {
     fn drop_node(&mut self, name: InnerPtr)
         requires { IsSome (map.get (inners_of self.old) name) }
         ensures nodes { inners_of self.new ≡ map.remove (inners_of self.old) name }
-        ensures rooms { (kind : Option NodeType) → HasInnerRoom self.old kind → HasInnerRoom self.new kind }
+        ensures rooms { (kind : Option NodeType) →
+            HasInnerRoom self.old kind → HasInnerRoom self.new kind }
     {
         match name.kind {
             NodeType::Node4 => drop_from(&mut self.node4, name.slot),
