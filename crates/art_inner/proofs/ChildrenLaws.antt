@@ -82,7 +82,7 @@ child_of_member (c ∷ cs) b n rising (suc k, within, is) =
     at_later c cs b (λ e. omega (arith, e, later_above c.0 cs b rising.0 (ap is_some later))) ∙ later
 
 -- how `remove_child` goes on at an entry
-remove_child-here : (c : Entry) (cs : Children) (b : ℕ) → c.0 ≡ b → remove_child (c ∷ cs) b ≡ remove_child cs b
+pub remove_child-here : (c : Entry) (cs : Children) (b : ℕ) → c.0 ≡ b → remove_child (c ∷ cs) b ≡ remove_child cs b
 remove_child-here c cs b e = ap (λ t. cond t (remove_child cs b) (c ∷ remove_child cs b)) (eq-eqb c.0 b e)
 
 pub first_kept : (c : Entry) (cs : Children) (b : ℕ) → c.0 ≢ b → remove_child (c ∷ cs) b ≡ c ∷ remove_child cs b

@@ -2,6 +2,7 @@ pub mod TableLemmas
 pub mod ChildrenLemmas
 pub mod ChildrenLaws
 pub mod RemovalLemmas
+pub mod BesideLemmas
 pub mod Extent
 pub mod DirectLemmas
 pub mod IndexedLemmas

@@ -1,7 +1,7 @@
 -- What a write makes of a sorted table.
 use Rattle.std.proofs.Common.{◌≡◌, ◌≢◌, ℕ, zero, suc, ◌+◌, ◌-◌, ◌<◌, ◌≤◌, true, cond, List, [], ◌∷◌, ◌++◌, length, get_or, set, take, drop, Some, None, IsSome, is_some, refl, sym, ap, ◌∙◌, inl, inr, arith, eqb, subst, add-one}
 use Rattle.std.proofs.lemmas.Grind.{common_steps}
-use Rattle.std.proofs.lemmas.Bool.{ne_eqb, eq-eqb, lt-ltb, le-ltb}
+use Rattle.std.proofs.lemmas.Bool.{ne_eqb, eq-eqb, lt-ltb, le-ltb, eqb-true, eqb-false, ltb-true, ltb-false}
 use Rattle.std.proofs.lemmas.List.{take_all, drop_all, drop_more, append-nil, length-drop, length-take-le, set-append_right, take-append-le}
 use borrow.Rule.Slice.PartMut.{put_mid, post_of}
 use Rattle.art_inner.specs.Inner.{Children, IsBelow, IsRising, child_at, put_child, count_below, HasPlace}
@@ -114,28 +114,38 @@ pub room_for_new : (capacity : ℕ) (cs : Children) (b : ℕ) (d : Entry) → Is
 room_for_new capacity cs b d rising (inl room) other = room
 room_for_new capacity cs b d rising (inr there) other = let found = place_of_child cs b d rising there in absurd (other found.0 found.1)
 
-pub shifted : {X : Type 0} (part r : List X) (at : ℕ) (x d : X) → at < length part →
-    r ≡ drop (length (take (length part - at) (drop at part)) - 1) (take (length part - at) (drop at part)) ++ take
-    (length (take (length part - at) (drop at part)) - 1) (take (length part - at) (drop at part)) →
-    set (put_mid at (length part - at) part r) at x ≡ take at part ++ x ∷ take (length part - 1 - at) (drop at part)
-shifted {X} part r at x d within rotated =
-    let rest = drop at part in
-    let count : length rest ≡ length part - at = length-drop at part in
-    let whole : take (length part - at) rest ≡ rest = take_all (length part - at) rest (omega (arith, count)) in
-    let turned : r ≡ drop (length rest - 1) rest ++ take (length rest - 1) rest = rotated ∙ ap (λ (s : List X). drop (length s - 1) s ++ take (length s - 1) s) whole in
-    let last : drop (length rest - 1) rest ≡ get_or rest (length rest - 1) d ∷ [] =
-    drop_more rest (length rest - 1) d (omega (arith, count)) ∙ ap (λ (t : List X). get_or rest (length rest - 1) d ∷ t) (drop_all (length rest - 1 + 1) rest (omega arith)) in
-    let head : r ≡ get_or rest (length rest - 1) d ∷ take (length rest - 1) rest = turned ∙ ap (λ (t : List X). t ++ take (length rest - 1) rest) last in
-    let nothing : post_of at (length part - at) part ≡ [] = drop_all (length part - at) (drop at part) (omega (arith, count)) in
-    let long : length (take at part) ≡ at = length-take-le at part (omega arith) in
-    let zero_at : at - at ≡ 0 = omega arith in
-    let same : length rest - 1 ≡ length part - 1 - at = omega (arith, count) in
-    ap (λ (t : List X). set (take at part ++ (t ++ post_of at (length part - at) part)) at x) head
-    ∙ set-append_right (take at part) _ at at x long (omega arith)
-    ∙ ap (λ (k : ℕ). take at part ++ set (get_or rest (length rest - 1) d ∷ (take (length rest - 1) rest ++ post_of at (length part - at) part)) k x) zero_at
-    ∙ ap (λ (t : List X). take at part ++ x ∷ (take (length rest - 1) rest ++ t)) nothing
-    ∙ ap (λ (t : List X). take at part ++ x ∷ t) (append-nil (take (length rest - 1) rest))
-    ∙ ap (λ (k : ℕ). take at part ++ x ∷ take k rest) same
+-- what is read behind the place that is free
+read_front : {X : Type 0} (old rest : List X) (p : ℕ) (d : X) → suc p < length old → get_or (take (suc (suc p)) old ++ rest) p d ≡ get_or old p d
+read_front [] rest p d within = absurd (omega (arith, within))
+read_front (a ∷ old) rest zero d within = refl
+read_front (a ∷ old) rest (suc p) d within = read_front old rest p d (omega (arith, within))
+
+move_back : {X : Type 0} (old : List X) (p m n : ℕ) (d : X) → suc p < length old → n ≡ suc m →
+    set (take (suc (suc p)) old ++ take m (drop (suc p) old)) (suc p) (get_or old p d) ≡ take (suc p) old ++ take n (drop p old)
+move_back [] p m n d within e = absurd (omega (arith, within))
+move_back (a ∷ []) zero m n d within e = absurd (omega (arith, within))
+move_back (a ∷ b ∷ old) zero m n d within e = ap (λ (k : ℕ). a ∷ take k (a ∷ b ∷ old)) (sym e)
+move_back (a ∷ old) (suc p) m n d within e = ap (λ xs. a ∷ xs) (move_back old p m n d (omega (arith, within)) e)
+
+-- a value moves one place to the back
+pub moved_back : {X : Type 0} (old part : List X) (at place : ℕ) (d x : X) → at < place → place < length old →
+    part ≡ take (suc place) old ++ take (length old - 1 - place) (drop place old) → x ≡ get_or part (place - 1) d →
+    set part place x ≡ take (suc (place - 1)) old ++ take (length old - 1 - (place - 1)) (drop (place - 1) old)
+moved_back old part at zero d x before within is read = absurd (omega (arith, before))
+moved_back {X} old part at (suc p) d x before within is read =
+    let back : suc p - 1 ≡ p = omega arith in
+    let count : length old - 1 - p ≡ suc (length old - 1 - suc p) = omega (arith, within) in
+    let rest = take (length old - 1 - suc p) (drop (suc p) old) in
+    ap (set part (suc p)) (read ∙ ap (λ (k : ℕ). get_or part k d) back ∙ ap (λ (xs : List X). get_or xs p d) is ∙ read_front old rest p d within)
+    ∙ ap (λ (xs : List X). set xs (suc p) (get_or old p d)) is
+    ∙ move_back old p (length old - 1 - suc p) (length old - 1 - p) d within count
+    ∙ ap (λ (k : ℕ). take (suc k) old ++ take (length old - 1 - k) (drop k old)) (sym back)
+
+-- a value comes into the place that is free
+pub put_at_place : {X : Type 0} (old : List X) (at m : ℕ) (x : X) → at < length old → set (take (suc at) old ++ take m (drop at old)) at x ≡ take at old ++ x ∷ take m (drop at old)
+put_at_place [] at m x within = absurd (omega (arith, within))
+put_at_place (a ∷ old) zero m x within = refl
+put_at_place (a ∷ old) (suc at) m x within = ap (λ xs. a ∷ xs) (put_at_place old at m x (omega (arith, within)))
 
 front_step : {X : Type 0} (after es : List X) (len at m : ℕ) (x : X) → at + m ≡ len → len < length es →
     take (suc len) ((take at (take (suc len) es) ++ x ∷ take m (drop at (take (suc len) es))) ++ after) ≡ take at (take len es) ++ x ∷ drop at (take len es)

@@ -4,6 +4,7 @@ pub use Rattle.art_parts.specs.Headers
 -- inner nodes
 pub mod Inner
 pub mod Views
+pub mod Beside
 pub mod Changes
 -- their tables
 pub mod Tables

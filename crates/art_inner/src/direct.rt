@@ -1,6 +1,7 @@
 //! Names with a place for each byte.
-ghost use Rattle.std.specs.Prelude.{◌≡◌, ℕ, ◌≤◌, [], length, Some};
+ghost use Rattle.std.specs.Prelude.{◌≡◌, ℕ, ◌<◌, ◌≤◌, [], length, Some, None};
 
+use crate::beside::nearest;
 use crate::children::Children;
 use crate::places::Places;
 use art_parts::names::{NodeType, OpaqueNodePtr};
@@ -40,6 +41,7 @@ impl Model for Direct {
 
 impl Direct {
     ghost use Rattle.art_inner.specs.Inner.{IsRising, child_at, put_child, remove_child};
+    ghost use Rattle.art_inner.specs.Beside.{IsBeside};
 
     pub(crate) fn new() -> Self
         ensures { result ≡ [] }
@@ -69,6 +71,17 @@ impl Direct {
         ensures bound { length self.now ≤ 256 }
     {
         Children::of_direct(self, self.len)
+    }
+
+    // The nearest child on either side of a byte that has none.
+    pub(crate) fn beside(&self, byte: u8) -> (u8, OpaqueNodePtr)
+        requires some { 0 < length self.now }
+        requires absent { child_at self.now byte ≡ None }
+        ensures beside { IsBeside self.now byte result }
+        ensures few { length self.now < 256 }
+    {
+        prove!(self.len > 0);
+        nearest(self, byte)
     }
 
     pub(crate) fn write(&mut self, byte: u8, child: OpaqueNodePtr)

@@ -1,6 +1,7 @@
 //! Up to 48 names, with a table of the places of bytes.
-ghost use Rattle.std.specs.Prelude.{◌≡◌, ◌≢◌, ℕ, ◌+◌, ◌≤◌, [], length, Some, replicate, slice_index_or};
+ghost use Rattle.std.specs.Prelude.{◌≡◌, ◌≢◌, ℕ, ◌+◌, ◌<◌, ◌≤◌, [], length, Some, None, replicate, slice_index_or};
 
+use crate::beside::nearest;
 use crate::children::Children;
 use crate::places::Places;
 use art_parts::names::{NodeType, OpaqueNodePtr};
@@ -34,6 +35,7 @@ impl Model for Indexed {
 
 impl Indexed {
     ghost use Rattle.art_inner.specs.Inner.{HasPlace, IsRising, child_at, put_child, remove_child};
+    ghost use Rattle.art_inner.specs.Beside.{IsBeside};
 
     pub(crate) fn new() -> Self
         ensures { result ≡ [] }
@@ -65,6 +67,17 @@ impl Indexed {
         ensures bound { length self.now ≤ 48 }
     {
         Children::of_indexed(self, self.len)
+    }
+
+    // The nearest child on either side of a byte that has none.
+    pub(crate) fn beside(&self, byte: u8) -> (u8, OpaqueNodePtr)
+        requires some { 0 < length self.now }
+        requires absent { child_at self.now byte ≡ None }
+        ensures beside { IsBeside self.now byte result }
+        ensures bound { length self.now ≤ 48 }
+    {
+        prove!(self.len > 0);
+        nearest(self, byte)
     }
 
     pub(crate) fn write(&mut self, byte: u8, child: OpaqueNodePtr)

@@ -325,12 +325,8 @@ impl<const P: usize> InnerNode<P> for InnerNode16<P> {
         AnyInner::Node48(self.grown())
     }
 
-    #[inline(never)]
     fn shrink(self) -> AnyInner<P> {
-        AnyInner::Node4(InnerNode4 {
-            header: self.header,
-            table: Table::of(self.iter()),
-        })
+        AnyInner::Node4(self.shrunk())
     }
 }
 
@@ -436,12 +432,8 @@ impl<const P: usize> InnerNode<P> for InnerNode48<P> {
         AnyInner::Node256(self.grown())
     }
 
-    #[inline(never)]
     fn shrink(self) -> AnyInner<P> {
-        AnyInner::Node16(InnerNode16 {
-            header: self.header,
-            table: Table::of(self.iter()),
-        })
+        AnyInner::Node16(self.shrunk())
     }
 }
 
@@ -536,11 +528,7 @@ impl<const P: usize> InnerNode<P> for InnerNodeDirect<P> {
         self.into_any()
     }
 
-    #[inline(never)]
     fn shrink(self) -> AnyInner<P> {
-        AnyInner::Node48(InnerNode48 {
-            header: self.header,
-            table: Indexed::of(self.iter()),
-        })
+        AnyInner::Node48(self.shrunk())
     }
 }

@@ -2,6 +2,7 @@
 #![tactic(auto)]
 
 pub mod any;
+mod beside;
 pub mod children;
 mod direct;
 mod indexed;
@@ -9,4 +10,5 @@ pub mod inner;
 mod lanes;
 mod places;
 mod rows;
+mod shrunk;
 mod table;

@@ -110,6 +110,14 @@ impl<'a> Rows<'a> {
         }
     }
 
+    // How many stand under bytes below this one.
+    pub(super) fn count_below(&self, byte: u8) -> usize
+        requires { AreAligned self.now }
+        ensures { result ≡ count_below (rows_of self.now) byte }
+    {
+        bytes_below(self.bytes, byte as usize)
+    }
+
     // The place of a byte, or where it would come in.
     pub(crate) fn search(&self, byte: u8) -> Result<usize, usize>
         requires aligned { AreAligned self.now }
@@ -119,7 +127,7 @@ impl<'a> Rows<'a> {
         ensures absent { IfErr result (λ at. child_at (rows_of self.now) byte ≡ None) }
         ensures between { IfErr result (λ at. at ≡ count_below (rows_of self.now) byte) }
     {
-        let at = bytes_below(self.bytes, byte as usize);
+        let at = self.count_below(byte);
         if is_at(self.bytes, at, byte) {
             Ok(at)
         } else {

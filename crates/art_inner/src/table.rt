@@ -34,6 +34,7 @@ impl<const N: usize> Model for Table<N> {
 impl<const N: usize> Table<N> {
     ghost use Rattle.art_inner.specs.Inner.{HasPlace, IsAbove, IsRising, child_at, put_child, remove_child};
     ghost use Rattle.art_inner.specs.Rows.{AreAligned, rows_of};
+    ghost use Rattle.art_inner.specs.Beside.{IsBeside};
 
     pub(crate) fn new() -> Self
         ensures { result ≡ [] }
@@ -101,6 +102,17 @@ impl<const N: usize> Table<N> {
         ensures bound { length self.now ≤ N }
     {
         Children::new(self.rows())
+    }
+
+    // The first child from a byte on, or the last one where there is none.
+    pub(crate) fn beside(&self, byte: u8) -> (u8, OpaqueNodePtr)
+        requires { 0 < length self.now }
+        ensures beside { IsBeside self.now byte result }
+        ensures bound { length self.now ≤ N }
+    {
+        let rows = self.rows();
+        let below = rows.count_below(byte);
+        rows.entry(below.min(rows.len() - 1))
     }
 
     pub(crate) fn write(&mut self, byte: u8, child: OpaqueNodePtr)
@@ -181,11 +193,16 @@ pub(crate) fn get_by_lanes(table: &Table<16>, byte: u8) -> Option<OpaqueNodePtr>
 }
 
 // Puts a value at a place, and lets the last one go.
+#[inline(always)]
 fn insert_into<T: Copy>(part: &mut [T], at: usize, value: T)
     requires { at < length part.old }
     ensures { part.new ≡ take at part.old ++ value ∷ take (length part.old - 1 - at) (drop at part.old) }
 {
-    part[at..].rotate_right(1);
+    let mut place = part.len() - 1;
+    while place > at {
+        part[place] = part[place - 1];
+        place -= 1;
+    }
     part[at] = value;
 }
 

@@ -6,10 +6,11 @@ ghost use Rattle.art_model.specs.Roots.{IsFullTree};
 ghost use Rattle.art_model.specs.Trees.{Tree};
 
 use crate::ways::{End, walk_to_end};
-use art_nodes::node::{AsBytes, LeafPtr, OpaqueNodePtr};
+use art_nodes::node::{AsBytes, LeafPtr, NodePtr, OpaqueNodePtr};
 use art_nodes::store::NodeStore;
 
 /// The first leaf of the tree that a name stands for. It reads one inner node for each level.
+#[inline(always)]
 pub fn minimum_unchecked<K: AsBytes + Drop, V: Drop, const PREFIX_LEN: usize>(
     store: &NodeStore<K, V, PREFIX_LEN>,
     root: OpaqueNodePtr,
@@ -18,10 +19,14 @@ pub fn minimum_unchecked<K: AsBytes + Drop, V: Drop, const PREFIX_LEN: usize>(
     ensures { (layout : Tree OpaqueNodePtr (K × V)) →
         IsFullTree store.now root layout → HasFirstLeaf layout (leaf_name result) }
 {
-    walk_to_end(store, root, End::First).1
+    match root.split() {
+        NodePtr::Leaf(leaf) => leaf,
+        NodePtr::Inner(_) => walk_to_end(store, root, End::First).1,
+    }
 }
 
 /// The last leaf of the tree that a name stands for. It reads one inner node for each level.
+#[inline(always)]
 pub fn maximum_unchecked<K: AsBytes + Drop, V: Drop, const PREFIX_LEN: usize>(
     store: &NodeStore<K, V, PREFIX_LEN>,
     root: OpaqueNodePtr,
@@ -30,5 +35,8 @@ pub fn maximum_unchecked<K: AsBytes + Drop, V: Drop, const PREFIX_LEN: usize>(
     ensures { (layout : Tree OpaqueNodePtr (K × V)) →
         IsFullTree store.now root layout → HasLastLeaf layout (leaf_name result) }
 {
-    walk_to_end(store, root, End::Last).1
+    match root.split() {
+        NodePtr::Leaf(leaf) => leaf,
+        NodePtr::Inner(_) => walk_to_end(store, root, End::Last).1,
+    }
 }

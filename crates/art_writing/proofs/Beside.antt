@@ -1,5 +1,5 @@
 -- the leaves beside a new one in the chain of a store
-use Rattle.std.proofs.Common.{◌≡◌, List, [], ◌∷◌, ◌++◌, Option, Some, None, IsSomeAnd, refl, ap, sym, ◌∙◌, subst, append_assoc, append-nil}
+use Rattle.std.proofs.Common.{◌≡◌, List, [], ◌∷◌, ◌++◌, Option, Some, None, IsSomeAnd, refl, ap, sym, ◌∙◌, subst, append_assoc, append-nil, inl, inr}
 use Rattle.std.specs.FinMap as map
 use Rattle.std.specs.Option.{option_map}
 use Rattle.art_parts.specs.Names.{leaf_name}
@@ -65,18 +65,19 @@ module _ {K V : Type 0} (s : Nodes K V) (xs zs : List OpaqueNodePtr) (linked : A
 module _ {K V : Type 0} (s : Nodes K V) (before after : List OpaqueNodePtr) (previous next : Option LeafPtr) where
   pub between_links : (l r : Subtrees OpaqueNodePtr (K × V)) → AreLinked (links_at s) None ((before ++ leaf_names_below l) ++ (leaf_names_below r ++ after)) None → ComesBetween s l r previous next →
       (option_map leaf_name previous ≡ last_or (before ++ leaf_names_below l) None) × (option_map leaf_name next ≡ first_or (leaf_names_below r ++ after) None)
-  between_links l (child c t r) linked (p, has, next_is, previous_is) =
+  between_links l r linked (inl (c, t, others, whole, (p, has, next_is, previous_is))) =
       let (rest, is) = first_is (leaf_name p) (leaf_names t) has.name_is in
-      let zs : leaf_names_below (child c t r) ++ after ≡ leaf_name p ∷ ((rest ++ leaf_names_below r) ++ after) = ap (λ z. (z ++ leaf_names_below r) ++ after) is in (
-        before_first s (before ++ leaf_names_below l) (leaf_names_below (child c t r) ++ after) linked p ((rest ++ leaf_names_below r) ++ after) previous zs previous_is,
+      let zs : leaf_names_below r ++ after ≡ leaf_name p ∷ ((rest ++ leaf_names_below others) ++ after) =
+      ap (λ z. leaf_names_below z ++ after) whole ∙ ap (λ z. (z ++ leaf_names_below others) ++ after) is in (
+        before_first s (before ++ leaf_names_below l) (leaf_names_below r ++ after) linked p ((rest ++ leaf_names_below others) ++ after) previous zs previous_is,
         ap (option_map leaf_name) next_is ∙ sym (ap (λ z. first_or z None) zs),
       )
-  between_links l no_child linked (others, c, t, whole, (p, has, previous_is, next_is)) =
+  between_links l r linked (inr (others, c, t, whole, (p, has, previous_is, next_is))) =
       let (ys, is) = last_is (leaf_name p) (leaf_names t) has.name_is in
       let below : leaf_names_below l ≡ leaf_names_below others ++ (ys ++ leaf_name p ∷ []) =
       ap leaf_names_below whole ∙ leaf_names_below-join others (child c t no_child) ∙ ap (λ z. leaf_names_below others ++ z) (append-nil (leaf_names t) ∙ is) in
       let xs : before ++ leaf_names_below l ≡ (before ++ leaf_names_below others ++ ys) ++ leaf_name p ∷ [] =
       ap (λ z. before ++ z) below ∙ sym (append_assoc before (leaf_names_below others) (ys ++ leaf_name p ∷ [])) ∙ sym (append_assoc (before ++ leaf_names_below others) ys (leaf_name p ∷ [])) in (
         ap (option_map leaf_name) previous_is ∙ sym (ap (λ z. last_or z None) xs ∙ last_or-push (before ++ leaf_names_below others ++ ys) (leaf_name p) None),
-        after_last s (before ++ leaf_names_below l) after linked p (before ++ leaf_names_below others ++ ys) next xs next_is,
+        after_last s (before ++ leaf_names_below l) (leaf_names_below r ++ after) linked p (before ++ leaf_names_below others ++ ys) next xs next_is,
       )

@@ -1,9 +1,9 @@
--- where a new leaf comes among the children of a node: the leaves beside it, and that the node has fewer children than there are bytes
-use Rattle.std.proofs.Common.{◌≡◌, ◌≢◌, ℕ, suc, ◌+◌, ◌-◌, ◌<◌, ◌≤◌, List, [], ◌∷◌, ◌++◌, length, slice_get, All, Option, Some, IfSome, refl, ap, sym, ◌∙◌, subst, arith, length-append}
+-- where a new leaf comes among the children of a node: the leaves beside it
+use Rattle.std.proofs.Common.{◌≡◌, ◌≢◌, ◌⊎◌, ℕ, ◌<◌, ◌≤◌, ◌∷◌, ◌++◌, length, Option, Some, None, refl, ap, sym, ◌∙◌, subst, arith, inl, inr}
 use Rattle.std.specs.List.{AllByRecursion as Each}
 use Rattle.std.specs.FinMap as map
 use Rattle.std.proofs.lemmas.List.Elements.{recursion_from_All}
-use Rattle.art_inner.specs.Inner.{Inner, children_between}
+use Rattle.art_inner.specs.Inner.{Inner, children_between, Children, child_at}
 use Rattle.art_parts.specs.Names.{inner_name}
 use Rattle.art_nodes.specs.Nodes.{Nodes}
 use Rattle.art_parts.specs.declared.names.NodeType.TheVariants.{Leaf}
@@ -11,17 +11,18 @@ use Rattle.art_parts.specs.declared.names.InnerPtr.{InnerPtr}
 use Rattle.art_parts.specs.declared.names.LeafPtr.{LeafPtr}
 use Rattle.art_parts.specs.declared.names.OpaqueNodePtr.{OpaqueNodePtr}
 use Rattle.art_inner.proofs.ChildrenLemmas.{between_here, between_after}
+use Rattle.std.proofs.lemmas.Bool.{cases_eq}
+use Rattle.art_inner.specs.Beside.{IsBeside}
+use Rattle.art_inner.proofs.ChildrenLaws.{at_here, at_later}
 use Rattle.art_model.specs.Layouts.{AreDistinct, name_of, names_of, names_below, slots_of}
 use Rattle.art_model.specs.Radix.{BytesRise, bytes_of, join}
 use Rattle.art_model.specs.Roots.{IsFullTree}
 use Rattle.art_model.specs.Stores.{node_at}
 use Rattle.art_model.specs.Trees.{Tree, inner, Subtrees, child, no_child, NodeHeader}
-use Rattle.art_model.proofs.Edges.{children_right, last_child}
-use Rattle.art_model.proofs.Lists.{Each-right, Each-weaker}
+use Rattle.art_model.proofs.Edges.{children_right}
 use Rattle.art_model.proofs.Pairwises.{Pairwise-left, Pairwise-right}
 use Rattle.art_model.proofs.Paths.{names_below-join}
-use Rattle.art_model.proofs.PlaceLaws.{join_none}
-use Rattle.art_model.proofs.Radix.{bytes_of-join}
+use Rattle.art_model.proofs.PlaceLaws.{join_assoc}
 use Rattle.art_model.proofs.Slots.{length-slots_of}
 use Rattle.art_model.proofs.Stores.{HoldsBelow-right}
 use Rattle.art_model.proofs.Views as views
@@ -42,31 +43,76 @@ full_child s l r c t (is, full) named =
       (children_right 1 l (child c t r) full.1).0,
     )
 
--- rising numbers from one bound to another are no more than there are
-count_between : (least most : ℕ) (bs : List ℕ) → BytesRise bs → Each (λ b. least ≤ b) bs → Each (λ b. b < most) bs → least ≤ most → least + length bs ≤ most
-count_between least most [] up low high inside = omega arith
-count_between least most (b ∷ bs) up low high inside =
-    let rest = count_between (suc b) most bs up.1 (Each-weaker (λ c. b < c) (λ c. suc b ≤ c) (λ c l. omega arith) bs up.0) high.1 (let h = high.0 in omega arith) in
-    let l = low.0 in
-    omega arith
+-- a child under a byte and no child there exclude each other
+there_is : {X : Type 0} {x : X} → ◌≡◌ {A = Option X} None (Some x) → ⊥
+there_is e = cc
 
-module _ {A : Type 0} (b last : ℕ) where
-  -- the children from a byte on that none has are those on the right
-  between_right : (l r : Subtrees OpaqueNodePtr A) → Each (λ c. c < b) (bytes_of l) → Each (λ c. b < c) (bytes_of r) →
-      Each (λ c. c ≤ last) (bytes_of (join l r)) → children_between b last (slots_of (join l r)) ≡ slots_of r
-  between_right no_child no_child low high most = refl
-  between_right no_child (child c t r) low high most =
-      between_here b last (c, name_of t) (slots_of r) (let h = high.0 in omega arith) most.0 ∙ ap (λ z. (c, name_of t) ∷ z) (between_right no_child r tt high.1 most.1)
-  between_right (child c t l) r low high most = between_after b last (c, name_of t) (slots_of (join l r)) low.0 ∙ between_right l r low.1 high most.1
+-- the rest has no child under a byte under which the whole has none
+none_later : (c : ℕ × OpaqueNodePtr) (rest : Children) (k : ℕ) → child_at (c ∷ rest) k ≡ None → child_at rest k ≡ None
+none_later c rest k none = sym (at_later c rest k (λ e. there_is (sym none ∙ at_here c rest k e))) ∙ none
 
-  bytes_each : (cs : Subtrees OpaqueNodePtr A) → Each (λ (e : ℕ × OpaqueNodePtr). e.0 ≤ last) (slots_of cs) → Each (λ c. c ≤ last) (bytes_of cs)
-  bytes_each no_child h = tt
-  bytes_each (child c t cs) h = (h.0, bytes_each cs h.1)
+module _ {A : Type 0} where
+  -- a byte of a child is as all of them are
+  byte_there : (Good : ℕ → Type 0) (cs : Subtrees OpaqueNodePtr A) {d : ℕ} {to : OpaqueNodePtr} → Each Good (bytes_of cs) → child_at (slots_of cs) d ≡ Some to → Good d
+  byte_there Good no_child all is = absurd cc
+  byte_there Good (child c t cs) {d} all is = elim (cases_eq c d) [
+    | inl e ↦ subst Good e all.0
+    | inr n ↦ byte_there Good cs all.1 (sym (at_later (c, name_of t) (slots_of cs) d n) ∙ is)
+  ]
+
+  module _ (b : ℕ) where
+    -- the byte of the gap has no child
+    nothing_there : (l r : Subtrees OpaqueNodePtr A) → Each (λ c. c < b) (bytes_of l) → Each (λ c. b < c) (bytes_of r) → child_at (slots_of (join l r)) b ≡ None
+    nothing_there no_child no_child low high = refl
+    nothing_there no_child (child c t r) low high = at_later (c, name_of t) (slots_of r) b (λ e. omega (arith, e, high.0)) ∙ nothing_there no_child r tt high.1
+    nothing_there (child c t l) r low high = at_later (c, name_of t) (slots_of (join l r)) b (λ e. omega (arith, e, low.0)) ∙ nothing_there l r low.1 high
+
+    module _ (d : ℕ) (to : OpaqueNodePtr) where
+      -- the child above the gap between which and the gap is no other is the first on the right
+      right_first : (l r : Subtrees OpaqueNodePtr A) → Each (λ c. c < b) (bytes_of l) → Each (λ c. b < c) (bytes_of r) → BytesRise (bytes_of (join l r)) → b < d →
+          child_at (slots_of (join l r)) d ≡ Some to → ((k : ℕ) → b < k → k < d → child_at (slots_of (join l r)) k ≡ None) →
+          (t : Tree OpaqueNodePtr A) × (others : Subtrees OpaqueNodePtr A) × (r ≡ child d t others) × (name_of t ≡ to)
+      right_first (child c t l) r low high up above is none =
+          right_first l r low.1 high up.1 above (sym (at_later (c, name_of t) (slots_of (join l r)) d (λ e. omega (arith, e, low.0, above))) ∙ is)
+          (λ k from to. none_later (c, name_of t) (slots_of (join l r)) k (none k from to))
+      right_first no_child no_child low high up above is none = absurd cc
+      right_first no_child (child c t others) low high up above is none = elim (cases_eq c d) [
+        | inl e ↦
+            let same : Some (name_of t) ≡ Some to = sym (at_here (c, name_of t) (slots_of others) d e) ∙ is in
+            (t, others, ap (λ z. child z t others) e, cc)
+        | inr n ↦
+            let later = byte_there (λ z. c < z) others up.0 (sym (at_later (c, name_of t) (slots_of others) d n) ∙ is) in
+            absurd (there_is (sym (none c high.0 later) ∙ at_here (c, name_of t) (slots_of others) c refl))
+      ]
+
+      -- the child below the gap between which and the gap is no other is the last on the left
+      left_last : (l r : Subtrees OpaqueNodePtr A) → Each (λ c. c < b) (bytes_of l) → Each (λ c. b < c) (bytes_of r) → BytesRise (bytes_of (join l r)) → d < b →
+          child_at (slots_of (join l r)) d ≡ Some to → ((k : ℕ) → d < k → k < b → child_at (slots_of (join l r)) k ≡ None) →
+          (t : Tree OpaqueNodePtr A) × (others : Subtrees OpaqueNodePtr A) × (l ≡ join others (child d t no_child)) × (name_of t ≡ to)
+      left_last no_child r low high up below is none = absurd (omega (arith, below, byte_there (λ z. b < z) r high is))
+      left_last (child c t l) r low high up below is none = by_byte l low.1 up is none (cases_eq c d) (left_last l r low.1 high up.1 below)
+        where
+          LastOf : Subtrees OpaqueNodePtr A → Type 0
+          LastOf cs = (u : Tree OpaqueNodePtr A) × (others : Subtrees OpaqueNodePtr A) × (cs ≡ join others (child d u no_child)) × (name_of u ≡ to)
+
+          by_byte : (l : Subtrees OpaqueNodePtr A) → Each (λ c. c < b) (bytes_of l) → BytesRise (c ∷ bytes_of (join l r)) → child_at ((c, name_of t) ∷ slots_of (join l r)) d ≡ Some to →
+              ((k : ℕ) → d < k → k < b → child_at ((c, name_of t) ∷ slots_of (join l r)) k ≡ None) → (c ≡ d) ⊎ (c ≢ d) →
+              (child_at (slots_of (join l r)) d ≡ Some to → ((k : ℕ) → d < k → k < b → child_at (slots_of (join l r)) k ≡ None) → LastOf l) → LastOf (child c t l)
+          by_byte no_child low up is none (inl e) later =
+              let same : Some (name_of t) ≡ Some to = sym (at_here (c, name_of t) (slots_of r) d e) ∙ is in
+              (t, no_child, ap (λ z. child z t no_child) e, cc)
+          by_byte (child e u l) low up is none (inl same) later =
+              let here = at_later (c, name_of t) ((e, name_of u) ∷ slots_of (join l r)) e (λ k. omega (arith, k, up.0.0)) ∙ at_here (e, name_of u) (slots_of (join l r)) e refl in
+              absurd (there_is (sym (none e (omega (arith, same, up.0.0)) low.0) ∙ here))
+          by_byte l low up is none (inr n) later =
+              let (u, others, whole, named) = later (sym (at_later (c, name_of t) (slots_of (join l r)) d n) ∙ is)
+              (λ k from to. none_later (c, name_of t) (slots_of (join l r)) k (none k from to)) in
+              (u, child c t others, ap (child c t) whole, named)
 
 module _ {K V : Type 0} {s : Nodes K V} {p : InnerPtr} {b : ℕ} {l r : Subtrees OpaqueNodePtr (K × V)} {shown : Inner} (proper : p.kind ≢ Leaf)
     (gap : HasGap s p b l r) (there : Some shown ≡ map.get s.inners p) where
   -- the node's children
-  pub gap_slots : shown.children ≡ slots_of (join l r)
+  gap_slots : shown.children ≡ slots_of (join l r)
   gap_slots =
       let (node, got, head, slots) = views.inner_there s p gap.header (slots_of (join l r)) proper gap.full.0.holds.0 in
       let same : node ≡ shown = let e : Some node ≡ Some shown = sym got ∙ sym there in cc in
@@ -76,66 +122,43 @@ module _ {K V : Type 0} {s : Nodes K V} {p : InnerPtr} {b : ℕ} {l r : Subtrees
   pub gap_some : 0 < length shown.children
   gap_some = let n = length-slots_of (join l r) in let f = gap.full.1.0 in let e = ap length gap_slots in omega arith
 
-  module _ {greatest : ℕ} (most : All (λ child. child.0 ≤ greatest) shown.children) where
-    all_most : Each (λ c. c ≤ greatest) (bytes_of (join l r))
-    all_most = bytes_each b greatest (join l r) (subst (Each (λ e. e.0 ≤ greatest)) gap_slots (recursion_from_All (λ e. e.0 ≤ greatest) shown.children most))
+  -- the byte has none
+  pub gap_absent : child_at shown.children b ≡ None
+  gap_absent = ap (λ z. child_at z b) gap_slots ∙ nothing_there b l r gap.low gap.high
 
-    -- those that are looked through are the ones on the right
-    pub gap_right : children_between b greatest shown.children ≡ slots_of r
-    gap_right = ap (children_between b greatest) gap_slots ∙ between_right b greatest l r gap.low gap.high all_most
+  module _ {found : ℕ × OpaqueNodePtr} (beside : IsBeside shown.children b found) where
+    in_slots : IsBeside (slots_of (join l r)) b found
+    in_slots = subst (λ z. IsBeside z b found) gap_slots beside
 
-    -- there are fewer children than bytes
-    pub gap_few : greatest < 256 → b < 256 → IfSome (map.get s.inners p) (λ node. length node.children < 256)
-    gap_few small fits =
-        let joined = bytes_of-join l r in
-        let up = subst BytesRise joined gap.rising in
-        let all = subst (Each (λ c. c ≤ greatest)) joined all_most in
-        let left =
-        count_between 0 b (bytes_of l) (Pairwise-left (λ x y. x < y) (bytes_of l) (bytes_of r) up)
-        (Each-weaker (λ c. c < b) (λ c. 0 ≤ c) (λ c h. omega arith) (bytes_of l) gap.low) gap.low (omega arith) in
-        let right =
-        count_between (suc b) 256 (bytes_of r) (Pairwise-right (λ x y. x < y) (bytes_of l) (bytes_of r) up) (Each-weaker (λ c. b < c) (λ c. suc b ≤ c) (λ c h. omega arith) (bytes_of r) gap.high)
-        (Each-weaker (λ c. c ≤ greatest) (λ c. c < 256) (λ c h. omega arith) (bytes_of r) (Each-right (λ c. c ≤ greatest) (bytes_of l) (bytes_of r) all)) (omega arith) in
-        let n = ap length gap_slots in let m = length-slots_of (join l r) in let j = ap length joined in let k = length-append (bytes_of l) (bytes_of r) in
-        subst (λ o. IfSome o (λ node. length node.children < 256)) there (omega arith)
+    -- it is another byte's
+    other_byte : found.0 ≢ b
+    other_byte e = there_is (sym gap_absent ∙ ap (child_at shown.children) (sym e) ∙ beside.there)
 
--- ---- the child after the gap, or the one before it
+    module _ (above : b < found.0) where
+      first_right : (t : Tree OpaqueNodePtr (K × V)) × (others : Subtrees OpaqueNodePtr (K × V)) × (r ≡ child found.0 t others) × (name_of t ≡ found.1)
+      first_right = right_first b found.0 found.1 l r gap.low gap.high gap.rising above in_slots.there in_slots.above
 
-module _ {K V : Type 0} {s : Nodes K V} {p : InnerPtr} {b : ℕ} where
-  module _ {c : ℕ} {to : OpaqueNodePtr} {rest : List (ℕ × OpaqueNodePtr)} where
-    -- the first child on the right
-    pub right_full : (l r : Subtrees OpaqueNodePtr (K × V)) → HasGap s p b l r → slots_of r ≡ (c, to) ∷ rest → (t : Tree OpaqueNodePtr (K × V)) × IsFullTree s to t
-    right_full l no_child gap e = absurd cc
-    right_full l (child d t r) gap e =
-        let head : ◌≡◌ {A = ℕ × OpaqueNodePtr} (d, name_of t) (c, to) = cc in
-        (t, full_child s l r d t gap.full (ap (λ z. z.1) head))
+      pub right_full : (t : Tree OpaqueNodePtr (K × V)) × IsFullTree s found.1 t
+      right_full =
+          let (t, others, whole, named) = first_right in
+          (t, full_child s l others found.0 t (subst (λ z. IsFullTree s (inner_name p) (inner (inner_name p) gap.header (join l z))) whole gap.full) named)
 
-    pub right_before : (l r : Subtrees OpaqueNodePtr (K × V)) (previous next : Option LeafPtr) → HasGap s p b l r → slots_of r ≡ (c, to) ∷ rest →
-        ((t : Tree OpaqueNodePtr (K × V)) → IsFullTree s to t → ComesBefore s t previous next) → ComesBetween s l r previous next
-    right_before l no_child previous next gap e comes = absurd cc
-    right_before l (child d t r) previous next gap e comes =
-        let head : ◌≡◌ {A = ℕ × OpaqueNodePtr} (d, name_of t) (c, to) = cc in
-        comes t (full_child s l r d t gap.full (ap (λ z. z.1) head))
+      pub right_before : (previous next : Option LeafPtr) → ((t : Tree OpaqueNodePtr (K × V)) → IsFullTree s found.1 t → ComesBefore s t previous next) → ComesBetween s l r previous next
+      right_before previous next comes =
+          let (t, others, whole, named) = first_right in
+          inl (found.0, t, others, whole, comes t (full_child s l others found.0 t (subst (λ z. IsFullTree s (inner_name p) (inner (inner_name p) gap.header (join l z))) whole gap.full) named))
 
-  module _ {last : ℕ × OpaqueNodePtr} where
-    -- the last child on the left
-    pub left_full : (l r : Subtrees OpaqueNodePtr (K × V)) → HasGap s p b l r → slots_of r ≡ [] →
-        slice_get (slots_of (join l r)) (length (slots_of (join l r)) - 1) ≡ Some last → (t : Tree OpaqueNodePtr (K × V)) × IsFullTree s last.1 t
-    left_full l (child d t r) gap e at = absurd cc
-    left_full l no_child gap e at =
-        let (others, t, whole, named) = last_child (join l no_child) last at in
-        (t, full_child s others no_child last.0 t (subst (λ z. IsFullTree s (inner_name p) (inner (inner_name p) gap.header z)) whole gap.full) named)
+    module _ (not_above : found.0 ≤ b) where
+      last_left : (t : Tree OpaqueNodePtr (K × V)) × (others : Subtrees OpaqueNodePtr (K × V)) × (l ≡ join others (child found.0 t no_child)) × (name_of t ≡ found.1)
+      last_left = left_last b found.0 found.1 l r gap.low gap.high gap.rising (omega (arith, not_above, other_byte)) in_slots.there in_slots.below
 
-    pub left_after : (l r : Subtrees OpaqueNodePtr (K × V)) (previous next : Option LeafPtr) → HasGap s p b l r → slots_of r ≡ [] →
-        slice_get (slots_of (join l r)) (length (slots_of (join l r)) - 1) ≡ Some last →
-        ((t : Tree OpaqueNodePtr (K × V)) → IsFullTree s last.1 t → ComesAfter s t previous next) → ComesBetween s l r previous next
-    left_after l (child d t r) previous next gap e at comes = absurd cc
-    left_after l no_child previous next gap e at comes =
-        let (others, t, whole, named) = last_child (join l no_child) last at in (
-          others,
-          last.0,
-          t,
-          sym (join_none l) ∙ whole,
-          comes t (full_child s others no_child last.0 t
-              (subst (λ z. IsFullTree s (inner_name p) (inner (inner_name p) gap.header z)) whole gap.full) named),
-        )
+      of_left : (others : Subtrees OpaqueNodePtr (K × V)) (t : Tree OpaqueNodePtr (K × V)) → l ≡ join others (child found.0 t no_child) → name_of t ≡ found.1 → IsFullTree s found.1 t
+      of_left others t whole named =
+          let all = ap (λ z. join z r) whole ∙ join_assoc others (child found.0 t no_child) r in
+          full_child s others r found.0 t (subst (λ z. IsFullTree s (inner_name p) (inner (inner_name p) gap.header z)) all gap.full) named
+
+      pub left_full : (t : Tree OpaqueNodePtr (K × V)) × IsFullTree s found.1 t
+      left_full = let (t, others, whole, named) = last_left in (t, of_left others t whole named)
+
+      pub left_after : (previous next : Option LeafPtr) → ((t : Tree OpaqueNodePtr (K × V)) → IsFullTree s found.1 t → ComesAfter s t previous next) → ComesBetween s l r previous next
+      left_after previous next comes = let (t, others, whole, named) = last_left in inr (others, found.0, t, whole, comes t (of_left others t whole named))

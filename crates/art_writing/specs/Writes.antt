@@ -1,5 +1,5 @@
 -- What the writes of the operations ask and answer: a child of the parent that a path ends with, and the leaves beside one.
-use Rattle.std.specs.Prelude.{◌≡◌, ◌<◌, ℕ, Option, Some, None, IsSome, IsSomeAnd, IfSome}
+use Rattle.std.specs.Prelude.{◌≡◌, ◌⊎◌, ◌<◌, ℕ, Option, Some, None, IsSome, IsSomeAnd, IfSome}
 use Rattle.std.specs.List.{AllByRecursion as Each}
 use Rattle.std.specs.FinMap as map
 use Rattle.art_inner.specs.Inner.{child_at}
@@ -59,10 +59,11 @@ pub record HasGap {K V : Type 0} (s : Nodes K V) (name : InnerPtr) (byte : ℕ)
   pub low : Each (λ c. c < byte) (bytes_of left)
   pub high : Each (λ c. byte < c) (bytes_of right)
 
--- a new leaf that comes between these children has these leaves beside it: it is right before the first leaf on the right, or right after the last one where there is none
+-- a new leaf that comes between these children has these leaves beside it: it is right before the first leaf on the right, or right after the last one on the left
 abbrev pub ComesBetween : {K V : Type 0} → Nodes K V → Subtrees OpaqueNodePtr (K × V) →
     Subtrees OpaqueNodePtr (K × V) → Option LeafPtr → Option LeafPtr → Type 0
-ComesBetween s left (child b t right) previous next = ComesBefore s t previous next
-ComesBetween {K} {V} s left no_child previous next =
-    (others : Subtrees OpaqueNodePtr (K × V)) × (b : ℕ) × (t : Tree OpaqueNodePtr (K × V)) ×
-    (left ≡ join others (child b t no_child)) × ComesAfter s t previous next
+ComesBetween {K} {V} s left right previous next =
+    ((b : ℕ) × (t : Tree OpaqueNodePtr (K × V)) × (others : Subtrees OpaqueNodePtr (K × V)) ×
+    (right ≡ child b t others) × ComesBefore s t previous next) ⊎
+    ((others : Subtrees OpaqueNodePtr (K × V)) × (b : ℕ) × (t : Tree OpaqueNodePtr (K × V)) ×
+    (left ≡ join others (child b t no_child)) × ComesAfter s t previous next)

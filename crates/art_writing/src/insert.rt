@@ -3,6 +3,8 @@ ghost use Rattle.std.specs.Prelude.{◌≡◌, ◌≢◌, ◌≤◌, ◌↔◌, 
 ghost use Rattle.art_parts.specs.Names.{inner_name};
 ghost use Rattle.art_parts.specs.declared.names.NodeType.TheVariants.{Leaf};
 ghost use Rattle.art_parts.specs.declared.names.OpaqueNodePtr.{OpaqueNodePtr};
+ghost use Rattle.std.specs.FinMap as map;
+ghost use Rattle.art_inner.specs.Views.{ref_view};
 ghost use Rattle.art_model.specs.Keys.{IsFront};
 ghost use Rattle.art_model.specs.Pairs.{is_conflict, of_key};
 ghost use Rattle.art_model.specs.Roots.{ForTree, IsCanonicalRoot};
@@ -13,7 +15,7 @@ ghost use Rattle.art_writing.specs.Overwritten.{IsPrefixPointIn, root_of};
 ghost use Rattle.art_writing.specs.Points.{AnswersTo, IsAt, IsCompared, IsKindFor, IsPart, IsPointFor, IsRefusedFor, IsStepFrom};
 
 use art_nodes::node::{
-    AsBytes, InnerPtr, LeafNode, LeafPtr, NodePtr, OpaqueNodePtr, OptionalLeafPtr,
+    AsBytes, InnerPtr, InnerRef, LeafNode, LeafPtr, NodePtr, OpaqueNodePtr, OptionalLeafPtr,
 };
 use art_nodes::store::NodeStore;
 use art_reading::minmax::minimum_unchecked;
@@ -243,6 +245,7 @@ impl Spot {
     ghost use Rattle.art_writing.specs.declared.insert.SearchStep.TheVariants as steps;
 
     // The point at this node.
+    #[inline(always)]
     fn point(
         self,
         root: OpaqueNodePtr,
@@ -265,6 +268,7 @@ impl Spot {
     }
 
     // The point at this node where it gives way.
+    #[inline(always)]
     fn overwrite(self, root: OpaqueNodePtr, key_bytes_used: usize) -> SearchStep
         ensures { result ≡ steps.Point (points.OverwritePoint (record {
           path = self.path;
@@ -292,6 +296,7 @@ enum SearchStep {
 }
 
 // One step on the way down.
+#[inline(always)]
 fn next_step<K: AsBytes + Drop, V: Drop, const PREFIX_LEN: usize>(
     store: &NodeStore<K, V, PREFIX_LEN>,
     root: OpaqueNodePtr,
@@ -319,6 +324,7 @@ fn next_step<K: AsBytes + Drop, V: Drop, const PREFIX_LEN: usize>(
 }
 
 // The same at an inner node.
+#[inline(always)]
 fn step_at_inner<K: AsBytes + Drop, V: Drop, const PREFIX_LEN: usize>(
     store: &NodeStore<K, V, PREFIX_LEN>,
     root: OpaqueNodePtr,
@@ -334,7 +340,10 @@ fn step_at_inner<K: AsBytes + Drop, V: Drop, const PREFIX_LEN: usize>(
     ensures { ForTree (of_key K.bytes) PREFIX_LEN store.now root (λ pairs layout.
         IsStepFrom (of_key K.bytes) PREFIX_LEN key_bytes.now pairs layout spot.depth result) }
 {
-    let matched = match match_full_prefix(store, inner, key_bytes, spot.depth) {
+    let Some(node) = store.inner(inner) else {
+        unreachable!()
+    };
+    let matched = match match_full_prefix(store, inner, node, key_bytes, spot.depth) {
         Ok(matched) => matched,
         Err(mismatch) => {
             if spot.depth + mismatch.matched_bytes >= key_bytes.len() {
@@ -351,9 +360,6 @@ fn step_at_inner<K: AsBytes + Drop, V: Drop, const PREFIX_LEN: usize>(
     if depth >= key_bytes.len() {
         return spot.overwrite(root, depth.saturating_sub(1));
     }
-    let Some(node) = store.inner(inner) else {
-        unreachable!()
-    };
     let byte = key_bytes[depth];
     let Some(child) = node.lookup_child(byte) else {
         let insert_kind = InsertKind::IntoExisting {
@@ -369,6 +375,7 @@ fn step_at_inner<K: AsBytes + Drop, V: Drop, const PREFIX_LEN: usize>(
 }
 
 // What is to be done at a leaf, or `None` where its key and the key are related but not equal.
+#[inline(always)]
 fn kind_at_leaf<K: AsBytes, V>(
     leaf_node_ptr: LeafPtr,
     leaf: &LeafNode<K, V>,
@@ -392,13 +399,16 @@ fn kind_at_leaf<K: AsBytes, V>(
 }
 
 // Compares the whole prefix of an inner node, to which so many bytes lead, with the rest of the key.
+#[inline(always)]
 fn match_full_prefix<K: AsBytes + Drop, V: Drop, const PREFIX_LEN: usize>(
     store: &NodeStore<K, V, PREFIX_LEN>,
     name: InnerPtr,
+    node: InnerRef<'_, PREFIX_LEN>,
     key_bytes: &[u8],
     depth: usize,
 ) -> Result<PrefixMatch, ExplicitMismatch>
     requires inner { name.kind ≢ Leaf }
+    requires node { Some (ref_view node) ≡ map.get store.now.inners name }
     requires depth { depth ≤ length key_bytes.now }
     requires part { (node : Tree OpaqueNodePtr (K × V)) ×
         IsPart (of_key K.bytes) PREFIX_LEN store.now (inner_name name) depth node }
@@ -406,14 +416,10 @@ fn match_full_prefix<K: AsBytes + Drop, V: Drop, const PREFIX_LEN: usize>(
         IsPart (of_key K.bytes) PREFIX_LEN store.now (inner_name name) depth node →
         IsCompared (of_key K.bytes) PREFIX_LEN key_bytes.now node depth result }
 {
-    let Some(node) = store.inner(name) else {
-        unreachable!()
-    };
-    let header = node.header();
     let rest_of_key = &key_bytes[depth..];
-    let len = header.prefix_len();
+    let len = node.prefix_len();
     if len <= PREFIX_LEN {
-        return match_prefix(header.read_prefix(), rest_of_key, None);
+        return match_prefix(node.read_prefix(), rest_of_key, None);
     }
     let leaf_ptr = minimum_unchecked(store, name.to_opaque());
     let Some(leaf) = store.leaf(leaf_ptr) else {
@@ -426,6 +432,7 @@ fn match_full_prefix<K: AsBytes + Drop, V: Drop, const PREFIX_LEN: usize>(
 ghost use Rattle.std.specs.Prelude.{Some, slice_get};
 
 // Compares a prefix with the rest of the key.
+#[inline(always)]
 fn match_prefix(
     prefix: &[u8],
     rest_of_key: &[u8],

@@ -1,8 +1,181 @@
-//! An inner node gives way to a smaller one, or to the other of its two children.
-ghost use Rattle.std.specs.Prelude.{◌≡◌, ◌≢◌, ◌≤◌, IsTrue, IsSomeAnd, IfSome, None, length};
+//! An inner node gives way to a larger or a smaller one, or to the other of its two children.
+ghost use Rattle.std.specs.Prelude.{◌≡◌, ◌≢◌, ◌≤◌, IsTrue, IsSome, IsSomeAnd, IfSome, Option, Some, None, length};
+ghost use Rattle.slab.specs.Slab.{ContainsKey, HasRoomFor, Updates};
 
-use super::NodeStore;
-use crate::node::{AsBytes, Header, InnerPtr, OpaqueNodePtr};
+use super::{InnerSlabs, NodeStore};
+use crate::node::{AsBytes, Header, InnerNode, InnerPtr, InnerRef, NodeType, OpaqueNodePtr};
+use slab::Slab;
+
+// A call fills the room for its locals with zeros, so that a kind has functions of its own.
+impl<const P: usize> InnerSlabs<P> {
+    ghost use Rattle.std.specs.FinMap as map;
+    ghost use Rattle.art_inner.specs.Changes.{with_child, without_child};
+    ghost use Rattle.art_inner.specs.Inner.{HasPlace};
+    ghost use Rattle.art_parts.specs.Kinds.{kind_capacity, larger_kind, smaller_kind};
+    ghost use Rattle.art_nodes.specs.StoreView.{HasInnerRoom, inners_of};
+    ghost use Rattle.art_parts.specs.declared.names.NodeType.{NodeType};
+    ghost use Rattle.art_parts.specs.declared.names.NodeType.TheVariants.{Node4, Node16, Node48, Node256};
+
+    // Puts a node of the next larger kind, with a child more, in the place of one.
+    pub(super) fn put_larger(&mut self, name: InnerPtr, byte: u8, child: OpaqueNodePtr) -> InnerPtr
+        requires kind { name.kind ≢ Node256 }
+        requires place { IsSomeAnd (map.get (inners_of self.old) name) (λ node.
+            HasPlace (kind_capacity (larger_kind name.kind)) node.children byte) }
+        requires room { HasInnerRoom self.old (Some (larger_kind name.kind)) }
+        ensures nodes { IsSomeAnd (map.get (inners_of self.old) name) (λ node. inners_of self.new ≡
+            map.insert (map.remove (inners_of self.old) name) result (with_child byte child node)) }
+        ensures kind { result.kind ≡ larger_kind name.kind }
+        ensures fresh { map.get (inners_of self.old) result ≡ None }
+    {
+        match name.kind {
+            NodeType::Node4 => self.grow_node4(name, byte, child),
+            NodeType::Node16 => self.grow_node16(name, byte, child),
+            NodeType::Node48 => self.grow_node48(name, byte, child),
+            NodeType::Node256 | NodeType::Leaf => unreachable!(),
+        }
+    }
+
+    #[inline(never)]
+    fn grow_node4(&mut self, name: InnerPtr, byte: u8, child: OpaqueNodePtr) -> InnerPtr
+        requires kind { name.kind ≡ Node4 }
+        requires place { IsSomeAnd (map.get (inners_of self.old) name) (λ node.
+            HasPlace 16 node.children byte) }
+        requires room { HasInnerRoom self.old (Some Node16) }
+        ensures nodes { IsSomeAnd (map.get (inners_of self.old) name) (λ node. inners_of self.new ≡
+            map.insert (map.remove (inners_of self.old) name) result (with_child byte child node)) }
+        ensures kind { result.kind ≡ Node16 }
+        ensures fresh { map.get (inners_of self.old) result ≡ None }
+    {
+        let mut node = self.node4.remove(name.slot).grown();
+        node.write_child(byte, child);
+        self.insert_node16(node)
+    }
+
+    #[inline(never)]
+    fn grow_node16(&mut self, name: InnerPtr, byte: u8, child: OpaqueNodePtr) -> InnerPtr
+        requires kind { name.kind ≡ Node16 }
+        requires place { IsSomeAnd (map.get (inners_of self.old) name) (λ node.
+            HasPlace 48 node.children byte) }
+        requires room { HasInnerRoom self.old (Some Node48) }
+        ensures nodes { IsSomeAnd (map.get (inners_of self.old) name) (λ node. inners_of self.new ≡
+            map.insert (map.remove (inners_of self.old) name) result (with_child byte child node)) }
+        ensures kind { result.kind ≡ Node48 }
+        ensures fresh { map.get (inners_of self.old) result ≡ None }
+    {
+        let mut node = self.node16.remove(name.slot).grown();
+        node.write_child(byte, child);
+        self.insert_node48(node)
+    }
+
+    #[inline(never)]
+    fn grow_node48(&mut self, name: InnerPtr, byte: u8, child: OpaqueNodePtr) -> InnerPtr
+        requires kind { name.kind ≡ Node48 }
+        requires place { IsSomeAnd (map.get (inners_of self.old) name) (λ node.
+            HasPlace 256 node.children byte) }
+        requires room { HasInnerRoom self.old (Some Node256) }
+        ensures nodes { IsSomeAnd (map.get (inners_of self.old) name) (λ node. inners_of self.new ≡
+            map.insert (map.remove (inners_of self.old) name) result (with_child byte child node)) }
+        ensures kind { result.kind ≡ Node256 }
+        ensures fresh { map.get (inners_of self.old) result ≡ None }
+    {
+        let mut node = self.node48.remove(name.slot).grown();
+        node.write_child(byte, child);
+        self.insert_node256(node)
+    }
+
+    // Puts a node of the next smaller kind, without the child under a byte, in the place of one.
+    fn put_smaller(&mut self, name: InnerPtr, byte: u8) -> InnerPtr
+        requires kind { name.kind ≢ Node4 }
+        requires fit { IsSomeAnd (map.get (inners_of self.old) name) (λ node.
+            length (without_child byte node).children ≤ kind_capacity (smaller_kind name.kind)) }
+        requires room { HasInnerRoom self.old (Some (smaller_kind name.kind)) }
+        ensures nodes { IsSomeAnd (map.get (inners_of self.old) name) (λ node. inners_of self.new ≡
+            map.insert (map.remove (inners_of self.old) name) result (without_child byte node)) }
+        ensures kind { result.kind ≡ smaller_kind name.kind }
+        ensures fresh { map.get (inners_of self.old) result ≡ None }
+    {
+        match name.kind {
+            NodeType::Node16 => self.shrink_node16(name, byte),
+            NodeType::Node48 => self.shrink_node48(name, byte),
+            NodeType::Node256 => self.shrink_node256(name, byte),
+            NodeType::Node4 | NodeType::Leaf => unreachable!(),
+        }
+    }
+
+    #[inline(never)]
+    fn shrink_node16(&mut self, name: InnerPtr, byte: u8) -> InnerPtr
+        requires kind { name.kind ≡ Node16 }
+        requires fit { IsSomeAnd (map.get (inners_of self.old) name) (λ node.
+            length (without_child byte node).children ≤ 4) }
+        requires room { HasInnerRoom self.old (Some Node4) }
+        ensures nodes { IsSomeAnd (map.get (inners_of self.old) name) (λ node. inners_of self.new ≡
+            map.insert (map.remove (inners_of self.old) name) result (without_child byte node)) }
+        ensures kind { result.kind ≡ Node4 }
+        ensures fresh { map.get (inners_of self.old) result ≡ None }
+    {
+        let mut node = self.node16.remove(name.slot);
+        node.remove_child(byte);
+        self.insert_node4(node.shrunk())
+    }
+
+    #[inline(never)]
+    fn shrink_node48(&mut self, name: InnerPtr, byte: u8) -> InnerPtr
+        requires kind { name.kind ≡ Node48 }
+        requires fit { IsSomeAnd (map.get (inners_of self.old) name) (λ node.
+            length (without_child byte node).children ≤ 16) }
+        requires room { HasInnerRoom self.old (Some Node16) }
+        ensures nodes { IsSomeAnd (map.get (inners_of self.old) name) (λ node. inners_of self.new ≡
+            map.insert (map.remove (inners_of self.old) name) result (without_child byte node)) }
+        ensures kind { result.kind ≡ Node16 }
+        ensures fresh { map.get (inners_of self.old) result ≡ None }
+    {
+        let mut node = self.node48.remove(name.slot);
+        node.remove_child(byte);
+        self.insert_node16(node.shrunk())
+    }
+
+    #[inline(never)]
+    fn shrink_node256(&mut self, name: InnerPtr, byte: u8) -> InnerPtr
+        requires kind { name.kind ≡ Node256 }
+        requires fit { IsSomeAnd (map.get (inners_of self.old) name) (λ node.
+            length (without_child byte node).children ≤ 48) }
+        requires room { HasInnerRoom self.old (Some Node48) }
+        ensures nodes { IsSomeAnd (map.get (inners_of self.old) name) (λ node. inners_of self.new ≡
+            map.insert (map.remove (inners_of self.old) name) result (without_child byte node)) }
+        ensures kind { result.kind ≡ Node48 }
+        ensures fresh { map.get (inners_of self.old) result ≡ None }
+    {
+        let mut node = self.node256.remove(name.slot);
+        node.remove_child(byte);
+        self.insert_node48(node.shrunk())
+    }
+
+    // Takes a node out, and drops it.
+    fn drop_node(&mut self, name: InnerPtr)
+        requires { IsSome (map.get (inners_of self.old) name) }
+        ensures nodes { inners_of self.new ≡ map.remove (inners_of self.old) name }
+        ensures rooms { (kind : Option NodeType) →
+            HasInnerRoom self.old kind → HasInnerRoom self.new kind }
+    {
+        match name.kind {
+            NodeType::Node4 => drop_from(&mut self.node4, name.slot),
+            NodeType::Node16 => drop_from(&mut self.node16, name.slot),
+            NodeType::Node48 => drop_from(&mut self.node48, name.slot),
+            NodeType::Node256 => drop_from(&mut self.node256, name.slot),
+            NodeType::Leaf => unreachable!(),
+        }
+    }
+}
+
+// Takes a value out of its slot, and drops it.
+#[inline(never)]
+fn drop_from<T: Drop>(slab: &mut Slab<T>, slot: usize)
+    requires { ContainsKey slab.old slot }
+    ensures updates { Updates slab.old slab.new slot None }
+    ensures room { HasRoomFor slab.new 1 }
+{
+    slab.remove(slot);
+}
 
 impl<K: AsBytes + Drop, V: Drop, const P: usize> NodeStore<K, V, P> {
     ghost use Rattle.std.specs.FinMap as map;
@@ -26,12 +199,8 @@ impl<K: AsBytes + Drop, V: Drop, const P: usize> NodeStore<K, V, P> {
         ensures leaves { self.new.leaves ≡ self.old.leaves }
         ensures promise { self.new.promise ≡ take_inner (smaller_kind inner.kind) self.old.promise }
     {
-        let mut node = self.free_inner(inner);
-        node.remove_child(byte);
-        let Ok(smaller) = self.place_inner(node.shrink()) else {
-            unreachable!()
-        };
-        smaller
+        self.promised_inner = None;
+        self.inners.put_smaller(inner, byte)
     }
 
     /// Takes an inner node of two children out, and answers its header, and the child that is not
@@ -45,9 +214,25 @@ impl<K: AsBytes + Drop, V: Drop, const P: usize> NodeStore<K, V, P> {
         ensures leaves { self.new.leaves ≡ self.old.leaves }
         ensures promise { self.new.promise ≡ self.old.promise }
     {
-        let mut taken = self.free_inner(inner);
-        taken.remove_child(byte);
-        let (other_byte, other) = taken.as_ref().min();
-        (taken.as_ref().header(), other_byte, other)
+        let Some(node) = self.inner(inner) else {
+            unreachable!()
+        };
+        let header = node.header();
+        let (other_byte, other) = other_child(node, byte);
+        self.inners.drop_node(inner);
+        (header, other_byte, other)
     }
+}
+
+ghost use Rattle.std.specs.Prelude.{[], ◌∷◌};
+ghost use Rattle.art_inner.specs.Inner.{remove_child};
+ghost use Rattle.art_inner.specs.Views.{ref_view};
+
+// The child that is not under a byte, with its byte, of a node that has one such child.
+fn other_child<const P: usize>(node: InnerRef<'_, P>, byte: u8) -> (u8, OpaqueNodePtr)
+    requires { length (remove_child (ref_view node).children byte) ≡ 1 }
+    ensures { remove_child (ref_view node.entry).children byte ≡ result ∷ [] }
+{
+    let first = node.min();
+    if first.0 == byte { node.max() } else { first }
 }

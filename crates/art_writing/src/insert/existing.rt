@@ -10,7 +10,7 @@ ghost use Rattle.art_writing.specs.declared.insert.InsertKind.TheVariants as kin
 use super::{InsertParentNodeChange, InsertPoint, InsertResult, Refused};
 use crate::writes::{links_after, links_before, place_between, replace_at};
 use art_nodes::node::{
-    AsBytes, InnerPtr, InnerRef, LeafNode, LeafPtr, NodeType, OpaqueNodePtr, OptionalLeafPtr,
+    AsBytes, InnerPtr, LeafNode, LeafPtr, NodeType, OpaqueNodePtr, OptionalLeafPtr,
 };
 use art_nodes::store::NodeStore;
 use art_reading::path::TreePath;
@@ -92,7 +92,7 @@ impl InsertPoint {
     }
 }
 
-ghost use Rattle.std.specs.Prelude.{◌≢◌, ◌<◌, ◌≤◌, All, IsSome, IsSomeAnd, IfSome, None, length};
+ghost use Rattle.std.specs.Prelude.{◌≢◌, ◌<◌, IsSome, IsSomeAnd, IfSome, None, length};
 ghost use Rattle.std.specs.FinMap as map;
 ghost use Rattle.art_inner.specs.Changes.{with_child};
 ghost use Rattle.art_inner.specs.Inner.{HasPlace};
@@ -168,18 +168,12 @@ fn links_below<K: AsBytes + Drop, V: Drop, const P: usize>(
     let Some(node) = store.inner(name) else {
         unreachable!()
     };
-    match node.range(byte, greatest_byte(node)).next() {
-        Some((_, child)) => links_before(store, child),
-        None => links_after(store, node.max().1),
+    let (other, child) = node.beside(byte);
+    if byte < other {
+        links_before(store, child)
+    } else {
+        links_after(store, child)
     }
-}
-
-// The greatest byte under which a node has a child.
-fn greatest_byte<const P: usize>(node: InnerRef<'_, P>) -> u8
-    requires { 0 < length (ref_view node).children }
-    ensures { All (λ child. child.0 ≤ result) (ref_view node.entry).children }
-{
-    node.max().0
 }
 
 // Puts a larger node with a child more in the place of one at the end of a path, and answers its name

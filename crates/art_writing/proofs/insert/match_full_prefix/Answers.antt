@@ -5,7 +5,7 @@ use Rattle.art_writing.proofs.insert.match_full_prefix.Goals as goal
 
 pub returns-then-len : goal.returns-then-len
 returns-then-len g c node part =
-    matches_stored part c.requires.inner c.in-Some.ensures.view c.args.key_bytes.now c.match_prefix.result c.header-header.ensures
+    matches_stored part c.requires.inner c.requires.node c.args.key_bytes.now c.match_prefix.result refl
     c.prefix_len-len.ensures c.if-len.true c.read_prefix.ensures.stored (take_rest c.args.key_bytes.now c.args.depth)
     c.match_prefix.ensures.len c.match_prefix.ensures.front c.match_prefix.ensures.shared c.match_prefix.ensures.byte c.match_prefix.ensures.leaf
 
@@ -14,31 +14,29 @@ minimum_unchecked-leaf_ptr-requires g c =
     let (node, part) = c.requires.part in
     (search rules, (node, is_full part c.requires.inner c.to_opaque.ensures))
 
-pub unreachable-requires-in_default-leaf : goal.unreachable-requires-in_default-leaf
-unreachable-requires-in_default-leaf g c =
+pub unreachable-requires : goal.unreachable-requires
+unreachable-requires g c =
     let (node, part) = c.requires.part in
-    no_leaf_gone part c.requires.inner c.in-Some.ensures.view (c.minimum_unchecked-leaf_ptr.ensures node (is_full part c.requires.inner c.to_opaque.ensures)) c.in_default-leaf.ensures
+    no_leaf_gone part c.requires.inner c.requires.node (c.minimum_unchecked-leaf_ptr.ensures node (is_full part c.requires.inner c.to_opaque.ensures)) c.in_default.ensures
 
 pub overflow_add-prefix : goal.overflow_add-prefix
 overflow_add-prefix g c =
     let (node, part) = c.requires.part in
-    let long = long_enough part c.requires.inner c.in-Some.ensures.view (c.minimum_unchecked-leaf_ptr.ensures node (is_full part c.requires.inner c.to_opaque.ensures)) c.in-Some-leaf.ensures in
-    let l = ap (λ z. z.len) c.header-header.ensures in
+    let long = long_enough part c.requires.inner c.requires.node (c.minimum_unchecked-leaf_ptr.ensures node (is_full part c.requires.inner c.to_opaque.ensures)) c.in-Some.ensures in
     let t = ap length c.as_bytes.ensures in
     omega (arith, c.prefix_len-len.ensures, c.as_bytes.type_inv)
 
 pub slice_bounds-prefix-end : goal.slice_bounds-prefix-end
 slice_bounds-prefix-end g c =
     let (node, part) = c.requires.part in
-    let long = long_enough part c.requires.inner c.in-Some.ensures.view (c.minimum_unchecked-leaf_ptr.ensures node (is_full part c.requires.inner c.to_opaque.ensures)) c.in-Some-leaf.ensures in
-    let l = ap (λ z. z.len) c.header-header.ensures in
+    let long = long_enough part c.requires.inner c.requires.node (c.minimum_unchecked-leaf_ptr.ensures node (is_full part c.requires.inner c.to_opaque.ensures)) c.in-Some.ensures in
     let t = ap length c.as_bytes.ensures in
     let fits : c.args.depth + c.prefix_len-len.result ≤ length c.as_bytes.result.now = omega (arith, c.prefix_len-len.ensures) in
     fits
 
 pub returns : goal.returns
 returns g c node part =
-    matches_read part c.requires.inner c.in-Some.ensures.view (c.minimum_unchecked-leaf_ptr.ensures node
-    (is_full part c.requires.inner c.to_opaque.ensures)) c.in-Some-leaf.ensures c.args.key_bytes.now c.match_prefix-2.result
-    c.header-header.ensures c.prefix_len-len.ensures c.if-len.false c.as_bytes.ensures refl (take_rest c.args.key_bytes.now c.args.depth)
+    matches_read part c.requires.inner c.requires.node (c.minimum_unchecked-leaf_ptr.ensures node
+    (is_full part c.requires.inner c.to_opaque.ensures)) c.in-Some.ensures c.args.key_bytes.now c.match_prefix-2.result
+    refl c.prefix_len-len.ensures c.if-len.false c.as_bytes.ensures refl (take_rest c.args.key_bytes.now c.args.depth)
     c.match_prefix-2.ensures.len c.match_prefix-2.ensures.front c.match_prefix-2.ensures.shared c.match_prefix-2.ensures.byte c.match_prefix-2.ensures.leaf

@@ -7,7 +7,7 @@ pub match_full_prefix-requires : goal.match_full_prefix-requires
 match_full_prefix-requires g c =
     let (pairs, layout, by) = c.requires.root in
     let d = c.requires.spot pairs layout by in
-    (search rules, (c.requires.inner, ((inside by d), (d.node, part_there by d c.requires.name))))
+    (search rules, (search rules, (search rules, (search rules, (search rules, (c.requires.inner, (c.in-Some.ensures.view, (inside by d, (d.node, part_there by d c.requires.name)))))))))
 
 pub overflow_add-spot : goal.overflow_add-spot
 overflow_add-spot g c =

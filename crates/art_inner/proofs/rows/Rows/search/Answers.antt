@@ -3,6 +3,7 @@ use Rattle.art_parts.specs.declared.names.NodeType.TheVariants.{Node4}
 use Rattle.art_inner.specs.Rows.{rows_of}
 use Rattle.art_inner.proofs.RowsLemmas.{rows-below, rows-get, rows-not_at, child_in_place}
 use Rattle.art_inner.proofs.rows.Rows.search.Goals as goal
+use Rattle.art_inner.proofs.rows.Rows.search.Goals as goal
 
 pub returns-then-is_at-clause-found : goal.returns-then-is_at-clause-found
 returns-then-is_at-clause-found c =
@@ -11,21 +12,12 @@ returns-then-is_at-clause-found c =
     ap is_some (child_in_place (rows_of lent) _ c.args.byte _ c.requires.rising
     (rows-get _ lent.bytes.now lent.kinds.now lent.slots.now 0 Node4 0 c.requires.aligned.0 c.requires.aligned.1 stands.0) stands.1)
 
-pub returns-then-is_at-clause-place : goal.returns-then-is_at-clause-place
-returns-then-is_at-clause-place c =
-    let lent = c.args.self.now in
-    c.bytes_below-at.ensures.value ∙ sym (rows-below lent.bytes.now lent.kinds.now lent.slots.now c.args.byte c.requires.aligned.0 c.requires.aligned.1)
-
 not_both : (b : Bool) → b ≡ true → b ≡ false → ⊥
 not_both b is_true is_false = cc
 
 pub returns-else-is_at-clause-absent : goal.returns-else-is_at-clause-absent
 returns-else-is_at-clause-absent c =
     let lent = c.args.self.now in
-    rows-not_at lent.bytes.now lent.kinds.now lent.slots.now _ c.args.byte c.requires.aligned.0 c.requires.aligned.1 c.requires.rising c.bytes_below-at.ensures.value
+    rows-not_at lent.bytes.now lent.kinds.now lent.slots.now _ c.args.byte c.requires.aligned.0 c.requires.aligned.1 c.requires.rising
+    (c.count_below-at.ensures ∙ rows-below lent.bytes.now lent.kinds.now lent.slots.now c.args.byte c.requires.aligned.0 c.requires.aligned.1)
     (λ within same. not_both _ (c.is_at.ensures.1 (within, same)) c.if-is_at.false)
-
-pub returns-else-is_at-clause-between : goal.returns-else-is_at-clause-between
-returns-else-is_at-clause-between c =
-    let lent = c.args.self.now in
-    c.bytes_below-at.ensures.value ∙ sym (rows-below lent.bytes.now lent.kinds.now lent.slots.now c.args.byte c.requires.aligned.0 c.requires.aligned.1)
