@@ -5,7 +5,7 @@ ghost use Rattle.art_model.specs.Pairs.{match_of, of_key, with_key};
 ghost use Rattle.art_model.specs.Roots.{ForTree, IsCanonicalRoot};
 ghost use Rattle.art_reading.specs.Walks.{WalkEnds};
 
-use crate::path::{AttemptOptimisticPrefixMatch, PessimisticMismatch, TreePath};
+use crate::path::{AttemptOptimisticPrefixMatch, LastSteps, PessimisticMismatch};
 use crate::ways::{LastLeaf, shared_len, walk_to_key};
 use art_nodes::node::{AsBytes, InnerNode, LeafNode, NodePtr, OpaqueNodePtr, OptionalLeafPtr};
 use art_nodes::store::NodeStore;
@@ -173,7 +173,7 @@ pub(crate) fn walk<'a, K: AsBytes + Drop, V: Drop, const PREFIX_LEN: usize>(
         WalkEnds (of_key K.bytes) key_bytes.now pairs layout visits.old visits.new result) }
     ensures at_most { visits.new ≤ visits.old + length key_bytes.now + 1 }
 {
-    let mut path = TreePath::Root;
+    let mut steps = LastSteps::new();
     let mut name = root;
     let mut depth = 0;
     let mut behavior = PrefixMatchBehavior::Pessimistic;
@@ -186,7 +186,7 @@ pub(crate) fn walk<'a, K: AsBytes + Drop, V: Drop, const PREFIX_LEN: usize>(
                     unreachable!()
                 };
                 return Some(LastLeaf {
-                    path,
+                    path: steps.path(),
                     name,
                     node,
                     depth,
@@ -208,7 +208,7 @@ pub(crate) fn walk<'a, K: AsBytes + Drop, V: Drop, const PREFIX_LEN: usize>(
         }
         let byte = key_bytes[depth];
         name = node.lookup_child(byte)?;
-        path = path.step_down(inner, byte);
+        steps.step_down(inner, byte);
         depth += 1;
     }
 }

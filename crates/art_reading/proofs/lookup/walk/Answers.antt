@@ -4,10 +4,11 @@ use Rattle.art_reading.proofs.Steps.{start, leaf_there, inner_there, shown_there
 use Rattle.art_reading.proofs.lookup.walk.Goals as goal
 
 pub down-init : goal.down-init
-down-init g c = record { short = omega arith; few = omega arith; on_way = λ pairs layout by. start by _ _ }
+down-init g c = record { short = omega arith; few = omega arith; on_way = λ pairs layout by. rw c.new-steps.ensures (start by _ _) }
 
 pub returns-in-Leaf-clause-ends : goal.returns-in-Leaf-clause-ends
-returns-in-Leaf-clause-ends g c pairs layout by = last_leaf by _ (c.down.invariant.on_way pairs layout by) c.in-Leaf.ensures.name c.in-Some.ensures c.down.invariant.short c.add_one.ensures
+returns-in-Leaf-clause-ends g c pairs layout by =
+    rw c.path.ensures (last_leaf by _ (c.down.invariant.on_way pairs layout by) c.in-Leaf.ensures.name c.in-Some.ensures c.down.invariant.short c.add_one.ensures)
 
 pub unreachable-requires : goal.unreachable-requires
 unreachable-requires g c =
@@ -50,7 +51,7 @@ down-preserved g c = record {
   on_way = λ pairs layout by.
       let d = c.down.invariant.on_way pairs layout by in
       let at = shown_there by d c.in-Inner.ensures.proper c.in-Inner.ensures.name c.in-Some-inner.ensures.view in
-      rw c.step_down-path.ensures (steps by d at c.down.invariant.short c.add_one.ensures
+      rw c.step_down.ensures (steps by d at c.down.invariant.short c.add_one.ensures
       (read c.header-header.ensures c.prefix_len.ensures c.read_prefix.ensures.stored (take_rest c.args.key_bytes.now c.down.depth))
       c.match_stored.ensures.outcome c.in_ok-matched.ensures.value c.match_stored.ensures.behavior c.if-depth-key_bytes.false c.in_ok-name.ensures);
 }
