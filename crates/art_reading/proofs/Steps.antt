@@ -1,6 +1,5 @@
 -- the steps of a way down, in the shape that its code shows
-use Rattle.std.proofs.Common.{◌≡◌, ◌≢◌, ℕ, ◌+◌, ◌<◌, ◌≤◌, ◌⊎◌, inl, inr, List, [], length, drop, get_or, refl, ap, ap₂, sym, ◌∙◌, arith, subst, length-drop, Some, None, Result, Ok, Err}
-use Rattle.std.specs.Result.{result_ok}
+use Rattle.std.proofs.Common.{◌≡◌, ◌≢◌, ℕ, ◌+◌, ◌<◌, ◌≤◌, ◌⊎◌, inl, inr, List, [], length, drop, get_or, refl, ap, ap₂, sym, ◌∙◌, arith, subst, length-drop, Some, None, Result, Ok, Err, Bool, true, false, is_ok}
 use Rattle.std.specs.FinMap as map
 use Rattle.art_nodes.specs.Inner.{Inner, Prefix, child_at}
 use Rattle.art_nodes.specs.Names.{leaf_name, inner_name}
@@ -28,7 +27,7 @@ use Rattle.art_reading.specs.declared.path.TreePath.TheVariants.{Root}
 use Rattle.art_reading.specs.Matching.{shared_len, prefix_match, behavior_after}
 use Rattle.art_reading.specs.Paths.{step_down}
 use Rattle.art_reading.specs.Walks.{IsLastLeaf}
-use Rattle.art_reading.proofs.Outcomes.{ok_len, err_why, ok_compared}
+use Rattle.art_reading.proofs.Outcomes.{err_why, ok_compared}
 use Rattle.art_reading.proofs.OnWay.{IsOnWay, leaf_leads, leaf_whole, leaf_only, leaf_least, leaf_exactly, IsEnd, ends_short, ends_off, ends_childless, still_compared, goes_on}
 
 module _ {K V : Type 0} {s : Nodes K V} {bytes : K × V → List ℕ} {P : ℕ} {root : OpaqueNodePtr} {pairs : List (K × V)}
@@ -92,24 +91,24 @@ pub record IsRead (shown : Inner) (key : List ℕ) (depth : ℕ) (prefix : Prefi
   pub prefix_is : prefix ≡ shown.prefix
   pub rest_is : rest ≡ drop depth key
 
-pub read : {shown : Inner} {key : List ℕ} {depth len : ℕ} {stored rest : List ℕ} {header : Prefix} → header ≡ shown.prefix → len ≡ header.len →
-    stored ≡ header.stored → rest ≡ drop depth key → IsRead shown key depth (record { len = len; stored = stored }) rest
-read h l t r = record { prefix_is = ap₂ (λ n xs. let z : Prefix = record { len = n; stored = xs } in z) l t ∙ h; rest_is = r }
+pub read : {shown : Inner} {key : List ℕ} {depth len : ℕ} {stored rest : List ℕ} → len ≡ shown.prefix.len → stored ≡ shown.prefix.stored →
+    rest ≡ drop depth key → IsRead shown key depth (record { len = len; stored = stored }) rest
+read l t r = record { prefix_is = ap₂ (λ n xs. let z : Prefix = record { len = n; stored = xs } in z) l t; rest_is = r }
 
-is_ok : {m : AttemptOptimisticPrefixMatch} (r : Result AttemptOptimisticPrefixMatch PessimisticMismatch) → Some m ≡ result_ok r → r ≡ Ok m
-is_ok (Ok m) e = cc
-is_ok (Err m) e = absurd cc
+ok_there : (r : Result AttemptOptimisticPrefixMatch PessimisticMismatch) → true ≡ is_ok r → (m : AttemptOptimisticPrefixMatch) × (r ≡ Ok m)
+ok_there (Ok m) e = (m, refl)
+ok_there (Err m) e = absurd cc
 
-is_err : (r : Result AttemptOptimisticPrefixMatch PessimisticMismatch) → None ≡ result_ok r → (m : PessimisticMismatch) × (r ≡ Err m)
-is_err (Ok m) e = absurd cc
-is_err (Err m) e = (m, refl)
+err_there : (r : Result AttemptOptimisticPrefixMatch PessimisticMismatch) → false ≡ is_ok r → (m : PessimisticMismatch) × (r ≡ Err m)
+err_there (Ok m) e = absurd cc
+err_there (Err m) e = (m, refl)
 
 module _ {K V : Type 0} {s : Nodes K V} {bytes : K × V → List ℕ} {P : ℕ} {root : OpaqueNodePtr} {pairs : List (K × V)}
     {layout : Tree OpaqueNodePtr (K × V)} {key : List ℕ} {way : TreePath} {name : OpaqueNodePtr} {depth : ℕ} {behavior : PrefixMatchBehavior}
     {before now after : ℕ} {p : InnerPtr} {shown : Inner} {prefix : Prefix} {rest : List ℕ}
-    {r : Result AttemptOptimisticPrefixMatch PessimisticMismatch} (by : IsCanonicalTree bytes P s root pairs layout)
+    {goes : Bool} (by : IsCanonicalTree bytes P s root pairs layout)
     (d : IsOnWay bytes P key layout way name depth behavior before now) (at : IsShown d.node p shown) (short : depth ≤ length key)
-    (counted : after ≡ now + 1) (reads : IsRead shown key depth prefix rest) (outcome : r ≡ prefix_match behavior prefix rest) where
+    (counted : after ≡ now + 1) (reads : IsRead shown key depth prefix rest) (outcome : goes ≡ is_ok (prefix_match behavior prefix rest)) where
   -- no key matches
   abbrev Ends : Type 0
   Ends = (match_of bytes key pairs ≡ []) × (before + length (nodes_on_way bytes key layout) ≤ after)
@@ -117,42 +116,39 @@ module _ {K V : Type 0} {s : Nodes K V} {bytes : K × V → List ℕ} {P : ℕ} 
   stops : IsEnd d at → Ends
   stops (nothing, few) = (ap (match_of bytes key) (sym (tree_radix by).1) ∙ nothing, omega arith)
 
-  outcome_is : r ≡ prefix_match behavior shown.prefix (drop depth key)
-  outcome_is = outcome ∙ ap₂ (prefix_match behavior) reads.prefix_is reads.rest_is
+  outcome_is : goes ≡ is_ok (prefix_match behavior shown.prefix (drop depth key))
+  outcome_is = outcome ∙ ap₂ (λ z xs. is_ok (prefix_match behavior z xs)) reads.prefix_is reads.rest_is
 
   -- the key parts from the prefix
-  pub stops_off : None ≡ result_ok r → Ends
-  stops_off e =
-      let (m, is) = is_err r e in
-      go (err_why shown.prefix (drop depth key) behavior m (sym outcome_is ∙ is))
+  pub stops_off : goes ≡ false → Ends
+  stops_off off =
+      let (m, is) = err_there (prefix_match behavior shown.prefix (drop depth key)) (sym off ∙ outcome_is) in
+      go (err_why shown.prefix (drop depth key) behavior m is)
     where
       go : ((behavior ≡ Pessimistic) × (shared_len shown.prefix.stored (drop depth key) < length shown.prefix.stored)) ⊎ (length (drop depth key) < shown.prefix.len) → Ends
       go (inl (sure, less)) = stops (ends_off d at sure less)
       go (inr less) = let l = simp length-drop at less in stops (ends_short d at (omega arith))
 
-  module _ {m : AttemptOptimisticPrefixMatch} (e : Some m ≡ result_ok r) where
-    matched : prefix_match behavior shown.prefix (drop depth key) ≡ Ok m
-    matched = sym outcome_is ∙ is_ok r e
+  len_is : depth + prefix.len ≡ depth + shown.prefix.len
+  len_is = ap (λ z. depth + z.len) reads.prefix_is
 
-    len_is : depth + m.matched_bytes ≡ depth + shown.prefix.len
-    len_is = ap (λ n. depth + n) (ok_len shown.prefix (drop depth key) behavior m matched).0
+  -- the key ends with the prefix
+  pub stops_end : length key ≤ depth + prefix.len → Ends
+  stops_end end = stops (ends_short d at (let l = len_is in omega arith))
 
-    -- the key ends with the prefix
-    pub stops_end : length key ≤ depth + m.matched_bytes → Ends
-    stops_end end = stops (ends_short d at (let l = len_is in omega arith))
+  -- no child goes on with the key
+  pub stops_childless : None ≡ child_at shown.children (get_or key (depth + prefix.len) 0) → Ends
+  stops_childless gone = stops (ends_childless d at (ap (λ n. child_at shown.children (get_or key n 0)) (sym len_is) ∙ sym gone))
 
-    -- no child goes on with the key
-    pub stops_childless : None ≡ child_at shown.children (get_or key (depth + m.matched_bytes) 0) → Ends
-    stops_childless gone = stops (ends_childless d at (ap (λ n. child_at shown.children (get_or key n 0)) (sym len_is) ∙ sym gone))
-
-    -- a child goes on with the key
-    pub steps : {to : OpaqueNodePtr} {behavior' : PrefixMatchBehavior} → behavior' ≡ behavior_after behavior prefix rest →
-        depth + m.matched_bytes < length key → Some to ≡ child_at shown.children (get_or key (depth + m.matched_bytes) 0) →
-        IsOnWay bytes P key layout (step_down way p (get_or key (depth + m.matched_bytes) 0)) to (depth + m.matched_bytes + 1) behavior' before after
-    steps {to} {behavior'} is long there =
-        let down = goes_on d at {to = to} {after = behavior'} (let l = len_is in omega arith) (ap (λ n. child_at shown.children (get_or key n 0)) (sym len_is) ∙ sym there)
-        (λ sure.
-        let (was, all, stored) = ok_compared shown.prefix (drop depth key) behavior m matched (ap₂ (behavior_after behavior) (sym reads.prefix_is) (sym reads.rest_is) ∙ sym is ∙ sure) in
-        still_compared d at was all stored) in
-        let here = subst (λ n. IsOnWay bytes P key layout (step_down way p (get_or key n 0)) to (n + 1) behavior' before (now + 1)) (sym len_is) down in
-        subst (λ n. IsOnWay bytes P key layout (step_down way p (get_or key (depth + m.matched_bytes) 0)) to (depth + m.matched_bytes + 1) behavior' before n) (sym counted) here
+  -- a child goes on with the key
+  pub steps : {to : OpaqueNodePtr} {behavior' : PrefixMatchBehavior} → goes ≡ true → behavior' ≡ behavior_after behavior prefix rest →
+      depth + prefix.len < length key → Some to ≡ child_at shown.children (get_or key (depth + prefix.len) 0) →
+      IsOnWay bytes P key layout (step_down way p (get_or key (depth + prefix.len) 0)) to (depth + prefix.len + 1) behavior' before after
+  steps {to} {behavior'} on is long there =
+      let (m, matched) = ok_there (prefix_match behavior shown.prefix (drop depth key)) (sym on ∙ outcome_is) in
+      let down = goes_on d at {to = to} {after = behavior'} (let l = len_is in omega arith) (ap (λ n. child_at shown.children (get_or key n 0)) (sym len_is) ∙ sym there)
+      (λ sure.
+      let (was, all, stored) = ok_compared shown.prefix (drop depth key) behavior m matched (ap₂ (behavior_after behavior) (sym reads.prefix_is) (sym reads.rest_is) ∙ sym is ∙ sure) in
+      still_compared d at was all stored) in
+      let here = subst (λ n. IsOnWay bytes P key layout (step_down way p (get_or key n 0)) to (n + 1) behavior' before (now + 1)) (sym len_is) down in
+      subst (λ n. IsOnWay bytes P key layout (step_down way p (get_or key (depth + prefix.len) 0)) to (depth + prefix.len + 1) behavior' before n) (sym counted) here

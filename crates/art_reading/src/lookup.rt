@@ -1,5 +1,5 @@
 //! Searches for a key, and for the key that is a prefix of a query.
-ghost use Rattle.std.specs.Prelude.{◌≡◌, ◌+◌, ◌<◌, ◌≤◌, ◌^◌, ◌↔◌, length, IsSome, IsTrue};
+ghost use Rattle.std.specs.Prelude.{◌≡◌, ◌+◌, ◌<◌, ◌≤◌, ◌^◌, ◌↔◌, length, is_ok, false, IsSome, IsTrue};
 ghost use Rattle.art_model.specs.Lookups.{FindsLeaf, nodes_on_way};
 ghost use Rattle.art_model.specs.Pairs.{match_of, of_key, with_key};
 ghost use Rattle.art_model.specs.Roots.{ForTree, IsCanonicalRoot};
@@ -25,7 +25,8 @@ pub enum PrefixMatchBehavior {
 }
 
 impl PrefixMatchBehavior {
-    ghost use Rattle.art_reading.specs.Matching.{LeafKeyIsPrefix, MatchesLeafKey, behavior_after, prefix_match};
+    ghost use Rattle.art_reading.specs.Matching.{LeafKeyIsPrefix, MatchesLeafKey, behavior_after, parts_from, prefix_match};
+    ghost use Rattle.art_reading.specs.declared.lookup.PrefixMatchBehavior.TheVariants.{Optimistic, Pessimistic};
 
     /// Compares the prefix of an inner node with the rest of the key, from the node's depth on.
     pub fn match_prefix<N: InnerNode<P>, const P: usize>(
@@ -36,45 +37,59 @@ impl PrefixMatchBehavior {
         ensures outcome { result ≡ prefix_match self.old (N.view_of node.now).prefix rest_of_key.now }
         ensures behavior { self.new ≡ behavior_after self.old (N.view_of node.now).prefix rest_of_key.now }
     {
-        self.match_stored(node.prefix_len(), node.read_prefix(), rest_of_key)
-    }
-
-    // Compares a prefix of this length, of which these bytes are stored, with the rest of the key.
-    fn match_stored(
-        &mut self,
-        prefix_len: usize,
-        stored: &[u8],
-        rest_of_key: &[u8],
-    ) -> Result<AttemptOptimisticPrefixMatch, PessimisticMismatch>
-        ensures outcome { result ≡ prefix_match self.old
-            (record { len = prefix_len; stored = stored.now }) rest_of_key.now }
-        ensures behavior { self.new ≡ behavior_after self.old
-            (record { len = prefix_len; stored = stored.now }) rest_of_key.now }
-    {
-        let mut any_implicit_bytes = true;
-        if *self == PrefixMatchBehavior::Pessimistic {
-            let matched_bytes = shared_len(stored, rest_of_key);
-            if let Some(&prefix_byte) = stored.get(matched_bytes) {
-                return Err(PessimisticMismatch {
-                    matched_bytes,
-                    prefix_byte: Some(prefix_byte),
-                });
-            }
-            any_implicit_bytes = stored.len() < prefix_len;
-            if any_implicit_bytes || rest_of_key.len() < prefix_len {
-                *self = PrefixMatchBehavior::Optimistic;
-            }
+        let (prefix_len, stored) = (node.prefix_len(), node.read_prefix());
+        if self.goes_on(prefix_len, stored, rest_of_key) {
+            return Ok(AttemptOptimisticPrefixMatch {
+                matched_bytes: prefix_len,
+                any_implicit_bytes: *self == PrefixMatchBehavior::Optimistic,
+            });
         }
-        if rest_of_key.len() < prefix_len {
+        if *self == PrefixMatchBehavior::Optimistic {
             return Err(PessimisticMismatch {
                 matched_bytes: rest_of_key.len(),
                 prefix_byte: None,
             });
         }
-        Ok(AttemptOptimisticPrefixMatch {
-            matched_bytes: prefix_len,
-            any_implicit_bytes,
+        let matched_bytes = shared_len(stored, rest_of_key);
+        Err(PessimisticMismatch {
+            matched_bytes,
+            prefix_byte: stored.get(matched_bytes).copied(),
         })
+    }
+
+    // Whether the rest of the key goes on with a prefix of this length, of which these bytes are stored.
+    #[inline(always)]
+    fn goes_on(&mut self, prefix_len: usize, stored: &[u8], rest_of_key: &[u8]) -> bool
+        requires { length stored.now ≤ prefix_len }
+        ensures outcome { result ≡ is_ok (prefix_match self.old
+            (record { len = prefix_len; stored = stored.now }) rest_of_key.now) }
+        ensures behavior { self.new ≡ behavior_after self.old
+            (record { len = prefix_len; stored = stored.now }) rest_of_key.now }
+        ensures within { IsTrue result → prefix_len ≤ length rest_of_key.now }
+    {
+        if prefix_len == 0 {
+            return true;
+        }
+        if self.parts_from(stored, rest_of_key) {
+            return false;
+        }
+        let is_within = prefix_len <= rest_of_key.len();
+        if stored.len() < prefix_len || !is_within {
+            *self = PrefixMatchBehavior::Optimistic;
+        }
+        is_within
+    }
+
+    // Whether the rest of the key is found to part from the stored bytes of a prefix.
+    #[inline(always)]
+    fn parts_from(self, stored: &[u8], rest_of_key: &[u8]) -> bool
+        ensures compared { self ≡ Pessimistic → result ≡ parts_from rest_of_key.now stored.now }
+        ensures passed_over { self ≡ Optimistic → result ≡ false }
+    {
+        match self {
+            PrefixMatchBehavior::Pessimistic => !rest_of_key.starts_with(stored),
+            PrefixMatchBehavior::Optimistic => false,
+        }
     }
 
     /// Whether the key is the leaf's, as far as it is left to compare from a depth on.
@@ -197,12 +212,11 @@ pub(crate) fn walk<'a, K: AsBytes + Drop, V: Drop, const PREFIX_LEN: usize>(
         let Some(node) = store.inner(inner) else {
             unreachable!()
         };
-        let header = node.header();
-        let rest_of_key = &key_bytes[depth..];
-        let matched = behavior
-            .match_stored(header.prefix_len(), header.read_prefix(), rest_of_key)
-            .ok()?;
-        depth += matched.matched_bytes;
+        let prefix_len = node.prefix_len();
+        if !behavior.goes_on(prefix_len, node.read_prefix(), &key_bytes[depth..]) {
+            return None;
+        }
+        depth += prefix_len;
         if depth >= key_bytes.len() {
             return None;
         }

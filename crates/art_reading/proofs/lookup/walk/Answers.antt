@@ -15,13 +15,12 @@ unreachable-requires g c =
     let (pairs, layout, by) = c.requires.root in
     leaf_there by (c.down.invariant.on_way pairs layout by) c.in-Leaf.ensures.name c.in_default.ensures
 
-pub returns-in_err-matched-clause-ends :
-    goal.returns-in_err-matched-clause-ends
-returns-in_err-matched-clause-ends g c pairs layout by =
+pub returns-then-not-goes_on-clause-ends : goal.returns-then-not-goes_on-clause-ends
+returns-then-not-goes_on-clause-ends g c pairs layout by =
     let d = c.down.invariant.on_way pairs layout by in
     let at = shown_there by d c.in-Inner.ensures.proper c.in-Inner.ensures.name c.in-Some-inner.ensures.view in
-    rw c.from_residual.ensures (stops_off by d at c.down.invariant.short c.add_one.ensures
-    (read c.header-header.ensures c.prefix_len.ensures c.read_prefix.ensures.stored (take_rest c.args.key_bytes.now c.down.depth)) c.match_stored.ensures.outcome c.in_err-matched.ensures.value)
+    let reads = read c.prefix_len-prefix_len.ensures c.read_prefix.ensures.stored (take_rest c.args.key_bytes.now c.down.depth) in
+    stops_off by d at c.down.invariant.short c.add_one.ensures reads c.goes_on.ensures.outcome c.if-not-goes_on.true
 
 pub unreachable-requires-in_default-inner : goal.unreachable-requires-in_default-inner
 unreachable-requires-in_default-inner g c =
@@ -32,17 +31,16 @@ pub returns-then-depth-key_bytes-clause-ends : goal.returns-then-depth-key_bytes
 returns-then-depth-key_bytes-clause-ends g c pairs layout by =
     let d = c.down.invariant.on_way pairs layout by in
     let at = shown_there by d c.in-Inner.ensures.proper c.in-Inner.ensures.name c.in-Some-inner.ensures.view in
-    stops_end by d at c.down.invariant.short c.add_one.ensures (read c.header-header.ensures c.prefix_len.ensures c.read_prefix.ensures.stored
-    (take_rest c.args.key_bytes.now c.down.depth)) c.match_stored.ensures.outcome c.in_ok-matched.ensures.value c.if-depth-key_bytes.true
+    let reads = read c.prefix_len-prefix_len.ensures c.read_prefix.ensures.stored (take_rest c.args.key_bytes.now c.down.depth) in
+    stops_end by d at c.down.invariant.short c.add_one.ensures reads c.goes_on.ensures.outcome c.if-depth-key_bytes.true
 
 pub returns-in_err-name-clause-ends :
     goal.returns-in_err-name-clause-ends
 returns-in_err-name-clause-ends g c pairs layout by =
     let d = c.down.invariant.on_way pairs layout by in
     let at = shown_there by d c.in-Inner.ensures.proper c.in-Inner.ensures.name c.in-Some-inner.ensures.view in
-    rw c.from_residual-in_err-name.ensures (stops_childless by d at c.down.invariant.short c.add_one.ensures
-    (read c.header-header.ensures c.prefix_len.ensures c.read_prefix.ensures.stored (take_rest c.args.key_bytes.now c.down.depth))
-    c.match_stored.ensures.outcome c.in_ok-matched.ensures.value c.in_err-name.ensures)
+    let reads = read c.prefix_len-prefix_len.ensures c.read_prefix.ensures.stored (take_rest c.args.key_bytes.now c.down.depth) in
+    rw c.from_residual.ensures (stops_childless by d at c.down.invariant.short c.add_one.ensures reads c.goes_on.ensures.outcome c.in_err-name.ensures)
 
 pub down-preserved : goal.down-preserved
 down-preserved g c = record {
@@ -51,7 +49,7 @@ down-preserved g c = record {
   on_way = λ pairs layout by.
       let d = c.down.invariant.on_way pairs layout by in
       let at = shown_there by d c.in-Inner.ensures.proper c.in-Inner.ensures.name c.in-Some-inner.ensures.view in
-      rw c.step_down.ensures (steps by d at c.down.invariant.short c.add_one.ensures
-      (read c.header-header.ensures c.prefix_len.ensures c.read_prefix.ensures.stored (take_rest c.args.key_bytes.now c.down.depth))
-      c.match_stored.ensures.outcome c.in_ok-matched.ensures.value c.match_stored.ensures.behavior c.if-depth-key_bytes.false c.in_ok-name.ensures);
+      let reads = read c.prefix_len-prefix_len.ensures c.read_prefix.ensures.stored (take_rest c.args.key_bytes.now c.down.depth) in
+      rw c.step_down.ensures (steps by d at c.down.invariant.short c.add_one.ensures reads c.goes_on.ensures.outcome
+      c.if-not-goes_on.false c.goes_on.ensures.behavior c.if-depth-key_bytes.false c.in_ok-name.ensures);
 }
