@@ -1,5 +1,5 @@
 //! Searches for a key, and for the key that is a prefix of a query.
-ghost use Rattle.std.specs.Prelude.{◌≡◌, ◌+◌, ◌<◌, ◌≤◌, ◌^◌, ◌↔◌, length, is_ok, false, IsSome, IsTrue};
+ghost use Rattle.std.specs.Prelude.{◌≡◌, ◌+◌, ◌<◌, ◌≤◌, ◌^◌, ◌↔◌, length, drop, is_ok, false, IfSome, IsSome, IsTrue};
 ghost use Rattle.art_model.specs.Lookups.{FindsLeaf, nodes_on_way};
 ghost use Rattle.art_model.specs.Pairs.{match_of, of_key, with_key};
 ghost use Rattle.art_model.specs.Roots.{ForTree, IsCanonicalRoot};
@@ -7,7 +7,9 @@ ghost use Rattle.art_reading.specs.Walks.{WalkEnds};
 
 use crate::path::{AttemptOptimisticPrefixMatch, LastSteps, PessimisticMismatch};
 use crate::ways::{LastLeaf, shared_len, walk_to_key};
-use art_nodes::node::{AsBytes, InnerNode, LeafNode, NodePtr, OpaqueNodePtr, OptionalLeafPtr};
+use art_nodes::node::{
+    AsBytes, InnerNode, InnerRef, LeafNode, NodePtr, OpaqueNodePtr, OptionalLeafPtr,
+};
 use art_nodes::store::NodeStore;
 use std::marker::Model;
 
@@ -25,7 +27,8 @@ pub enum PrefixMatchBehavior {
 }
 
 impl PrefixMatchBehavior {
-    ghost use Rattle.art_reading.specs.Matching.{LeafKeyIsPrefix, MatchesLeafKey, behavior_after, parts_from, prefix_match};
+    ghost use Rattle.art_reading.specs.Matching.{LeafKeyIsPrefix, MatchesLeafKey, behavior_after, child_below, parts_from, prefix_match};
+    ghost use Rattle.art_nodes.specs.Kinds.{ref_view};
     ghost use Rattle.art_reading.specs.declared.lookup.PrefixMatchBehavior.TheVariants.{Optimistic, Pessimistic};
 
     /// Compares the prefix of an inner node with the rest of the key, from the node's depth on.
@@ -60,16 +63,12 @@ impl PrefixMatchBehavior {
     // Whether the rest of the key goes on with a prefix of this length, of which these bytes are stored.
     #[inline(always)]
     fn goes_on(&mut self, prefix_len: usize, stored: &[u8], rest_of_key: &[u8]) -> bool
-        requires { length stored.now ≤ prefix_len }
         ensures outcome { result ≡ is_ok (prefix_match self.old
             (record { len = prefix_len; stored = stored.now }) rest_of_key.now) }
         ensures behavior { self.new ≡ behavior_after self.old
             (record { len = prefix_len; stored = stored.now }) rest_of_key.now }
         ensures within { IsTrue result → prefix_len ≤ length rest_of_key.now }
     {
-        if prefix_len == 0 {
-            return true;
-        }
         if self.parts_from(stored, rest_of_key) {
             return false;
         }
@@ -89,6 +88,56 @@ impl PrefixMatchBehavior {
         match self {
             PrefixMatchBehavior::Pessimistic => !rest_of_key.starts_with(stored),
             PrefixMatchBehavior::Optimistic => false,
+        }
+    }
+
+    // Where the key leads below an inner node: the place of the byte that the node has a child under, and
+    // the child. An empty prefix is not compared.
+    #[inline(always)]
+    fn step<N: InnerNode<P>, const P: usize>(
+        &mut self,
+        node: &N,
+        key_bytes: &[u8],
+        depth: usize,
+    ) -> Option<(usize, OpaqueNodePtr)>
+        requires depth { depth ≤ length key_bytes.now }
+        requires stored { length (N.view_of node.now).prefix.stored ≤ (N.view_of node.now).prefix.len }
+        ensures child { result ≡ child_below self.old (N.view_of node.now) key_bytes.now depth }
+        ensures within { IfSome result (λ child. (depth ≤ child.0) × (child.0 < length key_bytes.now)) }
+        ensures behavior { self.new ≡
+            behavior_after self.old (N.view_of node.now).prefix (drop depth key_bytes.now) }
+    {
+        let prefix_len = node.prefix_len();
+        if prefix_len > 0 && !self.goes_on(prefix_len, node.read_prefix(), &key_bytes[depth..]) {
+            return None;
+        }
+        let place = depth + prefix_len;
+        if place >= key_bytes.len() {
+            return None;
+        }
+        Some((place, node.lookup_child(key_bytes[place])?))
+    }
+
+    // The same at a node of any kind: the only question for the kind that a look-up asks of a node.
+    #[inline(always)]
+    fn step_at<const P: usize>(
+        &mut self,
+        node: InnerRef<'_, P>,
+        key_bytes: &[u8],
+        depth: usize,
+    ) -> Option<(usize, OpaqueNodePtr)>
+        requires depth { depth ≤ length key_bytes.now }
+        requires stored { length (ref_view node).prefix.stored ≤ (ref_view node).prefix.len }
+        ensures child { result ≡ child_below self.old (ref_view node.entry) key_bytes.now depth }
+        ensures within { IfSome result (λ child. (depth ≤ child.0) × (child.0 < length key_bytes.now)) }
+        ensures behavior { self.new ≡
+            behavior_after self.old (ref_view node.entry).prefix (drop depth key_bytes.now) }
+    {
+        match node {
+            InnerRef::Node4(node) => self.step(node, key_bytes, depth),
+            InnerRef::Node16(node) => self.step(node, key_bytes, depth),
+            InnerRef::Node48(node) => self.step(node, key_bytes, depth),
+            InnerRef::Node256(node) => self.step(node, key_bytes, depth),
         }
     }
 
@@ -212,18 +261,10 @@ pub(crate) fn walk<'a, K: AsBytes + Drop, V: Drop, const PREFIX_LEN: usize>(
         let Some(node) = store.inner(inner) else {
             unreachable!()
         };
-        let prefix_len = node.prefix_len();
-        if !behavior.goes_on(prefix_len, node.read_prefix(), &key_bytes[depth..]) {
-            return None;
-        }
-        depth += prefix_len;
-        if depth >= key_bytes.len() {
-            return None;
-        }
-        let byte = key_bytes[depth];
-        name = node.lookup_child(byte)?;
-        steps.step_down(inner, byte);
-        depth += 1;
+        let (place, child) = behavior.step_at(node, key_bytes, depth)?;
+        steps.step_down(inner, key_bytes[place]);
+        name = child;
+        depth = place + 1;
     }
 }
 
