@@ -79,7 +79,9 @@ module _ (prefix : Prefix) (rest : List ℕ) where
 module _ (stored rest : List ℕ) where
   -- `starts_with` says whether the rest parts from what is stored
   pub starts_parts : (r : Bool) → r ≡ starts_with eqb rest stored → not r ≡ parts_from rest stored
-  starts_parts true e = sym (le-ltb (shared_len stored rest) (length stored) (let whole = whole_shared stored rest (drop (length stored) rest, (starts_is Decides-eqb rest stored true e).0 refl) in omega arith))
+  starts_parts true e =
+      let whole = whole_shared stored rest (drop (length stored) rest, (starts_is Decides-eqb rest stored true e).0 refl) in
+      sym (le-ltb (shared_len stored rest) (length stored) (omega arith))
   starts_parts false e = sym (lt-ltb (shared_len stored rest) (length stored) (less (cases_lt (shared_len stored rest) (length stored))))
     where
       less : (shared_len stored rest < length stored) ⊎ (length stored ≤ shared_len stored rest) → shared_len stored rest < length stored

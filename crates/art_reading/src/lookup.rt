@@ -60,7 +60,8 @@ impl PrefixMatchBehavior {
         })
     }
 
-    // Whether the rest of the key goes on with a prefix of this length, of which these bytes are stored.
+    // Whether the rest of the key goes on with a prefix of this length, as far as it is compared with
+    // the bytes that are stored.
     #[inline(always)]
     fn goes_on(&mut self, prefix_len: usize, stored: &[u8], rest_of_key: &[u8]) -> bool
         ensures outcome { result ≡ is_ok (prefix_match self.old
@@ -91,8 +92,8 @@ impl PrefixMatchBehavior {
         }
     }
 
-    // Where the key leads below an inner node: the place of the byte that the node has a child under, and
-    // the child. An empty prefix is not compared.
+    // Where the key leads below an inner node: the place of its byte after the prefix, and the child
+    // under that byte. An empty prefix is not compared.
     #[inline(always)]
     fn step<N: InnerNode<P>, const P: usize>(
         &mut self,
@@ -101,9 +102,11 @@ impl PrefixMatchBehavior {
         depth: usize,
     ) -> Option<(usize, OpaqueNodePtr)>
         requires depth { depth ≤ length key_bytes.now }
-        requires stored { length (N.view_of node.now).prefix.stored ≤ (N.view_of node.now).prefix.len }
+        requires stored { length (N.view_of node.now).prefix.stored
+            ≤ (N.view_of node.now).prefix.len }
         ensures child { result ≡ child_below self.old (N.view_of node.now) key_bytes.now depth }
-        ensures within { IfSome result (λ child. (depth ≤ child.0) × (child.0 < length key_bytes.now)) }
+        ensures within { IfSome result (λ child.
+            (depth ≤ child.0) × (child.0 < length key_bytes.now)) }
         ensures behavior { self.new ≡
             behavior_after self.old (N.view_of node.now).prefix (drop depth key_bytes.now) }
     {
@@ -118,7 +121,8 @@ impl PrefixMatchBehavior {
         Some((place, node.lookup_child(key_bytes[place])?))
     }
 
-    // The same at a node of any kind: the only question for the kind that a look-up asks of a node.
+    // The same at a node of any kind. All that a look-up reads of a node stands behind one question
+    // for the kind.
     #[inline(always)]
     fn step_at<const P: usize>(
         &mut self,
@@ -129,7 +133,8 @@ impl PrefixMatchBehavior {
         requires depth { depth ≤ length key_bytes.now }
         requires stored { length (ref_view node).prefix.stored ≤ (ref_view node).prefix.len }
         ensures child { result ≡ child_below self.old (ref_view node.entry) key_bytes.now depth }
-        ensures within { IfSome result (λ child. (depth ≤ child.0) × (child.0 < length key_bytes.now)) }
+        ensures within { IfSome result (λ child.
+            (depth ≤ child.0) × (child.0 < length key_bytes.now)) }
         ensures behavior { self.new ≡
             behavior_after self.old (ref_view node.entry).prefix (drop depth key_bytes.now) }
     {

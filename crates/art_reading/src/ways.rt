@@ -111,6 +111,7 @@ pub enum End {
 }
 
 /// Goes down to the leaf at an end of the tree that a name stands for, and answers the path to it too.
+#[inline(always)]
 pub fn walk_to_end<K: AsBytes + Drop, V: Drop, const PREFIX_LEN: usize>(
     store: &NodeStore<K, V, PREFIX_LEN>,
     root: OpaqueNodePtr,
