@@ -119,7 +119,7 @@ pub trait InnerNode<const P: usize>: FromHeader<Header<P>> {
 /// An inner node of up to 4 children.
 #[derive(Drop)]
 pub struct InnerNode4<const P: usize> {
-    header: Header<P>,
+    pub(crate) header: Header<P>,
     pub(crate) table: Table<4>,
 }
 
@@ -226,7 +226,7 @@ impl<const P: usize> InnerNode<P> for InnerNode4<P> {
 /// An inner node of up to 16 children.
 #[derive(Drop)]
 pub struct InnerNode16<const P: usize> {
-    header: Header<P>,
+    pub(crate) header: Header<P>,
     pub(crate) table: Table<16>,
 }
 
@@ -333,7 +333,7 @@ impl<const P: usize> InnerNode<P> for InnerNode16<P> {
 /// An inner node of up to 48 children.
 #[derive(Drop)]
 pub struct InnerNode48<const P: usize> {
-    header: Header<P>,
+    pub(crate) header: Header<P>,
     pub(crate) table: Indexed,
 }
 
@@ -440,7 +440,7 @@ impl<const P: usize> InnerNode<P> for InnerNode48<P> {
 /// An inner node of up to 256 children.
 #[derive(Drop)]
 pub struct InnerNodeDirect<const P: usize> {
-    header: Header<P>,
+    pub(crate) header: Header<P>,
     pub(crate) table: Direct,
 }
 

@@ -105,6 +105,10 @@ module _ {A : Type 0} {bytes : A → List ℕ} {P : ℕ} {key : List ℕ} {tree 
     stored_is : shown.prefix.stored ≡ take P radix.0
     stored_is = ap (λ h. h.stored) radix.1
 
+    -- no more is stored of a prefix than it has bytes
+    pub stored_short : length shown.prefix.stored ≤ shown.prefix.len
+    stored_short = let l = len_is in let t = ap length stored_is in let k = ap length (take-append-drop P radix.0) in omega (arith, simp length-append at k)
+
     front_len : length front ≡ depth + shown.prefix.len
     front_len = let l = len_is in let k = d.depth_is in simp length-append (omega arith)
 

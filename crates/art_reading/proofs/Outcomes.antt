@@ -1,12 +1,16 @@
 -- what the comparison of a prefix tells
-use Rattle.std.proofs.Common.{◌≡◌, ℕ, ◌<◌, ◌≤◌, ◌⊎◌, inl, inr, List, length, refl, ap, sym, Ok, Err, Bool, true, ltb}
-use Rattle.std.proofs.lemmas.Bool.{le-ltb, lt-ltb, cases_lt}
+use Rattle.std.proofs.Common.{◌≡◌, ℕ, ◌<◌, ◌≤◌, ◌⊎◌, inl, inr, List, length, refl, ap, sym, Ok, Err, Bool, true, ltb, arith, false, not, eqb, drop}
+use Rattle.std.proofs.lemmas.Bool.{le-ltb, lt-ltb, cases_lt, false≢true}
 use Rattle.art_parts.specs.Headers.{Prefix}
+use Rattle.std.specs.List.{starts_with}
+use Rattle.std.proofs.lemmas.Bool.Decides.{Decides-eqb}
+use Rattle.std.proofs.lemmas.Slice.Eq.{starts_is}
+use Rattle.art_model.proofs.Fronts.{shared_whole, whole_shared}
 use Rattle.art_reading.specs.declared.lookup.PrefixMatchBehavior.{PrefixMatchBehavior}
 use Rattle.art_reading.specs.declared.lookup.PrefixMatchBehavior.TheVariants.{Pessimistic, Optimistic}
 use Rattle.art_reading.specs.declared.path.AttemptOptimisticPrefixMatch.{AttemptOptimisticPrefixMatch}
 use Rattle.art_reading.specs.declared.path.PessimisticMismatch.{PessimisticMismatch}
-use Rattle.art_reading.specs.Matching.{shared_len, match_by_length, prefix_match, behavior_after}
+use Rattle.art_reading.specs.Matching.{shared_len, match_by_length, parts_from, prefix_match, behavior_after}
 
 -- a match by length has the whole prefix's length
 abbrev Matches : ℕ → List ℕ → AttemptOptimisticPrefixMatch → Type 0
@@ -71,3 +75,15 @@ module _ (prefix : Prefix) (rest : List ℕ) where
       go (inr h) (inr stored) l = (refl, h, stored)
       go (inr h) (inl stored) l =
           let k = rw (le-ltb (shared_len prefix.stored rest) (length prefix.stored) h, le-ltb (length rest) prefix.len l, lt-ltb (length prefix.stored) prefix.len stored) at after in absurd cc
+
+module _ (stored rest : List ℕ) where
+  -- `starts_with` says whether the rest parts from what is stored
+  pub starts_parts : (r : Bool) → r ≡ starts_with eqb rest stored → not r ≡ parts_from rest stored
+  starts_parts true e =
+      let whole = whole_shared stored rest (drop (length stored) rest, (starts_is Decides-eqb rest stored true e).0 refl) in
+      sym (le-ltb (shared_len stored rest) (length stored) (omega arith))
+  starts_parts false e = sym (lt-ltb (shared_len stored rest) (length stored) (less (cases_lt (shared_len stored rest) (length stored))))
+    where
+      less : (shared_len stored rest < length stored) ⊎ (length stored ≤ shared_len stored rest) → shared_len stored rest < length stored
+      less (inl h) = h
+      less (inr h) = let front = shared_whole stored rest h in absurd (false≢true ((starts_is Decides-eqb rest stored false e).1 front.0 front.1))

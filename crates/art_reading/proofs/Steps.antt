@@ -1,6 +1,6 @@
 -- the steps of a way down, in the shape that its code shows
-use Rattle.std.proofs.Common.{◌≡◌, ◌≢◌, ℕ, ◌+◌, ◌<◌, ◌≤◌, ◌⊎◌, inl, inr, List, [], length, drop, get_or, refl, ap, ap₂, sym, ◌∙◌, arith, subst, length-drop, Some, None, Result, Ok, Err}
-use Rattle.std.specs.Result.{result_ok}
+use Rattle.std.proofs.Common.{◌≡◌, ◌≢◌, ℕ, ◌+◌, ◌<◌, ◌≤◌, ◌⊎◌, inl, inr, List, [], length, drop, get_or, refl, ap, sym, ◌∙◌, arith, subst, length-drop, Option, Some, None, Result, Ok, Err}
+use Rattle.std.proofs.lemmas.Bool.{le-ltb, lt-ltb, cases_lt}
 use Rattle.std.specs.FinMap as map
 use Rattle.art_inner.specs.Inner.{Inner, child_at}
 use Rattle.art_parts.specs.Headers.{Prefix}
@@ -26,10 +26,10 @@ use Rattle.art_reading.specs.declared.path.AttemptOptimisticPrefixMatch.{Attempt
 use Rattle.art_reading.specs.declared.path.PessimisticMismatch.{PessimisticMismatch}
 use Rattle.art_reading.specs.declared.path.TreePath.{TreePath}
 use Rattle.art_reading.specs.declared.path.TreePath.TheVariants.{Root}
-use Rattle.art_reading.specs.Matching.{shared_len, prefix_match, behavior_after}
+use Rattle.art_reading.specs.Matching.{child_below, prefix_match, behavior_after}
 use Rattle.art_reading.specs.Paths.{step_down}
 use Rattle.art_reading.specs.Walks.{IsLastLeaf}
-use Rattle.art_reading.proofs.Outcomes.{ok_len, err_why, ok_compared}
+use Rattle.art_reading.proofs.Outcomes.{Why, err_why, ok_compared}
 use Rattle.art_reading.proofs.OnWay.{IsOnWay, leaf_leads, leaf_whole, leaf_only, leaf_least, leaf_exactly, IsEnd, ends_short, ends_off, ends_childless, still_compared, goes_on}
 
 module _ {K V : Type 0} {s : Nodes K V} {bytes : K × V → List ℕ} {P : ℕ} {root : OpaqueNodePtr} {pairs : List (K × V)}
@@ -88,72 +88,52 @@ module _ {K V : Type 0} {s : Nodes K V} {bytes : K × V → List ℕ} {P : ℕ} 
         exactly = λ f. let l = leaf_exactly d n x at f in omega arith;
       }
 
--- what was read of a node's prefix, and the rest of the key
-pub record IsRead (shown : Inner) (key : List ℕ) (depth : ℕ) (prefix : Prefix) (rest : List ℕ) : Type 0 where
-  pub prefix_is : prefix ≡ shown.prefix
-  pub rest_is : rest ≡ drop depth key
-
-pub read : {shown : Inner} {key : List ℕ} {depth len : ℕ} {stored rest : List ℕ} {header : Prefix} → header ≡ shown.prefix → len ≡ header.len →
-    stored ≡ header.stored → rest ≡ drop depth key → IsRead shown key depth (record { len = len; stored = stored }) rest
-read h l t r = record { prefix_is = ap₂ (λ n xs. let z : Prefix = record { len = n; stored = xs } in z) l t ∙ h; rest_is = r }
-
-is_ok : {m : AttemptOptimisticPrefixMatch} (r : Result AttemptOptimisticPrefixMatch PessimisticMismatch) → Some m ≡ result_ok r → r ≡ Ok m
-is_ok (Ok m) e = cc
-is_ok (Err m) e = absurd cc
-
-is_err : (r : Result AttemptOptimisticPrefixMatch PessimisticMismatch) → None ≡ result_ok r → (m : PessimisticMismatch) × (r ≡ Err m)
-is_err (Ok m) e = absurd cc
-is_err (Err m) e = (m, refl)
-
 module _ {K V : Type 0} {s : Nodes K V} {bytes : K × V → List ℕ} {P : ℕ} {root : OpaqueNodePtr} {pairs : List (K × V)}
     {layout : Tree OpaqueNodePtr (K × V)} {key : List ℕ} {way : TreePath} {name : OpaqueNodePtr} {depth : ℕ} {behavior : PrefixMatchBehavior}
-    {before now after : ℕ} {p : InnerPtr} {shown : Inner} {prefix : Prefix} {rest : List ℕ}
-    {r : Result AttemptOptimisticPrefixMatch PessimisticMismatch} (by : IsCanonicalTree bytes P s root pairs layout)
-    (d : IsOnWay bytes P key layout way name depth behavior before now) (at : IsShown d.node p shown) (short : depth ≤ length key)
-    (counted : after ≡ now + 1) (reads : IsRead shown key depth prefix rest) (outcome : r ≡ prefix_match behavior prefix rest) where
+    {before now : ℕ} {p : InnerPtr} {shown : Inner} (by : IsCanonicalTree bytes P s root pairs layout)
+    (d : IsOnWay bytes P key layout way name depth behavior before now) (at : IsShown d.node p shown) where
+  abbrev place : ℕ
+  place = depth + shown.prefix.len
+
   -- no key matches
-  abbrev Ends : Type 0
-  Ends = (match_of bytes key pairs ≡ []) × (before + length (nodes_on_way bytes key layout) ≤ after)
+  abbrev Ends : ℕ → Type 0
+  Ends after = (match_of bytes key pairs ≡ []) × (before + length (nodes_on_way bytes key layout) ≤ after)
 
-  stops : IsEnd d at → Ends
-  stops (nothing, few) = (ap (match_of bytes key) (sym (tree_radix by).1) ∙ nothing, omega arith)
-
-  outcome_is : r ≡ prefix_match behavior shown.prefix (drop depth key)
-  outcome_is = outcome ∙ ap₂ (prefix_match behavior) reads.prefix_is reads.rest_is
-
-  -- the key parts from the prefix
-  pub stops_off : None ≡ result_ok r → Ends
-  stops_off e =
-      let (m, is) = is_err r e in
-      go (err_why shown.prefix (drop depth key) behavior m (sym outcome_is ∙ is))
+  -- the key leads to no child
+  pub stops : {after : ℕ} → after ≡ now + 1 → None ≡ child_below behavior shown key depth → Ends after
+  stops {after} counted none = go (prefix_match behavior shown.prefix (drop depth key)) refl (cases_lt place (length key)) (child_at shown.children (get_or key place 0)) refl
     where
-      go : ((behavior ≡ Pessimistic) × (shared_len shown.prefix.stored (drop depth key) < length shown.prefix.stored)) ⊎ (length (drop depth key) < shown.prefix.len) → Ends
-      go (inl (sure, less)) = stops (ends_off d at sure less)
-      go (inr less) = let l = simp length-drop at less in stops (ends_short d at (omega arith))
+      ends : IsEnd d at → Ends after
+      ends (nothing, few) = (ap (match_of bytes key) (sym (tree_radix by).1) ∙ nothing, omega arith)
 
-  module _ {m : AttemptOptimisticPrefixMatch} (e : Some m ≡ result_ok r) where
-    matched : prefix_match behavior shown.prefix (drop depth key) ≡ Ok m
-    matched = sym outcome_is ∙ is_ok r e
+      off : Why shown.prefix (drop depth key) behavior → Ends after
+      off (inl (sure, less)) = ends (ends_off d at sure less)
+      off (inr less) = let l = simp length-drop at less in ends (ends_short d at (omega arith))
 
-    len_is : depth + m.matched_bytes ≡ depth + shown.prefix.len
-    len_is = ap (λ n. depth + n) (ok_len shown.prefix (drop depth key) behavior m matched).0
+      go : (r : Result AttemptOptimisticPrefixMatch PessimisticMismatch) → prefix_match behavior shown.prefix (drop depth key) ≡ r →
+          (place < length key) ⊎ (length key ≤ place) → (c : Option OpaqueNodePtr) → child_at shown.children (get_or key place 0) ≡ c → Ends after
+      go (Err m) e long c there = off (err_why shown.prefix (drop depth key) behavior m e)
+      go (Ok m) e (inr end) c there = ends (ends_short d at end)
+      go (Ok m) e (inl long) None there = ends (ends_childless d at there)
+      go (Ok m) e (inl long) (Some to) there = let k = rw (e, lt-ltb place (length key) long, there) at none in absurd cc
 
-    -- the key ends with the prefix
-    pub stops_end : length key ≤ depth + m.matched_bytes → Ends
-    stops_end end = stops (ends_short d at (let l = len_is in omega arith))
+  -- the key leads to a child
+  pub steps : {after : ℕ} {to : ℕ × OpaqueNodePtr} {behavior' : PrefixMatchBehavior} → after ≡ now + 1 → Some to ≡ child_below behavior shown key depth →
+      behavior' ≡ behavior_after behavior shown.prefix (drop depth key) → IsOnWay bytes P key layout (step_down way p (get_or key to.0 0)) to.1 (to.0 + 1) behavior' before after
+  steps {after} {to} {behavior'} counted some is = go (prefix_match behavior shown.prefix (drop depth key)) refl (cases_lt place (length key)) (child_at shown.children (get_or key place 0)) refl
+    where
+      Below : ℕ × OpaqueNodePtr → ℕ → Type 0
+      Below z visits = IsOnWay bytes P key layout (step_down way p (get_or key z.0 0)) z.1 (z.0 + 1) behavior' before visits
 
-    -- no child goes on with the key
-    pub stops_childless : None ≡ child_at shown.children (get_or key (depth + m.matched_bytes) 0) → Ends
-    stops_childless gone = stops (ends_childless d at (ap (λ n. child_at shown.children (get_or key n 0)) (sym len_is) ∙ sym gone))
-
-    -- a child goes on with the key
-    pub steps : {to : OpaqueNodePtr} {behavior' : PrefixMatchBehavior} → behavior' ≡ behavior_after behavior prefix rest →
-        depth + m.matched_bytes < length key → Some to ≡ child_at shown.children (get_or key (depth + m.matched_bytes) 0) →
-        IsOnWay bytes P key layout (step_down way p (get_or key (depth + m.matched_bytes) 0)) to (depth + m.matched_bytes + 1) behavior' before after
-    steps {to} {behavior'} is long there =
-        let down = goes_on d at {to = to} {after = behavior'} (let l = len_is in omega arith) (ap (λ n. child_at shown.children (get_or key n 0)) (sym len_is) ∙ sym there)
-        (λ sure.
-        let (was, all, stored) = ok_compared shown.prefix (drop depth key) behavior m matched (ap₂ (behavior_after behavior) (sym reads.prefix_is) (sym reads.rest_is) ∙ sym is ∙ sure) in
-        still_compared d at was all stored) in
-        let here = subst (λ n. IsOnWay bytes P key layout (step_down way p (get_or key n 0)) to (n + 1) behavior' before (now + 1)) (sym len_is) down in
-        subst (λ n. IsOnWay bytes P key layout (step_down way p (get_or key (depth + m.matched_bytes) 0)) to (depth + m.matched_bytes + 1) behavior' before n) (sym counted) here
+      go : (r : Result AttemptOptimisticPrefixMatch PessimisticMismatch) → prefix_match behavior shown.prefix (drop depth key) ≡ r →
+          (place < length key) ⊎ (length key ≤ place) → (c : Option OpaqueNodePtr) → child_at shown.children (get_or key place 0) ≡ c → Below to after
+      go (Err m) e long c there = let k = rw e at some in absurd cc
+      go (Ok m) e (inr end) c there = let k = rw (e, le-ltb place (length key) end) at some in absurd cc
+      go (Ok m) e (inl long) None there = let k = rw (e, lt-ltb place (length key) long, there) at some in absurd cc
+      go (Ok m) e (inl long) (Some other) there =
+          let k = rw (e, lt-ltb place (length key) long, there) at some in
+          let same : ◌≡◌ {A = ℕ × OpaqueNodePtr} (place, other) to = cc in
+          let down = goes_on d at {to = other} {after = behavior'} long there (λ sure.
+          let (was, all, stored) = ok_compared shown.prefix (drop depth key) behavior m e (sym is ∙ sure) in
+          still_compared d at was all stored) in
+          subst (Below to) (sym counted) (subst (λ z. Below z (now + 1)) same down)

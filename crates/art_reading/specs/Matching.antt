@@ -1,6 +1,9 @@
 -- How a look-up compares the prefix of an inner node, and the key of a leaf, with its query.
-use Rattle.std.specs.Prelude.{◌≡◌, ℕ, min, ◌||◌, nat_lt, if◌then◌else◌, length, slice_get, drop, Bool, true, List, None, Result, Ok, Err}
+use Rattle.std.specs.Prelude.{◌≡◌, ℕ, min, ◌||◌, nat_lt, if◌then◌else◌, length, slice_get, drop, Bool, true, List, None, Result, Ok, Err, ◌+◌, ◌&&◌, is_ok, get_or, Option}
 use Rattle.art_parts.specs.Headers.{Prefix}
+use Rattle.std.specs.Option.{option_map}
+use Rattle.art_inner.specs.Inner.{Inner, child_at}
+use Rattle.art_parts.specs.declared.names.OpaqueNodePtr.{OpaqueNodePtr}
 use Rattle.art_model.specs.Keys.{IsFront, common_front}
 use Rattle.art_reading.specs.declared.lookup.PrefixMatchBehavior.{PrefixMatchBehavior}
 use Rattle.art_reading.specs.declared.lookup.PrefixMatchBehavior.TheVariants.{Pessimistic, Optimistic}
@@ -43,6 +46,14 @@ behavior_after Pessimistic prefix rest =
     if parts_from rest prefix.stored then Pessimistic
     else if nat_lt (length rest) prefix.len || nat_lt (length prefix.stored) prefix.len then Optimistic
     else Pessimistic
+
+-- where the key leads below an inner node at a depth: the place of its byte after the prefix, and the child under that byte
+abbrev pub child_below : PrefixMatchBehavior → Inner → List ℕ → ℕ → Option (ℕ × OpaqueNodePtr)
+child_below behavior node key depth =
+    let place = depth + node.prefix.len in
+    if is_ok (prefix_match behavior node.prefix (drop depth key)) && nat_lt place (length key) then
+    option_map (λ child. (place, child)) (child_at node.children (get_or key place 0))
+    else None
 
 -- how many bytes in front of a leaf's key and of the query are not compared: none once bytes were passed over
 abbrev pub compared_from : PrefixMatchBehavior → ℕ → List ℕ → List ℕ → ℕ

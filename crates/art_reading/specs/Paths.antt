@@ -6,12 +6,23 @@ use Rattle.art_model.specs.Paths.{Frame}
 use Rattle.art_model.specs.Writes.{as_inner}
 use Rattle.art_reading.specs.declared.path.TreePath.{TreePath}
 use Rattle.art_reading.specs.declared.path.TreePath.TheVariants.{Root, ChildOfRoot, Normal}
+use Rattle.art_reading.specs.declared.path.LastSteps.{LastSteps}
 
 -- the path one step further down, to the child that a node has under a byte
 abbrev pub step_down : TreePath → InnerPtr → ℕ → TreePath
 step_down Root node byte = ChildOfRoot node byte
 step_down (ChildOfRoot parent b) node byte = Normal parent b node byte
 step_down (Normal grandparent c parent b) node byte = Normal parent b node byte
+
+-- the path that ends with a parent and a grandparent, as far as they are there, and with the bytes that lead down
+abbrev pub path_with : Option InnerPtr → ℕ → Option InnerPtr → ℕ → TreePath
+path_with None byte grandparent above = Root
+path_with (Some parent) byte None above = ChildOfRoot parent byte
+path_with (Some parent) byte (Some grandparent) above = Normal grandparent above parent byte
+
+-- the path that the last steps of a way make
+abbrev pub path_after : LastSteps → TreePath
+path_after steps = path_with steps.parent steps.child_key_byte steps.grandparent steps.parent_key_byte
 
 -- the last steps of a path: the parent and the grandparent, with the bytes that lead down
 abbrev pub path_of : {A : Type 0} → List (Frame OpaqueNodePtr A) → TreePath

@@ -1,13 +1,15 @@
 //! Searches for a key, and for the key that is a prefix of a query.
-ghost use Rattle.std.specs.Prelude.{◌≡◌, ◌+◌, ◌<◌, ◌≤◌, ◌^◌, ◌↔◌, length, IsSome, IsTrue};
+ghost use Rattle.std.specs.Prelude.{◌≡◌, ◌+◌, ◌<◌, ◌≤◌, ◌^◌, ◌↔◌, length, drop, is_ok, false, IfSome, IsSome, IsTrue};
 ghost use Rattle.art_model.specs.Lookups.{FindsLeaf, nodes_on_way};
 ghost use Rattle.art_model.specs.Pairs.{match_of, of_key, with_key};
 ghost use Rattle.art_model.specs.Roots.{ForTree, IsCanonicalRoot};
 ghost use Rattle.art_reading.specs.Walks.{WalkEnds};
 
-use crate::path::{AttemptOptimisticPrefixMatch, PessimisticMismatch, TreePath};
+use crate::path::{AttemptOptimisticPrefixMatch, LastSteps, PessimisticMismatch};
 use crate::ways::{LastLeaf, shared_len, walk_to_key};
-use art_nodes::node::{AsBytes, InnerNode, LeafNode, NodePtr, OpaqueNodePtr, OptionalLeafPtr};
+use art_nodes::node::{
+    AsBytes, InnerNode, InnerRef, LeafNode, NodePtr, OpaqueNodePtr, OptionalLeafPtr,
+};
 use art_nodes::store::NodeStore;
 use std::marker::Model;
 
@@ -25,7 +27,9 @@ pub enum PrefixMatchBehavior {
 }
 
 impl PrefixMatchBehavior {
-    ghost use Rattle.art_reading.specs.Matching.{LeafKeyIsPrefix, MatchesLeafKey, behavior_after, prefix_match};
+    ghost use Rattle.art_reading.specs.Matching.{LeafKeyIsPrefix, MatchesLeafKey, behavior_after, child_below, parts_from, prefix_match};
+    ghost use Rattle.art_inner.specs.Views.{ref_view};
+    ghost use Rattle.art_reading.specs.declared.lookup.PrefixMatchBehavior.TheVariants.{Optimistic, Pessimistic};
 
     /// Compares the prefix of an inner node with the rest of the key, from the node's depth on.
     pub fn match_prefix<N: InnerNode<P>, const P: usize>(
@@ -36,45 +40,110 @@ impl PrefixMatchBehavior {
         ensures outcome { result ≡ prefix_match self.old (N.view_of node.now).prefix rest_of_key.now }
         ensures behavior { self.new ≡ behavior_after self.old (N.view_of node.now).prefix rest_of_key.now }
     {
-        self.match_stored(node.prefix_len(), node.read_prefix(), rest_of_key)
-    }
-
-    // Compares a prefix of this length, of which these bytes are stored, with the rest of the key.
-    fn match_stored(
-        &mut self,
-        prefix_len: usize,
-        stored: &[u8],
-        rest_of_key: &[u8],
-    ) -> Result<AttemptOptimisticPrefixMatch, PessimisticMismatch>
-        ensures outcome { result ≡ prefix_match self.old
-            (record { len = prefix_len; stored = stored.now }) rest_of_key.now }
-        ensures behavior { self.new ≡ behavior_after self.old
-            (record { len = prefix_len; stored = stored.now }) rest_of_key.now }
-    {
-        let mut any_implicit_bytes = true;
-        if *self == PrefixMatchBehavior::Pessimistic {
-            let matched_bytes = shared_len(stored, rest_of_key);
-            if let Some(&prefix_byte) = stored.get(matched_bytes) {
-                return Err(PessimisticMismatch {
-                    matched_bytes,
-                    prefix_byte: Some(prefix_byte),
-                });
-            }
-            any_implicit_bytes = stored.len() < prefix_len;
-            if any_implicit_bytes || rest_of_key.len() < prefix_len {
-                *self = PrefixMatchBehavior::Optimistic;
-            }
+        let (prefix_len, stored) = (node.prefix_len(), node.read_prefix());
+        if self.goes_on(prefix_len, stored, rest_of_key) {
+            return Ok(AttemptOptimisticPrefixMatch {
+                matched_bytes: prefix_len,
+                any_implicit_bytes: *self == PrefixMatchBehavior::Optimistic,
+            });
         }
-        if rest_of_key.len() < prefix_len {
+        if *self == PrefixMatchBehavior::Optimistic {
             return Err(PessimisticMismatch {
                 matched_bytes: rest_of_key.len(),
                 prefix_byte: None,
             });
         }
-        Ok(AttemptOptimisticPrefixMatch {
-            matched_bytes: prefix_len,
-            any_implicit_bytes,
+        let matched_bytes = shared_len(stored, rest_of_key);
+        Err(PessimisticMismatch {
+            matched_bytes,
+            prefix_byte: stored.get(matched_bytes).copied(),
         })
+    }
+
+    // Whether the rest of the key goes on with a prefix of this length, as far as it is compared with
+    // the bytes that are stored.
+    #[inline(always)]
+    fn goes_on(&mut self, prefix_len: usize, stored: &[u8], rest_of_key: &[u8]) -> bool
+        ensures outcome { result ≡ is_ok (prefix_match self.old
+            (record { len = prefix_len; stored = stored.now }) rest_of_key.now) }
+        ensures behavior { self.new ≡ behavior_after self.old
+            (record { len = prefix_len; stored = stored.now }) rest_of_key.now }
+        ensures within { IsTrue result → prefix_len ≤ length rest_of_key.now }
+    {
+        if self.parts_from(stored, rest_of_key) {
+            return false;
+        }
+        let is_within = prefix_len <= rest_of_key.len();
+        if stored.len() < prefix_len || !is_within {
+            *self = PrefixMatchBehavior::Optimistic;
+        }
+        is_within
+    }
+
+    // Whether the rest of the key is found to part from the stored bytes of a prefix.
+    #[inline(always)]
+    fn parts_from(self, stored: &[u8], rest_of_key: &[u8]) -> bool
+        ensures compared { self ≡ Pessimistic → result ≡ parts_from rest_of_key.now stored.now }
+        ensures passed_over { self ≡ Optimistic → result ≡ false }
+    {
+        match self {
+            PrefixMatchBehavior::Pessimistic => !rest_of_key.starts_with(stored),
+            PrefixMatchBehavior::Optimistic => false,
+        }
+    }
+
+    // Where the key leads below an inner node: the place of its byte after the prefix, and the child
+    // under that byte. An empty prefix is not compared.
+    #[inline(always)]
+    fn step<N: InnerNode<P>, const P: usize>(
+        &mut self,
+        node: &N,
+        key_bytes: &[u8],
+        depth: usize,
+    ) -> Option<(usize, OpaqueNodePtr)>
+        requires depth { depth ≤ length key_bytes.now }
+        requires stored { length (N.view_of node.now).prefix.stored
+            ≤ (N.view_of node.now).prefix.len }
+        ensures child { result ≡ child_below self.old (N.view_of node.now) key_bytes.now depth }
+        ensures within { IfSome result (λ child.
+            (depth ≤ child.0) × (child.0 < length key_bytes.now)) }
+        ensures behavior { self.new ≡
+            behavior_after self.old (N.view_of node.now).prefix (drop depth key_bytes.now) }
+    {
+        let prefix_len = node.prefix_len();
+        if prefix_len > 0 && !self.goes_on(prefix_len, node.read_prefix(), &key_bytes[depth..]) {
+            return None;
+        }
+        let place = depth + prefix_len;
+        if place >= key_bytes.len() {
+            return None;
+        }
+        Some((place, node.lookup_child(key_bytes[place])?))
+    }
+
+    // The same at a node of any kind. All that a look-up reads of a node stands behind one question
+    // for the kind.
+    #[inline(always)]
+    fn step_at<const P: usize>(
+        &mut self,
+        node: InnerRef<'_, P>,
+        key_bytes: &[u8],
+        depth: usize,
+    ) -> Option<(usize, OpaqueNodePtr)>
+        requires depth { depth ≤ length key_bytes.now }
+        requires stored { length (ref_view node).prefix.stored ≤ (ref_view node).prefix.len }
+        ensures child { result ≡ child_below self.old (ref_view node.entry) key_bytes.now depth }
+        ensures within { IfSome result (λ child.
+            (depth ≤ child.0) × (child.0 < length key_bytes.now)) }
+        ensures behavior { self.new ≡
+            behavior_after self.old (ref_view node.entry).prefix (drop depth key_bytes.now) }
+    {
+        match node {
+            InnerRef::Node4(node) => self.step(node, key_bytes, depth),
+            InnerRef::Node16(node) => self.step(node, key_bytes, depth),
+            InnerRef::Node48(node) => self.step(node, key_bytes, depth),
+            InnerRef::Node256(node) => self.step(node, key_bytes, depth),
+        }
     }
 
     /// Whether the key is the leaf's, as far as it is left to compare from a depth on.
@@ -173,7 +242,7 @@ pub(crate) fn walk<'a, K: AsBytes + Drop, V: Drop, const PREFIX_LEN: usize>(
         WalkEnds (of_key K.bytes) key_bytes.now pairs layout visits.old visits.new result) }
     ensures at_most { visits.new ≤ visits.old + length key_bytes.now + 1 }
 {
-    let mut path = TreePath::Root;
+    let mut steps = LastSteps::new();
     let mut name = root;
     let mut depth = 0;
     let mut behavior = PrefixMatchBehavior::Pessimistic;
@@ -186,7 +255,7 @@ pub(crate) fn walk<'a, K: AsBytes + Drop, V: Drop, const PREFIX_LEN: usize>(
                     unreachable!()
                 };
                 return Some(LastLeaf {
-                    path,
+                    path: steps.path(),
                     name,
                     node,
                     depth,
@@ -197,19 +266,10 @@ pub(crate) fn walk<'a, K: AsBytes + Drop, V: Drop, const PREFIX_LEN: usize>(
         let Some(node) = store.inner(inner) else {
             unreachable!()
         };
-        let header = node.header();
-        let rest_of_key = &key_bytes[depth..];
-        let matched = behavior
-            .match_stored(header.prefix_len(), header.read_prefix(), rest_of_key)
-            .ok()?;
-        depth += matched.matched_bytes;
-        if depth >= key_bytes.len() {
-            return None;
-        }
-        let byte = key_bytes[depth];
-        name = node.lookup_child(byte)?;
-        path = path.step_down(inner, byte);
-        depth += 1;
+        let (place, child) = behavior.step_at(node, key_bytes, depth)?;
+        steps.step_down(inner, key_bytes[place]);
+        name = child;
+        depth = place + 1;
     }
 }
 

@@ -56,6 +56,65 @@ impl TreePath {
     }
 }
 
+// The last steps of a way down, in fields by themselves: a caller that does not ask for the path
+// keeps none of them in its loop.
+#[derive(Clone, Copy)]
+pub(crate) struct LastSteps {
+    parent: Option<InnerPtr>,
+    child_key_byte: u8,
+    grandparent: Option<InnerPtr>,
+    parent_key_byte: u8,
+}
+
+impl LastSteps {
+    ghost use Rattle.art_reading.specs.Paths.{path_after, step_down};
+    ghost use Rattle.art_reading.specs.declared.path.TreePath.TheVariants.{Root};
+
+    // At the root.
+    #[inline(always)]
+    pub(crate) fn new() -> Self
+        ensures { path_after result ≡ Root }
+    {
+        LastSteps {
+            parent: None,
+            child_key_byte: 0,
+            grandparent: None,
+            parent_key_byte: 0,
+        }
+    }
+
+    // Goes one step further down, to the child that a node has under a byte.
+    #[inline(always)]
+    pub(crate) fn step_down(&mut self, node: InnerPtr, byte: u8)
+        ensures { path_after self.new ≡ step_down (path_after self.old) node byte }
+    {
+        self.grandparent = self.parent;
+        self.parent_key_byte = self.child_key_byte;
+        self.parent = Some(node);
+        self.child_key_byte = byte;
+    }
+
+    #[inline(always)]
+    pub(crate) fn path(&self) -> TreePath
+        ensures { result ≡ path_after self.now }
+    {
+        let child_key_byte = self.child_key_byte;
+        match (self.parent, self.grandparent) {
+            (None, _) => TreePath::Root,
+            (Some(parent), None) => TreePath::ChildOfRoot {
+                parent,
+                child_key_byte,
+            },
+            (Some(parent), Some(grandparent)) => TreePath::Normal {
+                grandparent,
+                parent_key_byte: self.parent_key_byte,
+                parent,
+                child_key_byte,
+            },
+        }
+    }
+}
+
 /// A prefix, compared whole, that the key goes on with.
 #[derive(Clone, Copy, PartialEq, Eq, Debug)]
 pub struct PrefixMatch {

@@ -11,7 +11,7 @@ ghost use Rattle.art_reading.specs.Paths.{last_step, up};
 ghost use Rattle.art_reading.specs.Walks.{IsEndChild, IsKeysLeaf, LeadsToEnd};
 
 use crate::lookup::{PrefixMatchBehavior, Visits, walk};
-use crate::path::TreePath;
+use crate::path::{LastSteps, TreePath};
 use art_nodes::node::{AsBytes, InnerPtr, InnerRef, LeafNode, LeafPtr, NodePtr, OpaqueNodePtr};
 use art_nodes::store::NodeStore;
 
@@ -111,6 +111,7 @@ pub enum End {
 }
 
 /// Goes down to the leaf at an end of the tree that a name stands for, and answers the path to it too.
+#[inline(always)]
 pub fn walk_to_end<K: AsBytes + Drop, V: Drop, const PREFIX_LEN: usize>(
     store: &NodeStore<K, V, PREFIX_LEN>,
     root: OpaqueNodePtr,
@@ -120,18 +121,18 @@ pub fn walk_to_end<K: AsBytes + Drop, V: Drop, const PREFIX_LEN: usize>(
     ensures { (layout : Tree OpaqueNodePtr (K × V)) →
         IsFullTree store.now root layout → LeadsToEnd layout end result.0 result.1 }
 {
-    let mut path = TreePath::Root;
+    let mut steps = LastSteps::new();
     let mut name = root;
     'down: loop {
         let inner = match name.split() {
             NodePtr::Inner(inner) => inner,
-            NodePtr::Leaf(leaf) => return (path, leaf),
+            NodePtr::Leaf(leaf) => return (steps.path(), leaf),
         };
         let Some(node) = store.inner(inner) else {
             unreachable!()
         };
         let (byte, child) = child_at_end(node, end);
-        path = path.step_down(inner, byte);
+        steps.step_down(inner, byte);
         name = child;
     }
 }

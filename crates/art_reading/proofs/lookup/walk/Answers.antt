@@ -1,56 +1,44 @@
-use Rattle.std.proofs.Common.{arith}
-use Rattle.std.proofs.lemmas.List.{take_rest}
-use Rattle.art_reading.proofs.Steps.{start, leaf_there, inner_there, shown_there, last_leaf, read, stops_off, stops_end, stops_childless, steps}
+use Rattle.std.proofs.Common.{arith, rules}
+use Rattle.art_reading.proofs.Steps.{start, leaf_there, inner_there, shown_there, last_leaf, stops, steps}
+use Rattle.art_reading.proofs.OnWay.{stored_short}
 use Rattle.art_reading.proofs.lookup.walk.Goals as goal
 
 pub down-init : goal.down-init
-down-init g c = record { short = omega arith; few = omega arith; on_way = λ pairs layout by. start by _ _ }
+down-init g c = record { short = omega arith; few = omega arith; on_way = λ pairs layout by. rw c.new-steps.ensures (start by _ _) }
 
 pub returns-in-Leaf-clause-ends : goal.returns-in-Leaf-clause-ends
-returns-in-Leaf-clause-ends g c pairs layout by = last_leaf by _ (c.down.invariant.on_way pairs layout by) c.in-Leaf.ensures.name c.in-Some.ensures c.down.invariant.short c.add_one.ensures
+returns-in-Leaf-clause-ends g c pairs layout by =
+    rw c.path.ensures (last_leaf by _ (c.down.invariant.on_way pairs layout by) c.in-Leaf.ensures.name c.in-Some.ensures c.down.invariant.short c.add_one.ensures)
 
 pub unreachable-requires : goal.unreachable-requires
 unreachable-requires g c =
     let (pairs, layout, by) = c.requires.root in
     leaf_there by (c.down.invariant.on_way pairs layout by) c.in-Leaf.ensures.name c.in_default.ensures
 
-pub returns-in_err-matched-clause-ends :
-    goal.returns-in_err-matched-clause-ends
-returns-in_err-matched-clause-ends g c pairs layout by =
-    let d = c.down.invariant.on_way pairs layout by in
-    let at = shown_there by d c.in-Inner.ensures.proper c.in-Inner.ensures.name c.in-Some-inner.ensures.view in
-    rw c.from_residual.ensures (stops_off by d at c.down.invariant.short c.add_one.ensures
-    (read c.header-header.ensures c.prefix_len.ensures c.read_prefix.ensures.stored (take_rest c.args.key_bytes.now c.down.depth)) c.match_stored.ensures.outcome c.in_err-matched.ensures.value)
-
 pub unreachable-requires-in_default-inner : goal.unreachable-requires-in_default-inner
 unreachable-requires-in_default-inner g c =
     let (pairs, layout, by) = c.requires.root in
     inner_there by (c.down.invariant.on_way pairs layout by) c.in-Inner.ensures.proper c.in-Inner.ensures.name c.in_default-inner.ensures.view
 
-pub returns-then-depth-key_bytes-clause-ends : goal.returns-then-depth-key_bytes-clause-ends
-returns-then-depth-key_bytes-clause-ends g c pairs layout by =
+pub step_at-requires : goal.step_at-requires
+step_at-requires g c =
+    let (pairs, layout, by) = c.requires.root in
     let d = c.down.invariant.on_way pairs layout by in
     let at = shown_there by d c.in-Inner.ensures.proper c.in-Inner.ensures.name c.in-Some-inner.ensures.view in
-    stops_end by d at c.down.invariant.short c.add_one.ensures (read c.header-header.ensures c.prefix_len.ensures c.read_prefix.ensures.stored
-    (take_rest c.args.key_bytes.now c.down.depth)) c.match_stored.ensures.outcome c.in_ok-matched.ensures.value c.if-depth-key_bytes.true
+    (search rules, (search rules, (search rules, (search rules, (c.down.invariant.short, stored_short d at)))))
 
-pub returns-in_err-name-clause-ends :
-    goal.returns-in_err-name-clause-ends
-returns-in_err-name-clause-ends g c pairs layout by =
+pub returns-in_err-place-clause-ends : goal.returns-in_err-place-clause-ends
+returns-in_err-place-clause-ends g c pairs layout by =
     let d = c.down.invariant.on_way pairs layout by in
     let at = shown_there by d c.in-Inner.ensures.proper c.in-Inner.ensures.name c.in-Some-inner.ensures.view in
-    rw c.from_residual-in_err-name.ensures (stops_childless by d at c.down.invariant.short c.add_one.ensures
-    (read c.header-header.ensures c.prefix_len.ensures c.read_prefix.ensures.stored (take_rest c.args.key_bytes.now c.down.depth))
-    c.match_stored.ensures.outcome c.in_ok-matched.ensures.value c.in_err-name.ensures)
+    rw c.from_residual.ensures (stops by d at c.add_one.ensures c.in_err-place.ensures.child)
 
 pub down-preserved : goal.down-preserved
 down-preserved g c = record {
-  short = omega arith;
-  few = omega arith;
+  short = let below = c.in_ok-place.ensures.within in omega arith;
+  few = let below = c.in_ok-place.ensures.within in omega arith;
   on_way = λ pairs layout by.
       let d = c.down.invariant.on_way pairs layout by in
       let at = shown_there by d c.in-Inner.ensures.proper c.in-Inner.ensures.name c.in-Some-inner.ensures.view in
-      rw c.step_down-path.ensures (steps by d at c.down.invariant.short c.add_one.ensures
-      (read c.header-header.ensures c.prefix_len.ensures c.read_prefix.ensures.stored (take_rest c.args.key_bytes.now c.down.depth))
-      c.match_stored.ensures.outcome c.in_ok-matched.ensures.value c.match_stored.ensures.behavior c.if-depth-key_bytes.false c.in_ok-name.ensures);
+      rw c.step_down.ensures (steps by d at c.add_one.ensures c.in_ok-place.ensures.child c.in_ok-place.ensures.behavior);
 }

@@ -1,6 +1,7 @@
 use Rattle.std.proofs.Common.{◌+◌, ◌-◌, ◌≤◌, length}
 use Rattle.art_model.specs.Pairs.{of_key}
 use Rattle.art_model.specs.Roots.{ForTree}
+use Rattle.art_reading.specs.Paths.{path_after}
 use Rattle.art_reading.proofs.OnWay.{IsOnWay}
 use Rattle.art_reading.proofs.lookup.walk.Given as goal
 
@@ -9,7 +10,7 @@ invariant-down g l = record {
   short : l.depth ≤ length l.key_bytes;
   few : l.visits ≤ l.fn.visits + l.depth;
   on_way : ForTree (of_key g.K.AsBytes.bytes) g.row.PREFIX_LEN l.store l.fn.root
-      (λ pairs layout. IsOnWay (of_key g.K.AsBytes.bytes) g.row.PREFIX_LEN l.key_bytes layout l.path l.name l.depth l.behavior l.fn.visits l.visits);
+      (λ pairs layout. IsOnWay (of_key g.K.AsBytes.bytes) g.row.PREFIX_LEN l.key_bytes layout (path_after l.steps) l.name l.depth l.behavior l.fn.visits l.visits);
 }
 
 abbrev pub decreases-down : goal.decreases-down
