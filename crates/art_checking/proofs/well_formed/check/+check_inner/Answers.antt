@@ -1,11 +1,10 @@
 use Rattle.std.proofs.Common.{◌≡◌, ◌++◌, ◌∷◌, [], ◌≤◌, ◌≢◌, length, take, rules, sym, ◌∙◌, ap, ap₂, arith, subst, vec_len, refl, inl, inr, Some, IfSome}
 use Rattle.std.proofs.Math.Seq.{take-append_seam}
-use Rattle.art_nodes.specs.Inner.{IsRising, IsBelow}
 use Rattle.art_nodes.specs.Kinds.{kind_least, kind_capacity, ref_view}
 use Rattle.art_nodes.specs.Names.{inner_name}
 use Rattle.art_nodes.specs.declared.node.NodeType.TheVariants.{Leaf}
 use Rattle.art_model.specs.Faults.{IsTrueOf, Reaches}
-use Rattle.art_model.specs.Layouts.{names_below, slots_of}
+use Rattle.art_model.specs.Layouts.{names_below}
 use Rattle.art_model.specs.Stores.{IsUsed, header_at}
 use Rattle.art_model.specs.Pairs.{of_key}
 use Rattle.art_checking.specs.Checked.{IsChecked, IsFirstMet, IsLeafAt, IsLeastLeaf, IsTrueBehind, IsWalked, NoneBelow}
