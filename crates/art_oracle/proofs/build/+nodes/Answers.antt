@@ -110,7 +110,8 @@ build_node-build_below-requires g t c κs within =
     let (node, placed, starts) = c.in_ok-at.ensures.placed in
     let s = starts way ready in
     let n = count_groups bytes c.args.store.now.leaves leaves c.in_ok-at.at in
-    let two_at : 2 ≤ n = subst (λ m. 2 ≤ count_groups bytes c.args.store.now.leaves leaves m) s.below.depth_is (two_below bytes g.row.P c.args.store.now c.place_node.new.store c.in_ok-at.name same placed s) in
+    let two_at : 2 ≤ n = subst (λ m. 2 ≤ count_groups bytes c.args.store.now.leaves leaves m) s.below.depth_is
+    (two_below bytes g.row.P c.args.store.now c.place_node.new.store c.in_ok-at.name same placed s) in
     let count : count_groups bytes c.place_node.new.store.leaves leaves c.in_ok-at.at ≡ n = ap (λ m. count_groups bytes m leaves c.in_ok-at.at) same in
     let none : length node.children ≡ 0 = ap (λ d. length d.children) s.node_is in
     let deeper = s.at_is in
