@@ -41,16 +41,7 @@ is_eq_same n k = go n.kind k.kind n.slot k.slot
     go _ _ i j = refl
 
 is_eq_inner : (p q : InnerPtr) → is_eq (derived_inner.cmp-value.it p q) ≡ same_name (record { kind = p.kind; slot = p.slot }) (record { kind = q.kind; slot = q.slot })
-is_eq_inner p q = go p.kind q.kind p.slot q.slot
-  where
-    go : (a b : NodeType) (i j : ℕ) → is_eq (derived_inner.cmp-value.it (record { kind = a; slot = i }) (record { kind = b; slot = j })) ≡ same_name
-        (record { kind = a; slot = i }) (record { kind = b; slot = j })
-    go Node4 Node4 i j = is_eq_nat i j
-    go Node16 Node16 i j = is_eq_nat i j
-    go Node48 Node48 i j = is_eq_nat i j
-    go Node256 Node256 i j = is_eq_nat i j
-    go Leaf Leaf i j = is_eq_nat i j
-    go _ _ i j = refl
+is_eq_inner p q = is_eq_same (record { kind = p.kind; slot = p.slot }) (record { kind = q.kind; slot = q.slot })
 
 pub same_self : (n : OpaqueNodePtr) → same_name n n ≡ true
 same_self n = rw (eq-eqb (kind_index n.kind) (kind_index n.kind) refl, eq-eqb n.slot n.slot refl) refl

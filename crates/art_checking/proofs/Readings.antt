@@ -1,5 +1,5 @@
 -- a prefix that is not stored whole, as read from the least leaf, or not
-use Rattle.std.proofs.Common.{◌≡◌, ◌≢◌, ℕ, ◌+◌, ◌<◌, List, length, take, min, refl, ap, ◌∙◌, Bor, Option, Some, None, inr, arith}
+use Rattle.std.proofs.Common.{◌≡◌, ◌≢◌, ℕ, ◌+◌, ◌<◌, List, length, take, min, refl, ap, subst, ◌∙◌, Bor, Option, Some, None, inr, arith}
 use Rattle.std.specs.FinMap as map
 use Rattle.std.specs.Option.{MatchOption}
 use Rattle.art_inner.specs.Inner.{Inner}
@@ -25,6 +25,13 @@ module _ {K V : Type 0} (bytes : K × V → List ℕ) (P : ℕ) (s : Nodes K V) 
       MatchOption found (length (bytes x) < depth + len) (λ part. IsPartOf depth len (bytes x) part.now)) → IsReadFrom bytes P s name depth len found
   read_part depth len leaf None (ns, x, descent, ends, there) is = (ns, descent, λ root. inr (inr (inr (x, ap (node_at s) ends ∙ there, is x there))))
   read_part depth len leaf (Some part) (ns, x, descent, ends, there) is = (x, (ns, descent, ap (node_at s) ends ∙ there), is x there)
+
+  -- what was read for a depth and a length, said by the place and the node
+  pub read_found : (name : OpaqueNodePtr) (place : List ℕ) (node : Inner) {depth len : ℕ} {found part : Option (Bor (List ℕ))} → depth ≡ length place → len ≡ node.prefix.len → found ≡ part →
+      IsReadFrom bytes P s name depth len found → IsReadFrom bytes P s name (length place) node.prefix.len part
+  read_found name place node {depth} {len} {found} deep long is read =
+      subst (IsReadFrom bytes P s name (length place) node.prefix.len) is (subst (λ n. IsReadFrom bytes P s name (length place) n found) long
+      (subst (λ n. IsReadFrom bytes P s name n len found) deep read))
 
   module _ (p : InnerPtr) (node : Inner) (place : List ℕ) (proper : p.kind ≢ Leaf) (there : map.get s.inners p ≡ Some node) (more : P < node.prefix.len) where
     pub unreadable : (root : OpaqueNodePtr) → IsReadFrom bytes P s (inner_name p) (length place) node.prefix.len None →

@@ -19,6 +19,7 @@ use Rattle.art_model.specs.Layouts.{leaf_node, leaf_names, leaf_names_below, Hol
 use Rattle.art_model.specs.Stores.{held_leaf, held_inner, held_in, seen, node_at}
 use Rattle.art_model.specs.Trees.{Tree, leaf, inner, Subtrees, child, no_child}
 use Rattle.art_model.proofs.Canonical.{tree_radix}
+use Rattle.art_model.proofs.Heights.{one_less}
 use Rattle.art_model.proofs.Lists.{Each-append}
 use Rattle.art_model.proofs.Names.{taken_distinct, takes_leaves}
 use Rattle.art_model.proofs.Paths.{length-leaf_names}
@@ -34,16 +35,10 @@ module _ {K V : Type 0} where
   abbrev IsLeafIn : map.FinMap leaf_cmp (LeafNode K V) → OpaqueNodePtr → Type 0
   IsLeafIn m n = (n.kind ≡ Leaf) × (is_some (map.get m (as_leaf n)) ≡ true)
 
-  one_less : (m : map.FinMap leaf_cmp (LeafNode K V)) (p : LeafPtr) → is_some (map.get m p) ≡ true → suc (map.len (map.remove m p)) ≡ map.len m
-  one_less m p there =
-      let e : map.len (map.remove m p) ≡ map.len m - 1 = map.len-remove leaf_cmp_total m p ∙ ap (λ b. cond b (map.len m - 1) (map.len m)) there in
-      let some : map.len m ≢ 0 = λ z. false≢true (sym (ap is_some (map.get-empty leaf_cmp p)) ∙ ap (λ n. is_some (map.get n p)) (sym (map.empty_of_len m z)) ∙ there) in
-      omega arith
-
   enough_leaves : (ns : List OpaqueNodePtr) (m : map.FinMap leaf_cmp (LeafNode K V)) → AreDistinct ns → Each (IsLeafIn m) ns → length ns ≤ map.len m
   enough_leaves [] m d h = omega arith
   enough_leaves (n ∷ ns) m d h =
-      let less = one_less m (as_leaf n) h.0.1 in
+      let less = one_less leaf_cmp_total m (as_leaf n) h.0.1 in
       let kept = go ns d.0 h.1 in
       let ih = enough_leaves ns (map.remove m (as_leaf n)) d.1 kept in
       omega arith

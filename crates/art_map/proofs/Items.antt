@@ -31,6 +31,10 @@ module _ {K V : Type 0} (s : Nodes K V) where
   one_pair None = []
   one_pair (Some node) = pair_of node ∷ []
 
+  read_pair : (o : Option (LeafNode K V)) (pair : K × V) → option_map pair_of o ≡ Some pair → one_pair o ≡ pair ∷ []
+  read_pair None pair e = absurd cc
+  read_pair (Some node) pair e = let same : pair_of node ≡ pair = cc in ap (λ x. x ∷ []) same
+
   abbrev named_pairs : List OpaqueNodePtr → List (K × V)
   named_pairs [] = []
   named_pairs (n ∷ ns) = one_pair (map.get s.leaves (as_leaf n)) ++ named_pairs ns
@@ -105,62 +109,76 @@ module _ {K V : Type 0} (s : Nodes K V) where
     leaves_named_below (child b t cs) h = named_append (leaf_names t) (leaf_names_below cs) ∙ ap₂ (λ xs ys. xs ++ ys) (leaves_named t h.0) (leaves_named_below cs h.1)
 
   -- the first of the names gives the first of the pairs
-  pub first_left : (names : List OpaqueNodePtr) (p : LeafPtr) (node : LeafNode K V) → Some (leaf_name p) ≡ first_of names → map.get s.leaves p ≡ Some node →
-      named_pairs names ≡ pair_of node ∷ named_pairs (without_first names)
-  first_left [] p node e there = absurd cc
-  first_left (n ∷ ns) p node e there = let same : n ≡ leaf_name p = cc in rw (same, there) refl
+  first_left : (names : List OpaqueNodePtr) (p : LeafPtr) (pair : K × V) → Some (leaf_name p) ≡ first_of names → option_map pair_of (map.get s.leaves p) ≡ Some pair →
+      named_pairs names ≡ pair ∷ named_pairs (without_first names)
+  first_left [] p pair e read = absurd cc
+  first_left (n ∷ ns) p pair e read = let same : n ≡ leaf_name p = cc in rw same (ap (λ xs. xs ++ named_pairs ns) (read_pair (map.get s.leaves p) pair read))
 
   -- and the last of them the last one
-  pub last_left : (names : List OpaqueNodePtr) (p : LeafPtr) (node : LeafNode K V) → Some (leaf_name p) ≡ last_of names → map.get s.leaves p ≡ Some node →
-      named_pairs names ≡ named_pairs (without_last names) ++ pair_of node ∷ []
-  last_left [] p node e there = absurd cc
-  last_left (n ∷ ns) p node e there =
-      ap named_pairs (but_last n ns (leaf_name p) (sym e)) ∙ named_append (without_last (n ∷ ns)) (leaf_name p ∷ []) ∙ ap (λ o. named_pairs (without_last (n ∷ ns)) ++ (one_pair o ++ [])) there
+  last_left : (names : List OpaqueNodePtr) (p : LeafPtr) (pair : K × V) → Some (leaf_name p) ≡ last_of names → option_map pair_of (map.get s.leaves p) ≡ Some pair →
+      named_pairs names ≡ named_pairs (without_last names) ++ pair ∷ []
+  last_left [] p pair e read = absurd cc
+  last_left (n ∷ ns) p pair e read =
+      ap named_pairs (but_last n ns (leaf_name p) (sym e)) ∙ named_append (without_last (n ∷ ns)) (leaf_name p ∷ [])
+      ∙ ap (λ xs. named_pairs (without_last (n ∷ ns)) ++ (xs ++ [])) (read_pair (map.get s.leaves p) pair read)
 
 -- the names of a list with a first one, or with a last one, are one more than the others
-pub less_first : {N : Type 0} (names : List N) (n : N) → Some n ≡ first_of names → length names ≡ length (without_first names) + 1
+less_first : {N : Type 0} (names : List N) (n : N) → Some n ≡ first_of names → length names ≡ length (without_first names) + 1
 less_first [] n e = absurd cc
 less_first (x ∷ xs) n e = omega arith
 
-pub less_last : {N : Type 0} (names : List N) (n : N) → Some n ≡ last_of names → length names ≡ length (without_last names) + 1
+less_last : {N : Type 0} (names : List N) (n : N) → Some n ≡ last_of names → length names ≡ length (without_last names) + 1
 less_last [] n e = absurd cc
 less_last (x ∷ xs) n e = ap length (but_last x xs n (sym e)) ∙ length-append (without_last (x ∷ xs)) (n ∷ [])
 
-no_last : {N : Type 0} (x : N) (xs : List N) → None ≡ last_of (x ∷ xs) → ⊥
-no_last x [] e = absurd cc
-no_last x (y ∷ ys) e = no_last y ys e
+-- a list without a first element is empty, and so is one without a last one
+none_first : {N : Type 0} (xs : List N) → None ≡ first_of xs → xs ≡ []
+none_first [] e = refl
+none_first (x ∷ xs) e = absurd cc
 
-module _ {K V : Type 0} {s : Nodes K V} {walk left : Option (LeafPtr × LeafPtr)} {names : List OpaqueNodePtr} {len : ℕ} (is : IsIteratorOf s walk names) (counted : len ≡ length names) where
-  module _ (after : IsIteratorOf s left (without_first names)) where
-    pub first_ended : None ≡ first_of names → (pairs_left s walk len ≡ []) × (pairs_left s left len ≡ [])
-    first_ended e = go names is counted after e
-      where
-        go : (ns : List OpaqueNodePtr) → IsIteratorOf s walk ns → len ≡ length ns → IsIteratorOf s left (without_first ns) → None ≡ first_of ns →
-            (pairs_left s walk len ≡ []) × (pairs_left s left len ≡ [])
-        go [] one count two f = (left_are s walk [] len one count, left_are s left [] len two count)
-        go (x ∷ xs) one count two f = absurd cc
+none_last : {N : Type 0} (xs : List N) → None ≡ last_of xs → xs ≡ []
+none_last [] e = refl
+none_last (x ∷ []) e = absurd cc
+none_last (x ∷ y ∷ ys) e = let none : y ∷ ys ≡ [] = none_last (y ∷ ys) e in absurd cc
 
-    pub first_step : (p : LeafPtr) (node : LeafNode K V) → Some (leaf_name p) ≡ first_of names → map.get s.leaves p ≡ Some node → pairs_left s walk len ≡ pair_of node ∷ pairs_left s left (len - 1)
-    first_step p node e there =
-        let less = less_first names (leaf_name p) e in
-        left_are s walk names len is counted ∙ first_left s names p node e there ∙ ap (λ xs. pair_of node ∷ xs) (sym (left_are s left (without_first names) (len - 1) after (omega arith)))
+module _ {K V : Type 0} {s : Nodes K V} {walk left : Option (LeafPtr × LeafPtr)} {len : ℕ} (w : IsWalk s walk len) where
+  -- where no name is left of a walk there is no pair
+  ended : (without : List OpaqueNodePtr → List OpaqueNodePtr) → without [] ≡ [] → IsIteratorOf s left (without w.names) → w.names ≡ [] →
+      (pairs_left s walk len ≡ []) × (pairs_left s left len ≡ [])
+  ended without nothing after none =
+      let gone : without w.names ≡ [] = ap without none ∙ nothing in
+      let empty : len ≡ 0 = w.len_is ∙ ap length none in
+      (left_are s walk [] len (subst (IsIteratorOf s walk) none w.is) empty, left_are s left [] len (subst (IsIteratorOf s left) gone after) empty)
 
-  module _ (after : IsIteratorOf s left (without_last names)) where
-    pub last_ended : None ≡ last_of names → (pairs_left s walk len ≡ []) × (pairs_left s left len ≡ [])
-    last_ended e = go names is counted after e
-      where
-        go : (ns : List OpaqueNodePtr) → IsIteratorOf s walk ns → len ≡ length ns → IsIteratorOf s left (without_last ns) → None ≡ last_of ns →
-            (pairs_left s walk len ≡ []) × (pairs_left s left len ≡ [])
-        go [] one count two f = (left_are s walk [] len one count, left_are s left [] len two count)
-        go (x ∷ xs) one count two f = absurd (no_last x xs f)
+  module _ (after : (names : List OpaqueNodePtr) → IsIteratorOf s walk names → IsIteratorOf s left (without_first names)) where
+    pub first_ended : ((names : List OpaqueNodePtr) → IsIteratorOf s walk names → None ≡ first_of names) → (pairs_left s walk len ≡ []) × (pairs_left s left len ≡ [])
+    first_ended e = ended without_first refl (after w.names w.is) (none_first w.names (e w.names w.is))
 
-    pub last_step : (p : LeafPtr) (node : LeafNode K V) → Some (leaf_name p) ≡ last_of names → map.get s.leaves p ≡ Some node → pairs_left s walk len ≡ pairs_left s left (len - 1) ++ pair_of node ∷ []
-    last_step p node e there =
-        let less = less_last names (leaf_name p) e in
-        left_are s walk names len is counted ∙ last_left s names p node e there ∙ ap (λ xs. xs ++ pair_of node ∷ []) (sym (left_are s left (without_last names) (len - 1) after (omega arith)))
+    pub first_step : {p : LeafPtr} {pair : K × V} → ((names : List OpaqueNodePtr) → IsIteratorOf s walk names → Some (leaf_name p) ≡ first_of names) →
+        option_map pair_of (map.get s.leaves p) ≡ Some pair → pairs_left s walk len ≡ pair ∷ pairs_left s left (len - 1)
+    first_step {p} {pair} e read =
+        let less = less_first w.names (leaf_name p) (e w.names w.is) in
+        let counted = w.len_is in
+        left_are s walk w.names len w.is counted ∙ first_left s w.names p pair (e w.names w.is) read
+        ∙ ap (λ xs. pair ∷ xs) (sym (left_are s left (without_first w.names) (len - 1) (after w.names w.is) (omega arith)))
 
-    pub last_walk : (p : LeafPtr) → Some (leaf_name p) ≡ last_of names → IsWalk s left (len - 1)
-    last_walk p e = let less = less_last names (leaf_name p) e in record { names = without_last names; is = after; len_is = omega arith }
+  module _ (after : (names : List OpaqueNodePtr) → IsIteratorOf s walk names → IsIteratorOf s left (without_last names)) where
+    pub last_ended : ((names : List OpaqueNodePtr) → IsIteratorOf s walk names → None ≡ last_of names) → (pairs_left s walk len ≡ []) × (pairs_left s left len ≡ [])
+    last_ended e = ended without_last refl (after w.names w.is) (none_last w.names (e w.names w.is))
+
+    module _ {p : LeafPtr} (e : (names : List OpaqueNodePtr) → IsIteratorOf s walk names → Some (leaf_name p) ≡ last_of names) where
+      pub last_walk : IsWalk s left (len - 1)
+      last_walk =
+          let less = less_last w.names (leaf_name p) (e w.names w.is) in
+          let counted = w.len_is in
+          record { names = without_last w.names; is = after w.names w.is; len_is = omega arith }
+
+      pub last_step : {pair : K × V} → option_map pair_of (map.get s.leaves p) ≡ Some pair → pairs_left s walk len ≡ pairs_left s left (len - 1) ++ pair ∷ []
+      last_step {pair} read =
+          let less = less_last w.names (leaf_name p) (e w.names w.is) in
+          let counted = w.len_is in
+          left_are s walk w.names len w.is counted ∙ last_left s w.names p pair (e w.names w.is) read
+          ∙ ap (λ xs. xs ++ pair ∷ []) (sym (left_are s left (without_last w.names) (len - 1) (after w.names w.is) (omega arith)))
 
 module _ {K V : Type 0} {bytes : K × V → List ℕ} {P : ℕ} {s : Nodes K V} {root : OpaqueNodePtr} {pairs : List (K × V)} {layout : Tree OpaqueNodePtr (K × V)}
     (by : IsCanonicalTree bytes P s root pairs layout) where

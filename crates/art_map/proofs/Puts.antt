@@ -1,5 +1,5 @@
 -- Pairs that are put.
-use Rattle.std.proofs.Common.{◌≡◌, ℕ, ◌+◌, ◌≤◌, List, [], ◌∷◌, length, not, refl, ap, ap₂, sym, ◌∙◌, arith, Bool, Option, Some, None, true, false, is_some, zero, suc}
+use Rattle.std.proofs.Common.{◌≡◌, ℕ, ◌+◌, ◌-◌, ◌≤◌, List, [], ◌∷◌, length, not, refl, ap, ap₂, sym, ◌∙◌, subst, arith, Bool, Option, Some, None, true, false, is_some, zero, suc}
 use Rattle.std.proofs.lemmas.Bool.{true≢false}
 use Rattle.std.specs.List.{cons_option}
 use Rattle.std.specs.Option.{option_map}
@@ -16,8 +16,8 @@ use Rattle.art_model.specs.Kept.{ChangesInPlace, KeepsOthers, names_in}
 use Rattle.art_model.specs.Keys.{are_related}
 use Rattle.art_model.specs.Layouts.{names_of}
 use Rattle.art_model.specs.MapLaws.{Tells}
-use Rattle.art_model.specs.Pairs.{IsMap, first_of, of_key, has_key, overwrite, overwrite_reply, put, put_reply, related_to, with_key}
-use Rattle.art_model.specs.Roots.{IsRootOf}
+use Rattle.art_model.specs.Pairs.{IsMap, first_of, of_key, has_key, overwrite, overwrite_reply, put, put_reply, related_to, with_key, is_conflict}
+use Rattle.art_model.specs.Roots.{IsRootOf, ForTree}
 use Rattle.art_model.specs.Stores.{held, pair_of}
 use Rattle.art_model.specs.Trees.{Tree, leaf}
 use Rattle.art_model.proofs.MapLaws.{overwrite_counts, overwrite_of_key_is_put, overwrite_tells, put_counts, put_tells}
@@ -47,6 +47,11 @@ module _ {K V : Type 0} (bytes : K × V → List ℕ) (P : ℕ) where
           HasTreeAt s name len pairs
       go None h other = absurd h
       go (Some layout) h other = record { layout = layout; by = h; no_other = other; len_is = is.len_is }
+
+  -- of a root that is known to be there
+  pub at_some : {s : Nodes K V} {root : Option OpaqueNodePtr} {name : OpaqueNodePtr} {len : ℕ} {pairs : List (K × V)} → root ≡ Some name → HoldsPairs bytes P s root len pairs →
+      HasTreeAt s name len pairs
+  at_some {s} {len = len} {pairs = pairs} e is = at_root (subst (λ r. HoldsPairs bytes P s r len pairs) e is)
 
   module _ (s t : Nodes K V) (same_leaves : t.leaves ≡ s.leaves) (same_inners : t.inners ≡ s.inners) where
     same_held : (k : OpaqueNodePtr) → held t k ≡ held s k
@@ -161,6 +166,44 @@ none_back (Some x) e = absurd cc
 pub some_back : {K V : Type 0} (reply : Option (K × V)) (node : LeafNode K V) → option_map alone reply ≡ Some node → reply ≡ Some (pair_of node)
 some_back None node e = absurd cc
 some_back (Some x) node e = let same : alone x ≡ node = cc in ap (λ l. Some (pair_of l)) same
+
+-- How many pairs gave way to a new one, and how many there are with it.
+pub record CountsOver {K V : Type 0} (bytes : K → List ℕ) (new : K × V) (pairs : List (K × V)) (gone len : ℕ) : Type 0 where
+  pub gone_is : gone ≡ length (related_to (of_key bytes) (bytes new.0) pairs)
+  pub fits : gone ≤ len
+  pub counted : length (overwrite (of_key bytes) new pairs) ≡ len - gone + 1
+
+module _ {K V : Type 0} (bytes : K → List ℕ) (P : ℕ) {s : Nodes K V} {name : OpaqueNodePtr} {len : ℕ} {pairs : List (K × V)} (new : K × V)
+    (has : HasTreeAt (of_key bytes) P s name len pairs) where
+  module _ {existing : Option (LeafNode K V)} (told : ForTree (of_key bytes) P s name (λ pairs layout. existing ≡ option_map alone (put_reply (of_key bytes) new pairs))) where
+    -- where no leaf comes back there is a pair more than the length said
+    pub pair_more : existing ≡ None → (put_reply (of_key bytes) new pairs ≡ None) × (length (put (of_key bytes) new pairs) ≡ len + 1)
+    pair_more none =
+        let reply = none_back (put_reply (of_key bytes) new pairs) (sym (told pairs has.layout has.by) ∙ none) in
+        (reply, one_more bytes new pairs has.by.is_map reply ∙ ap (λ n. n + 1) (sym has.len_is))
+
+    -- and where one does there are as many
+    pub same_many : {node : LeafNode K V} → existing ≡ Some node → (put_reply (of_key bytes) new pairs ≡ Some (pair_of node)) × (length (put (of_key bytes) new pairs) ≡ len)
+    same_many {node} some =
+        let reply = some_back (put_reply (of_key bytes) new pairs) node (sym (told pairs has.layout has.by) ∙ some) in
+        (reply, as_many bytes new pairs has.by.is_map (pair_of node) reply ∙ sym has.len_is)
+
+  -- where the root's search refused no key there is no conflict
+  pub accepted : {root : OpaqueNodePtr} {key : List ℕ} → name ≡ root → key ≡ bytes new.0 → ForTree (of_key bytes) P s root (λ pairs layout. is_conflict (of_key bytes) key pairs ≡ false) →
+      is_conflict (of_key bytes) (bytes new.0) pairs ≡ false
+  accepted e same free =
+      subst (λ key. is_conflict (of_key bytes) key pairs ≡ false) same (free pairs has.layout (subst (λ n. IsCanonicalTree (of_key bytes) P s n pairs has.layout) e has.by))
+
+  -- what an overwrite tells of the pairs that gave way
+  pub over_counted : (done : PrefixInsertResult K V) →
+      ForTree (of_key bytes) P s name (λ pairs layout. done.insert_result.existing_leaf ≡ option_map alone (overwrite_reply (of_key bytes) new pairs).0) →
+      ForTree (of_key bytes) P s name (λ pairs layout. done.leafs_removed ≡ (overwrite_reply (of_key bytes) new pairs).1) → CountsOver bytes new pairs (gone_count done) len
+  over_counted done existing removed =
+      let told = told_gone bytes new pairs has.by.is_map done (existing pairs has.layout has.by) (removed pairs has.layout has.by) in
+      let fewer = fewer_related bytes new pairs has.by.is_map in
+      let counts = over_counts bytes new pairs has.by.is_map in
+      let all = has.len_is in
+      record { gone_is = told; fits = omega arith; counted = omega arith }
 
 module _ {K V : Type 0} (bytes : K → List ℕ) (P : ℕ) {s t : Nodes K V} where
   -- a leaf that is placed where there was no tree

@@ -1,15 +1,40 @@
 -- What a change leaves, by the pairs that are read off.
-use Rattle.std.proofs.Common.{◌≡◌, ◌≢◌, ℕ, List, length, Option, Result, Ok, Err, OnOk, OnErr, IfOk}
+use Rattle.std.proofs.Common.{◌≡◌, ◌≢◌, ℕ, List, length, Option, Result, Ok, Err, OnOk, OnErr, IfOk, IfErr, false, subst}
 use Rattle.art_nodes.specs.Nodes.{Nodes}
 use Rattle.art_parts.specs.declared.names.OpaqueNodePtr.{OpaqueNodePtr}
-use Rattle.art_model.specs.Pairs.{of_key, overwrite, put, related_to}
+use Rattle.art_model.specs.Pairs.{of_key, overwrite, put, related_to, is_conflict, put_reply}
 use Rattle.art_writing.specs.declared.insert.Refused.{Refused}
-use Rattle.art_map.specs.MapAnswers.{MayRefuse}
+use Rattle.art_map.specs.MapAnswers.{IsRefusalOf, MayRefuse}
 use Rattle.art_map.specs.MapChanges.{HasPut, HasPutOver, HasTaken}
 use Rattle.art_map.specs.MapPairs.{HoldsPairs, pairs_at}
 use Rattle.art_map.specs.declared.map.MapInsertError.{MapInsertError}
 use Rattle.art_map.specs.declared.map.MapRefused.{MapRefused}
 use Rattle.art_map.proofs.Views.{holds, view_of}
+
+module _ {K V : Type 0} (bytes : K → List ℕ) where
+  -- What a caller is told of a pair that is put.
+  pub record TellsPut (key : K) (value : V) (before after : List (K × V)) (result : Result (Option (K × V)) (MapInsertError K V)) : Type 0 where
+    pub pairs : OnOk result (after ≡ put (of_key bytes) (key, value) before)
+    pub replaced : IfOk result (λ replaced. replaced ≡ put_reply (of_key bytes) (key, value) before)
+    pub accepted : OnOk result (is_conflict (of_key bytes) (bytes key) before ≡ false)
+    pub refused : IfErr result (IsRefusalOf bytes key value before)
+    pub kept : OnErr result (after ≡ before)
+
+  -- What a caller is told of a pair that is put in the place of those with related keys.
+  pub record TellsOver (key : K) (value : V) (before after : List (K × V)) (result : Result ℕ (Refused K V)) : Type 0 where
+    pub pairs : OnOk result (after ≡ overwrite (of_key bytes) (key, value) before)
+    pub gone : IfOk result (λ gone. gone ≡ length (related_to (of_key bytes) (bytes key) before))
+    pub handed_back : IfErr result (λ refused. (refused.key ≡ key) × (refused.value ≡ value))
+    pub kept : OnErr result (after ≡ before)
+    pub refused : OnErr result (length (related_to (of_key bytes) (bytes key) before) ≢ 1)
+
+  -- What a caller is told of a pair that is taken out.
+  pub record TellsTaken (P : ℕ) (pair : List (K × V) → Option (K × V)) (left : List (K × V) → List (K × V)) (before after : List (K × V)) (result : Result (Option (K × V)) MapRefused)
+      : Type 0 where
+    pub pairs : OnOk result (after ≡ left before)
+    pub removed : IfOk result (λ removed. removed ≡ pair before)
+    pub kept : OnErr result (after ≡ before)
+    pub refused : OnErr result (MayRefuse (of_key bytes) P before (pair before))
 
 module _ {K V : Type 0} (bytes : K → List ℕ) (P : ℕ) (pairs : List (K × V)) (t : Nodes K V) (root : Option OpaqueNodePtr) (len : ℕ) where
   module _ (key : K) (value : V) where
@@ -17,48 +42,36 @@ module _ {K V : Type 0} (bytes : K → List ℕ) (P : ℕ) (pairs : List (K × V
     put_holds (Ok replaced) h = holds (of_key bytes) P t h.0
     put_holds (Err error) h = holds (of_key bytes) P t h.0
 
-    pub put_pairs : (result : Result (Option (K × V)) (MapInsertError K V)) → HasPut bytes P pairs key value result t root len → OnOk result (pairs_at t root ≡ put (of_key bytes) (key, value) pairs)
-    put_pairs (Ok replaced) h = view_of (of_key bytes) P t h.0
-    put_pairs (Err error) h = tt
+    pub tells_put : {before : List (K × V)} → pairs ≡ before → (result : Result (Option (K × V)) (MapInsertError K V)) → HasPut bytes P pairs key value result t root len →
+        TellsPut bytes key value before (pairs_at t root) result
+    tells_put same result h = subst (λ xs. TellsPut bytes key value xs (pairs_at t root) result) same (go result h)
+      where
+        go : (result : Result (Option (K × V)) (MapInsertError K V)) → HasPut bytes P pairs key value result t root len → TellsPut bytes key value pairs (pairs_at t root) result
+        go (Ok replaced) h = record { pairs = view_of (of_key bytes) P t h.0; replaced = h.1; accepted = h.2; refused = tt; kept = tt }
+        go (Err error) h = record { pairs = tt; replaced = tt; accepted = tt; refused = h.1; kept = view_of (of_key bytes) P t h.0 }
 
-    pub put_kept : (result : Result (Option (K × V)) (MapInsertError K V)) → HasPut bytes P pairs key value result t root len → OnErr result (pairs_at t root ≡ pairs)
-    put_kept (Ok replaced) h = tt
-    put_kept (Err error) h = view_of (of_key bytes) P t h.0
-
-  module _ (key : K) (value : V) where
     pub over_holds : (result : Result ℕ (Refused K V)) → HasPutOver bytes P pairs key value result t root len → HoldsPairs (of_key bytes) P t root len (pairs_at t root)
     over_holds (Ok gone) h = holds (of_key bytes) P t h.0
     over_holds (Err refused) h = holds (of_key bytes) P t h.0
 
-    pub over_pairs : (result : Result ℕ (Refused K V)) → HasPutOver bytes P pairs key value result t root len → OnOk result (pairs_at t root ≡ overwrite (of_key bytes) (key, value) pairs)
-    over_pairs (Ok gone) h = view_of (of_key bytes) P t h.0
-    over_pairs (Err refused) h = tt
+    pub tells_over : {before : List (K × V)} → pairs ≡ before → (result : Result ℕ (Refused K V)) → HasPutOver bytes P pairs key value result t root len →
+        TellsOver bytes key value before (pairs_at t root) result
+    tells_over same result h = subst (λ xs. TellsOver bytes key value xs (pairs_at t root) result) same (go result h)
+      where
+        go : (result : Result ℕ (Refused K V)) → HasPutOver bytes P pairs key value result t root len → TellsOver bytes key value pairs (pairs_at t root) result
+        go (Ok gone) h = record { pairs = view_of (of_key bytes) P t h.0; gone = h.1; handed_back = tt; kept = tt; refused = tt }
+        go (Err refused) (held, same_key, same_value, many) =
+            record { pairs = tt; gone = tt; handed_back = (same_key, same_value); kept = view_of (of_key bytes) P t held; refused = many }
 
-    pub over_kept : (result : Result ℕ (Refused K V)) → HasPutOver bytes P pairs key value result t root len → OnErr result (pairs_at t root ≡ pairs)
-    over_kept (Ok gone) h = tt
-    over_kept (Err refused) h = view_of (of_key bytes) P t h.0
-
-    pub over_refused : (result : Result ℕ (Refused K V)) → HasPutOver bytes P pairs key value result t root len → OnErr result (length (related_to (of_key bytes) (bytes key) pairs) ≢ 1)
-    over_refused (Ok gone) h = tt
-    over_refused (Err refused) (held, same_key, same_value, off) = off
-
-  module _ (pair : Option (K × V)) (left : List (K × V)) where
-    pub taken_holds : (result : Result (Option (K × V)) MapRefused) → HasTaken bytes P pairs pair left result t root len → HoldsPairs (of_key bytes) P t root len (pairs_at t root)
+  module _ (pair : List (K × V) → Option (K × V)) (left : List (K × V) → List (K × V)) where
+    pub taken_holds : (result : Result (Option (K × V)) MapRefused) → HasTaken bytes P pairs (pair pairs) (left pairs) result t root len → HoldsPairs (of_key bytes) P t root len (pairs_at t root)
     taken_holds (Ok taken) h = holds (of_key bytes) P t h.0
     taken_holds (Err error) h = holds (of_key bytes) P t h.0
 
-    pub taken_pairs : (result : Result (Option (K × V)) MapRefused) → HasTaken bytes P pairs pair left result t root len → OnOk result (pairs_at t root ≡ left)
-    taken_pairs (Ok taken) h = view_of (of_key bytes) P t h.0
-    taken_pairs (Err error) h = tt
-
-    pub taken_kept : (result : Result (Option (K × V)) MapRefused) → HasTaken bytes P pairs pair left result t root len → OnErr result (pairs_at t root ≡ pairs)
-    taken_kept (Ok taken) h = tt
-    taken_kept (Err error) h = view_of (of_key bytes) P t h.0
-
-    pub taken_reply : (result : Result (Option (K × V)) MapRefused) → HasTaken bytes P pairs pair left result t root len → IfOk result (λ taken. taken ≡ pair)
-    taken_reply (Ok taken) h = h.1
-    taken_reply (Err error) h = tt
-
-    pub taken_refused : (result : Result (Option (K × V)) MapRefused) → HasTaken bytes P pairs pair left result t root len → OnErr result (MayRefuse (of_key bytes) P pairs pair)
-    taken_refused (Ok taken) h = tt
-    taken_refused (Err error) h = h.1
+    pub tells_taken : {before : List (K × V)} → pairs ≡ before → (result : Result (Option (K × V)) MapRefused) → HasTaken bytes P pairs (pair pairs) (left pairs) result t root len →
+        TellsTaken bytes P pair left before (pairs_at t root) result
+    tells_taken same result h = subst (λ xs. TellsTaken bytes P pair left xs (pairs_at t root) result) same (go result h)
+      where
+        go : (result : Result (Option (K × V)) MapRefused) → HasTaken bytes P pairs (pair pairs) (left pairs) result t root len → TellsTaken bytes P pair left pairs (pairs_at t root) result
+        go (Ok taken) h = record { pairs = view_of (of_key bytes) P t h.0; removed = h.1; kept = tt; refused = tt }
+        go (Err error) h = record { pairs = tt; removed = tt; kept = view_of (of_key bytes) P t h.0; refused = h.1 }

@@ -1,7 +1,8 @@
 -- Pairs that are found, and those that are taken out.
-use Rattle.std.proofs.Common.{◌≡◌, ℕ, ◌-◌, ◌≤◌, List, [], ◌∷◌, ◌++◌, length, filter, refl, ap, sym, ◌∙◌, subst, arith, Option, Some, None, Bool, true, false, IfSome, is_some, option_copied, Bor}
+use Rattle.std.proofs.Common.{◌≡◌, ℕ, ◌-◌, ◌≤◌, List, [], ◌∷◌, ◌++◌, length, filter, refl, ap, sym, ◌∙◌, subst, arith, Option, Some, None, Bool, true, false, IfSome, IsSome, is_some, option_copied, Bor}
 use Rattle.std.specs.FinMap.{get}
 use Rattle.art_parts.specs.Names.{leaf_name}
+use Rattle.std.specs.Option.{option_map}
 use Rattle.art_nodes.specs.Nodes.{Nodes}
 use Rattle.art_parts.specs.declared.leaf.LeafNode.{LeafNode}
 use Rattle.art_parts.specs.declared.names.LeafPtr.{LeafPtr}
@@ -11,11 +12,11 @@ use Rattle.art_model.specs.Footprints.{IsIn}
 use Rattle.art_model.specs.Kept.{ChangesInPlace}
 use Rattle.art_model.specs.Keys.{are_same}
 use Rattle.art_model.specs.Layouts.{names_of}
-use Rattle.art_model.specs.Lookups.{FindsLeaf, HasFirstLeaf, HasLastLeaf}
+use Rattle.art_model.specs.Lookups.{FindsLeaf}
 use Rattle.art_model.specs.Pairs.{IsMap, first_of, last_of, without_first, of_key, has_key, remove_key, with_key}
 use Rattle.art_model.specs.Paths.{pairs_before, pairs_after}
 use Rattle.art_model.specs.Radix.{pairs_of}
-use Rattle.art_model.specs.Roots.{ForRoot}
+use Rattle.art_model.specs.Roots.{ForRoot, ForTree}
 use Rattle.art_model.specs.Stores.{held, pair_of}
 use Rattle.art_model.specs.Trees.{Tree, leaf}
 use Rattle.art_model.proofs.Canonical.{tree_radix}
@@ -30,20 +31,13 @@ use Rattle.art_writing.specs.Deleted.{LeadsTo}
 use Rattle.art_writing.specs.Inserted.{alone}
 use Rattle.art_writing.specs.declared.delete.DeletePoint.{DeletePoint}
 use Rattle.art_writing.proofs.KeysFound.{deleted_pair, leaf_found}
+use Rattle.art_reading.specs.Walks.{LeadsToEnd}
+use Rattle.art_reading.specs.declared.path.TreePath.{TreePath}
 use Rattle.art_map.specs.MapAnswers.{end_of, value_at, without_end}
-use Rattle.art_map.specs.MapPairs.{HoldsPairs}
-use Rattle.art_map.proofs.Puts.{at_root, is_some-map}
+use Rattle.art_map.specs.MapChanges.{NamesPair}
+use Rattle.art_map.specs.MapPairs.{HoldsPairs, pairs_at}
+use Rattle.art_map.proofs.Puts.{at_root, at_some, is_some-map}
 use Rattle.art_map.proofs.Views.{none_other, with_tree}
-
--- the value of a leaf that is found
-pub found_value : {K V : Type 0} (bytes : K → List ℕ) (P : ℕ) {s : Nodes K V} {name : OpaqueNodePtr} {pairs : List (K × V)} {layout : Tree OpaqueNodePtr (K × V)} {p : LeafPtr}
-    (node : LeafNode K V) (key : List ℕ) → IsCanonicalTree (of_key bytes) P s name pairs layout →
-    FindsLeaf layout (with_key (of_key bytes) key pairs) (Some p) → get s.leaves p ≡ Some node → Some node.value ≡ value_at bytes key pairs
-found_value bytes P node key by (x, only, has) got =
-    let (other, there, its) = leaf_found bytes P by has in
-    let same : other ≡ node = cc in
-    let pair : pair_of node ≡ x = ap pair_of (sym same) ∙ its in
-    rw only (ap (λ y. Some y.1) pair)
 
 module _ {A : Type 0} (bytes : A → List ℕ) where
   -- a filter that an element passes leaves one
@@ -111,34 +105,41 @@ module _ {A : Type 0} (bytes : A → List ℕ) where
 
 -- ---- what is read off a leaf
 
-module _ {K V : Type 0} (bytes : K → List ℕ) (P : ℕ) {s : Nodes K V} {name : OpaqueNodePtr} {pairs : List (K × V)} {layout : Tree OpaqueNodePtr (K × V)}
-    (by : IsCanonicalTree (of_key bytes) P s name pairs layout) {p : LeafPtr} where
-  -- the leaf that is found has the only pair
-  pub found_pair : (node : LeafNode K V) (matches : List (K × V)) → FindsLeaf layout matches (Some p) → get s.leaves p ≡ Some node → Some (pair_of node) ≡ first_of matches
-  found_pair node matches (x, only, has) got =
-      let (other, there, its) = leaf_found bytes P by has in
-      let same : other ≡ node = cc in
-      rw only (ap Some (ap pair_of (sym same) ∙ its))
+module _ {K V : Type 0} (bytes : K → List ℕ) (P : ℕ) {s : Nodes K V} {name : OpaqueNodePtr} where
+  -- the end of a tree that a walk leads to has the pair at that end
+  pub end_named : (end : End) {pairs : List (K × V)} {layout : Tree OpaqueNodePtr (K × V)} (path : TreePath) (p : LeafPtr) → IsCanonicalTree (of_key bytes) P s name pairs layout →
+      LeadsToEnd layout end path p → NamesPair layout (end_of end pairs) p
+  end_named First path p by (first, way) = (first.pair, sym (ap first_of (tree_radix by).1) ∙ first.pair_is, first.has)
+  end_named Last path p by (last, way) = (last.pair, sym (ap last_of (tree_radix by).1) ∙ last.pair_is, last.has)
 
-  -- the first leaf is there, and has the first pair
-  pub first_is_there : HasFirstLeaf layout (leaf_name p) → get s.leaves p ≡ None → ⊥
-  first_is_there first none = let (other, there, its) = leaf_found bytes P by first.has in absurd (cc (none, there))
+  module _ {root : Option OpaqueNodePtr} {len : ℕ} {p : LeafPtr} (e : root ≡ Some name) (is : HoldsPairs (of_key bytes) P s root len (pairs_at s root)) where
+    module _ (wanted : List (K × V) → Option (K × V)) (named : ForTree (of_key bytes) P s name (λ pairs layout. NamesPair layout (wanted pairs) p)) where
+      -- the leaf of a pair that is wanted is there
+      pub named_there : IsSome (get s.leaves p)
+      named_there =
+          let has = at_some (of_key bytes) P e is in
+          let (x, some, has_leaf) = named (pairs_at s root) has.layout has.by in
+          let (node, there, its) = leaf_found bytes P has.by has_leaf in
+          rw there refl
 
-  pub first_pair : (node : LeafNode K V) → HasFirstLeaf layout (leaf_name p) → get s.leaves p ≡ Some node → Some (pair_of node) ≡ first_of pairs
-  first_pair node first got =
-      let (other, there, its) = leaf_found bytes P by first.has in
-      let same : other ≡ node = cc in
-      ap Some (ap pair_of (sym same) ∙ its) ∙ sym first.pair_is ∙ ap first_of (tree_radix by).1
+      -- and has the pair
+      pub named_pair : {y : K × V} {before : List (K × V)} → option_map pair_of (get s.leaves p) ≡ Some y → pairs_at s root ≡ before → Some y ≡ wanted before
+      named_pair read view =
+          let has = at_some (of_key bytes) P e is in
+          let (x, some, has_leaf) = named (pairs_at s root) has.layout has.by in
+          let (node, there, its) = leaf_found bytes P has.by has_leaf in
+          sym read ∙ ap (option_map pair_of) there ∙ ap Some its ∙ sym some ∙ ap wanted view
 
-  -- and the last leaf is, with the last pair
-  pub last_is_there : HasLastLeaf layout (leaf_name p) → get s.leaves p ≡ None → ⊥
-  last_is_there last none = let (other, there, its) = leaf_found bytes P by last.has in absurd (cc (none, there))
+    -- so does the leaf that a look-up finds
+    module _ (wanted : List (K × V) → List (K × V)) (found : ForTree (of_key bytes) P s name (λ pairs layout. FindsLeaf layout (wanted pairs) (Some p))) where
+      found_named : ForTree (of_key bytes) P s name (λ pairs layout. NamesPair layout (first_of (wanted pairs)) p)
+      found_named pairs layout by = let (x, only, has_leaf) = found pairs layout by in (x, ap first_of only, has_leaf)
 
-  pub last_pair : (node : LeafNode K V) → HasLastLeaf layout (leaf_name p) → get s.leaves p ≡ Some node → Some (pair_of node) ≡ last_of pairs
-  last_pair node last got =
-      let (other, there, its) = leaf_found bytes P by last.has in
-      let same : other ≡ node = cc in
-      ap Some (ap pair_of (sym same) ∙ its) ∙ sym last.pair_is ∙ ap last_of (tree_radix by).1
+      pub found_there : IsSome (get s.leaves p)
+      found_there = named_there (λ pairs. first_of (wanted pairs)) found_named
+
+      pub found_pair : {y : K × V} {before : List (K × V)} → option_map pair_of (get s.leaves p) ≡ Some y → pairs_at s root ≡ before → Some y ≡ first_of (wanted before)
+      found_pair read view = named_pair (λ pairs. first_of (wanted pairs)) found_named read view
 
 -- a value is found exactly where the key is stored
 pub value_stored : {K V : Type 0} (bytes : K → List ℕ) (key : List ℕ) (pairs : List (K × V)) → is_some (value_at bytes key pairs) ≡ has_key (of_key bytes) key pairs

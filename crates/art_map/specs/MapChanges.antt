@@ -2,8 +2,12 @@
 use Rattle.std.specs.Prelude.{◌≡◌, ◌≢◌, ℕ, false, List, [], ◌∷◌, length, Option, Some, None, Result, Ok, Err}
 use Rattle.art_nodes.specs.Nodes.{Nodes}
 use Rattle.art_parts.specs.declared.names.OpaqueNodePtr.{OpaqueNodePtr}
+use Rattle.art_parts.specs.Names.{leaf_name}
+use Rattle.art_parts.specs.declared.names.LeafPtr.{LeafPtr}
 use Rattle.art_model.specs.Clones.{AreClones}
+use Rattle.art_model.specs.Lookups.{HasLeaf}
 use Rattle.art_model.specs.Pairs.{of_key, is_conflict, put, put_reply, overwrite, related_to}
+use Rattle.art_model.specs.Trees.{Tree}
 use Rattle.art_writing.specs.declared.insert.PrefixInsertResult.{PrefixInsertResult}
 use Rattle.art_writing.specs.declared.insert.Refused.{Refused}
 use Rattle.art_map.specs.MapAnswers.{IsRefusalOf, MayRefuse}
@@ -14,6 +18,10 @@ use Rattle.art_map.specs.declared.map.MapRefused.{MapRefused}
 -- how many pairs gave way: one that came back, or those that were freed
 abbrev pub gone_count : {K V : Type 0} → PrefixInsertResult K V → ℕ
 gone_count done = elim done.insert_result.existing_leaf [ None ↦ done.leafs_removed | Some leaf ↦ 1 ]
+
+-- the tree has the leaf of the pair that there is, under this name
+abbrev pub NamesPair : {A : Type 0} → Tree OpaqueNodePtr A → Option A → LeafPtr → Type 0
+NamesPair {A} layout pair leaf = (x : A) × (pair ≡ Some x) × HasLeaf layout (leaf_name leaf) x
 
 module _ {K V : Type 0} (bytes : K → List ℕ) (P : ℕ) where
   -- the pair is the only one, or it is handed back and there is none

@@ -1,10 +1,11 @@
 //! An ordered map from keys of bytes to values. Its contracts speak of lists of pairs alone.
-ghost use Rattle.std.specs.Prelude.{◌≡◌, ◌≢◌, ◌+◌, ◌<◌, ◌↔◌, [], length, false, true, IsTrue, IfOk, IfErr, OnOk, OnErr, None, Some, option_copied};
+ghost use Rattle.std.specs.Prelude.{◌≡◌, ◌≢◌, ◌+◌, ◌<◌, ◌↔◌, [], length, false, true, IsTrue, IfOk, IfErr, OnOk, OnErr, None, Some, option_copied, IsSome};
 ghost use Rattle.std.specs.FinMap as map;
 ghost use Rattle.std.specs.Option.{option_map};
 ghost use Rattle.art_model.specs.Clones.{KeepBytes};
 ghost use Rattle.art_model.specs.Pairs.{first_of, has_key, is_conflict, last_of, match_of, of_key, overwrite, put, put_reply, related_to, remove_key, remove_reply, without_first, without_last};
 ghost use Rattle.art_model.specs.Roots.{ForTree, IsCanonicalRoot};
+ghost use Rattle.art_model.specs.Stores.{pair_of};
 ghost use Rattle.art_writing.specs.Deleted.{IsDeletePoint, IsDeletePointIn, LeadsTo};
 ghost use Rattle.art_map.specs.declared.map.MapInsertError.TheVariants as errors;
 ghost use Rattle.art_map.specs.MapAnswers.{end_of, without_end};
@@ -12,12 +13,12 @@ ghost use Rattle.art_map.specs.MapChanges.{HasPlanted, HasPut, HasPutOver, HasTa
 ghost use Rattle.art_map.specs.MapItems.{deref_pair};
 ghost use Rattle.art_map.specs.MapPairs.{HoldsPairs, pairs_at};
 
-use art_nodes::node::{AsBytes, LeafNode, OpaqueNodePtr};
+use art_nodes::node::{AsBytes, LeafNode, LeafPtr, OpaqueNodePtr};
 use art_nodes::store::NodeStore;
 use art_reading::iterator::RawIterator;
 use art_reading::lookup::{prefix_search_unchecked, search_unchecked};
 use art_reading::minmax::{maximum_unchecked, minimum_unchecked};
-use art_reading::ways::End;
+use art_reading::ways::{End, walk_to_end};
 use art_writing::clone::clone_unchecked;
 use art_writing::deallocate::deallocate_tree;
 use art_writing::delete::{
@@ -124,10 +125,7 @@ impl<K: AsBytes + Drop, V: Drop, const P: usize> ByteMap<K, V, P> {
         ensures { option_copied result ≡ value_at K.bytes key_bytes.now self.now }
     {
         let leaf = search_unchecked(&self.store, self.root?, key_bytes)?;
-        let Some(leaf) = self.store.leaf(leaf) else {
-            unreachable!()
-        };
-        Some(&leaf.value)
+        Some(pair_at(&self.store, leaf).1)
     }
 
     /// The pair whose key is a prefix of the query. There is at most one.
@@ -136,32 +134,29 @@ impl<K: AsBytes + Drop, V: Drop, const P: usize> ByteMap<K, V, P> {
             first_of (match_of (of_key K.bytes) query.now self.now) }
     {
         let leaf = prefix_search_unchecked(&self.store, self.root?, query)?;
-        let Some(leaf) = self.store.leaf(leaf) else {
-            unreachable!()
-        };
-        Some((&leaf.key, &leaf.value))
+        Some(pair_at(&self.store, leaf))
     }
 
     /// The first pair.
     pub fn first_key_value(&self) -> Option<(&K, &V)>
         ensures { option_map deref_pair result ≡ first_of self.now }
     {
-        let leaf = minimum_unchecked(&self.store, self.root?);
-        let Some(leaf) = self.store.leaf(leaf) else {
-            unreachable!()
-        };
-        Some((&leaf.key, &leaf.value))
+        self.end_key_value(End::First)
     }
 
     /// The last pair.
     pub fn last_key_value(&self) -> Option<(&K, &V)>
         ensures { option_map deref_pair result ≡ last_of self.now }
     {
-        let leaf = maximum_unchecked(&self.store, self.root?);
-        let Some(leaf) = self.store.leaf(leaf) else {
-            unreachable!()
-        };
-        Some((&leaf.key, &leaf.value))
+        self.end_key_value(End::Last)
+    }
+
+    // The pair at an end.
+    fn end_key_value(&self, end: End) -> Option<(&K, &V)>
+        ensures { option_map deref_pair result ≡ end_of end self.now }
+    {
+        let (_, leaf) = walk_to_end(&self.store, self.root?, end);
+        Some(pair_at(&self.store, leaf))
     }
 
     /// The pairs in the order of their keys.
@@ -310,6 +305,20 @@ impl<K: AsBytes + fmt::Debug + Drop, V: fmt::Debug + Drop, const P: usize> fmt::
         }
         out.finish()
     }
+}
+
+// The pair of a leaf that is there.
+fn pair_at<K: AsBytes + Drop, V: Drop, const P: usize>(
+    store: &NodeStore<K, V, P>,
+    leaf: LeafPtr,
+) -> (&K, &V)
+    requires { IsSome (map.get store.now.leaves leaf) }
+    ensures { option_map pair_of (map.get store.now.leaves leaf) ≡ Some (deref_pair result) }
+{
+    let Some(leaf) = store.leaf(leaf) else {
+        unreachable!()
+    };
+    (&leaf.key, &leaf.value)
 }
 
 // Puts a pair into the tree, or its value to the equal key that is stored.

@@ -33,21 +33,15 @@ module _ {N A : Type 0} where
   AreLast [] = Unit {0}
   AreLast (f ∷ fs) = (f.right ≡ no_child) × AreLast fs
 
-  no_leaves_before : (fs : List (Frame N A)) → AreFirst fs → leaves_before fs ≡ []
-  no_leaves_before [] first = refl
-  no_leaves_before (f ∷ fs) first = rw (no_leaves_before fs first.1, first.0) refl
+  -- no leaf stands before the hole, and no pair
+  none_before : (fs : List (Frame N A)) → AreFirst fs → (leaves_before fs ≡ []) × (pairs_before fs ≡ [])
+  none_before [] first = (refl, refl)
+  none_before (f ∷ fs) first = let above = none_before fs first.1 in (rw (above.0, first.0) refl, rw (above.1, first.0) refl)
 
-  no_pairs_before : (fs : List (Frame N A)) → AreFirst fs → pairs_before fs ≡ []
-  no_pairs_before [] first = refl
-  no_pairs_before (f ∷ fs) first = rw (no_pairs_before fs first.1, first.0) refl
-
-  no_leaves_after : (fs : List (Frame N A)) → AreLast fs → leaves_after fs ≡ []
-  no_leaves_after [] last = refl
-  no_leaves_after (f ∷ fs) last = rw (no_leaves_after fs last.1, last.0) refl
-
-  no_pairs_after : (fs : List (Frame N A)) → AreLast fs → pairs_after fs ≡ []
-  no_pairs_after [] last = refl
-  no_pairs_after (f ∷ fs) last = rw (no_pairs_after fs last.1, last.0) refl
+  -- none stands after it
+  none_after : (fs : List (Frame N A)) → AreLast fs → (leaves_after fs ≡ []) × (pairs_after fs ≡ [])
+  none_after [] last = (refl, refl)
+  none_after (f ∷ fs) last = let above = none_after fs last.1 in (rw (above.0, last.0) refl, rw (above.1, last.0) refl)
 
 last_of-append : {X : Type 0} (xs : List X) (x : X) → last_of (xs ++ x ∷ []) ≡ Some x
 last_of-append [] x = refl
@@ -157,11 +151,11 @@ module _ {K V : Type 0} {side : List (Frame OpaqueNodePtr (K × V)) → Type 0} 
       let (x, at) = leaf_named s p d.node (d.named ∙ sym is) d.holds in
       let whole = ap (plug d.path) (sym at) ∙ d.whole in (
         ap (λ t. first_of (leaf_names t)) (sym whole) ∙ ap first_of (leaf_names-plug d.path (leaf (leaf_name p) x)) ∙
-            ap (λ ns. first_of (ns ++ leaf_name p ∷ [] ++ leaves_after d.path)) (no_leaves_before d.path first),
+            ap (λ ns. first_of (ns ++ leaf_name p ∷ [] ++ leaves_after d.path)) (none_before d.path first).0,
         (
           x,
           ap (λ t. first_of (pairs_of t)) (sym whole) ∙ ap first_of (pairs_of-plug d.path (leaf (leaf_name p) x)) ∙
-              ap (λ xs. first_of (xs ++ x ∷ [] ++ pairs_after d.path)) (no_pairs_before d.path first),
+              ap (λ xs. first_of (xs ++ x ∷ [] ++ pairs_after d.path)) (none_before d.path first).1,
           whole,
         ),
       )
@@ -170,8 +164,8 @@ module _ {K V : Type 0} {side : List (Frame OpaqueNodePtr (K × V)) → Type 0} 
   last_leaf last =
       let (x, at) = leaf_named s p d.node (d.named ∙ sym is) d.holds in
       let whole = ap (plug d.path) (sym at) ∙ d.whole in
-      let names = ap leaf_names (sym whole) ∙ leaf_names-plug d.path (leaf (leaf_name p) x) ∙ ap (λ ns. leaves_before d.path ++ leaf_name p ∷ [] ++ ns) (no_leaves_after d.path last) in
-      let pairs = ap pairs_of (sym whole) ∙ pairs_of-plug d.path (leaf (leaf_name p) x) ∙ ap (λ xs. pairs_before d.path ++ x ∷ [] ++ xs) (no_pairs_after d.path last) in (
+      let names = ap leaf_names (sym whole) ∙ leaf_names-plug d.path (leaf (leaf_name p) x) ∙ ap (λ ns. leaves_before d.path ++ leaf_name p ∷ [] ++ ns) (none_after d.path last).0 in
+      let pairs = ap pairs_of (sym whole) ∙ pairs_of-plug d.path (leaf (leaf_name p) x) ∙ ap (λ xs. pairs_before d.path ++ x ∷ [] ++ xs) (none_after d.path last).1 in (
         ap last_of names ∙ rw append-nil (last_of-append (leaves_before d.path) (leaf_name p)),
         (x, ap last_of pairs ∙ rw append-nil (last_of-append (pairs_before d.path) x), whole),
       )

@@ -188,6 +188,36 @@ module _ {K V : Type 0} (bytes : K × V → List ℕ) (P : ℕ) (s : Nodes K V) 
       (trail_sub (node_at s) bytes P layout [] place reach.steps laid.holds laid.radix
       (subst (λ n. IsTrail (node_at s) n reach.steps) (sym laid.named) reach.is_trail) (subst (λ n. IsReadAs (node_at s) bytes P [] n reach.steps place) (sym laid.named) reach.is_read))
 
+  -- An inner node that is reached, with its children.
+  record IsInner (place : List ℕ) (name : OpaqueNodePtr) (h : NodeHeader) (slots : List (ℕ × OpaqueNodePtr)) : Type 0 where
+    mark : OpaqueNodePtr
+    children : Subtrees OpaqueNodePtr (K × V)
+    named : mark ≡ name
+    holds : Holds (node_at s) (inner mark h children)
+    radix : IsRadix bytes P place (inner mark h children)
+    slots_are : slots ≡ slots_of children
+
+  reached_inner : {place : List ℕ} {name : OpaqueNodePtr} {h : NodeHeader} {slots : List (ℕ × OpaqueNodePtr)} → Reaches bytes P s root place name →
+      node_at s name ≡ Some (inner_node h slots) → IsInner place name h slots
+  reached_inner {place} {name} {h} {slots} reach there =
+      let sub = reached_sub reach in
+      go sub.tree sub.named sub.holds sub.radix
+    where
+      go : (t : Tree OpaqueNodePtr (K × V)) → name_of t ≡ name → Holds (node_at s) t → IsRadix bytes P place t → IsInner place name h slots
+      go (leaf n x) named holds radix = let e = ap (node_at s) named ∙ there in absurd cc
+      go (inner n k cs) named holds radix =
+          let e = ap (node_at s) named ∙ there in
+          let f = holds.0 in
+          let same : k ≡ h = cc in
+          record {
+            mark = n;
+            children = cs;
+            named = named;
+            holds = subst (λ z. Holds (node_at s) (inner n z cs)) same holds;
+            radix = subst (λ z. IsRadix bytes P place (inner n z cs)) same radix;
+            slots_are = cc;
+          }
+
   pub no_foreign_key : (place key : List ℕ) → HasForeignKey bytes P s root place key → ⊥
   no_foreign_key place key (name, x, (reach, there), is, off) =
       let sub = reached_sub reach in
@@ -195,20 +225,13 @@ module _ {K V : Type 0} (bytes : K × V → List ℕ) (P : ℕ) (s : Nodes K V) 
 
   pub stores_no_others : (place stored actual : List ℕ) → StoresOthers bytes P s root place stored actual → ⊥
   stores_no_others place stored actual (name, h, slots, (reach, there), more, (part, has, is, own, off)) =
-      let sub = reached_sub reach in
-      go sub.tree sub.named sub.holds sub.radix
-    where
-      go : (t : Tree OpaqueNodePtr (K × V)) → name_of t ≡ name → Holds (node_at s) t → IsRadix bytes P place t → ⊥
-      go (leaf n x) named holds radix = let e = ap (node_at s) named ∙ there in absurd cc
-      go (inner n k cs) named holds radix =
-          let e = ap (node_at s) named ∙ there in
-          let f = holds.0 in
-          let same : k ≡ h = cc in
-          let whole : part ≡ radix.0 = read_whole (node_at s) bytes P n k cs place part holds radix (subst (λ m. HasPrefix (node_at s) bytes P (length place) m part) (sym named) has) in
-          let long : length radix.0 ≡ h.length_of = sym (ap (λ z. z.length_of) radix.1) ∙ ap (λ z. z.length_of) same in
-          let kept : stored ≡ take P radix.0 = sym is ∙ sym (ap (λ z. z.stored) same) ∙ ap (λ z. z.stored) radix.1 in
-          let count : length stored ≡ P = ap length kept ∙ length-take-le P radix.0 (omega (arith, long, more)) in
-          off (sym own ∙ ap₂ (λ i l. take i l) count whole ∙ sym kept)
+      let node = reached_inner reach there in
+      let part_is : part ≡ node.radix.0 =
+      read_whole (node_at s) bytes P node.mark h node.children place part node.holds node.radix (subst (λ m. HasPrefix (node_at s) bytes P (length place) m part) (sym node.named) has) in
+      let long : length node.radix.0 ≡ h.length_of = sym (ap (λ z. z.length_of) node.radix.1) in
+      let kept : stored ≡ take P node.radix.0 = sym is ∙ ap (λ z. z.stored) node.radix.1 in
+      let count : length stored ≡ P = ap length kept ∙ length-take-le P node.radix.0 (omega (arith, long, more)) in
+      off (sym own ∙ ap₂ (λ i l. take i l) count part_is ∙ sym kept)
 
   pub no_wrong_links : (key : List ℕ) (expected actual : Links OpaqueNodePtr) → HasWrongLinks bytes P s root key expected actual → ⊥
   no_wrong_links key expected actual (other, before, after, name, x, is, names, there, key_is, wanted, own, off) =
@@ -222,19 +245,10 @@ module _ {K V : Type 0} (bytes : K × V → List ℕ) (P : ℕ) (s : Nodes K V) 
   -- a node has as many children as its kind has at least
   pub no_wrong_count : (place : List ℕ) (kind : NodeType) (n : ℕ) → HasWrongCount bytes P s root place kind n → ⊥
   no_wrong_count place kind n (name, h, slots, (reach, there), kind_is, count, few) =
-      let sub = reached_sub reach in
-      go sub.tree sub.named sub.holds sub.radix
-    where
-      go : (t : Tree OpaqueNodePtr (K × V)) → name_of t ≡ name → Holds (node_at s) t → IsRadix bytes P place t → ⊥
-      go (leaf m x) named holds radix = let e = ap (node_at s) named ∙ there in absurd cc
-      go (inner m k cs) named holds radix =
-          let e = ap (node_at s) named ∙ there in
-          let f = holds.0 in
-          let same : k ≡ h = cc in
-          let slots_are : slots ≡ slots_of cs = cc in
-          let many : length (bytes_of cs) ≡ n = sym (length-slots_of cs) ∙ ap length (sym slots_are) ∙ count in
-          let own : kind ≡ kind_of n = sym kind_is ∙ ap (λ z. z.kind) (sym same) ∙ ap (λ z. z.kind) radix.1 ∙ ap kind_of many in
-          enough kind n own (subst (λ i. 2 ≤ i) many radix.2) few
+      let node = reached_inner reach there in
+      let many : length (bytes_of node.children) ≡ n = sym (length-slots_of node.children) ∙ ap length (sym node.slots_are) ∙ count in
+      let own : kind ≡ kind_of n = sym kind_is ∙ ap (λ z. z.kind) node.radix.1 ∙ ap kind_of many in
+      enough kind n own (subst (λ i. 2 ≤ i) many node.radix.2) few
 
   -- a name that is reached is there
   pub no_dead_node : (place : List ℕ) (name : OpaqueNodePtr) → Reaches bytes P s root place name → node_at s name ≡ None → ⊥

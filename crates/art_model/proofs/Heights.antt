@@ -1,7 +1,9 @@
 -- heights read off a store, and why the store's count of inner nodes is enough steps
 use Rattle.std.proofs.Common.{◌≡◌, ◌≢◌, ℕ, suc, zero, ◌-◌, ◌≤◌, max, List, [], ◌∷◌, length, refl, ap, ap₂, sym, ◌∙◌, arith, length-append, Option, true, cond, is_some}
 use Rattle.std.specs.List.{AllByRecursion as Each}
+use Rattle.std.specs.Cmp.{IsTotalOrder}
 use Rattle.std.specs.FinMap as map
+use Rattle.std.specs.declared.cmp.Ordering.{Ordering}
 use Rattle.std.proofs.lemmas.Bool.{false≢true}
 use Rattle.art_inner.specs.Inner.{Inner}
 use Rattle.art_nodes.specs.Nodes.{Nodes}
@@ -50,17 +52,18 @@ module _ {N A : Type 0} where
 same_name : (n k : OpaqueNodePtr) → as_inner n ≡ as_inner k → n ≡ k
 same_name n k e = ap (λ p. let r : OpaqueNodePtr = record { kind = p.kind; slot = p.slot } in r) e
 
-one_less : (m : map.FinMap inner_cmp Inner) (p : InnerPtr) → is_some (map.get m p) ≡ true → suc (map.len (map.remove m p)) ≡ map.len m
-one_less m p there =
-    let e : map.len (map.remove m p) ≡ map.len m - 1 = map.len-remove inner_cmp_total m p ∙ ap (λ b. cond b (map.len m - 1) (map.len m)) there in
-    let some : map.len m ≢ 0 = λ z. false≢true (sym (ap is_some (map.get-empty inner_cmp p)) ∙ ap (λ n. is_some (map.get n p)) (sym (map.empty_of_len m z)) ∙ there) in
+-- a map is one longer than without a key that it has
+pub one_less : {Key X : Type 0} {cmp : Key → Key → Ordering} → IsTotalOrder cmp → (m : map.FinMap cmp X) (p : Key) → is_some (map.get m p) ≡ true → suc (map.len (map.remove m p)) ≡ map.len m
+one_less {cmp = cmp} total m p there =
+    let e : map.len (map.remove m p) ≡ map.len m - 1 = map.len-remove total m p ∙ ap (λ b. cond b (map.len m - 1) (map.len m)) there in
+    let some : map.len m ≢ 0 = λ z. false≢true (sym (ap is_some (map.get-empty cmp p)) ∙ ap (λ n. is_some (map.get n p)) (sym (map.empty_of_len m z)) ∙ there) in
     omega arith
 
 -- so a map of inner nodes has at least as many as a layout
 pub enough_inners : (ns : List OpaqueNodePtr) (m : map.FinMap inner_cmp Inner) → AreDistinct ns → Each (λ n. is_some (map.get m (as_inner n)) ≡ true) ns → length ns ≤ map.len m
 enough_inners [] m d h = omega arith
 enough_inners (n ∷ ns) m d h =
-    let less = one_less m (as_inner n) h.0 in
+    let less = one_less inner_cmp_total m (as_inner n) h.0 in
     let kept = go ns d.0 h.1 in
     let ih = enough_inners ns (map.remove m (as_inner n)) d.1 kept in
     omega arith

@@ -67,24 +67,25 @@ module _ {N A : Type 0} where
   leaf_names-plug (f ∷ fs) t = leaf_names-plug fs (fill f t) ∙ simp (leaf_names_below-join, append_assoc)
 
   mutual
-    -- the pairs of the entries are those of the tree
-    pub pairs_of-leaves : (t : Tree N A) → map (λ e. e.0) (entries_of t) ≡ pairs_of t
-    pairs_of-leaves (leaf n x) = refl
-    pairs_of-leaves (inner n h cs) = pairs_below-leaves cs
+    -- the pairs of the entries are those of the tree, and their names those of its leaves
+    entries_are : (t : Tree N A) → (map (λ e. e.0) (entries_of t) ≡ pairs_of t) × (map (λ e. e.1) (entries_of t) ≡ leaf_names t)
+    entries_are (leaf n x) = (refl, refl)
+    entries_are (inner n h cs) = entries_below_are cs
 
-    pub pairs_below-leaves : (cs : Subtrees N A) → map (λ e. e.0) (entries_below cs) ≡ pairs_below cs
-    pairs_below-leaves no_child = refl
-    pairs_below-leaves (child b t cs) = map-append (λ e. e.0) (entries_of t) (entries_below cs) ∙ ap₂ (λ (xs ys : List A). xs ++ ys) (pairs_of-leaves t) (pairs_below-leaves cs)
+    entries_below_are : (cs : Subtrees N A) → (map (λ e. e.0) (entries_below cs) ≡ pairs_below cs) × (map (λ e. e.1) (entries_below cs) ≡ leaf_names_below cs)
+    entries_below_are no_child = (refl, refl)
+    entries_below_are (child b t cs) =
+        let own = entries_are t in
+        let others = entries_below_are cs in (
+          map-append (λ e. e.0) (entries_of t) (entries_below cs) ∙ ap₂ (λ (xs ys : List A). xs ++ ys) own.0 others.0,
+          map-append (λ e. e.1) (entries_of t) (entries_below cs) ∙ ap₂ (λ (ks ls : List N). ks ++ ls) own.1 others.1,
+        )
 
-  mutual
-    -- and their names are those of the leaves
-    pub leaf_names-leaves : (t : Tree N A) → map (λ e. e.1) (entries_of t) ≡ leaf_names t
-    leaf_names-leaves (leaf n x) = refl
-    leaf_names-leaves (inner n h cs) = leaf_names_below-leaves cs
+  pub pairs_of-leaves : (t : Tree N A) → map (λ e. e.0) (entries_of t) ≡ pairs_of t
+  pairs_of-leaves t = (entries_are t).0
 
-    pub leaf_names_below-leaves : (cs : Subtrees N A) → map (λ e. e.1) (entries_below cs) ≡ leaf_names_below cs
-    leaf_names_below-leaves no_child = refl
-    leaf_names_below-leaves (child b t cs) = map-append (λ e. e.1) (entries_of t) (entries_below cs) ∙ ap₂ (λ (ks ls : List N). ks ++ ls) (leaf_names-leaves t) (leaf_names_below-leaves cs)
+  pub leaf_names-leaves : (t : Tree N A) → map (λ e. e.1) (entries_of t) ≡ leaf_names t
+  leaf_names-leaves t = (entries_are t).1
 
   mutual
     -- there are as many leaves as pairs

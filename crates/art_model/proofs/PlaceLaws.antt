@@ -57,7 +57,7 @@ module _ {N A : Type 0} (bytes : A → List ℕ) (P : ℕ) where
   all_go_on : (Q : ℕ → Type 0) (cs : Subtrees N A) (front : List ℕ) (d : ℕ) → ((b : ℕ) → d ≡ length (front ++ b ∷ [])) → AreRadix bytes P front cs →
       Each Q (bytes_of cs) → Each (GoesOn front Q) (places_below bytes d cs)
   all_go_on Q cs front d e h q =
-      Each-weaker (Under bytes P front cs) (GoesOn front Q) (λ p u. (u.0, each_in Q u.0 (bytes_of cs) q u.1, u.2)) (places_below bytes d cs) (places_under bytes P cs front d e h)
+      Each-weaker (Under (λ (p : List ℕ × N). p.0) front cs) (GoesOn front Q) (λ p u. (u.0, each_in Q u.0 (bytes_of cs) q u.1, u.2)) (places_below bytes d cs) (places_under bytes P cs front d e h)
 
   before_below : (place part : List ℕ) (p q : List ℕ × N) → p.0 ≡ place → GoesOn (place ++ part) (λ c. Unit {0}) q → Before p q
   before_below place part p q e (c, u, (r, f)) = (order_is_decided p.0 q.0).1 (inl (first part refl))

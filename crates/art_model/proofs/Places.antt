@@ -25,6 +25,23 @@ taken place k (r, e) = rw e (take_at place r (length place) refl)
 pub deeper : (place part : List ℕ) (b n : ℕ) → n ≡ length part → length place + n + 1 ≡ length ((place ++ part) ++ b ∷ [])
 deeper place part b n e = simp length-append (omega arith)
 
+module _ {N A E : Type 0} (way : E → List ℕ) where
+  -- the way goes on after the front with the byte of a child
+  abbrev pub Under : List ℕ → Subtrees N A → E → Type 0
+  Under front cs e = (c : ℕ) × IsIn c (bytes_of cs) × IsFront (front ++ c ∷ []) (way e)
+
+  -- ways below a node begin with its place
+  pub under_front : (place part : List ℕ) (cs : Subtrees N A) (es : List E) → Each (Under (place ++ part) cs) es → Each (λ e. IsFront place (way e)) es
+  under_front place part cs es below =
+      Each-weaker (Under (place ++ part) cs) (λ e. IsFront place (way e)) (λ e u. front_cut place part (way e) (front_cut (place ++ part) (u.0 ∷ []) (way e) u.2)) es below
+
+  -- ways below a first child, and below the others
+  pub under_child : (front : List ℕ) (b : ℕ) (t : Tree N A) (cs : Subtrees N A) (own others : List E) → Each (λ e. IsFront (front ++ b ∷ []) (way e)) own → Each (Under front cs) others →
+      Each (Under front (child b t cs)) (own ++ others)
+  under_child front b t cs own others first rest = Each-append (Under front (child b t cs)) own others
+      (Each-weaker (λ e. IsFront (front ++ b ∷ []) (way e)) (Under front (child b t cs)) (λ e f. (b, inl refl, f)) own first)
+      (Each-weaker (Under front cs) (Under front (child b t cs)) (λ e u. (u.0, inr u.1, u.2)) others rest)
+
 module _ {N A : Type 0} (bytes : A → List ℕ) (P : ℕ) where
   mutual
     -- a place is a front of the least key below it
@@ -47,27 +64,21 @@ module _ {N A : Type 0} (bytes : A → List ℕ) (P : ℕ) where
       let len : h.length_of ≡ length part = ap (λ z. z.length_of) e in
       rw (len, after_front place (least_below bytes cs) (part ++ r) (f ∙ append_assoc place part r)) (take_at part r (length part) refl)
 
-  -- the place goes on after the front with the byte of a child
-  abbrev pub Under : List ℕ → Subtrees N A → (List ℕ × N) → Type 0
-  Under front cs p = (c : ℕ) × IsIn c (bytes_of cs) × IsFront (front ++ c ∷ []) p.0
-
   -- all places below a node begin with its own, and go on with the byte of a child
   mutual
     pub places_way : (t : Tree N A) (place : List ℕ) → IsRadix bytes P place t → Each (λ p. IsFront place p.0) (places bytes (length place) t)
     places_way (leaf n x) place h = (([], place_is (leaf n x) place h ∙ sym (append-nil place)), tt)
     places_way (inner n h cs) place (part, e, two, up, below) = (
       ([], taken place (least_below bytes cs) (front_cut place part (least_below bytes cs) (least_way_below cs (place ++ part) two below)) ∙ sym (append-nil place)),
-      Each-weaker (Under (place ++ part) cs) (λ p. IsFront place p.0) (λ p u. front_cut place part p.0 (front_cut (place ++ part) (u.0 ∷ []) p.0 u.2))
-          (places_below bytes (length place + h.length_of + 1) cs)
+      under_front (λ (p : List ℕ × N). p.0) place part cs (places_below bytes (length place + h.length_of + 1) cs)
           (places_under cs (place ++ part) (length place + h.length_of + 1) (λ b. deeper place part b h.length_of (ap (λ z. z.length_of) e)) below),
     )
 
-    pub places_under : (cs : Subtrees N A) (front : List ℕ) (d : ℕ) → ((b : ℕ) → d ≡ length (front ++ b ∷ [])) → AreRadix bytes P front cs → Each (Under front cs) (places_below bytes d cs)
+    pub places_under : (cs : Subtrees N A) (front : List ℕ) (d : ℕ) → ((b : ℕ) → d ≡ length (front ++ b ∷ [])) → AreRadix bytes P front cs →
+        Each (Under (λ (p : List ℕ × N). p.0) front cs) (places_below bytes d cs)
     places_under no_child front d e h = tt
-    places_under (child b t cs) front d e h = Each-append (Under front (child b t cs)) (places bytes d t) (places_below bytes d cs)
-        (Each-weaker (λ p. IsFront (front ++ b ∷ []) p.0) (Under front (child b t cs)) (λ p f. (b, inl refl, f)) (places bytes d t)
-        (subst (λ z. Each (λ p. IsFront (front ++ b ∷ []) p.0) (places bytes z t)) (sym (e b)) (places_way t (front ++ b ∷ []) h.0)))
-        (Each-weaker (Under front cs) (Under front (child b t cs)) (λ p u. (u.0, inr u.1, u.2)) (places_below bytes d cs) (places_under cs front d e h.1))
+    places_under (child b t cs) front d e h = under_child (λ (p : List ℕ × N). p.0) front b t cs (places bytes d t) (places_below bytes d cs)
+        (subst (λ z. Each (λ p. IsFront (front ++ b ∷ []) p.0) (places bytes z t)) (sym (e b)) (places_way t (front ++ b ∷ []) h.0)) (places_under cs front d e h.1)
 
   -- a place that is a front of the key is no longer than n
   abbrev NoLonger : List ℕ → ℕ → (List ℕ × N) → Type 0
@@ -76,7 +87,7 @@ module _ {N A : Type 0} (bytes : A → List ℕ) (P : ℕ) where
   -- children whose bytes the key does not go on with
   pub beside : (cs : Subtrees N A) (front key : List ℕ) (d n : ℕ) → ((b : ℕ) → d ≡ length (front ++ b ∷ [])) → AreRadix bytes P front cs →
       Each (λ b. IsFront (front ++ b ∷ []) key → ⊥) (bytes_of cs) → Each (NoLonger key n) (places_below bytes d cs)
-  beside cs front key d n e h off = Each-weaker (Under front cs) (NoLonger key n)
+  beside cs front key d n e h off = Each-weaker (Under (λ (p : List ℕ × N). p.0) front cs) (NoLonger key n)
       (λ p u k. absurd (each_in (λ b. IsFront (front ++ b ∷ []) key → ⊥) u.0 (bytes_of cs) off u.1 (front_trans (front ++ u.0 ∷ []) p.0 key u.2 k)))
       (places_below bytes d cs) (places_under cs front d e h)
 

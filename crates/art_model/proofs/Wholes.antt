@@ -9,11 +9,11 @@ use Rattle.art_model.specs.Pairs.{Pairwise}
 use Rattle.art_model.specs.Paths.{Frame, fill, plug, IsPath}
 use Rattle.art_model.specs.Places.{least_below, inner_nodes, inner_nodes_below}
 use Rattle.art_model.specs.Footprints.{IsIn}
-use Rattle.art_model.proofs.Lists.{Each-append, Each-weaker, each_in, front_cut}
+use Rattle.art_model.proofs.Lists.{Each-weaker, each_in}
 use Rattle.art_model.proofs.Pairwises.{Pairwise-append}
 use Rattle.art_model.proofs.Entries.{Keep, same_entry, keep_among, keep_between}
 use Rattle.art_model.proofs.Paths.{fill_radix, plug_radix}
-use Rattle.art_model.proofs.Places.{least_way_below, taken, deeper, one_way}
+use Rattle.art_model.proofs.Places.{Under, least_way_below, taken, deeper, one_way, under_front, under_child}
 
 -- the kind, whole bytes and name of an inner node
 abbrev pub Entry : Type 0 → Type 0
@@ -46,27 +46,21 @@ module _ {N A : Type 0} (bytes : A → List ℕ) (P : ℕ) where
       let l : length place + h.length_of ≡ length (place ++ part) = ap (λ z. length place + z) (ap (λ z. z.length_of) e) ∙ sym (length-append place part) in
       rw l (taken (place ++ part) (least_below bytes cs) (least_way_below bytes P cs (place ++ part) two below))
 
-  -- the whole bytes go on after the front with the byte of a child
-  abbrev Under : List ℕ → Subtrees N A → Entry N → Type 0
-  Under front cs e = (c : ℕ) × IsIn c (bytes_of cs) × IsFront (front ++ c ∷ []) e.1
-
   -- all begin with the place, and below a node they go on with the byte of a child
   mutual
     pub whole_way : (t : Tree N A) (place : List ℕ) → IsRadix bytes P place t → Each (λ e. IsFront place e.1) (inner_nodes bytes (length place) t)
     whole_way (leaf n x) place h = tt
     whole_way (inner n h cs) place (part, e, two, up, below) = (
       (part, whole_is h place part (length (bytes_of cs)) cs e two below),
-      Each-weaker (Under (place ++ part) cs) (λ e. IsFront place e.1) (λ e u. front_cut place part e.1 (front_cut (place ++ part) (u.0 ∷ []) e.1 u.2))
-          (inner_nodes_below bytes (length place + h.length_of + 1) cs)
+      under_front (λ (e : Entry N). e.1) place part cs (inner_nodes_below bytes (length place + h.length_of + 1) cs)
           (whole_under cs (place ++ part) (length place + h.length_of + 1) (λ b. deeper place part b h.length_of (ap (λ z. z.length_of) e)) below),
     )
 
-    pub whole_under : (cs : Subtrees N A) (front : List ℕ) (d : ℕ) → ((b : ℕ) → d ≡ length (front ++ b ∷ [])) → AreRadix bytes P front cs → Each (Under front cs) (inner_nodes_below bytes d cs)
+    pub whole_under : (cs : Subtrees N A) (front : List ℕ) (d : ℕ) → ((b : ℕ) → d ≡ length (front ++ b ∷ [])) → AreRadix bytes P front cs →
+        Each (Under (λ (e : Entry N). e.1) front cs) (inner_nodes_below bytes d cs)
     whole_under no_child front d e h = tt
-    whole_under (child b t cs) front d e h = Each-append (Under front (child b t cs)) (inner_nodes bytes d t) (inner_nodes_below bytes d cs)
-        (Each-weaker (λ e. IsFront (front ++ b ∷ []) e.1) (Under front (child b t cs)) (λ e f. (b, inl refl, f)) (inner_nodes bytes d t)
-        (subst (λ z. Each (λ e. IsFront (front ++ b ∷ []) e.1) (inner_nodes bytes z t)) (sym (e b)) (whole_way t (front ++ b ∷ []) h.0)))
-        (Each-weaker (Under front cs) (Under front (child b t cs)) (λ e u. (u.0, inr u.1, u.2)) (inner_nodes_below bytes d cs) (whole_under cs front d e h.1))
+    whole_under (child b t cs) front d e h = under_child (λ (e : Entry N). e.1) front b t cs (inner_nodes bytes d t) (inner_nodes_below bytes d cs)
+        (subst (λ z. Each (λ e. IsFront (front ++ b ∷ []) e.1) (inner_nodes bytes z t)) (sym (e b)) (whole_way t (front ++ b ∷ []) h.0)) (whole_under cs front d e h.1)
 
   -- no two inner nodes have the same whole bytes
   mutual
@@ -76,7 +70,7 @@ module _ {N A : Type 0} (bytes : A → List ℕ) (P : ℕ) where
         let w = whole_is h place part (length (bytes_of cs)) cs e two below in
         let d = length place + h.length_of + 1 in
         let depth = λ (b : ℕ). deeper place part b h.length_of (ap (λ z. z.length_of) e) in (
-          Each-weaker (Under (place ++ part) cs) (λ f. take (length place + h.length_of) (least_below bytes cs) ≢ f.1)
+          Each-weaker (Under (λ (e : Entry N). e.1) (place ++ part) cs) (λ f. take (length place + h.length_of) (least_below bytes cs) ≢ f.1)
               (λ f u same. let l = ap length (sym w ∙ same ∙ u.2.1) in absurd (omega (arith, simp length-append at l))) (inner_nodes_below bytes d cs) (whole_under cs (place ++ part) d depth below),
           whole_differ_below cs (place ++ part) d depth up below,
         )
@@ -88,7 +82,7 @@ module _ {N A : Type 0} (bytes : A → List ℕ) (P : ℕ) where
         let own = subst (λ z. Each (λ e. IsFront (front ++ b ∷ []) e.1) (inner_nodes bytes z t)) (sym (e b)) (whole_way t (front ++ b ∷ []) h.0) in
         Pairwise-append Differ (inner_nodes bytes d t) (inner_nodes_below bytes d cs)
         (subst (λ z. Pairwise Differ (inner_nodes bytes z t)) (sym (e b)) (whole_differ t (front ++ b ∷ []) h.0)) (whole_differ_below cs front d e up.1 h.1)
-        (Each-weaker (λ e. IsFront (front ++ b ∷ []) e.1) (λ e. Each (Differ e) (inner_nodes_below bytes d cs)) (λ f k. Each-weaker (Under front cs) (Differ f)
+        (Each-weaker (λ e. IsFront (front ++ b ∷ []) e.1) (λ e. Each (Differ e) (inner_nodes_below bytes d cs)) (λ f k. Each-weaker (Under (λ (e : Entry N). e.1) front cs) (Differ f)
         (λ g u same. let p = one_way front b u.0 g.1 (subst (λ z. IsFront (front ++ b ∷ []) z) same k) u.2 in let lt = each_in (λ c. b < c) u.0
         (bytes_of cs) up.0 u.1 in absurd (omega arith)) (inner_nodes_below bytes d cs) (whole_under cs front d e h.1)) (inner_nodes bytes d t) own)
 

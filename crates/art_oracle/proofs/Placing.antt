@@ -28,7 +28,7 @@ use Rattle.art_model.proofs.Lists.{Each-weaker, after_front}
 use Rattle.art_model.proofs.Keys.{precedes_rest, precedes_apart, before_apart, cmp-append}
 use Rattle.art_model.proofs.Build.{go_on, at_byte}
 use Rattle.art_model.proofs.Views.{held_in_inner}
-use Rattle.art_oracle.specs.Build.{pairs_at, leaf_pair, leaf_key, Ready, ReadyBelow, Built, GoesOn, started, last_from, Starts, count_groups, KeepsAllBut, BuiltUnder}
+use Rattle.art_oracle.specs.Build.{pairs_at, leaf_pair, leaf_key, Ready, ReadyBelow, Built, GoesOn, started, last_from, Starts, count_groups, KeepsAllBut, BuiltUnder, ReadyBelow, AreBelow}
 use Rattle.art_oracle.specs.Built.{KeepsNodes}
 use Rattle.art_oracle.proofs.Kept.{name_cases, others_held, was_free}
 use Rattle.art_oracle.proofs.Written.{inner_is_used}
@@ -341,3 +341,36 @@ module _ {K V : Type 0} (bytes : K → List ℕ) (store : finite.FinMap leaf_cmp
           pairs_are = e.pairs_are;
           differ = p.differ;
         }
+
+-- A node that was placed for leaves, and gets its children.
+module _ {K V : Type 0} (bytes : K → List ℕ) (P : ℕ) (old mid : Nodes K V) (name : InnerPtr) {way : List ℕ} {leaves : List LeafPtr} {depth at : ℕ} {node : Inner}
+    (same : mid.leaves ≡ old.leaves) (placed : mid.inners ≡ finite.insert old.inners name node) (s : Starts bytes P old.leaves way leaves depth at node) where
+  pub two_below : 2 ≤ count_groups bytes old.leaves leaves (length (way ++ s.part))
+  two_below = rw s.pairs_are (two_groups (byte_at (of_key bytes) (length (way ++ s.part))) s.x (s.y ∷ s.ys) s.differ)
+
+  pub placed_there : finite.get mid.inners name ≡ Some node
+  placed_there = ap (λ m. finite.get m name) placed ∙ inner_here old.inners name node
+
+  pub placed_childless : AreBelow bytes mid.leaves leaves at node
+  placed_childless = rw s.node_is tt
+
+  pub placed_ready : ReadyBelow bytes mid.leaves (way ++ s.part) leaves at
+  placed_ready = rw same s.below
+
+  module _ {new : Nodes K V} (fresh : finite.get old.inners name ≡ None) (kind : name.kind ≡ kind_of (count_groups bytes old.leaves leaves at)) (kept : KeepsAllBut mid new name)
+      (built : (front : List ℕ) (n : Inner) → ReadyBelow bytes mid.leaves front leaves at → finite.get mid.inners name ≡ Some n → AreBelow bytes mid.leaves leaves at n →
+      BuiltUnder bytes P front leaves mid new name n) where
+    its_kind : name.kind ≡ kind_of (count_groups bytes old.leaves leaves (length (way ++ s.part)))
+    its_kind = kind ∙ ap (λ m. kind_of (count_groups bytes old.leaves leaves m)) (sym s.below.depth_is)
+
+    its_children : BuiltUnder bytes P (way ++ s.part) leaves mid new name (started P s.part)
+    its_children =
+        subst (λ d. BuiltUnder bytes P (way ++ s.part) leaves mid new name d) s.node_is (built (way ++ s.part) node placed_ready placed_there placed_childless)
+
+    pub finished_built : Built bytes P way leaves old new (inner_name name)
+    finished_built =
+        node_built bytes P old mid new way s.part leaves name same (placed ∙ ap (finite.insert old.inners name) s.node_is) fresh its_kind two_below kept its_children
+
+    pub finished_kept : KeepsNodes old new
+    finished_kept =
+        node_kept bytes P old mid new way s.part leaves name same (placed ∙ ap (finite.insert old.inners name) s.node_is) fresh its_kind two_below kept its_children

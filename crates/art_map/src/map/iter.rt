@@ -3,6 +3,7 @@ ghost use Rattle.std.specs.Prelude.{◌≡◌, length};
 ghost use Rattle.std.specs.Iterator.{at_most};
 ghost use Rattle.art_map.specs.MapItems.{IsWalk, TakesFirst, TakesLast, pairs_left};
 
+use super::pair_at;
 use art_nodes::node::AsBytes;
 use art_nodes::store::NodeStore;
 use art_reading::iterator::RawIterator;
@@ -34,20 +35,14 @@ impl<K: AsBytes + Drop, V: Drop, const P: usize> Leaves<K, V> for NodeStore<K, V
 
     fn step(&self, walk: &mut RawIterator, len: &mut usize) -> Option<(&K, &V)> {
         let name = walk.next(self)?;
-        let Some(leaf) = self.leaf(name) else {
-            unreachable!()
-        };
         *len -= 1;
-        Some((&leaf.key, &leaf.value))
+        Some(pair_at(self, name))
     }
 
     fn step_back(&self, walk: &mut RawIterator, len: &mut usize) -> Option<(&K, &V)> {
         let name = walk.next_back(self)?;
-        let Some(leaf) = self.leaf(name) else {
-            unreachable!()
-        };
         *len -= 1;
-        Some((&leaf.key, &leaf.value))
+        Some(pair_at(self, name))
     }
 }
 

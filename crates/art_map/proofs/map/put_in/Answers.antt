@@ -1,70 +1,58 @@
-use Rattle.std.proofs.Common.{◌≡◌, ◌+◌, rules, refl, ap, sym, ◌∙◌, subst, arith, true, false}
+use Rattle.std.proofs.Common.{◌≡◌, rules, refl, ap, sym, ◌∙◌, subst, arith, true, Some}
 use Rattle.std.proofs.lemmas.Bool.{false≢true}
 use Rattle.art_model.specs.Canonical.{IsCanonicalTree}
-use Rattle.art_model.specs.Pairs.{of_key, is_conflict, put_reply}
+use Rattle.art_model.specs.Pairs.{of_key, is_conflict}
 use Rattle.art_writing.specs.Points.{AnswersTo}
 use Rattle.art_writing.proofs.KeysFound.{conflict_new, not_false}
 use Rattle.art_writing.proofs.Unstored.{refused_new}
-use Rattle.art_map.specs.MapPairs.{HoldsPairs, pairs_at}
+use Rattle.art_map.specs.MapPairs.{pairs_at}
 use Rattle.art_map.proofs.Enough.{enough}
-use Rattle.art_map.proofs.Puts.{at_root, stays, left_holds, one_more, as_many, none_back, some_back}
+use Rattle.art_map.proofs.Puts.{accepted, at_some, left_holds, pair_more, same_many, stays}
 use Rattle.art_map.proofs.map.put_in.Goals as goal
 
 pub returns-in-Err-Memory : goal.returns-in-Err-Memory
 returns-in-Err-Memory g c =
     let bytes = of_key g.K.AsBytes.bytes in
     let pairs = pairs_at c.args.store.now c.args.root.now in
-    let has = at_root bytes g.row.P (subst (λ root. HoldsPairs bytes g.row.P c.args.store.now root c.args.len.now pairs) c.in-Some.is c.requires) in
+    let has = at_some bytes g.row.P c.in-Some.is c.requires in
     let accepted = c.in-Err-Memory.ensures.accepted pairs has.layout has.by in
     let related = not_false (is_conflict bytes c.as_bytes.result.now pairs) (λ free. absurd (false≢true (accepted.1 free))) in
     (c.requires, (refl, refl, conflict_new bytes (g.K.AsBytes.bytes c.args.key) pairs has.by.is_map (subst (λ key. is_conflict bytes key pairs ≡ true) c.as_bytes.ensures related)))
 
 pub one_more-requires : goal.one_more-requires
 one_more-requires g c =
-    let bytes = of_key g.K.AsBytes.bytes in
-    let pairs = pairs_at c.args.store.now c.args.root.now in
-    let has = at_root bytes g.row.P (subst (λ root. HoldsPairs bytes g.row.P c.args.store.now root c.args.len.now pairs) c.in-Some.is c.requires) in
-    let here = subst (λ n. IsCanonicalTree bytes g.row.P c.args.store.now n pairs has.layout) (sym c.in-Ok-search_for_insert_point.ensures.root) has.by in
-    let none = none_back (put_reply bytes (c.args.key, c.args.value) pairs) (sym (c.in-Ok-apply.ensures.replaced pairs has.layout here) ∙ c.in_default-existing_leaf.is) in
-    let more = one_more g.K.AsBytes.bytes (c.args.key, c.args.value) pairs has.by.is_map none in
-    let most = enough (c.in-Ok-apply.ensures.canonical pairs has.layout here).1 in
-    let len = has.len_is in
+    let has = at_some (of_key g.K.AsBytes.bytes) g.row.P (c.in-Some.is ∙ ap Some (sym c.in-Ok-search_for_insert_point.ensures.root)) c.requires in
+    let more = pair_more g.K.AsBytes.bytes g.row.P (c.args.key, c.args.value) has c.in-Ok-apply.ensures.replaced c.in_default-existing_leaf.is in
+    let counted = more.1 in
+    let most = enough (c.in-Ok-apply.ensures.canonical _ has.layout has.by).1 in
     (search rules, omega arith)
 
 pub returns-in_default-existing_leaf : goal.returns-in_default-existing_leaf
 returns-in_default-existing_leaf g c =
-    let bytes = of_key g.K.AsBytes.bytes in
-    let pairs = pairs_at c.args.store.now c.args.root.now in
-    let has = at_root bytes g.row.P (subst (λ root. HoldsPairs bytes g.row.P c.args.store.now root c.args.len.now pairs) c.in-Some.is c.requires) in
-    let here = subst (λ n. IsCanonicalTree bytes g.row.P c.args.store.now n pairs has.layout) (sym c.in-Ok-search_for_insert_point.ensures.root) has.by in
-    let none = none_back (put_reply bytes (c.args.key, c.args.value) pairs) (sym (c.in-Ok-apply.ensures.replaced pairs has.layout here) ∙ c.in_default-existing_leaf.is) in
-    let more = one_more g.K.AsBytes.bytes (c.args.key, c.args.value) pairs has.by.is_map none in (
-      left_holds bytes g.row.P has (c.in-Ok-apply.ensures.canonical pairs has.layout here)
-          (c.in-Ok-apply.ensures.kept pairs has.layout here) (c.one_more.ensures ∙ ap (λ n. n + 1) has.len_is ∙ sym more),
-      sym none,
-      subst (λ key. is_conflict bytes key pairs ≡ false) c.as_bytes.ensures ((c.in-Ok-search_for_insert_point.ensures.accepted pairs has.layout has.by).0 refl),
+    let has = at_some (of_key g.K.AsBytes.bytes) g.row.P (c.in-Some.is ∙ ap Some (sym c.in-Ok-search_for_insert_point.ensures.root)) c.requires in
+    let more = pair_more g.K.AsBytes.bytes g.row.P (c.args.key, c.args.value) has c.in-Ok-apply.ensures.replaced c.in_default-existing_leaf.is in (
+      left_holds (of_key g.K.AsBytes.bytes) g.row.P has (c.in-Ok-apply.ensures.canonical _ has.layout has.by) (c.in-Ok-apply.ensures.kept _ has.layout has.by) (c.one_more.ensures ∙ sym more.1),
+      sym more.0,
+      accepted g.K.AsBytes.bytes g.row.P (c.args.key, c.args.value) has c.in-Ok-search_for_insert_point.ensures.root c.as_bytes.ensures
+          (λ pairs layout by. (c.in-Ok-search_for_insert_point.ensures.accepted pairs layout by).0 refl),
     )
 
 pub returns-in-Some-existing_leaf : goal.returns-in-Some-existing_leaf
 returns-in-Some-existing_leaf g c =
-    let bytes = of_key g.K.AsBytes.bytes in
-    let pairs = pairs_at c.args.store.now c.args.root.now in
-    let has = at_root bytes g.row.P (subst (λ root. HoldsPairs bytes g.row.P c.args.store.now root c.args.len.now pairs) c.in-Some.is c.requires) in
-    let here = subst (λ n. IsCanonicalTree bytes g.row.P c.args.store.now n pairs has.layout) (sym c.in-Ok-search_for_insert_point.ensures.root) has.by in
-    let some =
-    some_back (put_reply bytes (c.args.key, c.args.value) pairs) c.in-Some-existing_leaf.leaf (sym (c.in-Ok-apply.ensures.replaced pairs has.layout here) ∙ c.in-Some-existing_leaf.is) in
-    let same = as_many g.K.AsBytes.bytes (c.args.key, c.args.value) pairs has.by.is_map _ some in
+    let has = at_some (of_key g.K.AsBytes.bytes) g.row.P (c.in-Some.is ∙ ap Some (sym c.in-Ok-search_for_insert_point.ensures.root)) c.requires in
+    let many = same_many g.K.AsBytes.bytes g.row.P (c.args.key, c.args.value) has c.in-Ok-apply.ensures.replaced c.in-Some-existing_leaf.is in
     rw c.in-Some-existing_leaf.is (
-      left_holds bytes g.row.P has (c.in-Ok-apply.ensures.canonical pairs has.layout here) (c.in-Ok-apply.ensures.kept pairs has.layout here) (has.len_is ∙ sym same),
-      sym some,
-      subst (λ key. is_conflict bytes key pairs ≡ false) c.as_bytes.ensures ((c.in-Ok-search_for_insert_point.ensures.accepted pairs has.layout has.by).0 refl),
+      left_holds (of_key g.K.AsBytes.bytes) g.row.P has (c.in-Ok-apply.ensures.canonical _ has.layout has.by) (c.in-Ok-apply.ensures.kept _ has.layout has.by) (sym many.1),
+      sym many.0,
+      accepted g.K.AsBytes.bytes g.row.P (c.args.key, c.args.value) has c.in-Ok-search_for_insert_point.ensures.root c.as_bytes.ensures
+          (λ pairs layout by. (c.in-Ok-search_for_insert_point.ensures.accepted pairs layout by).0 refl),
     )
 
 pub returns-in-Err-apply : goal.returns-in-Err-apply
 returns-in-Err-apply g c =
     let bytes = of_key g.K.AsBytes.bytes in
     let pairs = pairs_at c.args.store.now c.args.root.now in
-    let has = at_root bytes g.row.P (subst (λ root. HoldsPairs bytes g.row.P c.args.store.now root c.args.len.now pairs) c.in-Some.is c.requires) in
+    let has = at_some bytes g.row.P c.in-Some.is c.requires in
     let here = subst (λ n. IsCanonicalTree bytes g.row.P c.args.store.now n pairs has.layout) (sym c.in-Ok-search_for_insert_point.ensures.root) has.by in
     let at = subst (λ key. AnswersTo bytes g.row.P has.layout key c.in-Ok-search_for_insert_point.point) c.as_bytes.ensures (c.in-Ok-search_for_insert_point.ensures.point pairs has.layout has.by) in
     rw c.without_memory-in-Err-apply.ensures (

@@ -3,8 +3,8 @@ use Rattle.art_model.specs.Pairs.{of_key}
 use Rattle.art_writing.proofs.KeysFound.{point_some}
 use Rattle.art_map.specs.MapAnswers.{end_of, without_end}
 use Rattle.art_map.specs.MapChanges.{HasTaken}
-use Rattle.art_map.specs.MapPairs.{HoldsPairs, pairs_at}
-use Rattle.art_map.proofs.Puts.{at_root}
+use Rattle.art_map.specs.MapPairs.{pairs_at}
+use Rattle.art_map.proofs.Puts.{at_some}
 use Rattle.art_map.proofs.Takings.{end_goes}
 use Rattle.art_map.proofs.map.take_end.Goals as goal
 
@@ -12,7 +12,7 @@ pub returns : goal.returns
 returns g c =
     let B = of_key g.K.AsBytes.bytes in
     let pairs = pairs_at c.args.store.now c.args.root.now in
-    let has = at_root B g.row.P (subst (λ root. HoldsPairs B g.row.P c.args.store.now root c.args.len.now pairs) c.in-Some.is c.requires) in
+    let has = at_some B g.row.P c.in-Some.is c.requires in
     let (x, e, leads) = point_some has.layout c.find_end_to_delete-point.result (end_of c.args.end pairs) (c.find_end_to_delete-point.ensures.point pairs has.layout has.by) in
     let Taken = HasTaken g.K.AsBytes.bytes g.row.P pairs in
     subst (λ reply. Taken reply (without_end c.args.end pairs) c.take_out.result c.take_out.new.store c.take_out.new.root c.take_out.new.len) (sym e)

@@ -3,14 +3,14 @@ use Rattle.art_model.specs.Pairs.{of_key, remove_reply, remove_key}
 use Rattle.art_writing.proofs.KeysFound.{point_none, point_some, removed_key, removes_none}
 use Rattle.art_map.specs.MapChanges.{HasTaken}
 use Rattle.art_map.specs.MapPairs.{HoldsPairs, pairs_at}
-use Rattle.art_map.proofs.Puts.{at_root}
+use Rattle.art_map.proofs.Puts.{at_some}
 use Rattle.art_map.proofs.map.take_key.Goals as goal
 
 pub returns-in_default-search_for_delete_point : goal.returns-in_default-search_for_delete_point
 returns-in_default-search_for_delete_point g c =
     let B = of_key g.K.AsBytes.bytes in
     let pairs = pairs_at c.args.store.now c.args.root.now in
-    let has = at_root B g.row.P (subst (λ root. HoldsPairs B g.row.P c.args.store.now root c.args.len.now pairs) c.in-Some.is c.requires) in
+    let has = at_some B g.row.P c.in-Some.is c.requires in
     let none = point_none has.layout (remove_reply B c.args.key_bytes.now pairs) (c.in_default-search_for_delete_point.ensures.point pairs has.layout has.by) in
     (subst (HoldsPairs B g.row.P c.args.store.now c.args.root.now c.args.len.now) (sym (removes_none B c.args.key_bytes.now pairs none)) c.requires, sym none)
 
@@ -18,7 +18,7 @@ pub returns : goal.returns
 returns g c =
     let B = of_key g.K.AsBytes.bytes in
     let pairs = pairs_at c.args.store.now c.args.root.now in
-    let has = at_root B g.row.P (subst (λ root. HoldsPairs B g.row.P c.args.store.now root c.args.len.now pairs) c.in-Some.is c.requires) in
+    let has = at_some B g.row.P c.in-Some.is c.requires in
     let (x, e, leads) =
     point_some has.layout c.in-Some-search_for_delete_point.point (remove_reply B c.args.key_bytes.now pairs) (c.in-Some-search_for_delete_point.ensures.point pairs has.layout has.by) in
     let Taken = HasTaken g.K.AsBytes.bytes g.row.P pairs in

@@ -1,11 +1,5 @@
 use Rattle.art_model.proofs.MapLaws.{put_is_found, overwrite_is_found, removed_is_gone}
 use Rattle.art_model.proofs.maps.changes_are_found.Goals as goal
 
-pub returns-clause-put : goal.returns-clause-put
-returns-clause-put g c = put_is_found
-
-pub returns-clause-overwrite : goal.returns-clause-overwrite
-returns-clause-overwrite g c = overwrite_is_found
-
-pub returns-clause-removal : goal.returns-clause-removal
-returns-clause-removal g c = removed_is_gone
+pub returns : goal.returns
+returns g c = record { put = put_is_found; overwrite = overwrite_is_found; removal = removed_is_gone }

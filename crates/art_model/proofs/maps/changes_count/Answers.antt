@@ -1,11 +1,5 @@
 use Rattle.art_model.proofs.MapLaws.{put_counts, overwrite_counts, removal_counts}
 use Rattle.art_model.proofs.maps.changes_count.Goals as goal
 
-pub returns-clause-put : goal.returns-clause-put
-returns-clause-put g c = put_counts
-
-pub returns-clause-overwrite : goal.returns-clause-overwrite
-returns-clause-overwrite g c = overwrite_counts
-
-pub returns-clause-removal : goal.returns-clause-removal
-returns-clause-removal g c = removal_counts
+pub returns : goal.returns
+returns g c = record { put = put_counts; overwrite = overwrite_counts; removal = removal_counts }

@@ -1,5 +1,4 @@
-use Rattle.std.proofs.Common.{rules, ◌≡◌, ◌≤◌, ◌<◌, ◌+◌, ◌∷◌, [], ◌++◌, length, take, drop, arith, sym, ap, ◌∙◌, subst, inl, Some}
-use Rattle.std.specs.FinMap as finite
+use Rattle.std.proofs.Common.{rules, ◌≡◌, ◌≤◌, ◌<◌, ◌+◌, ◌∷◌, [], ◌++◌, length, take, drop, arith, sym, ap, ◌∙◌, subst, inl}
 use Rattle.std.proofs.lemmas.Grind.{common_steps}
 use Rattle.art_inner.specs.Changes.{with_child}
 use Rattle.art_nodes.proofs.StoreLaws.{inner_here}
@@ -8,7 +7,7 @@ use Rattle.art_model.specs.Trees.{byte_at, kind_of}
 use Rattle.art_oracle.specs.Build.{Ready, ReadyBelow, AreBelow, Built, BuiltUnder, count_groups, started}
 use Rattle.art_oracle.proofs.Counting.{count_few}
 use Rattle.art_oracle.proofs.Grouping.{grouped, group_ready, others_ready, compose, empty_below, below_others, length-drafted, count_split, one_in_group}
-use Rattle.art_oracle.proofs.Placing.{leaf_built, node_built, node_kept, two_groups, kind_not_leaf}
+use Rattle.art_oracle.proofs.Placing.{kind_not_leaf, leaf_built, finished_built, placed_childless, finished_kept, placed_ready, placed_there, two_below}
 use Rattle.art_oracle.proofs.Written.{inner_kept, parent_written, others_kept}
 use Rattle.art_oracle.proofs.build.+nodes.Goals as goal
 
@@ -109,23 +108,19 @@ pub build_node-build_below-requires : goal.build_node-build_below-requires
 build_node-build_below-requires g t c κs within =
     let (way, ready) = c.requires.ready in
     let bytes = g.K.AsBytes.bytes in
-    let old = c.args.store.now in
-    let mid = c.place_node.new.store in
     let leaves = c.args.leaves.now in
-    let at = c.in_ok-at.at in
-    let name = c.in_ok-at.name in
     let same = c.in_ok-at.ensures.leaves in
     let (node, placed, starts) = c.in_ok-at.ensures.placed in
     let s = starts way ready in
-    let two : 2 ≤ count_groups bytes old.leaves leaves (length (way ++ s.part)) = rw s.pairs_are (two_groups (byte_at (of_key bytes) (length (way ++ s.part))) s.x (s.y ∷ s.ys) s.differ) in
-    let there : finite.get mid.inners name ≡ Some node = ap (λ m. finite.get m name) placed ∙ inner_here old.inners name node in
-    let low : AreBelow bytes mid.leaves leaves at node = rw s.node_is tt in
-    let ready' : ReadyBelow bytes mid.leaves (way ++ s.part) leaves at = rw same s.below in
-    let n = count_groups bytes old.leaves leaves at in
-    let two_at : 2 ≤ n = subst (λ m. 2 ≤ count_groups bytes old.leaves leaves m) s.below.depth_is two in
-    let count : count_groups bytes mid.leaves leaves at ≡ n = ap (λ m. count_groups bytes m leaves at) same in
+    let n = count_groups bytes c.args.store.now.leaves leaves c.in_ok-at.at in
+    let two_at : 2 ≤ n = subst (λ m. 2 ≤ count_groups bytes c.args.store.now.leaves leaves m) s.below.depth_is
+    (two_below bytes g.row.P c.args.store.now c.place_node.new.store c.in_ok-at.name same placed s) in
+    let count : count_groups bytes c.place_node.new.store.leaves leaves c.in_ok-at.at ≡ n = ap (λ m. count_groups bytes m leaves c.in_ok-at.at) same in
     let none : length node.children ≡ 0 = ap (λ d. length d.children) s.node_is in
-    let deeper = s.at_is in (
+    let deeper = s.at_is in
+    let ready_at = placed_ready bytes g.row.P c.args.store.now c.place_node.new.store c.in_ok-at.name same placed s in
+    let there = placed_there bytes g.row.P c.args.store.now c.place_node.new.store c.in_ok-at.name same placed s in
+    let childless = placed_childless bytes g.row.P c.args.store.now c.place_node.new.store c.in_ok-at.name same placed s in (
       omega (arith, c.decreases, deeper),
       (
         within.0,
@@ -135,7 +130,7 @@ build_node-build_below-requires g t c κs within =
             search rules,
             (
               search rules,
-              ((way ++ s.part, ready'), ((node, there, low, omega (arith, c.in_ok-at.ensures.capacity)), (λ e. kind_not_leaf n (sym c.in_ok-at.ensures.kind ∙ e)))),
+              ((way ++ s.part, ready_at), ((node, there, childless, omega (arith, c.in_ok-at.ensures.capacity)), (λ e. kind_not_leaf n (sym c.in_ok-at.ensures.kind ∙ e)))),
             ),
           ),
         ),
@@ -144,45 +139,13 @@ build_node-build_below-requires g t c κs within =
 
 pub build_node-returns-clause-built : goal.build_node-returns-clause-built
 build_node-returns-clause-built g t c way ready =
-    let bytes = g.K.AsBytes.bytes in
-    let old = c.args.store.now in
-    let mid = c.place_node.new.store in
-    let leaves = c.args.leaves.now in
-    let at = c.in_ok-at.at in
-    let name = c.in_ok-at.name in
-    let same = c.in_ok-at.ensures.leaves in
     let (node, placed, starts) = c.in_ok-at.ensures.placed in
-    let s = starts way ready in
-    let two : 2 ≤ count_groups bytes old.leaves leaves (length (way ++ s.part)) = rw s.pairs_are (two_groups (byte_at (of_key bytes) (length (way ++ s.part))) s.x (s.y ∷ s.ys) s.differ) in
-    let there : finite.get mid.inners name ≡ Some node = ap (λ m. finite.get m name) placed ∙ inner_here old.inners name node in
-    let low : AreBelow bytes mid.leaves leaves at node = rw s.node_is tt in
-    let ready' : ReadyBelow bytes mid.leaves (way ++ s.part) leaves at = rw same s.below in
-    let kind : name.kind ≡ kind_of (count_groups bytes old.leaves leaves (length (way ++ s.part))) =
-    c.in_ok-at.ensures.kind ∙ ap (λ m. kind_of (count_groups bytes old.leaves leaves m)) (sym s.below.depth_is) in
-    let b : BuiltUnder bytes g.row.P (way ++ s.part) leaves mid c.build_below.new.store name (started g.row.P s.part) =
-    subst (λ d. BuiltUnder bytes g.row.P (way ++ s.part) leaves mid c.build_below.new.store name d) s.node_is (c.in_ok-build_below.ensures.built (way ++ s.part) node ready' there low) in
-    rw c.to_opaque-2.ensures (node_built bytes g.row.P old mid c.build_below.new.store way s.part leaves name same
-    (placed ∙ ap (finite.insert old.inners name) s.node_is) c.in_ok-at.ensures.fresh kind two c.in_ok-build_below.ensures.kept b)
+    rw c.to_opaque-2.ensures (finished_built g.K.AsBytes.bytes g.row.P c.args.store.now c.place_node.new.store c.in_ok-at.name c.in_ok-at.ensures.leaves placed (starts way ready)
+    c.in_ok-at.ensures.fresh c.in_ok-at.ensures.kind c.in_ok-build_below.ensures.kept c.in_ok-build_below.ensures.built)
 
 pub build_node-returns-clause-kept : goal.build_node-returns-clause-kept
 build_node-returns-clause-kept g t c =
     let (way, ready) = c.requires.ready in
-    let bytes = g.K.AsBytes.bytes in
-    let old = c.args.store.now in
-    let mid = c.place_node.new.store in
-    let leaves = c.args.leaves.now in
-    let at = c.in_ok-at.at in
-    let name = c.in_ok-at.name in
-    let same = c.in_ok-at.ensures.leaves in
     let (node, placed, starts) = c.in_ok-at.ensures.placed in
-    let s = starts way ready in
-    let two : 2 ≤ count_groups bytes old.leaves leaves (length (way ++ s.part)) = rw s.pairs_are (two_groups (byte_at (of_key bytes) (length (way ++ s.part))) s.x (s.y ∷ s.ys) s.differ) in
-    let there : finite.get mid.inners name ≡ Some node = ap (λ m. finite.get m name) placed ∙ inner_here old.inners name node in
-    let low : AreBelow bytes mid.leaves leaves at node = rw s.node_is tt in
-    let ready' : ReadyBelow bytes mid.leaves (way ++ s.part) leaves at = rw same s.below in
-    let kind : name.kind ≡ kind_of (count_groups bytes old.leaves leaves (length (way ++ s.part))) =
-    c.in_ok-at.ensures.kind ∙ ap (λ m. kind_of (count_groups bytes old.leaves leaves m)) (sym s.below.depth_is) in
-    let b : BuiltUnder bytes g.row.P (way ++ s.part) leaves mid c.build_below.new.store name (started g.row.P s.part) =
-    subst (λ d. BuiltUnder bytes g.row.P (way ++ s.part) leaves mid c.build_below.new.store name d) s.node_is (c.in_ok-build_below.ensures.built (way ++ s.part) node ready' there low) in
-    node_kept bytes g.row.P old mid c.build_below.new.store way s.part leaves name same (placed ∙ ap (finite.insert old.inners name) s.node_is)
-    c.in_ok-at.ensures.fresh kind two c.in_ok-build_below.ensures.kept b
+    finished_kept g.K.AsBytes.bytes g.row.P c.args.store.now c.place_node.new.store c.in_ok-at.name c.in_ok-at.ensures.leaves placed (starts way ready)
+    c.in_ok-at.ensures.fresh c.in_ok-at.ensures.kind c.in_ok-build_below.ensures.kept c.in_ok-build_below.ensures.built

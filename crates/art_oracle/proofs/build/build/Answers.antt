@@ -7,17 +7,16 @@ use Rattle.art_oracle.proofs.build.build.Goals as goal
 
 pub build_node-requires : goal.build_node-requires
 build_node-requires g c =
-    let bytes = g.K.AsBytes.bytes in
     let names = c.in_ok-names.names.items in
     let H = has_leaves c.args.store.now c.place_leaves.new.store c.link_leaves.new.store names c.as_slice.result.now c.args.pairs.items
     c.as_slice.ensures.value c.in_ok-names.ensures.placed c.in_ok-names.ensures.inners c.link_leaves.ensures.keeps c.link_leaves.ensures.linked c.link_leaves.ensures.inners in
     let long : length c.args.pairs.items ≡ length names = ap length (sym H.placed.its) ∙ pairs_long c.link_leaves.new.store.leaves names H.placed.there in
     let some : 1 ≤ length c.as_slice-2.result.now = grind (arith, common_steps, c.as_slice-2.ensures.len) in
     let listed : length c.as_slice-2.result.now ≡ length names = ap length c.as_slice-2.ensures.value in
-    (search rules, (some, (([], rw c.as_slice-2.ensures.value (leaves_ready H bytes c.requires)))))
+    (search rules, (some, (([], rw c.as_slice-2.ensures.value (leaves_ready H g.K.AsBytes.bytes c.requires)))))
 
-pub returns-clause-canonical : goal.returns-clause-canonical
-returns-clause-canonical g c =
+pub returns : goal.returns
+returns g c =
     let bytes = g.K.AsBytes.bytes in
     let names = c.in_ok-names.names.items in
     let H = has_leaves c.args.store.now c.place_leaves.new.store c.link_leaves.new.store names c.as_slice.result.now c.args.pairs.items
@@ -25,34 +24,9 @@ returns-clause-canonical g c =
     let b : Built bytes g.row.P [] names c.link_leaves.new.store c.build_node.new.store c.in_ok-root.root =
     subst (λ l. Built bytes g.row.P [] l c.link_leaves.new.store c.build_node.new.store c.in_ok-root.root) c.as_slice-2.ensures.value
     (c.in_ok-root.ensures.built [] (rw c.as_slice-2.ensures.value (leaves_ready H bytes c.requires))) in
-    (b.tree, whole_tree H b c.in_ok-root.ensures.leaves)
-
-pub returns-clause-kept : goal.returns-clause-kept
-returns-clause-kept g c =
-    let bytes = g.K.AsBytes.bytes in
-    let names = c.in_ok-names.names.items in
-    let H = has_leaves c.args.store.now c.place_leaves.new.store c.link_leaves.new.store names c.as_slice.result.now c.args.pairs.items
-    c.as_slice.ensures.value c.in_ok-names.ensures.placed c.in_ok-names.ensures.inners c.link_leaves.ensures.keeps c.link_leaves.ensures.linked c.link_leaves.ensures.inners in
-    whole_kept H c.build_node.new.store c.in_ok-root.ensures.kept
-
-pub returns-clause-names : goal.returns-clause-names
-returns-clause-names g c =
-    let bytes = g.K.AsBytes.bytes in
-    let names = c.in_ok-names.names.items in
-    let H = has_leaves c.args.store.now c.place_leaves.new.store c.link_leaves.new.store names c.as_slice.result.now c.args.pairs.items
-    c.as_slice.ensures.value c.in_ok-names.ensures.placed c.in_ok-names.ensures.inners c.link_leaves.ensures.keeps c.link_leaves.ensures.linked c.link_leaves.ensures.inners in
-    let b : Built bytes g.row.P [] names c.link_leaves.new.store c.build_node.new.store c.in_ok-root.root =
-    subst (λ l. Built bytes g.row.P [] l c.link_leaves.new.store c.build_node.new.store c.in_ok-root.root) c.as_slice-2.ensures.value
-    (c.in_ok-root.ensures.built [] (rw c.as_slice-2.ensures.value (leaves_ready H bytes c.requires))) in
-    whole_added H b c.in_ok-root.ensures.leaves
-
-pub returns-clause-fresh : goal.returns-clause-fresh
-returns-clause-fresh g c =
-    let bytes = g.K.AsBytes.bytes in
-    let names = c.in_ok-names.names.items in
-    let H = has_leaves c.args.store.now c.place_leaves.new.store c.link_leaves.new.store names c.as_slice.result.now c.args.pairs.items
-    c.as_slice.ensures.value c.in_ok-names.ensures.placed c.in_ok-names.ensures.inners c.link_leaves.ensures.keeps c.link_leaves.ensures.linked c.link_leaves.ensures.inners in
-    let b : Built bytes g.row.P [] names c.link_leaves.new.store c.build_node.new.store c.in_ok-root.root =
-    subst (λ l. Built bytes g.row.P [] l c.link_leaves.new.store c.build_node.new.store c.in_ok-root.root) c.as_slice-2.ensures.value
-    (c.in_ok-root.ensures.built [] (rw c.as_slice-2.ensures.value (leaves_ready H bytes c.requires))) in
-    whole_fresh H b c.in_ok-root.ensures.leaves
+    record {
+      canonical = (b.tree, whole_tree H b c.in_ok-root.ensures.leaves);
+      kept = whole_kept H c.build_node.new.store c.in_ok-root.ensures.kept;
+      names = whole_added H b c.in_ok-root.ensures.leaves;
+      fresh = whole_fresh H b c.in_ok-root.ensures.leaves;
+    }

@@ -6,7 +6,7 @@ use Rattle.art_parts.specs.Kinds.{kind_least, kind_capacity}
 use Rattle.art_parts.specs.Names.{inner_name}
 use Rattle.art_parts.specs.declared.names.NodeType.TheVariants.{Leaf}
 use Rattle.art_model.specs.Faults.{IsTrueOf, Reaches}
-use Rattle.art_model.specs.Layouts.{names_below, slots_of}
+use Rattle.art_model.specs.Layouts.{names_below}
 use Rattle.art_model.specs.Stores.{IsUsed, header_at}
 use Rattle.art_model.specs.Pairs.{of_key}
 use Rattle.art_checking.specs.Checked.{IsChecked, IsFirstMet, IsLeafAt, IsLeastLeaf, IsTrueBehind, IsWalked, NoneBelow}

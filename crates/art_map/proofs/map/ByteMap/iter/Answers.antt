@@ -6,7 +6,7 @@ use Rattle.art_reading.specs.Iterators.{IsIteratorOf}
 use Rattle.art_map.specs.MapItems.{pairs_left}
 use Rattle.art_map.specs.MapPairs.{HoldsPairs, pairs_at}
 use Rattle.art_map.proofs.Items.{none_left, no_pairs, whole_walk, whole_len, whole_pairs}
-use Rattle.art_map.proofs.Puts.{at_root}
+use Rattle.art_map.proofs.Puts.{at_some}
 use Rattle.art_map.proofs.map.ByteMap.iter.Goals as goal
 
 pub returns-in_default : goal.returns-in_default
@@ -18,31 +18,23 @@ returns-in_default g c =
 
 pub minimum_unchecked-first-requires : goal.minimum_unchecked-first-requires
 minimum_unchecked-first-requires g c =
-    let B = of_key g.K.AsBytes.bytes in
-    let pairs = pairs_at c.self.inside.store c.self.inside.root in
-    let has = at_root B g.row.P (subst (λ root. HoldsPairs B g.row.P c.self.inside.store root c.self.inside.len pairs) c.in-Some.is c.self.invariant) in
+    let has = at_some (of_key g.K.AsBytes.bytes) g.row.P c.in-Some.is c.self.invariant in
     (search rules, (has.layout, has_children _ _ _ _ _ has.layout has.by))
 
 pub maximum_unchecked-last-requires : goal.maximum_unchecked-last-requires
 maximum_unchecked-last-requires g c =
-    let B = of_key g.K.AsBytes.bytes in
-    let pairs = pairs_at c.self.inside.store c.self.inside.root in
-    let has = at_root B g.row.P (subst (λ root. HoldsPairs B g.row.P c.self.inside.store root c.self.inside.len pairs) c.in-Some.is c.self.invariant) in
+    let has = at_some (of_key g.K.AsBytes.bytes) g.row.P c.in-Some.is c.self.invariant in
     (search rules, (has.layout, has_children _ _ _ _ _ has.layout has.by))
 
 pub new-walk-requires : goal.new-walk-requires
 new-walk-requires g c =
-    let B = of_key g.K.AsBytes.bytes in
-    let pairs = pairs_at c.self.inside.store c.self.inside.root in
-    let has = at_root B g.row.P (subst (λ root. HoldsPairs B g.row.P c.self.inside.store root c.self.inside.len pairs) c.in-Some.is c.self.invariant) in
+    let has = at_some (of_key g.K.AsBytes.bytes) g.row.P c.in-Some.is c.self.invariant in
     let full = has_children _ _ _ _ _ has.layout has.by in
     (search rules, (leaf_names has.layout, whole_walk has.by (c.minimum_unchecked-first.ensures has.layout full) (c.maximum_unchecked-last.ensures has.layout full)))
 
 pub new-requires-2 : goal.new-requires-2
 new-requires-2 g c =
-    let B = of_key g.K.AsBytes.bytes in
-    let pairs = pairs_at c.self.inside.store c.self.inside.root in
-    let has = at_root B g.row.P (subst (λ root. HoldsPairs B g.row.P c.self.inside.store root c.self.inside.len pairs) c.in-Some.is c.self.invariant) in
+    let has = at_some (of_key g.K.AsBytes.bytes) g.row.P c.in-Some.is c.self.invariant in
     let full = has_children _ _ _ _ _ has.layout has.by in
     let walks = whole_walk has.by (c.minimum_unchecked-first.ensures has.layout full) (c.maximum_unchecked-last.ensures has.layout full) in
     record {
@@ -53,9 +45,7 @@ new-requires-2 g c =
 
 pub returns : goal.returns
 returns g c =
-    let B = of_key g.K.AsBytes.bytes in
-    let pairs = pairs_at c.self.inside.store c.self.inside.root in
-    let has = at_root B g.row.P (subst (λ root. HoldsPairs B g.row.P c.self.inside.store root c.self.inside.len pairs) c.in-Some.is c.self.invariant) in
+    let has = at_some (of_key g.K.AsBytes.bytes) g.row.P c.in-Some.is c.self.invariant in
     let full = has_children _ _ _ _ _ has.layout has.by in
     c.new-2.ensures ∙ ap (λ walk. pairs_left c.self.inside.store walk c.self.inside.len) c.new-walk.ensures
     ∙ whole_pairs has.by (c.minimum_unchecked-first.ensures has.layout full) (c.maximum_unchecked-last.ensures has.layout full) has.len_is ∙ c.self.view_is

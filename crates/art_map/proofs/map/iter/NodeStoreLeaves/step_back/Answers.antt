@@ -1,16 +1,11 @@
-use Rattle.std.proofs.Common.{sym}
 use Rattle.art_map.proofs.Items.{last_ended, last_step, last_walk}
 use Rattle.art_map.proofs.map.iter.NodeStoreLeaves.step_back.Goals as goal
 
 pub returns-in_err-name-clause-pair : goal.returns-in_err-name-clause-pair
-returns-in_err-name-clause-pair g c =
-    rw c.from_residual.ensures (last_ended c.requires.is c.requires.len_is (c.in_err-name.ensures.rest c.requires.names c.requires.is) (c.in_err-name.ensures.leaf c.requires.names c.requires.is))
+returns-in_err-name-clause-pair g c = rw c.from_residual.ensures (last_ended c.requires c.in_err-name.ensures.rest c.in_err-name.ensures.leaf)
 
 pub returns-clause-pair : goal.returns-clause-pair
-returns-clause-pair g c =
-    last_step c.requires.is c.requires.len_is (c.in_ok-name.ensures.rest c.requires.names c.requires.is) c.in_ok-name.name c.in-Some.leaf.now
-    (c.in_ok-name.ensures.leaf c.requires.names c.requires.is) (sym c.in-Some.ensures)
+returns-clause-pair g c = last_step c.requires c.in_ok-name.ensures.rest c.in_ok-name.ensures.leaf c.pair_at.ensures
 
 pub returns-clause-walk : goal.returns-clause-walk
-returns-clause-walk g c =
-    last_walk c.requires.is c.requires.len_is (c.in_ok-name.ensures.rest c.requires.names c.requires.is) c.in_ok-name.name (c.in_ok-name.ensures.leaf c.requires.names c.requires.is)
+returns-clause-walk g c = last_walk c.requires c.in_ok-name.ensures.rest c.in_ok-name.ensures.leaf
