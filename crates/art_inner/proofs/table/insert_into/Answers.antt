@@ -1,6 +1,5 @@
-use Rattle.art_inner.proofs.TableLemmas.{shifted, moved_back, put_at_place}
-use Rattle.art_inner.proofs.table.insert_into.Goals as goal
 use Rattle.std.proofs.Common.{◌≡◌, ◌-◌, ◌++◌, ℕ, suc, take, drop, length, ap, ◌∙◌, slice_set, arith}
+use Rattle.art_inner.proofs.TableLemmas.{moved_back, put_at_place}
 use Rattle.art_inner.proofs.table.insert_into.Goals as goal
 
 pub loop-place-preserved : goal.loop-place-preserved

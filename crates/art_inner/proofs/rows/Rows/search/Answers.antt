@@ -3,7 +3,6 @@ use Rattle.art_parts.specs.declared.names.NodeType.TheVariants.{Node4}
 use Rattle.art_inner.specs.Rows.{rows_of}
 use Rattle.art_inner.proofs.RowsLemmas.{rows-below, rows-get, rows-not_at, child_in_place}
 use Rattle.art_inner.proofs.rows.Rows.search.Goals as goal
-use Rattle.art_inner.proofs.rows.Rows.search.Goals as goal
 
 pub returns-then-is_at-clause-found : goal.returns-then-is_at-clause-found
 returns-then-is_at-clause-found c =
