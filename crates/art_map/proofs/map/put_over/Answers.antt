@@ -1,10 +1,9 @@
 use Rattle.std.proofs.Common.{rules, sym, ◌∙◌, subst, arith, ap, Some}
 use Rattle.std.proofs.lemmas.Bool.{false≢true}
-use Rattle.art_model.specs.Canonical.{IsCanonicalTree}
 use Rattle.art_model.specs.Pairs.{of_key}
 use Rattle.art_writing.specs.Points.{IsPointFor}
 use Rattle.art_writing.proofs.RelatedPairs.{not_alone}
-use Rattle.art_map.specs.MapPairs.{HoldsPairs, pairs_at}
+use Rattle.art_map.specs.MapPairs.{pairs_at}
 use Rattle.art_map.proofs.Enough.{enough}
 use Rattle.art_map.proofs.Puts.{at_some, left_holds, over_counted, stays}
 use Rattle.art_map.proofs.map.put_over.Goals as goal
@@ -34,9 +33,10 @@ returns-in-Ok-apply g c =
 pub returns-in-Err-apply : goal.returns-in-Err-apply
 returns-in-Err-apply g c =
     let bytes = of_key g.K.AsBytes.bytes in
+    let pairs = pairs_at c.args.store.now c.args.root.now in
     let point = c.search_for_prefix_insert_point-point.result in
     let has = at_some bytes g.row.P c.in-Some.is c.requires in
-    let at = subst (λ key. IsPointFor bytes g.row.P key _ has.layout point) c.as_bytes.ensures (c.search_for_prefix_insert_point-point.ensures.point _ has.layout has.by) in (
+    let at = subst (λ key. IsPointFor bytes g.row.P key pairs has.layout point) c.as_bytes.ensures (c.search_for_prefix_insert_point-point.ensures.point pairs has.layout has.by) in (
       stays bytes g.row.P c.args.store.now c.apply.new.store c.in-Err-apply.ensures.leaves c.in-Err-apply.ensures.inners c.requires,
       c.in-Err-apply.ensures.handed_back.0,
       c.in-Err-apply.ensures.handed_back.1,
