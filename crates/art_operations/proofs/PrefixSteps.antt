@@ -4,7 +4,6 @@ use Rattle.std.proofs.lemmas.Bool.{ne_eqb, lt-leb}
 use Rattle.std.specs.List.{AllByRecursion as Each}
 use Rattle.std.specs.Option.{option_map}
 use Rattle.art_parts.specs.Names.{leaf_name}
-use Rattle.std.proofs.Math.Dec.{leb-zero}
 use Rattle.art_nodes.specs.Nodes.{Nodes, Promise}
 use Rattle.art_parts.specs.declared.leaf.LeafNode.{LeafNode}
 use Rattle.art_parts.specs.declared.names.NodeType.{NodeType}
