@@ -77,6 +77,7 @@ pub(crate) fn link<K: AsBytes + Drop, V: Drop, const P: usize>(
 }
 
 /// Places a leaf that is promised between the two that it names, and answers its name.
+#[inline(always)]
 pub(crate) fn place_between<K: AsBytes + Drop, V: Drop, const P: usize>(
     store: &mut NodeStore<K, V, P>,
     leaf: LeafNode<K, V>,
@@ -145,6 +146,7 @@ pub(crate) fn replace_at<K: AsBytes + Drop, V: Drop, const P: usize>(
 }
 
 /// The leaves beside a new one that comes right before the first leaf of a tree.
+#[inline(always)]
 pub(crate) fn links_before<K: AsBytes + Drop, V: Drop, const P: usize>(
     store: &NodeStore<K, V, P>,
     name: OpaqueNodePtr,
@@ -161,6 +163,7 @@ pub(crate) fn links_before<K: AsBytes + Drop, V: Drop, const P: usize>(
 }
 
 /// The leaves beside a new one that comes right after the last leaf of a tree.
+#[inline(always)]
 pub(crate) fn links_after<K: AsBytes + Drop, V: Drop, const P: usize>(
     store: &NodeStore<K, V, P>,
     name: OpaqueNodePtr,
