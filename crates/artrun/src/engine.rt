@@ -11,9 +11,10 @@ use crate::tree::KeptTree;
 use art_operations::run::Command;
 use std::alloc::{AllocError, Global};
 use std::io;
-use std::io::{BufRead, Write};
+use std::io::{BufRead, BufReader, Read, Write};
 
 /// Why no further line is read.
+#[derive(Drop)]
 enum End {
     Input,
     BadLine,
@@ -22,19 +23,27 @@ enum End {
 /// Answers each line of the input on the output. The status is 0 at the end of the input, 2 after a line that asks for
 /// nothing that there is, and 1 where the input can't be read, the output can't be written, or there is no memory for a
 /// line.
-pub fn serve(alloc: Global, mut input: impl BufRead + Drop, mut output: impl Write + Drop) -> u8
+///
+/// Replies are written out before it waits for a line, and while the next line has come already they
+/// gather in the output's buffer.
+pub fn serve(
+    alloc: Global,
+    mut input: BufReader<impl Read + Drop>,
+    mut output: impl Write + Drop,
+) -> u8
     ensures { result ≤ 2 }
 {
-    match answer_lines(alloc, &mut input, &mut output) {
-        Ok(End::Input) => 0,
-        Ok(End::BadLine) => 2,
-        Err(_) => 1,
+    let end = answer_lines(alloc, &mut input, &mut output);
+    match (end, output.flush()) {
+        (Ok(End::Input), Ok(())) => 0,
+        (Ok(End::BadLine), Ok(())) => 2,
+        _ => 1,
     }
 }
 
 fn answer_lines(
     alloc: Global,
-    input: &mut impl BufRead,
+    input: &mut BufReader<impl Read>,
     output: &mut impl Write,
 ) -> io::Result<End> {
     let mut tree = KeptTree::new(alloc);
@@ -49,11 +58,12 @@ fn answer_lines(
         }
         let Some(request) = Request::parse(&line) else {
             writeln!(output, "line {number}: refused")?;
-            output.flush()?;
             return Ok(End::BadLine);
         };
         answer(alloc, &mut tree, request, output)?;
-        output.flush()?;
+        if !input.buffer().contains(&b'\n') {
+            output.flush()?;
+        }
     }
     Ok(End::Input)
 }
