@@ -419,7 +419,7 @@ struct Ordinary {
     touched: (usize, usize, usize),
 }
 
-// What comes of a key that is related to no other.
+// What comes of a key that is related to no unequal one.
 fn tried_apart(alloc: Global, slices: &[&[u8]], key: &[u8]) -> Option<Ordinary> {
     let seen = tried(alloc, slices, key, key)?;
     let told = match seen.done.change {
@@ -439,7 +439,7 @@ fn tried_apart(alloc: Global, slices: &[&[u8]], key: &[u8]) -> Option<Ordinary> 
     })
 }
 
-// Keys that are related to no other, and what comes of each.
+// Keys that are related to no unequal one, and what comes of each.
 static APART: [(&[&[u8]], &[u8], Ordinary); 4] = [
     (
         &[&[1], &[2]],

@@ -146,7 +146,7 @@ fn seen_with<const P: usize>(alloc: Global, slices: &[&[u8]], key: &[u8]) -> Opt
     seen_in::<P>(&mut NodeStore::new(alloc), slices, key)
 }
 
-// The first of these keys that is not told as wanted.
+// The place of the first of these keys that is not told as wanted.
 fn first_untold<const P: usize>(
     alloc: Global,
     slices: &[&[u8]],

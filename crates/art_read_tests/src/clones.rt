@@ -290,7 +290,7 @@ fn place_nine<const P: usize>(store: &mut NodeStore<Key, u32, P>) -> Option<()> 
     }
 }
 
-// The same where the other store may have a leaf.
+// The same, and the other store may have a leaf.
 fn touched_beside_some<const P: usize>(
     store: &mut NodeStore<Key, u32, P>,
     into: &mut NodeStore<Key, u32, P>,
@@ -393,7 +393,7 @@ fn clone_tried<const P: usize>(
     }
 }
 
-// Plants the tree of many keys. None where an insertion was refused.
+// Plants the tree of many keys. None where that was refused, or it has not 53 leaves and two inner nodes.
 fn many_planted<const P: usize>(store: &mut NodeStore<Key, u32, P>) -> Option<OpaqueNodePtr>
     ensures { IfSome result (λ root. IsCanonicalRoot (of_key (λ key. key.items)) P store.new root) }
 {

@@ -48,7 +48,7 @@ fn open<const P: usize>(
     Ok(is_six(node))
 }
 
-// How many inner nodes there are below these names, and none where one of them is another one.
+// How many inner nodes are among these and below them. None where one is not a Node16 with six children.
 fn count_below<const P: usize>(
     store: &NodeStore<Key, u32, P>,
     names: &mut Vec<OpaqueNodePtr>,

@@ -297,7 +297,7 @@ fn without_memory_an_insertion_leaves_the_pairs(rt: HostRuntime) {
 // The key that is stored.
 static STORED: [Row<'static>; 1] = [(Asked::Insert(&[1], 10), Told::Inserted(None))];
 
-// What is told without memory where it is.
+// Commands without memory where that key is stored, and their replies.
 static AFTER_STORED: [Row<'static>; 4] = [
     (
         Asked::Insert(&[1, 2], 12),

@@ -10,7 +10,6 @@ use art_nodes::node::{
 };
 use art_nodes::store::NodeStore;
 use std::alloc::AllocError;
-use std::test::Fail;
 
 /// A node of a list, as it is to be placed or as it is expected. It names other nodes by their places in the list.
 #[derive(Clone, Copy)]
@@ -44,16 +43,6 @@ pub fn lone_leaf(key: &[u8], value: u32) -> Plain<'_> {
     }
 }
 
-/// A leaf between those at two places of the list.
-pub fn linked_leaf(key: &[u8], previous: Option<usize>, next: Option<usize>) -> Plain<'_> {
-    Plain::Leaf {
-        key,
-        value: 0,
-        previous,
-        next,
-    }
-}
-
 /// An inner node without a prefix.
 pub fn plain_node(kind: NodeType, children: &[(u8, usize)]) -> Plain<'_> {
     Plain::Inner {
@@ -79,15 +68,8 @@ pub fn has_place<K: AsBytes + Drop, V: Drop, const P: usize>(
     }
 }
 
-/// Places these nodes, writes their children and links, and answers their names in the same order.
-pub fn place_all<const P: usize>(
-    store: &mut NodeStore<Key, u32, P>,
-    nodes: &[Plain<'_>],
-) -> Result<Vec<OpaqueNodePtr>, Fail> {
-    Ok(placed_all(store, nodes)?.ok_or("no such nodes")?)
-}
-
-/// The same. None where a node has no room for its children, or names a node that is not in the list.
+/// Places these nodes, writes their children and links, and answers their names in the same order. `None` where a node
+/// has no room for its children, or names a node that is not in the list.
 pub fn placed_all<const P: usize>(
     store: &mut NodeStore<Key, u32, P>,
     nodes: &[Plain<'_>],

@@ -14,18 +14,6 @@ use std::test::Fail;
 /// The keys of the tests.
 pub type Key = Vec<u8>;
 
-/// The tree of these keys, with the place of each among them as its value. The second store is for the run alone.
-pub fn plant<K: AsBytes + Clone + Drop, const P: usize>(
-    store: &mut NodeStore<K, u32, P>,
-    second: &mut NodeStore<K, u32, P>,
-    keys: Vec<K>,
-) -> Result<OpaqueNodePtr, Fail>
-    requires { KeepBytes K.bytes K.is_clone }
-    ensures { IfOk result (λ root. IsCanonicalRoot (of_key K.bytes) P store.new root) }
-{
-    Ok(planted(store, second, keys)?.ok_or("no key")?)
-}
-
 /// Takes memory for leaves and an inner node beside a tree.
 pub fn promise<K: AsBytes + Drop, const P: usize>(
     store: &mut NodeStore<K, u32, P>,
@@ -40,7 +28,8 @@ pub fn promise<K: AsBytes + Drop, const P: usize>(
     store.reserve(leaves, Some(kind))
 }
 
-/// The same as `plant`, where no key has no tree.
+/// The tree of these keys, with the place of each among them as its value, or `None` where there is no key. The second
+/// store is for the run alone.
 pub fn planted<K: AsBytes + Clone + Drop, const P: usize>(
     store: &mut NodeStore<K, u32, P>,
     second: &mut NodeStore<K, u32, P>,
@@ -98,16 +87,6 @@ pub fn keys_of_zeros(alloc: Global) -> Result<Vec<Key>, AllocError> {
     Ok(keys)
 }
 
-/// The same as `plant`, with a second store of its own.
-pub fn plant_keys<const P: usize>(
-    store: &mut NodeStore<Key, u32, P>,
-    all: Vec<Key>,
-) -> Result<OpaqueNodePtr, Fail>
-    ensures { IfOk result (λ root. IsCanonicalRoot (of_key (λ key. key.items)) P store.new root) }
-{
-    Ok(try_planted_keys(store, all)?.ok_or("no key")?)
-}
-
 /// The same as `planted`, with a second store of its own.
 pub fn try_planted_keys<const P: usize>(
     store: &mut NodeStore<Key, u32, P>,
@@ -119,7 +98,7 @@ pub fn try_planted_keys<const P: usize>(
     planted(store, &mut NodeStore::new(alloc), all)
 }
 
-/// The same, or `None` for want of memory too.
+/// The tree of these keys, or `None` where there is no key or no memory.
 pub fn planted_keys<const P: usize>(
     store: &mut NodeStore<Key, u32, P>,
     all: Vec<Key>,
@@ -129,17 +108,7 @@ pub fn planted_keys<const P: usize>(
     try_planted_keys(store, all).ok()?
 }
 
-/// Plants a tree of copies of these keys, with a second store of its own.
-pub fn plant_all<const P: usize>(
-    store: &mut NodeStore<Key, u32, P>,
-    slices: &[&[u8]],
-) -> Result<OpaqueNodePtr, Fail>
-    ensures { IfOk result (λ root. IsCanonicalRoot (of_key (λ key. key.items)) P store.new root) }
-{
-    Ok(planted_all(store, slices)?.ok_or("no key")?)
-}
-
-/// The same as `plant_all`, where no key has no tree.
+/// The same with copies of these keys.
 pub fn planted_all<const P: usize>(
     store: &mut NodeStore<Key, u32, P>,
     slices: &[&[u8]],

@@ -5,8 +5,8 @@ use art_nodes::store::NodeStore;
 use art_test_support::placing::{Plain, leaf_at};
 use art_test_support::trees::Key;
 
-/// The place of the first node that a store does not have as wanted under the name at that place, or that has no name or
-/// is missing.
+/// The place of the first name under which a store has not the node that is wanted there, or the length of the shorter
+/// list where one is longer.
 pub fn first_wrong<const P: usize>(
     store: &NodeStore<Key, u32, P>,
     names: &[OpaqueNodePtr],
@@ -23,7 +23,7 @@ pub fn first_wrong<const P: usize>(
     Some(names.len().min(nodes.len()))
 }
 
-// Whether a store has a node under a name.
+// Whether a store has the wanted node under a name.
 fn is_read<const P: usize>(
     store: &NodeStore<Key, u32, P>,
     names: &[OpaqueNodePtr],

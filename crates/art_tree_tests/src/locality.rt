@@ -65,7 +65,7 @@ fn touched_since<const P: usize>(
     Some(count_touched(store, before))
 }
 
-// The same since there were the nodes of now.
+// What a command touches. None where the reply is not the one of the row.
 fn touched_by<const P: usize>(
     store: &mut NodeStore<Key, u32, P>,
     root: &mut Option<OpaqueNodePtr>,
@@ -169,6 +169,9 @@ fn behind_last<const P: usize>(
 ) -> Option<SeenBehind> {
     let root = planted_keys(store, keys)?;
     let last = child(store, child(store, child(store, root, 50)?, 1)?, 2)?;
+    if store.leaf(last.as_leaf()?)?.key.as_slice() != [50, 1, 2].as_slice() {
+        return None;
+    }
     match nodes_seen(store) {
         Ok(before) => behind_since(store, root, &before, last),
         Err(_) => None,

@@ -39,7 +39,7 @@ macro_rules! inner {
     };
 }
 
-/// The place of the first node that is not read back. None where they are not placed.
+/// The place of the first node that is not read back. The outer `None` says that they were not placed.
 fn wrong_in<const P: usize>(
     store: &mut NodeStore<Key, u32, P>,
     row: Row<'_>,

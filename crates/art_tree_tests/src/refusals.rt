@@ -202,7 +202,8 @@ static SIXTEEN: [&[u8]; 16] = [
     &[16],
 ];
 
-// What comes of an overwrite by these replies, where nothing was touched or so many nodes are left.
+// What comes of an overwrite by these replies. `is_kept` says whether there are as many nodes as before, under the same
+// root; `left` is how many there are.
 fn overwrite_told(replies: &[Reply<Key, u32>], is_kept: bool, left: (usize, usize)) -> Overwrite {
     match replies {
         [Reply::NoMemory(Some((_, 7)))] => Overwrite::Refused(is_kept),
@@ -211,7 +212,7 @@ fn overwrite_told(replies: &[Reply<Key, u32>], is_kept: bool, left: (usize, usiz
     }
 }
 
-// Runs an overwrite.
+// Runs an overwrite, and answers what comes of it.
 fn overwrite_by<const P: usize>(
     first: &mut NodeStore<Key, u32, P>,
     second: &mut NodeStore<Key, u32, P>,
