@@ -1,7 +1,7 @@
 -- The child beside a byte among rising ones, and how many there are where a byte has none.
 use Rattle.std.proofs.Common.{◌≡◌, ◌≢◌, ◌⊎◌, ℕ, zero, suc, ◌-◌, ◌<◌, ◌≤◌, min, cond, eqb, [], ◌∷◌, length, slice_get, Option, Some, None, IsSome, is_some, All, refl, ap, sym, ◌∙◌, inl, inr, arith}
 use Rattle.std.proofs.lemmas.Bool.{eq-eqb, ne_eqb}
-use Rattle.art_inner.specs.Beside.{IsBeside}
+use Rattle.art_inner.specs.Beside.{IsNextTo}
 use Rattle.art_inner.specs.Inner.{Children, IsAbove, IsRising, child_at, count_below}
 use Rattle.art_inner.specs.Tables.{listed}
 use Rattle.art_parts.specs.declared.names.OpaqueNodePtr.{OpaqueNodePtr}
@@ -46,13 +46,13 @@ none_past (c ∷ cs) last k most past =
     at_later c cs k (λ same. omega (arith, most 0 c (omega arith), past, same)) ∙ none_past cs last k (λ n d within. most (suc n) d (omega arith)) past
 
 -- the child at the place of the byte, or the last one
-pub beside_at : (cs : Children) (b place : ℕ) (e : Entry) → IsRising cs → 0 < length cs → place ≡ min (count_below cs b) (length cs - 1) → slice_get cs place ≡ Some e → IsBeside cs b e
+pub beside_at : (cs : Children) (b place : ℕ) (e : Entry) → IsRising cs → 0 < length cs → place ≡ min (count_below cs b) (length cs - 1) → slice_get cs place ≡ Some e → IsNextTo cs b e
 beside_at cs b place e rising some at is = by_place (by_order (count_below cs b) (length cs))
   where
     there : child_at cs e.0 ≡ Some e.1
     there = child_in_place cs place e.0 e rising is refl
 
-    last : length cs ≤ count_below cs b → IsBeside cs b e
+    last : length cs ≤ count_below cs b → IsNextTo cs b e
     last all =
         let at_end : slice_get cs (length cs - 1) ≡ Some e = sym (ap (slice_get cs) (omega (arith, at, all))) ∙ is in
         let low = entry_below cs b place e (all_below cs b all) is in
@@ -62,7 +62,7 @@ beside_at cs b place e rising some at is = by_place (by_order (count_below cs b)
           below = λ k from to. none_past cs e.0 k (greatest_of cs e rising at_end) from;
         }
 
-    by_place : (count_below cs b < length cs) ⊎ ((count_below cs b ≡ length cs) ⊎ (length cs < count_below cs b)) → IsBeside cs b e
+    by_place : (count_below cs b < length cs) ⊎ ((count_below cs b ≡ length cs) ⊎ (length cs < count_below cs b)) → IsNextTo cs b e
     by_place (inl left) =
         let found = from_byte cs b e rising (sym (ap (slice_get cs) (omega (arith, at, left))) ∙ is) in
         record {

@@ -1,7 +1,7 @@
 //! The child beside a byte: the nearest one in a table with a place for each byte, and else the
 //! first above it, or the last below it where there is none.
 ghost use Rattle.std.specs.Prelude.{◌≡◌, ◌≢◌, ℕ, ◌+◌, ◌<◌, length, Some, None, IsSome, IfSome, IfNone};
-ghost use Rattle.art_inner.specs.Beside.{IsBeside};
+ghost use Rattle.art_inner.specs.Beside.{IsNextTo};
 ghost use Rattle.art_inner.specs.Inner.{child_at};
 
 use crate::any::InnerRef;
@@ -15,7 +15,7 @@ impl<'a, const P: usize> InnerRef<'a, P> {
     pub fn beside(&self, byte: u8) -> (u8, OpaqueNodePtr)
         requires some { 0 < length (ref_view self.now).children }
         requires absent { child_at (ref_view self.now).children byte ≡ None }
-        ensures beside { IsBeside (ref_view self.now).children byte result }
+        ensures beside { IsNextTo (ref_view self.now).children byte result }
         ensures few { length (ref_view self.now).children < 256 }
     {
         match *self {
@@ -31,7 +31,7 @@ impl<'a, const P: usize> InnerRef<'a, P> {
 pub(crate) fn nearest<T: Places>(table: &T, byte: u8) -> (u8, OpaqueNodePtr)
     requires { (other : ℕ) × (other < 256) × (other ≢ byte) ×
         IsSome (child_at (T.children_of table.now) other) }
-    ensures { IsBeside (T.children_of table.now) byte result }
+    ensures { IsNextTo (T.children_of table.now) byte result }
 {
     for distance in 1..=u8::MAX {
         if let Some(below) = child_below(table, byte, distance) {

@@ -41,7 +41,7 @@ impl Model for Direct {
 
 impl Direct {
     ghost use Rattle.art_inner.specs.Inner.{IsRising, child_at, put_child, remove_child};
-    ghost use Rattle.art_inner.specs.Beside.{IsBeside};
+    ghost use Rattle.art_inner.specs.Beside.{IsNextTo};
 
     pub(crate) fn new() -> Self
         ensures { result ≡ [] }
@@ -77,7 +77,7 @@ impl Direct {
     pub(crate) fn beside(&self, byte: u8) -> (u8, OpaqueNodePtr)
         requires some { 0 < length self.now }
         requires absent { child_at self.now byte ≡ None }
-        ensures beside { IsBeside self.now byte result }
+        ensures beside { IsNextTo self.now byte result }
         ensures few { length self.now < 256 }
     {
         prove!(self.len > 0);

@@ -35,7 +35,7 @@ impl Model for Indexed {
 
 impl Indexed {
     ghost use Rattle.art_inner.specs.Inner.{HasPlace, IsRising, child_at, put_child, remove_child};
-    ghost use Rattle.art_inner.specs.Beside.{IsBeside};
+    ghost use Rattle.art_inner.specs.Beside.{IsNextTo};
 
     pub(crate) fn new() -> Self
         ensures { result ≡ [] }
@@ -73,7 +73,7 @@ impl Indexed {
     pub(crate) fn beside(&self, byte: u8) -> (u8, OpaqueNodePtr)
         requires some { 0 < length self.now }
         requires absent { child_at self.now byte ≡ None }
-        ensures beside { IsBeside self.now byte result }
+        ensures beside { IsNextTo self.now byte result }
         ensures bound { length self.now ≤ 48 }
     {
         prove!(self.len > 0);

@@ -34,7 +34,7 @@ impl<const N: usize> Model for Table<N> {
 impl<const N: usize> Table<N> {
     ghost use Rattle.art_inner.specs.Inner.{HasPlace, IsAbove, IsRising, child_at, put_child, remove_child};
     ghost use Rattle.art_inner.specs.Rows.{AreAligned, rows_of};
-    ghost use Rattle.art_inner.specs.Beside.{IsBeside};
+    ghost use Rattle.art_inner.specs.Beside.{IsNextTo};
 
     pub(crate) fn new() -> Self
         ensures { result ≡ [] }
@@ -107,7 +107,7 @@ impl<const N: usize> Table<N> {
     // The first child from a byte on, or the last one where there is none.
     pub(crate) fn beside(&self, byte: u8) -> (u8, OpaqueNodePtr)
         requires { 0 < length self.now }
-        ensures beside { IsBeside self.now byte result }
+        ensures beside { IsNextTo self.now byte result }
         ensures bound { length self.now ≤ N }
     {
         let rows = self.rows();

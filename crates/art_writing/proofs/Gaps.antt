@@ -12,7 +12,7 @@ use Rattle.art_parts.specs.declared.names.LeafPtr.{LeafPtr}
 use Rattle.art_parts.specs.declared.names.OpaqueNodePtr.{OpaqueNodePtr}
 use Rattle.art_inner.proofs.ChildrenLemmas.{between_here, between_after}
 use Rattle.std.proofs.lemmas.Bool.{cases_eq}
-use Rattle.art_inner.specs.Beside.{IsBeside}
+use Rattle.art_inner.specs.Beside.{IsNextTo}
 use Rattle.art_inner.proofs.ChildrenLaws.{at_here, at_later}
 use Rattle.art_model.specs.Layouts.{AreDistinct, name_of, names_of, names_below, slots_of}
 use Rattle.art_model.specs.Radix.{BytesRise, bytes_of, join}
@@ -126,9 +126,9 @@ module _ {K V : Type 0} {s : Nodes K V} {p : InnerPtr} {b : ℕ} {l r : Subtrees
   pub gap_absent : child_at shown.children b ≡ None
   gap_absent = ap (λ z. child_at z b) gap_slots ∙ nothing_there b l r gap.low gap.high
 
-  module _ {found : ℕ × OpaqueNodePtr} (beside : IsBeside shown.children b found) where
-    in_slots : IsBeside (slots_of (join l r)) b found
-    in_slots = subst (λ z. IsBeside z b found) gap_slots beside
+  module _ {found : ℕ × OpaqueNodePtr} (beside : IsNextTo shown.children b found) where
+    in_slots : IsNextTo (slots_of (join l r)) b found
+    in_slots = subst (λ z. IsNextTo z b found) gap_slots beside
 
     -- it is another byte's
     other_byte : found.0 ≢ b
