@@ -2,18 +2,4 @@
 #![tactic(auto)]
 
 #[cfg(test)]
-mod counts;
-#[cfg(test)]
-mod faults;
-#[cfg(test)]
-mod memory;
-#[cfg(test)]
-mod spoiled;
-#[cfg(test)]
-mod spoiling;
-#[cfg(test)]
-mod texts;
-#[cfg(test)]
-mod told;
-#[cfg(test)]
-mod visitors;
+mod tests;

@@ -15,6 +15,7 @@ use Rattle.art_parts.specs.declared.names.NodeType.TheVariants.{Node4, Node16, N
 use Rattle.art_parts.specs.declared.names.LeafPtr.{LeafPtr}
 use Rattle.art_parts.specs.declared.names.InnerPtr.{InnerPtr}
 use Rattle.art_parts.specs.declared.names.OpaqueNodePtr.{OpaqueNodePtr}
+use Rattle.art_model.specs.Keys.{IsFront}
 use Rattle.art_model.specs.Layouts.{leaf_node, inner_node, name_of, slots_of, names_of, names_below, leaf_names, leaf_names_below, inner_names, inner_names_below, Holds, HoldsBelow, AreLinked, IsLayout}
 use Rattle.art_model.specs.Radix.{join, pairs_of, bytes_of, BytesRise, IsRadix, AreRadix}
 use Rattle.art_model.specs.Stores.{node_at, header_at, held_inner, Held, IsUsed, links_at}
@@ -98,33 +99,39 @@ pub record HasPassed {K V : Type 0} (bytes : K × V → List ℕ) (P : ℕ) (s :
   pub leaves : names_of_leaves new.leaves.items ≡ names_of_leaves old.leaves.items ++ leaf_names_below children
   pub count : count_met new ≡ count_met old + length (names_below children)
 
-module _ {K V : Type 0} {bytes : K × V → List ℕ} {P : ℕ} {s : Nodes K V} {old mid : Seen} where
-  -- a leaf was passed
-  pub passed_leaf : {place : List ℕ} {name : OpaqueNodePtr} (leaf_ptr : LeafPtr) → leaf_name leaf_ptr ≡ name → IsFirstMet old mid name place →
-      IsLeafAt bytes P s leaf_ptr place → IsPassed bytes P s old mid place name
-  passed_leaf {place} {name} leaf_ptr is first (x, there, begins) = record {
-    layout = leaf name x;
-    named = refl;
-    holds = subst (λ n. node_at s n ≡ Some (leaf_node x)) is there;
-    radix = begins;
-    meets = meets_one (place_in old) (place_in mid) name place first.fresh first.met;
-    leaves = ap names_of_leaves first.leaves ∙ subst (λ n. names_of_leaves (leaves_with n old.leaves.items) ≡ names_of_leaves old.leaves.items ++ n ∷ []) is (leaf_more leaf_ptr old.leaves.items);
-    count = first.count;
-  }
+-- one name was met
+one_met : {old mid : Seen} {name : OpaqueNodePtr} {place : List ℕ} → IsFirstMet old mid name place → Meets (place_in old) (place_in mid) (name ∷ [])
+one_met {old} {mid} {name} {place} first = meets_one (place_in old) (place_in mid) name place first.fresh first.met
 
 module _ {K V : Type 0} {bytes : K × V → List ℕ} {P : ℕ} {s : Nodes K V} {old mid new : Seen} where
-  -- an inner node was passed
-  pub passed_inner : {place : List ℕ} {name : OpaqueNodePtr} → name.kind ≢ Leaf → IsFirstMet old mid name place → IsChecked bytes P s mid new place name → IsPassed bytes P s old new place name
-  passed_inner {place} {name} proper first checked = record {
-    layout = checked.layout;
-    named = head_is (names_of checked.layout) (names_head checked.layout) checked.names;
-    holds = checked.holds;
-    radix = checked.radix;
-    meets = subst (Meets (place_in old) (place_in new)) (sym checked.names)
-        (meets_then (place_in old) (place_in mid) (place_in new) (name ∷ []) checked.below (meets_one (place_in old) (place_in mid) name place first.fresh first.met) checked.meets);
-    leaves = checked.leaves ∙ ap (λ ls. names_of_leaves ls ++ leaf_names checked.layout) (first.leaves ∙ inner_same name old.leaves.items proper);
-    count = let one = first.count in let more = checked.count in rw checked.names (omega arith);
-  }
+  module _ {place front : List ℕ} {name : OpaqueNodePtr} (first : IsFirstMet old mid name place) (at : front ≡ place) where
+    -- a leaf was passed
+    pub passed_leaf : (leaf_ptr : LeafPtr) → leaf_name leaf_ptr ≡ name → IsLeafAt bytes P s leaf_ptr front → new ≡ mid → IsPassed bytes P s old new place name
+    passed_leaf leaf_ptr is (x, there, begins) same = subst (λ z. IsPassed bytes P s old z place name) (sym same) (record {
+      layout = leaf name x;
+      named = refl;
+      holds = subst (λ n. node_at s n ≡ Some (leaf_node x)) is there;
+      radix = subst (λ p. IsFront p (bytes x)) at begins;
+      meets = one_met first;
+      leaves = ap names_of_leaves first.leaves ∙ subst (λ n. names_of_leaves (leaves_with n old.leaves.items) ≡ names_of_leaves old.leaves.items ++ n ∷ []) is (leaf_more leaf_ptr old.leaves.items);
+      count = first.count;
+    })
+
+    -- an inner node was passed
+    pub passed_inner : {low : Seen} (inner_ptr : InnerPtr) → inner_name inner_ptr ≡ name → inner_ptr.kind ≢ Leaf → IsChecked bytes P s mid low front (inner_name inner_ptr) → new ≡ low →
+        IsPassed bytes P s old new place name
+    passed_inner {low} inner_ptr is proper done same =
+        let checked = subst (IsChecked bytes P s mid low place) is (subst (λ p. IsChecked bytes P s mid low p (inner_name inner_ptr)) at done) in
+        let kept = inner_same name old.leaves.items (subst (λ n. n.kind ≢ Leaf) is proper) in
+        subst (λ z. IsPassed bytes P s old z place name) (sym same) (record {
+          layout = checked.layout;
+          named = head_is (names_of checked.layout) (names_head checked.layout) checked.names;
+          holds = checked.holds;
+          radix = checked.radix;
+          meets = subst (Meets (place_in old) (place_in low)) (sym checked.names) (meets_then (place_in old) (place_in mid) (place_in low) (name ∷ []) checked.below (one_met first) checked.meets);
+          leaves = checked.leaves ∙ ap (λ ls. names_of_leaves ls ++ leaf_names checked.layout) (first.leaves ∙ kept);
+          count = let one = first.count in let more = checked.count in rw checked.names (omega arith);
+        })
 
   -- one child more was passed
   pub passed_more : {front : List ℕ} {all left : List (ℕ × OpaqueNodePtr)} (b : ℕ) (name : OpaqueNodePtr) →

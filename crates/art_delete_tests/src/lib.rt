@@ -2,12 +2,4 @@
 #![tactic(auto)]
 
 #[cfg(test)]
-mod compress;
-#[cfg(test)]
-mod freeing;
-#[cfg(test)]
-mod points;
-#[cfg(test)]
-mod search;
-#[cfg(test)]
-mod shrink;
+mod tests;

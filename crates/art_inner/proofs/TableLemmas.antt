@@ -1,9 +1,8 @@
 -- What a write makes of a sorted table.
 use Rattle.std.proofs.Common.{◌≡◌, ◌≢◌, ℕ, zero, suc, ◌+◌, ◌-◌, ◌<◌, ◌≤◌, true, cond, List, [], ◌∷◌, ◌++◌, length, get_or, set, take, drop, Some, None, IsSome, is_some, refl, sym, ap, ◌∙◌, inl, inr, arith, eqb, subst, add-one}
 use Rattle.std.proofs.lemmas.Grind.{common_steps}
-use Rattle.std.proofs.lemmas.Bool.{ne_eqb, eq-eqb, lt-ltb, le-ltb, eqb-true, eqb-false, ltb-true, ltb-false}
-use Rattle.std.proofs.lemmas.List.{take_all, drop_all, drop_more, append-nil, length-drop, length-take-le, set-append_right, take-append-le}
-use borrow.Rule.Slice.PartMut.{put_mid, post_of}
+use Rattle.std.proofs.lemmas.Bool.{ne_eqb, eq-eqb, lt-ltb, le-ltb}
+use Rattle.std.proofs.lemmas.List.{take_all, length-take-le, take-append-le}
 use Rattle.art_inner.specs.Inner.{Children, IsBelow, IsRising, child_at, put_child, count_below, HasPlace}
 use Rattle.art_parts.specs.declared.names.NodeType.TheVariants.{Leaf}
 use Rattle.art_parts.specs.declared.names.OpaqueNodePtr.{OpaqueNodePtr}

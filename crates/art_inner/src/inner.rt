@@ -6,6 +6,7 @@ use crate::children::Children;
 use crate::direct::Direct;
 use crate::indexed::Indexed;
 use crate::places::Places;
+use crate::resized::{Grows, Shrinks};
 use crate::table::{Table, get_by_lanes};
 use art_parts::header::{FromHeader, Header};
 use art_parts::names::{NodeType, OpaqueNodePtr};
@@ -155,17 +156,6 @@ impl<const P: usize> InnerNode4<P> {
     {
         self.header = header
     }
-
-    /// A Node16 with the same children.
-    #[inline(never)]
-    pub fn grown(self) -> InnerNode16<P>
-        ensures { result ≡ self.entry }
-    {
-        InnerNode16 {
-            header: self.header,
-            table: Table::of(self.iter()),
-        }
-    }
 }
 
 impl<const P: usize> InnerNode<P> for InnerNode4<P> {
@@ -262,17 +252,6 @@ impl<const P: usize> InnerNode16<P> {
     {
         self.header = header
     }
-
-    /// A Node48 with the same children.
-    #[inline(never)]
-    pub fn grown(self) -> InnerNode48<P>
-        ensures { result ≡ self.entry }
-    {
-        InnerNode48 {
-            header: self.header,
-            table: Indexed::of(self.iter()),
-        }
-    }
 }
 
 impl<const P: usize> InnerNode<P> for InnerNode16<P> {
@@ -368,17 +347,6 @@ impl<const P: usize> InnerNode48<P> {
         ensures { self.new ≡ with_header header.entry self.old }
     {
         self.header = header
-    }
-
-    /// A Node256 with the same children.
-    #[inline(never)]
-    pub fn grown(self) -> InnerNodeDirect<P>
-        ensures { result ≡ self.entry }
-    {
-        InnerNodeDirect {
-            header: self.header,
-            table: Direct::of(self.iter()),
-        }
     }
 }
 

@@ -9,6 +9,6 @@ mod indexed;
 pub mod inner;
 mod lanes;
 mod places;
+pub mod resized;
 mod rows;
-mod shrunk;
 mod table;

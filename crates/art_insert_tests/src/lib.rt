@@ -2,12 +2,4 @@
 #![tactic(auto)]
 
 #[cfg(test)]
-mod branch;
-#[cfg(test)]
-mod effect;
-#[cfg(test)]
-mod existing;
-#[cfg(test)]
-mod overwrite;
-#[cfg(test)]
-mod search;
+mod tests;

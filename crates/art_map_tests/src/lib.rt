@@ -2,10 +2,4 @@
 #![tactic(auto)]
 
 #[cfg(test)]
-mod beside_btree;
-#[cfg(test)]
-mod calls;
-#[cfg(test)]
-mod memory;
-#[cfg(test)]
-mod related;
+mod tests;

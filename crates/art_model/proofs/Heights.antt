@@ -8,7 +8,6 @@ use Rattle.std.proofs.lemmas.Bool.{false≢true}
 use Rattle.art_inner.specs.Inner.{Inner}
 use Rattle.art_nodes.specs.Nodes.{Nodes}
 use Rattle.art_parts.specs.Names.{inner_cmp}
-use Rattle.art_parts.specs.declared.names.InnerPtr.{InnerPtr}
 use Rattle.art_parts.specs.declared.names.OpaqueNodePtr.{OpaqueNodePtr}
 use Rattle.art_parts.proofs.NameLemmas.{inner_cmp_total, inner_cmp-IsAntisymmetric}
 use Rattle.art_nodes.proofs.StoreLaws.{gone_elsewhere}
@@ -18,7 +17,7 @@ use Rattle.art_model.specs.Heights.{highest, height, tree_height, height_below}
 use Rattle.art_model.specs.Stores.{node_at}
 use Rattle.art_model.specs.Writes.{as_inner}
 use Rattle.art_model.proofs.Views.{inner_is_used}
-use Rattle.art_model.proofs.Lists.{Each-append}
+use Rattle.art_model.proofs.Lists.{Each-append, Each-weaker}
 use Rattle.art_model.proofs.Names.{taken_distinct, takes_inners}
 
 -- the height read off the store is that of the layout
@@ -59,18 +58,27 @@ one_less {cmp = cmp} total m p there =
     let some : map.len m ≢ 0 = λ z. false≢true (sym (ap is_some (map.get-empty cmp p)) ∙ ap (λ n. is_some (map.get n p)) (sym (map.empty_of_len m z)) ∙ there) in
     omega arith
 
--- so a map of inner nodes has at least as many as a layout
-pub enough_inners : (ns : List OpaqueNodePtr) (m : map.FinMap inner_cmp Inner) → AreDistinct ns → Each (λ n. is_some (map.get m (as_inner n)) ≡ true) ns → length ns ≤ map.len m
-enough_inners [] m d h = omega arith
-enough_inners (n ∷ ns) m d h =
-    let less = one_less inner_cmp_total m (as_inner n) h.0 in
+-- so a map has at least as many keys as there are distinct names that have keys of their own in it
+pub enough_keys : {Key X : Type 0} {cmp : Key → Key → Ordering} → IsTotalOrder cmp → map.IsAntisymmetric cmp → (key : OpaqueNodePtr → Key) (IsProper : OpaqueNodePtr → Type 0) →
+    ((n k : OpaqueNodePtr) → IsProper n → IsProper k → key n ≡ key k → n ≡ k) → (ns : List OpaqueNodePtr) (m : map.FinMap cmp X) → AreDistinct ns →
+    Each (λ n. IsProper n × (is_some (map.get m (key n)) ≡ true)) ns → length ns ≤ map.len m
+enough_keys total same key IsProper own [] m d h = omega arith
+enough_keys {X = X} {cmp = cmp} total same key IsProper own (n ∷ ns) m d h =
+    let less = one_less total m (key n) h.0.1 in
     let kept = go ns d.0 h.1 in
-    let ih = enough_inners ns (map.remove m (as_inner n)) d.1 kept in
+    let ih = enough_keys total same key IsProper own ns (map.remove m (key n)) d.1 kept in
     omega arith
   where
-    go : (ks : List OpaqueNodePtr) → Each (λ k. n ≢ k) ks → Each (λ k. is_some (map.get m (as_inner k)) ≡ true) ks → Each (λ k. is_some (map.get (map.remove m (as_inner n)) (as_inner k)) ≡ true) ks
-    go [] o h = tt
-    go (k ∷ ks) o h = (ap is_some (gone_elsewhere inner_cmp_total inner_cmp-IsAntisymmetric m (as_inner n) (as_inner k) (λ e. o.0 (same_name n k (sym e)))) ∙ h.0, go ks o.1 h.1)
+    go : (ks : List OpaqueNodePtr) → Each (λ k. n ≢ k) ks → Each (λ k. IsProper k × (is_some (map.get m (key k)) ≡ true)) ks →
+        Each (λ k. IsProper k × (is_some (map.get (map.remove m (key n)) (key k)) ≡ true)) ks
+    go [] o is = tt
+    go (k ∷ ks) o is = ((is.0.0, ap is_some (gone_elsewhere total same m (key n) (key k) (λ e. o.0 (own n k h.0.0 is.0.0 (sym e)))) ∙ is.0.1), go ks o.1 is.1)
+
+-- and a map of inner nodes at least as many as a layout
+pub enough_inners : (ns : List OpaqueNodePtr) (m : map.FinMap inner_cmp Inner) → AreDistinct ns → Each (λ n. is_some (map.get m (as_inner n)) ≡ true) ns → length ns ≤ map.len m
+enough_inners ns m d h =
+    enough_keys inner_cmp_total inner_cmp-IsAntisymmetric as_inner (λ n. Unit {0}) (λ n k _ _ e. same_name n k e) ns m d
+    (Each-weaker (λ n. is_some (map.get m (as_inner n)) ≡ true) (λ n. Unit {0} × (is_some (map.get m (as_inner n)) ≡ true)) (λ n there. (tt, there)) ns h)
 
 module _ {K V : Type 0} (s : Nodes K V) where
   mutual

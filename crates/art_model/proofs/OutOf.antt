@@ -5,7 +5,7 @@ use Rattle.std.specs.Option.{option_map}
 use Rattle.std.specs.FinMap.{get, insert, remove}
 use Rattle.std.proofs.lemmas.Bool.{ne_eqb}
 use Rattle.art_inner.specs.Inner.{Inner, remove_child}
-use Rattle.art_parts.specs.Kinds.{kind_capacity, kind_least, smaller_kind}
+use Rattle.art_parts.specs.Kinds.{kind_capacity, kind_least, larger_kind, smaller_kind}
 use Rattle.art_inner.specs.Changes.{without_child}
 use Rattle.art_parts.specs.Names.{leaf_name, inner_name}
 use Rattle.art_nodes.specs.Nodes.{Nodes, change}
@@ -91,7 +91,7 @@ room_in_smaller Node48 n off h = omega arith
 room_in_smaller Node256 n off h = omega arith
 room_in_smaller Leaf n off h = omega arith
 
--- a smaller kind is another, and an inner one
+-- a smaller kind is another
 smaller_other : (kind : NodeType) → kind ≢ Node4 → kind ≢ Leaf → smaller_kind kind ≢ kind
 smaller_other Node4 first end e = first refl
 smaller_other Node16 first end e = absurd cc
@@ -99,12 +99,19 @@ smaller_other Node48 first end e = absurd cc
 smaller_other Node256 first end e = absurd cc
 smaller_other Leaf first end e = end refl
 
+-- the kinds beside an inner one are inner ones
+resized_inner : (kind : NodeType) → kind ≢ Leaf → (smaller_kind kind ≢ Leaf) × (larger_kind kind ≢ Leaf)
+resized_inner Node4 proper = ((λ e. absurd cc), (λ e. absurd cc))
+resized_inner Node16 proper = ((λ e. absurd cc), (λ e. absurd cc))
+resized_inner Node48 proper = ((λ e. absurd cc), (λ e. absurd cc))
+resized_inner Node256 proper = ((λ e. absurd cc), (λ e. absurd cc))
+resized_inner Leaf proper = (proper, proper)
+
 pub smaller_inner : (kind : NodeType) → kind ≢ Leaf → smaller_kind kind ≢ Leaf
-smaller_inner Node4 end e = absurd cc
-smaller_inner Node16 end e = absurd cc
-smaller_inner Node48 end e = absurd cc
-smaller_inner Node256 end e = absurd cc
-smaller_inner Leaf end e = end refl
+smaller_inner kind proper = (resized_inner kind proper).0
+
+pub larger_inner : (kind : NodeType) → kind ≢ Leaf → larger_kind kind ≢ Leaf
+larger_inner kind proper = (resized_inner kind proper).1
 
 -- ---- the leaf at the end of a path goes
 

@@ -62,3 +62,19 @@ module _ {K V : Type 0} (s : Nodes K V) where
 
     pub inner_shown : (t : Tree OpaqueNodePtr (K × V)) → name_of t ≡ inner_name p → Holds (node_at s) t → (shown : Inner) → Some shown ≡ map.get s.inners p → IsShown t p shown
     inner_shown t named held shown there = subst (InnerIs t) (sym there) (inner_is t named held)
+
+-- A node that stands in the store under its name.
+pub record IsThere {K V : Type 0} (s : Nodes K V) (node : Tree OpaqueNodePtr (K × V)) (name : OpaqueNodePtr) : Type 0 where
+  pub named : name_of node ≡ name
+  pub holds : Holds (node_at s) node
+
+module _ {K V : Type 0} {s : Nodes K V} {node : Tree OpaqueNodePtr (K × V)} {name : OpaqueNodePtr} (at : IsThere s node name) where
+  -- what its name leads to is there
+  pub leaf_met : {p : LeafPtr} → leaf_name p ≡ name → None ≡ map.get s.leaves p → ⊥
+  leaf_met {p} is gone = no_leaf_gone s p node (at.named ∙ sym is) at.holds gone
+
+  pub inner_met : {p : InnerPtr} → p.kind ≢ Leaf → inner_name p ≡ name → None ≡ map.get s.inners p → ⊥
+  inner_met {p} proper is gone = no_inner_gone s p proper node (at.named ∙ sym is) at.holds gone
+
+  pub shown_met : {p : InnerPtr} {shown : Inner} → p.kind ≢ Leaf → inner_name p ≡ name → Some shown ≡ map.get s.inners p → IsShown node p shown
+  shown_met {p} {shown} proper is there = inner_shown s p proper node (at.named ∙ sym is) at.holds shown there

@@ -2,10 +2,4 @@
 #![tactic(auto)]
 
 #[cfg(test)]
-mod mixed_calls;
-#[cfg(test)]
-mod names;
-#[cfg(test)]
-mod node;
-#[cfg(test)]
-mod store;
+mod tests;

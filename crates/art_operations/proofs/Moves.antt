@@ -1,5 +1,5 @@
 -- Steps from a tree in a store, whatever the other one holds.
-use Rattle.std.proofs.Common.{◌≡◌, ℕ, List, [], refl, ap, sym, ◌∙◌, subst, Option, Some, None, Bool}
+use Rattle.std.proofs.Common.{◌≡◌, ℕ, List, [], refl, ap, sym, subst, Option, Some, None, Bool}
 use Rattle.std.specs.Option.{option_map}
 use Rattle.art_nodes.specs.Nodes.{Nodes}
 use Rattle.art_parts.specs.declared.names.OpaqueNodePtr.{OpaqueNodePtr}
@@ -107,10 +107,9 @@ module _ {K V : Type 0} {IsClone : K × V → K × V → Type 0} (bytes : K → 
         (new, shows, subst (λ q. Step bytes P IsClone q c r new) (sym same) made)
 
     -- from the tree of a canonical root
-    pub any_from_root : {root : Option OpaqueNodePtr} {name : OpaqueNodePtr} → root ≡ Some name →
-        ((layout : Layout K V) → IsCanonicalTree (of_key bytes) P s name (pairs_of layout) layout → (new : State K V) × (shown new ≡ to) ×
-        Step bytes P IsClone (in_store side s z (Some layout)) c r new) → MakesStep bytes P IsClone (beside side s z root) c r to
-    any_from_root {root} {name} is step = makes_any (λ tree named sound. go tree (named ∙ is) sound)
+    pub any_from_root : {name : OpaqueNodePtr} → ((layout : Layout K V) → IsCanonicalTree (of_key bytes) P s name (pairs_of layout) layout → (new : State K V) ×
+        (shown new ≡ to) × Step bytes P IsClone (in_store side s z (Some layout)) c r new) → MakesStep bytes P IsClone (beside side s z (Some name)) c r to
+    any_from_root {name} step = makes_any go
       where
         go : (tree : Option (Layout K V)) → option_map name_of tree ≡ Some name → IsSound bytes P (in_store side s z tree) → (new : State K V) ×
             (shown new ≡ to) × Step bytes P IsClone (in_store side s z tree) c r new
@@ -129,19 +128,19 @@ module _ {K V : Type 0} {IsClone : K × V → K × V → Type 0} (bytes : K → 
         (in_store side t z new, ap (beside side t z) shows, subst (λ q. Step bytes P IsClone q c r (in_store side t z new)) (sym same) made)
 
     -- a step from no tree
-    pub from_none : {root after : Option OpaqueNodePtr} → root ≡ None → StepFrom bytes P IsClone side s t z None c r after →
-        MakesStep bytes P IsClone (beside side s z root) c r (beside side t z after)
-    from_none {root} {after} none step = makes_step (λ tree named sound. go tree (named ∙ none))
+    pub from_none : {after : Option OpaqueNodePtr} → StepFrom bytes P IsClone side s t z None c r after →
+        MakesStep bytes P IsClone (beside side s z None) c r (beside side t z after)
+    from_none {after} step = makes_step (λ tree named sound. go tree named)
       where
         go : (tree : Option (Layout K V)) → option_map name_of tree ≡ None → StepFrom bytes P IsClone side s t z tree c r after
         go None e = step
         go (Some layout) e = absurd cc
 
     -- a step from the tree of a canonical root
-    pub from_root : {root after : Option OpaqueNodePtr} {name : OpaqueNodePtr} → root ≡ Some name →
+    pub from_root : {after : Option OpaqueNodePtr} {name : OpaqueNodePtr} →
         ((layout : Layout K V) → IsCanonicalTree (of_key bytes) P s name (pairs_of layout) layout →
-        StepFrom bytes P IsClone side s t z (Some layout) c r after) → MakesStep bytes P IsClone (beside side s z root) c r (beside side t z after)
-    from_root {root} {after} {name} is step = makes_step (λ tree named sound. go tree (named ∙ is) sound)
+        StepFrom bytes P IsClone side s t z (Some layout) c r after) → MakesStep bytes P IsClone (beside side s z (Some name)) c r (beside side t z after)
+    from_root {after} {name} step = makes_step go
       where
         go : (tree : Option (Layout K V)) → option_map name_of tree ≡ Some name → IsSound bytes P (in_store side s z tree) → StepFrom bytes P IsClone side s t z tree c r after
         go None e h = absurd cc
@@ -149,38 +148,24 @@ module _ {K V : Type 0} {IsClone : K × V → K × V → Type 0} (bytes : K → 
             let n : name_of layout ≡ name = cc in
             step layout (subst (λ m. IsCanonicalTree (of_key bytes) P s m (pairs_of layout) layout) n h)
 
-    -- a step that leaves the root
-    pub from_kept_root : {root : Option OpaqueNodePtr} {name : OpaqueNodePtr} → root ≡ Some name →
-        ((layout : Layout K V) → IsCanonicalTree (of_key bytes) P s name (pairs_of layout) layout →
-        StepFrom bytes P IsClone side s t z (Some layout) c r (Some name)) → MakesStep bytes P IsClone (beside side s z root) c r (beside side t z root)
-    from_kept_root is step = from_root is (λ layout by. subst (λ after. StepFrom bytes P IsClone side s t z (Some layout) c r after) (sym is) (step layout by))
+  -- ---- commands that only read, and deletions that find nothing: the tree stays
 
-  -- ---- commands that only read, and deletions that find nothing
-
-  module _ (side : Side) {s : Nodes K V} {root : Option OpaqueNodePtr} {c : Command K V} (z : Nodes K V) where
-    -- what is asked of every tree of the root is answered by a step
-    pub asked : {r : Reply K V} → ((tree : Option (Layout K V)) → Answers bytes IsClone (pairs_in tree) c r (pairs_in tree) →
-        IsSound bytes P (in_store side s z tree) → Step bytes P IsClone (in_store side s z tree) c r (in_store side s z tree)) →
-        ((pairs : List (K × V)) (tree : Option (Layout K V)) → IsRootOf (of_key bytes) P s root pairs tree → Answers bytes IsClone pairs c r pairs) →
-        MakesStep bytes P IsClone (beside side s z root) c r (beside side s z root)
-    asked step answers =
-        makes_step side z (λ tree named sound. (tree, named, step tree (answers (pairs_in tree) tree (subst (λ n. IsRootOf (of_key bytes) P s n (pairs_in tree) tree) named sound)) sound))
-
-  module _ (side : Side) {s : Nodes K V} {c : Command K V} (z : Nodes K V) (tree : Option (Layout K V)) where
-    pub found_step : {found : Bool} → Answers bytes IsClone (pairs_in tree) c (Found found) (pairs_in tree) →
-        IsSound bytes P (in_store side s z tree) → Step bytes P IsClone (in_store side s z tree) c (Found found) (in_store side s z tree)
-    found_step answers sound = record { answers = answers; refuses = tt; sound = sound; changes = nothing z tree (refl, refl); promises = refl }
-
-    pub match_step : {len : Option ℕ} → Answers bytes IsClone (pairs_in tree) c (MatchLen len) (pairs_in tree) →
-        IsSound bytes P (in_store side s z tree) → Step bytes P IsClone (in_store side s z tree) c (MatchLen len) (in_store side s z tree)
-    match_step answers sound = record { answers = answers; refuses = tt; sound = sound; changes = nothing z tree (refl, refl); promises = refl }
-
-  -- a deletion that finds nothing, in no tree and in the tree of a root
   module _ (side : Side) {s : Nodes K V} {c : Command K V} (z : Nodes K V) where
-    pub absent : Answers bytes IsClone [] c (Deleted None) [] → StepFrom bytes P IsClone side s s z None c (Deleted None) None
-    absent answers = (None, refl, record { answers = answers; refuses = tt; sound = refl; changes = nothing z None (refl, refl); promises = refl })
+    -- what is asked of the tree of a root is answered by a step
+    pub asked : {r : Reply K V} {name : OpaqueNodePtr} → ((layout : Layout K V) → IsCanonicalTree (of_key bytes) P s name (pairs_of layout) layout →
+        IsSound bytes P (in_store side s z (Some layout)) → Step bytes P IsClone (in_store side s z (Some layout)) c r (in_store side s z (Some layout))) →
+        MakesStep bytes P IsClone (beside side s z (Some name)) c r (beside side s z (Some name))
+    asked step = from_root side z (λ layout by. (Some layout, ap Some by.stands.0.named, step layout by (own_pairs bytes P by)))
 
-    pub absent_at : {root : OpaqueNodePtr} {layout : Layout K V} → IsCanonicalTree (of_key bytes) P s root (pairs_of layout) layout →
-        Answers bytes IsClone (pairs_of layout) c (Deleted None) (pairs_of layout) → StepFrom bytes P IsClone side s s z (Some layout) c (Deleted None) (Some root)
-    absent_at {root} {layout} by answers =
-        (Some layout, ap Some by.stands.0.named, record { answers = answers; refuses = tt; sound = own_pairs bytes P by; changes = nothing z (Some layout) (refl, refl); promises = refl })
+    module _ (tree : Option (Layout K V)) where
+      pub found_step : {found : Bool} → Answers bytes IsClone (pairs_in tree) c (Found found) (pairs_in tree) →
+          IsSound bytes P (in_store side s z tree) → Step bytes P IsClone (in_store side s z tree) c (Found found) (in_store side s z tree)
+      found_step answers sound = record { answers = answers; refuses = tt; sound = sound; changes = nothing z tree (refl, refl); promises = refl }
+
+      pub match_step : {len : Option ℕ} → Answers bytes IsClone (pairs_in tree) c (MatchLen len) (pairs_in tree) →
+          IsSound bytes P (in_store side s z tree) → Step bytes P IsClone (in_store side s z tree) c (MatchLen len) (in_store side s z tree)
+      match_step answers sound = record { answers = answers; refuses = tt; sound = sound; changes = nothing z tree (refl, refl); promises = refl }
+
+      pub absent_step : Answers bytes IsClone (pairs_in tree) c (Deleted None) (pairs_in tree) →
+          IsSound bytes P (in_store side s z tree) → Step bytes P IsClone (in_store side s z tree) c (Deleted None) (in_store side s z tree)
+      absent_step answers sound = record { answers = answers; refuses = tt; sound = sound; changes = nothing z tree (refl, refl); promises = refl }

@@ -17,7 +17,7 @@ use Rattle.art_model.specs.Stores.{pair_of}
 use Rattle.art_model.proofs.Canonical.{tree_radix}
 use Rattle.art_operations.specs.Answers.{Answers}
 use Rattle.art_writing.specs.Deleted.{TouchesFor, ParentChange, no_parent, keeps, shrinks, is_compressed, parent_change, LeadsTo, placed_for_deletion}
-use Rattle.art_writing.specs.Inserted.{IsPointIn, Touches, alone, is_full, placed_for}
+use Rattle.art_writing.specs.Inserted.{Touches, alone, is_full, placed_for}
 use Rattle.art_operations.specs.Needs.{needs}
 use Rattle.art_writing.specs.Points.{AnswersTo}
 use Rattle.art_operations.specs.Steps.{Changes, MayRefuse, Promises, TouchesBy}
@@ -29,11 +29,11 @@ use Rattle.art_writing.specs.declared.insert.InsertPoint.{InsertPoint}
 use Rattle.art_writing.specs.declared.insert.InsertPrefixError.{InsertPrefixError}
 use Rattle.art_operations.specs.declared.run.Command.{Command}
 use Rattle.art_operations.specs.declared.run.Side.{Side}
-use Rattle.art_operations.specs.declared.run.Command.TheVariants.{Insert, InsertPrefix, Delete, DeleteMin, DeleteMax, Contains, LongestMatch, Clone}
+use Rattle.art_operations.specs.declared.run.Command.TheVariants.{Insert, InsertPrefix, Delete, DeleteMin, DeleteMax, Clone}
 use Rattle.art_operations.specs.declared.run.Reply.TheVariants.{Inserted, Conflict, Deleted, NoMemory}
 use Rattle.art_writing.proofs.Standing.{tree_stays}
 use Rattle.art_operations.proofs.Moves.{Layout, StepFrom, has_tree, own_pairs, nothing, in_store}
-use Rattle.art_writing.proofs.KeysFound.{conflict_new}
+use Rattle.art_writing.proofs.KeysFound.{conflict_new, not_false}
 use Rattle.art_writing.proofs.Unstored.{refused_new}
 use Rattle.art_operations.proofs.Needed.{needs_inserted, needs_deleted}
 
@@ -67,11 +67,6 @@ pairs_back (Some x) = refl
 pub at_root : {K V : Type 0} (bytes : K → List ℕ) (P : ℕ) {s : Nodes K V} {root name : OpaqueNodePtr} {layout : Layout K V} →
     IsCanonicalTree (of_key bytes) P s root (pairs_of layout) layout → name ≡ name_of layout → IsCanonicalTree (of_key bytes) P s name (pairs_of layout) layout
 at_root bytes P {s} {root} {name} {layout} by is = subst (λ n. IsCanonicalTree (of_key bytes) P s n (pairs_of layout) layout) (sym (is ∙ by.stands.0.named)) by
-
--- a found point is one of the store
-pub is_point : {K V : Type 0} (bytes : K → List ℕ) (P : ℕ) {s : Nodes K V} {root : OpaqueNodePtr} {pairs : List (K × V)} {layout : Layout K V}
-    {key : List ℕ} {point : InsertPoint} → IsCanonicalTree (of_key bytes) P s root pairs layout → AnswersTo (of_key bytes) P layout key point → IsPointIn (of_key bytes) P s key point
-is_point bytes P {s} {root} {pairs} {layout} by at = (pairs, layout, subst (λ n. IsCanonicalTree (of_key bytes) P s n pairs layout) (sym (at.root_is ∙ by.stands.0.named)) by, at)
 
 -- What an applied insert point leaves of a tree.
 pub record HasApplied {K V : Type 0} (bytes : K → List ℕ) (P : ℕ) (s t : Nodes K V) (layout : Layout K V) (pair : K × V) (point : InsertPoint)
@@ -135,9 +130,9 @@ module _ {K V : Type 0} (bytes : K → List ℕ) (P : ℕ) {s : Nodes K V} {root
     )
 
   -- a key in conflict, with its bytes or without memory for them
-  module _ {IsClone : K × V → K × V → Type 0} {side : Side} {k : K} {v : V} (z : Nodes K V) (related : is_conflict (of_key bytes) (bytes k) (pairs_of layout) ≡ true) where
+  module _ {IsClone : K × V → K × V → Type 0} {side : Side} {k : K} {v : V} (z : Nodes K V) (refused : is_conflict (of_key bytes) (bytes k) (pairs_of layout) ≡ false → ⊥) where
     pub conflict_step : (error : InsertPrefixError) → boxed_slice_items error.byte_repr ≡ bytes k → StepFrom bytes P IsClone side s s z (Some layout) (Insert k v) (Conflict k v error) (Some root)
-    conflict_step error repr = (
+    conflict_step error repr = let related = not_false (is_conflict (of_key bytes) (bytes k) (pairs_of layout)) refused in (
       Some layout,
       ap Some by.stands.0.named,
       record {
@@ -150,7 +145,7 @@ module _ {K V : Type 0} (bytes : K → List ℕ) (P : ℕ) {s : Nodes K V} {root
     )
 
     pub no_bytes_step : StepFrom bytes P IsClone side s s z (Some layout) (Insert k v) (NoMemory (Some (k, v))) (Some root)
-    no_bytes_step = (
+    no_bytes_step = let related = not_false (is_conflict (of_key bytes) (bytes k) (pairs_of layout)) refused in (
       Some layout,
       ap Some by.stands.0.named,
       record {
@@ -167,14 +162,8 @@ module _ {K V : Type 0} (bytes : K → List ℕ) (P : ℕ) {s : Nodes K V} {root
   -- a deletion touches a few names, whatever command asks for it
   touched : (IsClone : K × V → K × V → Type 0) (t : Nodes K V) (x : K × V) (d : Command K V) →
       Answers bytes IsClone (pairs_of layout) d (Deleted (Some x)) (remove_key (of_key bytes) (bytes x.0) (pairs_of layout)) → TouchesAtMost 2 2 4 s t → TouchesBy bytes (Some layout) d s t
-  touched IsClone t x (Insert k v) h few = few
   touched IsClone t x (InsertPrefix k v) h few = absurd h
-  touched IsClone t x (Delete key) h few = few
-  touched IsClone t x DeleteMin h few = few
-  touched IsClone t x DeleteMax h few = few
-  touched IsClone t x Clone h few = few
-  touched IsClone t x (Contains key) h few = few
-  touched IsClone t x (LongestMatch key) h few = few
+  touched IsClone t x d h few = few
 
   module _ {IsClone : K × V → K × V → Type 0} {side : Side} {t : Nodes K V} {c : Command K V} {x : K × V} {point : DeletePoint} (z : Nodes K V)
       (leads : LeadsTo layout x point) (takes : Answers bytes IsClone (pairs_of layout) c (Deleted (Some x)) (remove_key (of_key bytes) (bytes x.0) (pairs_of layout))) where
@@ -214,44 +203,24 @@ module _ {K V : Type 0} (bytes : K → List ℕ) (P : ℕ) {s : Nodes K V} {root
       where
         answers : (d : Command K V) → Answers bytes IsClone (pairs_of layout) d (Deleted (Some x))
             (remove_key (of_key bytes) (bytes x.0) (pairs_of layout)) → Answers bytes IsClone (pairs_of layout) d (NoMemory None) (pairs_of layout)
-        answers (Insert k v) h = absurd h
-        answers (InsertPrefix k v) h = absurd h
         answers (Delete key) h = (refl, refl)
         answers DeleteMin h = (refl, refl)
         answers DeleteMax h = (refl, refl)
-        answers Clone h = absurd h
-        answers (Contains key) h = absurd h
-        answers (LongestMatch key) h = absurd h
+        answers d h = absurd h
 
         changes : (d : Command K V) → Answers bytes IsClone (pairs_of layout) d (Deleted (Some x))
             (remove_key (of_key bytes) (bytes x.0) (pairs_of layout)) → Changes bytes (in_store side s z (Some layout)) d (NoMemory None) (in_store side t z (Some layout))
-        changes (Insert k v) h = absurd h
-        changes (InsertPrefix k v) h = absurd h
-        changes (Delete key) h = nothing z (Some layout) is.same
-        changes DeleteMin h = nothing z (Some layout) is.same
-        changes DeleteMax h = nothing z (Some layout) is.same
         changes Clone h = absurd h
-        changes (Contains key) h = absurd h
-        changes (LongestMatch key) h = absurd h
+        changes d h = nothing z (Some layout) is.same
 
         refuses : (d : Command K V) → Answers bytes IsClone (pairs_of layout) d (Deleted (Some x))
             (remove_key (of_key bytes) (bytes x.0) (pairs_of layout)) → (is_covered (needs bytes P d (pairs_of layout)) s.promise ≡ true → ⊥) → MayRefuse bytes P d (in_store side s z (Some layout))
         refuses (Insert k v) h off = absurd h
-        refuses (InsertPrefix k v) h off = absurd h
-        refuses (Delete key) h off = off
-        refuses DeleteMin h off = off
-        refuses DeleteMax h off = off
         refuses Clone h off = absurd h
-        refuses (Contains key) h off = absurd h
-        refuses (LongestMatch key) h off = absurd h
+        refuses d h off = off
 
         promises : (d : Command K V) → Answers bytes IsClone (pairs_of layout) d (Deleted (Some x))
             (remove_key (of_key bytes) (bytes x.0) (pairs_of layout)) → t.promise ≡ no_promise → Promises bytes P (in_store side s z (Some layout)) d (NoMemory None) (in_store side t z (Some layout))
         promises (Insert k v) h void = absurd h
-        promises (InsertPrefix k v) h void = absurd h
-        promises (Delete key) h void = inr void
-        promises DeleteMin h void = inr void
-        promises DeleteMax h void = inr void
         promises Clone h void = absurd h
-        promises (Contains key) h void = absurd h
-        promises (LongestMatch key) h void = absurd h
+        promises d h void = inr void

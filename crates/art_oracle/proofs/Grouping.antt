@@ -253,13 +253,15 @@ module _ {K V : Type 0} {bytes : K → List ℕ} (P : ℕ) (old mid written new 
         its = ap₂ (λ (p q : List (K × V)). p ++ q) t.its (cs.its ∙ others_same) ∙ sym split;
         leaves_are = ap₂ (λ (p q : List OpaqueNodePtr). p ++ q) t.leaves_are cs.leaves_are ∙ sym (map-append leaf_name group others) ∙ ap (map leaf_name) (take-append-drop n leaves);
         holds = (held_still old mid written parent (with_child b name) from inner_kind there kept leaves_written change_is new kept' t.tree t.holds (apart t), cs.holds);
-        fresh = Each-append (λ n. held old n ≡ None) (inner_names t.tree) (inner_names_below cs.children) t.fresh
-            (Each-weaker (λ n. held written n ≡ None) (λ n. held old n ≡ None) (λ n free. was_free old mid kept n (now_free n free)) (inner_names_below cs.children) cs.fresh);
-        added = λ n used. from_rest n (cs.added n used);
-        distinct = Pairwise-append ◌≢◌ (inner_names t.tree) (inner_names_below cs.children) t.distinct cs.distinct
-            (Each-weaker (λ n. IsUsed mid n) (λ n. Each (λ k. n ≢ k) (inner_names_below cs.children))
-            (λ n used. Each-weaker (λ k. held written k ≡ None) (λ k. n ≢ k) (λ k free e. used (ap (held mid) e ∙ now_free k free))
-            (inner_names_below cs.children) cs.fresh) (inner_names t.tree) (inner_used (node_at mid) (IsUsed mid) (node_used mid) t.tree t.holds));
+        come = record {
+          fresh = Each-append (λ n. held old n ≡ None) (inner_names t.tree) (inner_names_below cs.children) t.come.fresh
+              (Each-weaker (λ n. held written n ≡ None) (λ n. held old n ≡ None) (λ n free. was_free old mid kept n (now_free n free)) (inner_names_below cs.children) cs.come.fresh);
+          added = λ n used. from_rest n (cs.come.added n used);
+          distinct = Pairwise-append ◌≢◌ (inner_names t.tree) (inner_names_below cs.children) t.come.distinct cs.come.distinct
+              (Each-weaker (λ n. IsUsed mid n) (λ n. Each (λ k. n ≢ k) (inner_names_below cs.children))
+              (λ n used. Each-weaker (λ k. held written k ≡ None) (λ k. n ≢ k) (λ k free e. used (ap (held mid) e ∙ now_free k free))
+              (inner_names_below cs.children) cs.come.fresh) (inner_names t.tree) (inner_used (node_at mid) (IsUsed mid) (node_used mid) t.tree t.holds));
+        };
       }
     where
       now_free : (k : OpaqueNodePtr) → held written k ≡ None → held mid k ≡ None
@@ -268,7 +270,7 @@ module _ {K V : Type 0} {bytes : K → List ℕ} (P : ℕ) (old mid written new 
       apart : (t : Built bytes P (front ++ b ∷ []) (take n leaves) old mid name) → Each (λ k. k ≢ inner_name parent) (names_of t.tree)
       apart t = names_each (λ k. k ≢ inner_name parent) t.tree
           (subst (Each (λ k. k ≢ inner_name parent)) (sym t.leaves_are) (each_map leaf_name (λ k. k ≢ inner_name parent) (take n leaves) (no_leaf (take n leaves))))
-          (Each-weaker (λ k. held old k ≡ None) (λ k. k ≢ inner_name parent) (λ k free e. inner_is_used old parent from inner_kind there (ap (held old) (sym e) ∙ free)) (inner_names t.tree) t.fresh)
+          (Each-weaker (λ k. held old k ≡ None) (λ k. k ≢ inner_name parent) (λ k free e. inner_is_used old parent from inner_kind there (ap (held old) (sym e) ∙ free)) (inner_names t.tree) t.come.fresh)
         where
           no_leaf : (ps : List LeafPtr) → Each (λ p. leaf_name p ≢ inner_name parent) ps
           no_leaf [] = tt
@@ -279,7 +281,7 @@ module _ {K V : Type 0} {bytes : K → List ℕ} (P : ℕ) (old mid written new 
       from_group n (inr h) = inr (in_left n (inner_names t.tree) (inner_names_below cs.children) h)
 
       from_rest : (n : OpaqueNodePtr) → IsUsed written n ⊎ IsIn n (inner_names_below cs.children) → IsUsed old n ⊎ IsIn n (inner_names t.tree ++ inner_names_below cs.children)
-      from_rest n (inl used) = from_group n (t.added n (used_written old mid written parent (with_child b name) from inner_kind there kept leaves_written change_is n used))
+      from_rest n (inl used) = from_group n (t.come.added n (used_written old mid written parent (with_child b name) from inner_kind there kept leaves_written change_is n used))
       from_rest n (inr h) = inr (in_right n (inner_names t.tree) (inner_names_below cs.children) h)
 
 -- no leaves make no children
@@ -297,8 +299,6 @@ module _ {K V : Type 0} (bytes : K → List ℕ) (P : ℕ) (old : Nodes K V) (fr
         its = refl;
         leaves_are = refl;
         holds = tt;
-        fresh = tt;
-        added = λ n used. inl used;
-        distinct = tt;
+        come = record { fresh = tt; added = λ n used. inl used; distinct = tt };
       }
   empty_below (p ∷ ps) e = absurd (omega arith)

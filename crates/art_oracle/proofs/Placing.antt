@@ -190,9 +190,7 @@ module _ {K V : Type 0} (bytes : K → List ℕ) (P : ℕ) where
             its = ap (λ o. leaf_pair o ++ []) (sym i);
             leaves_are = refl;
             holds = ap (λ o. option_map (seen Leaf) (option_map held_leaf o)) i;
-            fresh = tt;
-            added = λ n used. inl used;
-            distinct = tt;
+            come = record { fresh = tt; added = λ n used. inl used; distinct = tt };
           }
 
   -- the node that was placed first, with the children that came to it
@@ -236,10 +234,12 @@ module _ {K V : Type 0} (bytes : K → List ℕ) (P : ℕ) where
       its = under.below.its ∙ ap (λ m. pairs_at m leaves) same;
       leaves_are = under.below.leaves_are;
       holds = (here, under.below.holds);
-      fresh = (placed_free old p inner_kind free, Each-weaker (λ n. held mid n ≡ None) (λ n. held old n ≡ None) (was_free old mid mid_kept) (inner_names_below under.below.children) under.below.fresh);
-      added = λ n used. from_below n (under.below.added n used);
-      distinct =
-          (Each-weaker (λ n. held mid n ≡ None) (λ n. inner_name p ≢ n) (λ n none e. p_used (ap (held mid) e ∙ none)) (inner_names_below under.below.children) under.below.fresh, under.below.distinct);
+      come = record {
+        fresh = (placed_free old p inner_kind free, Each-weaker (λ n. held mid n ≡ None) (λ n. held old n ≡ None) (was_free old mid mid_kept) (inner_names_below under.below.children) under.below.come.fresh);
+        added = λ n used. from_below n (under.below.come.added n used);
+        distinct =
+            (Each-weaker (λ n. held mid n ≡ None) (λ n. inner_name p ≢ n) (λ n none e. p_used (ap (held mid) e ∙ none)) (inner_names_below under.below.children) under.below.come.fresh, under.below.come.distinct);
+      };
     }
       where
         from_mid : (n : OpaqueNodePtr) → IsUsed mid n → (n ≡ inner_name p) ⊎ (n ≢ inner_name p) → IsUsed old n ⊎ IsIn n (inner_name p ∷ inner_names_below under.below.children)
@@ -312,34 +312,53 @@ module _ {K V : Type 0} (bytes : K → List ℕ) (store : finite.FinMap leaf_cmp
       after : (way key k : List ℕ) (depth : ℕ) → length way ≡ depth → IsFront way key → key ≡ k → key ≡ way ++ drop depth k
       after way key k depth l (r, w) e = w ∙ ap (λ m. way ++ m) (sym (after_front way key r w) ∙ ap₂ (λ (m : ℕ) (q : List ℕ). drop m q) l e)
 
-  -- the same, of the bytes after the way as they were read
-  module _ (len : ℕ) (rf rl : List ℕ) (ready : Ready bytes store way leaves depth) (e : Ends bytes store leaves kf kl) (f : rf ≡ drop depth kf)
-      (l : rl ≡ drop depth kl) (n : len ≡ length (common_front rf rl)) where
-    len_is : len ≡ length part_of
+-- the same of two leaves or more
+module _ {K V : Type 0} (bytes : K → List ℕ) (store : finite.FinMap leaf_cmp (LeafNode K V)) (way : List ℕ) (leaves : List LeafPtr) (depth : ℕ)
+    (ready : Ready bytes store way leaves depth) (two : 2 ≤ length leaves) where
+  abbrev first_bytes : List ℕ
+  first_bytes = leaf_key bytes (finite.get store (get_or leaves 0 (record { slot = 0 })))
+
+  abbrev last_bytes : List ℕ
+  last_bytes = leaf_key bytes (finite.get store (get_or leaves (length leaves - 1) (record { slot = 0 })))
+
+  abbrev its_part : List ℕ
+  its_part = common_front (drop depth first_bytes) (drop depth last_bytes)
+
+  its_ends : Ends bytes store leaves first_bytes last_bytes
+  its_ends = ends bytes store leaves (record { slot = 0 }) ready.there (omega arith) (λ one. omega arith)
+
+  its_parting : Parting bytes store way leaves depth first_bytes last_bytes its_ends
+  its_parting = parting bytes store way leaves depth first_bytes last_bytes ready its_ends
+
+  pub last_is_long : depth ≤ length last_bytes
+  last_is_long = its_parting.in_last
+
+  -- whose bytes after the way were read
+  module _ {len : ℕ} {rf rl : List ℕ} (f : rf ≡ drop depth first_bytes) (l : rl ≡ drop depth last_bytes) (n : len ≡ length (common_front rf rl)) where
+    len_is : len ≡ length its_part
     len_is = n ∙ ap₂ (λ (u v : List ℕ). length (common_front u v)) f l
 
-    pub at_within : depth + len ≤ length kf
-    at_within = let w = (parting ready e).at_in_first in let i = len_is in omega arith
+    pub at_within : depth + len ≤ length first_bytes
+    at_within = let w = its_parting.at_in_first in let i = len_is in omega arith
 
-    pub ready_below : ReadyBelow bytes store (way ++ part_of) leaves (depth + len)
-    ready_below = subst (λ m. ReadyBelow bytes store (way ++ part_of) leaves (depth + m)) (sym len_is) (parting ready e).below
+    pub ready_below : ReadyBelow bytes store (way ++ its_part) leaves (depth + len)
+    ready_below = subst (λ m. ReadyBelow bytes store (way ++ its_part) leaves (depth + m)) (sym len_is) its_parting.below
 
     pub starts : (P : ℕ) (node : Inner) → node ≡ record { prefix = record { len = len; stored = take (min len P) rf }; children = [] } → Starts bytes P store way leaves depth (depth + len) node
     starts P node d =
-        let p = parting ready e in
-        let part_read : take len rf ≡ part_of = ap₂ (λ (m : ℕ) (u : List ℕ). take m u) len_is f ∙ p.part_is in
+        let part_read : take len rf ≡ its_part = ap₂ (λ (m : ℕ) (u : List ℕ). take m u) len_is f ∙ its_parting.part_is in
         let long : len ≤ length rf = rw n (common_fits rf rl) in
         record {
-          part = part_of;
+          part = its_part;
           at_is = ap (λ m. depth + m) len_is;
           node_is = d ∙ header_started P len rf long ∙
               ap (started P) part_read;
           below = ready_below;
-          x = e.x;
-          y = e.y;
-          ys = e.ys;
-          pairs_are = e.pairs_are;
-          differ = p.differ;
+          x = its_ends.x;
+          y = its_ends.y;
+          ys = its_ends.ys;
+          pairs_are = its_ends.pairs_are;
+          differ = its_parting.differ;
         }
 
 -- A node that was placed for leaves, and gets its children.

@@ -148,7 +148,7 @@ module _ {K V : Type 0} {bytes : K → List ℕ} {P : ℕ} {old mid new : Nodes 
     (H : HasLeaves old mid names pairs) (b : Built bytes P [] names mid new root) (same : new.leaves ≡ mid.leaves) where
   distinct : AreDistinct (names_of b.tree)
   distinct = all_distinct (IsUsed mid) (λ n. held mid n ≡ None) (λ x y used free e. used (ap (held mid) e ∙ free)) b.tree
-      (subst AreDistinct (sym b.leaves_are) (names_distinct H)) b.distinct (subst (Each (IsUsed mid)) (sym b.leaves_are) (names_used H)) b.fresh
+      (subst AreDistinct (sym b.leaves_are) (names_distinct H)) b.come.distinct (subst (Each (IsUsed mid)) (sym b.leaves_are) (names_used H)) b.come.fresh
 
   linked : AreLinked (links_at new) None (leaf_names b.tree) None
   linked = subst (λ l. AreLinked (links_at new) None l None) (sym b.leaves_are)
@@ -162,7 +162,7 @@ module _ {K V : Type 0} {bytes : K → List ℕ} {P : ℕ} {old mid new : Nodes 
   whole_tree = canonical_from (record { named = b.named; radix = b.radix; pairs_are = b.its ∙ H.placed.its; holds = b.holds; distinct = distinct; linked = linked })
 
   pub whole_added : AddsTree (of_key bytes) P old new (Some root) pairs
-  whole_added name used = from_mid (b.added name used)
+  whole_added name used = from_mid (b.come.added name used)
     where
       in_leaves : IsUsed old name ⊎ IsIn name (map leaf_name names) → IsUsed old name ⊎ IsInTree (of_key bytes) P new (Some root) pairs name
       in_leaves (inl u) = inl u
@@ -178,4 +178,4 @@ module _ {K V : Type 0} {bytes : K → List ℕ} {P : ℕ} {old mid new : Nodes 
     where
       free : Each (λ n. held old n ≡ None) (names_of b.tree)
       free = names_each (λ n. held old n ≡ None) b.tree (subst (Each (λ n. held old n ≡ None)) (sym b.leaves_are) (names_free H))
-          (Each-weaker (λ n. held mid n ≡ None) (λ n. held old n ≡ None) (was_free old mid (leaves_kept H)) (inner_names b.tree) b.fresh)
+          (Each-weaker (λ n. held mid n ≡ None) (λ n. held old n ≡ None) (was_free old mid (leaves_kept H)) (inner_names b.tree) b.come.fresh)

@@ -50,6 +50,12 @@ module _ {K V : Type 0} where
   KeepsAllBut old new parent =
       (name : OpaqueNodePtr) → name ≢ inner_name parent → IsUsed old name → held new name ≡ held old name
 
+  -- the names were free, have come into use, and no others have
+  pub record HaveCome (old new : Nodes K V) (names : List OpaqueNodePtr) : Type 0 where
+    pub fresh : Each (λ n. held old n ≡ None) names
+    pub added : (n : OpaqueNodePtr) → IsUsed new n → IsUsed old n ⊎ IsIn n names
+    pub distinct : AreDistinct names
+
   -- the pairs have leaves, which were placed under these names
   pub record IsPlaced (old new : finite.FinMap leaf_cmp (LeafNode K V)) (names : List LeafPtr)
       (pairs : List (K × V)) : Type 0 where
@@ -123,9 +129,7 @@ module _ {K V : Type 0} where
         pub its : pairs_of tree ≡ pairs_at old.leaves leaves
         pub leaves_are : leaf_names tree ≡ map leaf_name leaves
         pub holds : Holds (node_at new) tree
-        pub fresh : Each (λ n. held old n ≡ None) (inner_names tree)
-        pub added : (n : OpaqueNodePtr) → IsUsed new n → IsUsed old n ⊎ IsIn n (inner_names tree)
-        pub distinct : AreDistinct (inner_names tree)
+        pub come : HaveCome old new (inner_names tree)
 
       -- the trees of the groups of the leaves, which came to a node's children
       pub record BuiltBelow (front : List ℕ) (leaves : List LeafPtr) (old new : Nodes K V) (from to : Inner)
@@ -142,9 +146,7 @@ module _ {K V : Type 0} where
         pub its : pairs_below children ≡ pairs_at old.leaves leaves
         pub leaves_are : leaf_names_below children ≡ map leaf_name leaves
         pub holds : HoldsBelow (node_at new) children
-        pub fresh : Each (λ n. held old n ≡ None) (inner_names_below children)
-        pub added : (n : OpaqueNodePtr) → IsUsed new n → IsUsed old n ⊎ IsIn n (inner_names_below children)
-        pub distinct : AreDistinct (inner_names_below children)
+        pub come : HaveCome old new (inner_names_below children)
 
       -- the same of a node in the store
       pub record BuiltUnder (front : List ℕ) (leaves : List LeafPtr) (old new : Nodes K V)

@@ -2,14 +2,4 @@
 #![tactic(auto)]
 
 #[cfg(test)]
-mod against_oracle;
-#[cfg(test)]
-mod built;
-#[cfg(test)]
-mod by_list;
-#[cfg(test)]
-mod drawn;
-#[cfg(test)]
-mod refused;
-#[cfg(test)]
-mod sorted_pairs;
+mod tests;

@@ -2,14 +2,4 @@
 #![tactic(auto)]
 
 #[cfg(test)]
-mod clones;
-#[cfg(test)]
-mod iterator;
-#[cfg(test)]
-mod kept_keys;
-#[cfg(test)]
-mod lookup;
-#[cfg(test)]
-mod minmax;
-#[cfg(test)]
-mod run;
+mod tests;

@@ -1,20 +1,24 @@
 -- what the comparison at the last leaf tells
-use Rattle.std.proofs.Common.{◌≡◌, ℕ, ◌+◌, ◌≤◌, ◌↔◌, min, List, [], ◌∷◌, ◌++◌, length, drop, refl, subst, ap, sym, ◌∙◌, arith, append_assoc, length-append, Some, Bool, true, false, IsTrue}
+use Rattle.std.proofs.Common.{◌≡◌, ℕ, ◌+◌, ◌≤◌, ◌↔◌, min, List, [], ◌∷◌, ◌++◌, length, drop, refl, subst, ap, sym, ◌∙◌, arith, append_assoc, length-append, Option, Some, None, Bool, true, false, IsTrue}
 use Rattle.std.proofs.lemmas.Bool.{false≢true}
 use Rattle.std.proofs.lemmas.List.{append_cancel_left}
 use Rattle.art_model.specs.Keys.{IsFront, is_front, are_same}
 use Rattle.art_model.specs.Pairs.{match_of, with_key}
-use Rattle.art_model.specs.Lookups.{FindsLeaf, nodes_on_way}
+use Rattle.art_model.specs.Lookups.{nodes_on_way}
+use Rattle.art_model.specs.Roots.{ForTree}
 use Rattle.art_model.specs.Stores.{pair_of}
 use Rattle.art_model.specs.Trees.{Tree}
 use Rattle.art_model.proofs.Lists.{after_front, front_trans}
 use Rattle.art_model.proofs.Keys.{front_from, front_is, front_same, same_equal}
+use Rattle.art_nodes.specs.Nodes.{Nodes}
 use Rattle.art_parts.specs.declared.names.OpaqueNodePtr.{OpaqueNodePtr}
+use Rattle.art_reading.specs.declared.ways.Asked.{Asked}
+use Rattle.art_reading.specs.declared.ways.Asked.TheVariants.{Same, Front}
 use Rattle.art_reading.specs.declared.ways.LastLeaf.{LastLeaf}
 use Rattle.art_reading.specs.declared.lookup.PrefixMatchBehavior.{PrefixMatchBehavior}
 use Rattle.art_reading.specs.declared.lookup.PrefixMatchBehavior.TheVariants.{Pessimistic, Optimistic}
 use Rattle.art_reading.specs.Matching.{compared_from, MatchesLeafKey, LeafKeyIsPrefix}
-use Rattle.art_reading.specs.Walks.{IsKeysLeaf, IsLastLeaf}
+use Rattle.art_reading.specs.Walks.{CountsVisits, IsAskedFor, IsLastLeaf, IsOnlyLeaf, WalkEnds, asked_of}
 
 -- both keys have the same bytes before those that are compared
 record IsShared (leaf query : List ℕ) (n : ℕ) : Type 0 where
@@ -72,15 +76,15 @@ module _ {K V : Type 0} {bytes : K × V → List ℕ} {key : List ℕ} {pairs : 
     equal : r ≡ true → bytes (pair_of last.node.now) ≡ key
     equal t = whole_same shared (test.0 t)
 
-    pub found_equal : r ≡ true → IsKeysLeaf bytes key pairs layout (Some last)
+    found_equal : r ≡ true → IsOnlyLeaf (with_key bytes key pairs) layout last
     found_equal t =
         let is : are_same key (bytes (pair_of last.node.now)) ≡ true = ap (are_same key) (equal t) ∙ front_same key in
         record { only = only_with_key ∙ rw is refl; is_leaf = h.is_leaf; path_is = h.path_is }
 
-    pub counted_equal : r ≡ true → before + length (nodes_on_way bytes key layout) ≡ after
+    counted_equal : r ≡ true → before + length (nodes_on_way bytes key layout) ≡ after
     counted_equal t = h.exactly (subst (IsFront h.place) (equal t) h.leads_to)
 
-    pub lost_equal : r ≡ false → with_key bytes key pairs ≡ []
+    lost_equal : r ≡ false → with_key bytes key pairs ≡ []
     lost_equal f = only_with_key ∙ go (are_same key (bytes (pair_of last.node.now))) refl
       where
         go : (t : Bool) → are_same key (bytes (pair_of last.node.now)) ≡ t → with_key bytes key (pair_of last.node.now ∷ []) ≡ []
@@ -94,22 +98,59 @@ module _ {K V : Type 0} {bytes : K × V → List ℕ} {key : List ℕ} {pairs : 
     prefix : r ≡ true → IsFront (bytes (pair_of last.node.now)) key
     prefix t = whole_front shared (test.0 t)
 
-    pub found_prefix : r ≡ true → FindsLeaf layout (match_of bytes key pairs) (Some last.name)
+    found_prefix : r ≡ true → IsOnlyLeaf (match_of bytes key pairs) layout last
     found_prefix t =
         let (rest, e) = prefix t in
         let is : is_front (bytes (pair_of last.node.now)) key ≡ true = ap (is_front (bytes (pair_of last.node.now))) e ∙ front_is (bytes (pair_of last.node.now)) rest in
-        (pair_of last.node.now, h.only ∙ rw is refl, h.is_leaf)
+        record { only = h.only ∙ rw is refl; is_leaf = h.is_leaf; path_is = h.path_is }
 
-    pub counted_prefix : r ≡ true → before + length (nodes_on_way bytes key layout) ≡ after
+    counted_prefix : r ≡ true → before + length (nodes_on_way bytes key layout) ≡ after
     counted_prefix t = h.exactly (front_trans h.place (bytes (pair_of last.node.now)) key h.leads_to (prefix t))
 
-    pub lost_prefix : r ≡ false → match_of bytes key pairs ≡ []
+    lost_prefix : r ≡ false → match_of bytes key pairs ≡ []
     lost_prefix f = h.only ∙ go (is_front (bytes (pair_of last.node.now)) key) refl
       where
         go : (t : Bool) → is_front (bytes (pair_of last.node.now)) key ≡ t → match_of bytes key (pair_of last.node.now ∷ []) ≡ []
         go true e = absurd (false≢true (sym f ∙ test.1 (rest_front shared (front_from (bytes (pair_of last.node.now)) key e))))
         go false e = rw e refl
 
--- where no key matches, none is equal
-pub none_equal : {A : Type 0} (bytes : A → List ℕ) (key : List ℕ) (pairs : List A) → match_of bytes key pairs ≡ [] → with_key bytes key pairs ≡ []
-none_equal bytes key pairs nothing = sym (with_key-match_of bytes key pairs) ∙ ap (with_key bytes key) nothing
+  -- what the comparison that is asked for tells
+  module _ {r : Bool} (asked : Asked) (test : IsTrue r ↔ IsAskedFor asked last.behavior last.depth (bytes (pair_of last.node.now)) key) where
+    pub found : r ≡ true → IsOnlyLeaf (asked_of asked bytes key pairs) layout last
+    found t = go asked test
+      where
+        go : (a : Asked) → (IsTrue r ↔ IsAskedFor a last.behavior last.depth (bytes (pair_of last.node.now)) key) → IsOnlyLeaf (asked_of a bytes key pairs) layout last
+        go Same is = found_equal is t
+        go Front is = found_prefix is t
+
+    pub counted : r ≡ true → before + length (nodes_on_way bytes key layout) ≡ after
+    counted t = go asked test
+      where
+        go : (a : Asked) → (IsTrue r ↔ IsAskedFor a last.behavior last.depth (bytes (pair_of last.node.now)) key) → before + length (nodes_on_way bytes key layout) ≡ after
+        go Same is = counted_equal is t
+        go Front is = counted_prefix is t
+
+    pub lost : r ≡ false → asked_of asked bytes key pairs ≡ []
+    lost f = go asked test
+      where
+        go : (a : Asked) → (IsTrue r ↔ IsAskedFor a last.behavior last.depth (bytes (pair_of last.node.now)) key) → asked_of a bytes key pairs ≡ []
+        go Same is = lost_equal is f
+        go Front is = lost_prefix is f
+
+-- where no key matches, none is asked for
+pub none_asked : {A : Type 0} (asked : Asked) (bytes : A → List ℕ) (key : List ℕ) (pairs : List A) → match_of bytes key pairs ≡ [] → asked_of asked bytes key pairs ≡ []
+none_asked Same bytes key pairs nothing = sym (with_key-match_of bytes key pairs) ∙ ap (with_key bytes key) nothing
+none_asked Front bytes key pairs nothing = nothing
+
+-- wherever a way ends, the nodes on it were counted
+least : {K V : Type 0} (bytes : K × V → List ℕ) (key : List ℕ) (pairs : List (K × V)) (layout : Tree OpaqueNodePtr (K × V)) (before after : ℕ)
+    (end : Option (LastLeaf K V)) → WalkEnds bytes key pairs layout before after end → before + length (nodes_on_way bytes key layout) ≤ after
+least bytes key pairs layout before after None ends = ends.1
+least bytes key pairs layout before after (Some last) ends = ends.at_least
+
+module _ {K V : Type 0} {bytes : K × V → List ℕ} {P : ℕ} {s : Nodes K V} {root : OpaqueNodePtr} {key : List ℕ} {before after : ℕ} where
+  -- what is counted on a way that ends so
+  pub counts : (end : Option (LastLeaf K V)) → ForTree bytes P s root (λ pairs layout. WalkEnds bytes key pairs layout before after end) → {IsFound : Type 0} →
+      ForTree bytes P s root (λ pairs layout. IsFound → before + length (nodes_on_way bytes key layout) ≡ after) → after ≤ before + length key + 1 →
+      CountsVisits bytes P s root key before after IsFound
+  counts end ends exactly at_most = record { at_least = λ pairs layout by. least bytes key pairs layout before after end (ends pairs layout by); exactly = exactly; at_most = at_most }

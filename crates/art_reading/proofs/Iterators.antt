@@ -11,12 +11,15 @@ use Rattle.art_parts.specs.declared.names.OpaqueNodePtr.{OpaqueNodePtr}
 use Rattle.art_model.specs.Layouts.{Links, AreLinked, first_or, last_or}
 use Rattle.art_model.specs.Footprints.{IsIn}
 use Rattle.art_model.specs.Segments.{IsSegment}
-use Rattle.art_model.specs.Pairs.{first_of, last_of, without_first, without_last}
+use Rattle.art_model.specs.Pairs.{first_of, last_of, without_last}
 use Rattle.art_model.specs.Stores.{held_leaf, links_of, links_at}
 use Rattle.art_model.proofs.Links.{link_of}
 use Rattle.art_model.proofs.Lists.{each_from, each_in}
 use Rattle.art_model.proofs.Segments.{but_last, last_of_in, empty_segment, segment-frame, segment_rest, segment_front, tree_segment}
-use Rattle.art_reading.specs.Iterators.{GoesOn, IsIteratorOf, WalksWhole}
+use Rattle.art_reading.specs.declared.ways.End.{End}
+use Rattle.art_reading.specs.declared.ways.End.TheVariants.{First, Last}
+use Rattle.art_reading.specs.Iterators.{GoesOn, IsIteratorOf, TakesEnd, WalksWhole}
+use Rattle.art_reading.specs.Walks.{of_two}
 
 module _ {K V : Type 0} where
   -- a leaf with links is there, and names these leaves
@@ -91,8 +94,8 @@ module _ {K V : Type 0} (s : Nodes K V) where
         front (x ∷ xs) e = inl cc
 
     -- and so is the last one
-    pub back_there : Some (leaf_name p) ≡ last_of names → IsSome (map.get s.leaves p)
-    back_there e = there_in names is.segment.before is.segment.after p is.segment.linked (last_of_in names (leaf_name p) (sym e))
+    last_there : Some (leaf_name p) ≡ last_of names → IsSome (map.get s.leaves p)
+    last_there e = there_in names is.segment.before is.segment.after p is.segment.linked (last_of_in names (leaf_name p) (sym e))
 
 module _ {K V : Type 0} (s : Nodes K V) (a b : LeafPtr) where
   -- the first and the last leaf are one
@@ -105,95 +108,90 @@ module _ {K V : Type 0} (s : Nodes K V) (a b : LeafPtr) where
       let first : x ≡ leaf_name b = let g : leaf_name a ≡ leaf_name b = ap leaf_name same in cc in
       absurd (each_in (λ k. x ≢ k) (leaf_name b) (y ∷ ys) is.segment.distinct.0 (last_of_in (y ∷ ys) (leaf_name b) f) first)
 
-  -- the leaf after the first one
-  pub record HasNext (names : List OpaqueNodePtr) : Type 0 where
+  -- the leaf at an end, and the one beside it
+  pub record HasNext (end : End) (names : List OpaqueNodePtr) : Type 0 where
     pub leaf : LeafNode K V
-    pub there : map.get s.leaves a ≡ Some leaf
+    pub there : map.get s.leaves (of_two end (a, b)) ≡ Some leaf
     pub next : LeafPtr
-    pub next_is : leaf.next ≡ Some next
-    pub left : IsIteratorOf s (Some (next, b)) (without_first names)
+    pub next_is : of_two end (leaf.next, leaf.previous) ≡ Some next
+    pub taken : TakesEnd end s names (Some (of_two end (a, b))) (Some (of_two end ((next, b), (a, next))))
 
-  pub has_next : (names : List OpaqueNodePtr) → a ≢ b → IsIteratorOf s (Some (a, b)) names → HasNext names
-  has_next [] other is = absurd (let e = is.ends.0 in cc)
-  has_next (x ∷ []) other is = let e = is.ends.0 in let f = is.ends.1 in absurd (other (one_leaf a b cc))
-  has_next (x ∷ y ∷ ys) other is =
+  has_next : (end : End) (names : List OpaqueNodePtr) → a ≢ b → IsIteratorOf s (Some (a, b)) names → HasNext end names
+  has_next end [] other is = absurd (let e = is.ends.0 in cc)
+  has_next end (x ∷ []) other is = let e = is.ends.0 in let f = is.ends.1 in absurd (other (one_leaf a b cc))
+  has_next First (x ∷ y ∷ ys) other is =
       let e = is.ends.0 in
       let first : x ≡ leaf_name a = cc in
       let (leaf, there, previous, next) =
       linked_leaf (map.get s.leaves a) (record { previous = is.segment.before; next = Some y })
       (subst (λ n. links_at s n ≡ Some (record { previous = is.segment.before; next = Some y })) first is.segment.linked.0) in
       let (p, next_is, same) = named leaf.next y next in
-      record { leaf = leaf; there = there; next = p; next_is = next_is; left = record { ends = (ap Some (sym same), is.ends.1); segment = segment_rest (x ∷ []) (y ∷ ys) is.segment } }
-
-  -- the leaf before the last one
-  pub record HasPrevious (names : List OpaqueNodePtr) : Type 0 where
-    pub leaf : LeafNode K V
-    pub there : map.get s.leaves b ≡ Some leaf
-    pub previous : LeafPtr
-    pub previous_is : leaf.previous ≡ Some previous
-    pub left : IsIteratorOf s (Some (a, previous)) (without_last names)
-
-  pub has_previous : (names : List OpaqueNodePtr) → a ≢ b → IsIteratorOf s (Some (a, b)) names → HasPrevious names
-  has_previous [] other is = absurd (let e = is.ends.0 in cc)
-  has_previous (x ∷ []) other is = let e = is.ends.0 in let f = is.ends.1 in absurd (other (one_leaf a b cc))
-  has_previous (x ∷ y ∷ ys) other is =
+      record {
+        leaf = leaf;
+        there = there;
+        next = p;
+        next_is = next_is;
+        taken = (sym is.ends.0, record { ends = (ap Some (sym same), is.ends.1); segment = segment_rest (x ∷ []) (y ∷ ys) is.segment });
+      }
+  has_next Last (x ∷ y ∷ ys) other is =
       let all = but_last x (y ∷ ys) (leaf_name b) is.ends.1 in
       let xs = without_last (y ∷ ys) in
       let segment = subst (IsSegment (links_at s)) all is.segment in
       let linked = link_of (links_at s) (x ∷ xs) [] (leaf_name b) segment.before segment.after segment.linked in
       let (leaf, there, previous, next) = linked_leaf (map.get s.leaves b) (record { previous = last_or xs (Some x); next = segment.after }) linked in
       let (q, some) = last_or-some xs x in
-      let (p, previous_is, same) = named leaf.previous q (previous ∙ some) in
+      let (p, next_is, same) = named leaf.previous q (previous ∙ some) in
       record {
         leaf = leaf;
         there = there;
-        previous = p;
-        previous_is = previous_is;
-        left = record {
-          ends = (is.ends.0, last_of-or xs x ∙ some ∙ ap Some (sym same));
-          segment = segment_front (x ∷ xs) (leaf_name b ∷ []) segment;
-        };
+        next = p;
+        next_is = next_is;
+        taken = (
+          sym is.ends.1,
+          record {
+            ends = (is.ends.0, last_of-or xs x ∙ some ∙ ap Some (sym same));
+            segment = segment_front (x ∷ xs) (leaf_name b ∷ []) segment;
+          },
+        );
       }
 
-  -- The leaf that the store has under the name of the first one names what is left.
-  module _ (names : List OpaqueNodePtr) (other : eqb a.slot b.slot ≡ false) (is : IsIteratorOf s (Some (a, b)) names) where
-    pub first_there : None ≡ map.get s.leaves a → ⊥
-    first_there none = let h = (has_next names (other_slot a b other) is).there in absurd cc
+  -- the only leaf is taken from either end
+  takes_one : (end : End) (names : List OpaqueNodePtr) → a ≡ b → IsIteratorOf s (Some (a, b)) names → TakesEnd end s names (Some (of_two end (a, b))) None
+  takes_one First names same is = subst (λ z. TakesEnd First s z (Some a) None) (sym (one_left names same is)) (refl, empty_iterator)
+  takes_one Last names same is = subst (λ z. TakesEnd Last s z (Some b) None) (sym (one_left names same is)) (ap (λ z. Some (leaf_name z)) (sym same), empty_iterator)
 
-    pub next_there : (leaf : LeafNode K V) → Some leaf ≡ map.get s.leaves a → leaf.next ≡ None → ⊥
-    next_there leaf there none =
-        let h = has_next names (other_slot a b other) is in
-        let e = h.there in
-        let f = h.next_is in
-        let same : leaf ≡ h.leaf = cc in
-        absurd (cc (ap (λ z. z.next) same))
+  -- what the code sees of the leaf at an end
+  module _ (end : End) (names : List OpaqueNodePtr) (p : LeafPtr) (at : p ≡ of_two end (a, b)) (is : IsIteratorOf s (Some (a, b)) names) where
+    pub only_taken : eqb a.slot b.slot ≡ true → TakesEnd end s names (Some p) None
+    only_taken one = subst (λ z. TakesEnd end s names (Some z) None) (sym at) (takes_one end names (same_slot a b one) is)
 
-    pub next_left : (leaf : LeafNode K V) (next : LeafPtr) → Some leaf ≡ map.get s.leaves a → leaf.next ≡ Some next → IsIteratorOf s (Some (next, b)) (without_first names)
-    next_left leaf next there some =
-        let h = has_next names (other_slot a b other) is in
-        let e = h.there in
-        let f = h.next_is in
-        let same : leaf ≡ h.leaf = cc in
-        let p : h.next ≡ next = cc (ap (λ z. z.next) same) in
-        subst (λ z. IsIteratorOf s (Some (z, b)) (without_first names)) p h.left
+    pub only_there : eqb a.slot b.slot ≡ true → IsSome (map.get s.leaves p)
+    only_there one = go end (only_taken one)
+      where
+        go : (e : End) → TakesEnd e s names (Some p) None → IsSome (map.get s.leaves p)
+        go First taken = end_there s names p is taken.0
+        go Last taken = last_there s names p is taken.0
 
-    -- and the one under the name of the last one
-    pub last_there : None ≡ map.get s.leaves b → ⊥
-    last_there none = let h = (has_previous names (other_slot a b other) is).there in absurd cc
+    module _ (other : eqb a.slot b.slot ≡ false) where
+      has : HasNext end names
+      has = has_next end names (other_slot a b other) is
 
-    pub previous_there : (leaf : LeafNode K V) → Some leaf ≡ map.get s.leaves b → leaf.previous ≡ None → ⊥
-    previous_there leaf there none =
-        let h = has_previous names (other_slot a b other) is in
-        let e = h.there in
-        let f = h.previous_is in
-        let same : leaf ≡ h.leaf = cc in
-        absurd (cc (ap (λ z. z.previous) same))
+      pub no_end_gone : None ≡ map.get s.leaves p → ⊥
+      no_end_gone none = let e = has.there in absurd cc
 
-    pub previous_left : (leaf : LeafNode K V) (previous : LeafPtr) → Some leaf ≡ map.get s.leaves b → leaf.previous ≡ Some previous → IsIteratorOf s (Some (a, previous)) (without_last names)
-    previous_left leaf previous there some =
-        let h = has_previous names (other_slot a b other) is in
-        let e = h.there in
-        let f = h.previous_is in
-        let same : leaf ≡ h.leaf = cc in
-        let p : h.previous ≡ previous = cc (ap (λ z. z.previous) same) in
-        subst (λ z. IsIteratorOf s (Some (a, z)) (without_last names)) p h.left
+      same_next : {o : Option LeafPtr} (leaf : LeafNode K V) → Some leaf ≡ map.get s.leaves p → o ≡ of_two end (leaf.next, leaf.previous) → o ≡ Some has.next
+      same_next leaf there read =
+          let e = has.there in
+          let same : leaf ≡ has.leaf = cc in
+          read ∙ ap (λ z. of_two end (z.next, z.previous)) same ∙ has.next_is
+
+      pub next_there : {o : Option LeafPtr} (leaf : LeafNode K V) → Some leaf ≡ map.get s.leaves p → o ≡ of_two end (leaf.next, leaf.previous) → o ≡ None → ⊥
+      next_there leaf there read none = let e = same_next leaf there read in absurd cc
+
+      pub next_taken : {o : Option LeafPtr} (leaf : LeafNode K V) (next : LeafPtr) {left : LeafPtr × LeafPtr} →
+          Some leaf ≡ map.get s.leaves p → o ≡ of_two end (leaf.next, leaf.previous) → o ≡ Some next →
+          left ≡ of_two end ((next, b), (a, next)) → TakesEnd end s names (Some p) (Some left)
+      next_taken leaf next there read some left_is =
+          let e = same_next leaf there read in
+          let same : has.next ≡ next = cc in
+          rw (at, left_is) (subst (λ z. TakesEnd end s names (Some (of_two end (a, b))) (Some (of_two end ((z, b), (a, z))))) same has.taken)

@@ -1,13 +1,10 @@
 -- the steps of a way down, in the shape that its code shows
-use Rattle.std.proofs.Common.{◌≡◌, ◌≢◌, ℕ, ◌+◌, ◌<◌, ◌≤◌, ◌⊎◌, inl, inr, List, [], length, drop, get_or, refl, ap, sym, ◌∙◌, arith, subst, length-drop, Option, Some, None, Result, Ok, Err}
+use Rattle.std.proofs.Common.{◌≡◌, ℕ, ◌+◌, ◌<◌, ◌≤◌, ◌⊎◌, inl, inr, List, [], length, drop, get_or, refl, ap, sym, ◌∙◌, arith, subst, length-drop, Option, Some, None, Result, Ok, Err}
 use Rattle.std.proofs.lemmas.Bool.{le-ltb, lt-ltb, cases_lt}
 use Rattle.std.specs.FinMap as map
 use Rattle.art_inner.specs.Inner.{Inner, child_at}
-use Rattle.art_parts.specs.Headers.{Prefix}
-use Rattle.art_parts.specs.Names.{leaf_name, inner_name}
+use Rattle.art_parts.specs.Names.{leaf_name}
 use Rattle.art_nodes.specs.Nodes.{Nodes}
-use Rattle.art_parts.specs.declared.names.NodeType.TheVariants.{Leaf}
-use Rattle.art_parts.specs.declared.names.LeafPtr.{LeafPtr}
 use Rattle.art_parts.specs.declared.names.InnerPtr.{InnerPtr}
 use Rattle.art_parts.specs.declared.names.OpaqueNodePtr.{OpaqueNodePtr}
 use Rattle.art_model.specs.Pairs.{match_of}
@@ -18,7 +15,7 @@ use Rattle.art_model.specs.Lookups.{nodes_on_way}
 use Rattle.art_model.specs.Canonical.{IsCanonicalTree}
 use Rattle.art_model.proofs.Stores.{path_holds}
 use Rattle.art_model.proofs.Canonical.{tree_radix}
-use Rattle.art_model.proofs.Shown.{IsShown, no_leaf_gone, leaf_shown, no_inner_gone, inner_shown}
+use Rattle.art_model.proofs.Shown.{IsShown, IsThere, leaf_shown}
 use Rattle.art_reading.specs.declared.ways.LastLeaf.{LastLeaf}
 use Rattle.art_reading.specs.declared.lookup.PrefixMatchBehavior.{PrefixMatchBehavior}
 use Rattle.art_reading.specs.declared.lookup.PrefixMatchBehavior.TheVariants.{Pessimistic}
@@ -54,18 +51,9 @@ module _ {K V : Type 0} {s : Nodes K V} {bytes : K × V → List ℕ} {P : ℕ} 
 
   module _ {key : List ℕ} {way : TreePath} {name : OpaqueNodePtr} {depth : ℕ} {behavior : PrefixMatchBehavior} {before now : ℕ}
       (d : IsOnWay bytes P key layout way name depth behavior before now) where
-    holds : Holds (node_at s) d.node
-    holds = (path_holds (node_at s) d.path d.node (subst (Holds (node_at s)) (sym d.whole) by.stands.0.holds)).1
-
-    -- the names on the way are there
-    pub leaf_there : {p : LeafPtr} → leaf_name p ≡ name → None ≡ map.get s.leaves p → ⊥
-    leaf_there {p} is gone = no_leaf_gone s p d.node (d.named ∙ sym is) holds gone
-
-    pub inner_there : {p : InnerPtr} → p.kind ≢ Leaf → inner_name p ≡ name → None ≡ map.get s.inners p → ⊥
-    inner_there {p} proper is gone = no_inner_gone s p proper d.node (d.named ∙ sym is) holds gone
-
-    pub shown_there : {p : InnerPtr} {shown : Inner} → p.kind ≢ Leaf → inner_name p ≡ name → Some shown ≡ map.get s.inners p → IsShown d.node p shown
-    shown_there {p} {shown} proper is there = inner_shown s p proper d.node (d.named ∙ sym is) holds shown there
+    -- the node stands under its name
+    pub node_there : IsThere s d.node name
+    node_there = record { named = d.named; holds = (path_holds (node_at s) d.path d.node (subst (Holds (node_at s)) (sym d.whole) by.stands.0.holds)).1 }
 
   -- at a leaf the way ends
   pub last_leaf : {key : List ℕ} {name : OpaqueNodePtr} {before now after : ℕ} (last : LastLeaf K V) →
@@ -74,7 +62,7 @@ module _ {K V : Type 0} {s : Nodes K V} {bytes : K × V → List ℕ} {P : ℕ} 
   last_leaf last d is there short e =
       let n = leaf_name last.name in
       let x = pair_of last.node.now in
-      let at = leaf_shown s last.name d.node (d.named ∙ sym is) (holds d) last.node.now there in
+      let at = leaf_shown s last.name d.node (d.named ∙ sym is) (node_there d).holds last.node.now there in
       record {
         place = d.place;
         is_leaf = record { path = d.path; whole = leaf_whole d n x at };

@@ -1,5 +1,6 @@
 -- The leaves that are left of an iterator.
 use Rattle.std.specs.Prelude.{◌≡◌, ℕ, List, [], Option, Some, None}
+use Rattle.std.specs.Option.{option_map}
 use Rattle.art_parts.specs.Names.{leaf_name}
 use Rattle.art_nodes.specs.Nodes.{Nodes}
 use Rattle.art_parts.specs.declared.names.LeafPtr.{LeafPtr}
@@ -8,10 +9,12 @@ use Rattle.art_model.specs.Canonical.{IsCanonicalTree}
 use Rattle.art_model.specs.Footprints.{IsIn}
 use Rattle.art_model.specs.Layouts.{leaf_names}
 use Rattle.art_model.specs.Lookups.{HasFirstLeaf, HasLastLeaf}
-use Rattle.art_model.specs.Pairs.{first_of, last_of}
+use Rattle.art_model.specs.Pairs.{first_of, last_of, without_first, without_last}
 use Rattle.art_model.specs.Segments.{IsSegment}
 use Rattle.art_model.specs.Stores.{links_at}
 use Rattle.art_model.specs.Trees.{Tree}
+use Rattle.art_reading.specs.declared.ways.End.{End}
+use Rattle.art_reading.specs.declared.ways.End.TheVariants.{First, Last}
 
 -- the list goes from the first to the last of these leaves, and is empty where there are none
 abbrev pub HasEnds : Option (LeafPtr × LeafPtr) → List OpaqueNodePtr → Type 0
@@ -23,6 +26,11 @@ pub record IsIteratorOf {K V : Type 0} (s : Nodes K V) (iterator : Option (LeafP
     (names : List OpaqueNodePtr) : Type 0 where
   pub ends : HasEnds iterator names
   pub segment : IsSegment (links_at s) names
+
+-- the leaf at an end of these is taken, and the iterator stands for the others
+abbrev pub TakesEnd : {K V : Type 0} → End → Nodes K V → List OpaqueNodePtr → Option LeafPtr → Option (LeafPtr × LeafPtr) → Type 0
+TakesEnd First s names leaf left = (option_map leaf_name leaf ≡ first_of names) × IsIteratorOf s left (without_first names)
+TakesEnd Last s names leaf left = (option_map leaf_name leaf ≡ last_of names) × IsIteratorOf s left (without_last names)
 
 -- ---- laws
 

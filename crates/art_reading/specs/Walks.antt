@@ -1,15 +1,21 @@
 -- Where the ways down end, with a key and along an edge.
 use Rattle.std.specs.Prelude.{◌≡◌, ℕ, ◌+◌, ◌-◌, ◌≤◌, List, [], ◌∷◌, length, slice_get, Option, Some, None}
 use Rattle.art_parts.specs.Names.{leaf_name}
+use Rattle.art_nodes.specs.Nodes.{Nodes}
 use Rattle.art_parts.specs.declared.names.LeafPtr.{LeafPtr}
 use Rattle.art_parts.specs.declared.names.OpaqueNodePtr.{OpaqueNodePtr}
 use Rattle.art_model.specs.Keys.{IsFront}
 use Rattle.art_model.specs.Lookups.{HasLeaf, HasFirstLeaf, HasLastLeaf, nodes_on_way}
 use Rattle.art_model.specs.Pairs.{match_of, with_key}
+use Rattle.art_model.specs.Roots.{ForTree}
 use Rattle.art_model.specs.Stores.{pair_of}
 use Rattle.art_model.specs.Trees.{Tree}
 use Rattle.art_reading.specs.declared.ways.LastLeaf.{LastLeaf}
+use Rattle.art_reading.specs.declared.lookup.PrefixMatchBehavior.{PrefixMatchBehavior}
 use Rattle.art_reading.specs.declared.lookup.PrefixMatchBehavior.TheVariants.{Pessimistic}
+use Rattle.art_reading.specs.declared.ways.Asked.{Asked}
+use Rattle.art_reading.specs.declared.ways.Asked.TheVariants.{Same, Front}
+use Rattle.art_reading.specs.Matching.{MatchesLeafKey, LeafKeyIsPrefix}
 use Rattle.art_reading.specs.declared.ways.End.{End}
 use Rattle.art_reading.specs.declared.ways.End.TheVariants.{First, Last}
 use Rattle.art_reading.specs.declared.path.TreePath.{TreePath}
@@ -35,19 +41,39 @@ module _ {K V : Type 0} (bytes : K × V → List ℕ) (key : List ℕ) (pairs : 
   WalkEnds None = (match_of bytes key pairs ≡ []) × (before + length (nodes_on_way bytes key layout) ≤ after)
   WalkEnds (Some last) = IsLastLeaf last
 
--- The leaf has the key's only pair, and the path leads to it.
-pub record IsOnlyLeaf {K V : Type 0} (bytes : K × V → List ℕ) (key : List ℕ) (pairs : List (K × V))
-    (layout : Tree OpaqueNodePtr (K × V))
-    (last : LastLeaf K V) : Type 0 where
-  pub only : with_key bytes key pairs ≡ pair_of last.node.now ∷ []
+-- what a look-up counts: at least the nodes on the key's way, exactly these where a leaf is found, and at most one more than the key has bytes
+pub record CountsVisits {K V : Type 0} (bytes : K × V → List ℕ) (P : ℕ) (s : Nodes K V) (root : OpaqueNodePtr) (key : List ℕ)
+    (before after : ℕ) (IsFound : Type 0) : Type 0 where
+  pub at_least : ForTree bytes P s root (λ pairs layout. before + length (nodes_on_way bytes key layout) ≤ after)
+  pub exactly : ForTree bytes P s root (λ pairs layout.
+      IsFound → before + length (nodes_on_way bytes key layout) ≡ after)
+  pub at_most : after ≤ before + length key + 1
+
+-- the pairs that are asked for: those with the key, or with a front of it
+abbrev pub asked_of : {A : Type 0} → Asked → (A → List ℕ) → List ℕ → List A → List A
+asked_of Same bytes key pairs = with_key bytes key pairs
+asked_of Front bytes key pairs = match_of bytes key pairs
+
+-- what is compared of a leaf's key is as it is asked for
+abbrev pub IsAskedFor : Asked → PrefixMatchBehavior → ℕ → List ℕ → List ℕ → Type 0
+IsAskedFor Same behavior depth leaf query = MatchesLeafKey behavior depth leaf query
+IsAskedFor Front behavior depth leaf query = LeafKeyIsPrefix behavior depth leaf query
+
+-- The leaf has the only one of these pairs, and the path leads to it.
+pub record IsOnlyLeaf {K V : Type 0} (asked : List (K × V)) (layout : Tree OpaqueNodePtr (K × V)) (last : LastLeaf K V) : Type 0 where
+  pub only : asked ≡ pair_of last.node.now ∷ []
   pub is_leaf : HasLeaf layout (leaf_name last.name) (pair_of last.node.now)
   pub path_is : last.path ≡ path_of is_leaf.path
 
--- the leaf of the key's only pair, with the path to it, or none where there is no such pair
-abbrev pub IsKeysLeaf : {K V : Type 0} → (K × V → List ℕ) → List ℕ → List (K × V) →
-    Tree OpaqueNodePtr (K × V) → Option (LastLeaf K V) → Type 0
-IsKeysLeaf bytes key pairs layout None = with_key bytes key pairs ≡ []
-IsKeysLeaf bytes key pairs layout (Some last) = IsOnlyLeaf bytes key pairs layout last
+-- the leaf of the only one of these pairs, with the path to it, or none where there is no such pair
+abbrev pub IsKeysLeaf : {K V : Type 0} → List (K × V) → Tree OpaqueNodePtr (K × V) → Option (LastLeaf K V) → Type 0
+IsKeysLeaf asked layout None = asked ≡ []
+IsKeysLeaf asked layout (Some last) = IsOnlyLeaf asked layout last
+
+-- the first of two, or the last
+abbrev pub of_two : {A : Type 0} → End → A × A → A
+of_two First two = two.0
+of_two Last two = two.1
 
 -- the path leads to the tree's first leaf, or to the last one
 abbrev pub LeadsToEnd : {A : Type 0} → Tree OpaqueNodePtr A → End → TreePath → LeafPtr → Type 0

@@ -5,8 +5,9 @@ ghost use Rattle.std.specs.Option.{option_map};
 ghost use Rattle.art_parts.specs.Names.{leaf_name};
 ghost use Rattle.art_parts.specs.declared.names.OpaqueNodePtr.{OpaqueNodePtr};
 ghost use Rattle.art_model.specs.Pairs.{first_of, last_of, without_first, without_last};
-ghost use Rattle.art_reading.specs.Iterators.{GoesOn, IsIteratorOf, WalksWhole};
+ghost use Rattle.art_reading.specs.Iterators.{GoesOn, IsIteratorOf, TakesEnd, WalksWhole};
 
+use crate::ways::End;
 use art_nodes::node::{AsBytes, LeafPtr, OptionalLeafPtr};
 use art_nodes::store::NodeStore;
 use std::marker::Model;
@@ -67,19 +68,7 @@ impl RawIterator {
         ensures rest { (names : List OpaqueNodePtr) → IsIteratorOf store.now self.old names →
             IsIteratorOf store.now self.new (without_first names) }
     {
-        let (start, end) = self.ends?;
-        if start == end {
-            self.ends = None;
-            return Some(start);
-        }
-        let Some(leaf) = store.leaf(start) else {
-            unreachable!()
-        };
-        let Some(next) = leaf.next else {
-            unreachable!()
-        };
-        self.ends = Some((next, end));
-        Some(start)
+        self.take_end(store, End::First)
     }
 
     /// The last leaf that is left. Its link is read before it is answered, so that it may be freed.
@@ -94,19 +83,35 @@ impl RawIterator {
         ensures rest { (names : List OpaqueNodePtr) → IsIteratorOf store.now self.old names →
             IsIteratorOf store.now self.new (without_last names) }
     {
-        let (start, end) = self.ends?;
-        if start == end {
+        self.take_end(store, End::Last)
+    }
+
+    // Takes the leaf at an end of those that are left.
+    #[inline(always)]
+    fn take_end<K: AsBytes + Drop, V: Drop, const PREFIX_LEN: usize>(
+        &mut self,
+        store: &NodeStore<K, V, PREFIX_LEN>,
+        end: End,
+    ) -> OptionalLeafPtr
+        requires { (names : List OpaqueNodePtr) × IsIteratorOf store.now self.old names }
+        ensures taken { (names : List OpaqueNodePtr) → IsIteratorOf store.now self.old names →
+            TakesEnd end store.now names result self.new }
+        ensures there { IfSome result (λ leaf. IsSome (map.get store.now.leaves leaf)) }
+    {
+        let (first, last) = self.ends?;
+        let taken = end.of((first, last));
+        if first == last {
             self.ends = None;
-            return Some(end);
+            return Some(taken);
         }
-        let Some(leaf) = store.leaf(end) else {
+        let Some(leaf) = store.leaf(taken) else {
             unreachable!()
         };
-        let Some(previous) = leaf.previous else {
+        let Some(next) = end.of((leaf.next, leaf.previous)) else {
             unreachable!()
         };
-        self.ends = Some((start, previous));
-        Some(end)
+        self.ends = Some(end.of(((next, last), (first, next))));
+        Some(taken)
     }
 }
 

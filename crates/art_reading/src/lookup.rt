@@ -1,12 +1,12 @@
 //! Searches for a key, and for the key that is a prefix of a query.
 ghost use Rattle.std.specs.Prelude.{◌≡◌, ◌+◌, ◌<◌, ◌≤◌, ◌^◌, ◌↔◌, length, drop, is_ok, false, IfSome, IsSome, IsTrue};
-ghost use Rattle.art_model.specs.Lookups.{FindsLeaf, nodes_on_way};
+ghost use Rattle.art_model.specs.Lookups.{FindsLeaf};
 ghost use Rattle.art_model.specs.Pairs.{match_of, of_key, with_key};
 ghost use Rattle.art_model.specs.Roots.{ForTree, IsCanonicalRoot};
-ghost use Rattle.art_reading.specs.Walks.{WalkEnds};
+ghost use Rattle.art_reading.specs.Walks.{CountsVisits, WalkEnds};
 
 use crate::path::{AttemptOptimisticPrefixMatch, LastSteps, PessimisticMismatch};
-use crate::ways::{LastLeaf, shared_len, walk_to_key};
+use crate::ways::{Asked, LastLeaf, shared_len, walk_to_key};
 use art_nodes::node::{
     AsBytes, InnerNode, InnerRef, LeafNode, NodePtr, OpaqueNodePtr, OptionalLeafPtr,
 };
@@ -174,6 +174,25 @@ impl PrefixMatchBehavior {
         key_bytes[from..].starts_with(&leaf_bytes[from..])
     }
 
+    ghost use Rattle.art_reading.specs.Walks.{IsAskedFor};
+
+    // Whether the leaf's key is asked for, as far as it is left to compare from a depth on.
+    #[inline(always)]
+    pub(crate) fn finds<K: AsBytes, V>(
+        self,
+        asked: Asked,
+        leaf: &LeafNode<K, V>,
+        key_bytes: &[u8],
+        depth: usize,
+    ) -> bool
+        ensures { IsTrue result ↔ IsAskedFor asked self depth (K.bytes leaf.now.key) key_bytes.now }
+    {
+        match asked {
+            Asked::Same => self.matches_leaf_key(leaf, key_bytes, depth),
+            Asked::Front => self.leaf_key_is_prefix(leaf, key_bytes, depth),
+        }
+    }
+
     ghost use Rattle.art_reading.specs.Matching.{compared_from};
 
     // Where the comparison of a leaf's key with the key begins.
@@ -302,15 +321,10 @@ pub fn search_visiting<K: AsBytes + Drop, V: Drop, const PREFIX_LEN: usize>(
     requires room { visits.old + length key_bytes.now + 1 < 2 ^ 64 }
     ensures leaf { ForTree (of_key K.bytes) PREFIX_LEN store.now root (λ pairs layout.
         FindsLeaf layout (with_key (of_key K.bytes) key_bytes.now pairs) result) }
-
-    ensures at_least { ForTree (of_key K.bytes) PREFIX_LEN store.now root (λ pairs layout.
-        visits.old + length (nodes_on_way (of_key K.bytes) key_bytes.now layout) ≤ visits.new) }
-    ensures exactly { ForTree (of_key K.bytes) PREFIX_LEN store.now root (λ pairs layout.
-        IsSome result →
-        visits.old + length (nodes_on_way (of_key K.bytes) key_bytes.now layout) ≡ visits.new) }
-    ensures at_most { visits.new ≤ visits.old + length key_bytes.now + 1 }
+    ensures visits { CountsVisits (of_key K.bytes) PREFIX_LEN store.now root key_bytes.now
+        visits.old visits.new (IsSome result) }
 {
-    let last = walk_to_key(store, root, key_bytes, visits)?;
+    let last = walk_to_key(store, root, key_bytes, Asked::Same, visits)?;
     Some(last.name)
 }
 
@@ -342,19 +356,9 @@ pub fn prefix_search_visiting<K: AsBytes + Drop, V: Drop, const PREFIX_LEN: usiz
     requires room { visits.old + length key_bytes.now + 1 < 2 ^ 64 }
     ensures leaf { ForTree (of_key K.bytes) PREFIX_LEN store.now root (λ pairs layout.
         FindsLeaf layout (match_of (of_key K.bytes) key_bytes.now pairs) result) }
-
-    ensures at_least { ForTree (of_key K.bytes) PREFIX_LEN store.now root (λ pairs layout.
-        visits.old + length (nodes_on_way (of_key K.bytes) key_bytes.now layout) ≤ visits.new) }
-    ensures exactly { ForTree (of_key K.bytes) PREFIX_LEN store.now root (λ pairs layout.
-        IsSome result →
-        visits.old + length (nodes_on_way (of_key K.bytes) key_bytes.now layout) ≡ visits.new) }
-    ensures at_most { visits.new ≤ visits.old + length key_bytes.now + 1 }
+    ensures visits { CountsVisits (of_key K.bytes) PREFIX_LEN store.now root key_bytes.now
+        visits.old visits.new (IsSome result) }
 {
-    let last = walk(store, root, key_bytes, visits)?;
-    let behavior = last.behavior;
-    if behavior.leaf_key_is_prefix(last.node, key_bytes, last.depth) {
-        Some(last.name)
-    } else {
-        None
-    }
+    let last = walk_to_key(store, root, key_bytes, Asked::Front, visits)?;
+    Some(last.name)
 }

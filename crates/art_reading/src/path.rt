@@ -2,6 +2,7 @@
 //! part from it.
 ghost use Rattle.std.specs.Prelude.{◌≡◌};
 
+use crate::ways::last_step;
 use art_nodes::node::{InnerPtr, OptionalLeafPtr};
 
 /// The inner nodes right above a node, and the bytes that lead down from them.
@@ -30,25 +31,18 @@ impl TreePath {
     ghost use Rattle.art_reading.specs.Paths.{step_down};
 
     /// The path one step further down: from this path's node to the child that it has under a byte.
+    #[inline(always)]
     pub fn step_down(self, node: InnerPtr, byte: u8) -> TreePath
         ensures { result ≡ step_down self node byte }
     {
-        match self {
-            TreePath::Root => TreePath::ChildOfRoot {
+        match last_step(self) {
+            None => TreePath::ChildOfRoot {
                 parent: node,
                 child_key_byte: byte,
             },
-            TreePath::ChildOfRoot {
-                parent,
-                child_key_byte,
-            }
-            | TreePath::Normal {
-                parent,
-                child_key_byte,
-                ..
-            } => TreePath::Normal {
-                grandparent: parent,
-                parent_key_byte: child_key_byte,
+            Some((grandparent, parent_key_byte)) => TreePath::Normal {
+                grandparent,
+                parent_key_byte,
                 parent: node,
                 child_key_byte: byte,
             },

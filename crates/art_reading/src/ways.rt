@@ -1,14 +1,13 @@
 //! What the map and the operations that change a tree need of the ways down it, beside what a caller uses.
-ghost use Rattle.std.specs.Prelude.{◌≡◌, ◌+◌, ◌<◌, ◌≤◌, ◌^◌, length, IsSome};
+ghost use Rattle.std.specs.Prelude.{◌≡◌, ◌+◌, ◌<◌, ◌^◌, length, IsSome};
 ghost use Rattle.art_inner.specs.Views.{ref_view};
 ghost use Rattle.art_parts.specs.declared.names.OpaqueNodePtr.{OpaqueNodePtr};
-ghost use Rattle.art_model.specs.Lookups.{nodes_on_way};
 ghost use Rattle.art_model.specs.Pairs.{of_key};
 ghost use Rattle.art_model.specs.Roots.{ForTree, IsCanonicalRoot, IsFullTree};
 ghost use Rattle.art_model.specs.Trees.{Tree};
 ghost use Rattle.art_reading.specs.Matching.{shared_len};
 ghost use Rattle.art_reading.specs.Paths.{last_step, up};
-ghost use Rattle.art_reading.specs.Walks.{IsEndChild, IsKeysLeaf, LeadsToEnd};
+ghost use Rattle.art_reading.specs.Walks.{CountsVisits, IsEndChild, IsKeysLeaf, LeadsToEnd, asked_of};
 
 use crate::lookup::{PrefixMatchBehavior, Visits, walk};
 use crate::path::{LastSteps, TreePath};
@@ -16,6 +15,7 @@ use art_nodes::node::{AsBytes, InnerPtr, InnerRef, LeafNode, LeafPtr, NodePtr, O
 use art_nodes::store::NodeStore;
 
 /// The parent at the end of a path, with the byte under which it has the node.
+#[inline(always)]
 pub fn last_step(path: TreePath) -> Option<(InnerPtr, u8)>
     ensures { result ≡ last_step path }
 {
@@ -75,28 +75,34 @@ pub struct LastLeaf<'a, K, V> {
     pub behavior: PrefixMatchBehavior,
 }
 
-/// Goes down with a key to its own leaf, or to `None` where no stored key is equal to it.
+/// What a look-up asks of a stored key.
+#[derive(Clone, Copy)]
+pub enum Asked {
+    /// To be the same as the query.
+    Same,
+    /// To be a prefix of the query, or the same.
+    Front,
+}
+
+/// Goes down with a key to the leaf that is asked for, or to `None` where no stored key is as asked.
 #[inline(always)]
 pub fn walk_to_key<'a, K: AsBytes + Drop, V: Drop, const PREFIX_LEN: usize>(
     store: &'a NodeStore<K, V, PREFIX_LEN>,
     root: OpaqueNodePtr,
     key_bytes: &[u8],
+    asked: Asked,
     visits: &mut Visits,
 ) -> Option<LastLeaf<'a, K, V>>
     requires root { IsCanonicalRoot (of_key K.bytes) PREFIX_LEN store.now root }
     requires room { visits.old + length key_bytes.now + 1 < 2 ^ 64 }
     ensures leaf { ForTree (of_key K.bytes) PREFIX_LEN store.now root (λ pairs layout.
-        IsKeysLeaf (of_key K.bytes) key_bytes.now pairs layout result) }
-    ensures at_least { ForTree (of_key K.bytes) PREFIX_LEN store.now root (λ pairs layout.
-        visits.old + length (nodes_on_way (of_key K.bytes) key_bytes.now layout) ≤ visits.new) }
-    ensures exactly { ForTree (of_key K.bytes) PREFIX_LEN store.now root (λ pairs layout.
-        IsSome result →
-        visits.old + length (nodes_on_way (of_key K.bytes) key_bytes.now layout) ≡ visits.new) }
-    ensures at_most { visits.new ≤ visits.old + length key_bytes.now + 1 }
+        IsKeysLeaf (asked_of asked (of_key K.bytes) key_bytes.now pairs) layout result) }
+    ensures visits { CountsVisits (of_key K.bytes) PREFIX_LEN store.now root key_bytes.now
+        visits.old visits.new (IsSome result) }
 {
     let last = walk(store, root, key_bytes, visits)?;
     let behavior = last.behavior;
-    if behavior.matches_leaf_key(last.node, key_bytes, last.depth) {
+    if behavior.finds(asked, last.node, key_bytes, last.depth) {
         Some(last)
     } else {
         None
@@ -108,6 +114,21 @@ pub fn walk_to_key<'a, K: AsBytes + Drop, V: Drop, const PREFIX_LEN: usize>(
 pub enum End {
     First,
     Last,
+}
+
+impl End {
+    ghost use Rattle.art_reading.specs.Walks.{of_two};
+
+    // The first of two, or the last.
+    #[inline(always)]
+    pub(crate) fn of<T: Copy>(self, two: (T, T)) -> T
+        ensures { result ≡ of_two self two }
+    {
+        match self {
+            End::First => two.0,
+            End::Last => two.1,
+        }
+    }
 }
 
 /// Goes down to the leaf at an end of the tree that a name stands for, and answers the path to it too.

@@ -50,17 +50,29 @@ pub struct Left {
     pub side: Side,
 }
 
+impl<'a> Asked<'a> {
+    // The bytes of its key, or none.
+    fn key(self) -> &'a [u8] {
+        match self {
+            Asked::Insert(key, _) | Asked::InsertPrefix(key, _) => key,
+            Asked::Delete(key) | Asked::Contains(key) | Asked::LongestMatch(key) => key,
+            Asked::DeleteMin | Asked::DeleteMax | Asked::Clone => &[],
+        }
+    }
+}
+
 /// A command of its own.
 pub fn command(alloc: Global, asked: Asked<'_>) -> Result<Command<Key, u32>, AllocError> {
+    let key = asked.key().to_vec(alloc)?;
     Ok(match asked {
-        Asked::Insert(key, value) => Command::Insert(key.to_vec(alloc)?, value),
-        Asked::InsertPrefix(key, value) => Command::InsertPrefix(key.to_vec(alloc)?, value),
-        Asked::Delete(key) => Command::Delete(key.to_vec(alloc)?),
+        Asked::Insert(_, value) => Command::Insert(key, value),
+        Asked::InsertPrefix(_, value) => Command::InsertPrefix(key, value),
+        Asked::Delete(_) => Command::Delete(key),
         Asked::DeleteMin => Command::DeleteMin,
         Asked::DeleteMax => Command::DeleteMax,
         Asked::Clone => Command::Clone,
-        Asked::Contains(key) => Command::Contains(key.to_vec(alloc)?),
-        Asked::LongestMatch(key) => Command::LongestMatch(key.to_vec(alloc)?),
+        Asked::Contains(_) => Command::Contains(key),
+        Asked::LongestMatch(_) => Command::LongestMatch(key),
     })
 }
 
@@ -93,17 +105,28 @@ fn pair_told(pair: &Option<(Key, u32)>) -> Option<(&[u8], u32)> {
     Some((key, *value))
 }
 
-/// The place of the first reply that is not the one of its row, or that is missing or too many.
-pub fn first_wrong(replies: &[Reply<Key, u32>], rows: &[Row<'_>]) -> Option<usize> {
-    for (at, (reply, (_, wanted))) in replies.iter().zip(rows).enumerate() {
-        if told_by(reply) != *wanted {
+/// The place of the first of these that is not as it is wanted, or that is missing or too many.
+pub fn first_apart<T, W, F: Fn(&T, &W) -> bool + Drop>(
+    these: &[T],
+    wanted: &[W],
+    is_wanted: F,
+) -> Option<usize>
+    requires { F.IsAlwaysCallable is_wanted }
+{
+    for (at, (this, want)) in these.iter().zip(wanted).enumerate() {
+        if !is_wanted(this, want) {
             return Some(at);
         }
     }
-    if replies.len() == rows.len() {
+    if these.len() == wanted.len() {
         return None;
     }
-    Some(replies.len().min(rows.len()))
+    Some(these.len().min(wanted.len()))
+}
+
+/// The place of the first reply that is not the one of its row, or that is missing or too many.
+pub fn first_wrong(replies: &[Reply<Key, u32>], rows: &[Row<'_>]) -> Option<usize> {
+    first_apart(replies, rows, |reply, row| told_by(reply) == row.1)
 }
 
 // What a run leaves.

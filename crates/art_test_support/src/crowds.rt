@@ -12,30 +12,16 @@ use art_nodes::store::NodeStore;
 // A store with a node of a kind has room for so many of that kind before it asks for more.
 const ROOM: usize = 16;
 
-// Places a leaf of the empty key. Answers whether there was memory.
-fn place_leaf<const P: usize>(store: &mut NodeStore<Key, u32, P>, root: OpaqueNodePtr) -> bool
-    requires { IsCanonicalRoot (of_key (λ key. key.items)) P store.old root }
-    ensures { IsCanonicalRoot (of_key (λ key. key.items)) P store.new root }
-{
-    let leaf = LeafNode::with_no_siblings(Vec::new(store.alloc()), 0);
-    store.place_leaf(leaf).is_ok()
-}
+/// All kinds of nodes.
+pub static KINDS: [NodeType; 5] = [
+    NodeType::Node4,
+    NodeType::Node16,
+    NodeType::Node48,
+    NodeType::Node256,
+    NodeType::Leaf,
+];
 
-// The same for an inner node without children.
-fn place_inner<const P: usize>(
-    store: &mut NodeStore<Key, u32, P>,
-    root: OpaqueNodePtr,
-    kind: NodeType,
-) -> bool
-    requires inner { kind ≢ Leaf }
-    requires canonical { IsCanonicalRoot (of_key (λ key. key.items)) P store.old root }
-    ensures { IsCanonicalRoot (of_key (λ key. key.items)) P store.new root }
-{
-    let node = AnyInner::from_header(kind, Header::new(&[], 0));
-    store.place_inner(node).is_ok()
-}
-
-// The same for a node of any kind.
+// Places a node of a kind: a leaf of the empty key, or an inner node without children. Answers whether there was memory.
 fn place_one<const P: usize>(
     store: &mut NodeStore<Key, u32, P>,
     root: OpaqueNodePtr,
@@ -45,9 +31,11 @@ fn place_one<const P: usize>(
     ensures { IsCanonicalRoot (of_key (λ key. key.items)) P store.new root }
 {
     if kind == NodeType::Leaf {
-        return place_leaf(store, root);
+        let leaf = LeafNode::with_no_siblings(Vec::new(store.alloc()), 0);
+        return store.place_leaf(leaf).is_ok();
     }
-    place_inner(store, root, kind)
+    let node = AnyInner::from_header(kind, Header::new(&[], 0));
+    store.place_inner(node).is_ok()
 }
 
 /// Places so many nodes of a kind beside a tree. Answers whether there was memory for all of them.
@@ -74,14 +62,7 @@ pub fn fill<const P: usize>(store: &mut NodeStore<Key, u32, P>, root: OpaqueNode
     requires { IsCanonicalRoot (of_key (λ key. key.items)) P store.old root }
     ensures { IsCanonicalRoot (of_key (λ key. key.items)) P store.new root }
 {
-    let kinds = [
-        NodeType::Leaf,
-        NodeType::Node4,
-        NodeType::Node16,
-        NodeType::Node48,
-        NodeType::Node256,
-    ];
-    for kind in kinds {
+    for kind in KINDS {
         let missing = ROOM.saturating_sub(count_kind(store, kind));
         if !place_beside(store, root, kind, missing) {
             return false;

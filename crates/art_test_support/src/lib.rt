@@ -1,8 +1,10 @@
 //! What the tests of several crates share.
 #![tactic(auto)]
 
+pub mod cases;
 pub mod commands;
 pub mod crowds;
+pub mod expected;
 pub mod memory;
 pub mod nodes;
 pub mod numbers;

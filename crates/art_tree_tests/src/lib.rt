@@ -2,14 +2,4 @@
 #![tactic(auto)]
 
 #[cfg(test)]
-mod by_hand;
-#[cfg(test)]
-mod locality;
-#[cfg(test)]
-mod odd_trees;
-#[cfg(test)]
-mod refusals;
-#[cfg(test)]
-mod shapes;
-#[cfg(test)]
-mod trees;
+mod tests;

@@ -1,42 +1,73 @@
--- the end node of a point that answers to a store, for whatever layout of its root
-use Rattle.std.proofs.Common.{◌≡◌, ℕ, List, [], length, ap, sym, ◌∙◌, subst}
+-- the end node of a key in the hole of its path, and the leaf that the store has there
+use Rattle.std.proofs.Common.{◌≡◌, ℕ, List, [], length, Some, ap, sym, ◌∙◌, subst}
+use Rattle.std.specs.FinMap as map
+use Rattle.art_parts.specs.Names.{leaf_name}
+use Rattle.art_parts.specs.declared.leaf.LeafNode.{LeafNode}
+use Rattle.art_parts.specs.declared.names.LeafPtr.{LeafPtr}
 use Rattle.art_nodes.specs.Nodes.{Nodes}
 use Rattle.art_parts.specs.declared.names.OpaqueNodePtr.{OpaqueNodePtr}
 use Rattle.art_model.specs.Canonical.{IsCanonicalTree}
 use Rattle.art_model.specs.Keys.{IsFront}
-use Rattle.art_model.specs.Places.{depth_of, place_of}
+use Rattle.art_model.specs.Layouts.{Holds}
+use Rattle.art_model.specs.Paths.{Frame, plug}
+use Rattle.art_model.specs.Places.{depth_of, place_of, IsEndNode}
 use Rattle.art_model.specs.Radix.{IsRadix}
-use Rattle.art_model.specs.Trees.{Tree}
+use Rattle.art_model.specs.Stores.{node_at, pair_of}
+use Rattle.art_model.specs.Trees.{Tree, leaf}
 use Rattle.art_model.proofs.Canonical.{tree_radix}
 use Rattle.art_model.proofs.Paths.{IsHole, radix_plug}
 use Rattle.art_model.proofs.PlaceLaws.{depth_is}
 use Rattle.art_model.proofs.Places.{place_is}
-use Rattle.art_model.proofs.StoreLaws.{has_one_map}
-use Rattle.art_writing.specs.declared.insert.InsertPoint.{InsertPoint}
-use Rattle.art_writing.specs.Inserted.{IsPointIn}
-use Rattle.art_writing.specs.Points.{AnswersTo}
+use Rattle.art_model.proofs.Stores.{path_holds}
+use Rattle.art_model.proofs.Views as views
 
--- a point's end node is in the hole of its path
-pub record IsAnswered {A : Type 0} (bytes : A → List ℕ) (P : ℕ) (layout : Tree OpaqueNodePtr A) (key : List ℕ) (point : InsertPoint) : Type 0 where
-  pub answers : AnswersTo bytes P layout key point
+-- the node is in the hole of the path, at a place that is as long as the path is deep
+pub record IsPlacedEnd {A : Type 0} (bytes : A → List ℕ) (P : ℕ) (path : List (Frame OpaqueNodePtr A)) (node : Tree OpaqueNodePtr A) (key : List ℕ) : Type 0 where
   pub place : List ℕ
-  pub hole : IsHole bytes P answers.path place answers.node key
-  pub deep : depth_of answers.path ≡ length place
+  pub hole : IsHole bytes P path place node key
+  pub deep : depth_of path ≡ length place
 
-pub answered : {K V : Type 0} {bytes : K × V → List ℕ} {P : ℕ} {s : Nodes K V} {key : List ℕ} {point : InsertPoint} {pairs : List (K × V)} {layout : Tree OpaqueNodePtr (K × V)} →
-    IsPointIn bytes P s key point → IsCanonicalTree bytes P s point.root pairs layout → IsAnswered bytes P layout key point
-answered {bytes = bytes} {P} {s} {key} {point} {pairs} {layout} (others, other, is, own) by =
-    let answers : AnswersTo bytes P layout key point = subst (λ z. AnswersTo bytes P z key point) (has_one_map bytes P s point.root pairs others layout other by is).1 own in
-    let (place, path, radix) = radix_plug bytes P answers.path answers.node (subst (IsRadix bytes P []) (sym answers.is_end.whole) (tree_radix by).0) in
-    let deep = depth_is bytes P answers.path place path in
+pub placed_end : {K V : Type 0} {bytes : K × V → List ℕ} {P : ℕ} {s : Nodes K V} {root : OpaqueNodePtr} {pairs : List (K × V)} {layout : Tree OpaqueNodePtr (K × V)}
+    {key : List ℕ} {path : List (Frame OpaqueNodePtr (K × V))} {node : Tree OpaqueNodePtr (K × V)} →
+    IsCanonicalTree bytes P s root pairs layout → IsEndNode bytes layout key path node → IsPlacedEnd bytes P path node key
+placed_end {bytes = bytes} {P} {key = key} {path} {node} by is_end =
+    let (place, leads, radix) = radix_plug bytes P path node (subst (IsRadix bytes P []) (sym is_end.whole) (tree_radix by).0) in
+    let deep = depth_is bytes P path place leads in
     record {
-      answers = answers;
       place = place;
       hole = record {
-        path = path;
+        path = leads;
         radix = radix;
-        front = subst (λ w. IsFront w key)
-            (ap (λ d. place_of bytes d answers.node) deep ∙ place_is bytes P answers.node place radix) answers.is_end.is_front;
+        front = subst (λ w. IsFront w key) (ap (λ d. place_of bytes d node) deep ∙ place_is bytes P node place radix) is_end.is_front;
       };
       deep = deep;
     }
+
+-- a stored leaf at the end of a path of the layout, whose place is a front of the key
+pub record IsEndLeaf {K V : Type 0} (bytes : K × V → List ℕ) (P : ℕ) (s : Nodes K V) (p : LeafPtr) (layout : Tree OpaqueNodePtr (K × V)) (key : List ℕ) : Type 0 where
+  pub path : List (Frame OpaqueNodePtr (K × V))
+  pub shown : LeafNode K V
+  pub place : List ℕ
+  pub whole : plug path (leaf (leaf_name p) (pair_of shown)) ≡ layout
+  pub hole : IsHole bytes P path place (leaf (leaf_name p) (pair_of shown)) key
+  pub there : map.get s.leaves p ≡ Some shown
+
+-- the end node of a key is one, where it is the leaf of a pair
+pub end_leaf : {K V : Type 0} {bytes : K × V → List ℕ} {P : ℕ} {s : Nodes K V} {root : OpaqueNodePtr} {pairs : List (K × V)} {layout : Tree OpaqueNodePtr (K × V)}
+    {key : List ℕ} {path : List (Frame OpaqueNodePtr (K × V))} {node : Tree OpaqueNodePtr (K × V)} {p : LeafPtr} {pair : K × V} →
+    IsCanonicalTree bytes P s root pairs layout → IsEndNode bytes layout key path node → node ≡ leaf (leaf_name p) pair →
+    (at : IsEndLeaf bytes P s p layout key) × (pair_of at.shown ≡ pair)
+end_leaf {bytes = bytes} {P} {s} {layout = layout} {key} {path} {node} {p} {pair} by is_end is =
+    let a = placed_end by is_end in
+    let whole : plug path (leaf (leaf_name p) pair) ≡ layout = ap (plug path) (sym is) ∙ is_end.whole in
+    let (shown, there, own) = views.leaf_there s p pair (path_holds (node_at s) path (leaf (leaf_name p) pair) (subst (Holds (node_at s)) (sym whole) by.stands.0.holds)).1 in (
+      record {
+        path = path;
+        shown = shown;
+        place = a.place;
+        whole = ap (λ z. plug path (leaf (leaf_name p) z)) own ∙ whole;
+        hole = subst (λ z. IsHole bytes P path a.place z key) (is ∙ ap (leaf (leaf_name p)) (sym own)) a.hole;
+        there = there;
+      },
+      own,
+    )

@@ -1,61 +1,99 @@
--- what an applied insert point leaves, read off the whole record of it: for whatever layout of the new root
-use Rattle.std.proofs.Common.{◌≡◌, ℕ, List, Some, Result, IfOk, ap, sym, ◌∙◌, subst}
+-- What is told of an applied point, from what is left for each layout of the root: by whatever layout of the new root.
+use Rattle.std.proofs.Common.{rules, ◌≡◌, ℕ, List, Some, Ok, Err, refl, ap, sym, ◌∙◌, subst}
 use Rattle.std.specs.Option.{option_map}
-use Rattle.std.proofs.lemmas.Result.{IfOk-weaker}
-use Rattle.art_nodes.specs.Nodes.{Nodes}
-use Rattle.art_parts.specs.declared.names.OpaqueNodePtr.{OpaqueNodePtr}
+use Rattle.art_nodes.specs.Nodes.{Nodes, Promise}
 use Rattle.art_model.specs.Canonical.{IsCanonical}
 use Rattle.art_model.specs.Kept.{ChangesInPlace}
-use Rattle.art_model.specs.Pairs.{put, put_reply, stored_for}
-use Rattle.art_model.specs.Roots.{ForTree, IsCanonicalRoot}
-use Rattle.art_model.specs.Trees.{Tree}
+use Rattle.art_model.specs.Pairs.{of_key, overwrite, put, stored_for}
+use Rattle.art_model.specs.Promises.{promise_after}
+use Rattle.art_model.specs.Roots.{ForTree}
+use Rattle.art_model.proofs.MapLaws.{stored_again}
+use Rattle.art_model.proofs.PutOver.{put_is_overwrite, put_reply_is, was_free}
 use Rattle.art_model.proofs.StoreLaws.{has_one_map}
 use Rattle.art_writing.specs.declared.insert.InsertPoint.{InsertPoint}
 use Rattle.art_writing.specs.declared.insert.InsertResult.{InsertResult}
-use Rattle.art_writing.specs.Inserted.{HasInserted, IsInserted, IsPointIn, alone}
+use Rattle.art_writing.specs.declared.insert.OverwritePoint.{OverwritePoint}
+use Rattle.art_writing.specs.declared.insert.PrefixInsertPoint.TheVariants as points
+use Rattle.art_writing.specs.declared.insert.PrefixInsertResult.{PrefixInsertResult}
+use Rattle.art_writing.specs.declared.insert.Refused.{Refused}
+use Rattle.art_writing.specs.Applied.{IsApplied, IsPrefixApplied, TakesMemory}
+use Rattle.art_writing.specs.Inserted.{HasInserted, IsInserted, IsPointIn, alone, placed_for}
+use Rattle.art_writing.specs.Overwritten.{HasOverwritten, IsOverwritePointIn, IsOverwritten, placed_for_overwrite}
 
-module _ {K V : Type 0} {bytes : K × V → List ℕ} {P : ℕ} {s t : Nodes K V} {point : InsertPoint} {pair : K × V} where
-  module _ {pairs : List (K × V)} {layout : Tree OpaqueNodePtr (K × V)} {done : InsertResult K V} (is : IsInserted bytes P s t point pair pairs layout done) where
-    -- the new root is canonical
-    pub inserted_canonical : IsCanonical bytes P t (Some done.new_root) (put bytes pair pairs)
-    inserted_canonical = (is.tree, is.canonical)
+-- ---- memory
 
-    -- its layout has the leaf
-    pub inserted_leaf : ((ps : List (K × V)) → stored_for bytes pair (put bytes pair ps) ≡ stored_for bytes pair ps) →
-        ForTree bytes P t done.new_root (λ after new. HasInserted new point (stored_for bytes pair after) done)
-    inserted_leaf again after new by =
-        let one = has_one_map bytes P t done.new_root (put bytes pair pairs) after is.tree new is.canonical by in
-        subst (λ x. HasInserted new point x done) (sym (ap (stored_for bytes pair) one.0 ∙ again pairs)) (subst (λ z. HasInserted z point (stored_for bytes pair pairs) done) (sym one.1) is.inserted)
+module _ {K V : Type 0} {s t : Nodes K V} {placed : Promise} {pair : K × V} where
+  -- what is placed was covered, or is now
+  pub granted : {X : Type 0} {done : X} → t.promise ≡ promise_after placed s.promise → TakesMemory s t placed pair (Ok done)
+  granted after = record { promise = after; succeeds = λ covered. refl; handed_back = tt; leaves = tt; inners = tt; void = tt }
 
-    -- and the change was one in place
-    pub inserted_kept : ForTree bytes P t done.new_root (λ after new. ChangesInPlace bytes s t (Some layout) (Some new))
-    inserted_kept after new by =
-        subst (λ z. ChangesInPlace bytes s t (Some layout) (Some z)) (sym (has_one_map bytes P t done.new_root (put bytes pair pairs) after is.tree new is.canonical by).1) is.kept
+  -- a refusal is one of each call
+  refused_too : {X Y : Type 0} {refused : Refused K V} → TakesMemory {X = X} s t placed pair (Err refused) → TakesMemory {X = Y} s t placed pair (Err refused)
+  refused_too is = record { promise = tt; succeeds = is.succeeds; handed_back = is.handed_back; leaves = is.leaves; inners = is.inners; void = is.void }
 
--- ---- where an insertion may be refused
+-- ---- points that are applied
 
-module _ {K V : Type 0} (bytes : K × V → List ℕ) (P : ℕ) (s t : Nodes K V) (point : InsertPoint) (pair : K × V) {E : Type 0} (r : Result (InsertResult K V) E) where
-  module _ (pairs : List (K × V)) (layout : Tree OpaqueNodePtr (K × V)) (done : IfOk r (IsInserted bytes P s t point pair pairs layout)) where
-    pub if_canonical : IfOk r (λ done. IsCanonical bytes P t (Some done.new_root) (put bytes pair pairs))
-    if_canonical = IfOk-weaker r (IsInserted bytes P s t point pair pairs layout) (λ done. IsCanonical bytes P t (Some done.new_root) (put bytes pair pairs)) (λ done is. inserted_canonical is) done
+module _ {K V : Type 0} (bytes : K → List ℕ) {P : ℕ} {s t : Nodes K V} {pair : K × V} where
+  pub applied : {key : List ℕ} {point : InsertPoint} {done : InsertResult K V} → IsPointIn (of_key bytes) P s key point →
+      ForTree (of_key bytes) P s point.root (λ pairs layout. IsInserted (of_key bytes) P s t point pair pairs layout done) →
+      t.promise ≡ promise_after (placed_for s point.insert_kind) s.promise → IsApplied (of_key bytes) P s t point pair (Ok done)
+  applied {point = point} {done} (pairs, layout, by, answers) all promise =
+      let own = all pairs layout by in
+      record {
+        canonical = λ ps l b. ((all ps l b).tree, (all ps l b).canonical);
+        root = (put (of_key bytes) pair pairs, own.tree, own.canonical);
+        leaf = λ after new b.
+            let one = has_one_map (of_key bytes) P t done.new_root (put (of_key bytes) pair pairs) after own.tree new own.canonical b in
+            subst (λ x. HasInserted new point x done) (sym (ap (stored_for (of_key bytes) pair) one.0 ∙ stored_again bytes pair pairs))
+            (subst (λ z. HasInserted z point (stored_for (of_key bytes) pair pairs) done) (sym one.1) own.inserted);
+        replaced = λ ps l b. (all ps l b).replaced;
+        kept = λ ps l b after new c.
+            let is = all ps l b in
+            subst (λ z. ChangesInPlace (of_key bytes) s t (Some l) (Some z))
+            (sym (has_one_map (of_key bytes) P t done.new_root (put (of_key bytes) pair ps) after is.tree new is.canonical c).1) is.kept;
+        touches = own.touches;
+        memory = granted promise;
+      }
 
-    pub if_replaced : IfOk r (λ done. done.existing_leaf ≡ option_map alone (put_reply bytes pair pairs))
-    if_replaced = IfOk-weaker r (IsInserted bytes P s t point pair pairs layout) (λ done. done.existing_leaf ≡ option_map alone (put_reply bytes pair pairs)) (λ done is. is.replaced) done
+  -- an insertion is one in the place of related keys, where none but an equal one is stored
+  pub applied_prefix : {point : InsertPoint} {done : InsertResult K V} → IsApplied (of_key bytes) P s t point pair (Ok done) →
+      IsPrefixApplied (of_key bytes) P s t (points.InsertPoint point) pair (Ok (record { insert_result = done; leafs_removed = 0 }))
+  applied_prefix {done = done} is =
+      record {
+        canonical = λ pairs layout by.
+            let new = is.canonical pairs layout by in
+            subst (IsCanonical (of_key bytes) P t (Some done.new_root)) (sym (put_is_overwrite (of_key bytes) pair pairs (was_free bytes pair pairs new.1.is_map))) new;
+        root = is.root;
+        leaf = is.leaf;
+        replaced = λ pairs layout by.
+            is.replaced pairs layout by
+            ∙ ap (λ z. option_map alone z.0) (sym (put_reply_is (of_key bytes) pair pairs (was_free bytes pair pairs (is.canonical pairs layout by).1.is_map)));
+        removed = λ pairs layout by. ap (λ z. z.1) (sym (put_reply_is (of_key bytes) pair pairs (was_free bytes pair pairs (is.canonical pairs layout by).1.is_map)));
+        kept = is.kept;
+        touches = λ pairs layout by. is.touches;
+        memory = granted is.memory.promise;
+      }
 
-    pub if_kept : IfOk r (λ done. ForTree bytes P t done.new_root (λ after new. ChangesInPlace bytes s t (Some layout) (Some new)))
-    if_kept =
-        IfOk-weaker r (IsInserted bytes P s t point pair pairs layout)
-        (λ done. ForTree bytes P t done.new_root (λ after new. ChangesInPlace bytes s t (Some layout) (Some new))) (λ done is. inserted_kept is) done
+  pub refused_prefix : {point : InsertPoint} {refused : Refused K V} → IsApplied (of_key bytes) P s t point pair (Err refused) →
+      IsPrefixApplied (of_key bytes) P s t (points.InsertPoint point) pair (Err refused)
+  refused_prefix is = search (rules, refused_too {Y = PrefixInsertResult K V} is.memory)
 
-  -- the point answers to some layout
-  pub if_leaf : {key : List ℕ} → ((ps : List (K × V)) → stored_for bytes pair (put bytes pair ps) ≡ stored_for bytes pair ps) →
-      IsPointIn bytes P s key point → ForTree bytes P s point.root (λ pairs layout. IfOk r (IsInserted bytes P s t point pair pairs layout)) →
-      IfOk r (λ done. ForTree bytes P t done.new_root (λ after new. HasInserted new point (stored_for bytes pair after) done))
-  if_leaf again (pairs, layout, by, answers) done =
-      IfOk-weaker r (IsInserted bytes P s t point pair pairs layout)
-      (λ done. ForTree bytes P t done.new_root (λ after new. HasInserted new point (stored_for bytes pair after) done)) (λ done is. inserted_leaf is again) (done pairs layout by)
-
-  pub if_root : {key : List ℕ} → IsPointIn bytes P s key point →
-      ForTree bytes P s point.root (λ pairs layout. IfOk r (IsInserted bytes P s t point pair pairs layout)) → IfOk r (λ done. IsCanonicalRoot bytes P t done.new_root)
-  if_root (pairs, layout, by, answers) done =
-      IfOk-weaker r (IsInserted bytes P s t point pair pairs layout) (λ done. IsCanonicalRoot bytes P t done.new_root) (λ done is. (put bytes pair pairs, is.tree, is.canonical)) (done pairs layout by)
+pub overwritten : {K V : Type 0} {bytes : K × V → List ℕ} {P : ℕ} {s t : Nodes K V} {point : OverwritePoint} {pair : K × V} {key : List ℕ} {done : PrefixInsertResult K V} →
+    IsOverwritePointIn bytes P s key point → ForTree bytes P s point.root (λ pairs layout. IsOverwritten bytes P s t point pair pairs layout done) →
+    t.promise ≡ promise_after (placed_for_overwrite point.overwrite_point.kind) s.promise → IsPrefixApplied bytes P s t (points.OverwritePoint point) pair (Ok done)
+overwritten {bytes = bytes} {P} {s} {t} {point} {pair} {done = done} (pairs, layout, by, answers) all promise =
+    let own = all pairs layout by in
+    record {
+      canonical = λ ps l b. ((all ps l b).tree, (all ps l b).canonical);
+      root = (overwrite bytes pair pairs, own.tree, own.canonical);
+      leaf = λ after new b.
+          subst (λ z. HasOverwritten z point pair done.insert_result)
+          (sym (has_one_map bytes P t done.insert_result.new_root (overwrite bytes pair pairs) after own.tree new own.canonical b).1) own.leaf;
+      replaced = λ ps l b. (all ps l b).existing;
+      removed = λ ps l b. (all ps l b).removed;
+      kept = λ ps l b after new c.
+          let is = all ps l b in
+          subst (λ z. ChangesInPlace bytes s t (Some l) (Some z)) (sym (has_one_map bytes P t done.insert_result.new_root (overwrite bytes pair ps) after is.tree new is.canonical c).1) is.kept;
+      touches = λ ps l b. (all ps l b).touches;
+      memory = granted promise;
+    }

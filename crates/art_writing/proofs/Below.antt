@@ -10,7 +10,6 @@ use Rattle.art_nodes.specs.Nodes.{Nodes, change}
 use Rattle.art_parts.specs.declared.names.NodeType.{NodeType}
 use Rattle.art_parts.specs.declared.names.NodeType.TheVariants.{Node4, Node16, Node48, Node256, Leaf}
 use Rattle.art_parts.specs.declared.names.InnerPtr.{InnerPtr}
-use Rattle.art_parts.specs.declared.names.LeafPtr.{LeafPtr}
 use Rattle.art_parts.specs.declared.leaf.LeafNode.{LeafNode}
 use Rattle.art_parts.specs.declared.names.OpaqueNodePtr.{OpaqueNodePtr}
 use Rattle.art_nodes.proofs.StoreLaws.{inner_fresh_differs, inner_gone_elsewhere}
@@ -20,22 +19,24 @@ use Rattle.art_model.specs.Layouts.{name_of}
 use Rattle.art_model.specs.Pairs.{remove_key}
 use Rattle.art_model.specs.Paths.{Frame, plug}
 use Rattle.art_model.specs.Radix.{bytes_of, join}
+use Rattle.art_model.specs.Roots.{IsRootOf}
 use Rattle.art_model.specs.Stores.{node_at, links_at, pair_of}
 use Rattle.art_model.specs.Trees.{Tree, leaf, child}
 use Rattle.art_model.specs.Writes.{Inners, as_inner, parent_of, with_child_at, without_leaf}
 use Rattle.art_model.proofs.Canonical.{IsLaidOut, laid_out, canonical_from}
-use Rattle.art_model.proofs.OutOf.{smaller_inner, HasLeafBelow, ParentStays, ParentShrinks, with_leaf_in, links_there, parent_is, one_more, slots_left, room_in_smaller, above_same, above_holds, hole, left_out, stays_laid_out, stays_in_place, stays_touches, shrunk, shrinks_laid_out, shrinks_in_place, shrinks_touches}
+use Rattle.art_model.proofs.OutOf.{HasLeafBelow, ParentStays, ParentShrinks, with_leaf_in, links_there, parent_is, one_more, slots_left, room_in_smaller, above_same, above_holds, hole, left_out, stays_laid_out, stays_in_place, stays_touches, shrunk, shrinks_laid_out, shrinks_in_place, shrinks_touches}
 use Rattle.art_model.proofs.Paths.{root_with as root_of}
 use Rattle.art_model.proofs.Slots.{length-slots_of}
 use Rattle.art_model.proofs.Stores.{IsParent}
 use Rattle.art_model.proofs.Writes.{parent_ready}
 use Rattle.art_writing.specs.declared.delete.DeletePoint.{DeletePoint}
-use Rattle.art_reading.specs.declared.path.TreePath.{TreePath}
-use Rattle.art_writing.specs.Deleted.{IsDeleted, IsRootAfter, LeadsTo, TouchesFor, ParentChange, change_of, parent_change, no_parent, keeps, shrinks, is_compressed}
+use Rattle.art_writing.specs.declared.delete.DeleteResult.{DeleteResult}
+use Rattle.art_writing.specs.Deleted.{IsRootAfter, LeadsTo, TouchesFor, ParentChange, change_of, parent_change, no_parent, keeps, shrinks, is_compressed}
 use Rattle.art_writing.specs.Inserted.{alone}
 use Rattle.art_reading.specs.Paths.{last_step, path_of, up, root_with}
+use Rattle.art_writing.specs.TakenOut.{IsLeafTaken}
 use Rattle.art_writing.specs.Writes.{HasChild, LinksAreThere}
-use Rattle.art_writing.proofs.Deletions.{leaf_at, some_same}
+use Rattle.art_writing.proofs.Deletions.{IsDeleted, leaf_at, some_same, taken_since}
 use Rattle.art_writing.proofs.Ways.{last_step-path_of, last_step-up, root_with-up, root_after_at, root_kept_at}
 
 -- ---- what a parent's change tells of its number of children
@@ -106,36 +107,11 @@ pub record IsBelow {K V : Type 0} (bytes : K × V → List ℕ) (P : ℕ) (s : N
   pub parent_is : as_inner frame.mark ≡ parent
   pub byte_is : frame.byte ≡ byte
 
--- A leaf was taken from between the two that it names, and is answered alone.
-pub record IsTaken {K V : Type 0} (s u : Nodes K V) (name : LeafPtr) (deleted : LeafNode K V) : Type 0 where
-  pub leaf : IsSomeAnd (get s.leaves name) (λ leaf. deleted ≡ alone (leaf.key, leaf.value))
-  pub leaves : IsSomeAnd (get s.leaves name) (λ leaf. u.leaves ≡ without_leaf s.leaves name leaf)
-  pub inners : u.inners ≡ s.inners
-
--- Then the parent lost the child.
-pub record IsWithoutChild {K V : Type 0} (u t : Nodes K V) (parent : InnerPtr) (byte : ℕ) : Type 0 where
-  pub leaves : t.leaves ≡ u.leaves
-  pub inners : t.inners ≡ change u.inners parent (without_child byte)
-
--- Or the parent was freed, and a smaller node placed without the child.
+-- The parent was freed, and a smaller node placed without the child.
 pub record IsSmaller {K V : Type 0} (u v : Nodes K V) (parent : InnerPtr) (byte : ℕ) (q : InnerPtr) : Type 0 where
   pub kind : q.kind ≡ smaller_kind parent.kind
   pub fresh : get u.inners q ≡ None
-  pub leaves : v.leaves ≡ u.leaves
   pub inners : IfSome (get u.inners parent) (λ node. v.inners ≡ insert (remove u.inners parent) q (without_child byte node))
-
--- Then the grandparent, where there is one, has that as its child.
-pub record IsInPlace {K V : Type 0} (v t : Nodes K V) (path : TreePath) (q : InnerPtr) : Type 0 where
-  pub leaves : t.leaves ≡ v.leaves
-  pub inners : t.inners ≡ with_child_at (last_step (up path)) (inner_name q) v.inners
-
--- a reservation before it makes no difference
-pub taken_since : {K V : Type 0} {s r u : Nodes K V} {name : LeafPtr} {deleted : LeafNode K V} → r.leaves ≡ s.leaves → r.inners ≡ s.inners → IsTaken r u name deleted → IsTaken s u name deleted
-taken_since {s = s} {u = u} {name = name} {deleted = deleted} leaves inners taken = record {
-  leaf = subst (λ m. IsSomeAnd (get m name) (λ leaf. deleted ≡ alone (leaf.key, leaf.value))) leaves taken.leaf;
-  leaves = subst (λ m. IsSomeAnd (get m name) (λ leaf. u.leaves ≡ without_leaf m name leaf)) leaves taken.leaves;
-  inners = taken.inners ∙ inners;
-}
 
 module _ {K V : Type 0} {bytes : K × V → List ℕ} {P : ℕ} {s : Nodes K V} {root : OpaqueNodePtr} {pairs : List (K × V)}
     {layout : Tree OpaqueNodePtr (K × V)} {x : K × V} {point : DeletePoint} {parent : InnerPtr} {byte : ℕ} where
@@ -176,10 +152,6 @@ module _ {K V : Type 0} {bytes : K × V → List ℕ} {P : ℕ} {s : Nodes K V} 
           ap length kids ∙ length-slots_of (join at.frame.left (child at.frame.byte (leaf (leaf_name point.leaf_node_ptr) (pair_of at.node)) at.frame.right)) ∙ one_more at.below,
         )
 
-    -- the smaller kind is an inner one
-    pub smaller_is_inner : {smaller : NodeType} → smaller ≡ smaller_kind parent.kind → Some smaller ≢ Some Leaf
-    smaller_is_inner is e = smaller_inner parent.kind parent_there.2 (sym is ∙ some_same e)
-
     -- what becomes of the parent is told by its number of children
     pub change_is : (to : ParentChange) → last_step point.path ≡ Some (parent, byte) → parent_change s point.path ≡ to →
         change_of at.frame.mark.kind (suc (length (bytes_of (join at.frame.left at.frame.right)))) ≡ to
@@ -194,54 +166,60 @@ module _ {K V : Type 0} {bytes : K × V → List ℕ} {P : ℕ} {s : Nodes K V} 
         ∙ ap (λ (o : Option Inner). elim o as (λ _. ParentChange) [ None ↦ no_parent | Some i ↦ change_of parent.kind (length i.children) ]) got in
         ap (λ (p : InnerPtr). change_of p.kind (suc (length (bytes_of (join at.frame.left at.frame.right))))) at.parent_is ∙ ap (change_of parent.kind) (sym count) ∙ sym told ∙ is
 
-  module _ (at : IsBelow bytes P s root pairs layout x point parent byte) {u : Nodes K V} {deleted : LeafNode K V} (taken : IsTaken s u point.leaf_node_ptr deleted) where
-    leaves_without : u.leaves ≡ without_leaf s.leaves point.leaf_node_ptr at.node
-    leaves_without = subst (λ o. IsSomeAnd o (λ leaf. u.leaves ≡ without_leaf s.leaves point.leaf_node_ptr leaf)) at.here taken.leaves
+    -- ---- after writes that change no leaf the leaf goes
 
-    -- it is answered with the pair
-    pair_alone : deleted ≡ alone x
-    pair_alone = subst (λ o. IsSomeAnd o (λ leaf. deleted ≡ alone (leaf.key, leaf.value))) at.here taken.leaf ∙ ap alone at.pair
+    module _ {w t : Nodes K V} {new : OpaqueNodePtr} {done : DeleteResult K V} (leaves : w.leaves ≡ s.leaves) (taken : IsLeafTaken w t point (Some new) done) where
+      leaves_without : t.leaves ≡ without_leaf s.leaves point.leaf_node_ptr at.node
+      leaves_without = (taken_since s leaves at.here taken).0
 
-    same_root : (fs : List (Frame OpaqueNodePtr (K × V))) → name_of (plug fs (with_leaf_in at.frame point.leaf_node_ptr at.node)) ≡ root → root_of fs root at.frame.mark ≡ root
-    same_root [] e = e
-    same_root (g ∷ gs) e = refl
+      -- what is done, by the tree that is left, and the name that stands where the parent stood
+      pub deleted_below : (name : OpaqueNodePtr) (tree : Tree OpaqueNodePtr (K × V)) (to : ParentChange) → parent_change s point.path ≡ to → new ≡ root_of at.above root name →
+          IsRootAfter to (path_of (at.frame ∷ at.above)) root (Some (root_of at.above root name)) →
+          IsLaidOut bytes P (node_at t) (links_at t) (root_of at.above root name) (remove_key bytes (bytes (pair_of at.node)) pairs) tree →
+          ChangesInPlace bytes s t (Some (plug at.above (with_leaf_in at.frame point.leaf_node_ptr at.node))) (Some tree) → TouchesFor to s t →
+          IsDeleted bytes P s t root point x pairs layout done
+      deleted_below name tree to is named root_is laid kept touches =
+          let answered : done.new_root ≡ Some (root_of at.above root name) = taken.root_is ∙ ap Some named in
+          record {
+            tree = Some tree;
+            canonical = subst (λ r. IsRootOf bytes P t r (remove_key bytes (bytes x) pairs) (Some tree)) (sym answered)
+                (canonical_from (subst (λ y. IsLaidOut bytes P (node_at t) (links_at t) (root_of at.above root name) (remove_key bytes (bytes y) pairs) tree) at.pair laid));
+            deleted = (taken_since s leaves at.here taken).1 ∙ ap alone at.pair;
+            root_is = subst (λ r. IsRootAfter (parent_change s point.path) point.path root r) (sym answered)
+                (subst (λ path. IsRootAfter (parent_change s point.path) path root (Some (root_of at.above root name))) (sym at.path_is)
+                (subst (λ change. IsRootAfter change (path_of (at.frame ∷ at.above)) root (Some (root_of at.above root name))) (sym is) root_is));
+            kept = subst (λ l. ChangesInPlace bytes s t (Some l) (Some tree)) at.whole kept;
+            touches = subst (λ change. TouchesFor change s t) (sym is) touches;
+          }
 
     -- ---- the parent stays
 
-    module _ {t : Nodes K V} (without : IsWithoutChild u t parent byte) (step : last_step point.path ≡ Some (parent, byte)) (is : parent_change s point.path ≡ keeps) where
+    module _ {w t : Nodes K V} {done : DeleteResult K V} (leaves : w.leaves ≡ s.leaves) (inners : w.inners ≡ change s.inners parent (without_child byte))
+        (taken : IsLeafTaken w t point (Some root) done) (step : last_step point.path ≡ Some (parent, byte)) (is : parent_change s point.path ≡ keeps) where
       parent_stays : ParentStays s t at.frame point.leaf_node_ptr at.node
       parent_stays = record {
-        goes = record { here = at.here; leaves = without.leaves ∙ leaves_without };
-        spare = let more = keeps_spare at.frame.mark.kind (suc (length (bytes_of (join at.frame.left at.frame.right)))) (change_is at keeps step is) in omega arith;
-        inners = without.inners ∙ ap (λ m. change m parent (without_child byte)) taken.inners ∙
-            ap (λ p. change s.inners p (without_child byte)) (sym at.parent_is) ∙ ap (λ b. change s.inners (as_inner at.frame.mark) (without_child b)) (sym at.byte_is);
+        goes = record { here = at.here; leaves = leaves_without leaves taken };
+        spare = let more = keeps_spare at.frame.mark.kind (suc (length (bytes_of (join at.frame.left at.frame.right)))) (change_is keeps step is) in omega arith;
+        inners = taken.inners ∙ inners ∙ ap (λ p. change s.inners p (without_child byte)) (sym at.parent_is) ∙ ap (λ b. change s.inners (as_inner at.frame.mark) (without_child b)) (sym at.byte_is);
       }
 
-      -- the record of it
-      pub child_deleted : IsDeleted bytes P s t root point x pairs layout (record { new_root = Some root; deleted_leaf = deleted })
+      pub child_deleted : IsDeleted bytes P s t root point x pairs layout done
       child_deleted =
           let same : root_of at.above root at.frame.mark ≡ root = same_root at.above at.below.laid.named in
-          let tree = plug at.above (left_out at.below parent_stays) in
-          record {
-            tree = Some tree;
-            canonical = canonical_from (subst (λ r. IsLaidOut bytes P (node_at t) (links_at t) r (remove_key bytes (bytes x) pairs) tree) same
-                (subst (λ y. IsLaidOut bytes P (node_at t) (links_at t) (root_of at.above root at.frame.mark) (remove_key bytes (bytes y) pairs) tree) at.pair (stays_laid_out at.below parent_stays)));
-            deleted = pair_alone;
-            root_is =
-                subst (λ to. IsRootAfter to point.path root (Some root)) (sym is) (subst (λ path. IsRootAfter keeps path root (Some root)) (sym at.path_is) (root_kept_at at.frame at.above root));
-            kept = subst (λ l. ChangesInPlace bytes s t (Some l) (Some tree)) at.whole (stays_in_place at.below parent_stays);
-          }
+          deleted_below leaves taken at.frame.mark (plug at.above (left_out at.below parent_stays)) keeps is (sym same)
+          (subst (λ r. IsRootAfter keeps (path_of (at.frame ∷ at.above)) root (Some r)) (sym same) (root_kept_at at.frame at.above root))
+          (stays_laid_out at.below parent_stays) (stays_in_place at.below parent_stays) (stays_touches at.below parent_stays)
+        where
+          same_root : (fs : List (Frame OpaqueNodePtr (K × V))) → name_of (plug fs (with_leaf_in at.frame point.leaf_node_ptr at.node)) ≡ root → root_of fs root at.frame.mark ≡ root
+          same_root [] e = e
+          same_root (g ∷ gs) e = refl
 
-      -- and what is touched
-      pub child_touches : TouchesFor (parent_change s point.path) s t
-      child_touches = subst (λ to. TouchesFor to s t) (sym is) (stays_touches at.below parent_stays)
+    -- ---- a smaller node takes the parent's place, after a reservation that changes no node
 
-    -- ---- a smaller node takes the parent's place
-
-    module _ (to : NodeType) (step : last_step point.path ≡ Some (parent, byte)) (is : parent_change s point.path ≡ shrinks to) where
+    module _ (u : Nodes K V) (same : u.inners ≡ s.inners) (to : NodeType) (step : last_step point.path ≡ Some (parent, byte)) (is : parent_change s point.path ≡ shrinks to) where
       fewest : (at.frame.mark.kind ≢ Node4) × (length (bytes_of (join at.frame.left at.frame.right)) < kind_least at.frame.mark.kind)
       fewest =
-          let (larger, least) = shrinks_least at.frame.mark.kind to (suc (length (bytes_of (join at.frame.left at.frame.right)))) (change_is at (shrinks to) step is) in
+          let (larger, least) = shrinks_least at.frame.mark.kind to (suc (length (bytes_of (join at.frame.left at.frame.right)))) (change_is (shrinks to) step is) in
           (larger, omega arith)
 
       -- the smaller kind has room for the parent's other children
@@ -250,7 +228,7 @@ module _ {K V : Type 0} {bytes : K × V → List ℕ} {P : ℕ} {s : Nodes K V} 
           let (off, node, got, head, kids) = parent_is at.below in
           let left : length (remove_child node.children byte) ≡ length (bytes_of (join at.frame.left at.frame.right)) =
           ap (λ b. length (remove_child node.children b)) (sym at.byte_is) ∙ ap length (slots_left at.below node.children kids) ∙ length-slots_of (join at.frame.left at.frame.right) in
-          let there : get u.inners parent ≡ Some node = ap (λ m. get m parent) taken.inners ∙ ap (get s.inners) (sym at.parent_is) ∙ got in
+          let there : get u.inners parent ≡ Some node = ap (λ m. get m parent) same ∙ ap (get s.inners) (sym at.parent_is) ∙ got in
           let fit : length (remove_child node.children byte) ≤ kind_capacity (smaller_kind at.frame.mark.kind) =
           subst (λ n. n ≤ kind_capacity (smaller_kind at.frame.mark.kind)) (sym left)
           (room_in_smaller at.frame.mark.kind (length (bytes_of (join at.frame.left at.frame.right))) fewest.0 fewest.1) in (
@@ -261,65 +239,49 @@ module _ {K V : Type 0} {bytes : K × V → List ℕ} {P : ℕ} {s : Nodes K V} 
 
       placed_is : (q : InnerPtr) (node : Inner) → insert (remove u.inners parent) q (without_child byte node) ≡ insert (remove s.inners (as_inner at.frame.mark)) q (without_child at.frame.byte node)
       placed_is q node =
-          ap (λ m. insert (remove m parent) q (without_child byte node)) taken.inners ∙ ap (λ p. insert (remove s.inners p) q (without_child byte node)) (sym at.parent_is)
+          ap (λ m. insert (remove m parent) q (without_child byte node)) same ∙ ap (λ p. insert (remove s.inners p) q (without_child byte node)) (sym at.parent_is)
           ∙ ap (λ b. insert (remove s.inners (as_inner at.frame.mark)) q (without_child b node)) (sym at.byte_is)
 
       module _ {v : Nodes K V} {q : InnerPtr} (smaller : IsSmaller u v parent byte q) where
         own : Inner
-        own = (parent_there at).0
+        own = parent_there.0
 
         own_there : get u.inners parent ≡ Some own
         unfolding own
-        own_there = ap (λ m. get m parent) taken.inners ∙ (parent_there at).1
+        own_there = ap (λ m. get m parent) same ∙ parent_there.1
 
         inners_are : v.inners ≡ insert (remove s.inners (as_inner at.frame.mark)) q (without_child at.frame.byte own)
         inners_are = subst (λ o. IfSome o (λ node. v.inners ≡ insert (remove u.inners parent) q (without_child byte node))) own_there smaller.inners ∙ placed_is q own
 
-        parent_shrinks : {t : Nodes K V} → IsInPlace v t point.path q → ParentShrinks s t at.frame at.above point.leaf_node_ptr at.node q own
+        parent_shrinks : {t : Nodes K V} → t.leaves ≡ without_leaf s.leaves point.leaf_node_ptr at.node → t.inners ≡ with_child_at (last_step (up point.path)) (inner_name q) v.inners →
+            ParentShrinks s t at.frame at.above point.leaf_node_ptr at.node q own
         unfolding own
-        parent_shrinks {t} last = record {
-          goes = record { here = at.here; leaves = last.leaves ∙ smaller.leaves ∙ leaves_without };
+        parent_shrinks leaves placed = record {
+          goes = record { here = at.here; leaves = leaves };
           least = fewest.1;
           larger = fewest.0;
           kind = smaller.kind ∙ ap (λ (p : InnerPtr). smaller_kind p.kind) (sym at.parent_is);
-          there = ap (get s.inners) at.parent_is ∙ (parent_there at).1;
-          fresh = ap (λ p. get (remove s.inners p) q) at.parent_is ∙ ap (λ m. get (remove m parent) q) (sym taken.inners) ∙
+          there = ap (get s.inners) at.parent_is ∙ parent_there.1;
+          fresh = ap (λ p. get (remove s.inners p) q) at.parent_is ∙ ap (λ m. get (remove m parent) q) (sym same) ∙
               inner_gone_elsewhere u.inners parent q (λ e. inner_fresh_differs u.inners q parent own smaller.fresh own_there (sym e)) ∙ smaller.fresh;
-          inners = last.inners ∙ ap (λ path. with_child_at (last_step (up path)) (inner_name q) v.inners) at.path_is ∙
+          inners = placed ∙ ap (λ path. with_child_at (last_step (up path)) (inner_name q) v.inners) at.path_is ∙
               ap (λ above. with_child_at above (inner_name q) v.inners) (last_step-up at.frame at.above) ∙ ap (with_child_at (parent_of at.above) (inner_name q)) inners_are;
         }
 
         -- before it is written, the grandparent has a child under its byte
         pub above_ready : HasChild v.inners (last_step (up point.path))
         above_ready =
-            let t : Nodes K V = record v { inners = with_child_at (last_step (up point.path)) (inner_name q) v.inners } in
-            let last : IsInPlace v t point.path q = record { leaves = refl; inners = refl } in
+            let t : Nodes K V = record v { leaves = without_leaf s.leaves point.leaf_node_ptr at.node; inners = with_child_at (last_step (up point.path)) (inner_name q) v.inners } in
             subst (HasChild v.inners) (sym (ap (λ path. last_step (up path)) at.path_is ∙ last_step-up at.frame at.above))
             (has_child s.inners v.inners at.frame.mark at.above (parent_ready bytes P s at.above (hole at.below).0 at.frame.mark (hole at.below).1.path (above_holds at.below))
-            (λ k above. ap (λ m. get m (as_inner k)) inners_are ∙ above_same at.below (parent_shrinks last) k above))
+            (λ k above. ap (λ m. get m (as_inner k)) inners_are ∙ above_same at.below (parent_shrinks {t = t} refl refl) k above))
 
-        module _ {t : Nodes K V} (last : IsInPlace v t point.path q) where
-          -- the record of it
-          pub parent_deleted : {new : OpaqueNodePtr} → new ≡ root_with (up point.path) root (inner_name q) →
-              IsDeleted bytes P s t root point x pairs layout (record { new_root = Some new; deleted_leaf = deleted })
-          parent_deleted {new} root_is =
-              let answered : new ≡ root_of at.above root (inner_name q) =
-              root_is ∙ ap (λ path. root_with (up path) root (inner_name q)) at.path_is ∙ root_with-up at.frame at.above root (inner_name q) in
-              let tree = plug at.above (shrunk at.below (parent_shrinks last)) in
-              record {
-                tree = Some tree;
-                canonical = canonical_from (subst (λ r. IsLaidOut bytes P (node_at t) (links_at t) r (remove_key bytes (bytes x) pairs) tree) (sym answered)
-                    (subst (λ y. IsLaidOut bytes P (node_at t) (links_at t) (root_of at.above root (inner_name q)) (remove_key bytes (bytes y) pairs)
-                    tree) at.pair (shrinks_laid_out at.below (parent_shrinks last))));
-                deleted = pair_alone;
-                root_is =
-                    subst (λ change. IsRootAfter change point.path root (Some new)) (sym is)
-                    (subst (λ path. IsRootAfter (shrinks to) path root (Some new)) (sym at.path_is)
-                    (subst (λ r. IsRootAfter (shrinks to) (path_of (at.frame ∷ at.above)) root (Some r)) (sym answered)
-                    (root_after_at at.frame (shrinks to) at.above root (inner_name q) (λ e. absurd cc))));
-                kept = subst (λ l. ChangesInPlace bytes s t (Some l) (Some tree)) at.whole (shrinks_in_place at.below (parent_shrinks last));
-              }
-
-          -- and what is touched
-          pub parent_touches : TouchesFor (parent_change s point.path) s t
-          parent_touches = subst (λ change. TouchesFor change s t) (sym is) (shrinks_touches at.below (parent_shrinks last))
+        -- then the grandparent, where there is one, has it as its child
+        pub parent_deleted : {w t : Nodes K V} {new : OpaqueNodePtr} {done : DeleteResult K V} → w.leaves ≡ s.leaves → w.inners ≡ with_child_at (last_step (up point.path)) (inner_name q) v.inners →
+            new ≡ root_with (up point.path) root (inner_name q) → IsLeafTaken w t point (Some new) done → IsDeleted bytes P s t root point x pairs layout done
+        parent_deleted {t = t} leaves placed named taken =
+            let shrinks_to : ParentShrinks s t at.frame at.above point.leaf_node_ptr at.node q own = parent_shrinks (leaves_without leaves taken) (taken.inners ∙ placed) in
+            deleted_below leaves taken (inner_name q) (plug at.above (shrunk at.below shrinks_to)) (shrinks to) is
+            (named ∙ ap (λ path. root_with (up path) root (inner_name q)) at.path_is ∙ root_with-up at.frame at.above root (inner_name q))
+            (root_after_at at.frame (shrinks to) at.above root (inner_name q) (λ e. absurd cc))
+            (shrinks_laid_out at.below shrinks_to) (shrinks_in_place at.below shrinks_to) (shrinks_touches at.below shrinks_to)

@@ -32,7 +32,9 @@ use Rattle.art_model.proofs.Stores.{path_holds, hole_distinct}
 use Rattle.art_model.proofs.TreeLaws.{one_child, have_two_children}
 use Rattle.art_writing.specs.declared.insert.InsertPoint.{InsertPoint}
 use Rattle.art_writing.specs.declared.insert.branch.Branch.{Branch}
-use Rattle.art_writing.specs.Branches.{IsBeside, IsBranch}
+use Rattle.art_writing.specs.Branches.{IsBranch}
+use Rattle.art_writing.specs.declared.writes.Side.TheVariants.{Before, After}
+use Rattle.art_writing.specs.Writes.{IsBeside, side_of}
 use Rattle.art_writing.specs.declared.insert.InsertKind.TheVariants.{SplitLeaf, MismatchPrefix}
 use Rattle.art_reading.specs.declared.path.ExplicitMismatch.{ExplicitMismatch}
 use Rattle.art_reading.specs.Matching.{shared_len}
@@ -66,7 +68,7 @@ some_leaf (Some own) Q h = (own, refl, h)
 
 module _ {K V : Type 0} (s : Nodes K V) (fs : List (Frame OpaqueNodePtr (K × V))) (tree : Tree OpaqueNodePtr (K × V)) (linked : AreLinked (links_at s) None (leaf_names (plug fs tree)) None) where
   -- right after the leaves in the hole, or right before them
-  pub beside_is : (first : Bool) (previous next : Option LeafPtr) → IsBeside s tree first previous next →
+  pub beside_is : (first : Bool) (previous next : Option LeafPtr) → IsBeside s tree (cond first After Before) previous next →
       (option_map leaf_name previous ≡ last_or (leaves_before fs ++ cond first (leaf_names tree) []) None) ×
       (option_map leaf_name next ≡ first_or (cond first [] (leaf_names tree) ++ leaves_after fs) None)
   beside_is true previous next (last, has, is, here) =
@@ -183,7 +185,7 @@ module _ {K V : Type 0} {bytes : K × V → List ℕ} {P : ℕ} {s : Nodes K V} 
   pub branch_is : {used : ℕ} {part : List ℕ} {branch : Branch P} {old_byte new_byte : ℕ} (w : AreWays place key (least_key bytes at.node) used) →
       point.key_bytes_used ≡ depth_of at.path → part ≡ take (used - point.key_bytes_used) (drop point.key_bytes_used key) → branch.header ≡ header_of P part →
       branch.old_byte ≡ old_byte → branch.new_byte ≡ new_byte → old_byte ≡ w.y → new_byte ≡ get_or key used 0 →
-      IsBeside s at.node (ltb old_byte new_byte) branch.previous branch.next → IsBranch bytes key at.path at.node branch
+      IsBeside s at.node (side_of new_byte old_byte) branch.previous branch.next → IsBranch bytes key at.path at.node branch
   branch_is {used} {part} {branch} {old_byte} {new_byte} w start part_is header old_is new_is old_byte_is new_byte_is beside =
       let deep : point.key_bytes_used ≡ length place = start ∙ end_depth by at in
       let old : branch.old_byte ≡ w.y = old_is ∙ old_byte_is in
@@ -191,7 +193,7 @@ module _ {K V : Type 0} {bytes : K × V → List ℕ} {P : ℕ} {s : Nodes K V} 
       let first : ltb old_byte new_byte ≡ ltb branch.old_byte branch.new_byte = ap₂ ltb (sym old_is) (sym new_is) in
       let links =
       beside_is s at.path at.node (end_laid by at).linked (ltb branch.old_byte branch.new_byte) branch.previous branch.next
-      (subst (λ t. IsBeside s at.node t branch.previous branch.next) first beside) in
+      (subst (λ t. IsBeside s at.node (cond t After Before) branch.previous branch.next) first beside) in
       record {
         part = w.part;
         header = header ∙ ap (header_of P) (part_is ∙ part_of place w.part w.x w.r key w.key_is point.key_bytes_used used deep w.used_is);
@@ -249,7 +251,7 @@ module _ {K V : Type 0} {bytes : K × V → List ℕ} {P : ℕ} {s : Nodes K V} 
 
       pub leaf_branch : {text : List ℕ} {part : List ℕ} {branch : Branch P} {old_byte new_byte : ℕ} → text ≡ bytes (pair_of shown) →
           part ≡ take (used - point.key_bytes_used) (drop point.key_bytes_used key) → branch.header ≡ header_of P part → branch.old_byte ≡ old_byte → branch.new_byte ≡ new_byte →
-          old_byte ≡ get_or text used 0 → new_byte ≡ get_or key used 0 → IsBeside s at.node (ltb old_byte new_byte) branch.previous branch.next → IsBranch bytes key at.path at.node branch
+          old_byte ≡ get_or text used 0 → new_byte ≡ get_or key used 0 → IsBeside s at.node (side_of new_byte old_byte) branch.previous branch.next → IsBranch bytes key at.path at.node branch
       leaf_branch text part header old_is new_is old_byte_is new_byte_is beside =
           let w = leaf_ways in
           branch_is w leaf_start part header old_is new_is (old_byte_is ∙ ap (λ k. get_or k used 0) (text ∙ sym least_is) ∙
@@ -302,7 +304,7 @@ module _ {K V : Type 0} {bytes : K × V → List ℕ} {P : ℕ} {s : Nodes K V} 
 
     pub inner_branch : {end : ℕ} {part : List ℕ} {branch : Branch P} {new_byte : ℕ} → end ≡ point.key_bytes_used + mismatch.matched_bytes →
         part ≡ take (end - point.key_bytes_used) (drop point.key_bytes_used key) → branch.header ≡ header_of P part → branch.old_byte ≡ mismatch.prefix_byte → branch.new_byte ≡ new_byte →
-        new_byte ≡ get_or key end 0 → IsBeside s at.node (ltb mismatch.prefix_byte new_byte) branch.previous branch.next → IsBranch bytes key at.path at.node branch
+        new_byte ≡ get_or key end 0 → IsBeside s at.node (side_of new_byte mismatch.prefix_byte) branch.previous branch.next → IsBranch bytes key at.path at.node branch
     inner_branch {end} {part} end_is part_is header old_is new_is new_byte_is beside =
         let (w, old) = inner_ways in
         let used : end ≡ depth_of at.path + mismatch.matched_bytes = end_is ∙ ap (λ d. d + mismatch.matched_bytes) inner_start in

@@ -46,7 +46,7 @@ use Rattle.art_writing.specs.declared.insert.InsertPoint.{InsertPoint}
 use Rattle.art_writing.specs.declared.insert.InsertResult.{InsertResult}
 use Rattle.art_writing.specs.declared.insert.branch.Branch.{Branch}
 use Rattle.art_writing.specs.Branches.{ForEnd, IsBranch, IsBranchPlaced}
-use Rattle.art_writing.specs.Inserted.{HasInserted, IsInserted, IsChange, alone, root_after}
+use Rattle.art_writing.specs.Inserted.{HasInserted, IsInserted, IsChange, Touches, alone, root_after}
 use Rattle.art_writing.specs.Points.{AnswersTo}
 use Rattle.art_writing.specs.Writes.{HasChild}
 use Rattle.art_reading.specs.Paths.{last_step, root_with}
@@ -187,8 +187,8 @@ module _ {K V : Type 0} {bytes : K × V → List ℕ} {P : ℕ} {s : Nodes K V} 
     pub branch_done : ((parent : InnerPtr × ℕ) (told : InsertParentNodeChange) → told ≡ NewParent parent.0 parent.1 → IsChange point.insert_kind (Some parent) told) →
         {touched : List InnerPtr} → BranchStored bytes P s t at.path (take (depth_of at.path) (bytes pair)) at.node placed.node done.leaf_node_ptr
         is.part branch.old_byte branch.new_byte (record { key = pair.0; value = pair.1; previous = branch.previous; next = branch.next }) mid.inners touched →
-        IsInserted bytes P s t point pair pairs layout done
-    branch_done branches stored = record {
+        Touches point.insert_kind s t → IsInserted bytes P s t point pair pairs layout done
+    branch_done branches stored few = record {
       tree = plug at.path grown;
       canonical = canonical_from (subst (λ ps. IsLaidOut bytes P (node_at t) (links_at t) done.new_root ps (plug at.path grown)) (sym (put-new bytes pair pairs none_stored))
           (subst (λ r. IsLaidOut bytes P (node_at t) (links_at t) r (replace_key bytes pair pairs) (plug at.path grown)) root (branch_inserted (end_laid by at) new)));
@@ -200,6 +200,7 @@ module _ {K V : Type 0} {bytes : K × V → List ℕ} {P : ℕ} {s : Nodes K V} 
       });
       replaced = placed.existing ∙ sym (ap (option_map alone) (put_reply-new bytes pair pairs none_stored));
       kept = subst (λ tree. ChangesInPlace bytes s t (Some tree) (Some (plug at.path grown))) at.is_end.whole (branch_in_place (end_laid by at) stored new);
+      touches = few;
     }
       where
         root : paths.root_with at.path point.root (inner_name placed.node) ≡ done.new_root

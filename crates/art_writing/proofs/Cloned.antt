@@ -1,5 +1,6 @@
 -- What is told of a clone, from the copy of a canonical tree.
-use Rattle.std.proofs.Common.{◌≡◌, List, [], Some, sym, subst}
+use Rattle.std.proofs.Common.{ℕ, List, [], Some, Result, IfOk, sym, subst}
+use Rattle.std.proofs.lemmas.Result.{IfOk-weaker}
 use Rattle.art_parts.specs.Clones.{IsPairClone}
 use Rattle.art_parts.specs.Names.{leaf_name}
 use Rattle.art_nodes.specs.Nodes.{Nodes}
@@ -10,7 +11,8 @@ use Rattle.art_model.specs.Kept.{KeepsOthers}
 use Rattle.art_model.specs.Layouts.{names_of}
 use Rattle.art_model.specs.Lookups.{HasFirstLeaf, HasLastLeaf}
 use Rattle.art_model.specs.Pairs.{of_key}
-use Rattle.art_model.specs.Radix.{pairs_of}
+use Rattle.art_model.specs.Radix.{HaveChildren, pairs_of}
+use Rattle.art_model.specs.Roots.{ForTree, IsCanonicalRoot, IsFullTree}
 use Rattle.art_model.specs.Trees.{Tree}
 use Rattle.art_model.proofs.Copies.{copied_tree}
 use Rattle.art_model.proofs.Gains.{came_others}
@@ -23,7 +25,7 @@ module _ {K V : Type 0} (bytes : K → List _) (P : _) (is_key_clone : K → K �
     (keep : KeepBytes bytes is_key_clone) {s old new : Nodes K V} {root : OpaqueNodePtr} {pairs : List (K × V)} {layout : Tree OpaqueNodePtr (K × V)} {done : CloneResult}
     (is : IsCanonicalTree (of_key bytes) P s root pairs layout) (copied : IsCopied (IsPairClone is_key_clone is_value_clone) layout old new done) where
   -- the copy is canonical for clones of the pairs
-  pub cloned_tree : AreClones is_key_clone is_value_clone pairs (pairs_of copied.copy) × IsCanonicalTree (of_key bytes) P new done.root (pairs_of copied.copy) copied.copy
+  cloned_tree : AreClones is_key_clone is_value_clone pairs (pairs_of copied.copy) × IsCanonicalTree (of_key bytes) P new done.root (pairs_of copied.copy) copied.copy
   cloned_tree =
       let (clones, tree) = copied_tree (IsPairClone is_key_clone is_value_clone) (of_key bytes) P (λ x y h. keep x.0 y.0 h.0) copied.copy is copied.same copied.gains in
       (clones, subst (λ n. IsCanonicalTree (of_key bytes) P new n (pairs_of copied.copy) copied.copy) copied.named tree)
@@ -31,19 +33,39 @@ module _ {K V : Type 0} (bytes : K → List _) (P : _) (is_key_clone : K → K �
   pub cloned_canonical : (copies : List (K × V)) × AreClones is_key_clone is_value_clone pairs copies × IsCanonical (of_key bytes) P new (Some done.root) copies
   cloned_canonical = (pairs_of copied.copy, cloned_tree.0, (copied.copy, cloned_tree.1))
 
-  module _ {copies : List (K × V)} {copy : Tree OpaqueNodePtr (K × V)} (one : IsCanonicalTree (of_key bytes) P new done.root copies copy) where
-    same_copy : copy ≡ copied.copy
-    same_copy = (has_one_map (of_key bytes) P new done.root (pairs_of copied.copy) copies copied.copy copy cloned_tree.1 one).1
+  -- what holds of the copy holds of whatever tree has the root
+  of_copy : (Q : Tree OpaqueNodePtr (K × V) → Type 0) → Q copied.copy → ForTree (of_key bytes) P new done.root (λ _ copy. Q copy)
+  of_copy Q holds copies copy one = subst Q (sym (has_one_map (of_key bytes) P new done.root (pairs_of copied.copy) copies copied.copy copy cloned_tree.1 one).1) holds
 
-    pub cloned_others : KeepsOthers old new [] (names_of copy)
-    cloned_others = subst (λ z. KeepsOthers old new [] (names_of z)) (sym same_copy) (came_others copied.gains.holds copied.gains.added)
+  cloned_others : ForTree (of_key bytes) P new done.root (λ _ copy. KeepsOthers old new [] (names_of copy))
+  cloned_others = of_copy (λ z. KeepsOthers old new [] (names_of z)) (came_others copied.gains.holds copied.gains.added)
 
-    pub cloned_first : HasFirstLeaf copy (leaf_name done.min_leaf)
-    cloned_first =
-        subst (λ z. HasFirstLeaf z (leaf_name done.min_leaf)) (sym same_copy)
-        (first_is_there copied.copy (leaf_name done.min_leaf) (has_children (of_key bytes) P new done.root (pairs_of copied.copy) copied.copy cloned_tree.1).1 copied.first)
+  full_copy : HaveChildren 1 copied.copy
+  full_copy = (has_children (of_key bytes) P new done.root (pairs_of copied.copy) copied.copy cloned_tree.1).1
 
-    pub cloned_last : HasLastLeaf copy (leaf_name done.max_leaf)
-    cloned_last =
-        subst (λ z. HasLastLeaf z (leaf_name done.max_leaf)) (sym same_copy)
-        (last_is_there copied.copy (leaf_name done.max_leaf) (has_children (of_key bytes) P new done.root (pairs_of copied.copy) copied.copy cloned_tree.1).1 copied.last)
+  cloned_first : ForTree (of_key bytes) P new done.root (λ _ copy. HasFirstLeaf copy (leaf_name done.min_leaf))
+  cloned_first = of_copy (λ z. HasFirstLeaf z (leaf_name done.min_leaf)) (first_is_there copied.copy (leaf_name done.min_leaf) full_copy copied.first)
+
+  cloned_last : ForTree (of_key bytes) P new done.root (λ _ copy. HasLastLeaf copy (leaf_name done.max_leaf))
+  cloned_last = of_copy (λ z. HasLastLeaf z (leaf_name done.max_leaf)) (last_is_there copied.copy (leaf_name done.max_leaf) full_copy copied.last)
+
+-- what holds where a tree is copied holds where that of a root is
+pub each_copied : {K V E : Type 0} {bytes : K × V → List ℕ} {P : ℕ} {IsClone : K × V → K × V → Type 0} {s old new : Nodes K V} {root : OpaqueNodePtr}
+    {pairs : List (K × V)} {layout : Tree OpaqueNodePtr (K × V)} (result : Result CloneResult E) {Q : CloneResult → Type 0} → IsCanonicalTree bytes P s root pairs layout →
+    ((tree : Tree OpaqueNodePtr (K × V)) → IsFullTree s root tree → IfOk result (IsCopied IsClone tree old new)) →
+    ((done : CloneResult) → IsCopied IsClone layout old new done → Q done) → IfOk result Q
+each_copied {bytes = bytes} {P} {IsClone} {s} {old} {new} {root} {pairs} {layout} result {Q} is copied then =
+    IfOk-weaker result (IsCopied IsClone layout old new) Q then (copied layout (has_children bytes P s root pairs layout is))
+
+-- what a clone answers, as it answers of the copy of each tree of its root
+module _ {K V E : Type 0} (bytes : K → List _) (P : _) (is_key_clone : K → K → Type 0) (is_value_clone : V → V → Type 0) (keep : KeepBytes bytes is_key_clone)
+    {s : Nodes K V} (old new : Nodes K V) {root : OpaqueNodePtr} (result : Result CloneResult E) (canonical : IsCanonicalRoot (of_key bytes) P s root)
+    (copied : (tree : Tree OpaqueNodePtr (K × V)) → IsFullTree s root tree → IfOk result (IsCopied (IsPairClone is_key_clone is_value_clone) tree old new)) where
+  pub others_kept : IfOk result (λ done. ForTree (of_key bytes) P new done.root (λ _ copy. KeepsOthers old new [] (names_of copy)))
+  others_kept = let (pairs, layout, is) = canonical in each_copied result is copied (λ done one. cloned_others bytes P is_key_clone is_value_clone keep is one)
+
+  pub first_named : IfOk result (λ done. ForTree (of_key bytes) P new done.root (λ _ copy. HasFirstLeaf copy (leaf_name done.min_leaf)))
+  first_named = let (pairs, layout, is) = canonical in each_copied result is copied (λ done one. cloned_first bytes P is_key_clone is_value_clone keep is one)
+
+  pub last_named : IfOk result (λ done. ForTree (of_key bytes) P new done.root (λ _ copy. HasLastLeaf copy (leaf_name done.max_leaf)))
+  last_named = let (pairs, layout, is) = canonical in each_copied result is copied (λ done one. cloned_last bytes P is_key_clone is_value_clone keep is one)

@@ -1,5 +1,5 @@
 -- The copying of a tree's children, one after the other, below a node that was placed for them.
-use Rattle.std.proofs.Common.{◌≡◌, ◌≢◌, ℕ, ◌<◌, ◌≤◌, ◌++◌, List, [], ◌∷◌, length, map, Option, Some, None, IsSomeAnd, refl, ap, sym, ◌∙◌, subst, arith, append-nil, ◌⊎◌, inl, inr}
+use Rattle.std.proofs.Common.{◌≡◌, ◌≢◌, ℕ, ◌<◌, ◌≤◌, ◌++◌, List, [], ◌∷◌, length, map, Option, Some, None, IsSomeAnd, true, refl, ap, sym, ◌∙◌, subst, arith, append-nil, ◌⊎◌, inl, inr}
 use Rattle.std.specs.List.{AllByRecursion as Each}
 use Rattle.std.specs.Option.{option_map, option_or}
 use Rattle.std.specs.FinMap.{get, insert}
@@ -18,7 +18,8 @@ use Rattle.art_parts.specs.declared.names.OpaqueNodePtr.{OpaqueNodePtr}
 use Rattle.art_model.specs.Trees.{Tree, leaf, inner, Subtrees, child, no_child, NodeHeader}
 use Rattle.art_model.specs.Radix.{BytesRise, bytes_of, join, HaveChildren, HaveChildrenBelow}
 use Rattle.art_model.specs.Heights.{tree_height, height_below}
-use Rattle.art_model.specs.Layouts.{leaf_node, name_of, slots_of, names_of, names_below, leaf_names, leaf_names_below, inner_names, HoldsBelow, AreDistinct, IsLayout, first_or, last_or}
+use Rattle.art_model.specs.Layouts.{leaf_node, name_of, shape_of, slots_of, names_of, names_below, leaf_names, leaf_names_below, inner_names, HoldsBelow, AreDistinct, IsLayout, first_or, last_or}
+use Rattle.art_model.specs.Kept.{Frees}
 use Rattle.art_model.specs.Roots.{IsFullTree}
 use Rattle.art_model.specs.Stores.{node_at, pair_of, header_at}
 use Rattle.art_model.specs.Writes.{as_inner, joined, IsThere}
@@ -27,7 +28,7 @@ use Rattle.art_model.specs.Promises.{tree_taken, children_taken}
 use Rattle.art_model.specs.Gains.{as_leaf, without, Loses, Gains}
 use Rattle.art_model.proofs.Chains.{are_there}
 use Rattle.art_model.proofs.Copies.{copied_bytes, copies_joined}
-use Rattle.art_model.proofs.Gains.{GainsChild, gained_child, gained_leaf, gained_inner, child_seen}
+use Rattle.art_model.proofs.Gains.{GainsChild, frees_lost, gained_child, gained_leaf, gained_inner, child_seen}
 use Rattle.art_model.proofs.Links.{first_or-append, last_or-append, last_in, first_in}
 use Rattle.art_model.proofs.Lists.{each_in, each_from}
 use Rattle.art_model.proofs.Names.{IsTaken, all_taken, taken_in, takes_leaves}
@@ -42,6 +43,9 @@ use Rattle.art_model.proofs.Views.{leaf_or}
 use Rattle.art_model.proofs.Writes.{inner_at, node_at-leaf, same_inner}
 use Rattle.art_writing.specs.declared.clone.CloneResult.{CloneResult}
 use Rattle.art_writing.specs.Cloned.{IsCopied}
+use Rattle.art_writing.specs.Freed.{CanGo, going}
+use Rattle.art_writing.specs.Writes.{SameNodes}
+use Rattle.art_writing.proofs.FreedTrees.{all_can, all_go}
 
 module _ {A : Type 0} where
   -- the children of a node rise as its bytes do
@@ -117,7 +121,35 @@ module _ {K V : Type 0} (is_key_clone : K → K → Type 0) (is_value_clone : V 
             last = refl;
           }
 
-module _ {K V : Type 0} (IsClone : K × V → K × V → Type 0) where
+-- a store in which a copy is put below a node
+abbrev put_below : {K V : Type 0} → InnerPtr → ℕ → Option LeafPtr → Nodes K V → CloneResult → Nodes K V
+put_below parent b max next done =
+    record { leaves = joined next.leaves max (Some done.min_leaf) (Some done.min_leaf) max; inners = change next.inners parent (with_child b done.root); promise = next.promise }
+
+all_names : {N A : Type 0} (cs : Subtrees N A) (b : ℕ) (u : Tree N A) → leaf_names_below (join cs (child b u no_child)) ≡ leaf_names_below cs ++ leaf_names u
+all_names cs b u = leaf_names_below-join cs (child b u no_child) ∙ ap (λ z. leaf_names_below cs ++ z) (append-nil (leaf_names u))
+
+-- where a child is not copied, the tree so far is freed, and the store has what it had
+record IsRefused {K V : Type 0} (old next : Nodes K V) (name : OpaqueNodePtr) : Type 0 where
+  pub tree : Tree OpaqueNodePtr (K × V)
+  pub is_layout : IsLayout (node_at next) name tree
+  pub leaves : (freed : Nodes K V) → Loses next freed tree → freed.leaves ≡ old.leaves
+  pub inners : (freed : Nodes K V) → Loses next freed tree → freed.inners ≡ old.inners
+
+-- the next child's tree, and what there is when it is copied and put below the node
+pub record NextCloned {K V : Type 0} (IsClone : K × V → K × V → Type 0) (s : Nodes K V) (tree : Tree OpaqueNodePtr (K × V)) (old now : Nodes K V)
+    (parent : InnerPtr) (b : ℕ) (name : OpaqueNodePtr) (rest : List (ℕ × OpaqueNodePtr)) (min max : Option LeafPtr) : Type 0 where
+  pub below : Tree OpaqueNodePtr (K × V)
+  pub is_full : IsFullTree s name below
+  pub low : tree_height below < tree_height tree
+  pub last_there : (next : Nodes K V) (done : CloneResult) → IsCopied IsClone below now next done → IsThere next.leaves max
+  pub first_there : (next : Nodes K V) (done : CloneResult) → IsCopied IsClone below now next done → IsThere next.leaves (Some done.min_leaf)
+  pub place : (next : Nodes K V) (done : CloneResult) → IsCopied IsClone below now next done → IsSomeAnd (get next.inners parent) (λ node. HasPlace (kind_capacity parent.kind) node.children b)
+  pub then : (next new : Nodes K V) (done : CloneResult) → IsCopied IsClone below now next done →
+      new.leaves ≡ joined next.leaves max (Some done.min_leaf) (Some done.min_leaf) max → new.inners ≡ change next.inners parent (with_child b done.root) → new.promise ≡ next.promise →
+      IsCloning IsClone s tree old new parent rest (option_or min (Some done.min_leaf)) (Some done.max_leaf)
+
+module _ {K V : Type 0} {IsClone : K × V → K × V → Type 0} where
   -- an inner node is placed for the children
   pub cloning_start : (s old now : Nodes K V) (p parent : InnerPtr) (x : Inner) (root : OpaqueNodePtr) (tree : Tree OpaqueNodePtr (K × V)) →
       p.kind ≢ Leaf → inner_name p ≡ root → IsFullTree s root tree → Some x ≡ get s.inners p →
@@ -155,21 +187,8 @@ module _ {K V : Type 0} (IsClone : K × V → K × V → Type 0) where
         low = let tall = ap tree_height at.is in omega arith;
       }
 
-  -- the next child's tree, and what there is when it is copied and put below the node
-  pub record NextCloned (s : Nodes K V) (tree : Tree OpaqueNodePtr (K × V)) (old now : Nodes K V) (parent : InnerPtr) (b : ℕ) (name : OpaqueNodePtr)
-      (rest : List (ℕ × OpaqueNodePtr)) (min max : Option LeafPtr) : Type 0 where
-    pub below : Tree OpaqueNodePtr (K × V)
-    pub is_full : IsFullTree s name below
-    pub low : tree_height below < tree_height tree
-    pub last_there : (next : Nodes K V) (done : CloneResult) → IsCopied IsClone below now next done → IsThere next.leaves max
-    pub first_there : (next : Nodes K V) (done : CloneResult) → IsCopied IsClone below now next done → IsThere next.leaves (Some done.min_leaf)
-    pub place : (next : Nodes K V) (done : CloneResult) → IsCopied IsClone below now next done → IsSomeAnd (get next.inners parent) (λ node. HasPlace (kind_capacity parent.kind) node.children b)
-    pub then : (next new : Nodes K V) (done : CloneResult) → IsCopied IsClone below now next done →
-        new.leaves ≡ joined next.leaves max (Some done.min_leaf) (Some done.min_leaf) max → new.inners ≡ change next.inners parent (with_child b done.root) → new.promise ≡ next.promise →
-        IsCloning IsClone s tree old new parent rest (option_or min (Some done.min_leaf)) (Some done.max_leaf)
-
-  module _ (s : Nodes K V) (tree : Tree OpaqueNodePtr (K × V)) (old now : Nodes K V) (parent : InnerPtr) (b : ℕ) (name : OpaqueNodePtr)
-      (rest : List (ℕ × OpaqueNodePtr)) (min max : Option LeafPtr) where
+  module _ {s : Nodes K V} {tree : Tree OpaqueNodePtr (K × V)} {old now : Nodes K V} {parent : InnerPtr} {b : ℕ} {name : OpaqueNodePtr}
+      {rest : List (ℕ × OpaqueNodePtr)} {min max : Option LeafPtr} where
     -- the copies' bytes are below the next one
     copies_low : (f : IsCloning IsClone s tree old now parent ((b, name) ∷ rest) min max) (u : Tree OpaqueNodePtr (K × V)) (c : ℕ)
         (others : Subtrees OpaqueNodePtr (K × V)) → f.left ≡ child c u others → c ≡ b → Each (λ z. z < b) (bytes_of f.copies)
@@ -193,17 +212,10 @@ module _ {K V : Type 0} (IsClone : K × V → K × V → Type 0) where
       inners = inners ∙ ap (λ z. change next.inners parent (with_child b z)) (sym copied.named);
     }
 
-    -- a store in which the copy is put below the node
-    abbrev put_below : Nodes K V → CloneResult → Nodes K V
-    put_below next done = record { leaves = joined next.leaves max (Some done.min_leaf) (Some done.min_leaf) max; inners = change next.inners parent (with_child b done.root); promise = next.promise }
-
-    all_names : (cs : Subtrees OpaqueNodePtr (K × V)) (u : Tree OpaqueNodePtr (K × V)) → leaf_names_below (join cs (child b u no_child)) ≡ leaf_names_below cs ++ leaf_names u
-    all_names cs u = leaf_names_below-join cs (child b u no_child) ∙ ap (λ z. leaf_names_below cs ++ z) (append-nil (leaf_names u))
-
-    pub cloning_next : IsCloning IsClone s tree old now parent ((b, name) ∷ rest) min max → NextCloned s tree old now parent b name rest min max
-    cloning_next f = go f.left refl f.slots
+    next_below : IsCloning IsClone s tree old now parent ((b, name) ∷ rest) min max → NextCloned IsClone s tree old now parent b name rest min max
+    next_below f = go f.left refl f.slots
       where
-        go : (left : Subtrees OpaqueNodePtr (K × V)) → f.left ≡ left → (b, name) ∷ rest ≡ slots_of left → NextCloned s tree old now parent b name rest min max
+        go : (left : Subtrees OpaqueNodePtr (K × V)) → f.left ≡ left → (b, name) ∷ rest ≡ slots_of left → NextCloned IsClone s tree old now parent b name rest min max
         go no_child at slots = absurd cc
         go (child c u others) at slots =
             let slot : ◌≡◌ {A = ℕ × OpaqueNodePtr} (b, name) (c, name_of u) = cc in
@@ -220,7 +232,7 @@ module _ {K V : Type 0} (IsClone : K × V → K × V → Type 0) where
               is_full = (record { named = named; holds = holds.0; distinct = Pairwise-left ◌≢◌ (names_of u) (names_below others) distinct }, full.0);
               low = omega arith;
               last_there = λ next done copied p e none.
-                  let g = child_gained f u c others at byte next (put_below next done) done copied refl refl in
+                  let g = child_gained f u c others at byte next (put_below parent b max next done) done copied refl refl in
                   let among =
                   taken_in takes_leaves (inner (inner_name parent) f.header f.copies) (leaf_name p)
                   (last_in (leaf_names_below f.copies) (leaf_name p) (sym f.last ∙ ap (option_map leaf_name) e)) in
@@ -228,7 +240,7 @@ module _ {K V : Type 0} (IsClone : K × V → K × V → Type 0) where
                   (sym (child_seen g (leaf_name p) among) ∙ node_at-leaf next p ∙ ap (λ o. option_map leaf_node (option_map pair_of o)) none);
               first_there = λ next done copied p e. are_there next copied.copy copied.gains.holds p (first_in (leaf_names copied.copy) (leaf_name p) (copied.first ∙ ap (option_map leaf_name) e));
               place = λ next done copied.
-                  let g = child_gained f u c others at byte next (put_below next done) done copied refl refl in
+                  let g = child_gained f u c others at byte next (put_below parent b max next done) done copied refl refl in
                   let (off, x, there, head, below) = inner_at next (inner_name parent) f.header (slots_of f.copies) (child_seen g (inner_name parent) (inl refl) ∙ f.gains.holds.0) in
                   let children = ap length below in
                   let long = length-slots_of f.copies in
@@ -250,8 +262,8 @@ module _ {K V : Type 0} (IsClone : K × V → K × V → Type 0) where
                 promise = ap (children_taken others) (kept ∙ copied.promise) ∙ sym (ap (λ z. children_taken z now.promise) at) ∙ f.promise;
                 first = first_more min (leaf_names_below f.copies) done.min_leaf f.first ∙
                     ap (first_or (leaf_names_below f.copies)) (sym copied.first) ∙
-                    sym (first_or-append (leaf_names_below f.copies) (leaf_names copied.copy) None) ∙ ap (λ z. first_or z None) (sym (all_names f.copies copied.copy));
-                last = sym (ap (λ z. last_or z None) (all_names f.copies copied.copy) ∙
+                    sym (first_or-append (leaf_names_below f.copies) (leaf_names copied.copy) None) ∙ ap (λ z. first_or z None) (sym (all_names f.copies b copied.copy));
+                last = sym (ap (λ z. last_or z None) (all_names f.copies b copied.copy) ∙
                     last_or-append (leaf_names_below f.copies) (leaf_names copied.copy) None ∙
                     last_more (leaf_names copied.copy) (leaf_name done.max_leaf) (last_or (leaf_names_below f.copies) None) copied.last);
                 ends = let (p, e) = some_or min done.min_leaf in inr (p, done.max_leaf, e, refl);
@@ -265,17 +277,14 @@ module _ {K V : Type 0} (IsClone : K × V → K × V → Type 0) where
               };
             }
 
-  -- where a child is not copied, the tree so far is freed, and the store has what it had
-  pub record IsRefused (old next : Nodes K V) (name : OpaqueNodePtr) : Type 0 where
-    pub tree : Tree OpaqueNodePtr (K × V)
-    pub is_layout : IsLayout (node_at next) name tree
-    pub leaves : (freed : Nodes K V) → Loses next freed tree → freed.leaves ≡ old.leaves
-    pub inners : (freed : Nodes K V) → Loses next freed tree → freed.inners ≡ old.inners
+    pub cloning_next : {items : List (ℕ × OpaqueNodePtr)} → items ≡ (b, name) ∷ rest → IsCloning IsClone s tree old now parent items min max →
+        NextCloned IsClone s tree old now parent b name rest min max
+    cloning_next steps so_far = next_below (subst (λ l. IsCloning IsClone s tree old now parent l min max) steps so_far)
 
-  pub cloning_refused : (s : Nodes K V) (tree : Tree OpaqueNodePtr (K × V)) (old now next : Nodes K V) (parent : InnerPtr) (name : OpaqueNodePtr)
-      (rest : List (ℕ × OpaqueNodePtr)) (min max : Option LeafPtr) → IsCloning IsClone s tree old now parent rest min max → next.leaves ≡ now.leaves →
+  cloning_refused : {s : Nodes K V} {tree : Tree OpaqueNodePtr (K × V)} {old now next : Nodes K V} {parent : InnerPtr} {name : OpaqueNodePtr}
+      {rest : List (ℕ × OpaqueNodePtr)} {min max : Option LeafPtr} → IsCloning IsClone s tree old now parent rest min max → next.leaves ≡ now.leaves →
       next.inners ≡ now.inners → name ≡ inner_name parent → IsRefused old next name
-  cloning_refused s tree old now next parent name rest min max f leaves inners named =
+  cloning_refused {old = old} {now} {next} {parent} f leaves inners named =
       let t = inner (inner_name parent) f.header f.copies in
       record {
         tree = t;
@@ -294,8 +303,26 @@ module _ {K V : Type 0} (IsClone : K × V → K × V → Type 0) where
         | inr kind ↦ same_inner now next k kind (ap (λ m. get m (as_inner k)) inners)
       ]
 
+  module _ {s old now next : Nodes K V} {root name : OpaqueNodePtr} {parent : InnerPtr} {rest : List (ℕ × OpaqueNodePtr)} {min max : Option LeafPtr}
+      (source : (tree : Tree OpaqueNodePtr (K × V)) × IsFullTree s root tree)
+      (so_far : (tree : Tree OpaqueNodePtr (K × V)) → IsFullTree s root tree → IsCloning IsClone s tree old now parent rest min max)
+      (leaves : next.leaves ≡ now.leaves) (inners : next.inners ≡ now.inners) (named : name ≡ inner_name parent) where
+    refused : IsRefused old next name
+    refused = cloning_refused (so_far source.0 source.1) leaves inners named
+
+    -- it can be freed
+    pub refused_can_go : (shape : Tree OpaqueNodePtr (Unit {0})) × CanGo next true name shape
+    refused_can_go = (shape_of refused.tree, all_can refused.is_layout)
+
+    pub refused_undone : {freed : Nodes K V} → ((shape : Tree OpaqueNodePtr (Unit {0})) → CanGo next true name shape → Frees (going true shape) next freed) →
+        ((q : InnerPtr) → q.kind ≡ Leaf → get freed.inners q ≡ get next.inners q) → SameNodes old freed
+    unfolding refused refused_can_go
+    refused_undone {freed} went improper =
+        let lost = frees_lost refused.is_layout.holds (all_go refused.tree (went refused_can_go.0 refused_can_go.1)) improper in
+        (refused.leaves freed lost, refused.inners freed lost)
+
   -- all children are copied
-  pub cloning_end : (s : Nodes K V) (tree : Tree OpaqueNodePtr (K × V)) (old now : Nodes K V) (parent : InnerPtr) (min max : Option LeafPtr) →
+  cloning_end : (s : Nodes K V) (tree : Tree OpaqueNodePtr (K × V)) (old now : Nodes K V) (parent : InnerPtr) (min max : Option LeafPtr) →
       IsCloning IsClone s tree old now parent [] min max → (p : LeafPtr) × (q : LeafPtr) × (min ≡ Some p) × (max ≡ Some q) ×
       IsCopied IsClone tree old now (record { root = inner_name parent; min_leaf = p; max_leaf = q })
   cloning_end s tree old now parent min max f = go f.left refl f.slots f.ends
@@ -325,27 +352,30 @@ module _ {K V : Type 0} (IsClone : K × V → K × V → Type 0) where
         },
       )
 
-  -- the whole is copied
-  pub cloned_whole : (s : Nodes K V) (tree : Tree OpaqueNodePtr (K × V)) (old now : Nodes K V) (parent : InnerPtr) (min max : Option LeafPtr)
-      (name : OpaqueNodePtr) (p q : LeafPtr) → IsCloning IsClone s tree old now parent [] min max → min ≡ Some p → max ≡ Some q →
-      name ≡ inner_name parent → IsCopied IsClone tree old now (record { root = name; min_leaf = p; max_leaf = q })
-  cloned_whole s tree old now parent min max name p q f e g named =
-      let (k, l, h, i, copied) = cloning_end s tree old now parent min max f in
-      let first : k ≡ p = cc in
-      let last : l ≡ q = cc in
-      record {
-        copy = copied.copy;
-        named = copied.named ∙ sym named;
-        same = copied.same;
-        gains = copied.gains;
-        promise = copied.promise;
-        first = copied.first ∙ ap (λ z. Some (leaf_name z)) first;
-        last = copied.last ∙ ap (λ z. Some (leaf_name z)) last;
-      }
+  module _ {s : Nodes K V} {tree : Tree OpaqueNodePtr (K × V)} {old now : Nodes K V} {parent : InnerPtr} {items : List (ℕ × OpaqueNodePtr)} {min max : Option LeafPtr}
+      (steps : items ≡ []) (so_far : IsCloning IsClone s tree old now parent items min max) where
+    all : (p : LeafPtr) × (q : LeafPtr) × (min ≡ Some p) × (max ≡ Some q) × IsCopied IsClone tree old now (record { root = inner_name parent; min_leaf = p; max_leaf = q })
+    all = cloning_end s tree old now parent min max (subst (λ l. IsCloning IsClone s tree old now parent l min max) steps so_far)
 
-  -- there is an end then
-  pub no_end : (s : Nodes K V) (tree : Tree OpaqueNodePtr (K × V)) (old now : Nodes K V) (parent : InnerPtr) (min max : Option LeafPtr) →
-      IsCloning IsClone s tree old now parent [] min max → (min ≡ None) ⊎ (max ≡ None) → ⊥
-  no_end s tree old now parent min max f none =
-      let (p, q, e, g, copied) = cloning_end s tree old now parent min max f in
-      elim none [ inl h ↦ absurd (cc (sym e ∙ h)) | inr h ↦ absurd (cc (sym g ∙ h)) ]
+    -- the whole is copied
+    pub cloned_whole : {name : OpaqueNodePtr} {p q : LeafPtr} → min ≡ Some p → max ≡ Some q → name ≡ inner_name parent →
+        IsCopied IsClone tree old now (record { root = name; min_leaf = p; max_leaf = q })
+    cloned_whole {name} {p} {q} e g named =
+        let (k, l, h, i, copied) = all in
+        let first : k ≡ p = cc in
+        let last : l ≡ q = cc in
+        record {
+          copy = copied.copy;
+          named = copied.named ∙ sym named;
+          same = copied.same;
+          gains = copied.gains;
+          promise = copied.promise;
+          first = copied.first ∙ ap (λ z. Some (leaf_name z)) first;
+          last = copied.last ∙ ap (λ z. Some (leaf_name z)) last;
+        }
+
+    -- there is an end then
+    pub no_end : (min ≡ None) ⊎ (max ≡ None) → ⊥
+    no_end none =
+        let (p, q, e, g, copied) = all in
+        elim none [ inl h ↦ absurd (cc (sym e ∙ h)) | inr h ↦ absurd (cc (sym g ∙ h)) ]

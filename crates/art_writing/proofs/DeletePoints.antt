@@ -1,10 +1,15 @@
 -- points at which leaves go
-use Rattle.std.proofs.Common.{◌≡◌, sym, subst, Option, Some}
+use Rattle.std.proofs.Common.{◌≡◌, List, ap, sym, ◌∙◌, subst, Option, Some}
 use Rattle.art_parts.specs.Names.{leaf_name}
 use Rattle.art_parts.specs.declared.names.OpaqueNodePtr.{OpaqueNodePtr}
 use Rattle.art_model.specs.Lookups.{HasLeaf}
+use Rattle.art_model.specs.Pairs.{first_of, last_of}
+use Rattle.art_model.specs.Radix.{pairs_of}
 use Rattle.art_model.specs.Trees.{Tree}
+use Rattle.art_reading.specs.declared.ways.End.{End}
+use Rattle.art_reading.specs.declared.ways.End.TheVariants.{First, Last}
 use Rattle.art_reading.specs.Paths.{path_of}
+use Rattle.art_reading.specs.Walks.{LeadsToEnd, of_two}
 use Rattle.art_writing.specs.declared.delete.DeletePoint.{DeletePoint}
 use Rattle.art_writing.specs.Deleted.{IsDeletePoint, LeadsTo}
 
@@ -16,3 +21,9 @@ leads_to is path_is = record { path = is.path; whole = is.whole; path_is = path_
 -- where there is a pair, what leads to its leaf is the point
 pub point_there : {A : Type 0} {tree : Tree OpaqueNodePtr A} {pair : Option A} {x : A} {point : DeletePoint} → pair ≡ Some x → LeadsTo tree x point → IsDeletePoint tree pair (Some point)
 point_there {A} {tree} {pair} {x} {point} is leads = subst (λ o. IsDeletePoint tree o (Some point)) (sym is) leads
+
+-- and so is what leads to the leaf at an end, of the pair there
+pub point_at_end : {A : Type 0} {tree : Tree OpaqueNodePtr A} {pairs : List A} {point : DeletePoint} (end : End) → pairs ≡ pairs_of tree → LeadsToEnd tree end point.path point.leaf_node_ptr →
+    (x : A) × (of_two end (first_of pairs, last_of pairs) ≡ Some x) × LeadsTo tree x point
+point_at_end First same (is, path_is) = (_, ap first_of same ∙ is.pair_is, leads_to is.has path_is)
+point_at_end Last same (is, path_is) = (_, ap last_of same ∙ is.pair_is, leads_to is.has path_is)

@@ -45,11 +45,12 @@ use Rattle.art_writing.specs.declared.insert.InsertParentNodeChange.TheVariants.
 use Rattle.art_writing.specs.declared.insert.InsertPoint.{InsertPoint}
 use Rattle.art_writing.specs.declared.insert.InsertResult.{InsertResult}
 use Rattle.art_reading.specs.declared.path.TreePath.{TreePath}
-use Rattle.art_writing.specs.Inserted.{HasInserted, IsChange, IsInserted, IsPointIn, alone, is_full}
+use Rattle.art_writing.specs.Inserted.{HasInserted, IsChange, IsInserted, IsPointIn, Touches, alone, is_full}
 use Rattle.art_writing.specs.Points.{IsKindOf}
 use Rattle.art_reading.specs.Paths.{last_step, path_of, root_with}
 use Rattle.art_writing.specs.Writes.{HasChild, HasGap}
-use Rattle.art_writing.proofs.Answered.{answered}
+use Rattle.art_writing.proofs.Answered.{placed_end}
+use Rattle.art_writing.proofs.Standing.{answers_to}
 use Rattle.art_writing.proofs.Partings.{unrelated_after}
 use Rattle.art_writing.proofs.Ways.{last_step-path_of, root_with-path_of, root_told}
 
@@ -71,10 +72,11 @@ module _ {K V : Type 0} {bytes : K × V → List ℕ} {P : ℕ} {s : Nodes K V} 
   pub entry : {pairs : List (K × V)} {layout : Tree OpaqueNodePtr (K × V)} {b : ℕ} → b ≡ get_or key point.key_bytes_used 0 →
       IsCanonicalTree bytes P s point.root pairs layout → IsEntry bytes P p layout key point.path b
   entry {pairs} {layout} {b} byte by =
-      let a = answered answers by in
-      let fs = a.answers.path in
-      let node = a.answers.node in
-      let (header, children, is, front, used, long, none) = subst (IsKindOf bytes P key node (depth_of fs) point.key_bytes_used) into a.answers.kind_is in
+      let answers_at = answers_to answers by in
+      let a = placed_end by answers_at.is_end in
+      let fs = answers_at.path in
+      let node = answers_at.node in
+      let (header, children, is, front, used, long, none) = subst (IsKindOf bytes P key node (depth_of fs) point.key_bytes_used) into answers_at.kind_is in
       let own = subst (IsRadix bytes P a.place) is a.hole.radix in
       let split = split_at children b own.3 (ap (child_at (slots_of children)) byte ∙ none) in
       let here : node ≡ inner (inner_name p) header (join split.left split.right) = is ∙ ap (inner (inner_name p) header) split.whole in
@@ -99,14 +101,14 @@ module _ {K V : Type 0} {bytes : K × V → List ℕ} {P : ℕ} {s : Nodes K V} 
         header = header;
         left = split.left;
         right = split.right;
-        whole = ap (plug fs) (sym here) ∙ a.answers.is_end.whole;
+        whole = ap (plug fs) (sym here) ∙ answers_at.is_end.whole;
         gap = record {
           hole = hole;
           front = subst (λ z. IsFront ((a.place ++ part) ++ z ∷ []) key) (ap (λ d. get_or key d 0) (sym used_is) ∙ sym byte) (front_byte (a.place ++ part) key on_way (omega arith));
           low = split.low;
           high = split.high;
         };
-        path_is = a.answers.path_is;
+        path_is = answers_at.path_is;
       }
 
 module _ {K V : Type 0} {bytes : K × V → List ℕ} {P : ℕ} {s : Nodes K V} {p : InnerPtr} {root : OpaqueNodePtr} {pairs : List (K × V)}
@@ -207,8 +209,9 @@ module _ {K V : Type 0} {bytes : K × V → List ℕ} {P : ℕ} {s t : Nodes K V
   pub entered_inserted : {root : OpaqueNodePtr} {done : InsertResult K V} (by : IsCanonicalTree bytes P s point.root pairs layout)
       (into : point.insert_kind ≡ IntoExisting p) (e : IsEntry bytes P p layout (bytes new) point.path b) →
       ChildAdded bytes P s t point.root pairs e.frames (inner_name p) (inner_name k) e.header e.left e.right b (leaf_name n) new → root ≡ paths.root_with e.frames point.root (inner_name k) →
-      done ≡ record { leaf_node_ptr = n; existing_leaf = None; new_root = root; parent_node_change = NewParent k b } → IsInserted bytes P s t point new pairs layout done
-  entered_inserted {root} by into e added root_is done_is =
+      done ≡ record { leaf_node_ptr = n; existing_leaf = None; new_root = root; parent_node_change = NewParent k b } →
+      Touches point.insert_kind s t → IsInserted bytes P s t point new pairs layout done
+  entered_inserted {root} by into e added root_is done_is few =
       let tree = plug e.frames (inner (inner_name k) added.header (join e.left (child b (leaf (leaf_name n) new) e.right))) in
       let frame : Frame OpaqueNodePtr (K × V) = record { mark = inner_name k; header = added.header; left = e.left; byte = b; right = e.right } in
       subst (IsInserted bytes P s t point new pairs layout) (sym done_is) (record {
@@ -225,4 +228,5 @@ module _ {K V : Type 0} {bytes : K × V → List ℕ} {P : ℕ} {s t : Nodes K V
             });
         replaced = ap (option_map alone) (sym (put_reply-new bytes new pairs (entry_reply by e)));
         kept = subst (λ z. ChangesInPlace bytes s t (Some z) (Some tree)) e.whole added.kept;
+        touches = few;
       })

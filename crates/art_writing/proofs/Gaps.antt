@@ -1,17 +1,15 @@
 -- where a new leaf comes among the children of a node: the leaves beside it
-use Rattle.std.proofs.Common.{◌≡◌, ◌≢◌, ◌⊎◌, ℕ, ◌<◌, ◌≤◌, ◌∷◌, ◌++◌, length, Option, Some, None, refl, ap, sym, ◌∙◌, subst, arith, inl, inr}
+use Rattle.std.proofs.Common.{◌≡◌, ◌≢◌, ◌⊎◌, ℕ, ◌<◌, ◌∷◌, ◌++◌, length, cond, ltb, Bool, true, false, Option, Some, None, refl, ap, sym, ◌∙◌, subst, arith, inl, inr}
 use Rattle.std.specs.List.{AllByRecursion as Each}
 use Rattle.std.specs.FinMap as map
-use Rattle.std.proofs.lemmas.List.Elements.{recursion_from_All}
-use Rattle.art_inner.specs.Inner.{Inner, children_between, Children, child_at}
+use Rattle.art_inner.specs.Inner.{Inner, Children, child_at}
 use Rattle.art_parts.specs.Names.{inner_name}
 use Rattle.art_nodes.specs.Nodes.{Nodes}
 use Rattle.art_parts.specs.declared.names.NodeType.TheVariants.{Leaf}
 use Rattle.art_parts.specs.declared.names.InnerPtr.{InnerPtr}
 use Rattle.art_parts.specs.declared.names.LeafPtr.{LeafPtr}
 use Rattle.art_parts.specs.declared.names.OpaqueNodePtr.{OpaqueNodePtr}
-use Rattle.art_inner.proofs.ChildrenLemmas.{between_here, between_after}
-use Rattle.std.proofs.lemmas.Bool.{cases_eq}
+use Rattle.std.proofs.lemmas.Bool.{cases_eq, ltb-true, ltb-false}
 use Rattle.art_inner.specs.Beside.{IsNextTo}
 use Rattle.art_inner.proofs.ChildrenLaws.{at_here, at_later}
 use Rattle.art_model.specs.Layouts.{AreDistinct, name_of, names_of, names_below, slots_of}
@@ -26,7 +24,9 @@ use Rattle.art_model.proofs.PlaceLaws.{join_assoc}
 use Rattle.art_model.proofs.Slots.{length-slots_of}
 use Rattle.art_model.proofs.Stores.{HoldsBelow-right}
 use Rattle.art_model.proofs.Views as views
-use Rattle.art_writing.specs.Writes.{ComesAfter, ComesBefore, ComesBetween, HasGap}
+use Rattle.art_writing.specs.declared.writes.Side.{Side}
+use Rattle.art_writing.specs.declared.writes.Side.TheVariants.{Before, After}
+use Rattle.art_writing.specs.Writes.{ComesBetween, HasGap, IsBeside, side_of}
 
 -- a child of a full tree is one
 full_child : {K V : Type 0} (s : Nodes K V) {name m to : OpaqueNodePtr} {h : NodeHeader} (l r : Subtrees OpaqueNodePtr (K × V)) (c : ℕ)
@@ -134,31 +134,48 @@ module _ {K V : Type 0} {s : Nodes K V} {p : InnerPtr} {b : ℕ} {l r : Subtrees
     other_byte : found.0 ≢ b
     other_byte e = there_is (sym gap_absent ∙ ap (child_at shown.children) (sym e) ∙ beside.there)
 
+    -- so it is above or below
+    by_side : (Holds : Side → Type 0) → (b < found.0 → Holds Before) → (found.0 < b → Holds After) → Holds (side_of b found.0)
+    by_side Holds above below = go (ltb found.0 b) refl
+      where
+        go : (t : Bool) → ltb found.0 b ≡ t → Holds (cond t After Before)
+        go true e = below (ltb-true found.0 b e)
+        go false e = let l = ltb-false found.0 b e in above (omega (arith, other_byte))
+
     module _ (above : b < found.0) where
       first_right : (t : Tree OpaqueNodePtr (K × V)) × (others : Subtrees OpaqueNodePtr (K × V)) × (r ≡ child found.0 t others) × (name_of t ≡ found.1)
       first_right = right_first b found.0 found.1 l r gap.low gap.high gap.rising above in_slots.there in_slots.above
 
-      pub right_full : (t : Tree OpaqueNodePtr (K × V)) × IsFullTree s found.1 t
-      right_full =
-          let (t, others, whole, named) = first_right in
-          (t, full_child s l others found.0 t (subst (λ z. IsFullTree s (inner_name p) (inner (inner_name p) gap.header (join l z))) whole gap.full) named)
+      of_right : (others : Subtrees OpaqueNodePtr (K × V)) (t : Tree OpaqueNodePtr (K × V)) → r ≡ child found.0 t others → name_of t ≡ found.1 → IsFullTree s found.1 t
+      of_right others t whole named = full_child s l others found.0 t (subst (λ z. IsFullTree s (inner_name p) (inner (inner_name p) gap.header (join l z))) whole gap.full) named
 
-      pub right_before : (previous next : Option LeafPtr) → ((t : Tree OpaqueNodePtr (K × V)) → IsFullTree s found.1 t → ComesBefore s t previous next) → ComesBetween s l r previous next
-      right_before previous next comes =
-          let (t, others, whole, named) = first_right in
-          inl (found.0, t, others, whole, comes t (full_child s l others found.0 t (subst (λ z. IsFullTree s (inner_name p) (inner (inner_name p) gap.header (join l z))) whole gap.full) named))
+      right_full : (t : Tree OpaqueNodePtr (K × V)) × IsFullTree s found.1 t
+      right_full = let (t, others, whole, named) = first_right in (t, of_right others t whole named)
 
-    module _ (not_above : found.0 ≤ b) where
+      right_before : (previous next : Option LeafPtr) → ((t : Tree OpaqueNodePtr (K × V)) → IsFullTree s found.1 t → IsBeside s t Before previous next) → ComesBetween s l r previous next
+      right_before previous next comes = let (t, others, whole, named) = first_right in inl (found.0, t, others, whole, comes t (of_right others t whole named))
+
+    module _ (below : found.0 < b) where
       last_left : (t : Tree OpaqueNodePtr (K × V)) × (others : Subtrees OpaqueNodePtr (K × V)) × (l ≡ join others (child found.0 t no_child)) × (name_of t ≡ found.1)
-      last_left = left_last b found.0 found.1 l r gap.low gap.high gap.rising (omega (arith, not_above, other_byte)) in_slots.there in_slots.below
+      last_left = left_last b found.0 found.1 l r gap.low gap.high gap.rising below in_slots.there in_slots.below
 
       of_left : (others : Subtrees OpaqueNodePtr (K × V)) (t : Tree OpaqueNodePtr (K × V)) → l ≡ join others (child found.0 t no_child) → name_of t ≡ found.1 → IsFullTree s found.1 t
       of_left others t whole named =
           let all = ap (λ z. join z r) whole ∙ join_assoc others (child found.0 t no_child) r in
           full_child s others r found.0 t (subst (λ z. IsFullTree s (inner_name p) (inner (inner_name p) gap.header z)) all gap.full) named
 
-      pub left_full : (t : Tree OpaqueNodePtr (K × V)) × IsFullTree s found.1 t
+      left_full : (t : Tree OpaqueNodePtr (K × V)) × IsFullTree s found.1 t
       left_full = let (t, others, whole, named) = last_left in (t, of_left others t whole named)
 
-      pub left_after : (previous next : Option LeafPtr) → ((t : Tree OpaqueNodePtr (K × V)) → IsFullTree s found.1 t → ComesAfter s t previous next) → ComesBetween s l r previous next
+      left_after : (previous next : Option LeafPtr) → ((t : Tree OpaqueNodePtr (K × V)) → IsFullTree s found.1 t → IsBeside s t After previous next) → ComesBetween s l r previous next
       left_after previous next comes = let (t, others, whole, named) = last_left in inr (others, found.0, t, whole, comes t (of_left others t whole named))
+
+    -- the child stands for a full tree
+    pub beside_full : (t : Tree OpaqueNodePtr (K × V)) × IsFullTree s found.1 t
+    beside_full = by_side (λ side. (t : Tree OpaqueNodePtr (K × V)) × IsFullTree s found.1 t) right_full left_full
+
+    -- and what is beside its leaves is beside the gap
+    pub beside_between : (previous next : Option LeafPtr) → ((t : Tree OpaqueNodePtr (K × V)) → IsFullTree s found.1 t → IsBeside s t (side_of b found.0) previous next) → ComesBetween s l r previous next
+    beside_between previous next =
+        by_side (λ side. ((t : Tree OpaqueNodePtr (K × V)) → IsFullTree s found.1 t → IsBeside s t side previous next) → ComesBetween s l r previous next)
+        (λ above. right_before above previous next) (λ below. left_after below previous next)

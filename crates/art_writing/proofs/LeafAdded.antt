@@ -27,6 +27,7 @@ use Rattle.art_model.proofs.InHole.{root_stays}
 use Rattle.art_model.proofs.IntoFull.{IntoFull, full_added, full_touches}
 use Rattle.art_model.proofs.IntoRoom.{IntoRoom, room_added, room_touches}
 use Rattle.art_model.proofs.Paths.{leaf_names-plug, leaf_names_below-join}
+use Rattle.art_model.proofs.OutOf.{larger_inner}
 use Rattle.art_model.proofs.Placed.{LeafPlaced}
 use Rattle.art_model.proofs.Slots.{IsInRange, range_of_kind}
 use Rattle.art_writing.specs.declared.insert.InsertKind.TheVariants.{IntoExisting}
@@ -40,14 +41,7 @@ use Rattle.art_writing.proofs.Beside.{between_links}
 use Rattle.art_writing.proofs.Entered.{IsEntry, entry_laid, entry_kind, entry_full, entry_inner, entry_count, entered_inserted}
 use Rattle.art_writing.proofs.Ways.{last_step-path_of, root_with-path_of}
 
--- the next kind is an inner one, with more room
-pub larger_inner : (kind : NodeType) → kind ≢ Leaf → larger_kind kind ≢ Leaf
-larger_inner Node4 proper e = absurd cc
-larger_inner Node16 proper e = absurd cc
-larger_inner Node48 proper e = absurd cc
-larger_inner Node256 proper e = absurd cc
-larger_inner Leaf proper e = proper refl
-
+-- the next kind has more room
 larger_room : (kind : NodeType) (n : ℕ) → kind ≡ kind_of n → kind ≢ Node256 → n < kind_capacity (larger_kind kind)
 larger_room kind n e off = go kind (subst (λ k. IsInRange k n) (sym e) (range_of_kind n)) off
   where
@@ -137,14 +131,15 @@ module _ {K V : Type 0} {bytes : K × V → List ℕ} {P : ℕ} {s : Nodes K V} 
           inners = inners ∙ ap₂ (λ m name. change m p (with_child b name)) (q_inners ∙ r_inners) child_is;
         }
 
+        room_touched : point.insert_kind ≡ IntoExisting p → Touches point.insert_kind s t
+        room_touched into =
+            subst (λ kind. Touches kind s t) (sym into) (subst (λ full. cond full (TouchesAtMost 2 1 3 s t) (TouchesAtMost 1 0 3 s t)) (sym room) (room_touches (entry_laid by e) into_room))
+
         pub room_inserted : point.insert_kind ≡ IntoExisting p → (done : InsertResult K V) →
             done ≡ record { leaf_node_ptr = n; existing_leaf = None; new_root = point.root; parent_node_change = NewParent p b } → IsInserted bytes P s t point new pairs layout done
         room_inserted into done is =
-            entered_inserted by into e (room_added (entry_laid by e) into_room) (sym (root_stays e.frames (inner (inner_name p) e.header (join e.left e.right)) (entry_laid by e).named)) is
-
-        pub room_touched : point.insert_kind ≡ IntoExisting p → Touches point.insert_kind s t
-        room_touched into =
-            subst (λ kind. Touches kind s t) (sym into) (subst (λ full. cond full (TouchesAtMost 2 1 3 s t) (TouchesAtMost 1 0 3 s t)) (sym room) (room_touches (entry_laid by e) into_room))
+            entered_inserted by into e (room_added (entry_laid by e) into_room)
+            (sym (root_stays e.frames (inner (inner_name p) e.header (join e.left e.right)) (entry_laid by e).named)) is (room_touched into)
 
       -- the node is full, and gives way to a larger one
       module _ (full : is_full s p ≡ true) (not_last : p.kind ≢ Node256) (k : InnerPtr) (kind : k.kind ≡ larger_kind p.kind) (was_free : map.get q.inners k ≡ None)
@@ -177,15 +172,15 @@ module _ {K V : Type 0} {bytes : K × V → List ℕ} {P : ℕ} {s : Nodes K V} 
               (ap last_step e.path_is ∙ last_step-path_of e.frames);
         }
 
+        full_touched : point.insert_kind ≡ IntoExisting p → Touches point.insert_kind s t
+        full_touched into =
+            subst (λ kind. Touches kind s t) (sym into) (subst (λ full. cond full (TouchesAtMost 2 1 3 s t) (TouchesAtMost 1 0 3 s t)) (sym full) (full_touches (entry_laid by e) into_full))
+
         pub full_inserted : point.insert_kind ≡ IntoExisting p → {root : OpaqueNodePtr} → root ≡ root_with point.path point.root (inner_name k) → (done : InsertResult K V) →
             done ≡ record { leaf_node_ptr = n; existing_leaf = None; new_root = root; parent_node_change = NewParent k b } → IsInserted bytes P s t point new pairs layout done
         full_inserted into root_is done is =
             entered_inserted by into e (full_added (entry_laid by e) into_full)
-            (root_is ∙ ap (λ path. root_with path point.root (inner_name k)) e.path_is ∙ root_with-path_of e.frames point.root (inner_name k)) is
-
-        pub full_touched : point.insert_kind ≡ IntoExisting p → Touches point.insert_kind s t
-        full_touched into =
-            subst (λ kind. Touches kind s t) (sym into) (subst (λ full. cond full (TouchesAtMost 2 1 3 s t) (TouchesAtMost 1 0 3 s t)) (sym full) (full_touches (entry_laid by e) into_full))
+            (root_is ∙ ap (λ path. root_with path point.root (inner_name k)) e.path_is ∙ root_with-path_of e.frames point.root (inner_name k)) is (full_touched into)
 
   -- ---- room for one child more
 

@@ -1,8 +1,7 @@
 -- Overwrite points, applied: a pair that takes the place of a related one in its leaf.
-use Rattle.std.proofs.Common.{◌≡◌, ◌≢◌, ℕ, ◌+◌, ◌<◌, ◌≤◌, List, [], ◌∷◌, ◌++◌, length, length-append, append_assoc, append-nil, drop, Option, Some, None, true, false, is_some, IsSome, IfSome, IsSomeAnd, Result, Ok, Err, IfOk, OnOk, refl, ap, ap₂, sym, ◌∙◌, subst, arith}
+use Rattle.std.proofs.Common.{◌≡◌, ◌≢◌, ℕ, ◌+◌, ◌<◌, ◌≤◌, List, [], ◌∷◌, ◌++◌, length, length-append, append_assoc, append-nil, drop, Option, Some, None, true, false, is_some, IsSome, IfSome, IsSomeAnd, refl, ap, ap₂, sym, ◌∙◌, subst, arith}
 use Rattle.std.specs.List.{AllByRecursion as Each}
 use Rattle.std.specs.FinMap as map
-use Rattle.std.proofs.lemmas.Result.{IfOk-weaker}
 use Rattle.std.specs.Option.{option_map}
 use Rattle.art_nodes.specs.LeafChanges.{with_pair}
 use Rattle.art_inner.specs.Inner.{Inner, child_at}
@@ -14,121 +13,77 @@ use Rattle.art_parts.specs.declared.names.NodeType.TheVariants.{Node4, Node16, N
 use Rattle.art_parts.specs.declared.leaf.LeafNode.{LeafNode}
 use Rattle.art_parts.specs.declared.names.LeafPtr.{LeafPtr}
 use Rattle.art_parts.specs.declared.names.OpaqueNodePtr.{OpaqueNodePtr}
-use Rattle.art_model.specs.Canonical.{IsCanonical, IsCanonicalTree}
+use Rattle.art_model.specs.Canonical.{IsCanonicalTree}
 use Rattle.art_model.specs.Keys.{IsFront, are_related}
 use Rattle.art_model.specs.Footprints.{IsIn}
 use Rattle.art_model.specs.Kept.{ChangesInPlace, Frees}
 use Rattle.art_model.specs.Layouts.{name_of, names_of, leaf_names, slots_of, first_or, last_or, Holds}
 use Rattle.art_model.specs.Pairs.{overwrite, overwrite_reply, went}
 use Rattle.art_model.specs.Paths.{Frame, plug, leaves_before, leaves_after}
-use Rattle.art_model.specs.Places.{depth_of, place_of, prefix_of}
-use Rattle.art_model.specs.Radix.{IsRadix, AreRadix, bytes_of, pairs_of, pairs_below}
-use Rattle.art_model.specs.Roots.{IsCanonicalRoot, ForTree, IsFullTree}
+use Rattle.art_model.specs.Places.{depth_of, prefix_of, IsEndNode}
+use Rattle.art_model.specs.Radix.{AreRadix, bytes_of, pairs_of, pairs_below}
+use Rattle.art_model.specs.Roots.{ForTree, IsFullTree}
 use Rattle.art_model.specs.Stores.{held, seen, node_at, links_at, pair_of}
 use Rattle.art_model.specs.Trees.{Tree, leaf, inner, Subtrees, child, no_child}
 use Rattle.art_model.specs.Writes.{as_inner, parent_of, with_child_at, with_leaf, IsThere}
-use Rattle.art_model.proofs.Canonical.{IsLaidOut, laid_out, canonical_from, tree_radix}
+use Rattle.art_model.proofs.Canonical.{IsLaidOut, laid_out, canonical_from}
 use Rattle.art_model.proofs.Chains.{AreThere, are_there, previous_there, next_there}
 use Rattle.art_model.proofs.IntoHole.{IntoHole, hole_kept, hole_overwritten, hole_related, hole_reply, hole_touches}
 use Rattle.art_model.proofs.IntoLeaf.{IntoLeaf, leaf_overwritten, leaf_overwrite_kept, leaf_overwrite_reply, leaf_touches}
 use Rattle.art_model.proofs.Paths.{IsHole, leaf_names-plug, length-leaf_names, radix_plug}
 use Rattle.art_model.proofs.Paths as paths
-use Rattle.art_model.proofs.PlaceLaws.{depth_is}
 use Rattle.art_model.proofs.Keys.{front_related}
 use Rattle.art_model.proofs.Leaves.{with_leaf_pair}
 use Rattle.art_model.proofs.Lists.{each_from, in_around, Each-append, Each-weaker, after_front, front_cut, front_trans}
-use Rattle.art_model.proofs.Places.{place_is, prefix_is}
+use Rattle.art_model.proofs.Places.{prefix_is}
 use Rattle.art_model.proofs.Rebuild.{radix_way, radix_some}
-use Rattle.art_model.proofs.StoreLaws.{has_one_map}
 use Rattle.art_model.proofs.Stores.{frame, hole_distinct, path_holds, stays}
 use Rattle.art_model.proofs.TreeLaws.{one_child, have_two_children}
 use Rattle.art_model.proofs.Views as views
 use Rattle.art_model.proofs.Writes.{parent_ready, same_but, with_child_at-elsewhere}
 use Rattle.art_writing.specs.declared.insert.InsertParentNodeChange.TheVariants.{NoChange}
 use Rattle.art_writing.specs.declared.insert.OverwritePoint.{OverwritePoint}
-use Rattle.art_writing.specs.declared.insert.PrefixInsertResult.{PrefixInsertResult}
 use Rattle.art_writing.specs.Inserted.{alone}
-use Rattle.art_writing.specs.Overwritten.{HasOverwritten, IsOverwritePointIn, IsOverwritten, TouchesForNode, TouchesRelated}
-use Rattle.art_writing.specs.Points.{AnswersToOverwrite, IsOverwrittenWith}
+use Rattle.art_writing.specs.Overwritten.{IsOverwritePointIn, IsOverwritten, TouchesForNode, TouchesRelated, placed_for_overwrite}
+use Rattle.art_writing.specs.Points.{IsOverwrittenWith}
 use Rattle.art_reading.specs.Paths.{last_step, path_of, root_with}
-use Rattle.art_writing.specs.Writes.{ComesAfter, ComesBefore, HasChild, SameNodes}
+use Rattle.art_writing.specs.declared.writes.Side.TheVariants.{Before, After}
+use Rattle.art_writing.specs.Writes.{HasChild, IsBeside, SameNodes}
 use Rattle.art_writing.proofs.BranchReads.{beside_is}
+use Rattle.art_writing.proofs.Answered.{IsEndLeaf, end_leaf, placed_end}
+use Rattle.art_writing.proofs.Standing.{overwrite_answers_to}
 use Rattle.art_writing.proofs.Ways.{last_step-path_of, root_with-path_of}
-
--- a point's end node is in the hole of its path, for whatever layout of its root
-pub record IsAnsweredOver {A : Type 0} (bytes : A → List ℕ) (P : ℕ) (layout : Tree OpaqueNodePtr A) (key : List ℕ) (point : OverwritePoint) : Type 0 where
-  pub answers : AnswersToOverwrite bytes layout key point
-  pub place : List ℕ
-  pub hole : IsHole bytes P answers.path place answers.node key
-  pub deep : depth_of answers.path ≡ length place
-
-pub answered_over : {K V : Type 0} {bytes : K × V → List ℕ} {P : ℕ} {s : Nodes K V} {key : List ℕ} {point : OverwritePoint} {pairs : List (K × V)} {layout : Tree OpaqueNodePtr (K × V)} →
-    IsOverwritePointIn bytes P s key point → IsCanonicalTree bytes P s point.root pairs layout → IsAnsweredOver bytes P layout key point
-answered_over {bytes = bytes} {P} {s} {key} {point} {pairs} {layout} (others, other, is, own) by =
-    let answers : AnswersToOverwrite bytes layout key point = subst (λ z. AnswersToOverwrite bytes z key point) (has_one_map bytes P s point.root pairs others layout other by is).1 own in
-    let (place, path, radix) = radix_plug bytes P answers.path answers.node (subst (IsRadix bytes P []) (sym answers.is_end.whole) (tree_radix by).0) in
-    let deep = depth_is bytes P answers.path place path in
-    record {
-      answers = answers;
-      place = place;
-      hole = record {
-        path = path;
-        radix = radix;
-        front = subst (λ w. IsFront w key)
-            (ap (λ d. place_of bytes d answers.node) deep ∙ place_is bytes P answers.node place radix) answers.is_end.is_front;
-      };
-      deep = deep;
-    }
 
 -- ---- the end node is a leaf
 
 -- the leaf of a related key, at the end of a path of the layout
 pub record IsRelatedLeaf {K V : Type 0} (bytes : K × V → List ℕ) (P : ℕ) (s : Nodes K V) (p : LeafPtr) (layout : Tree OpaqueNodePtr (K × V)) (key : List ℕ) : Type 0 where
-  pub path : List (Frame OpaqueNodePtr (K × V))
-  pub shown : LeafNode K V
-  pub place : List ℕ
-  pub whole : plug path (leaf (leaf_name p) (pair_of shown)) ≡ layout
-  pub hole : IsHole bytes P path place (leaf (leaf_name p) (pair_of shown)) key
-  pub there : map.get s.leaves p ≡ Some shown
-  pub related : are_related key (bytes (pair_of shown)) ≡ true
-  pub unequal : key ≢ bytes (pair_of shown)
+  pub at : IsEndLeaf bytes P s p layout key
+  pub related : are_related key (bytes (pair_of at.shown)) ≡ true
+  pub unequal : key ≢ bytes (pair_of at.shown)
 
 module _ {K V : Type 0} {bytes : K × V → List ℕ} {P : ℕ} {s : Nodes K V} {point : OverwritePoint} {p : LeafPtr} {pairs : List (K × V)} {layout : Tree OpaqueNodePtr (K × V)} where
   -- it is there where a point names it
   pub related_leaf : {key : List ℕ} → IsOverwritePointIn bytes P s key point → leaf_name p ≡ point.overwrite_point → IsCanonicalTree bytes P s point.root pairs layout →
       IsRelatedLeaf bytes P s p layout key
   related_leaf {key} answers named by =
-      let a = answered_over answers by in
-      go a.answers.path a.place a.answers.node a.answers.is_end.whole a.hole (sym a.answers.name_is ∙ sym named) point.key_bytes_used a.answers.gives_way
+      let own = overwrite_answers_to answers by in
+      go own.path own.node own.is_end (sym own.name_is ∙ sym named) point.key_bytes_used own.gives_way
     where
-      go : (path : List (Frame OpaqueNodePtr (K × V))) (place : List ℕ) (node : Tree OpaqueNodePtr (K × V)) → plug path node ≡ layout →
-          IsHole bytes P path place node key → name_of node ≡ leaf_name p → (used : ℕ) → IsOverwrittenWith bytes key (depth_of path) used node → IsRelatedLeaf bytes P s p layout key
-      go path place (inner n h cs) whole hole is used gives =
-          let held = (path_holds (node_at s) path (inner n h cs) (subst (Holds (node_at s)) (sym whole) by.stands.0.holds)).1.0 in
+      go : (path : List (Frame OpaqueNodePtr (K × V))) (node : Tree OpaqueNodePtr (K × V)) → IsEndNode bytes layout key path node → name_of node ≡ leaf_name p →
+          (used : ℕ) → IsOverwrittenWith bytes key (depth_of path) used node → IsRelatedLeaf bytes P s p layout key
+      go path (inner n h cs) is_end is used gives =
+          let held = (path_holds (node_at s) path (inner n h cs) (subst (Holds (node_at s)) (sym is_end.whole) by.stands.0.holds)).1.0 in
           absurd (views.leaf_name_is s p h (slots_of cs) (ap (node_at s) (sym is) ∙ held))
-      go path place (leaf n pair) whole hole is used (used_is, related, unequal) =
-          let held = (path_holds (node_at s) path (leaf n pair) (subst (Holds (node_at s)) (sym whole) by.stands.0.holds)).1 in
-          let (shown, there, own) = views.leaf_there s p pair (ap (node_at s) (sym is) ∙ held) in
-          let same : leaf n pair ≡ leaf (leaf_name p) (pair_of shown) = ap (λ z. leaf z pair) is ∙ ap (leaf (leaf_name p)) (sym own) in
-          record {
-            path = path;
-            shown = shown;
-            place = place;
-            whole = ap (plug path) (sym same) ∙ whole;
-            hole = subst (λ z. IsHole bytes P path place z key) same hole;
-            there = there;
-            related = ap (λ z. are_related key (bytes z)) own ∙ related;
-            unequal = λ e. unequal (e ∙ ap bytes own);
-          }
+      go path (leaf n pair) is_end is used (used_is, related, unequal) =
+          let (at, own) = end_leaf by is_end (ap (λ z. leaf z pair) is) in
+          record { at = at; related = ap (λ z. are_related key (bytes z)) own ∙ related; unequal = λ e. unequal (e ∙ ap bytes own) }
 
 module _ {K V : Type 0} {bytes : K × V → List ℕ} {P : ℕ} {s : Nodes K V} {point : OverwritePoint} {p : LeafPtr} (new : K × V)
     (answers : IsOverwritePointIn bytes P s (bytes new) point) (named : leaf_name p ≡ point.overwrite_point) where
   -- the leaf is there
   pub related_leaf_there : IsSome (map.get s.leaves p)
-  related_leaf_there =
-      let (pairs, layout, by, own) = answers in
-      let l = related_leaf answers named by in
-      rw l.there refl
+  related_leaf_there = let (pairs, layout, by, own) = answers in rw (related_leaf answers named by).at.there refl
 
   module _ (t : Nodes K V) (leaves : t.leaves ≡ change s.leaves p (with_pair new.0 new.1)) (inners : t.inners ≡ s.inners) where
     -- the pair is in, and the old one is answered
@@ -137,17 +92,17 @@ module _ {K V : Type 0} {bytes : K × V → List ℕ} {P : ℕ} {s : Nodes K V} 
         (record { insert_result = record { leaf_node_ptr = p; existing_leaf = Some existing; new_root = point.root; parent_node_change = NoChange }; leafs_removed = 0 }))
     leaf_pair_overwritten swapped existing pair is pairs layout by =
         let l = related_leaf answers named by in
-        let into : IntoLeaf bytes P s t l.path l.place p l.shown new = record { hole = l.hole; here = l.there; write = with_pair new.0 new.1; written = refl; leaves = leaves; inners = inners } in
-        let old = subst (IsLaidOut bytes P (node_at s) (links_at s) point.root pairs) (sym l.whole) (laid_out by) in
-        let went : swapped ≡ pair_of l.shown = subst (λ o. IfSome o (λ leaf. swapped ≡ (leaf.key, leaf.value))) l.there pair in
+        let into : IntoLeaf bytes P s t l.at.path l.at.place p l.at.shown new = record { hole = l.at.hole; here = l.at.there; write = with_pair new.0 new.1; written = refl; leaves = leaves; inners = inners } in
+        let old = subst (IsLaidOut bytes P (node_at s) (links_at s) point.root pairs) (sym l.at.whole) (laid_out by) in
+        let went : swapped ≡ pair_of l.at.shown = subst (λ o. IfSome o (λ leaf. swapped ≡ (leaf.key, leaf.value))) l.at.there pair in
         let reply = leaf_overwrite_reply old into l.related l.unequal in
         record {
-          tree = plug l.path (leaf (leaf_name p) new);
+          tree = plug l.at.path (leaf (leaf_name p) new);
           canonical = canonical_from (leaf_overwritten old into l.related l.unequal);
-          leaf = record { has = record { path = l.path; whole = refl }; kept = λ kind. named; change = refl };
+          leaf = record { has = record { path = l.at.path; whole = refl }; kept = λ kind. named; change = refl };
           existing = ap Some (is ∙ ap alone went) ∙ ap (λ z. option_map alone z.0) (sym reply);
           removed = ap (λ z. z.1) (sym reply);
-          kept = subst (λ z. ChangesInPlace bytes s t (Some z) (Some (plug l.path (leaf (leaf_name p) new)))) l.whole (leaf_overwrite_kept old into l.related l.unequal);
+          kept = subst (λ z. ChangesInPlace bytes s t (Some z) (Some (plug l.at.path (leaf (leaf_name p) new)))) l.at.whole (leaf_overwrite_kept old into l.related l.unequal);
           touches = subst (λ kind. TouchesForNode kind bytes (bytes new) s t layout) (ap (λ z. z.kind) named) (leaf_touches old into);
         }
 
@@ -189,8 +144,9 @@ module _ {K V : Type 0} {bytes : K × V → List ℕ} {P : ℕ} {s : Nodes K V} 
   pub subtree_at : {key : List ℕ} → IsOverwritePointIn bytes P s key point → point.overwrite_point.kind ≢ Leaf → IsCanonicalTree bytes P s point.root pairs layout →
       IsSubtreeAt bytes P s point layout key
   subtree_at {key} answers off by =
-      let a = answered_over answers by in
-      go a.answers.path a.place a.answers.node a.answers.is_end.whole a.hole a.deep (sym a.answers.name_is) a.answers.path_is point.key_bytes_used a.answers.gives_way
+      let own = overwrite_answers_to answers by in
+      let a = placed_end by own.is_end in
+      go own.path a.place own.node own.is_end.whole a.hole a.deep (sym own.name_is) own.path_is point.key_bytes_used own.gives_way
     where
       go : (path : List (Frame OpaqueNodePtr (K × V))) (place : List ℕ) (node : Tree OpaqueNodePtr (K × V)) → plug path node ≡ layout →
           IsHole bytes P path place node key → depth_of path ≡ length place → name_of node ≡ point.overwrite_point → point.path ≡ path_of path →
@@ -259,6 +215,14 @@ went_many [] two = absurd (omega arith)
 went_many (x ∷ []) two = absurd (omega arith)
 went_many (x ∷ y ∷ xs) two = refl
 
+-- a leaf is placed for an inner node
+pub placed_for_inner : (kind : NodeType) → kind ≢ Leaf → placed_for_overwrite kind ≡ record { leaves = 1; inner = None }
+placed_for_inner Leaf off = absurd (off refl)
+placed_for_inner Node4 off = refl
+placed_for_inner Node16 off = refl
+placed_for_inner Node48 off = refl
+placed_for_inner Node256 off = refl
+
 for_inner : {K V : Type 0} (kind : NodeType) {bytes : K × V → List ℕ} {key : List ℕ} {s t : Nodes K V} {layout : Tree OpaqueNodePtr (K × V)} →
     kind ≢ Leaf → TouchesRelated bytes key s t (Some layout) → TouchesForNode kind bytes key s t layout
 for_inner Leaf off h = absurd (off refl)
@@ -267,15 +231,31 @@ for_inner Node16 off h = h
 for_inner Node48 off h = h
 for_inner Node256 off h = h
 
+-- A leaf is placed, and the parent at the end of the path has it.
+pub record IsPutAt {K V : Type 0} (s u : Nodes K V) (point : OverwritePoint) (n : LeafPtr) (x : LeafNode K V) : Type 0 where
+  pub fresh : map.get s.leaves n ≡ None
+  pub leaves : u.leaves ≡ with_leaf s.leaves n x
+  pub inners : u.inners ≡ with_child_at (last_step point.path) (leaf_name n) s.inners
+
+-- it is where the nodes were the same before
+pub put_at : {K V : Type 0} {s : Nodes K V} (r q u : Nodes K V) {point : OverwritePoint} (x : LeafNode K V) → SameNodes s r → {n : LeafPtr} {name : OpaqueNodePtr} →
+    map.get r.leaves n ≡ None → q.leaves ≡ with_leaf r.leaves n x → q.inners ≡ r.inners → name ≡ leaf_name n → u.leaves ≡ q.leaves →
+    u.inners ≡ with_child_at (last_step point.path) name q.inners → IsPutAt s u point n x
+put_at r q u {point = point} x same {n = n} fresh leaves inners name_is after_leaves after_inners = record {
+  fresh = ap (λ m. map.get m n) (sym same.0) ∙ fresh;
+  leaves = after_leaves ∙ leaves ∙ ap (λ m. with_leaf m n x) same.0;
+  inners = after_inners ∙ ap₂ (λ z m. with_child_at (last_step point.path) z m) name_is (inners ∙ same.1);
+}
+
 module _ {K V : Type 0} {bytes : K × V → List ℕ} {P : ℕ} {s : Nodes K V} {point : OverwritePoint} {key : List ℕ} {pairs : List (K × V)}
     {layout : Tree OpaqueNodePtr (K × V)} (by : IsCanonicalTree bytes P s point.root pairs layout) (at : IsSubtreeAt bytes P s point layout key) where
   old_laid : IsLaidOut bytes P (node_at s) (links_at s) point.root pairs (plug at.path at.node)
   old_laid = subst (IsLaidOut bytes P (node_at s) (links_at s) point.root pairs) (sym at.whole) (laid_out by)
 
-  pub links_previous : (previous next : Option LeafPtr) → ComesBefore s at.node previous next → option_map leaf_name previous ≡ last_or (leaves_before at.path) None
+  pub links_previous : (previous next : Option LeafPtr) → IsBeside s at.node Before previous next → option_map leaf_name previous ≡ last_or (leaves_before at.path) None
   links_previous previous next comes = (beside_is s at.path at.node old_laid.linked false previous next comes).0 ∙ ap (λ ks. last_or ks None) (append-nil (leaves_before at.path))
 
-  pub links_next : (previous next : Option LeafPtr) → ComesAfter s at.node previous next → option_map leaf_name next ≡ first_or (leaves_after at.path) None
+  pub links_next : (previous next : Option LeafPtr) → IsBeside s at.node After previous next → option_map leaf_name next ≡ first_or (leaves_after at.path) None
   links_next previous next comes = (beside_is s at.path at.node old_laid.linked true previous next comes).1
 
   subtree_others : AreThere s (leaves_before at.path ++ leaves_after at.path)
@@ -307,21 +287,20 @@ module _ {K V : Type 0} {bytes : K × V → List ℕ} {P : ℕ} {s : Nodes K V} 
   -- what is read of the leaves beside it, in a store with the same nodes
   module _ (r : Nodes K V) (same : SameNodes s r) where
     pub read_previous : (read : Option LeafPtr × Option LeafPtr) →
-        ((tree : Tree OpaqueNodePtr (K × V)) → IsFullTree r point.overwrite_point tree → ComesBefore r tree read.0 read.1) → option_map leaf_name read.0 ≡ last_or (leaves_before at.path) None
+        ((tree : Tree OpaqueNodePtr (K × V)) → IsFullTree r point.overwrite_point tree → IsBeside r tree Before read.0 read.1) → option_map leaf_name read.0 ≡ last_or (leaves_before at.path) None
     read_previous read told =
         let (f, has, is, here) = told at.node (full_stays s r same at.full) in
         links_previous read.0 read.1 (f, has, is, subst (λ m. IsSomeAnd (map.get m f) (λ leaf. read.0 ≡ leaf.previous)) same.0 here)
 
     pub read_next : (read : Option LeafPtr × Option LeafPtr) →
-        ((tree : Tree OpaqueNodePtr (K × V)) → IsFullTree r point.overwrite_point tree → ComesAfter r tree read.0 read.1) → option_map leaf_name read.1 ≡ first_or (leaves_after at.path) None
+        ((tree : Tree OpaqueNodePtr (K × V)) → IsFullTree r point.overwrite_point tree → IsBeside r tree After read.0 read.1) → option_map leaf_name read.1 ≡ first_or (leaves_after at.path) None
     read_next read told =
         let (l, has, is, here) = told at.node (full_stays s r same at.full) in
         links_next read.0 read.1 (l, has, is, subst (λ m. IsSomeAnd (map.get m l) (λ leaf. read.1 ≡ leaf.next)) same.0 here)
 
-  module _ (u : Nodes K V) (n : LeafPtr) (x : LeafNode K V) (fresh : map.get s.leaves n ≡ None) (leaves : u.leaves ≡ with_leaf s.leaves n x)
-      (inners : u.inners ≡ with_child_at (last_step point.path) (leaf_name n) s.inners) where
+  module _ {u : Nodes K V} {n : LeafPtr} {x : LeafNode K V} (put : IsPutAt s u point n x) where
     parent_inners : u.inners ≡ with_child_at (parent_of at.path) (leaf_name n) s.inners
-    parent_inners = inners ∙ ap (λ o. with_child_at o (leaf_name n) s.inners) (ap last_step at.path_is ∙ last_step-path_of at.path)
+    parent_inners = put.inners ∙ ap (λ o. with_child_at o (leaf_name n) s.inners) (ap last_step at.path_is ∙ last_step-path_of at.path)
 
     -- the subtree stands as it did when the leaf is placed and the parent names it
     pub subtree_still : IsFullTree u point.overwrite_point at.node
@@ -330,7 +309,7 @@ module _ {K V : Type 0} {bytes : K × V → List ℕ} {P : ℕ} {s : Nodes K V} 
         named = at.full.0.named;
         holds = frame (node_at s) (node_at u) at.node (each_from (λ k. node_at u k ≡ node_at s k) (names_of at.node) (λ k i.
             stays (node_at s) (node_at u) at.path at.node old_laid.holds old_laid.distinct []
-            (same_but s u at.path [] (λ p off used. ap (λ z. option_map pair_of (map.get z p)) leaves ∙ with_leaf_pair s.leaves n x p (λ e. used (ap (map.get s.leaves) e ∙ fresh)))
+            (same_but s u at.path [] (λ p off used. ap (λ z. option_map pair_of (map.get z p)) put.leaves ∙ with_leaf_pair s.leaves n x p (λ e. used (ap (map.get s.leaves) e ∙ put.fresh)))
             (λ q kind up off used. ap (λ z. map.get z (as_inner q)) parent_inners ∙ with_child_at-elsewhere at.path (leaf_name n) s.inners q up)) k i (λ z. z))) at.full.0.holds;
         distinct = at.full.0.distinct;
       },
@@ -346,8 +325,8 @@ module _ {K V : Type 0} {bytes : K × V → List ℕ} {P : ℕ} {s : Nodes K V} 
         unequal = subst (λ k. Each (λ y. bytes y ≢ k) (pairs_of at.node)) (sym new_key) at.unequal;
         last = last;
         first = first;
-        fresh = fresh;
-        leaves = leaves;
+        fresh = put.fresh;
+        leaves = put.leaves;
         inners = parent_inners;
         freed = freed;
       }
@@ -379,61 +358,31 @@ module _ {K V : Type 0} {bytes : K × V → List ℕ} {P : ℕ} {s : Nodes K V} 
             });
           }
 
--- ---- read off the whole record, for whatever layout of the new root
+-- ---- what is asked of the store where the pair is put
 
-module _ {K V : Type 0} {bytes : K × V → List ℕ} {P : ℕ} {s t : Nodes K V} {point : OverwritePoint} {pair : K × V} {pairs : List (K × V)}
-    {layout : Tree OpaqueNodePtr (K × V)} {done : PrefixInsertResult K V} (is : IsOverwritten bytes P s t point pair pairs layout done) where
-  -- the new root is canonical
-  pub over_canonical : IsCanonical bytes P t (Some done.insert_result.new_root) (overwrite bytes pair pairs)
-  over_canonical = (is.tree, is.canonical)
+module _ {K V : Type 0} {bytes : K × V → List ℕ} {P : ℕ} {s : Nodes K V} {point : OverwritePoint} {key : List ℕ} (answers : IsOverwritePointIn bytes P s key point)
+    (off : point.overwrite_point.kind ≢ Leaf) (r : Nodes K V) (same : SameNodes s r) where
+  -- the end node stands for a full tree
+  pub end_full : (tree : Tree OpaqueNodePtr (K × V)) × IsFullTree r point.overwrite_point tree
+  end_full = let (pairs, layout, by, own) = answers in let at = subtree_at answers off by in (at.node, full_stays s r same at.full)
 
-  -- its layout has the leaf
-  pub over_leaf : ForTree bytes P t done.insert_result.new_root (λ after new. HasOverwritten new point pair done.insert_result)
-  over_leaf after new by =
-      subst (λ z. HasOverwritten z point pair done.insert_result) (sym (has_one_map bytes P t done.insert_result.new_root (overwrite bytes pair pairs) after is.tree new is.canonical by).1) is.leaf
+  -- the leaves beside it are there
+  pub ends_there : {before after : Option LeafPtr × Option LeafPtr} →
+      ((tree : Tree OpaqueNodePtr (K × V)) → IsFullTree r point.overwrite_point tree → IsBeside r tree Before before.0 before.1) →
+      ((tree : Tree OpaqueNodePtr (K × V)) → IsFullTree r point.overwrite_point tree → IsBeside r tree After after.0 after.1) → IsThere r.leaves before.0 × IsThere r.leaves after.1
+  ends_there {before} {after} told_before told_after =
+      let (pairs, layout, by, own) = answers in
+      let at = subtree_at answers off by in (
+        subst (λ m. IsThere m before.0) (sym same.0) (subtree_previous by at (read_previous by at r same before told_before)),
+        subst (λ m. IsThere m after.1) (sym same.0) (subtree_next by at (read_next by at r same after told_after)),
+      )
 
-  -- and the change was one in place
-  pub over_kept : ForTree bytes P t done.insert_result.new_root (λ after new. ChangesInPlace bytes s t (Some layout) (Some new))
-  over_kept after new by =
-      subst (λ z. ChangesInPlace bytes s t (Some layout) (Some z)) (sym (has_one_map bytes P t done.insert_result.new_root (overwrite bytes pair pairs) after is.tree new is.canonical by).1) is.kept
+  -- and the parent
+  pub end_parent : (q : Nodes K V) → q.inners ≡ r.inners → HasChild q.inners (last_step point.path)
+  end_parent q inners =
+      let (pairs, layout, by, own) = answers in
+      subst (λ m. HasChild m (last_step point.path)) (sym (inners ∙ same.1)) (subtree_parent by (subtree_at answers off by))
 
--- where an overwrite may be refused
-module _ {K V : Type 0} (bytes : K × V → List ℕ) (P : ℕ) (s t : Nodes K V) (point : OverwritePoint) (pair : K × V) {E : Type 0} (r : Result (PrefixInsertResult K V) E) where
-  module _ (pairs : List (K × V)) (layout : Tree OpaqueNodePtr (K × V)) (done : IfOk r (IsOverwritten bytes P s t point pair pairs layout)) where
-    pub if_over_canonical : IfOk r (λ done. IsCanonical bytes P t (Some done.insert_result.new_root) (overwrite bytes pair pairs))
-    if_over_canonical =
-        IfOk-weaker r (IsOverwritten bytes P s t point pair pairs layout)
-        (λ done. IsCanonical bytes P t (Some done.insert_result.new_root) (overwrite bytes pair pairs)) (λ done is. over_canonical is) done
-
-    pub if_over_replaced : IfOk r (λ done. done.insert_result.existing_leaf ≡ option_map alone (overwrite_reply bytes pair pairs).0)
-    if_over_replaced =
-        IfOk-weaker r (IsOverwritten bytes P s t point pair pairs layout)
-        (λ done. done.insert_result.existing_leaf ≡ option_map alone (overwrite_reply bytes pair pairs).0) (λ done is. is.existing) done
-
-    pub if_over_removed : IfOk r (λ done. done.leafs_removed ≡ (overwrite_reply bytes pair pairs).1)
-    if_over_removed = IfOk-weaker r (IsOverwritten bytes P s t point pair pairs layout) (λ done. done.leafs_removed ≡ (overwrite_reply bytes pair pairs).1) (λ done is. is.removed) done
-
-    pub if_over_kept : IfOk r (λ done. ForTree bytes P t done.insert_result.new_root (λ after new. ChangesInPlace bytes s t (Some layout) (Some new)))
-    if_over_kept =
-        IfOk-weaker r (IsOverwritten bytes P s t point pair pairs layout)
-        (λ done. ForTree bytes P t done.insert_result.new_root (λ after new. ChangesInPlace bytes s t (Some layout) (Some new))) (λ done is. over_kept is) done
-
-    pub if_over_touches : OnOk r (TouchesForNode point.overwrite_point.kind bytes (bytes pair) s t layout)
-    if_over_touches = go r done
-      where
-        go : (q : Result (PrefixInsertResult K V) E) → IfOk q (IsOverwritten bytes P s t point pair pairs layout) → OnOk q (TouchesForNode point.overwrite_point.kind bytes (bytes pair) s t layout)
-        go (Ok x) h = h.touches
-        go (Err e) h = tt
-
-  pub if_over_leaf : {key : List ℕ} → IsOverwritePointIn bytes P s key point →
-      ForTree bytes P s point.root (λ pairs layout. IfOk r (IsOverwritten bytes P s t point pair pairs layout)) →
-      IfOk r (λ done. ForTree bytes P t done.insert_result.new_root (λ after new. HasOverwritten new point pair done.insert_result))
-  if_over_leaf (pairs, layout, by, answers) done =
-      IfOk-weaker r (IsOverwritten bytes P s t point pair pairs layout)
-      (λ done. ForTree bytes P t done.insert_result.new_root (λ after new. HasOverwritten new point pair done.insert_result)) (λ done is. over_leaf is) (done pairs layout by)
-
-  pub if_over_root : {key : List ℕ} → IsOverwritePointIn bytes P s key point →
-      ForTree bytes P s point.root (λ pairs layout. IfOk r (IsOverwritten bytes P s t point pair pairs layout)) → IfOk r (λ done. IsCanonicalRoot bytes P t done.insert_result.new_root)
-  if_over_root (pairs, layout, by, answers) done =
-      IfOk-weaker r (IsOverwritten bytes P s t point pair pairs layout) (λ done. IsCanonicalRoot bytes P t done.insert_result.new_root)
-      (λ done is. (overwrite bytes pair pairs, is.tree, is.canonical)) (done pairs layout by)
+  -- the tree stands when the leaf is put in its place
+  pub end_still : {u : Nodes K V} {n : LeafPtr} {x : LeafNode K V} → IsPutAt s u point n x → (tree : Tree OpaqueNodePtr (K × V)) × IsFullTree u point.overwrite_point tree
+  end_still put = let (pairs, layout, by, own) = answers in let at = subtree_at answers off by in (at.node, subtree_still by at put)

@@ -49,9 +49,9 @@ module _ {K V : Type 0} (bytes : K × V → List ℕ) (P : ℕ) {s : Nodes K V} 
       elim (leaf_or point.overwrite_point) [
         | inl (p, e) ↦
             let l = related_leaf answers (sym e) here in
-            let all : related_to bytes key pairs ≡ pair_of l.shown ∷ [] =
-            within ∙ ap (λ t. related_to bytes key (pairs_of t)) (sym l.whole) ∙
-            related_at bytes P l.path l.place key (leaf (leaf_name p) (pair_of l.shown)) l.hole.path l.hole.front ∙ rw l.related refl in
+            let all : related_to bytes key pairs ≡ pair_of l.at.shown ∷ [] =
+            within ∙ ap (λ t. related_to bytes key (pairs_of t)) (sym l.at.whole) ∙
+            related_at bytes P l.at.path l.at.place key (leaf (leaf_name p) (pair_of l.at.shown)) l.at.hole.path l.at.hole.front ∙ rw l.related refl in
             inl (ap (λ z. z.kind) e, ap length all)
         | inr off ↦
             let a = subtree_at answers off here in

@@ -26,10 +26,11 @@ use Rattle.art_model.specs.Layouts.{slots_of, name_of, leaf_names, leaf_names_be
 use Rattle.art_model.specs.Pairs.{remove_key}
 use Rattle.art_model.specs.Paths.{Frame, plug, leaves_before, leaves_after}
 use Rattle.art_model.specs.Radix.{IsRadix, bytes_of, join, pairs_of}
+use Rattle.art_model.specs.Roots.{IsRootOf}
 use Rattle.art_model.specs.Stores.{node_at, links_at, pair_of}
 use Rattle.art_model.specs.Trees.{Tree, leaf, inner, Subtrees, child, no_child}
-use Rattle.art_model.specs.Writes.{Leaves, Inners, as_inner, parent_of, without_leaf, with_child_at}
-use Rattle.art_model.proofs.Canonical.{IsLaidOut, laid_out, canonical_from}
+use Rattle.art_model.specs.Writes.{Inners, as_inner, parent_of, without_leaf, with_child_at}
+use Rattle.art_model.proofs.Canonical.{IsLaidOut, laid_out}
 use Rattle.art_model.proofs.Changes.{child_left}
 use Rattle.art_model.proofs.Changes as changes
 use Rattle.art_model.proofs.Compressed.{Compressed, with_prefix, prefix_written, prefix_at, compressed, compressed_touches, compressed_in_place, above_same, off_node, v_held}
@@ -48,21 +49,18 @@ use Rattle.art_model.proofs.Stores.{IsParent, path_holds}
 use Rattle.art_model.proofs.Taken.{LeafAmong, previous_is, next_is, before_there, after_there, leaf_at, some_leaf_name, last_of_some}
 use Rattle.art_model.proofs.Views.{leaf_there, leaf_or, inner_name_is}
 use Rattle.art_model.proofs.Writes.{inner_at, parent_ready, inner_name_one}
-use Rattle.art_writing.specs.Deleted.{IsDeleted, IsDeletePoint, IsRootAfter, LeadsTo, TouchesFor, parent_change, no_parent, is_compressed}
+use Rattle.art_writing.specs.Deleted.{LeadsTo, TouchesFor, parent_change, no_parent, is_compressed}
 use Rattle.art_writing.specs.Inserted.{alone}
 use Rattle.art_reading.specs.Paths.{last_step, path_of, up, root_with}
+use Rattle.art_writing.specs.TakenOut.{IsLeafTaken}
 use Rattle.art_writing.specs.Writes.{HasChild, LinksAreThere}
-use Rattle.art_writing.proofs.Below.{IsBelow, is_below, change_is, compressed_most, has_child}
-use Rattle.art_writing.proofs.Deletions.{some_same}
+use Rattle.art_writing.proofs.Below.{IsBelow, is_below, change_is, compressed_most, deleted_below, has_child}
+use Rattle.art_writing.proofs.Deletions.{IsDeleted, some_same, taken_since}
 use Rattle.art_writing.proofs.Ways.{last_step-path_of, last_step-up, root_with-up, root_after_at}
 use Rattle.art_writing.specs.declared.delete.DeletePoint.{DeletePoint}
+use Rattle.art_writing.specs.declared.delete.DeleteResult.{DeleteResult}
 use Rattle.art_reading.specs.declared.path.TreePath.{TreePath}
 use Rattle.art_reading.specs.declared.path.TreePath.TheVariants.{Root}
-
--- a point that is found leads to a pair
-pub found_point : {A : Type 0} (tree : Tree OpaqueNodePtr A) (pair : Option A) (point : DeletePoint) → IsDeletePoint tree pair (Some point) → (x : A) × LeadsTo tree x point
-found_point tree None point is = absurd is
-found_point tree (Some x) point is = (x, is)
 
 -- ---- a leaf that is the root
 
@@ -95,27 +93,21 @@ module _ {K V : Type 0} {bytes : K × V → List ℕ} {P : ℕ} {s : Nodes K V} 
     pub alone_ready : IsSome (get s.leaves point.leaf_node_ptr) × LinksAreThere s.leaves point.leaf_node_ptr
     alone_ready = rw at.here (refl, (before_there at.laid.holds at.laid.linked alone_among, after_there at.laid.holds at.laid.linked alone_among))
 
-    module _ (t : Nodes K V) (leaves : IsSomeAnd (get s.leaves point.leaf_node_ptr) (λ leaf. t.leaves ≡ without_leaf s.leaves point.leaf_node_ptr leaf)) (inners : t.inners ≡ s.inners) where
+    module _ {t : Nodes K V} {done : DeleteResult K V} (taken : IsLeafTaken s t point None done) where
       goes : LeafTaken s t (leaf (leaf_name point.leaf_node_ptr) (pair_of at.node)) [] [] point.leaf_node_ptr at.node
-      goes = record { among = alone_among; leaves = rw at.here at leaves }
+      goes = record { among = alone_among; leaves = (taken_since s refl at.here taken).0 }
 
-      -- no tree is left
-      pub alone_deleted : {gone : LeafNode K V} → IsSomeAnd (get s.leaves point.leaf_node_ptr) (λ leaf. gone ≡ alone (leaf.key, leaf.value)) →
-          IsDeleted bytes P s t root point x pairs layout (record { new_root = None; deleted_leaf = gone })
-      alone_deleted {gone} is = record {
+      -- no tree is left, and one name is freed
+      pub alone_deleted : parent_change s point.path ≡ no_parent → IsDeleted bytes P s t root point x pairs layout done
+      alone_deleted told = record {
         tree = None;
-        canonical = ap (remove_key bytes (bytes x)) (sym at.laid.pairs_are ∙ ap (λ y. y ∷ []) at.pair) ∙ changes.alone bytes x;
-        deleted = rw at.here at is ∙ ap alone at.pair;
-        root_is = rw at.path_is refl;
-        kept = subst (λ tree. ChangesInPlace bytes s t (Some tree) None) at.whole (emptied_in_place at.laid goes inners);
+        canonical = subst (λ r. IsRootOf bytes P t r (remove_key bytes (bytes x) pairs) None) (sym taken.root_is)
+            (ap (remove_key bytes (bytes x)) (sym at.laid.pairs_are ∙ ap (λ y. y ∷ []) at.pair) ∙ changes.alone bytes x);
+        deleted = (taken_since s refl at.here taken).1 ∙ ap alone at.pair;
+        root_is = rw at.path_is taken.root_is;
+        kept = subst (λ tree. ChangesInPlace bytes s t (Some tree) None) at.whole (emptied_in_place at.laid goes taken.inners);
+        touches = subst (λ told. TouchesFor told s t) (sym told) (emptied_touches at.laid goes taken.inners);
       }
-
-      -- one name is freed
-      pub alone_touches : last_step point.path ≡ None → TouchesFor (parent_change s point.path) s t
-      alone_touches step = subst (λ told. TouchesFor told s t) (sym told) (emptied_touches at.laid goes inners)
-        where
-          told : parent_change s point.path ≡ no_parent
-          told = rw (parent_change, step) refl
 
 -- ---- a leaf below a node with one other child
 
@@ -221,15 +213,26 @@ module _ {K V : Type 0} {bytes : K × V → List ℕ} {P : ℕ} {s : Nodes K V} 
         let (node, there) = parent_found in
         subst (λ o. IsSomeAnd o (λ node. length (without_child byte node).children ≡ 1)) (sym there) (ap length (other_left node there))
 
-    -- and what is answered then is its header, and that child
-    module _ (header : Prefix) (d : ℕ) (other : OpaqueNodePtr) (is : IfSome (get s.inners parent) (λ node. without_child byte node ≡ with_child d other (nodes.childless header))) where
+    -- The parent is taken out, and its header is answered, and its other child with the byte.
+    pub record IsOtherTaken (u : Nodes K V) (header : Prefix) (d : ℕ) (other : OpaqueNodePtr) : Type 0 where
+      pub leaves : u.leaves ≡ s.leaves
+      pub inners : u.inners ≡ remove s.inners parent
+      pub answered : IfSome (get s.inners parent) (λ node. without_child byte node ≡ with_child d other (nodes.childless header))
+
+    module _ {u : Nodes K V} {header : Prefix} {d : ℕ} {other : OpaqueNodePtr} (taken : IsOtherTaken u header d other) where
       made_of : without_child byte parent_found.0 ≡ with_child d other (nodes.childless header)
-      made_of = subst (λ o. IfSome o (λ node. without_child byte node ≡ with_child d other (nodes.childless header))) parent_found.1 is
+      made_of = subst (λ o. IfSome o (λ node. without_child byte node ≡ with_child d other (nodes.childless header))) parent_found.1 taken.answered
 
-      pub other_is : ◌≡◌ {A = ℕ × OpaqueNodePtr} (d, other) (two.c, name_of two.v)
-      other_is = some_same (ap (λ (z : Inner). slice_get z.children 0) (sym made_of) ∙ ap (λ z. slice_get z 0) (other_left parent_found.0 parent_found.1))
+      other_at : ◌≡◌ {A = ℕ × OpaqueNodePtr} (d, other) (two.c, name_of two.v)
+      other_at = some_same (ap (λ (z : Inner). slice_get z.children 0) (sym made_of) ∙ ap (λ z. slice_get z 0) (other_left parent_found.0 parent_found.1))
 
-      pub header_is : header ≡ headers.header_of P two.hole.radix.0
+      byte_is : d ≡ two.c
+      byte_is = ap (λ z. z.0) other_at
+
+      pub other_is : other ≡ name_of two.v
+      other_is = ap (λ z. z.1) other_at
+
+      header_is : header ≡ headers.header_of P two.hole.radix.0
       header_is = ap (λ (z : Inner). z.prefix) (sym made_of) ∙ own_header parent_found.0 parent_found.1
 
     -- ---- a leaf below the child that is left
@@ -278,75 +281,68 @@ module _ {K V : Type 0} {bytes : K × V → List ℕ} {P : ℕ} {s : Nodes K V} 
         some : (k : OpaqueNodePtr) × (ks : List OpaqueNodePtr) × (leaf_names two.v ≡ k ∷ ks)
         some = some_leaf_name bytes P two.v ((two.place ++ two.hole.radix.0) ++ two.c ∷ []) left_radix
 
-    -- such a leaf is found
-    pub beside_ready : (leaves : Leaves K V) (d : ℕ) → leaves ≡ s.leaves → d ≡ two.c → IsSomeAnd (get leaves point.leaf_node_ptr) (λ leaf. IsSome (cond (nat_lt byte d) leaf.next leaf.previous))
-    beside_ready leaves d l e =
-        subst (λ z. IsSomeAnd (get z point.leaf_node_ptr) (λ leaf. IsSome (cond (nat_lt byte d) leaf.next leaf.previous))) (sym l)
-        (subst (λ o. IsSomeAnd o (λ leaf. IsSome (cond (nat_lt byte d) leaf.next leaf.previous))) (sym at.here)
-        (subst (λ z. IsSome (cond (nat_lt byte z) at.node.next at.node.previous)) (sym e) (subst IsSome (sym beside_other.1) refl)))
+    module _ {u : Nodes K V} {header : Prefix} {d : ℕ} {other : OpaqueNodePtr} (taken : IsOtherTaken u header d other) where
+      -- such a leaf is found
+      pub beside_ready : IsSomeAnd (get u.leaves point.leaf_node_ptr) (λ leaf. IsSome (cond (nat_lt byte d) leaf.next leaf.previous))
+      beside_ready =
+          subst (λ z. IsSomeAnd (get z point.leaf_node_ptr) (λ leaf. IsSome (cond (nat_lt byte d) leaf.next leaf.previous))) (sym taken.leaves)
+          (subst (λ o. IsSomeAnd o (λ leaf. IsSome (cond (nat_lt byte d) leaf.next leaf.previous))) (sym at.here)
+          (subst (λ z. IsSome (cond (nat_lt byte z) at.node.next at.node.previous)) (sym (byte_is taken)) (subst IsSome (sym beside_other.1) refl)))
 
-    pub beside_found : (leaves : Leaves K V) (d : ℕ) (p : LeafPtr) → leaves ≡ s.leaves → d ≡ two.c →
-        IfSome (get leaves point.leaf_node_ptr) (λ leaf. cond (nat_lt byte d) leaf.next leaf.previous ≡ Some p) → cond (nat_lt byte two.c) at.node.next at.node.previous ≡ Some p
-    beside_found leaves d p l e found =
-        subst (λ z. cond (nat_lt byte z) at.node.next at.node.previous ≡ Some p) e
-        (subst (λ o. IfSome o (λ leaf. cond (nat_lt byte d) leaf.next leaf.previous ≡ Some p)) (ap (λ z. get z point.leaf_node_ptr) l ∙ at.here) found)
+      -- and the prefix of the child that is left may be written
+      pub may_lengthen : (p : LeafPtr) → IfSome (get u.leaves point.leaf_node_ptr) (λ leaf. cond (nat_lt byte d) leaf.next leaf.previous ≡ Some p) →
+          other.kind ≢ Leaf → IsSomeAnd (get u.leaves p) (λ leaf. IsSomeAnd (get u.inners (as_inner other)) (λ node. header.len + 1 + node.prefix.len ≤ length (bytes (pair_of leaf))))
+      unfolding left_prefix
+      may_lengthen p found kind =
+          let next : cond (nat_lt byte two.c) at.node.next at.node.previous ≡ Some p =
+          subst (λ z. cond (nat_lt byte z) at.node.next at.node.previous ≡ Some p) (byte_is taken)
+          (subst (λ o. IfSome o (λ leaf. cond (nat_lt byte d) leaf.next leaf.previous ≡ Some p)) (ap (λ z. get z point.leaf_node_ptr) taken.leaves ∙ at.here) found) in
+          let (q, found, below) = beside_other in
+          let same : q ≡ p = some_same (sym found ∙ next) in
+          let leaf_is : get u.leaves p ≡ Some below.leaf = ap (λ z. get z p) taken.leaves ∙ ap (get s.leaves) (sym same) ∙ below.here in
+          let (node, got, len) = its_prefix two.v left_radix left_held (subst (λ (z : OpaqueNodePtr). z.kind ≢ Leaf) (other_is taken) kind) in
+          let gone : get u.inners (as_inner other) ≡ Some node =
+          ap (λ z. get z (as_inner other)) taken.inners ∙ ap (λ z. get (remove s.inners parent) (as_inner z)) (other_is taken)
+          ∙ inner_gone_elsewhere s.inners parent (as_inner (name_of two.v)) (λ e. left_other (inner_name_one (name_of two.v) at.frame.mark (e ∙ sym at.parent_is))) ∙ got in
+          let front_len = ap (λ z. z.len) (header_is taken) in
+          let long = below.long in
+          let fits : header.len + 1 + node.prefix.len ≤ length (bytes (pair_of below.leaf)) = omega arith in
+          rw (leaf_is, gone) fits
+        where
+          its_prefix : (w : Tree OpaqueNodePtr (K × V)) (radix : IsRadix bytes P ((two.place ++ two.hole.radix.0) ++ two.c ∷ []) w) → Holds (node_at s) w → (name_of w).kind ≢ Leaf →
+              (node : Inner) × (get s.inners (as_inner (name_of w)) ≡ Some node) × (node.prefix.len ≡ length (prefix_at bytes P ((two.place ++ two.hole.radix.0) ++ two.c ∷ []) w radix))
+          its_prefix (leaf k y) radix held kind = absurd (inner_name_is s (as_inner k) y kind held)
+          its_prefix (inner k head cs) radix held kind =
+              let (off, node, got, is, kids) = inner_at s k head (slots_of cs) held.0 in
+              (node, got, ap (λ z. z.length_of) (is ∙ radix.1))
 
-    -- ---- what the writes ask for
+      -- and then the inner nodes are these
+      pub lengthened_is : (now : Inners) → (other.kind ≡ Leaf → now ≡ u.inners) →
+          (other.kind ≢ Leaf → (first rest : List ℕ) → header ≡ headers.header_of P first →
+          IfSome (get u.inners (as_inner other)) (λ node. node.prefix ≡ headers.header_of P rest) → now ≡ change u.inners (as_inner other) (with_header (headers.header_of P (first ++ d ∷ rest)))) →
+          now ≡ lengthened_inners
+      unfolding lengthened_inners
+      lengthened_is now as_leaf as_inner_node = go two.v left_radix left_held left_other (other_is taken)
+        where
+          removed : u.inners ≡ remove s.inners (as_inner at.frame.mark)
+          removed = taken.inners ∙ ap (remove s.inners) (sym at.parent_is)
 
-    -- the prefix of the child that is left may be written
-    pub may_lengthen : (leaves : Leaves K V) (inners : Inners) (other : OpaqueNodePtr) (p : LeafPtr) (front : Prefix) → leaves ≡ s.leaves →
-        inners ≡ remove s.inners parent → other ≡ name_of two.v → cond (nat_lt byte two.c) at.node.next at.node.previous ≡ Some p → front ≡ headers.header_of P two.hole.radix.0 →
-        other.kind ≢ Leaf → IsSomeAnd (get leaves p) (λ leaf. IsSomeAnd (get inners (as_inner other)) (λ node. front.len + 1 + node.prefix.len ≤ length (bytes (pair_of leaf))))
-    unfolding left_prefix
-    may_lengthen leaves inners other p front l i is next front_is kind =
-        let (q, found, below) = beside_other in
-        let same : q ≡ p = some_same (sym found ∙ next) in
-        let leaf_is : get leaves p ≡ Some below.leaf = ap (λ z. get z p) l ∙ ap (get s.leaves) (sym same) ∙ below.here in
-        let (node, got, len) = its_prefix two.v left_radix left_held (subst (λ (z : OpaqueNodePtr). z.kind ≢ Leaf) is kind) in
-        let gone : get inners (as_inner other) ≡ Some node =
-        ap (λ z. get z (as_inner other)) i ∙ ap (λ z. get (remove s.inners parent) (as_inner z)) is
-        ∙ inner_gone_elsewhere s.inners parent (as_inner (name_of two.v)) (λ e. left_other (inner_name_one (name_of two.v) at.frame.mark (e ∙ sym at.parent_is))) ∙ got in
-        let front_len = ap (λ z. z.len) front_is in
-        let long = below.long in
-        let fits : front.len + 1 + node.prefix.len ≤ length (bytes (pair_of below.leaf)) = omega arith in
-        rw (leaf_is, gone) fits
-      where
-        its_prefix : (w : Tree OpaqueNodePtr (K × V)) (radix : IsRadix bytes P ((two.place ++ two.hole.radix.0) ++ two.c ∷ []) w) → Holds (node_at s) w → (name_of w).kind ≢ Leaf →
-            (node : Inner) × (get s.inners (as_inner (name_of w)) ≡ Some node) × (node.prefix.len ≡ length (prefix_at bytes P ((two.place ++ two.hole.radix.0) ++ two.c ∷ []) w radix))
-        its_prefix (leaf k y) radix held kind = absurd (inner_name_is s (as_inner k) y kind held)
-        its_prefix (inner k head cs) radix held kind =
-            let (off, node, got, is, kids) = inner_at s k head (slots_of cs) held.0 in
-            (node, got, ap (λ z. z.length_of) (is ∙ radix.1))
-
-    -- and then the inner nodes are these
-    pub lengthened_is : (was now : Inners) (other : OpaqueNodePtr) (byte' : ℕ) (front : Prefix) → was ≡ remove s.inners parent →
-        other ≡ name_of two.v → byte' ≡ two.c → front ≡ headers.header_of P two.hole.radix.0 →
-        (other.kind ≡ Leaf → now ≡ was) →
-        (other.kind ≢ Leaf → (first rest : List ℕ) → front ≡ headers.header_of P first →
-        IfSome (get was (as_inner other)) (λ node. node.prefix ≡ headers.header_of P rest) → now ≡ change was (as_inner other) (with_header (headers.header_of P (first ++ byte' ∷ rest)))) →
-        now ≡ lengthened_inners
-    unfolding lengthened_inners
-    lengthened_is was now other byte' front was_is is byte_same front_is as_leaf as_inner_node = go two.v left_radix left_held left_other is
-      where
-        removed : was ≡ remove s.inners (as_inner at.frame.mark)
-        removed = was_is ∙ ap (remove s.inners) (sym at.parent_is)
-
-        go : (w : Tree OpaqueNodePtr (K × V)) (radix : IsRadix bytes P ((two.place ++ two.hole.radix.0) ++ two.c ∷ []) w) → Holds (node_at s) w → name_of w ≢ at.frame.mark → other ≡ name_of w →
-            now ≡ prefix_written P (two.hole.radix.0 ++ two.c ∷ prefix_at bytes P ((two.place ++ two.hole.radix.0) ++ two.c ∷ []) w radix) w (remove s.inners (as_inner at.frame.mark))
-        go (leaf k y) radix held off is = elim (leaf_or other) [
-          | inl (p, e) ↦ as_leaf (ap (λ (z : OpaqueNodePtr). z.kind) e) ∙ removed
-          | inr kind ↦ absurd (inner_name_is s (as_inner k) y (subst (λ (z : OpaqueNodePtr). z.kind ≢ Leaf) is kind) held)
-        ]
-        go (inner k head cs) radix held off is =
-            let (kind, node, got, head_is, kids) = inner_at s k head (slots_of cs) held.0 in
-            let there : get was (as_inner other) ≡ Some node =
-            ap (λ z. get z (as_inner other)) removed ∙ ap (λ z. get (remove s.inners (as_inner at.frame.mark)) (as_inner z)) is
-            ∙ inner_gone_elsewhere s.inners (as_inner at.frame.mark) (as_inner k) (λ e. off (inner_name_one k at.frame.mark e)) ∙ got in
-            let prefix : node.prefix ≡ headers.header_of P radix.0 = header_by_parts P radix.0 node.prefix (ap (λ z. z.length_of) (head_is ∙ radix.1)) (ap (λ z. z.stored) (head_is ∙ radix.1)) in
-            as_inner_node (subst (λ (z : OpaqueNodePtr). z.kind ≢ Leaf) (sym is) kind) two.hole.radix.0 radix.0 front_is
-            (subst (λ o. IfSome o (λ node. node.prefix ≡ headers.header_of P radix.0)) (sym there) prefix)
-            ∙ ap₂ (λ (inners : Inners) (b : ℕ). change inners (as_inner other) (with_header (headers.header_of P (two.hole.radix.0 ++ b ∷ radix.0)))) removed byte_same
-            ∙ ap (λ z. change (remove s.inners (as_inner at.frame.mark)) (as_inner z) (with_header (headers.header_of P (two.hole.radix.0 ++ two.c ∷ radix.0)))) is
+          go : (w : Tree OpaqueNodePtr (K × V)) (radix : IsRadix bytes P ((two.place ++ two.hole.radix.0) ++ two.c ∷ []) w) → Holds (node_at s) w → name_of w ≢ at.frame.mark → other ≡ name_of w →
+              now ≡ prefix_written P (two.hole.radix.0 ++ two.c ∷ prefix_at bytes P ((two.place ++ two.hole.radix.0) ++ two.c ∷ []) w radix) w (remove s.inners (as_inner at.frame.mark))
+          go (leaf k y) radix held off is = elim (leaf_or other) [
+            | inl (p, e) ↦ as_leaf (ap (λ (z : OpaqueNodePtr). z.kind) e) ∙ removed
+            | inr kind ↦ absurd (inner_name_is s (as_inner k) y (subst (λ (z : OpaqueNodePtr). z.kind ≢ Leaf) is kind) held)
+          ]
+          go (inner k head cs) radix held off is =
+              let (kind, node, got, head_is, kids) = inner_at s k head (slots_of cs) held.0 in
+              let there : get u.inners (as_inner other) ≡ Some node =
+              ap (λ z. get z (as_inner other)) removed ∙ ap (λ z. get (remove s.inners (as_inner at.frame.mark)) (as_inner z)) is
+              ∙ inner_gone_elsewhere s.inners (as_inner at.frame.mark) (as_inner k) (λ e. off (inner_name_one k at.frame.mark e)) ∙ got in
+              let prefix : node.prefix ≡ headers.header_of P radix.0 = header_by_parts P radix.0 node.prefix (ap (λ z. z.length_of) (head_is ∙ radix.1)) (ap (λ z. z.stored) (head_is ∙ radix.1)) in
+              as_inner_node (subst (λ (z : OpaqueNodePtr). z.kind ≢ Leaf) (sym is) kind) two.hole.radix.0 radix.0 (header_is taken)
+              (subst (λ o. IfSome o (λ node. node.prefix ≡ headers.header_of P radix.0)) (sym there) prefix)
+              ∙ ap₂ (λ (inners : Inners) (b : ℕ). change inners (as_inner other) (with_header (headers.header_of P (two.hole.radix.0 ++ b ∷ radix.0)))) removed (byte_is taken)
+              ∙ ap (λ z. change (remove s.inners (as_inner at.frame.mark)) (as_inner z) (with_header (headers.header_of P (two.hole.radix.0 ++ two.c ∷ radix.0)))) is
 
     above_is : (k : OpaqueNodePtr) → IsParent at.above k → get lengthened_inners (as_inner k) ≡ get s.inners (as_inner k)
     unfolding lengthened_inners is_compressed_at is_compressed_to
@@ -360,37 +356,19 @@ module _ {K V : Type 0} {bytes : K × V → List ℕ} {P : ℕ} {s : Nodes K V} 
 
     -- ---- what is done
 
-    module _ (t : Nodes K V) (path : TreePath) (other : OpaqueNodePtr) (inners : Inners)
-        (leaves : IsSomeAnd (get s.leaves point.leaf_node_ptr) (λ leaf. t.leaves ≡ without_leaf s.leaves point.leaf_node_ptr leaf))
-        (path_up : path ≡ up point.path) (is : other ≡ name_of two.v) (lengthened : inners ≡ lengthened_inners) (written : t.inners ≡ with_child_at (last_step path) other inners) where
-      done : Compressed bytes P s t at.above two.place at.frame.mark at.frame.header at.frame.left at.frame.right at.frame.byte point.leaf_node_ptr at.node two.c two.v
-      done = is_compressed_to t (rw at.here at leaves) (written ∙
+    module _ {w t : Nodes K V} {path : TreePath} {other new : OpaqueNodePtr} {inners : Inners} {done : DeleteResult K V}
+        (leaves : w.leaves ≡ s.leaves) (path_up : path ≡ up point.path) (is : other ≡ name_of two.v) (lengthened : inners ≡ lengthened_inners)
+        (written : w.inners ≡ with_child_at (last_step path) other inners) (taken : IsLeafTaken w t point (Some new) done) where
+      is_compressed_now : Compressed bytes P s t at.above two.place at.frame.mark at.frame.header at.frame.left at.frame.right at.frame.byte point.leaf_node_ptr at.node two.c two.v
+      is_compressed_now = is_compressed_to t (taken_since s leaves at.here taken).0 (taken.inners ∙ written ∙
           ap (λ o. with_child_at o other inners) (ap last_step (path_up ∙ ap up at.path_is) ∙ last_step-up at.frame at.above) ∙ ap₂ (with_child_at (parent_of at.above)) is lengthened)
 
-      -- two names are freed, and at most four are changed
-      pub two_touches : parent_change s point.path ≡ is_compressed → TouchesFor (parent_change s point.path) s t
-      two_touches told = subst (λ change. TouchesFor change s t) (sym told) (compressed_touches at.below.laid done)
-
       -- the tree without the leaf
-      pub two_deleted : {gone : LeafNode K V} (new_root : OpaqueNodePtr) → parent_change s point.path ≡ is_compressed →
-          IsSomeAnd (get s.leaves point.leaf_node_ptr) (λ leaf. gone ≡ alone (leaf.key, leaf.value)) → new_root ≡ root_with path root other →
-          IsDeleted bytes P s t root point x pairs layout (record { new_root = Some new_root; deleted_leaf = gone })
-      unfolding done is_compressed_to
-      two_deleted {gone} new_root told pair root_is =
-          let same : new_root ≡ paths.root_with at.above root (name_of two.v) =
-          root_is ∙ ap₂ (λ q k. root_with q root k) (path_up ∙ ap up at.path_is) is ∙ root_with-up at.frame at.above root (name_of two.v) in
-          let tree = plug at.above (with_prefix P (two.hole.radix.0 ++ two.c ∷ prefix_at bytes P ((two.place ++ two.hole.radix.0) ++ two.c ∷ []) two.v left_radix) two.v) in
-          record {
-            tree = Some tree;
-            canonical =
-                subst (λ r. IsCanonicalTree bytes P t r (remove_key bytes (bytes x) pairs) tree) (sym same)
-                (subst (λ y. IsCanonicalTree bytes P t (paths.root_with at.above root (name_of two.v)) (remove_key bytes (bytes y) pairs) tree)
-                at.pair (canonical_from (compressed at.below.laid done)));
-            deleted = rw at.here at pair ∙ ap alone at.pair;
-            root_is =
-                subst (λ change. IsRootAfter change point.path root (Some new_root)) (sym told)
-                (subst (λ q. IsRootAfter is_compressed q root (Some new_root)) (sym at.path_is)
-                (subst (λ r. IsRootAfter is_compressed (path_of (at.frame ∷ at.above)) root (Some r)) (sym same)
-                (root_after_at at.frame is_compressed at.above root (name_of two.v) (λ e. absurd cc))));
-            kept = subst (λ old. ChangesInPlace bytes s t (Some old) (Some tree)) at.whole (compressed_in_place at.below.laid done);
-          }
+      pub two_deleted : parent_change s point.path ≡ is_compressed → new ≡ root_with path root other → IsDeleted bytes P s t root point x pairs layout done
+      unfolding is_compressed_now is_compressed_to
+      two_deleted told named =
+          deleted_below at leaves taken (name_of two.v)
+          (plug at.above (with_prefix P (two.hole.radix.0 ++ two.c ∷ prefix_at bytes P ((two.place ++ two.hole.radix.0) ++ two.c ∷ []) two.v left_radix) two.v)) is_compressed told
+          (named ∙ ap₂ (λ q k. root_with q root k) (path_up ∙ ap up at.path_is) is ∙ root_with-up at.frame at.above root (name_of two.v))
+          (root_after_at at.frame is_compressed at.above root (name_of two.v) (λ e. absurd cc))
+          (compressed at.below.laid is_compressed_now) (compressed_in_place at.below.laid is_compressed_now) (compressed_touches at.below.laid is_compressed_now)

@@ -10,8 +10,7 @@ use Rattle.art_parts.specs.declared.names.LeafPtr.{LeafPtr}
 use Rattle.art_parts.specs.declared.names.OpaqueNodePtr.{OpaqueNodePtr}
 use Rattle.art_model.specs.Canonical.{IsCanonicalTree}
 use Rattle.art_model.specs.Kept.{ChangesInPlace}
-use Rattle.art_model.specs.Layouts.{Holds}
-use Rattle.art_model.specs.Paths.{Frame, plug}
+use Rattle.art_model.specs.Paths.{plug}
 use Rattle.art_model.specs.Roots.{ForTree}
 use Rattle.art_model.specs.Stores.{node_at, links_at, pair_of}
 use Rattle.art_model.specs.Trees.{Tree, leaf}
@@ -19,74 +18,49 @@ use Rattle.art_model.specs.Writes.{parent_of}
 use Rattle.art_model.proofs.Canonical.{IsLaidOut, laid_out, canonical_from}
 use Rattle.art_model.proofs.IntoLeaf.{IntoLeaf, leaf_inserted, leaf_insertion_kept, leaf_reply, leaf_stored_for, leaf_touches}
 use Rattle.art_model.proofs.Paths.{IsHole}
-use Rattle.art_model.proofs.Stores.{path_holds}
-use Rattle.art_model.proofs.Views as views
 use Rattle.art_writing.specs.declared.insert.InsertKind.TheVariants.{Exact}
 use Rattle.art_writing.specs.declared.insert.InsertParentNodeChange.TheVariants.{NoChange}
 use Rattle.art_writing.specs.declared.insert.InsertPoint.{InsertPoint}
 use Rattle.art_writing.specs.Inserted.{HasInserted, IsChange, IsInserted, IsPointIn, Touches, alone}
 use Rattle.art_writing.specs.Points.{IsKindOf}
-use Rattle.art_writing.proofs.Answered.{answered}
+use Rattle.art_writing.proofs.Answered.{IsEndLeaf, end_leaf}
+use Rattle.art_writing.proofs.Standing.{answers_to}
 
 -- the leaf of a key, at the end of a path of the layout
 pub record IsOwnLeaf {K V : Type 0} (bytes : K × V → List ℕ) (P : ℕ) (s : Nodes K V) (p : LeafPtr) (layout : Tree OpaqueNodePtr (K × V)) (key : List ℕ) : Type 0 where
-  pub path : List (Frame OpaqueNodePtr (K × V))
-  pub shown : LeafNode K V
-  pub place : List ℕ
-  pub whole : plug path (leaf (leaf_name p) (pair_of shown)) ≡ layout
-  pub hole : IsHole bytes P path place (leaf (leaf_name p) (pair_of shown)) key
-  pub there : map.get s.leaves p ≡ Some shown
-  pub same : bytes (pair_of shown) ≡ key
+  pub at : IsEndLeaf bytes P s p layout key
+  pub same : bytes (pair_of at.shown) ≡ key
 
 module _ {K V : Type 0} {bytes : K × V → List ℕ} {P : ℕ} {s : Nodes K V} {point : InsertPoint} {p : LeafPtr} {pairs : List (K × V)} {layout : Tree OpaqueNodePtr (K × V)} where
   -- it is there where a point names it
   pub own_leaf : {key : List ℕ} → IsPointIn bytes P s key point → point.insert_kind ≡ Exact p → IsCanonicalTree bytes P s point.root pairs layout → IsOwnLeaf bytes P s p layout key
   own_leaf {key} answers exact by =
-      let a = answered answers by in
-      let (used, (pair, is, (same, equal))) = subst (IsKindOf bytes P key a.answers.node _ _) exact a.answers.kind_is in
-      let whole : plug a.answers.path (leaf (leaf_name p) pair) ≡ layout = ap (plug a.answers.path) (sym is) ∙ a.answers.is_end.whole in
-      let (shown, there, own) = views.leaf_there s p pair (path_holds (node_at s) a.answers.path (leaf (leaf_name p) pair) (subst (Holds (node_at s)) (sym whole) by.stands.0.holds)).1 in
-      record {
-        path = a.answers.path;
-        shown = shown;
-        place = a.place;
-        whole = ap (λ z. plug a.answers.path (leaf (leaf_name p) z)) own ∙ whole;
-        hole = subst (λ z. IsHole bytes P a.answers.path a.place z key) (is ∙ ap (leaf (leaf_name p)) (sym own)) a.hole;
-        there = there;
-        same = ap bytes own ∙ equal;
-      }
+      let answers_at = answers_to answers by in
+      let (used, (pair, is, (same, equal))) = subst (IsKindOf bytes P key answers_at.node _ _) exact answers_at.kind_is in
+      let (at, own) = end_leaf by answers_at.is_end is in
+      record { at = at; same = ap bytes own ∙ equal }
 
 module _ {K V : Type 0} {bytes : K × V → List ℕ} {P : ℕ} {s : Nodes K V} {point : InsertPoint} {p : LeafPtr} (new : K × V)
     (answers : IsPointIn bytes P s (bytes new) point) (exact : point.insert_kind ≡ Exact p) where
   -- the leaf is there
   pub own_leaf_there : IsSome (map.get s.leaves p)
-  own_leaf_there =
-      let (pairs, layout, by, own) = answers in
-      let l = own_leaf answers exact by in
-      rw l.there refl
+  own_leaf_there = let (pairs, layout, by, own) = answers in rw (own_leaf answers exact by).at.there refl
 
   module _ (by_key : (k : K) (v w : V) → bytes (k, v) ≡ bytes (k, w)) (t : Nodes K V) (leaves : t.leaves ≡ change s.leaves p (with_value new.1)) (inners : t.inners ≡ s.inners) where
     -- the stored key has the bytes of the new one
-    alike : {layout : Tree OpaqueNodePtr (K × V)} (l : IsOwnLeaf bytes P s p layout (bytes new)) → bytes (l.shown.key, new.1) ≡ bytes new
-    alike l = by_key l.shown.key new.1 l.shown.value ∙ l.same
+    alike : {layout : Tree OpaqueNodePtr (K × V)} (l : IsOwnLeaf bytes P s p layout (bytes new)) → bytes (l.at.shown.key, new.1) ≡ bytes new
+    alike l = by_key l.at.shown.key new.1 l.at.shown.value ∙ l.same
 
     -- the leaf has its key and the new value
-    into_leaf : {layout : Tree OpaqueNodePtr (K × V)} (l : IsOwnLeaf bytes P s p layout (bytes new)) → IntoLeaf bytes P s t l.path l.place p l.shown (l.shown.key, new.1)
+    into_leaf : {layout : Tree OpaqueNodePtr (K × V)} (l : IsOwnLeaf bytes P s p layout (bytes new)) → IntoLeaf bytes P s t l.at.path l.at.place p l.at.shown (l.at.shown.key, new.1)
     into_leaf l = record {
-      hole = subst (IsHole bytes P l.path l.place (leaf (leaf_name p) (pair_of l.shown))) (sym (alike l)) l.hole;
-      here = l.there;
+      hole = subst (IsHole bytes P l.at.path l.at.place (leaf (leaf_name p) (pair_of l.at.shown))) (sym (alike l)) l.at.hole;
+      here = l.at.there;
       write = with_value new.1;
       written = refl;
       leaves = leaves;
       inners = inners;
     }
-
-    -- one leaf is changed
-    pub own_leaf_touches : Touches point.insert_kind s t
-    own_leaf_touches =
-        let (pairs, layout, by, own) = answers in
-        let l = own_leaf answers exact by in
-        subst (λ kind. Touches kind s t) (sym exact) (leaf_touches (subst (IsLaidOut bytes P (node_at s) (links_at s) point.root pairs) (sym l.whole) (laid_out by)) (into_leaf l))
 
     -- the value is in, and the old one is answered with the key that was handed in
     pub value_replaced : (swapped : V) (existing : LeafNode K V) → IfSome (map.get s.leaves p) (λ leaf. swapped ≡ leaf.value) → existing ≡ alone (new.0, swapped) →
@@ -95,15 +69,16 @@ module _ {K V : Type 0} {bytes : K × V → List ℕ} {P : ℕ} {s : Nodes K V} 
     value_replaced swapped existing value is pairs layout by =
         let l = own_leaf answers exact by in
         let into = into_leaf l in
-        let old = subst (IsLaidOut bytes P (node_at s) (links_at s) point.root pairs) (sym l.whole) (laid_out by) in
-        let went : swapped ≡ l.shown.value = subst (λ o. IfSome o (λ leaf. swapped ≡ leaf.value)) l.there value in
-        let tree = plug l.path (leaf (leaf_name p) (l.shown.key, new.1)) in
+        let old = subst (IsLaidOut bytes P (node_at s) (links_at s) point.root pairs) (sym l.at.whole) (laid_out by) in
+        let went : swapped ≡ l.at.shown.value = subst (λ o. IfSome o (λ leaf. swapped ≡ leaf.value)) l.at.there value in
+        let tree = plug l.at.path (leaf (leaf_name p) (l.at.shown.key, new.1)) in
         record {
           tree = tree;
           canonical = canonical_from (leaf_inserted old into new l.same (alike l) refl);
           inserted = subst (λ x. HasInserted tree point x (record { leaf_node_ptr = p; existing_leaf = Some existing; new_root = point.root; parent_node_change = NoChange }))
               (sym (leaf_stored_for old into new l.same (alike l) refl))
-              (record { path = l.path; whole = refl; change = subst (λ kind. IsChange kind (parent_of l.path) NoChange) (sym exact) refl; root = refl });
+              (record { path = l.at.path; whole = refl; change = subst (λ kind. IsChange kind (parent_of l.at.path) NoChange) (sym exact) refl; root = refl });
           replaced = ap Some (is ∙ ap (λ v. alone (new.0, v)) went) ∙ ap (option_map alone) (sym (leaf_reply old into new l.same (alike l) refl));
-          kept = subst (λ z. ChangesInPlace bytes s t (Some z) (Some tree)) l.whole (leaf_insertion_kept old into new l.same (alike l) refl);
+          kept = subst (λ z. ChangesInPlace bytes s t (Some z) (Some tree)) l.at.whole (leaf_insertion_kept old into new l.same (alike l) refl);
+          touches = subst (λ kind. Touches kind s t) (sym exact) (leaf_touches old into);
         }

@@ -1,6 +1,7 @@
 -- what is reserved for a leaf and an inner node, and what is left of it
-use Rattle.std.proofs.Common.{◌≡◌, ℕ, zero, suc, ◌<◌, Bool, true, false, ◌&&◌, IsTrue, IsFalse, Option, Some, None, Result, Ok, Err, OnOk, is_err, refl, ap, ◌∙◌, leb, arith, eq-eqb}
+use Rattle.std.proofs.Common.{◌≡◌, ℕ, zero, suc, ◌<◌, Bool, true, false, ◌&&◌, IsTrue, IsFalse, Option, Some, None, Result, Ok, Err, OnOk, is_err, is_some, refl, ap, ◌∙◌, subst, leb, arith, eq-eqb}
 use Rattle.std.proofs.lemmas.Bool.{leb-true}
+use Rattle.std.proofs.lemmas.Grind.{common_steps}
 use Rattle.art_nodes.specs.Nodes.{Nodes, Promise, covers, promises, take_leaf}
 use Rattle.art_parts.specs.Kinds.{kind_index}
 use Rattle.art_parts.specs.declared.names.NodeType.{NodeType}
@@ -32,10 +33,25 @@ module _ (promise : Promise) where
       go zero e = let l = leaf_promised (Some kind) h in absurd (omega arith)
       go (suc n) e = rw e (covered_inner 1 kind h)
 
--- what is left of a promise that was reserved, or was there
-pub after_reserve : {K V : Type 0} (s r : Nodes K V) (o : Option NodeType) → (IsTrue (covers s.promise 1 o) → r ≡ s) → (IsFalse (covers s.promise 1 o) → r.promise ≡ record { leaves = 1; inner = o }) →
-    inner_taken o (take_leaf r.promise) ≡ promise_after (record { leaves = 1; inner = o }) s.promise
-after_reserve s r o kept granted = go (covers s.promise 1 o) refl
+-- nothing was asked for
+pub is_none : {X : Type 0} (o : Option X) → is_some o ≡ false → o ≡ None
+is_none None e = refl
+is_none (Some x) e = absurd cc
+
+-- where nothing is placed the promise stays
+pub nothing_after : (promise : Promise) → promise_after (record { leaves = 0; inner = None }) promise ≡ promise
+nothing_after promise = grind (arith, common_steps)
+
+-- what holds where a call was not refused
+pub not_refused : {X E Q : Type 0} (r : Result X E) → is_err r ≡ false → OnOk r Q → Q
+not_refused (Ok x) e h = h
+not_refused (Err y) e h = absurd cc
+
+-- what is left of a promise when the leaf and the inner node that were reserved for are placed
+pub after_reserve : {K V Y E : Type 0} (s r : Nodes K V) (o : Option NodeType) {placed : Promise} (reserved : Result Y E) → is_err reserved ≡ false → (IsTrue (covers s.promise 1 o) → r ≡ s) →
+    (IsFalse (covers s.promise 1 o) → OnOk reserved (r.promise ≡ record { leaves = 1; inner = o })) → record { leaves = 1; inner = o } ≡ placed →
+    inner_taken o (take_leaf r.promise) ≡ promise_after placed s.promise
+after_reserve s r o reserved ok kept granted placed_is = subst (λ p. inner_taken o (take_leaf r.promise) ≡ promise_after p s.promise) placed_is (go (covers s.promise 1 o) refl)
   where
     all_taken : (p : Option NodeType) → inner_taken p (take_leaf (record { leaves = 1; inner = p })) ≡ record { leaves = 0; inner = None }
     all_taken None = refl
@@ -43,9 +59,4 @@ after_reserve s r o kept granted = go (covers s.promise 1 o) refl
 
     go : (t : Bool) → covers s.promise 1 o ≡ t → inner_taken o (take_leaf r.promise) ≡ promise_after (record { leaves = 1; inner = o }) s.promise
     go true e = rw e (ap (λ (z : Nodes _ _). inner_taken o (take_leaf z.promise)) (kept e))
-    go false e = rw e (ap (λ z. inner_taken o (take_leaf z)) (granted e) ∙ all_taken o)
-
--- what holds where a call was not refused
-pub not_refused : {X E Q : Type 0} (r : Result X E) → is_err r ≡ false → OnOk r Q → Q
-not_refused (Ok x) e h = h
-not_refused (Err y) e h = absurd cc
+    go false e = rw e (ap (λ z. inner_taken o (take_leaf z)) (not_refused reserved ok (granted e)) ∙ all_taken o)

@@ -28,7 +28,10 @@ use Rattle.art_model.proofs.Inserted.{BranchInserted}
 use Rattle.art_model.proofs.Places.{prefix_is}
 use Rattle.art_model.proofs.Stores.{IsParent, path_holds, parent_apart}
 use Rattle.art_model.proofs.Touches.{Touched, touched_none}
+use Rattle.art_writing.specs.declared.insert.InsertKind.{InsertKind}
 use Rattle.art_writing.specs.declared.insert.InsertKind.TheVariants.{SplitLeaf, MismatchPrefix}
+use Rattle.art_writing.specs.declared.insert.InsertParentNodeChange.{InsertParentNodeChange}
+use Rattle.art_writing.specs.declared.insert.InsertParentNodeChange.TheVariants.{NewParent}
 use Rattle.art_writing.specs.declared.insert.InsertPoint.{InsertPoint}
 use Rattle.art_writing.specs.declared.insert.InsertResult.{InsertResult}
 use Rattle.art_writing.specs.declared.insert.branch.Branch.{Branch}
@@ -80,22 +83,30 @@ module _ {K V : Type 0} {bytes : K × V → List ℕ} {P : ℕ} {s : Nodes K V} 
     {layout : Tree OpaqueNodePtr (K × V)} {pair : K × V} (by : IsCanonicalTree bytes P s point.root pairs layout)
     (at : AnswersTo bytes P layout (bytes pair) point) {branch : Branch P} (is : IsBranch bytes (bytes pair) at.path at.node branch)
     {mid t : Nodes K V} {done : InsertResult K V} where
+  -- a split of this kind inserts the pair and tells of the parent
+  split_done : {k : InsertKind} → point.insert_kind ≡ k →
+      ((parent : InnerPtr × ℕ) (told : InsertParentNodeChange) → told ≡ NewParent parent.0 parent.1 → IsChange k (Some parent) told) →
+      {old : OpaqueNodePtr} (placed : IsBranchPlaced mid t point old branch pair done) {u : Tree OpaqueNodePtr (K × V)} →
+      BranchInserted bytes P (node_at s) (node_at t) (links_at s) (links_at t) at.path (take (depth_of at.path) (bytes pair)) at.node u
+      (inner_name placed.node) (leaf_name done.leaf_node_ptr) is.part branch.old_byte branch.new_byte pair →
+      {touched : List InnerPtr} → BranchStored bytes P s t at.path (take (depth_of at.path) (bytes pair)) at.node placed.node done.leaf_node_ptr
+      is.part branch.old_byte branch.new_byte (record { key = pair.0; value = pair.1; previous = branch.previous; next = branch.next }) mid.inners touched →
+      Touches k s t → IsInserted bytes P s t point pair pairs layout done
+  split_done kind tells placed new stored few =
+      branch_done by at is placed new (λ parent told e. subst (λ k. IsChange k (Some parent) told) (sym kind) (tells parent told e)) stored (subst (λ k. Touches k s t) (sym kind) few)
+
   module _ {p : LeafPtr} {used : ℕ} (kind : point.insert_kind ≡ SplitLeaf p used) {old : OpaqueNodePtr} (named : old ≡ leaf_name p)
       (same : SameNodes s mid) (placed : IsBranchPlaced mid t point old branch pair done) where
     leaf_stored : BranchStored bytes P s t at.path (take (depth_of at.path) (bytes pair)) at.node placed.node done.leaf_node_ptr is.part
         branch.old_byte branch.new_byte (record { key = pair.0; value = pair.1; previous = branch.previous; next = branch.next }) mid.inners []
     leaf_stored = branch_stored by at is placed same.0 (subst (λ z. Touched s.inners z [] [] []) (sym same.1) (touched_none s.inners)) tt (λ k i. absurd i) (leaf_named by at kind ∙ sym named)
 
-    -- the pair is inserted
+    -- the pair is inserted; two names are placed, and at most three are changed
     pub leaf_split : IsInserted bytes P s t point pair pairs layout done
     leaf_split =
         let (y, found) = leaf_found by at kind in
-        branch_done by at is placed (leaf_inserted (leaf_name p) y at.node found (end_laid by at) leaf_stored is.old_way)
-        (λ parent told e. subst (λ k. IsChange k (Some parent) told) (sym kind) e) leaf_stored
-
-    -- two names are placed, and at most three are changed
-    pub leaf_split_touches : Touches point.insert_kind s t
-    leaf_split_touches = subst (λ k. Touches k s t) (sym kind) (branch_touches (end_laid by at) leaf_stored 3 (omega arith))
+        split_done kind (λ parent told e. e) placed (leaf_inserted (leaf_name p) y at.node found (end_laid by at) leaf_stored is.old_way) leaf_stored
+        (branch_touches (end_laid by at) leaf_stored 3 (omega arith))
 
   module _ {p : InnerPtr} {mismatch : ExplicitMismatch} (kind : point.insert_kind ≡ MismatchPrefix mismatch p) {old : OpaqueNodePtr}
       (named : old ≡ inner_name p) {header : Prefix} (leaves : mid.leaves ≡ s.leaves) (inners : mid.inners ≡ change s.inners p (with_header header))
@@ -133,16 +144,12 @@ module _ {K V : Type 0} {bytes : K × V → List ℕ} {P : ℕ} {s : Nodes K V} 
         prefix_parts prefix is.part more after branch.old_byte both (subst (λ n. n < length prefix) (sym count) (prefix_inside by at kind)) ∙
         ap (λ n. is.part ++ branch.old_byte ∷ drop (n + 1) prefix) count
 
-    -- the pair is inserted
+    -- the pair is inserted; two names are placed, and at most four are changed
     pub prefix_split : IsInserted bytes P s t point pair pairs layout done
     prefix_split =
         let (h, cs, found) = inner_found by at kind in
-        branch_done by at is placed (prefix_inserted (inner_name p) h cs rest written at.node found (end_laid by at) prefix_stored prefix_rest)
-        (λ parent told e. subst (λ k. IsChange k (Some parent) told) (sym kind) e) prefix_stored
-
-    -- two names are placed, and at most four are changed
-    pub prefix_split_touches : Touches point.insert_kind s t
-    prefix_split_touches = subst (λ k. Touches k s t) (sym kind) (branch_touches (end_laid by at) prefix_stored 4 (omega arith))
+        split_done kind (λ parent told e. e) placed (prefix_inserted (inner_name p) h cs rest written at.node found (end_laid by at) prefix_stored prefix_rest) prefix_stored
+        (branch_touches (end_laid by at) prefix_stored 4 (omega arith))
 
 -- the header of a node is written
 module _ {K V : Type 0} {bytes : K × V → List ℕ} {P : ℕ} {s : Nodes K V} {key : List ℕ} {point : InsertPoint} {pairs : List (K × V)}

@@ -1,5 +1,5 @@
 -- the way down with a key to its end node
-use Rattle.std.proofs.Common.{◌≡◌, ◌≢◌, ℕ, ◌+◌, ◌-◌, ◌<◌, ◌≤◌, List, [], ◌∷◌, ◌++◌, length, drop, get_or, refl, ap, sym, ◌∙◌, arith, subst, append_assoc, append-nil, length-append, length-drop, Option, Some, None, Ok, true, false}
+use Rattle.std.proofs.Common.{◌≡◌, ◌≢◌, ℕ, ◌+◌, ◌-◌, ◌<◌, ◌≤◌, List, [], ◌∷◌, ◌++◌, length, drop, get_or, refl, ap, sym, ◌∙◌, arith, subst, append_assoc, append-nil, length-append, length-drop, Option, Some, None, Ok, Err, true, false}
 use Rattle.std.specs.List.{AllByRecursion as Each}
 use Rattle.std.specs.FinMap as map
 use Rattle.std.proofs.lemmas.Bool.{eq-eqb, ne_eqb}
@@ -31,8 +31,10 @@ use Rattle.art_model.proofs.Places.{place_is, prefix_is, beside, deeper}
 use Rattle.art_model.proofs.PlaceLaws.{depth_is, ends_at}
 use Rattle.art_model.proofs.Rebuild.{radix_way, radix_below, radix_some}
 use Rattle.art_model.proofs.OnWay.{AreAside, aside_others, aside_off, aside_end, child_under, no_child_under, front_byte}
-use Rattle.art_model.proofs.Shown.{IsShown, no_leaf_gone, leaf_shown, no_inner_gone, inner_shown}
+use Rattle.art_model.proofs.Shown.{IsShown, IsThere, leaf_shown, leaf_met, inner_met, shown_met}
 use Rattle.art_model.proofs.Stores.{path_holds}
+use Rattle.art_model.specs.Roots.{ForTree, IsCanonicalRoot}
+use Rattle.art_writing.specs.declared.insert.Spot.{Spot}
 use Rattle.art_writing.specs.declared.insert.InsertKind.{InsertKind}
 use Rattle.art_writing.specs.declared.insert.InsertKind.TheVariants.{MismatchPrefix, SplitLeaf, Exact, IntoExisting}
 use Rattle.art_reading.specs.declared.path.ExplicitMismatch.{ExplicitMismatch}
@@ -47,14 +49,14 @@ use Rattle.art_writing.proofs.Partings.{parted_unrelated, unrelated_after, confl
 
 -- as much of the key was used as it has
 module _ {A : Type 0} (bytes : A → List ℕ) (P : ℕ) (key : List ℕ) (node : Tree OpaqueNodePtr A) {depth : ℕ} (short : depth ≤ length key) where
-  pub prefix_inside : {match : PrefixMatch} → IsCompared bytes P key node depth (Ok match) → depth + match.matched_bytes ≤ length key
+  prefix_inside : {match : PrefixMatch} → IsCompared bytes P key node depth (Ok match) → depth + match.matched_bytes ≤ length key
   prefix_inside c =
       let m = c.0 in
       let l = ap length c.1.1 in
       let k = length-drop depth key in
       omega (arith, simp length-append at l)
 
-  pub mismatch_inside : {m : ExplicitMismatch} → IsMismatch bytes P key node depth m → depth + m.matched_bytes ≤ length key
+  mismatch_inside : {m : ExplicitMismatch} → IsMismatch bytes P key node depth m → depth + m.matched_bytes ≤ length key
   mismatch_inside {m} c =
       let (r, e) = common_front_right (prefix_of bytes depth node) (drop depth key) in
       let q = c.matched in
@@ -78,15 +80,25 @@ module _ {K V : Type 0} {s : Nodes K V} {bytes : K × V → List ℕ} {P : ℕ} 
         let n = d.depth_is in
         omega (arith, simp length-append at l)
 
+    -- and so long is what was compared of it
+    prefix_used : {match : PrefixMatch} → IsCompared bytes P key d.node depth (Ok match) → depth + match.matched_bytes ≤ length key
+    prefix_used c = prefix_inside bytes P key d.node inside c
+
+    mismatch_used : {m : ExplicitMismatch} → IsMismatch bytes P key d.node depth m → depth + m.matched_bytes ≤ length key
+    mismatch_used c = mismatch_inside bytes P key d.node inside c
+
     -- the names on the way are there
+    node_there : IsThere s d.node name
+    node_there = record { named = d.named; holds = holds }
+
     pub leaf_there : {p : LeafPtr} → leaf_name p ≡ name → None ≡ map.get s.leaves p → ⊥
-    leaf_there {p} is gone = no_leaf_gone s p d.node (d.named ∙ sym is) holds gone
+    leaf_there = leaf_met node_there
 
     pub inner_there : {p : InnerPtr} → p.kind ≢ Leaf → inner_name p ≡ name → None ≡ map.get s.inners p → ⊥
-    inner_there {p} proper is gone = no_inner_gone s p proper d.node (d.named ∙ sym is) holds gone
+    inner_there = inner_met node_there
 
     pub shown_there : {p : InnerPtr} {shown : Inner} → p.kind ≢ Leaf → inner_name p ≡ name → Some shown ≡ map.get s.inners p → IsShown d.node p shown
-    shown_there {p} {shown} proper is there = inner_shown s p proper d.node (d.named ∙ sym is) holds shown there
+    shown_there = shown_met node_there
 
     -- the node that the store shows under an inner name on the way
     pub some_shown : {p : InnerPtr} → p.kind ≢ Leaf → inner_name p ≡ name → (shown : Inner) × IsShown d.node p shown
@@ -383,3 +395,14 @@ module _ {K V : Type 0} {s : Nodes K V} {bytes : K × V → List ℕ} {P : ℕ} 
                 (aside_off front key at.children (λ f. let t = parted_unrelated parts_at in let r = front_related front key f in absurd cc)))
                 (refl, (header_at p.kind shown, at.children, at.is, c, long)),
           )
+
+-- what was compared of the key at a spot is no more than the key has
+module _ {K V : Type 0} {s : Nodes K V} {bytes : K × V → List ℕ} {P : ℕ} {root : OpaqueNodePtr} {key : List ℕ} {spot : Spot} {part : OpaqueNodePtr}
+    (canonical : IsCanonicalRoot bytes P s root) (at : ForTree bytes P s root (λ pairs layout. IsAt bytes P key layout spot)) (is : part ≡ spot.name) where
+  pub prefix_fits : {match : PrefixMatch} → ((node : Tree OpaqueNodePtr (K × V)) → IsPart bytes P s part spot.depth node → IsCompared bytes P key node spot.depth (Ok match)) →
+      spot.depth + match.matched_bytes ≤ length key
+  prefix_fits compared = let (pairs, layout, by) = canonical in let d = at pairs layout by in prefix_used by d (compared d.node (part_there by d is))
+
+  pub mismatch_fits : {m : ExplicitMismatch} → ((node : Tree OpaqueNodePtr (K × V)) → IsPart bytes P s part spot.depth node → IsCompared bytes P key node spot.depth (Err m)) →
+      spot.depth + m.matched_bytes ≤ length key
+  mismatch_fits compared = let (pairs, layout, by) = canonical in let d = at pairs layout by in mismatch_used by d (compared d.node (part_there by d is))

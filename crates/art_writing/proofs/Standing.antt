@@ -8,10 +8,11 @@ use Rattle.art_model.specs.Trees.{Tree}
 use Rattle.art_model.proofs.StoreLaws.{has_one_map}
 use Rattle.art_writing.proofs.Elsewhere as elsewhere
 use Rattle.art_writing.specs.Inserted.{IsPointIn}
-use Rattle.art_writing.specs.Overwritten.{IsPrefixPointIn, root_of}
-use Rattle.art_writing.specs.Points.{AnswersTo, IsPointFor}
+use Rattle.art_writing.specs.Overwritten.{IsOverwritePointIn, IsPrefixPointIn, root_of}
+use Rattle.art_writing.specs.Points.{AnswersTo, AnswersToOverwrite, IsPointFor}
 use Rattle.art_writing.specs.Writes.{SameNodes}
 use Rattle.art_writing.specs.declared.insert.InsertPoint.{InsertPoint}
+use Rattle.art_writing.specs.declared.insert.OverwritePoint.{OverwritePoint}
 use Rattle.art_writing.specs.declared.insert.PrefixInsertPoint.{PrefixInsertPoint}
 use Rattle.art_writing.specs.declared.insert.PrefixInsertPoint.TheVariants as points
 
@@ -25,6 +26,16 @@ module _ {K V : Type 0} {bytes : K × V → List ℕ} {P : ℕ} {s : Nodes K V} 
   pub answers_to : {key : List ℕ} {point : InsertPoint} {pairs : List (K × V)} {layout : Tree OpaqueNodePtr (K × V)} → IsPointIn bytes P s key point →
       IsCanonicalTree bytes P s point.root pairs layout → AnswersTo bytes P layout key point
   answers_to {key} {point} {pairs} {layout} (others, other, by, at) mine = subst (λ l. AnswersTo bytes P l key point) (has_one_map bytes P s point.root pairs others layout other mine by).1 at
+
+  -- and one of the other kind does
+  pub overwrite_answers_to : {key : List ℕ} {point : OverwritePoint} {pairs : List (K × V)} {layout : Tree OpaqueNodePtr (K × V)} → IsOverwritePointIn bytes P s key point →
+      IsCanonicalTree bytes P s point.root pairs layout → AnswersToOverwrite bytes layout key point
+  overwrite_answers_to {key} {point} {pairs} {layout} (others, other, by, at) mine =
+      subst (λ l. AnswersToOverwrite bytes l key point) (has_one_map bytes P s point.root pairs others layout other mine by).1 at
+
+  -- a point is one in such a store
+  pub point_stays : {mid : Nodes K V} {text key : List ℕ} {point : InsertPoint} → SameNodes s mid → text ≡ key → IsPointIn bytes P s key point → IsPointIn bytes P mid text point
+  point_stays {point = point} same text_is (pairs, layout, by, at) = (pairs, layout, tree_stays same by, subst (λ k. AnswersTo bytes P layout k point) (sym text_is) at)
 
   -- a point that was found for a root is one in the store
   pub point_in : {root : OpaqueNodePtr} {text key : List ℕ} {point : InsertPoint} {pairs : List (K × V)} {layout : Tree OpaqueNodePtr (K × V)} →

@@ -53,12 +53,15 @@ module _ {K V : Type 0} {bytes : K × V → List ℕ} {P : ℕ} {s : Nodes K V} 
     trim_inside = let l = len_of_header P prefix old own in let inside = prefix_inside by at kind in omega arith
 
     -- without a leaf the prefix is stored whole
-    pub trim_whole : mismatch.leaf_ptr ≡ None → old.len ≤ P
-    trim_whole none = let l = len_of_header P prefix old own in let short : length prefix ≤ P = subst (IsLeafForPrefix P prefix at.node) none (inner_least by at kind) in omega arith
+    stored_whole : mismatch.leaf_ptr ≡ None → old.len ≤ P
+    stored_whole none = let l = len_of_header P prefix old own in let short : length prefix ≤ P = subst (IsLeafForPrefix P prefix at.node) none (inner_least by at kind) in omega arith
+
+    pub trim_whole : mismatch.leaf_ptr ≡ None → (mismatch.matched_bytes + 1 ≤ old.len) × (old.len ≤ P)
+    trim_whole none = (trim_inside, stored_whole none)
 
     pub trim_stored : {new : Prefix} → mismatch.leaf_ptr ≡ None → new.len ≡ old.len - (mismatch.matched_bytes + 1) →
         new.stored ≡ drop (mismatch.matched_bytes + 1) old.stored → new ≡ header_of P (drop (mismatch.matched_bytes + 1) prefix)
-    trim_stored {new} none len stored = trimmed_header P (mismatch.matched_bytes + 1) prefix old new own (trim_whole none) len stored
+    trim_stored {new} none len stored = trimmed_header P (mismatch.matched_bytes + 1) prefix old new own (stored_whole none) len stored
 
     -- else it is read from the least leaf
     module _ {q : LeafPtr} (some : mismatch.leaf_ptr ≡ Some q) where
@@ -69,13 +72,13 @@ module _ {K V : Type 0} {bytes : K × V → List ℕ} {P : ℕ} {s : Nodes K V} 
       least_gone gone = prefixes.no_leaf_gone part proper there first gone
 
       module _ {l : LeafNode K V} (leaf_there : Some l ≡ get s.leaves q) {text : List ℕ} (text_is : text ≡ bytes (pair_of l)) where
-        pub trim_given : point.key_bytes_used + old.len ≤ length text
+        pub trim_given : (mismatch.matched_bytes + 1 ≤ old.len) × (point.key_bytes_used + old.len ≤ length text)
         trim_given =
             let long = prefixes.long_enough part proper there first leaf_there in
             let k = ap (λ z. z.len) read in
             let start = inner_start by at kind in
             let t = ap length text_is in
-            omega arith
+            (trim_inside, omega arith)
 
         pub trim_read : {new : Prefix} → new.len ≡ old.len - (mismatch.matched_bytes + 1) →
             new.stored ≡ take (min (old.len - (mismatch.matched_bytes + 1)) P) (drop (point.key_bytes_used + (mismatch.matched_bytes + 1)) text) →

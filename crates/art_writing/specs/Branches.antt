@@ -1,5 +1,5 @@
 -- A new node above a node and a new leaf: what is read before it is placed, and what its placement makes of a store. No public clause cites this module.
-use Rattle.std.specs.Prelude.{◌≡◌, ◌≢◌, ℕ, cond, ltb, List, [], ◌∷◌, ◌++◌, take, Bool, true, false, Option, None}
+use Rattle.std.specs.Prelude.{◌≡◌, ◌≢◌, ℕ, cond, ltb, List, [], ◌∷◌, ◌++◌, take, None}
 use Rattle.std.specs.Option.{option_map}
 use Rattle.std.specs.FinMap as map
 use Rattle.art_inner.specs.Changes.{with_child}
@@ -8,7 +8,6 @@ use Rattle.art_parts.specs.Headers.{header_of}
 use Rattle.art_parts.specs.Names.{leaf_name, inner_name}
 use Rattle.art_nodes.specs.Nodes.{Nodes}
 use Rattle.art_parts.specs.declared.names.InnerPtr.{InnerPtr}
-use Rattle.art_parts.specs.declared.names.LeafPtr.{LeafPtr}
 use Rattle.art_parts.specs.declared.names.NodeType.TheVariants.{Node4}
 use Rattle.art_parts.specs.declared.names.OpaqueNodePtr.{OpaqueNodePtr}
 use Rattle.art_model.specs.Canonical.{IsCanonicalTree}
@@ -23,7 +22,6 @@ use Rattle.art_writing.specs.declared.insert.InsertPoint.{InsertPoint}
 use Rattle.art_writing.specs.declared.insert.InsertResult.{InsertResult}
 use Rattle.art_writing.specs.declared.insert.branch.Branch.{Branch}
 use Rattle.art_writing.specs.Points.{AnswersTo}
-use Rattle.art_writing.specs.Writes.{ComesAfter, ComesBefore}
 use Rattle.art_reading.specs.Paths.{last_step, root_with}
 
 -- this holds of the path and the node that the point answers to, in each layout of its root
@@ -47,12 +45,6 @@ module _ {A : Type 0} {P : ℕ} (bytes : A → List ℕ) (key : List ℕ) (path 
         last_or (leaves_before path ++ cond (ltb branch.old_byte branch.new_byte) (leaf_names node) []) None
     pub next : option_map leaf_name branch.next ≡
         first_or (cond (ltb branch.old_byte branch.new_byte) [] (leaf_names node) ++ leaves_after path) None
-
--- a new leaf that comes right after a tree, or right before it, has these leaves beside it
-abbrev pub IsBeside : {K V : Type 0} → Nodes K V → Tree OpaqueNodePtr (K × V) → Bool → Option LeafPtr →
-    Option LeafPtr → Type 0
-IsBeside s tree true previous next = ComesAfter s tree previous next
-IsBeside s tree false previous next = ComesBefore s tree previous next
 
 -- A leaf of the pair and a Node4 above it and the old node are placed, and the parent at the end of the path has the Node4.
 pub record IsBranchPlaced {K V : Type 0} {P : ℕ} (s t : Nodes K V) (point : InsertPoint) (old : OpaqueNodePtr)

@@ -1,4 +1,4 @@
--- The points at which leaves go, what an applied delete point places and touches, and what it leaves.
+-- The points at which leaves go, what an applied delete point places and touches, and the root that it leaves.
 use Rattle.std.specs.Prelude.{◌≡◌, ℕ, cond, leb, List, length, Option, Some, None}
 use Rattle.std.specs.FinMap as map
 use Rattle.art_parts.specs.Kinds.{kind_least, smaller_kind}
@@ -9,16 +9,11 @@ use Rattle.art_parts.specs.declared.names.NodeType.TheVariants.{Node4}
 use Rattle.art_parts.specs.declared.names.OpaqueNodePtr.{OpaqueNodePtr}
 use Rattle.art_model.specs.Canonical.{IsCanonicalTree}
 use Rattle.art_model.specs.Footprints.{TouchesAtMost}
-use Rattle.art_model.specs.Kept.{ChangesInPlace}
-use Rattle.art_model.specs.Pairs.{remove_key}
 use Rattle.art_model.specs.Paths.{Frame, plug}
-use Rattle.art_model.specs.Roots.{IsRootOf}
 use Rattle.art_model.specs.Trees.{Tree, leaf}
 use Rattle.art_writing.specs.declared.delete.DeletePoint.{DeletePoint}
-use Rattle.art_writing.specs.declared.delete.DeleteResult.{DeleteResult}
 use Rattle.art_reading.specs.declared.path.TreePath.{TreePath}
 use Rattle.art_reading.specs.declared.path.TreePath.TheVariants.{Root, ChildOfRoot, Normal}
-use Rattle.art_writing.specs.Inserted.{alone}
 use Rattle.art_reading.specs.Paths.{last_step, path_of}
 
 -- the point names the leaf of this pair, with the parent and the grandparent of that and the bytes that lead down
@@ -84,13 +79,3 @@ abbrev pub IsRootAfter : ParentChange → TreePath → OpaqueNodePtr → Option 
 IsRootAfter change Root root new = new ≡ None
 IsRootAfter change (ChildOfRoot parent byte) root new = IsTopAfter change root new
 IsRootAfter change (Normal grandparent above parent byte) root new = new ≡ Some root
-
--- The root is canonical for the pairs without the one of the point; its pair is answered as a leaf alone; the rest stays.
-pub record IsDeleted {K V : Type 0} (bytes : K × V → List ℕ) (P : ℕ) (s t : Nodes K V) (root : OpaqueNodePtr)
-    (point : DeletePoint) (x : K × V)
-    (pairs : List (K × V)) (layout : Tree OpaqueNodePtr (K × V)) (done : DeleteResult K V) : Type 0 where
-  pub tree : Option (Tree OpaqueNodePtr (K × V))
-  pub canonical : IsRootOf bytes P t done.new_root (remove_key bytes (bytes x) pairs) tree
-  pub deleted : done.deleted_leaf ≡ alone x
-  pub root_is : IsRootAfter (parent_change s point.path) point.path root done.new_root
-  pub kept : ChangesInPlace bytes s t (Some layout) tree

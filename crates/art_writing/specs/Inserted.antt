@@ -82,3 +82,4 @@ pub record IsInserted {K V : Type 0} (bytes : K × V → List ℕ) (P : ℕ) (s 
   pub inserted : HasInserted tree point (stored_for bytes pair pairs) done
   pub replaced : done.existing_leaf ≡ option_map alone (put_reply bytes pair pairs)
   pub kept : ChangesInPlace bytes s t (Some layout) (Some tree)
+  pub touches : Touches point.insert_kind s t

@@ -19,7 +19,9 @@ pub mod Points
 pub mod Inserted
 pub mod Branches
 pub mod Overwritten
+pub mod Applied
 -- deletion, the freeing of trees, and copies
 pub mod Deleted
+pub mod TakenOut
 pub mod Freed
 pub mod Cloned

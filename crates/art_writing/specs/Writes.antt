@@ -1,19 +1,22 @@
 -- What the writes of the operations ask and answer: a child of the parent that a path ends with, and the leaves beside one.
-use Rattle.std.specs.Prelude.{◌≡◌, ◌⊎◌, ◌<◌, ℕ, Option, Some, None, IsSome, IsSomeAnd, IfSome}
+use Rattle.std.specs.Prelude.{◌≡◌, ◌⊎◌, ◌<◌, ℕ, cond, nat_lt, Option, Some, None, IsSome, IsSomeAnd, IfSome}
 use Rattle.std.specs.List.{AllByRecursion as Each}
 use Rattle.std.specs.FinMap as map
 use Rattle.art_inner.specs.Inner.{child_at}
 use Rattle.art_parts.specs.Names.{leaf_name, inner_name}
 use Rattle.art_nodes.specs.Nodes.{Nodes, take_leaf}
 use Rattle.art_parts.specs.declared.names.InnerPtr.{InnerPtr}
+use Rattle.art_parts.specs.declared.leaf.LeafNode.{LeafNode}
 use Rattle.art_parts.specs.declared.names.LeafPtr.{LeafPtr}
 use Rattle.art_parts.specs.declared.names.OpaqueNodePtr.{OpaqueNodePtr}
 use Rattle.art_model.specs.Lookups.{HasFirstLeaf, HasLastLeaf}
 use Rattle.art_model.specs.Radix.{BytesRise, bytes_of, join}
 use Rattle.art_model.specs.Roots.{IsFullTree}
 use Rattle.art_model.specs.Trees.{Tree, inner, Subtrees, child, no_child, NodeHeader}
-use Rattle.art_model.specs.Writes.{Leaves, Inners, IsThere}
+use Rattle.art_model.specs.Writes.{Leaves, Inners, IsThere, with_next, with_previous}
 use Rattle.art_writing.specs.Inserted.{alone}
+use Rattle.art_writing.specs.declared.writes.Side.{Side}
+use Rattle.art_writing.specs.declared.writes.Side.TheVariants.{Before, After}
 
 -- the parent, where there is one, has a child under its byte
 abbrev pub HasChild : Inners → Option (InnerPtr × ℕ) → Type 0
@@ -36,17 +39,22 @@ abbrev pub LinksAreThere : {K V : Type 0} → Leaves K V → LeafPtr → Type 0
 LinksAreThere leaves name =
     IfSome (map.get leaves name) (λ leaf. IsThere leaves leaf.previous × IsThere leaves leaf.next)
 
--- a new leaf that comes right before a tree's first leaf has these leaves beside it
-abbrev pub ComesBefore : {K V : Type 0} → Nodes K V → Tree OpaqueNodePtr (K × V) → Option LeafPtr →
+-- the side of the byte of a child on which that of a new one is
+abbrev pub side_of : ℕ → ℕ → Side
+side_of new other = cond (nat_lt other new) After Before
+
+-- the leaf with another one on a side
+abbrev pub with_beside : {K V : Type 0} → Side → Option LeafPtr → LeafNode K V → LeafNode K V
+with_beside Before other = with_previous other
+with_beside After other = with_next other
+
+-- a new leaf that comes right before a tree's first leaf, or right after its last one, has these leaves beside it
+abbrev pub IsBeside : {K V : Type 0} → Nodes K V → Tree OpaqueNodePtr (K × V) → Side → Option LeafPtr →
     Option LeafPtr → Type 0
-ComesBefore s tree previous next =
+IsBeside s tree Before previous next =
     (first : LeafPtr) × HasFirstLeaf tree (leaf_name first) × (next ≡ Some first) ×
     IsSomeAnd (map.get s.leaves first) (λ leaf. previous ≡ leaf.previous)
-
--- a new leaf that comes right after a tree's last leaf has these leaves beside it
-abbrev pub ComesAfter : {K V : Type 0} → Nodes K V → Tree OpaqueNodePtr (K × V) → Option LeafPtr →
-    Option LeafPtr → Type 0
-ComesAfter s tree previous next =
+IsBeside s tree After previous next =
     (last : LeafPtr) × HasLastLeaf tree (leaf_name last) × (previous ≡ Some last) ×
     IsSomeAnd (map.get s.leaves last) (λ leaf. next ≡ leaf.next)
 
@@ -64,6 +72,6 @@ abbrev pub ComesBetween : {K V : Type 0} → Nodes K V → Subtrees OpaqueNodePt
     Subtrees OpaqueNodePtr (K × V) → Option LeafPtr → Option LeafPtr → Type 0
 ComesBetween {K} {V} s left right previous next =
     ((b : ℕ) × (t : Tree OpaqueNodePtr (K × V)) × (others : Subtrees OpaqueNodePtr (K × V)) ×
-    (right ≡ child b t others) × ComesBefore s t previous next) ⊎
+    (right ≡ child b t others) × IsBeside s t Before previous next) ⊎
     ((others : Subtrees OpaqueNodePtr (K × V)) × (b : ℕ) × (t : Tree OpaqueNodePtr (K × V)) ×
-    (left ≡ join others (child b t no_child)) × ComesAfter s t previous next)
+    (left ≡ join others (child b t no_child)) × IsBeside s t After previous next)

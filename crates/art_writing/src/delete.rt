@@ -1,20 +1,18 @@
 //! Deletion: the point at which a leaf goes out of a tree.
-ghost use Rattle.std.specs.Prelude.{◌≡◌, ◌+◌, ◌<◌, ◌≤◌, ◌^◌, length, IsSome, IfSome, Some};
-ghost use Rattle.art_model.specs.Lookups.{nodes_on_way};
+ghost use Rattle.std.specs.Prelude.{◌+◌, ◌<◌, ◌^◌, length, IsSome, IfSome, Some};
 ghost use Rattle.art_model.specs.Pairs.{first_of, last_of, of_key, remove_reply};
 ghost use Rattle.art_model.specs.Roots.{ForTree, IsCanonicalRoot};
+ghost use Rattle.art_reading.specs.Walks.{CountsVisits, of_two};
 ghost use Rattle.art_writing.specs.Deleted.{IsDeletePoint, IsDeletePointIn};
 
 use art_nodes::node::{AsBytes, LeafNode, LeafPtr, OpaqueNodePtr};
 use art_nodes::store::NodeStore;
 use art_reading::lookup::Visits;
 use art_reading::path::TreePath;
-use art_reading::ways::{End, walk_to_end, walk_to_key};
+use art_reading::ways::{Asked, End, walk_to_end, walk_to_key};
 
 mod apply;
 mod compress;
-mod in_place;
-mod shrink;
 
 /// Where a leaf goes out of a tree.
 #[derive(Clone, Copy, PartialEq, Eq, Debug)]
@@ -67,15 +65,10 @@ pub fn search_for_delete_point_visiting<K: AsBytes + Drop, V: Drop, const PREFIX
     ensures point { ForTree (of_key K.bytes) PREFIX_LEN store.now root (λ pairs layout.
         IsDeletePoint layout (remove_reply (of_key K.bytes) key_bytes.now pairs) result) }
     ensures applies { IfSome result (IsDeletePointIn (of_key K.bytes) PREFIX_LEN store.now root) }
-
-    ensures at_least { ForTree (of_key K.bytes) PREFIX_LEN store.now root (λ pairs layout.
-        visits.old + length (nodes_on_way (of_key K.bytes) key_bytes.now layout) ≤ visits.new) }
-    ensures exactly { ForTree (of_key K.bytes) PREFIX_LEN store.now root (λ pairs layout.
-        IsSome result →
-        visits.old + length (nodes_on_way (of_key K.bytes) key_bytes.now layout) ≡ visits.new) }
-    ensures at_most { visits.new ≤ visits.old + length key_bytes.now + 1 }
+    ensures visits { CountsVisits (of_key K.bytes) PREFIX_LEN store.now root key_bytes.now
+        visits.old visits.new (IsSome result) }
 {
-    let last = walk_to_key(store, root, key_bytes, visits)?;
+    let last = walk_to_key(store, root, key_bytes, Asked::Same, visits)?;
     Some(DeletePoint {
         path: last.path,
         leaf_node_ptr: last.name,
@@ -92,11 +85,7 @@ pub fn find_minimum_to_delete<K: AsBytes + Drop, V: Drop, const PREFIX_LEN: usiz
         IsDeletePoint layout (first_of pairs) (Some result)) }
     ensures applies { IsDeletePointIn (of_key K.bytes) PREFIX_LEN store.now root result }
 {
-    let (path, leaf_node_ptr) = walk_to_end(store, root, End::First);
-    DeletePoint {
-        path,
-        leaf_node_ptr,
-    }
+    find_end_to_delete(store, root, End::First)
 }
 
 /// The point of the last leaf. It reads one inner node for each level.
@@ -109,7 +98,22 @@ pub fn find_maximum_to_delete<K: AsBytes + Drop, V: Drop, const PREFIX_LEN: usiz
         IsDeletePoint layout (last_of pairs) (Some result)) }
     ensures applies { IsDeletePointIn (of_key K.bytes) PREFIX_LEN store.now root result }
 {
-    let (path, leaf_node_ptr) = walk_to_end(store, root, End::Last);
+    find_end_to_delete(store, root, End::Last)
+}
+
+// The point of the leaf at an end.
+#[inline(always)]
+fn find_end_to_delete<K: AsBytes + Drop, V: Drop, const P: usize>(
+    store: &NodeStore<K, V, P>,
+    root: OpaqueNodePtr,
+    end: End,
+) -> DeletePoint
+    requires { IsCanonicalRoot (of_key K.bytes) P store.now root }
+    ensures point { ForTree (of_key K.bytes) P store.now root (λ pairs layout.
+        IsDeletePoint layout (of_two end (first_of pairs, last_of pairs)) (Some result)) }
+    ensures applies { IsDeletePointIn (of_key K.bytes) P store.now root result }
+{
+    let (path, leaf_node_ptr) = walk_to_end(store, root, end);
     DeletePoint {
         path,
         leaf_node_ptr,

@@ -1,15 +1,15 @@
 //! Writes that several operations make: a leaf comes between two others or goes, and a parent gets
 //! another child.
-ghost use Rattle.std.specs.Prelude.{◌≡◌, ◌<◌, None, IsSome, IfSome, IsSomeAnd};
+ghost use Rattle.std.specs.Prelude.{◌≡◌, ◌<◌, None, IsSome, IsSomeAnd};
 ghost use Rattle.std.specs.FinMap as map;
 ghost use Rattle.art_inner.specs.Inner.{child_at};
 ghost use Rattle.art_nodes.specs.Nodes.{take_leaf};
-ghost use Rattle.art_model.specs.Writes.{change_some, joined, with_child_at, with_leaf, with_next, with_previous, without_leaf, IsThere};
+ghost use Rattle.art_model.specs.Writes.{change_some, joined, with_child_at, with_leaf, without_leaf, IsThere};
 ghost use Rattle.art_parts.specs.declared.names.OpaqueNodePtr.{OpaqueNodePtr};
 ghost use Rattle.art_model.specs.Roots.{IsFullTree};
 ghost use Rattle.art_model.specs.Trees.{Tree};
 ghost use Rattle.art_writing.specs.Inserted.{alone};
-ghost use Rattle.art_writing.specs.Writes.{ComesAfter, ComesBefore, HasChild, LinksAreThere};
+ghost use Rattle.art_writing.specs.Writes.{HasChild, IsBeside, LinksAreThere, side_of, with_beside};
 ghost use Rattle.art_reading.specs.Paths.{last_step, root_with};
 
 use art_nodes::node::{AsBytes, LeafNode, LeafPtr, OpaqueNodePtr, OptionalLeafPtr};
@@ -18,35 +18,37 @@ use art_reading::minmax::{maximum_unchecked, minimum_unchecked};
 use art_reading::path::TreePath;
 use art_reading::ways::last_step;
 
-// Gives a leaf, where there is one, another next one.
-fn set_next<K: AsBytes + Drop, V: Drop, const P: usize>(
-    store: &mut NodeStore<K, V, P>,
-    leaf: OptionalLeafPtr,
-    next: OptionalLeafPtr,
-)
-    requires { IsThere store.old.leaves leaf }
-    ensures leaves { store.new.leaves ≡ change_some store.old.leaves leaf (with_next next) }
-    ensures inners { store.new.inners ≡ store.old.inners }
-    ensures promise { store.new.promise ≡ store.old.promise }
-{
-    let Some(leaf) = leaf else {
-        return;
-    };
-    let Some(node) = store.leaf(leaf) else {
-        unreachable!()
-    };
-    let previous = node.previous;
-    store.set_links(leaf, previous, next);
+/// A side of a leaf, or of the leaves of a tree.
+#[derive(Clone, Copy)]
+pub(crate) enum Side {
+    Before,
+    After,
 }
 
-// Gives a leaf, where there is one, another previous one.
-fn set_previous<K: AsBytes + Drop, V: Drop, const P: usize>(
+impl Side {
+    /// The side of the byte of a child on which that of a new one is.
+    #[inline(always)]
+    pub(crate) fn of(new: u8, other: u8) -> Self
+        ensures { result ≡ side_of new other }
+    {
+        if other < new {
+            Side::After
+        } else {
+            Side::Before
+        }
+    }
+}
+
+// Gives a leaf, where there is one, another leaf on one side.
+#[inline(always)]
+fn set_beside<K: AsBytes + Drop, V: Drop, const P: usize>(
     store: &mut NodeStore<K, V, P>,
     leaf: OptionalLeafPtr,
-    previous: OptionalLeafPtr,
+    side: Side,
+    other: OptionalLeafPtr,
 )
     requires { IsThere store.old.leaves leaf }
-    ensures leaves { store.new.leaves ≡ change_some store.old.leaves leaf (with_previous previous) }
+    ensures leaves { store.new.leaves ≡ change_some store.old.leaves leaf (with_beside side other) }
     ensures inners { store.new.inners ≡ store.old.inners }
     ensures promise { store.new.promise ≡ store.old.promise }
 {
@@ -56,7 +58,10 @@ fn set_previous<K: AsBytes + Drop, V: Drop, const P: usize>(
     let Some(node) = store.leaf(leaf) else {
         unreachable!()
     };
-    let next = node.next;
+    let (previous, next) = match side {
+        Side::Before => (other, node.next),
+        Side::After => (node.previous, other),
+    };
     store.set_links(leaf, previous, next);
 }
 
@@ -72,31 +77,39 @@ pub(crate) fn link<K: AsBytes + Drop, V: Drop, const P: usize>(
     ensures inners { store.new.inners ≡ store.old.inners }
     ensures promise { store.new.promise ≡ store.old.promise }
 {
-    set_next(store, previous, next);
-    set_previous(store, next, previous);
+    set_beside(store, previous, Side::After, next);
+    set_beside(store, next, Side::Before, previous);
 }
 
-/// Places a leaf that is promised between the two that it names, and answers its name.
+/// Places a leaf of a pair, which is promised, between two others, and answers its name.
 #[inline(always)]
 pub(crate) fn place_between<K: AsBytes + Drop, V: Drop, const P: usize>(
     store: &mut NodeStore<K, V, P>,
-    leaf: LeafNode<K, V>,
+    key: K,
+    value: V,
+    previous: OptionalLeafPtr,
+    next: OptionalLeafPtr,
 ) -> LeafPtr
     requires promised { 0 < store.old.promise.leaves }
-    requires previous { IsThere store.old.leaves leaf.previous }
-    requires next { IsThere store.old.leaves leaf.next }
+    requires previous { IsThere store.old.leaves previous }
+    requires next { IsThere store.old.leaves next }
     ensures fresh { map.get store.old.leaves result ≡ None }
-    ensures leaves { store.new.leaves ≡ with_leaf store.old.leaves result leaf }
+    ensures leaves { store.new.leaves ≡ with_leaf store.old.leaves result
+        (record { key = key; value = value; previous = previous; next = next }) }
     ensures inners { store.new.inners ≡ store.old.inners }
     ensures promise { store.new.promise ≡ take_leaf store.old.promise }
 {
-    let previous = leaf.previous;
-    let next = leaf.next;
+    let leaf = LeafNode {
+        key,
+        value,
+        previous,
+        next,
+    };
     let Ok(name) = store.place_leaf(leaf) else {
         unreachable!()
     };
-    set_next(store, previous, Some(name));
-    set_previous(store, next, Some(name));
+    set_beside(store, previous, Side::After, Some(name));
+    set_beside(store, next, Side::Before, Some(name));
     name
 }
 
@@ -145,36 +158,31 @@ pub(crate) fn replace_at<K: AsBytes + Drop, V: Drop, const P: usize>(
     }
 }
 
-/// The leaves beside a new one that comes right before the first leaf of a tree.
+/// The leaves beside a new one that comes right before the first leaf of a tree, or right after the last one.
 #[inline(always)]
-pub(crate) fn links_before<K: AsBytes + Drop, V: Drop, const P: usize>(
+pub(crate) fn links_beside<K: AsBytes + Drop, V: Drop, const P: usize>(
     store: &NodeStore<K, V, P>,
     name: OpaqueNodePtr,
+    side: Side,
 ) -> (OptionalLeafPtr, OptionalLeafPtr)
     requires { (tree : Tree OpaqueNodePtr (K × V)) × IsFullTree store.now name tree }
     ensures { (tree : Tree OpaqueNodePtr (K × V)) → IsFullTree store.now name tree →
-        ComesBefore store.now tree result.0 result.1 }
+        IsBeside store.now tree side result.0 result.1 }
 {
-    let first = minimum_unchecked(store, name);
-    let Some(leaf) = store.leaf(first) else {
-        unreachable!()
-    };
-    (leaf.previous, Some(first))
-}
-
-/// The leaves beside a new one that comes right after the last leaf of a tree.
-#[inline(always)]
-pub(crate) fn links_after<K: AsBytes + Drop, V: Drop, const P: usize>(
-    store: &NodeStore<K, V, P>,
-    name: OpaqueNodePtr,
-) -> (OptionalLeafPtr, OptionalLeafPtr)
-    requires { (tree : Tree OpaqueNodePtr (K × V)) × IsFullTree store.now name tree }
-    ensures { (tree : Tree OpaqueNodePtr (K × V)) → IsFullTree store.now name tree →
-        ComesAfter store.now tree result.0 result.1 }
-{
-    let last = maximum_unchecked(store, name);
-    let Some(leaf) = store.leaf(last) else {
-        unreachable!()
-    };
-    (Some(last), leaf.next)
+    match side {
+        Side::Before => {
+            let first = minimum_unchecked(store, name);
+            let Some(leaf) = store.leaf(first) else {
+                unreachable!()
+            };
+            (leaf.previous, Some(first))
+        }
+        Side::After => {
+            let last = maximum_unchecked(store, name);
+            let Some(leaf) = store.leaf(last) else {
+                unreachable!()
+            };
+            (Some(last), leaf.next)
+        }
+    }
 }

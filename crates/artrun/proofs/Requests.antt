@@ -6,7 +6,7 @@ use Rattle.artrun.specs.Keys.{IsKeyWord}
 use Rattle.artrun.specs.Lines.{line_of, HasSmallValue}
 use Rattle.artrun.specs.declared.line.KeyWord.{KeyWord}
 use Rattle.artrun.specs.declared.line.Request.{Request}
-use Rattle.artrun.specs.declared.line.Request.TheVariants.{Insert, Prefix, Delete, First, Last, Clone, Find, Longest, Walk, Back, Nodes, Check}
+use Rattle.artrun.specs.declared.line.Request.TheVariants.{Insert, Prefix, Delete, First, Last, Find, Longest}
 
 -- the character at a place of a line
 abbrev at : ℕ → List ℕ → ℕ
@@ -15,76 +15,37 @@ at n line = get_or line n 0
 no_key : (key : KeyWord) (word : List ℕ) → word ≡ key.word.now → ¬ (IsKeyWord word) → ⊥
 no_key key word is none = ∥∥₁_elim key.is_key (λ x y. absurd x) (λ k. none (subst IsKeyWord (sym is) k))
 
-pub no_insert : (line words : List ℕ) → line ≡ codes "insert " ++ words →
-    ((key : List ℕ) (value : ℕ) → IsKeyWord key → value < 2 ^ 32 → words ≢ key ++ 32 ∷ decimal value) → (request : Request) → HasSmallValue request → line ≢ line_of request
-no_insert line words is none (Insert key value) small same =
-    ∥∥₁_elim key.is_key (λ x y. absurd x) (λ k. none key.word.now value k small (ap (drop 7) (sym is ∙ same)))
-no_insert line words is none (Prefix key value) small same = omega (arith, ap (at 0) (sym is ∙ same))
-no_insert line words is none (Delete key) small same = omega (arith, ap (at 0) (sym is ∙ same))
-no_insert line words is none First small same = omega (arith, ap (at 0) (sym is ∙ same))
-no_insert line words is none Last small same = omega (arith, ap (at 0) (sym is ∙ same))
-no_insert line words is none (Find key) small same = omega (arith, ap (at 0) (sym is ∙ same))
-no_insert line words is none (Longest key) small same = omega (arith, ap (at 0) (sym is ∙ same))
-no_insert line words is none Clone small same = omega (arith, ap (at 0) (sym is ∙ same))
-no_insert line words is none Walk small same = omega (arith, ap (at 0) (sym is ∙ same))
-no_insert line words is none Back small same = omega (arith, ap (at 0) (sym is ∙ same))
-no_insert line words is none Nodes small same = omega (arith, ap (at 0) (sym is ∙ same))
-no_insert line words is none Check small same = omega (arith, ap (at 0) (sym is ∙ same))
+-- no request has this line
+abbrev AsksNothing : List ℕ → Type 0
+AsksNothing line = (request : Request) → HasSmallValue request → line ≢ line_of request
 
-pub no_prefix : (line words : List ℕ) → line ≡ codes "prefix " ++ words →
-    ((key : List ℕ) (value : ℕ) → IsKeyWord key → value < 2 ^ 32 → words ≢ key ++ 32 ∷ decimal value) → (request : Request) → HasSmallValue request → line ≢ line_of request
-no_prefix line words is none (Insert key value) small same = omega (arith, ap (at 0) (sym is ∙ same))
-no_prefix line words is none (Prefix key value) small same =
-    ∥∥₁_elim key.is_key (λ x y. absurd x) (λ k. none key.word.now value k small (ap (drop 7) (sym is ∙ same)))
-no_prefix line words is none (Delete key) small same = omega (arith, ap (at 0) (sym is ∙ same))
-no_prefix line words is none First small same = omega (arith, ap (at 0) (sym is ∙ same))
-no_prefix line words is none Last small same = omega (arith, ap (at 0) (sym is ∙ same))
-no_prefix line words is none (Find key) small same = omega (arith, ap (at 0) (sym is ∙ same))
-no_prefix line words is none (Longest key) small same = omega (arith, ap (at 0) (sym is ∙ same))
-no_prefix line words is none Clone small same = omega (arith, ap (at 0) (sym is ∙ same))
-no_prefix line words is none Walk small same = omega (arith, ap (at 0) (sym is ∙ same))
-no_prefix line words is none Back small same = omega (arith, ap (at 0) (sym is ∙ same))
-no_prefix line words is none Nodes small same = omega (arith, ap (at 0) (sym is ∙ same))
-no_prefix line words is none Check small same = omega (arith, ap (at 0) (sym is ∙ same))
+-- no key and value have these words
+abbrev IsNoPair : List ℕ → Type 0
+IsNoPair words = (key : List ℕ) (value : ℕ) → IsKeyWord key → value < 2 ^ 32 → words ≢ key ++ 32 ∷ decimal value
 
-pub no_delete : (line word : List ℕ) → line ≡ codes "delete " ++ word → ¬ (IsKeyWord word) → (request : Request) → HasSmallValue request → line ≢ line_of request
-no_delete line word is none (Insert key value) small same = omega (arith, ap (at 0) (sym is ∙ same))
-no_delete line word is none (Prefix key value) small same = omega (arith, ap (at 0) (sym is ∙ same))
+no_pair : (key : KeyWord) (value : ℕ) (words : List ℕ) → words ≡ key.word.now ++ 32 ∷ decimal value → value < 2 ^ 32 → IsNoPair words → ⊥
+no_pair key value words is small none = ∥∥₁_elim key.is_key (λ x y. absurd x) (λ k. none key.word.now value k small is)
+
+-- of another request the first letter tells, or one behind it
+
+pub no_insert : (line words : List ℕ) → line ≡ codes "insert " ++ words → IsNoPair words → AsksNothing line
+no_insert line words is none (Insert key value) small same = no_pair key value words (ap (drop 7) (sym is ∙ same)) small none
+no_insert line words is none request small same = omega (arith, ap (at 0) (sym is ∙ same))
+
+pub no_prefix : (line words : List ℕ) → line ≡ codes "prefix " ++ words → IsNoPair words → AsksNothing line
+no_prefix line words is none (Prefix key value) small same = no_pair key value words (ap (drop 7) (sym is ∙ same)) small none
+no_prefix line words is none request small same = omega (arith, ap (at 0) (sym is ∙ same))
+
+pub no_delete : (line word : List ℕ) → line ≡ codes "delete " ++ word → ¬ (IsKeyWord word) → AsksNothing line
 no_delete line word is none (Delete key) small same = no_key key word (ap (drop 7) (sym is ∙ same)) none
-no_delete line word is none First small same = omega (arith, ap (at 0) (sym is ∙ same))
-no_delete line word is none Last small same = omega (arith, ap (at 0) (sym is ∙ same))
-no_delete line word is none (Find key) small same = omega (arith, ap (at 0) (sym is ∙ same))
-no_delete line word is none (Longest key) small same = omega (arith, ap (at 0) (sym is ∙ same))
-no_delete line word is none Clone small same = omega (arith, ap (at 0) (sym is ∙ same))
-no_delete line word is none Walk small same = omega (arith, ap (at 0) (sym is ∙ same))
-no_delete line word is none Back small same = omega (arith, ap (at 0) (sym is ∙ same))
-no_delete line word is none Nodes small same = omega (arith, ap (at 0) (sym is ∙ same))
-no_delete line word is none Check small same = omega (arith, ap (at 0) (sym is ∙ same))
+no_delete line word is none request small same = omega (arith, ap (at 0) (sym is ∙ same))
 
-pub no_longest : (line word : List ℕ) → line ≡ codes "longest " ++ word → ¬ (IsKeyWord word) → (request : Request) → HasSmallValue request → line ≢ line_of request
-no_longest line word is none (Insert key value) small same = omega (arith, ap (at 0) (sym is ∙ same))
-no_longest line word is none (Prefix key value) small same = omega (arith, ap (at 0) (sym is ∙ same))
-no_longest line word is none (Delete key) small same = omega (arith, ap (at 0) (sym is ∙ same))
-no_longest line word is none First small same = omega (arith, ap (at 0) (sym is ∙ same))
-no_longest line word is none Last small same = omega (arith, ap (at 1) (sym is ∙ same))
-no_longest line word is none (Find key) small same = omega (arith, ap (at 0) (sym is ∙ same))
+pub no_longest : (line word : List ℕ) → line ≡ codes "longest " ++ word → ¬ (IsKeyWord word) → AsksNothing line
 no_longest line word is none (Longest key) small same = no_key key word (ap (drop 8) (sym is ∙ same)) none
-no_longest line word is none Clone small same = omega (arith, ap (at 0) (sym is ∙ same))
-no_longest line word is none Walk small same = omega (arith, ap (at 0) (sym is ∙ same))
-no_longest line word is none Back small same = omega (arith, ap (at 0) (sym is ∙ same))
-no_longest line word is none Nodes small same = omega (arith, ap (at 0) (sym is ∙ same))
-no_longest line word is none Check small same = omega (arith, ap (at 0) (sym is ∙ same))
+no_longest line word is none Last small same = omega (arith, ap (at 1) (sym is ∙ same))
+no_longest line word is none request small same = omega (arith, ap (at 0) (sym is ∙ same))
 
-pub no_find : (line word : List ℕ) → line ≡ codes "find " ++ word → ¬ (IsKeyWord word) → (request : Request) → HasSmallValue request → line ≢ line_of request
-no_find line word is none (Insert key value) small same = omega (arith, ap (at 0) (sym is ∙ same))
-no_find line word is none (Prefix key value) small same = omega (arith, ap (at 0) (sym is ∙ same))
-no_find line word is none (Delete key) small same = omega (arith, ap (at 0) (sym is ∙ same))
-no_find line word is none First small same = omega (arith, ap (at 2) (sym is ∙ same))
-no_find line word is none Last small same = omega (arith, ap (at 0) (sym is ∙ same))
+pub no_find : (line word : List ℕ) → line ≡ codes "find " ++ word → ¬ (IsKeyWord word) → AsksNothing line
 no_find line word is none (Find key) small same = no_key key word (ap (drop 5) (sym is ∙ same)) none
-no_find line word is none (Longest key) small same = omega (arith, ap (at 0) (sym is ∙ same))
-no_find line word is none Clone small same = omega (arith, ap (at 0) (sym is ∙ same))
-no_find line word is none Walk small same = omega (arith, ap (at 0) (sym is ∙ same))
-no_find line word is none Back small same = omega (arith, ap (at 0) (sym is ∙ same))
-no_find line word is none Nodes small same = omega (arith, ap (at 0) (sym is ∙ same))
-no_find line word is none Check small same = omega (arith, ap (at 0) (sym is ∙ same))
+no_find line word is none First small same = omega (arith, ap (at 2) (sym is ∙ same))
+no_find line word is none request small same = omega (arith, ap (at 0) (sym is ∙ same))

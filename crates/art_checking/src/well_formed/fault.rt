@@ -6,32 +6,37 @@ use super::KeyPrefix;
 use art_nodes::node::{LeafPtr, NodeType, OpaqueNodePtr, OptionalLeafPtr};
 use std::alloc::{AllocError, AllocFailed};
 use std::cmp::Ordering;
-use std::error::Error;
 use std::fmt;
+use thiserror::Error;
 
 /// Why a store and a root are no well-formed tree.
-#[derive(PartialEq, Eq, Debug, Drop)]
+#[derive(PartialEq, Eq, Debug, Drop, Error)]
 pub enum MalformedTreeError {
     /// A node was met on two ways: there is a loop, or the node is shared.
+    #[error("Found a loop in the tree containing the node [{node_ptr}]. First observed that node at [{first_observed:?}], then later observed the same node at [{later_observed:?}]")]
     LoopFound {
         node_ptr: OpaqueNodePtr,
         first_observed: KeyPrefix,
         later_observed: KeyPrefix,
     },
     /// An inner node has fewer children than its kind has, or more.
+    #[error("Found an inner node of type [{inner_node_type}] at location [{key_prefix:?}] that had the wrong number of children! Expected children in range [{least}..={most}], but found [{num_children}] children", least = range_of(*.inner_node_type).0, most = range_of(*.inner_node_type).1)]
     WrongChildrenCount {
         key_prefix: KeyPrefix,
         inner_node_type: NodeType,
         num_children: usize,
     },
     /// A leaf's key does not begin with the bytes that lead to the leaf.
+    #[error("Found a leaf that had a mismatched key from the expected prefix! Expected the leaf key to start with [{expected_prefix:?}], but the leaf key was [{entire_key:?}]")]
     PrefixMismatch {
         expected_prefix: KeyPrefix,
         entire_key: Vec<u8>,
     },
     /// There is no root, but a length.
+    #[error("The length of the tree is not 0, even though the root is None")]
     EmptyTreeWithLen,
     /// A leaf names a sibling whose key is not before its own, or not after it.
+    #[error("Found a leaf with key [{leaf_key:?}] and sibling with key [{sibling_key:?}] that was expected to have [{expected_order:?}] but had [{actual_order:?}]")]
     LeafSiblingWrongOrder {
         sibling_key: Vec<u8>,
         leaf_key: Vec<u8>,
@@ -41,6 +46,7 @@ pub enum MalformedTreeError {
         actual_order: Ordering,
     },
     /// A leaf's links are not its neighbours in the order of the leaves.
+    #[error("Found a leaf with key [{leaf_key:?}] where {}.", WrongLinks {previous: (*.expected_previous, *.actual_previous), next: (*.expected_next, *.actual_next)})]
     WrongSiblingLinks {
         leaf_key: Vec<u8>,
         expected_previous: OptionalLeafPtr,
@@ -49,24 +55,28 @@ pub enum MalformedTreeError {
         actual_next: OptionalLeafPtr,
     },
     /// A name leads to no node of its kind.
+    #[error("Found a name [{name}] at location [{key_prefix:?}] that leads to no node of its kind")]
     DeadName {
         /// The bytes that lead to the name, or to the leaf that names it as a sibling.
         key_prefix: KeyPrefix,
         name: OpaqueNodePtr,
     },
     /// A prefix is longer than what can be stored, and there is no leaf to read it from.
+    #[error("Found an inner node [{name}] at location [{key_prefix:?}] whose prefix cannot be read from a leaf")]
     UnreadablePrefix {
         key_prefix: KeyPrefix,
         name: OpaqueNodePtr,
     },
     /// A prefix is longer than what can be stored, and its stored bytes are not those of the leaf that
     /// it is read from.
+    #[error("Found an inner node at location [{key_prefix:?}] that stores the prefix bytes [{stored:?}], but its least leaf has [{actual:?}]")]
     StoredPrefixMismatch {
         key_prefix: KeyPrefix,
         stored: Vec<u8>,
         actual: Vec<u8>,
     },
     /// There was no memory for the check. It says nothing of the tree.
+    #[error("Memory ran out while the tree was checked")]
     OutOfMemory,
 }
 
@@ -163,99 +173,43 @@ impl fmt::Display for Link {
     }
 }
 
-impl fmt::Display for MalformedTreeError {
+// What is wrong with a leaf's links, as it prints: of each what was expected, and what was found.
+#[derive(Drop)]
+struct WrongLinks {
+    previous: (OptionalLeafPtr, OptionalLeafPtr),
+    next: (OptionalLeafPtr, OptionalLeafPtr),
+}
+
+impl fmt::Display for WrongLinks {
     fn fmt<W: fmt::Write>(&self, f: &mut fmt::Formatter<W>) -> fmt::Result {
-        match self {
-            MalformedTreeError::LoopFound {
-                node_ptr,
-                first_observed,
-                later_observed,
-            } => write!(
-                f,
-                "Found a loop in the tree containing the node [{node_ptr}]. First observed that node at [{first_observed:?}], then later observed the same node at [{later_observed:?}]"
-            ),
-            MalformedTreeError::WrongChildrenCount {
-                key_prefix,
-                inner_node_type,
-                num_children,
-            } => {
-                let (least, most) = range_of(*inner_node_type);
-                write!(
-                    f,
-                    "Found an inner node of type [{inner_node_type}] at location [{key_prefix:?}] that had the wrong number of children! Expected children in range [{least}..={most}], but found [{num_children}] children"
-                )
-            }
-            MalformedTreeError::PrefixMismatch {
-                expected_prefix,
-                entire_key,
-            } => write!(
-                f,
-                "Found a leaf that had a mismatched key from the expected prefix! Expected the leaf key to start with [{expected_prefix:?}], but the leaf key was [{entire_key:?}]"
-            ),
-            MalformedTreeError::EmptyTreeWithLen => {
-                f.write_str("The length of the tree is not 0, even though the root is None")
-            }
-            MalformedTreeError::LeafSiblingWrongOrder {
-                sibling_key,
-                leaf_key,
-                expected_order,
-                actual_order,
-            } => write!(
-                f,
-                "Found a leaf with key [{leaf_key:?}] and sibling with key [{sibling_key:?}] that was expected to have [{expected_order:?}] but had [{actual_order:?}]"
-            ),
-            MalformedTreeError::WrongSiblingLinks {
-                leaf_key,
-                expected_previous,
-                expected_next,
-                actual_previous,
-                actual_next,
-            } => {
-                let previous = Link(*expected_previous);
-                let next = Link(*expected_next);
-                let found_previous = Link(*actual_previous);
-                let found_next = Link(*actual_next);
-                if expected_previous == actual_previous {
-                    write!(
-                        f,
-                        "Found a leaf with key [{leaf_key:?}] where the next pointer expected to be [{next}] but was actually [{found_next}]."
-                    )
-                } else if expected_next == actual_next {
-                    write!(
-                        f,
-                        "Found a leaf with key [{leaf_key:?}] where the previous pointer expected to be [{previous}] but was actually [{found_previous}]."
-                    )
-                } else {
-                    write!(
-                        f,
-                        "Found a leaf with key [{leaf_key:?}] where the previous pointer expected to be [{previous}] but was actually [{found_previous}] and the next pointer expected to be [{next}] but was actually [{found_next}]."
-                    )
-                }
-            }
-            MalformedTreeError::DeadName { key_prefix, name } => write!(
-                f,
-                "Found a name [{name}] at location [{key_prefix:?}] that leads to no node of its kind"
-            ),
-            MalformedTreeError::UnreadablePrefix { key_prefix, name } => write!(
-                f,
-                "Found an inner node [{name}] at location [{key_prefix:?}] whose prefix cannot be read from a leaf"
-            ),
-            MalformedTreeError::StoredPrefixMismatch {
-                key_prefix,
-                stored,
-                actual,
-            } => write!(
-                f,
-                "Found an inner node at location [{key_prefix:?}] that stores the prefix bytes [{stored:?}], but its least leaf has [{actual:?}]"
-            ),
-            MalformedTreeError::OutOfMemory => f.write_str(
-                "Memory ran out while the tree was checked",
-            ),
+        let previous = WrongLink("previous", self.previous);
+        let next = WrongLink("next", self.next);
+        if self.previous.0 == self.previous.1 {
+            write!(f, "{next}")
+        } else if self.next.0 == self.next.1 {
+            write!(f, "{previous}")
+        } else {
+            write!(f, "{previous} and {next}")
         }
     }
 }
 
-impl Error for MalformedTreeError {}
+// The same of one link, by the word for it.
+#[derive(Drop)]
+struct WrongLink(&'static str, (OptionalLeafPtr, OptionalLeafPtr));
+
+impl fmt::Display for WrongLink {
+    fn fmt<W: fmt::Write>(&self, f: &mut fmt::Formatter<W>) -> fmt::Result {
+        let (expected, found) = self.1;
+        write!(
+            f,
+            "the {} pointer expected to be [{}] but was actually [{}]",
+            self.0,
+            Link(expected),
+            Link(found)
+        )
+    }
+}
 
 impl From<AllocError> for MalformedTreeError {
     ghost use Rattle.art_checking.specs.declared.well_formed.fault.MalformedTreeError.TheVariants.{OutOfMemory};

@@ -4,9 +4,9 @@ ghost use Rattle.slab.specs.Slab.{ContainsKey, HasRoomFor, Updates};
 
 use super::{InnerSlabs, NodeStore};
 use crate::node::{AsBytes, Header, InnerNode, InnerPtr, InnerRef, NodeType, OpaqueNodePtr};
+use art_inner::resized::{Grows, Shrinks};
 use slab::Slab;
 
-// A call fills the room for its locals with zeros, so that a kind has functions of its own.
 impl<const P: usize> InnerSlabs<P> {
     ghost use Rattle.std.specs.FinMap as map;
     ghost use Rattle.art_inner.specs.Changes.{with_child, without_child};
@@ -28,59 +28,11 @@ impl<const P: usize> InnerSlabs<P> {
         ensures fresh { map.get (inners_of self.old) result ≡ None }
     {
         match name.kind {
-            NodeType::Node4 => self.grow_node4(name, byte, child),
-            NodeType::Node16 => self.grow_node16(name, byte, child),
-            NodeType::Node48 => self.grow_node48(name, byte, child),
+            NodeType::Node4 => grow(&mut self.node4, &mut self.node16, name.slot, byte, child),
+            NodeType::Node16 => grow(&mut self.node16, &mut self.node48, name.slot, byte, child),
+            NodeType::Node48 => grow(&mut self.node48, &mut self.node256, name.slot, byte, child),
             NodeType::Node256 | NodeType::Leaf => unreachable!(),
         }
-    }
-
-    #[inline(never)]
-    fn grow_node4(&mut self, name: InnerPtr, byte: u8, child: OpaqueNodePtr) -> InnerPtr
-        requires kind { name.kind ≡ Node4 }
-        requires place { IsSomeAnd (map.get (inners_of self.old) name) (λ node.
-            HasPlace 16 node.children byte) }
-        requires room { HasInnerRoom self.old (Some Node16) }
-        ensures nodes { IsSomeAnd (map.get (inners_of self.old) name) (λ node. inners_of self.new ≡
-            map.insert (map.remove (inners_of self.old) name) result (with_child byte child node)) }
-        ensures kind { result.kind ≡ Node16 }
-        ensures fresh { map.get (inners_of self.old) result ≡ None }
-    {
-        let mut node = self.node4.remove(name.slot).grown();
-        node.write_child(byte, child);
-        self.insert_node16(node)
-    }
-
-    #[inline(never)]
-    fn grow_node16(&mut self, name: InnerPtr, byte: u8, child: OpaqueNodePtr) -> InnerPtr
-        requires kind { name.kind ≡ Node16 }
-        requires place { IsSomeAnd (map.get (inners_of self.old) name) (λ node.
-            HasPlace 48 node.children byte) }
-        requires room { HasInnerRoom self.old (Some Node48) }
-        ensures nodes { IsSomeAnd (map.get (inners_of self.old) name) (λ node. inners_of self.new ≡
-            map.insert (map.remove (inners_of self.old) name) result (with_child byte child node)) }
-        ensures kind { result.kind ≡ Node48 }
-        ensures fresh { map.get (inners_of self.old) result ≡ None }
-    {
-        let mut node = self.node16.remove(name.slot).grown();
-        node.write_child(byte, child);
-        self.insert_node48(node)
-    }
-
-    #[inline(never)]
-    fn grow_node48(&mut self, name: InnerPtr, byte: u8, child: OpaqueNodePtr) -> InnerPtr
-        requires kind { name.kind ≡ Node48 }
-        requires place { IsSomeAnd (map.get (inners_of self.old) name) (λ node.
-            HasPlace 256 node.children byte) }
-        requires room { HasInnerRoom self.old (Some Node256) }
-        ensures nodes { IsSomeAnd (map.get (inners_of self.old) name) (λ node. inners_of self.new ≡
-            map.insert (map.remove (inners_of self.old) name) result (with_child byte child node)) }
-        ensures kind { result.kind ≡ Node256 }
-        ensures fresh { map.get (inners_of self.old) result ≡ None }
-    {
-        let mut node = self.node48.remove(name.slot).grown();
-        node.write_child(byte, child);
-        self.insert_node256(node)
     }
 
     // Puts a node of the next smaller kind, without the child under a byte, in the place of one.
@@ -95,59 +47,11 @@ impl<const P: usize> InnerSlabs<P> {
         ensures fresh { map.get (inners_of self.old) result ≡ None }
     {
         match name.kind {
-            NodeType::Node16 => self.shrink_node16(name, byte),
-            NodeType::Node48 => self.shrink_node48(name, byte),
-            NodeType::Node256 => self.shrink_node256(name, byte),
+            NodeType::Node16 => shrink(&mut self.node16, &mut self.node4, name.slot, byte),
+            NodeType::Node48 => shrink(&mut self.node48, &mut self.node16, name.slot, byte),
+            NodeType::Node256 => shrink(&mut self.node256, &mut self.node48, name.slot, byte),
             NodeType::Node4 | NodeType::Leaf => unreachable!(),
         }
-    }
-
-    #[inline(never)]
-    fn shrink_node16(&mut self, name: InnerPtr, byte: u8) -> InnerPtr
-        requires kind { name.kind ≡ Node16 }
-        requires fit { IsSomeAnd (map.get (inners_of self.old) name) (λ node.
-            length (without_child byte node).children ≤ 4) }
-        requires room { HasInnerRoom self.old (Some Node4) }
-        ensures nodes { IsSomeAnd (map.get (inners_of self.old) name) (λ node. inners_of self.new ≡
-            map.insert (map.remove (inners_of self.old) name) result (without_child byte node)) }
-        ensures kind { result.kind ≡ Node4 }
-        ensures fresh { map.get (inners_of self.old) result ≡ None }
-    {
-        let mut node = self.node16.remove(name.slot);
-        node.remove_child(byte);
-        self.insert_node4(node.shrunk())
-    }
-
-    #[inline(never)]
-    fn shrink_node48(&mut self, name: InnerPtr, byte: u8) -> InnerPtr
-        requires kind { name.kind ≡ Node48 }
-        requires fit { IsSomeAnd (map.get (inners_of self.old) name) (λ node.
-            length (without_child byte node).children ≤ 16) }
-        requires room { HasInnerRoom self.old (Some Node16) }
-        ensures nodes { IsSomeAnd (map.get (inners_of self.old) name) (λ node. inners_of self.new ≡
-            map.insert (map.remove (inners_of self.old) name) result (without_child byte node)) }
-        ensures kind { result.kind ≡ Node16 }
-        ensures fresh { map.get (inners_of self.old) result ≡ None }
-    {
-        let mut node = self.node48.remove(name.slot);
-        node.remove_child(byte);
-        self.insert_node16(node.shrunk())
-    }
-
-    #[inline(never)]
-    fn shrink_node256(&mut self, name: InnerPtr, byte: u8) -> InnerPtr
-        requires kind { name.kind ≡ Node256 }
-        requires fit { IsSomeAnd (map.get (inners_of self.old) name) (λ node.
-            length (without_child byte node).children ≤ 48) }
-        requires room { HasInnerRoom self.old (Some Node48) }
-        ensures nodes { IsSomeAnd (map.get (inners_of self.old) name) (λ node. inners_of self.new ≡
-            map.insert (map.remove (inners_of self.old) name) result (without_child byte node)) }
-        ensures kind { result.kind ≡ Node48 }
-        ensures fresh { map.get (inners_of self.old) result ≡ None }
-    {
-        let mut node = self.node256.remove(name.slot);
-        node.remove_child(byte);
-        self.insert_node48(node.shrunk())
     }
 
     // Takes a node out, and drops it.
@@ -164,6 +68,63 @@ impl<const P: usize> InnerSlabs<P> {
             NodeType::Node256 => drop_from(&mut self.node256, name.slot),
             NodeType::Leaf => unreachable!(),
         }
+    }
+}
+
+ghost use Rattle.art_nodes.specs.Replacing.{IsMadeOf};
+ghost use Rattle.art_inner.specs.Changes.{with_child, without_child};
+ghost use Rattle.art_inner.specs.Inner.{HasPlace};
+ghost use Rattle.art_parts.specs.Kinds.{kind_capacity};
+ghost use Rattle.slab.specs.Slab as slab;
+
+// Takes a node out of its slot, and puts the grown one, with a child more, into another slab. A call
+// fills the room for its locals with zeros, so that each kind has a call of its own.
+#[inline(never)]
+fn grow<N: Grows<P>, const P: usize>(
+    from: &mut Slab<N>,
+    to: &mut Slab<N::Larger>,
+    slot: usize,
+    byte: u8,
+    child: OpaqueNodePtr,
+) -> InnerPtr
+    requires node { IsSomeAnd (slab.get from.old slot) (λ node.
+        HasPlace (kind_capacity N.Larger.TYPE) (N.view_of node).children byte) }
+    requires room { HasRoomFor to.old 1 }
+    ensures gone { Updates from.old from.new slot None }
+    ensures put { IsSomeAnd (slab.get from.old slot) (λ node. IsMadeOf N.Larger.view_of
+        to.old to.new result.slot (with_child byte child (N.view_of node))) }
+    ensures kind { result.kind ≡ N.Larger.TYPE }
+{
+    let mut node = from.remove(slot).grown();
+    node.write_child(byte, child);
+    InnerPtr {
+        kind: N::Larger::TYPE,
+        slot: to.insert_reserved(node),
+    }
+}
+
+// Takes a node out of its slot, and puts the shrunk one, without the child under a byte, into
+// another slab.
+#[inline(never)]
+fn shrink<N: Shrinks<P>, const P: usize>(
+    from: &mut Slab<N>,
+    to: &mut Slab<N::Smaller>,
+    slot: usize,
+    byte: u8,
+) -> InnerPtr
+    requires fit { IsSomeAnd (slab.get from.old slot) (λ node.
+        length (without_child byte (N.view_of node)).children ≤ kind_capacity N.Smaller.TYPE) }
+    requires room { HasRoomFor to.old 1 }
+    ensures gone { Updates from.old from.new slot None }
+    ensures put { IsSomeAnd (slab.get from.old slot) (λ node. IsMadeOf N.Smaller.view_of
+        to.old to.new result.slot (without_child byte (N.view_of node))) }
+    ensures kind { result.kind ≡ N.Smaller.TYPE }
+{
+    let mut node = from.remove(slot);
+    node.remove_child(byte);
+    InnerPtr {
+        kind: N::Smaller::TYPE,
+        slot: to.insert_reserved(node.shrunk()),
     }
 }
 

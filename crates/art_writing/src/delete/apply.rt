@@ -1,5 +1,5 @@
 //! Delete points, applied.
-ghost use Rattle.std.specs.Prelude.{◌≡◌, IsOk, IsTrue, IfOk, IfErr, IfSome, OnOk, OnErr};
+ghost use Rattle.std.specs.Prelude.{◌≡◌, IsOk, IsSome, IsTrue, IfOk, IfErr, IfSome, OnOk, OnErr};
 ghost use Rattle.std.specs.FinMap as map;
 ghost use Rattle.art_nodes.specs.Nodes.{no_promise};
 ghost use Rattle.art_model.specs.Canonical.{IsCanonical};
@@ -10,11 +10,14 @@ ghost use Rattle.art_model.specs.Roots.{ForRoot, ForTree, IsCanonicalRoot};
 ghost use Rattle.art_model.specs.Stores.{pair_of};
 ghost use Rattle.art_writing.specs.Inserted.{alone};
 ghost use Rattle.art_writing.specs.Deleted.{IsDeletePointIn, IsRootAfter, TouchesFor, parent_change, placed_for_deletion};
+ghost use Rattle.art_writing.specs.TakenOut.{IsLeafTaken, IsTakenOut};
+ghost use Rattle.art_writing.specs.Writes.{LinksAreThere};
 
 use super::{DeletePoint, DeleteRefused, DeleteResult};
+use crate::writes::{replace_at, take_from_between};
 use art_nodes::node::{AsBytes, OpaqueNodePtr};
 use art_nodes::store::NodeStore;
-use art_reading::ways::last_step;
+use art_reading::ways::{last_step, up};
 
 impl DeletePoint {
     /// Takes the leaf of the point out of the tree.
@@ -50,19 +53,55 @@ impl DeletePoint {
         ensures inners { OnErr result (store.new.inners ≡ store.old.inners) }
         ensures void { OnErr result (store.new.promise ≡ no_promise) }
     {
+        self.take_out(store, root)
+    }
+
+    // The same, and what is ensured of it in one word.
+    #[inline(always)]
+    fn take_out<K: AsBytes + Drop, V: Drop, const P: usize>(
+        self,
+        store: &mut NodeStore<K, V, P>,
+        root: OpaqueNodePtr,
+    ) -> Result<DeleteResult<K, V>, DeleteRefused>
+        requires { IsDeletePointIn (of_key K.bytes) P store.old root self }
+        ensures { IsTakenOut (of_key K.bytes) P store.old store.new root self result }
+    {
         let Some((parent, byte)) = last_step(self.path) else {
-            return Ok(self.delete_root(store, root));
+            return Ok(self.take_leaf(store, None));
         };
         let Some(node) = store.inner(parent) else {
             unreachable!()
         };
         let kind = node.node_type();
         if node.num_children() > *kind.capacity_range().start() {
-            return Ok(self.delete_child(store, root, parent, byte));
+            store.remove_child(parent, byte);
+            return Ok(self.take_leaf(store, Some(root)));
         }
         let Some(smaller) = kind.smaller() else {
             return Ok(self.compress_parent(store, root, parent, byte));
         };
-        self.shrink_parent(store, root, parent, byte, smaller)
+        if store.reserve(0, Some(smaller)).is_err() {
+            return Err(DeleteRefused { point: self });
+        }
+        let node = store.put_smaller(parent, byte);
+        let new_root = replace_at(store, up(self.path), root, node.to_opaque());
+        Ok(self.take_leaf(store, Some(new_root)))
+    }
+
+    /// Takes the leaf alone out, when its parent has let it go.
+    #[inline(always)]
+    pub(super) fn take_leaf<K: AsBytes + Drop, V: Drop, const P: usize>(
+        self,
+        store: &mut NodeStore<K, V, P>,
+        new_root: Option<OpaqueNodePtr>,
+    ) -> DeleteResult<K, V>
+        requires leaf { IsSome (map.get store.old.leaves self.leaf_node_ptr) }
+        requires beside { LinksAreThere store.old.leaves self.leaf_node_ptr }
+        ensures { IsLeafTaken store.old store.new self new_root result }
+    {
+        DeleteResult {
+            new_root,
+            deleted_leaf: take_from_between(store, self.leaf_node_ptr),
+        }
     }
 }

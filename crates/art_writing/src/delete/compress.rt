@@ -1,18 +1,18 @@
 //! One of the two children of a node goes, a leaf, and the other takes that node's place.
-ghost use Rattle.std.specs.Prelude.{◌≡◌, ◌≢◌, ◌+◌, ◌≤◌, ℕ, List, ◌∷◌, ◌++◌, length, IsSome, IsSomeAnd, IfSome, Some, cond};
+ghost use Rattle.std.specs.Prelude.{◌≡◌, ◌≢◌, ◌+◌, ◌≤◌, ℕ, List, ◌∷◌, ◌++◌, length, IsSome, IsSomeAnd, IfSome, Some, Ok, cond};
 ghost use Rattle.std.specs.FinMap as map;
 ghost use Rattle.art_inner.specs.Changes.{with_header};
 ghost use Rattle.art_parts.specs.Headers.{header_of};
 ghost use Rattle.art_nodes.specs.Nodes.{change};
 ghost use Rattle.art_model.specs.Pairs.{of_key};
-ghost use Rattle.art_model.specs.Roots.{ForTree};
 ghost use Rattle.art_model.specs.Writes.{as_inner};
 ghost use Rattle.art_parts.specs.declared.names.NodeType.TheVariants.{Leaf};
-ghost use Rattle.art_writing.specs.Deleted.{IsDeleted, IsDeletePointIn, LeadsTo, TouchesFor, is_compressed, parent_change};
+ghost use Rattle.art_writing.specs.Deleted.{IsDeletePointIn, is_compressed, parent_change};
+ghost use Rattle.art_writing.specs.TakenOut.{IsTakenOut};
 ghost use Rattle.art_reading.specs.Paths.{last_step};
 
 use super::{DeletePoint, DeleteResult};
-use crate::writes::{replace_at, take_from_between};
+use crate::writes::replace_at;
 use art_nodes::node::{AsBytes, Header, InnerPtr, LeafPtr, OpaqueNodePtr};
 use art_nodes::store::NodeStore;
 use art_reading::ways::up;
@@ -29,19 +29,13 @@ impl DeletePoint {
         requires parent { last_step self.path ≡ Some (parent, byte) }
         requires compressed { parent_change store.old self.path ≡ is_compressed }
         requires answers { IsDeletePointIn (of_key K.bytes) P store.old root self }
-        ensures deleted { ForTree (of_key K.bytes) P store.old root (λ pairs layout.
-            (x : K × V) → LeadsTo layout x self →
-            IsDeleted (of_key K.bytes) P store.old store.new root self x pairs layout result) }
-        ensures touches { TouchesFor (parent_change store.old self.path) store.old store.new }
-        ensures promise { store.new.promise ≡ store.old.promise }
+        ensures { IsTakenOut (of_key K.bytes) P store.old store.new root self (Ok result) }
     {
         let (header, other_byte, other) = store.take_other(parent, byte);
         let beside = leaf_beside(store, self.leaf_node_ptr, byte < other_byte);
         lengthen_prefix(store, other, header, other_byte, beside);
-        DeleteResult {
-            new_root: Some(replace_at(store, up(self.path), root, other)),
-            deleted_leaf: take_from_between(store, self.leaf_node_ptr),
-        }
+        let new_root = replace_at(store, up(self.path), root, other);
+        self.take_leaf(store, Some(new_root))
     }
 }
 

@@ -1,25 +1,25 @@
 //! A new node above a leaf and a new one, or above an inner node and a new leaf.
-ghost use Rattle.std.specs.Prelude.{◌≡◌, ℕ, ◌+◌, nat_lt, drop, List, IsOk, IsTrue, IfOk, IfErr, OnOk, OnErr, Some};
+ghost use Rattle.std.specs.Prelude.{◌≡◌, ℕ, ◌+◌, drop, List, IsTrue, Some};
 ghost use Rattle.art_parts.specs.Headers.{header_of};
-ghost use Rattle.art_nodes.specs.Nodes.{covers, no_promise, take_inner, take_leaf};
+ghost use Rattle.art_nodes.specs.Nodes.{covers, take_inner, take_leaf};
 ghost use Rattle.art_parts.specs.declared.names.NodeType.TheVariants.{Node4};
 ghost use Rattle.art_parts.specs.declared.names.OpaqueNodePtr.{OpaqueNodePtr};
 ghost use Rattle.art_model.specs.Pairs.{of_key};
 ghost use Rattle.art_model.specs.Places.{depth_of, prefix_of};
-ghost use Rattle.art_model.specs.Promises.{is_covered, promise_after};
-ghost use Rattle.art_model.specs.Roots.{ForTree, IsFullTree};
+ghost use Rattle.art_model.specs.Roots.{IsFullTree};
 ghost use Rattle.art_model.specs.Trees.{Tree};
 ghost use Rattle.art_model.specs.Writes.{IsThere};
-ghost use Rattle.art_writing.specs.Branches.{ForEnd, IsBeside, IsBranch, IsBranchPlaced};
-ghost use Rattle.art_writing.specs.Inserted.{IsInserted, IsPointIn, Touches, placed_for};
-ghost use Rattle.art_writing.specs.Writes.{HasChild};
+ghost use Rattle.art_writing.specs.Applied.{IsApplied};
+ghost use Rattle.art_writing.specs.Branches.{ForEnd, IsBranch, IsBranchPlaced};
+ghost use Rattle.art_writing.specs.Inserted.{IsPointIn};
+ghost use Rattle.art_writing.specs.Writes.{HasChild, IsBeside, side_of};
 ghost use Rattle.art_reading.specs.Paths.{last_step};
 ghost use Rattle.art_writing.specs.declared.insert.InsertKind.TheVariants as kinds;
 
 use super::{InsertParentNodeChange, InsertPoint, InsertResult, Refused};
-use crate::writes::{links_after, links_before, place_between, replace_at};
+use crate::writes::{Side, links_beside, place_between, replace_at};
 use art_nodes::node::{
-    AsBytes, Header, InnerPtr, LeafNode, LeafPtr, NodeType, OpaqueNodePtr, OptionalLeafPtr,
+    AsBytes, Header, InnerPtr, LeafPtr, NodeType, OpaqueNodePtr, OptionalLeafPtr,
 };
 use art_nodes::store::NodeStore;
 use art_reading::path::ExplicitMismatch;
@@ -50,13 +50,9 @@ fn branch_above<K: AsBytes + Drop, V: Drop, const P: usize>(
     ensures old_byte { result.old_byte ≡ old_byte }
     ensures new_byte { result.new_byte ≡ new_byte }
     ensures beside { (tree : Tree OpaqueNodePtr (K × V)) → IsFullTree store.now name tree →
-        IsBeside store.now tree (nat_lt old_byte new_byte) result.previous result.next }
+        IsBeside store.now tree (side_of new_byte old_byte) result.previous result.next }
 {
-    let (previous, next) = if old_byte < new_byte {
-        links_after(store, name)
-    } else {
-        links_before(store, name)
-    };
+    let (previous, next) = links_beside(store, name, Side::of(new_byte, old_byte));
     Branch {
         header: Header::new(part, part.len()),
         old_byte,
@@ -160,15 +156,7 @@ impl InsertPoint {
         ensures placed { IsBranchPlaced store.old store.new self old branch.entry (key, value) result }
         ensures promise { store.new.promise ≡ take_inner Node4 (take_leaf store.old.promise) }
     {
-        let leaf = place_between(
-            store,
-            LeafNode {
-                key,
-                value,
-                previous: branch.previous,
-                next: branch.next,
-            },
-        );
+        let leaf = place_between(store, key, value, branch.previous, branch.next);
         let Ok(parent) = store.place_two(
             branch.header,
             branch.old_byte,
@@ -201,17 +189,7 @@ impl InsertPoint {
     ) -> Result<InsertResult<K, V>, Refused<K, V>>
         requires point { self.insert_kind ≡ kinds.SplitLeaf leaf_node_ptr new_key_bytes_used }
         requires answers { IsPointIn (of_key K.bytes) P store.old (K.bytes key) self }
-        ensures inserted { ForTree (of_key K.bytes) P store.old self.root (λ pairs layout. IfOk result (λ done.
-            IsInserted (of_key K.bytes) P store.old store.new self (key, value) pairs layout done)) }
-        ensures touches { OnOk result (Touches self.insert_kind store.old store.new) }
-        ensures promise { OnOk result (store.new.promise ≡
-            promise_after (placed_for store.old self.insert_kind) store.old.promise) }
-
-        ensures succeeds { IsTrue (is_covered (placed_for store.old self.insert_kind) store.old.promise) → IsOk result }
-        ensures handed_back { IfErr result (λ refused. (refused.key ≡ key) × (refused.value ≡ value)) }
-        ensures leaves { OnErr result (store.new.leaves ≡ store.old.leaves) }
-        ensures inners { OnErr result (store.new.inners ≡ store.old.inners) }
-        ensures void { OnErr result (store.new.promise ≡ no_promise) }
+        ensures { IsApplied (of_key K.bytes) P store.old store.new self (key, value) result }
     {
         if store.reserve(1, Some(NodeType::Node4)).is_err() {
             return Err(Refused { key, value });
@@ -232,17 +210,7 @@ impl InsertPoint {
     ) -> Result<InsertResult<K, V>, Refused<K, V>>
         requires point { self.insert_kind ≡ kinds.MismatchPrefix mismatch inner_node_ptr }
         requires answers { IsPointIn (of_key K.bytes) P store.old (K.bytes key) self }
-        ensures inserted { ForTree (of_key K.bytes) P store.old self.root (λ pairs layout. IfOk result (λ done.
-            IsInserted (of_key K.bytes) P store.old store.new self (key, value) pairs layout done)) }
-        ensures touches { OnOk result (Touches self.insert_kind store.old store.new) }
-        ensures promise { OnOk result (store.new.promise ≡
-            promise_after (placed_for store.old self.insert_kind) store.old.promise) }
-
-        ensures succeeds { IsTrue (is_covered (placed_for store.old self.insert_kind) store.old.promise) → IsOk result }
-        ensures handed_back { IfErr result (λ refused. (refused.key ≡ key) × (refused.value ≡ value)) }
-        ensures leaves { OnErr result (store.new.leaves ≡ store.old.leaves) }
-        ensures inners { OnErr result (store.new.inners ≡ store.old.inners) }
-        ensures void { OnErr result (store.new.promise ≡ no_promise) }
+        ensures { IsApplied (of_key K.bytes) P store.old store.new self (key, value) result }
     {
         if store.reserve(1, Some(NodeType::Node4)).is_err() {
             return Err(Refused { key, value });

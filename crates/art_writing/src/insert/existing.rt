@@ -1,45 +1,17 @@
-//! Another value for a key that is stored, and a new leaf below a node that is there.
-ghost use Rattle.std.specs.Prelude.{◌≡◌, IsOk, IsTrue, IfOk, IfErr, OnOk, OnErr};
-ghost use Rattle.art_nodes.specs.Nodes.{no_promise};
+//! A new leaf below a node that is there.
+ghost use Rattle.std.specs.Prelude.{◌≡◌};
 ghost use Rattle.art_model.specs.Pairs.{of_key};
-ghost use Rattle.art_model.specs.Promises.{is_covered, promise_after};
-ghost use Rattle.art_model.specs.Roots.{ForTree};
-ghost use Rattle.art_writing.specs.Inserted.{IsInserted, IsPointIn, Touches, placed_for};
+ghost use Rattle.art_writing.specs.Applied.{IsApplied};
+ghost use Rattle.art_writing.specs.Inserted.{IsPointIn, placed_for};
 ghost use Rattle.art_writing.specs.declared.insert.InsertKind.TheVariants as kinds;
 
 use super::{InsertParentNodeChange, InsertPoint, InsertResult, Refused};
-use crate::writes::{links_after, links_before, place_between, replace_at};
-use art_nodes::node::{
-    AsBytes, InnerPtr, LeafNode, LeafPtr, NodeType, OpaqueNodePtr, OptionalLeafPtr,
-};
+use crate::writes::{Side, links_beside, place_between, replace_at};
+use art_nodes::node::{AsBytes, InnerPtr, LeafPtr, NodeType, OpaqueNodePtr, OptionalLeafPtr};
 use art_nodes::store::NodeStore;
 use art_reading::path::TreePath;
 
 impl InsertPoint {
-    /// Gives the stored key that is equal another value. The key that was handed in goes back with the old one.
-    pub(super) fn replace_value<K: AsBytes + Drop, V: Drop, const P: usize>(
-        self,
-        store: &mut NodeStore<K, V, P>,
-        leaf_node_ptr: LeafPtr,
-        key: K,
-        value: V,
-    ) -> InsertResult<K, V>
-        requires point { self.insert_kind ≡ kinds.Exact leaf_node_ptr }
-        requires answers { IsPointIn (of_key K.bytes) P store.old (K.bytes key) self }
-        ensures inserted { ForTree (of_key K.bytes) P store.old self.root (λ pairs layout.
-            IsInserted (of_key K.bytes) P store.old store.new self (key, value) pairs layout result) }
-        ensures touches { Touches self.insert_kind store.old store.new }
-        ensures promise { store.new.promise ≡ store.old.promise }
-    {
-        let old = store.swap_value(leaf_node_ptr, value);
-        InsertResult {
-            leaf_node_ptr,
-            existing_leaf: Some(LeafNode::with_no_siblings(key, old)),
-            new_root: self.root,
-            parent_node_change: InsertParentNodeChange::NoChange,
-        }
-    }
-
     /// Puts a leaf of a pair below an inner node, which is replaced by a larger one where it is full.
     pub(super) fn add_child<K: AsBytes + Drop, V: Drop, const P: usize>(
         self,
@@ -50,17 +22,7 @@ impl InsertPoint {
     ) -> Result<InsertResult<K, V>, Refused<K, V>>
         requires point { self.insert_kind ≡ kinds.IntoExisting inner_node_ptr }
         requires answers { IsPointIn (of_key K.bytes) P store.old (K.bytes key) self }
-        ensures inserted { ForTree (of_key K.bytes) P store.old self.root (λ pairs layout. IfOk result (λ done.
-            IsInserted (of_key K.bytes) P store.old store.new self (key, value) pairs layout done)) }
-        ensures touches { OnOk result (Touches self.insert_kind store.old store.new) }
-        ensures promise { OnOk result (store.new.promise ≡
-            promise_after (placed_for store.old self.insert_kind) store.old.promise) }
-
-        ensures succeeds { IsTrue (is_covered (placed_for store.old self.insert_kind) store.old.promise) → IsOk result }
-        ensures handed_back { IfErr result (λ refused. (refused.key ≡ key) × (refused.value ≡ value)) }
-        ensures leaves { OnErr result (store.new.leaves ≡ store.old.leaves) }
-        ensures inners { OnErr result (store.new.inners ≡ store.old.inners) }
-        ensures void { OnErr result (store.new.promise ≡ no_promise) }
+        ensures { IsApplied (of_key K.bytes) P store.old store.new self (key, value) result }
     {
         let byte = key.as_bytes()[self.key_bytes_used];
         let larger = kind_if_full(store, inner_node_ptr);
@@ -68,13 +30,7 @@ impl InsertPoint {
         if store.reserve(1, larger).is_err() {
             return Err(Refused { key, value });
         }
-        let leaf = LeafNode {
-            key,
-            value,
-            previous,
-            next,
-        };
-        let leaf_node_ptr = place_between(store, leaf);
+        let leaf_node_ptr = place_between(store, key, value, previous, next);
         let child = leaf_node_ptr.to_opaque();
         if larger.is_some() {
             let (parent, new_root) = put_larger(
@@ -92,7 +48,7 @@ impl InsertPoint {
     }
 }
 
-ghost use Rattle.std.specs.Prelude.{◌≢◌, ◌<◌, IsSome, IsSomeAnd, IfSome, None, length};
+ghost use Rattle.std.specs.Prelude.{◌≢◌, ◌<◌, IsSome, IsSomeAnd, IsTrue, IfSome, None, length};
 ghost use Rattle.std.specs.FinMap as map;
 ghost use Rattle.art_inner.specs.Changes.{with_child};
 ghost use Rattle.art_inner.specs.Inner.{HasPlace};
@@ -169,11 +125,7 @@ fn links_below<K: AsBytes + Drop, V: Drop, const P: usize>(
         unreachable!()
     };
     let (other, child) = node.beside(byte);
-    if byte < other {
-        links_before(store, child)
-    } else {
-        links_after(store, child)
-    }
+    links_beside(store, child, Side::of(byte, other))
 }
 
 // Puts a larger node with a child more in the place of one at the end of a path, and answers its name

@@ -1,34 +1,38 @@
-use Rattle.std.proofs.Common.{rules, refl, sym, ◌≡◌, Some, None, subst}
-use Rattle.art_model.specs.Pairs.{of_key, remove_reply}
+use Rattle.std.proofs.Common.{sym, subst, Some}
+use Rattle.std.proofs.lemmas.Bool.{false≢true}
+use Rattle.art_model.specs.Canonical.{IsCanonical}
+use Rattle.art_parts.specs.Clones.{IsPairClone}
+use Rattle.art_model.specs.Pairs.{of_key, remove_key}
 use Rattle.art_model.specs.Radix.{pairs_of}
-use Rattle.art_operations.proofs.Found.{takes_key}
-use Rattle.art_writing.proofs.KeysFound.{point_none, point_some, removes_none}
-use Rattle.art_operations.proofs.Moves.{absent, absent_at, from_none, from_kept_root}
+use Rattle.art_operations.specs.declared.run.Reply.TheVariants.{Deleted}
+use Rattle.art_operations.proofs.Moves.{StepFrom, from_root}
+use Rattle.art_operations.proofs.Stepped.{deleted_step, kept_step}
+use Rattle.art_writing.proofs.KeysFound.{deleted_pair}
 use Rattle.art_operations.proofs.run.delete.Goals as goal
 
-pub returns-in_default : goal.returns-in_default
-returns-in_default g c side second = rw c.in_default.is (from_none g.K.AsBytes.bytes g.row.P side second refl (absent g.K.AsBytes.bytes g.row.P side second (refl, refl)))
-
-pub returns-in_default-search_for_delete_point : goal.returns-in_default-search_for_delete_point
-returns-in_default-search_for_delete_point g c side second =
+pub returns-in-Ok : goal.returns-in-Ok
+returns-in-Ok g c command deletion side second =
     let bytes = g.K.AsBytes.bytes in
-    from_kept_root bytes g.row.P side second c.in-Some.is (λ layout by.
-    let none : remove_reply (of_key bytes) c.args.key.items (pairs_of layout) ≡ None =
-    subst (λ key. remove_reply (of_key bytes) key (pairs_of layout) ≡ None) c.deref.ensures.value
-    (point_none layout (remove_reply (of_key bytes) c.deref.result.now (pairs_of layout)) (c.in_default-search_for_delete_point.ensures.point (pairs_of layout) layout by)) in
-    absent_at bytes g.row.P side second by (sym none, sym (removes_none (of_key bytes) c.args.key.items (pairs_of layout) none)))
+    from_root bytes g.row.P side second (λ layout by.
+    let (x, leads, takes) = deletion (pairs_of layout) layout by in
+    let leaf = deleted_pair bytes g.row.P c.in-Ok.done.deleted_leaf by leads c.in-Ok.ensures.deleted in
+    subst (λ pair. StepFrom bytes g.row.P (IsPairClone g.K.Clone.is_clone g.V.Clone.is_clone) side c.args.store.now c.apply.new.store second
+    (Some layout) command (Deleted (Some pair)) c.in-Ok.done.new_root) (sym leaf) (deleted_step bytes g.row.P by second leads takes (record {
+      canonical =
+          subst (λ pair. IsCanonical (of_key bytes) g.row.P c.apply.new.store c.in-Ok.done.new_root
+          (remove_key (of_key bytes) (bytes pair.0) (pairs_of layout))) leaf (c.in-Ok.ensures.canonical (pairs_of layout) layout by);
+      kept = c.in-Ok.ensures.kept (pairs_of layout) layout by;
+      touches = c.in-Ok.ensures.touches;
+      promise = c.in-Ok.ensures.promise;
+    })))
 
-pub delete_at-requires : goal.delete_at-requires
-delete_at-requires g c =
-    let (layout, by) = (rw c.in-Some.is at c.requires.1) in
-    let (x, e, leads) =
-    point_some layout c.in-Some-search_for_delete_point.point (remove_reply (of_key g.K.AsBytes.bytes) c.deref.result.now c.requires.0)
-    (c.in-Some-search_for_delete_point.ensures.point c.requires.0 layout by) in
-    (search rules, ((c.requires.0, layout, x, by, leads), c.in-Some.is))
-
-pub returns : goal.returns
-returns g c side second = rw c.in-Some.is (c.delete_at.ensures side second _ (λ pairs layout by.
-    let (x, e, leads) =
-    point_some layout c.in-Some-search_for_delete_point.point (remove_reply (of_key g.K.AsBytes.bytes) c.deref.result.now pairs)
-    (c.in-Some-search_for_delete_point.ensures.point pairs layout by) in
-    (x, leads, takes_key g.K.AsBytes.bytes c.args.key pairs x (subst (λ key. remove_reply (of_key g.K.AsBytes.bytes) key pairs ≡ Some x) c.deref.ensures.value e))))
+pub returns-in-Err : goal.returns-in-Err
+returns-in-Err g c command deletion side second =
+    let bytes = g.K.AsBytes.bytes in
+    rw c.requires.root (from_root bytes g.row.P side second (λ layout by.
+    let (x, leads, takes) = deletion (pairs_of layout) layout by in
+    kept_step bytes g.row.P by second leads takes (record {
+      same = (c.in-Err.ensures.leaves, c.in-Err.ensures.inners);
+      void = c.in-Err.ensures.void;
+      uncovered = λ covered. absurd (false≢true (c.in-Err.ensures.succeeds covered));
+    })))

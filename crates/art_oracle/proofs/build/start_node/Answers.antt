@@ -1,19 +1,17 @@
 use Rattle.std.proofs.Common.{rules, [], ◌≤◌, ◌+◌, ap, ◌∙◌, arith, drop, length}
-use Rattle.art_oracle.proofs.Placing.{ends, parting, starts, at_within, ready_below}
+use Rattle.art_oracle.proofs.Placing.{last_is_long, starts, at_within, ready_below}
 use Rattle.art_oracle.proofs.SharedParts.{common_fits}
 use Rattle.art_oracle.proofs.build.start_node.Goals as goal
 
 pub split_at-requires-2 : goal.split_at-requires-2
 split_at-requires-2 g c =
     let (way, ready) = c.requires.ready in
-    let e = ends g.K.AsBytes.bytes c.args.store.now.leaves c.args.leaves.now (record { slot = 0 }) ready.there (omega (arith, c.requires.two)) (λ one. omega (arith, c.requires.two)) in
-    rw c.key_of-2.ensures (parting g.K.AsBytes.bytes c.args.store.now.leaves way c.args.leaves.now c.args.depth _ _ ready e).in_last
+    rw c.key_of-2.ensures (last_is_long g.K.AsBytes.bytes c.args.store.now.leaves way c.args.leaves.now c.args.depth ready c.requires.two)
 
 pub overflow_add-at : goal.overflow_add-at
 overflow_add-at g c =
     let (way, ready) = c.requires.ready in
-    let e = ends g.K.AsBytes.bytes c.args.store.now.leaves c.args.leaves.now (record { slot = 0 }) ready.there (omega (arith, c.requires.two)) (λ one. omega (arith, c.requires.two)) in
-    let within = at_within g.K.AsBytes.bytes c.args.store.now.leaves way c.args.leaves.now c.args.depth _ _ c.common_len-len.result c.split_at.result.1.now c.split_at-2.result.1.now ready e
+    let within = at_within g.K.AsBytes.bytes c.args.store.now.leaves way c.args.leaves.now c.args.depth ready c.requires.two
     (c.split_at.ensures.back ∙ ap (drop c.args.depth) c.key_of.ensures) (c.split_at-2.ensures.back ∙ ap (drop c.args.depth) c.key_of-2.ensures) c.common_len-len.ensures in
     let read : c.args.depth + c.common_len-len.result ≤ length c.key_of.result.now = rw c.key_of.ensures within in
     omega (arith, c.key_of.type_inv)
@@ -21,8 +19,7 @@ overflow_add-at g c =
 pub group_count-requires : goal.group_count-requires
 group_count-requires g c =
     let (way, ready) = c.requires.ready in
-    let e = ends g.K.AsBytes.bytes c.args.store.now.leaves c.args.leaves.now (record { slot = 0 }) ready.there (omega (arith, c.requires.two)) (λ one. omega (arith, c.requires.two)) in
-    let below = ready_below g.K.AsBytes.bytes c.args.store.now.leaves way c.args.leaves.now c.args.depth _ _ c.common_len-len.result c.split_at.result.1.now c.split_at-2.result.1.now ready e
+    let below = ready_below g.K.AsBytes.bytes c.args.store.now.leaves way c.args.leaves.now c.args.depth ready c.requires.two
     (c.split_at.ensures.back ∙ ap (drop c.args.depth) c.key_of.ensures) (c.split_at-2.ensures.back ∙ ap (drop c.args.depth) c.key_of-2.ensures) c.common_len-len.ensures in
     (search rules, (omega (arith, c.requires.two), (_, below)))
 
@@ -33,7 +30,6 @@ new-requires g c =
 
 pub returns-clause-starts : goal.returns-clause-starts
 returns-clause-starts g c way ready =
-    let e = ends g.K.AsBytes.bytes c.args.store.now.leaves c.args.leaves.now (record { slot = 0 }) ready.there (omega (arith, c.requires.two)) (λ one. omega (arith, c.requires.two)) in
-    starts g.K.AsBytes.bytes c.args.store.now.leaves way c.args.leaves.now c.args.depth _ _ c.common_len-len.result c.split_at.result.1.now c.split_at-2.result.1.now ready e
+    starts g.K.AsBytes.bytes c.args.store.now.leaves way c.args.leaves.now c.args.depth ready c.requires.two
     (c.split_at.ensures.back ∙ ap (drop c.args.depth) c.key_of.ensures) (c.split_at-2.ensures.back ∙ ap (drop c.args.depth) c.key_of-2.ensures) c.common_len-len.ensures
     g.row.P _ (c.from_header.ensures.view ∙ ap (λ h. record { prefix = h; children = [] }) c.new.ensures)

@@ -6,6 +6,3 @@ returns-in_err-last-clause-leaf g c pairs layout by = rw c.from_residual.ensures
 
 pub returns-clause-leaf : goal.returns-clause-leaf
 returns-clause-leaf g c pairs layout by = let found = c.in_ok-last.ensures.leaf pairs layout by in (pair_of c.in_ok-last.last.node.now, found.only, found.is_leaf)
-
-pub returns-clause-exactly : goal.returns-clause-exactly
-returns-clause-exactly g c pairs layout by found = c.in_ok-last.ensures.exactly pairs layout by found

@@ -3,12 +3,9 @@ use Rattle.art_parts.specs.Clones.{IsPairClone}
 use Rattle.art_inner.specs.Views.{ref_view}
 use Rattle.art_parts.specs.Kinds.{kind_capacity}
 use Rattle.art_nodes.specs.Nodes.{take_inner}
-use Rattle.art_model.specs.Layouts.{shape_of}
-use Rattle.art_model.proofs.Gains.{frees_lost}
 use Rattle.art_model.proofs.Heights.{height_of_layout}
 use Rattle.art_model.proofs.Lessened.{lessened_twice}
-use Rattle.art_writing.proofs.Cloning.{IsCloning, copied_leaf, cloning_start, cloning_next, cloning_refused, cloned_whole, no_end}
-use Rattle.art_writing.proofs.FreedTrees.{all_can, all_go}
+use Rattle.art_writing.proofs.Cloning.{IsCloning, copied_leaf, cloning_start, cloning_next, refused_can_go, refused_undone, cloned_whole, no_end}
 use Rattle.art_writing.proofs.clone.+clone_tree.Goals as goal
 
 pub returns-in_ok-leaf-in-Leaf-clause-copied : goal.returns-in_ok-leaf-in-Leaf-clause-copied
@@ -25,7 +22,7 @@ loop-byte-init g t c = (
       let items = c.iter-byte-items.ensures in
       subst (λ l. IsCloning clone c.args.store.now tree c.args.into.now c.place_like.new.into c.in_ok-parent-in-Inner.parent l None None)
       (sym (c.into_iter-byte-iterator.ensures.into_iter_gives ∙ items.children))
-      (cloning_start clone c.args.store.now c.args.into.now c.place_like.new.into c.in-Inner.name c.in_ok-parent-in-Inner.parent
+      (cloning_start c.args.store.now c.args.into.now c.place_like.new.into c.in-Inner.name c.in_ok-parent-in-Inner.parent
       (ref_view c.in-Some.node) c.args.root tree c.in-Inner.ensures.proper c.in-Inner.ensures.name full c.in-Some.ensures.view
       (made.kind ∙ c.in-Some.ensures.kind) made.fresh made.placed made.leaves
       (made.promise ∙ ap (λ k. take_inner k c.args.into.now.promise) c.in-Some.ensures.kind) items.rising
@@ -36,13 +33,7 @@ loop-byte-init g t c = (
 pub clone_tree-requires : goal.clone_tree-requires
 clone_tree-requires g t c κs within =
     let (tree, full) = c.requires in
-    let clone = IsPairClone g.K.Clone.is_clone g.V.Clone.is_clone in
-    let so_far =
-    subst (λ l. IsCloning clone c.args.store.now tree c.args.into.now c.loop-byte.into c.in_ok-parent-in-Inner.parent l c.loop-byte.min_leaf
-    c.loop-byte.max_leaf) c.in-Some-2.ensures.steps (c.loop-byte.invariant.0 tree full) in
-    let next =
-    cloning_next clone c.args.store.now tree c.args.into.now c.loop-byte.into c.in_ok-parent-in-Inner.parent c.in-Some-2.byte c.in-Some-2.child
-    c.next.new.self c.loop-byte.min_leaf c.loop-byte.max_leaf so_far in
+    let next = cloning_next c.in-Some-2.ensures.steps (c.loop-byte.invariant.0 tree full) in
     let whole = height_of_layout c.args.store.now c.args.root tree full.0 in
     let below = height_of_layout c.args.store.now c.in-Some-2.child next.below next.is_full.0 in
     let low = next.low in
@@ -51,26 +42,14 @@ clone_tree-requires g t c κs within =
 pub add_copy-requires : goal.add_copy-requires
 add_copy-requires g t c =
     let (tree, full) = c.requires in
-    let clone = IsPairClone g.K.Clone.is_clone g.V.Clone.is_clone in
-    let so_far =
-    subst (λ l. IsCloning clone c.args.store.now tree c.args.into.now c.loop-byte.into c.in_ok-parent-in-Inner.parent l c.loop-byte.min_leaf
-    c.loop-byte.max_leaf) c.in-Some-2.ensures.steps (c.loop-byte.invariant.0 tree full) in
-    let next =
-    cloning_next clone c.args.store.now tree c.args.into.now c.loop-byte.into c.in_ok-parent-in-Inner.parent c.in-Some-2.byte c.in-Some-2.child
-    c.next.new.self c.loop-byte.min_leaf c.loop-byte.max_leaf so_far in
+    let next = cloning_next c.in-Some-2.ensures.steps (c.loop-byte.invariant.0 tree full) in
     let copied = c.in-Ok.ensures.copied next.below next.is_full in
     (search rules, (next.last_there c.clone_tree.new.into c.in-Ok.copy copied, (next.first_there c.clone_tree.new.into c.in-Ok.copy copied, next.place c.clone_tree.new.into c.in-Ok.copy copied)))
 
 pub loop-byte-preserved : goal.loop-byte-preserved
 loop-byte-preserved g t c = (
   (λ tree full.
-      let clone = IsPairClone g.K.Clone.is_clone g.V.Clone.is_clone in
-      let so_far =
-      subst (λ l. IsCloning clone c.args.store.now tree c.args.into.now c.loop-byte.into c.in_ok-parent-in-Inner.parent l c.loop-byte.min_leaf
-      c.loop-byte.max_leaf) c.in-Some-2.ensures.steps (c.loop-byte.invariant.0 tree full) in
-      let next =
-      cloning_next clone c.args.store.now tree c.args.into.now c.loop-byte.into c.in_ok-parent-in-Inner.parent c.in-Some-2.byte c.in-Some-2.child
-      c.next.new.self c.loop-byte.min_leaf c.loop-byte.max_leaf so_far in
+      let next = cloning_next c.in-Some-2.ensures.steps (c.loop-byte.invariant.0 tree full) in
       rw c.or-min_leaf.ensures (next.then c.clone_tree.new.into c.add_copy.new.into c.in-Ok.copy (c.in-Ok.ensures.copied next.below next.is_full)
       c.add_copy.ensures.leaves c.add_copy.ensures.inners c.add_copy.ensures.promise)),
   rw c.add_copy.ensures.promise (lessened_twice c.args.into.now.promise c.loop-byte.into.promise c.clone_tree.new.into.promise c.loop-byte.invariant.1 c.clone_tree.ensures.lessened),
@@ -78,32 +57,15 @@ loop-byte-preserved g t c = (
 
 pub free_nodes-requires : goal.free_nodes-requires
 free_nodes-requires g t c =
-    let (tree, full) = c.requires in
-    let refused =
-    cloning_refused (IsPairClone g.K.Clone.is_clone g.V.Clone.is_clone) c.args.store.now tree c.args.into.now c.loop-byte.into
-    c.clone_tree.new.into c.in_ok-parent-in-Inner.parent c.to_opaque-in-Err.result c.loop-byte.byte-iterator c.loop-byte.min_leaf
-    c.loop-byte.max_leaf (c.loop-byte.invariant.0 tree full) c.in-Err.ensures.leaves c.in-Err.ensures.inners c.to_opaque-in-Err.ensures in
-    (search rules, (shape_of refused.tree, all_can refused.is_layout))
+    (search rules, refused_can_go c.requires c.loop-byte.invariant.0 c.in-Err.ensures.leaves c.in-Err.ensures.inners c.to_opaque-in-Err.ensures)
 
 pub returns-in-Err-clause-leaves : goal.returns-in-Err-clause-leaves
 returns-in-Err-clause-leaves g t c =
-    let (tree, full) = c.requires in
-    let refused =
-    cloning_refused (IsPairClone g.K.Clone.is_clone g.V.Clone.is_clone) c.args.store.now tree c.args.into.now c.loop-byte.into
-    c.clone_tree.new.into c.in_ok-parent-in-Inner.parent c.to_opaque-in-Err.result c.loop-byte.byte-iterator c.loop-byte.min_leaf
-    c.loop-byte.max_leaf (c.loop-byte.invariant.0 tree full) c.in-Err.ensures.leaves c.in-Err.ensures.inners c.to_opaque-in-Err.ensures in
-    refused.leaves c.free_nodes.new.store (frees_lost refused.is_layout.holds
-    (all_go refused.tree (c.free_nodes.ensures.freed (shape_of refused.tree) (all_can refused.is_layout))) c.free_nodes.ensures.improper)
+    (refused_undone c.requires c.loop-byte.invariant.0 c.in-Err.ensures.leaves c.in-Err.ensures.inners c.to_opaque-in-Err.ensures c.free_nodes.ensures.freed c.free_nodes.ensures.improper).0
 
 pub returns-in-Err-clause-inners : goal.returns-in-Err-clause-inners
 returns-in-Err-clause-inners g t c =
-    let (tree, full) = c.requires in
-    let refused =
-    cloning_refused (IsPairClone g.K.Clone.is_clone g.V.Clone.is_clone) c.args.store.now tree c.args.into.now c.loop-byte.into
-    c.clone_tree.new.into c.in_ok-parent-in-Inner.parent c.to_opaque-in-Err.result c.loop-byte.byte-iterator c.loop-byte.min_leaf
-    c.loop-byte.max_leaf (c.loop-byte.invariant.0 tree full) c.in-Err.ensures.leaves c.in-Err.ensures.inners c.to_opaque-in-Err.ensures in
-    refused.inners c.free_nodes.new.store (frees_lost refused.is_layout.holds
-    (all_go refused.tree (c.free_nodes.ensures.freed (shape_of refused.tree) (all_can refused.is_layout))) c.free_nodes.ensures.improper)
+    (refused_undone c.requires c.loop-byte.invariant.0 c.in-Err.ensures.leaves c.in-Err.ensures.inners c.to_opaque-in-Err.ensures c.free_nodes.ensures.freed c.free_nodes.ensures.improper).1
 
 pub returns-in-Err-clause-lessened : goal.returns-in-Err-clause-lessened
 returns-in-Err-clause-lessened g t c =
@@ -112,26 +74,13 @@ returns-in-Err-clause-lessened g t c =
 pub unreachable-requires-in_default-min_leaf : goal.unreachable-requires-in_default-min_leaf
 unreachable-requires-in_default-min_leaf g t c =
     let (tree, full) = c.requires in
-    let clone = IsPairClone g.K.Clone.is_clone g.V.Clone.is_clone in
-    let all =
-    subst (λ l. IsCloning clone c.args.store.now tree c.args.into.now c.loop-byte.into c.in_ok-parent-in-Inner.parent l c.loop-byte.min_leaf
-    c.loop-byte.max_leaf) c.in-None.ensures.steps.0 (c.loop-byte.invariant.0 tree full) in
-    no_end clone c.args.store.now tree c.args.into.now c.loop-byte.into c.in_ok-parent-in-Inner.parent c.loop-byte.min_leaf c.loop-byte.max_leaf all (inl c.in_default-min_leaf.is)
+    no_end c.in-None.ensures.steps.0 (c.loop-byte.invariant.0 tree full) (inl c.in_default-min_leaf.is)
 
 pub unreachable-requires-in_default-max_leaf : goal.unreachable-requires-in_default-max_leaf
 unreachable-requires-in_default-max_leaf g t c =
     let (tree, full) = c.requires in
-    let clone = IsPairClone g.K.Clone.is_clone g.V.Clone.is_clone in
-    let all =
-    subst (λ l. IsCloning clone c.args.store.now tree c.args.into.now c.loop-byte.into c.in_ok-parent-in-Inner.parent l c.loop-byte.min_leaf
-    c.loop-byte.max_leaf) c.in-None.ensures.steps.0 (c.loop-byte.invariant.0 tree full) in
-    no_end clone c.args.store.now tree c.args.into.now c.loop-byte.into c.in_ok-parent-in-Inner.parent c.loop-byte.min_leaf c.loop-byte.max_leaf all (inr c.in_default-max_leaf.is)
+    no_end c.in-None.ensures.steps.0 (c.loop-byte.invariant.0 tree full) (inr c.in_default-max_leaf.is)
 
 pub returns-in-Some-max_leaf-clause-copied : goal.returns-in-Some-max_leaf-clause-copied
 returns-in-Some-max_leaf-clause-copied g t c tree full =
-    let clone = IsPairClone g.K.Clone.is_clone g.V.Clone.is_clone in
-    let all =
-    subst (λ l. IsCloning clone c.args.store.now tree c.args.into.now c.loop-byte.into c.in_ok-parent-in-Inner.parent l c.loop-byte.min_leaf
-    c.loop-byte.max_leaf) c.in-None.ensures.steps.0 (c.loop-byte.invariant.0 tree full) in
-    cloned_whole clone c.args.store.now tree c.args.into.now c.loop-byte.into c.in_ok-parent-in-Inner.parent c.loop-byte.min_leaf c.loop-byte.max_leaf
-    c.to_opaque-in-Inner.result c.in-Some-min_leaf.min_leaf c.in-Some-max_leaf.max_leaf all c.in-Some-min_leaf.is c.in-Some-max_leaf.is c.to_opaque-in-Inner.ensures
+    cloned_whole c.in-None.ensures.steps.0 (c.loop-byte.invariant.0 tree full) c.in-Some-min_leaf.is c.in-Some-max_leaf.is c.to_opaque-in-Inner.ensures

@@ -11,9 +11,6 @@ returns-clause-point g c pairs layout by =
     let last = c.in_ok-last.ensures.leaf pairs layout by in
     point_there (ap first_of last.only) (leads_to last.is_leaf last.path_is)
 
-pub returns-clause-exactly : goal.returns-clause-exactly
-returns-clause-exactly g c pairs layout by found = c.in_ok-last.ensures.exactly pairs layout by found
-
 pub returns-in_err-last-clause-applies : goal.returns-in_err-last-clause-applies
 returns-in_err-last-clause-applies g c = rw c.from_residual.ensures tt
 

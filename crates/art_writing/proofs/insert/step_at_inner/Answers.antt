@@ -1,6 +1,5 @@
 use Rattle.std.proofs.Common.{rules, arith}
-use Rattle.art_model.specs.Pairs.{of_key}
-use Rattle.art_writing.proofs.Spots.{inside, prefix_inside, mismatch_inside, inner_there, shown_there, some_shown, part_there, prefix_conflict, into_point, goes_on, mismatch_conflict, mismatch_point}
+use Rattle.art_writing.proofs.Spots.{inside, prefix_fits, mismatch_fits, inner_there, shown_there, some_shown, part_there, prefix_conflict, into_point, goes_on, mismatch_conflict, mismatch_point}
 use Rattle.art_writing.proofs.insert.step_at_inner.Goals as goal
 
 pub match_full_prefix-requires : goal.match_full_prefix-requires
@@ -10,36 +9,26 @@ match_full_prefix-requires g c =
     (search rules, (search rules, (search rules, (search rules, (search rules, (c.requires.inner, (c.in-Some.ensures.view, (inside by d, (d.node, part_there by d c.requires.name)))))))))
 
 pub overflow_add-spot : goal.overflow_add-spot
-overflow_add-spot g c =
-    let (pairs, layout, by) = c.requires.root in
-    let d = c.requires.spot pairs layout by in
-    let inside = mismatch_inside (of_key g.K.AsBytes.bytes) g.row.PREFIX_LEN c.args.key_bytes.now d.node (inside by d) (c.in-Err.ensures d.node (part_there by d c.requires.name)) in
-    omega arith
+overflow_add-spot g c = let inside = mismatch_fits c.requires.root c.requires.spot c.requires.name c.in-Err.ensures in omega arith
 
 pub returns-then-spot-mismatch : goal.returns-then-spot-mismatch
 returns-then-spot-mismatch g c pairs layout by =
     let d = c.requires.spot pairs layout by in
-    let (shown, at) = some_shown by d c.requires.inner c.requires.name in
-    rw c.overwrite.ensures (mismatch_conflict by d at (c.in-Err.ensures d.node (part_there by d c.requires.name)) c.if-spot-mismatch.true)
+    rw c.overwrite.ensures (mismatch_conflict by d (some_shown by d c.requires.inner c.requires.name).1 (c.in-Err.ensures d.node (part_there by d c.requires.name)) c.if-spot-mismatch.true)
 
 pub returns-in-Err : goal.returns-in-Err
 returns-in-Err g c pairs layout by =
     let d = c.requires.spot pairs layout by in
-    let (shown, at) = some_shown by d c.requires.inner c.requires.name in
-    rw c.point.ensures (mismatch_point by d at (c.in-Err.ensures d.node (part_there by d c.requires.name)) c.if-spot-mismatch.false)
+    rw c.point.ensures (mismatch_point by d (some_shown by d c.requires.inner c.requires.name).1 (c.in-Err.ensures d.node (part_there by d c.requires.name)) c.if-spot-mismatch.false)
 
 pub overflow_add-depth : goal.overflow_add-depth
-overflow_add-depth g c =
-    let (pairs, layout, by) = c.requires.root in
-    let d = c.requires.spot pairs layout by in
-    let inside = prefix_inside (of_key g.K.AsBytes.bytes) g.row.PREFIX_LEN c.args.key_bytes.now d.node (inside by d) (c.in-Ok.ensures d.node (part_there by d c.requires.name)) in
-    omega arith
+overflow_add-depth g c = let inside = prefix_fits c.requires.root c.requires.spot c.requires.name c.in-Ok.ensures in omega arith
 
 pub returns-then-depth-key_bytes : goal.returns-then-depth-key_bytes
 returns-then-depth-key_bytes g c pairs layout by =
     let d = c.requires.spot pairs layout by in
-    let (shown, at) = some_shown by d c.requires.inner c.requires.name in
-    rw (c.overwrite-then-depth-key_bytes.ensures, c.saturating_sub.ensures) (prefix_conflict by d at (c.in-Ok.ensures d.node (part_there by d c.requires.name)) c.if-depth-key_bytes.true)
+    rw (c.overwrite-then-depth-key_bytes.ensures, c.saturating_sub.ensures)
+    (prefix_conflict by d (some_shown by d c.requires.inner c.requires.name).1 (c.in-Ok.ensures d.node (part_there by d c.requires.name)) c.if-depth-key_bytes.true)
 
 pub unreachable-requires : goal.unreachable-requires
 unreachable-requires g c =

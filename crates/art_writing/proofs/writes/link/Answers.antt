@@ -3,6 +3,6 @@ use Rattle.art_model.specs.Writes.{IsThere, with_next}
 use Rattle.art_model.proofs.Leaves.{there_changed}
 use Rattle.art_writing.proofs.writes.link.Goals as goal
 
-pub set_previous-requires : goal.set_previous-requires
-set_previous-requires g c =
-    (search rules, subst (λ m. IsThere m c.args.next) (sym c.set_next.ensures.leaves) (there_changed c.args.store.now.leaves c.args.previous c.args.next (with_next c.args.next) c.requires.next))
+pub set_beside-requires-2 : goal.set_beside-requires-2
+set_beside-requires-2 g c =
+    (search rules, subst (λ m. IsThere m c.args.next) (sym c.set_beside.ensures.leaves) (there_changed c.args.store.now.leaves c.args.previous c.args.next (with_next c.args.next) c.requires.next))

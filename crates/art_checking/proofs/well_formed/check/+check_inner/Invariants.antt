@@ -1,14 +1,12 @@
-use Rattle.std.proofs.Common.{◌++◌, is_some}
+use Rattle.std.proofs.Common.{is_some}
 use Rattle.std.specs.FinMap as map
 use Rattle.art_inner.specs.Views.{ref_view}
 use Rattle.art_parts.specs.Names.{inner_name}
 use Rattle.art_model.specs.Pairs.{of_key}
-use Rattle.art_model.specs.Stores.{header_at}
-use Rattle.art_checking.specs.Checked.{IsRead}
 use Rattle.art_checking.specs.Meetings.{place_in}
 use Rattle.art_checking.specs.Untried.{untried}
-use Rattle.art_checking.proofs.Passed.{HasPassed}
-use Rattle.art_checking.proofs.Walked.{HasWalked, IsFirstLeast}
+use Rattle.art_checking.proofs.Turns.{HasTurned}
+use Rattle.art_checking.proofs.Walked.{IsFirstLeast}
 use Rattle.art_checking.proofs.well_formed.check.+check_inner.Given as goal
 
 abbrev pub decreases-check_inner : goal.decreases-check_inner
@@ -18,6 +16,4 @@ abbrev pub invariant-loop-byte : goal.invariant-loop-byte
 invariant-loop-byte g l =
     (goal.iterator-loop-byte g).can_next l.byte-iterator × (goal.iterator-loop-byte g).is_finite l.byte-iterator
     × IsFirstLeast (of_key g.K.AsBytes.bytes) g.row.P l.store l.least l.byte-iterator
-    × ((read : IsRead (of_key g.K.AsBytes.bytes) g.row.P l.store l.fn.place.items l.place.items (inner_name l.fn.name) (header_at l.fn.name.kind (ref_view l.node)))
-    × HasPassed (of_key g.K.AsBytes.bytes) g.row.P l.store l.fn.seen l.seen (l.fn.place.items ++ read.part) (ref_view l.node).children l.byte-iterator
-    × HasWalked (of_key g.K.AsBytes.bytes) g.row.P l.store (place_in l.fn.seen) (place_in l.seen) l.fn.place.items read.part (inner_name l.fn.name) l.byte-iterator)
+    × HasTurned (of_key g.K.AsBytes.bytes) g.row.P l.store l.fn.seen l.seen l.fn.place.items l.place.items l.fn.name (ref_view l.node) l.byte-iterator

@@ -6,14 +6,13 @@ use Rattle.std.specs.Option.{option_map, option_and_then}
 use Rattle.std.specs.declared.cmp.Ordering.TheVariants.{Less, Greater}
 use Rattle.art_parts.specs.Names.{leaf_name}
 use Rattle.std.proofs.lemmas.Bool.{false≢true}
-use Rattle.art_parts.specs.declared.names.OpaqueNodePtr.{OpaqueNodePtr}
-use Rattle.art_parts.specs.declared.names.NodeType.TheVariants.{Leaf}
-use Rattle.art_model.specs.Faults.{IsTrueOf, Reaches}
+use Rattle.art_model.specs.Faults.{Reaches}
 use Rattle.art_model.specs.Pairs.{of_key}
 use Rattle.art_model.specs.Keys.{IsFront}
-use Rattle.art_model.specs.Stores.{held_leaf, links_of, seen, pair_of}
+use Rattle.art_model.specs.Stores.{held_leaf, links_of, pair_of}
 use Rattle.art_checking.specs.Checked.{IsBetween, IsInOrder}
-use Rattle.art_checking.specs.Checks.{between, fault_of}
+use Rattle.art_checking.specs.Checks.{between}
+use Rattle.art_checking.proofs.Descents.{leaf_at}
 use Rattle.art_checking.proofs.Faulty.{passed_on}
 use Rattle.art_checking.proofs.well_formed.check.check_leaf.Goals as goal
 use Rattle.art_checking.proofs.well_formed.check.check_leaf.Goals.{in-Some-previous+in_ok-check_order, in_default-previous, in-Some-next+in_ok-check_order-2, in_default-next}
@@ -27,19 +26,16 @@ tests whole front rest e = (starts_is Decides-eqb whole front (starts_with eqb w
 pub returns-clause-leaf : goal.returns-clause-leaf
 returns-clause-leaf g c = (
   pair_of c.in-Some.node.now,
-  ap (λ o. option_map (seen Leaf) (option_map held_leaf o)) (sym c.in-Some.ensures),
+  leaf_at c.args.store.now c.args.leaf c.in-Some.node.now (sym c.in-Some.ensures),
   begins
       (g.K.AsBytes.bytes c.in-Some.node.now.key) c.args.place.now (subst (λ key. true ≡ starts_with eqb key c.args.place.now) c.as_bytes-key.ensures c.if-not-starts_with.ensures.value),
 )
 
 pub returns-in_err-check_order-clause-fault : goal.returns-in_err-check_order-clause-fault
 returns-in_err-check_order-clause-fault g c =
-    passed_on c.from_residual-in_err-check_order.result c.in_err-check_order.field-0.0
-    (λ error. (root : OpaqueNodePtr) → Reaches (of_key g.K.AsBytes.bytes) g.row.P c.args.store.now root c.args.place.now (leaf_name c.args.leaf) →
-    IsTrueOf (of_key g.K.AsBytes.bytes) g.row.P c.args.store.now root (fault_of error))
-    c.from_residual-in_err-check_order.ensures.1
+    passed_on _ _ _ c.from_residual-in_err-check_order.ensures.1
     (λ root reach. c.in_err-check_order.ensures.fault root (leaf_name c.args.leaf) (pair_of c.in-Some.node.now)
-    (reach, ap (λ o. option_map (seen Leaf) (option_map held_leaf o)) (sym c.in-Some.ensures)) (sym c.as_bytes-key.ensures) (
+    (reach, leaf_at c.args.store.now c.args.leaf c.in-Some.node.now (sym c.in-Some.ensures)) (sym c.as_bytes-key.ensures) (
       between c.in-Some.node.now.previous c.in-Some.node.now.next,
       ap (λ o. option_and_then links_of (option_map held_leaf o)) (sym c.in-Some.ensures),
       inl (refl, ap (option_map leaf_name) c.in-Some-previous.is),
@@ -47,12 +43,9 @@ returns-in_err-check_order-clause-fault g c =
 
 pub returns-in_err-check_order-2-clause-fault : goal.returns-in_err-check_order-2-clause-fault
 returns-in_err-check_order-2-clause-fault g c =
-    passed_on c.from_residual-in_err-check_order-2.result c.in_err-check_order-2.field-0.0
-    (λ error. (root : OpaqueNodePtr) → Reaches (of_key g.K.AsBytes.bytes) g.row.P c.args.store.now root c.args.place.now (leaf_name c.args.leaf) →
-    IsTrueOf (of_key g.K.AsBytes.bytes) g.row.P c.args.store.now root (fault_of error))
-    c.from_residual-in_err-check_order-2.ensures.1
+    passed_on _ _ _ c.from_residual-in_err-check_order-2.ensures.1
     (λ root reach. c.in_err-check_order-2.ensures.fault root (leaf_name c.args.leaf) (pair_of c.in-Some.node.now)
-    (reach, ap (λ o. option_map (seen Leaf) (option_map held_leaf o)) (sym c.in-Some.ensures)) (sym c.as_bytes-key.ensures) (
+    (reach, leaf_at c.args.store.now c.args.leaf c.in-Some.node.now (sym c.in-Some.ensures)) (sym c.as_bytes-key.ensures) (
       between c.in-Some.node.now.previous c.in-Some.node.now.next,
       ap (λ o. option_and_then links_of (option_map held_leaf o)) (sym c.in-Some.ensures),
       inr (refl, ap (option_map leaf_name) c.in-Some-next.is),
@@ -66,7 +59,7 @@ returns-then-not-starts_with-clause-fault g c root reach = (
     subst
         (λ place. Reaches (of_key g.K.AsBytes.bytes) g.row.P c.args.store.now root place (leaf_name c.args.leaf)) (sym c.in_ok-from_slice.ensures)
         reach,
-    ap (λ o. option_map (seen Leaf) (option_map held_leaf o)) (sym c.in-Some.ensures),
+    leaf_at c.args.store.now c.args.leaf c.in-Some.node.now (sym c.in-Some.ensures),
   ),
   sym c.as_bytes-key.ensures ∙
       sym c.in_ok-copy_of.ensures,

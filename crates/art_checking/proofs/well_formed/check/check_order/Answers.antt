@@ -1,33 +1,31 @@
-use Rattle.std.proofs.Common.{refl, ap, ap₂, sym, ◌∙◌, inr, subst, ◌≡◌, None, eq-eqb}
+use Rattle.std.proofs.Common.{refl, ap, ap₂, sym, ◌∙◌, inr, subst, ◌≡◌, ℕ, zero, suc, None, eq-eqb}
 use Rattle.std.proofs.lemmas.Bool.{false≢true, eqb-true}
 use Rattle.std.specs.Cmp.Lexicographic.{slice_cmp}
-use Rattle.std.specs.Option.{option_map}
 use Rattle.std.specs.Ordering.{nat_cmp, ordering_index}
 use Rattle.std.specs.declared.cmp.Ordering.{Ordering}
 use Rattle.std.specs.declared.cmp.Ordering.TheVariants.{Less, Equal, Greater}
 use Rattle.art_parts.specs.Names.{leaf_name}
-use Rattle.art_parts.specs.declared.names.NodeType.TheVariants.{Leaf}
 use Rattle.art_model.specs.Faults.{HasSibling, ReachesLeaf}
 use Rattle.art_model.specs.Pairs.{of_key}
-use Rattle.art_model.specs.Stores.{held_leaf, seen, node_at, pair_of}
+use Rattle.art_model.specs.Stores.{node_at, pair_of}
+use Rattle.art_checking.proofs.Descents.{leaf_at, none_at_leaf}
 use Rattle.art_checking.proofs.well_formed.check.check_order.Goals as goal
 
--- an order is told by its index
-ordering_from_index : (a b : Ordering) → ordering_index a ≡ ordering_index b → a ≡ b
-ordering_from_index Less Less e = refl
-ordering_from_index Equal Equal e = refl
-ordering_from_index Greater Greater e = refl
-ordering_from_index Less Equal e = absurd cc
-ordering_from_index Less Greater e = absurd cc
-ordering_from_index Equal Less e = absurd cc
-ordering_from_index Equal Greater e = absurd cc
-ordering_from_index Greater Less e = absurd cc
-ordering_from_index Greater Equal e = absurd cc
+-- the order that has an index
+abbrev order_at : ℕ → Ordering
+order_at zero = Less
+order_at (suc zero) = Equal
+order_at (suc (suc n)) = Greater
+
+order_at-index : (order : Ordering) → order_at (ordering_index order) ≡ order
+order_at-index Less = refl
+order_at-index Equal = refl
+order_at-index Greater = refl
 
 pub returns-in_default-clause-fault : goal.returns-in_default-clause-fault
 returns-in_default-clause-fault g c root leaf x reach is has =
     let named = sym c.to_opaque.ensures in (
-      subst (λ n. node_at c.args.store.now n ≡ None) named (ap (λ o. option_map (seen Leaf) (option_map held_leaf o)) (sym c.in_default.ensures)),
+      subst (λ n. node_at c.args.store.now n ≡ None) named (none_at_leaf c.args.store.now c.args.sibling (sym c.in_default.ensures)),
       inr (
         leaf,
         x,
@@ -46,7 +44,7 @@ returns-clause-fault g c root leaf x reach is has = (
   pair_of c.in-Some.node.now,
   reach,
   has,
-  ap (λ o. option_map (seen Leaf) (option_map held_leaf o)) (sym c.in-Some.ensures),
+  leaf_at c.args.store.now c.args.sibling c.in-Some.node.now (sym c.in-Some.ensures),
   sym c.as_bytes-sibling_key.ensures ∙ sym c.in_ok-copy_of.ensures,
   is ∙ sym c.in_ok-copy_of-2.ensures,
   ap₂ (slice_cmp nat_cmp) c.in_ok-copy_of.ensures c.in_ok-copy_of-2.ensures ∙ sym c.cmp-actual.ensures,
@@ -55,5 +53,6 @@ returns-clause-fault g c root leaf x reach is has = (
 
 pub returns-then-eq-clause-sibling : goal.returns-then-eq-clause-sibling
 returns-then-eq-clause-sibling g c =
-    let same = ordering_from_index c.cmp-actual.result c.args.expected (eqb-true (ordering_index c.cmp-actual.result) (ordering_index c.args.expected) (sym c.eq.ensures ∙ c.if-eq.true)) in
+    let index = eqb-true (ordering_index c.cmp-actual.result) (ordering_index c.args.expected) (sym c.eq.ensures ∙ c.if-eq.true) in
+    let same = sym (order_at-index c.cmp-actual.result) ∙ ap order_at index ∙ order_at-index c.args.expected in
     (c.in-Some.node.now, sym c.in-Some.ensures, ap (λ key. slice_cmp nat_cmp key c.args.key.now) (sym c.as_bytes-sibling_key.ensures) ∙ sym c.cmp-actual.ensures ∙ same)

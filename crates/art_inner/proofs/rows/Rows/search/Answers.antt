@@ -1,4 +1,4 @@
-use Rattle.std.proofs.Common.{◌≡◌, Bool, true, false, is_some, ap, sym, ◌∙◌}
+use Rattle.std.proofs.Common.{◌≡◌, Bool, true, false, is_some, ap, ◌∙◌}
 use Rattle.art_parts.specs.declared.names.NodeType.TheVariants.{Node4}
 use Rattle.art_inner.specs.Rows.{rows_of}
 use Rattle.art_inner.proofs.RowsLemmas.{rows-below, rows-get, rows-not_at, child_in_place}

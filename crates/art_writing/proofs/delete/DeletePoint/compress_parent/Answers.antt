@@ -1,83 +1,53 @@
-use Rattle.std.proofs.Common.{rules, ◌≡◌, ap, sym, ◌∙◌, subst, IsSome, IsSomeAnd}
-use Rattle.std.specs.FinMap.{get}
-use Rattle.art_model.specs.Writes.{without_leaf}
-use Rattle.art_writing.specs.Inserted.{alone}
-use Rattle.art_writing.specs.Writes.{LinksAreThere}
+use Rattle.std.proofs.Common.{rules, ◌∙◌}
+use Rattle.art_model.specs.Pairs.{of_key}
+use Rattle.art_writing.specs.Deleted.{is_compressed}
 use Rattle.art_writing.proofs.Below.{is_below, leaf_ready}
-use Rattle.art_writing.proofs.Removals.{is_one_of_two, one_left, other_is, header_is, beside_ready, beside_found, may_lengthen, lengthened_is, above_ready, two_touches, two_deleted}
+use Rattle.art_writing.proofs.Deletions.{taken_out_of}
+use Rattle.art_writing.proofs.Removals.{IsOneOfTwo, IsOtherTaken, is_one_of_two, one_left, other_is, beside_ready, may_lengthen, lengthened_is, above_ready, two_deleted}
 use Rattle.art_writing.proofs.delete.DeletePoint.compress_parent.Goals as goal
+use Rattle.art_writing.proofs.delete.DeletePoint.compress_parent.Goals.{After-take_other-header}
+use Rattle.art_writing.proofs.delete.DeletePoint.compress_parent.Given.{Over}
 
 pub take_other-header-requires : goal.take_other-header-requires
 take_other-header-requires g c =
     let (pairs, layout, x, by, leads) = c.requires.answers in
     (search rules, (search rules, one_left (is_one_of_two by leads c.requires.parent c.requires.compressed)))
 
+-- ---- when the parent is taken out
+
+module _ (g : Over) (c : After-take_other-header g) where
+  two : IsOneOfTwo (of_key g.K.AsBytes.bytes) g.row.P c.args.store.now c.args.root c.requires.answers.0 c.requires.answers.1 c.requires.answers.2 c.args.self c.args.parent c.args.byte
+  two = is_one_of_two c.requires.answers.3 c.requires.answers.4 c.requires.parent c.requires.compressed
+
+  taken : IsOtherTaken two c.take_other-header.new.self c.take_other-header.result.0 c.take_other-header.result.1 c.take_other-header.result.2
+  taken = record { leaves = c.take_other-header.ensures.leaves; inners = c.take_other-header.ensures.inners; answered = c.take_other-header.ensures.other }
+
 pub leaf_beside-beside-requires : goal.leaf_beside-beside-requires
 leaf_beside-beside-requires g c =
-    let (pairs, layout, x, by, leads) = c.requires.answers in
-    let at = is_one_of_two by leads c.requires.parent c.requires.compressed in
-    let least = other_is at c.take_other-header.result.0 c.take_other-header.result.1 c.take_other-header.result.2 c.take_other-header.ensures.other in
-    (search rules, beside_ready at c.take_other-header.new.self.leaves c.take_other-header.result.1 c.take_other-header.ensures.leaves (ap (λ z. z.0) least))
+    let o = (goal.at.leaf_beside-beside-requires g c).After-take_other-header in
+    (search rules, beside_ready (two g o) (taken g o))
 
 pub lengthen_prefix-requires : goal.lengthen_prefix-requires
 lengthen_prefix-requires g c =
-    let (pairs, layout, x, by, leads) = c.requires.answers in
-    let at = is_one_of_two by leads c.requires.parent c.requires.compressed in
-    let least = other_is at c.take_other-header.result.0 c.take_other-header.result.1 c.take_other-header.result.2 c.take_other-header.ensures.other in
-    let front = header_is at c.take_other-header.result.0 c.take_other-header.result.1 c.take_other-header.result.2 c.take_other-header.ensures.other in
-    let beside =
-    beside_found at c.take_other-header.new.self.leaves c.take_other-header.result.1 c.leaf_beside-beside.result
-    c.take_other-header.ensures.leaves (ap (λ z. z.0) least) c.leaf_beside-beside.ensures in (
-      search rules,
-      (
-        search rules,
-        may_lengthen at c.take_other-header.new.self.leaves c.take_other-header.new.self.inners c.take_other-header.result.2
-            c.leaf_beside-beside.result c.take_other-header.result.0 c.take_other-header.ensures.leaves c.take_other-header.ensures.inners (ap (λ z. z.1) least) beside front,
-      ),
-    )
+    let o = (goal.at.lengthen_prefix-requires g c).After-take_other-header in
+    (search rules, (search rules, may_lengthen (two g o) (taken g o) c.leaf_beside-beside.result c.leaf_beside-beside.ensures))
 
-pub replace_at-requires : goal.replace_at-requires
-replace_at-requires g c =
-    let (pairs, layout, x, by, leads) = c.requires.answers in
-    let at = is_one_of_two by leads c.requires.parent c.requires.compressed in
-    let least = other_is at c.take_other-header.result.0 c.take_other-header.result.1 c.take_other-header.result.2 c.take_other-header.ensures.other in
-    let front = header_is at c.take_other-header.result.0 c.take_other-header.result.1 c.take_other-header.result.2 c.take_other-header.ensures.other in
-    let lengthened =
-    lengthened_is at c.take_other-header.new.self.inners c.lengthen_prefix.new.store.inners c.take_other-header.result.2 c.take_other-header.result.1
-    c.take_other-header.result.0 c.take_other-header.ensures.inners (ap (λ z. z.1) least) (ap (λ z. z.0) least) front c.lengthen_prefix.ensures.leaf c.lengthen_prefix.ensures.inner in
-    (search rules, above_ready at c.lengthen_prefix.new.store.inners c.up.result lengthened c.up.ensures)
+pub replace_at-new_root-requires : goal.replace_at-new_root-requires
+replace_at-new_root-requires g c =
+    let o = (goal.at.replace_at-new_root-requires g c).After-take_other-header in
+    let lengthened = lengthened_is (two g o) (taken g o) c.lengthen_prefix.new.store.inners c.lengthen_prefix.ensures.leaf c.lengthen_prefix.ensures.inner in
+    (search rules, above_ready (two g o) c.lengthen_prefix.new.store.inners c.up.result lengthened c.up.ensures)
 
-pub take_from_between-requires : goal.take_from_between-requires
-take_from_between-requires g c =
+pub take_leaf-requires : goal.take_leaf-requires
+take_leaf-requires g c =
     let (pairs, layout, x, by, leads) = c.requires.answers in
-    let leaves = c.replace_at.ensures.leaves ∙ c.lengthen_prefix.ensures.leaves ∙ c.take_other-header.ensures.leaves in
-    (search rules, subst (λ z. IsSome (get z c.args.self.leaf_node_ptr) × LinksAreThere z c.args.self.leaf_node_ptr) (sym leaves) (leaf_ready (is_below by leads c.requires.parent)))
+    (search rules, rw (c.replace_at-new_root.ensures.leaves, c.lengthen_prefix.ensures.leaves, c.take_other-header.ensures.leaves) (leaf_ready (is_below by leads c.requires.parent)))
 
-pub returns-clause-deleted : goal.returns-clause-deleted
-returns-clause-deleted g c pairs layout by x leads =
-    let at = is_one_of_two by leads c.requires.parent c.requires.compressed in
-    let least = other_is at c.take_other-header.result.0 c.take_other-header.result.1 c.take_other-header.result.2 c.take_other-header.ensures.other in
-    let front = header_is at c.take_other-header.result.0 c.take_other-header.result.1 c.take_other-header.result.2 c.take_other-header.ensures.other in
-    let lengthened =
-    lengthened_is at c.take_other-header.new.self.inners c.lengthen_prefix.new.store.inners c.take_other-header.result.2 c.take_other-header.result.1
-    c.take_other-header.result.0 c.take_other-header.ensures.inners (ap (λ z. z.1) least) (ap (λ z. z.0) least) front c.lengthen_prefix.ensures.leaf c.lengthen_prefix.ensures.inner in
-    let leaves = c.replace_at.ensures.leaves ∙ c.lengthen_prefix.ensures.leaves ∙ c.take_other-header.ensures.leaves in
-    two_deleted at c.take_from_between.new.store c.up.result c.take_other-header.result.2 c.lengthen_prefix.new.store.inners
-    (subst (λ z. IsSomeAnd (get z c.args.self.leaf_node_ptr) (λ leaf. c.take_from_between.new.store.leaves ≡ without_leaf z c.args.self.leaf_node_ptr leaf)) leaves c.take_from_between.ensures.leaves)
-    c.up.ensures (ap (λ z. z.1) least) lengthened (c.take_from_between.ensures.inners ∙ c.replace_at.ensures.inners) c.replace_at.result c.requires.compressed
-    (subst (λ z. IsSomeAnd (get z c.args.self.leaf_node_ptr) (λ leaf. c.take_from_between.result ≡ alone (leaf.key, leaf.value))) leaves c.take_from_between.ensures.leaf)
-    c.replace_at.ensures.root
-
-pub returns-clause-touches : goal.returns-clause-touches
-returns-clause-touches g c =
-    let (pairs, layout, x, by, leads) = c.requires.answers in
-    let at = is_one_of_two by leads c.requires.parent c.requires.compressed in
-    let least = other_is at c.take_other-header.result.0 c.take_other-header.result.1 c.take_other-header.result.2 c.take_other-header.ensures.other in
-    let front = header_is at c.take_other-header.result.0 c.take_other-header.result.1 c.take_other-header.result.2 c.take_other-header.ensures.other in
-    let lengthened =
-    lengthened_is at c.take_other-header.new.self.inners c.lengthen_prefix.new.store.inners c.take_other-header.result.2 c.take_other-header.result.1
-    c.take_other-header.result.0 c.take_other-header.ensures.inners (ap (λ z. z.1) least) (ap (λ z. z.0) least) front c.lengthen_prefix.ensures.leaf c.lengthen_prefix.ensures.inner in
-    let leaves = c.replace_at.ensures.leaves ∙ c.lengthen_prefix.ensures.leaves ∙ c.take_other-header.ensures.leaves in
-    two_touches at c.take_from_between.new.store c.up.result c.take_other-header.result.2 c.lengthen_prefix.new.store.inners
-    (subst (λ z. IsSomeAnd (get z c.args.self.leaf_node_ptr) (λ leaf. c.take_from_between.new.store.leaves ≡ without_leaf z c.args.self.leaf_node_ptr leaf)) leaves c.take_from_between.ensures.leaves)
-    c.up.ensures (ap (λ z. z.1) least) lengthened (c.take_from_between.ensures.inners ∙ c.replace_at.ensures.inners) c.requires.compressed
+pub returns : goal.returns
+returns g c =
+    let o = (goal.at.returns g c).After-take_other-header in
+    let lengthened = lengthened_is (two g o) (taken g o) c.lengthen_prefix.new.store.inners c.lengthen_prefix.ensures.leaf c.lengthen_prefix.ensures.inner in
+    taken_out_of c.requires.answers (two_deleted (two g o) (c.replace_at-new_root.ensures.leaves ∙ c.lengthen_prefix.ensures.leaves ∙ c.take_other-header.ensures.leaves)
+    c.up.ensures (other_is (two g o) (taken g o)) lengthened c.replace_at-new_root.ensures.inners c.take_leaf.ensures c.requires.compressed c.replace_at-new_root.ensures.root)
+    is_compressed c.requires.compressed (λ kind e. absurd cc)
+    (c.take_leaf.ensures.promise ∙ c.replace_at-new_root.ensures.promise ∙ c.lengthen_prefix.ensures.promise ∙ c.take_other-header.ensures.promise)

@@ -2,14 +2,15 @@ use Rattle.std.proofs.Common.{rules, ◌∙◌, ap, sym, refl, subst, get_or, So
 use Rattle.std.specs.FinMap as map
 use Rattle.art_parts.specs.Kinds.{larger_kind}
 use Rattle.art_nodes.specs.Nodes.{covers, promises, take_leaf}
-use Rattle.art_model.specs.Promises.{inner_taken, promise_after}
+use Rattle.art_model.specs.Promises.{inner_taken}
 use Rattle.art_model.specs.Writes.{IsThere}
 use Rattle.art_writing.specs.Inserted.{is_full, placed_for}
 use Rattle.art_writing.specs.Writes.{HasChild}
 use Rattle.art_reading.specs.Paths.{last_step}
+use Rattle.art_writing.proofs.Applied.{applied}
 use Rattle.art_writing.proofs.Entered.{entry, entry_there, entry_inner, entry_gap, entry_parent}
-use Rattle.art_writing.proofs.LeafAdded.{no_leaf_asked, previous_is_there, next_is_there, room_inserted, room_touched, full_inserted, full_touched, has_room, larger_has_room, asked_full, asked_room}
-use Rattle.art_writing.proofs.Reserved.{leaf_promised, inner_promised, after_reserve, not_refused}
+use Rattle.art_writing.proofs.LeafAdded.{no_leaf_asked, previous_is_there, next_is_there, room_inserted, full_inserted, has_room, larger_has_room, asked_full, asked_room}
+use Rattle.art_writing.proofs.Reserved.{leaf_promised, inner_promised, after_reserve, is_none, not_refused}
 use Rattle.art_writing.proofs.insert.InsertPoint.add_child.Goals as goal
 
 pub kind_if_full-larger-requires : goal.kind_if_full-larger-requires
@@ -65,43 +66,25 @@ put_larger-requires g c =
       ),
     )
 
-pub returns-then-is_some-clause-inserted : goal.returns-then-is_some-clause-inserted
-returns-then-is_some-clause-inserted g c pairs layout by =
+pub returns-then-is_some : goal.returns-then-is_some
+returns-then-is_some g c =
+    let granted = sym c.is_err.ensures.value ∙ c.if-is_err.false in
+    let (pairs, layout, own, answers) = c.requires.answers in
+    let entered = entry c.requires.answers c.requires.point (ap (λ l. get_or l c.args.self.key_bytes_used 0) c.as_bytes.ensures) own in
+    let asked = (asked_full c.args.self (c.args.key, c.args.value) own entered c.links_below-previous.ensures.few c.kind_if_full-larger.ensures (sym c.is_some.ensures ∙ c.if-is_some.true)).2 in
+    applied g.K.AsBytes.bytes c.requires.answers (λ pairs layout by.
     let e = entry c.requires.answers c.requires.point (ap (λ l. get_or l c.args.self.key_bytes_used 0) c.as_bytes.ensures) by in
     let beside = c.links_below-previous.ensures.beside e.left e.right (entry_gap by e) in
-    let p = c.args.inner_node_ptr in
     let (full, last, asked) = asked_full c.args.self (c.args.key, c.args.value) by e c.links_below-previous.ensures.few c.kind_if_full-larger.ensures (sym c.is_some.ensures ∙ c.if-is_some.true) in
     full_inserted c.args.self (c.args.key, c.args.value) by e _ _ beside c.reserve.new.self c.place_between-leaf_node_ptr.new.store
     c.reserve.ensures.leaves c.reserve.ensures.inners c.place_between-leaf_node_ptr.ensures.fresh c.place_between-leaf_node_ptr.ensures.leaves
     c.place_between-leaf_node_ptr.ensures.inners c.to_opaque-child.ensures c.put_larger.new.store c.put_larger.ensures.leaves full last
-    c.put_larger.result.0 c.put_larger.ensures.kind c.put_larger.ensures.fresh c.put_larger.ensures.inners c.requires.point c.put_larger.ensures.root _ c.new_child.ensures
-
-pub returns-then-is_some-clause-touches : goal.returns-then-is_some-clause-touches
-returns-then-is_some-clause-touches g c =
-    let (pairs, layout, by, own) = c.requires.answers in
-    let e = entry c.requires.answers c.requires.point (ap (λ l. get_or l c.args.self.key_bytes_used 0) c.as_bytes.ensures) by in
-    let beside = c.links_below-previous.ensures.beside e.left e.right (entry_gap by e) in
-    let p = c.args.inner_node_ptr in
-    let (full, last, asked) = asked_full c.args.self (c.args.key, c.args.value) by e c.links_below-previous.ensures.few c.kind_if_full-larger.ensures (sym c.is_some.ensures ∙ c.if-is_some.true) in
-    full_touched c.args.self (c.args.key, c.args.value) by e _ _ beside c.reserve.new.self c.place_between-leaf_node_ptr.new.store
-    c.reserve.ensures.leaves c.reserve.ensures.inners c.place_between-leaf_node_ptr.ensures.fresh c.place_between-leaf_node_ptr.ensures.leaves
-    c.place_between-leaf_node_ptr.ensures.inners c.to_opaque-child.ensures c.put_larger.new.store c.put_larger.ensures.leaves full last
-    c.put_larger.result.0 c.put_larger.ensures.kind c.put_larger.ensures.fresh c.put_larger.ensures.inners c.requires.point
-
-pub returns-then-is_some-clause-promise : goal.returns-then-is_some-clause-promise
-returns-then-is_some-clause-promise g c =
-    let (pairs, layout, by, own) = c.requires.answers in
-    let e = entry c.requires.answers c.requires.point (ap (λ l. get_or l c.args.self.key_bytes_used 0) c.as_bytes.ensures) by in
-    let p = c.args.inner_node_ptr in
-    let (full, last, asked) = asked_full c.args.self (c.args.key, c.args.value) by e c.links_below-previous.ensures.few c.kind_if_full-larger.ensures (sym c.is_some.ensures ∙ c.if-is_some.true) in
-    let granted = sym c.is_err.ensures.value ∙ c.if-is_err.false in
-    c.put_larger.ensures.promise
-    ∙ ap (λ promise. inner_taken (Some (larger_kind p.kind)) promise) c.place_between-leaf_node_ptr.ensures.promise
+    c.put_larger.result.0 c.put_larger.ensures.kind c.put_larger.ensures.fresh c.put_larger.ensures.inners c.requires.point c.put_larger.ensures.root _ c.new_child.ensures)
+    (c.put_larger.ensures.promise
+    ∙ ap (λ promise. inner_taken (Some (larger_kind c.args.inner_node_ptr.kind)) promise) c.place_between-leaf_node_ptr.ensures.promise
     ∙ ap (λ kind. inner_taken kind (take_leaf c.reserve.new.self.promise)) (sym asked)
-    ∙ after_reserve c.args.store.now c.reserve.new.self c.kind_if_full-larger.result c.reserve.ensures.covered
-    (λ not_covered. not_refused c.reserve.result granted (c.reserve.ensures.granted not_covered))
-    ∙ ap (λ kind. promise_after (record { leaves = 1; inner = kind }) c.args.store.now.promise) c.kind_if_full-larger.ensures
-    ∙ ap (λ kind. promise_after (placed_for c.args.store.now kind) c.args.store.now.promise) (sym c.requires.point)
+    ∙ after_reserve c.args.store.now c.reserve.new.self c.kind_if_full-larger.result c.reserve.result granted c.reserve.ensures.covered c.reserve.ensures.granted
+    (ap (λ kind. record { leaves = 1; inner = kind }) c.kind_if_full-larger.ensures ∙ ap (placed_for c.args.store.now) (sym c.requires.point)))
 
 pub write_child-requires : goal.write_child-requires
 write_child-requires g c =
@@ -112,24 +95,20 @@ write_child-requires g c =
     let room = asked_room c.args.self (c.args.key, c.args.value) by e c.links_below-previous.ensures.few c.kind_if_full-larger.ensures (sym c.is_some.ensures ∙ c.if-is_some.false) in
     (search rules, has_room c.args.self (c.args.key, c.args.value) by e room c.place_between-leaf_node_ptr.new.store.inners same)
 
-pub returns-clause-inserted : goal.returns-clause-inserted
-returns-clause-inserted g c pairs layout by =
+pub returns : goal.returns
+returns g c =
+    let none = is_none c.kind_if_full-larger.result (sym c.is_some.ensures ∙ c.if-is_some.false) in
+    applied g.K.AsBytes.bytes c.requires.answers (λ pairs layout by.
     let e = entry c.requires.answers c.requires.point (ap (λ l. get_or l c.args.self.key_bytes_used 0) c.as_bytes.ensures) by in
     let beside = c.links_below-previous.ensures.beside e.left e.right (entry_gap by e) in
-    let p = c.args.inner_node_ptr in
     let room = asked_room c.args.self (c.args.key, c.args.value) by e c.links_below-previous.ensures.few c.kind_if_full-larger.ensures (sym c.is_some.ensures ∙ c.if-is_some.false) in
     room_inserted c.args.self (c.args.key, c.args.value) by e _ _ beside c.reserve.new.self c.place_between-leaf_node_ptr.new.store
     c.reserve.ensures.leaves c.reserve.ensures.inners c.place_between-leaf_node_ptr.ensures.fresh c.place_between-leaf_node_ptr.ensures.leaves
     c.place_between-leaf_node_ptr.ensures.inners c.to_opaque-child.ensures c.write_child.new.self c.write_child.ensures.leaves room
-    c.write_child.ensures.inners c.requires.point _ c.new_child-2.ensures
-
-pub returns-clause-touches : goal.returns-clause-touches
-returns-clause-touches g c =
-    let (pairs, layout, by, own) = c.requires.answers in
-    let e = entry c.requires.answers c.requires.point (ap (λ l. get_or l c.args.self.key_bytes_used 0) c.as_bytes.ensures) by in
-    let beside = c.links_below-previous.ensures.beside e.left e.right (entry_gap by e) in
-    let p = c.args.inner_node_ptr in
-    let room = asked_room c.args.self (c.args.key, c.args.value) by e c.links_below-previous.ensures.few c.kind_if_full-larger.ensures (sym c.is_some.ensures ∙ c.if-is_some.false) in
-    room_touched c.args.self (c.args.key, c.args.value) by e _ _ beside c.reserve.new.self c.place_between-leaf_node_ptr.new.store
-    c.reserve.ensures.leaves c.reserve.ensures.inners c.place_between-leaf_node_ptr.ensures.fresh c.place_between-leaf_node_ptr.ensures.leaves
-    c.place_between-leaf_node_ptr.ensures.inners c.to_opaque-child.ensures c.write_child.new.self c.write_child.ensures.leaves room c.write_child.ensures.inners c.requires.point
+    c.write_child.ensures.inners c.requires.point _ c.new_child-2.ensures)
+    (c.write_child.ensures.promise
+    ∙ c.place_between-leaf_node_ptr.ensures.promise
+    ∙ ap (λ kind. inner_taken kind (take_leaf c.reserve.new.self.promise)) (sym none)
+    ∙ after_reserve c.args.store.now c.reserve.new.self c.kind_if_full-larger.result c.reserve.result
+    (sym c.is_err.ensures.value ∙ c.if-is_err.false) c.reserve.ensures.covered c.reserve.ensures.granted
+    (ap (λ kind. record { leaves = 1; inner = kind }) c.kind_if_full-larger.ensures ∙ ap (placed_for c.args.store.now) (sym c.requires.point)))

@@ -15,14 +15,8 @@ overflow_add-count g c =
 
 pub ltrim_by-requires : goal.ltrim_by-requires
 ltrim_by-requires g c =
-    let (key, (pairs, layout, by, at)) = c.requires.answers in (
-      search rules,
-      (
-        trim_inside by at c.requires.point c.in-Some.ensures.view c.header-header.ensures,
-        trim_whole by at c.requires.point
-            c.in-Some.ensures.view c.header-header.ensures c.in_default-leaf_ptr.is,
-      ),
-    )
+    let (key, (pairs, layout, by, at)) = c.requires.answers in
+    (search rules, trim_whole by at c.requires.point c.in-Some.ensures.view c.header-header.ensures c.in_default-leaf_ptr.is)
 
 pub returns-in_default-leaf_ptr : goal.returns-in_default-leaf_ptr
 returns-in_default-leaf_ptr g c key pairs layout by at =
@@ -35,14 +29,8 @@ unreachable-requires-in_default-leaf g c =
 
 pub ltrim_by_with_leaf-requires : goal.ltrim_by_with_leaf-requires
 ltrim_by_with_leaf-requires g c =
-    let (key, (pairs, layout, by, at)) = c.requires.answers in (
-      search rules,
-      (
-        trim_inside by at c.requires.point c.in-Some.ensures.view c.header-header.ensures,
-        trim_given by at c.requires.point
-            c.in-Some.ensures.view c.header-header.ensures c.in-Some-leaf_ptr.is c.in-Some-leaf.ensures c.as_bytes.ensures,
-      ),
-    )
+    let (key, (pairs, layout, by, at)) = c.requires.answers in
+    (search rules, trim_given by at c.requires.point c.in-Some.ensures.view c.header-header.ensures c.in-Some-leaf_ptr.is c.in-Some-leaf.ensures c.as_bytes.ensures)
 
 pub returns : goal.returns
 returns g c key pairs layout by at =

@@ -1,79 +1,59 @@
-use Rattle.std.proofs.Common.{◌∙◌, ap, ap₂, sym, refl, subst, rules, None}
-use Rattle.std.specs.FinMap as map
+use Rattle.std.proofs.Common.{◌∙◌, ap, refl, rules, sym, None}
 use Rattle.art_parts.specs.declared.leaf.LeafNode.{LeafNode}
-use Rattle.art_model.specs.Writes.{IsThere, with_child_at, with_leaf}
-use Rattle.art_writing.specs.Writes.{HasChild, SameNodes}
-use Rattle.art_reading.specs.Paths.{last_step, root_with}
-use Rattle.art_writing.proofs.Reserved.{leaf_promised, not_refused}
-use Rattle.art_writing.proofs.Overwrites.{full_stays, read_next, read_previous, subtree_at, subtree_next, subtree_overwritten, subtree_parent, subtree_previous, subtree_still}
+use Rattle.art_writing.specs.Writes.{SameNodes}
+use Rattle.art_reading.specs.Paths.{root_with}
+use Rattle.art_writing.proofs.Applied.{overwritten}
+use Rattle.art_writing.proofs.Reserved.{after_reserve, leaf_promised, not_refused}
+use Rattle.art_writing.proofs.Overwrites.{end_full, end_parent, end_still, ends_there, placed_for_inner, put_at, read_next, read_previous, subtree_at, subtree_overwritten, subtree_still}
 use Rattle.art_writing.proofs.insert.OverwritePoint.overwrite_subtree.Goals as goal
 
-pub links_before-previous-requires : goal.links_before-previous-requires
-links_before-previous-requires g c =
-    let same : SameNodes c.args.store.now c.reserve.new.self = (c.reserve.ensures.leaves, c.reserve.ensures.inners) in
-    let (pairs, layout, by, own) = c.requires.answers in
-    let at = subtree_at c.requires.answers c.requires.inner by in
-    (search rules, (at.node, full_stays c.args.store.now c.reserve.new.self same at.full))
+pub links_beside-previous-requires : goal.links_beside-previous-requires
+links_beside-previous-requires g c = (search rules, end_full c.requires.answers c.requires.inner c.reserve.new.self (c.reserve.ensures.leaves, c.reserve.ensures.inners))
 
-pub links_after-next-requires : goal.links_after-next-requires
-links_after-next-requires g c =
-    let same : SameNodes c.args.store.now c.reserve.new.self = (c.reserve.ensures.leaves, c.reserve.ensures.inners) in
-    let (pairs, layout, by, own) = c.requires.answers in
-    let at = subtree_at c.requires.answers c.requires.inner by in
-    (search rules, (at.node, full_stays c.args.store.now c.reserve.new.self same at.full))
+pub links_beside-next-requires : goal.links_beside-next-requires
+links_beside-next-requires g c = (search rules, end_full c.requires.answers c.requires.inner c.reserve.new.self (c.reserve.ensures.leaves, c.reserve.ensures.inners))
 
 pub place_between-leaf_node_ptr-requires : goal.place_between-leaf_node_ptr-requires
-place_between-leaf_node_ptr-requires g c =
-    let same : SameNodes c.args.store.now c.reserve.new.self = (c.reserve.ensures.leaves, c.reserve.ensures.inners) in
-    let (pairs, layout, by, own) = c.requires.answers in
-    let at = subtree_at c.requires.answers c.requires.inner by in
-    let last = read_previous by at c.reserve.new.self same c.links_before-previous.result c.links_before-previous.ensures in
-    let first = read_next by at c.reserve.new.self same c.links_after-next.result c.links_after-next.ensures in (
-      search rules,
-      (
-        leaf_promised c.reserve.new.self.promise None
-            (not_refused c.reserve.result (sym c.is_err.ensures.value ∙ c.if-is_err.false) c.reserve.ensures.reserved),
-        (
-          subst (λ m. IsThere m c.links_before-previous.result.0) (sym same.0) (subtree_previous by at last),
-          subst
-              (λ m. IsThere m c.links_after-next.result.1) (sym same.0) (subtree_next by at first),
-        ),
-      ),
-    )
+place_between-leaf_node_ptr-requires g c = (
+  search rules,
+  (
+    leaf_promised c.reserve.new.self.promise None (not_refused c.reserve.result (sym c.is_err.ensures.value ∙ c.if-is_err.false) c.reserve.ensures.reserved),
+    ends_there c.requires.answers c.requires.inner c.reserve.new.self (c.reserve.ensures.leaves, c.reserve.ensures.inners) c.links_beside-previous.ensures c.links_beside-next.ensures,
+  ),
+)
 
 pub replace_at-new_root-requires : goal.replace_at-new_root-requires
-replace_at-new_root-requires g c =
-    let same : SameNodes c.args.store.now c.reserve.new.self = (c.reserve.ensures.leaves, c.reserve.ensures.inners) in
-    let (pairs, layout, by, own) = c.requires.answers in
-    let at = subtree_at c.requires.answers c.requires.inner by in
-    (search rules, subst (λ m. HasChild m (last_step c.args.self.path)) (sym (c.place_between-leaf_node_ptr.ensures.inners ∙ same.1)) (subtree_parent by at))
+replace_at-new_root-requires g c = (
+  search rules,
+  end_parent c.requires.answers c.requires.inner c.reserve.new.self (c.reserve.ensures.leaves, c.reserve.ensures.inners)
+      c.place_between-leaf_node_ptr.new.store c.place_between-leaf_node_ptr.ensures.inners,
+)
 
 pub deallocate_tree-leafs_removed-requires : goal.deallocate_tree-leafs_removed-requires
 deallocate_tree-leafs_removed-requires g c =
-    let same : SameNodes c.args.store.now c.reserve.new.self = (c.reserve.ensures.leaves, c.reserve.ensures.inners) in
-    let (pairs, layout, by, own) = c.requires.answers in
-    let at = subtree_at c.requires.answers c.requires.inner by in
-    let n = c.place_between-leaf_node_ptr.result in
-    let x : LeafNode g.row.K.Denot g.row.V.Denot = record { key = c.args.key; value = c.args.value; previous = c.links_before-previous.result.0; next = c.links_after-next.result.1 } in
-    let fresh = ap (λ m. map.get m n) (sym same.0) ∙ c.place_between-leaf_node_ptr.ensures.fresh in
-    let leaves = c.replace_at-new_root.ensures.leaves ∙ c.place_between-leaf_node_ptr.ensures.leaves ∙ ap (λ m. with_leaf m n x) same.0 in
-    let inners = c.replace_at-new_root.ensures.inners ∙ ap₂ (λ name m. with_child_at (last_step c.args.self.path) name m) c.to_opaque.ensures (c.place_between-leaf_node_ptr.ensures.inners ∙ same.1) in
-    (search rules, (at.node, subtree_still by at c.replace_at-new_root.new.store n x fresh leaves inners))
+    let same : SameNodes c.args.store.now c.reserve.new.self = (c.reserve.ensures.leaves, c.reserve.ensures.inners) in (
+      search rules,
+      end_still c.requires.answers c.requires.inner c.reserve.new.self same
+          (put_at c.reserve.new.self c.place_between-leaf_node_ptr.new.store c.replace_at-new_root.new.store
+          _ same c.place_between-leaf_node_ptr.ensures.fresh c.place_between-leaf_node_ptr.ensures.leaves
+          c.place_between-leaf_node_ptr.ensures.inners c.to_opaque.ensures c.replace_at-new_root.ensures.leaves c.replace_at-new_root.ensures.inners),
+    )
 
-pub returns-clause-overwritten : goal.returns-clause-overwritten
-returns-clause-overwritten g c pairs layout by =
+pub returns : goal.returns
+returns g c =
+    overwritten c.requires.answers (λ pairs layout by.
     let same : SameNodes c.args.store.now c.reserve.new.self = (c.reserve.ensures.leaves, c.reserve.ensures.inners) in
     let at = subtree_at c.requires.answers c.requires.inner by in
-    let n = c.place_between-leaf_node_ptr.result in
-    let x : LeafNode g.row.K.Denot g.row.V.Denot = record { key = c.args.key; value = c.args.value; previous = c.links_before-previous.result.0; next = c.links_after-next.result.1 } in
-    let fresh = ap (λ m. map.get m n) (sym same.0) ∙ c.place_between-leaf_node_ptr.ensures.fresh in
-    let leaves = c.replace_at-new_root.ensures.leaves ∙ c.place_between-leaf_node_ptr.ensures.leaves ∙ ap (λ m. with_leaf m n x) same.0 in
-    let inners = c.replace_at-new_root.ensures.inners ∙ ap₂ (λ name m. with_child_at (last_step c.args.self.path) name m) c.to_opaque.ensures (c.place_between-leaf_node_ptr.ensures.inners ∙ same.1) in
-    let last = read_previous by at c.reserve.new.self same c.links_before-previous.result c.links_before-previous.ensures in
-    let first = read_next by at c.reserve.new.self same c.links_after-next.result c.links_after-next.ensures in
-    let still = subtree_still by at c.replace_at-new_root.new.store n x fresh leaves inners in
-    subtree_overwritten by at c.replace_at-new_root.new.store n x fresh leaves inners {t = c.deallocate_tree-leafs_removed.new.store} refl last first
-    (c.deallocate_tree-leafs_removed.ensures.freed at.node still)
+    let x : LeafNode g.row.K.Denot g.row.V.Denot = record { key = c.args.key; value = c.args.value; previous = c.links_beside-previous.result.0; next = c.links_beside-next.result.1 } in
+    let put = put_at c.reserve.new.self c.place_between-leaf_node_ptr.new.store c.replace_at-new_root.new.store x
+    same c.place_between-leaf_node_ptr.ensures.fresh c.place_between-leaf_node_ptr.ensures.leaves
+    c.place_between-leaf_node_ptr.ensures.inners c.to_opaque.ensures c.replace_at-new_root.ensures.leaves c.replace_at-new_root.ensures.inners in
+    let still = subtree_still by at put in
+    subtree_overwritten by at put refl (read_previous by at c.reserve.new.self same c.links_beside-previous.result c.links_beside-previous.ensures)
+    (read_next by at c.reserve.new.self same c.links_beside-next.result c.links_beside-next.ensures) (c.deallocate_tree-leafs_removed.ensures.freed at.node still)
     c.replace_at-new_root.result c.deallocate_tree-leafs_removed.result
     (c.replace_at-new_root.ensures.root ∙ ap (λ z. root_with c.args.self.path c.args.self.root z) c.to_opaque.ensures)
-    (c.deallocate_tree-leafs_removed.ensures.count at.node still) c.requires.inner
+    (c.deallocate_tree-leafs_removed.ensures.count at.node still) c.requires.inner)
+    (c.deallocate_tree-leafs_removed.ensures.promise ∙ c.replace_at-new_root.ensures.promise ∙ c.place_between-leaf_node_ptr.ensures.promise
+    ∙ after_reserve c.args.store.now c.reserve.new.self None c.reserve.result (sym c.is_err.ensures.value ∙ c.if-is_err.false) c.reserve.ensures.covered c.reserve.ensures.granted
+    (sym (placed_for_inner _ c.requires.inner)))

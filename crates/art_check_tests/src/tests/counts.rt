@@ -1,0 +1,233 @@
+//! The check of trees that insertions make, and what counts of nodes are.
+ghost use Rattle.std.specs.Prelude.{◌<◌};
+
+use super::told::{Told, says};
+use art_nodes::node::OpaqueNodePtr;
+use art_nodes::store::NodeStore;
+use art_operations::well_formed::{WellFormedChecker, WellFormedTreeStats};
+use art_test_support::commands::{Asked, Row, Told as Reply, ran_from};
+use art_test_support::trees::{
+    Key, keys_after, keys_of_three, keys_of_zeros, planted_all, planted_keys,
+};
+use std::alloc::{AllocError, Global};
+use std::test::Fail;
+
+/// How many leaves, inner nodes, and nodes there are.
+type Counts = (usize, usize, usize);
+
+fn counted(stats: WellFormedTreeStats) -> Option<Counts> {
+    let (leaves, inner) = (stats.num_leaf, stats.num_inner);
+    leaves.checked_add(inner)?;
+    Some((leaves, inner, stats.total_nodes()))
+}
+
+/// The same of a tree. None where the check finds a fault.
+fn counts_of<const P: usize>(
+    store: &NodeStore<Key, u32, P>,
+    root: OpaqueNodePtr,
+    len: usize,
+) -> Option<Counts> {
+    match WellFormedChecker::check(store, Some(root), len) {
+        Ok(stats) => counted(stats),
+        Err(_) => None,
+    }
+}
+
+/// The same of the tree of these keys.
+fn counts_from<const P: usize>(
+    store: &mut NodeStore<Key, u32, P>,
+    keys: Vec<Key>,
+) -> Option<Counts> {
+    let len = keys.len();
+    let root = planted_keys(store, keys)?;
+    counts_of(store, root, len)
+}
+
+/// Keys of a tree: all of three bytes below these limits, twelve of zeros, or so many after some bytes.
+#[derive(Clone, Copy)]
+enum Keys {
+    OfThree([u8; 3]),
+    OfZeros,
+    After(&'static [u8], u16),
+}
+
+fn make(alloc: Global, keys: Keys) -> Result<Vec<Key>, Fail> {
+    match keys {
+        Keys::OfThree(limits) => keys_of_three(alloc, limits),
+        Keys::OfZeros => Ok(keys_of_zeros(alloc)?),
+        Keys::After(front, count) => Ok(keys_after(alloc, front, count)?),
+    }
+}
+
+/// The same in a store of its own.
+fn counts_with<const P: usize>(alloc: Global, keys: Keys) -> Result<Option<Counts>, Fail>
+    requires { P < 256 }
+{
+    let keys = make(alloc, keys)?;
+    Ok(counts_from::<P>(&mut NodeStore::new(alloc), keys))
+}
+
+/// Keys, and how many leaves, inner nodes, and nodes their tree has.
+static COUNTED: [(Keys, Counts); 6] = [
+    (Keys::OfThree([4, 3, 2]), (24, 17, 41)),
+    (Keys::OfThree([51, 2, 3]), (306, 154, 460)),
+    (Keys::OfThree([6, 6, 6]), (216, 43, 259)),
+    (Keys::OfZeros, (12, 11, 23)),
+    (Keys::After(&[], 256), (256, 1, 257)),
+    (Keys::After(&[7, 7, 7], 1), (1, 0, 1)),
+];
+
+/// The first tree that has other counts, with 16 stored bytes or with none.
+fn first_miscounted(alloc: Global) -> Result<Option<usize>, Fail> {
+    for (number, (keys, counts)) in COUNTED.iter().enumerate() {
+        let with_many = counts_with::<16>(alloc, *keys)?;
+        let with_none = counts_with::<0>(alloc, *keys)?;
+        if [with_many, with_none] != [Some(*counts); 2] {
+            return Ok(Some(number));
+        }
+    }
+    Ok(None)
+}
+
+#[test]
+fn nodes_of_well_formed_trees_are_counted(rt: HostRuntime) -> Result<(), Fail> {
+    assert_eq!(rt; first_miscounted(rt.alloc())?, None);
+    Ok(())
+}
+
+/// All bytes, in order.
+fn all_bytes() -> [u8; 256] {
+    let mut bytes = [0u8; 256];
+    for byte in 0..=255u8 {
+        bytes[byte as usize] = byte;
+    }
+    bytes
+}
+
+/// Insertions of keys of one byte each, and then deletions of so many of them from the end, with the replies.
+fn insertions_and_deletions(
+    alloc: Global,
+    bytes: &[u8],
+    deletions: usize,
+) -> Result<Vec<Row<'_>>, AllocError> {
+    let mut rows: Vec<Row<'_>> = Vec::new(alloc);
+    for key in bytes.chunks(1) {
+        rows.push((Asked::Insert(key, 0), Reply::Inserted(None)))?;
+    }
+    for key in bytes.chunks(1).rev().take(deletions) {
+        rows.push((Asked::DeleteMax, Reply::Deleted(Some((key, 0)))))?;
+    }
+    Ok(rows)
+}
+
+/// How many leaves and inner nodes the check of a tree of so many leaves counts. None where it finds a fault.
+fn counts_below(
+    store: &NodeStore<Key, u32, 4>,
+    root: Option<OpaqueNodePtr>,
+    len: usize,
+) -> Option<(usize, usize)> {
+    match WellFormedChecker::check(store, root, len) {
+        Ok(stats) => Some((stats.num_leaf, stats.num_inner)),
+        Err(_) => None,
+    }
+}
+
+/// The same after all insertions and so many deletions. None where a reply is another.
+fn counts_after(
+    first: &mut NodeStore<Key, u32, 4>,
+    second: &mut NodeStore<Key, u32, 4>,
+    deletions: usize,
+) -> Option<(usize, usize)> {
+    let bytes = all_bytes();
+    let rows = insertions_and_deletions(first.alloc(), &bytes, deletions).ok()?;
+    let (left, root) = ran_from(first, second, None, &rows).ok()?;
+    if left.wrong.is_some() {
+        return None;
+    }
+    counts_below(first, root, 256usize.saturating_sub(deletions))
+}
+
+/// The same in stores of its own.
+fn counts_left(alloc: Global, deletions: usize) -> Option<(usize, usize)> {
+    counts_after(
+        &mut NodeStore::new(alloc),
+        &mut NodeStore::new(alloc),
+        deletions,
+    )
+}
+
+#[test]
+fn trees_are_well_formed_while_nodes_shrink(rt: HostRuntime) {
+    for left in [0, 1, 2, 3, 4, 5, 15, 16, 17, 47, 48, 49, 255, 256] {
+        let counts = counts_left(rt.alloc(), 256usize.saturating_sub(left));
+        let inner = if left < 2 { 0 } else { 1 };
+        assert_eq!(rt; counts, Some((left, inner)));
+    }
+}
+
+/// Whether the check says what it should of so many pairs where there is no root.
+fn without_root<const P: usize>(store: &NodeStore<Key, u32, P>, len: usize) -> bool {
+    let wanted = match len {
+        0 => Told::Whole(0, 0),
+        _ => Told::LenOfNone,
+    };
+    says(&WellFormedChecker::check(store, None, len), wanted)
+}
+
+/// The same for three lengths, the first of which is none.
+fn three_without_root(alloc: Global) -> [bool; 3] {
+    let store: NodeStore<Key, u32, 4> = NodeStore::new(alloc);
+    [
+        without_root(&store, 0),
+        without_root(&store, 1),
+        without_root(&store, usize::MAX),
+    ]
+}
+
+#[test]
+fn no_tree_has_no_length(rt: HostRuntime) {
+    assert_eq!(rt; three_without_root(rt.alloc()), [true; 3]);
+}
+
+/// How many nodes the tree of two keys has, where the check is told two other lengths.
+fn counts_of_two(store: &mut NodeStore<Key, u32, 4>) -> Option<[Option<Counts>; 2]> {
+    let root = planted_all(store, &[&[1, 0], &[1, 1]]).ok()??;
+    Some([counts_of(store, root, 0), counts_of(store, root, 5)])
+}
+
+/// The same in a store of its own.
+fn counts_of_two_alone(alloc: Global) -> Option<[Option<Counts>; 2]> {
+    counts_of_two(&mut NodeStore::new(alloc))
+}
+
+#[test]
+fn the_length_of_a_tree_is_not_compared(rt: HostRuntime) {
+    let counts = counts_of_two_alone(rt.alloc());
+    assert_eq!(rt; counts, Some([Some((2, 1, 3)); 2]));
+}
+
+#[test]
+fn counts_are_added_by_fields(rt: HostRuntime) {
+    let sum = WellFormedTreeStats {
+        num_leaf: 1,
+        num_inner: 20,
+    } + WellFormedTreeStats {
+        num_leaf: 300,
+        num_inner: 4000,
+    };
+    let mut more = WellFormedTreeStats {
+        num_leaf: 5,
+        num_inner: 60,
+    };
+    more += WellFormedTreeStats {
+        num_leaf: 700,
+        num_inner: 8000,
+    };
+    let none = WellFormedTreeStats::default();
+    let fields = [
+        (sum.num_leaf, sum.num_inner),
+        (more.num_leaf, more.num_inner),
+        (none.num_leaf, none.num_inner),
+    ];
+    assert_eq!(rt; fields, [(301, 4020), (705, 8060), (0, 0)]);
+}

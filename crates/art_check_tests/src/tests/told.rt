@@ -1,0 +1,215 @@
+//! What a check answers, as plain values.
+
+use art_nodes::node::{LeafPtr, NodeType, OpaqueNodePtr, OptionalLeafPtr};
+use art_operations::well_formed::{KeyPrefix, MalformedTreeError, WellFormedTreeStats};
+use std::alloc::{AllocError, Global};
+use std::cmp::Ordering;
+
+/// The kind and the slot of a name.
+pub type Named = (NodeType, usize);
+
+/// The slots of a leaf's links.
+pub type Links = (Option<usize>, Option<usize>);
+
+/// What a check says, with the bytes of its prefixes and keys.
+#[derive(Clone, Copy, PartialEq, Eq)]
+pub enum Told<'a> {
+    /// So many leaves and inner nodes.
+    Whole(usize, usize),
+    /// A name, and the bytes of the first and the later way to it.
+    Loop(Named, &'a [u8], &'a [u8]),
+    /// The bytes that lead to a node, its kind, and how many children it has.
+    Count(&'a [u8], NodeType, usize),
+    /// The bytes that lead to a leaf, and its key.
+    Prefix(&'a [u8], &'a [u8]),
+    LenOfNone,
+    /// The keys of a sibling and of the leaf, and the orders expected and met.
+    Order(&'a [u8], &'a [u8], Ordering, Ordering),
+    /// A leaf's key, and its links as expected and as met.
+    Links(&'a [u8], Links, Links),
+    Dead(&'a [u8], Named),
+    Unreadable(&'a [u8], Named),
+    /// The bytes that lead to a node, and those of its prefix as they are stored and as a leaf has them.
+    Stored(&'a [u8], &'a [u8], &'a [u8]),
+    OutOfMemory,
+}
+
+/// The kind and the slot of a name.
+pub fn named(name: OpaqueNodePtr) -> Named {
+    (name.node_type(), name.slot())
+}
+
+/// The slots of these links.
+pub fn slots((previous, next): (OptionalLeafPtr, OptionalLeafPtr)) -> Links {
+    let slot = |leaf: LeafPtr| leaf.to_opaque().slot();
+    (previous.map(slot), next.map(slot))
+}
+
+/// What an answer says.
+pub fn told_by(answer: &Result<WellFormedTreeStats, MalformedTreeError>) -> Told<'_> {
+    match answer {
+        Ok(stats) => Told::Whole(stats.num_leaf, stats.num_inner),
+        Err(fault) => told_by_fault(fault),
+    }
+}
+
+/// Whether an answer says this.
+pub fn says(answer: &Result<WellFormedTreeStats, MalformedTreeError>, told: Told<'_>) -> bool {
+    told_by(answer) == told
+}
+
+/// What a fault says.
+pub fn told_by_fault(fault: &MalformedTreeError) -> Told<'_> {
+    match fault {
+        MalformedTreeError::LoopFound {
+            node_ptr,
+            first_observed,
+            later_observed,
+        } => Told::Loop(
+            named(*node_ptr),
+            first_observed.as_slice(),
+            later_observed.as_slice(),
+        ),
+        MalformedTreeError::WrongChildrenCount {
+            key_prefix,
+            inner_node_type,
+            num_children,
+        } => Told::Count(key_prefix.as_slice(), *inner_node_type, *num_children),
+        MalformedTreeError::PrefixMismatch {
+            expected_prefix,
+            entire_key,
+        } => Told::Prefix(expected_prefix.as_slice(), entire_key),
+        MalformedTreeError::EmptyTreeWithLen => Told::LenOfNone,
+        MalformedTreeError::LeafSiblingWrongOrder {
+            sibling_key,
+            leaf_key,
+            expected_order,
+            actual_order,
+        } => Told::Order(sibling_key, leaf_key, *expected_order, *actual_order),
+        MalformedTreeError::WrongSiblingLinks {
+            leaf_key,
+            expected_previous,
+            expected_next,
+            actual_previous,
+            actual_next,
+        } => Told::Links(
+            leaf_key,
+            slots((*expected_previous, *expected_next)),
+            slots((*actual_previous, *actual_next)),
+        ),
+        MalformedTreeError::DeadName { key_prefix, name } => {
+            Told::Dead(key_prefix.as_slice(), named(*name))
+        }
+        MalformedTreeError::UnreadablePrefix { key_prefix, name } => {
+            Told::Unreadable(key_prefix.as_slice(), named(*name))
+        }
+        MalformedTreeError::StoredPrefixMismatch {
+            key_prefix,
+            stored,
+            actual,
+        } => Told::Stored(key_prefix.as_slice(), stored, actual),
+        MalformedTreeError::OutOfMemory => Told::OutOfMemory,
+    }
+}
+
+// A fault, or want of memory for its bytes.
+type Made = Result<MalformedTreeError, AllocError>;
+
+// The name of this kind and slot.
+fn name_of((kind, slot): Named) -> OpaqueNodePtr {
+    OpaqueNodePtr::from_parts(kind, slot)
+}
+
+// The link to the leaf in this slot.
+fn link_to(slot: Option<usize>) -> OptionalLeafPtr {
+    slot.map(LeafPtr::from_slot)
+}
+
+/// The fault that says this. What is told of no fault has that of want of memory.
+pub fn fault(alloc: Global, told: Told<'_>) -> Made {
+    Ok(match told {
+        Told::Loop(name, first, later) => MalformedTreeError::LoopFound {
+            node_ptr: name_of(name),
+            first_observed: KeyPrefix::from_slice(alloc, first)?,
+            later_observed: KeyPrefix::from_slice(alloc, later)?,
+        },
+        Told::Count(place, inner_node_type, num_children) => {
+            MalformedTreeError::WrongChildrenCount {
+                key_prefix: KeyPrefix::from_slice(alloc, place)?,
+                inner_node_type,
+                num_children,
+            }
+        }
+        Told::Prefix(place, key) => MalformedTreeError::PrefixMismatch {
+            expected_prefix: KeyPrefix::from_slice(alloc, place)?,
+            entire_key: key.to_vec(alloc)?,
+        },
+        Told::LenOfNone => MalformedTreeError::EmptyTreeWithLen,
+        Told::Order(sibling, key, expected_order, actual_order) => {
+            MalformedTreeError::LeafSiblingWrongOrder {
+                sibling_key: sibling.to_vec(alloc)?,
+                leaf_key: key.to_vec(alloc)?,
+                expected_order,
+                actual_order,
+            }
+        }
+        Told::Links(key, expected, actual) => MalformedTreeError::WrongSiblingLinks {
+            leaf_key: key.to_vec(alloc)?,
+            expected_previous: link_to(expected.0),
+            expected_next: link_to(expected.1),
+            actual_previous: link_to(actual.0),
+            actual_next: link_to(actual.1),
+        },
+        Told::Dead(place, name) => MalformedTreeError::DeadName {
+            key_prefix: KeyPrefix::from_slice(alloc, place)?,
+            name: name_of(name),
+        },
+        Told::Unreadable(place, name) => MalformedTreeError::UnreadablePrefix {
+            key_prefix: KeyPrefix::from_slice(alloc, place)?,
+            name: name_of(name),
+        },
+        Told::Stored(place, stored, actual) => MalformedTreeError::StoredPrefixMismatch {
+            key_prefix: KeyPrefix::from_slice(alloc, place)?,
+            stored: stored.to_vec(alloc)?,
+            actual: actual.to_vec(alloc)?,
+        },
+        Told::Whole(..) | Told::OutOfMemory => MalformedTreeError::OutOfMemory,
+    })
+}
+
+/// Whether a clone of a fault equals it and says the same.
+pub fn is_cloned(fault: &MalformedTreeError) -> bool {
+    match fault.clone() {
+        Ok(copy) => copy == *fault && told_by_fault(&copy) == told_by_fault(fault),
+        Err(_) => false,
+    }
+}
+
+/// The same, where names have the place in this list as their slot.
+pub fn listed<'a>(told: Told<'a>, names: &[OpaqueNodePtr]) -> Told<'a> {
+    match told {
+        Told::Loop(name, first, later) => Told::Loop(place_of(name, names), first, later),
+        Told::Links(key, expected, actual) => {
+            Told::Links(
+                key,
+                links_listed(expected, names),
+                links_listed(actual, names),
+            )
+        }
+        Told::Dead(place, name) => Told::Dead(place, place_of(name, names)),
+        Told::Unreadable(place, name) => Told::Unreadable(place, place_of(name, names)),
+        told => told,
+    }
+}
+
+// A name with its place in a list as its slot.
+fn place_of(name: Named, names: &[OpaqueNodePtr]) -> Named {
+    let place = names.iter().position(|other| named(*other) == name);
+    (name.0, place.unwrap_or(usize::MAX))
+}
+
+// The same of links.
+fn links_listed((previous, next): Links, names: &[OpaqueNodePtr]) -> Links {
+    let place = |slot: usize| place_of((NodeType::Leaf, slot), names).1;
+    (previous.map(place), next.map(place))
+}

@@ -1,0 +1,5 @@
+mod compress;
+mod freeing;
+mod points;
+mod search;
+mod shrink;

@@ -1,0 +1,102 @@
+//! Deletions of the tests.
+ghost use Rattle.std.specs.Prelude.{IfSome};
+ghost use Rattle.art_model.specs.Pairs.{of_key};
+ghost use Rattle.art_model.specs.Roots.{IsCanonicalRoot};
+ghost use Rattle.art_operations.specs.Deleted.{IsDeletePointIn};
+
+use art_nodes::node::{AsBytes, OpaqueNodePtr};
+use art_nodes::store::NodeStore;
+use art_operations::delete::{DeletePoint, search_for_delete_point};
+use art_test_support::nodes::{Seen, count_touched, nodes_seen};
+use art_test_support::points::{Gone, gone_pair};
+use art_test_support::trees::{Key, planted_all};
+
+/// The point of a key, if there is one.
+pub fn point_of<K: AsBytes + Drop, const P: usize>(
+    store: &NodeStore<K, u32, P>,
+    root: OpaqueNodePtr,
+    key_bytes: &[u8],
+) -> Option<DeletePoint>
+    requires { IsCanonicalRoot (of_key K.bytes) P store.now root }
+    ensures { IfSome result (λ point. IsDeletePointIn (of_key K.bytes) P store.now root point) }
+{
+    search_for_delete_point(store, root, key_bytes)
+}
+
+/// Takes a key out, and answers the root that is left. The outer `None` is for an absent key or a refusal.
+pub fn take_out<K: AsBytes + Drop, const P: usize>(
+    store: &mut NodeStore<K, u32, P>,
+    root: OpaqueNodePtr,
+    key_bytes: &[u8],
+) -> Option<Option<OpaqueNodePtr>>
+    requires { IsCanonicalRoot (of_key K.bytes) P store.old root }
+    ensures { IfSome result (λ left. IfSome left (λ root. IsCanonicalRoot (of_key K.bytes) P store.new root)) }
+{
+    match point_of(store, root, key_bytes)?.apply(store, root) {
+        Ok(done) => Some(done.new_root),
+        Err(_) => None,
+    }
+}
+
+/// Deletes a key. Answers the root that is left and the deleted pair, or `None` where the key is absent or the deletion
+/// is refused.
+pub fn delete<const P: usize>(
+    store: &mut NodeStore<Key, u32, P>,
+    root: OpaqueNodePtr,
+    key_bytes: &[u8],
+) -> Option<(Option<OpaqueNodePtr>, Gone)>
+    requires { IsCanonicalRoot (of_key (λ key. key.items)) P store.old root }
+{
+    let done = point_of(store, root, key_bytes)?.apply(store, root).ok()?;
+    Some((done.new_root, gone_pair(&done.deleted_leaf, key_bytes)))
+}
+
+/// The root before a deletion and the one that is left, and how many names came into use, went out of it, and have
+/// another node.
+#[derive(Clone, Copy)]
+pub struct Deletion {
+    pub root: OpaqueNodePtr,
+    pub new_root: Option<OpaqueNodePtr>,
+    pub touched: (usize, usize, usize),
+}
+
+/// Plants a tree of some keys, and deletes one of them.
+pub fn deletion_from<const P: usize>(
+    store: &mut NodeStore<Key, u32, P>,
+    slices: &[&[u8]],
+    key_bytes: &[u8],
+) -> Option<Deletion> {
+    let root = planted_all(store, slices).ok()??;
+    let before = nodes_seen(store).ok()?;
+    let new_root = take_out(store, root, key_bytes)?;
+    Some(Deletion {
+        root,
+        new_root,
+        touched: count_touched(store, &before),
+    })
+}
+
+/// A pair that was deleted with its own key, and this value.
+pub fn gone_with(value: u32) -> Gone {
+    Gone {
+        has_key: true,
+        value,
+        previous: None,
+        next: None,
+    }
+}
+
+/// Deletes a key from a tree in a store with these nodes: what that touches, where the deletion is refused. The point
+/// has to come back.
+pub fn refused_deletion<const P: usize>(
+    store: &mut NodeStore<Key, u32, P>,
+    root: OpaqueNodePtr,
+    before: &[Seen],
+    key_bytes: &[u8],
+) -> Option<(bool, (usize, usize, usize))>
+    requires { IsCanonicalRoot (of_key (λ key. key.items)) P store.old root }
+{
+    let point = point_of(store, root, key_bytes)?;
+    let refused = point.apply(store, root).err()?;
+    Some((refused.point == point, count_touched(store, before)))
+}

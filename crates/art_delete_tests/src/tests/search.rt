@@ -1,0 +1,275 @@
+//! Points of leaves that go.
+ghost use Rattle.art_model.specs.Pairs.{of_key};
+ghost use Rattle.art_model.specs.Roots.{IsCanonicalRoot};
+
+use art_nodes::node::OpaqueNodePtr;
+use art_nodes::store::NodeStore;
+use art_operations::delete::{
+    DeletePoint, find_maximum_to_delete, find_minimum_to_delete, search_for_delete_point,
+    search_for_delete_point_visiting,
+};
+use art_operations::lookup::Visits;
+use art_operations::path::TreePath;
+use art_test_support::cases::{FOUR, names_of_four};
+use art_test_support::expected::as_expected;
+use art_test_support::trees::{
+    Key, child, keys_of_three, keys_of_zeros, planted_all, planted_keys, value_of,
+};
+use std::test::Fail;
+
+// The point of a key, and how many nodes the search reads.
+fn searched<const P: usize>(
+    store: &NodeStore<Key, u32, P>,
+    root: OpaqueNodePtr,
+    key_bytes: &[u8],
+) -> (Option<DeletePoint>, usize)
+    requires { IsCanonicalRoot (of_key (λ key. key.items)) P store.now root }
+{
+    let mut visits = Visits::new();
+    let point = search_for_delete_point_visiting(store, root, key_bytes, &mut visits);
+    (point, visits.count())
+}
+
+// The value of a point's leaf, and how many nodes were read for the point.
+fn with_value<const P: usize>(
+    store: &NodeStore<Key, u32, P>,
+    (point, count): (Option<DeletePoint>, usize),
+) -> (Option<u32>, usize) {
+    let value = point.and_then(|point| value_of(store, point.leaf_node_ptr));
+    (value, count)
+}
+
+// The points of the first and the last leaf.
+fn ends<const P: usize>(store: &NodeStore<Key, u32, P>, root: OpaqueNodePtr) -> [DeletePoint; 2]
+    requires { IsCanonicalRoot (of_key (λ key. key.items)) P store.now root }
+{
+    [
+        find_minimum_to_delete(store, root),
+        find_maximum_to_delete(store, root),
+    ]
+}
+
+// The point of a leaf that is the root.
+fn point_at_root(root: OpaqueNodePtr) -> Option<DeletePoint> {
+    Some(DeletePoint {
+        path: TreePath::Root,
+        leaf_node_ptr: root.as_leaf()?,
+    })
+}
+
+// The points of the only leaf, as they are found, and as they are to be.
+type OfOne = [Option<DeletePoint>; 3];
+
+fn points_of_one<const P: usize>(store: &mut NodeStore<Key, u32, P>) -> Option<(OfOne, OfOne)> {
+    let root = planted_all(store, &[&[1, 2, 3]]).ok()??;
+    let found = search_for_delete_point(store, root, &[1, 2, 3]);
+    let [first, last] = ends(store, root);
+    Some(([found, Some(first), Some(last)], [point_at_root(root); 3]))
+}
+
+#[test]
+fn names_no_parent_of_the_root(rt: HostRuntime) -> Result<(), Fail> {
+    as_expected(points_of_one::<16>(&mut NodeStore::new(rt.alloc())))
+}
+
+// The points of three leaves, and how many nodes lead to each.
+type Points = [(Option<DeletePoint>, usize); 3];
+
+// The points of the leaves of [6], [1, 5] and [1, 2, 3], by names.
+fn expected_points<const P: usize>(
+    store: &NodeStore<Key, u32, P>,
+    root: OpaqueNodePtr,
+) -> Option<Points> {
+    let ([top, middle, low], leaves) = names_of_four(store, root)?;
+    let below_root = DeletePoint {
+        path: TreePath::ChildOfRoot {
+            parent: top,
+            child_key_byte: 6,
+        },
+        leaf_node_ptr: leaves[3],
+    };
+    let below_middle = DeletePoint {
+        path: TreePath::Normal {
+            grandparent: top,
+            parent_key_byte: 1,
+            parent: middle,
+            child_key_byte: 5,
+        },
+        leaf_node_ptr: leaves[2],
+    };
+    let below_low = DeletePoint {
+        path: TreePath::Normal {
+            grandparent: middle,
+            parent_key_byte: 2,
+            parent: low,
+            child_key_byte: 3,
+        },
+        leaf_node_ptr: leaves[0],
+    };
+    Some([
+        (Some(below_root), 2),
+        (Some(below_middle), 3),
+        (Some(below_low), 4),
+    ])
+}
+
+// The points of the same leaves, as they are found.
+fn found_points<const P: usize>(store: &NodeStore<Key, u32, P>, root: OpaqueNodePtr) -> Points
+    requires { IsCanonicalRoot (of_key (λ key. key.items)) P store.now root }
+{
+    [
+        searched(store, root, &[6]),
+        searched(store, root, &[1, 5]),
+        searched(store, root, &[1, 2, 3]),
+    ]
+}
+
+// The points in the tree of four keys, as they are found, and as they are to be.
+fn points_of_four<const P: usize>(store: &mut NodeStore<Key, u32, P>) -> Option<(Points, Points)> {
+    let root = planted_all(store, &FOUR).ok()??;
+    Some((found_points(store, root), expected_points(store, root)?))
+}
+
+#[test]
+fn names_parents_and_grandparents(rt: HostRuntime) -> Result<(), Fail> {
+    as_expected(points_of_four::<0>(&mut NodeStore::new(rt.alloc())))
+}
+
+// The first of some keys that has a point, with the point.
+fn first_found<'a, const P: usize>(
+    store: &NodeStore<Key, u32, P>,
+    root: OpaqueNodePtr,
+    keys: &[&'a [u8]],
+) -> Option<(&'a [u8], DeletePoint)>
+    requires { IsCanonicalRoot (of_key (λ key. key.items)) P store.now root }
+{
+    for &key in keys {
+        if let Some(point) = search_for_delete_point(store, root, key) {
+            return Some((key, point));
+        }
+    }
+    None
+}
+
+// Whether none of these keys has a point in the tree of three others.
+fn has_none<const P: usize>(store: &mut NodeStore<Key, u32, P>, keys: &[&[u8]]) -> Option<bool> {
+    let root = planted_all(store, &[&[1, 2, 3], &[1, 2, 4], &[6]]).ok()??;
+    Some(first_found(store, root, keys).is_none())
+}
+
+static ABSENT: [&[u8]; 6] = [&[], &[1], &[1, 2], &[1, 2, 5], &[1, 2, 3, 4], &[7]];
+
+#[test]
+fn finds_no_point_of_an_absent_key(rt: HostRuntime) {
+    let seen = has_none::<16>(&mut NodeStore::new(rt.alloc()), &ABSENT);
+    assert_eq!(rt; seen, Some(true));
+}
+
+// The values of four keys, two of which are absent, and how many nodes the searches read.
+fn counted_below_zeros<const P: usize>(
+    store: &NodeStore<Key, u32, P>,
+    root: OpaqueNodePtr,
+) -> [(Option<u32>, usize); 4]
+    requires { IsCanonicalRoot (of_key (λ key. key.items)) P store.now root }
+{
+    [
+        with_value(store, searched(store, root, &[255])),
+        with_value(
+            store,
+            searched(store, root, &[0, 0, 0, 0, 0, 0, 0, 0, 0, 0, 0, 255]),
+        ),
+        with_value(store, searched(store, root, &[0, 0, 0, 0])),
+        with_value(store, searched(store, root, &[])),
+    ]
+}
+
+// The same in the tree of twelve keys of zeros.
+fn counted_zeros<const P: usize>(
+    store: &mut NodeStore<Key, u32, P>,
+) -> Option<[(Option<u32>, usize); 4]> {
+    let zeros = keys_of_zeros(store.alloc()).ok()?;
+    let root = planted_keys(store, zeros)?;
+    Some(counted_below_zeros(store, root))
+}
+
+#[test]
+fn counts_readings(rt: HostRuntime) {
+    let seen = counted_zeros::<4>(&mut NodeStore::new(rt.alloc()));
+    assert_eq!(rt;
+        seen,
+        Some([(Some(0), 2), (Some(11), 12), (None, 5), (None, 1)])
+    );
+}
+
+// The same for a key that is not that of the leaf that it leads to, and for that one.
+fn counted_skipped<const P: usize>(
+    store: &mut NodeStore<Key, u32, P>,
+) -> Option<[(Option<u32>, usize); 2]> {
+    let root = planted_all(store, &[&[1, 1, 1, 1, 5], &[1, 1, 1, 1, 6]]).ok()??;
+    let other = searched(store, root, &[1, 1, 9, 1, 5]);
+    let own = searched(store, root, &[1, 1, 1, 1, 5]);
+    Some([with_value(store, other), with_value(store, own)])
+}
+
+#[test]
+fn compares_the_whole_key_after_skipped_bytes(rt: HostRuntime) {
+    let seen = counted_skipped::<2>(&mut NodeStore::new(rt.alloc()));
+    assert_eq!(rt; seen, Some([(None, 2), (Some(0), 2)]));
+}
+
+// The point of the leaf that three bytes lead to from the root, each from a node to its child.
+fn point_below<const P: usize>(
+    store: &NodeStore<Key, u32, P>,
+    root: OpaqueNodePtr,
+    [first, second, third]: [u8; 3],
+) -> Option<DeletePoint> {
+    let above = child(store, root, first)?;
+    let parent = child(store, above, second)?;
+    Some(DeletePoint {
+        path: TreePath::Normal {
+            grandparent: above.as_inner()?,
+            parent_key_byte: second,
+            parent: parent.as_inner()?,
+            child_key_byte: third,
+        },
+        leaf_node_ptr: child(store, parent, third)?.as_leaf()?,
+    })
+}
+
+// The points of two leaves, where those have these values.
+fn points_with<const P: usize>(
+    store: &NodeStore<Key, u32, P>,
+    root: OpaqueNodePtr,
+    bytes: [[u8; 3]; 2],
+    values: [u32; 2],
+) -> Option<[DeletePoint; 2]> {
+    let first = point_below(store, root, bytes[0])?;
+    let last = point_below(store, root, bytes[1])?;
+    let found = [
+        value_of(store, first.leaf_node_ptr)?,
+        value_of(store, last.leaf_node_ptr)?,
+    ];
+    if found == values {
+        Some([first, last])
+    } else {
+        None
+    }
+}
+
+// The points of both ends of the tree of these keys, as they are found, and as they are to be.
+type BothEnds = [DeletePoint; 2];
+
+fn both_ends<const P: usize>(
+    store: &mut NodeStore<Key, u32, P>,
+    all: Vec<Key>,
+) -> Option<(BothEnds, BothEnds)> {
+    let root = planted_keys(store, all)?;
+    let expected = points_with(store, root, [[0, 0, 0], [3, 2, 1]], [0, 23])?;
+    Some((ends(store, root), expected))
+}
+
+#[test]
+fn finds_the_points_of_both_ends(rt: HostRuntime) -> Result<(), Fail> {
+    let all = keys_of_three(rt.alloc(), [4, 3, 2])?;
+    as_expected(both_ends::<16>(&mut NodeStore::new(rt.alloc()), all))
+}

@@ -1,0 +1,260 @@
+//! Deletions from a parent with more than two children.
+ghost use Rattle.art_model.specs.Pairs.{of_key};
+ghost use Rattle.art_model.specs.Roots.{IsCanonicalRoot};
+
+use super::points::{delete, deletion_from, gone_with, refused_deletion, take_out};
+use art_nodes::node::{NodeType, OpaqueNodePtr};
+use art_nodes::store::NodeStore;
+use art_test_support::cases::{assert_where_refused, planted_bytes};
+use art_test_support::crowds::{fill, place_beside};
+use art_test_support::expected::as_expected;
+use art_test_support::memory::all_memory;
+use art_test_support::nodes::{Seen, nodes_seen};
+use art_test_support::points::Gone;
+use art_test_support::trees::{Key, planted_all, promise};
+use std::alloc::Global;
+use std::test::Fail;
+
+// The kind of the root of so many keys of one byte.
+fn kind_for(count: usize) -> Option<NodeType> {
+    match count {
+        0 => None,
+        1 => Some(NodeType::Leaf),
+        2..=4 => Some(NodeType::Node4),
+        5..=16 => Some(NodeType::Node16),
+        17..=48 => Some(NodeType::Node48),
+        _ => Some(NodeType::Node256),
+    }
+}
+
+// Takes all 256 keys of one byte out. Answers the root that is left, and how many keys there were when the root was of
+// another kind than it had to be.
+fn take_all_out<const P: usize>(
+    store: &mut NodeStore<Key, u32, P>,
+    root: OpaqueNodePtr,
+) -> Option<(Option<OpaqueNodePtr>, Option<usize>)>
+    requires { IsCanonicalRoot (of_key (λ key. key.items)) P store.old root }
+{
+    let mut root = Some(root);
+    for turn in 0..=255u8 {
+        // 77 is odd: each byte comes once, and few come in order.
+        let top = root?;
+        root = take_out(store, top, &[turn.wrapping_mul(77)])?;
+        let left = usize::from(255 - turn);
+        if root.map(|root| root.node_type()) != kind_for(left) {
+            return Some((root, Some(left)));
+        }
+    }
+    Some((root, None))
+}
+
+// The same in their tree.
+fn all_taken_out<const P: usize>(
+    store: &mut NodeStore<Key, u32, P>,
+) -> Option<(Option<OpaqueNodePtr>, Option<usize>)> {
+    let root = planted_bytes(store, 256)?;
+    take_all_out(store, root)
+}
+
+#[test]
+fn shrinks_through_every_kind(rt: HostRuntime) {
+    let left = all_taken_out::<4>(&mut NodeStore::new(rt.alloc()));
+    assert_eq!(rt; left, Some((None, None)));
+}
+
+// What the deletion of one of these keys touches.
+fn touched_by(alloc: Global, slices: &[&[u8]], key: &[u8]) -> Option<(usize, usize, usize)> {
+    let seen = deletion_from::<4>(&mut NodeStore::new(alloc), slices, key);
+    Some(seen?.touched)
+}
+
+static SIX: [&[u8]; 6] = [&[0], &[1], &[2], &[3], &[4], &[5]];
+
+// Seventeen keys below a child of the root, and one beside them.
+static SEVENTEEN: [&[u8]; 18] = [
+    &[0, 0],
+    &[0, 1],
+    &[0, 2],
+    &[0, 3],
+    &[0, 4],
+    &[0, 5],
+    &[0, 6],
+    &[0, 7],
+    &[0, 8],
+    &[0, 9],
+    &[0, 10],
+    &[0, 11],
+    &[0, 12],
+    &[0, 13],
+    &[0, 14],
+    &[0, 15],
+    &[0, 16],
+    &[1],
+];
+
+#[test]
+fn touches_no_more_than_it_must(rt: HostRuntime) {
+    let cases: [(&[&[u8]], &[u8], (usize, usize, usize)); 4] = [
+        // The leaf, with those beside it and the parent.
+        (&SIX, &[2], (0, 1, 3)),
+        (&SIX, &[5], (0, 1, 2)),
+        // The leaf and the parent, with the leaves beside it and a smaller node.
+        (&SIX[..5], &[2], (1, 2, 2)),
+        // And the grandparent.
+        (&SEVENTEEN, &[0, 2], (1, 2, 3)),
+    ];
+    for (slices, key, touched) in cases {
+        assert_eq!(rt; touched_by(rt.alloc(), slices, key), Some(touched));
+    }
+}
+
+// The root that is left and the deleted pair.
+type Left = (Option<OpaqueNodePtr>, Gone);
+
+// What the deletion of [2] leaves while all memory is held.
+fn left_without_memory<const P: usize>(
+    store: &mut NodeStore<Key, u32, P>,
+    root: OpaqueNodePtr,
+) -> Option<Left>
+    requires { IsCanonicalRoot (of_key (λ key. key.items)) P store.old root }
+{
+    let held = all_memory(store.alloc()).ok()?;
+    let left = delete(store, root, &[2]);
+    drop(held);
+    left
+}
+
+// The same in the tree of four keys of one byte, and what is to be.
+fn left_of_four<const P: usize>(store: &mut NodeStore<Key, u32, P>) -> Option<(Left, Left)> {
+    let root = planted_all(store, &SIX[..4]).ok()??;
+    let left = left_without_memory(store, root)?;
+    Some((left, (Some(root), gone_with(2))))
+}
+
+#[test]
+fn without_memory_a_deletion_below_a_kept_parent_is_made(rt: HostRuntime) -> Result<(), Fail> {
+    as_expected(left_of_four::<4>(&mut NodeStore::new(rt.alloc())))
+}
+
+// The deleted value, and the kind of the root that is left, where all memory is held but for a smaller node.
+fn left_of_five<const P: usize>(
+    store: &mut NodeStore<Key, u32, P>,
+) -> Option<(u32, Option<NodeType>)> {
+    let root = planted_all(store, &SIX[..5]).ok()??;
+    promise(store, root, 0, NodeType::Node4).ok()?;
+    let (new_root, gone) = left_without_memory(store, root)?;
+    Some((gone.value, new_root.map(|root| root.node_type())))
+}
+
+#[test]
+fn without_memory_a_promised_shrink_is_made(rt: HostRuntime) {
+    let left = left_of_five::<4>(&mut NodeStore::new(rt.alloc()));
+    assert_eq!(rt; left, Some((2, Some(NodeType::Node4))));
+}
+
+// More nodes of one kind than a store has room for before it is asked for.
+const MORE_THAN_FIT: usize = 100_000;
+
+// What a refused deletion touches of these nodes, beside leaves and nodes of the smaller kind that take all that there is
+// room for. The point has to come back.
+fn refused_in_crowd<const P: usize>(
+    store: &mut NodeStore<Key, u32, P>,
+    root: OpaqueNodePtr,
+    before: &[Seen],
+    kind: NodeType,
+) -> Option<(bool, (usize, usize))>
+    requires { IsCanonicalRoot (of_key (λ key. key.items)) P store.old root }
+{
+    let held = all_memory(store.alloc()).ok()?;
+    place_beside(store, root, NodeType::Leaf, MORE_THAN_FIT);
+    place_beside(store, root, kind, MORE_THAN_FIT);
+    let refused = refused_deletion(store, root, before, &[2]);
+    drop(held);
+    let (is_back, (_, freed, changed)) = refused?;
+    Some((is_back, (freed, changed)))
+}
+
+// The same in the tree of so many keys of one byte.
+fn refused_of_many<const P: usize>(
+    store: &mut NodeStore<Key, u32, P>,
+    count: u16,
+    kind: NodeType,
+) -> Option<(bool, (usize, usize))> {
+    let root = planted_bytes(store, count)?;
+    let before = nodes_seen(store).ok()?;
+    refused_in_crowd(store, root, &before, kind)
+}
+
+// The same in a store of its own.
+fn refused_with(alloc: Global, count: u16, kind: NodeType) -> Option<(bool, (usize, usize))> {
+    refused_of_many::<4>(&mut NodeStore::new(alloc), count, kind)
+}
+
+// The numbers of children from which a node comes to be of a smaller kind, with that kind.
+static SHRINKING: [(u16, NodeType); 3] = [
+    (5, NodeType::Node4),
+    (17, NodeType::Node16),
+    (49, NodeType::Node48),
+];
+
+#[test]
+fn without_memory_a_shrink_leaves_the_tree(rt: HostRuntime) {
+    for (count, kind) in &SHRINKING {
+        let touched = refused_with(rt.alloc(), *count, *kind);
+        assert_eq!(rt; touched, Some((true, (0, 0))));
+    }
+}
+
+// Places so many leaves beside a tree, or else fills its store. Answers whether there was memory.
+fn crowd<const P: usize>(
+    store: &mut NodeStore<Key, u32, P>,
+    root: OpaqueNodePtr,
+    others: Option<usize>,
+) -> bool
+    requires { IsCanonicalRoot (of_key (λ key. key.items)) P store.old root }
+    ensures { IsCanonicalRoot (of_key (λ key. key.items)) P store.new root }
+{
+    let Some(others) = others else {
+        return fill(store, root);
+    };
+    place_beside(store, root, NodeType::Leaf, others)
+}
+
+// What the deletion of [2] from the tree of so many keys of one byte touches where it is refused, beside so many leaves,
+// or else in a full store. The point has to come back.
+fn touched_in_crowd<const P: usize>(
+    store: &mut NodeStore<Key, u32, P>,
+    count: u16,
+    others: Option<usize>,
+) -> Option<(bool, (usize, usize, usize))> {
+    let root = planted_bytes(store, count)?;
+    if !crowd(store, root, others) {
+        return None;
+    }
+    let before = nodes_seen(store).ok()?;
+    refused_deletion(store, root, &before, &[2])
+}
+
+// The same in a store of its own.
+fn touched_beside(
+    alloc: Global,
+    count: u16,
+    others: Option<usize>,
+) -> Option<(bool, (usize, usize, usize))> {
+    touched_in_crowd::<4>(&mut NodeStore::new(alloc), count, others)
+}
+
+// What a refusal is to leave: the point comes back, and nothing is touched.
+const LEFT: (bool, (usize, usize, usize)) = (true, (0, 0, 0));
+
+// Says the same with ample memory and with requests for memory refused.
+#[test]
+fn refused_shrinks_leave_the_tree(rt: HostRuntime) -> Result<(), Fail> {
+    for others in 0..12usize {
+        assert_where_refused(&rt, touched_beside(rt.alloc(), 5, Some(others)), LEFT)?;
+    }
+    for (count, _) in &SHRINKING {
+        assert_where_refused(&rt, touched_beside(rt.alloc(), *count, None), LEFT)?;
+    }
+    Ok(())
+}

@@ -1,0 +1,5 @@
+mod branch;
+mod effect;
+mod existing;
+mod overwrite;
+mod search;

@@ -1,0 +1,4 @@
+mod beside_btree;
+mod calls;
+mod memory;
+mod related;

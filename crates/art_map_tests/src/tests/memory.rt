@@ -1,0 +1,223 @@
+//! Calls without memory.
+use super::calls::{Map, fill};
+use art_operations::map::{ByteMap, MapInsertError, MapRefused};
+use art_test_support::memory::all_memory;
+use std::alloc::Global;
+use std::test::Fail;
+
+#[test]
+fn without_memory_nothing_is_granted(rt: HostRuntime) -> Result<(), Fail> {
+    let alloc = rt.alloc();
+    let held = all_memory(alloc)?;
+    let refused = Vec::<u8>::with_capacity(alloc, 1).is_err();
+    drop(held);
+    let granted = Vec::<u8>::with_capacity(alloc, 1).is_ok();
+    assert_eq!(rt; (refused, granted), (true, true));
+    Ok(())
+}
+
+// Whether an insertion is refused for want of memory, with its pair.
+fn is_refused(map: &mut Map, byte: u8, value: u32) -> bool {
+    match map.insert([byte], value) {
+        Err(MapInsertError::Memory { key, value: back }) => key == [byte] && back == value,
+        _ => false,
+    }
+}
+
+// The same for all related keys.
+fn is_refused_over(map: &mut Map, byte: u8, value: u32) -> bool {
+    match map.insert_over([byte], value) {
+        Err(refused) => refused.key == [byte] && refused.value == value,
+        Ok(_) => false,
+    }
+}
+
+// Whether the first insertions of a map are refused, while there is no memory, and how many pairs it has then.
+fn starve_new(alloc: Global, map: &mut Map) -> Option<([bool; 2], usize)> {
+    let held = all_memory(alloc).ok()?;
+    let refused = [is_refused(map, 1, 2), is_refused_over(map, 1, 2)];
+    drop(held);
+    Some((refused, map.len()))
+}
+
+#[test]
+fn without_memory_a_first_insertion_is_refused(rt: HostRuntime) {
+    let seen = starve_new(rt.alloc(), &mut ByteMap::new(rt.alloc()));
+    assert_eq!(rt; seen, Some(([true, true], 0)));
+}
+
+// Whether a removal of this pair, or else its refusal, left the map as it has to be.
+fn is_right(
+    answer: Result<Option<([u8; 1], u32)>, MapRefused>,
+    byte: u8,
+    before: usize,
+    map: &Map,
+) -> bool {
+    match answer {
+        Ok(pair) => pair == Some(([byte], byte as u32))
+            && map.len().saturating_add(1) == before
+            && !map.contains_key(&[byte]),
+        Err(MapRefused) => map.len() == before && map.contains_key(&[byte]),
+    }
+}
+
+// Whether removals of pairs of a map of five are right, and an insertion over just one pair, and what the other
+// calls answer, while there is no memory.
+fn starve(alloc: Global, map: &mut Map) -> Option<([bool; 4], [Option<u32>; 3])> {
+    let held = all_memory(alloc).ok()?;
+    let answers = [
+        map.get(&[3]).copied(),
+        match map.insert([3], 3) {
+            Ok(Some(old)) => Some(old.1),
+            _ => None,
+        },
+        map.iter().next_back().map(|pair| *pair.1),
+    ];
+    let over = matches!(map.insert_over([3], 3), Ok(1));
+    let before = map.len();
+    let removed = map.remove(&[3]);
+    let first = is_right(removed, 3, before, map);
+    let before = map.len();
+    let removed = map.pop_first();
+    let second = is_right(removed, 1, before, map);
+    let before = map.len();
+    let removed = map.pop_last();
+    let third = is_right(removed, 5, before, map);
+    drop(held);
+    Some(([over, first, second, third], answers))
+}
+
+// Whether a map was filled, and the same of it.
+fn starve_filled(alloc: Global, map: &mut Map) -> (bool, Option<([bool; 4], [Option<u32>; 3])>) {
+    (fill(map), starve(alloc, map))
+}
+
+#[test]
+fn without_memory_calls_are_right_or_refused(rt: HostRuntime) {
+    let seen = starve_filled(rt.alloc(), &mut ByteMap::new(rt.alloc()));
+    let answers = [Some(3), Some(3), Some(5)];
+    assert_eq!(rt; seen, (true, Some(([true; 4], answers))));
+}
+
+// A map with keys of any length.
+type OfAnyLen = ByteMap<Vec<u8>, u32, 4>;
+
+// How many pairs give way to this one, while there is no memory.
+fn starve_over(alloc: Global, map: &mut OfAnyLen, key: Vec<u8>, value: u32) -> Option<usize> {
+    let held = all_memory(alloc).ok()?;
+    let gone = map.insert_over(key, value).ok();
+    drop(held);
+    gone
+}
+
+// The same where just one longer key is stored, with how many pairs there are then, and the values of both keys.
+fn starve_over_longer(
+    alloc: Global,
+    map: &mut OfAnyLen,
+) -> Option<(usize, usize, [Option<u32>; 2])> {
+    map.insert([1, 1].to_vec(alloc).ok()?, 7).ok()?;
+    let gone = starve_over(alloc, map, [1].to_vec(alloc).ok()?, 9)?;
+    let values = [map.get(&[1, 1]).copied(), map.get(&[1]).copied()];
+    Some((gone, map.len(), values))
+}
+
+#[test]
+fn without_memory_a_longer_key_gives_way(rt: HostRuntime) {
+    let seen = starve_over_longer(rt.alloc(), &mut ByteMap::new(rt.alloc()));
+    assert_eq!(rt; seen, Some((1, 1, [None, Some(9)])));
+}
+
+type Deep = ByteMap<[u8; 5], u32, 4>;
+
+// Puts these keys in. Answers whether none is refused.
+fn insert_each(map: &mut Deep, keys: &[[u8; 5]]) -> bool {
+    for key in keys {
+        if map.insert(*key, 0).is_err() {
+            return false;
+        }
+    }
+    true
+}
+
+// Puts in keys of five first bytes, and below each of four of these bytes keys of four nodes of the smallest kind, which
+// are as many as a store has room for before it asks for more.
+fn fill_deep(map: &mut Deep) -> bool {
+    for first in 1..=5u8 {
+        if map.insert([first, 2, 0, 0, 0], 7).is_err() {
+            return false;
+        }
+    }
+    for first in 1..=4u8 {
+        let keys = [
+            [first, 1, 2, 0, 0],
+            [first, 1, 1, 2, 0],
+            [first, 1, 1, 1, 2],
+            [first, 1, 1, 1, 1],
+        ];
+        if !insert_each(map, &keys) {
+            return false;
+        }
+    }
+    map.len() == 21
+}
+
+// Puts in keys for which no inner node is placed, until one is refused. Answers whether one was.
+fn crowd_deep(map: &mut Deep) -> bool {
+    for first in 1..=4u8 {
+        for byte in 3..=4u8 {
+            let keys = [
+                [first, byte, 0, 0, 0],
+                [first, 1, byte, 0, 0],
+                [first, 1, 1, byte, 0],
+                [first, 1, 1, 1, byte],
+            ];
+            if !insert_each(map, &keys) {
+                return true;
+            }
+        }
+    }
+    false
+}
+
+// Whether an insertion is refused while there is no memory, and then a removal that asks for a smaller node; and
+// whether that leaves the map as it was.
+fn starve_deep(alloc: Global, map: &mut Deep) -> Option<[bool; 3]> {
+    let held = all_memory(alloc).ok()?;
+    let is_full = crowd_deep(map);
+    let before = map.len();
+    let is_refused = map.remove(&[5, 2, 0, 0, 0]).is_err();
+    drop(held);
+    let is_kept = map.len() == before && map.get(&[5, 2, 0, 0, 0]).copied() == Some(7);
+    Some([is_full, is_refused, is_kept])
+}
+
+// Whether a deep map was filled, and the same of it.
+fn starve_filled_deep(alloc: Global, map: &mut Deep) -> (bool, Option<[bool; 3]>) {
+    (fill_deep(map), starve_deep(alloc, map))
+}
+
+#[test]
+fn without_memory_a_shrinking_removal_is_refused(rt: HostRuntime) {
+    let seen = starve_filled_deep(rt.alloc(), &mut ByteMap::new(rt.alloc()));
+    assert_eq!(rt; seen, (true, Some([true; 3])));
+}
+
+// Whether a clone of a map is refused, and that of an empty one isn't, while there is no memory.
+fn starve_clones(alloc: Global, map: &Map) -> Option<[bool; 2]> {
+    let held = all_memory(alloc).ok()?;
+    let empty: Map = ByteMap::new(alloc);
+    let told = [map.clone().is_err(), empty.clone().is_ok()];
+    drop(held);
+    Some(told)
+}
+
+// Whether a map was filled, the same of it, and how many pairs it has then.
+fn starve_clones_of_filled(alloc: Global, map: &mut Map) -> (bool, Option<[bool; 2]>, usize) {
+    (fill(map), starve_clones(alloc, map), map.len())
+}
+
+#[test]
+fn without_memory_no_pair_is_cloned(rt: HostRuntime) {
+    let seen = starve_clones_of_filled(rt.alloc(), &mut ByteMap::new(rt.alloc()));
+    assert_eq!(rt; seen, (true, Some([true, true]), 5));
+}

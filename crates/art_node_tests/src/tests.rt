@@ -1,0 +1,5 @@
+mod beside;
+mod mixed_calls;
+mod names;
+mod node;
+mod store;

@@ -1,0 +1,6 @@
+mod against_oracle;
+mod built;
+mod by_list;
+mod drawn;
+mod refused;
+mod sorted_pairs;

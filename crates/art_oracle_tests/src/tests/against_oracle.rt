@@ -1,0 +1,253 @@
+//! Trees that runs of drawn commands leave, each compared with the tree that is built of the pairs at one go.
+ghost use Rattle.std.specs.Prelude.{ℕ, ◌∷◌, List};
+ghost use Rattle.art_model.specs.Canonical.{IsCanonical};
+ghost use Rattle.art_model.specs.Clones.{KeepBytes};
+ghost use Rattle.art_model.specs.Pairs.{IsMap, of_key};
+
+use super::by_list::{answer, copy};
+use super::drawn::{Drawer, Drawn, KeyShape};
+use art_nodes::node::{AsBytes, NodeType, OpaqueNodePtr};
+use art_nodes::store::NodeStore;
+use art_operations::run::{Command, Reply, Side, run};
+use art_oracle::build::build;
+use art_test_support::side_by_side::kind_if_same;
+use art_test_support::tagged::Tagged;
+use std::alloc::{AllocError, Global};
+use std::mem;
+use std::process::Abort;
+use std::test::Fail;
+
+fn copy_of(command: &Command<Tagged, u32>) -> Result<Command<Tagged, u32>, AllocError> {
+    Ok(match command {
+        Command::Insert(key, value) => Command::Insert(key.clone()?, *value),
+        Command::InsertPrefix(key, value) => Command::InsertPrefix(key.clone()?, *value),
+        Command::Delete(key) => Command::Delete(key.clone()?),
+        Command::DeleteMin => Command::DeleteMin,
+        Command::DeleteMax => Command::DeleteMax,
+        Command::Clone => Command::Clone,
+        Command::Contains(key) => Command::Contains(key.clone()?),
+        Command::LongestMatch(key) => Command::LongestMatch(key.clone()?),
+    })
+}
+
+/// A hundred commands, and the replies to them.
+#[derive(Drop)]
+struct Hundred {
+    commands: Vec<Command<Tagged, u32>>,
+    replies: Vec<Reply<Tagged, u32>>,
+}
+
+/// Draws a hundred commands, and carries them out on a list.
+fn draw_hundred(
+    drawer: &mut Drawer,
+    drawn: &mut Drawn,
+    pairs: &mut Vec<(Tagged, u32)>,
+    is_growing: bool,
+) -> Result<Hundred, AllocError>
+    requires { IsMap (of_key ⟦<Tagged as AsBytes>⟧.bytes) pairs.old.items }
+    ensures { IsMap (of_key ⟦<Tagged as AsBytes>⟧.bytes) pairs.new.items }
+{
+    let alloc = drawer.alloc();
+    let mut commands = Vec::new(alloc);
+    let mut replies = Vec::new(alloc);
+    for _ in 0..100 {
+        let command = drawer.command(pairs, is_growing)?;
+        drawn.count(&command);
+        commands.push(copy_of(&command)?)?;
+        replies.push(answer(alloc, pairs, command)?)?;
+    }
+    Ok(Hundred { commands, replies })
+}
+
+/// The replies to commands on a tree. The store that it is in at the end comes to be the first.
+fn run_all<K: AsBytes + Clone + Drop, const P: usize>(
+    first: &mut NodeStore<K, u32, P>,
+    second: &mut NodeStore<K, u32, P>,
+    root: &mut Option<OpaqueNodePtr>,
+    commands: Vec<Command<K, u32>>,
+) -> Result<Vec<Reply<K, u32>>, AllocError>
+    requires canonical { (pairs : List (K × ℕ)) × IsCanonical (of_key K.bytes) P first.old root.old pairs }
+    requires clones { KeepBytes K.bytes K.is_clone }
+    ensures { (pairs : List (K × ℕ)) × IsCanonical (of_key K.bytes) P first.new root.new pairs }
+{
+    match run(first, second, *root, commands) {
+        Ok(done) => {
+            *root = done.root;
+            match done.side {
+                Side::First => {}
+                Side::Second => mem::swap(first, second),
+            }
+            Ok(done.replies)
+        }
+        Err((_, error)) => Err(error),
+    }
+}
+
+/// Whether two replies say the same, of the tags of keys too.
+fn are_alike(one: &Reply<Tagged, u32>, other: &Reply<Tagged, u32>) -> bool {
+    match (one, other) {
+        (Reply::Inserted(old), Reply::Inserted(want)) => old == want,
+        (Reply::Conflict(key, value, error), Reply::Conflict(want, its, refusal)) => {
+            key == want && value == its && error == refusal
+        }
+        (Reply::Overwrote(old, count), Reply::Overwrote(want, number)) => {
+            old == want && count == number
+        }
+        (Reply::Deleted(pair), Reply::Deleted(want)) => pair == want,
+        (Reply::Cloned, Reply::Cloned) => true,
+        (Reply::Found(is_found), Reply::Found(want)) => is_found == want,
+        (Reply::MatchLen(len), Reply::MatchLen(want)) => len == want,
+        _ => false,
+    }
+}
+
+/// The place of the first reply that is not the wanted one, or that is missing or too many.
+fn first_other(replies: &[Reply<Tagged, u32>], wanted: &[Reply<Tagged, u32>]) -> Option<usize> {
+    for (at, (reply, want)) in replies.iter().zip(wanted).enumerate() {
+        if !are_alike(reply, want) {
+            return Some(at);
+        }
+    }
+    if replies.len() == wanted.len() {
+        return None;
+    }
+    Some(replies.len().min(wanted.len()))
+}
+
+/// Compares a tree with the one that is built of these pairs. Answers the greatest kind of node, or None where they are
+/// not the same.
+fn compare<const P: usize>(
+    store: &NodeStore<Tagged, u32, P>,
+    root: Option<OpaqueNodePtr>,
+    pairs: &[(Tagged, u32)],
+) -> Result<Option<NodeType>, AllocError> {
+    let alloc = store.alloc();
+    let mut built = NodeStore::new(alloc);
+    let copied = copy(alloc, pairs)?;
+    let built_root = build(&mut built, copied)?;
+    kind_if_same((store, root), (&built, built_root), pairs)
+}
+
+/// Carries commands out on a tree. Answers the place of the first reply that is not the list's, and the greatest kind of
+/// node, or None where the tree is not the one that is built of the list's pairs.
+fn carry_out<const P: usize>(
+    first: &mut NodeStore<Tagged, u32, P>,
+    second: &mut NodeStore<Tagged, u32, P>,
+    root: &mut Option<OpaqueNodePtr>,
+    hundred: Hundred,
+    pairs: &[(Tagged, u32)],
+) -> Result<(Option<usize>, Option<NodeType>), AllocError>
+    requires { (stored : List (Tagged × ℕ)) ×
+        IsCanonical (of_key ⟦<Tagged as AsBytes>⟧.bytes) P first.old root.old stored }
+    ensures { (stored : List (Tagged × ℕ)) ×
+        IsCanonical (of_key ⟦<Tagged as AsBytes>⟧.bytes) P first.new root.new stored }
+{
+    let replies = run_all(first, second, root, hundred.commands)?;
+    let other = first_other(&replies, &hundred.replies);
+    Ok((other, compare(first, *root, pairs)?))
+}
+
+/// What one trial met.
+#[derive(Clone, Copy)]
+struct Met {
+    drawn: Drawn,
+    most_pairs: usize,
+    greatest_kind: NodeType,
+    /// Whether no pair was left at one of the comparisons.
+    was_empty: bool,
+}
+
+impl Met {
+    /// Whether commands of each kind were drawn, and trees came to be large, to be empty, and to have a node of this
+    /// kind but of no greater one.
+    fn is_wide(self, greatest_kind: NodeType) -> bool {
+        self.drawn.is_each()
+            && self.most_pairs > 80
+            && self.greatest_kind == greatest_kind
+            && self.was_empty
+    }
+}
+
+/// Carries 10,000 commands out, with a comparison after each hundred. The pairs grow for 1,300 commands and then shrink
+/// for 700.
+fn check<const P: usize>(
+    rt: &impl Abort,
+    first: &mut NodeStore<Tagged, u32, P>,
+    second: &mut NodeStore<Tagged, u32, P>,
+    shape: KeyShape,
+) -> Result<Met, Fail> {
+    let alloc = first.alloc();
+    let mut drawer = Drawer::new(alloc, shape, P as u64);
+    let mut pairs = Vec::new(alloc);
+    let mut root = None;
+    let mut met = Met {
+        drawn: Drawn::new(),
+        most_pairs: 0,
+        greatest_kind: NodeType::Node4,
+        was_empty: false,
+    };
+    for turn in 0..100 {
+        let is_growing = turn % 20 < 13;
+        let hundred = draw_hundred(&mut drawer, &mut met.drawn, &mut pairs, is_growing)?;
+        let (other, kind) = carry_out(first, second, &mut root, hundred, &pairs)?;
+        assert_eq!(rt; other, None);
+        met.most_pairs = met.most_pairs.max(pairs.len());
+        met.greatest_kind = met.greatest_kind.max(kind.ok_or("another tree")?);
+        met.was_empty |= root.is_none();
+    }
+    Ok(met)
+}
+
+/// Whether a trial is wide.
+fn is_wide<const P: usize>(
+    rt: &impl Abort,
+    first: &mut NodeStore<Tagged, u32, P>,
+    shape: KeyShape,
+    greatest_kind: NodeType,
+) -> Result<bool, Fail> {
+    let alloc = first.alloc();
+    let met = check(rt, first, &mut NodeStore::new(alloc), shape)?;
+    Ok(met.is_wide(greatest_kind))
+}
+
+/// Whether a trial for each number of stored bytes is wide.
+fn are_wide(
+    rt: &impl Abort,
+    alloc: Global,
+    shape: KeyShape,
+    greatest_kind: NodeType,
+) -> Result<[bool; 4], Fail> {
+    let at_0 = is_wide::<0>(rt, &mut NodeStore::new(alloc), shape, greatest_kind)?;
+    let at_2 = is_wide::<2>(rt, &mut NodeStore::new(alloc), shape, greatest_kind)?;
+    let at_4 = is_wide::<4>(rt, &mut NodeStore::new(alloc), shape, greatest_kind)?;
+    let at_16 = is_wide::<16>(rt, &mut NodeStore::new(alloc), shape, greatest_kind)?;
+    Ok([at_0, at_2, at_4, at_16])
+}
+
+#[test]
+fn trees_of_one_byte_keys_are_those_built(rt: HostRuntime) -> Result<(), Fail> {
+    let wide = are_wide(&rt, rt.alloc(), KeyShape::OneByte, NodeType::Node256)?;
+    assert_eq!(rt; wide, [true; 4]);
+    Ok(())
+}
+
+#[test]
+fn trees_of_two_byte_keys_are_those_built(rt: HostRuntime) -> Result<(), Fail> {
+    let wide = are_wide(&rt, rt.alloc(), KeyShape::TwoBytes, NodeType::Node48)?;
+    assert_eq!(rt; wide, [true; 4]);
+    Ok(())
+}
+
+#[test]
+fn trees_among_related_keys_are_those_built(rt: HostRuntime) -> Result<(), Fail> {
+    let wide = are_wide(&rt, rt.alloc(), KeyShape::Related, NodeType::Node16)?;
+    assert_eq!(rt; wide, [true; 4]);
+    Ok(())
+}
+
+#[test]
+fn trees_of_long_keys_are_those_built(rt: HostRuntime) -> Result<(), Fail> {
+    let wide = are_wide(&rt, rt.alloc(), KeyShape::LongFronts, NodeType::Node16)?;
+    assert_eq!(rt; wide, [true; 4]);
+    Ok(())
+}

@@ -1,0 +1,361 @@
+//! A run of many commands while requests for memory are refused, in turn, by tools/refusals. The commands that were not
+//! refused are carried out on a list too. After each refusal that was met a test says once that it asserted what holds.
+ghost use Rattle.art_model.specs.Pairs.{IsMap, of_key};
+
+use super::by_list::answer;
+use art_nodes::node::OpaqueNodePtr;
+use art_nodes::store::NodeStore;
+use art_operations::run::{Command, Reply, RunResult, Side, run};
+use art_operations::well_formed::WellFormedChecker;
+use art_test_support::commands::{Asked, Row, Told, command, commands, first_wrong, told_by};
+use art_test_support::memory::end_refusals;
+use art_test_support::shapes::count_nodes;
+use art_test_support::side_by_side::kind_if_same;
+use art_test_support::trees::Key;
+use std::alloc::{AllocError, Global};
+use std::process::Abort;
+use std::test::Fail;
+
+// No store of these tests has a node in a later slot.
+const SLOTS: usize = 128;
+
+const BYTES: [u8; 51] = [
+    0, 1, 2, 3, 4, 5, 6, 7, 8, 9, 10, 11, 12, 13, 14, 15, 16, 17, 18, 19, 20, 21, 22, 23, 24, 25,
+    26, 27, 28, 29, 30, 31, 32, 33, 34, 35, 36, 37, 38, 39, 40, 41, 42, 43, 44, 45, 46, 47, 48, 49,
+    50,
+];
+
+/// 106 commands, and the replies to them where there is memory: a tree grows to 51 children and to every kind of node,
+/// goes over to the other store and shrinks again.
+fn script(alloc: Global, bytes: &[u8]) -> Result<Vec<Row<'_>>, AllocError> {
+    let mut rows: Vec<Row<'_>> = Vec::with_capacity(alloc, 106)?;
+    for (key, value) in bytes.chunks(1).take(50).zip(0u32..) {
+        rows.push((Asked::Insert(key, value), Told::Inserted(None)))?;
+    }
+    rows.push((Asked::Insert(&[50, 0], 0), Told::Inserted(None)))?;
+    rows.push((Asked::Insert(&[50, 1], 1), Told::Inserted(None)))?;
+    rows.push((Asked::Insert(&[50, 2], 2), Told::Inserted(None)))?;
+    rows.push((Asked::Clone, Told::Cloned))?;
+    rows.push((Asked::InsertPrefix(&[50], 7), Told::Overwrote(None, 3)))?;
+    rows.push((Asked::DeleteMax, Told::Deleted(Some((&[50], 7)))))?;
+    for value in (3..50u32).rev() {
+        let key = bytes.chunks(1).nth(value as usize);
+        rows.push((Asked::DeleteMax, Told::Deleted(key.map(|key| (key, value)))))?;
+    }
+    rows.push((Asked::Insert(&[], 9), Told::Conflict(&[], 9, &[])))?;
+    rows.push((Asked::InsertPrefix(&[], 9), Told::Overwrote(None, 3)))?;
+    rows.push((Asked::Insert(&[1], 1), Told::Conflict(&[1], 1, &[1])))?;
+    Ok(rows)
+}
+
+/// The commands alone.
+fn scripted(alloc: Global) -> Result<Vec<Command<Key, u32>>, AllocError> {
+    let rows = script(alloc, &BYTES)?;
+    commands(alloc, &rows)
+}
+
+/// What a run with memory leaves: the first reply that is not the one of its row, the side, whether the root is a leaf
+/// of the empty key, and how many nodes each store has.
+type Left = (Option<usize>, Side, bool, [(usize, usize); 2]);
+
+fn is_leaf_of_nothing<const P: usize>(
+    store: &NodeStore<Key, u32, P>,
+    root: Option<OpaqueNodePtr>,
+) -> Option<bool> {
+    let leaf = store.leaf(root?.as_leaf()?)?;
+    Some(leaf.key.is_empty())
+}
+
+fn left_by<const P: usize>(
+    first: &mut NodeStore<Key, u32, P>,
+    second: &mut NodeStore<Key, u32, P>,
+) -> Option<Left> {
+    let alloc = first.alloc();
+    let rows = script(alloc, &BYTES).ok()?;
+    let done = run(first, second, None, commands(alloc, &rows).ok()?).ok()?;
+    Some((
+        first_wrong(&done.replies, &rows),
+        done.side,
+        is_leaf_of_nothing(second, done.root)?,
+        [count_nodes(first, SLOTS), count_nodes(second, SLOTS)],
+    ))
+}
+
+/// The same with a second store of its own.
+fn left_beside<const P: usize>(first: &mut NodeStore<Key, u32, P>) -> Option<Left> {
+    let alloc = first.alloc();
+    left_by(first, &mut NodeStore::new(alloc))
+}
+
+#[test]
+fn commands_are_answered_with_memory(rt: HostRuntime) {
+    let alloc = rt.alloc();
+    let at_0 = left_beside::<0>(&mut NodeStore::new(alloc));
+    let at_2 = left_beside::<2>(&mut NodeStore::new(alloc));
+    let at_4 = left_beside::<4>(&mut NodeStore::new(alloc));
+    let at_16 = left_beside::<16>(&mut NodeStore::new(alloc));
+    let left = [at_0, at_2, at_4, at_16];
+    let wanted = Some((None, Side::Second, true, [(0, 0), (1, 0)]));
+    assert_eq!(rt; left, [wanted; 4]);
+}
+
+fn are_related(one: &[u8], other: &[u8]) -> bool {
+    one.starts_with(other) || other.starts_with(one)
+}
+
+fn count_related(pairs: &[(Key, u32)], key: &[u8]) -> usize {
+    pairs
+        .iter()
+        .filter(|pair| are_related(&pair.0, key))
+        .count()
+}
+
+/// How many bytes two keys share in front.
+fn shared(one: &[u8], other: &[u8]) -> usize {
+    one.iter()
+        .zip(other)
+        .take_while(|(byte, its)| byte == its)
+        .count()
+}
+
+/// How many children the parent of the leaf of a stored key has: as many as there are bytes behind the longest front
+/// that the key shares with any other one.
+fn count_siblings(pairs: &[(Key, u32)], key: &[u8]) -> usize {
+    let mut depth = 0usize;
+    for (other, _) in pairs {
+        if other.as_slice() != key {
+            depth = depth.max(shared(other, key));
+        }
+    }
+    let mut last = None;
+    let mut count = 0usize;
+    for (other, _) in pairs {
+        let byte = other.get(depth).copied();
+        if shared(other, key) >= depth && byte != last {
+            last = byte;
+            count = count.saturating_add(1);
+        }
+    }
+    count
+}
+
+/// Whether the node above a pair's leaf comes to be of a smaller kind as the leaf goes.
+fn is_shrunk_by(pairs: &[(Key, u32)], pair: Option<&(Key, u32)>) -> bool {
+    match pair {
+        Some((key, _)) => [5, 17, 49].contains(&count_siblings(pairs, key)),
+        None => false,
+    }
+}
+
+/// Whether a command takes memory where these pairs are stored.
+fn may_be_refused(pairs: &[(Key, u32)], asked: Asked<'_>) -> bool {
+    match asked {
+        Asked::Insert(key, _) => !pairs.iter().any(|pair| pair.0.as_slice() == key),
+        Asked::InsertPrefix(key, _) => count_related(pairs, key) != 1,
+        Asked::Delete(key) => {
+            is_shrunk_by(pairs, pairs.iter().find(|pair| pair.0.as_slice() == key))
+        }
+        Asked::DeleteMin => is_shrunk_by(pairs, pairs.first()),
+        Asked::DeleteMax => is_shrunk_by(pairs, pairs.last()),
+        Asked::Clone => !pairs.is_empty(),
+        Asked::Contains(_) | Asked::LongestMatch(_) => false,
+    }
+}
+
+/// The reply to a command that is refused.
+fn refusal_of(asked: Asked<'_>) -> Told<'_> {
+    Told::NoMemory(match asked {
+        Asked::Insert(key, value) | Asked::InsertPrefix(key, value) => Some((key, value)),
+        _ => None,
+    })
+}
+
+/// Whether a reply is the list's, which carries the command out.
+fn is_answer(
+    alloc: Global,
+    pairs: &mut Vec<(Key, u32)>,
+    asked: Asked<'_>,
+    reply: &Reply<Key, u32>,
+) -> Result<bool, AllocError>
+    requires { IsMap (of_key (λ key. key.items)) pairs.old.items }
+    ensures { IsMap (of_key (λ key. key.items)) pairs.new.items }
+{
+    let wanted = answer(alloc, pairs, command(alloc, asked)?)?;
+    Ok(told_by(reply) == told_by(&wanted))
+}
+
+/// How many replies are refusals. None where one came to a command that takes no memory, or where another reply is not
+/// that of the list, which carries out the commands that were not refused.
+fn count_refused(
+    alloc: Global,
+    pairs: &mut Vec<(Key, u32)>,
+    rows: &[Row<'_>],
+    replies: &[Reply<Key, u32>],
+) -> Result<Option<usize>, AllocError>
+    requires { IsMap (of_key (λ key. key.items)) pairs.old.items }
+{
+    let mut refused = 0usize;
+    for ((asked, _), reply) in rows.iter().zip(replies) {
+        if told_by(reply) == refusal_of(*asked) && may_be_refused(pairs, *asked) {
+            refused = refused.saturating_add(1);
+        } else if !is_answer(alloc, pairs, *asked, reply)? {
+            return Ok(None);
+        }
+    }
+    Ok(if replies.len() == rows.len() {
+        Some(refused)
+    } else {
+        None
+    })
+}
+
+/// Whether the checker finds a tree of these pairs in a store, and there is no other node in it nor any in the other.
+fn is_tree_of<const P: usize>(
+    store: &NodeStore<Key, u32, P>,
+    other: &NodeStore<Key, u32, P>,
+    root: Option<OpaqueNodePtr>,
+    pairs: &[(Key, u32)],
+) -> Result<bool, AllocError> {
+    let has_pairs = kind_if_same((store, root), (store, root), pairs)?.is_some();
+    let counts = match WellFormedChecker::check(store, root, 0) {
+        Ok(stats) => (stats.num_leaf, stats.num_inner),
+        Err(_) => return Ok(false),
+    };
+    let is_counted = counts.0 == pairs.len() && counts == count_nodes(store, SLOTS);
+    Ok(has_pairs && is_counted && count_nodes(other, SLOTS) == (0, 0))
+}
+
+/// What comes of commands of which some may be refused.
+#[derive(Clone, Copy, PartialEq, Eq, Debug)]
+enum Outcome {
+    /// The refusal fell outside the run.
+    Undecided,
+    /// All commands came back, and no store has a node.
+    HandedBack,
+    /// So many commands were refused, and all that is left is what the others leave.
+    Ran(usize),
+    Wrong,
+}
+
+impl Outcome {
+    /// How many refusals were met.
+    fn refusals(self) -> usize {
+        match self {
+            Outcome::HandedBack => 1,
+            Outcome::Ran(refused) => refused,
+            Outcome::Undecided | Outcome::Wrong => 0,
+        }
+    }
+}
+
+/// Judges a run by the replies to it and by what it leaves in the store that the tree is in, and in the other.
+fn judge<const P: usize>(
+    store: &NodeStore<Key, u32, P>,
+    other: &NodeStore<Key, u32, P>,
+    done: &RunResult<Key, u32>,
+) -> Result<Outcome, AllocError> {
+    let alloc = store.alloc();
+    let mut pairs = Vec::new(alloc);
+    let rows = script(alloc, &BYTES)?;
+    let Some(refused) = count_refused(alloc, &mut pairs, &rows, &done.replies)? else {
+        return Ok(Outcome::Wrong);
+    };
+    if is_tree_of(store, other, done.root, &pairs)? {
+        Ok(Outcome::Ran(refused))
+    } else {
+        Ok(Outcome::Wrong)
+    }
+}
+
+/// Whether two commands are the same insertion, or of one kind without a pair.
+fn is_same(command: &Command<Key, u32>, asked: Asked<'_>) -> bool {
+    match (command, asked) {
+        (Command::Insert(key, value), Asked::Insert(wanted, its)) => {
+            key.as_slice() == wanted && *value == its
+        }
+        (Command::InsertPrefix(key, value), Asked::InsertPrefix(wanted, its)) => {
+            key.as_slice() == wanted && *value == its
+        }
+        (Command::DeleteMax, Asked::DeleteMax) => true,
+        (Command::Clone, Asked::Clone) => true,
+        _ => false,
+    }
+}
+
+/// Whether all commands came back, and there is no node in either store.
+fn are_handed_back<const P: usize>(
+    first: &NodeStore<Key, u32, P>,
+    second: &NodeStore<Key, u32, P>,
+    back: &[Command<Key, u32>],
+) -> Result<bool, AllocError> {
+    let rows = script(first.alloc(), &BYTES)?;
+    let are_same = back
+        .iter()
+        .zip(&rows)
+        .all(|(command, row)| is_same(command, row.0));
+    let counts = [count_nodes(first, SLOTS), count_nodes(second, SLOTS)];
+    Ok(are_same && back.len() == rows.len() && counts == [(0, 0); 2])
+}
+
+/// Runs the commands while requests may be refused, and then judges with memory what came of it.
+fn tried<const P: usize>(
+    first: &mut NodeStore<Key, u32, P>,
+    second: &mut NodeStore<Key, u32, P>,
+) -> Result<Outcome, AllocError> {
+    let alloc = first.alloc();
+    let Ok(asked) = scripted(alloc) else {
+        return Ok(Outcome::Undecided);
+    };
+    let ran = run(first, second, None, asked);
+    end_refusals(alloc);
+    match ran {
+        Ok(done) => match done.side {
+            Side::First => judge(first, second, &done),
+            Side::Second => judge(second, first, &done),
+        },
+        Err((back, AllocError)) => Ok(if are_handed_back(first, second, &back)? {
+            Outcome::HandedBack
+        } else {
+            Outcome::Wrong
+        }),
+    }
+}
+
+/// The same with a second store of its own.
+fn tried_beside<const P: usize>(first: &mut NodeStore<Key, u32, P>) -> Result<Outcome, AllocError> {
+    let alloc = first.alloc();
+    tried(first, &mut NodeStore::new(alloc))
+}
+
+/// Asserts what came of a run, and says so once for each refusal that was met.
+fn assert_whole(rt: &(impl Abort + Print), outcome: Outcome) -> Result<(), Fail> {
+    assert_ne!(rt; outcome, Outcome::Wrong);
+    for _ in 0..outcome.refusals() {
+        println!(rt; "asserted")?;
+    }
+    Ok(())
+}
+
+#[test]
+fn refused_commands_count_as_not_made_with_0_stored(rt: HostRuntime) -> Result<(), Fail> {
+    let outcome = tried_beside::<0>(&mut NodeStore::new(rt.alloc()))?;
+    assert_whole(&rt, outcome)
+}
+
+#[test]
+fn refused_commands_count_as_not_made_with_2_stored(rt: HostRuntime) -> Result<(), Fail> {
+    let outcome = tried_beside::<2>(&mut NodeStore::new(rt.alloc()))?;
+    assert_whole(&rt, outcome)
+}
+
+#[test]
+fn refused_commands_count_as_not_made_with_4_stored(rt: HostRuntime) -> Result<(), Fail> {
+    let outcome = tried_beside::<4>(&mut NodeStore::new(rt.alloc()))?;
+    assert_whole(&rt, outcome)
+}
+
+#[test]
+fn refused_commands_count_as_not_made_with_16_stored(rt: HostRuntime) -> Result<(), Fail> {
+    let outcome = tried_beside::<16>(&mut NodeStore::new(rt.alloc()))?;
+    assert_whole(&rt, outcome)
+}

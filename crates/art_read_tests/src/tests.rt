@@ -1,0 +1,6 @@
+mod clones;
+mod iterator;
+mod kept_keys;
+mod lookup;
+mod minmax;
+mod run;

@@ -1,0 +1,365 @@
+//! Searches.
+ghost use Rattle.std.specs.Prelude.{◌<◌};
+ghost use Rattle.art_model.specs.Pairs.{of_key};
+ghost use Rattle.art_model.specs.Roots.{IsCanonicalRoot};
+
+use art_nodes::node::{
+    FromHeader, Header, InnerNode, InnerNode4, InnerNode16, InnerNode48, InnerNodeDirect, LeafNode,
+    OpaqueNodePtr,
+};
+use art_nodes::store::NodeStore;
+use art_operations::lookup::{
+    PrefixMatchBehavior, Visits, prefix_search_unchecked, prefix_search_visiting, search_unchecked,
+    search_visiting,
+};
+use art_operations::path::{AttemptOptimisticPrefixMatch, PessimisticMismatch};
+use art_test_support::trees::{Key, keys_of_zeros, planted_all, planted_keys, value_of};
+use std::alloc::Global;
+
+// A search or a prefix search for a key.
+#[derive(Clone, Copy)]
+enum Search<'a> {
+    Whole(&'a [u8]),
+    Prefix(&'a [u8]),
+}
+
+// The value of the leaf that a search finds.
+fn found<const P: usize>(
+    store: &NodeStore<Key, u32, P>,
+    root: OpaqueNodePtr,
+    search: Search<'_>,
+) -> Option<u32>
+    requires { IsCanonicalRoot (of_key (λ key. key.items)) P store.now root }
+{
+    let leaf = match search {
+        Search::Whole(key_bytes) => search_unchecked(store, root, key_bytes),
+        Search::Prefix(key_bytes) => prefix_search_unchecked(store, root, key_bytes),
+    };
+    value_of(store, leaf?)
+}
+
+// The same, and how many nodes the search reads.
+fn reading<const P: usize>(
+    store: &NodeStore<Key, u32, P>,
+    root: OpaqueNodePtr,
+    search: Search<'_>,
+) -> (Option<u32>, usize)
+    requires { IsCanonicalRoot (of_key (λ key. key.items)) P store.now root }
+{
+    let mut visits = Visits::new();
+    let leaf = match search {
+        Search::Whole(key_bytes) => search_visiting(store, root, key_bytes, &mut visits),
+        Search::Prefix(key_bytes) => prefix_search_visiting(store, root, key_bytes, &mut visits),
+    };
+    (leaf.and_then(|leaf| value_of(store, leaf)), visits.count())
+}
+
+// The same of five searches.
+fn readings<const P: usize>(
+    store: &NodeStore<Key, u32, P>,
+    root: OpaqueNodePtr,
+    searches: &[Search<'_>; 5],
+) -> [(Option<u32>, usize); 5]
+    requires { IsCanonicalRoot (of_key (λ key. key.items)) P store.now root }
+{
+    [
+        reading(store, root, searches[0]),
+        reading(store, root, searches[1]),
+        reading(store, root, searches[2]),
+        reading(store, root, searches[3]),
+        reading(store, root, searches[4]),
+    ]
+}
+
+// The same of the tree of keys of zeros.
+fn readings_in<const P: usize>(
+    store: &mut NodeStore<Key, u32, P>,
+    searches: &[Search<'_>; 5],
+) -> Option<[(Option<u32>, usize); 5]> {
+    let keys = keys_of_zeros(store.alloc()).ok()?;
+    let root = planted_keys(store, keys)?;
+    Some(readings(store, root, searches))
+}
+
+// The same in a store of its own.
+fn readings_with(alloc: Global, searches: &[Search<'_>; 5]) -> Option<[(Option<u32>, usize); 5]> {
+    readings_in::<4>(&mut NodeStore::new(alloc), searches)
+}
+
+// Searches that end at a leaf, or for a key that is the front of others.
+static AT_LEAVES_OR_FRONTS: [Search<'static>; 5] = [
+    Search::Whole(&[255]),
+    Search::Whole(&[0, 0, 0, 0, 0, 0, 0, 0, 0, 0, 0, 255]),
+    Search::Whole(&[0, 0, 0, 0]),
+    Search::Whole(&[]),
+    Search::Prefix(&[255, 9]),
+];
+
+#[test]
+fn counts_readings(rt: HostRuntime) {
+    let wanted = [
+        (Some(0), 2),
+        (Some(11), 12),
+        (None, 5),
+        (None, 1),
+        (Some(0), 2),
+    ];
+    assert_eq!(rt;
+        readings_with(rt.alloc(), &AT_LEAVES_OR_FRONTS),
+        Some(wanted)
+    );
+}
+
+// Searches that end at a node without a child for the next byte.
+static WITHOUT_CHILD: [Search<'static>; 5] = [
+    Search::Whole(&[7]),
+    Search::Whole(&[0, 0, 9, 255]),
+    Search::Whole(&[0, 0, 0, 0, 0, 0, 0, 0, 0, 0, 7]),
+    Search::Prefix(&[7, 255]),
+    Search::Prefix(&[0, 254]),
+];
+
+#[test]
+fn reads_nothing_for_a_missing_child(rt: HostRuntime) {
+    let wanted = [(None, 1), (None, 3), (None, 11), (None, 1), (None, 2)];
+    assert_eq!(rt; readings_with(rt.alloc(), &WITHOUT_CHILD), Some(wanted));
+}
+
+// What searches past bytes that no node stores find, with how many nodes each of the first two reads.
+type Past = ([(Option<u32>, usize); 2], [Option<u32>; 2]);
+
+fn readings_past<const P: usize>(store: &NodeStore<Key, u32, P>, root: OpaqueNodePtr) -> Past
+    requires { IsCanonicalRoot (of_key (λ key. key.items)) P store.now root }
+{
+    (
+        [
+            reading(store, root, Search::Whole(&[1, 1, 9, 1, 5])),
+            reading(store, root, Search::Prefix(&[1, 1, 9, 1, 5, 7])),
+        ],
+        [
+            found(store, root, Search::Whole(&[1, 1, 1, 1, 5])),
+            found(store, root, Search::Prefix(&[1, 1, 1, 1, 6, 7])),
+        ],
+    )
+}
+
+// The same of the tree of two keys.
+fn readings_past_in<const P: usize>(store: &mut NodeStore<Key, u32, P>) -> Option<Past> {
+    let root = planted_all(store, &[&[1, 1, 1, 1, 5], &[1, 1, 1, 1, 6]]).ok()??;
+    Some(readings_past(store, root))
+}
+
+// The same in a store of its own.
+fn readings_past_with(alloc: Global) -> Option<Past> {
+    readings_past_in::<2>(&mut NodeStore::new(alloc))
+}
+
+#[test]
+fn compares_the_whole_key_after_skipped_bytes(rt: HostRuntime) {
+    let wanted = ([(None, 2), (None, 2)], [Some(0), Some(1)]);
+    assert_eq!(rt; readings_past_with(rt.alloc()), Some(wanted));
+}
+
+// The length of a node's prefix, and how many bytes of it are stored.
+fn prefix_lens<const P: usize>(
+    store: &NodeStore<Key, u32, P>,
+    name: OpaqueNodePtr,
+) -> Option<(usize, usize)> {
+    let node = store.inner(name.as_inner()?)?;
+    Some((node.prefix_len(), node.read_prefix().len()))
+}
+
+// What searches below a prefix of [5, 5] find.
+fn found_below<const P: usize>(
+    store: &NodeStore<Key, u32, P>,
+    root: OpaqueNodePtr,
+) -> [Option<u32>; 2]
+    requires { IsCanonicalRoot (of_key (λ key. key.items)) P store.now root }
+{
+    [
+        found(store, root, Search::Whole(&[9, 9, 1])),
+        found(store, root, Search::Whole(&[5, 5, 2])),
+    ]
+}
+
+// The lengths of such a prefix and what is found below it.
+type Below = (Option<(usize, usize)>, [Option<u32>; 2]);
+
+fn below_in<const P: usize>(store: &mut NodeStore<Key, u32, P>) -> Option<Below> {
+    let root = planted_all(store, &[&[5, 5, 1], &[5, 5, 2]]).ok()??;
+    Some((prefix_lens(store, root), found_below(store, root)))
+}
+
+// The same in a store of its own.
+fn below_with(alloc: Global) -> Option<Below> {
+    below_in::<0>(&mut NodeStore::new(alloc))
+}
+
+#[test]
+fn finds_below_a_prefix_of_which_nothing_is_stored(rt: HostRuntime) {
+    let seen = below_with(rt.alloc());
+    assert_eq!(rt; seen, Some((Some((2, 0)), [None, Some(1)])));
+}
+
+// What the same searches find in a tree whose prefixes are stored up to some length.
+fn found_at<const P: usize>(store: &NodeStore<Key, u32, P>, root: OpaqueNodePtr) -> [Option<u32>; 5]
+    requires { IsCanonicalRoot (of_key (λ key. key.items)) P store.now root }
+{
+    [
+        found(store, root, Search::Whole(&[1, 2, 3])),
+        found(store, root, Search::Whole(&[1, 2])),
+        found(store, root, Search::Prefix(&[1, 2])),
+        found(store, root, Search::Prefix(&[1, 2, 4, 9])),
+        found(store, root, Search::Prefix(&[2])),
+    ]
+}
+
+// Plants two keys, and searches.
+fn answers_at<const P: usize>(store: &mut NodeStore<Key, u32, P>) -> Option<[Option<u32>; 5]> {
+    let root = planted_all(store, &[&[1, 2, 3], &[1, 2, 4]]).ok()??;
+    Some(found_at(store, root))
+}
+
+// The same in a store of its own.
+fn answers_with<const P: usize>(alloc: Global) -> Option<[Option<u32>; 5]>
+    requires { P < 256 }
+{
+    answers_at::<P>(&mut NodeStore::new(alloc))
+}
+
+// The same with each number of stored bytes.
+fn answers_with_each(alloc: Global) -> [Option<[Option<u32>; 5]>; 4] {
+    [
+        answers_with::<0>(alloc),
+        answers_with::<2>(alloc),
+        answers_with::<4>(alloc),
+        answers_with::<16>(alloc),
+    ]
+}
+
+#[test]
+fn answers_the_same_at_every_length(rt: HostRuntime) {
+    let wanted = [Some(0), None, None, Some(1), None];
+    assert_eq!(rt; answers_with_each(rt.alloc()), [Some(wanted); 4]);
+}
+
+// What came of the comparison of a prefix, and how the next ones are to be made.
+type Compared = (
+    Result<AttemptOptimisticPrefixMatch, PessimisticMismatch>,
+    PrefixMatchBehavior,
+);
+
+// Compares a node's prefix with the rest of a key.
+fn compared<N: InnerNode<P>, const P: usize>(
+    node: &N,
+    behavior: PrefixMatchBehavior,
+    rest: &[u8],
+) -> Compared {
+    let mut behavior = behavior;
+    let outcome = behavior.match_prefix(node, rest);
+    (outcome, behavior)
+}
+
+// A match of so many bytes, of which some were not compared.
+fn matched(len: usize) -> Result<AttemptOptimisticPrefixMatch, PessimisticMismatch> {
+    Ok(AttemptOptimisticPrefixMatch {
+        matched_bytes: len,
+        any_implicit_bytes: true,
+    })
+}
+
+// A mismatch after so many bytes.
+fn mismatch(
+    len: usize,
+    prefix_byte: Option<u8>,
+) -> Result<AttemptOptimisticPrefixMatch, PessimisticMismatch> {
+    Err(PessimisticMismatch {
+        matched_bytes: len,
+        prefix_byte,
+    })
+}
+
+#[test]
+fn compares_stored_bytes_and_then_lengths(rt: HostRuntime) {
+    let node: InnerNode4<2> = InnerNode4::from_header(Header::new(&[1, 1], 4));
+    let first = PrefixMatchBehavior::default();
+    let (pessimistic, optimistic) = (
+        PrefixMatchBehavior::Pessimistic,
+        PrefixMatchBehavior::Optimistic,
+    );
+    let seen = [
+        compared(&node, first, &[1, 9]),
+        compared(&node, pessimistic, &[1, 1, 1]),
+        compared(&node, pessimistic, &[1, 1, 9, 1, 5]),
+        compared(&node, optimistic, &[9, 9, 9]),
+        compared(&node, optimistic, &[9, 9, 9, 9]),
+    ];
+    let wanted = [
+        (mismatch(1, Some(1)), pessimistic),
+        (mismatch(3, None), optimistic),
+        (matched(4), optimistic),
+        (mismatch(3, None), optimistic),
+        (matched(4), optimistic),
+    ];
+    assert_eq!(rt; (first, seen), (pessimistic, wanted));
+}
+
+// Compares the prefix of a node of one kind with a key that begins with it.
+fn compared_whole<N: InnerNode<4>>(header: Header<4>) -> Compared {
+    let node = N::from_header(header);
+    compared(&node, PrefixMatchBehavior::Pessimistic, &[7, 8, 9])
+}
+
+#[test]
+fn stays_pessimistic_where_all_is_stored(rt: HostRuntime) {
+    let whole = Ok(AttemptOptimisticPrefixMatch {
+        matched_bytes: 2,
+        any_implicit_bytes: false,
+    });
+    let header: Header<4> = Header::new(&[7, 8], 2);
+    let seen = [
+        compared_whole::<InnerNode4<4>>(header),
+        compared_whole::<InnerNode16<4>>(header),
+        compared_whole::<InnerNode48<4>>(header),
+        compared_whole::<InnerNodeDirect<4>>(header),
+    ];
+    assert_eq!(rt; seen, [(whole, PrefixMatchBehavior::Pessimistic); 4]);
+}
+
+// Whether keys are equal to [1, 2, 3] from a depth on or whole.
+fn equal_to_leaf() -> [bool; 6] {
+    let pessimistic = PrefixMatchBehavior::Pessimistic;
+    let optimistic = PrefixMatchBehavior::Optimistic;
+    let leaf = LeafNode::with_no_siblings([1, 2, 3], ());
+    [
+        pessimistic.matches_leaf_key(&leaf, &[9, 9, 3], 2),
+        optimistic.matches_leaf_key(&leaf, &[9, 9, 3], 2),
+        pessimistic.matches_leaf_key(&leaf, &[9, 9, 3, 4], 2),
+        optimistic.matches_leaf_key(&leaf, &[1, 2, 3], 2),
+        pessimistic.matches_leaf_key(&leaf, &[9, 9, 9], 4),
+        pessimistic.matches_leaf_key(&leaf, &[9, 9], 4),
+    ]
+}
+
+// Whether [1, 2, 3] is the front of keys from a depth on or whole.
+fn front_is_leaf() -> [bool; 5] {
+    let pessimistic = PrefixMatchBehavior::Pessimistic;
+    let optimistic = PrefixMatchBehavior::Optimistic;
+    let leaf = LeafNode::with_no_siblings([1, 2, 3], ());
+    [
+        pessimistic.leaf_key_is_prefix(&leaf, &[9, 2, 3, 4], 1),
+        optimistic.leaf_key_is_prefix(&leaf, &[9, 2, 3, 4], 1),
+        optimistic.leaf_key_is_prefix(&leaf, &[1, 2, 3, 4], 1),
+        optimistic.leaf_key_is_prefix(&leaf, &[1, 2], 1),
+        pessimistic.leaf_key_is_prefix(&leaf, &[1, 2], 9),
+    ]
+}
+
+#[test]
+fn compares_a_leaf_from_the_depth_on_or_whole(rt: HostRuntime) {
+    let wanted = (
+        [true, false, false, true, true, false],
+        [true, false, true, false, false],
+    );
+    assert_eq!(rt; (equal_to_leaf(), front_is_leaf()), wanted);
+}

@@ -1,0 +1,366 @@
+//! Runs of commands.
+ghost use Rattle.std.specs.Prelude.{◌<◌};
+
+use art_nodes::node::{LeafPtr, OpaqueNodePtr};
+use art_nodes::store::NodeStore;
+use art_operations::insert::InsertPrefixError;
+use art_operations::run::{Command, Reply, RunResult, Side, run};
+use art_test_support::commands::{
+    Asked, Left, Row, Told, commands, first_wrong, ran, ran_from, ran_without_memory,
+};
+use art_test_support::memory::all_memory;
+use art_test_support::placing::{leaf_at, lone_leaf, placed_all};
+use art_test_support::shapes::count_nodes;
+use art_test_support::trees::{Key, value_of};
+use std::alloc::{AllocError, Global};
+use std::boxed::BoxedSlice;
+
+// What a run leaves that tells what is wanted.
+const A_TREE: Left = Left {
+    wrong: None,
+    has_root: true,
+    side: Side::First,
+};
+
+// The same where no pair is left.
+const NO_TREE: Left = Left {
+    wrong: None,
+    has_root: false,
+    side: Side::First,
+};
+
+// What a run leaves.
+fn left_in<const P: usize>(
+    first: &mut NodeStore<Key, u32, P>,
+    second: &mut NodeStore<Key, u32, P>,
+    rows: &[Row<'_>],
+) -> Option<Left> {
+    ran(first, second, rows).ok()
+}
+
+// The same in stores of its own.
+fn left_at<const P: usize>(alloc: Global, rows: &[Row<'_>]) -> Option<Left>
+    requires { P < 256 }
+{
+    left_in::<P>(&mut NodeStore::new(alloc), &mut NodeStore::new(alloc), rows)
+}
+
+/// The same where four bytes of a prefix are stored.
+pub fn left_by(alloc: Global, rows: &[Row<'_>]) -> Option<Left> {
+    left_at::<4>(alloc, rows)
+}
+
+// The same with each number of stored bytes.
+fn left_at_each(alloc: Global, rows: &[Row<'_>]) -> [Option<Left>; 4] {
+    [
+        left_at::<0>(alloc, rows),
+        left_at::<2>(alloc, rows),
+        left_at::<4>(alloc, rows),
+        left_at::<16>(alloc, rows),
+    ]
+}
+
+// Insertions of a key, and of one that it is the front of, with these values.
+macro_rules! related {
+    ($value:literal, $longer_value:literal) => {
+        [
+            (Asked::Insert(&[1], $value), Told::Inserted(None)),
+            (
+                Asked::Insert(&[1, 2], $longer_value),
+                Told::Conflict(&[1, 2], $longer_value, &[1, 2]),
+            ),
+        ]
+    };
+}
+
+static RELATED: [Row<'static>; 2] = related!(10, 12);
+
+#[test]
+fn refuses_a_related_key(rt: HostRuntime) {
+    assert_eq!(rt; left_at_each(rt.alloc(), &RELATED), [Some(A_TREE); 4]);
+}
+
+// Insertions in the place of related keys.
+static OVER_RELATED: [Row<'static>; 7] = [
+    (Asked::Insert(&[1, 2], 1), Told::Inserted(None)),
+    (Asked::Insert(&[1, 3], 2), Told::Inserted(None)),
+    (Asked::Insert(&[2], 3), Told::Inserted(None)),
+    (Asked::InsertPrefix(&[1], 9), Told::Overwrote(None, 2)),
+    (
+        Asked::InsertPrefix(&[1, 5], 4),
+        Told::Overwrote(Some((&[1], 9)), 0),
+    ),
+    (Asked::Contains(&[1]), Told::Found(false)),
+    (Asked::InsertPrefix(&[], 7), Told::Overwrote(None, 2)),
+];
+
+#[test]
+fn overwrites_related_keys(rt: HostRuntime) {
+    assert_eq!(rt; left_by(rt.alloc(), &OVER_RELATED), Some(A_TREE));
+}
+
+// Commands on one key, and on one that is not stored.
+static EACH: [Row<'static>; 6] = [
+    (Asked::Insert(&[5], 1), Told::Inserted(None)),
+    (Asked::Insert(&[5], 2), Told::Inserted(Some((&[5], 1)))),
+    (Asked::Contains(&[5]), Told::Found(true)),
+    (Asked::Contains(&[5, 0]), Told::Found(false)),
+    (Asked::Delete(&[5]), Told::Deleted(Some((&[5], 2)))),
+    (Asked::Delete(&[5]), Told::Deleted(None)),
+];
+
+#[test]
+fn answers_each_command(rt: HostRuntime) {
+    assert_eq!(rt; left_by(rt.alloc(), &EACH), Some(NO_TREE));
+}
+
+#[test]
+fn runs_no_commands(rt: HostRuntime) {
+    assert_eq!(rt; left_by(rt.alloc(), &[]), Some(NO_TREE));
+}
+
+// Matches before and after the only key.
+static LONGEST: [Row<'static>; 4] = [
+    (Asked::LongestMatch(&[1, 2, 3, 4]), Told::MatchLen(None)),
+    (Asked::Insert(&[1, 2, 3], 10), Told::Inserted(None)),
+    (Asked::LongestMatch(&[1, 2, 3, 4]), Told::MatchLen(Some(3))),
+    (Asked::LongestMatch(&[1, 2]), Told::MatchLen(None)),
+];
+
+#[test]
+fn measures_the_longest_match(rt: HostRuntime) {
+    assert_eq!(rt; left_by(rt.alloc(), &LONGEST), Some(A_TREE));
+}
+
+// Five keys, and deletions at either end until none is left.
+static AT_THE_ENDS: [Row<'static>; 11] = [
+    (Asked::Insert(&[1], 1), Told::Inserted(None)),
+    (Asked::Insert(&[2], 2), Told::Inserted(None)),
+    (Asked::Insert(&[3], 3), Told::Inserted(None)),
+    (Asked::Insert(&[4], 4), Told::Inserted(None)),
+    (Asked::Insert(&[5], 5), Told::Inserted(None)),
+    (Asked::DeleteMin, Told::Deleted(Some((&[1], 1)))),
+    (Asked::DeleteMax, Told::Deleted(Some((&[5], 5)))),
+    (Asked::DeleteMax, Told::Deleted(Some((&[4], 4)))),
+    (Asked::DeleteMax, Told::Deleted(Some((&[3], 3)))),
+    (Asked::DeleteMax, Told::Deleted(Some((&[2], 2)))),
+    (Asked::DeleteMax, Told::Deleted(None)),
+];
+
+#[test]
+fn deletes_at_the_ends(rt: HostRuntime) {
+    assert_eq!(rt; left_by(rt.alloc(), &AT_THE_ENDS), Some(NO_TREE));
+}
+
+// Whether an error has this text.
+fn is_shown(alloc: Global, error: &InsertPrefixError, wanted: &str) -> bool {
+    match format!(in alloc; "{error}") {
+        Ok(text) => text.as_str() == wanted,
+        Err(_) => false,
+    }
+}
+
+// Whether a copy of an error is equal to it.
+fn is_copied(error: &InsertPrefixError) -> bool {
+    match error.clone() {
+        Ok(copy) => copy == *error,
+        Err(_) => false,
+    }
+}
+
+// Whether the error of a key has this text, and a copy of it is equal to it.
+fn is_shown_and_copied(alloc: Global, key: &[u8], wanted: &str) -> Option<(bool, bool)> {
+    let byte_repr = BoxedSlice::from_slice(alloc, key).ok()?;
+    let error = InsertPrefixError { byte_repr };
+    Some((is_shown(alloc, &error, wanted), is_copied(&error)))
+}
+
+// The text of the error of the key [1, 2].
+static ERROR_TEXT: &str =
+    "Attempted to insert a key [[1, 2]] which is either a prefix of an existing key or an existing key is a prefix of the new key.";
+
+#[test]
+fn prints_and_copies_an_error(rt: HostRuntime) {
+    let seen = is_shown_and_copied(rt.alloc(), &[1, 2], ERROR_TEXT);
+    assert_eq!(rt; seen, Some((true, true)));
+}
+
+// Whether the last reply is an error with this text.
+fn ends_in_text(alloc: Global, replies: &[Reply<Key, u32>], wanted: &str) -> bool {
+    match replies.last() {
+        Some(Reply::Conflict(_, _, error)) => is_shown(alloc, error, wanted),
+        _ => false,
+    }
+}
+
+// The place of the first reply to these rows that is not the one of its row, and whether the last is an error with this
+// text.
+fn replies_seen<const P: usize>(
+    first: &mut NodeStore<Key, u32, P>,
+    second: &mut NodeStore<Key, u32, P>,
+    rows: &[Row<'_>],
+    wanted: &str,
+) -> Option<(Option<usize>, bool)> {
+    let alloc = first.alloc();
+    let asked = commands(alloc, rows).ok()?;
+    match run(first, second, None, asked) {
+        Ok(done) => {
+            let has_text = ends_in_text(alloc, &done.replies, wanted);
+            Some((first_wrong(&done.replies, rows), has_text))
+        }
+        Err(_) => None,
+    }
+}
+
+// The same in stores of its own.
+fn replies_with(alloc: Global, rows: &[Row<'_>], wanted: &str) -> Option<(Option<usize>, bool)> {
+    let first = &mut NodeStore::new(alloc);
+    replies_seen::<4>(first, &mut NodeStore::new(alloc), rows, wanted)
+}
+
+static IN_CONFLICT: [Row<'static>; 2] = related!(0, 1);
+
+#[test]
+fn a_longer_key_is_in_conflict(rt: HostRuntime) {
+    let seen = replies_with(rt.alloc(), &IN_CONFLICT, ERROR_TEXT);
+    assert_eq!(rt; seen, Some((None, true)));
+}
+
+// The value that a command is to insert.
+fn value_in(command: Option<&Command<Key, u32>>) -> Option<u32> {
+    match command? {
+        Command::Insert(_, value) => Some(*value),
+        _ => None,
+    }
+}
+
+// How many commands a refused run handed back, and the value that the first is to insert. None
+// where it was not refused.
+fn commands_back(
+    outcome: &Result<RunResult<Key, u32>, (Vec<Command<Key, u32>>, AllocError)>,
+) -> Option<(usize, Option<u32>)> {
+    match outcome {
+        Ok(_) => None,
+        Err((asked, AllocError)) => Some((asked.len(), value_in(asked.first()))),
+    }
+}
+
+// The same of a run of these commands without memory.
+fn handed_back<const P: usize>(
+    first: &mut NodeStore<Key, u32, P>,
+    second: &mut NodeStore<Key, u32, P>,
+    rows: &[Row<'_>],
+) -> Result<Option<(usize, Option<u32>)>, AllocError> {
+    let asked = commands(first.alloc(), rows)?;
+    let held = all_memory(first.alloc())?;
+    let outcome = run(first, second, None, asked);
+    drop(held);
+    Ok(commands_back(&outcome))
+}
+
+/// Places a leaf of the key [9] with the value 90. None where it is refused.
+pub fn place_nine<const P: usize>(store: &mut NodeStore<Key, u32, P>) -> Option<LeafPtr> {
+    match placed_all(store, &[lone_leaf(&[9], 90)]) {
+        Ok(Some(names)) => leaf_at(&names, Some(0)),
+        _ => None,
+    }
+}
+
+// How many commands come back and the value of the first, and the value of a leaf that stands beside.
+type HandedBack = (Option<(usize, Option<u32>)>, Option<u32>);
+
+fn handed_back_beside<const P: usize>(
+    first: &mut NodeStore<Key, u32, P>,
+    second: &mut NodeStore<Key, u32, P>,
+    rows: &[Row<'_>],
+) -> Option<HandedBack> {
+    let leaf = place_nine(first)?;
+    let back = handed_back(first, second, rows).ok()?;
+    Some((back, value_of(first, leaf)))
+}
+
+// The same in stores of its own.
+fn handed_back_with(alloc: Global, rows: &[Row<'_>]) -> Option<HandedBack> {
+    handed_back_beside::<4>(&mut NodeStore::new(alloc), &mut NodeStore::new(alloc), rows)
+}
+
+// An insertion and a deletion, which come back.
+static TWO_COMMANDS: [Row<'static>; 2] = [
+    (Asked::Insert(&[1], 10), Told::Inserted(None)),
+    (Asked::Delete(&[1]), Told::Deleted(Some((&[1], 10)))),
+];
+
+#[test]
+fn without_memory_a_run_hands_the_commands_back(rt: HostRuntime) {
+    let back = handed_back_with(rt.alloc(), &TWO_COMMANDS);
+    assert_eq!(rt; back, Some((Some((2, Some(10))), Some(90))));
+}
+
+/// What the first and the later ones of some commands leave, the value of the leaf that is the root
+/// between them, once all were asked, and how many nodes each store has then.
+pub type InTurn = ([Left; 2], Option<u32>, [(usize, usize); 2]);
+
+// The value of a root that is a leaf.
+fn value_at<const P: usize>(
+    store: &NodeStore<Key, u32, P>,
+    root: Option<OpaqueNodePtr>,
+) -> Option<u32> {
+    value_of(store, root?.as_leaf()?)
+}
+
+// Asks commands, and then others without memory.
+fn ran_in_turn<const P: usize>(
+    first: &mut NodeStore<Key, u32, P>,
+    second: &mut NodeStore<Key, u32, P>,
+    rows: &[Row<'_>],
+    later: &[Row<'_>],
+) -> Option<InTurn> {
+    let (before, root) = ran_from(first, second, None, rows).ok()?;
+    match before.side {
+        Side::First => {
+            let after = ran_without_memory(first, second, root, later).ok()?;
+            let counts = [count_nodes(first, 4), count_nodes(second, 4)];
+            Some(([before, after], value_at(first, root), counts))
+        }
+        Side::Second => None,
+    }
+}
+
+/// The same in stores of its own.
+pub fn ran_in_turn_with(alloc: Global, rows: &[Row<'_>], later: &[Row<'_>]) -> Option<InTurn> {
+    ran_in_turn::<4>(
+        &mut NodeStore::new(alloc),
+        &mut NodeStore::new(alloc),
+        rows,
+        later,
+    )
+}
+
+// An insertion that there is no memory for.
+static UNSTORED: [Row<'static>; 1] = [(Asked::Insert(&[1], 10), Told::NoMemory(Some((&[1], 10))))];
+
+#[test]
+fn without_memory_an_insertion_leaves_the_pairs(rt: HostRuntime) {
+    let left = ran_in_turn_with(rt.alloc(), &[], &UNSTORED);
+    assert_eq!(rt; left, Some(([NO_TREE; 2], None, [(0, 0); 2])));
+}
+
+// The key that is stored.
+static STORED: [Row<'static>; 1] = [(Asked::Insert(&[1], 10), Told::Inserted(None))];
+
+// Commands without memory where that key is stored, and their replies.
+static AFTER_STORED: [Row<'static>; 4] = [
+    (
+        Asked::Insert(&[1, 2], 12),
+        Told::NoMemory(Some((&[1, 2], 12))),
+    ),
+    (Asked::Insert(&[1], 11), Told::Inserted(Some((&[1], 10)))),
+    (Asked::Contains(&[1]), Told::Found(true)),
+    (Asked::Delete(&[1]), Told::Deleted(Some((&[1], 11)))),
+];
+
+#[test]
+fn without_memory_a_conflict_leaves_the_pairs(rt: HostRuntime) {
+    let left = ran_in_turn_with(rt.alloc(), &STORED, &AFTER_STORED);
+    assert_eq!(rt; left, Some(([A_TREE, NO_TREE], None, [(0, 0); 2])));
+}

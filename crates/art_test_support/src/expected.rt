@@ -1,0 +1,13 @@
+//! What a case has seen, beside what it was to see.
+use std::fmt::Debug;
+use std::test::Fail;
+
+/// A case's failure, with both values where what was seen, which comes first, isn't what was expected.
+/// There is no answer where the case could not be set up.
+pub fn as_expected<T: PartialEq + Debug + Drop>(answer: Option<(T, T)>) -> Result<(), Fail> {
+    let (seen, expected) = answer.ok_or("the case could not be set up")?;
+    if seen == expected {
+        return Ok(());
+    }
+    Err(Fail::new(format_args!("{:?} was seen, and {:?} expected", seen, expected)))
+}

@@ -1,0 +1,475 @@
+//! What a command touches, over all nodes of a store.
+ghost use Rattle.std.specs.Prelude.{◌<◌, Some, IfSome};
+ghost use Rattle.art_tree_tests.specs.Trees.{HasTree};
+
+use art_nodes::node::{NodeType, OpaqueNodePtr};
+use art_nodes::store::NodeStore;
+use art_operations::run::{Reply, Side};
+use art_test_support::commands::{
+    Asked, Row, Told, commands, first_wrong, ran_from, run_without_memory,
+};
+use art_test_support::nodes::{Seen, count_nodes, count_touched, is_still, nodes_seen};
+use art_test_support::trees::{Key, child, keys_of_three, planted_all, planted_keys};
+use std::alloc::{AllocError, Global};
+use std::test::Fail;
+
+/// How many names came into use, went out of it, and have another node.
+type Touched = (usize, usize, usize);
+
+// Asks a command, with a second store for the run alone. Answers what it touches in the first, which had these nodes. None
+// where the reply is not the one of the row.
+fn touched_since<const P: usize>(
+    store: &mut NodeStore<Key, u32, P>,
+    second: &mut NodeStore<Key, u32, P>,
+    before: &[Seen],
+    root: &mut Option<OpaqueNodePtr>,
+    row: Row<'_>,
+) -> Option<Touched>
+    requires { HasTree P store.old root.old }
+    ensures { IfSome result (λ _. HasTree P store.new root.new) }
+{
+    let (left, new_root) = ran_from(store, second, *root, &[row]).ok()?;
+    match left.side {
+        Side::First if left.wrong.is_none() => {
+            *root = new_root;
+            Some(count_touched(store, before))
+        }
+        _ => None,
+    }
+}
+
+// What a command touches. None where the reply is not the one of the row.
+fn touched_by<const P: usize>(
+    store: &mut NodeStore<Key, u32, P>,
+    root: &mut Option<OpaqueNodePtr>,
+    row: Row<'_>,
+) -> Option<Touched>
+    requires { HasTree P store.old root.old }
+    ensures { IfSome result (λ _. HasTree P store.new root.new) }
+{
+    let alloc = store.alloc();
+    match nodes_seen(store) {
+        Ok(before) => touched_since(store, &mut NodeStore::new(alloc), &before, root, row),
+        Err(_) => None,
+    }
+}
+
+/// What is seen of the nodes before and after the insertion of a key behind all others.
+#[derive(Clone, Copy, PartialEq, Eq, Debug)]
+struct SeenBehind {
+    nodes_before: usize,
+    touched: Touched,
+    is_root_changed: bool,
+    is_last_changed: bool,
+    /// Whether each name of a leaf has the key that it had.
+    keeps_keys: bool,
+}
+
+// Whether a name has a leaf of the key that it had, if it had one.
+fn keeps_key<const P: usize>(store: &NodeStore<Key, u32, P>, seen: &Seen) -> bool {
+    let Some(name) = seen.name().as_leaf() else {
+        return true;
+    };
+    match store.leaf(name) {
+        Some(leaf) => seen.key() == Some(leaf.key.as_slice()),
+        None => false,
+    }
+}
+
+// Whether a name had a node, and has another one or none.
+fn is_changed<const P: usize>(
+    store: &NodeStore<Key, u32, P>,
+    before: &[Seen],
+    name: OpaqueNodePtr,
+) -> bool {
+    before
+        .iter()
+        .any(|seen| seen.name() == name && !is_still(store, seen))
+}
+
+// What is seen where the insertion touched this.
+fn behind_seen<const P: usize>(
+    store: &NodeStore<Key, u32, P>,
+    before: &[Seen],
+    [root, last]: [OpaqueNodePtr; 2],
+    touched: Touched,
+) -> SeenBehind {
+    SeenBehind {
+        nodes_before: before.len(),
+        touched,
+        is_root_changed: is_changed(store, before, root),
+        is_last_changed: is_changed(store, before, last),
+        keeps_keys: before.iter().all(|seen| keeps_key(store, seen)),
+    }
+}
+
+/// The insertion of a key behind all others.
+static BEHIND_ALL: Row<'static> = (Asked::Insert(&[60, 0, 0], 7), Told::Inserted(None));
+
+// What the insertion does, where it is replied to as told and keeps the root.
+fn behind_since<const P: usize>(
+    store: &mut NodeStore<Key, u32, P>,
+    root: OpaqueNodePtr,
+    before: &[Seen],
+    last: OpaqueNodePtr,
+) -> Option<SeenBehind>
+    requires { HasTree P store.old (Some root) }
+{
+    let alloc = store.alloc();
+    let mut new_root = Some(root);
+    let touched = touched_since(
+        store,
+        &mut NodeStore::new(alloc),
+        before,
+        &mut new_root,
+        BEHIND_ALL,
+    );
+    if new_root != Some(root) {
+        return None;
+    }
+    Some(behind_seen(store, before, [root, last], touched?))
+}
+
+// The same in the tree of these keys, of which [50, 1, 2] is the last.
+fn behind_last<const P: usize>(
+    store: &mut NodeStore<Key, u32, P>,
+    keys: Vec<Key>,
+) -> Option<SeenBehind> {
+    let root = planted_keys(store, keys)?;
+    let last = child(store, child(store, child(store, root, 50)?, 1)?, 2)?;
+    if store.leaf(last.as_leaf()?)?.key.as_slice() != [50, 1, 2].as_slice() {
+        return None;
+    }
+    match nodes_seen(store) {
+        Ok(before) => behind_since(store, root, &before, last),
+        Err(_) => None,
+    }
+}
+
+// The same in a store of its own.
+fn behind_last_with(alloc: Global, keys: Vec<Key>) -> Option<SeenBehind> {
+    behind_last::<16>(&mut NodeStore::new(alloc), keys)
+}
+
+/// What is to be seen: the root and the last leaf have another node.
+static BEHIND: SeenBehind = SeenBehind {
+    nodes_before: 306 + 154,
+    touched: (1, 0, 2),
+    is_root_changed: true,
+    is_last_changed: true,
+    keeps_keys: true,
+};
+
+#[test]
+fn a_child_more_of_a_large_root_changes_it_and_the_last_leaf(rt: HostRuntime) -> Result<(), Fail> {
+    let keys = keys_of_three(rt.alloc(), [51, 2, 3])?;
+    assert_eq!(rt; behind_last_with(rt.alloc(), keys), Some(BEHIND));
+    Ok(())
+}
+
+/// What an insertion touches, what the deletion of the same key touches, what both do together, and whether the root
+/// is the same again.
+type PutAndRemoved = ([Touched; 3], bool);
+
+// Inserts a key into the prefix of a node, and deletes it, where the store had these nodes.
+fn put_and_remove<const P: usize>(
+    store: &mut NodeStore<Key, u32, P>,
+    planted: OpaqueNodePtr,
+    first: &[Seen],
+) -> Option<PutAndRemoved>
+    requires { HasTree P store.old (Some planted) }
+{
+    let mut root = Some(planted);
+    let put = (Asked::Insert(&[1, 1, 9], 4), Told::Inserted(None));
+    let placed = touched_by(store, &mut root, put)?;
+    let remove = (
+        Asked::Delete(&[1, 1, 9]),
+        Told::Deleted(Some((&[1, 1, 9], 4))),
+    );
+    let freed = touched_by(store, &mut root, remove)?;
+    let both = count_touched(store, first);
+    Some(([placed, freed, both], root == Some(planted)))
+}
+
+// The same in the tree of four keys.
+fn put_and_remove_in<const P: usize>(store: &mut NodeStore<Key, u32, P>) -> Option<PutAndRemoved> {
+    let slices: [&[u8]; 4] = [&[0], &[1, 1, 1, 5], &[1, 1, 1, 6], &[2]];
+    let root = planted_all(store, &slices).ok()??;
+    match nodes_seen(store) {
+        Ok(first) => put_and_remove(store, root, &first),
+        Err(_) => None,
+    }
+}
+
+// The same in a store of its own.
+fn put_and_remove_with<const P: usize>(alloc: Global) -> Option<PutAndRemoved>
+    requires { P < 256 }
+{
+    put_and_remove_in::<P>(&mut NodeStore::new(alloc))
+}
+
+// The same with each number of stored bytes.
+fn put_and_remove_at_each(alloc: Global) -> [Option<PutAndRemoved>; 3] {
+    [
+        put_and_remove_with::<0>(alloc),
+        put_and_remove_with::<1>(alloc),
+        put_and_remove_with::<16>(alloc),
+    ]
+}
+
+#[test]
+fn a_split_prefix_is_merged_again(rt: HostRuntime) {
+    let wanted = ([(2, 0, 4), (0, 2, 4), (0, 0, 0)], true);
+    assert_eq!(rt; put_and_remove_at_each(rt.alloc()), [Some(wanted); 3]);
+}
+
+/// Each kind that the root of keys of one byte can have, with the least number of keys for it.
+static ROOT_KINDS: [(usize, NodeType); 5] = [
+    (1, NodeType::Leaf),
+    (2, NodeType::Node4),
+    (5, NodeType::Node16),
+    (17, NodeType::Node48),
+    (49, NodeType::Node256),
+];
+
+// The kind of the root of so many keys of one byte.
+fn kind_for(count: usize) -> Option<NodeType> {
+    let mut kind = None;
+    for (least, root_kind) in &ROOT_KINDS {
+        if *least <= count {
+            kind = Some(*root_kind);
+        }
+    }
+    kind
+}
+
+// Whether a step touches few nodes and leaves a root of the kind for so many keys of one byte.
+fn is_small(touched: Touched, root: Option<OpaqueNodePtr>, count: usize) -> bool {
+    let (placed, freed, changed) = touched;
+    let is_kind = root.map(|root| root.node_type()) == kind_for(count);
+    is_kind && placed <= 2 && freed <= 2 && changed <= 4
+}
+
+// The insertion of a key of one byte, and how many keys there are then where all lesser ones are there; or the deletion
+// of the last key, which is to be this one, and how many are left.
+fn step(key: &[u8; 1], is_insertion: bool) -> (Row<'_>, usize) {
+    let lesser = usize::from(key[0]);
+    if is_insertion {
+        let row = (Asked::Insert(key, 0), Told::Inserted(None));
+        (row, lesser + 1)
+    } else {
+        let row = (Asked::DeleteMax, Told::Deleted(Some((key, 0))));
+        (row, lesser)
+    }
+}
+
+// Inserts all keys of one byte, or deletes the last one again and again. Answers how many of these steps are small.
+fn count_small_steps<const P: usize>(
+    store: &mut NodeStore<Key, u32, P>,
+    root: &mut Option<OpaqueNodePtr>,
+    is_growing: bool,
+) -> Option<usize>
+    requires { HasTree P store.old root.old }
+    ensures { IfSome result (λ _. HasTree P store.new root.new) }
+{
+    let mut small = 0usize;
+    for number in 0..=255u8 {
+        let key = [if is_growing { number } else { 255 - number }];
+        let (row, count) = step(&key, is_growing);
+        let touched = touched_by(store, root, row)?;
+        if is_small(touched, *root, count) {
+            small = small.saturating_add(1);
+        }
+    }
+    Some(small)
+}
+
+/// How many insertions and how many deletions are small, the root after them, and how many leaves and inner nodes are
+/// left.
+type GrownAndShrunk = (usize, usize, Option<OpaqueNodePtr>, (usize, usize));
+
+// What comes of all insertions and all deletions.
+fn grown_and_shrunk<const P: usize>(store: &mut NodeStore<Key, u32, P>) -> Option<GrownAndShrunk> {
+    let mut root = None;
+    let grown = count_small_steps(store, &mut root, true)?;
+    let shrunk = count_small_steps(store, &mut root, false)?;
+    Some((grown, shrunk, root, count_nodes(store)))
+}
+
+// The same in a store of its own.
+fn grown_and_shrunk_with(alloc: Global) -> Option<GrownAndShrunk> {
+    grown_and_shrunk::<16>(&mut NodeStore::new(alloc))
+}
+
+#[test]
+fn a_root_grows_and_shrinks_through_every_kind(rt: HostRuntime) {
+    let done = grown_and_shrunk_with(rt.alloc());
+    assert_eq!(rt; done, Some((256, 256, None, (0, 0))));
+}
+
+/// What came of a deletion.
+#[derive(Clone, Copy, PartialEq, Eq, Debug)]
+enum Deletion {
+    Made,
+    /// It was refused, and nothing was touched.
+    Refused,
+    Other,
+}
+
+/// How many keys there are below one node, and below another, and how many in a chain, of which each but one has a
+/// Node4 above it alone.
+#[derive(Clone, Copy)]
+struct Groups {
+    count: u8,
+    others: u8,
+    chained: usize,
+}
+
+// A key of 2, of so many zeros, and of 255.
+fn chained_key(alloc: Global, zeros: usize) -> Result<Key, AllocError> {
+    let mut key = [2].to_vec(alloc)?;
+    key.resize(zeros.saturating_add(1), 0)?;
+    key.push(255)?;
+    Ok(key)
+}
+
+// Puts so many keys of a byte and of another into a list.
+fn push_pairs(keys: &mut Vec<Key>, alloc: Global, front: u8, count: u8) -> Result<(), AllocError> {
+    for byte in 0..count {
+        keys.push([front, byte].to_vec(alloc)?)?;
+    }
+    Ok(())
+}
+
+// Puts the keys of these groups into a list.
+fn push_groups(keys: &mut Vec<Key>, alloc: Global, groups: Groups) -> Result<(), AllocError> {
+    push_pairs(keys, alloc, 0, groups.count)?;
+    push_pairs(keys, alloc, 1, groups.others)?;
+    for zeros in 0..groups.chained {
+        keys.push(chained_key(alloc, zeros)?)?;
+    }
+    Ok(())
+}
+
+// The keys of these groups.
+fn keys_of_groups(alloc: Global, groups: Groups) -> Result<Vec<Key>, AllocError> {
+    let mut keys = Vec::new(alloc);
+    push_groups(&mut keys, alloc, groups)?;
+    Ok(keys)
+}
+
+/// The deletion of [0, 2], where it is made.
+static THIRD: [Row<'static>; 1] = [(Asked::Delete(&[0, 2]), Told::Deleted(Some((&[0, 2], 2))))];
+
+/// The same where it is refused.
+static NO_THIRD: [Row<'static>; 1] = [(Asked::Delete(&[0, 2]), Told::NoMemory(None))];
+
+// What came of the deletion, by the reply to it and what it touched.
+fn deletion_told(replies: &[Reply<Key, u32>], touched: Touched) -> Deletion {
+    let is_touched = touched != (0, 0, 0);
+    if is_touched && first_wrong(replies, &THIRD).is_none() {
+        return Deletion::Made;
+    }
+    if !is_touched && first_wrong(replies, &NO_THIRD).is_none() {
+        return Deletion::Refused;
+    }
+    Deletion::Other
+}
+
+// Runs the deletion without memory, where the store had these nodes. Answers what came of it.
+fn delete_by<const P: usize>(
+    store: &mut NodeStore<Key, u32, P>,
+    second: &mut NodeStore<Key, u32, P>,
+    root: OpaqueNodePtr,
+    before: &[Seen],
+) -> Option<Deletion>
+    requires { HasTree P store.old (Some root) }
+{
+    let asked = commands(store.alloc(), &THIRD).ok()?;
+    match run_without_memory(store, second, Some(root), asked) {
+        Ok(done) => Some(deletion_told(&done.replies, count_touched(store, before))),
+        Err(_) => None,
+    }
+}
+
+// The same in the tree of these keys.
+fn deletion_in<const P: usize>(
+    store: &mut NodeStore<Key, u32, P>,
+    second: &mut NodeStore<Key, u32, P>,
+    keys: Vec<Key>,
+) -> Option<Deletion> {
+    let root = planted_keys(store, keys)?;
+    match nodes_seen(store) {
+        Ok(before) => delete_by(store, second, root, &before),
+        Err(_) => None,
+    }
+}
+
+// The same in stores of its own.
+fn deletion_from(alloc: Global, groups: Groups) -> Option<Deletion> {
+    let keys = keys_of_groups(alloc, groups).ok()?;
+    deletion_in::<4>(&mut NodeStore::new(alloc), &mut NodeStore::new(alloc), keys)
+}
+
+/// How many deletions of each of two kinds came out in which way.
+#[derive(Clone, Copy)]
+struct Deletions {
+    made_from_four: usize,
+    made_from_five: usize,
+    refused_from_five: usize,
+}
+
+impl Deletions {
+    // Counts what came of one deletion of each kind.
+    fn count(&mut self, from_four: Deletion, from_five: Deletion) {
+        if from_four == Deletion::Made {
+            self.made_from_four = self.made_from_four.saturating_add(1);
+        }
+        match from_five {
+            Deletion::Made => self.made_from_five = self.made_from_five.saturating_add(1),
+            Deletion::Refused => self.refused_from_five = self.refused_from_five.saturating_add(1),
+            Deletion::Other => {}
+        }
+    }
+}
+
+// Deletes the third key below a parent of four, which keeps its kind, and of five, which needs a smaller node, beside so
+// many others.
+fn delete_beside(counts: &mut Deletions, alloc: Global, others: u8, chained: usize) -> Option<()> {
+    let five = Groups {
+        count: 5,
+        others,
+        chained,
+    };
+    let from_four = deletion_from(alloc, Groups { count: 4, ..five })?;
+    counts.count(from_four, deletion_from(alloc, five)?);
+    Some(())
+}
+
+// What came of these deletions, beside none to fifteen others each time, with no chain and with one of sixteen keys.
+fn count_deletions(alloc: Global) -> Option<Deletions> {
+    let mut counts = Deletions {
+        made_from_four: 0,
+        made_from_five: 0,
+        refused_from_five: 0,
+    };
+    for chained in [0, 16] {
+        for others in 0..16 {
+            delete_beside(&mut counts, alloc, others, chained)?;
+        }
+    }
+    Some(counts)
+}
+
+// How many deletions from four were made, how many from five were made or refused, and whether any was refused.
+fn deletions_told(alloc: Global) -> Option<(usize, usize, bool)> {
+    let counts = count_deletions(alloc)?;
+    let refused = counts.refused_from_five;
+    let from_five = counts.made_from_five.saturating_add(refused);
+    Some((counts.made_from_four, from_five, refused > 0))
+}
+
+#[test]
+fn without_memory_a_deletion_is_made_or_refused_whole(rt: HostRuntime) {
+    assert_eq!(rt; deletions_told(rt.alloc()), Some((32, 32, true)));
+}

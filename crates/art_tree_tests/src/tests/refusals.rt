@@ -1,0 +1,241 @@
+//! Calls whose requests for memory are refused, in turn, by tools/refusals. A refusal that falls outside the call that
+//! a test is on decides nothing; after one within it the test says that it asserted what holds then.
+ghost use Rattle.art_model.specs.Pairs.{of_key};
+ghost use Rattle.art_model.specs.Roots.{IsCanonicalRoot};
+
+use super::trees::shape_of;
+use art_nodes::node::{LeafPtr, OpaqueNodePtr};
+use art_nodes::store::NodeStore;
+use art_operations::run::{Command, Reply, RunResult, run};
+use art_test_support::commands::{Asked, Row, Told, ran_from};
+use art_test_support::shapes::count_nodes;
+use art_test_support::trees::{Key, planted_all, planted_keys};
+use std::alloc::{AllocError, Global};
+use std::test::Fail;
+
+/// Six keys, of which the last is in conflict with the first.
+static SIX: [&[u8]; 6] = [&[1], &[2], &[3], &[4], &[5], &[1, 2]];
+
+// The insertions of these keys.
+fn insertions(alloc: Global, slices: &[&[u8]]) -> Result<Vec<Command<Key, u32>>, AllocError> {
+    let mut commands = Vec::new(alloc);
+    for slice in slices {
+        commands.push(Command::Insert(slice.to_vec(alloc)?, 0))?;
+    }
+    Ok(commands)
+}
+
+/// How many replies there are, and how many of them tell of a new key, of want of memory, and of a conflict.
+#[derive(Clone, Copy)]
+struct Tally {
+    replies: usize,
+    inserted: usize,
+    refused: usize,
+    conflicts: usize,
+}
+
+fn count_replies(replies: &[Reply<Key, u32>]) -> Tally {
+    let (mut inserted, mut refused, mut conflicts) = (0usize, 0usize, 0usize);
+    for reply in replies {
+        match reply {
+            Reply::Inserted(None) => inserted = inserted.saturating_add(1),
+            Reply::NoMemory(Some(_)) => refused = refused.saturating_add(1),
+            Reply::Conflict(..) => conflicts = conflicts.saturating_add(1),
+            _ => {}
+        }
+    }
+    Tally {
+        replies: replies.len(),
+        inserted,
+        refused,
+        conflicts,
+    }
+}
+
+/// What comes of a run.
+#[derive(Clone, Copy)]
+enum Outcome {
+    /// It was refused: how many commands came back, and whether the store has no first leaf.
+    HandedBack(usize, bool),
+    /// It was made: its replies, and how many leaves the tree has, or None where it has the name of no node.
+    Ran(Tally, Option<usize>),
+}
+
+// How many leaves a tree has. The outer None is for want of memory, the inner one for a tree with the name of no node.
+fn count_leaves<const P: usize>(
+    store: &NodeStore<Key, u32, P>,
+    root: Option<OpaqueNodePtr>,
+) -> Option<Option<usize>> {
+    let Some(root) = root else {
+        return Some(Some(0));
+    };
+    let shape = shape_of(store, root).ok()?;
+    Some(shape.map(|shape| shape.leaves))
+}
+
+// What comes of a run that left this.
+fn outcome_of<const P: usize>(
+    store: &NodeStore<Key, u32, P>,
+    done: &RunResult<Key, u32>,
+) -> Option<Outcome> {
+    let leaves = count_leaves(store, done.root)?;
+    Some(Outcome::Ran(count_replies(&done.replies), leaves))
+}
+
+// Runs the insertions of the six keys. None where a refusal fell outside the run.
+fn run_insertions<const P: usize>(
+    first: &mut NodeStore<Key, u32, P>,
+    second: &mut NodeStore<Key, u32, P>,
+) -> Option<Outcome> {
+    let asked = insertions(first.alloc(), &SIX).ok()?;
+    match run(first, second, None, asked) {
+        Ok(done) => outcome_of(first, &done),
+        Err((asked, AllocError)) => {
+            let is_empty = first.leaf(LeafPtr::from_slot(0)).is_none();
+            Some(Outcome::HandedBack(asked.len(), is_empty))
+        }
+    }
+}
+
+// The same in stores of its own.
+fn run_insertions_with(alloc: Global) -> Option<Outcome> {
+    run_insertions::<4>(&mut NodeStore::new(alloc), &mut NodeStore::new(alloc))
+}
+
+#[test]
+fn refused_commands_leave_the_tree_of_the_others(rt: HostRuntime) -> Result<(), Fail> {
+    match run_insertions_with(rt.alloc()) {
+        None => {}
+        Some(Outcome::HandedBack(count, is_empty)) => {
+            assert_eq!(rt; (count, is_empty), (6, true));
+            println!(rt; "asserted")?;
+        }
+        Some(Outcome::Ran(tally, leaves)) => {
+            let told = tally
+                .inserted
+                .saturating_add(tally.refused)
+                .saturating_add(tally.conflicts);
+            assert_eq!(rt; (tally.replies, told, leaves), (6, 6, Some(tally.inserted)));
+            assert!(rt; tally.conflicts <= 1);
+            if tally.refused != 0 {
+                println!(rt; "asserted")?;
+            }
+        }
+    }
+    Ok(())
+}
+
+/// A clone that is refused.
+static NO_CLONE: [Row<'static>; 1] = [(Asked::Clone, Told::NoMemory(None))];
+
+// How many nodes the first store has before a clone that is refused, and the first and the second have after it. None
+// where the clone was not refused, or something else was.
+fn counts_at_refused_clone<const P: usize>(
+    first: &mut NodeStore<Key, u32, P>,
+    second: &mut NodeStore<Key, u32, P>,
+) -> Option<[(usize, usize); 3]> {
+    let root = planted_all(first, &SIX).ok()??;
+    let before = count_nodes(first, 6);
+    let (left, _) = ran_from(first, second, Some(root), &NO_CLONE).ok()?;
+    match left.wrong {
+        None => Some([before, count_nodes(first, 6), count_nodes(second, 6)]),
+        Some(_) => None,
+    }
+}
+
+// The same in stores of its own.
+fn counts_with(alloc: Global) -> Option<[(usize, usize); 3]> {
+    counts_at_refused_clone::<4>(&mut NodeStore::new(alloc), &mut NodeStore::new(alloc))
+}
+
+#[test]
+fn refused_clones_leave_both_stores(rt: HostRuntime) -> Result<(), Fail> {
+    if let Some(counts) = counts_with(rt.alloc()) {
+        let [before, first, second] = counts;
+        assert_eq!(rt; [first, second], [before, (0, 0)]);
+        println!(rt; "asserted")?;
+    }
+    Ok(())
+}
+
+/// What comes of an overwrite of a whole tree.
+#[derive(Clone, Copy, PartialEq, Eq, Debug)]
+enum Overwrite {
+    /// It was refused; and whether the nodes are as many as before, under the same root.
+    Refused(bool),
+    /// It was made; and how many nodes are left.
+    Made((usize, usize)),
+    Other,
+}
+
+// The keys of one byte from 1 up to this one.
+fn keys_up_to(alloc: Global, last: u8) -> Result<Vec<Key>, AllocError> {
+    let mut keys = Vec::new(alloc);
+    for byte in 1..=last {
+        keys.push([byte].to_vec(alloc)?)?;
+    }
+    Ok(keys)
+}
+
+// What comes of an overwrite by these replies. `is_kept` says whether there are as many nodes as before, under the same
+// root; `left` is how many there are.
+fn overwrite_told(replies: &[Reply<Key, u32>], is_kept: bool, left: (usize, usize)) -> Overwrite {
+    match replies {
+        [Reply::NoMemory(Some((_, 7)))] => Overwrite::Refused(is_kept),
+        [Reply::Overwrote(..)] => Overwrite::Made(left),
+        _ => Overwrite::Other,
+    }
+}
+
+// Overwrites a whole tree, with the value 7. None where a refusal fell outside the run.
+fn overwrite_all<const P: usize>(
+    first: &mut NodeStore<Key, u32, P>,
+    second: &mut NodeStore<Key, u32, P>,
+    root: OpaqueNodePtr,
+) -> Option<Overwrite>
+    requires { IsCanonicalRoot (of_key (λ key. key.items)) P first.old root }
+{
+    let alloc = first.alloc();
+    let before = count_nodes(first, 20);
+    let overwrite = Command::InsertPrefix(Vec::new(alloc), 7);
+    let asked = Vec::from_array(alloc, [overwrite]).ok()?;
+    match run(first, second, Some(root), asked) {
+        Ok(done) => {
+            let after = count_nodes(first, 20);
+            let is_kept = after == before && done.root == Some(root);
+            Some(overwrite_told(&done.replies, is_kept, after))
+        }
+        Err(_) => None,
+    }
+}
+
+// The same of the tree of the keys up to this one. Its leaves leave no room in the store for one more.
+fn overwrite_up_to<const P: usize>(
+    first: &mut NodeStore<Key, u32, P>,
+    second: &mut NodeStore<Key, u32, P>,
+    last: u8,
+) -> Option<Overwrite> {
+    let keys = keys_up_to(first.alloc(), last).ok()?;
+    let root = planted_keys(first, keys)?;
+    overwrite_all(first, second, root)
+}
+
+// The same in stores of its own.
+fn overwrite_with(alloc: Global, last: u8) -> Option<Overwrite> {
+    overwrite_up_to::<4>(&mut NodeStore::new(alloc), &mut NodeStore::new(alloc), last)
+}
+
+#[test]
+fn refused_overwrites_leave_the_tree(rt: HostRuntime) -> Result<(), Fail> {
+    for last in [2u8, 16] {
+        match overwrite_with(rt.alloc(), last) {
+            None => {}
+            Some(Overwrite::Refused(is_kept)) => {
+                assert!(rt; is_kept);
+                println!(rt; "asserted")?;
+            }
+            Some(made) => assert_eq!(rt; made, Overwrite::Made((1, 0))),
+        }
+    }
+    Ok(())
+}

@@ -1,8 +1,0 @@
-use Rattle.art_writing.proofs.LeafWrites.{tree_leaf_there}
-use Rattle.art_writing.proofs.writes.links_before.Goals as goal
-
-pub unreachable-requires : goal.unreachable-requires
-unreachable-requires g c =
-    let (tree, full) = c.requires in
-    let found = c.minimum_unchecked-first.ensures tree full in
-    tree_leaf_there c.args.store.now tree c.minimum_unchecked-first.result found.pair full.0.holds found.has c.in_default.ensures

@@ -1,0 +1,60 @@
+-- What a private function that applies a point answers, in one word for each kind of point. No public clause cites this module.
+use Rattle.std.specs.Prelude.{◌≡◌, ℕ, List, Some, Result, IsOk, IsTrue, IfOk, IfErr, OnOk, OnErr}
+use Rattle.std.specs.Option.{option_map}
+use Rattle.art_nodes.specs.Nodes.{Nodes, Promise, no_promise}
+use Rattle.art_model.specs.Canonical.{IsCanonical}
+use Rattle.art_model.specs.Kept.{ChangesInPlace}
+use Rattle.art_model.specs.Pairs.{overwrite, overwrite_reply, put, put_reply, stored_for}
+use Rattle.art_model.specs.Promises.{is_covered, promise_after}
+use Rattle.art_model.specs.Roots.{ForTree, IsCanonicalRoot}
+use Rattle.art_writing.specs.declared.insert.InsertPoint.{InsertPoint}
+use Rattle.art_writing.specs.declared.insert.InsertResult.{InsertResult}
+use Rattle.art_writing.specs.declared.insert.PrefixInsertPoint.{PrefixInsertPoint}
+use Rattle.art_writing.specs.declared.insert.PrefixInsertResult.{PrefixInsertResult}
+use Rattle.art_writing.specs.declared.insert.Refused.{Refused}
+use Rattle.art_writing.specs.Inserted.{HasInserted, Touches, alone, placed_for}
+use Rattle.art_writing.specs.Overwritten.{HasCome, TouchesForPrefix, placed_for_prefix, root_of}
+
+-- The nodes are placed, from the promise where it covers them; or the pair is handed back, with the nodes as they were and nothing promised.
+pub record TakesMemory {K V X : Type 0} (s t : Nodes K V) (placed : Promise) (pair : K × V)
+    (result : Result X (Refused K V)) : Type 0 where
+  pub promise : OnOk result (t.promise ≡ promise_after placed s.promise)
+  pub succeeds : IsTrue (is_covered placed s.promise) → IsOk result
+  pub handed_back : IfErr result (λ refused. (refused.key ≡ pair.0) × (refused.value ≡ pair.1))
+  pub leaves : OnErr result (t.leaves ≡ s.leaves)
+  pub inners : OnErr result (t.inners ≡ s.inners)
+  pub void : OnErr result (t.promise ≡ no_promise)
+
+module _ {K V : Type 0} (bytes : K × V → List ℕ) (P : ℕ) (s t : Nodes K V) where
+  -- An insert point is applied.
+  pub record IsApplied (point : InsertPoint) (pair : K × V)
+      (result : Result (InsertResult K V) (Refused K V)) : Type 0 where
+    pub canonical : ForTree bytes P s point.root (λ pairs layout. IfOk result (λ done.
+        IsCanonical bytes P t (Some done.new_root) (put bytes pair pairs)))
+    pub root : IfOk result (λ done. IsCanonicalRoot bytes P t done.new_root)
+    pub leaf : IfOk result (λ done. ForTree bytes P t done.new_root (λ pairs layout.
+        HasInserted layout point (stored_for bytes pair pairs) done))
+    pub replaced : ForTree bytes P s point.root (λ pairs layout. IfOk result (λ done.
+        done.existing_leaf ≡ option_map alone (put_reply bytes pair pairs)))
+    pub kept : ForTree bytes P s point.root (λ pairs old. IfOk result (λ done.
+        ForTree bytes P t done.new_root (λ after new. ChangesInPlace bytes s t (Some old) (Some new))))
+    pub touches : OnOk result (Touches point.insert_kind s t)
+    pub memory : TakesMemory s t (placed_for s point.insert_kind) pair result
+
+  -- A point of a prefix insertion is applied, whichever of both kinds it is.
+  pub record IsPrefixApplied (point : PrefixInsertPoint) (pair : K × V)
+      (result : Result (PrefixInsertResult K V) (Refused K V)) : Type 0 where
+    pub canonical : ForTree bytes P s (root_of point) (λ pairs layout. IfOk result (λ done.
+        IsCanonical bytes P t (Some done.insert_result.new_root) (overwrite bytes pair pairs)))
+    pub root : IfOk result (λ done. IsCanonicalRoot bytes P t done.insert_result.new_root)
+    pub leaf : IfOk result (λ done. ForTree bytes P t done.insert_result.new_root (λ pairs layout.
+        HasCome bytes pairs layout point pair done.insert_result))
+    pub replaced : ForTree bytes P s (root_of point) (λ pairs layout. IfOk result (λ done.
+        done.insert_result.existing_leaf ≡ option_map alone (overwrite_reply bytes pair pairs).0))
+    pub removed : ForTree bytes P s (root_of point) (λ pairs layout. IfOk result (λ done.
+        done.leafs_removed ≡ (overwrite_reply bytes pair pairs).1))
+    pub kept : ForTree bytes P s (root_of point) (λ pairs old. IfOk result (λ done.
+        ForTree bytes P t done.insert_result.new_root (λ after new. ChangesInPlace bytes s t (Some old) (Some new))))
+    pub touches : ForTree bytes P s (root_of point) (λ pairs layout.
+        OnOk result (TouchesForPrefix point bytes (bytes pair) s t layout))
+    pub memory : TakesMemory s t (placed_for_prefix s point) pair result

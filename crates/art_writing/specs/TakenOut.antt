@@ -1,0 +1,47 @@
+-- What a private function that applies a delete point answers, in one word, and one that takes its leaf alone. No public clause cites this module.
+use Rattle.std.specs.Prelude.{◌≡◌, ℕ, List, Option, Some, Result, IsOk, IsTrue, IsSomeAnd, IfOk, IfErr, IfSome, OnOk, OnErr}
+use Rattle.std.specs.FinMap as map
+use Rattle.art_nodes.specs.Nodes.{Nodes, no_promise}
+use Rattle.art_parts.specs.declared.names.OpaqueNodePtr.{OpaqueNodePtr}
+use Rattle.art_model.specs.Canonical.{IsCanonical}
+use Rattle.art_model.specs.Kept.{ChangesInPlace}
+use Rattle.art_model.specs.Pairs.{remove_key}
+use Rattle.art_model.specs.Promises.{is_covered, promise_after}
+use Rattle.art_model.specs.Roots.{ForRoot, ForTree, IsCanonicalRoot}
+use Rattle.art_model.specs.Stores.{pair_of}
+use Rattle.art_model.specs.Writes.{without_leaf}
+use Rattle.art_writing.specs.declared.delete.DeletePoint.{DeletePoint}
+use Rattle.art_writing.specs.declared.delete.DeleteRefused.{DeleteRefused}
+use Rattle.art_writing.specs.declared.delete.DeleteResult.{DeleteResult}
+use Rattle.art_writing.specs.Deleted.{IsRootAfter, TouchesFor, parent_change, placed_for_deletion}
+use Rattle.art_writing.specs.Inserted.{alone}
+
+-- The point's leaf goes from between those beside it, and is answered alone, with this root; inner nodes and the promise stay.
+pub record IsLeafTaken {K V : Type 0} (s t : Nodes K V) (point : DeletePoint) (root : Option OpaqueNodePtr)
+    (done : DeleteResult K V) : Type 0 where
+  pub leaf : IsSomeAnd (map.get s.leaves point.leaf_node_ptr) (λ leaf. done.deleted_leaf ≡ alone (pair_of leaf))
+  pub leaves : IsSomeAnd (map.get s.leaves point.leaf_node_ptr) (λ leaf.
+      t.leaves ≡ without_leaf s.leaves point.leaf_node_ptr leaf)
+  pub inners : t.inners ≡ s.inners
+  pub promise : t.promise ≡ s.promise
+  pub root_is : done.new_root ≡ root
+
+-- A delete point is applied; or it is handed back, with the nodes as they were and nothing promised.
+pub record IsTakenOut {K V : Type 0} (bytes : K × V → List ℕ) (P : ℕ) (s t : Nodes K V) (root : OpaqueNodePtr)
+    (point : DeletePoint) (result : Result (DeleteResult K V) DeleteRefused) : Type 0 where
+  pub canonical : ForTree bytes P s root (λ pairs layout. IfOk result (λ done.
+      IsCanonical bytes P t done.new_root (remove_key bytes (bytes (pair_of done.deleted_leaf)) pairs)))
+  pub left : IfOk result (λ done. IfSome done.new_root (IsCanonicalRoot bytes P t))
+  pub deleted : IfOk result (λ done. IfSome (map.get s.leaves point.leaf_node_ptr) (λ leaf.
+      done.deleted_leaf ≡ alone (pair_of leaf)))
+  pub root_is : IfOk result (λ done.
+      IsRootAfter (parent_change s point.path) point.path root done.new_root)
+  pub kept : ForTree bytes P s root (λ pairs old. IfOk result (λ done. ForRoot bytes P t done.new_root (λ after new.
+      ChangesInPlace bytes s t (Some old) new)))
+  pub touches : OnOk result (TouchesFor (parent_change s point.path) s t)
+  pub promise : OnOk result (t.promise ≡ promise_after (placed_for_deletion s point.path) s.promise)
+  pub succeeds : IsTrue (is_covered (placed_for_deletion s point.path) s.promise) → IsOk result
+  pub handed_back : IfErr result (λ refused. refused.point ≡ point)
+  pub leaves : OnErr result (t.leaves ≡ s.leaves)
+  pub inners : OnErr result (t.inners ≡ s.inners)
+  pub void : OnErr result (t.promise ≡ no_promise)
