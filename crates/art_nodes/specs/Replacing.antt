@@ -1,4 +1,4 @@
--- A node gives way to one of another kind.
+-- A node gives way to one of another kind. No public clause cites this module.
 use Rattle.std.specs.Prelude.{◌≡◌, ℕ, Some, None}
 use Rattle.slab.specs.Slab.{Slab, Updates, get}
 use Rattle.art_inner.specs.Inner.{Inner}

@@ -93,7 +93,7 @@ module _ {K V : Type 0} (bytes : K → List ℕ) (P : ℕ) {s : Nodes K V} {root
       elim (leaf_or point.overwrite_point) [
         | inl (p, e) ↦
             let l = related_leaf answers (sym e) here in
-            record { one = one; none = none_comes l.path l.place (leaf (leaf_name p) (pair_of l.shown)) (k, v) l.whole l.hole (l.related, tt) (λ e. l.unequal (sym e), tt) }
+            record { one = one; none = none_comes l.at.path l.at.place (leaf (leaf_name p) (pair_of l.at.shown)) (k, v) l.at.whole l.at.hole (l.related, tt) (λ e. l.unequal (sym e), tt) }
         | inr off ↦
             let a = subtree_at answers off here in
             record { one = one; none = none_comes a.path a.place a.node (k, v) a.whole a.hole a.related a.unequal }

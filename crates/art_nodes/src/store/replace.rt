@@ -1,6 +1,13 @@
 //! An inner node gives way to a larger or a smaller one, or to the other of its two children.
-ghost use Rattle.std.specs.Prelude.{◌≡◌, ◌≢◌, ◌≤◌, IsTrue, IsSome, IsSomeAnd, IfSome, Option, Some, None, length};
+ghost use Rattle.std.specs.Prelude.{◌≡◌, ◌≢◌, ◌≤◌, [], ◌∷◌, IsTrue, IsSome, IsSomeAnd, IfSome};
+ghost use Rattle.std.specs.Prelude.{Option, Some, None, length};
+ghost use Rattle.slab.specs.Slab as slab;
 ghost use Rattle.slab.specs.Slab.{ContainsKey, HasRoomFor, Updates};
+ghost use Rattle.art_parts.specs.Kinds.{kind_capacity};
+ghost use Rattle.art_inner.specs.Changes.{with_child, without_child};
+ghost use Rattle.art_inner.specs.Inner.{HasPlace, remove_child};
+ghost use Rattle.art_inner.specs.Views.{ref_view};
+ghost use Rattle.art_nodes.specs.Replacing.{IsMadeOf};
 
 use super::{InnerSlabs, NodeStore};
 use crate::node::{AsBytes, Header, InnerNode, InnerPtr, InnerRef, NodeType, OpaqueNodePtr};
@@ -9,9 +16,7 @@ use slab::Slab;
 
 impl<const P: usize> InnerSlabs<P> {
     ghost use Rattle.std.specs.FinMap as map;
-    ghost use Rattle.art_inner.specs.Changes.{with_child, without_child};
-    ghost use Rattle.art_inner.specs.Inner.{HasPlace};
-    ghost use Rattle.art_parts.specs.Kinds.{kind_capacity, larger_kind, smaller_kind};
+    ghost use Rattle.art_parts.specs.Kinds.{larger_kind, smaller_kind};
     ghost use Rattle.art_nodes.specs.StoreView.{HasInnerRoom, inners_of};
     ghost use Rattle.art_parts.specs.declared.names.NodeType.{NodeType};
     ghost use Rattle.art_parts.specs.declared.names.NodeType.TheVariants.{Node4, Node16, Node48, Node256};
@@ -70,12 +75,6 @@ impl<const P: usize> InnerSlabs<P> {
         }
     }
 }
-
-ghost use Rattle.art_nodes.specs.Replacing.{IsMadeOf};
-ghost use Rattle.art_inner.specs.Changes.{with_child, without_child};
-ghost use Rattle.art_inner.specs.Inner.{HasPlace};
-ghost use Rattle.art_parts.specs.Kinds.{kind_capacity};
-ghost use Rattle.slab.specs.Slab as slab;
 
 // Takes a node out of its slot, and puts the grown one, with a child more, into another slab. A call
 // fills the room for its locals with zeros, so that each kind has a call of its own.
@@ -140,9 +139,8 @@ fn drop_from<T: Drop>(slab: &mut Slab<T>, slot: usize)
 
 impl<K: AsBytes + Drop, V: Drop, const P: usize> NodeStore<K, V, P> {
     ghost use Rattle.std.specs.FinMap as map;
-    ghost use Rattle.art_inner.specs.Changes.{with_child, without_child};
     ghost use Rattle.art_inner.specs.Inner.{childless};
-    ghost use Rattle.art_parts.specs.Kinds.{kind_capacity, smaller_kind};
+    ghost use Rattle.art_parts.specs.Kinds.{smaller_kind};
     ghost use Rattle.art_nodes.specs.Nodes.{promises, take_inner};
     ghost use Rattle.art_parts.specs.declared.names.NodeType.TheVariants.{Node4};
 
@@ -184,10 +182,6 @@ impl<K: AsBytes + Drop, V: Drop, const P: usize> NodeStore<K, V, P> {
         (header, other_byte, other)
     }
 }
-
-ghost use Rattle.std.specs.Prelude.{[], ◌∷◌};
-ghost use Rattle.art_inner.specs.Inner.{remove_child};
-ghost use Rattle.art_inner.specs.Views.{ref_view};
 
 // The child that is not under a byte, with its byte, of a node that has one such child.
 fn other_child<const P: usize>(node: InnerRef<'_, P>, byte: u8) -> (u8, OpaqueNodePtr)
