@@ -4,19 +4,19 @@ use super::effect::{assert_handed_back, inserted_without_memory, insertion_of, r
 use art_nodes::node::{NodeType, OpaqueNodePtr};
 use art_nodes::store::NodeStore;
 use art_operations::insert::InsertParentNodeChange;
+use art_test_support::expected::as_expected;
 use art_test_support::points::Insertion;
 use art_test_support::trees::{Key, child, planted_all, promise};
-use std::alloc::Global;
-use std::process::Abort;
 use std::test::Fail;
 
-// Whether an inner node has this length of prefix, these bytes stored of it, and children under two bytes.
-fn is_branch<const P: usize>(
+// A Node4 with two children: the length of its prefix, the bytes that are stored of it, and those of the children.
+type Fork = (usize, &'static [u8], [u8; 2]);
+
+// Whether there is such a node under a name.
+fn is_fork<const P: usize>(
     store: &NodeStore<Key, u32, P>,
     name: OpaqueNodePtr,
-    len: usize,
-    stored: &[u8],
-    bytes: [u8; 2],
+    (len, stored, bytes): Fork,
 ) -> bool {
     let Some(inner) = name.as_inner() else {
         return false;
@@ -32,17 +32,29 @@ fn is_branch<const P: usize>(
         && child(store, name, bytes[1]).is_some()
 }
 
-// Plants a tree of some keys and inserts one. Answers the old root, what it had under a byte, and what the
-// insertion did.
-fn branch<const P: usize>(
-    store: &mut NodeStore<Key, u32, P>,
-    slices: &[&[u8]],
-    byte: u8,
-    key: &[u8],
-) -> Option<(OpaqueNodePtr, Option<OpaqueNodePtr>, Insertion)> {
-    let root = planted_all(store, slices).ok()??;
-    let old = child(store, root, byte);
-    Some((root, old, insertion_of(store, root, key)?))
+// A key that ends in 9, and splits a node of the tree of others.
+#[derive(Clone, Copy)]
+struct Case {
+    slices: &'static [&'static [u8]],
+    key: &'static [u8],
+    // The byte below the root that leads to the node; none where the node is the root.
+    byte: Option<u8>,
+    parent: Fork,
+    // What is left to the node; none where it is a leaf.
+    left: Option<Fork>,
+    touched: (usize, usize, usize),
+}
+
+// The node that a case splits, or its new parent.
+fn node_at<const P: usize>(
+    store: &NodeStore<Key, u32, P>,
+    root: OpaqueNodePtr,
+    byte: Option<u8>,
+) -> Option<OpaqueNodePtr> {
+    match byte {
+        Some(byte) => child(store, root, byte),
+        None => Some(root),
+    }
 }
 
 // What is seen of a split.
@@ -51,117 +63,107 @@ struct Split {
     done: Insertion,
     // Whether the nodes have the prefixes and children that they are to have.
     is_made: bool,
-    // What the new parent has under the byte of the node that was split.
+    // What the new parent has under the first of its bytes.
     found: Option<OpaqueNodePtr>,
 }
 
-// Asserts that what is to be seen of a split is seen.
-fn assert_split(rt: &impl Abort, splits: Option<[Split; 2]>) -> Result<(), Fail> {
-    let [seen, expected] = splits.ok_or("no split")?;
-    assert_eq!(rt; seen, expected);
-    Ok(())
+// What is seen of a split of the node under a name, by its new parent.
+fn seen_of<const P: usize>(
+    store: &NodeStore<Key, u32, P>,
+    done: Insertion,
+    old: OpaqueNodePtr,
+    parent: OpaqueNodePtr,
+    case: Case,
+) -> Split {
+    let (_, _, [first, _]) = case.parent;
+    let is_left = match case.left {
+        Some(fork) => is_fork(store, old, fork),
+        None => true,
+    };
+    Split {
+        done,
+        is_made: is_left && is_fork(store, parent, case.parent),
+        found: child(store, parent, first),
+    }
 }
 
-// Splits the leaf of [1, 2, 3, 4]. Answers what is seen, and what is to be.
-fn split_leaf<const P: usize>(store: &mut NodeStore<Key, u32, P>) -> Option<[Split; 2]> {
-    let (root, _, done) = branch(store, &[&[1, 2, 3, 4]], 3, &[1, 2, 9])?;
-    let parent = done.new_root.as_inner()?;
-    let seen = Split {
-        done,
-        is_made: is_branch(store, done.new_root, 2, &[1, 2], [3, 9]),
-        found: child(store, done.new_root, 3),
-    };
-    let expected = Split {
+// What is to be seen of it, in the tree of this root.
+fn expected(
+    done: Insertion,
+    old: OpaqueNodePtr,
+    parent: OpaqueNodePtr,
+    root: OpaqueNodePtr,
+    touched: (usize, usize, usize),
+) -> Option<Split> {
+    Some(Split {
         done: Insertion {
             existing: None,
+            new_root: root,
             change: InsertParentNodeChange::NewParent {
-                new_parent_node: parent,
+                new_parent_node: parent.as_inner()?,
                 leaf_node_key_byte: 9,
             },
-            touched: (2, 0, 1),
+            touched,
             ..done
         },
         is_made: true,
-        found: Some(root),
-    };
-    Some([seen, expected])
+        found: Some(old),
+    })
 }
 
-// The same in a store of its own.
-fn split_leaf_with(alloc: Global) -> Option<[Split; 2]> {
-    split_leaf::<16>(&mut NodeStore::new(alloc))
+// What is seen of a case, and what is to be. Where the root is split its new parent is the new root, and else the root
+// stays.
+fn split<const P: usize>(store: &mut NodeStore<Key, u32, P>, case: Case) -> Option<(Split, Split)> {
+    let root = planted_all(store, case.slices).ok()??;
+    let old = node_at(store, root, case.byte)?;
+    let done = insertion_of(store, root, case.key)?;
+    let parent = node_at(store, done.new_root, case.byte)?;
+    let new_root = if case.byte.is_none() { parent } else { root };
+    Some((
+        seen_of(store, done, old, parent, case),
+        expected(done, old, parent, new_root, case.touched)?,
+    ))
 }
 
 #[test]
 fn splits_the_root_leaf(rt: HostRuntime) -> Result<(), Fail> {
-    assert_split(&rt, split_leaf_with(rt.alloc()))
+    let case = Case {
+        slices: &[&[1, 2, 3, 4]],
+        key: &[1, 2, 9],
+        byte: None,
+        parent: (2, &[1, 2], [3, 9]),
+        left: None,
+        touched: (2, 0, 1),
+    };
+    as_expected(split::<16>(&mut NodeStore::new(rt.alloc()), case))
 }
 
-// The same for a prefix of which two bytes are stored, after three bytes.
-fn split_long<const P: usize>(store: &mut NodeStore<Key, u32, P>) -> Option<[Split; 2]> {
-    let slices: [&[u8]; 2] = [&[7, 1, 1, 1, 1, 5], &[7, 1, 1, 1, 1, 6]];
-    let (root, _, done) = branch(store, &slices, 5, &[7, 1, 1, 9])?;
-    let is_made = is_branch(store, done.new_root, 3, &[7, 1], [1, 9])
-        && is_branch(store, root, 1, &[1], [5, 6]);
-    let seen = Split {
-        done,
-        is_made,
-        found: child(store, done.new_root, 1),
-    };
-    let expected = Split {
-        done: Insertion {
-            touched: (2, 0, 2),
-            ..done
-        },
-        is_made: true,
-        found: Some(root),
-    };
-    Some([seen, expected])
-}
-
-// The same in a store of its own.
-fn split_long_with(alloc: Global) -> Option<[Split; 2]> {
-    split_long::<2>(&mut NodeStore::new(alloc))
-}
+// A key that parts from the prefix of the root after three bytes. With two stored bytes, it is longer than stored.
+static LONG: Case = Case {
+    slices: &[&[7, 1, 1, 1, 1, 5], &[7, 1, 1, 1, 1, 6]],
+    key: &[7, 1, 1, 9],
+    byte: None,
+    parent: (3, &[7, 1], [1, 9]),
+    left: Some((1, &[1], [5, 6])),
+    touched: (2, 0, 2),
+};
 
 #[test]
 fn splits_a_prefix_that_is_longer_than_stored(rt: HostRuntime) -> Result<(), Fail> {
-    assert_split(&rt, split_long_with(rt.alloc()))
-}
-
-// The same for the prefix of the node at [1], after one byte. The node is below the new one then.
-fn split_child<const P: usize>(store: &mut NodeStore<Key, u32, P>) -> Option<[Split; 2]> {
-    let slices: [&[u8]; 4] = [&[0], &[1, 1, 1, 5], &[1, 1, 1, 6], &[2]];
-    let (root, below, done) = branch(store, &slices, 1, &[1, 1, 9])?;
-    let old = below?;
-    let parent = child(store, root, 1)?;
-    let is_made = is_branch(store, parent, 1, &[1], [1, 9])
-        && is_branch(store, old, 0, &[], [5, 6]);
-    let seen = Split {
-        done,
-        is_made,
-        found: child(store, parent, 1),
-    };
-    let expected = Split {
-        done: Insertion {
-            new_root: root,
-            touched: (2, 0, 4),
-            ..done
-        },
-        is_made: true,
-        found: below,
-    };
-    Some([seen, expected])
-}
-
-// The same in a store of its own.
-fn split_child_with(alloc: Global) -> Option<[Split; 2]> {
-    split_child::<16>(&mut NodeStore::new(alloc))
+    as_expected(split::<2>(&mut NodeStore::new(rt.alloc()), LONG))
 }
 
 #[test]
 fn splits_the_prefix_of_a_child(rt: HostRuntime) -> Result<(), Fail> {
-    assert_split(&rt, split_child_with(rt.alloc()))
+    let case = Case {
+        slices: &[&[0], &[1, 1, 1, 5], &[1, 1, 1, 6], &[2]],
+        key: &[1, 1, 9],
+        byte: Some(1),
+        parent: (1, &[1], [1, 9]),
+        left: Some((0, &[], [5, 6])),
+        touched: (2, 0, 4),
+    };
+    as_expected(split::<16>(&mut NodeStore::new(rt.alloc()), case))
 }
 
 // Whether [1, 2, 9] comes in beside [1, 2, 3, 4] while all memory is held but for the nodes that it needs.
@@ -169,17 +171,13 @@ fn is_split_without_memory<const P: usize>(store: &mut NodeStore<Key, u32, P>) -
     let root = planted_all(store, &[&[1, 2, 3, 4]]).ok()??;
     promise(store, root, 1, NodeType::Node4).ok()?;
     let (root, _) = inserted_without_memory(store, root, &[1, 2, 9], 1)?;
-    Some(is_branch(store, root, 2, &[1, 2], [3, 9]))
-}
-
-// The same in a store of its own.
-fn is_split_with(alloc: Global) -> Option<bool> {
-    is_split_without_memory::<16>(&mut NodeStore::new(alloc))
+    Some(is_fork(store, root, (2, &[1, 2], [3, 9])))
 }
 
 #[test]
 fn without_memory_a_reserved_split_is_made(rt: HostRuntime) {
-    assert_eq!(rt; is_split_with(rt.alloc()), Some(true));
+    let is_split = is_split_without_memory::<16>(&mut NodeStore::new(rt.alloc()));
+    assert_eq!(rt; is_split, Some(true));
 }
 
 // Asserts something where a request for memory of the insertion is refused.

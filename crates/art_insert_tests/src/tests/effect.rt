@@ -23,10 +23,8 @@ pub fn insertion_of<const P: usize>(
 ) -> Option<Insertion>
     requires { IsCanonicalRoot (of_key (λ key. key.items)) P store.old root }
 {
-    match nodes_seen(store) {
-        Ok(before) => insertion_after(store, root, &before, key),
-        Err(_) => None,
-    }
+    let before = nodes_seen(store).ok()?;
+    insertion_after(store, root, &before, key)
 }
 
 // The same where the store had these nodes.

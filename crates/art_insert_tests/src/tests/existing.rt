@@ -6,10 +6,11 @@ use super::effect::{assert_handed_back, inserted_without_memory, insertion_of, r
 use art_nodes::node::{NodeType, OpaqueNodePtr};
 use art_nodes::store::NodeStore;
 use art_operations::insert::InsertParentNodeChange;
+use art_test_support::cases::planted_bytes;
+use art_test_support::expected::as_expected;
 use art_test_support::points::{Gone, Insertion};
-use art_test_support::trees::{Key, child, keys_after, planted_all, planted_keys, value_of};
+use art_test_support::trees::{Key, child, planted_all, value_of};
 use std::alloc::Global;
-use std::process::Abort;
 use std::test::Fail;
 
 // What an insertion did, and what there is then.
@@ -43,17 +44,7 @@ fn growth_seen<const P: usize>(store: &NodeStore<Key, u32, P>, done: Insertion) 
     }
 }
 
-// An insertion into the tree of some keys.
-#[derive(Clone, Copy)]
-struct Case<'a> {
-    slices: &'a [&'a [u8]],
-    key: &'a [u8],
-    // A byte below the root.
-    byte: u8,
-    wanted: Wanted,
-}
-
-// What is to come of the key.
+// What is to come of a key.
 #[derive(Clone, Copy)]
 enum Wanted {
     /// It becomes a child of the root, which has room for it.
@@ -72,7 +63,7 @@ struct Grown {
     root: OpaqueNodePtr,
     // What the old root had under the key's last byte, or the root where the key is empty.
     old: Option<OpaqueNodePtr>,
-    // What the old root has under the case's byte.
+    // What the old root has under the byte of the case.
     after: Option<OpaqueNodePtr>,
     seen: Growth,
 }
@@ -89,22 +80,22 @@ fn below_last<const P: usize>(
     }
 }
 
-// Plants the tree of a case and inserts its key.
-fn grow<const P: usize>(store: &mut NodeStore<Key, u32, P>, case: Case<'_>) -> Option<Grown> {
-    let root = planted_all(store, case.slices).ok()??;
-    let old = below_last(store, root, case.key);
-    let done = insertion_of(store, root, case.key)?;
+// Plants the tree of some keys and inserts one.
+fn grow<const P: usize>(
+    store: &mut NodeStore<Key, u32, P>,
+    slices: &[&[u8]],
+    key: &[u8],
+    byte: u8,
+) -> Option<Grown> {
+    let root = planted_all(store, slices).ok()??;
+    let old = below_last(store, root, key);
+    let done = insertion_of(store, root, key)?;
     Some(Grown {
         root,
         old,
-        after: child(store, root, case.byte),
+        after: child(store, root, byte),
         seen: growth_seen(store, done),
     })
-}
-
-// The same in a store of its own.
-fn grown_by(alloc: Global, case: Case<'_>) -> Option<Grown> {
-    grow::<16>(&mut NodeStore::new(alloc), case)
 }
 
 // What is to come of a key that becomes a child of an inner node.
@@ -177,7 +168,7 @@ fn expected_in_place(root: OpaqueNodePtr, name: OpaqueNodePtr, value: u32) -> Op
     })
 }
 
-// What is to come of the key of a case, whose last byte is this.
+// What is to come of a key, whose last byte is this.
 fn expected(grown: Grown, wanted: Wanted, byte: u8) -> Option<Growth> {
     let (root, seen) = (grown.root, grown.seen);
     match wanted {
@@ -188,94 +179,39 @@ fn expected(grown: Grown, wanted: Wanted, byte: u8) -> Option<Growth> {
     }
 }
 
-// What came of the key of a case, and what is to come.
-fn compared(alloc: Global, case: Case<'_>) -> Option<[Growth; 2]> {
-    let grown = grown_by(alloc, case)?;
-    let byte = case.key.last().copied().unwrap_or(0);
-    Some([grown.seen, expected(grown, case.wanted, byte)?])
+// The keys of a tree, one that comes, a byte below the root, and what is to come.
+type Case = (&'static [&'static [u8]], &'static [u8], u8, Wanted);
+
+static CASES: [Case; 5] = [
+    // There is room for a child.
+    (&[&[1], &[2]], &[3], 3, Wanted::Child),
+    // The root is full, and so is a child of the root.
+    (&[&[1], &[2], &[3], &[4]], &[5], 4, Wanted::LargerRoot),
+    (
+        &[&[0], &[1, 1], &[1, 2], &[1, 4], &[1, 5], &[2]],
+        &[1, 3],
+        1,
+        Wanted::LargerChild,
+    ),
+    // The key is stored.
+    (&[&[1, 1], &[1, 2]], &[1, 2], 2, Wanted::InPlace(1)),
+    (&[&[]], &[], 0, Wanted::InPlace(0)),
+];
+
+// What came of a case, and what is to come.
+fn compared(alloc: Global, (slices, key, byte, wanted): Case) -> Option<(Growth, Growth)> {
+    let grown = grow::<16>(&mut NodeStore::new(alloc), slices, key, byte);
+    let grown = grown?;
+    let last = key.last().copied().unwrap_or(0);
+    Some((grown.seen, expected(grown, wanted, last)?))
 }
 
-// Asserts that what is to come of a case comes.
-fn assert_grown(rt: &impl Abort, alloc: Global, case: Case<'_>) -> Result<(), Fail> {
-    let [seen, expected] = compared(alloc, case).ok_or("other kinds of nodes")?;
-    assert_eq!(rt; seen, expected);
+#[test]
+fn puts_a_pair_below_a_node_or_in_its_place(rt: HostRuntime) -> Result<(), Fail> {
+    for case in &CASES {
+        as_expected(compared(rt.alloc(), *case))?;
+    }
     Ok(())
-}
-
-#[test]
-fn adds_a_child_where_there_is_room(rt: HostRuntime) -> Result<(), Fail> {
-    let case = Case {
-        slices: &[&[1], &[2]],
-        key: &[3],
-        byte: 3,
-        wanted: Wanted::Child,
-    };
-    assert_grown(&rt, rt.alloc(), case)
-}
-
-#[test]
-fn puts_a_larger_root_in_the_place_of_a_full_one(rt: HostRuntime) -> Result<(), Fail> {
-    let case = Case {
-        slices: &[&[1], &[2], &[3], &[4]],
-        key: &[5],
-        byte: 4,
-        wanted: Wanted::LargerRoot,
-    };
-    assert_grown(&rt, rt.alloc(), case)
-}
-
-#[test]
-fn tells_the_parent_of_a_larger_child(rt: HostRuntime) -> Result<(), Fail> {
-    let case = Case {
-        slices: &[&[0], &[1, 1], &[1, 2], &[1, 4], &[1, 5], &[2]],
-        key: &[1, 3],
-        byte: 1,
-        wanted: Wanted::LargerChild,
-    };
-    assert_grown(&rt, rt.alloc(), case)
-}
-
-#[test]
-fn hands_back_the_old_value(rt: HostRuntime) -> Result<(), Fail> {
-    let case = Case {
-        slices: &[&[1, 1], &[1, 2]],
-        key: &[1, 2],
-        byte: 2,
-        wanted: Wanted::InPlace(1),
-    };
-    assert_grown(&rt, rt.alloc(), case)
-}
-
-#[test]
-fn replaces_the_value_of_the_empty_key(rt: HostRuntime) -> Result<(), Fail> {
-    let case = Case {
-        slices: &[&[]],
-        key: &[],
-        byte: 0,
-        wanted: Wanted::InPlace(0),
-    };
-    assert_grown(&rt, rt.alloc(), case)
-}
-
-// What comes of the root of so many keys of one byte with one more.
-fn grown_from(alloc: Global, count: u8) -> Option<(NodeType, bool)> {
-    let all = keys_after(alloc, &[], u16::from(count)).ok()?;
-    grown_with(alloc, all, count)
-}
-
-// The same of these keys and this byte, in a store of its own.
-fn grown_with(alloc: Global, all: Vec<Key>, byte: u8) -> Option<(NodeType, bool)> {
-    grown_in::<16>(&mut NodeStore::new(alloc), all, byte)
-}
-
-// The same in a store.
-fn grown_in<const P: usize>(
-    store: &mut NodeStore<Key, u32, P>,
-    all: Vec<Key>,
-    byte: u8,
-) -> Option<(NodeType, bool)> {
-    let root = planted_keys(store, all)?;
-    with_one_more(store, root, byte)
 }
 
 // The kind of the root once it has one key of one byte more, and whether it has that key's leaf.
@@ -291,28 +227,40 @@ fn with_one_more<const P: usize>(
     Some((done.new_root.kind, found == Some(done.leaf.to_opaque())))
 }
 
+// The same of the root of so many keys of one byte.
+fn grown_in<const P: usize>(
+    store: &mut NodeStore<Key, u32, P>,
+    count: u8,
+) -> Option<(NodeType, bool)> {
+    let root = planted_bytes(store, u16::from(count))?;
+    with_one_more(store, root, count)
+}
+
 #[test]
 fn grows_to_each_kind(rt: HostRuntime) {
     for (count, kind) in [(16u8, NodeType::Node48), (48, NodeType::Node256)] {
-        assert_eq!(rt; grown_from(rt.alloc(), count), Some((kind, true)));
+        let grown = grown_in::<16>(&mut NodeStore::new(rt.alloc()), count);
+        assert_eq!(rt; grown, Some((kind, true)));
     }
 }
 
-// Whether [1, 2] gets another value, while all memory is held.
-fn is_replaced_without_memory<const P: usize>(store: &mut NodeStore<Key, u32, P>) -> Option<bool> {
-    let root = planted_all(store, &[&[1, 2]]).ok()??;
-    let (_, is_replaced) = inserted_without_memory(store, root, &[1, 2], 2)?;
-    Some(is_replaced)
-}
+// A root, and whether a pair gave way.
+type Replaced = (OpaqueNodePtr, bool);
 
-// The same in a store of its own.
-fn is_replaced_with(alloc: Global) -> Option<bool> {
-    is_replaced_without_memory::<16>(&mut NodeStore::new(alloc))
+// What there is once [1, 2] has another value, while all memory is held, and what is to be.
+fn replaced_without_memory<const P: usize>(
+    store: &mut NodeStore<Key, u32, P>,
+) -> Option<(Replaced, Replaced)> {
+    let root = planted_all(store, &[&[1, 2]]).ok()??;
+    Some((
+        inserted_without_memory(store, root, &[1, 2], 2)?,
+        (root, true),
+    ))
 }
 
 #[test]
-fn without_memory_a_value_is_replaced(rt: HostRuntime) {
-    assert_eq!(rt; is_replaced_with(rt.alloc()), Some(true));
+fn without_memory_a_value_is_replaced(rt: HostRuntime) -> Result<(), Fail> {
+    as_expected(replaced_without_memory::<16>(&mut NodeStore::new(rt.alloc())))
 }
 
 // Asserts something where a request for memory of the insertion is refused.

@@ -11,6 +11,7 @@ use art_operations::insert::{
 };
 use art_operations::lookup::search_unchecked;
 use art_operations::path::TreePath;
+use art_test_support::expected::as_expected;
 use art_test_support::memory::all_memory;
 use art_test_support::nodes::{Seen, count_nodes, nodes_seen};
 use art_test_support::points::{
@@ -18,7 +19,6 @@ use art_test_support::points::{
 };
 use art_test_support::trees::{Key, child, keys_of_three, planted_all, planted_keys, value_of};
 use std::alloc::Global;
-use std::process::Abort;
 use std::test::Fail;
 
 // The root before a prefix insertion, what it had under the key's first byte, and what the insertion did.
@@ -88,10 +88,8 @@ fn applied_in<const P: usize>(
 ) -> Option<(Insertion, usize)>
     requires { IsCanonicalRoot (of_key (λ key. key.items)) P store.old root }
 {
-    match nodes_seen(store) {
-        Ok(before) => applied(store, root, &before, key, old),
-        Err(_) => None,
-    }
+    let before = nodes_seen(store).ok()?;
+    applied(store, root, &before, key, old)
 }
 
 // The same, with what was there and what there is. A pair that gives way is to have the key `old`.
@@ -163,8 +161,10 @@ fn at_child(
 // A key that takes the place of two leaves and their parent.
 #[derive(Clone, Copy)]
 struct Case<'a> {
+    // The keys of the tree, and then this one.
     slices: &'a [&'a [u8]],
     key: &'a [u8],
+    // How many of its bytes are used, how many nodes are changed, and the values at the new leaf and beside it.
     used: usize,
     changed: usize,
     values: [Option<u32>; 3],
@@ -194,16 +194,9 @@ fn expected_below(seen: Outcome, case: Case<'_>) -> Option<Outcome> {
 }
 
 // What comes of such a key, and what is to come.
-fn tried_below(alloc: Global, case: Case<'_>) -> Option<[Outcome; 2]> {
+fn tried_below(alloc: Global, case: Case<'_>) -> Option<(Outcome, Outcome)> {
     let seen = tried(alloc, case.slices, case.key, &[])?;
-    Some([seen, expected_below(seen, case)?])
-}
-
-// Asserts that what is to come of a key comes.
-fn assert_comes(rt: &impl Abort, outcomes: Option<[Outcome; 2]>) -> Result<(), Fail> {
-    let [seen, expected] = outcomes.ok_or("other kinds of nodes")?;
-    assert_eq!(rt; seen, expected);
-    Ok(())
+    Some((seen, expected_below(seen, case)?))
 }
 
 // Keys in the place of two leaves at the end of the others and between them, within a prefix and at its end.
@@ -241,7 +234,7 @@ static BELOW: [Case<'static>; 4] = [
 #[test]
 fn gives_way_below_an_inner_node(rt: HostRuntime) -> Result<(), Fail> {
     for case in &BELOW {
-        assert_comes(&rt, tried_below(rt.alloc(), *case))?;
+        as_expected(tried_below(rt.alloc(), *case))?;
     }
     Ok(())
 }
@@ -271,15 +264,15 @@ fn expected_at_root(seen: Outcome, used: usize, leaves: usize, inners: usize) ->
 static AT_ROOT: [(&[u8], usize); 4] = [(&[], 0), (&[4], 0), (&[4, 1], 0), (&[4, 1, 2], 2)];
 
 // What comes of such a key in the tree of two others, and what is to come.
-fn tried_at_root(alloc: Global, key: &[u8], used: usize) -> Option<[Outcome; 2]> {
+fn tried_at_root(alloc: Global, key: &[u8], used: usize) -> Option<(Outcome, Outcome)> {
     let seen = tried(alloc, &[&[4, 1, 2, 7], &[4, 1, 2, 8]], key, &[])?;
-    Some([seen, expected_at_root(seen, used, 2, 1)])
+    Some((seen, expected_at_root(seen, used, 2, 1)))
 }
 
 #[test]
 fn gives_way_at_the_root(rt: HostRuntime) -> Result<(), Fail> {
     for (key, used) in &AT_ROOT {
-        assert_comes(&rt, tried_at_root(rt.alloc(), key, *used))?;
+        as_expected(tried_at_root(rt.alloc(), key, *used))?;
     }
     Ok(())
 }
@@ -288,21 +281,16 @@ fn gives_way_at_the_root(rt: HostRuntime) -> Result<(), Fail> {
 fn overwritten_by_empty<const P: usize>(
     store: &mut NodeStore<Key, u32, P>,
     all: Vec<Key>,
-) -> Option<[Outcome; 2]> {
+) -> Option<(Outcome, Outcome)> {
     let root = planted_keys(store, all)?;
     let seen = overwrite(store, root, &[], &[])?;
-    Some([seen, expected_at_root(seen, 0, 24, 17)])
-}
-
-// The same in a store of its own.
-fn tried_by_empty(alloc: Global, all: Vec<Key>) -> Option<[Outcome; 2]> {
-    overwritten_by_empty::<16>(&mut NodeStore::new(alloc), all)
+    Some((seen, expected_at_root(seen, 0, 24, 17)))
 }
 
 #[test]
 fn the_empty_key_takes_the_place_of_all(rt: HostRuntime) -> Result<(), Fail> {
     let all = keys_of_three(rt.alloc(), [4, 3, 2])?;
-    assert_comes(&rt, tried_by_empty(rt.alloc(), all))
+    as_expected(overwritten_by_empty::<16>(&mut NodeStore::new(rt.alloc()), all))
 }
 
 // What is to come of a key in the place of one pair, with what there is to be afterwards.
@@ -334,7 +322,7 @@ fn expected_for_leaf(
 }
 
 // What comes of a key in the place of the only other, and what is to come.
-fn tried_for_one(alloc: Global, old: &[u8], key: &[u8]) -> Option<[Outcome; 2]> {
+fn tried_for_one(alloc: Global, old: &[u8], key: &[u8]) -> Option<(Outcome, Outcome)> {
     let seen = tried(alloc, &[old], key, old)?;
     let after = After {
         nodes: (1, 0),
@@ -342,7 +330,7 @@ fn tried_for_one(alloc: Global, old: &[u8], key: &[u8]) -> Option<[Outcome; 2]> 
         values: [None, Some(9), None],
     };
     let expected = expected_for_leaf(seen, at_root(seen.root, 0), seen.root, 0, after)?;
-    Some([seen, expected])
+    Some((seen, expected))
 }
 
 // Keys, each with one in its place.
@@ -356,7 +344,7 @@ static FOR_ONE: [(&[u8], &[u8]); 4] = [
 #[test]
 fn replaces_one_leaf(rt: HostRuntime) -> Result<(), Fail> {
     for (old, key) in &FOR_ONE {
-        assert_comes(&rt, tried_for_one(rt.alloc(), old, key))?;
+        as_expected(tried_for_one(rt.alloc(), old, key))?;
     }
     Ok(())
 }
@@ -374,14 +362,14 @@ fn expected_between(seen: Outcome) -> Option<Outcome> {
 }
 
 // What comes of this key, and what is to come.
-fn tried_between(alloc: Global) -> Option<[Outcome; 2]> {
+fn tried_between(alloc: Global) -> Option<(Outcome, Outcome)> {
     let seen = tried(alloc, &[&[0], &[1, 2, 3], &[2]], &[1, 2], &[1, 2, 3])?;
-    Some([seen, expected_between(seen)?])
+    Some((seen, expected_between(seen)?))
 }
 
 #[test]
 fn replaces_one_leaf_between_others(rt: HostRuntime) -> Result<(), Fail> {
-    assert_comes(&rt, tried_between(rt.alloc()))
+    as_expected(tried_between(rt.alloc()))
 }
 
 // The kind of a point.
@@ -521,13 +509,9 @@ fn has_insert_point<const P: usize>(
 ) -> bool
     requires { IsCanonicalRoot (of_key (λ key. key.items)) P store.now root }
 {
-    match search_for_insert_point(store, root, key) {
-        Ok(point) => {
-            search_for_prefix_insert_point(store, root, key)
-                == PrefixInsertPoint::InsertPoint(point)
-        }
-        Err(_) => false,
-    }
+    let point = search_for_insert_point(store, root, key).ok();
+    let found = search_for_prefix_insert_point(store, root, key);
+    point.map(PrefixInsertPoint::InsertPoint) == Some(found)
 }
 
 // The same in the tree of two keys with one prefix.
@@ -537,14 +521,10 @@ fn points_found<const P: usize>(store: &mut NodeStore<Key, u32, P>) -> Option<[b
     Some(have_insert_points(store, root))
 }
 
-// The same in a store of its own.
-fn points_found_with(alloc: Global) -> Option<[bool; 4]> {
-    points_found::<2>(&mut NodeStore::new(alloc))
-}
-
 #[test]
 fn finds_the_points_of_insertions(rt: HostRuntime) {
-    assert_eq!(rt; points_found_with(rt.alloc()), Some([true; 4]));
+    let found = points_found::<2>(&mut NodeStore::new(rt.alloc()));
+    assert_eq!(rt; found, Some([true; 4]));
 }
 
 // What a prefix insertion tells: the value of the pair that gave way, and how many leaves went.

@@ -7,6 +7,7 @@ use art_nodes::node::{OpaqueNodePtr, OptionalLeafPtr};
 use art_nodes::store::NodeStore;
 use art_operations::insert::{InsertKind, InsertPoint, InsertSearchError, search_for_insert_point};
 use art_operations::path::{ExplicitMismatch, TreePath};
+use art_test_support::expected::as_expected;
 use art_test_support::memory::all_memory;
 use art_test_support::trees::{Key, child, planted_all, value_of};
 use std::alloc::Global;
@@ -162,28 +163,25 @@ fn first_untold<const P: usize>(
     None
 }
 
-// A key that parts from a long prefix, and two that end in it or with it.
-static BY_LEAF: [(&[u8], Wanted); 3] = [
-    (&[7, 1, 1, 9], Wanted::PartsByLeaf),
-    (&[7, 1, 1, 1], Wanted::Related),
-    (&[7, 1, 1, 1, 1], Wanted::Related),
-];
+// A key that parts from a long prefix, of which this is told, and two that end in it or with it.
+fn beside_long(parts: Wanted) -> [(&'static [u8], Wanted); 3] {
+    [
+        (&[7, 1, 1, 9], parts),
+        (&[7, 1, 1, 1], Wanted::Related),
+        (&[7, 1, 1, 1, 1], Wanted::Related),
+    ]
+}
 
 #[test]
 fn reads_a_leaf_for_a_long_prefix(rt: HostRuntime) {
-    assert_eq!(rt; first_untold::<2>(rt.alloc(), &LONG, &BY_LEAF), None);
+    let rows = beside_long(Wanted::PartsByLeaf);
+    assert_eq!(rt; first_untold::<2>(rt.alloc(), &LONG, &rows), None);
 }
-
-// The same keys.
-static BY_PREFIX: [(&[u8], Wanted); 3] = [
-    (&[7, 1, 1, 9], Wanted::Parts),
-    (&[7, 1, 1, 1], Wanted::Related),
-    (&[7, 1, 1, 1, 1], Wanted::Related),
-];
 
 #[test]
 fn reads_no_leaf_for_a_stored_prefix(rt: HostRuntime) {
-    assert_eq!(rt; first_untold::<16>(rt.alloc(), &LONG, &BY_PREFIX), None);
+    let rows = beside_long(Wanted::Parts);
+    assert_eq!(rt; first_untold::<16>(rt.alloc(), &LONG, &rows), None);
 }
 
 // Two keys that end in the key of a leaf or go on after it, and the empty one.
@@ -298,30 +296,23 @@ fn expected_below([root, middle, low, leaf]: [OpaqueNodePtr; 4]) -> Option<Below
 fn compared_below<const P: usize>(
     store: &NodeStore<Key, u32, P>,
     root: OpaqueNodePtr,
-) -> Option<[Below; 2]>
+) -> Option<(Below, Below)>
     requires { IsCanonicalRoot (of_key (λ key. key.items)) P store.now root }
 {
     let names = names_below(store, root)?;
     let value = value_of(store, names[3].as_leaf()?);
-    Some([told_below(store, root, value)?, expected_below(names)?])
+    Some((told_below(store, root, value)?, expected_below(names)?))
 }
 
 // The same in the tree of these and of others.
-fn read_below<const P: usize>(store: &mut NodeStore<Key, u32, P>) -> Option<[Below; 2]> {
+fn read_below<const P: usize>(store: &mut NodeStore<Key, u32, P>) -> Option<(Below, Below)> {
     let root = planted_all(store, &[&[1, 2, 3], &[1, 2, 4], &[1, 5], &[6]]).ok()??;
     compared_below(store, root)
 }
 
-// The same in a store of its own.
-fn read_below_with(alloc: Global) -> Option<[Below; 2]> {
-    read_below::<0>(&mut NodeStore::new(alloc))
-}
-
 #[test]
 fn names_parents_and_grandparents(rt: HostRuntime) -> Result<(), Fail> {
-    let [seen, expected] = read_below_with(rt.alloc()).ok_or("other kinds of nodes")?;
-    assert_eq!(rt; seen, expected);
-    Ok(())
+    as_expected(read_below::<0>(&mut NodeStore::new(rt.alloc())))
 }
 
 // What is told of a key that parts from the others, of a stored one, and of a related one.
@@ -344,12 +335,8 @@ fn told_without_memory<const P: usize>(store: &mut NodeStore<Key, u32, P>) -> Op
     Some(told)
 }
 
-// The same in a store of its own.
-fn told_with_none(alloc: Global) -> Option<[bool; 3]> {
-    told_without_memory::<2>(&mut NodeStore::new(alloc))
-}
-
 #[test]
 fn without_memory_only_a_refusal_fails(rt: HostRuntime) {
-    assert_eq!(rt; told_with_none(rt.alloc()), Some([true; 3]));
+    let told = told_without_memory::<2>(&mut NodeStore::new(rt.alloc()));
+    assert_eq!(rt; told, Some([true; 3]));
 }
