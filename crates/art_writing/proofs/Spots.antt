@@ -135,7 +135,11 @@ module _ {K V : Type 0} {s : Nodes K V} {bytes : K × V → List ℕ} {P : ℕ} 
     deep : depth_of d.frames ≡ depth
     deep = depth_is bytes P d.frames d.place d.leads ∙ d.depth_is
 
-    -- no longer place is a front of the key, so this is the end node
+    -- where no longer place is a front of the key this is the end node
+    ends : Each (λ other. IsFront other.0 key → length other.0 ≤ length d.place) (places bytes (length d.place) d.node) → IsEndNode bytes layout key d.frames d.node
+    ends longest = subst (λ t. IsEndNode bytes t key d.frames d.node) d.whole (ends_at bytes P key d.frames d.place d.node d.leads d.radix d.on_way longest)
+
+    -- and the point of an insertion answers to the key
     answers : (used : ℕ) (kind : InsertKind) → Each (λ other. IsFront other.0 key → length other.0 ≤ length d.place)
         (places bytes (length d.place) d.node) → IsKindOf bytes P key d.node depth used kind →
         AnswersTo bytes P layout key (record { path = path; insert_kind = kind; key_bytes_used = used; root = root })
@@ -143,7 +147,7 @@ module _ {K V : Type 0} {s : Nodes K V} {bytes : K × V → List ℕ} {P : ℕ} 
         record {
           path = d.frames;
           node = d.node;
-          is_end = subst (λ t. IsEndNode bytes t key d.frames d.node) d.whole (ends_at bytes P key d.frames d.place d.node d.leads d.radix d.on_way longest);
+          is_end = ends longest;
           root_is = sym by.stands.0.named;
           path_is = d.path_is;
           kind_is = subst (λ n. IsKindOf bytes P key d.node n used kind) (sym deep) is;
@@ -156,7 +160,7 @@ module _ {K V : Type 0} {s : Nodes K V} {bytes : K × V → List ℕ} {P : ℕ} 
         record {
           path = d.frames;
           node = d.node;
-          is_end = subst (λ t. IsEndNode bytes t key d.frames d.node) d.whole (ends_at bytes P key d.frames d.place d.node d.leads d.radix d.on_way longest);
+          is_end = ends longest;
           root_is = sym by.stands.0.named;
           path_is = d.path_is;
           name_is = sym d.named;

@@ -13,4 +13,5 @@ unreachable-requires g c =
 
 pub returns : goal.returns
 returns g c pairs layout by =
-    ap (λ key. length key ∷ []) c.as_bytes.ensures ∙ match_found g.K.AsBytes.bytes g.row.P (match_of (of_key g.K.AsBytes.bytes) c.args.key_bytes.now pairs) by (c.in_ok-leaf.ensures pairs layout by) (sym c.in-Some.ensures)
+    ap (λ key. length key ∷ []) c.as_bytes.ensures
+    ∙ match_found g.K.AsBytes.bytes g.row.P (match_of (of_key g.K.AsBytes.bytes) c.args.key_bytes.now pairs) by (c.in_ok-leaf.ensures pairs layout by) (sym c.in-Some.ensures)
