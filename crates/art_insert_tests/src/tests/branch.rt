@@ -113,7 +113,10 @@ fn expected(
 
 // What is seen of a case, and what is to be. Where the root is split its new parent is the new root, and else the root
 // stays.
-fn split<const P: usize>(store: &mut NodeStore<Key, u32, P>, case: Case) -> Option<(Split, Split)> {
+fn split_by<const P: usize>(
+    store: &mut NodeStore<Key, u32, P>,
+    case: Case,
+) -> Option<(Split, Split)> {
     let root = planted_all(store, case.slices).ok()??;
     let old = node_at(store, root, case.byte)?;
     let done = insertion_of(store, root, case.key)?;
@@ -135,7 +138,7 @@ fn splits_the_root_leaf(rt: HostRuntime) -> Result<(), Fail> {
         left: None,
         touched: (2, 0, 1),
     };
-    as_expected(split::<16>(&mut NodeStore::new(rt.alloc()), case))
+    as_expected(split_by::<16>(&mut NodeStore::new(rt.alloc()), case))
 }
 
 // A key that parts from the prefix of the root after three bytes. With two stored bytes, it is longer than stored.
@@ -150,7 +153,7 @@ static LONG: Case = Case {
 
 #[test]
 fn splits_a_prefix_that_is_longer_than_stored(rt: HostRuntime) -> Result<(), Fail> {
-    as_expected(split::<2>(&mut NodeStore::new(rt.alloc()), LONG))
+    as_expected(split_by::<2>(&mut NodeStore::new(rt.alloc()), LONG))
 }
 
 #[test]
@@ -163,7 +166,7 @@ fn splits_the_prefix_of_a_child(rt: HostRuntime) -> Result<(), Fail> {
         left: Some((0, &[], [5, 6])),
         touched: (2, 0, 4),
     };
-    as_expected(split::<16>(&mut NodeStore::new(rt.alloc()), case))
+    as_expected(split_by::<16>(&mut NodeStore::new(rt.alloc()), case))
 }
 
 // Whether [1, 2, 9] comes in beside [1, 2, 3, 4] while all memory is held but for the nodes that it needs.

@@ -1,23 +1,39 @@
 //! The order of names of one type.
-use art_nodes::node::{InnerPtr, LeafPtr, NodePtr, NodeType};
+use art_nodes::node::{InnerPtr, LeafPtr, NodePtr, NodeType, OpaqueNodePtr};
+
+// The places of the first two of these that do not compare as their places do.
+fn first_out_of_order<T: Ord>(rising: &[T]) -> Option<(usize, usize)> {
+    for (index, first) in rising.iter().enumerate() {
+        for (later, second) in rising.iter().enumerate() {
+            if first.cmp(second) != index.cmp(&later) {
+                return Some((index, later));
+            }
+        }
+    }
+    None
+}
 
 fn inner(kind: NodeType, slot: usize) -> InnerPtr {
     InnerPtr { kind, slot }
 }
 
 #[test]
-fn orders_leaf_names_by_slot(rt: HostRuntime) {
+fn orders_names_by_kind_then_slot(rt: HostRuntime) {
     let rising = [
-        LeafPtr::from_slot(0),
-        LeafPtr::from_slot(1),
-        LeafPtr::from_slot(9),
-        LeafPtr::from_slot(10),
+        OpaqueNodePtr::from_parts(NodeType::Node4, 8),
+        OpaqueNodePtr::from_parts(NodeType::Node4, 9),
+        OpaqueNodePtr::from_parts(NodeType::Node16, 7),
+        OpaqueNodePtr::from_parts(NodeType::Node48, 6),
+        OpaqueNodePtr::from_parts(NodeType::Node256, 5),
+        OpaqueNodePtr::from_parts(NodeType::Leaf, 4),
     ];
-    for (index, first) in rising.iter().enumerate() {
-        for (later, second) in rising.iter().enumerate() {
-            assert_eq!(rt; first.cmp(second), index.cmp(&later));
-        }
-    }
+    assert_eq!(rt; first_out_of_order(&rising), None);
+}
+
+#[test]
+fn orders_leaf_names_by_slot(rt: HostRuntime) {
+    let rising = [0usize, 1, 9, 10].map(LeafPtr::from_slot);
+    assert_eq!(rt; first_out_of_order(&rising), None);
 }
 
 #[test]
@@ -30,11 +46,7 @@ fn orders_inner_names_by_kind_then_slot(rt: HostRuntime) {
         inner(NodeType::Node256, 4),
         inner(NodeType::Node256, 5),
     ];
-    for (index, first) in rising.iter().enumerate() {
-        for (later, second) in rising.iter().enumerate() {
-            assert_eq!(rt; first.cmp(second), index.cmp(&later));
-        }
-    }
+    assert_eq!(rt; first_out_of_order(&rising), None);
 }
 
 #[test]
@@ -45,9 +57,5 @@ fn orders_leaves_before_inner_nodes_where_names_are_told_apart(rt: HostRuntime) 
         NodePtr::Inner(inner(NodeType::Node4, 2)),
         NodePtr::Inner(inner(NodeType::Node256, 1)),
     ];
-    for (index, first) in rising.iter().enumerate() {
-        for (later, second) in rising.iter().enumerate() {
-            assert_eq!(rt; first.cmp(second), index.cmp(&later));
-        }
-    }
+    assert_eq!(rt; first_out_of_order(&rising), None);
 }

@@ -111,23 +111,6 @@ fn tells_inner_names_apart(rt: HostRuntime) {
 }
 
 #[test]
-fn orders_names_by_kind_then_slot(rt: HostRuntime) {
-    let rising = [
-        OpaqueNodePtr::from_parts(NodeType::Node4, 8),
-        OpaqueNodePtr::from_parts(NodeType::Node4, 9),
-        OpaqueNodePtr::from_parts(NodeType::Node16, 7),
-        OpaqueNodePtr::from_parts(NodeType::Node48, 6),
-        OpaqueNodePtr::from_parts(NodeType::Node256, 5),
-        OpaqueNodePtr::from_parts(NodeType::Leaf, 4),
-    ];
-    for (index, first) in rising.iter().enumerate() {
-        for (later, second) in rising.iter().enumerate() {
-            assert_eq!(rt; first.cmp(second), index.cmp(&later));
-        }
-    }
-}
-
-#[test]
 fn knows_each_range(rt: HostRuntime) {
     let ranges = [
         NodeType::Node4.capacity_range(),

@@ -10,6 +10,7 @@ use art_nodes::node::{AsBytes, NodeType, OpaqueNodePtr};
 use art_nodes::store::NodeStore;
 use art_operations::run::{Command, Reply, Side, run};
 use art_oracle::build::build;
+use art_test_support::commands::first_apart;
 use art_test_support::side_by_side::kind_if_same;
 use art_test_support::tagged::Tagged;
 use std::alloc::{AllocError, Global};
@@ -101,19 +102,6 @@ fn are_alike(one: &Reply<Tagged, u32>, other: &Reply<Tagged, u32>) -> bool {
     }
 }
 
-/// The place of the first reply that is not the wanted one, or that is missing or too many.
-fn first_other(replies: &[Reply<Tagged, u32>], wanted: &[Reply<Tagged, u32>]) -> Option<usize> {
-    for (at, (reply, want)) in replies.iter().zip(wanted).enumerate() {
-        if !are_alike(reply, want) {
-            return Some(at);
-        }
-    }
-    if replies.len() == wanted.len() {
-        return None;
-    }
-    Some(replies.len().min(wanted.len()))
-}
-
 /// Compares a tree with the one that is built of these pairs. Answers the greatest kind of node, or None where they are
 /// not the same.
 fn compare<const P: usize>(
@@ -143,7 +131,7 @@ fn carry_out<const P: usize>(
         IsCanonical (of_key ⟦<Tagged as AsBytes>⟧.bytes) P first.new root.new stored }
 {
     let replies = run_all(first, second, root, hundred.commands)?;
-    let other = first_other(&replies, &hundred.replies);
+    let other = first_apart(&replies, &hundred.replies, are_alike);
     Ok((other, compare(first, *root, pairs)?))
 }
 
@@ -224,30 +212,21 @@ fn are_wide(
     Ok([at_0, at_2, at_4, at_16])
 }
 
-#[test]
-fn trees_of_one_byte_keys_are_those_built(rt: HostRuntime) -> Result<(), Fail> {
-    let wide = are_wide(&rt, rt.alloc(), KeyShape::OneByte, NodeType::Node256)?;
-    assert_eq!(rt; wide, [true; 4]);
-    Ok(())
-}
+/// Shapes of keys, each with the greatest kind of node that its trees come to have.
+static SHAPES: [(KeyShape, NodeType); 4] = [
+    (KeyShape::OneByte, NodeType::Node256),
+    (KeyShape::TwoBytes, NodeType::Node48),
+    (KeyShape::Related, NodeType::Node16),
+    (KeyShape::LongFronts, NodeType::Node16),
+];
 
 #[test]
-fn trees_of_two_byte_keys_are_those_built(rt: HostRuntime) -> Result<(), Fail> {
-    let wide = are_wide(&rt, rt.alloc(), KeyShape::TwoBytes, NodeType::Node48)?;
-    assert_eq!(rt; wide, [true; 4]);
-    Ok(())
-}
-
-#[test]
-fn trees_among_related_keys_are_those_built(rt: HostRuntime) -> Result<(), Fail> {
-    let wide = are_wide(&rt, rt.alloc(), KeyShape::Related, NodeType::Node16)?;
-    assert_eq!(rt; wide, [true; 4]);
-    Ok(())
-}
-
-#[test]
-fn trees_of_long_keys_are_those_built(rt: HostRuntime) -> Result<(), Fail> {
-    let wide = are_wide(&rt, rt.alloc(), KeyShape::LongFronts, NodeType::Node16)?;
-    assert_eq!(rt; wide, [true; 4]);
+fn trees_of_drawn_keys_are_those_built(rt: HostRuntime) -> Result<(), Fail> {
+    for (shape, greatest_kind) in &SHAPES {
+        assert_eq!(rt;
+            are_wide(&rt, rt.alloc(), *shape, *greatest_kind)?,
+            [true; 4]
+        );
+    }
     Ok(())
 }

@@ -22,7 +22,7 @@ pub fn answer<K: AsBytes + Drop>(
 {
     match command {
         Command::Insert(key, value) => insert(alloc, pairs, key, value),
-        Command::InsertPrefix(key, value) => overwrite(alloc, pairs, key, value),
+        Command::InsertPrefix(key, value) => overwrite(alloc, pairs, (key, value)),
         Command::Delete(key) => Ok(Reply::Deleted(remove(pairs, &key))),
         Command::DeleteMin => delete_listed(alloc, pairs, 0),
         Command::DeleteMax => delete_listed(alloc, pairs, pairs.len().saturating_sub(1)),
@@ -58,8 +58,7 @@ fn insert<K: AsBytes + Drop>(
 fn overwrite<K: AsBytes + Drop>(
     alloc: Global,
     pairs: &mut Vec<(K, u32)>,
-    key: K,
-    value: u32,
+    (key, value): (K, u32),
 ) -> Result<Reply<K, u32>, AllocError>
     requires { IsMap (of_key K.bytes) pairs.old.items }
     ensures { IsMap (of_key K.bytes) pairs.new.items }
@@ -67,23 +66,36 @@ fn overwrite<K: AsBytes + Drop>(
     if let Ok(at) = search(pairs, key.as_bytes()) {
         return Ok(Reply::Overwrote(Some(replace_at(pairs, at, key, value)), 0));
     }
+    let (last, count) = take_related(alloc, pairs, key.as_bytes())?;
+    insert(alloc, pairs, key, value)?;
+    Ok(match count {
+        0 | 1 => Reply::Overwrote(last, 0),
+        _ => Reply::Overwrote(None, count),
+    })
+}
+
+/// Takes all pairs with related keys out. Answers the last of them, and how many there were.
+fn take_related<K: AsBytes + Drop>(
+    alloc: Global,
+    pairs: &mut Vec<(K, u32)>,
+    key_bytes: &[u8],
+) -> Result<(Option<(K, u32)>, usize), AllocError>
+    requires { IsMap (of_key K.bytes) pairs.old.items }
+    ensures { IsMap (of_key K.bytes) pairs.new.items }
+{
     let mut kept = Vec::new(alloc);
     let mut last = None;
     let mut count = 0usize;
     for (other, its) in mem::replace(pairs, Vec::new(alloc)) {
-        if are_related(other.as_bytes(), key.as_bytes()) {
+        if are_related(other.as_bytes(), key_bytes) {
             last = Some((other, its));
             count = count.saturating_add(1);
         } else {
             insert(alloc, &mut kept, other, its)?;
         }
     }
-    insert(alloc, &mut kept, key, value)?;
     *pairs = kept;
-    Ok(match count {
-        0 | 1 => Reply::Overwrote(last, 0),
-        _ => Reply::Overwrote(None, count),
-    })
+    Ok((last, count))
 }
 
 fn are_related(one: &[u8], other: &[u8]) -> bool {
