@@ -1,203 +1,159 @@
 //! Insertions that split a leaf or a prefix.
 
-use super::effect::{assert_handed_back, inserted_without_memory, insertion_of, refused_beside};
+use super::effect::{Effect, apart, done_below, effect_of, node_under, put_without_memory};
 use art_nodes::node::{NodeType, OpaqueNodePtr};
 use art_nodes::store::NodeStore;
-use art_operations::insert::InsertParentNodeChange;
-use art_test_support::points::Insertion;
+use art_test_support::cases::{Outline, outline_of, pair_below};
+use art_test_support::expected::as_expected;
+use art_test_support::points::{Insertion, Way};
 use art_test_support::trees::{Key, child, planted_all, promise};
-use std::alloc::Global;
-use std::process::Abort;
 use std::test::Fail;
 
-// Whether an inner node has this length of prefix, these bytes stored of it, and children under two bytes.
-fn is_branch<const P: usize>(
+// An inner node, and whether it has children under two bytes.
+type Branch = (Outline, [bool; 2]);
+
+// The same of the node under a name, which is to store these bytes.
+fn branch_of<const P: usize>(
     store: &NodeStore<Key, u32, P>,
     name: OpaqueNodePtr,
-    len: usize,
     stored: &[u8],
     bytes: [u8; 2],
-) -> bool {
-    let Some(inner) = name.as_inner() else {
-        return false;
-    };
-    let Some(node) = store.inner(inner) else {
-        return false;
-    };
-    name.kind == NodeType::Node4
-        && node.prefix_len() == len
-        && node.read_prefix() == stored
-        && node.num_children() == 2
-        && child(store, name, bytes[0]).is_some()
-        && child(store, name, bytes[1]).is_some()
+) -> Option<Branch> {
+    let outline = outline_of(store, name, stored)?;
+    let has_children = bytes.map(|byte| child(store, name, byte).is_some());
+    Some((outline, has_children))
 }
 
-// Plants a tree of some keys and inserts one. Answers the old root, what it had under a byte, and what the
-// insertion did.
-fn branch<const P: usize>(
-    store: &mut NodeStore<Key, u32, P>,
-    slices: &[&[u8]],
-    byte: u8,
-    key: &[u8],
-) -> Option<(OpaqueNodePtr, Option<OpaqueNodePtr>, Insertion)> {
-    let root = planted_all(store, slices).ok()??;
-    let old = child(store, root, byte);
-    Some((root, old, insertion_of(store, root, key)?))
+// A node with both children and no other, whose prefix has this length and is stored as it is to be.
+fn branch_below(prefix_len: usize) -> Branch {
+    (pair_below(prefix_len), [true; 2])
+}
+
+// A key that ends in 9 and splits the root, or what the root has under a byte.
+#[derive(Clone, Copy)]
+struct Case<'a> {
+    slices: &'a [&'a [u8]],
+    key: &'a [u8],
+    byte: Option<u8>,
+    // The length and the stored bytes of the new parent's prefix, and the byte of the split node below it.
+    parent: (usize, &'a [u8], u8),
+    // The length and the stored bytes that the split node's prefix has left. A leaf has none.
+    rest: Option<(usize, &'a [u8])>,
+    touched: (usize, usize, usize),
 }
 
 // What is seen of a split.
 #[derive(Clone, Copy, PartialEq, Eq, Debug)]
 struct Split {
     done: Insertion,
-    // Whether the nodes have the prefixes and children that they are to have.
-    is_made: bool,
+    parent: Branch,
+    // The node that was split, where that is an inner one.
+    rest: Option<Branch>,
     // What the new parent has under the byte of the node that was split.
     found: Option<OpaqueNodePtr>,
 }
 
-// Asserts that what is to be seen of a split is seen.
-fn assert_split(rt: &impl Abort, splits: Option<[Split; 2]>) -> Result<(), Fail> {
-    let [seen, expected] = splits.ok_or("no split")?;
-    assert_eq!(rt; seen, expected);
-    Ok(())
+// What is seen of a case.
+fn split_seen<const P: usize>(
+    store: &NodeStore<Key, u32, P>,
+    case: Case<'_>,
+    effect: Effect,
+    parent: OpaqueNodePtr,
+) -> Option<Split> {
+    let (_, stored, byte) = case.parent;
+    let old = effect.below?;
+    Some(Split {
+        done: effect.done,
+        parent: branch_of(store, parent, stored, [byte, 9])?,
+        rest: case
+            .rest
+            .and_then(|(_, stored)| branch_of(store, old, stored, [5, 6])),
+        found: child(store, parent, byte),
+    })
 }
 
-// Splits the leaf of [1, 2, 3, 4]. Answers what is seen, and what is to be.
-fn split_leaf<const P: usize>(store: &mut NodeStore<Key, u32, P>) -> Option<[Split; 2]> {
-    let (root, _, done) = branch(store, &[&[1, 2, 3, 4]], 3, &[1, 2, 9])?;
-    let parent = done.new_root.as_inner()?;
-    let seen = Split {
-        done,
-        is_made: is_branch(store, done.new_root, 2, &[1, 2], [3, 9]),
-        found: child(store, done.new_root, 3),
+// What is to be seen of it. The root stays where what is below it is split.
+fn split_expected(case: Case<'_>, effect: Effect, parent: OpaqueNodePtr) -> Option<Split> {
+    let new_root = if case.byte.is_some() {
+        effect.root
+    } else {
+        parent
     };
-    let expected = Split {
-        done: Insertion {
-            existing: None,
-            change: InsertParentNodeChange::NewParent {
-                new_parent_node: parent,
-                leaf_node_key_byte: 9,
-            },
-            touched: (2, 0, 1),
-            ..done
-        },
-        is_made: true,
-        found: Some(root),
-    };
-    Some([seen, expected])
+    Some(Split {
+        done: done_below(effect.done, new_root, parent, 9, case.touched)?,
+        parent: branch_below(case.parent.0),
+        rest: case.rest.map(|(len, _)| branch_below(len)),
+        found: effect.below,
+    })
 }
 
-// The same in a store of its own.
-fn split_leaf_with(alloc: Global) -> Option<[Split; 2]> {
-    split_leaf::<16>(&mut NodeStore::new(alloc))
+// Splits a node as a case has it. Answers what is seen, and what is to be.
+fn split_by<const P: usize>(
+    store: &mut NodeStore<Key, u32, P>,
+    case: Case<'_>,
+) -> Option<(Split, Split)> {
+    let effect = effect_of(store, case.slices, apart(case.key, case.byte))?;
+    let parent = node_under(store, effect.done.new_root, case.byte)?;
+    let seen = split_seen(store, case, effect, parent)?;
+    Some((seen, split_expected(case, effect, parent)?))
 }
+
+static LEAF: Case<'static> = Case {
+    slices: &[&[1, 2, 3, 4]],
+    key: &[1, 2, 9],
+    byte: None,
+    parent: (2, &[1, 2], 3),
+    rest: None,
+    touched: (2, 0, 1),
+};
 
 #[test]
 fn splits_the_root_leaf(rt: HostRuntime) -> Result<(), Fail> {
-    assert_split(&rt, split_leaf_with(rt.alloc()))
+    as_expected(split_by::<16>(&mut NodeStore::new(rt.alloc()), LEAF))
 }
 
-// The same for a prefix of which two bytes are stored, after three bytes.
-fn split_long<const P: usize>(store: &mut NodeStore<Key, u32, P>) -> Option<[Split; 2]> {
-    let slices: [&[u8]; 2] = [&[7, 1, 1, 1, 1, 5], &[7, 1, 1, 1, 1, 6]];
-    let (root, _, done) = branch(store, &slices, 5, &[7, 1, 1, 9])?;
-    let is_made = is_branch(store, done.new_root, 3, &[7, 1], [1, 9])
-        && is_branch(store, root, 1, &[1], [5, 6]);
-    let seen = Split {
-        done,
-        is_made,
-        found: child(store, done.new_root, 1),
-    };
-    let expected = Split {
-        done: Insertion {
-            touched: (2, 0, 2),
-            ..done
-        },
-        is_made: true,
-        found: Some(root),
-    };
-    Some([seen, expected])
-}
-
-// The same in a store of its own.
-fn split_long_with(alloc: Global) -> Option<[Split; 2]> {
-    split_long::<2>(&mut NodeStore::new(alloc))
-}
+// A prefix of which two bytes are stored is split after three bytes.
+static LONG: Case<'static> = Case {
+    slices: &[&[7, 1, 1, 1, 1, 5], &[7, 1, 1, 1, 1, 6]],
+    key: &[7, 1, 1, 9],
+    byte: None,
+    parent: (3, &[7, 1], 1),
+    rest: Some((1, &[1])),
+    touched: (2, 0, 2),
+};
 
 #[test]
 fn splits_a_prefix_that_is_longer_than_stored(rt: HostRuntime) -> Result<(), Fail> {
-    assert_split(&rt, split_long_with(rt.alloc()))
+    as_expected(split_by::<2>(&mut NodeStore::new(rt.alloc()), LONG))
 }
 
-// The same for the prefix of the node at [1], after one byte. The node is below the new one then.
-fn split_child<const P: usize>(store: &mut NodeStore<Key, u32, P>) -> Option<[Split; 2]> {
-    let slices: [&[u8]; 4] = [&[0], &[1, 1, 1, 5], &[1, 1, 1, 6], &[2]];
-    let (root, below, done) = branch(store, &slices, 1, &[1, 1, 9])?;
-    let old = below?;
-    let parent = child(store, root, 1)?;
-    let is_made = is_branch(store, parent, 1, &[1], [1, 9])
-        && is_branch(store, old, 0, &[], [5, 6]);
-    let seen = Split {
-        done,
-        is_made,
-        found: child(store, parent, 1),
-    };
-    let expected = Split {
-        done: Insertion {
-            new_root: root,
-            touched: (2, 0, 4),
-            ..done
-        },
-        is_made: true,
-        found: below,
-    };
-    Some([seen, expected])
-}
-
-// The same in a store of its own.
-fn split_child_with(alloc: Global) -> Option<[Split; 2]> {
-    split_child::<16>(&mut NodeStore::new(alloc))
-}
+// The prefix of the node at [1] is split after one byte.
+static CHILD: Case<'static> = Case {
+    slices: &[&[0], &[1, 1, 1, 5], &[1, 1, 1, 6], &[2]],
+    key: &[1, 1, 9],
+    byte: Some(1),
+    parent: (1, &[1], 1),
+    rest: Some((0, &[])),
+    touched: (2, 0, 4),
+};
 
 #[test]
 fn splits_the_prefix_of_a_child(rt: HostRuntime) -> Result<(), Fail> {
-    assert_split(&rt, split_child_with(rt.alloc()))
+    as_expected(split_by::<16>(&mut NodeStore::new(rt.alloc()), CHILD))
 }
 
-// Whether [1, 2, 9] comes in beside [1, 2, 3, 4] while all memory is held but for the nodes that it needs.
-fn is_split_without_memory<const P: usize>(store: &mut NodeStore<Key, u32, P>) -> Option<bool> {
+// The root once [1, 2, 9] came in beside [1, 2, 3, 4] while all memory was held but for the nodes that it needs, and
+// what is to be.
+fn split_without_memory<const P: usize>(
+    store: &mut NodeStore<Key, u32, P>,
+) -> Option<(Branch, Branch)> {
     let root = planted_all(store, &[&[1, 2, 3, 4]]).ok()??;
     promise(store, root, 1, NodeType::Node4).ok()?;
-    let (root, _) = inserted_without_memory(store, root, &[1, 2, 9], 1)?;
-    Some(is_branch(store, root, 2, &[1, 2], [3, 9]))
-}
-
-// The same in a store of its own.
-fn is_split_with(alloc: Global) -> Option<bool> {
-    is_split_without_memory::<16>(&mut NodeStore::new(alloc))
+    let (root, _) = put_without_memory(Way::Apart, store, root, &[1, 2, 9])?;
+    Some((branch_of(store, root, &[1, 2], [3, 9])?, branch_below(2)))
 }
 
 #[test]
-fn without_memory_a_reserved_split_is_made(rt: HostRuntime) {
-    assert_eq!(rt; is_split_with(rt.alloc()), Some(true));
-}
-
-// Asserts something where a request for memory of the insertion is refused.
-#[test]
-fn refused_splits_hand_the_pair_back(rt: HostRuntime) -> Result<(), Fail> {
-    let keys: [&[u8]; 4] = [&[255], &[0, 255], &[0, 0, 255], &[0, 0, 0, 255]];
-    for refusal in refused_beside::<4>(rt.alloc(), &keys) {
-        assert_handed_back(&rt, refusal)?;
-    }
-    Ok(())
-}
-
-// The same where a leaf is read for the rest of the prefix.
-#[test]
-fn refused_splits_of_a_prefix_hand_the_pair_back(rt: HostRuntime) -> Result<(), Fail> {
-    let keys: [&[u8]; 3] = [&[7, 1, 1, 1, 1, 5], &[7, 1, 1, 1, 1, 6], &[7, 1, 1, 9]];
-    for refusal in refused_beside::<2>(rt.alloc(), &keys) {
-        assert_handed_back(&rt, refusal)?;
-    }
-    Ok(())
+fn without_memory_a_reserved_split_is_made(rt: HostRuntime) -> Result<(), Fail> {
+    as_expected(split_without_memory::<16>(&mut NodeStore::new(rt.alloc())))
 }
