@@ -2,4 +2,5 @@ mod branch;
 mod effect;
 mod existing;
 mod overwrite;
+mod refused;
 mod search;

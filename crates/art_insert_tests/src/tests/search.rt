@@ -3,10 +3,11 @@ ghost use Rattle.std.specs.Prelude.{◌<◌};
 ghost use Rattle.art_model.specs.Pairs.{of_key};
 ghost use Rattle.art_model.specs.Roots.{IsCanonicalRoot};
 
-use art_nodes::node::{OpaqueNodePtr, OptionalLeafPtr};
+use art_nodes::node::{InnerPtr, LeafPtr, OpaqueNodePtr, OptionalLeafPtr};
 use art_nodes::store::NodeStore;
 use art_operations::insert::{InsertKind, InsertPoint, InsertSearchError, search_for_insert_point};
 use art_operations::path::{ExplicitMismatch, TreePath};
+use art_test_support::cases::{FOUR, names_of_four};
 use art_test_support::expected::as_expected;
 use art_test_support::memory::all_memory;
 use art_test_support::trees::{Key, child, planted_all, value_of};
@@ -98,126 +99,89 @@ enum Wanted {
     AtLeaf,
 }
 
-// A tree's root, what that has under 5, and what is told of a key.
-#[derive(Clone, Copy)]
-struct Seen {
-    root: OpaqueNodePtr,
-    below: Option<OpaqueNodePtr>,
-    told: Told,
-}
-
-// What is to be told of a key, in full.
-fn expected(seen: Seen, wanted: Wanted) -> Option<Told> {
+// What is to be told of a key in full, where the root has this under 5.
+fn expected(root: OpaqueNodePtr, below: Option<OpaqueNodePtr>, wanted: Wanted) -> Option<Told> {
     match wanted {
-        Wanted::PartsByLeaf => parted(seen.root, Some(seen.below?.as_leaf()?)),
-        Wanted::Parts => parted(seen.root, None),
+        Wanted::PartsByLeaf => parted(root, Some(below?.as_leaf()?)),
+        Wanted::Parts => parted(root, None),
         Wanted::Related => Some(Told::Related(true)),
-        Wanted::BesideChildren => beside_children(seen.root),
-        Wanted::BesideLeaf => beside_leaf(seen.root),
-        Wanted::AtLeaf => at_leaf(seen.root),
+        Wanted::BesideChildren => beside_children(root),
+        Wanted::BesideLeaf => beside_leaf(root),
+        Wanted::AtLeaf => at_leaf(root),
     }
 }
 
-// Whether a key was told as wanted.
-fn is_told(seen: Option<Seen>, wanted: Wanted) -> bool {
-    match seen {
-        Some(seen) => expected(seen, wanted) == Some(seen.told),
-        None => false,
-    }
-}
-
-// What is seen of a key in the tree of these.
-fn seen_in<const P: usize>(
+// What is told of a key in the tree of others, and what is to be.
+fn told_in<const P: usize>(
     store: &mut NodeStore<Key, u32, P>,
     slices: &[&[u8]],
     key: &[u8],
-) -> Option<Seen> {
+    wanted: Wanted,
+) -> Option<(Told, Told)> {
     let root = planted_all(store, slices).ok()??;
-    Some(Seen {
-        root,
-        below: child(store, root, 5),
-        told: told_of(store, root, key),
-    })
+    let below = child(store, root, 5);
+    Some((told_of(store, root, key), expected(root, below, wanted)?))
 }
 
-// The same in a store of its own.
-fn seen_with<const P: usize>(alloc: Global, slices: &[&[u8]], key: &[u8]) -> Option<Seen>
-    requires { P < 256 }
-{
-    seen_in::<P>(&mut NodeStore::new(alloc), slices, key)
-}
+// A key, and what is to be told of it.
+type Row<'a> = (&'a [u8], Wanted);
 
-// The place of the first of these keys that is not told as wanted.
-fn first_untold<const P: usize>(
-    alloc: Global,
-    slices: &[&[u8]],
-    rows: &[(&[u8], Wanted)],
-) -> Option<usize>
+// A failure where one of these keys is told otherwise in the tree of others.
+fn all_told<const P: usize>(alloc: Global, slices: &[&[u8]], rows: &[Row<'_>]) -> Result<(), Fail>
     requires { P < 256 }
 {
-    for (at, (key, wanted)) in rows.iter().enumerate() {
-        if !is_told(seen_with::<P>(alloc, slices, key), *wanted) {
-            return Some(at);
-        }
+    for (key, wanted) in rows {
+        as_expected(told_in::<P>(&mut NodeStore::new(alloc), slices, key, *wanted))?;
     }
-    None
+    Ok(())
 }
 
-// A key that parts from a long prefix, of which this is told, and two that end in it or with it.
-fn beside_long(parts: Wanted) -> [(&'static [u8], Wanted); 3] {
+// A key that parts from a long prefix, and two that end in it or with it.
+fn long_rows(first: Wanted) -> [Row<'static>; 3] {
     [
-        (&[7, 1, 1, 9], parts),
+        (&[7, 1, 1, 9], first),
         (&[7, 1, 1, 1], Wanted::Related),
         (&[7, 1, 1, 1, 1], Wanted::Related),
     ]
 }
 
 #[test]
-fn reads_a_leaf_for_a_long_prefix(rt: HostRuntime) {
-    let rows = beside_long(Wanted::PartsByLeaf);
-    assert_eq!(rt; first_untold::<2>(rt.alloc(), &LONG, &rows), None);
+fn reads_a_leaf_for_a_long_prefix(rt: HostRuntime) -> Result<(), Fail> {
+    all_told::<2>(rt.alloc(), &LONG, &long_rows(Wanted::PartsByLeaf))
 }
 
 #[test]
-fn reads_no_leaf_for_a_stored_prefix(rt: HostRuntime) {
-    let rows = beside_long(Wanted::Parts);
-    assert_eq!(rt; first_untold::<16>(rt.alloc(), &LONG, &rows), None);
+fn reads_no_leaf_for_a_stored_prefix(rt: HostRuntime) -> Result<(), Fail> {
+    all_told::<16>(rt.alloc(), &LONG, &long_rows(Wanted::Parts))
 }
 
 // Two keys that end in the key of a leaf or go on after it, and the empty one.
-static RELATED: [(&[u8], Wanted); 3] = [
+static RELATED: [Row<'static>; 3] = [
     (&[1, 2], Wanted::Related),
     (&[1, 2, 3, 4], Wanted::Related),
     (&[], Wanted::Related),
 ];
 
 #[test]
-fn refuses_related_keys(rt: HostRuntime) {
-    assert_eq!(rt;
-        first_untold::<16>(rt.alloc(), &[&[1, 2, 3]], &RELATED),
-        None
-    );
+fn refuses_related_keys(rt: HostRuntime) -> Result<(), Fail> {
+    all_told::<16>(rt.alloc(), &[&[1, 2, 3]], &RELATED)
 }
 
 #[test]
-fn stands_beside_the_children_of_a_node(rt: HostRuntime) {
-    let rows: [(&[u8], Wanted); 1] = [(&[3], Wanted::BesideChildren)];
-    assert_eq!(rt; first_untold::<16>(rt.alloc(), &[&[1], &[2]], &rows), None);
+fn stands_beside_the_children_of_a_node(rt: HostRuntime) -> Result<(), Fail> {
+    all_told::<16>(rt.alloc(), &[&[1], &[2]], &[(&[3], Wanted::BesideChildren)])
 }
 
 #[test]
-fn splits_a_leaf(rt: HostRuntime) {
-    let rows: [(&[u8], Wanted); 1] = [(&[1, 2, 9], Wanted::BesideLeaf)];
-    assert_eq!(rt;
-        first_untold::<16>(rt.alloc(), &[&[1, 2, 3, 4]], &rows),
-        None
-    );
+fn splits_a_leaf(rt: HostRuntime) -> Result<(), Fail> {
+    let rows: [Row<'_>; 1] = [(&[1, 2, 9], Wanted::BesideLeaf)];
+    all_told::<16>(rt.alloc(), &[&[1, 2, 3, 4]], &rows)
 }
 
 #[test]
-fn finds_the_leaf_of_the_empty_key(rt: HostRuntime) {
-    let rows: [(&[u8], Wanted); 2] = [(&[], Wanted::AtLeaf), (&[1], Wanted::Related)];
-    assert_eq!(rt; first_untold::<16>(rt.alloc(), &[&[]], &rows), None);
+fn finds_the_leaf_of_the_empty_key(rt: HostRuntime) -> Result<(), Fail> {
+    let rows: [Row<'_>; 2] = [(&[], Wanted::AtLeaf), (&[1], Wanted::Related)];
+    all_told::<16>(rt.alloc(), &[&[]], &rows)
 }
 
 // The paths and the used bytes of two keys beside the nodes at [1] and [1, 2], and the point of a stored key.
@@ -248,19 +212,12 @@ struct Below {
     value: Option<u32>,
 }
 
-// The inner nodes at the root, at [1] and at [1, 2], and the leaf of [1, 2, 3].
-fn names_below<const P: usize>(
-    store: &NodeStore<Key, u32, P>,
+// What is to be told, by the names of the inner nodes and of the leaf of [1, 2, 3].
+fn expected_below(
     root: OpaqueNodePtr,
-) -> Option<[OpaqueNodePtr; 4]> {
-    let middle = child(store, root, 1)?;
-    let low = child(store, middle, 2)?;
-    Some([root, middle, low, child(store, low, 3)?])
-}
-
-// What is to be told, by these names.
-fn expected_below([root, middle, low, leaf]: [OpaqueNodePtr; 4]) -> Option<Below> {
-    let (top, parent, lowest) = (root.as_inner()?, middle.as_inner()?, low.as_inner()?);
+    [top, parent, lowest]: [InnerPtr; 3],
+    leaf: LeafPtr,
+) -> Below {
     let of_child = TreePath::ChildOfRoot {
         parent: top,
         child_key_byte: 1,
@@ -279,40 +236,31 @@ fn expected_below([root, middle, low, leaf]: [OpaqueNodePtr; 4]) -> Option<Below
             child_key_byte: 3,
         },
         insert_kind: InsertKind::Exact {
-            leaf_node_ptr: leaf.as_leaf()?,
+            leaf_node_ptr: leaf,
         },
         key_bytes_used: 3,
         root,
     };
-    Some(Below {
+    Below {
         beside: (of_child, 1),
         below: (of_grandchild, 2),
         of_leaf: Told::Point(of_leaf),
         value: Some(0),
-    })
+    }
 }
 
-// What is told of the keys, and what is to be.
-fn compared_below<const P: usize>(
-    store: &NodeStore<Key, u32, P>,
-    root: OpaqueNodePtr,
-) -> Option<(Below, Below)>
-    requires { IsCanonicalRoot (of_key (λ key. key.items)) P store.now root }
-{
-    let names = names_below(store, root)?;
-    let value = value_of(store, names[3].as_leaf()?);
-    Some((told_below(store, root, value)?, expected_below(names)?))
-}
-
-// The same in the tree of these and of others.
-fn read_below<const P: usize>(store: &mut NodeStore<Key, u32, P>) -> Option<(Below, Below)> {
-    let root = planted_all(store, &[&[1, 2, 3], &[1, 2, 4], &[1, 5], &[6]]).ok()??;
-    compared_below(store, root)
+// What is told in the tree of four keys, and what is to be.
+fn below_of_four<const P: usize>(store: &mut NodeStore<Key, u32, P>) -> Option<(Below, Below)> {
+    let root = planted_all(store, &FOUR).ok()??;
+    let (inners, leaves) = names_of_four(store, root)?;
+    let value = value_of(store, leaves[0]);
+    let seen = told_below(store, root, value)?;
+    Some((seen, expected_below(root, inners, leaves[0])))
 }
 
 #[test]
 fn names_parents_and_grandparents(rt: HostRuntime) -> Result<(), Fail> {
-    as_expected(read_below::<0>(&mut NodeStore::new(rt.alloc())))
+    as_expected(below_of_four::<0>(&mut NodeStore::new(rt.alloc())))
 }
 
 // What is told of a key that parts from the others, of a stored one, and of a related one.

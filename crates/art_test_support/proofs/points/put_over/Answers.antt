@@ -1,5 +1,5 @@
 use Rattle.art_operations.proofs.Standing.{tree_stays}
-use Rattle.art_test_support.proofs.points.prefix_insert.Goals as goal
+use Rattle.art_test_support.proofs.points.put_over.Goals as goal
 
 pub returns-in-Err : goal.returns-in-Err
 returns-in-Err g c =

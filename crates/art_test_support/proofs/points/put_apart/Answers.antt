@@ -1,5 +1,5 @@
 use Rattle.art_operations.proofs.Standing.{tree_stays}
-use Rattle.art_test_support.proofs.points.insert.Goals as goal
+use Rattle.art_test_support.proofs.points.put_apart.Goals as goal
 
 pub returns-in-Err : goal.returns-in-Err
 returns-in-Err g c =
