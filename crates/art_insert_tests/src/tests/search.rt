@@ -111,27 +111,26 @@ fn expected(root: OpaqueNodePtr, below: Option<OpaqueNodePtr>, wanted: Wanted) -
     }
 }
 
+// A key, and what is to be told of it.
+type Row<'a> = (&'a [u8], Wanted);
+
 // What is told of a key in the tree of others, and what is to be.
 fn told_in<const P: usize>(
     store: &mut NodeStore<Key, u32, P>,
     slices: &[&[u8]],
-    key: &[u8],
-    wanted: Wanted,
+    (key, wanted): Row<'_>,
 ) -> Option<(Told, Told)> {
     let root = planted_all(store, slices).ok()??;
     let below = child(store, root, 5);
     Some((told_of(store, root, key), expected(root, below, wanted)?))
 }
 
-// A key, and what is to be told of it.
-type Row<'a> = (&'a [u8], Wanted);
-
 // A failure where one of these keys is told otherwise in the tree of others.
 fn all_told<const P: usize>(alloc: Global, slices: &[&[u8]], rows: &[Row<'_>]) -> Result<(), Fail>
     requires { P < 256 }
 {
-    for (key, wanted) in rows {
-        as_expected(told_in::<P>(&mut NodeStore::new(alloc), slices, key, *wanted))?;
+    for row in rows {
+        as_expected(told_in::<P>(&mut NodeStore::new(alloc), slices, *row))?;
     }
     Ok(())
 }
