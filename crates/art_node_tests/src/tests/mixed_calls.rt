@@ -11,6 +11,7 @@ use art_nodes::store::NodeStore;
 use art_test_support::numbers::Numbers;
 use art_test_support::shapes::count_nodes;
 use std::alloc::AllocError;
+use std::mem;
 use std::test::Fail;
 
 type Store = NodeStore<[u8; 2], u32, 3>;
@@ -127,6 +128,14 @@ fn has_place(store: &Store, name: InnerPtr, byte: u8) -> bool
     }
 }
 
+/// What of a leaf is given anew.
+#[derive(Clone, Copy)]
+enum LeafChange {
+    Links,
+    Pair,
+    Value,
+}
+
 /// A store, and beside it a list of the names that it gave out with what is to be under them. Each call
 /// answers whether the store did as the list says.
 #[derive(Drop)]
@@ -194,50 +203,32 @@ impl Trial {
         node.node_type() == name.kind && is_like(node.as_ref(), &want)
     }
 
-    /// Gives a leaf other links.
-    fn set_links(&mut self) -> bool {
+    /// Gives a leaf something else, and compares what it gave up.
+    fn change_leaf(&mut self, change: LeafChange) -> bool {
         let Some(at) = self.numbers.place_in(self.leaves.len()) else {
             return true;
         };
         let (name, want) = &mut self.leaves[at];
-        want.links = (drawn_link(&mut self.numbers), drawn_link(&mut self.numbers));
         if self.store.leaf(*name).is_none() {
             return false;
         }
-        self.store.set_links(*name, want.links.0, want.links.1);
-        true
-    }
-
-    /// Gives a leaf another pair, and compares the old one.
-    fn swap_pair(&mut self) -> bool {
-        let Some(at) = self.numbers.place_in(self.leaves.len()) else {
-            return true;
-        };
-        let (name, want) = &mut self.leaves[at];
-        let pair = drawn_pair(&mut self.numbers);
-        if self.store.leaf(*name).is_none() {
-            return false;
+        match change {
+            LeafChange::Links => {
+                want.links = (drawn_link(&mut self.numbers), drawn_link(&mut self.numbers));
+                self.store.set_links(*name, want.links.0, want.links.1);
+                true
+            }
+            LeafChange::Pair => {
+                let (key, value) = drawn_pair(&mut self.numbers);
+                let old = mem::replace(&mut want.pair, (key, value));
+                self.store.swap_pair(*name, key, value) == old
+            }
+            LeafChange::Value => {
+                let value = self.numbers.value();
+                let old = mem::replace(&mut want.pair.1, value);
+                self.store.swap_value(*name, value) == old
+            }
         }
-        let old = self.store.swap_pair(*name, pair.0, pair.1);
-        let is_right = old == want.pair;
-        want.pair = pair;
-        is_right
-    }
-
-    /// Gives a leaf another value, and compares the old one.
-    fn swap_value(&mut self) -> bool {
-        let Some(at) = self.numbers.place_in(self.leaves.len()) else {
-            return true;
-        };
-        let (name, want) = &mut self.leaves[at];
-        let value = self.numbers.value();
-        if self.store.leaf(*name).is_none() {
-            return false;
-        }
-        let old = self.store.swap_value(*name, value);
-        let is_right = old == want.pair.1;
-        want.pair.1 = value;
-        is_right
     }
 
     /// Gives an inner node another header.
@@ -320,9 +311,9 @@ impl Trial {
             1 => Ok(self.free_inner()),
             2 | 3 => Ok(self.write_children()),
             4 => Ok(self.remove_children()),
-            5 => Ok(self.set_links()),
-            6 if is_rare => Ok(self.swap_pair()),
-            6 => Ok(self.swap_value()),
+            5 => Ok(self.change_leaf(LeafChange::Links)),
+            6 if is_rare => Ok(self.change_leaf(LeafChange::Pair)),
+            6 => Ok(self.change_leaf(LeafChange::Value)),
             7 => Ok(self.set_header()),
             _ => self.reserve(),
         }
