@@ -433,14 +433,14 @@ fn first_apart<'a, const P: usize>(
     None
 }
 
-// Whether there is none among these in the tree of two keys with one prefix.
-fn has_insert_points<const P: usize>(
+// The first among these in the tree of two keys with one prefix, where there is to be none.
+fn first_beside_two<'a, const P: usize>(
     store: &mut NodeStore<Key, u32, P>,
-    keys: &[&[u8]],
-) -> Option<bool> {
+    keys: &[&'a [u8]],
+) -> Option<(Option<&'a [u8]>, Option<&'a [u8]>)> {
     let slices: [&[u8]; 2] = [&[7, 1, 1, 1, 1, 5, 1], &[7, 1, 1, 1, 1, 6]];
     let root = planted_all(store, &slices).ok()??;
-    Some(first_apart(store, root, keys).is_none())
+    Some((first_apart(store, root, keys), None))
 }
 
 static UNRELATED: [&[u8]; 4] = [
@@ -451,9 +451,8 @@ static UNRELATED: [&[u8]; 4] = [
 ];
 
 #[test]
-fn finds_the_points_of_insertions(rt: HostRuntime) {
-    let seen = has_insert_points::<2>(&mut NodeStore::new(rt.alloc()), &UNRELATED);
-    assert_eq!(rt; seen, Some(true));
+fn finds_the_points_of_insertions(rt: HostRuntime) -> Result<(), Fail> {
+    as_expected(first_beside_two::<2>(&mut NodeStore::new(rt.alloc()), &UNRELATED))
 }
 
 // The value of a stored key.
