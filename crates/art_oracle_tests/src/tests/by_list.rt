@@ -58,11 +58,12 @@ fn insert<K: AsBytes + Drop>(
 fn overwrite<K: AsBytes + Drop>(
     alloc: Global,
     pairs: &mut Vec<(K, u32)>,
-    (key, value): (K, u32),
+    pair: (K, u32),
 ) -> Result<Reply<K, u32>, AllocError>
     requires { IsMap (of_key K.bytes) pairs.old.items }
     ensures { IsMap (of_key K.bytes) pairs.new.items }
 {
+    let (key, value) = pair;
     if let Ok(at) = search(pairs, key.as_bytes()) {
         return Ok(Reply::Overwrote(Some(replace_at(pairs, at, key, value)), 0));
     }
