@@ -9,9 +9,9 @@ returns-in-Node16-clause-nodes g c =
 pub returns-in-Node48-clause-nodes : goal.returns-in-Node48-clause-nodes
 returns-in-Node48-clause-nodes g c =
     gives_way c.args.self.now _ _ c.args.name c.shrink-in-Node48.result (without_child c.args.byte) c.in-Node48.is c.shrink-in-Node48.ensures.kind
-        (only48 _ _) (only16 _ _) c.shrink-in-Node48.ensures.gone c.shrink-in-Node48.ensures.put
+    (only48 _ _) (only16 _ _) c.shrink-in-Node48.ensures.gone c.shrink-in-Node48.ensures.put
 
 pub returns-in-Node256-clause-nodes : goal.returns-in-Node256-clause-nodes
 returns-in-Node256-clause-nodes g c =
     gives_way c.args.self.now _ _ c.args.name c.shrink-in-Node256.result (without_child c.args.byte) c.in-Node256.is c.shrink-in-Node256.ensures.kind
-        (only256 _ _) (only48 _ _) c.shrink-in-Node256.ensures.gone c.shrink-in-Node256.ensures.put
+    (only256 _ _) (only48 _ _) c.shrink-in-Node256.ensures.gone c.shrink-in-Node256.ensures.put
