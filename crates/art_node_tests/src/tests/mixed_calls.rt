@@ -10,7 +10,7 @@ use art_nodes::node::{
 use art_nodes::store::NodeStore;
 use art_test_support::numbers::Numbers;
 use art_test_support::shapes::count_nodes;
-use std::alloc::AllocError;
+use std::alloc::{AllocError, Global};
 use std::mem;
 use std::test::Fail;
 
@@ -102,6 +102,12 @@ fn no_children() -> [Option<OpaqueNodePtr>; 256] {
     [None; 256]
 }
 
+// One of a list, where it has any.
+fn drawn_of<'a, T>(numbers: &mut Numbers, listed: &'a mut [T]) -> Option<&'a mut T> {
+    let at = numbers.place_in(listed.len())?;
+    Some(&mut listed[at])
+}
+
 // Whether a node holds this.
 fn is_like(node: InnerRef<'_, 3>, want: &PlainInner) -> bool {
     let PlainPrefix { bytes, len } = want.prefix;
@@ -137,7 +143,7 @@ enum LeafChange {
 }
 
 /// A store, and beside it a list of the names that it gave out with what is to be under them. Each call
-/// answers whether the store did as the list says.
+/// answers whether the store did as the list says, or None where it needs a listed name and there is none.
 #[derive(Drop)]
 struct Trial {
     store: Store,
@@ -147,6 +153,16 @@ struct Trial {
 }
 
 impl Trial {
+    /// A store without a node.
+    fn new(alloc: Global) -> Self {
+        Trial {
+            store: Store::new(alloc),
+            leaves: Vec::new(alloc),
+            inners: Vec::new(alloc),
+            numbers: Numbers::new(1),
+        }
+    }
+
     /// Places a leaf, under a name that is not on the list.
     fn place_leaf(&mut self) -> Result<bool, AllocError> {
         let (key, value) = drawn_pair(&mut self.numbers);
@@ -179,40 +195,33 @@ impl Trial {
     }
 
     /// Frees a leaf, and compares it.
-    fn free_leaf(&mut self) -> bool {
-        let Some(at) = self.numbers.place_in(self.leaves.len()) else {
-            return true;
-        };
+    fn free_leaf(&mut self) -> Option<bool> {
+        let at = self.numbers.place_in(self.leaves.len())?;
         let (name, want) = self.leaves.remove(at);
         if self.store.leaf(name).is_none() {
-            return false;
+            return Some(false);
         }
-        PlainLeaf::of(&self.store.free_leaf(name)) == want
+        Some(PlainLeaf::of(&self.store.free_leaf(name)) == want)
     }
 
     /// Frees an inner node, and compares it.
-    fn free_inner(&mut self) -> bool {
-        let Some(at) = self.numbers.place_in(self.inners.len()) else {
-            return true;
-        };
+    fn free_inner(&mut self) -> Option<bool> {
+        let at = self.numbers.place_in(self.inners.len())?;
         let (name, want) = self.inners.remove(at);
         if self.store.inner(name).is_none() {
-            return false;
+            return Some(false);
         }
         let node = self.store.free_inner(name);
-        node.node_type() == name.kind && is_like(node.as_ref(), &want)
+        Some(node.node_type() == name.kind && is_like(node.as_ref(), &want))
     }
 
     /// Gives a leaf something else, and compares what it gave up.
-    fn change_leaf(&mut self, change: LeafChange) -> bool {
-        let Some(at) = self.numbers.place_in(self.leaves.len()) else {
-            return true;
-        };
-        let (name, want) = &mut self.leaves[at];
+    fn change_leaf(&mut self, change: LeafChange) -> Option<bool> {
+        let (name, want) = drawn_of(&mut self.numbers, &mut self.leaves)?;
         if self.store.leaf(*name).is_none() {
-            return false;
+            return Some(false);
         }
-        match change {
+        let is_right = match change {
             LeafChange::Links => {
                 want.links = (drawn_link(&mut self.numbers), drawn_link(&mut self.numbers));
                 self.store.set_links(*name, want.links.0, want.links.1);
@@ -228,29 +237,24 @@ impl Trial {
                 let old = mem::replace(&mut want.pair.1, value);
                 self.store.swap_value(*name, value) == old
             }
-        }
+        };
+        Some(is_right)
     }
 
     /// Gives an inner node another header.
-    fn set_header(&mut self) -> bool {
-        let Some(at) = self.numbers.place_in(self.inners.len()) else {
-            return true;
-        };
-        let (name, want) = &mut self.inners[at];
+    fn set_header(&mut self) -> Option<bool> {
+        let (name, want) = drawn_of(&mut self.numbers, &mut self.inners)?;
         want.prefix = drawn_prefix(&mut self.numbers);
         if self.store.inner(*name).is_none() {
-            return false;
+            return Some(false);
         }
         self.store.set_header(*name, want.prefix.header());
-        true
+        Some(true)
     }
 
     /// Puts some children into one node, where there is a place for them.
-    fn write_children(&mut self) -> bool {
-        let Some(at) = self.numbers.place_in(self.inners.len()) else {
-            return true;
-        };
-        let (name, want) = &mut self.inners[at];
+    fn write_children(&mut self) -> Option<bool> {
+        let (name, want) = drawn_of(&mut self.numbers, &mut self.inners)?;
         for _ in 0..self.numbers.below(12) {
             let (byte, child) = (self.numbers.byte(), drawn_name(&mut self.numbers));
             if has_place(&self.store, *name, byte) {
@@ -258,27 +262,24 @@ impl Trial {
                 want.children[byte as usize] = Some(child);
             }
         }
-        true
+        Some(true)
     }
 
     /// Takes some children out of one node.
-    fn remove_children(&mut self) -> bool {
-        let Some(at) = self.numbers.place_in(self.inners.len()) else {
-            return true;
-        };
-        let (name, want) = &mut self.inners[at];
+    fn remove_children(&mut self) -> Option<bool> {
+        let (name, want) = drawn_of(&mut self.numbers, &mut self.inners)?;
         for _ in 0..self.numbers.below(60) {
             let byte = self.numbers.byte();
             if self.store.inner(*name).is_none() {
-                return false;
+                return Some(false);
             }
             let removed = self.store.remove_child(*name, byte);
             if removed != want.children[byte as usize] {
-                return false;
+                return Some(false);
             }
             want.children[byte as usize] = None;
         }
-        true
+        Some(true)
     }
 
     /// Asks for a promise, which changes no node.
@@ -301,22 +302,23 @@ impl Trial {
     fn step(&mut self, is_filled: bool) -> Result<bool, AllocError> {
         let is_rare = self.numbers.below(8) == 0;
         let is_placement = is_filled != is_rare;
-        match self.numbers.below(9) {
-            0 if is_placement => self.place_leaf(),
-            0 => Ok(self.free_leaf()),
+        let is_right = match self.numbers.below(9) {
+            0 if is_placement => Some(self.place_leaf()?),
+            0 => self.free_leaf(),
             1 if is_placement => {
                 let kind = drawn_kind(&mut self.numbers);
-                self.place_inner(kind)
+                Some(self.place_inner(kind)?)
             }
-            1 => Ok(self.free_inner()),
-            2 | 3 => Ok(self.write_children()),
-            4 => Ok(self.remove_children()),
-            5 => Ok(self.change_leaf(LeafChange::Links)),
-            6 if is_rare => Ok(self.change_leaf(LeafChange::Pair)),
-            6 => Ok(self.change_leaf(LeafChange::Value)),
-            7 => Ok(self.set_header()),
-            _ => self.reserve(),
-        }
+            1 => self.free_inner(),
+            2 | 3 => self.write_children(),
+            4 => self.remove_children(),
+            5 => self.change_leaf(LeafChange::Links),
+            6 if is_rare => self.change_leaf(LeafChange::Pair),
+            6 => self.change_leaf(LeafChange::Value),
+            7 => self.set_header(),
+            _ => Some(self.reserve()?),
+        };
+        Ok(is_right.unwrap_or(true))
     }
 
     /// Whether each listed name has what is to be under it, and no other name has anything.
@@ -354,23 +356,22 @@ impl Trial {
         let mut all_right = true;
         for _ in 0..=LAST_SLOT {
             let freed = [self.free_leaf(), self.free_inner()];
-            all_right = all_right && freed == [true; 2];
+            all_right = all_right && !freed.contains(&Some(false));
         }
         let is_empty = self.leaves.is_empty() && self.inners.is_empty();
         [all_right, self.is_as_listed(), is_empty]
+    }
+
+    /// Makes the calls and then frees all nodes, and answers what both say.
+    fn outcome(&mut self) -> Result<(Option<usize>, [bool; 3]), AllocError> {
+        let wrong = self.first_wrong_call()?;
+        Ok((wrong, self.free_all()))
     }
 }
 
 #[test]
 fn mixed_calls_change_what_they_name(rt: HostRuntime) -> Result<(), Fail> {
-    let alloc = rt.alloc();
-    let mut trial = Trial {
-        store: Store::new(alloc),
-        leaves: Vec::new(alloc),
-        inners: Vec::new(alloc),
-        numbers: Numbers::new(1),
-    };
-    let wrong = trial.first_wrong_call()?;
-    assert_eq!(rt; (wrong, trial.free_all()), (None, [true; 3]));
+    let outcome = Trial::new(rt.alloc()).outcome()?;
+    assert_eq!(rt; outcome, (None, [true; 3]));
     Ok(())
 }

@@ -228,23 +228,31 @@ fn place(store: &mut Store, leaf: LeafNode<[u8; 1], u32>) -> Result<LeafPtr, All
     store.place_leaf(leaf).map_err(|refused| refused.1)
 }
 
-#[test]
-fn an_empty_store_has_no_node(rt: HostRuntime) {
-    let store = Store::new(rt.alloc());
-    let inner = InnerPtr::from_parts(NodeType::Node4, 0);
-    let found = (
+// Whether a store has a leaf and a Node4 in the first slot.
+fn has_first(store: &Store) -> Option<[bool; 2]> {
+    let inner = InnerPtr::from_parts(NodeType::Node4, 0)?;
+    Some([
         store.leaf(LeafPtr::from_slot(0)).is_some(),
-        inner.map(|name| store.inner(name).is_some()),
-    );
-    assert_eq!(rt; found, (false, Some(false)));
+        store.inner(inner).is_some(),
+    ])
 }
 
 #[test]
-fn a_store_hands_out_its_allocator(rt: HostRuntime) -> Result<(), Fail> {
-    let store = Store::new(rt.alloc());
-    let bytes = [1, 2].to_vec(store.alloc())?;
-    assert_eq!(rt; bytes.as_slice(), [1, 2].as_slice());
-    Ok(())
+fn an_empty_store_has_no_node(rt: HostRuntime) {
+    let found = has_first(&Store::new(rt.alloc()));
+    assert_eq!(rt; found, Some([false; 2]));
+}
+
+// Whether a copy of two bytes with the allocator of a store has them.
+fn is_copied_by(store: &Store) -> Option<bool> {
+    let bytes = [1, 2].to_vec(store.alloc()).ok()?;
+    Some(bytes.as_slice() == [1, 2].as_slice())
+}
+
+#[test]
+fn a_store_hands_out_its_allocator(rt: HostRuntime) {
+    let copied = is_copied_by(&Store::new(rt.alloc()));
+    assert_eq!(rt; copied, Some(true));
 }
 
 // Places a leaf and another one behind it, and answers both names.
@@ -431,17 +439,21 @@ fn place_twenty_each(store: &mut Store, first: LeafPtr) -> (bool, bool) {
     (any_refused, all_right)
 }
 
+// Places a leaf and then twenty of each. None where the leaf was refused.
+fn place_beside_first(store: &mut Store) -> Option<(bool, bool)> {
+    let first = place(store, leaf_of(1, 10)).ok()?;
+    Some(place_twenty_each(store, first))
+}
+
 // Says the same with ample memory and with requests for memory refused.
 #[test]
 fn refused_placements_leave_the_nodes(rt: HostRuntime) -> Result<(), Fail> {
-    let mut store = Store::new(rt.alloc());
-    let Ok(first) = store.place_leaf(leaf_of(1, 10)) else {
-        return Ok(());
-    };
-    let (any_refused, all_right) = place_twenty_each(&mut store, first);
-    assert!(rt; all_right);
-    if any_refused {
-        println!(rt; "asserted")?;
+    let placed = place_beside_first(&mut Store::new(rt.alloc()));
+    if let Some((any_refused, all_right)) = placed {
+        assert!(rt; all_right);
+        if any_refused {
+            println!(rt; "asserted")?;
+        }
     }
     Ok(())
 }
@@ -498,13 +510,10 @@ fn without_memory_reservations_leave_the_nodes(rt: HostRuntime) {
     assert_eq!(rt; reserve_without_memory(&mut store).ok(), Some([true; 2]));
 }
 
-#[test]
-fn without_memory_the_promise_is_kept(rt: HostRuntime) -> Result<(), Fail> {
-    let alloc = rt.alloc();
-    let mut store = Store::new(alloc);
+// Whether each of two leaves and a node that were promised is placed without memory, and a promise is repeated between.
+fn place_without_memory(store: &mut Store) -> Result<[bool; 4], AllocError> {
     store.reserve(2, Some(NodeType::Node4))?;
-
-    let held = all_memory(alloc)?;
+    let held = all_memory(store.alloc())?;
     let placed = [
         store.place_leaf(leaf_of(1, 10)).is_ok(),
         store.reserve(1, Some(NodeType::Node4)).is_ok(),
@@ -512,6 +521,11 @@ fn without_memory_the_promise_is_kept(rt: HostRuntime) -> Result<(), Fail> {
         store.place_leaf(leaf_of(2, 20)).is_ok(),
     ];
     drop(held);
-    assert_eq!(rt; placed, [true; 4]);
-    Ok(())
+    Ok(placed)
+}
+
+#[test]
+fn without_memory_the_promise_is_kept(rt: HostRuntime) {
+    let placed = place_without_memory(&mut Store::new(rt.alloc()));
+    assert_eq!(rt; placed.ok(), Some([true; 4]));
 }
