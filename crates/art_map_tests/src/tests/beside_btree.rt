@@ -1,6 +1,8 @@
 //! Drawn calls of a map beside the same ones of a `BTreeMap`. The keys have one length, so that none is
 //! a prefix of another.
-use art_operations::map::ByteMap;
+use super::calls::Removal;
+use art_operations::map::{ByteMap, MapRefused};
+use art_test_support::expected::as_expected;
 use art_test_support::numbers::Numbers;
 use std::collections::BTreeMap;
 use std::test::Fail;
@@ -11,6 +13,51 @@ type Map = ByteMap<Key, u32, 1>;
 
 fn drawn_key(numbers: &mut Numbers) -> Key {
     [numbers.below(12) as u8, numbers.below(40) as u8]
+}
+
+fn copied(pair: Option<(&Key, &u32)>) -> Option<(Key, u32)> {
+    let (key, value) = pair?;
+    Some((*key, *value))
+}
+
+// A question to both, and whether they answer the same.
+fn agree_on_question(map: &Map, model: &BTreeMap<Key, u32>, key: Key, question: usize) -> bool {
+    match question {
+        0 => map.get(&key).copied() == model.get(&key).copied(),
+        1 => map.contains_key(&key) == model.contains_key(&key),
+        2 => copied(map.first_key_value()) == copied(model.first_key_value()),
+        _ => copied(map.last_key_value()) == copied(model.last_key_value()),
+    }
+}
+
+// Whether a removal answered this pair.
+fn is_answered(answer: Result<Option<(Key, u32)>, MapRefused>, pair: Option<(Key, u32)>) -> bool {
+    match answer {
+        Ok(own) => own == pair,
+        Err(MapRefused) => false,
+    }
+}
+
+// A removal from both, and whether they answer the same.
+fn agree_on_removal(map: &mut Map, model: &mut BTreeMap<Key, u32>, removal: Removal<Key>) -> bool {
+    match removal {
+        Removal::Key(key) => {
+            let pair = match model.remove(&key) {
+                Some(value) => Some((key, value)),
+                None => None,
+            };
+            is_answered(map.remove(&key), pair)
+        }
+        Removal::First => is_answered(map.pop_first(), model.pop_first()),
+        Removal::Last => is_answered(map.pop_last(), model.pop_last()),
+    }
+}
+
+fn agree_on_insertion(map: &mut Map, model: &mut BTreeMap<Key, u32>, key: Key, value: u32) -> bool {
+    match (map.insert(key, value), model.insert(key, value)) {
+        (Ok(replaced), Ok(old)) => replaced == old.map(|old| (key, old)),
+        _ => false,
+    }
 }
 
 // A call of both, and whether they answer the same.
@@ -24,44 +71,40 @@ fn agree_on_call(
     let value = numbers.value();
     let call = numbers.below(16);
     match call {
-        0 => map.get(&key).copied() == model.get(&key).copied(),
-        1 => map.contains_key(&key) == model.contains_key(&key),
-        2 => map.first_key_value().map(|pair| (*pair.0, *pair.1))
-            == model.first_key_value().map(|pair| (*pair.0, *pair.1)),
-        3 => map.last_key_value().map(|pair| (*pair.0, *pair.1))
-            == model.last_key_value().map(|pair| (*pair.0, *pair.1)),
-        4 => map.pop_first() == Ok(model.pop_first()),
-        5 => map.pop_last() == Ok(model.pop_last()),
-        6..=8 => map.remove(&key) == Ok(model.remove(&key).map(|value| (key, value))),
-        9..=12 if !is_growing => map.pop_first() == Ok(model.pop_first()),
+        0..=3 => agree_on_question(map, model, key, call),
+        4 => agree_on_removal(map, model, Removal::First),
+        5 => agree_on_removal(map, model, Removal::Last),
+        6..=8 => agree_on_removal(map, model, Removal::Key(key)),
+        9..=12 if !is_growing => agree_on_removal(map, model, Removal::First),
         _ => agree_on_insertion(map, model, key, value),
     }
 }
 
-fn agree_on_insertion(map: &mut Map, model: &mut BTreeMap<Key, u32>, key: Key, value: u32) -> bool {
-    match (map.insert(key, value), model.insert(key, value)) {
-        (Ok(replaced), Ok(old)) => replaced == old.map(|old| (key, old)),
-        _ => false,
+// Whether both have the same pairs, in the same order, from the front.
+fn agree_from_front(map: &Map, model: &BTreeMap<Key, u32>) -> bool {
+    let mut own = map.iter();
+    for pair in model.iter() {
+        if own.next() != Some(pair) {
+            return false;
+        }
     }
+    own.next().is_none()
 }
 
-// Whether both have the same pairs, in the same order from the front and from the back.
-fn agree_on_pairs(map: &Map, model: &BTreeMap<Key, u32>) -> bool {
-    let mut front = map.iter();
-    let mut back = map.iter();
-    for pair in model.iter() {
-        match front.next() {
-            Some(own) if own.0 == pair.0 && own.1 == pair.1 => {}
-            _ => return false,
-        }
-    }
+// The same from the back.
+fn agree_from_back(map: &Map, model: &BTreeMap<Key, u32>) -> bool {
+    let mut own = map.iter();
     for pair in model.iter().rev() {
-        match back.next_back() {
-            Some(own) if own.0 == pair.0 && own.1 == pair.1 => {}
-            _ => return false,
+        if own.next_back() != Some(pair) {
+            return false;
         }
     }
-    front.next().is_none() && back.next_back().is_none() && map.len() == model.len()
+    own.next_back().is_none()
+}
+
+// The same from both ends, and in number.
+fn agree_on_pairs(map: &Map, model: &BTreeMap<Key, u32>) -> bool {
+    agree_from_front(map, model) && agree_from_back(map, model) && map.len() == model.len()
 }
 
 // The number of the first call after which they differ, if they do.
@@ -79,13 +122,14 @@ fn differ_at(map: &mut Map, model: &mut BTreeMap<Key, u32>, calls: usize) -> Opt
     None
 }
 
+// The same, and whether they have the same pairs then.
+fn compared(map: &mut Map, model: &mut BTreeMap<Key, u32>, calls: usize) -> (Option<usize>, bool) {
+    (differ_at(map, model, calls), agree_on_pairs(map, model))
+}
+
 #[test]
 fn drawn_calls_answer_as_those_of_a_btree_map(rt: HostRuntime) -> Result<(), Fail> {
     let alloc = rt.alloc();
-    let mut map = ByteMap::new(alloc);
-    let mut model = BTreeMap::new(alloc);
-    let differ = differ_at(&mut map, &mut model, 10_000);
-    let same = agree_on_pairs(&map, &model);
-    assert_eq!(rt; (differ, same), (None, true));
-    Ok(())
+    let seen = compared(&mut ByteMap::new(alloc), &mut BTreeMap::new(alloc), 10_000);
+    as_expected(Some((seen, (None, true))))
 }

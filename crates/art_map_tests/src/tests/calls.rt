@@ -1,5 +1,6 @@
 //! Calls of a map with keys of one byte.
-use art_operations::map::ByteMap;
+use art_operations::map::{ByteMap, MapIter, MapRefused};
+use art_test_support::expected::as_expected;
 use std::alloc::Global;
 use std::test::Fail;
 
@@ -16,86 +17,104 @@ pub fn fill(map: &mut Map) -> bool {
     map.len() == 5
 }
 
-// The pair that a removal answered.
-fn pair_of<E: Drop>(answer: Result<Option<([u8; 1], u32)>, E>) -> Option<([u8; 1], u32)> {
-    match answer {
-        Ok(pair) => pair,
-        Err(_) => None,
-    }
-}
-
-// Which pair is removed.
+/// Which pair is removed.
 #[derive(Clone, Copy)]
-enum Removal {
-    Key(u8),
+pub enum Removal<K> {
+    Key(K),
     First,
     Last,
 }
 
+/// Removes a pair.
+pub fn remove(
+    map: &mut Map,
+    removal: Removal<[u8; 1]>,
+) -> Result<Option<([u8; 1], u32)>, MapRefused> {
+    match removal {
+        Removal::Key(key) => map.remove(&key),
+        Removal::First => map.pop_first(),
+        Removal::Last => map.pop_last(),
+    }
+}
+
 // Whether a map was filled, the pair that a removal answers then, and how many are left.
-fn removed(map: &mut Map, removal: Removal) -> (bool, Option<([u8; 1], u32)>, usize) {
+fn removed(map: &mut Map, removal: Removal<[u8; 1]>) -> (bool, Option<([u8; 1], u32)>, usize) {
     let filled = fill(map);
-    let pair = match removal {
-        Removal::Key(byte) => pair_of(map.remove(&[byte])),
-        Removal::First => pair_of(map.pop_first()),
-        Removal::Last => pair_of(map.pop_last()),
-    };
+    let pair = remove(map, removal).ok().flatten();
     (filled, pair, map.len())
 }
 
 #[test]
-fn a_parent_shrinks_for_a_removal(rt: HostRuntime) {
-    let seen = removed(&mut ByteMap::new(rt.alloc()), Removal::Key(3));
-    assert_eq!(rt; seen, (true, Some(([3], 3)), 4));
+fn a_parent_shrinks_for_a_removal(rt: HostRuntime) -> Result<(), Fail> {
+    let seen = removed(&mut ByteMap::new(rt.alloc()), Removal::Key([3]));
+    as_expected(Some((seen, (true, Some(([3], 3)), 4))))
 }
 
 #[test]
-fn a_parent_shrinks_for_the_first(rt: HostRuntime) {
+fn a_parent_shrinks_for_the_first(rt: HostRuntime) -> Result<(), Fail> {
     let seen = removed(&mut ByteMap::new(rt.alloc()), Removal::First);
-    assert_eq!(rt; seen, (true, Some(([1], 1)), 4));
+    as_expected(Some((seen, (true, Some(([1], 1)), 4))))
 }
 
 #[test]
-fn a_parent_shrinks_for_the_last(rt: HostRuntime) {
+fn a_parent_shrinks_for_the_last(rt: HostRuntime) -> Result<(), Fail> {
     let seen = removed(&mut ByteMap::new(rt.alloc()), Removal::Last);
-    assert_eq!(rt; seen, (true, Some(([5], 5)), 4));
+    as_expected(Some((seen, (true, Some(([5], 5)), 4))))
+}
+
+/// The value of a pair, where there is one.
+pub fn value_of<K>(pair: Option<(&K, &u32)>) -> Option<u32> {
+    let (_, value) = pair?;
+    Some(*value)
+}
+
+// How many pairs are left of a walk, and the value that comes then from the front.
+fn front(iter: &mut MapIter<'_, [u8; 1], u32, 4>) -> (usize, Option<u32>) {
+    (iter.len(), value_of(iter.next()))
+}
+
+// The same from the back.
+fn back(iter: &mut MapIter<'_, [u8; 1], u32, 4>) -> (usize, Option<u32>) {
+    (iter.len(), value_of(iter.next_back()))
 }
 
 // The values that come from both ends in turn, and how many are left before each.
 fn from_both_ends(map: &Map) -> [(usize, Option<u32>); 6] {
     let mut iter = map.iter();
     [
-        (iter.len(), iter.next().map(|pair| *pair.1)),
-        (iter.len(), iter.next_back().map(|pair| *pair.1)),
-        (iter.len(), iter.next().map(|pair| *pair.1)),
-        (iter.len(), iter.next_back().map(|pair| *pair.1)),
-        (iter.len(), iter.next().map(|pair| *pair.1)),
-        (iter.len(), iter.next_back().map(|pair| *pair.1)),
+        front(&mut iter),
+        back(&mut iter),
+        front(&mut iter),
+        back(&mut iter),
+        front(&mut iter),
+        back(&mut iter),
     ]
+}
+
+// Whether a map was filled, and the same of it.
+fn walked(map: &mut Map) -> (bool, [(usize, Option<u32>); 6]) {
+    (fill(map), from_both_ends(map))
 }
 
 #[test]
 fn pairs_come_from_both_ends(rt: HostRuntime) -> Result<(), Fail> {
-    let mut map = ByteMap::new(rt.alloc());
-    let filled = fill(&mut map);
-    let came = from_both_ends(&map);
-    assert!(rt; filled);
-    assert_eq!(rt;
-        came,
-        [
-            (5, Some(1)),
-            (4, Some(5)),
-            (3, Some(2)),
-            (2, Some(4)),
-            (1, Some(3)),
-            (0, None)
-        ]
-    );
-    Ok(())
+    let seen = walked(&mut ByteMap::new(rt.alloc()));
+    let came = [
+        (5, Some(1)),
+        (4, Some(5)),
+        (3, Some(2)),
+        (2, Some(4)),
+        (1, Some(3)),
+        (0, None),
+    ];
+    as_expected(Some((seen, (true, came))))
 }
 
-// What the calls that only read answer.
-fn asked(map: &Map) -> ([bool; 3], [Option<u32>; 4]) {
+// What the calls that only read answer: whether there is no pair, and whether two keys are there; the values of both,
+// and the first and the last one.
+type Asked = ([bool; 3], [Option<u32>; 4]);
+
+fn asked(map: &Map) -> Asked {
     (
         [
             map.is_empty(),
@@ -105,32 +124,27 @@ fn asked(map: &Map) -> ([bool; 3], [Option<u32>; 4]) {
         [
             map.get(&[2]).copied(),
             map.get(&[6]).copied(),
-            map.first_key_value().map(|pair| *pair.1),
-            map.last_key_value().map(|pair| *pair.1),
+            value_of(map.first_key_value()),
+            value_of(map.last_key_value()),
         ],
     )
 }
 
+// Whether a map was filled, what is answered of it then and once it is cleared, and whether it was filled again.
+fn cleared(map: &mut Map) -> (bool, Asked, Asked, bool) {
+    let is_filled = fill(map);
+    let before = asked(map);
+    map.clear();
+    let after = asked(map);
+    (is_filled, before, after, fill(map))
+}
+
 #[test]
 fn a_cleared_map_has_nothing(rt: HostRuntime) -> Result<(), Fail> {
-    let mut map = ByteMap::new(rt.alloc());
-    let filled = fill(&mut map);
-    let before = asked(&map);
-    map.clear();
-    let after = asked(&map);
-    let again = fill(&mut map);
-    assert_eq!(rt;
-        (filled, before),
-        (
-            true,
-            ([false, true, false], [Some(2), None, Some(1), Some(5)])
-        )
-    );
-    assert_eq!(rt;
-        (after, again),
-        (([true, false, false], [None, None, None, None]), true)
-    );
-    Ok(())
+    let seen = cleared(&mut ByteMap::new(rt.alloc()));
+    let before = ([false, true, false], [Some(2), None, Some(1), Some(5)]);
+    let after = ([true, false, false], [None; 4]);
+    as_expected(Some((seen, (true, before, after, true))))
 }
 
 fn debug_text(alloc: Global, map: &Map) -> Option<bool> {
@@ -138,29 +152,39 @@ fn debug_text(alloc: Global, map: &Map) -> Option<bool> {
     Some(text.as_str() == "{[1]: 1, [2]: 2, [3]: 3, [4]: 4, [5]: 5}")
 }
 
-#[test]
-fn a_map_is_printed_in_order(rt: HostRuntime) -> Result<(), Fail> {
-    let alloc = rt.alloc();
-    let mut map = ByteMap::new(alloc);
-    let filled = fill(&mut map);
-    let printed = debug_text(alloc, &map);
-    assert_eq!(rt; (filled, printed), (true, Some(true)));
-    Ok(())
+// Whether a map was filled, and whether it is printed in order.
+fn printed(alloc: Global, map: &mut Map) -> (bool, Option<bool>) {
+    (fill(map), debug_text(alloc, map))
 }
 
-// Two values of a clone, and how many pairs it and the map have once one was taken out of the clone.
-fn cloned(map: &Map) -> Option<([Option<u32>; 2], [usize; 2])> {
-    let mut copy = map.clone().ok()?;
+#[test]
+fn a_map_is_printed_in_order(rt: HostRuntime) -> Result<(), Fail> {
+    let seen = printed(rt.alloc(), &mut ByteMap::new(rt.alloc()));
+    as_expected(Some((seen, (true, Some(true)))))
+}
+
+// Two values of a clone, and how many pairs it has once one was taken out of it.
+fn changed(copy: &mut Map) -> ([Option<u32>; 2], usize) {
     let values = [copy.get(&[1]).copied(), copy.get(&[5]).copied()];
-    copy.remove(&[1]).ok()?;
-    Some((values, [copy.len(), map.len()]))
+    let is_removed = remove(copy, Removal::Key([1])).is_ok();
+    (values, if is_removed { copy.len() } else { 0 })
+}
+
+// The same of a clone of a map, if there is one.
+fn cloned(map: &Map) -> Option<([Option<u32>; 2], usize)> {
+    match map.clone() {
+        Ok(mut copy) => Some(changed(&mut copy)),
+        Err(_) => None,
+    }
+}
+
+// Whether a map was filled, the same of it, and how many pairs it has then.
+fn filled_and_cloned(map: &mut Map) -> (bool, Option<([Option<u32>; 2], usize)>, usize) {
+    (fill(map), cloned(map), map.len())
 }
 
 #[test]
 fn a_clone_goes_its_own_way(rt: HostRuntime) -> Result<(), Fail> {
-    let mut map = ByteMap::new(rt.alloc());
-    let filled = fill(&mut map);
-    let told = cloned(&map);
-    assert_eq!(rt; (filled, told), (true, Some(([Some(1), Some(5)], [4, 5]))));
-    Ok(())
+    let seen = filled_and_cloned(&mut ByteMap::new(rt.alloc()));
+    as_expected(Some((seen, (true, Some(([Some(1), Some(5)], 4)), 5))))
 }

@@ -1,6 +1,7 @@
 //! Calls without memory.
-use super::calls::{Map, fill};
+use super::calls::{Map, Removal, fill, remove, value_of};
 use art_operations::map::{ByteMap, MapInsertError, MapRefused};
+use art_test_support::expected::as_expected;
 use art_test_support::memory::all_memory;
 use std::alloc::Global;
 use std::test::Fail;
@@ -41,19 +42,15 @@ fn starve_new(alloc: Global, map: &mut Map) -> Option<([bool; 2], usize)> {
 }
 
 #[test]
-fn without_memory_a_first_insertion_is_refused(rt: HostRuntime) {
+fn without_memory_a_first_insertion_is_refused(rt: HostRuntime) -> Result<(), Fail> {
     let seen = starve_new(rt.alloc(), &mut ByteMap::new(rt.alloc()));
-    assert_eq!(rt; seen, Some(([true, true], 0)));
+    as_expected(Some((seen, Some(([true, true], 0)))))
 }
 
-// Whether a removal of this pair, or else its refusal, left the map as it has to be.
-fn is_right(
-    answer: Result<Option<([u8; 1], u32)>, MapRefused>,
-    byte: u8,
-    before: usize,
-    map: &Map,
-) -> bool {
-    match answer {
+// Whether a removal of the pair of this byte, or else its refusal, left the map as it has to be.
+fn is_right(map: &mut Map, removal: Removal<[u8; 1]>, byte: u8) -> bool {
+    let before = map.len();
+    match remove(map, removal) {
         Ok(pair) => pair == Some(([byte], byte as u32))
             && map.len().saturating_add(1) == before
             && !map.contains_key(&[byte]),
@@ -61,42 +58,43 @@ fn is_right(
     }
 }
 
-// Whether removals of pairs of a map of five are right, and an insertion over just one pair, and what the other
-// calls answer, while there is no memory.
-fn starve(alloc: Global, map: &mut Map) -> Option<([bool; 4], [Option<u32>; 3])> {
-    let held = all_memory(alloc).ok()?;
-    let answers = [
+// What calls that ask for no memory answer in a map of five pairs, of which the third gets its value again.
+fn answers(map: &mut Map) -> ([Option<u32>; 3], bool) {
+    let values = [
         map.get(&[3]).copied(),
         match map.insert([3], 3) {
             Ok(Some(old)) => Some(old.1),
             _ => None,
         },
-        map.iter().next_back().map(|pair| *pair.1),
+        value_of(map.iter().next_back()),
     ];
-    let over = matches!(map.insert_over([3], 3), Ok(1));
-    let before = map.len();
-    let removed = map.remove(&[3]);
-    let first = is_right(removed, 3, before, map);
-    let before = map.len();
-    let removed = map.pop_first();
-    let second = is_right(removed, 1, before, map);
-    let before = map.len();
-    let removed = map.pop_last();
-    let third = is_right(removed, 5, before, map);
+    (values, matches!(map.insert_over([3], 3), Ok(1)))
+}
+
+// The same while there is no memory, and whether removals are right then.
+fn starve(alloc: Global, map: &mut Map) -> Option<([Option<u32>; 3], [bool; 4])> {
+    let held = all_memory(alloc).ok()?;
+    let (values, is_over) = answers(map);
+    let are_right = [
+        is_over,
+        is_right(map, Removal::Key([3]), 3),
+        is_right(map, Removal::First, 1),
+        is_right(map, Removal::Last, 5),
+    ];
     drop(held);
-    Some(([over, first, second, third], answers))
+    Some((values, are_right))
 }
 
 // Whether a map was filled, and the same of it.
-fn starve_filled(alloc: Global, map: &mut Map) -> (bool, Option<([bool; 4], [Option<u32>; 3])>) {
+fn starve_filled(alloc: Global, map: &mut Map) -> (bool, Option<([Option<u32>; 3], [bool; 4])>) {
     (fill(map), starve(alloc, map))
 }
 
 #[test]
-fn without_memory_calls_are_right_or_refused(rt: HostRuntime) {
+fn without_memory_calls_are_right_or_refused(rt: HostRuntime) -> Result<(), Fail> {
     let seen = starve_filled(rt.alloc(), &mut ByteMap::new(rt.alloc()));
-    let answers = [Some(3), Some(3), Some(5)];
-    assert_eq!(rt; seen, (true, Some(([true; 4], answers))));
+    let values = [Some(3), Some(3), Some(5)];
+    as_expected(Some((seen, (true, Some((values, [true; 4]))))))
 }
 
 // A map with keys of any length.
@@ -122,9 +120,9 @@ fn starve_over_longer(
 }
 
 #[test]
-fn without_memory_a_longer_key_gives_way(rt: HostRuntime) {
+fn without_memory_a_longer_key_gives_way(rt: HostRuntime) -> Result<(), Fail> {
     let seen = starve_over_longer(rt.alloc(), &mut ByteMap::new(rt.alloc()));
-    assert_eq!(rt; seen, Some((1, 1, [None, Some(9)])));
+    as_expected(Some((seen, Some((1, 1, [None, Some(9)])))))
 }
 
 type Deep = ByteMap<[u8; 5], u32, 4>;
@@ -197,27 +195,35 @@ fn starve_filled_deep(alloc: Global, map: &mut Deep) -> (bool, Option<[bool; 3]>
 }
 
 #[test]
-fn without_memory_a_shrinking_removal_is_refused(rt: HostRuntime) {
+fn without_memory_a_shrinking_removal_is_refused(rt: HostRuntime) -> Result<(), Fail> {
     let seen = starve_filled_deep(rt.alloc(), &mut ByteMap::new(rt.alloc()));
-    assert_eq!(rt; seen, (true, Some([true; 3])));
+    as_expected(Some((seen, (true, Some([true; 3])))))
 }
 
-// Whether a clone of a map is refused, and that of an empty one isn't, while there is no memory.
-fn starve_clones(alloc: Global, map: &Map) -> Option<[bool; 2]> {
+fn is_clone_refused(map: &Map) -> bool {
+    map.clone().is_err()
+}
+
+// Whether clones of a map and of an empty one are refused, while there is no memory.
+fn starve_clones(alloc: Global, map: &Map, empty: &Map) -> Option<[bool; 2]> {
     let held = all_memory(alloc).ok()?;
-    let empty: Map = ByteMap::new(alloc);
-    let told = [map.clone().is_err(), empty.clone().is_ok()];
+    let refused = [is_clone_refused(map), is_clone_refused(empty)];
     drop(held);
-    Some(told)
+    Some(refused)
 }
 
-// Whether a map was filled, the same of it, and how many pairs it has then.
-fn starve_clones_of_filled(alloc: Global, map: &mut Map) -> (bool, Option<[bool; 2]>, usize) {
-    (fill(map), starve_clones(alloc, map), map.len())
+// Whether a map was filled, the same of it and of an empty one, and how many pairs it has then.
+fn starve_clones_of_filled(
+    alloc: Global,
+    map: &mut Map,
+    empty: &Map,
+) -> (bool, Option<[bool; 2]>, usize) {
+    (fill(map), starve_clones(alloc, map, empty), map.len())
 }
 
 #[test]
-fn without_memory_no_pair_is_cloned(rt: HostRuntime) {
-    let seen = starve_clones_of_filled(rt.alloc(), &mut ByteMap::new(rt.alloc()));
-    assert_eq!(rt; seen, (true, Some([true, true]), 5));
+fn without_memory_no_pair_is_cloned(rt: HostRuntime) -> Result<(), Fail> {
+    let alloc = rt.alloc();
+    let seen = starve_clones_of_filled(alloc, &mut ByteMap::new(alloc), &ByteMap::new(alloc));
+    as_expected(Some((seen, (true, Some([true, false]), 5))))
 }

@@ -1,6 +1,9 @@
 //! Keys of several lengths, some of which are prefixes of others.
+use super::calls::value_of;
 use art_operations::map::{ByteMap, MapInsertError};
+use art_test_support::expected::as_expected;
 use std::alloc::Global;
+use std::test::Fail;
 
 type Map = ByteMap<Vec<u8>, u32, 4>;
 
@@ -66,14 +69,14 @@ fn seen(map: &Map) -> Seen {
     (
         map.len(),
         [
-            front.next().map(|pair| *pair.1),
-            front.next().map(|pair| *pair.1),
-            front.next().map(|pair| *pair.1),
+            value_of(front.next()),
+            value_of(front.next()),
+            value_of(front.next()),
         ],
         [
-            back.next_back().map(|pair| *pair.1),
-            back.next_back().map(|pair| *pair.1),
-            back.next_back().map(|pair| *pair.1),
+            value_of(back.next_back()),
+            value_of(back.next_back()),
+            value_of(back.next_back()),
         ],
     )
 }
@@ -101,11 +104,11 @@ fn refused(map: &mut Map, alloc: Global) -> ([Told; 3], Seen) {
 }
 
 #[test]
-fn related_keys_are_refused(rt: HostRuntime) {
+fn related_keys_are_refused(rt: HostRuntime) -> Result<(), Fail> {
     let seen = refused(&mut ByteMap::new(rt.alloc()), rt.alloc());
     let told = [Told::New, Told::New, Told::Conflict(BOTH, 3, BOTH)];
     let left = (2, [Some(2), Some(1), None], [Some(1), Some(2), None]);
-    assert_eq!(rt; seen, (told, left));
+    as_expected(Some((seen, (told, left))))
 }
 
 // The pairs that come off both ends in turn, and how many are left.
@@ -129,11 +132,11 @@ fn replaced(map: &mut Map, alloc: Global) -> ([Told; 3], (usize, Option<u32>), P
 }
 
 #[test]
-fn an_equal_key_gets_the_value(rt: HostRuntime) {
+fn an_equal_key_gets_the_value(rt: HostRuntime) -> Result<(), Fail> {
     let seen = replaced(&mut ByteMap::new(rt.alloc()), rt.alloc());
     let told = [Told::New, Told::New, Told::Replaced(TWO, 1)];
     let popped = ([Some((ONE, 2)), Some((TWO, 5)), None], 0);
-    assert_eq!(rt; seen, (told, (2, Some(5)), popped));
+    as_expected(Some((seen, (told, (2, Some(5)), popped))))
 }
 
 // How many keys give way to each of six, and what is seen of the map then.
@@ -150,11 +153,11 @@ fn put_six_over(map: &mut Map, alloc: Global) -> ([Option<usize>; 6], Seen) {
 }
 
 #[test]
-fn all_related_keys_give_way(rt: HostRuntime) {
+fn all_related_keys_give_way(rt: HostRuntime) -> Result<(), Fail> {
     let seen = put_six_over(&mut ByteMap::new(rt.alloc()), rt.alloc());
     let gone = [Some(0), Some(0), Some(0), Some(2), Some(1), Some(1)];
     let left = (2, [Some(4), Some(6), None], [Some(6), Some(4), None]);
-    assert_eq!(rt; seen, (gone, left));
+    as_expected(Some((seen, (gone, left))))
 }
 
 // What the insertions of two keys answer, and the matches of five queries then.
@@ -171,8 +174,8 @@ fn queried(map: &mut Map, alloc: Global) -> ([Told; 2], [Option<(usize, u32)>; 5
 }
 
 #[test]
-fn a_query_finds_the_key_that_it_begins_with(rt: HostRuntime) {
+fn a_query_finds_the_key_that_it_begins_with(rt: HostRuntime) -> Result<(), Fail> {
     let seen = queried(&mut ByteMap::new(rt.alloc()), rt.alloc());
     let found = [Some((1, 7)), Some((1, 7)), None, Some((2, 8)), None];
-    assert_eq!(rt; seen, ([Told::New, Told::New], found));
+    as_expected(Some((seen, ([Told::New, Told::New], found))))
 }
