@@ -41,7 +41,6 @@ use Rattle.art_model.proofs.Links.{last_or-append}
 use Rattle.art_model.proofs.Leaves.{named_leaf}
 use Rattle.art_model.proofs.OutOf.{with_leaf_in, hole, high, leaf_among, low, one_more, parent_is, slots_left}
 use Rattle.art_model.proofs.Paths.{IsHole}
-use Rattle.art_model.proofs.Paths as paths
 use Rattle.art_model.proofs.Placed.{LeafTaken}
 use Rattle.art_model.proofs.Radix.{only_child}
 use Rattle.art_model.proofs.Rebuild.{radix_below}
