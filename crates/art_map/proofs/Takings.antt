@@ -12,7 +12,7 @@ use Rattle.art_model.specs.Footprints.{IsIn}
 use Rattle.art_model.specs.Kept.{ChangesInPlace}
 use Rattle.art_model.specs.Keys.{are_same}
 use Rattle.art_model.specs.Layouts.{names_of}
-use Rattle.art_model.specs.Lookups.{FindsLeaf}
+use Rattle.art_model.specs.Lookups.{pair_under}
 use Rattle.art_model.specs.Pairs.{IsMap, first_of, last_of, without_first, of_key, has_key, remove_key, with_key}
 use Rattle.art_model.specs.Paths.{pairs_before, pairs_after}
 use Rattle.art_model.specs.Radix.{pairs_of}
@@ -21,6 +21,7 @@ use Rattle.art_model.specs.Stores.{held, pair_of}
 use Rattle.art_model.specs.Trees.{Tree, leaf}
 use Rattle.art_model.proofs.Canonical.{tree_radix}
 use Rattle.art_model.proofs.Keys.{front_same}
+use Rattle.art_model.proofs.LeavesFound.{leaf_found}
 use Rattle.art_model.proofs.MapLaws.{keys_are_once, removal_counts, first_is_removed_by_key, last_is_removed_by_key}
 use Rattle.art_model.proofs.Paths.{pairs_of-plug}
 use Rattle.art_model.proofs.Puts.{any_is_first}
@@ -30,7 +31,7 @@ use Rattle.art_reading.specs.declared.ways.End.TheVariants.{First, Last}
 use Rattle.art_writing.specs.Deleted.{LeadsTo}
 use Rattle.art_writing.specs.Inserted.{alone}
 use Rattle.art_writing.specs.declared.delete.DeletePoint.{DeletePoint}
-use Rattle.art_writing.proofs.KeysFound.{deleted_pair, leaf_found}
+use Rattle.art_writing.proofs.KeysFound.{deleted_pair}
 use Rattle.art_reading.specs.Walks.{LeadsToEnd}
 use Rattle.art_reading.specs.declared.path.TreePath.{TreePath}
 use Rattle.art_map.specs.MapAnswers.{end_of, value_at, without_end}
@@ -119,7 +120,7 @@ module _ {K V : Type 0} (bytes : K → List ℕ) (P : ℕ) {s : Nodes K V} {name
       named_there =
           let has = at_some (of_key bytes) P e is in
           let (x, some, has_leaf) = named (pairs_at s root) has.layout has.by in
-          let (node, there, its) = leaf_found bytes P has.by has_leaf in
+          let (node, there, its) = leaf_found (of_key bytes) P has.by has_leaf in
           rw there refl
 
       -- and has the pair
@@ -127,19 +128,15 @@ module _ {K V : Type 0} (bytes : K → List ℕ) (P : ℕ) {s : Nodes K V} {name
       named_pair read view =
           let has = at_some (of_key bytes) P e is in
           let (x, some, has_leaf) = named (pairs_at s root) has.layout has.by in
-          let (node, there, its) = leaf_found bytes P has.by has_leaf in
+          let (node, there, its) = leaf_found (of_key bytes) P has.by has_leaf in
           sym read ∙ ap (option_map pair_of) there ∙ ap Some its ∙ sym some ∙ ap wanted view
 
-    -- so does the leaf that a look-up finds
-    module _ (wanted : List (K × V) → List (K × V)) (found : ForTree (of_key bytes) P s name (λ pairs layout. FindsLeaf layout (wanted pairs) (Some p))) where
-      found_named : ForTree (of_key bytes) P s name (λ pairs layout. NamesPair layout (first_of (wanted pairs)) p)
-      found_named pairs layout by = let (x, only, has_leaf) = found pairs layout by in (x, ap first_of only, has_leaf)
-
-      pub found_there : IsSome (get s.leaves p)
-      found_there = named_there (λ pairs. first_of (wanted pairs)) found_named
-
-      pub found_pair : {y : K × V} {before : List (K × V)} → option_map pair_of (get s.leaves p) ≡ Some y → pairs_at s root ≡ before → Some y ≡ first_of (wanted before)
-      found_pair read view = named_pair (λ pairs. first_of (wanted pairs)) found_named read view
+  -- the leaf that a look-up finds has the pair that was sought
+  pub found_pair : {root : Option OpaqueNodePtr} {len : ℕ} (p : LeafPtr) → root ≡ Some name → HoldsPairs (of_key bytes) P s root len (pairs_at s root) →
+      (sought : List (K × V) → List (K × V)) → ForTree (of_key bytes) P s name (λ pairs _. pair_under s (Some p) ≡ first_of (sought pairs)) →
+      {y : K × V} {before : List (K × V)} → option_map pair_of (get s.leaves p) ≡ Some y → pairs_at s root ≡ before → Some y ≡ first_of (sought before)
+  found_pair {root} p e is sought found read view =
+      let has = at_some (of_key bytes) P e is in sym read ∙ found (pairs_at s root) has.layout has.by ∙ ap (λ xs. first_of (sought xs)) view
 
 -- a value is found exactly where the key is stored
 pub value_stored : {K V : Type 0} (bytes : K → List ℕ) (key : List ℕ) (pairs : List (K × V)) → is_some (value_at bytes key pairs) ≡ has_key (of_key bytes) key pairs

@@ -1,5 +1,8 @@
 -- What a look-up finds, and the nodes on its way.
 use Rattle.std.specs.Prelude.{◌≡◌, ℕ, List, [], ◌∷◌, Option, Some, None}
+use Rattle.std.specs.FinMap as map
+use Rattle.std.specs.Option.{option_map}
+use Rattle.art_nodes.specs.Nodes.{Nodes}
 use Rattle.art_parts.specs.Names.{leaf_name}
 use Rattle.art_parts.specs.declared.names.LeafPtr.{LeafPtr}
 use Rattle.art_parts.specs.declared.names.OpaqueNodePtr.{OpaqueNodePtr}
@@ -9,6 +12,7 @@ use Rattle.art_model.specs.Layouts.{leaf_names}
 use Rattle.art_model.specs.Pairs.{first_of, last_of, match_of}
 use Rattle.art_model.specs.Paths.{Frame, plug}
 use Rattle.art_model.specs.Places.{places}
+use Rattle.art_model.specs.Stores.{pair_of}
 
 -- The tree has the leaf of this pair under this name.
 pub record HasLeaf {N A : Type 0} (tree : Tree N A) (name : N) (x : A) : Type 0 where
@@ -33,6 +37,11 @@ pub record HasLastLeaf {N A : Type 0} (tree : Tree N A) (name : N) : Type 0 wher
 abbrev pub FindsLeaf : {A : Type 0} → Tree OpaqueNodePtr A → List A → Option LeafPtr → Type 0
 FindsLeaf tree pairs None = pairs ≡ []
 FindsLeaf {A} tree pairs (Some name) = (x : A) × (pairs ≡ x ∷ []) × HasLeaf tree (leaf_name name) x
+
+-- the pair of the leaf that a look-up names, if it names one
+abbrev pub pair_under : {K V : Type 0} → Nodes K V → Option LeafPtr → Option (K × V)
+pair_under s None = None
+pair_under s (Some name) = option_map pair_of (map.get s.leaves name)
 
 -- the nodes whose place is a front of the key, each with its place
 abbrev pub nodes_on_way : {N A : Type 0} → (A → List ℕ) → List ℕ → Tree N A → List (List ℕ × N)

@@ -1,7 +1,8 @@
 //! Searches for a key, and for the key that is a prefix of a query.
 ghost use Rattle.std.specs.Prelude.{◌≡◌, ◌+◌, ◌<◌, ◌≤◌, ◌^◌, ◌↔◌, length, drop, is_ok, false, IfSome, IsSome, IsTrue};
-ghost use Rattle.art_model.specs.Lookups.{FindsLeaf};
-ghost use Rattle.art_model.specs.Pairs.{match_of, of_key, with_key};
+ghost use Rattle.std.specs.FinMap as map;
+ghost use Rattle.art_model.specs.Lookups.{FindsLeaf, pair_under};
+ghost use Rattle.art_model.specs.Pairs.{first_of, match_of, of_key, with_key};
 ghost use Rattle.art_model.specs.Roots.{ForTree, IsCanonicalRoot};
 ghost use Rattle.art_reading.specs.Walks.{CountsVisits, WalkEnds};
 
@@ -303,8 +304,11 @@ pub fn search_unchecked<K: AsBytes + Drop, V: Drop, const PREFIX_LEN: usize>(
     key_bytes: &[u8],
 ) -> OptionalLeafPtr
     requires { IsCanonicalRoot (of_key K.bytes) PREFIX_LEN store.now root }
-    ensures { ForTree (of_key K.bytes) PREFIX_LEN store.now root (λ pairs layout.
+    ensures leaf { ForTree (of_key K.bytes) PREFIX_LEN store.now root (λ pairs layout.
         FindsLeaf layout (with_key (of_key K.bytes) key_bytes.now pairs) result) }
+    ensures there { IfSome result (λ leaf. IsSome (map.get store.now.leaves leaf)) }
+    ensures pair { ForTree (of_key K.bytes) PREFIX_LEN store.now root (λ pairs _.
+        pair_under store.now result ≡ first_of (with_key (of_key K.bytes) key_bytes.now pairs)) }
 {
     search_visiting(store, root, key_bytes, &mut Visits::new())
 }
@@ -321,6 +325,9 @@ pub fn search_visiting<K: AsBytes + Drop, V: Drop, const PREFIX_LEN: usize>(
     requires room { visits.old + length key_bytes.now + 1 < 2 ^ 64 }
     ensures leaf { ForTree (of_key K.bytes) PREFIX_LEN store.now root (λ pairs layout.
         FindsLeaf layout (with_key (of_key K.bytes) key_bytes.now pairs) result) }
+    ensures there { IfSome result (λ leaf. IsSome (map.get store.now.leaves leaf)) }
+    ensures pair { ForTree (of_key K.bytes) PREFIX_LEN store.now root (λ pairs _.
+        pair_under store.now result ≡ first_of (with_key (of_key K.bytes) key_bytes.now pairs)) }
     ensures visits { CountsVisits (of_key K.bytes) PREFIX_LEN store.now root key_bytes.now
         visits.old visits.new (IsSome result) }
 {
@@ -338,8 +345,11 @@ pub fn prefix_search_unchecked<K: AsBytes + Drop, V: Drop, const PREFIX_LEN: usi
     key_bytes: &[u8],
 ) -> OptionalLeafPtr
     requires { IsCanonicalRoot (of_key K.bytes) PREFIX_LEN store.now root }
-    ensures { ForTree (of_key K.bytes) PREFIX_LEN store.now root (λ pairs layout.
+    ensures leaf { ForTree (of_key K.bytes) PREFIX_LEN store.now root (λ pairs layout.
         FindsLeaf layout (match_of (of_key K.bytes) key_bytes.now pairs) result) }
+    ensures there { IfSome result (λ leaf. IsSome (map.get store.now.leaves leaf)) }
+    ensures pair { ForTree (of_key K.bytes) PREFIX_LEN store.now root (λ pairs _.
+        pair_under store.now result ≡ first_of (match_of (of_key K.bytes) key_bytes.now pairs)) }
 {
     prefix_search_visiting(store, root, key_bytes, &mut Visits::new())
 }
@@ -356,6 +366,9 @@ pub fn prefix_search_visiting<K: AsBytes + Drop, V: Drop, const PREFIX_LEN: usiz
     requires room { visits.old + length key_bytes.now + 1 < 2 ^ 64 }
     ensures leaf { ForTree (of_key K.bytes) PREFIX_LEN store.now root (λ pairs layout.
         FindsLeaf layout (match_of (of_key K.bytes) key_bytes.now pairs) result) }
+    ensures there { IfSome result (λ leaf. IsSome (map.get store.now.leaves leaf)) }
+    ensures pair { ForTree (of_key K.bytes) PREFIX_LEN store.now root (λ pairs _.
+        pair_under store.now result ≡ first_of (match_of (of_key K.bytes) key_bytes.now pairs)) }
     ensures visits { CountsVisits (of_key K.bytes) PREFIX_LEN store.now root key_bytes.now
         visits.old visits.new (IsSome result) }
 {

@@ -12,13 +12,14 @@ use Rattle.art_parts.specs.declared.names.OpaqueNodePtr.{OpaqueNodePtr}
 use Rattle.art_model.specs.Canonical.{IsCanonicalTree}
 use Rattle.art_model.specs.Keys.{are_related, are_same, Precedes}
 use Rattle.art_model.specs.Layouts.{Holds}
-use Rattle.art_model.specs.Lookups.{FindsLeaf, HasLeaf}
+use Rattle.art_model.specs.Lookups.{FindsLeaf}
 use Rattle.art_model.specs.Pairs.{first_of, IsMap, with_key, has_key, is_conflict, of_key, remove_key, remove_reply}
 use Rattle.art_model.specs.Roots.{IsRootOf}
 use Rattle.art_model.specs.Stores.{node_at, pair_of}
 use Rattle.art_model.specs.Trees.{Tree, leaf}
 use Rattle.art_model.proofs.Filters.{none_passes, filter_all, filter_passes}
 use Rattle.art_model.proofs.Keys.{related_sym, same_equal}
+use Rattle.art_model.proofs.LeavesFound.{leaf_found}
 use Rattle.art_model.proofs.Lists.{Each-weaker}
 use Rattle.art_model.proofs.Puts.{any_is_first, first_none}
 use Rattle.art_model.proofs.Stores.{path_holds}
@@ -105,26 +106,15 @@ module _ {K V : Type 0} (bytes : K → List ℕ) where
       go None h = absurd h
       go (Some layout) h = (layout, h)
 
-  -- a leaf of the tree is there, with its pair
-  pub leaf_found : (P : ℕ) {s : Nodes K V} {name : OpaqueNodePtr} {pairs : List (K × V)} {layout : Tree OpaqueNodePtr (K × V)} {p : LeafPtr}
-      {x : K × V} → IsCanonicalTree (of_key bytes) P s name pairs layout → HasLeaf layout (leaf_name p) x → (node : LeafNode K V) × (get s.leaves p ≡ Some node) × (pair_of node ≡ x)
-  leaf_found P {s} {name} {pairs} {layout} {p} {x} by has =
-      leaf_there s p x (path_holds (node_at s) has.path (leaf (leaf_name p) x) (subst (Holds (node_at s)) (sym has.whole) by.stands.0.holds)).1
-
   -- the length of a match that is found is that of the leaf's key
   pub match_found : (P : ℕ) {s : Nodes K V} {name : OpaqueNodePtr} {pairs : List (K × V)} {layout : Tree OpaqueNodePtr (K × V)} {p : LeafPtr}
       {node : LeafNode K V} (matches : List (K × V)) → IsCanonicalTree (of_key bytes) P s name pairs layout → FindsLeaf layout matches (Some p) → get s.leaves p ≡ Some node →
       length (bytes node.key) ∷ [] ≡ map (λ x. length (bytes x.0)) matches
   match_found P {s} {name} {pairs} {layout} {p} {node} matches by (x, only, has) got =
-      let (other, there, its) = leaf_found P by has in
+      let (other, there, its) = leaf_found (of_key bytes) P by has in
       let same : other ≡ node = cc in
       let pair : pair_of node ≡ x = ap pair_of (sym same) ∙ its in
       ap (λ y. length (bytes y.0) ∷ []) pair ∙ sym (ap (map (λ y. length (bytes y.0))) only)
-
-  -- a leaf that is found is there
-  pub found_there : (P : ℕ) {s : Nodes K V} {name : OpaqueNodePtr} {pairs : List (K × V)} {layout : Tree OpaqueNodePtr (K × V)} {p : LeafPtr}
-      (matches : List (K × V)) → IsCanonicalTree (of_key bytes) P s name pairs layout → FindsLeaf layout matches (Some p) → get s.leaves p ≡ None → ⊥
-  found_there P matches by (x, only, has) none = let (other, there, its) = leaf_found P by has in absurd (cc (none, there))
 
 -- the leaf of a delete point has the pair that the point leads to
 pub deleted_pair : {K V : Type 0} (bytes : K → List ℕ) (P : ℕ) {s : Nodes K V} {root : OpaqueNodePtr} {pairs : List (K × V)} {layout : Tree OpaqueNodePtr (K × V)}

@@ -1,13 +1,16 @@
 //! Uses of the operations, as a caller writes them.
 #![tactic(auto)]
 
-ghost use Rattle.std.specs.Prelude.{◌≡◌, List, length, max, Some, IfSome, IfNone};
+ghost use Rattle.std.specs.Prelude.{◌≡◌, List, length, max, Some, IfSome, IfNone, option_copied};
+ghost use Rattle.std.specs.Option.{option_map};
 ghost use Rattle.art_parts.specs.declared.names.OpaqueNodePtr.{OpaqueNodePtr};
 ghost use Rattle.art_model.specs.Canonical.{IsCanonical};
-ghost use Rattle.art_model.specs.Pairs.{of_key, overwrite, put, remove_key, without_first};
+ghost use Rattle.art_model.specs.Pairs.{first_of, match_of, of_key, overwrite, put, remove_key, without_first};
 ghost use Rattle.art_model.specs.Layouts.{leaf_names};
 ghost use Rattle.art_model.specs.Roots.{ForTree, IsCanonicalRoot};
 ghost use Rattle.art_operations.specs.Iterators.{IsIteratorOf};
+ghost use Rattle.art_operations.specs.MapAnswers.{value_at};
+ghost use Rattle.art_operations.specs.MapItems.{deref_pair};
 ghost use Rattle.uses.specs.Longest.{longest};
 
 use art_nodes::node::{AsBytes, InnerRef, LeafNode, OpaqueNodePtr};
@@ -15,6 +18,7 @@ use art_nodes::store::NodeStore;
 use art_operations::delete::search_for_delete_point;
 use art_operations::insert::{search_for_insert_point, search_for_prefix_insert_point};
 use art_operations::iterator::RawIterator;
+use art_operations::lookup::{prefix_search_unchecked, search_unchecked};
 use art_operations::minmax::{maximum_unchecked, minimum_unchecked};
 use art_operations::visitor::{Visitor, visit_with};
 
@@ -89,6 +93,40 @@ pub fn take<K: AsBytes + Drop, V: Drop, const P: usize>(
         }
         Err(_) => None,
     }
+}
+
+/// The value of a key, if it is stored.
+pub fn get<'a, K: AsBytes + Drop, V: Drop, const P: usize>(
+    store: &'a NodeStore<K, V, P>,
+    root: OpaqueNodePtr,
+    key_bytes: &[u8],
+) -> Option<&'a V>
+    requires { IsCanonicalRoot (of_key K.bytes) P store.now root }
+    ensures { ForTree (of_key K.bytes) P store.now root (λ pairs _.
+        option_copied result ≡ value_at K.bytes key_bytes.now pairs) }
+{
+    let leaf = search_unchecked(store, root, key_bytes)?;
+    let Some(node) = store.leaf(leaf) else {
+        unreachable!()
+    };
+    Some(&node.value)
+}
+
+/// The pair whose key is a prefix of the query or equal to it. There is at most one.
+pub fn longest_match<'a, K: AsBytes + Drop, V: Drop, const P: usize>(
+    store: &'a NodeStore<K, V, P>,
+    root: OpaqueNodePtr,
+    query: &[u8],
+) -> Option<(&'a K, &'a V)>
+    requires { IsCanonicalRoot (of_key K.bytes) P store.now root }
+    ensures { ForTree (of_key K.bytes) P store.now root (λ pairs _.
+        option_map deref_pair result ≡ first_of (match_of (of_key K.bytes) query.now pairs)) }
+{
+    let leaf = prefix_search_unchecked(store, root, query)?;
+    let Some(node) = store.leaf(leaf) else {
+        unreachable!()
+    };
+    Some((&node.key, &node.value))
 }
 
 /// All leaves of a tree, in order.

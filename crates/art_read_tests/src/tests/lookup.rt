@@ -9,12 +9,12 @@ use art_nodes::node::{
 };
 use art_nodes::store::NodeStore;
 use art_operations::lookup::{
-    PrefixMatchBehavior, Visits, prefix_search_unchecked, prefix_search_visiting, search_unchecked,
-    search_visiting,
+    PrefixMatchBehavior, Visits, prefix_search_visiting, search_visiting,
 };
 use art_operations::path::{AttemptOptimisticPrefixMatch, PessimisticMismatch};
 use art_test_support::trees::{Key, keys_of_zeros, planted_all, planted_keys, value_of};
 use std::alloc::Global;
+use uses::{get, longest_match};
 
 // A search or a prefix search for a key.
 #[derive(Clone, Copy)]
@@ -31,11 +31,10 @@ fn found<const P: usize>(
 ) -> Option<u32>
     requires { IsCanonicalRoot (of_key (λ key. key.items)) P store.now root }
 {
-    let leaf = match search {
-        Search::Whole(key_bytes) => search_unchecked(store, root, key_bytes),
-        Search::Prefix(key_bytes) => prefix_search_unchecked(store, root, key_bytes),
-    };
-    value_of(store, leaf?)
+    match search {
+        Search::Whole(key_bytes) => get(store, root, key_bytes).copied(),
+        Search::Prefix(key_bytes) => Some(*longest_match(store, root, key_bytes)?.1),
+    }
 }
 
 // The same, and how many nodes the search reads.

@@ -52,7 +52,7 @@ pub returns-in-Contains : goal.returns-in-Contains
 returns-in-Contains g c =
     let bytes = g.K.AsBytes.bytes in
     rw (c.in-Contains.is, c.in-Some.is, c.is_some.ensures) (asked bytes g.row.P c.args.side.now c.args.other.now (λ layout by.
-    let found = rw c.deref-in-Contains.ensures.value at (c.search_unchecked.ensures (pairs_of layout) layout by) in
+    let found = rw c.deref-in-Contains.ensures.value at (c.search_unchecked.ensures.leaf (pairs_of layout) layout by) in
     found_step bytes g.row.P c.args.side.now c.args.other.now (Some layout)
     (found_stored (of_key bytes) c.in-Contains.key.items (pairs_of layout) layout c.search_unchecked.result found, refl)))
 

@@ -1,13 +1,10 @@
-use Rattle.std.proofs.Common.{rules, ap}
+use Rattle.std.proofs.Common.{ap}
 use Rattle.std.specs.Option.{option_map}
 use Rattle.art_model.specs.Pairs.{of_key, with_key}
-use Rattle.art_map.proofs.Takings.{found_there, found_pair}
+use Rattle.art_map.proofs.Takings.{found_pair}
 use Rattle.art_map.proofs.map.ByteMap.get.Goals as goal
-
-pub pair_at-requires : goal.pair_at-requires
-pair_at-requires g c = (search rules, found_there g.K.AsBytes.bytes g.row.P c.in_ok-self.was c.self.invariant (with_key (of_key g.K.AsBytes.bytes) c.args.key_bytes.now) c.in_ok-leaf.ensures)
 
 pub returns : goal.returns
 returns g c =
-    ap (option_map (λ x. x.1)) (found_pair g.K.AsBytes.bytes g.row.P c.in_ok-self.was c.self.invariant
-    (with_key (of_key g.K.AsBytes.bytes) c.args.key_bytes.now) c.in_ok-leaf.ensures c.pair_at.ensures c.self.view_is)
+    ap (option_map (λ x. x.1)) (found_pair g.K.AsBytes.bytes g.row.P _ c.in_ok-self.was c.self.invariant
+    (with_key (of_key g.K.AsBytes.bytes) c.args.key_bytes.now) c.in_ok-leaf.ensures.pair c.pair_at.ensures c.self.view_is)

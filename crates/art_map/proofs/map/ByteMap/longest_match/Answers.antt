@@ -1,12 +1,8 @@
-use Rattle.std.proofs.Common.{rules}
 use Rattle.art_model.specs.Pairs.{match_of, of_key}
-use Rattle.art_map.proofs.Takings.{found_there, found_pair}
+use Rattle.art_map.proofs.Takings.{found_pair}
 use Rattle.art_map.proofs.map.ByteMap.longest_match.Goals as goal
-
-pub pair_at-requires : goal.pair_at-requires
-pair_at-requires g c = (search rules, found_there g.K.AsBytes.bytes g.row.P c.in_ok-self.was c.self.invariant (match_of (of_key g.K.AsBytes.bytes) c.args.query.now) c.in_ok-leaf.ensures)
 
 pub returns : goal.returns
 returns g c =
-    found_pair g.K.AsBytes.bytes g.row.P c.in_ok-self.was c.self.invariant (match_of (of_key g.K.AsBytes.bytes) c.args.query.now)
-    c.in_ok-leaf.ensures c.pair_at.ensures c.self.view_is
+    found_pair g.K.AsBytes.bytes g.row.P _ c.in_ok-self.was c.self.invariant (match_of (of_key g.K.AsBytes.bytes) c.args.query.now)
+    c.in_ok-leaf.ensures.pair c.pair_at.ensures c.self.view_is
