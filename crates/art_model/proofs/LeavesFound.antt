@@ -16,7 +16,8 @@ use Rattle.art_model.specs.Trees.{Tree, leaf}
 use Rattle.art_model.proofs.Stores.{path_holds}
 use Rattle.art_model.proofs.Views.{leaf_there}
 
-module _ {K V : Type 0} (bytes : K × V → List ℕ) (P : ℕ) {s : Nodes K V} {root : OpaqueNodePtr} {pairs : List (K × V)} {layout : Tree OpaqueNodePtr (K × V)} (by : IsCanonicalTree bytes P s root pairs layout) where
+module _ {K V : Type 0} (bytes : K × V → List ℕ) (P : ℕ) {s : Nodes K V} {root : OpaqueNodePtr} {pairs : List (K × V)}
+    {layout : Tree OpaqueNodePtr (K × V)} (by : IsCanonicalTree bytes P s root pairs layout) where
   -- a leaf of the tree is there, with its pair
   pub leaf_found : {p : LeafPtr} {x : K × V} → HasLeaf layout (leaf_name p) x → (node : LeafNode K V) × (get s.leaves p ≡ Some node) × (pair_of node ≡ x)
   leaf_found {p} {x} has =

@@ -4,7 +4,7 @@ ghost use Rattle.std.specs.FinMap as map;
 ghost use Rattle.art_model.specs.Lookups.{FindsLeaf, pair_under};
 ghost use Rattle.art_model.specs.Pairs.{first_of, match_of, of_key, with_key};
 ghost use Rattle.art_model.specs.Roots.{ForTree, IsCanonicalRoot};
-ghost use Rattle.art_reading.specs.Walks.{CountsVisits, WalkEnds};
+ghost use Rattle.art_reading.specs.Walks.{CountsVisits, WalkEnds, asked_of};
 
 use crate::path::{AttemptOptimisticPrefixMatch, LastSteps, PessimisticMismatch};
 use crate::ways::{Asked, LastLeaf, shared_len, walk_to_key};
@@ -331,8 +331,7 @@ pub fn search_visiting<K: AsBytes + Drop, V: Drop, const PREFIX_LEN: usize>(
     ensures visits { CountsVisits (of_key K.bytes) PREFIX_LEN store.now root key_bytes.now
         visits.old visits.new (IsSome result) }
 {
-    let last = walk_to_key(store, root, key_bytes, Asked::Same, visits)?;
-    Some(last.name)
+    find_leaf(store, root, key_bytes, Asked::Same, visits)
 }
 
 /// The leaf whose key is a prefix of these bytes or equal to them, or `None` where there is none.
@@ -372,6 +371,28 @@ pub fn prefix_search_visiting<K: AsBytes + Drop, V: Drop, const PREFIX_LEN: usiz
     ensures visits { CountsVisits (of_key K.bytes) PREFIX_LEN store.now root key_bytes.now
         visits.old visits.new (IsSome result) }
 {
-    let last = walk_to_key(store, root, key_bytes, Asked::Front, visits)?;
+    find_leaf(store, root, key_bytes, Asked::Front, visits)
+}
+
+// The leaf that is asked for, or `None` where no stored key is as asked; each reading of a node is counted.
+#[inline(always)]
+fn find_leaf<K: AsBytes + Drop, V: Drop, const PREFIX_LEN: usize>(
+    store: &NodeStore<K, V, PREFIX_LEN>,
+    root: OpaqueNodePtr,
+    key_bytes: &[u8],
+    asked: Asked,
+    visits: &mut Visits,
+) -> OptionalLeafPtr
+    requires root { IsCanonicalRoot (of_key K.bytes) PREFIX_LEN store.now root }
+    requires room { visits.old + length key_bytes.now + 1 < 2 ^ 64 }
+    ensures leaf { ForTree (of_key K.bytes) PREFIX_LEN store.now root (λ pairs layout.
+        FindsLeaf layout (asked_of asked (of_key K.bytes) key_bytes.now pairs) result) }
+    ensures there { IfSome result (λ leaf. IsSome (map.get store.now.leaves leaf)) }
+    ensures pair { ForTree (of_key K.bytes) PREFIX_LEN store.now root (λ pairs _.
+        pair_under store.now result ≡ first_of (asked_of asked (of_key K.bytes) key_bytes.now pairs)) }
+    ensures visits { CountsVisits (of_key K.bytes) PREFIX_LEN store.now root key_bytes.now
+        visits.old visits.new (IsSome result) }
+{
+    let last = walk_to_key(store, root, key_bytes, asked, visits)?;
     Some(last.name)
 }

@@ -1,8 +1,9 @@
 use Rattle.std.proofs.Common.{None, Some}
-use Rattle.art_model.specs.Pairs.{of_key, with_key}
+use Rattle.art_model.specs.Pairs.{of_key}
 use Rattle.art_model.specs.Stores.{pair_of}
 use Rattle.art_model.proofs.LeavesFound.{found_is_there, pair_found}
-use Rattle.art_reading.proofs.lookup.search_visiting.Goals as goal
+use Rattle.art_reading.specs.Walks.{asked_of}
+use Rattle.art_reading.proofs.lookup.find_leaf.Goals as goal
 
 pub returns-in_err-last-clause-leaf : goal.returns-in_err-last-clause-leaf
 returns-in_err-last-clause-leaf g c pairs layout by = rw c.from_residual.ensures (c.in_err-last.ensures.leaf pairs layout by)
@@ -21,4 +22,4 @@ returns-clause-there g c =
 
 pub returns-clause-pair : goal.returns-clause-pair
 returns-clause-pair g c pairs layout by =
-    pair_found (of_key g.K.AsBytes.bytes) g.row.PREFIX_LEN by (Some c.in_ok-last.last.name) (with_key (of_key g.K.AsBytes.bytes) c.args.key_bytes.now pairs) (returns-clause-leaf g c pairs layout by)
+    pair_found (of_key g.K.AsBytes.bytes) g.row.PREFIX_LEN by (Some c.in_ok-last.last.name) (asked_of c.args.asked (of_key g.K.AsBytes.bytes) c.args.key_bytes.now pairs) (returns-clause-leaf g c pairs layout by)
