@@ -5,11 +5,11 @@ use Rattle.art_operations.specs.declared.run.Command.{Command}
 use Rattle.art_operations.specs.declared.run.Command.TheVariants as commands
 use Rattle.art_operations.specs.declared.run.Reply.{Reply}
 use Rattle.art_operations.specs.declared.run.Side.{Side}
-use Rattle.artrun.specs.Keys.{key_word}
+use Rattle.art_lines.specs.Keys.{key_word}
 use Rattle.artrun.specs.KeptTrees.{seen, stood}
 use Rattle.artrun.specs.Trees.{Key, key_bytes}
-use Rattle.artrun.specs.declared.line.Request.{Request}
-use Rattle.artrun.specs.declared.line.Request.TheVariants.{Insert, Prefix, Delete, First, Last, Clone, Find, Longest, Walk, Back, Nodes, Check}
+use Rattle.art_lines.specs.declared.line.Request.{Request}
+use Rattle.art_lines.specs.declared.line.Request.TheVariants.{Insert, Prefix, Delete, First, Last, Clone, Find, Longest, Walk, Back, Nodes, Check}
 use Rattle.artrun.specs.declared.tree.KeptTree.{KeptTree}
 
 -- the command that a request asks for, with the key that its word writes; no command where it only asks to see the tree

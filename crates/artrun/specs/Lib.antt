@@ -1,5 +1,3 @@
-pub mod Keys
-pub mod Lines
 pub mod Trees
 pub mod KeptTrees
 pub mod Commands

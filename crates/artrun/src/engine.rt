@@ -5,9 +5,9 @@ ghost use Rattle.art_parts.specs.Clones.{IsPairClone};
 ghost use Rattle.artrun.specs.Commands.{IsAnswered, IsCommandFor};
 ghost use Rattle.artrun.specs.KeptTrees.{IsKept};
 
-use crate::line::Request;
 use crate::print::{Order, write_check, write_no_memory, write_reply};
 use crate::tree::KeptTree;
+use art_lines::line::Request;
 use art_operations::run::Command;
 use std::alloc::{AllocError, Global};
 use std::io;

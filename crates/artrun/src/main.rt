@@ -2,7 +2,6 @@
 #![tactic(auto)]
 
 mod engine;
-mod line;
 mod print;
 mod tree;
 mod walk;

@@ -2,8 +2,8 @@ use Rattle.std.proofs.Common.{inl, inr, ◌∙◌, sym}
 use Rattle.std.proofs.Math.Logic.{∥∥₁_map}
 use Rattle.std.proofs.lemmas.Result.{IfOk-weaker}
 use Rattle.std.specs.Cmp.Lexicographic.{other_text}
-use Rattle.artrun.proofs.KeyLemmas.{words_from_key, key_of_parts}
-use Rattle.artrun.proofs.line.KeyWord.copy.Goals as goal
+use Rattle.art_lines.proofs.KeyLemmas.{words_from_key, key_of_parts}
+use Rattle.art_lines.proofs.line.KeyWord.copy.Goals as goal
 
 pub read_bytes-requires : goal.read_bytes-requires
 read_bytes-requires c =

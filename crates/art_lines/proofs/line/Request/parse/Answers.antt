@@ -1,5 +1,5 @@
-use Rattle.artrun.proofs.Requests.{no_insert, no_prefix, no_delete, no_longest, no_find}
-use Rattle.artrun.proofs.line.Request.parse.Goals as goal
+use Rattle.art_lines.proofs.Requests.{no_insert, no_prefix, no_delete, no_longest, no_find}
+use Rattle.art_lines.proofs.line.Request.parse.Goals as goal
 
 pub returns-in_err-key-clause-none : goal.returns-in_err-key-clause-none
 returns-in_err-key-clause-none c = rw c.from_residual.ensures (no_insert c.args.line.now c.in-Some-strip.arguments.now c.in-Some-strip.ensures.rest c.in_err-key.ensures.none)

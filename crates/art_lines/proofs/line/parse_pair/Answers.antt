@@ -1,8 +1,8 @@
 use Rattle.std.proofs.Common.{sym, subst, ◌∙◌}
 use Rattle.std.specs.Fmt.{decimal}
-use Rattle.artrun.specs.Keys.{IsKeyWord}
-use Rattle.artrun.proofs.Words.{HasNoSpace, has_space, same_words, key_spaceless}
-use Rattle.artrun.proofs.line.parse_pair.Goals as goal
+use Rattle.art_lines.specs.Keys.{IsKeyWord}
+use Rattle.art_lines.proofs.Words.{HasNoSpace, has_space, same_words, key_spaceless}
+use Rattle.art_lines.proofs.line.parse_pair.Goals as goal
 
 pub returns-in_err-key-clause-none : goal.returns-in_err-key-clause-none
 returns-in_err-key-clause-none c =

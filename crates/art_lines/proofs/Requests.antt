@@ -2,11 +2,11 @@
 use Rattle.std.proofs.Common.{◌≡◌, ◌≢◌, ℕ, ◌<◌, ◌^◌, List, ◌∷◌, ◌++◌, drop, get_or, ap, sym, ◌∙◌, subst, arith, codes}
 use Rattle.std.proofs.Math.Logic.{∥∥₁_elim}
 use Rattle.std.specs.Fmt.{decimal}
-use Rattle.artrun.specs.Keys.{IsKeyWord}
-use Rattle.artrun.specs.Lines.{line_of, HasSmallValue}
-use Rattle.artrun.specs.declared.line.KeyWord.{KeyWord}
-use Rattle.artrun.specs.declared.line.Request.{Request}
-use Rattle.artrun.specs.declared.line.Request.TheVariants.{Insert, Prefix, Delete, First, Last, Find, Longest}
+use Rattle.art_lines.specs.Keys.{IsKeyWord}
+use Rattle.art_lines.specs.Lines.{line_of, HasSmallValue}
+use Rattle.art_lines.specs.declared.line.KeyWord.{KeyWord}
+use Rattle.art_lines.specs.declared.line.Request.{Request}
+use Rattle.art_lines.specs.declared.line.Request.TheVariants.{Insert, Prefix, Delete, First, Last, Find, Longest}
 
 -- the character at a place of a line
 abbrev at : ℕ → List ℕ → ℕ

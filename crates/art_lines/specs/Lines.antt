@@ -2,8 +2,8 @@
 use Rattle.std.specs.Prelude.{ℕ, ◌<◌, ◌^◌, ⊤, List, [], ◌∷◌, codes}
 use Rattle.std.specs.List.{join_with_byte}
 use Rattle.std.specs.Fmt.{decimal}
-use Rattle.artrun.specs.declared.line.Request.{Request}
-use Rattle.artrun.specs.declared.line.Request.TheVariants.{Insert, Prefix, Delete, First, Last, Clone, Find, Longest, Walk, Back, Nodes, Check}
+use Rattle.art_lines.specs.declared.line.Request.{Request}
+use Rattle.art_lines.specs.declared.line.Request.TheVariants.{Insert, Prefix, Delete, First, Last, Clone, Find, Longest, Walk, Back, Nodes, Check}
 
 -- the words of the line that asks for it
 abbrev pub words_of : Request → List (List ℕ)

@@ -1,6 +1,6 @@
 use Rattle.std.proofs.Common.{◌≡◌, map}
 use Rattle.std.specs.Fmt.{decimal}
-use Rattle.artrun.proofs.line.read_bytes.Given as goal
+use Rattle.art_lines.proofs.line.read_bytes.Given as goal
 
 -- the bytes so far are those of the parts so far
 abbrev pub invariant-loop-digits : goal.invariant-loop-digits

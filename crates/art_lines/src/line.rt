@@ -2,7 +2,7 @@
 ghost use Rattle.std.specs.Prelude.{◌≡◌, ◌≢◌, ◌==◌, ◌++◌, ◌∷◌, List, All, ◌↔◌, ◌<◌, ◌^◌, ℕ, IsTrue, IfSome, IfNone, IfOk, codes, map};
 ghost use Rattle.std.specs.Fmt.{decimal};
 ghost use Rattle.std.specs.List.{slice_split};
-ghost use Rattle.artrun.specs.Keys.{IsByteWord, IsKeyWord, key_word};
+ghost use Rattle.art_lines.specs.Keys.{IsByteWord, IsKeyWord, key_word};
 
 use std::alloc::{AllocError, Global};
 use std::str;
@@ -57,8 +57,8 @@ impl<'a> KeyWord<'a> {
 }
 
 impl<'a> Request<'a> {
-    ghost use Rattle.artrun.specs.Lines.{line_of, HasSmallValue};
-    ghost use Rattle.artrun.specs.declared.line.Request.{Request};
+    ghost use Rattle.art_lines.specs.Lines.{line_of, HasSmallValue};
+    ghost use Rattle.art_lines.specs.declared.line.Request.{Request};
 
     /// What a line without its line feed asks for, or None where there is nothing that it asks for.
     pub fn parse(line: &'a [u8]) -> Option<Self>

@@ -5,7 +5,7 @@ use Rattle.std.specs.Slice.Iter.{split_rest, split_done, split_callee}
 use Rattle.std.proofs.lemmas.List.{map-append}
 use Rattle.std.proofs.lemmas.Iterator.Consumers.{YieldsList-turn, YieldsList-end}
 use Rattle.std.proofs.lemmas.Iterator.Splits.{YieldsList-from_slice_split}
-use Rattle.artrun.proofs.line.read_bytes.Goals as goal
+use Rattle.art_lines.proofs.line.read_bytes.Goals as goal
 
 one_more : {A : Type 0} (f : A → List ℕ) (xs : List A) (x : A) (bs : List ℕ) (b : ℕ) → map f xs ≡ map decimal bs → f x ≡ decimal b → map f (xs ++ x ∷ []) ≡ map decimal (bs ++ b ∷ [])
 one_more f xs x bs b e h = let k = map-append f xs (x ∷ []) in let m = map-append decimal bs (b ∷ []) in cc

@@ -4,7 +4,7 @@ use Rattle.std.specs.Cmp.Lexicographic.{same_text, other_text}
 use Rattle.std.proofs.lemmas.List.{take-append-drop}
 use Rattle.std.proofs.Math.Seq.{take-append_seam}
 use lib.Pointwise.{pointwise}
-use Rattle.artrun.proofs.line.strip.Goals as goal
+use Rattle.art_lines.proofs.line.strip.Goals as goal
 
 -- what `strip_prefix` gives
 abbrev Strips : List ℕ → List ℕ → Option (Bor (List ℕ)) → Type 0

@@ -1,6 +1,6 @@
 use Rattle.std.proofs.Common.{◌≡◌, ◌≢◌, length, get_or, arith}
-use Rattle.artrun.proofs.Numbers.{parsed, not_parsed, decimal_is_utf8}
-use Rattle.artrun.proofs.line.parse_number.Goals as goal
+use Rattle.art_lines.proofs.Numbers.{parsed, not_parsed, decimal_is_utf8}
+use Rattle.art_lines.proofs.line.parse_number.Goals as goal
 
 pub returns-in_default-clause-none : goal.returns-in_default-clause-none
 returns-in_default-clause-none c = λ n small is. c.in_default.ensures.cases.0 (decimal_is_utf8 _ n small is)

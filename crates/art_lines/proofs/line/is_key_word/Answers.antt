@@ -1,7 +1,7 @@
 use Rattle.std.proofs.Common.{inl, inr, ◌∙◌, sym}
 use Rattle.std.specs.Cmp.Lexicographic.{other_text}
-use Rattle.artrun.proofs.KeyLemmas.{key_from_words, words_from_key}
-use Rattle.artrun.proofs.line.is_key_word.Goals as goal
+use Rattle.art_lines.proofs.KeyLemmas.{key_from_words, words_from_key}
+use Rattle.art_lines.proofs.line.is_key_word.Goals as goal
 
 pub returns-else-eq : goal.returns-else-eq
 returns-else-eq c = (

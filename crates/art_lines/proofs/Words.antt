@@ -3,8 +3,8 @@ use Rattle.std.proofs.Common.{◌≡◌, ◌≢◌, ℕ, ◌<◌, ◌^◌, List,
 use Rattle.std.specs.List.{All, join_with_byte}
 use Rattle.std.specs.Fmt.{decimal}
 use Rattle.std.proofs.lemmas.List.Elements.{All-head, All-tail, All-cons, All-append}
-use Rattle.artrun.specs.Keys.{AreBytes, IsKeyWord}
-use Rattle.artrun.proofs.Numbers.{decimal_without}
+use Rattle.art_lines.specs.Keys.{AreBytes, IsKeyWord}
+use Rattle.art_lines.proofs.Numbers.{decimal_without}
 
 -- no byte is a space
 abbrev pub HasNoSpace : List ℕ → Type 0

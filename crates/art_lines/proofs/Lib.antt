@@ -1,0 +1,4 @@
+pub mod Numbers
+pub mod KeyLemmas
+pub mod Words
+pub mod Requests

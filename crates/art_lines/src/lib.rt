@@ -1,0 +1,4 @@
+//! What the lines of `artrun` ask for.
+#![tactic(auto)]
+
+pub mod line;
