@@ -33,8 +33,17 @@ pub fn serve(
 ) -> u8
     ensures { result ≤ 2 }
 {
-    let end = answer_lines(alloc, &mut input, &mut output);
-    match (end, output.flush()) {
+    let mut tree = KeptTree::new(alloc);
+    let end = answer_lines(alloc, &mut tree, &mut input, &mut output);
+    let written = output.flush();
+    status_of(end, written)
+}
+
+// The status that an end of reading, and the last writing, come to.
+fn status_of(end: io::Result<End>, written: io::Result<()>) -> u8
+    ensures { result ≤ 2 }
+{
+    match (end, written) {
         (Ok(End::Input), Ok(())) => 0,
         (Ok(End::BadLine), Ok(())) => 2,
         _ => 1,
@@ -43,29 +52,39 @@ pub fn serve(
 
 fn answer_lines(
     alloc: Global,
+    tree: &mut KeptTree,
     input: &mut BufReader<impl Read>,
     output: &mut impl Write,
-) -> io::Result<End> {
-    let mut tree = KeptTree::new(alloc);
+) -> io::Result<End>
+    requires { IsKept tree.old }
+{
     let mut line = Vec::new(alloc);
     for number in 1..u64::MAX {
-        line.clear();
-        if input.read_until(b'\n', &mut line)? == 0 {
+        if !read_line(input, &mut line)? {
             return Ok(End::Input);
-        }
-        if line.last() == Some(&b'\n') {
-            line.pop();
         }
         let Some(request) = Request::parse(&line) else {
             writeln!(output, "line {number}: refused")?;
             return Ok(End::BadLine);
         };
-        answer(alloc, &mut tree, request, output)?;
+        answer(alloc, tree, request, output)?;
         if !input.buffer().contains(&b'\n') {
             output.flush()?;
         }
     }
     Ok(End::Input)
+}
+
+// Reads the next line, without the byte that ends it. Answers whether there was one.
+fn read_line(input: &mut BufReader<impl Read>, line: &mut Vec<u8>) -> io::Result<bool> {
+    line.clear();
+    if input.read_until(b'\n', line)? == 0 {
+        return Ok(false);
+    }
+    if line.last() == Some(&b'\n') {
+        line.pop();
+    }
+    Ok(true)
 }
 
 // Answers a request by a run of the command that it asks for, or by what it asks to see.

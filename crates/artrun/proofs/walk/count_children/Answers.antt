@@ -1,7 +1,7 @@
 use Rattle.std.proofs.Common.{length, ap, sym, ◌∙◌}
 use Rattle.art_inner.specs.Views.{ref_view}
 use Rattle.artrun.specs.Walks.{below}
-use Rattle.artrun.proofs.Walks.{below-inner, below-leaf, below-none, length-falling}
+use Rattle.artrun.proofs.Walks.{below-inner, length-falling}
 use Rattle.artrun.proofs.walk.count_children.Goals as goal
 
 pub returns-in-Some : goal.returns-in-Some

@@ -1,4 +1,4 @@
-use Rattle.std.proofs.Common.{ap, ◌∙◌, arith, length, length-append, [], ◌∷◌, ◌++◌}
+use Rattle.std.proofs.Common.{ap, ◌∙◌, arith, length, length-append, ◌++◌}
 use Rattle.artrun.specs.Walks.{falling, names}
 use Rattle.artrun.proofs.Walks.{pushed}
 use Rattle.artrun.proofs.walk.push_children.Goals as goal
