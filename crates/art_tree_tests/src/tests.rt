@@ -1,6 +1,7 @@
 mod by_hand;
 mod locality;
 mod odd_trees;
+mod oracle;
 mod refusals;
 mod shapes;
 mod trees;

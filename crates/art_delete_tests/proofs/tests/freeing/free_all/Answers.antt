@@ -1,6 +1,0 @@
-use Rattle.std.proofs.Common.{rules}
-use Rattle.art_model.proofs.StoreLaws.{has_children}
-use Rattle.art_delete_tests.proofs.tests.freeing.free_all.Goals as goal
-
-pub deallocate_tree-count-requires : goal.deallocate_tree-count-requires
-deallocate_tree-count-requires g c = let (pairs, layout, by) = c.requires in (search rules, (layout, has_children _ _ _ _ _ layout by))

@@ -1,5 +1,0 @@
-use Rattle.art_model.specs.Pairs.{IsMap, of_key}
-use Rattle.art_oracle_tests.proofs.tests.refused.count_refused.Given as goal
-
-abbrev pub invariant-loop-asked : goal.invariant-loop-asked
-invariant-loop-asked l = IsMap (of_key (λ key. key.items)) l.pairs.items
