@@ -1,5 +1,5 @@
 -- The names that a check has met, each with its place. No public clause cites this module.
-use Rattle.std.specs.Prelude.{◌≡◌, ◌≢◌, ℕ, Bool, eqb, ◌&&◌, List, [], ◌∷◌, ◌++◌, length, Option, Some, None}
+use Rattle.std.specs.Prelude.{◌≡◌, ◌≢◌, ℕ, Bool, ◌==◌, ◌&&◌, List, [], ◌∷◌, ◌++◌, length, Option, Some, None}
 use Rattle.std.specs.List.{AllByRecursion as Each}
 use Rattle.std.specs.Map.{lookup}
 use Rattle.std.specs.Option.{option_map}
@@ -14,7 +14,7 @@ use Rattle.art_checking.specs.declared.well_formed.seen.Seen.{Seen}
 
 -- whether the names are one
 abbrev pub same_name : OpaqueNodePtr → OpaqueNodePtr → Bool
-same_name n k = eqb (kind_index n.kind) (kind_index k.kind) && eqb n.slot k.slot
+same_name n k = kind_index n.kind == kind_index k.kind && n.slot == k.slot
 
 -- the place at which a name was met, if it was
 unfoldable pub place_in : Seen → OpaqueNodePtr → Option (List ℕ)

@@ -1,5 +1,5 @@
 -- Names in places, and a table of the places of bytes. No public clause cites this module.
-use Rattle.std.specs.Prelude.{◌≡◌, ◌≢◌, ℕ, zero, suc, ◌≤◌, List, Option, Some, None, slice_index_or, cond, ◌==◌}
+use Rattle.std.specs.Prelude.{◌≡◌, ◌≢◌, ℕ, zero, suc, ◌≤◌, List, Option, Some, None, slice_index_or, if◌then◌else◌, ◌==◌}
 use Rattle.art_parts.specs.declared.names.NodeType.{NodeType}
 use Rattle.art_parts.specs.declared.names.NodeType.TheVariants.{Node4}
 use Rattle.art_parts.specs.declared.names.OpaqueNodePtr.{OpaqueNodePtr}
@@ -21,4 +21,4 @@ IsIndex index len =
 
 -- the number of a place once the last one has moved to another
 abbrev pub moved : ℕ → ℕ → ℕ → ℕ
-moved last to number = cond (number == last) to number
+moved last to number = if number == last then to else number

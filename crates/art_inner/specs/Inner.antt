@@ -1,5 +1,5 @@
 -- What a contract sees of an inner node.
-use Rattle.std.specs.Prelude.{ℕ, List, [], ◌∷◌, suc, Option, Some, None, IsSome, length, ◌⊎◌, ◌<◌, ◌^◌, ◌==◌, ◌&&◌, leb, nat_lt, if◌then◌else◌, cond}
+use Rattle.std.specs.Prelude.{ℕ, List, [], ◌∷◌, suc, Option, Some, None, IsSome, length, ◌⊎◌, ◌<◌, ◌^◌, ◌==◌, ◌&&◌, nat_le, nat_lt, if◌then◌else◌, ⊤}
 use Rattle.art_parts.specs.Headers.{Prefix}
 use Rattle.art_parts.specs.declared.names.OpaqueNodePtr.{OpaqueNodePtr}
 
@@ -13,17 +13,17 @@ pub record Inner : Type 0 where
 
 -- the byte is below each of these
 abbrev pub IsBelow : ℕ → Children → Type 0
-IsBelow b [] = Unit {0}
+IsBelow b [] = ⊤
 IsBelow b (c ∷ cs) = (b < c.0) × IsBelow b cs
 
 -- each byte is below all later ones
 abbrev pub IsRising : Children → Type 0
-IsRising [] = Unit {0}
+IsRising [] = ⊤
 IsRising (c ∷ cs) = IsBelow c.0 cs × IsRising cs
 
 -- the byte is above each of these
 abbrev pub IsAbove : ℕ → Children → Type 0
-IsAbove b [] = Unit {0}
+IsAbove b [] = ⊤
 IsAbove b (c ∷ cs) = (c.0 < b) × IsAbove b cs
 
 -- a node with no child
@@ -38,12 +38,15 @@ child_at (c ∷ cs) b = if c.0 == b then Some c.1 else child_at cs b
 -- the name put under a byte
 abbrev pub put_child : Children → ℕ → OpaqueNodePtr → Children
 put_child [] b name = (b, name) ∷ []
-put_child (c ∷ cs) b name = cond (nat_lt c.0 b) (c ∷ put_child cs b name) (cond (c.0 == b) ((b, name) ∷ cs) ((b, name) ∷ c ∷ cs))
+put_child (c ∷ cs) b name =
+    if nat_lt c.0 b then c ∷ put_child cs b name
+    else if c.0 == b then (b, name) ∷ cs
+    else (b, name) ∷ c ∷ cs
 
 -- the children under other bytes
 abbrev pub remove_child : Children → ℕ → Children
 remove_child [] b = []
-remove_child (c ∷ cs) b = cond (c.0 == b) (remove_child cs b) (c ∷ remove_child cs b)
+remove_child (c ∷ cs) b = if c.0 == b then remove_child cs b else c ∷ remove_child cs b
 
 -- a child may be put under the byte: there is one already, or there is room
 abbrev pub HasPlace : ℕ → Children → ℕ → Type 0
@@ -52,12 +55,14 @@ HasPlace capacity cs byte = (length cs < capacity) ⊎ IsSome (child_at cs byte)
 -- how many children in front are under a byte below this one
 abbrev pub count_below : Children → ℕ → ℕ
 count_below [] b = 0
-count_below (c ∷ cs) b = cond (nat_lt c.0 b) (suc (count_below cs b)) 0
+count_below (c ∷ cs) b = if nat_lt c.0 b then suc (count_below cs b) else 0
 
 -- the children under the bytes from first to last
 abbrev pub children_between : ℕ → ℕ → Children → Children
 children_between first last [] = []
-children_between first last (c ∷ cs) = cond (leb first c.0 && leb c.0 last) (c ∷ children_between first last cs) (children_between first last cs)
+children_between first last (c ∷ cs) =
+    if nat_le first c.0 && nat_le c.0 last then c ∷ children_between first last cs
+    else children_between first last cs
 
 -- an array of so many bytes fits in memory: an inner node keeps this of its stored bytes, so that they can be lent to a caller that doesn't know it
 abbrev pub IsSize : ℕ → Type 0

@@ -1,5 +1,5 @@
 -- Children whose bytes, kinds and slots stand in three lists. No public clause cites this module.
-use Rattle.std.specs.Prelude.{◌≡◌, length, ℕ, suc, List, [], ◌∷◌, cond, nat_lt}
+use Rattle.std.specs.Prelude.{◌≡◌, length, ℕ, suc, List, [], ◌∷◌, if◌then◌else◌, nat_lt}
 use Rattle.art_inner.specs.Inner.{Children}
 use Rattle.art_parts.specs.declared.names.NodeType.{NodeType}
 use Rattle.art_inner.specs.declared.rows.Rows.{Rows}
@@ -14,7 +14,7 @@ rows (b ∷ bytes) (k ∷ kinds) (s ∷ slots) = (b, record { kind = k; slot = s
 -- how many bytes in front are below this one
 abbrev pub bytes_below : List ℕ → ℕ → ℕ
 bytes_below [] b = 0
-bytes_below (x ∷ bytes) b = cond (nat_lt x b) (suc (bytes_below bytes b)) 0
+bytes_below (x ∷ bytes) b = if nat_lt x b then suc (bytes_below bytes b) else 0
 
 -- there are as many kinds and slots as bytes
 abbrev pub AreAligned : Rows → Type 0

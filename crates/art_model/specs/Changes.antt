@@ -1,5 +1,5 @@
 -- Changes of a map, one after another.
-use Rattle.std.specs.Prelude.{ℕ, cond, List, [], ◌∷◌}
+use Rattle.std.specs.Prelude.{ℕ, if◌then◌else◌, List, [], ◌∷◌}
 use Rattle.art_model.specs.Pairs.{is_conflict, put, overwrite, remove_key, without_first, without_last}
 
 -- what can be done to a map of such pairs
@@ -13,7 +13,7 @@ pub data Change (A : Type 0) : Type 0 where
 module _ {K V : Type 0} (bytes : K × V → List ℕ) where
   -- the pairs after a change; a put that is a conflict changes nothing
   abbrev pub changed : Change (K × V) → List (K × V) → List (K × V)
-  changed (put_pair new) pairs = cond (is_conflict bytes (bytes new) pairs) pairs (put bytes new pairs)
+  changed (put_pair new) pairs = if is_conflict bytes (bytes new) pairs then pairs else put bytes new pairs
   changed (overwrite_with new) pairs = overwrite bytes new pairs
   changed (remove_at key) pairs = remove_key bytes key pairs
   changed remove_first pairs = without_first pairs

@@ -1,5 +1,5 @@
 -- Clones of pairs and of trees.
-use Rattle.std.specs.Prelude.{◌≡◌, ℕ, List}
+use Rattle.std.specs.Prelude.{◌≡◌, ℕ, List, ⊤}
 use Rattle.std.specs.List.{AllZip}
 use Rattle.art_parts.specs.Clones.{IsPairClone}
 use Rattle.art_model.specs.Trees.{Tree, leaf, inner, Subtrees, child, no_child}
@@ -21,6 +21,6 @@ module _ {N A : Type 0} (IsClone : A → A → Type 0) where
     IsCopy tree other = ⊥
 
     pub AreCopies : Subtrees N A → Subtrees N A → Type 0
-    AreCopies no_child no_child = Unit {0}
+    AreCopies no_child no_child = ⊤
     AreCopies (child b t cs) (child c u ds) = (c ≡ b) × IsCopy t u × AreCopies cs ds
     AreCopies children others = ⊥

@@ -1,5 +1,5 @@
 -- Small maps and their trees, to be compared with what the definitions compute. Where values don't matter a pair is its key alone.
-use Rattle.std.specs.Prelude.{ℕ, zero, suc, ◌+◌, cond, eqb, List, [], ◌∷◌, ◌++◌, Option, Some, None}
+use Rattle.std.specs.Prelude.{ℕ, zero, suc, ◌+◌, if◌then◌else◌, ◌==◌, List, [], ◌∷◌, ◌++◌, Option, Some, None}
 use Rattle.art_parts.specs.declared.names.NodeType.{NodeType}
 use Rattle.art_parts.specs.declared.names.NodeType.TheVariants.{Node4, Leaf}
 use Rattle.art_parts.specs.declared.names.OpaqueNodePtr.{OpaqueNodePtr}
@@ -105,12 +105,14 @@ pictured =
 -- its nodes by kind and slot
 abbrev pub pictured_in : NodeType → ℕ → Option (Node OpaqueNodePtr Key)
 pictured_in Node4 slot =
-    cond (eqb slot 0) (Some (inner_node (of_length 0 []) ((105, node4 1) ∷ (107, leaf_at 5) ∷ [])))
-    (cond (eqb slot 1)
-    (Some (inner_node (of_length 4 (110 ∷ 116 ∷ [])) ((97, leaf_at 2) ∷ (101, leaf_at 0) ∷ []))) None)
+    if slot == 0 then Some (inner_node (of_length 0 []) ((105, node4 1) ∷ (107, leaf_at 5) ∷ []))
+    else if slot == 1 then Some (inner_node (of_length 4 (110 ∷ 116 ∷ [])) ((97, leaf_at 2) ∷ (101, leaf_at 0) ∷ []))
+    else None
 pictured_in Leaf slot =
-    cond (eqb slot 2) (Some (leaf_node interact))
-    (cond (eqb slot 0) (Some (leaf_node interest)) (cond (eqb slot 5) (Some (leaf_node kit)) None))
+    if slot == 2 then Some (leaf_node interact)
+    else if slot == 0 then Some (leaf_node interest)
+    else if slot == 5 then Some (leaf_node kit)
+    else None
 pictured_in kind slot = None
 
 -- the nodes under its names
@@ -120,6 +122,7 @@ pictured_at name = pictured_in name.kind name.slot
 -- the links of its leaves
 abbrev pub pictured_links : OpaqueNodePtr → Option (Links OpaqueNodePtr)
 pictured_links name =
-    cond (eqb name.slot 2) (Some (record { previous = None; next = Some (leaf_at 0) }))
-    (cond (eqb name.slot 0) (Some (record { previous = Some (leaf_at 2); next = Some (leaf_at 5) }))
-    (cond (eqb name.slot 5) (Some (record { previous = Some (leaf_at 0); next = None })) None))
+    if name.slot == 2 then Some (record { previous = None; next = Some (leaf_at 0) })
+    else if name.slot == 0 then Some (record { previous = Some (leaf_at 2); next = Some (leaf_at 5) })
+    else if name.slot == 5 then Some (record { previous = Some (leaf_at 0); next = None })
+    else None

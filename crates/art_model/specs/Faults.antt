@@ -1,5 +1,5 @@
 -- What may be wrong with a store and a root, and when it is true of them.
-use Rattle.std.specs.Prelude.{◌≡◌, ◌≢◌, ℕ, ◌+◌, ◌<◌, ◌⊎◌, List, [], ◌∷◌, ◌++◌, length, take, Some, None}
+use Rattle.std.specs.Prelude.{◌≡◌, ◌≢◌, ℕ, ◌+◌, ◌<◌, ◌⊎◌, List, [], ◌∷◌, ◌++◌, length, take, Some, None, ⊤}
 use Rattle.std.specs.Cmp.Lexicographic.{slice_cmp}
 use Rattle.std.specs.Ordering.{nat_cmp}
 use Rattle.std.specs.declared.cmp.Ordering.{Ordering}
@@ -130,4 +130,4 @@ module _ {K V : Type 0} (bytes : K × V → List ℕ) (P : ℕ) (s : Nodes K V) 
   IsTrueOf (dead_name place name) = IsDead place name
   IsTrueOf (unreadable_prefix place name) = IsUnreadable place name
   IsTrueOf (stored_prefix_mismatch place stored actual) = StoresOthers place stored actual
-  IsTrueOf out_of_memory = Unit {0}
+  IsTrueOf out_of_memory = ⊤

@@ -1,5 +1,5 @@
 -- Keys are lists of bytes: what a front is, which keys are related, and in what order they stand.
-use Rattle.std.specs.Prelude.{◌≡◌, ℕ, Bool, true, false, cond, eqb, ◌&&◌, ◌||◌, List, [], ◌∷◌, ◌++◌}
+use Rattle.std.specs.Prelude.{◌≡◌, ℕ, Bool, true, false, if◌then◌else◌, ◌==◌, ◌&&◌, ◌||◌, List, [], ◌∷◌, ◌++◌}
 use Rattle.std.specs.Cmp.Lexicographic.{slice_cmp}
 use Rattle.std.specs.Ordering.{nat_cmp, is_lt}
 
@@ -11,7 +11,7 @@ IsFront front whole = (rest : List ℕ) × (whole ≡ front ++ rest)
 abbrev pub is_front : List ℕ → List ℕ → Bool
 is_front [] whole = true
 is_front (a ∷ front) [] = false
-is_front (a ∷ front) (b ∷ whole) = eqb a b && is_front front whole
+is_front (a ∷ front) (b ∷ whole) = a == b && is_front front whole
 
 -- whether one of the keys is a front of the other, as equal keys are
 abbrev pub are_related : List ℕ → List ℕ → Bool
@@ -33,4 +33,4 @@ Precedes a b = (is_before a b ≡ true) × (are_related a b ≡ false)
 abbrev pub common_front : List ℕ → List ℕ → List ℕ
 common_front [] other = []
 common_front (a ∷ «as») [] = []
-common_front (a ∷ «as») (b ∷ bs) = cond (eqb a b) (a ∷ common_front «as» bs) []
+common_front (a ∷ «as») (b ∷ bs) = if a == b then a ∷ common_front «as» bs else []

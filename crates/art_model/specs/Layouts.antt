@@ -1,5 +1,5 @@
 -- What a name stands for. A layout is a tree whose marks are names: it says which node is under which name.
-use Rattle.std.specs.Prelude.{◌≡◌, ◌≢◌, ℕ, List, [], ◌∷◌, ◌++◌, Option, Some}
+use Rattle.std.specs.Prelude.{◌≡◌, ◌≢◌, ℕ, List, [], ◌∷◌, ◌++◌, Option, Some, ⊤}
 use Rattle.art_model.specs.Pairs.{Pairwise}
 use Rattle.art_model.specs.Trees.{Tree, leaf, inner, Subtrees, child, no_child, NodeHeader}
 use Rattle.art_model.specs.Radix.{unmarked}
@@ -86,7 +86,7 @@ module _ {N A : Type 0} where
     Holds at (inner n h cs) = (at n ≡ Some (inner_node h (slots_of cs))) × HoldsBelow at cs
 
     pub HoldsBelow : (N → Option (Node N A)) → Subtrees N A → Type 0
-    HoldsBelow at no_child = Unit {0}
+    HoldsBelow at no_child = ⊤
     HoldsBelow at (child b t cs) = Holds at t × HoldsBelow at cs
 
   -- the nodes from the root on are where the layout says, each under a name of its own
@@ -112,6 +112,6 @@ module _ {N : Type 0} where
 
   -- each leaf of the list names the one before it and the one after it, between a leaf before the list and one after it
   abbrev pub AreLinked : (N → Option (Links N)) → Option N → List N → Option N → Type 0
-  AreLinked links before [] after = Unit {0}
+  AreLinked links before [] after = ⊤
   AreLinked links before (n ∷ ns) after =
       (links n ≡ Some (record { previous = before; next = first_or ns after })) × AreLinked links (Some n) ns after

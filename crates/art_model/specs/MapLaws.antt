@@ -1,5 +1,5 @@
 -- What holds of maps, whatever their pairs: what changes leave, what is found afterwards, and what replies tell.
-use Rattle.std.specs.Prelude.{◌≡◌, ◌≢◌, ℕ, zero, suc, ◌+◌, ◌≤◌, true, false, cond, not, List, [], ◌∷◌, length, map, Option, Some, None}
+use Rattle.std.specs.Prelude.{◌≡◌, ◌≢◌, ℕ, zero, suc, ◌+◌, ◌≤◌, true, false, if◌then◌else◌, not, List, [], ◌∷◌, length, map, Option, Some, None}
 use Rattle.std.specs.Bool.{Decides}
 use Rattle.std.specs.List.{AllByRecursion as Each, cons_option}
 use Rattle.art_model.specs.Keys.{are_related, are_same}
@@ -48,7 +48,7 @@ module _ {A : Type 0} (bytes : A → List ℕ) where
   abbrev pub RemovedIsGone : Type 0
   RemovedIsGone =
       (key gone : List ℕ) (pairs : List A) → with_key bytes key (remove_key bytes gone pairs) ≡
-      cond (are_same key gone) [] (with_key bytes key pairs)
+      (if are_same key gone then [] else with_key bytes key pairs)
 
   -- to remove the first pair of a map is to remove its key
   abbrev pub FirstIsRemovedByKey : Type 0
@@ -86,14 +86,14 @@ module _ {K : Type 0} (V : Type 0) (bytes : K → List ℕ) where
   abbrev pub PutIsFound : Type 0
   PutIsFound = (key : List ℕ) (new : K × V) (pairs : List (K × V)) →
       with_key (of_key bytes) key (put (of_key bytes) new pairs) ≡
-      cond (are_same key (bytes new.0)) (stored_for (of_key bytes) new pairs ∷ []) (with_key (of_key bytes) key pairs)
+      (if are_same key (bytes new.0) then stored_for (of_key bytes) new pairs ∷ [] else with_key (of_key bytes) key pairs)
 
   -- after an overwrite of a map it is so too, but nothing is found under a related key
   abbrev pub OverwriteIsFound : Type 0
   OverwriteIsFound = (key : List ℕ) (new : K × V) (pairs : List (K × V)) → IsMap (of_key bytes) pairs →
       with_key (of_key bytes) key (overwrite (of_key bytes) new pairs)
-      ≡ cond (are_same key (bytes new.0)) (stored_for (of_key bytes) new pairs ∷ [])
-      (cond (are_related key (bytes new.0)) [] (with_key (of_key bytes) key pairs))
+      ≡ (if are_same key (bytes new.0) then stored_for (of_key bytes) new pairs ∷ []
+      else if are_related key (bytes new.0) then [] else with_key (of_key bytes) key pairs)
 
   -- where no key is related to the new one, its removal undoes the put
   abbrev pub PutIsUndone : Type 0

@@ -1,12 +1,12 @@
 -- A map as a sorted list of pairs, and its changes. A pair is anything that has the bytes of a key.
-use Rattle.std.specs.Prelude.{ℕ, Bool, cond, not, ◌&&◌, List, [], ◌∷◌, length, Option, Some, None, filter}
+use Rattle.std.specs.Prelude.{ℕ, Bool, if◌then◌else◌, not, ◌&&◌, List, [], ◌∷◌, length, Option, Some, None, filter, ⊤}
 use Rattle.std.specs.List.{AllByRecursion as Each, list_any}
 use Rattle.std.specs.Option.{option_map}
 use Rattle.art_model.specs.Keys.{is_before, is_front, are_related, are_same, Precedes}
 
 -- each element stands in the relation to each one after it
 abbrev pub Pairwise : {X : Type 0} → (X → X → Type 0) → List X → Type 0
-Pairwise R [] = Unit {0}
+Pairwise R [] = ⊤
 Pairwise R (x ∷ xs) = Each (R x) xs × Pairwise R xs
 
 -- the first element, if there is one
@@ -73,7 +73,7 @@ module _ {A : Type 0} (bytes : A → List ℕ) where
   -- a pair comes in front of the first one whose key is after its own
   abbrev pub add_in_order : A → List A → List A
   add_in_order new [] = new ∷ []
-  add_in_order new (x ∷ xs) = cond (is_before (bytes new) (bytes x)) (new ∷ x ∷ xs) (x ∷ add_in_order new xs)
+  add_in_order new (x ∷ xs) = if is_before (bytes new) (bytes x) then new ∷ x ∷ xs else x ∷ add_in_order new xs
 
   -- a pair takes the place of the one with an equal key, or its own place in the order
   abbrev pub replace_key : A → List A → List A
@@ -102,12 +102,12 @@ module _ {K V : Type 0} (bytes : K × V → List ℕ) where
 
   -- where an equal key is stored this is a put; else the pair takes the place of all those with related keys
   abbrev pub overwrite : K × V → List (K × V) → List (K × V)
-  overwrite new pairs = cond (has_key bytes (bytes new) pairs) (put new pairs) (replace_related bytes new pairs)
+  overwrite new pairs = if has_key bytes (bytes new) pairs then put new pairs else replace_related bytes new pairs
 
   -- what an overwrite answers: what the put does; or of the pairs with related keys the only one, or how many
   abbrev pub overwrite_reply : K × V → List (K × V) → Option (K × V) × ℕ
   overwrite_reply new pairs =
-      cond (has_key bytes (bytes new) pairs) (put_reply new pairs, 0) (went (related_to bytes (bytes new) pairs))
+      if has_key bytes (bytes new) pairs then (put_reply new pairs, 0) else went (related_to bytes (bytes new) pairs)
 
 module _ {K V : Type 0} (bytes : K → List ℕ) where
   -- the bytes of the key of a pair of key and value

@@ -1,5 +1,5 @@
 -- The path to a node: the inner nodes above it, the innermost first, each with a hole where the way goes down.
-use Rattle.std.specs.Prelude.{◌≡◌, ℕ, ◌+◌, ◌≤◌, List, [], ◌∷◌, ◌++◌, length, Option, Some}
+use Rattle.std.specs.Prelude.{◌≡◌, ℕ, ◌+◌, ◌≤◌, List, [], ◌∷◌, ◌++◌, length, Option, Some, ⊤}
 use Rattle.art_model.specs.Trees.{Tree, inner, Subtrees, child, NodeHeader, canonical_header}
 use Rattle.art_model.specs.Radix.{pairs_below, bytes_of, join, BytesRise, AreRadix}
 use Rattle.art_model.specs.Layouts.{Node, inner_node, names_below, leaf_names_below, slots_of, HoldsBelow}
@@ -54,7 +54,7 @@ module _ {N A : Type 0} where
 
   -- under each name of the path is the node that the path says, with the name in the hole as its child
   abbrev pub HoldsPath : (N → Option (Node N A)) → N → List (Frame N A) → Type 0
-  HoldsPath at hole [] = Unit {0}
+  HoldsPath at hole [] = ⊤
   HoldsPath at hole (f ∷ fs) =
       (at f.mark ≡ Some (inner_node f.header (slots_of f.left ++ (f.byte, hole) ∷ slots_of f.right))) ×
       HoldsBelow at f.left × HoldsBelow at f.right × HoldsPath at f.mark fs

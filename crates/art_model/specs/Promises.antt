@@ -1,5 +1,5 @@
 -- What becomes of a store's promise when nodes are placed. What an operation places is written as a promise too.
-use Rattle.std.specs.Prelude.{◌≡◌, ℕ, zero, suc, Bool, true, cond, Option, Some, None}
+use Rattle.std.specs.Prelude.{◌≡◌, ℕ, zero, suc, Bool, true, if◌then◌else◌, Option, Some, None}
 use Rattle.art_nodes.specs.Nodes.{Promise, covers, no_promise, take_leaf, take_inner}
 use Rattle.art_parts.specs.declared.names.NodeType.{NodeType}
 use Rattle.art_model.specs.Trees.{Tree, leaf, inner, Subtrees, child, no_child}
@@ -21,7 +21,7 @@ is_covered placed promise = covers promise placed.leaves placed.inner
 -- what is placed is taken from a promise that covers it; else nothing is promised any more
 abbrev pub promise_after : Promise → Promise → Promise
 promise_after placed promise =
-    cond (is_covered placed promise) (inner_taken placed.inner (leaves_taken placed.leaves promise)) no_promise
+    if is_covered placed promise then inner_taken placed.inner (leaves_taken placed.leaves promise) else no_promise
 
 module _ {N A : Type 0} where
   -- what is left when the nodes of a tree are placed one by one, each inner node before its children

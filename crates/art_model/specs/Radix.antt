@@ -1,5 +1,5 @@
 -- The tree of a map seen from inside: what holds at each node.
-use Rattle.std.specs.Prelude.{◌≡◌, ℕ, ◌<◌, ◌≤◌, List, [], ◌∷◌, ◌++◌, length}
+use Rattle.std.specs.Prelude.{◌≡◌, ℕ, ◌<◌, ◌≤◌, List, [], ◌∷◌, ◌++◌, length, ⊤}
 use Rattle.art_model.specs.Keys.{IsFront}
 use Rattle.art_model.specs.Pairs.{Pairwise}
 use Rattle.art_model.specs.Trees.{Tree, leaf, inner, Subtrees, no_child, child, canonical_header}
@@ -38,11 +38,11 @@ module _ {N A : Type 0} where
   -- each inner node has at least so many children
   abbrev mutual
     pub HaveChildren : ℕ → Tree N A → Type 0
-    HaveChildren least (leaf n x) = Unit {0}
+    HaveChildren least (leaf n x) = ⊤
     HaveChildren least (inner n h cs) = (least ≤ length (bytes_of cs)) × HaveChildrenBelow least cs
 
     pub HaveChildrenBelow : ℕ → Subtrees N A → Type 0
-    HaveChildrenBelow least no_child = Unit {0}
+    HaveChildrenBelow least no_child = ⊤
     HaveChildrenBelow least (child b t cs) = HaveChildren least t × HaveChildrenBelow least cs
 
 -- each byte is below all later ones
@@ -60,5 +60,5 @@ module _ {N A : Type 0} (bytes : A → List ℕ) (P : ℕ) where
         BytesRise (bytes_of cs) × AreRadix (place ++ part) cs
 
     pub AreRadix : List ℕ → Subtrees N A → Type 0
-    AreRadix front no_child = Unit {0}
+    AreRadix front no_child = ⊤
     AreRadix front (child b t cs) = IsRadix (front ++ b ∷ []) t × AreRadix front cs

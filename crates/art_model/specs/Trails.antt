@@ -1,5 +1,5 @@
 -- Ways down a store that may hold anything: loops, shared nodes, names that lead nowhere. All is said of finite lists of steps, so that a loop does no harm.
-use Rattle.std.specs.Prelude.{◌≡◌, ℕ, ◌+◌, ◌<◌, ◌≤◌, ◌⊎◌, List, [], ◌∷◌, ◌++◌, length, take, drop, Option, Some}
+use Rattle.std.specs.Prelude.{◌≡◌, ℕ, ◌+◌, ◌<◌, ◌≤◌, ◌⊎◌, List, [], ◌∷◌, ◌++◌, length, take, drop, Option, Some, ⊤}
 use Rattle.art_inner.specs.Inner.{child_at}
 use Rattle.art_parts.specs.declared.names.OpaqueNodePtr.{OpaqueNodePtr}
 use Rattle.art_model.specs.Trees.{NodeHeader}
@@ -29,7 +29,7 @@ module _ {A : Type 0} (at : OpaqueNodePtr → Option (Node OpaqueNodePtr A)) whe
 
   -- a trail: each step is to a child of the node before, which is there
   abbrev pub IsTrail : OpaqueNodePtr → List (ℕ × OpaqueNodePtr) → Type 0
-  IsTrail name [] = Unit {0}
+  IsTrail name [] = ⊤
   IsTrail name (step ∷ steps) = HasChild name step × IsTrail step.1 steps
 
   -- the node is there, and this is its least child
@@ -40,7 +40,7 @@ module _ {A : Type 0} (at : OpaqueNodePtr → Option (Node OpaqueNodePtr A)) whe
 
   -- a descent: each name is the least child of the one before
   abbrev pub IsDescent : OpaqueNodePtr → List OpaqueNodePtr → Type 0
-  IsDescent name [] = Unit {0}
+  IsDescent name [] = ⊤
   IsDescent name (n ∷ ns) = HasLeast name n × IsDescent n ns
 
   -- a descent from the name ends at the leaf of this pair

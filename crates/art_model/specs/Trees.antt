@@ -1,5 +1,5 @@
 -- Radix trees, and the tree of a map: its pairs grouped by the byte after the part that their keys share.
-use Rattle.std.specs.Prelude.{ℕ, zero, suc, ◌+◌, cond, eqb, leb, List, [], ◌∷◌, length, take, drop, get_or, Option, Some, None}
+use Rattle.std.specs.Prelude.{ℕ, zero, suc, ◌+◌, if◌then◌else◌, ◌==◌, nat_le, List, [], ◌∷◌, length, take, drop, get_or, Option, Some, None}
 use Rattle.art_parts.specs.declared.names.NodeType.{NodeType}
 use Rattle.art_parts.specs.declared.names.NodeType.TheVariants.{Node4, Node16, Node48, Node256}
 use Rattle.art_model.specs.Keys.{common_front}
@@ -22,7 +22,11 @@ mutual
 
 -- the kind of an inner node by the number of its children
 abbrev pub kind_of : ℕ → NodeType
-kind_of n = cond (leb n 4) Node4 (cond (leb n 16) Node16 (cond (leb n 48) Node48 Node256))
+kind_of n =
+    if nat_le n 4 then Node4
+    else if nat_le n 16 then Node16
+    else if nat_le n 48 then Node48
+    else Node256
 
 -- the header of an inner node with this prefix and so many children, where P bytes can be stored
 abbrev pub canonical_header : ℕ → List ℕ → ℕ → NodeHeader
@@ -32,7 +36,8 @@ module _ {A : Type 0} where
   -- a pair joins the first group where that has its byte, and is else a group of its own in front
   abbrev pub add_to_groups : ℕ → A → List (ℕ × List A) → List (ℕ × List A)
   add_to_groups b x [] = (b, x ∷ []) ∷ []
-  add_to_groups b x ((c, group) ∷ others) = cond (eqb b c) ((b, x ∷ group) ∷ others) ((b, x ∷ []) ∷ (c, group) ∷ others)
+  add_to_groups b x ((c, group) ∷ others) =
+      if b == c then (b, x ∷ group) ∷ others else (b, x ∷ []) ∷ (c, group) ∷ others
 
   -- neighbours with the same byte are one group, under that byte
   abbrev pub groups : (A → ℕ) → List A → List (ℕ × List A)

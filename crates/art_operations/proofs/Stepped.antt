@@ -1,5 +1,5 @@
 -- Applied points make steps: from what an application leaves to the parts of a step.
-use Rattle.std.proofs.Common.{◌≡◌, ℕ, ◌≤◌, List, refl, ap, sym, ◌∙◌, subst, arith, Option, Some, None, Bool, true, false, cond, inl, inr}
+use Rattle.std.proofs.Common.{◌≡◌, ℕ, ◌≤◌, List, refl, ap, sym, ◌∙◌, subst, arith, Option, Some, None, Bool, true, false, MatchBool, inl, inr}
 use Rattle.std.specs.Option.{option_map}
 use Rattle.std.specs.Box.{boxed_slice_items}
 use Rattle.art_nodes.specs.Nodes.{Nodes, Promise, no_promise}
@@ -48,7 +48,7 @@ module _ {K V : Type 0} {s t : Nodes K V} where
   insertion_touches (MismatchPrefix mismatch p) h = touches_more 2 0 4 2 2 4 (omega arith) (omega arith) (omega arith) h
   insertion_touches (IntoExisting p) h = go (is_full s p) h
     where
-      go : (full : Bool) → cond full (TouchesAtMost 2 1 3 s t) (TouchesAtMost 1 0 3 s t) → TouchesAtMost 2 2 4 s t
+      go : (full : Bool) → MatchBool full (TouchesAtMost 2 1 3 s t) (TouchesAtMost 1 0 3 s t) → TouchesAtMost 2 2 4 s t
       go true k = touches_more 2 1 3 2 2 4 (omega arith) (omega arith) (omega arith) k
       go false k = touches_more 1 0 3 2 2 4 (omega arith) (omega arith) (omega arith) k
 

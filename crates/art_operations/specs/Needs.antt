@@ -1,5 +1,5 @@
 -- What a command has placed in a store, as its pairs tell: a leaf, and an inner node of the kind of which the tree then has more.
-use Rattle.std.specs.Prelude.{ℕ, ◌+◌, cond, eqb, ltb, List, length, Option, Some, None}
+use Rattle.std.specs.Prelude.{ℕ, ◌+◌, ◌==◌, if◌then◌else◌, nat_lt, List, length, Option, Some, None}
 use Rattle.art_nodes.specs.Nodes.{Promise}
 use Rattle.art_parts.specs.Kinds.{kind_index}
 use Rattle.art_parts.specs.declared.names.NodeType.{NodeType}
@@ -15,7 +15,7 @@ module _ {N A : Type 0} (kind : NodeType) where
   abbrev mutual
     pub count_of : Tree N A → ℕ
     count_of (leaf n x) = 0
-    count_of (inner n h cs) = cond (eqb (kind_index kind) (kind_index h.kind)) 1 0 + inner_count_below cs
+    count_of (inner n h cs) = (if kind_index kind == kind_index h.kind then 1 else 0) + inner_count_below cs
 
     pub inner_count_below : Subtrees N A → ℕ
     inner_count_below no_child = 0
@@ -24,8 +24,11 @@ module _ {N A : Type 0} (kind : NodeType) where
 -- the first kind of which there are more than before, by the number of each kind before and after
 abbrev pub more_of : (NodeType → ℕ) → (NodeType → ℕ) → Option NodeType
 more_of old new =
-    cond (ltb (old Node4) (new Node4)) (Some Node4) (cond (ltb (old Node16) (new Node16)) (Some Node16)
-    (cond (ltb (old Node48) (new Node48)) (Some Node48) (cond (ltb (old Node256) (new Node256)) (Some Node256) None)))
+    if nat_lt (old Node4) (new Node4) then Some Node4
+    else if nat_lt (old Node16) (new Node16) then Some Node16
+    else if nat_lt (old Node48) (new Node48) then Some Node48
+    else if nat_lt (old Node256) (new Node256) then Some Node256
+    else None
 
 module _ {K V : Type 0} (bytes : K → List ℕ) (P : ℕ) where
   -- how many inner nodes of a kind the tree of these pairs has
@@ -34,8 +37,8 @@ module _ {K V : Type 0} (bytes : K → List ℕ) (P : ℕ) where
 
   -- a pair that does not take the place of just one other needs a leaf
   abbrev pub new_leaves : Command K V → List (K × V) → ℕ
-  new_leaves (Insert k v) pairs = cond (has_key (of_key bytes) (bytes k) pairs) 0 1
-  new_leaves (InsertPrefix k v) pairs = cond (eqb (length (related_to (of_key bytes) (bytes k) pairs)) 1) 0 1
+  new_leaves (Insert k v) pairs = if has_key (of_key bytes) (bytes k) pairs then 0 else 1
+  new_leaves (InsertPrefix k v) pairs = if length (related_to (of_key bytes) (bytes k) pairs) == 1 then 0 else 1
   new_leaves command pairs = 0
 
   -- what a command places where these are the pairs

@@ -1,5 +1,5 @@
 -- The states that a run goes through, and what a command leaves of one.
-use Rattle.std.specs.Prelude.{◌≡◌, ◌≢◌, ℕ, cond, leb, List, [], length, Option, Some, None, true, ◌⊎◌}
+use Rattle.std.specs.Prelude.{◌≡◌, ◌≢◌, ℕ, MatchBool, nat_le, List, [], length, Option, Some, None, true, ◌⊎◌, ⊤}
 use Rattle.std.specs.Option.{option_map}
 use Rattle.art_nodes.specs.Nodes.{Nodes, Promise, no_promise}
 use Rattle.art_parts.specs.declared.names.OpaqueNodePtr.{OpaqueNodePtr}
@@ -55,7 +55,7 @@ module _ {K V : Type 0} where
   abbrev pub TouchesBy : (K → List ℕ) → Option (Tree OpaqueNodePtr (K × V)) → Command K V → Nodes K V →
       Nodes K V → Type 0
   TouchesBy bytes tree (InsertPrefix k v) s t =
-      cond (leb (length (related_to (of_key bytes) (bytes k) (pairs_in tree))) 1)
+      MatchBool (nat_le (length (related_to (of_key bytes) (bytes k) (pairs_in tree))) 1)
       (TouchesAtMost 2 2 4 s t)
       (TouchesRelated (of_key bytes) (bytes k) s t tree)
   TouchesBy bytes tree command s t = TouchesAtMost 2 2 4 s t
@@ -112,7 +112,7 @@ module _ {K V : Type 0} (bytes : K → List ℕ) (P : ℕ) where
   -- want of memory is answered only there
   abbrev pub Refuses : State K V → Command K V → Reply K V → Type 0
   Refuses old command (NoMemory pair) = MayRefuse command old
-  Refuses old command reply = Unit {0}
+  Refuses old command reply = ⊤
 
   -- what the command places is taken from the promise
   abbrev pub TakesNeeds : State K V → Command K V → State K V → Type 0
@@ -126,7 +126,7 @@ module _ {K V : Type 0} (bytes : K → List ℕ) (P : ℕ) where
   Promises old command (Overwrote before count) new = TakesNeeds old command new
   Promises old command (Deleted (Some pair)) new = TakesNeeds old command new
   Promises old (Insert k v) (NoMemory pair) new =
-      cond (is_conflict (of_key bytes) (bytes k) (pairs_in old.tree))
+      MatchBool (is_conflict (of_key bytes) (bytes k) (pairs_in old.tree))
       (new.present.promise ≡ old.present.promise)
       (MayVoid old.present.promise new.present.promise)
   Promises old Clone Cloned new = elim old.tree [

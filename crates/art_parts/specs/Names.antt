@@ -1,5 +1,5 @@
 -- Names of leaves and of inner nodes among the names of nodes.
-use Rattle.std.specs.Prelude.{◌≢◌}
+use Rattle.std.specs.Prelude.{◌≢◌, ⊤}
 use Rattle.std.specs.Ordering.{nat_cmp, on, then_cmp}
 use Rattle.std.specs.declared.cmp.Ordering.{Ordering}
 use Rattle.art_parts.specs.Kinds.{kind_index}
@@ -23,7 +23,7 @@ name_in (split.Inner p) = inner_name p
 
 -- an inner node's name has an inner kind
 abbrev pub IsProper : NodePtr → Type 0
-IsProper (split.Leaf p) = Unit {0}
+IsProper (split.Leaf p) = ⊤
 IsProper (split.Inner p) = p.kind ≢ Leaf
 
 -- the order of leaves' names

@@ -1,5 +1,5 @@
 -- a leaf that is placed below the node of a point, which has room or gives way to a larger one
-use Rattle.std.proofs.Common.{◌≡◌, ◌≢◌, ℕ, ◌<◌, ◌≤◌, List, ◌++◌, length, Bool, true, false, cond, Option, Some, None, IsSomeAnd, IfSome, is_some, refl, ap, ap₂, sym, ◌∙◌, subst, arith, append_assoc, inl}
+use Rattle.std.proofs.Common.{◌≡◌, ◌≢◌, ℕ, ◌<◌, ◌≤◌, List, ◌++◌, length, Bool, true, false, cond, MatchBool, Option, Some, None, IsSomeAnd, IfSome, is_some, refl, ap, ap₂, sym, ◌∙◌, subst, arith, append_assoc, inl}
 use Rattle.std.proofs.lemmas.Bool.{leb-true, leb-false}
 use Rattle.std.specs.FinMap as map
 use Rattle.std.specs.Option.{option_map}
@@ -133,7 +133,7 @@ module _ {K V : Type 0} {bytes : K × V → List ℕ} {P : ℕ} {s : Nodes K V} 
 
         room_touched : point.insert_kind ≡ IntoExisting p → Touches point.insert_kind s t
         room_touched into =
-            subst (λ kind. Touches kind s t) (sym into) (subst (λ full. cond full (TouchesAtMost 2 1 3 s t) (TouchesAtMost 1 0 3 s t)) (sym room) (room_touches (entry_laid by e) into_room))
+            subst (λ kind. Touches kind s t) (sym into) (subst (λ full. MatchBool full (TouchesAtMost 2 1 3 s t) (TouchesAtMost 1 0 3 s t)) (sym room) (room_touches (entry_laid by e) into_room))
 
         pub room_inserted : point.insert_kind ≡ IntoExisting p → (done : InsertResult K V) →
             done ≡ record { leaf_node_ptr = n; existing_leaf = None; new_root = point.root; parent_node_change = NewParent p b } → IsInserted bytes P s t point new pairs layout done
@@ -174,7 +174,7 @@ module _ {K V : Type 0} {bytes : K × V → List ℕ} {P : ℕ} {s : Nodes K V} 
 
         full_touched : point.insert_kind ≡ IntoExisting p → Touches point.insert_kind s t
         full_touched into =
-            subst (λ kind. Touches kind s t) (sym into) (subst (λ full. cond full (TouchesAtMost 2 1 3 s t) (TouchesAtMost 1 0 3 s t)) (sym full) (full_touches (entry_laid by e) into_full))
+            subst (λ kind. Touches kind s t) (sym into) (subst (λ full. MatchBool full (TouchesAtMost 2 1 3 s t) (TouchesAtMost 1 0 3 s t)) (sym full) (full_touches (entry_laid by e) into_full))
 
         pub full_inserted : point.insert_kind ≡ IntoExisting p → {root : OpaqueNodePtr} → root ≡ root_with point.path point.root (inner_name k) → (done : InsertResult K V) →
             done ≡ record { leaf_node_ptr = n; existing_leaf = None; new_root = root; parent_node_change = NewParent k b } → IsInserted bytes P s t point new pairs layout done

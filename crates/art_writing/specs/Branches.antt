@@ -1,5 +1,5 @@
 -- A new node above a node and a new leaf: what is read before it is placed, and what its placement makes of a store. No public clause cites this module.
-use Rattle.std.specs.Prelude.{◌≡◌, ◌≢◌, ℕ, cond, ltb, List, [], ◌∷◌, ◌++◌, take, None}
+use Rattle.std.specs.Prelude.{◌≡◌, ◌≢◌, ℕ, if◌then◌else◌, nat_lt, List, [], ◌∷◌, ◌++◌, take, None}
 use Rattle.std.specs.Option.{option_map}
 use Rattle.std.specs.FinMap as map
 use Rattle.art_inner.specs.Changes.{with_child}
@@ -42,9 +42,9 @@ module _ {A : Type 0} {P : ℕ} (bytes : A → List ℕ) (key : List ℕ) (path 
     pub old_way : IsFront ((take (depth_of path) key ++ part) ++ branch.old_byte ∷ []) (least_key bytes node)
     pub apart : branch.old_byte ≢ branch.new_byte
     pub previous : option_map leaf_name branch.previous ≡
-        last_or (leaves_before path ++ cond (ltb branch.old_byte branch.new_byte) (leaf_names node) []) None
+        last_or (leaves_before path ++ (if nat_lt branch.old_byte branch.new_byte then leaf_names node else [])) None
     pub next : option_map leaf_name branch.next ≡
-        first_or (cond (ltb branch.old_byte branch.new_byte) [] (leaf_names node) ++ leaves_after path) None
+        first_or ((if nat_lt branch.old_byte branch.new_byte then [] else leaf_names node) ++ leaves_after path) None
 
 -- A leaf of the pair and a Node4 above it and the old node are placed, and the parent at the end of the path has the Node4.
 pub record IsBranchPlaced {K V : Type 0} {P : ℕ} (s t : Nodes K V) (point : InsertPoint) (old : OpaqueNodePtr)

@@ -1,5 +1,5 @@
 -- The points at which leaves go, what an applied delete point places and touches, and the root that it leaves.
-use Rattle.std.specs.Prelude.{◌≡◌, ℕ, cond, leb, List, length, Option, Some, None}
+use Rattle.std.specs.Prelude.{◌≡◌, ℕ, if◌then◌else◌, nat_le, List, length, Option, Some, None, ⊤}
 use Rattle.std.specs.FinMap as map
 use Rattle.art_parts.specs.Kinds.{kind_least, smaller_kind}
 use Rattle.art_parts.specs.Names.{leaf_name}
@@ -24,7 +24,7 @@ pub record LeadsTo {A : Type 0} (tree : Tree OpaqueNodePtr A) (x : A) (point : D
 
 -- the point of the pair, or none where there is no pair
 abbrev pub IsDeletePoint : {A : Type 0} → Tree OpaqueNodePtr A → Option A → Option DeletePoint → Type 0
-IsDeletePoint tree None None = Unit {0}
+IsDeletePoint tree None None = ⊤
 IsDeletePoint tree (Some x) (Some point) = LeadsTo tree x point
 IsDeletePoint tree pair point = ⊥
 
@@ -43,8 +43,8 @@ pub data ParentChange : Type 0 where
 
 -- by the parent's kind and its number of children: one that has as many as its kind has at least can't keep the kind
 abbrev pub change_of : NodeType → ℕ → ParentChange
-change_of Node4 count = cond (leb count 2) is_compressed keeps
-change_of kind count = cond (leb count (kind_least kind)) (shrinks (smaller_kind kind)) keeps
+change_of Node4 count = if nat_le count 2 then is_compressed else keeps
+change_of kind count = if nat_le count (kind_least kind) then shrinks (smaller_kind kind) else keeps
 
 module _ {K V : Type 0} where
   -- what becomes of the parent at the end of a path

@@ -1,5 +1,5 @@
 -- The nodes below a name that go, with the leaves or without them. No public clause cites this module.
-use Rattle.std.specs.Prelude.{◌≡◌, ℕ, Bool, true, cond, List, [], ◌∷◌, ◌++◌, length}
+use Rattle.std.specs.Prelude.{◌≡◌, ℕ, Bool, true, if◌then◌else◌, List, [], ◌∷◌, ◌++◌, length}
 use Rattle.std.specs.List.{AllByRecursion as Each}
 use Rattle.art_inner.specs.Inner.{Inner}
 use Rattle.art_nodes.specs.Nodes.{Nodes}
@@ -17,7 +17,7 @@ module _ {N A : Type 0} (leaves_too : Bool) where
   -- the names that go
   abbrev mutual
     pub going : Tree N A → List N
-    going (leaf n x) = cond leaves_too (n ∷ []) []
+    going (leaf n x) = if leaves_too then n ∷ [] else []
     going (inner n h cs) = n ∷ going_below cs
 
     pub going_below : Subtrees N A → List N
@@ -26,7 +26,7 @@ module _ {N A : Type 0} (leaves_too : Bool) where
 
   -- how many of them are leaves
   abbrev pub leaves_going : Tree N A → ℕ
-  leaves_going t = cond leaves_too (length (leaf_names t)) 0
+  leaves_going t = if leaves_too then length (leaf_names t) else 0
 
 -- The name stands for a tree without leaves, and the leaves are there where they are to go too.
 pub record CanGo {K V : Type 0} (s : Nodes K V) (leaves_too : Bool) (root : OpaqueNodePtr)

@@ -1,5 +1,5 @@
 -- What an applied insert point places and touches, and what it leaves.
-use Rattle.std.specs.Prelude.{◌≡◌, ℕ, Bool, false, cond, leb, List, length, Option, Some, None}
+use Rattle.std.specs.Prelude.{◌≡◌, ℕ, Bool, false, MatchBool, if◌then◌else◌, nat_le, List, length, Option, Some, None}
 use Rattle.std.specs.Option.{option_map}
 use Rattle.std.specs.FinMap as map
 use Rattle.art_parts.specs.Kinds.{kind_capacity, next_larger}
@@ -39,19 +39,19 @@ module _ {K V : Type 0} where
   -- whether a node has as many children as its kind has room for
   abbrev pub is_full : Nodes K V → InnerPtr → Bool
   is_full s name =
-      elim (map.get s.inners name) [ None ↦ false | Some node ↦ leb (kind_capacity name.kind) (length node.children) ]
+      elim (map.get s.inners name) [ None ↦ false | Some node ↦ nat_le (kind_capacity name.kind) (length node.children) ]
 
   -- the nodes that an insertion of each kind places: the leaf, and the inner node above it where that is a new one
   abbrev pub placed_for : Nodes K V → InsertKind → Promise
   placed_for s (Exact p) = record { leaves = 0; inner = None }
-  placed_for s (IntoExisting p) = record { leaves = 1; inner = cond (is_full s p) (next_larger p.kind) None }
+  placed_for s (IntoExisting p) = record { leaves = 1; inner = if is_full s p then next_larger p.kind else None }
   placed_for s kind = record { leaves = 1; inner = Some Node4 }
 
   -- how many names an insertion of each kind places, frees and changes at most
   abbrev pub Touches : InsertKind → Nodes K V → Nodes K V → Type 0
   Touches (Exact p) s t = TouchesAtMost 0 0 1 s t
   Touches (SplitLeaf p used) s t = TouchesAtMost 2 0 3 s t
-  Touches (IntoExisting p) s t = cond (is_full s p) (TouchesAtMost 2 1 3 s t) (TouchesAtMost 1 0 3 s t)
+  Touches (IntoExisting p) s t = MatchBool (is_full s p) (TouchesAtMost 2 1 3 s t) (TouchesAtMost 1 0 3 s t)
   Touches (MismatchPrefix mismatch p) s t = TouchesAtMost 2 0 4 s t
 
 -- what is told of the leaf's parent: nothing where a value was replaced, and else its name and the leaf's byte there

@@ -1,5 +1,5 @@
 -- The points at which keys come into a tree: what a point says of its key's end node.
-use Rattle.std.specs.Prelude.{◌≡◌, ◌≢◌, ℕ, ◌+◌, ◌-◌, ◌<◌, ◌≤◌, cond, eqb, Bool, true, false, List, length, drop, get_or, slice_get, Option, Some, None, Result, Ok, Err}
+use Rattle.std.specs.Prelude.{◌≡◌, ◌≢◌, ℕ, ◌+◌, ◌-◌, ◌<◌, ◌≤◌, if◌then◌else◌, ◌==◌, Bool, true, false, List, length, drop, get_or, slice_get, Option, Some, None, Result, Ok, Err, ⊤}
 use Rattle.std.specs.Box.{boxed_slice_items}
 use Rattle.art_inner.specs.Inner.{child_at}
 use Rattle.art_parts.specs.Names.{leaf_name, inner_name}
@@ -83,7 +83,7 @@ overwrites (points.OverwritePoint point) = true
 -- how many bytes are used of a key that ends in an inner node's prefix, by the node's depth and the prefix: all but the last one,
 -- if there is any, where the key ends with the prefix, and else those that lead to the node
 abbrev pub used_in_prefix : List ℕ → ℕ → List ℕ → ℕ
-used_in_prefix key depth prefix = cond (eqb (length key) (depth + length prefix)) (length key - 1) depth
+used_in_prefix key depth prefix = if length key == depth + length prefix then length key - 1 else depth
 
 module _ {A : Type 0} (bytes : A → List ℕ) (key : List ℕ) (depth : ℕ) where
   -- what an overwrite point's number of bytes used says of the node, all of whose keys give way: by cases, a leaf whose key and the key are related but not equal;
@@ -159,4 +159,4 @@ pub record IsPart {K V : Type 0} (bytes : K × V → List ℕ) (P : ℕ) (s : No
 -- a refusal with the bytes of the key, or for want of memory
 abbrev pub IsRefusedFor : List ℕ → InsertSearchError → Type 0
 IsRefusedFor key (Prefix error) = boxed_slice_items error.byte_repr ≡ key
-IsRefusedFor key (Memory error) = Unit {0}
+IsRefusedFor key (Memory error) = ⊤

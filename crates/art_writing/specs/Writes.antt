@@ -1,5 +1,5 @@
 -- What the writes of the operations ask and answer: a child of the parent that a path ends with, and the leaves beside one.
-use Rattle.std.specs.Prelude.{◌≡◌, ◌⊎◌, ◌<◌, ℕ, cond, nat_lt, Option, Some, None, IsSome, IsSomeAnd, IfSome}
+use Rattle.std.specs.Prelude.{◌≡◌, ◌⊎◌, ◌<◌, ℕ, if◌then◌else◌, nat_lt, Option, Some, None, IsSome, IsSomeAnd, IfSome, ⊤}
 use Rattle.std.specs.List.{AllByRecursion as Each}
 use Rattle.std.specs.FinMap as map
 use Rattle.art_inner.specs.Inner.{child_at}
@@ -20,7 +20,7 @@ use Rattle.art_writing.specs.declared.writes.Side.TheVariants.{Before, After}
 
 -- the parent, where there is one, has a child under its byte
 abbrev pub HasChild : Inners → Option (InnerPtr × ℕ) → Type 0
-HasChild inners None = Unit {0}
+HasChild inners None = ⊤
 HasChild inners (Some parent) = IsSomeAnd (map.get inners parent.0) (λ node. IsSome (child_at node.children parent.1))
 
 -- the same nodes under the same names
@@ -41,7 +41,7 @@ LinksAreThere leaves name =
 
 -- the side of the byte of a child on which that of a new one is
 abbrev pub side_of : ℕ → ℕ → Side
-side_of new other = cond (nat_lt other new) After Before
+side_of new other = if nat_lt other new then After else Before
 
 -- the leaf with another one on a side
 abbrev pub with_beside : {K V : Type 0} → Side → Option LeafPtr → LeafNode K V → LeafNode K V
