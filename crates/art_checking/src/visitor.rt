@@ -51,7 +51,7 @@ pub trait Visitor<K, V, const P: usize> {
 
 /// Folds the tree of a canonical root: a leaf goes to `visit_leaf`; an inner node's children are
 /// visited in the order of their bytes, the first one's output is joined with each further one's,
-/// and then the node goes to `visit_inner_node`.
+/// and then the node goes to `visit_inner_node`. The recursion is as deep as the tree.
 pub fn visit_with<
     K: AsBytes + Drop,
     V: Drop,

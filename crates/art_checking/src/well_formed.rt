@@ -108,9 +108,10 @@ impl AddAssign for WellFormedTreeStats {
     }
 }
 
-/// Checks trees. It reads each node once, and the links of each leaf; it looks up each name in an ordered map of those
-/// that were met, where a name is noted with a copy of all bytes that lead to it. The stack grows with the number of
-/// inner nodes on the longest way down.
+/// Checks trees. It visits each node once; besides, it looks up the siblings of each leaf, and walks down each chain of
+/// least children once where a prefix is read from the leaf below. It looks up each name in an ordered map of those that
+/// were met, where a name is noted with a copy of all bytes that lead to it. The stack grows with the number of inner
+/// nodes on the longest way down.
 pub struct WellFormedChecker;
 
 impl WellFormedChecker {
@@ -120,7 +121,8 @@ impl WellFormedChecker {
     ghost use Rattle.art_checking.specs.declared.well_formed.fault.MalformedTreeError.TheVariants.{EmptyTreeWithLen, OutOfMemory};
 
     /// Checks the tree below a name, of any store and any name. Of several faults it answers the one that is met first:
-    /// a node before all below it, children by rising bytes, and the links of the leaves last, in their order.
+    /// at an inner node its prefix, then what is below its children, by rising bytes, then their number; and the links
+    /// of the leaves last, in their order.
     pub fn check_tree<K: AsBytes + Drop, V: Drop, const PREFIX_LEN: usize>(
         store: &NodeStore<K, V, PREFIX_LEN>,
         root: OpaqueNodePtr,
@@ -142,7 +144,8 @@ impl WellFormedChecker {
         })
     }
 
-    /// The same where there may be no tree: then the length is to be 0.
+    /// The same where there may be no tree: then the length has to be 0. Where there is a root the length is not
+    /// compared.
     pub fn check<K: AsBytes + Drop, V: Drop, const PREFIX_LEN: usize>(
         store: &NodeStore<K, V, PREFIX_LEN>,
         root: Option<OpaqueNodePtr>,

@@ -7,6 +7,7 @@ use Rattle.art_parts.specs.declared.names.OpaqueNodePtr.{OpaqueNodePtr}
 abbrev pub Children : Type 0
 Children = List (ℕ × OpaqueNodePtr)
 
+-- an inner node as a contract sees it: its prefix, and its children
 pub record Inner : Type 0 where
   pub prefix : Prefix
   pub children : Children

@@ -181,6 +181,7 @@ impl<'a, const P: usize> InnerRef<'a, P> {
         }
     }
 
+    /// A copy of the header; `read_prefix` lends its stored bytes.
     pub fn header(&self) -> Header<P>
         ensures { result ≡ (ref_view self.now).prefix }
     {

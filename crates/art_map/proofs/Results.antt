@@ -4,7 +4,7 @@ use Rattle.art_nodes.specs.Nodes.{Nodes}
 use Rattle.art_parts.specs.declared.names.OpaqueNodePtr.{OpaqueNodePtr}
 use Rattle.art_model.specs.Pairs.{of_key, overwrite, put, related_to, is_conflict, put_reply}
 use Rattle.art_writing.specs.declared.insert.Refused.{Refused}
-use Rattle.art_map.specs.MapAnswers.{IsRefusalOf, MayRefuse}
+use Rattle.art_map.specs.MapAnswers.{IsRefusalOf, MayRefuseRemoval}
 use Rattle.art_map.specs.MapChanges.{HasPut, HasPutOver, HasTaken}
 use Rattle.art_map.specs.MapPairs.{HoldsPairs, pairs_at}
 use Rattle.art_map.specs.declared.map.MapInsertError.{MapInsertError}
@@ -34,7 +34,7 @@ module _ {K V : Type 0} (bytes : K → List ℕ) where
     pub pairs : OnOk result (after ≡ left before)
     pub removed : IfOk result (λ removed. removed ≡ pair before)
     pub kept : OnErr result (after ≡ before)
-    pub refused : OnErr result (MayRefuse (of_key bytes) P before (pair before))
+    pub refused : OnErr result (MayRefuseRemoval (of_key bytes) P before (pair before))
 
 module _ {K V : Type 0} (bytes : K → List ℕ) (P : ℕ) (pairs : List (K × V)) (t : Nodes K V) (root : Option OpaqueNodePtr) (len : ℕ) where
   module _ (key : K) (value : V) where

@@ -22,9 +22,9 @@ IsRefusalOf bytes key value pairs (Memory k v) =
     (k ≡ key) × (v ≡ value) × (has_key (of_key bytes) (bytes key) pairs ≡ false)
 
 -- how many children the top of a tree has
-abbrev pub children_of : {N A : Type 0} → Tree N A → ℕ
-children_of (leaf n x) = 0
-children_of (inner n h cs) = length (bytes_of cs)
+abbrev pub child_count : {N A : Type 0} → Tree N A → ℕ
+child_count (leaf n x) = 0
+child_count (inner n h cs) = length (bytes_of cs)
 
 -- The radix tree of the pairs has the leaf of this one below a node with 5, 17 or 49 children: when the leaf goes, a smaller node has to be placed.
 pub record HasShrinkingParent {A : Type 0} (bytes : A → List ℕ) (P : ℕ) (pairs : List A) (x : A) : Type 0 where
@@ -33,19 +33,19 @@ pub record HasShrinkingParent {A : Type 0} (bytes : A → List ℕ) (P : ℕ) (p
   pub name : OpaqueNodePtr
   pub radix : IsRadix bytes P [] (plug (parent ∷ above) (leaf name x))
   pub pairs_are : pairs_of (plug (parent ∷ above) (leaf name x)) ≡ pairs
-  pub children : IsIn (children_of (fill parent (leaf name x))) (5 ∷ 17 ∷ 49 ∷ [])
+  pub children : IsIn (child_count (fill parent (leaf name x))) (5 ∷ 17 ∷ 49 ∷ [])
 
 -- a removal may be refused only of a pair that is there, whose parent shrinks
-abbrev pub MayRefuse : {A : Type 0} → (A → List ℕ) → ℕ → List A → Option A → Type 0
-MayRefuse bytes P pairs None = ⊥
-MayRefuse bytes P pairs (Some x) = HasShrinkingParent bytes P pairs x
+abbrev pub MayRefuseRemoval : {A : Type 0} → (A → List ℕ) → ℕ → List A → Option A → Type 0
+MayRefuseRemoval bytes P pairs None = ⊥
+MayRefuseRemoval bytes P pairs (Some x) = HasShrinkingParent bytes P pairs x
 
 -- the pair at an end of a list
 abbrev pub end_of : {A : Type 0} → End → List A → Option A
 end_of First pairs = first_of pairs
 end_of Last pairs = last_of pairs
 
--- the others
+-- the pairs without the one at an end
 abbrev pub without_end : {A : Type 0} → End → List A → List A
 without_end First pairs = without_first pairs
 without_end Last pairs = without_last pairs

@@ -10,7 +10,7 @@ use Rattle.art_model.specs.Pairs.{of_key, is_conflict, put, put_reply, overwrite
 use Rattle.art_model.specs.Trees.{Tree}
 use Rattle.art_writing.specs.declared.insert.PrefixInsertResult.{PrefixInsertResult}
 use Rattle.art_writing.specs.declared.insert.Refused.{Refused}
-use Rattle.art_map.specs.MapAnswers.{IsRefusalOf, MayRefuse}
+use Rattle.art_map.specs.MapAnswers.{IsRefusalOf, MayRefuseRemoval}
 use Rattle.art_map.specs.MapPairs.{HoldsPairs}
 use Rattle.art_map.specs.declared.map.MapInsertError.{MapInsertError}
 use Rattle.art_map.specs.declared.map.MapRefused.{MapRefused}
@@ -54,7 +54,7 @@ module _ {K V : Type 0} (bytes : K → List ℕ) (P : ℕ) (pairs : List (K × V
       Option OpaqueNodePtr → ℕ → Type 0
   HasTaken pair left (Ok taken) t root len = HoldsPairs (of_key bytes) P t root len left × (taken ≡ pair)
   HasTaken pair left (Err error) t root len =
-      HoldsPairs (of_key bytes) P t root len pairs × MayRefuse (of_key bytes) P pairs pair
+      HoldsPairs (of_key bytes) P t root len pairs × MayRefuseRemoval (of_key bytes) P pairs pair
 
   -- a store, a root and a length stand for clones of the pairs
   abbrev pub HoldsClones : (K → K → Type 0) → (V → V → Type 0) → Nodes K V → Option OpaqueNodePtr → ℕ → Type 0

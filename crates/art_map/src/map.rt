@@ -86,7 +86,7 @@ impl<K: AsBytes, V, const P: usize> Model for ByteMap<K, V, P> {
 }
 
 impl<K: AsBytes + Drop, V: Drop, const P: usize> ByteMap<K, V, P> {
-    ghost use Rattle.art_map.specs.MapAnswers.{IsRefusalOf, MayRefuse, value_at};
+    ghost use Rattle.art_map.specs.MapAnswers.{IsRefusalOf, MayRefuseRemoval, value_at};
 
     /// An empty map, which takes no memory.
     pub fn new(alloc: Global) -> Self
@@ -189,7 +189,8 @@ impl<K: AsBytes + Drop, V: Drop, const P: usize> ByteMap<K, V, P> {
 
     /// Puts a pair in, in the place of all pairs with related keys, and answers how many gave way. A
     /// stored key that is equal stays and gets the value. It is refused only for want of memory, and
-    /// takes none where just one pair gives way.
+    /// takes none where just one pair gives way. Those that give way are freed by a recursion as deep as
+    /// their tree.
     pub fn insert_over(&mut self, key: K, value: V) -> Result<usize, Refused<K, V>>
         ensures pairs { OnOk result (self.new ≡ overwrite (of_key K.bytes) (key, value) self.old) }
         ensures gone { IfOk result (λ gone.
@@ -211,7 +212,7 @@ impl<K: AsBytes + Drop, V: Drop, const P: usize> ByteMap<K, V, P> {
         ensures removed { IfOk result (λ removed.
             removed ≡ remove_reply (of_key K.bytes) key_bytes.now self.old) }
         ensures kept { OnErr result (self.new ≡ self.old) }
-        ensures refused { OnErr result (MayRefuse (of_key K.bytes) P self.old
+        ensures refused { OnErr result (MayRefuseRemoval (of_key K.bytes) P self.old
             (remove_reply (of_key K.bytes) key_bytes.now self.old)) }
     {
         take_key(&mut self.store, &mut self.root, &mut self.len, key_bytes)
@@ -222,7 +223,7 @@ impl<K: AsBytes + Drop, V: Drop, const P: usize> ByteMap<K, V, P> {
         ensures pairs { OnOk result (self.new ≡ without_first self.old) }
         ensures removed { IfOk result (λ removed. removed ≡ first_of self.old) }
         ensures kept { OnErr result (self.new ≡ self.old) }
-        ensures refused { OnErr result (MayRefuse (of_key K.bytes) P self.old
+        ensures refused { OnErr result (MayRefuseRemoval (of_key K.bytes) P self.old
             (first_of self.old)) }
     {
         self.pop_end(End::First)
@@ -233,7 +234,7 @@ impl<K: AsBytes + Drop, V: Drop, const P: usize> ByteMap<K, V, P> {
         ensures pairs { OnOk result (self.new ≡ without_last self.old) }
         ensures removed { IfOk result (λ removed. removed ≡ last_of self.old) }
         ensures kept { OnErr result (self.new ≡ self.old) }
-        ensures refused { OnErr result (MayRefuse (of_key K.bytes) P self.old
+        ensures refused { OnErr result (MayRefuseRemoval (of_key K.bytes) P self.old
             (last_of self.old)) }
     {
         self.pop_end(End::Last)
@@ -244,13 +245,13 @@ impl<K: AsBytes + Drop, V: Drop, const P: usize> ByteMap<K, V, P> {
         ensures pairs { OnOk result (self.new ≡ without_end end self.old) }
         ensures removed { IfOk result (λ removed. removed ≡ end_of end self.old) }
         ensures kept { OnErr result (self.new ≡ self.old) }
-        ensures refused { OnErr result (MayRefuse (of_key K.bytes) P self.old
+        ensures refused { OnErr result (MayRefuseRemoval (of_key K.bytes) P self.old
             (end_of end self.old)) }
     {
         take_end(&mut self.store, &mut self.root, &mut self.len, end)
     }
 
-    /// Takes out all pairs.
+    /// Takes out all pairs, and takes no memory. The recursion is as deep as the tree.
     pub fn clear(&mut self)
         ensures { self.new ≡ [] }
     {
@@ -262,7 +263,7 @@ impl<K: AsBytes + Clone + Drop, V: Clone + Drop, const P: usize> ByteMap<K, V, P
     ghost use Rattle.art_model.specs.Clones.{AreClones, KeepBytes};
 
     /// A map of clones of all pairs, with a store of its own. An `Err` is for want of memory, for a node or
-    /// for the clone of a key or a value.
+    /// for the clone of a key or a value. The recursion is as deep as the tree.
     pub fn clone(&self) -> Result<Self, AllocError>
         requires { KeepBytes K.bytes K.is_clone }
         ensures { IfOk result (AreClones K.is_clone V.is_clone self.now) }
@@ -419,6 +420,7 @@ fn one_more<K: AsBytes + Drop, V: Drop, const P: usize>(
     requires { len < map.len store.now.leaves }
     ensures { result ≡ len + 1 }
 {
+    // `alloc` says that a store has fewer leaves than numbers, so that the sum fits.
     store.alloc();
     len + 1
 }

@@ -10,7 +10,8 @@ pub record NodeHeader : Type 0 where
   pub length_of : ℕ
   pub stored : List ℕ
 
--- N is the type of the mark that each node bears: `Unit` in a plain tree, a name in a layout
+-- A tree is a leaf with a pair, or an inner node with a header and children under bytes. N is the type of the mark that
+-- each node bears: `Unit` in a plain tree, a name in a layout.
 mutual
   pub data Tree (N A : Type 0) : Type 0 where
     leaf : N → A → Tree N A

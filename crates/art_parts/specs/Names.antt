@@ -10,9 +10,11 @@ use Rattle.art_parts.specs.declared.names.OpaqueNodePtr.{OpaqueNodePtr}
 use Rattle.art_parts.specs.declared.names.NodePtr.{NodePtr}
 use Rattle.art_parts.specs.declared.names.NodePtr.TheVariants as split
 
+-- a leaf's name, as the name of a node
 abbrev pub leaf_name : LeafPtr → OpaqueNodePtr
 leaf_name p = record { kind = Leaf; slot = p.slot }
 
+-- an inner node's name, as the name of a node
 abbrev pub inner_name : InnerPtr → OpaqueNodePtr
 inner_name p = record { kind = p.kind; slot = p.slot }
 

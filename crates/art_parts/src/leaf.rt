@@ -16,6 +16,7 @@ pub struct LeafNode<K, V> {
 }
 
 impl<K, V> LeafNode<K, V> {
+    /// A leaf that names no leaves beside it.
     pub fn with_no_siblings(key: K, value: V) -> Self
         ensures { result ≡ record { key = key; value = value; previous = None; next = None } }
     {

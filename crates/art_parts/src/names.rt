@@ -119,6 +119,7 @@ pub enum NodePtr {
 impl LeafPtr {
     ghost use Rattle.art_parts.specs.Names.{leaf_name};
 
+    /// The name of the leaf in this slot. No store is asked whether there is one.
     pub fn from_slot(slot: usize) -> Self
         ensures { result.slot ≡ slot }
     {
@@ -166,6 +167,7 @@ impl OpaqueNodePtr {
     ghost use Rattle.art_parts.specs.Names.{leaf_name, inner_name, name_in, IsProper};
     ghost use Rattle.art_parts.specs.declared.names.NodeType.TheVariants.{Leaf};
 
+    /// The name of the node of this kind in this slot. No store is asked whether there is one.
     pub fn from_parts(kind: NodeType, slot: usize) -> Self
         ensures { result ≡ record { kind = kind; slot = slot } }
     {
@@ -186,6 +188,7 @@ impl OpaqueNodePtr {
         self.slot
     }
 
+    /// The name as a leaf's, or `None` where it is an inner node's.
     #[inline(always)]
     pub fn as_leaf(self) -> Option<LeafPtr>
         ensures leaf { IsSome result ↔ (self.kind ≡ Leaf) }
@@ -197,6 +200,7 @@ impl OpaqueNodePtr {
         }
     }
 
+    /// The name as an inner node's, or `None` where it is a leaf's.
     #[inline(always)]
     pub fn as_inner(self) -> Option<InnerPtr>
         ensures inner { IsSome result ↔ (self.kind ≢ Leaf) }

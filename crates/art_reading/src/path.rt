@@ -139,8 +139,9 @@ pub struct AttemptOptimisticPrefixMatch {
 /// A prefix that the key doesn't go on with.
 #[derive(Clone, Copy, PartialEq, Eq, Debug)]
 pub struct PessimisticMismatch {
-    /// How many bytes in front are the same.
+    /// How many bytes in front are the same as those that are stored; once bytes were passed over, the
+    /// length of the rest of the key.
     pub matched_bytes: usize,
-    /// The byte of the prefix after these, or `None` where the key ends before the prefix does.
+    /// The stored byte after these, or `None` where there is none: the key ends before the prefix does.
     pub prefix_byte: Option<u8>,
 }

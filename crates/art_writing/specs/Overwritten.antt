@@ -85,14 +85,14 @@ module _ {K V : Type 0} where
       HasInserted tree point (stored_for bytes pair pairs) done
   HasCome bytes pairs tree (points.OverwritePoint point) pair done = HasOverwritten tree point pair done
 
-  -- what is touched
+  -- what is touched: what the insertion touches, or the overwrite
   abbrev pub TouchesForPrefix : PrefixInsertPoint → (K × V → List ℕ) → List ℕ → Nodes K V → Nodes K V →
       Tree OpaqueNodePtr (K × V) → Type 0
   TouchesForPrefix (points.InsertPoint point) bytes key s t layout = Touches point.insert_kind s t
   TouchesForPrefix (points.OverwritePoint point) bytes key s t layout =
       TouchesForNode point.overwrite_point.kind bytes key s t layout
 
-  -- the nodes that are placed
+  -- the nodes that are placed, by the insertion or the overwrite
   abbrev pub placed_for_prefix : Nodes K V → PrefixInsertPoint → Promise
   placed_for_prefix s (points.InsertPoint point) = placed_for s point.insert_kind
   placed_for_prefix s (points.OverwritePoint point) = placed_for_overwrite point.overwrite_point.kind

@@ -39,7 +39,7 @@ pub fn deallocate_leaves<K: AsBytes + Drop, V: Drop, const PREFIX_LEN: usize>(
 }
 
 /// Frees the inner nodes of the tree that a name stands for. It reads no leaf: the leaves may be freed
-/// before or after.
+/// before or after. The recursion is as deep as the tree.
 pub fn deallocate_tree_non_leaves<K: AsBytes + Drop, V: Drop, const PREFIX_LEN: usize>(
     root: OpaqueNodePtr,
     store: &mut NodeStore<K, V, PREFIX_LEN>,
@@ -52,7 +52,8 @@ pub fn deallocate_tree_non_leaves<K: AsBytes + Drop, V: Drop, const PREFIX_LEN: 
     free_nodes(store, root, false);
 }
 
-/// Frees all nodes of the tree that a name stands for, and answers how many leaves it had.
+/// Frees all nodes of the tree that a name stands for, and answers how many leaves it had. The recursion is
+/// as deep as the tree.
 pub fn deallocate_tree<K: AsBytes + Drop, V: Drop, const PREFIX_LEN: usize>(
     root: OpaqueNodePtr,
     store: &mut NodeStore<K, V, PREFIX_LEN>,

@@ -19,7 +19,7 @@ pub enum MalformedTreeError {
         first_observed: KeyPrefix,
         later_observed: KeyPrefix,
     },
-    /// An inner node has fewer children than its kind has, or more.
+    /// An inner node has fewer children than its kind may have. It never has more.
     #[error("Found an inner node of type [{inner_node_type}] at location [{key_prefix:?}] that had the wrong number of children! Expected children in range [{least}..={most}], but found [{num_children}] children", least = range_of(*.inner_node_type).0, most = range_of(*.inner_node_type).1)]
     WrongChildrenCount {
         key_prefix: KeyPrefix,
@@ -61,7 +61,7 @@ pub enum MalformedTreeError {
         key_prefix: KeyPrefix,
         name: OpaqueNodePtr,
     },
-    /// A prefix is longer than what can be stored, and there is no leaf to read it from.
+    /// A prefix is longer than what can be stored, and there is no leaf to read it from, or the leaf's key is too short.
     #[error("Found an inner node [{name}] at location [{key_prefix:?}] whose prefix cannot be read from a leaf")]
     UnreadablePrefix {
         key_prefix: KeyPrefix,
