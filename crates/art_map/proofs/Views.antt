@@ -12,6 +12,7 @@ use Rattle.art_model.specs.Footprints.{IsIn}
 use Rattle.art_model.specs.Heights.{tree_height, height_below}
 use Rattle.art_model.specs.Kept.{KeepsOthers}
 use Rattle.art_model.specs.Layouts.{Node, name_of, slots_of, Holds, HoldsBelow}
+use Rattle.art_model.specs.Pairs.{IsMap}
 use Rattle.art_model.specs.Radix.{pairs_of, pairs_below}
 use Rattle.art_model.specs.Roots.{IsRootOf}
 use Rattle.art_model.specs.Stores.{Held, held_leaf, held_inner, held, held_in, node_at}
@@ -52,6 +53,20 @@ module _ {K V : Type 0} (bytes : K × V → List ℕ) (P : ℕ) (s : Nodes K V) 
   pub with_tree : (root : Option OpaqueNodePtr) (pairs : List (K × V)) → IsCanonical bytes P s root pairs → (tree : Option (Tree OpaqueNodePtr (K × V))) × IsRootOf bytes P s root pairs tree
   with_tree None pairs is = (None, is)
   with_tree (Some root) pairs is = (Some is.0, is.1)
+
+  -- what holds pairs holds a map
+  pub map_held : {root : Option OpaqueNodePtr} {len : ℕ} {pairs : List (K × V)} → HoldsPairs bytes P s root len pairs → IsMap bytes pairs
+  map_held {root} {len} {pairs} is = go root is.tree is.canonical
+    where
+      go : (root : Option OpaqueNodePtr) (tree : Option (Tree OpaqueNodePtr (K × V))) → IsRootOf bytes P s root pairs tree → IsMap bytes pairs
+      go None None none = subst (IsMap bytes) (sym none) tt
+      go None (Some t) is = absurd is
+      go (Some root) None is = absurd is
+      go (Some root) (Some t) by = by.is_map
+
+  -- so what a contract sees of it is one
+  pub view_sorted : {root : Option OpaqueNodePtr} {len : ℕ} {seen : List (K × V)} → HoldsPairs bytes P s root len (pairs_at s root) → pairs_at s root ≡ seen → IsMap bytes seen
+  view_sorted is view_is = subst (IsMap bytes) view_is (map_held is)
 
   -- what holds pairs holds those that are read off
   pub holds : {root : Option OpaqueNodePtr} {len : ℕ} {pairs : List (K × V)} → HoldsPairs bytes P s root len pairs → HoldsPairs bytes P s root len (pairs_at s root)

@@ -3,7 +3,7 @@ ghost use Rattle.std.specs.Prelude.{◌≡◌, ◌≢◌, ◌+◌, ◌<◌, ◌�
 ghost use Rattle.std.specs.FinMap as map;
 ghost use Rattle.std.specs.Option.{option_map};
 ghost use Rattle.art_model.specs.Clones.{KeepBytes};
-ghost use Rattle.art_model.specs.Pairs.{first_of, has_key, is_conflict, last_of, match_of, of_key, overwrite, put, put_reply, related_to, remove_key, remove_reply, without_first, without_last};
+ghost use Rattle.art_model.specs.Pairs.{IsMap, first_of, has_key, is_conflict, last_of, match_of, of_key, overwrite, put, put_reply, related_to, remove_key, remove_reply, without_first, without_last};
 ghost use Rattle.art_model.specs.Roots.{ForTree, IsCanonicalRoot};
 ghost use Rattle.art_model.specs.Stores.{pair_of};
 ghost use Rattle.art_writing.specs.Deleted.{IsDeletePoint, IsDeletePointIn, LeadsTo};
@@ -101,7 +101,8 @@ impl<K: AsBytes + Drop, V: Drop, const P: usize> ByteMap<K, V, P> {
 
     /// The number of pairs.
     pub fn len(&self) -> usize
-        ensures { result ≡ length self.now }
+        ensures len { result ≡ length self.now }
+        ensures sorted { IsMap (of_key K.bytes) self.now }
     {
         self.len
     }
@@ -161,7 +162,8 @@ impl<K: AsBytes + Drop, V: Drop, const P: usize> ByteMap<K, V, P> {
 
     /// The pairs in the order of their keys.
     pub fn iter(&self) -> MapIter<'_, K, V, P>
-        ensures { result ≡ self.now }
+        ensures pairs { result ≡ self.now }
+        ensures sorted { IsMap (of_key K.bytes) self.now }
     {
         let Some(root) = self.root else {
             return MapIterOf::new(&self.store, RawIterator::empty(), 0);

@@ -7,9 +7,8 @@ use Rattle.std.proofs.lemmas.Bool.{true≢false, false≢true}
 use Rattle.std.proofs.lemmas.List.Filters.{length-filter_both}
 use Rattle.art_model.specs.Keys.{IsFront, is_front, are_related, are_same, is_before, Precedes}
 use Rattle.art_model.specs.Pairs.{first_of, went, IsMap, with_key, related_to, is_conflict, stored_for, put, overwrite, overwrite_reply, replace_key, replace_related, remove_key, remove_related, add_in_order, of_key}
-use Rattle.art_model.specs.Trees.{tree_of}
 use Rattle.art_model.specs.Changes.{Change, put_pair, overwrite_with, remove_at, remove_first, remove_last, changed}
-use Rattle.art_model.specs.MapLaws.{Tells, KeysAreOnce, MatchesAreOne, MapsAreWhatIsFound, KeysAreDecided, ConflictsAreDecided, MapsStayMaps, PutIsFound, OverwriteIsFound, RemovedIsGone, FirstIsRemovedByKey, LastIsRemovedByKey, PutIsUndone, StoredKeyStays, NewKeyComes, PutKeepsKeys, OverwriteOfKeyIsPut, PutTells, OverwriteTells, RemovalTells, PutCounts, OverwriteCounts, RemovalCounts, SamePairsHaveSameTree}
+use Rattle.art_model.specs.MapLaws.{Tells, KeysAreOnce, MatchesAreOne, MapsAreWhatIsFound, KeysAreDecided, ConflictsAreDecided, MapsStayMaps, PutIsFound, OverwriteIsFound, RemovedIsGone, FirstIsRemovedByKey, LastIsRemovedByKey, PutIsUndone, StoredKeyStays, NewKeyComes, PutKeepsKeys, OverwriteOfKeyIsPut, PutTells, OverwriteTells, RemovalTells, PutCounts, OverwriteCounts, RemovalCounts}
 use Rattle.art_model.proofs.Between.{add_in_order_first}
 use Rattle.art_model.proofs.Lists.{Each-weaker, filter_none}
 use Rattle.art_model.proofs.Keys.{front_same, not_same, same_equal, same_related, related_sym, front_from, precedes_apart}
@@ -416,8 +415,3 @@ module _ {K V : Type 0} (bytes : K → List ℕ) where
       ap (λ xs. length xs + length (related_to Of (bytes new.0) pairs)) (overwrite_is new pairs map)
       ∙ ap (λ k. length (replace_related Of (stored new pairs) pairs) + length (related_to Of k pairs)) (sym (alike new pairs))
       ∙ related_replacement_counts Of (stored new pairs) pairs
-
-  -- ---- the tree
-
-  pub same_pairs_have_same_tree : SamePairsHaveSameTree V bytes
-  same_pairs_have_same_tree P changes others pairs from e = ap (λ xs. tree_of Of xs P 0) e

@@ -4,7 +4,6 @@ use Rattle.std.specs.Bool.{Decides}
 use Rattle.std.specs.List.{AllByRecursion as Each, cons_option}
 use Rattle.art_model.specs.Keys.{are_related, are_same}
 use Rattle.art_model.specs.Pairs.{last_of, without_last, IsMap, with_key, has_key, related_to, is_conflict, match_of, stored_for, put, put_reply, overwrite, overwrite_reply, remove_key, remove_reply, of_key}
-use Rattle.art_model.specs.Trees.{tree_of}
 use Rattle.art_model.specs.Changes.{Change, after}
 
 -- the reply tells which pairs went: none, this one, or this many
@@ -152,12 +151,3 @@ module _ {K : Type 0} (V : Type 0) (bytes : K → List ℕ) where
   OverwriteCounts = (new : K × V) (pairs : List (K × V)) → IsMap (of_key bytes) pairs →
       length (overwrite (of_key bytes) new pairs) + length (related_to (of_key bytes) (bytes new.0) pairs) ≡
       length pairs + 1
-
-  -- ---- the tree
-
-  -- two lists of changes that leave the same pairs leave the same tree
-  abbrev pub SamePairsHaveSameTree : Type 0
-  SamePairsHaveSameTree = (P : ℕ) (changes others : List (Change (K × V))) (pairs from : List (K × V)) →
-      after (of_key bytes) changes pairs ≡ after (of_key bytes) others from →
-      tree_of (of_key bytes) (after (of_key bytes) changes pairs) P 0 ≡
-      tree_of (of_key bytes) (after (of_key bytes) others from) P 0

@@ -1,7 +1,7 @@
 //! Maps: what is found in them, what changes leave, and what replies tell.
 
 ghost use Rattle.std.specs.Prelude.{ℕ, List};
-ghost use Rattle.art_model.specs.MapLaws.{KeysAreOnce, MatchesAreOne, MapsAreWhatIsFound, KeysAreDecided, ConflictsAreDecided, MapsStayMaps, PutIsFound, OverwriteIsFound, RemovedIsGone, FirstIsRemovedByKey, LastIsRemovedByKey, PutIsUndone, StoredKeyStays, NewKeyComes, PutKeepsKeys, OverwriteOfKeyIsPut, PutTells, OverwriteTells, RemovalTells, PutCounts, OverwriteCounts, RemovalCounts, SamePairsHaveSameTree};
+ghost use Rattle.art_model.specs.MapLaws.{KeysAreOnce, MatchesAreOne, MapsAreWhatIsFound, KeysAreDecided, ConflictsAreDecided, MapsStayMaps, PutIsFound, OverwriteIsFound, RemovedIsGone, FirstIsRemovedByKey, LastIsRemovedByKey, PutIsUndone, StoredKeyStays, NewKeyComes, PutKeepsKeys, OverwriteOfKeyIsPut, PutTells, OverwriteTells, RemovalTells, PutCounts, OverwriteCounts, RemovalCounts};
 
 /// A map has each key once, and what is found under keys decides it.
 pub fn a_map_is_what_is_found<A>()
@@ -59,9 +59,4 @@ pub fn changes_count<K, V>()
     ensures put { (bytes : K → List ℕ) → PutCounts V bytes }
     ensures overwrite { (bytes : K → List ℕ) → OverwriteCounts V bytes }
     ensures removal { (bytes : K × V → List ℕ) → RemovalCounts bytes }
-{}
-
-/// Two lists of changes that leave the same pairs leave the same tree.
-pub fn the_same_pairs_have_the_same_tree<K, V>()
-    ensures { (bytes : K → List ℕ) → SamePairsHaveSameTree V bytes }
 {}

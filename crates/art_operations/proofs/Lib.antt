@@ -17,3 +17,4 @@ pub mod Needed
 pub mod Stepped
 pub mod PrefixSteps
 pub mod GoneOver
+pub mod SameTrees

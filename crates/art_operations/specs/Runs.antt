@@ -1,12 +1,14 @@
 -- Runs of commands.
 use Rattle.std.specs.Prelude.{◌≡◌, ℕ, List, [], ◌∷◌, Option, Some}
+use Rattle.std.specs.Option.{option_map}
 use Rattle.art_nodes.specs.Nodes.{Nodes}
 use Rattle.art_parts.specs.declared.names.OpaqueNodePtr.{OpaqueNodePtr}
 use Rattle.art_model.specs.Pairs.{of_key, remove_key}
+use Rattle.art_model.specs.Radix.{unmarked}
 use Rattle.art_model.specs.Roots.{ForTree}
 use Rattle.art_operations.specs.Answers.{Answers}
 use Rattle.art_writing.specs.Deleted.{LeadsTo}
-use Rattle.art_operations.specs.Steps.{State, Step, IsSound, root_in}
+use Rattle.art_operations.specs.Steps.{State, Step, IsSound, pairs_in, root_in}
 use Rattle.art_writing.specs.declared.delete.DeletePoint.{DeletePoint}
 use Rattle.art_operations.specs.declared.run.Command.{Command}
 use Rattle.art_operations.specs.declared.run.Reply.{Reply}
@@ -56,6 +58,15 @@ module _ {K V : Type 0} (bytes : K → List ℕ) (P : ℕ) (IsClone : K × V →
     pub start_sound : IsSound bytes P start
     pub end_sound : IsSound bytes P end
     pub steps : Chain (Step bytes P IsClone) start commands replies end
+
+  -- runs that leave the same pairs leave the same tree, up to names, whatever their commands and wherever they began
+  abbrev pub SamePairsLeaveSameTree : Type 0
+  SamePairsLeaveSameTree =
+      (from : Shown K V) (commands : List (Command K V)) (replies : List (Reply K V)) (to : Shown K V)
+      (start : Shown K V) (others : List (Command K V)) (answers : List (Reply K V)) (end : Shown K V) →
+      (one : IsRun from commands replies to) (other : IsRun start others answers end) →
+      pairs_in other.end.tree ≡ pairs_in one.end.tree →
+      option_map unmarked other.end.tree ≡ option_map unmarked one.end.tree
 
   -- a step is made, whatever state is shown so
   abbrev pub MakesStep : Shown K V → Command K V → Reply K V → Shown K V → Type 0

@@ -157,15 +157,13 @@ impl InsertPoint {
         ensures promise { store.new.promise ≡ take_inner Node4 (take_leaf store.old.promise) }
     {
         let leaf = place_between(store, key, value, branch.previous, branch.next);
-        let Ok(parent) = store.place_two(
+        let parent = store.place_two(
             branch.header,
             branch.old_byte,
             old,
             branch.new_byte,
             leaf.to_opaque(),
-        ) else {
-            unreachable!()
-        };
+        );
         let new_root = replace_at(store, self.path, self.root, parent.to_opaque());
         InsertResult {
             leaf_node_ptr: leaf,

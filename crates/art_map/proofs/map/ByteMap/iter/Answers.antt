@@ -7,10 +7,11 @@ use Rattle.art_map.specs.MapItems.{pairs_left}
 use Rattle.art_map.specs.MapPairs.{HoldsPairs, pairs_at}
 use Rattle.art_map.proofs.Items.{none_left, no_pairs, whole_walk, whole_len, whole_pairs}
 use Rattle.art_map.proofs.Puts.{at_some}
+use Rattle.art_map.proofs.Views.{view_sorted}
 use Rattle.art_map.proofs.map.ByteMap.iter.Goals as goal
 
-pub returns-in_default : goal.returns-in_default
-returns-in_default g c =
+pub returns-in_default-clause-pairs : goal.returns-in_default-clause-pairs
+returns-in_default-clause-pairs g c =
     let B = of_key g.K.AsBytes.bytes in
     let pairs = pairs_at c.self.inside.store c.self.inside.root in
     let is = subst (λ root. HoldsPairs B g.row.P c.self.inside.store root c.self.inside.len pairs) c.in_default.is c.self.invariant in
@@ -43,9 +44,15 @@ new-requires-2 g c =
       len_is = has.len_is ∙ sym (whole_len has.by);
     }
 
-pub returns : goal.returns
-returns g c =
+pub returns-clause-pairs : goal.returns-clause-pairs
+returns-clause-pairs g c =
     let has = at_some (of_key g.K.AsBytes.bytes) g.row.P c.in-Some.is c.self.invariant in
     let full = has_children _ _ _ _ _ has.layout has.by in
     c.new-2.ensures ∙ ap (λ walk. pairs_left c.self.inside.store walk c.self.inside.len) c.new-walk.ensures
     ∙ whole_pairs has.by (c.minimum_unchecked-first.ensures has.layout full) (c.maximum_unchecked-last.ensures has.layout full) has.len_is ∙ c.self.view_is
+
+pub returns-in_default-clause-sorted : goal.returns-in_default-clause-sorted
+returns-in_default-clause-sorted g c = view_sorted (of_key g.K.AsBytes.bytes) g.row.P c.self.inside.store c.self.invariant c.self.view_is
+
+pub returns-clause-sorted : goal.returns-clause-sorted
+returns-clause-sorted g c = view_sorted (of_key g.K.AsBytes.bytes) g.row.P c.self.inside.store c.self.invariant c.self.view_is
