@@ -83,10 +83,11 @@ impl WellFormedTreeStats {
 impl Add for WellFormedTreeStats {
     type Output = WellFormedTreeStats;
 
-    ghost can_add = { λ a b. (a.num_leaf + b.num_leaf < 2 ^ 64) × (a.num_inner + b.num_inner < 2 ^ 64) };
+    ghost can_add = { λ a b.
+        (a.num_leaf + b.num_leaf < 2 ^ 64) × (a.num_inner + b.num_inner < 2 ^ 64) };
 
-    ghost add_gives = { λ a b sum.
-        sum ≡ record { num_leaf = a.num_leaf + b.num_leaf; num_inner = a.num_inner + b.num_inner } };
+    ghost add_gives = { λ a b sum. sum ≡
+        record { num_leaf = a.num_leaf + b.num_leaf; num_inner = a.num_inner + b.num_inner } };
 
     fn add(self, rhs: Self) -> Self {
         WellFormedTreeStats {
@@ -97,10 +98,11 @@ impl Add for WellFormedTreeStats {
 }
 
 impl AddAssign for WellFormedTreeStats {
-    ghost can_add_assign = { λ a b. (a.num_leaf + b.num_leaf < 2 ^ 64) × (a.num_inner + b.num_inner < 2 ^ 64) };
+    ghost can_add_assign = { λ a b.
+        (a.num_leaf + b.num_leaf < 2 ^ 64) × (a.num_inner + b.num_inner < 2 ^ 64) };
 
-    ghost add_assign_gives = { λ a b sum.
-        sum ≡ record { num_leaf = a.num_leaf + b.num_leaf; num_inner = a.num_inner + b.num_inner } };
+    ghost add_assign_gives = { λ a b sum. sum ≡
+        record { num_leaf = a.num_leaf + b.num_leaf; num_inner = a.num_inner + b.num_inner } };
 
     fn add_assign(&mut self, rhs: Self) {
         self.num_leaf += rhs.num_leaf;
@@ -108,10 +110,10 @@ impl AddAssign for WellFormedTreeStats {
     }
 }
 
-/// Checks trees. It visits each node once; besides, it looks up the siblings of each leaf, and walks down each chain of
-/// least children once where a prefix is read from the leaf below. It looks up each name in an ordered map of those that
-/// were met, where a name is noted with a copy of all bytes that lead to it. The stack grows with the number of inner
-/// nodes on the longest way down.
+/// Checks trees. It visits each node once; besides, it looks up the siblings of each leaf, and walks down
+/// each chain of least children once where a prefix is read from the leaf below. It looks up each name in an
+/// ordered map of those that were met, where a name is noted with a copy of all bytes that lead to it. The
+/// stack grows with the number of inner nodes on the longest way down.
 pub struct WellFormedChecker;
 
 impl WellFormedChecker {

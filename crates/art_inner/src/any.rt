@@ -124,7 +124,8 @@ impl<const P: usize> AnyInner<P> {
     /// The node of the next smaller kind.
     pub fn shrink(self) -> Self
         requires smaller { any_kind self ≢ kinds.Node4 }
-        requires fit { length (any_view self).children ≤ kind_capacity (smaller_kind (any_kind self)) }
+        requires fit { length (any_view self).children ≤
+            kind_capacity (smaller_kind (any_kind self)) }
         ensures kind { any_kind result ≡ smaller_kind (any_kind self.entry) }
         ensures view { any_view result ≡ any_view self.entry }
     {
@@ -210,7 +211,8 @@ impl<'a, const P: usize> InnerRef<'a, P> {
     #[inline(always)]
     pub fn read_prefix(&self) -> &[u8]
         ensures stored { result.now ≡ (ref_view self.now).prefix.stored }
-        ensures count { length (ref_view self.now).prefix.stored ≡ min (ref_view self.now).prefix.len P }
+        ensures count { length (ref_view self.now).prefix.stored ≡
+            min (ref_view self.now).prefix.len P }
     {
         match self {
             InnerRef::Node4(node) => node.read_prefix(),
@@ -242,7 +244,8 @@ impl<'a, const P: usize> InnerRef<'a, P> {
     }
 
     pub fn is_full(&self) -> bool
-        ensures { IsTrue result ↔ (kind_capacity (ref_kind self.now) ≤ length (ref_view self.now).children) }
+        ensures { IsTrue result ↔
+            (kind_capacity (ref_kind self.now) ≤ length (ref_view self.now).children) }
     {
         self.num_children() >= self.node_type().capacity()
     }
@@ -272,7 +275,8 @@ impl<'a, const P: usize> InnerRef<'a, P> {
     /// The greatest byte, and the name under it.
     pub fn max(&self) -> (u8, OpaqueNodePtr)
         requires { 0 < length (ref_view self.now).children }
-        ensures last { slice_get (ref_view self.now).children (length (ref_view self.now).children - 1) ≡ Some result }
+        ensures last { slice_get (ref_view self.now).children
+            (length (ref_view self.now).children - 1) ≡ Some result }
         ensures greatest { All (λ child. child.0 ≤ result.0) (ref_view self.now).children }
     {
         self.iter().greatest()

@@ -148,7 +148,8 @@ ghost use Rattle.art_inner.specs.Indexed.{moved};
 // Writes another number for each that is the last one's.
 fn renumber(index: &mut [u8], last: u8, to: u8)
     requires { last ≢ 0 }
-    ensures { (k : ℕ) → slice_index_or index.new k 0 ≡ moved last to (slice_index_or index.old k 0) }
+    ensures { (k : ℕ) →
+        slice_index_or index.new k 0 ≡ moved last to (slice_index_or index.old k 0) }
 {
     for number in index.iter_mut() {
         if *number == last {

@@ -38,7 +38,8 @@ pub trait InnerNode<const P: usize>: FromHeader<Header<P>> {
     /// The stored bytes of the prefix.
     fn read_prefix(&self) -> &[u8]
         ensures stored { result.now ≡ (view_of self.now).prefix.stored }
-        ensures count { length (view_of self.now).prefix.stored ≡ min (view_of self.now).prefix.len P };
+        ensures count { length (view_of self.now).prefix.stored ≡
+            min (view_of self.now).prefix.len P };
 
     /// The children by rising bytes.
     fn iter(&self) -> Children<'_>
@@ -100,7 +101,8 @@ pub trait InnerNode<const P: usize>: FromHeader<Header<P>> {
     /// The greatest byte, and the name under it.
     fn max(&self) -> (u8, OpaqueNodePtr)
         requires { 0 < length (view_of self.now).children }
-        ensures last { slice_get (view_of self.now).children (length (view_of self.now).children - 1) ≡ Some result }
+        ensures last { slice_get (view_of self.now).children
+            (length (view_of self.now).children - 1) ≡ Some result }
         ensures greatest { All (λ child. child.0 ≤ result.0) (view_of self.now).children }
     {
         self.iter().greatest()
@@ -114,7 +116,8 @@ pub trait InnerNode<const P: usize>: FromHeader<Header<P>> {
     }
 
     /// A new node has no child.
-    ghost starts_childless: { (header : Prefix) (node : Self) → Self.FromHeader.starts header node → view_of node ≡ childless header };
+    ghost starts_childless: { (header : Prefix) (node : Self) →
+        Self.FromHeader.starts header node → view_of node ≡ childless header };
 }
 
 /// An inner node of up to 4 children.

@@ -163,8 +163,10 @@ fn is_at(bytes: &[u8], at: usize, byte: u8) -> bool
 // A place at which the byte stands.
 #[inline(always)]
 fn position(bytes: &[u8], byte: u8) -> Option<usize>
-    ensures found { IfSome result (λ at. (at < length bytes.now) × (slice_index_or bytes.now at 0 ≡ byte)) }
-    ensures absent { IfNone result ((k : ℕ) → k < length bytes.now → slice_index_or bytes.now k 0 ≢ byte) }
+    ensures found { IfSome result (λ at.
+        (at < length bytes.now) × (slice_index_or bytes.now at 0 ≡ byte)) }
+    ensures absent { IfNone result ((k : ℕ) → k < length bytes.now →
+        slice_index_or bytes.now k 0 ≢ byte) }
 {
     for at in 0..bytes.len() {
         if bytes[at] == byte {

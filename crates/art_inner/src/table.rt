@@ -196,7 +196,8 @@ pub(crate) fn get_by_lanes(table: &Table<16>, byte: u8) -> Option<OpaqueNodePtr>
 #[inline(always)]
 fn insert_into<T: Copy>(part: &mut [T], at: usize, value: T)
     requires { at < length part.old }
-    ensures { part.new ≡ take at part.old ++ value ∷ take (length part.old - 1 - at) (drop at part.old) }
+    ensures { part.new ≡
+        take at part.old ++ value ∷ take (length part.old - 1 - at) (drop at part.old) }
 {
     let mut place = part.len() - 1;
     while place > at {

@@ -506,8 +506,8 @@ fn take_end<K: AsBytes + Drop, V: Drop, const P: usize>(
     requires { HoldsPairs (of_key K.bytes) P store.old root.old len.old
         (pairs_at store.old root.old) }
     ensures { HasTaken K.bytes P (pairs_at store.old root.old)
-        (end_of end (pairs_at store.old root.old)) (without_end end (pairs_at store.old root.old)) result
-        store.new root.new len.new }
+        (end_of end (pairs_at store.old root.old)) (without_end end (pairs_at store.old root.old))
+        result store.new root.new len.new }
 {
     let Some(name) = *root else {
         return Ok(None);

@@ -16,7 +16,8 @@ ghost use Rattle.art_model.specs.Examples.{Key, bytes_of_pair, tree_of_keys, ove
 pub fn trees_of_few_keys()
     ensures none { tree_of_keys [] 16 ≡ None }
     ensures one { tree_of_keys ((9 ∷ 9 ∷ []) ∷ []) 16 ≡ Some (leaf tt (9 ∷ 9 ∷ [])) }
-    ensures long_prefix { tree_of_keys ((7 ∷ 1 ∷ 1 ∷ 1 ∷ 1 ∷ 5 ∷ []) ∷ (7 ∷ 1 ∷ 1 ∷ 1 ∷ 1 ∷ 6 ∷ []) ∷ []) 2
+    ensures long_prefix { tree_of_keys
+        ((7 ∷ 1 ∷ 1 ∷ 1 ∷ 1 ∷ 5 ∷ []) ∷ (7 ∷ 1 ∷ 1 ∷ 1 ∷ 1 ∷ 6 ∷ []) ∷ []) 2
         ≡ Some (over_two 5 (7 ∷ 1 ∷ [])
         5 (leaf tt (7 ∷ 1 ∷ 1 ∷ 1 ∷ 1 ∷ 5 ∷ []))
         6 (leaf tt (7 ∷ 1 ∷ 1 ∷ 1 ∷ 1 ∷ 6 ∷ []))) }
@@ -96,7 +97,8 @@ pub fn removals_and_matches_in_a_small_map()
     ensures shorter_query { match_of bytes_of_pair (1 ∷ []) three_pairs ≡ [] }
 {}
 
-/// The tree of three words with a name for each node: its layout, its links, its places and the whole bytes of its inner nodes.
+/// The tree of three words with a name for each node: its layout, its links, its places and the whole bytes
+/// of its inner nodes.
 pub fn a_tree_with_its_names()
     ensures tree { tree_of_keys (interact ∷ interest ∷ kit ∷ []) 2 ≡ Some (unmarked pictured) }
     ensures layout { IsLayout pictured_at (node4 0) pictured }
@@ -112,16 +114,23 @@ pub fn a_tree_with_its_names()
 /// prefixes that can't be read or are stored wrongly. At most two bytes of a prefix are stored.
 pub fn faults_of_small_stores()
     ensures dead_root { IsTrueOf bytes_of_pair 2 looped (leaf_at 0) (dead_name [] (leaf_at 0)) }
-    ensures dead_sibling { IsTrueOf bytes_of_pair 2 linked_to_nothing (leaf_at 0) (dead_name [] (leaf_at 7)) }
-    ensures own_child { IsTrueOf bytes_of_pair 2 looped (node4 0) (loop_found (node4 0) [] (5 ∷ [])) }
-    ensures shared_leaf { IsTrueOf bytes_of_pair 2 shared (node4 0) (loop_found (leaf_at 0) (1 ∷ []) (2 ∷ [])) }
-    ensures one_child { IsTrueOf bytes_of_pair 2 misplaced (node4 0) (wrong_children_count [] Node4 1) }
-    ensures other_byte { IsTrueOf bytes_of_pair 2 misplaced (node4 0) (prefix_mismatch (1 ∷ []) (2 ∷ [])) }
+    ensures dead_sibling { IsTrueOf bytes_of_pair 2 linked_to_nothing (leaf_at 0)
+        (dead_name [] (leaf_at 7)) }
+    ensures own_child { IsTrueOf bytes_of_pair 2 looped (node4 0)
+        (loop_found (node4 0) [] (5 ∷ [])) }
+    ensures shared_leaf { IsTrueOf bytes_of_pair 2 shared (node4 0)
+        (loop_found (leaf_at 0) (1 ∷ []) (2 ∷ [])) }
+    ensures one_child { IsTrueOf bytes_of_pair 2 misplaced (node4 0)
+        (wrong_children_count [] Node4 1) }
+    ensures other_byte { IsTrueOf bytes_of_pair 2 misplaced (node4 0)
+        (prefix_mismatch (1 ∷ []) (2 ∷ [])) }
     ensures own_next { IsTrueOf bytes_of_pair 2 self_linked (leaf_at 0)
         (leaf_sibling_wrong_order (1 ∷ []) (1 ∷ []) Greater Equal) }
-    ensures false_link { IsTrueOf bytes_of_pair 2 self_linked (leaf_at 0) (wrong_sibling_links (1 ∷ [])
-        (record { previous = None; next = None }) (record { previous = None; next = Some (leaf_at 0) })) }
-    ensures no_leaf { IsTrueOf bytes_of_pair 2 unreadable (node4 0) (unreadable_prefix [] (node4 0)) }
+    ensures false_link { IsTrueOf bytes_of_pair 2 self_linked (leaf_at 0)
+        (wrong_sibling_links (1 ∷ []) (record { previous = None; next = None })
+        (record { previous = None; next = Some (leaf_at 0) })) }
+    ensures no_leaf { IsTrueOf bytes_of_pair 2 unreadable (node4 0)
+        (unreadable_prefix [] (node4 0)) }
     ensures stored { IsTrueOf bytes_of_pair 2 misstored (node4 0)
         (stored_prefix_mismatch [] (1 ∷ 2 ∷ []) (1 ∷ 1 ∷ [])) }
 {}

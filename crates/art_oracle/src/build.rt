@@ -129,8 +129,10 @@ fn start_node<K: AsBytes + Drop, V: Drop, const P: usize>(
     requires ready { (way : List ℕ) × Ready K.bytes store.now.leaves way leaves.now depth }
     ensures starts { (way : List ℕ) → Ready K.bytes store.now.leaves way leaves.now depth →
         Starts K.bytes P store.now.leaves way leaves.now depth result.0 (any_view result.1) }
-    ensures kind { any_kind result.1 ≡ kind_of (count_groups K.bytes store.now.leaves leaves.now result.0) }
-    ensures capacity { count_groups K.bytes store.now.leaves leaves.now result.0 ≤ kind_capacity (any_kind result.1) }
+    ensures kind { any_kind result.1 ≡
+        kind_of (count_groups K.bytes store.now.leaves leaves.now result.0) }
+    ensures capacity { count_groups K.bytes store.now.leaves leaves.now result.0 ≤
+        kind_capacity (any_kind result.1) }
 {
     let (_, first) = key_of(store, leaves[0]).split_at(depth);
     let (_, last) = key_of(store, leaves[leaves.len() - 1]).split_at(depth);
@@ -203,11 +205,13 @@ fn build_below<K: AsBytes + Drop, V: Drop, const P: usize>(
     requires ready { (front : List ℕ) × ReadyBelow K.bytes store.old.leaves front leaves.now at }
     requires parent { (node : Inner) × (map.get store.old.inners parent ≡ Some node) ×
         AreBelow K.bytes store.old.leaves leaves.now at node ×
-        (length node.children + count_groups K.bytes store.old.leaves leaves.now at ≤ kind_capacity parent.kind) }
+        (length node.children + count_groups K.bytes store.old.leaves leaves.now at ≤
+        kind_capacity parent.kind) }
     requires inner { parent.kind ≢ Leaf }
     ensures built { OnOk result ((front : List ℕ) (node : Inner) →
         ReadyBelow K.bytes store.old.leaves front leaves.now at →
-        map.get store.old.inners parent ≡ Some node → AreBelow K.bytes store.old.leaves leaves.now at node →
+        map.get store.old.inners parent ≡ Some node →
+        AreBelow K.bytes store.old.leaves leaves.now at node →
         BuiltUnder K.bytes P front leaves.now store.old store.new parent node) }
     ensures leaves { OnOk result (store.new.leaves ≡ store.old.leaves) }
     ensures kept { OnOk result (KeepsAllBut store.old store.new parent) }
@@ -228,7 +232,8 @@ fn place_leaves<K: AsBytes + Drop, V: Drop, const P: usize>(
     store: &mut NodeStore<K, V, P>,
     pairs: Vec<(K, V)>,
 ) -> Result<Vec<LeafPtr>, AllocError>
-    ensures placed { IfOk result (λ names. IsPlaced store.old.leaves store.new.leaves names.items pairs.items) }
+    ensures placed { IfOk result (λ names.
+        IsPlaced store.old.leaves store.new.leaves names.items pairs.items) }
     ensures inners { OnOk result (store.new.inners ≡ store.old.inners) }
 {
     let mut names = Vec::with_capacity(store.alloc(), pairs.len())?;
@@ -268,9 +273,11 @@ pub fn build<K: AsBytes + Drop, V: Drop, const P: usize>(
     pairs: Vec<(K, V)>,
 ) -> Result<Option<OpaqueNodePtr>, AllocError>
     requires { IsMap (of_key K.bytes) pairs.items }
-    ensures canonical { IfOk result (λ root. IsCanonical (of_key K.bytes) P store.new root pairs.items) }
+    ensures canonical { IfOk result (λ root.
+        IsCanonical (of_key K.bytes) P store.new root pairs.items) }
     ensures kept { OnOk result (KeepsNodes store.old store.new) }
-    ensures names { IfOk result (λ root. AddsTree (of_key K.bytes) P store.old store.new root pairs.items) }
+    ensures names { IfOk result (λ root.
+        AddsTree (of_key K.bytes) P store.old store.new root pairs.items) }
     ensures fresh { IfOk result (λ root. (name : OpaqueNodePtr) →
         IsInTree (of_key K.bytes) P store.new root pairs.items name → held store.old name ≡ None) }
 {

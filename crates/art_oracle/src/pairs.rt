@@ -93,7 +93,8 @@ pub fn insert_at<K: AsBytes, V>(
     requires map { IsMap (of_key K.bytes) pairs.old.items }
     requires gap { IsGapFor K.bytes pairs.old.items at (K.bytes key) }
     requires unrelated { is_conflict (of_key K.bytes) (K.bytes key) pairs.old.items ≡ false }
-    ensures pairs { OnOk result (pairs.new.items ≡ put (of_key K.bytes) (key, value) pairs.old.items) }
+    ensures pairs { OnOk result
+        (pairs.new.items ≡ put (of_key K.bytes) (key, value) pairs.old.items) }
     ensures old { with_key (of_key K.bytes) (K.bytes key) pairs.old.items ≡ [] }
     ensures map { IsMap (of_key K.bytes) pairs.new.items }
     ensures refused { OnErr result (pairs.new.items ≡ pairs.old.items) }

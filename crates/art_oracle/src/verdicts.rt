@@ -159,8 +159,8 @@ impl Way {
         }
     }
 
-    /// So many bytes from a depth on of the key of the least leaf below a node. None where there is no such leaf, or its key is
-    /// shorter.
+    /// So many bytes from a depth on of the key of the least leaf below a node. None where there is no such
+    /// leaf, or its key is shorter.
     fn least_bytes<'a, K: AsBytes + Drop, V: Drop, const P: usize>(
         &self,
         store: &'a NodeStore<K, V, P>,

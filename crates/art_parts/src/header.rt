@@ -21,7 +21,8 @@ impl<const P: usize> Model for Header<P> {
 
     ghost invariant = { λ h. drop (min h.len P) h.bytes ≡ replicate (P - min h.len P) 0 };
 
-    ghost inverse = { λ v. record { len = v.len; bytes = v.stored ++ replicate (P - min v.len P) 0 } };
+    ghost inverse = { λ v.
+        record { len = v.len; bytes = v.stored ++ replicate (P - min v.len P) 0 } };
 
     ghost use Rattle.art_parts.specs.HeaderBack.{bytes_back};
 
@@ -73,7 +74,8 @@ impl<const P: usize> Header<P> {
         requires within { n ≤ self.old.len }
         requires given { depth + self.old.len ≤ length leaf_bytes.now }
         ensures len { self.new.len ≡ self.old.len - n }
-        ensures stored { self.new.stored ≡ take (min (self.old.len - n) P) (drop (depth + n) leaf_bytes.now) }
+        ensures stored { self.new.stored ≡
+            take (min (self.old.len - n) P) (drop (depth + n) leaf_bytes.now) }
     {
         *self = Header::new(&leaf_bytes[depth + n..], self.len - n);
     }
@@ -105,7 +107,8 @@ impl<const P: usize> Header<P> {
     }
 }
 
-/// What is made of a header. It is no part of `InnerNode`, since a trait with a constant parameter can't have such a call.
+/// What is made of a header. It is no part of `InnerNode`, since a trait with a constant parameter can't
+/// have such a call.
 pub trait FromHeader<H>: Drop {
     /// How what is made begins.
     ghost starts: { H → Self → Type 0 };

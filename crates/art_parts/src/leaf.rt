@@ -57,7 +57,8 @@ impl<K: Clone, V: Clone> LeafNode<K, V> {
     /// A leaf of clones of the key and the value, with no siblings.
     pub fn clone_without_siblings(&self) -> Result<Self, AllocError>
         ensures leaf { IfOk result (λ leaf. IsLeafClone K.is_clone V.is_clone self.now leaf) }
-        ensures succeeds { K.is_infallible self.now.key → V.is_infallible self.now.value → IsOk result }
+        ensures succeeds { K.is_infallible self.now.key → V.is_infallible self.now.value →
+            IsOk result }
     {
         let key = self.key.clone()?;
         let value = self.value.clone()?;

@@ -41,7 +41,8 @@ impl RawIterator {
         start: LeafPtr,
         end: LeafPtr,
     ) -> Self
-        requires { (names : List OpaqueNodePtr) × IsIteratorOf _store.now (Some (start, end)) names }
+        requires { (names : List OpaqueNodePtr) ×
+            IsIteratorOf _store.now (Some (start, end)) names }
         ensures { result ≡ Some (start, end) }
     {
         RawIterator {

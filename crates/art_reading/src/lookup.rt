@@ -38,8 +38,10 @@ impl PrefixMatchBehavior {
         node: &N,
         rest_of_key: &[u8],
     ) -> Result<AttemptOptimisticPrefixMatch, PessimisticMismatch>
-        ensures outcome { result ≡ prefix_match self.old (N.view_of node.now).prefix rest_of_key.now }
-        ensures behavior { self.new ≡ behavior_after self.old (N.view_of node.now).prefix rest_of_key.now }
+        ensures outcome { result ≡
+            prefix_match self.old (N.view_of node.now).prefix rest_of_key.now }
+        ensures behavior { self.new ≡
+            behavior_after self.old (N.view_of node.now).prefix rest_of_key.now }
     {
         let (prefix_len, stored) = (node.prefix_len(), node.read_prefix());
         if self.goes_on(prefix_len, stored, rest_of_key) {
@@ -389,7 +391,8 @@ fn find_leaf<K: AsBytes + Drop, V: Drop, const PREFIX_LEN: usize>(
         FindsLeaf layout (asked_of asked (of_key K.bytes) key_bytes.now pairs) result) }
     ensures there { IfSome result (λ leaf. IsSome (map.get store.now.leaves leaf)) }
     ensures pair { ForTree (of_key K.bytes) PREFIX_LEN store.now root (λ pairs _.
-        pair_under store.now result ≡ first_of (asked_of asked (of_key K.bytes) key_bytes.now pairs)) }
+        pair_under store.now result ≡
+        first_of (asked_of asked (of_key K.bytes) key_bytes.now pairs)) }
     ensures visits { CountsVisits (of_key K.bytes) PREFIX_LEN store.now root key_bytes.now
         visits.old visits.new (IsSome result) }
 {

@@ -50,14 +50,18 @@ pub fn clone_unchecked<K: AsBytes + Clone + Drop, V: Clone + Drop, const PREFIX_
 ) -> Result<CloneResult, AllocError>
     requires root { IsCanonicalRoot (of_key K.bytes) PREFIX_LEN store.now root }
     requires clones { KeepBytes K.bytes K.is_clone }
-    ensures canonical { ForTree (of_key K.bytes) PREFIX_LEN store.now root (λ pairs _. IfOk result (λ done.
-        (copies : List (K × V)) × AreClones K.is_clone V.is_clone pairs copies ×
+    ensures canonical { ForTree (of_key K.bytes) PREFIX_LEN store.now root (λ pairs _.
+        IfOk result (λ done. (copies : List (K × V)) ×
+        AreClones K.is_clone V.is_clone pairs copies ×
         IsCanonical (of_key K.bytes) PREFIX_LEN into.new (Some done.root) copies)) }
-    ensures gained { IfOk result (λ done. ForTree (of_key K.bytes) PREFIX_LEN into.new done.root (λ _ copy.
+    ensures gained { IfOk result (λ done.
+        ForTree (of_key K.bytes) PREFIX_LEN into.new done.root (λ _ copy.
         KeepsOthers into.old into.new [] (names_of copy))) }
-    ensures first { IfOk result (λ done. ForTree (of_key K.bytes) PREFIX_LEN into.new done.root (λ _ copy.
+    ensures first { IfOk result (λ done.
+        ForTree (of_key K.bytes) PREFIX_LEN into.new done.root (λ _ copy.
         HasFirstLeaf copy (leaf_name done.min_leaf))) }
-    ensures last { IfOk result (λ done. ForTree (of_key K.bytes) PREFIX_LEN into.new done.root (λ _ copy.
+    ensures last { IfOk result (λ done.
+        ForTree (of_key K.bytes) PREFIX_LEN into.new done.root (λ _ copy.
         HasLastLeaf copy (leaf_name done.max_leaf))) }
     ensures promise { ForTree (of_key K.bytes) PREFIX_LEN store.now root (λ _ layout.
         OnOk result (into.new.promise ≡ tree_taken layout into.old.promise)) }
@@ -159,13 +163,14 @@ fn place_like<K: AsBytes + Drop, V: Drop, const P: usize>(
     node: InnerRef<'_, P>,
     into: &mut NodeStore<K, V, P>,
 ) -> Result<InnerPtr, AllocError>
-    ensures placed { IfOk result (λ copy.
-        into.new.inners ≡ map.insert into.old.inners copy (childless (ref_view node.entry).prefix)) }
+    ensures placed { IfOk result (λ copy. into.new.inners ≡
+        map.insert into.old.inners copy (childless (ref_view node.entry).prefix)) }
     ensures kind { IfOk result (λ copy. copy.kind ≡ ref_kind node.entry) }
     ensures inner { ref_kind node.entry ≢ Leaf }
     ensures fresh { IfOk result (λ copy. map.get into.old.inners copy ≡ None) }
     ensures leaves { into.new.leaves ≡ into.old.leaves }
-    ensures promise { OnOk result (into.new.promise ≡ take_inner (ref_kind node.entry) into.old.promise) }
+    ensures promise { OnOk result (into.new.promise ≡
+        take_inner (ref_kind node.entry) into.old.promise) }
     ensures lessened { IsLessened into.old.promise into.new.promise }
     ensures refused { OnErr result (into.new ≡ into.old) }
 {
@@ -190,7 +195,8 @@ fn add_copy<K: AsBytes + Drop, V: Drop, const P: usize>(
         HasPlace (kind_capacity parent.kind) node.children byte) }
     ensures leaves { into.new.leaves ≡
         joined into.old.leaves last (Some copy.now.min_leaf) (Some copy.now.min_leaf) last }
-    ensures inners { into.new.inners ≡ change into.old.inners parent (with_child byte copy.now.root) }
+    ensures inners { into.new.inners ≡
+        change into.old.inners parent (with_child byte copy.now.root) }
     ensures promise { into.new.promise ≡ into.old.promise }
 {
     link(into, last, Some(copy.min_leaf));

@@ -76,9 +76,11 @@ pub(crate) fn free_nodes<K: AsBytes + Drop, V: Drop, const P: usize>(
     leaves_too: bool,
 ) -> usize
     requires { (shape : Tree OpaqueNodePtr (Unit {0})) × CanGo store.old leaves_too root shape }
-    ensures freed { (shape : Tree OpaqueNodePtr (Unit {0})) → CanGo store.old leaves_too root shape →
+    ensures freed { (shape : Tree OpaqueNodePtr (Unit {0})) →
+        CanGo store.old leaves_too root shape →
         Frees (going leaves_too shape) store.old store.new }
-    ensures count { (shape : Tree OpaqueNodePtr (Unit {0})) → CanGo store.old leaves_too root shape →
+    ensures count { (shape : Tree OpaqueNodePtr (Unit {0})) →
+        CanGo store.old leaves_too root shape →
         result ≡ leaves_going leaves_too shape }
     ensures promise { store.new.promise ≡ store.old.promise }
     ensures improper { (name : InnerPtr) → name.kind ≡ Leaf →
@@ -128,7 +130,8 @@ fn take_first_child<K: AsBytes + Drop, V: Drop, const P: usize>(
     requires { IsSome (map.get store.old.inners inner) }
     ensures child { IfSome (map.get store.old.inners inner) (λ node. result ≡ option_map (λ child.
         child.1) (first_of node.children)) }
-    ensures taken { OnSome result (store.new.inners ≡ change store.old.inners inner without_first_child) }
+    ensures taken { OnSome result (store.new.inners ≡
+        change store.old.inners inner without_first_child) }
     ensures none { IfNone result (store.new.inners ≡ store.old.inners) }
     ensures leaves { store.new.leaves ≡ store.old.leaves }
     ensures promise { store.new.promise ≡ store.old.promise }

@@ -41,7 +41,8 @@ pub struct InsertPrefixError {
 impl Clone for InsertPrefixError {
     ghost use Rattle.std.specs.Box.{boxed_slice_items};
 
-    ghost is_clone = { λ error copy. boxed_slice_items copy.byte_repr ≡ boxed_slice_items error.byte_repr };
+    ghost is_clone = { λ error copy.
+        boxed_slice_items copy.byte_repr ≡ boxed_slice_items error.byte_repr };
 
     fn clone(&self) -> Result<Self, AllocError> {
         let byte_repr = self.byte_repr.clone()?;
@@ -440,7 +441,8 @@ fn match_prefix(
 ) -> Result<PrefixMatch, ExplicitMismatch>
     ensures len { IfOk result (λ matched. matched.matched_bytes ≡ length prefix.now) }
     ensures front { IfOk result (λ matched. IsFront prefix.now rest_of_key.now) }
-    ensures shared { IfErr result (λ mismatch. mismatch.matched_bytes ≡ shared_len prefix.now rest_of_key.now) }
+    ensures shared { IfErr result (λ mismatch.
+        mismatch.matched_bytes ≡ shared_len prefix.now rest_of_key.now) }
     ensures byte { IfErr result (λ mismatch. slice_get prefix.now mismatch.matched_bytes ≡
         Some mismatch.prefix_byte) }
     ensures leaf { IfErr result (λ mismatch. mismatch.leaf_ptr ≡ leaf_ptr) }

@@ -120,7 +120,8 @@ pub(crate) fn take_from_between<K: AsBytes + Drop, V: Drop, const P: usize>(
 ) -> LeafNode<K, V>
     requires leaf { IsSome (map.get store.old.leaves name) }
     requires beside { LinksAreThere store.old.leaves name }
-    ensures leaf { IsSomeAnd (map.get store.old.leaves name) (λ leaf. result ≡ alone (leaf.key, leaf.value)) }
+    ensures leaf { IsSomeAnd (map.get store.old.leaves name) (λ leaf.
+        result ≡ alone (leaf.key, leaf.value)) }
     ensures leaves { IsSomeAnd (map.get store.old.leaves name) (λ leaf.
         store.new.leaves ≡ without_leaf store.old.leaves name leaf) }
     ensures inners { store.new.inners ≡ store.old.inners }

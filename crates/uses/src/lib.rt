@@ -34,7 +34,8 @@ pub fn put<K: AsBytes + Drop, V: Drop, const P: usize>(
 ) -> Option<OpaqueNodePtr>
     requires { IsCanonicalRoot (of_key K.bytes) P store.old root }
     ensures pairs { ForTree (of_key K.bytes) P store.old root (λ pairs _. IfSome result (λ new.
-        IsCanonical (of_key K.bytes) P store.new (Some new) (put (of_key K.bytes) (key, value) pairs))) }
+        IsCanonical (of_key K.bytes) P store.new (Some new)
+        (put (of_key K.bytes) (key, value) pairs))) }
     ensures root { IfSome result (IsCanonicalRoot (of_key K.bytes) P store.new) }
     ensures leaves { IfNone result (store.new.leaves ≡ store.old.leaves) }
     ensures inners { IfNone result (store.new.inners ≡ store.old.inners) }
@@ -58,7 +59,8 @@ pub fn put_over<K: AsBytes + Drop, V: Drop, const P: usize>(
 ) -> Option<(OpaqueNodePtr, usize)>
     requires { IsCanonicalRoot (of_key K.bytes) P store.old root }
     ensures pairs { ForTree (of_key K.bytes) P store.old root (λ pairs _. IfSome result (λ new.
-        IsCanonical (of_key K.bytes) P store.new (Some new.0) (overwrite (of_key K.bytes) (key, value) pairs))) }
+        IsCanonical (of_key K.bytes) P store.new (Some new.0)
+        (overwrite (of_key K.bytes) (key, value) pairs))) }
     ensures root { IfSome result (λ new. IsCanonicalRoot (of_key K.bytes) P store.new new.0) }
     ensures leaves { IfNone result (store.new.leaves ≡ store.old.leaves) }
     ensures inners { IfNone result (store.new.inners ≡ store.old.inners) }
@@ -79,7 +81,8 @@ pub fn take<K: AsBytes + Drop, V: Drop, const P: usize>(
 ) -> Option<(Option<OpaqueNodePtr>, K, V)>
     requires { IsCanonicalRoot (of_key K.bytes) P store.old root }
     ensures pairs { ForTree (of_key K.bytes) P store.old root (λ pairs _. IfSome result (λ left.
-        IsCanonical (of_key K.bytes) P store.new left.0 (remove_key (of_key K.bytes) (K.bytes left.1) pairs))) }
+        IsCanonical (of_key K.bytes) P store.new left.0
+        (remove_key (of_key K.bytes) (K.bytes left.1) pairs))) }
     ensures root { IfSome result (λ left.
         IfSome left.0 (IsCanonicalRoot (of_key K.bytes) P store.new)) }
     ensures leaves { IfNone result (store.new.leaves ≡ store.old.leaves) }

@@ -19,7 +19,8 @@ pub fn build_and_empty(
         Option<([u8; 1], u32)>,
     ),
 >
-    ensures { IfSome result (λ told. told ≡ (Some (2 ∷ [], 28), Some 31, Some 31, Some (2 ∷ [], 29))) }
+    ensures { IfSome result (λ told.
+        told ≡ (Some (2 ∷ [], 28), Some 31, Some 31, Some (2 ∷ [], 29))) }
 {
     let mut map: ByteMap<[u8; 1], u32, 4> = ByteMap::new(alloc);
     let Ok(_) = map.insert([2], 28) else {

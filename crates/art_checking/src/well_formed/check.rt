@@ -31,7 +31,8 @@ pub(super) fn check_nodes<K: AsBytes + Drop, V: Drop, const P: usize>(
     root: OpaqueNodePtr,
 ) -> Result<Seen, MalformedTreeError>
     ensures met { IfOk result (λ seen. IsMetTree (of_key K.bytes) P store.now seen root) }
-    ensures fault { IfErr result (λ error. IsTrueOf (of_key K.bytes) P store.now root (fault_of error)) }
+    ensures fault { IfErr result (λ error.
+        IsTrueOf (of_key K.bytes) P store.now root (fault_of error)) }
 {
     let mut seen = Seen::new(store.alloc());
     let mut place = Vec::new(store.alloc());
@@ -105,13 +106,13 @@ fn check_inner<K: AsBytes + Drop, V: Drop, const P: usize>(
     requires below { NoneBelow (place_in seen.old) place.old.items }
     requires least { IfSome least (λ leaf.
         IsLeastLeaf (of_key K.bytes) P store.now (inner_name name) (Some leaf)) }
-    ensures checked { OnOk result
-        (IsChecked (of_key K.bytes) P store.now seen.old seen.new place.old.items (inner_name name)) }
+    ensures checked { OnOk result (IsChecked (of_key K.bytes) P store.now
+        seen.old seen.new place.old.items (inner_name name)) }
     ensures place { OnOk result (place.new.items ≡ place.old.items) }
     ensures walked { OnOk result (IsWalked (of_key K.bytes) P store.now
         (place_in seen.old) (place_in seen.new) place.old.items (inner_name name)) }
-    ensures fault { IfErr result
-        (IsTrueBehind (of_key K.bytes) P store.now (place_in seen.old) place.old.items (inner_name name)) }
+    ensures fault { IfErr result (IsTrueBehind (of_key K.bytes) P store.now
+        (place_in seen.old) place.old.items (inner_name name)) }
 {
     let Some(node) = store.inner(name) else {
         unreachable!()
@@ -146,11 +147,13 @@ fn read_prefix<K: AsBytes + Drop, V: Drop, const P: usize>(
     requires proper { name.kind ≢ Leaf }
     requires least { IfSome least (λ leaf.
         IsLeastLeaf (of_key K.bytes) P store.now (inner_name name) (Some leaf)) }
-    ensures prefix { OnOk result (IsRead (of_key K.bytes) P store.now place.old.items place.new.items
-        (inner_name name) (header_at name.kind (ref_view node.entry))) }
+    ensures prefix { OnOk result (IsRead (of_key K.bytes) P store.now
+        place.old.items place.new.items (inner_name name)
+        (header_at name.kind (ref_view node.entry))) }
     ensures least { IfOk result (λ found. IfSome found (λ leaf.
         IsLeastLeaf (of_key K.bytes) P store.now (inner_name name) (Some leaf))) }
-    ensures fault { IfErr result (IsTrueAt (of_key K.bytes) P store.now place.old.items (inner_name name)) }
+    ensures fault { IfErr result
+        (IsTrueAt (of_key K.bytes) P store.now place.old.items (inner_name name)) }
 {
     let len = node.prefix_len();
     let stored = node.read_prefix();
@@ -185,9 +188,12 @@ fn read_least<K: AsBytes + Drop, V: Drop, const P: usize>(
     depth: usize,
     len: usize,
 ) -> Result<(Option<LeafPtr>, Option<&[u8]>), AllocError>
-    requires { IfSome least (λ leaf. IsLeastLeaf (of_key K.bytes) P store.now (inner_name name) (Some leaf)) }
-    ensures least { IfOk result (λ read. IsLeastLeaf (of_key K.bytes) P store.now (inner_name name) read.0) }
-    ensures part { IfOk result (λ read. IsReadFrom (of_key K.bytes) P store.now (inner_name name) depth len read.1) }
+    requires { IfSome least (λ leaf.
+        IsLeastLeaf (of_key K.bytes) P store.now (inner_name name) (Some leaf)) }
+    ensures least { IfOk result (λ read.
+        IsLeastLeaf (of_key K.bytes) P store.now (inner_name name) read.0) }
+    ensures part { IfOk result (λ read.
+        IsReadFrom (of_key K.bytes) P store.now (inner_name name) depth len read.1) }
 {
     let found = match least {
         Some(leaf) => Some(leaf),
@@ -208,7 +214,8 @@ fn part_of<K: AsBytes + Drop, V: Drop, const P: usize>(
     len: usize,
 ) -> Option<&[u8]>
     ensures { (x : K × V) → node_at store.now (leaf_name leaf) ≡ Some (leaf_node x) →
-        MatchOption result (length (K.bytes x.0) < depth + len) (λ part. IsPartOf depth len (K.bytes x.0) part.now) }
+        MatchOption result (length (K.bytes x.0) < depth + len) (λ part.
+        IsPartOf depth len (K.bytes x.0) part.now) }
 {
     let key = store.leaf(leaf)?.key.as_bytes();
     let end = depth.checked_add(len)?;
@@ -248,11 +255,12 @@ fn check_count<K: AsBytes + Drop, V: Drop, const P: usize>(
     node: InnerRef<'_, P>,
     place: &[u8],
 ) -> Result<(), MalformedTreeError>
-    ensures enough { OnOk result (kind_least (ref_kind node.entry) ≤ length (ref_view node.entry).children) }
+    ensures enough { OnOk result
+        (kind_least (ref_kind node.entry) ≤ length (ref_view node.entry).children) }
     ensures fault { IfErr result (λ error. (fault_of error ≡ out_of_memory) ⊎
-        ((fault_of error ≡
-        wrong_children_count place.now (ref_kind node.entry) (length (ref_view node.entry).children))
-        × (length (ref_view node.entry).children < kind_least (ref_kind node.entry)))) }
+        ((fault_of error ≡ wrong_children_count place.now (ref_kind node.entry)
+        (length (ref_view node.entry).children)) ×
+        (length (ref_view node.entry).children < kind_least (ref_kind node.entry)))) }
 {
     let kind = node.node_type();
     let count = node.num_children();
@@ -276,7 +284,8 @@ fn check_leaf<K: AsBytes + Drop, V: Drop, const P: usize>(
     ensures leaf { OnOk result (IsLeafAt (of_key K.bytes) P store.now leaf place.now) }
     ensures siblings { OnOk result ((node : LeafNode K V) →
         map.get store.now.leaves leaf ≡ Some node → IsBetween (of_key K.bytes) P store.now node) }
-    ensures fault { IfErr result (IsTrueAt (of_key K.bytes) P store.now place.now (leaf_name leaf)) }
+    ensures fault { IfErr result
+        (IsTrueAt (of_key K.bytes) P store.now place.now (leaf_name leaf)) }
 {
     let Some(node) = store.leaf(leaf) else {
         unreachable!()
@@ -305,7 +314,8 @@ fn check_order<K: AsBytes + Drop, V: Drop, const P: usize>(
     expected: Ordering,
     place: &[u8],
 ) -> Result<(), MalformedTreeError>
-    ensures sibling { OnOk result (IsInOrder (of_key K.bytes) P store.now sibling expected key.now) }
+    ensures sibling { OnOk result
+        (IsInOrder (of_key K.bytes) P store.now sibling expected key.now) }
     ensures fault { IfErr result (λ error. (root leaf : OpaqueNodePtr) (x : K × V) →
         ReachesLeaf (of_key K.bytes) P store.now root place.now leaf x → K.bytes x.0 ≡ key.now →
         HasSibling (of_key K.bytes) P store.now root leaf expected (leaf_name sibling) →
@@ -336,8 +346,10 @@ pub(super) fn check_links<K: AsBytes + Drop, V: Drop, const P: usize>(
     leaves: &[LeafPtr],
 ) -> Result<(), MalformedTreeError>
     requires there { Each (λ leaf. IsSome (map.get store.now.leaves leaf)) leaves.now }
-    ensures linked { OnOk result (AreLinked (links_at store.now) None (names_of_leaves leaves.now) None) }
-    ensures fault { IfErr result (λ error. (root : OpaqueNodePtr) (layout : Tree OpaqueNodePtr (K × V)) →
+    ensures linked { OnOk result
+        (AreLinked (links_at store.now) None (names_of_leaves leaves.now) None) }
+    ensures fault { IfErr result (λ error.
+        (root : OpaqueNodePtr) (layout : Tree OpaqueNodePtr (K × V)) →
         IsLayout (node_at store.now) root layout → leaf_names layout ≡ names_of_leaves leaves.now →
         IsTrueOf (of_key K.bytes) P store.now root (fault_of error)) }
 {

@@ -61,7 +61,8 @@ pub enum MalformedTreeError {
         key_prefix: KeyPrefix,
         name: OpaqueNodePtr,
     },
-    /// A prefix is longer than what can be stored, and there is no leaf to read it from, or the leaf's key is too short.
+    /// A prefix is longer than what can be stored, and there is no leaf to read it from, or the leaf's key
+    /// is too short.
     #[error("Found an inner node [{name}] at location [{key_prefix:?}] whose prefix cannot be read from a leaf")]
     UnreadablePrefix {
         key_prefix: KeyPrefix,

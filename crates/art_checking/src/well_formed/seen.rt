@@ -45,8 +45,10 @@ impl Seen {
         place: &[u8],
     ) -> Result<(), AllocError>
         requires { place_in self.old name ≡ None }
-        ensures places { OnOk result (IsMet (place_in self.old) (place_in self.new) name place.now) }
-        ensures leaves { OnOk result (self.new.leaves.items ≡ leaves_with name self.old.leaves.items) }
+        ensures places { OnOk result
+            (IsMet (place_in self.old) (place_in self.new) name place.now) }
+        ensures leaves { OnOk result
+            (self.new.leaves.items ≡ leaves_with name self.old.leaves.items) }
         ensures count { OnOk result (count_met self.new ≡ count_met self.old + 1) }
     {
         let place = KeyPrefix::from_slice(alloc, place)?;

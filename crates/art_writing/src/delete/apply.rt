@@ -30,24 +30,28 @@ impl DeletePoint {
         root: OpaqueNodePtr,
     ) -> Result<DeleteResult<K, V>, DeleteRefused>
         requires { IsDeletePointIn (of_key K.bytes) PREFIX_LEN store.old root self }
-        ensures canonical { ForTree (of_key K.bytes) PREFIX_LEN store.old root (λ pairs layout. IfOk result (λ done.
+        ensures canonical { ForTree (of_key K.bytes) PREFIX_LEN store.old root (λ pairs layout.
+            IfOk result (λ done.
             IsCanonical (of_key K.bytes) PREFIX_LEN store.new done.new_root
             (remove_key (of_key K.bytes) (K.bytes done.deleted_leaf.key) pairs))) }
         ensures left { IfOk result (λ done.
             IfSome done.new_root (IsCanonicalRoot (of_key K.bytes) PREFIX_LEN store.new)) }
-        ensures deleted { IfOk result (λ done. IfSome (map.get store.old.leaves self.leaf_node_ptr) (λ leaf.
+        ensures deleted { IfOk result (λ done.
+            IfSome (map.get store.old.leaves self.leaf_node_ptr) (λ leaf.
             done.deleted_leaf ≡ alone (pair_of leaf))) }
         ensures root { IfOk result (λ done.
             IsRootAfter (parent_change store.old self.path) self.path root done.new_root) }
-        ensures kept { ForTree (of_key K.bytes) PREFIX_LEN store.old root (λ pairs old. IfOk result (λ done.
+        ensures kept { ForTree (of_key K.bytes) PREFIX_LEN store.old root (λ pairs old.
+            IfOk result (λ done.
             ForRoot (of_key K.bytes) PREFIX_LEN store.new done.new_root (λ after new.
             ChangesInPlace (of_key K.bytes) store.old store.new (Some old) new))) }
-        ensures touches { OnOk result (TouchesFor (parent_change store.old self.path) store.old store.new) }
+        ensures touches { OnOk result
+            (TouchesFor (parent_change store.old self.path) store.old store.new) }
         ensures promise { OnOk result (store.new.promise ≡
             promise_after (placed_for_deletion store.old self.path) store.old.promise) }
 
-        ensures succeeds { IsTrue (is_covered (placed_for_deletion store.old self.path) store.old.promise) →
-            IsOk result }
+        ensures succeeds { IsTrue (is_covered
+            (placed_for_deletion store.old self.path) store.old.promise) → IsOk result }
         ensures handed_back { IfErr result (λ refused. refused.point ≡ self) }
         ensures leaves { OnErr result (store.new.leaves ≡ store.old.leaves) }
         ensures inners { OnErr result (store.new.inners ≡ store.old.inners) }

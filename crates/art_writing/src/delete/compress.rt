@@ -45,8 +45,10 @@ fn leaf_beside<K: AsBytes + Drop, V: Drop, const P: usize>(
     name: LeafPtr,
     after: bool,
 ) -> LeafPtr
-    requires { IsSomeAnd (map.get store.now.leaves name) (λ leaf. IsSome (cond after leaf.next leaf.previous)) }
-    ensures { IfSome (map.get store.now.leaves name) (λ leaf. cond after leaf.next leaf.previous ≡ Some result) }
+    requires { IsSomeAnd (map.get store.now.leaves name) (λ leaf.
+        IsSome (cond after leaf.next leaf.previous)) }
+    ensures { IfSome (map.get store.now.leaves name) (λ leaf.
+        cond after leaf.next leaf.previous ≡ Some result) }
 {
     let Some(leaf) = store.leaf(name) else {
         unreachable!()
@@ -71,7 +73,8 @@ fn lengthen_prefix<K: AsBytes + Drop, V: Drop, const P: usize>(
     ensures leaf { name.kind ≡ Leaf → store.new.inners ≡ store.old.inners }
     ensures inner { name.kind ≢ Leaf → (first rest : List ℕ) → front.entry ≡ header_of P first →
         IfSome (map.get store.old.inners (as_inner name)) (λ node. node.prefix ≡ header_of P rest) →
-        store.new.inners ≡ change store.old.inners (as_inner name) (with_header (header_of P (first ++ byte ∷ rest))) }
+        store.new.inners ≡
+        change store.old.inners (as_inner name) (with_header (header_of P (first ++ byte ∷ rest))) }
     ensures leaves { store.new.leaves ≡ store.old.leaves }
     ensures promise { store.new.promise ≡ store.old.promise }
 {

@@ -36,20 +36,27 @@ impl InsertPoint {
             IfOk result (λ done.
             IsCanonical (of_key K.bytes) PREFIX_LEN store.new (Some done.new_root)
             (put (of_key K.bytes) (key, value) pairs))) }
-        ensures root { IfOk result (λ done. IsCanonicalRoot (of_key K.bytes) PREFIX_LEN store.new done.new_root) }
-        ensures leaf { IfOk result (λ done. ForTree (of_key K.bytes) PREFIX_LEN store.new done.new_root (λ pairs layout.
+        ensures root { IfOk result (λ done.
+            IsCanonicalRoot (of_key K.bytes) PREFIX_LEN store.new done.new_root) }
+        ensures leaf { IfOk result (λ done.
+            ForTree (of_key K.bytes) PREFIX_LEN store.new done.new_root (λ pairs layout.
             HasInserted layout self (stored_for (of_key K.bytes) (key, value) pairs) done)) }
-        ensures replaced { ForTree (of_key K.bytes) PREFIX_LEN store.old self.root (λ pairs layout. IfOk result (λ done.
-            done.existing_leaf ≡ option_map alone (put_reply (of_key K.bytes) (key, value) pairs))) }
-        ensures kept { ForTree (of_key K.bytes) PREFIX_LEN store.old self.root (λ pairs old. IfOk result (λ done.
+        ensures replaced { ForTree (of_key K.bytes) PREFIX_LEN store.old self.root (λ pairs layout.
+            IfOk result (λ done.
+            done.existing_leaf ≡
+            option_map alone (put_reply (of_key K.bytes) (key, value) pairs))) }
+        ensures kept { ForTree (of_key K.bytes) PREFIX_LEN store.old self.root (λ pairs old.
+            IfOk result (λ done.
             ForTree (of_key K.bytes) PREFIX_LEN store.new done.new_root (λ after new.
             ChangesInPlace (of_key K.bytes) store.old store.new (Some old) (Some new)))) }
         ensures touches { OnOk result (Touches self.insert_kind store.old store.new) }
         ensures promise { OnOk result (store.new.promise ≡
             promise_after (placed_for store.old self.insert_kind) store.old.promise) }
 
-        ensures succeeds { IsTrue (is_covered (placed_for store.old self.insert_kind) store.old.promise) → IsOk result }
-        ensures handed_back { IfErr result (λ refused. (refused.key ≡ key) × (refused.value ≡ value)) }
+        ensures succeeds { IsTrue (is_covered
+            (placed_for store.old self.insert_kind) store.old.promise) → IsOk result }
+        ensures handed_back { IfErr result (λ refused.
+            (refused.key ≡ key) × (refused.value ≡ value)) }
         ensures leaves { OnErr result (store.new.leaves ≡ store.old.leaves) }
         ensures inners { OnErr result (store.new.inners ≡ store.old.inners) }
         ensures void { OnErr result (store.new.promise ≡ no_promise) }
@@ -105,32 +112,36 @@ impl PrefixInsertPoint {
         value: V,
     ) -> Result<PrefixInsertResult<K, V>, Refused<K, V>>
         requires { IsPrefixPointIn (of_key K.bytes) PREFIX_LEN store.old (K.bytes key) self }
-        ensures canonical { ForTree (of_key K.bytes) PREFIX_LEN store.old (root_of self) (λ pairs layout.
-            IfOk result (λ done.
+        ensures canonical { ForTree (of_key K.bytes) PREFIX_LEN store.old (root_of self)
+            (λ pairs layout. IfOk result (λ done.
             IsCanonical (of_key K.bytes) PREFIX_LEN store.new (Some done.insert_result.new_root)
             (overwrite (of_key K.bytes) (key, value) pairs))) }
         ensures root { IfOk result (λ done.
             IsCanonicalRoot (of_key K.bytes) PREFIX_LEN store.new done.insert_result.new_root) }
-        ensures leaf { IfOk result (λ done.
-            ForTree (of_key K.bytes) PREFIX_LEN store.new done.insert_result.new_root (λ pairs layout.
+        ensures leaf { IfOk result (λ done. ForTree (of_key K.bytes) PREFIX_LEN store.new
+            done.insert_result.new_root (λ pairs layout.
             HasCome (of_key K.bytes) pairs layout self (key, value) done.insert_result)) }
-        ensures replaced { ForTree (of_key K.bytes) PREFIX_LEN store.old (root_of self) (λ pairs layout.
-            IfOk result (λ done.
+        ensures replaced { ForTree (of_key K.bytes) PREFIX_LEN store.old (root_of self)
+            (λ pairs layout. IfOk result (λ done.
             done.insert_result.existing_leaf ≡
             option_map alone (overwrite_reply (of_key K.bytes) (key, value) pairs).0)) }
-        ensures removed { ForTree (of_key K.bytes) PREFIX_LEN store.old (root_of self) (λ pairs layout.
-            IfOk result (λ done.
+        ensures removed { ForTree (of_key K.bytes) PREFIX_LEN store.old (root_of self)
+            (λ pairs layout. IfOk result (λ done.
             done.leafs_removed ≡ (overwrite_reply (of_key K.bytes) (key, value) pairs).1)) }
-        ensures kept { ForTree (of_key K.bytes) PREFIX_LEN store.old (root_of self) (λ pairs old. IfOk result (λ done.
+        ensures kept { ForTree (of_key K.bytes) PREFIX_LEN store.old (root_of self) (λ pairs old.
+            IfOk result (λ done.
             ForTree (of_key K.bytes) PREFIX_LEN store.new done.insert_result.new_root (λ after new.
             ChangesInPlace (of_key K.bytes) store.old store.new (Some old) (Some new)))) }
-        ensures touches { ForTree (of_key K.bytes) PREFIX_LEN store.old (root_of self) (λ pairs layout.
-            OnOk result (TouchesForPrefix self (of_key K.bytes) (K.bytes key) store.old store.new layout)) }
+        ensures touches { ForTree (of_key K.bytes) PREFIX_LEN store.old (root_of self)
+            (λ pairs layout. OnOk result
+            (TouchesForPrefix self (of_key K.bytes) (K.bytes key) store.old store.new layout)) }
         ensures promise { OnOk result (store.new.promise ≡
             promise_after (placed_for_prefix store.old self) store.old.promise) }
 
-        ensures succeeds { IsTrue (is_covered (placed_for_prefix store.old self) store.old.promise) → IsOk result }
-        ensures handed_back { IfErr result (λ refused. (refused.key ≡ key) × (refused.value ≡ value)) }
+        ensures succeeds { IsTrue (is_covered
+            (placed_for_prefix store.old self) store.old.promise) → IsOk result }
+        ensures handed_back { IfErr result (λ refused.
+            (refused.key ≡ key) × (refused.value ≡ value)) }
         ensures leaves { OnErr result (store.new.leaves ≡ store.old.leaves) }
         ensures inners { OnErr result (store.new.inners ≡ store.old.inners) }
         ensures void { OnErr result (store.new.promise ≡ no_promise) }
@@ -181,8 +192,8 @@ impl OverwritePoint {
             (overwrite (of_key K.bytes) (key, value) pairs))) }
         ensures root { IfOk result (λ done.
             IsCanonicalRoot (of_key K.bytes) PREFIX_LEN store.new done.insert_result.new_root) }
-        ensures leaf { IfOk result (λ done.
-            ForTree (of_key K.bytes) PREFIX_LEN store.new done.insert_result.new_root (λ pairs layout.
+        ensures leaf { IfOk result (λ done. ForTree (of_key K.bytes) PREFIX_LEN store.new
+            done.insert_result.new_root (λ pairs layout.
             HasOverwritten layout self (key, value) done.insert_result)) }
         ensures replaced { ForTree (of_key K.bytes) PREFIX_LEN store.old self.root (λ pairs layout.
             IfOk result (λ done.
@@ -191,7 +202,8 @@ impl OverwritePoint {
         ensures removed { ForTree (of_key K.bytes) PREFIX_LEN store.old self.root (λ pairs layout.
             IfOk result (λ done.
             done.leafs_removed ≡ (overwrite_reply (of_key K.bytes) (key, value) pairs).1)) }
-        ensures kept { ForTree (of_key K.bytes) PREFIX_LEN store.old self.root (λ pairs old. IfOk result (λ done.
+        ensures kept { ForTree (of_key K.bytes) PREFIX_LEN store.old self.root (λ pairs old.
+            IfOk result (λ done.
             ForTree (of_key K.bytes) PREFIX_LEN store.new done.insert_result.new_root (λ after new.
             ChangesInPlace (of_key K.bytes) store.old store.new (Some old) (Some new)))) }
         ensures touches { ForTree (of_key K.bytes) PREFIX_LEN store.old self.root (λ pairs layout.
@@ -200,9 +212,10 @@ impl OverwritePoint {
         ensures promise { OnOk result (store.new.promise ≡
             promise_after (placed_for_overwrite self.overwrite_point.kind) store.old.promise) }
 
-        ensures succeeds { IsTrue (is_covered (placed_for_overwrite self.overwrite_point.kind) store.old.promise) →
-            IsOk result }
-        ensures handed_back { IfErr result (λ refused. (refused.key ≡ key) × (refused.value ≡ value)) }
+        ensures succeeds { IsTrue (is_covered
+            (placed_for_overwrite self.overwrite_point.kind) store.old.promise) → IsOk result }
+        ensures handed_back { IfErr result (λ refused.
+            (refused.key ≡ key) × (refused.value ≡ value)) }
         ensures leaves { OnErr result (store.new.leaves ≡ store.old.leaves) }
         ensures inners { OnErr result (store.new.inners ≡ store.old.inners) }
         ensures void { OnErr result (store.new.promise ≡ no_promise) }

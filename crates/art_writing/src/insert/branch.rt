@@ -153,7 +153,8 @@ impl InsertPoint {
         requires previous { IsThere store.old.leaves branch.previous }
         requires next { IsThere store.old.leaves branch.next }
         requires parent { HasChild store.old.inners (last_step self.path) }
-        ensures placed { IsBranchPlaced store.old store.new self old branch.entry (key, value) result }
+        ensures placed { IsBranchPlaced store.old store.new self old branch.entry
+            (key, value) result }
         ensures promise { store.new.promise ≡ take_inner Node4 (take_leaf store.old.promise) }
     {
         let leaf = place_between(store, key, value, branch.previous, branch.next);

@@ -114,10 +114,10 @@ fn links_below<K: AsBytes + Drop, V: Drop, const P: usize>(
     byte: u8,
 ) -> (OptionalLeafPtr, OptionalLeafPtr)
     requires inner { name.kind ≢ Leaf }
-    requires gap { (left : Subtrees OpaqueNodePtr (K × V)) × (right : Subtrees OpaqueNodePtr (K × V)) ×
-        HasGap store.now name byte left right }
-    ensures beside { (left : Subtrees OpaqueNodePtr (K × V)) → (right : Subtrees OpaqueNodePtr (K × V)) →
-        HasGap store.now name byte left right →
+    requires gap { (left : Subtrees OpaqueNodePtr (K × V)) ×
+        (right : Subtrees OpaqueNodePtr (K × V)) × HasGap store.now name byte left right }
+    ensures beside { (left : Subtrees OpaqueNodePtr (K × V)) →
+        (right : Subtrees OpaqueNodePtr (K × V)) → HasGap store.now name byte left right →
         ComesBetween store.now left right result.0 result.1 }
     ensures few { IfSome (map.get store.now.inners name) (λ node. length node.children < 256) }
 {
