@@ -270,7 +270,8 @@ module _ {K V : Type 0} {bytes : K → List ℕ} (P : ℕ) (old mid written new 
       apart : (t : Built bytes P (front ++ b ∷ []) (take n leaves) old mid name) → Each (λ k. k ≢ inner_name parent) (names_of t.tree)
       apart t = names_each (λ k. k ≢ inner_name parent) t.tree
           (subst (Each (λ k. k ≢ inner_name parent)) (sym t.leaves_are) (each_map leaf_name (λ k. k ≢ inner_name parent) (take n leaves) (no_leaf (take n leaves))))
-          (Each-weaker (λ k. held old k ≡ None) (λ k. k ≢ inner_name parent) (λ k free e. inner_is_used old parent from inner_kind there (ap (held old) (sym e) ∙ free)) (inner_names t.tree) t.come.fresh)
+          (Each-weaker (λ k. held old k ≡ None) (λ k. k ≢ inner_name parent)
+          (λ k free e. inner_is_used old parent from inner_kind there (ap (held old) (sym e) ∙ free)) (inner_names t.tree) t.come.fresh)
         where
           no_leaf : (ps : List LeafPtr) → Each (λ p. leaf_name p ≢ inner_name parent) ps
           no_leaf [] = tt

@@ -235,10 +235,16 @@ module _ {K V : Type 0} (bytes : K → List ℕ) (P : ℕ) where
       leaves_are = under.below.leaves_are;
       holds = (here, under.below.holds);
       come = record {
-        fresh = (placed_free old p inner_kind free, Each-weaker (λ n. held mid n ≡ None) (λ n. held old n ≡ None) (was_free old mid mid_kept) (inner_names_below under.below.children) under.below.come.fresh);
+        fresh = (
+          placed_free old p inner_kind free,
+          Each-weaker (λ n. held mid n ≡ None) (λ n. held old n ≡ None) (was_free old mid mid_kept) (inner_names_below under.below.children) under.below.come.fresh,
+        );
         added = λ n used. from_below n (under.below.come.added n used);
-        distinct =
-            (Each-weaker (λ n. held mid n ≡ None) (λ n. inner_name p ≢ n) (λ n none e. p_used (ap (held mid) e ∙ none)) (inner_names_below under.below.children) under.below.come.fresh, under.below.come.distinct);
+        distinct = (
+          Each-weaker (λ n. held mid n ≡ None) (λ n. inner_name p ≢ n) (λ n none e. p_used (ap (held mid) e ∙ none))
+              (inner_names_below under.below.children) under.below.come.fresh,
+          under.below.come.distinct,
+        );
       };
     }
       where

@@ -54,12 +54,15 @@ module _ {K V : Type 0} where
         shape_at-inner t k off (map.get s.inners (as_inner k)) same ∙ sym (shape_at-inner s k off (map.get s.inners (as_inner k)) refl)
   ]
 
-  module _ {s t : Nodes K V} {ends : Option (LeafPtr × LeafPtr)} {names : List OpaqueNodePtr} {root : OpaqueNodePtr} {shape : Tree OpaqueNodePtr (Unit {0})} (of : IsIteratorOf s ends names) (is : IsLayout (shape_at s) root shape) where
+  module _ {s t : Nodes K V} {ends : Option (LeafPtr × LeafPtr)} {names : List OpaqueNodePtr} {root : OpaqueNodePtr}
+      {shape : Tree OpaqueNodePtr (Unit {0})} (of : IsIteratorOf s ends names) (is : IsLayout (shape_at s) root shape) where
     -- the inner nodes stay when the leaves are freed
     pub inners_stay : Frees names s t → IsLayout (shape_at t) root shape
     inners_stay freed = record {
       named = is.named;
-      holds = frame (shape_at s) (shape_at t) shape (each_from (λ n. shape_at t n ≡ shape_at s n) (names_of shape) (λ k i. same_shape s t k (λ off. freed.beside k (λ j. linked_leaf s names of.segment.before of.segment.after k of.segment.linked j off) (λ z. z)))) is.holds;
+      holds = frame (shape_at s) (shape_at t) shape (each_from (λ n. shape_at t n ≡ shape_at s n) (names_of shape)
+          (λ k i. same_shape s t k (λ off. freed.beside k
+          (λ j. linked_leaf s names of.segment.before of.segment.after k of.segment.linked j off) (λ z. z)))) is.holds;
       distinct = is.distinct;
     }
 
@@ -67,5 +70,7 @@ module _ {K V : Type 0} where
     pub leaves_stay : Frees (inner_names shape) s t → IsIteratorOf t ends names
     leaves_stay freed = record {
       ends = of.ends;
-      segment = segment-frame (links_at t) names (each_from (λ n. links_at t n ≡ links_at s n) names (λ k i. ap (option_and_then links_of) (freed.beside k (λ j. linked_leaf s names of.segment.before of.segment.after k of.segment.linked i (inner_kind s shape is.holds k j)) (λ z. z)))) of.segment;
+      segment = segment-frame (links_at t) names (each_from (λ n. links_at t n ≡ links_at s n) names
+          (λ k i. ap (option_and_then links_of) (freed.beside k
+          (λ j. linked_leaf s names of.segment.before of.segment.after k of.segment.linked i (inner_kind s shape is.holds k j)) (λ z. z)))) of.segment;
     }

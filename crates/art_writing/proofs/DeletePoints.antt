@@ -1,17 +1,22 @@
 -- points at which leaves go
-use Rattle.std.proofs.Common.{◌≡◌, List, ap, sym, ◌∙◌, subst, Option, Some}
+use Rattle.std.proofs.Common.{◌≡◌, ℕ, List, ap, sym, ◌∙◌, subst, Option, Some}
+use Rattle.std.specs.Option.{option_map}
+use Rattle.art_nodes.specs.Nodes.{Nodes}
 use Rattle.art_parts.specs.Names.{leaf_name}
 use Rattle.art_parts.specs.declared.names.OpaqueNodePtr.{OpaqueNodePtr}
+use Rattle.art_model.specs.Canonical.{IsCanonicalTree}
 use Rattle.art_model.specs.Lookups.{HasLeaf}
 use Rattle.art_model.specs.Pairs.{first_of, last_of}
 use Rattle.art_model.specs.Radix.{pairs_of}
+use Rattle.art_model.specs.Stores.{pair_of}
 use Rattle.art_model.specs.Trees.{Tree}
+use Rattle.art_model.proofs.LeavesFound.{leaf_found}
 use Rattle.art_reading.specs.declared.ways.End.{End}
 use Rattle.art_reading.specs.declared.ways.End.TheVariants.{First, Last}
 use Rattle.art_reading.specs.Paths.{path_of}
 use Rattle.art_reading.specs.Walks.{LeadsToEnd, of_two}
 use Rattle.art_writing.specs.declared.delete.DeletePoint.{DeletePoint}
-use Rattle.art_writing.specs.Deleted.{IsDeletePoint, LeadsTo}
+use Rattle.art_writing.specs.Deleted.{IsDeletePoint, LeadsTo, pair_at}
 
 -- the path to a leaf that a point names makes it that leaf's point
 pub leads_to : {A : Type 0} {tree : Tree OpaqueNodePtr A} {x : A} {point : DeletePoint} (is : HasLeaf tree (leaf_name point.leaf_node_ptr) x) →
@@ -21,6 +26,14 @@ leads_to is path_is = record { path = is.path; whole = is.whole; path_is = path_
 -- where there is a pair, what leads to its leaf is the point
 pub point_there : {A : Type 0} {tree : Tree OpaqueNodePtr A} {pair : Option A} {x : A} {point : DeletePoint} → pair ≡ Some x → LeadsTo tree x point → IsDeletePoint tree pair (Some point)
 point_there {A} {tree} {pair} {x} {point} is leads = subst (λ o. IsDeletePoint tree o (Some point)) (sym is) leads
+
+-- the leaf that a point names has the pair that the point leads to
+pub pair_named : {K V : Type 0} (bytes : K × V → List ℕ) (P : ℕ) {s : Nodes K V} {root : OpaqueNodePtr} {pairs : List (K × V)}
+    {layout : Tree OpaqueNodePtr (K × V)} {x : K × V} {point : DeletePoint} →
+    IsCanonicalTree bytes P s root pairs layout → LeadsTo layout x point → pair_at s (Some point) ≡ Some x
+pair_named bytes P by leads =
+    let (node, there, its) = leaf_found bytes P by (record { path = leads.path; whole = leads.whole }) in
+    ap (option_map pair_of) there ∙ ap Some its
 
 -- and so is what leads to the leaf at an end, of the pair there
 pub point_at_end : {A : Type 0} {tree : Tree OpaqueNodePtr A} {pairs : List A} {point : DeletePoint} (end : End) → pairs ≡ pairs_of tree → LeadsToEnd tree end point.path point.leaf_node_ptr →

@@ -1,6 +1,7 @@
 -- The points at which leaves go, what an applied delete point places and touches, and the root that it leaves.
 use Rattle.std.specs.Prelude.{◌≡◌, ℕ, if◌then◌else◌, nat_le, List, length, Option, Some, None, ⊤}
 use Rattle.std.specs.FinMap as map
+use Rattle.std.specs.Option.{option_map}
 use Rattle.art_parts.specs.Kinds.{kind_least, smaller_kind}
 use Rattle.art_parts.specs.Names.{leaf_name}
 use Rattle.art_nodes.specs.Nodes.{Nodes, Promise}
@@ -9,6 +10,7 @@ use Rattle.art_parts.specs.declared.names.NodeType.TheVariants.{Node4}
 use Rattle.art_parts.specs.declared.names.OpaqueNodePtr.{OpaqueNodePtr}
 use Rattle.art_model.specs.Canonical.{IsCanonicalTree}
 use Rattle.art_model.specs.Footprints.{TouchesAtMost}
+use Rattle.art_model.specs.Lookups.{pair_under}
 use Rattle.art_model.specs.Paths.{Frame, plug}
 use Rattle.art_model.specs.Trees.{Tree, leaf}
 use Rattle.art_writing.specs.declared.delete.DeletePoint.{DeletePoint}
@@ -27,6 +29,10 @@ abbrev pub IsDeletePoint : {A : Type 0} → Tree OpaqueNodePtr A → Option A �
 IsDeletePoint tree None None = ⊤
 IsDeletePoint tree (Some x) (Some point) = LeadsTo tree x point
 IsDeletePoint tree pair point = ⊥
+
+-- the pair of the leaf that a point names, if there is a point
+abbrev pub pair_at : {K V : Type 0} → Nodes K V → Option DeletePoint → Option (K × V)
+pair_at s point = pair_under s (option_map (λ p. p.leaf_node_ptr) point)
 
 -- the point answers to the store and the root
 abbrev pub IsDeletePointIn : {K V : Type 0} → (K × V → List ℕ) → ℕ → Nodes K V → OpaqueNodePtr → DeletePoint → Type 0

@@ -1,9 +1,9 @@
 //! Deletion: the point at which a leaf goes out of a tree.
-ghost use Rattle.std.specs.Prelude.{◌+◌, ◌<◌, ◌^◌, length, IsSome, IfSome, Some};
+ghost use Rattle.std.specs.Prelude.{◌≡◌, ◌+◌, ◌<◌, ◌^◌, length, IsSome, IfSome, Some};
 ghost use Rattle.art_model.specs.Pairs.{first_of, last_of, of_key, remove_reply};
 ghost use Rattle.art_model.specs.Roots.{ForTree, IsCanonicalRoot};
 ghost use Rattle.art_reading.specs.Walks.{CountsVisits, of_two};
-ghost use Rattle.art_writing.specs.Deleted.{IsDeletePoint, IsDeletePointIn};
+ghost use Rattle.art_writing.specs.Deleted.{IsDeletePoint, IsDeletePointIn, pair_at};
 
 use art_nodes::node::{AsBytes, LeafNode, LeafPtr, OpaqueNodePtr};
 use art_nodes::store::NodeStore;
@@ -48,6 +48,8 @@ pub fn search_for_delete_point<K: AsBytes + Drop, V: Drop, const PREFIX_LEN: usi
     requires { IsCanonicalRoot (of_key K.bytes) PREFIX_LEN store.now root }
     ensures point { ForTree (of_key K.bytes) PREFIX_LEN store.now root (λ pairs layout.
         IsDeletePoint layout (remove_reply (of_key K.bytes) key_bytes.now pairs) result) }
+    ensures pair { ForTree (of_key K.bytes) PREFIX_LEN store.now root (λ pairs _.
+        pair_at store.now result ≡ remove_reply (of_key K.bytes) key_bytes.now pairs) }
     ensures applies { IfSome result (IsDeletePointIn (of_key K.bytes) PREFIX_LEN store.now root) }
 {
     search_for_delete_point_visiting(store, root, key_bytes, &mut Visits::new())
@@ -64,6 +66,8 @@ pub fn search_for_delete_point_visiting<K: AsBytes + Drop, V: Drop, const PREFIX
     requires room { visits.old + length key_bytes.now + 1 < 2 ^ 64 }
     ensures point { ForTree (of_key K.bytes) PREFIX_LEN store.now root (λ pairs layout.
         IsDeletePoint layout (remove_reply (of_key K.bytes) key_bytes.now pairs) result) }
+    ensures pair { ForTree (of_key K.bytes) PREFIX_LEN store.now root (λ pairs _.
+        pair_at store.now result ≡ remove_reply (of_key K.bytes) key_bytes.now pairs) }
     ensures applies { IfSome result (IsDeletePointIn (of_key K.bytes) PREFIX_LEN store.now root) }
     ensures visits { CountsVisits (of_key K.bytes) PREFIX_LEN store.now root key_bytes.now
         visits.old visits.new (IsSome result) }
@@ -83,6 +87,8 @@ pub fn find_minimum_to_delete<K: AsBytes + Drop, V: Drop, const PREFIX_LEN: usiz
     requires { IsCanonicalRoot (of_key K.bytes) PREFIX_LEN store.now root }
     ensures point { ForTree (of_key K.bytes) PREFIX_LEN store.now root (λ pairs layout.
         IsDeletePoint layout (first_of pairs) (Some result)) }
+    ensures pair { ForTree (of_key K.bytes) PREFIX_LEN store.now root (λ pairs _.
+        pair_at store.now (Some result) ≡ first_of pairs) }
     ensures applies { IsDeletePointIn (of_key K.bytes) PREFIX_LEN store.now root result }
 {
     find_end_to_delete(store, root, End::First)
@@ -96,6 +102,8 @@ pub fn find_maximum_to_delete<K: AsBytes + Drop, V: Drop, const PREFIX_LEN: usiz
     requires { IsCanonicalRoot (of_key K.bytes) PREFIX_LEN store.now root }
     ensures point { ForTree (of_key K.bytes) PREFIX_LEN store.now root (λ pairs layout.
         IsDeletePoint layout (last_of pairs) (Some result)) }
+    ensures pair { ForTree (of_key K.bytes) PREFIX_LEN store.now root (λ pairs _.
+        pair_at store.now (Some result) ≡ last_of pairs) }
     ensures applies { IsDeletePointIn (of_key K.bytes) PREFIX_LEN store.now root result }
 {
     find_end_to_delete(store, root, End::Last)
@@ -111,6 +119,8 @@ fn find_end_to_delete<K: AsBytes + Drop, V: Drop, const P: usize>(
     requires { IsCanonicalRoot (of_key K.bytes) P store.now root }
     ensures point { ForTree (of_key K.bytes) P store.now root (λ pairs layout.
         IsDeletePoint layout (of_two end (first_of pairs, last_of pairs)) (Some result)) }
+    ensures pair { ForTree (of_key K.bytes) P store.now root (λ pairs _.
+        pair_at store.now (Some result) ≡ of_two end (first_of pairs, last_of pairs)) }
     ensures applies { IsDeletePointIn (of_key K.bytes) P store.now root result }
 {
     let (path, leaf_node_ptr) = walk_to_end(store, root, end);

@@ -5,7 +5,7 @@ ghost use Rattle.std.specs.Prelude.{◌≡◌, List, length, max, Some, IfSome, 
 ghost use Rattle.std.specs.Option.{option_map};
 ghost use Rattle.art_parts.specs.declared.names.OpaqueNodePtr.{OpaqueNodePtr};
 ghost use Rattle.art_model.specs.Canonical.{IsCanonical};
-ghost use Rattle.art_model.specs.Pairs.{first_of, match_of, of_key, overwrite, put, remove_key, without_first};
+ghost use Rattle.art_model.specs.Pairs.{first_of, match_of, of_key, overwrite, put, remove_key, remove_reply, without_first};
 ghost use Rattle.art_model.specs.Layouts.{leaf_names};
 ghost use Rattle.art_model.specs.Roots.{ForTree, IsCanonicalRoot};
 ghost use Rattle.art_operations.specs.Iterators.{IsIteratorOf};
@@ -83,6 +83,8 @@ pub fn take<K: AsBytes + Drop, V: Drop, const P: usize>(
     ensures pairs { ForTree (of_key K.bytes) P store.old root (λ pairs _. IfSome result (λ left.
         IsCanonical (of_key K.bytes) P store.new left.0
         (remove_key (of_key K.bytes) (K.bytes left.1) pairs))) }
+    ensures taken { ForTree (of_key K.bytes) P store.old root (λ pairs _. IfSome result (λ left.
+        remove_reply (of_key K.bytes) key_bytes.now pairs ≡ Some (left.1, left.2))) }
     ensures root { IfSome result (λ left.
         IfSome left.0 (IsCanonicalRoot (of_key K.bytes) P store.new)) }
     ensures leaves { IfNone result (store.new.leaves ≡ store.old.leaves) }

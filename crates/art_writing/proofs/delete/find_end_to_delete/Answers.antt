@@ -1,7 +1,7 @@
-use Rattle.std.proofs.Common.{rules, sym}
+use Rattle.std.proofs.Common.{rules, sym, ◌∙◌}
 use Rattle.art_model.proofs.Canonical.{tree_radix}
 use Rattle.art_model.proofs.StoreLaws.{has_children}
-use Rattle.art_writing.proofs.DeletePoints.{point_at_end, point_there}
+use Rattle.art_writing.proofs.DeletePoints.{pair_named, point_at_end, point_there}
 use Rattle.art_writing.proofs.delete.find_end_to_delete.Goals as goal
 
 pub walk_to_end-path-requires : goal.walk_to_end-path-requires
@@ -11,6 +11,11 @@ pub returns-clause-point : goal.returns-clause-point
 returns-clause-point g c pairs layout by =
     let (x, pair_is, leads) = point_at_end c.args.end (sym (tree_radix by).1) (c.walk_to_end-path.ensures layout (has_children _ _ _ _ _ layout by)) in
     point_there pair_is leads
+
+pub returns-clause-pair : goal.returns-clause-pair
+returns-clause-pair g c pairs layout by =
+    let (x, pair_is, leads) = point_at_end c.args.end (sym (tree_radix by).1) (c.walk_to_end-path.ensures layout (has_children _ _ _ _ _ layout by)) in
+    pair_named _ _ by leads ∙ sym pair_is
 
 pub returns-clause-applies : goal.returns-clause-applies
 returns-clause-applies g c =
