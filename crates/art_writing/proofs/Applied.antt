@@ -17,8 +17,9 @@ use Rattle.art_writing.specs.declared.insert.PrefixInsertPoint.TheVariants as po
 use Rattle.art_writing.specs.declared.insert.PrefixInsertResult.{PrefixInsertResult}
 use Rattle.art_writing.specs.declared.insert.Refused.{Refused}
 use Rattle.art_writing.specs.Applied.{IsApplied, IsPrefixApplied, TakesMemory}
-use Rattle.art_writing.specs.Inserted.{HasInserted, IsInserted, IsPointIn, alone, placed_for}
-use Rattle.art_writing.specs.Overwritten.{HasOverwritten, IsOverwritePointIn, IsOverwritten, placed_for_overwrite}
+use Rattle.art_writing.specs.Inserted.{HasInserted, IsPointIn, alone, placed_for}
+use Rattle.art_writing.specs.Overwritten.{HasOverwritten, IsOverwritePointIn, placed_for_overwrite}
+use Rattle.art_writing.proofs.Left.{IsInserted, IsOverwritten}
 
 -- ---- memory
 

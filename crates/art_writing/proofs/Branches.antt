@@ -46,10 +46,11 @@ use Rattle.art_writing.specs.declared.insert.InsertPoint.{InsertPoint}
 use Rattle.art_writing.specs.declared.insert.InsertResult.{InsertResult}
 use Rattle.art_writing.specs.declared.insert.branch.Branch.{Branch}
 use Rattle.art_writing.specs.Branches.{ForEnd, IsBranch, IsBranchPlaced}
-use Rattle.art_writing.specs.Inserted.{HasInserted, IsInserted, IsChange, Touches, alone, root_after}
+use Rattle.art_writing.specs.Inserted.{HasInserted, IsChange, Touches, alone, root_after}
 use Rattle.art_writing.specs.Points.{AnswersTo}
 use Rattle.art_writing.specs.Writes.{HasChild}
 use Rattle.art_reading.specs.Paths.{last_step, root_with}
+use Rattle.art_writing.proofs.Left.{IsInserted}
 use Rattle.art_writing.proofs.Partings.{unrelated_after}
 use Rattle.art_writing.proofs.Ways.{last_step-path_of, root_with-path_of, root_told}
 

@@ -45,10 +45,11 @@ use Rattle.art_writing.specs.declared.insert.InsertParentNodeChange.TheVariants.
 use Rattle.art_writing.specs.declared.insert.InsertPoint.{InsertPoint}
 use Rattle.art_writing.specs.declared.insert.InsertResult.{InsertResult}
 use Rattle.art_reading.specs.declared.path.TreePath.{TreePath}
-use Rattle.art_writing.specs.Inserted.{HasInserted, IsChange, IsInserted, IsPointIn, Touches, alone, is_full}
+use Rattle.art_writing.specs.Inserted.{HasInserted, IsChange, IsPointIn, Touches, alone, is_full}
 use Rattle.art_writing.specs.Points.{IsKindOf}
 use Rattle.art_reading.specs.Paths.{last_step, path_of, root_with}
 use Rattle.art_writing.specs.Writes.{HasChild, HasGap}
+use Rattle.art_writing.proofs.Left.{IsInserted}
 use Rattle.art_writing.proofs.Answered.{placed_end}
 use Rattle.art_writing.proofs.Standing.{answers_to}
 use Rattle.art_writing.proofs.Partings.{unrelated_after}

@@ -175,7 +175,8 @@ module _ {K V : Type 0} {s : Nodes K V} {p : InnerPtr} {b : ℕ} {l r : Subtrees
     beside_full = by_side (λ side. (t : Tree OpaqueNodePtr (K × V)) × IsFullTree s found.1 t) right_full left_full
 
     -- and what is beside its leaves is beside the gap
-    pub beside_between : (previous next : Option LeafPtr) → ((t : Tree OpaqueNodePtr (K × V)) → IsFullTree s found.1 t → IsBeside s t (side_of b found.0) previous next) → ComesBetween s l r previous next
+    pub beside_between : (previous next : Option LeafPtr) →
+        ((t : Tree OpaqueNodePtr (K × V)) → IsFullTree s found.1 t → IsBeside s t (side_of b found.0) previous next) → ComesBetween s l r previous next
     beside_between previous next =
         by_side (λ side. ((t : Tree OpaqueNodePtr (K × V)) → IsFullTree s found.1 t → IsBeside s t side previous next) → ComesBetween s l r previous next)
         (λ above. right_before above previous next) (λ below. left_after below previous next)

@@ -34,9 +34,10 @@ use Rattle.art_writing.specs.declared.insert.InsertKind.TheVariants.{IntoExistin
 use Rattle.art_writing.specs.declared.insert.InsertParentNodeChange.TheVariants.{NewParent}
 use Rattle.art_writing.specs.declared.insert.InsertPoint.{InsertPoint}
 use Rattle.art_writing.specs.declared.insert.InsertResult.{InsertResult}
-use Rattle.art_writing.specs.Inserted.{IsInserted, Touches, is_full}
+use Rattle.art_writing.specs.Inserted.{Touches, is_full}
 use Rattle.art_writing.specs.Writes.{ComesBetween}
 use Rattle.art_reading.specs.Paths.{last_step, root_with}
+use Rattle.art_writing.proofs.Left.{IsInserted}
 use Rattle.art_writing.proofs.Beside.{between_links}
 use Rattle.art_writing.proofs.Entered.{IsEntry, entry_laid, entry_kind, entry_full, entry_inner, entry_count, entered_inserted}
 use Rattle.art_writing.proofs.Ways.{last_step-path_of, root_with-path_of}

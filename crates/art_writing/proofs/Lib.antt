@@ -20,6 +20,7 @@ pub mod Elsewhere
 pub mod Standing
 pub mod Trims
 pub mod Splits
+pub mod Left
 pub mod Applied
 pub mod Answered
 pub mod Replaced

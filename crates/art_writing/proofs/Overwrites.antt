@@ -44,11 +44,12 @@ use Rattle.art_model.proofs.Writes.{parent_ready, same_but, with_child_at-elsewh
 use Rattle.art_writing.specs.declared.insert.InsertParentNodeChange.TheVariants.{NoChange}
 use Rattle.art_writing.specs.declared.insert.OverwritePoint.{OverwritePoint}
 use Rattle.art_writing.specs.Inserted.{alone}
-use Rattle.art_writing.specs.Overwritten.{IsOverwritePointIn, IsOverwritten, TouchesForNode, TouchesRelated, placed_for_overwrite}
+use Rattle.art_writing.specs.Overwritten.{IsOverwritePointIn, TouchesForNode, TouchesRelated, placed_for_overwrite}
 use Rattle.art_writing.specs.Points.{IsOverwrittenWith}
 use Rattle.art_reading.specs.Paths.{last_step, path_of, root_with}
 use Rattle.art_writing.specs.declared.writes.Side.TheVariants.{Before, After}
 use Rattle.art_writing.specs.Writes.{HasChild, IsBeside, SameNodes}
+use Rattle.art_writing.proofs.Left.{IsOverwritten}
 use Rattle.art_writing.proofs.BranchReads.{beside_is}
 use Rattle.art_writing.proofs.Answered.{IsEndLeaf, end_leaf, placed_end}
 use Rattle.art_writing.proofs.Standing.{overwrite_answers_to}
@@ -92,7 +93,8 @@ module _ {K V : Type 0} {bytes : K × V → List ℕ} {P : ℕ} {s : Nodes K V} 
         (record { insert_result = record { leaf_node_ptr = p; existing_leaf = Some existing; new_root = point.root; parent_node_change = NoChange }; leafs_removed = 0 }))
     leaf_pair_overwritten swapped existing pair is pairs layout by =
         let l = related_leaf answers named by in
-        let into : IntoLeaf bytes P s t l.at.path l.at.place p l.at.shown new = record { hole = l.at.hole; here = l.at.there; write = with_pair new.0 new.1; written = refl; leaves = leaves; inners = inners } in
+        let into : IntoLeaf bytes P s t l.at.path l.at.place p l.at.shown new =
+        record { hole = l.at.hole; here = l.at.there; write = with_pair new.0 new.1; written = refl; leaves = leaves; inners = inners } in
         let old = subst (IsLaidOut bytes P (node_at s) (links_at s) point.root pairs) (sym l.at.whole) (laid_out by) in
         let went : swapped ≡ pair_of l.at.shown = subst (λ o. IfSome o (λ leaf. swapped ≡ (leaf.key, leaf.value))) l.at.there pair in
         let reply = leaf_overwrite_reply old into l.related l.unequal in

@@ -21,8 +21,9 @@ use Rattle.art_model.proofs.Paths.{IsHole}
 use Rattle.art_writing.specs.declared.insert.InsertKind.TheVariants.{Exact}
 use Rattle.art_writing.specs.declared.insert.InsertParentNodeChange.TheVariants.{NoChange}
 use Rattle.art_writing.specs.declared.insert.InsertPoint.{InsertPoint}
-use Rattle.art_writing.specs.Inserted.{HasInserted, IsChange, IsInserted, IsPointIn, Touches, alone}
+use Rattle.art_writing.specs.Inserted.{HasInserted, IsChange, IsPointIn, Touches, alone}
 use Rattle.art_writing.specs.Points.{IsKindOf}
+use Rattle.art_writing.proofs.Left.{IsInserted}
 use Rattle.art_writing.proofs.Answered.{IsEndLeaf, end_leaf}
 use Rattle.art_writing.proofs.Standing.{answers_to}
 

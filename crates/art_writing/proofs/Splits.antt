@@ -38,10 +38,11 @@ use Rattle.art_writing.specs.declared.insert.branch.Branch.{Branch}
 use Rattle.art_model.proofs.Writes.{inner_at, inner_name_one}
 use Rattle.art_reading.specs.declared.path.ExplicitMismatch.{ExplicitMismatch}
 use Rattle.art_writing.specs.Branches.{IsBranch, IsBranchPlaced}
-use Rattle.art_writing.specs.Inserted.{IsInserted, IsChange, Touches}
+use Rattle.art_writing.specs.Inserted.{IsChange, Touches}
 use Rattle.art_writing.specs.Points.{AnswersTo}
 use Rattle.art_writing.specs.Writes.{HasChild, SameNodes}
 use Rattle.art_reading.specs.Paths.{last_step}
+use Rattle.art_writing.proofs.Left.{IsInserted}
 use Rattle.art_writing.proofs.Ways.{last_step-path_of}
 use Rattle.art_writing.proofs.Branches.{end_laid, end_depth, end_parent, branch_stored, branch_done}
 use Rattle.art_writing.proofs.BranchReads.{leaf_found, leaf_named, inner_found, inner_named, prefix_way, prefix_inside}

@@ -1,6 +1,5 @@
 -- What an applied insert point places and touches, and what it leaves.
 use Rattle.std.specs.Prelude.{◌≡◌, ℕ, Bool, false, MatchBool, if◌then◌else◌, nat_le, List, length, Option, Some, None}
-use Rattle.std.specs.Option.{option_map}
 use Rattle.std.specs.FinMap as map
 use Rattle.art_parts.specs.Kinds.{kind_capacity, next_larger}
 use Rattle.art_parts.specs.Names.{leaf_name, inner_name}
@@ -11,8 +10,6 @@ use Rattle.art_parts.specs.declared.leaf.LeafNode.{LeafNode}
 use Rattle.art_parts.specs.declared.names.OpaqueNodePtr.{OpaqueNodePtr}
 use Rattle.art_model.specs.Canonical.{IsCanonicalTree}
 use Rattle.art_model.specs.Footprints.{TouchesAtMost}
-use Rattle.art_model.specs.Kept.{ChangesInPlace}
-use Rattle.art_model.specs.Pairs.{put, put_reply, stored_for}
 use Rattle.art_model.specs.Paths.{Frame, plug}
 use Rattle.art_model.specs.Trees.{Tree, leaf}
 use Rattle.art_model.specs.Writes.{parent_of}
@@ -72,14 +69,3 @@ pub record HasInserted {K V : Type 0} (tree : Tree OpaqueNodePtr (K × V)) (poin
   pub whole : plug path (leaf (leaf_name done.leaf_node_ptr) pair) ≡ tree
   pub change : IsChange point.insert_kind (parent_of path) done.parent_node_change
   pub root : done.new_root ≡ root_after point done.parent_node_change
-
--- The root is canonical for the pairs with the new one; where the key was stored it is answered with the old value, as a leaf alone; the rest stays.
-pub record IsInserted {K V : Type 0} (bytes : K × V → List ℕ) (P : ℕ) (s t : Nodes K V) (point : InsertPoint)
-    (pair : K × V) (pairs : List (K × V))
-    (layout : Tree OpaqueNodePtr (K × V)) (done : InsertResult K V) : Type 0 where
-  pub tree : Tree OpaqueNodePtr (K × V)
-  pub canonical : IsCanonicalTree bytes P t done.new_root (put bytes pair pairs) tree
-  pub inserted : HasInserted tree point (stored_for bytes pair pairs) done
-  pub replaced : done.existing_leaf ≡ option_map alone (put_reply bytes pair pairs)
-  pub kept : ChangesInPlace bytes s t (Some layout) (Some tree)
-  pub touches : Touches point.insert_kind s t

@@ -1,6 +1,5 @@
 -- What an applied overwrite point places and touches, and what it leaves.
 use Rattle.std.specs.Prelude.{◌≡◌, ℕ, List, Option, Some, None}
-use Rattle.std.specs.Option.{option_map}
 use Rattle.art_parts.specs.Names.{leaf_name}
 use Rattle.art_nodes.specs.Nodes.{Nodes, Promise}
 use Rattle.art_parts.specs.declared.names.NodeType.{NodeType}
@@ -8,10 +7,9 @@ use Rattle.art_parts.specs.declared.names.NodeType.TheVariants.{Leaf}
 use Rattle.art_parts.specs.declared.names.OpaqueNodePtr.{OpaqueNodePtr}
 use Rattle.art_model.specs.Canonical.{IsCanonicalTree}
 use Rattle.art_model.specs.Footprints.{TouchesAtMost, PlacesOneFor}
-use Rattle.art_model.specs.Kept.{ChangesInPlace}
 use Rattle.art_model.specs.Layouts.{names_of}
 use Rattle.art_model.specs.Lookups.{HasLeaf}
-use Rattle.art_model.specs.Pairs.{overwrite, overwrite_reply, related_to, stored_for}
+use Rattle.art_model.specs.Pairs.{overwrite, related_to, stored_for}
 use Rattle.art_model.specs.Paths.{Frame, plug}
 use Rattle.art_model.specs.Radix.{pairs_of}
 use Rattle.art_model.specs.Trees.{Tree}
@@ -20,8 +18,7 @@ use Rattle.art_writing.specs.declared.insert.InsertResult.{InsertResult}
 use Rattle.art_writing.specs.declared.insert.OverwritePoint.{OverwritePoint}
 use Rattle.art_writing.specs.declared.insert.PrefixInsertPoint.{PrefixInsertPoint}
 use Rattle.art_writing.specs.declared.insert.PrefixInsertPoint.TheVariants as points
-use Rattle.art_writing.specs.declared.insert.PrefixInsertResult.{PrefixInsertResult}
-use Rattle.art_writing.specs.Inserted.{HasInserted, IsPointIn, Touches, alone, placed_for}
+use Rattle.art_writing.specs.Inserted.{HasInserted, IsPointIn, Touches, placed_for}
 use Rattle.art_writing.specs.Points.{AnswersToOverwrite}
 
 -- The tree has a subtree with the pairs whose keys are related to this one, and no others; a leaf was placed for its nodes, which are freed, and at most three others are changed.
@@ -57,18 +54,6 @@ pub record HasOverwritten {K V : Type 0} (tree : Tree OpaqueNodePtr (K × V)) (p
   pub has : HasLeaf tree (leaf_name done.leaf_node_ptr) pair
   pub kept : point.overwrite_point.kind ≡ Leaf → leaf_name done.leaf_node_ptr ≡ point.overwrite_point
   pub change : done.parent_node_change ≡ NoChange
-
--- The root is canonical for the pairs with the new one in the place of all with related keys; the answer tells what gave way; the rest stays.
-pub record IsOverwritten {K V : Type 0} (bytes : K × V → List ℕ) (P : ℕ) (s t : Nodes K V)
-    (point : OverwritePoint) (pair : K × V)
-    (pairs : List (K × V)) (layout : Tree OpaqueNodePtr (K × V)) (done : PrefixInsertResult K V) : Type 0 where
-  pub tree : Tree OpaqueNodePtr (K × V)
-  pub canonical : IsCanonicalTree bytes P t done.insert_result.new_root (overwrite bytes pair pairs) tree
-  pub leaf : HasOverwritten tree point pair done.insert_result
-  pub existing : done.insert_result.existing_leaf ≡ option_map alone (overwrite_reply bytes pair pairs).0
-  pub removed : done.leafs_removed ≡ (overwrite_reply bytes pair pairs).1
-  pub kept : ChangesInPlace bytes s t (Some layout) (Some tree)
-  pub touches : TouchesForNode point.overwrite_point.kind bytes (bytes pair) s t layout
 
 -- ---- points of either kind
 

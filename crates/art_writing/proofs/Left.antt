@@ -1,0 +1,38 @@
+-- What applied points leave, with the tree that is left.
+use Rattle.std.specs.Prelude.{◌≡◌, ℕ, List, Some}
+use Rattle.std.specs.Option.{option_map}
+use Rattle.art_nodes.specs.Nodes.{Nodes}
+use Rattle.art_parts.specs.declared.names.OpaqueNodePtr.{OpaqueNodePtr}
+use Rattle.art_model.specs.Canonical.{IsCanonicalTree}
+use Rattle.art_model.specs.Kept.{ChangesInPlace}
+use Rattle.art_model.specs.Pairs.{overwrite, overwrite_reply, put, put_reply, stored_for}
+use Rattle.art_model.specs.Trees.{Tree}
+use Rattle.art_writing.specs.Inserted.{HasInserted, Touches, alone}
+use Rattle.art_writing.specs.Overwritten.{HasOverwritten, TouchesForNode}
+use Rattle.art_writing.specs.declared.insert.InsertPoint.{InsertPoint}
+use Rattle.art_writing.specs.declared.insert.InsertResult.{InsertResult}
+use Rattle.art_writing.specs.declared.insert.OverwritePoint.{OverwritePoint}
+use Rattle.art_writing.specs.declared.insert.PrefixInsertResult.{PrefixInsertResult}
+
+-- The root is canonical for the pairs with the new one; where the key was stored it is answered with the old value, as a leaf alone; the rest stays.
+pub record IsInserted {K V : Type 0} (bytes : K × V → List ℕ) (P : ℕ) (s t : Nodes K V) (point : InsertPoint)
+    (pair : K × V) (pairs : List (K × V))
+    (layout : Tree OpaqueNodePtr (K × V)) (done : InsertResult K V) : Type 0 where
+  pub tree : Tree OpaqueNodePtr (K × V)
+  pub canonical : IsCanonicalTree bytes P t done.new_root (put bytes pair pairs) tree
+  pub inserted : HasInserted tree point (stored_for bytes pair pairs) done
+  pub replaced : done.existing_leaf ≡ option_map alone (put_reply bytes pair pairs)
+  pub kept : ChangesInPlace bytes s t (Some layout) (Some tree)
+  pub touches : Touches point.insert_kind s t
+
+-- The root is canonical for the pairs with the new one in the place of all with related keys; the answer tells what gave way; the rest stays.
+pub record IsOverwritten {K V : Type 0} (bytes : K × V → List ℕ) (P : ℕ) (s t : Nodes K V)
+    (point : OverwritePoint) (pair : K × V)
+    (pairs : List (K × V)) (layout : Tree OpaqueNodePtr (K × V)) (done : PrefixInsertResult K V) : Type 0 where
+  pub tree : Tree OpaqueNodePtr (K × V)
+  pub canonical : IsCanonicalTree bytes P t done.insert_result.new_root (overwrite bytes pair pairs) tree
+  pub leaf : HasOverwritten tree point pair done.insert_result
+  pub existing : done.insert_result.existing_leaf ≡ option_map alone (overwrite_reply bytes pair pairs).0
+  pub removed : done.leafs_removed ≡ (overwrite_reply bytes pair pairs).1
+  pub kept : ChangesInPlace bytes s t (Some layout) (Some tree)
+  pub touches : TouchesForNode point.overwrite_point.kind bytes (bytes pair) s t layout
