@@ -419,6 +419,52 @@ fn holds_as_many_as_its_kind(rt: HostRuntime) {
     assert_eq!(rt; lives, [3, 15, 47, 255].map(expected_life));
 }
 
+// A node with a child under each of these bytes but one, which is taken out last.
+fn with_hole<N: InnerNode<4>>(bytes: &[u8], removed: u8) -> N {
+    let mut node = N::from_header(Header::new(&[9], 1));
+    for byte in bytes {
+        if !node.is_full() {
+            node.write_child(*byte, name(*byte));
+        }
+    }
+    node.remove_child(removed);
+    node
+}
+
+#[test]
+fn finds_no_child_behind_the_last(rt: HostRuntime) {
+    let node: InnerNode16<4> = with_hole(&[10, 20, 30, 40, 50, 60], 60);
+    let found = [60, 0, 50].map(|byte| node.lookup_child(byte));
+    assert_eq!(rt; found, [None, None, Some(name(50))]);
+}
+
+// As many bytes as a Node48 has room for.
+static FIVES: [u8; 48] = [
+    0, 5, 10, 15, 20, 25, 30, 35, 40, 45, 50, 55, 60, 65, 70, 75, 80, 85, 90, 95, 100, 105, 110,
+    115, 120, 125, 130, 135, 140, 145, 150, 155, 160, 165, 170, 175, 180, 185, 190, 195, 200, 205,
+    210, 215, 220, 225, 230, 235,
+];
+
+// What stands under 100 before a child is put there, and whether a walk and look-ups then find one under each of these
+// bytes. None where the node is full before.
+fn filled_again<N: InnerNode<4>>(node: &mut N) -> Option<(Option<OpaqueNodePtr>, [bool; 2])> {
+    if node.is_full() {
+        return None;
+    }
+    let hole = node.lookup_child(100);
+    node.write_child(100, name(100));
+    let found = FIVES
+        .iter()
+        .all(|byte| node.lookup_child(*byte) == Some(name(*byte)));
+    Some((hole, [are_children(node.iter(), &FIVES), found]))
+}
+
+#[test]
+fn a_hole_is_filled_again(rt: HostRuntime) {
+    let mut node: InnerNode48<4> = with_hole(&FIVES, 100);
+    assert_eq!(rt; filled_again(&mut node), Some((None, [true; 2])));
+}
+
 // What is read of a node of some kind with the children 0, 20 and 255.
 #[derive(Clone, Copy, PartialEq, Eq, Debug)]
 struct Reading {

@@ -524,8 +524,24 @@ fn place_without_memory(store: &mut Store) -> Result<[bool; 4], AllocError> {
     Ok(placed)
 }
 
+// Whether a Node16 and then a leaf, both promised, are placed without memory.
+fn place_node16_without_memory(store: &mut Store) -> Result<[bool; 2], AllocError> {
+    store.reserve(1, Some(NodeType::Node16))?;
+    let held = all_memory(store.alloc())?;
+    let node = AnyInner::from_header(NodeType::Node16, Header::new(&[8, 9], 2));
+    let placed = [
+        store.place_inner(node).is_ok(),
+        store.place_leaf(leaf_of(1, 10)).is_ok(),
+    ];
+    drop(held);
+    Ok(placed)
+}
+
 #[test]
 fn without_memory_the_promise_is_kept(rt: HostRuntime) {
-    let placed = place_without_memory(&mut Store::new(rt.alloc()));
-    assert_eq!(rt; placed.ok(), Some([true; 4]));
+    let placed = (
+        place_without_memory(&mut Store::new(rt.alloc())).ok(),
+        place_node16_without_memory(&mut Store::new(rt.alloc())).ok(),
+    );
+    assert_eq!(rt; placed, (Some([true; 4]), Some([true; 2])));
 }

@@ -4,6 +4,7 @@ ghost use Rattle.std.specs.Prelude.{◌<◌};
 use art_nodes::node::{LeafPtr, OpaqueNodePtr};
 use art_nodes::store::NodeStore;
 use art_operations::insert::InsertPrefixError;
+use art_operations::map::{MapInsertError, MapRefused};
 use art_operations::run::{Command, Reply, RunResult, Side, run};
 use art_test_support::commands::{
     Asked, Left, Row, Told, commands, first_wrong, ran, ran_from, ran_without_memory,
@@ -14,6 +15,7 @@ use art_test_support::shapes::count_nodes;
 use art_test_support::trees::{Key, value_of};
 use std::alloc::{AllocError, Global};
 use std::boxed::BoxedSlice;
+use std::fmt::Display;
 
 // What a run leaves that tells what is wanted.
 const A_TREE: Left = Left {
@@ -153,7 +155,7 @@ fn deletes_at_the_ends(rt: HostRuntime) {
 }
 
 // Whether an error has this text.
-fn is_shown(alloc: Global, error: &InsertPrefixError, wanted: &str) -> bool {
+fn is_shown<E: Display>(alloc: Global, error: &E, wanted: &str) -> bool {
     match format!(in alloc; "{error}") {
         Ok(text) => text.as_str() == wanted,
         Err(_) => false,
@@ -183,6 +185,32 @@ static ERROR_TEXT: &str =
 fn prints_and_copies_an_error(rt: HostRuntime) {
     let seen = is_shown_and_copied(rt.alloc(), &[1, 2], ERROR_TEXT);
     assert_eq!(rt; seen, Some((true, true)));
+}
+
+// The text of a want of memory.
+static MEMORY_TEXT: &str = "memory allocation failed";
+
+// Whether the errors of a map have their texts: where a key like this one is related to another, where there is no memory
+// for an insertion, and where there is none for a removal.
+fn are_map_errors_shown(alloc: Global, key: &[u8]) -> Option<[bool; 3]> {
+    let byte_repr = BoxedSlice::from_slice(alloc, key).ok()?;
+    let conflict: MapInsertError<u8, u8> = MapInsertError::Conflict {
+        key: 1,
+        value: 7,
+        error: InsertPrefixError { byte_repr },
+    };
+    let memory: MapInsertError<u8, u8> = MapInsertError::Memory { key: 1, value: 7 };
+    Some([
+        is_shown(alloc, &conflict, ERROR_TEXT),
+        is_shown(alloc, &memory, MEMORY_TEXT),
+        is_shown(alloc, &MapRefused, MEMORY_TEXT),
+    ])
+}
+
+#[test]
+fn prints_the_errors_of_a_map(rt: HostRuntime) {
+    let seen = are_map_errors_shown(rt.alloc(), &[1, 2]);
+    assert_eq!(rt; seen, Some([true; 3]));
 }
 
 // Whether the last reply is an error with this text.

@@ -3,6 +3,8 @@
 use super::effect::{Effect, apart, done_below, effect_of, node_under, put_without_memory};
 use art_nodes::node::{NodeType, OpaqueNodePtr};
 use art_nodes::store::NodeStore;
+use art_operations::insert::{InsertKind, InsertPoint, PrefixInsertPoint};
+use art_operations::path::{ExplicitMismatch, TreePath};
 use art_test_support::cases::{Outline, outline_of, pair_below};
 use art_test_support::expected::as_expected;
 use art_test_support::points::{Insertion, Way};
@@ -45,6 +47,8 @@ struct Case<'a> {
 // What is seen of a split.
 #[derive(Clone, Copy, PartialEq, Eq, Debug)]
 struct Split {
+    // The point of the key, where that is below the root.
+    point: Option<PrefixInsertPoint>,
     done: Insertion,
     parent: Branch,
     // The node that was split, where that is an inner one.
@@ -63,6 +67,7 @@ fn split_seen<const P: usize>(
     let (_, stored, byte) = case.parent;
     let old = effect.below?;
     Some(Split {
+        point: case.byte.and(Some(effect.point)),
         done: effect.done,
         parent: branch_of(store, parent, stored, [byte, 9])?,
         rest: case
@@ -70,6 +75,27 @@ fn split_seen<const P: usize>(
             .and_then(|(_, stored)| branch_of(store, old, stored, [5, 6])),
         found: child(store, parent, byte),
     })
+}
+
+// The point of a key that parts from the prefix [1, 1] of what the root has under a byte, after one byte of it.
+fn point_below(effect: Effect, byte: u8) -> Option<PrefixInsertPoint> {
+    let root = effect.root;
+    Some(PrefixInsertPoint::InsertPoint(InsertPoint {
+        path: TreePath::ChildOfRoot {
+            parent: root.as_inner()?,
+            child_key_byte: byte,
+        },
+        insert_kind: InsertKind::MismatchPrefix {
+            mismatch: ExplicitMismatch {
+                matched_bytes: 1,
+                prefix_byte: 1,
+                leaf_ptr: None,
+            },
+            mismatched_inner_node_ptr: effect.below?.as_inner()?,
+        },
+        key_bytes_used: 1,
+        root,
+    }))
 }
 
 // What is to be seen of it. The root stays where what is below it is split.
@@ -80,6 +106,7 @@ fn split_expected(case: Case<'_>, effect: Effect, parent: OpaqueNodePtr) -> Opti
         parent
     };
     Some(Split {
+        point: case.byte.and_then(|byte| point_below(effect, byte)),
         done: done_below(effect.done, new_root, parent, 9, case.touched)?,
         parent: branch_below(case.parent.0),
         rest: case.rest.map(|(len, _)| branch_below(len)),
