@@ -539,9 +539,12 @@ fn place_node16_without_memory(store: &mut Store) -> Result<[bool; 2], AllocErro
 
 #[test]
 fn without_memory_the_promise_is_kept(rt: HostRuntime) {
-    let placed = (
-        place_without_memory(&mut Store::new(rt.alloc())).ok(),
-        place_node16_without_memory(&mut Store::new(rt.alloc())).ok(),
-    );
-    assert_eq!(rt; placed, (Some([true; 4]), Some([true; 2])));
+    let placed = place_without_memory(&mut Store::new(rt.alloc()));
+    assert_eq!(rt; placed.ok(), Some([true; 4]));
+}
+
+#[test]
+fn without_memory_a_promised_node16_is_placed(rt: HostRuntime) {
+    let placed = place_node16_without_memory(&mut Store::new(rt.alloc()));
+    assert_eq!(rt; placed.ok(), Some([true; 2]));
 }

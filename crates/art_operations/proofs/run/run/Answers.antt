@@ -1,4 +1,4 @@
-use Rattle.std.proofs.Common.{◌≡◌, ◌∙◌, [], ap, sym, append_assoc, arith, rules, ◌++◌}
+use Rattle.std.proofs.Common.{◌≡◌, ◌∙◌, [], refl, ap, sym, append_assoc, arith, rules, ◌++◌}
 use Rattle.std.proofs.lemmas.Grind.{common_steps}
 use Rattle.art_operations.proofs.Chains.{run_none, run_more}
 use Rattle.art_operations.proofs.Moves.{canonical_sound, on_canonical}
@@ -16,6 +16,9 @@ pub returns-clause-run : goal.returns-clause-run
 returns-clause-run g c =
     let all : c.args.commands.items ≡ c.loop-command.yielded = grind (arith, common_steps) in
     rw all c.loop-command.invariant.run
+
+pub returns-in-Err-clause-refused : goal.returns-in-Err-clause-refused
+returns-in-Err-clause-refused g c = refl
 
 pub answer_next-reply-requires : goal.answer_next-reply-requires
 answer_next-reply-requires g c =
