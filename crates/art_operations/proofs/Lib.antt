@@ -6,15 +6,3 @@ pub use Rattle.art_writing.proofs.Freed
 pub use Rattle.art_writing.proofs.FreedTrees
 pub use Rattle.art_writing.proofs.Elsewhere
 pub use Rattle.art_writing.proofs.Standing
--- for runs of commands
-pub mod Examples
-pub mod Chains
-pub mod Moves
-pub mod Found
-pub mod Planted
-pub mod Counts
-pub mod Needed
-pub mod Stepped
-pub mod PrefixSteps
-pub mod GoneOver
-pub mod SameTrees

@@ -37,7 +37,7 @@ pub use Rattle.art_map.specs.MapPairs
 pub use Rattle.art_map.specs.MapAnswers
 pub use Rattle.art_map.specs.MapItems
 -- runs of commands
-pub mod Answers
-pub mod Needs
-pub mod Steps
-pub mod Runs
+pub use Rattle.art_running.specs.Answers
+pub use Rattle.art_running.specs.Needs
+pub use Rattle.art_running.specs.Steps
+pub use Rattle.art_running.specs.Runs

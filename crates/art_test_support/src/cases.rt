@@ -3,8 +3,8 @@ ghost use Rattle.std.specs.Prelude.{IfSome};
 ghost use Rattle.art_model.specs.Pairs.{of_key};
 ghost use Rattle.art_model.specs.Roots.{IsCanonicalRoot};
 
-use crate::expected::as_expected;
 use crate::trees::{Key, child, keys_after, planted_keys};
+use art_node_support::expected::as_expected;
 use art_nodes::node::{InnerPtr, LeafPtr, NodeType, OpaqueNodePtr};
 use art_nodes::store::NodeStore;
 use std::fmt::Debug;

@@ -5,8 +5,8 @@ ghost use Rattle.art_model.specs.Canonical.{IsCanonical};
 ghost use Rattle.art_model.specs.Pairs.{of_key};
 ghost use Rattle.art_operations.specs.Runs.{of_side};
 
-use crate::memory::all_memory;
 use crate::trees::Key;
+use art_node_support::memory::all_memory;
 use art_nodes::node::OpaqueNodePtr;
 use art_nodes::store::NodeStore;
 use art_operations::run::{Command, Reply, RunResult, Side, run};

@@ -4,8 +4,8 @@ ghost use Rattle.art_parts.specs.declared.names.NodeType.TheVariants.{Leaf};
 ghost use Rattle.art_model.specs.Pairs.{of_key};
 ghost use Rattle.art_model.specs.Roots.{IsCanonicalRoot};
 
-use crate::nodes::count_kind;
 use crate::trees::Key;
+use art_node_support::nodes::count_kind;
 use art_nodes::node::{AnyInner, Header, LeafNode, NodeType, OpaqueNodePtr};
 use art_nodes::store::NodeStore;
 

@@ -5,14 +5,12 @@ ghost use Rattle.art_model.specs.Clones.{KeepBytes};
 ghost use Rattle.art_model.specs.Pairs.{of_key};
 ghost use Rattle.art_model.specs.Roots.{IsCanonicalRoot};
 
+pub use art_node_support::nodes::Key;
 use art_nodes::node::{AsBytes, LeafPtr, NodeType, OpaqueNodePtr};
 use art_nodes::store::NodeStore;
 use art_operations::run::{Command, Side, run};
 use std::alloc::{AllocError, Global};
 use std::test::Fail;
-
-/// The keys of the tests.
-pub type Key = Vec<u8>;
 
 /// Takes memory for leaves and an inner node beside a tree.
 pub fn promise<K: AsBytes + Drop, const P: usize>(

@@ -4,12 +4,12 @@ ghost use Rattle.std.specs.FinMap as map;
 ghost use Rattle.art_inner.specs.Inner.{HasPlace};
 ghost use Rattle.art_parts.specs.Kinds.{kind_capacity};
 
+use art_node_support::numbers::Numbers;
+use art_node_support::shapes::count_nodes;
 use art_nodes::node::{
     AnyInner, Header, InnerPtr, InnerRef, LeafNode, LeafPtr, NodeType, OpaqueNodePtr,
 };
 use art_nodes::store::NodeStore;
-use art_test_support::numbers::Numbers;
-use art_test_support::shapes::count_nodes;
 use std::alloc::{AllocError, Global};
 use std::mem;
 use std::test::Fail;

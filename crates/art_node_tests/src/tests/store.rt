@@ -6,11 +6,11 @@ ghost use Rattle.art_inner.specs.Changes.{with_child};
 ghost use Rattle.art_nodes.specs.LeafChanges.{with_links};
 ghost use Rattle.art_inner.specs.Inner.{child_at, childless};
 
+use art_node_support::memory::all_memory;
 use art_nodes::node::{
     AnyInner, AsBytes, Header, InnerPtr, InnerRef, LeafNode, LeafPtr, NodeType, OpaqueNodePtr,
 };
 use art_nodes::store::NodeStore;
-use art_test_support::memory::all_memory;
 use std::alloc::AllocError;
 use std::test::Fail;
 

@@ -1,0 +1,11 @@
+pub mod Examples
+pub mod Chains
+pub mod Moves
+pub mod Found
+pub mod Planted
+pub mod Counts
+pub mod Needed
+pub mod Stepped
+pub mod PrefixSteps
+pub mod GoneOver
+pub mod SameTrees

@@ -1,0 +1,38 @@
+use Rattle.std.proofs.Common.{sym, subst, Some}
+use Rattle.std.proofs.lemmas.Bool.{false≢true}
+use Rattle.art_model.specs.Canonical.{IsCanonical}
+use Rattle.art_parts.specs.Clones.{IsPairClone}
+use Rattle.art_model.specs.Pairs.{of_key, remove_key}
+use Rattle.art_model.specs.Radix.{pairs_of}
+use Rattle.art_running.specs.declared.run.Reply.TheVariants.{Deleted}
+use Rattle.art_running.proofs.Moves.{StepFrom, from_root}
+use Rattle.art_running.proofs.Stepped.{deleted_step, kept_step}
+use Rattle.art_writing.proofs.KeysFound.{deleted_pair}
+use Rattle.art_running.proofs.run.delete.Goals as goal
+
+pub returns-in-Ok : goal.returns-in-Ok
+returns-in-Ok g c command deletion side second =
+    let bytes = g.K.AsBytes.bytes in
+    from_root bytes g.row.P side second (λ layout by.
+    let (x, leads, takes) = deletion (pairs_of layout) layout by in
+    let leaf = deleted_pair bytes g.row.P c.in-Ok.done.deleted_leaf by leads c.in-Ok.ensures.deleted in
+    subst (λ pair. StepFrom bytes g.row.P (IsPairClone g.K.Clone.is_clone g.V.Clone.is_clone) side c.args.store.now c.apply.new.store second
+    (Some layout) command (Deleted (Some pair)) c.in-Ok.done.new_root) (sym leaf) (deleted_step bytes g.row.P by second leads takes (record {
+      canonical =
+          subst (λ pair. IsCanonical (of_key bytes) g.row.P c.apply.new.store c.in-Ok.done.new_root
+          (remove_key (of_key bytes) (bytes pair.0) (pairs_of layout))) leaf (c.in-Ok.ensures.canonical (pairs_of layout) layout by);
+      kept = c.in-Ok.ensures.kept (pairs_of layout) layout by;
+      touches = c.in-Ok.ensures.touches;
+      promise = c.in-Ok.ensures.promise;
+    })))
+
+pub returns-in-Err : goal.returns-in-Err
+returns-in-Err g c command deletion side second =
+    let bytes = g.K.AsBytes.bytes in
+    rw c.requires.root (from_root bytes g.row.P side second (λ layout by.
+    let (x, leads, takes) = deletion (pairs_of layout) layout by in
+    kept_step bytes g.row.P by second leads takes (record {
+      same = (c.in-Err.ensures.leaves, c.in-Err.ensures.inners);
+      void = c.in-Err.ensures.void;
+      uncovered = λ covered. absurd (false≢true (c.in-Err.ensures.succeeds covered));
+    })))

@@ -1,0 +1,4 @@
+pub mod Answers
+pub mod Needs
+pub mod Steps
+pub mod Runs

@@ -1,0 +1,147 @@
+-- The states that a run goes through, and what a command leaves of one.
+use Rattle.std.specs.Prelude.{◌≡◌, ◌≢◌, ℕ, MatchBool, nat_le, List, [], length, Option, Some, None, true, ◌⊎◌, ⊤}
+use Rattle.std.specs.Option.{option_map}
+use Rattle.art_nodes.specs.Nodes.{Nodes, Promise, no_promise}
+use Rattle.art_parts.specs.declared.names.OpaqueNodePtr.{OpaqueNodePtr}
+use Rattle.art_model.specs.Footprints.{TouchesAtMost}
+use Rattle.art_model.specs.Kept.{ChangesInPlace, KeepsOthers, names_in}
+use Rattle.art_model.specs.Layouts.{name_of}
+use Rattle.art_model.specs.Pairs.{of_key, is_conflict, related_to}
+use Rattle.art_model.specs.Promises.{is_covered, promise_after, tree_taken, IsLessened}
+use Rattle.art_model.specs.Radix.{pairs_of}
+use Rattle.art_model.specs.Roots.{IsRootOf}
+use Rattle.art_model.specs.Trees.{Tree}
+use Rattle.art_running.specs.Answers.{Answers}
+use Rattle.art_running.specs.Needs.{needs}
+use Rattle.art_writing.specs.Overwritten.{TouchesRelated}
+use Rattle.art_writing.specs.Writes.{SameNodes}
+use Rattle.art_running.specs.declared.run.Command.{Command}
+use Rattle.art_running.specs.declared.run.Command.TheVariants.{Insert, InsertPrefix, Clone}
+use Rattle.art_running.specs.declared.run.Reply.{Reply}
+use Rattle.art_running.specs.declared.run.Reply.TheVariants.{Inserted, Overwrote, Deleted, Cloned, NoMemory}
+use Rattle.art_running.specs.declared.run.Side.{Side}
+use Rattle.art_running.specs.declared.run.Side.TheVariants.{First, Second}
+
+-- the pairs of the leaves, in order, where there is a tree
+abbrev pub pairs_in : {N A : Type 0} → Option (Tree N A) → List A
+pairs_in None = []
+pairs_in (Some tree) = pairs_of tree
+
+-- the store that the tree is in, the other one, the side that the tree is on, and the tree, which says where its nodes are
+pub record State (K V : Type 0) : Type 0 where
+  pub present : Nodes K V
+  pub other : Nodes K V
+  pub side : Side
+  pub tree : Option (Tree OpaqueNodePtr (K × V))
+
+-- the other side
+abbrev pub opposite : Side → Side
+opposite First = Second
+opposite Second = First
+
+module _ {K V : Type 0} where
+  -- the root of the tree
+  abbrev pub root_in : State K V → Option OpaqueNodePtr
+  root_in state = option_map name_of state.tree
+
+  -- No node of the tree's store changed, and the other store is as it was; of the promise this says nothing.
+  pub record NothingChanged (old new : State K V) : Type 0 where
+    pub side : new.side ≡ old.side
+    pub tree : new.tree ≡ old.tree
+    pub nodes : SameNodes old.present new.present
+    pub other : new.other ≡ old.other
+
+  -- what a command touches that is carried out: a few names, or the tree of all pairs with related keys where they are more than one
+  abbrev pub TouchesBy : (K → List ℕ) → Option (Tree OpaqueNodePtr (K × V)) → Command K V → Nodes K V →
+      Nodes K V → Type 0
+  TouchesBy bytes tree (InsertPrefix k v) s t =
+      MatchBool (nat_le (length (related_to (of_key bytes) (bytes k) (pairs_in tree))) 1)
+      (TouchesAtMost 2 2 4 s t)
+      (TouchesRelated (of_key bytes) (bytes k) s t tree)
+  TouchesBy bytes tree command s t = TouchesAtMost 2 2 4 s t
+
+  -- The tree was changed in place: names stay, nodes beside it too, and no more is touched than the command has to.
+  pub record InPlace (bytes : K → List ℕ) (old : State K V) (command : Command K V) (new : State K V) : Type 0 where
+    pub side : new.side ≡ old.side
+    pub kept : ChangesInPlace (of_key bytes) old.present new.present old.tree new.tree
+    pub touches : TouchesBy bytes old.tree command old.present new.present
+    pub other : new.other ≡ old.other
+
+  -- The tree went over to the other store: exactly its names went out of use in the one, and exactly the new tree's names came into use in the other.
+  pub record GoesOver (old new : State K V) : Type 0 where
+    pub side : new.side ≡ opposite old.side
+    pub came : KeepsOthers old.other new.present [] (names_in new.tree)
+    pub went : KeepsOthers old.present new.other (names_in old.tree) []
+
+  -- The tree did not go over: its store is as it was, and the other one has the nodes that it had.
+  pub record StaysHere (old new : State K V) : Type 0 where
+    pub side : new.side ≡ old.side
+    pub tree : new.tree ≡ old.tree
+    pub present : new.present ≡ old.present
+    pub nodes : SameNodes old.other new.other
+
+  -- what becomes of the nodes
+  abbrev pub Changes : (K → List ℕ) → State K V → Command K V → Reply K V → State K V → Type 0
+  Changes bytes old command (Inserted before) new = InPlace bytes old command new
+  Changes bytes old command (Overwrote before count) new = InPlace bytes old command new
+  Changes bytes old command (Deleted (Some pair)) new = InPlace bytes old command new
+  Changes bytes old command Cloned new = elim old.tree [ None ↦ NothingChanged old new | Some tree ↦ GoesOver old new ]
+  Changes bytes old Clone (NoMemory pair) new = StaysHere old new
+  Changes bytes old command reply new = NothingChanged old new
+
+-- a promise stays, or nothing is promised any more
+abbrev pub MayVoid : Promise → Promise → Type 0
+MayVoid old new = (new ≡ old) ⊎ (new ≡ no_promise)
+
+module _ {K V : Type 0} (bytes : K → List ℕ) (P : ℕ) where
+  -- The tree is canonical in its store for its pairs.
+  abbrev pub IsSound : State K V → Type 0
+  IsSound state = IsRootOf (of_key bytes) P state.present (root_in state) (pairs_in state.tree) state.tree
+
+  -- whether the promise covers what a command places
+  abbrev pub IsPromised : Command K V → State K V → Type 0
+  IsPromised command state = is_covered (needs bytes P command (pairs_in state.tree)) state.present.promise ≡ true
+
+  -- where there may be no memory: for the bytes of a key in conflict, for the clone of a tree, and for nodes that are not promised
+  abbrev pub MayRefuse : Command K V → State K V → Type 0
+  MayRefuse (Insert k v) old =
+      (is_conflict (of_key bytes) (bytes k) (pairs_in old.tree) ≡ true) ⊎ (IsPromised (Insert k v) old → ⊥)
+  MayRefuse Clone old = old.tree ≢ None
+  MayRefuse command old = IsPromised command old → ⊥
+
+  -- want of memory is answered only there
+  abbrev pub Refuses : State K V → Command K V → Reply K V → Type 0
+  Refuses old command (NoMemory pair) = MayRefuse command old
+  Refuses old command reply = ⊤
+
+  -- what the command places is taken from the promise
+  abbrev pub TakesNeeds : State K V → Command K V → State K V → Type 0
+  TakesNeeds old command new =
+      new.present.promise ≡ promise_after (needs bytes P command (pairs_in old.tree)) old.present.promise
+
+  -- What becomes of the promise: what is placed is taken from it, and a refusal may void it, but not in a conflict. A clone
+  -- leaves its source's, and its nodes are taken from the other store's, of which a refusal leaves no more than there was.
+  abbrev pub Promises : State K V → Command K V → Reply K V → State K V → Type 0
+  Promises old command (Inserted before) new = TakesNeeds old command new
+  Promises old command (Overwrote before count) new = TakesNeeds old command new
+  Promises old command (Deleted (Some pair)) new = TakesNeeds old command new
+  Promises old (Insert k v) (NoMemory pair) new =
+      MatchBool (is_conflict (of_key bytes) (bytes k) (pairs_in old.tree))
+      (new.present.promise ≡ old.present.promise)
+      (MayVoid old.present.promise new.present.promise)
+  Promises old Clone Cloned new = elim old.tree [
+    | None ↦ new.present.promise ≡ old.present.promise
+    | Some tree ↦ (new.other.promise ≡ old.present.promise) × (new.present.promise ≡ tree_taken tree old.other.promise)
+  ]
+  Promises old Clone (NoMemory pair) new = IsLessened old.other.promise new.other.promise
+  Promises old command (NoMemory pair) new = MayVoid old.present.promise new.present.promise
+  Promises old command reply new = new.present.promise ≡ old.present.promise
+
+  module _ (IsClone : K × V → K × V → Type 0) where
+    -- From one state to the next, by a command and its reply.
+    pub record Step (old : State K V) (command : Command K V) (reply : Reply K V) (new : State K V) : Type 0 where
+      pub answers : Answers bytes IsClone (pairs_in old.tree) command reply (pairs_in new.tree)
+      pub refuses : Refuses old command reply
+      pub sound : IsSound new
+      pub changes : Changes bytes old command reply new
+      pub promises : Promises old command reply new

@@ -1,0 +1,4 @@
+//! Commands on a radix tree in a store.
+#![tactic(auto)]
+
+pub mod run;
