@@ -11,3 +11,8 @@ pub fn as_expected<T: PartialEq + Debug + Drop>(answer: Option<(T, T)>) -> Resul
     }
     Err(Fail::new(format_args!("{:?} was seen, and {:?} expected", seen, expected)))
 }
+
+/// A failure, with both values, where what was seen, which comes first, isn't what was expected.
+pub fn same<T: PartialEq + Debug + Drop>(seen: T, expected: T) -> Result<(), Fail> {
+    as_expected(Some((seen, expected)))
+}

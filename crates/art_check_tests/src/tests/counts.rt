@@ -6,6 +6,7 @@ use art_nodes::node::OpaqueNodePtr;
 use art_nodes::store::NodeStore;
 use art_operations::well_formed::{WellFormedChecker, WellFormedTreeStats};
 use art_test_support::commands::{Asked, Row, Told as Reply, ran_from};
+use art_test_support::expected::same;
 use art_test_support::trees::{
     Key, keys_after, keys_of_three, keys_of_zeros, planted_all, planted_keys,
 };
@@ -91,8 +92,7 @@ fn first_miscounted(alloc: Global) -> Result<Option<usize>, Fail> {
 
 #[test]
 fn nodes_of_well_formed_trees_are_counted(rt: HostRuntime) -> Result<(), Fail> {
-    assert_eq!(rt; first_miscounted(rt.alloc())?, None);
-    Ok(())
+    same(first_miscounted(rt.alloc())?, None)
 }
 
 /// All bytes, in order.
@@ -185,8 +185,8 @@ fn three_without_root(alloc: Global) -> [bool; 3] {
 }
 
 #[test]
-fn no_tree_has_no_length(rt: HostRuntime) {
-    assert_eq!(rt; three_without_root(rt.alloc()), [true; 3]);
+fn no_tree_has_no_length(rt: HostRuntime) -> Result<(), Fail> {
+    same(three_without_root(rt.alloc()), [true; 3])
 }
 
 /// How many nodes the tree of two keys has, where the check is told two other lengths.
@@ -201,13 +201,13 @@ fn counts_of_two_alone(alloc: Global) -> Option<[Option<Counts>; 2]> {
 }
 
 #[test]
-fn the_length_of_a_tree_is_not_compared(rt: HostRuntime) {
+fn the_length_of_a_tree_is_not_compared(rt: HostRuntime) -> Result<(), Fail> {
     let counts = counts_of_two_alone(rt.alloc());
-    assert_eq!(rt; counts, Some([Some((2, 1, 3)); 2]));
+    same(counts, Some([Some((2, 1, 3)); 2]))
 }
 
 #[test]
-fn counts_are_added_by_fields(rt: HostRuntime) {
+fn counts_are_added_by_fields(rt: HostRuntime) -> Result<(), Fail> {
     let sum = WellFormedTreeStats {
         num_leaf: 1,
         num_inner: 20,
@@ -229,5 +229,5 @@ fn counts_are_added_by_fields(rt: HostRuntime) {
         (more.num_leaf, more.num_inner),
         (none.num_leaf, none.num_inner),
     ];
-    assert_eq!(rt; fields, [(301, 4020), (705, 8060), (0, 0)]);
+    same(fields, [(301, 4020), (705, 8060), (0, 0)])
 }

@@ -6,10 +6,12 @@ use super::told::{Told, is_cloned, listed, told_by};
 use art_nodes::node::{NodeType, OpaqueNodePtr};
 use art_nodes::store::NodeStore;
 use art_operations::well_formed::WellFormedChecker;
+use art_test_support::expected::same;
 use art_test_support::placing::{Plain, placed_all};
 use art_test_support::trees::Key;
 use std::alloc::Global;
 use std::cmp::Ordering;
+use std::test::Fail;
 
 /// Nodes, the place of the root among them, and what the check answers.
 #[derive(Clone, Copy)]
@@ -123,8 +125,8 @@ static BRANCHES: [Case<'static>; 4] = cases! {
 };
 
 #[test]
-fn nodes_are_checked_in_the_order_of_the_walk(rt: HostRuntime) {
-    assert_eq!(rt; first_wrong::<16>(rt.alloc(), &BRANCHES), None);
+fn nodes_are_checked_in_the_order_of_the_walk(rt: HostRuntime) -> Result<(), Fail> {
+    same(first_wrong::<16>(rt.alloc(), &BRANCHES), None)
 }
 
 /// A leaf under two bytes of its parent, a node below itself, and a node and a leaf with two parents.
@@ -142,8 +144,8 @@ static LOOPS: [Case<'static>; 3] = cases! {
 };
 
 #[test]
-fn a_name_that_is_met_twice_is_a_loop(rt: HostRuntime) {
-    assert_eq!(rt; first_wrong::<16>(rt.alloc(), &LOOPS), None);
+fn a_name_that_is_met_twice_is_a_loop(rt: HostRuntime) -> Result<(), Fail> {
+    same(first_wrong::<16>(rt.alloc(), &LOOPS), None)
 }
 
 /// A root of this kind above two leaves with the keys [1] and [2], which have these links.
@@ -174,8 +176,8 @@ static SIBLINGS: [Case<'static>; 6] = cases! {
 };
 
 #[test]
-fn siblings_are_to_stand_in_order(rt: HostRuntime) {
-    assert_eq!(rt; first_wrong::<16>(rt.alloc(), &SIBLINGS), None);
+fn siblings_are_to_stand_in_order(rt: HostRuntime) -> Result<(), Fail> {
+    same(first_wrong::<16>(rt.alloc(), &SIBLINGS), None)
 }
 
 /// Three leaves below a root, with a leaf beside them, where the first leaf has these links.
@@ -200,8 +202,8 @@ static NEIGHBOURS: [Case<'static>; 4] = cases! {
 };
 
 #[test]
-fn leaves_are_to_name_their_neighbours(rt: HostRuntime) {
-    assert_eq!(rt; first_wrong::<16>(rt.alloc(), &NEIGHBOURS), None);
+fn leaves_are_to_name_their_neighbours(rt: HostRuntime) -> Result<(), Fail> {
+    same(first_wrong::<16>(rt.alloc(), &NEIGHBOURS), None)
 }
 
 /// No node under the root's name, a name of another kind as the root, and such a name as a child.
@@ -217,8 +219,8 @@ static DEAD_NAMES: [Case<'static>; 3] = cases! {
 };
 
 #[test]
-fn a_name_is_to_lead_to_a_node_of_its_kind(rt: HostRuntime) {
-    assert_eq!(rt; first_wrong::<16>(rt.alloc(), &DEAD_NAMES), None);
+fn a_name_is_to_lead_to_a_node_of_its_kind(rt: HostRuntime) -> Result<(), Fail> {
+    same(first_wrong::<16>(rt.alloc(), &DEAD_NAMES), None)
 }
 
 /// A root without children, a node with one, and nodes of the greater kinds with few.
@@ -236,8 +238,8 @@ static FEW_CHILDREN: [Case<'static>; 4] = cases! {
 };
 
 #[test]
-fn inner_nodes_are_to_have_enough_children(rt: HostRuntime) {
-    assert_eq!(rt; first_wrong::<16>(rt.alloc(), &FEW_CHILDREN), None);
+fn inner_nodes_are_to_have_enough_children(rt: HostRuntime) -> Result<(), Fail> {
+    same(first_wrong::<16>(rt.alloc(), &FEW_CHILDREN), None)
 }
 
 /// A root with a prefix of this length, of which these bytes are stored, above two leaves with these keys.
@@ -261,8 +263,8 @@ static NOTHING_STORED: [Case<'static>; 4] = cases! {
 };
 
 #[test]
-fn with_nothing_stored_each_prefix_is_read(rt: HostRuntime) {
-    assert_eq!(rt; first_wrong::<0>(rt.alloc(), &NOTHING_STORED), None);
+fn with_nothing_stored_each_prefix_is_read(rt: HostRuntime) -> Result<(), Fail> {
+    same(first_wrong::<0>(rt.alloc(), &NOTHING_STORED), None)
 }
 
 /// Prefixes of which two bytes are stored: above itself, above leaves that are too short, above leaves with other
@@ -288,8 +290,8 @@ static TWO_STORED: [Case<'static>; 6] = cases! {
 };
 
 #[test]
-fn stored_bytes_are_to_be_those_of_the_least_leaf(rt: HostRuntime) {
-    assert_eq!(rt; first_wrong::<2>(rt.alloc(), &TWO_STORED), None);
+fn stored_bytes_are_to_be_those_of_the_least_leaf(rt: HostRuntime) -> Result<(), Fail> {
+    same(first_wrong::<2>(rt.alloc(), &TWO_STORED), None)
 }
 
 /// A key with 22 times 88 behind its first four bytes, and one that is the same but for a later byte.
@@ -335,6 +337,6 @@ static LONG_PREFIXES: [Case<'static>; 3] = cases! {
 };
 
 #[test]
-fn a_long_prefix_is_read_from_its_least_leaf(rt: HostRuntime) {
-    assert_eq!(rt; first_wrong::<16>(rt.alloc(), &LONG_PREFIXES), None);
+fn a_long_prefix_is_read_from_its_least_leaf(rt: HostRuntime) -> Result<(), Fail> {
+    same(first_wrong::<16>(rt.alloc(), &LONG_PREFIXES), None)
 }

@@ -8,6 +8,7 @@ use art_nodes::node::{NodeType, OpaqueNodePtr};
 use art_nodes::store::NodeStore;
 use art_operations::insert::InsertPrefixError;
 use art_operations::well_formed::{KeyPrefix, MalformedTreeError, WellFormedChecker};
+use art_test_support::expected::same;
 use art_test_support::memory::all_memory;
 use art_test_support::placing::{Plain, lone_leaf, placed_all, plain_node};
 use art_test_support::shapes::count_nodes;
@@ -55,8 +56,8 @@ fn without_memory(alloc: Global) -> Option<[bool; 2]> {
 }
 
 #[test]
-fn without_memory_there_is_no_verdict(rt: HostRuntime) {
-    assert_eq!(rt; without_memory(rt.alloc()), Some([true; 2]));
+fn without_memory_there_is_no_verdict(rt: HostRuntime) -> Result<(), Fail> {
+    same(without_memory(rt.alloc()), Some([true; 2]))
 }
 
 /// Whether clones of a prefix and of two faults are refused while all memory is held, and so are copies of bytes, but
@@ -91,8 +92,8 @@ fn are_clones_refused(alloc: Global) -> Option<[bool; 4]> {
 }
 
 #[test]
-fn without_memory_no_fault_is_cloned(rt: HostRuntime) {
-    assert_eq!(rt; are_clones_refused(rt.alloc()), Some([true; 4]));
+fn without_memory_no_fault_is_cloned(rt: HostRuntime) -> Result<(), Fail> {
+    same(are_clones_refused(rt.alloc()), Some([true; 4]))
 }
 
 /// What comes of a check or a clone: it is refused, or it is as it should, or other than that.

@@ -7,9 +7,11 @@ use art_nodes::node::OpaqueNodePtr;
 use art_nodes::store::NodeStore;
 use art_operations::well_formed::WellFormedChecker;
 use art_oracle::verdicts::{Flaw, Verdict, judge};
+use art_test_support::expected::same;
 use art_test_support::numbers::Numbers;
 use art_test_support::trees::{Key, try_planted_keys};
 use std::alloc::{AllocError, Global};
+use std::test::Fail;
 
 /// What a verdict says. One that is unknown says what no check answers here.
 fn told_by_verdict(verdict: &Verdict) -> Told<'_> {
@@ -148,6 +150,6 @@ fn are_told<const P: usize>(alloc: Global) -> bool
 }
 
 #[test]
-fn spoiled_trees_are_told_as_another_check_tells(rt: HostRuntime) {
-    assert_eq!(rt; with_each!(are_told, rt.alloc()), [true; 4]);
+fn spoiled_trees_are_told_as_another_check_tells(rt: HostRuntime) -> Result<(), Fail> {
+    same(with_each!(are_told, rt.alloc()), [true; 4])
 }

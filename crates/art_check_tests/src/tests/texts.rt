@@ -4,9 +4,11 @@ use super::told::{Told, fault, is_cloned, told_by_fault};
 use art_nodes::node::{NodeType, OpaqueNodePtr};
 use art_nodes::store::NodeStore;
 use art_operations::well_formed::{MalformedTreeError, WellFormedChecker};
+use art_test_support::expected::same;
 use art_test_support::trees::Key;
 use std::alloc::Global;
 use std::cmp::Ordering;
+use std::test::Fail;
 
 /// Whether a fault has this text.
 fn is_printed(alloc: Global, fault: &MalformedTreeError, text: &str) -> bool {
@@ -73,8 +75,8 @@ static OF_INNER_NODES: [(Told<'static>, &str); 8] = [
 ];
 
 #[test]
-fn faults_of_inner_nodes_have_their_texts(rt: HostRuntime) {
-    assert_eq!(rt; first_other(rt.alloc(), &OF_INNER_NODES), None);
+fn faults_of_inner_nodes_have_their_texts(rt: HostRuntime) -> Result<(), Fail> {
+    same(first_other(rt.alloc(), &OF_INNER_NODES), None)
 }
 
 /// What the other faults say, and their texts.
@@ -122,8 +124,8 @@ static OF_LEAVES_AND_NAMES: [(Told<'static>, &str); 10] = [
 ];
 
 #[test]
-fn faults_of_leaves_and_names_have_their_texts(rt: HostRuntime) {
-    assert_eq!(rt; first_other(rt.alloc(), &OF_LEAVES_AND_NAMES), None);
+fn faults_of_leaves_and_names_have_their_texts(rt: HostRuntime) -> Result<(), Fail> {
+    same(first_other(rt.alloc(), &OF_LEAVES_AND_NAMES), None)
 }
 
 /// Whether the fault of a name in a store has this text.

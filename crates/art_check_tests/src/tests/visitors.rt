@@ -8,9 +8,11 @@ use art_nodes::store::NodeStore;
 use art_operations::insert::InsertPrefixError;
 use art_operations::visitor::{Visitor, visit_with};
 use art_operations::well_formed::KeyPrefix;
+use art_test_support::expected::same;
 use art_test_support::trees::{Key, planted_all};
 use std::alloc::{AllocError, Global};
 use std::boxed::BoxedSlice;
+use std::test::Fail;
 use uses::longest_key;
 
 /// What is seen of an inner node: how many leaves are met before it, its kind, prefix's length and children.
@@ -118,15 +120,15 @@ fn folds_with<const P: usize>(alloc: Global, slices: &[&[u8]]) -> Option<Folds>
 }
 
 #[test]
-fn outputs_of_children_are_joined_in_order(rt: HostRuntime) {
+fn outputs_of_children_are_joined_in_order(rt: HostRuntime) -> Result<(), Fail> {
     let folds = folds_with::<16>(rt.alloc(), &[&[1], &[2], &[3, 1], &[3, 2]]);
-    assert_eq!(rt; folds.map(|folds| folds.numbers), Some([154, 156]));
+    same(folds.map(|folds| folds.numbers), Some([154, 156]))
 }
 
 #[test]
-fn a_lone_leaf_goes_to_its_hook(rt: HostRuntime) {
+fn a_lone_leaf_goes_to_its_hook(rt: HostRuntime) -> Result<(), Fail> {
     let folds = folds_with::<0>(rt.alloc(), &[&[9, 9]]);
-    assert_eq!(rt; folds.map(|folds| folds.numbers), Some([1, 1]));
+    same(folds.map(|folds| folds.numbers), Some([1, 1]))
 }
 
 /// The inner nodes of the tree of eight keys, of which some share two bytes of a prefix or more.
@@ -138,7 +140,7 @@ static INNERS: [Inner; 4] = [
 ];
 
 #[test]
-fn nodes_are_visited_after_what_is_below_them(rt: HostRuntime) {
+fn nodes_are_visited_after_what_is_below_them(rt: HostRuntime) -> Result<(), Fail> {
     let folds = folds_with::<2>(
         rt.alloc(),
         &[
@@ -152,15 +154,15 @@ fn nodes_are_visited_after_what_is_below_them(rt: HostRuntime) {
             &[5, 2, 6, 2],
         ],
     );
-    assert_eq!(rt; folds.map(|folds| folds.shape), Some((3, 8, 4, INNERS)));
+    same(folds.map(|folds| folds.shape), Some((3, 8, 4, INNERS)))
 }
 
 // The longest keys are neither the least nor the greatest.
 #[test]
-fn the_longest_key_is_found(rt: HostRuntime) {
+fn the_longest_key_is_found(rt: HostRuntime) -> Result<(), Fail> {
     let keys: [&[u8]; 4] = [&[1, 7], &[2, 7, 7, 7, 1], &[2, 7, 7, 7, 2], &[9]];
     let folds = folds_with::<2>(rt.alloc(), &keys);
-    assert_eq!(rt; folds.map(|folds| folds.longest), Some(5));
+    same(folds.map(|folds| folds.longest), Some(5))
 }
 
 /// Whether no bytes are empty, a copy of bytes holds them, and a clone of it is equal and holds them.
@@ -218,6 +220,6 @@ fn are_cloned(alloc: Global) -> Option<[bool; 2]> {
 }
 
 #[test]
-fn clones_of_errors_equal_them(rt: HostRuntime) {
-    assert_eq!(rt; are_cloned(rt.alloc()), Some([true; 2]));
+fn clones_of_errors_equal_them(rt: HostRuntime) -> Result<(), Fail> {
+    same(are_cloned(rt.alloc()), Some([true; 2]))
 }

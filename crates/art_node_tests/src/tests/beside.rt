@@ -1,5 +1,7 @@
 //! The child beside a byte that has none, at a node of each kind.
+use art_node_support::expected::same;
 use art_nodes::node::{AnyInner, Header, InnerRef, NodeType, OpaqueNodePtr};
+use std::test::Fail;
 
 // The child that is put under a byte, with the byte.
 fn child(byte: u8) -> (u8, OpaqueNodePtr) {
@@ -36,7 +38,7 @@ fn beside_each(kind: NodeType) -> [Option<(u8, OpaqueNodePtr)>; 4] {
 // A node that keeps its children in order answers the next one above, or else the last; one with a
 // place for each byte the nearest, and the lower of two as near.
 #[test]
-fn finds_the_child_beside_a_byte(rt: HostRuntime) {
+fn finds_the_child_beside_a_byte(rt: HostRuntime) -> Result<(), Fail> {
     let found = [
         beside_each(NodeType::Node4),
         beside_each(NodeType::Node16),
@@ -49,8 +51,8 @@ fn finds_the_child_beside_a_byte(rt: HostRuntime) {
         [10, 10, 20, 200],
         [10, 10, 20, 200],
     ];
-    assert_eq!(rt;
+    same(
         found,
-        expected.map(|bytes: [u8; 4]| bytes.map(|byte| Some(child(byte))))
-    );
+        expected.map(|bytes: [u8; 4]| bytes.map(|byte| Some(child(byte)))),
+    )
 }

@@ -4,6 +4,7 @@ ghost use Rattle.std.specs.FinMap as map;
 ghost use Rattle.art_inner.specs.Inner.{HasPlace};
 ghost use Rattle.art_parts.specs.Kinds.{kind_capacity};
 
+use art_node_support::expected::same;
 use art_node_support::numbers::Numbers;
 use art_node_support::shapes::count_nodes;
 use art_nodes::node::{
@@ -372,6 +373,5 @@ impl Trial {
 #[test]
 fn mixed_calls_change_what_they_name(rt: HostRuntime) -> Result<(), Fail> {
     let outcome = Trial::new(rt.alloc()).outcome()?;
-    assert_eq!(rt; outcome, (None, [true; 3]));
-    Ok(())
+    same(outcome, (None, [true; 3]))
 }

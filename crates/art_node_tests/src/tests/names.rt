@@ -1,8 +1,10 @@
 //! The order and the hashes of names of one type, and what names and leaves print for a programmer.
+use art_node_support::expected::same;
 use art_nodes::node::{InnerPtr, LeafNode, LeafPtr, NodePtr, NodeType, OpaqueNodePtr};
 use std::alloc::Global;
 use std::fmt::Debug;
 use std::hash::{DefaultHasher, Hash, Hasher};
+use std::test::Fail;
 
 // The places of the first two of these that do not compare as their places do.
 fn first_out_of_order<T: Ord>(rising: &[T]) -> Option<(usize, usize)> {
@@ -21,7 +23,7 @@ fn inner(kind: NodeType, slot: usize) -> InnerPtr {
 }
 
 #[test]
-fn orders_names_by_kind_then_slot(rt: HostRuntime) {
+fn orders_names_by_kind_then_slot(rt: HostRuntime) -> Result<(), Fail> {
     let rising = [
         OpaqueNodePtr::from_parts(NodeType::Node4, 8),
         OpaqueNodePtr::from_parts(NodeType::Node4, 9),
@@ -30,17 +32,17 @@ fn orders_names_by_kind_then_slot(rt: HostRuntime) {
         OpaqueNodePtr::from_parts(NodeType::Node256, 5),
         OpaqueNodePtr::from_parts(NodeType::Leaf, 4),
     ];
-    assert_eq!(rt; first_out_of_order(&rising), None);
+    same(first_out_of_order(&rising), None)
 }
 
 #[test]
-fn orders_leaf_names_by_slot(rt: HostRuntime) {
+fn orders_leaf_names_by_slot(rt: HostRuntime) -> Result<(), Fail> {
     let rising = [0usize, 1, 9, 10].map(LeafPtr::from_slot);
-    assert_eq!(rt; first_out_of_order(&rising), None);
+    same(first_out_of_order(&rising), None)
 }
 
 #[test]
-fn orders_inner_names_by_kind_then_slot(rt: HostRuntime) {
+fn orders_inner_names_by_kind_then_slot(rt: HostRuntime) -> Result<(), Fail> {
     let rising = [
         inner(NodeType::Node4, 8),
         inner(NodeType::Node4, 9),
@@ -49,18 +51,20 @@ fn orders_inner_names_by_kind_then_slot(rt: HostRuntime) {
         inner(NodeType::Node256, 4),
         inner(NodeType::Node256, 5),
     ];
-    assert_eq!(rt; first_out_of_order(&rising), None);
+    same(first_out_of_order(&rising), None)
 }
 
 #[test]
-fn orders_leaves_before_inner_nodes_where_names_are_told_apart(rt: HostRuntime) {
+fn orders_leaves_before_inner_nodes_where_names_are_told_apart(
+    rt: HostRuntime,
+) -> Result<(), Fail> {
     let rising = [
         NodePtr::Leaf(LeafPtr::from_slot(3)),
         NodePtr::Leaf(LeafPtr::from_slot(8)),
         NodePtr::Inner(inner(NodeType::Node4, 2)),
         NodePtr::Inner(inner(NodeType::Node256, 1)),
     ];
-    assert_eq!(rt; first_out_of_order(&rising), None);
+    same(first_out_of_order(&rising), None)
 }
 
 fn hash_of<T: Hash>(value: &T) -> u64 {
@@ -70,7 +74,7 @@ fn hash_of<T: Hash>(value: &T) -> u64 {
 }
 
 #[test]
-fn equal_names_have_equal_hashes(rt: HostRuntime) {
+fn equal_names_have_equal_hashes(rt: HostRuntime) -> Result<(), Fail> {
     let leaf = LeafPtr::from_slot(5);
     let node = inner(NodeType::Node48, 7);
     let opaque = node.to_opaque();
@@ -81,7 +85,7 @@ fn equal_names_have_equal_hashes(rt: HostRuntime) {
         hash_of(&opaque.split()),
         hash_of(&node.kind),
     ];
-    assert_eq!(rt;
+    same(
         hashes,
         [
             hash_of(&LeafPtr { slot: 5 }),
@@ -89,8 +93,8 @@ fn equal_names_have_equal_hashes(rt: HostRuntime) {
             hash_of(&OpaqueNodePtr::from_parts(NodeType::Node48, 7)),
             hash_of(&NodePtr::Inner(node)),
             hash_of(&NodeType::Node48),
-        ]
-    );
+        ],
+    )
 }
 
 // Whether a value prints something for a programmer.
@@ -102,7 +106,7 @@ fn is_printed<T: Debug>(alloc: Global, value: &T) -> bool {
 }
 
 #[test]
-fn names_and_leaves_are_printed(rt: HostRuntime) {
+fn names_and_leaves_are_printed(rt: HostRuntime) -> Result<(), Fail> {
     let alloc = rt.alloc();
     let leaf = LeafPtr::from_slot(5);
     let printed = [
@@ -113,5 +117,5 @@ fn names_and_leaves_are_printed(rt: HostRuntime) {
         is_printed(alloc, &NodePtr::Leaf(leaf)),
         is_printed(alloc, &LeafNode::with_no_siblings([1u8], 10u32)),
     ];
-    assert_eq!(rt; printed, [true; 6]);
+    same(printed, [true; 6])
 }

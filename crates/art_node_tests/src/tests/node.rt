@@ -2,6 +2,7 @@ ghost use Rattle.std.specs.Prelude.{◌≡◌, ℕ, ◌+◌, ◌≤◌, length, 
 ghost use Rattle.art_inner.specs.Inner.{child_at};
 ghost use Rattle.art_parts.specs.Headers.{header_of};
 
+use art_node_support::expected::same;
 use art_nodes::node::{
     AnyInner, AsBytes, Children, FromHeader, Header, InnerNode, InnerNode4, InnerNode16,
     InnerNode48, InnerNodeDirect, InnerPtr, InnerRef, LeafNode, LeafPtr, NodePtr, NodeType,
@@ -30,8 +31,7 @@ fn reads_key_bytes(rt: HostRuntime) -> Result<(), Fail> {
         has_bytes([97, 98], bytes),
         has_bytes(String::from_str(alloc, "ab")?, bytes),
     ];
-    assert_eq!(rt; seen, [true; 4]);
-    Ok(())
+    same(seen, [true; 4])
 }
 
 // Whether a name prints so, and whether it does so once it is told apart.
@@ -61,18 +61,18 @@ fn prints_names(rt: HostRuntime) -> Result<(), Fail> {
 }
 
 #[test]
-fn tells_leaf_names_apart(rt: HostRuntime) {
+fn tells_leaf_names_apart(rt: HostRuntime) -> Result<(), Fail> {
     let leaf = LeafPtr::from_slot(5);
     let opaque = leaf.to_opaque();
-    assert_eq!(rt;
+    same(
         (opaque, opaque.as_leaf(), opaque.as_inner(), opaque.split()),
         (
             OpaqueNodePtr::from_parts(NodeType::Leaf, 5),
             Some(leaf),
             None,
-            NodePtr::Leaf(leaf)
-        )
-    );
+            NodePtr::Leaf(leaf),
+        ),
+    )
 }
 
 // What the name of the inner node of a kind in a slot is, told apart.
@@ -92,33 +92,33 @@ fn told_apart(
 }
 
 #[test]
-fn tells_inner_names_apart(rt: HostRuntime) {
+fn tells_inner_names_apart(rt: HostRuntime) -> Result<(), Fail> {
     let inner = InnerPtr {
         kind: NodeType::Node48,
         slot: 5,
     };
     let parts = (NodeType::Node48, 5);
-    assert_eq!(rt;
+    same(
         [
             told_apart(NodeType::Node48, 5),
-            told_apart(NodeType::Leaf, 5)
+            told_apart(NodeType::Leaf, 5),
         ],
         [
             Some((parts, (None, Some(inner)), NodePtr::Inner(inner))),
-            None
-        ]
-    );
+            None,
+        ],
+    )
 }
 
 #[test]
-fn knows_each_range(rt: HostRuntime) {
+fn knows_each_range(rt: HostRuntime) -> Result<(), Fail> {
     let ranges = [
         NodeType::Node4.capacity_range(),
         NodeType::Node16.capacity_range(),
         NodeType::Node48.capacity_range(),
         NodeType::Node256.capacity_range(),
     ];
-    assert_eq!(rt; ranges, [2..=4, 5..=16, 17..=48, 49..=256]);
+    same(ranges, [2..=4, 5..=16, 17..=48, 49..=256])
 }
 
 #[test]
@@ -146,7 +146,7 @@ fn reads_as<const P: usize>(header: Header<P>, len: usize, stored: &[u8]) -> [bo
 }
 
 #[test]
-fn stores_the_front_of_a_prefix(rt: HostRuntime) {
+fn stores_the_front_of_a_prefix(rt: HostRuntime) -> Result<(), Fail> {
     let bytes = [7, 1, 1, 1, 5];
     let seen = [
         reads_as(Header::<0>::new(&bytes, 5), 5, &[]),
@@ -157,7 +157,7 @@ fn stores_the_front_of_a_prefix(rt: HostRuntime) {
         reads_as(Header::<4>::new(&bytes, 0), 0, &[]),
         reads_as(Header::<2>::new(&[7, 1], 1000), 1000, &[7, 1]),
     ];
-    assert_eq!(rt; seen, [[true; 2]; 7]);
+    same(seen, [[true; 2]; 7])
 }
 
 // A caller that knows whole prefixes: the rest of a prefix that a key has at a depth.
@@ -171,18 +171,18 @@ fn trim_by_key<const P: usize>(header: &mut Header<P>, n: usize, depth: usize, k
 }
 
 #[test]
-fn trims_a_prefix(rt: HostRuntime) {
+fn trims_a_prefix(rt: HostRuntime) -> Result<(), Fail> {
     let mut header = Header::<4>::new(&[1, 2, 3, 4], 4);
     header.ltrim_by(0);
     let all = reads_as(header, 4, &[1, 2, 3, 4]);
     header.ltrim_by(1);
     let rest = reads_as(header, 3, &[2, 3, 4]);
     header.ltrim_by(3);
-    assert_eq!(rt; [all, rest, reads_as(header, 0, &[])], [[true; 2]; 3]);
+    same([all, rest, reads_as(header, 0, &[])], [[true; 2]; 3])
 }
 
 #[test]
-fn trims_a_prefix_by_a_leaf(rt: HostRuntime) {
+fn trims_a_prefix_by_a_leaf(rt: HostRuntime) -> Result<(), Fail> {
     let key = [9, 7, 1, 1, 1, 5, 6, 0];
     let prefix = [7, 1, 1, 1, 5, 6];
     let mut nothing = Header::<0>::new(&prefix, 6);
@@ -199,11 +199,11 @@ fn trims_a_prefix_by_a_leaf(rt: HostRuntime) {
         reads_as(most, 4, &[1, 1, 5, 6]),
         reads_as(all, 0, &[]),
     ];
-    assert_eq!(rt; seen, [[true; 2]; 4]);
+    same(seen, [[true; 2]; 4])
 }
 
 #[test]
-fn extends_a_prefix(rt: HostRuntime) {
+fn extends_a_prefix(rt: HostRuntime) -> Result<(), Fail> {
     let mut nothing = Header::<0>::new(&[], 2);
     nothing.push_prefix(&[], 3);
     let mut front = Header::<2>::new(&[1], 1);
@@ -224,7 +224,7 @@ fn extends_a_prefix(rt: HostRuntime) {
         reads_as(most, 6, &[1, 2, 3, 4]),
         reads_as(all, 3, &[1, 2, 3]),
     ];
-    assert_eq!(rt; seen, [[true; 2]; 6]);
+    same(seen, [[true; 2]; 6])
 }
 
 #[test]
@@ -409,14 +409,14 @@ fn expected_life(last: u8) -> Life {
 }
 
 #[test]
-fn holds_as_many_as_its_kind(rt: HostRuntime) {
+fn holds_as_many_as_its_kind(rt: HostRuntime) -> Result<(), Fail> {
     let lives = [
         live::<InnerNode4<4>>(3),
         live::<InnerNode16<4>>(15),
         live::<InnerNode48<4>>(47),
         live::<InnerNodeDirect<4>>(255),
     ];
-    assert_eq!(rt; lives, [3, 15, 47, 255].map(expected_life));
+    same(lives, [3, 15, 47, 255].map(expected_life))
 }
 
 // A node with a child under each of these bytes but one, which is taken out last.
@@ -432,10 +432,10 @@ fn with_hole<N: InnerNode<4>>(bytes: &[u8], removed: u8) -> N {
 }
 
 #[test]
-fn finds_no_child_behind_the_last(rt: HostRuntime) {
+fn finds_no_child_behind_the_last(rt: HostRuntime) -> Result<(), Fail> {
     let node: InnerNode16<4> = with_hole(&[10, 20, 30, 40, 50, 60], 60);
     let found = [60, 0, 50].map(|byte| node.lookup_child(byte));
-    assert_eq!(rt; found, [None, None, Some(name(50))]);
+    same(found, [None, None, Some(name(50))])
 }
 
 // As many bytes as a Node48 has room for.
@@ -460,9 +460,9 @@ fn filled_again<N: InnerNode<4>>(node: &mut N) -> Option<(Option<OpaqueNodePtr>,
 }
 
 #[test]
-fn a_hole_is_filled_again(rt: HostRuntime) {
+fn a_hole_is_filled_again(rt: HostRuntime) -> Result<(), Fail> {
     let mut node: InnerNode48<4> = with_hole(&FIVES, 100);
-    assert_eq!(rt; filled_again(&mut node), Some((None, [true; 2])));
+    same(filled_again(&mut node), Some((None, [true; 2])))
 }
 
 // What is read of a node of some kind with the children 0, 20 and 255.
@@ -621,13 +621,13 @@ fn emptied(full: AnyInner<4>) -> usize {
 
 // A node with a child under each byte from 0 on grows when it is full, and shrinks once it fits.
 #[test]
-fn grows_and_shrinks_at_each_bound(rt: HostRuntime) {
+fn grows_and_shrinks_at_each_bound(rt: HostRuntime) -> Result<(), Fail> {
     let (full, growths) = grown();
-    assert_eq!(rt; (growths, emptied(full)), (256, 256));
+    same((growths, emptied(full)), (256, 256))
 }
 
 #[test]
-fn has_no_kind_beyond_the_ends(rt: HostRuntime) {
+fn has_no_kind_beyond_the_ends(rt: HostRuntime) -> Result<(), Fail> {
     let smallest = InnerNode4::<4>::from_header(Header::new(&[9], 1));
     let largest = InnerNodeDirect::<4>::from_header(Header::new(&[9], 1));
     let empty: AnyInner<4> = AnyInner::from_header(NodeType::Node16, Header::new(&[9], 1));
@@ -636,8 +636,5 @@ fn has_no_kind_beyond_the_ends(rt: HostRuntime) {
         largest.grow().node_type(),
         empty.shrink().node_type(),
     ];
-    assert_eq!(rt;
-        kinds,
-        [NodeType::Node4, NodeType::Node256, NodeType::Node4]
-    );
+    same(kinds, [NodeType::Node4, NodeType::Node256, NodeType::Node4])
 }

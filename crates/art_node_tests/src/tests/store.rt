@@ -6,6 +6,7 @@ ghost use Rattle.art_inner.specs.Changes.{with_child};
 ghost use Rattle.art_nodes.specs.LeafChanges.{with_links};
 ghost use Rattle.art_inner.specs.Inner.{child_at, childless};
 
+use art_node_support::expected::same;
 use art_node_support::memory::all_memory;
 use art_nodes::node::{
     AnyInner, AsBytes, Header, InnerPtr, InnerRef, LeafNode, LeafPtr, NodeType, OpaqueNodePtr,
@@ -238,9 +239,9 @@ fn has_first(store: &Store) -> Option<[bool; 2]> {
 }
 
 #[test]
-fn an_empty_store_has_no_node(rt: HostRuntime) {
+fn an_empty_store_has_no_node(rt: HostRuntime) -> Result<(), Fail> {
     let found = has_first(&Store::new(rt.alloc()));
-    assert_eq!(rt; found, Some([false; 2]));
+    same(found, Some([false; 2]))
 }
 
 // Whether a copy of two bytes with the allocator of a store has them.
@@ -250,9 +251,9 @@ fn is_copied_by(store: &Store) -> Option<bool> {
 }
 
 #[test]
-fn a_store_hands_out_its_allocator(rt: HostRuntime) {
+fn a_store_hands_out_its_allocator(rt: HostRuntime) -> Result<(), Fail> {
     let copied = is_copied_by(&Store::new(rt.alloc()));
-    assert_eq!(rt; copied, Some(true));
+    same(copied, Some(true))
 }
 
 // Places a leaf and another one behind it, and answers both names.
@@ -283,9 +284,9 @@ fn move_first(store: &mut Store) -> Option<[bool; 4]> {
 }
 
 #[test]
-fn leaves_are_linked_and_freed(rt: HostRuntime) {
+fn leaves_are_linked_and_freed(rt: HostRuntime) -> Result<(), Fail> {
     let mut store = Store::new(rt.alloc());
-    assert_eq!(rt; move_first(&mut store), Some([true; 4]));
+    same(move_first(&mut store), Some([true; 4]))
 }
 
 // Gives the second of two leaves another value; answers whether each is right: the old value, what is under
@@ -311,9 +312,9 @@ fn give_value(store: &mut Store) -> Option<[bool; 5]> {
 }
 
 #[test]
-fn a_leaf_is_given_another_value(rt: HostRuntime) {
+fn a_leaf_is_given_another_value(rt: HostRuntime) -> Result<(), Fail> {
     let mut store = Store::new(rt.alloc());
-    assert_eq!(rt; give_value(&mut store), Some([true; 5]));
+    same(give_value(&mut store), Some([true; 5]))
 }
 
 // Places a node with this child under 3 and one with none, and answers both names.
@@ -347,9 +348,9 @@ fn move_lower(store: &mut Store) -> Option<[bool; 5]> {
 }
 
 #[test]
-fn inner_nodes_are_written_and_freed(rt: HostRuntime) {
+fn inner_nodes_are_written_and_freed(rt: HostRuntime) -> Result<(), Fail> {
     let mut store = Store::new(rt.alloc());
-    assert_eq!(rt; move_lower(&mut store), Some([true; 5]));
+    same(move_lower(&mut store), Some([true; 5]))
 }
 
 // Cuts off an only child, which stands under 3, after none under 4; answers whether what comes back each
@@ -365,19 +366,19 @@ fn cut_off(store: &mut Store) -> Option<[bool; 3]> {
 }
 
 #[test]
-fn a_child_is_cut_off(rt: HostRuntime) {
+fn a_child_is_cut_off(rt: HostRuntime) -> Result<(), Fail> {
     let mut store = Store::new(rt.alloc());
-    assert_eq!(rt; cut_off(&mut store), Some([true; 3]));
+    same(cut_off(&mut store), Some([true; 3]))
 }
 
 #[test]
-fn a_reservation_past_all_numbers_is_refused(rt: HostRuntime) {
+fn a_reservation_past_all_numbers_is_refused(rt: HostRuntime) -> Result<(), Fail> {
     let mut store = Store::new(rt.alloc());
     let granted = [
         store.reserve(usize::MAX, Some(NodeType::Node4)).is_ok(),
         store.reserve(0, None).is_ok(),
     ];
-    assert_eq!(rt; granted, [false, true]);
+    same(granted, [false, true])
 }
 
 // Places leaves that are linked behind this one until one is refused, and answers what is handed back.
@@ -486,9 +487,9 @@ fn hand_back(store: &mut Store) -> Result<[bool; 4], AllocError> {
 }
 
 #[test]
-fn without_memory_placements_hand_the_node_back(rt: HostRuntime) {
+fn without_memory_placements_hand_the_node_back(rt: HostRuntime) -> Result<(), Fail> {
     let mut store = Store::new(rt.alloc());
-    assert_eq!(rt; hand_back(&mut store).ok(), Some([true; 4]));
+    same(hand_back(&mut store).ok(), Some([true; 4]))
 }
 
 // Places a leaf, and answers whether a reservation without memory is refused, and whether what is then
@@ -505,9 +506,9 @@ fn reserve_without_memory(store: &mut Store) -> Result<[bool; 2], AllocError> {
 }
 
 #[test]
-fn without_memory_reservations_leave_the_nodes(rt: HostRuntime) {
+fn without_memory_reservations_leave_the_nodes(rt: HostRuntime) -> Result<(), Fail> {
     let mut store = Store::new(rt.alloc());
-    assert_eq!(rt; reserve_without_memory(&mut store).ok(), Some([true; 2]));
+    same(reserve_without_memory(&mut store).ok(), Some([true; 2]))
 }
 
 // Whether each of two leaves and a node that were promised is placed without memory, and a promise is repeated between.
@@ -538,13 +539,13 @@ fn place_node16_without_memory(store: &mut Store) -> Result<[bool; 2], AllocErro
 }
 
 #[test]
-fn without_memory_the_promise_is_kept(rt: HostRuntime) {
+fn without_memory_the_promise_is_kept(rt: HostRuntime) -> Result<(), Fail> {
     let placed = place_without_memory(&mut Store::new(rt.alloc()));
-    assert_eq!(rt; placed.ok(), Some([true; 4]));
+    same(placed.ok(), Some([true; 4]))
 }
 
 #[test]
-fn without_memory_a_promised_node16_is_placed(rt: HostRuntime) {
+fn without_memory_a_promised_node16_is_placed(rt: HostRuntime) -> Result<(), Fail> {
     let placed = place_node16_without_memory(&mut Store::new(rt.alloc()));
-    assert_eq!(rt; placed.ok(), Some([true; 2]));
+    same(placed.ok(), Some([true; 2]))
 }

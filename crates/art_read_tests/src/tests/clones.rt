@@ -9,7 +9,7 @@ use art_nodes::store::NodeStore;
 use art_operations::clone::clone_unchecked;
 use art_operations::run::Side;
 use art_test_support::commands::{Asked, Left, Row, Told, ran_from};
-use art_test_support::expected::as_expected;
+use art_test_support::expected::{as_expected, same};
 use art_test_support::memory::end_refusals;
 use art_test_support::nodes::{Seen, count_touched, nodes_seen};
 use art_test_support::shapes::count_nodes;
@@ -22,13 +22,13 @@ use std::test::Fail;
 static CLONE: [Row<'static>; 1] = [(Asked::Clone, Told::Cloned)];
 
 #[test]
-fn clones_no_tree(rt: HostRuntime) {
+fn clones_no_tree(rt: HostRuntime) -> Result<(), Fail> {
     let wanted = Left {
         wrong: None,
         has_root: false,
         side: Side::First,
     };
-    assert_eq!(rt; left_by(rt.alloc(), &CLONE), Some(wanted));
+    same(left_by(rt.alloc(), &CLONE), Some(wanted))
 }
 
 // What a run leaves whose root is a leaf of the second store, whether that has the key [2], and how many nodes each store
@@ -60,14 +60,14 @@ static GOING_OVER: [Row<'static>; 4] = [
 ];
 
 #[test]
-fn goes_over_to_the_other_store(rt: HostRuntime) {
+fn goes_over_to_the_other_store(rt: HostRuntime) -> Result<(), Fail> {
     let wanted = Left {
         wrong: None,
         has_root: true,
         side: Side::Second,
     };
     let seen = gone_over_with(rt.alloc(), &GOING_OVER);
-    assert_eq!(rt; seen, Some((wanted, true, [(0, 0), (1, 0)])));
+    same(seen, Some((wanted, true, [(0, 0), (1, 0)])))
 }
 
 // The only pair.
@@ -77,14 +77,14 @@ static STORED: [Row<'static>; 1] = [(Asked::Insert(&[1], 10), Told::Inserted(Non
 static NOT_CLONED: [Row<'static>; 1] = [(Asked::Clone, Told::NoMemory(None))];
 
 #[test]
-fn without_memory_a_clone_changes_nothing(rt: HostRuntime) {
+fn without_memory_a_clone_changes_nothing(rt: HostRuntime) -> Result<(), Fail> {
     let wanted = Left {
         wrong: None,
         has_root: true,
         side: Side::First,
     };
     let kept = ran_in_turn_with(rt.alloc(), &STORED, &NOT_CLONED);
-    assert_eq!(rt; kept, Some(([wanted; 2], Some(10), [(1, 0), (0, 0)])));
+    same(kept, Some(([wanted; 2], Some(10), [(1, 0), (0, 0)])))
 }
 
 // Pairs of these keys, each with its place as its value.
@@ -472,8 +472,8 @@ fn leaf_and_clone(
 }
 
 #[test]
-fn a_leaf_is_cloned_without_siblings(rt: HostRuntime) {
+fn a_leaf_is_cloned_without_siblings(rt: HostRuntime) -> Result<(), Fail> {
     let (previous, next) = (Some(LeafPtr::from_slot(3)), Some(LeafPtr::from_slot(4)));
     let wanted = [(true, 1, previous, next), (true, 1, None, None)];
-    assert_eq!(rt; leaf_and_clone(rt.alloc(), previous, next), Some(wanted));
+    same(leaf_and_clone(rt.alloc(), previous, next), Some(wanted))
 }

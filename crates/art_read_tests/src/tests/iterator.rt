@@ -8,10 +8,12 @@ use art_nodes::node::{OpaqueNodePtr, OptionalLeafPtr};
 use art_nodes::store::NodeStore;
 use art_operations::deallocate::{deallocate_leaves, deallocate_tree_non_leaves};
 use art_operations::iterator::RawIterator;
+use art_test_support::expected::same;
 use art_test_support::nodes::{Seen, count_touched, nodes_seen};
 use art_test_support::shapes::count_nodes;
 use art_test_support::trees::{Key, planted_all, value_of};
 use std::alloc::Global;
+use std::test::Fail;
 use uses::{take_next, walk};
 
 // All leaves of a tree.
@@ -160,31 +162,31 @@ fn came_with(alloc: Global, slices: &[&[u8]]) -> Option<Came> {
 }
 
 #[test]
-fn comes_from_both_ends(rt: HostRuntime) {
+fn comes_from_both_ends(rt: HostRuntime) -> Result<(), Fail> {
     let wanted = [Some(0), Some(4), Some(1), Some(3), Some(2), None, None];
     let came = came_with(rt.alloc(), &FIVE);
-    assert_eq!(rt; came.map(|came| came.from_both_ends), Some(wanted));
+    same(came.map(|came| came.from_both_ends), Some(wanted))
 }
 
 #[test]
-fn a_part_comes_from_both_ends(rt: HostRuntime) {
+fn a_part_comes_from_both_ends(rt: HostRuntime) -> Result<(), Fail> {
     let wanted = [Some(3), Some(1), Some(2), None];
     let came = came_with(rt.alloc(), &FIVE);
-    assert_eq!(rt; came.and_then(|came| came.from_between), Some(wanted));
+    same(came.and_then(|came| came.from_between), Some(wanted))
 }
 
 #[test]
-fn none_or_one_leaf_comes(rt: HostRuntime) {
+fn none_or_one_leaf_comes(rt: HostRuntime) -> Result<(), Fail> {
     let wanted = [[None; 4], [Some(0), None, None, None]];
     let came = came_with(rt.alloc(), &[&[1]]);
-    assert_eq!(rt; came.map(|came| came.from_none_and_all), Some(wanted));
+    same(came.map(|came| came.from_none_and_all), Some(wanted))
 }
 
 #[test]
-fn two_leaves_come(rt: HostRuntime) {
+fn two_leaves_come(rt: HostRuntime) -> Result<(), Fail> {
     let wanted = [[None; 4], [Some(1), Some(0), None, None]];
     let came = came_with(rt.alloc(), &[&[1], &[2]]);
-    assert_eq!(rt; came.map(|came| came.from_none_and_all), Some(wanted));
+    same(came.map(|came| came.from_none_and_all), Some(wanted))
 }
 
 // What the freeing of the leaves between the first and the last one touches of these nodes.
@@ -228,8 +230,8 @@ fn touched_with(alloc: Global, slices: &[&[u8]]) -> Option<(usize, usize, usize)
 }
 
 #[test]
-fn a_part_is_freed_and_no_other_leaf_written(rt: HostRuntime) {
-    assert_eq!(rt; touched_with(rt.alloc(), &FIVE), Some((0, 3, 0)));
+fn a_part_is_freed_and_no_other_leaf_written(rt: HostRuntime) -> Result<(), Fail> {
+    same(touched_with(rt.alloc(), &FIVE), Some((0, 3, 0)))
 }
 
 // The value of the first leaf that is left, which is freed.
@@ -275,10 +277,10 @@ fn freed_with(alloc: Global, slices: &[&[u8]]) -> Option<Freed> {
 }
 
 #[test]
-fn a_leaf_that_came_may_be_freed(rt: HostRuntime) {
+fn a_leaf_that_came_may_be_freed(rt: HostRuntime) -> Result<(), Fail> {
     let freed = freed_with(rt.alloc(), &[&[1], &[2], &[3]]);
     let came = [Some(0), Some(1), Some(2), None];
-    assert_eq!(rt; freed, Some((came, (0, 1))));
+    same(freed, Some((came, (0, 1))))
 }
 
 // Frees the leaves of a tree and then its inner nodes, or in the other order. Answers how many nodes there are before,
@@ -329,13 +331,13 @@ fn freed_apart_with(
 }
 
 #[test]
-fn leaves_and_then_inner_nodes_are_freed(rt: HostRuntime) {
+fn leaves_and_then_inner_nodes_are_freed(rt: HostRuntime) -> Result<(), Fail> {
     let counts = freed_apart_with(rt.alloc(), &THREE_INNERS, true);
-    assert_eq!(rt; counts, Some([(5, 3), (0, 3), (0, 0)]));
+    same(counts, Some([(5, 3), (0, 3), (0, 0)]))
 }
 
 #[test]
-fn inner_nodes_and_then_leaves_are_freed(rt: HostRuntime) {
+fn inner_nodes_and_then_leaves_are_freed(rt: HostRuntime) -> Result<(), Fail> {
     let counts = freed_apart_with(rt.alloc(), &THREE_INNERS, false);
-    assert_eq!(rt; counts, Some([(5, 3), (5, 0), (0, 0)]));
+    same(counts, Some([(5, 3), (5, 0), (0, 0)]))
 }

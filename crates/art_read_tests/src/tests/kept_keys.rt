@@ -2,8 +2,10 @@
 use art_nodes::node::{AsBytes, OpaqueNodePtr};
 use art_nodes::store::NodeStore;
 use art_operations::run::{Command, Reply, RunResult, run};
+use art_test_support::expected::same;
 use art_test_support::tagged::Tagged;
 use std::alloc::{AllocError, Global};
+use std::test::Fail;
 
 // The bytes of a key, its tag and its value.
 type Pair<'a> = (&'a [u8], u32, u32);
@@ -129,7 +131,7 @@ static ROWS: [Row<'static>; 4] = [
 ];
 
 #[test]
-fn a_stored_key_stays(rt: HostRuntime) {
+fn a_stored_key_stays(rt: HostRuntime) -> Result<(), Fail> {
     let alloc = rt.alloc();
     let seen = [
         last_seen(alloc, &ROWS[..1]),
@@ -137,5 +139,5 @@ fn a_stored_key_stays(rt: HostRuntime) {
         last_seen(alloc, &ROWS[..3]),
         last_seen(alloc, &ROWS),
     ];
-    assert_eq!(rt; seen, [Some((true, true)); 4]);
+    same(seen, [Some((true, true)); 4])
 }

@@ -12,8 +12,10 @@ use art_operations::lookup::{
     PrefixMatchBehavior, Visits, prefix_search_visiting, search_visiting,
 };
 use art_operations::path::{AttemptOptimisticPrefixMatch, PessimisticMismatch};
+use art_test_support::expected::same;
 use art_test_support::trees::{Key, keys_of_zeros, planted_all, planted_keys, value_of};
 use std::alloc::Global;
+use std::test::Fail;
 use uses::{get, longest_match};
 
 // A search or a prefix search for a key.
@@ -95,7 +97,7 @@ static AT_LEAVES_OR_FRONTS: [Search<'static>; 5] = [
 ];
 
 #[test]
-fn counts_readings(rt: HostRuntime) {
+fn counts_readings(rt: HostRuntime) -> Result<(), Fail> {
     let wanted = [
         (Some(0), 2),
         (Some(11), 12),
@@ -103,10 +105,10 @@ fn counts_readings(rt: HostRuntime) {
         (None, 1),
         (Some(0), 2),
     ];
-    assert_eq!(rt;
+    same(
         readings_with(rt.alloc(), &AT_LEAVES_OR_FRONTS),
-        Some(wanted)
-    );
+        Some(wanted),
+    )
 }
 
 // Searches that end at a node without a child for the next byte.
@@ -119,9 +121,9 @@ static WITHOUT_CHILD: [Search<'static>; 5] = [
 ];
 
 #[test]
-fn reads_nothing_for_a_missing_child(rt: HostRuntime) {
+fn reads_nothing_for_a_missing_child(rt: HostRuntime) -> Result<(), Fail> {
     let wanted = [(None, 1), (None, 3), (None, 11), (None, 1), (None, 2)];
-    assert_eq!(rt; readings_with(rt.alloc(), &WITHOUT_CHILD), Some(wanted));
+    same(readings_with(rt.alloc(), &WITHOUT_CHILD), Some(wanted))
 }
 
 // What searches past bytes that no node stores find, with how many nodes each of the first two reads.
@@ -154,9 +156,9 @@ fn readings_past_with(alloc: Global) -> Option<Past> {
 }
 
 #[test]
-fn compares_the_whole_key_after_skipped_bytes(rt: HostRuntime) {
+fn compares_the_whole_key_after_skipped_bytes(rt: HostRuntime) -> Result<(), Fail> {
     let wanted = ([(None, 2), (None, 2)], [Some(0), Some(1)]);
-    assert_eq!(rt; readings_past_with(rt.alloc()), Some(wanted));
+    same(readings_past_with(rt.alloc()), Some(wanted))
 }
 
 // The length of a node's prefix, and how many bytes of it are stored.
@@ -195,9 +197,9 @@ fn below_with(alloc: Global) -> Option<Below> {
 }
 
 #[test]
-fn finds_below_a_prefix_of_which_nothing_is_stored(rt: HostRuntime) {
+fn finds_below_a_prefix_of_which_nothing_is_stored(rt: HostRuntime) -> Result<(), Fail> {
     let seen = below_with(rt.alloc());
-    assert_eq!(rt; seen, Some((Some((2, 0)), [None, Some(1)])));
+    same(seen, Some((Some((2, 0)), [None, Some(1)])))
 }
 
 // What the same searches find in a tree whose prefixes are stored up to some length.
@@ -237,9 +239,9 @@ fn answers_with_each(alloc: Global) -> [Option<[Option<u32>; 5]>; 4] {
 }
 
 #[test]
-fn answers_the_same_at_every_length(rt: HostRuntime) {
+fn answers_the_same_at_every_length(rt: HostRuntime) -> Result<(), Fail> {
     let wanted = [Some(0), None, None, Some(1), None];
-    assert_eq!(rt; answers_with_each(rt.alloc()), [Some(wanted); 4]);
+    same(answers_with_each(rt.alloc()), [Some(wanted); 4])
 }
 
 // What came of the comparison of a prefix, and how the next ones are to be made.
@@ -279,7 +281,7 @@ fn mismatch(
 }
 
 #[test]
-fn compares_stored_bytes_and_then_lengths(rt: HostRuntime) {
+fn compares_stored_bytes_and_then_lengths(rt: HostRuntime) -> Result<(), Fail> {
     let node: InnerNode4<2> = InnerNode4::from_header(Header::new(&[1, 1], 4));
     let first = PrefixMatchBehavior::default();
     let (pessimistic, optimistic) = (
@@ -300,7 +302,7 @@ fn compares_stored_bytes_and_then_lengths(rt: HostRuntime) {
         (mismatch(3, None), optimistic),
         (matched(4), optimistic),
     ];
-    assert_eq!(rt; (first, seen), (pessimistic, wanted));
+    same((first, seen), (pessimistic, wanted))
 }
 
 // Compares the prefix of a node of one kind with a key that begins with it.
@@ -310,7 +312,7 @@ fn compared_whole<N: InnerNode<4>>(header: Header<4>) -> Compared {
 }
 
 #[test]
-fn stays_pessimistic_where_all_is_stored(rt: HostRuntime) {
+fn stays_pessimistic_where_all_is_stored(rt: HostRuntime) -> Result<(), Fail> {
     let whole = Ok(AttemptOptimisticPrefixMatch {
         matched_bytes: 2,
         any_implicit_bytes: false,
@@ -322,7 +324,7 @@ fn stays_pessimistic_where_all_is_stored(rt: HostRuntime) {
         compared_whole::<InnerNode48<4>>(header),
         compared_whole::<InnerNodeDirect<4>>(header),
     ];
-    assert_eq!(rt; seen, [(whole, PrefixMatchBehavior::Pessimistic); 4]);
+    same(seen, [(whole, PrefixMatchBehavior::Pessimistic); 4])
 }
 
 // Whether keys are equal to [1, 2, 3] from a depth on or whole.
@@ -355,10 +357,10 @@ fn front_is_leaf() -> [bool; 5] {
 }
 
 #[test]
-fn compares_a_leaf_from_the_depth_on_or_whole(rt: HostRuntime) {
+fn compares_a_leaf_from_the_depth_on_or_whole(rt: HostRuntime) -> Result<(), Fail> {
     let wanted = (
         [true, false, false, true, true, false],
         [true, false, true, false, false],
     );
-    assert_eq!(rt; (equal_to_leaf(), front_is_leaf()), wanted);
+    same((equal_to_leaf(), front_is_leaf()), wanted)
 }

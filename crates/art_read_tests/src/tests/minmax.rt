@@ -5,6 +5,7 @@ ghost use Rattle.art_model.specs.Roots.{IsCanonicalRoot};
 use art_nodes::node::{AsBytes, InnerRef, NodePtr, NodeType, OpaqueNodePtr};
 use art_nodes::store::NodeStore;
 use art_operations::minmax::{maximum_unchecked, minimum_unchecked};
+use art_test_support::expected::same;
 use art_test_support::shapes::end_of_chain;
 use art_test_support::trees::{
     Key, keys_of_three, keys_of_zeros, planted_all, planted_keys, value_of,
@@ -100,8 +101,7 @@ fn sixes_of_three_levels(alloc: Global) -> Result<Option<Sixes>, Fail> {
 #[test]
 fn finds_the_ends_of_three_levels(rt: HostRuntime) -> Result<(), Fail> {
     let seen = sixes_of_three_levels(rt.alloc())?;
-    assert_eq!(rt; seen, Some(((Some(0), Some(215)), Some(Some(43)))));
-    Ok(())
+    same(seen, Some(((Some(0), Some(215)), Some(Some(43)))))
 }
 
 // The ends of the tree of these keys.
@@ -119,9 +119,9 @@ fn ends_with(alloc: Global, slices: &[&[u8]]) -> Option<(Option<u32>, Option<u32
 }
 
 #[test]
-fn a_leaf_is_both_ends(rt: HostRuntime) {
+fn a_leaf_is_both_ends(rt: HostRuntime) -> Result<(), Fail> {
     let seen = ends_with(rt.alloc(), &[&[0, 0, 0]]);
-    assert_eq!(rt; seen, Some((Some(0), Some(0))));
+    same(seen, Some((Some(0), Some(0))))
 }
 
 // The ends of a tree, and whether it is a chain.
@@ -140,7 +140,7 @@ fn chain_with(alloc: Global) -> Option<Chain> {
 }
 
 #[test]
-fn finds_the_ends_of_a_deep_tree(rt: HostRuntime) {
+fn finds_the_ends_of_a_deep_tree(rt: HostRuntime) -> Result<(), Fail> {
     let seen = chain_with(rt.alloc());
-    assert_eq!(rt; seen, Some(((Some(11), Some(0)), true)));
+    same(seen, Some(((Some(11), Some(0)), true)))
 }

@@ -9,6 +9,7 @@ use art_operations::run::{Command, Reply, RunResult, Side, run};
 use art_test_support::commands::{
     Asked, Left, Row, Told, commands, first_wrong, ran, ran_from, ran_without_memory,
 };
+use art_test_support::expected::same;
 use art_test_support::memory::all_memory;
 use art_test_support::placing::{leaf_at, lone_leaf, placed_all};
 use art_test_support::shapes::count_nodes;
@@ -16,6 +17,7 @@ use art_test_support::trees::{Key, value_of};
 use std::alloc::{AllocError, Global};
 use std::boxed::BoxedSlice;
 use std::fmt::Display;
+use std::test::Fail;
 
 // What a run leaves that tells what is wanted.
 const A_TREE: Left = Left {
@@ -78,8 +80,8 @@ macro_rules! related {
 static RELATED: [Row<'static>; 2] = related!(10, 12);
 
 #[test]
-fn refuses_a_related_key(rt: HostRuntime) {
-    assert_eq!(rt; left_at_each(rt.alloc(), &RELATED), [Some(A_TREE); 4]);
+fn refuses_a_related_key(rt: HostRuntime) -> Result<(), Fail> {
+    same(left_at_each(rt.alloc(), &RELATED), [Some(A_TREE); 4])
 }
 
 // Insertions in the place of related keys.
@@ -97,8 +99,8 @@ static OVER_RELATED: [Row<'static>; 7] = [
 ];
 
 #[test]
-fn overwrites_related_keys(rt: HostRuntime) {
-    assert_eq!(rt; left_by(rt.alloc(), &OVER_RELATED), Some(A_TREE));
+fn overwrites_related_keys(rt: HostRuntime) -> Result<(), Fail> {
+    same(left_by(rt.alloc(), &OVER_RELATED), Some(A_TREE))
 }
 
 // Commands on one key, and on one that is not stored.
@@ -112,13 +114,13 @@ static EACH: [Row<'static>; 6] = [
 ];
 
 #[test]
-fn answers_each_command(rt: HostRuntime) {
-    assert_eq!(rt; left_by(rt.alloc(), &EACH), Some(NO_TREE));
+fn answers_each_command(rt: HostRuntime) -> Result<(), Fail> {
+    same(left_by(rt.alloc(), &EACH), Some(NO_TREE))
 }
 
 #[test]
-fn runs_no_commands(rt: HostRuntime) {
-    assert_eq!(rt; left_by(rt.alloc(), &[]), Some(NO_TREE));
+fn runs_no_commands(rt: HostRuntime) -> Result<(), Fail> {
+    same(left_by(rt.alloc(), &[]), Some(NO_TREE))
 }
 
 // Matches before and after the only key.
@@ -130,8 +132,8 @@ static LONGEST: [Row<'static>; 4] = [
 ];
 
 #[test]
-fn measures_the_longest_match(rt: HostRuntime) {
-    assert_eq!(rt; left_by(rt.alloc(), &LONGEST), Some(A_TREE));
+fn measures_the_longest_match(rt: HostRuntime) -> Result<(), Fail> {
+    same(left_by(rt.alloc(), &LONGEST), Some(A_TREE))
 }
 
 // Five keys, and deletions at either end until none is left.
@@ -150,8 +152,8 @@ static AT_THE_ENDS: [Row<'static>; 11] = [
 ];
 
 #[test]
-fn deletes_at_the_ends(rt: HostRuntime) {
-    assert_eq!(rt; left_by(rt.alloc(), &AT_THE_ENDS), Some(NO_TREE));
+fn deletes_at_the_ends(rt: HostRuntime) -> Result<(), Fail> {
+    same(left_by(rt.alloc(), &AT_THE_ENDS), Some(NO_TREE))
 }
 
 // Whether an error has this text.
@@ -182,9 +184,9 @@ static ERROR_TEXT: &str =
     "Attempted to insert a key [[1, 2]] which is either a prefix of an existing key or an existing key is a prefix of the new key.";
 
 #[test]
-fn prints_and_copies_an_error(rt: HostRuntime) {
+fn prints_and_copies_an_error(rt: HostRuntime) -> Result<(), Fail> {
     let seen = is_shown_and_copied(rt.alloc(), &[1, 2], ERROR_TEXT);
-    assert_eq!(rt; seen, Some((true, true)));
+    same(seen, Some((true, true)))
 }
 
 // The text of a want of memory.
@@ -208,9 +210,9 @@ fn are_map_errors_shown(alloc: Global, key: &[u8]) -> Option<[bool; 3]> {
 }
 
 #[test]
-fn prints_the_errors_of_a_map(rt: HostRuntime) {
+fn prints_the_errors_of_a_map(rt: HostRuntime) -> Result<(), Fail> {
     let seen = are_map_errors_shown(rt.alloc(), &[1, 2]);
-    assert_eq!(rt; seen, Some([true; 3]));
+    same(seen, Some([true; 3]))
 }
 
 // Whether the last reply is an error with this text.
@@ -249,9 +251,9 @@ fn replies_with(alloc: Global, rows: &[Row<'_>], wanted: &str) -> Option<(Option
 static IN_CONFLICT: [Row<'static>; 2] = related!(0, 1);
 
 #[test]
-fn a_longer_key_is_in_conflict(rt: HostRuntime) {
+fn a_longer_key_is_in_conflict(rt: HostRuntime) -> Result<(), Fail> {
     let seen = replies_with(rt.alloc(), &IN_CONFLICT, ERROR_TEXT);
-    assert_eq!(rt; seen, Some((None, true)));
+    same(seen, Some((None, true)))
 }
 
 // The value that a command is to insert.
@@ -319,9 +321,9 @@ static TWO_COMMANDS: [Row<'static>; 2] = [
 ];
 
 #[test]
-fn without_memory_a_run_hands_the_commands_back(rt: HostRuntime) {
+fn without_memory_a_run_hands_the_commands_back(rt: HostRuntime) -> Result<(), Fail> {
     let back = handed_back_with(rt.alloc(), &TWO_COMMANDS);
-    assert_eq!(rt; back, Some((Some((2, Some(10))), Some(90))));
+    same(back, Some((Some((2, Some(10))), Some(90))))
 }
 
 /// What the first and the later ones of some commands leave, the value of the leaf that is the root
@@ -368,9 +370,9 @@ pub fn ran_in_turn_with(alloc: Global, rows: &[Row<'_>], later: &[Row<'_>]) -> O
 static UNSTORED: [Row<'static>; 1] = [(Asked::Insert(&[1], 10), Told::NoMemory(Some((&[1], 10))))];
 
 #[test]
-fn without_memory_an_insertion_leaves_the_pairs(rt: HostRuntime) {
+fn without_memory_an_insertion_leaves_the_pairs(rt: HostRuntime) -> Result<(), Fail> {
     let left = ran_in_turn_with(rt.alloc(), &[], &UNSTORED);
-    assert_eq!(rt; left, Some(([NO_TREE; 2], None, [(0, 0); 2])));
+    same(left, Some(([NO_TREE; 2], None, [(0, 0); 2])))
 }
 
 // The key that is stored.
@@ -388,7 +390,7 @@ static AFTER_STORED: [Row<'static>; 4] = [
 ];
 
 #[test]
-fn without_memory_a_conflict_leaves_the_pairs(rt: HostRuntime) {
+fn without_memory_a_conflict_leaves_the_pairs(rt: HostRuntime) -> Result<(), Fail> {
     let left = ran_in_turn_with(rt.alloc(), &STORED, &AFTER_STORED);
-    assert_eq!(rt; left, Some(([A_TREE, NO_TREE], None, [(0, 0); 2])));
+    same(left, Some(([A_TREE, NO_TREE], None, [(0, 0); 2])))
 }

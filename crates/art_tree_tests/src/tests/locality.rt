@@ -8,6 +8,7 @@ use art_operations::run::{Reply, Side};
 use art_test_support::commands::{
     Asked, Row, Told, commands, first_wrong, ran_from, run_without_memory,
 };
+use art_test_support::expected::same;
 use art_test_support::nodes::{Seen, count_nodes, count_touched, is_still, nodes_seen};
 use art_test_support::trees::{Key, child, keys_of_three, planted_all, planted_keys};
 use std::alloc::{AllocError, Global};
@@ -163,8 +164,7 @@ static BEHIND: SeenBehind = SeenBehind {
 #[test]
 fn a_child_more_of_a_large_root_changes_it_and_the_last_leaf(rt: HostRuntime) -> Result<(), Fail> {
     let keys = keys_of_three(rt.alloc(), [51, 2, 3])?;
-    assert_eq!(rt; behind_last_with(rt.alloc(), keys), Some(BEHIND));
-    Ok(())
+    same(behind_last_with(rt.alloc(), keys), Some(BEHIND))
 }
 
 /// What an insertion touches, what the deletion of the same key touches, what both do together, and whether the root
@@ -218,9 +218,9 @@ fn put_and_remove_at_each(alloc: Global) -> [Option<PutAndRemoved>; 3] {
 }
 
 #[test]
-fn a_split_prefix_is_merged_again(rt: HostRuntime) {
+fn a_split_prefix_is_merged_again(rt: HostRuntime) -> Result<(), Fail> {
     let wanted = ([(2, 0, 4), (0, 2, 4), (0, 0, 0)], true);
-    assert_eq!(rt; put_and_remove_at_each(rt.alloc()), [Some(wanted); 3]);
+    same(put_and_remove_at_each(rt.alloc()), [Some(wanted); 3])
 }
 
 /// Each kind that the root of keys of one byte can have, with the least number of keys for it.
@@ -302,9 +302,9 @@ fn grown_and_shrunk_with(alloc: Global) -> Option<GrownAndShrunk> {
 }
 
 #[test]
-fn a_root_grows_and_shrinks_through_every_kind(rt: HostRuntime) {
+fn a_root_grows_and_shrinks_through_every_kind(rt: HostRuntime) -> Result<(), Fail> {
     let done = grown_and_shrunk_with(rt.alloc());
-    assert_eq!(rt; done, Some((256, 256, None, (0, 0))));
+    same(done, Some((256, 256, None, (0, 0))))
 }
 
 /// What came of a deletion.
@@ -470,6 +470,6 @@ fn deletions_told(alloc: Global) -> Option<(usize, usize, bool)> {
 }
 
 #[test]
-fn without_memory_a_deletion_is_made_or_refused_whole(rt: HostRuntime) {
-    assert_eq!(rt; deletions_told(rt.alloc()), Some((32, 32, true)));
+fn without_memory_a_deletion_is_made_or_refused_whole(rt: HostRuntime) -> Result<(), Fail> {
+    same(deletions_told(rt.alloc()), Some((32, 32, true)))
 }

@@ -4,9 +4,11 @@ ghost use Rattle.std.specs.Prelude.{◌<◌};
 use super::by_hand::first_wrong;
 use art_nodes::node::NodeType;
 use art_nodes::store::NodeStore;
+use art_test_support::expected::same;
 use art_test_support::placing::{Plain, placed_all};
 use art_test_support::trees::Key;
 use std::alloc::Global;
+use std::test::Fail;
 
 /// Nodes that are placed, and what is then read.
 #[derive(Clone, Copy)]
@@ -170,6 +172,6 @@ fn wrong_below_each(alloc: Global) -> [Option<Option<usize>>; 4] {
 }
 
 #[test]
-fn a_long_prefix_is_stored_in_front(rt: HostRuntime) {
-    assert_eq!(rt; wrong_below_each(rt.alloc()), [Some(None); 4]);
+fn a_long_prefix_is_stored_in_front(rt: HostRuntime) -> Result<(), Fail> {
+    same(wrong_below_each(rt.alloc()), [Some(None); 4])
 }

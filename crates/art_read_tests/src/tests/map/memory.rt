@@ -1,7 +1,7 @@
 //! Calls without memory.
 use super::calls::{Map, Removal, fill, remove, value_of};
 use art_operations::map::{ByteMap, MapInsertError, MapRefused};
-use art_test_support::expected::as_expected;
+use art_test_support::expected::{as_expected, same};
 use art_test_support::memory::all_memory;
 use std::alloc::Global;
 use std::test::Fail;
@@ -13,8 +13,7 @@ fn without_memory_nothing_is_granted(rt: HostRuntime) -> Result<(), Fail> {
     let refused = Vec::<u8>::with_capacity(alloc, 1).is_err();
     drop(held);
     let granted = Vec::<u8>::with_capacity(alloc, 1).is_ok();
-    assert_eq!(rt; (refused, granted), (true, true));
-    Ok(())
+    same((refused, granted), (true, true))
 }
 
 // Whether an insertion is refused for want of memory, with its pair.

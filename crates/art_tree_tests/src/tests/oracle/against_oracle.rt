@@ -1,5 +1,5 @@
 //! Trees that runs of drawn commands leave, each compared with the tree that is built of the pairs at one go.
-ghost use Rattle.std.specs.Prelude.{ℕ, ◌∷◌, List};
+ghost use Rattle.std.specs.Prelude.{ℕ, ◌<◌, ◌∷◌, List};
 ghost use Rattle.art_model.specs.Canonical.{IsCanonical};
 ghost use Rattle.art_model.specs.Clones.{KeepBytes};
 ghost use Rattle.art_model.specs.Pairs.{IsMap, of_key};
@@ -198,6 +198,18 @@ fn is_wide<const P: usize>(
     Ok(met.is_wide(greatest_kind))
 }
 
+/// The same in a store of its own.
+fn is_wide_with<const P: usize>(
+    rt: &impl Abort,
+    alloc: Global,
+    shape: KeyShape,
+    greatest_kind: NodeType,
+) -> Result<bool, Fail>
+    requires { P < 256 }
+{
+    is_wide::<P>(rt, &mut NodeStore::new(alloc), shape, greatest_kind)
+}
+
 /// Whether a trial for each number of stored bytes is wide.
 fn are_wide(
     rt: &impl Abort,
@@ -205,11 +217,12 @@ fn are_wide(
     shape: KeyShape,
     greatest_kind: NodeType,
 ) -> Result<[bool; 4], Fail> {
-    let at_0 = is_wide::<0>(rt, &mut NodeStore::new(alloc), shape, greatest_kind)?;
-    let at_2 = is_wide::<2>(rt, &mut NodeStore::new(alloc), shape, greatest_kind)?;
-    let at_4 = is_wide::<4>(rt, &mut NodeStore::new(alloc), shape, greatest_kind)?;
-    let at_16 = is_wide::<16>(rt, &mut NodeStore::new(alloc), shape, greatest_kind)?;
-    Ok([at_0, at_2, at_4, at_16])
+    Ok([
+        is_wide_with::<0>(rt, alloc, shape, greatest_kind)?,
+        is_wide_with::<2>(rt, alloc, shape, greatest_kind)?,
+        is_wide_with::<4>(rt, alloc, shape, greatest_kind)?,
+        is_wide_with::<16>(rt, alloc, shape, greatest_kind)?,
+    ])
 }
 
 /// Shapes of keys, each with the greatest kind of node that its trees come to have.

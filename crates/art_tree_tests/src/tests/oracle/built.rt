@@ -1,11 +1,12 @@
 //! Trees that are built of sorted pairs at one go.
-ghost use Rattle.std.specs.Prelude.{IfOk};
+ghost use Rattle.std.specs.Prelude.{◌<◌, IfOk};
 ghost use Rattle.art_model.specs.Pairs.{IsMap, of_key};
 
 use super::sorted_pairs::insert_apart;
 use art_nodes::node::{AsBytes, NodeType, OpaqueNodePtr};
 use art_nodes::store::NodeStore;
 use art_oracle::build::build;
+use art_test_support::expected::same;
 use art_test_support::shapes::end_of_chain;
 use art_test_support::trees::Key;
 use std::alloc::{AllocError, Global};
@@ -73,15 +74,23 @@ fn root_seen<const P: usize>(
     seen(store, root, stored)
 }
 
+/// The same in a store of its own.
+fn root_seen_with<const P: usize>(alloc: Global, stored: &[u8]) -> Option<Seen>
+    requires { P < 256 }
+{
+    root_seen::<P>(&mut NodeStore::new(alloc), stored)
+}
+
 #[test]
-fn stores_the_front_of_a_prefix(rt: HostRuntime) {
+fn stores_the_front_of_a_prefix(rt: HostRuntime) -> Result<(), Fail> {
     let alloc = rt.alloc();
-    let at_0 = root_seen::<0>(&mut NodeStore::new(alloc), &[]);
-    let at_2 = root_seen::<2>(&mut NodeStore::new(alloc), &[7, 1]);
-    let at_4 = root_seen::<4>(&mut NodeStore::new(alloc), &[7, 1, 1, 1]);
-    let at_16 = root_seen::<16>(&mut NodeStore::new(alloc), &[7, 1, 1, 1, 1]);
-    let wanted = Some((NodeType::Node4, 5, 2, true));
-    assert_eq!(rt; [at_0, at_2, at_4, at_16], [wanted; 4]);
+    let seen = [
+        root_seen_with::<0>(alloc, &[]),
+        root_seen_with::<2>(alloc, &[7, 1]),
+        root_seen_with::<4>(alloc, &[7, 1, 1, 1]),
+        root_seen_with::<16>(alloc, &[7, 1, 1, 1, 1]),
+    ];
+    same(seen, [Some((NodeType::Node4, 5, 2, true)); 4])
 }
 
 /// The kind of the root of so many keys of one byte, if there is a root.
@@ -113,8 +122,7 @@ fn takes_the_kind_for_the_number_of_children(rt: HostRuntime) -> Result<(), Fail
 
 #[test]
 fn builds_no_tree_of_no_pairs(rt: HostRuntime) -> Result<(), Fail> {
-    assert_eq!(rt; root_kind(rt.alloc(), 0)?, None);
-    Ok(())
+    same(root_kind(rt.alloc(), 0)?, None)
 }
 
 /// The lengths of the keys of the last leaf of a chain of nodes and of the one after it, where none is before it.
@@ -141,7 +149,7 @@ fn built_lens<const P: usize>(
 }
 
 #[test]
-fn builds_a_chain_of_small_nodes(rt: HostRuntime) {
+fn builds_a_chain_of_small_nodes(rt: HostRuntime) -> Result<(), Fail> {
     let mut store: NodeStore<Key, u32, 4> = NodeStore::new(rt.alloc());
-    assert_eq!(rt; built_lens(&mut store, 12), Some((12, 11)));
+    same(built_lens(&mut store, 12), Some((12, 11)))
 }

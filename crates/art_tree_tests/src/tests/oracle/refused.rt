@@ -1,5 +1,6 @@
 //! A run of many commands while requests for memory are refused, in turn, by tools/refusals. The commands that were not
 //! refused are carried out on a list too. After each refusal that was met a test says once that it asserted what holds.
+ghost use Rattle.std.specs.Prelude.{◌<◌};
 ghost use Rattle.art_model.specs.Pairs.{IsMap, of_key};
 
 use super::by_list::answer;
@@ -8,6 +9,7 @@ use art_nodes::store::NodeStore;
 use art_operations::run::{Command, Reply, RunResult, Side, run};
 use art_operations::well_formed::WellFormedChecker;
 use art_test_support::commands::{Asked, Row, Told, command, commands, first_wrong, told_by};
+use art_test_support::expected::same;
 use art_test_support::memory::end_refusals;
 use art_test_support::shapes::count_nodes;
 use art_test_support::side_by_side::kind_if_same;
@@ -25,26 +27,48 @@ const BYTES: [u8; 51] = [
     50,
 ];
 
-/// 106 commands, and the replies to them where there is memory: a tree grows to 51 children and to every kind of node,
-/// goes over to the other store and shrinks again.
-fn script(alloc: Global, bytes: &[u8]) -> Result<Vec<Row<'_>>, AllocError> {
-    let mut rows: Vec<Row<'_>> = Vec::with_capacity(alloc, 106)?;
+/// What is asked once there is each of the first fifty bytes as a key.
+static AT_ITS_LARGEST: [Row<'static>; 6] = [
+    (Asked::Insert(&[50, 0], 0), Told::Inserted(None)),
+    (Asked::Insert(&[50, 1], 1), Told::Inserted(None)),
+    (Asked::Insert(&[50, 2], 2), Told::Inserted(None)),
+    (Asked::Clone, Told::Cloned),
+    (Asked::InsertPrefix(&[50], 7), Told::Overwrote(None, 3)),
+    (Asked::DeleteMax, Told::Deleted(Some((&[50], 7)))),
+];
+
+/// What is asked once the first three are left.
+static WITH_THREE_LEFT: [Row<'static>; 3] = [
+    (Asked::Insert(&[], 9), Told::Conflict(&[], 9, &[])),
+    (Asked::InsertPrefix(&[], 9), Told::Overwrote(None, 3)),
+    (Asked::Insert(&[1], 1), Told::Conflict(&[1], 1, &[1])),
+];
+
+/// Each of the first fifty bytes comes as a key.
+fn push_insertions<'a>(rows: &mut Vec<Row<'a>>, bytes: &'a [u8]) -> Result<(), AllocError> {
     for (key, value) in bytes.chunks(1).take(50).zip(0u32..) {
         rows.push((Asked::Insert(key, value), Told::Inserted(None)))?;
     }
-    rows.push((Asked::Insert(&[50, 0], 0), Told::Inserted(None)))?;
-    rows.push((Asked::Insert(&[50, 1], 1), Told::Inserted(None)))?;
-    rows.push((Asked::Insert(&[50, 2], 2), Told::Inserted(None)))?;
-    rows.push((Asked::Clone, Told::Cloned))?;
-    rows.push((Asked::InsertPrefix(&[50], 7), Told::Overwrote(None, 3)))?;
-    rows.push((Asked::DeleteMax, Told::Deleted(Some((&[50], 7)))))?;
+    Ok(())
+}
+
+/// All but the first three go, from the last one on.
+fn push_deletions<'a>(rows: &mut Vec<Row<'a>>, bytes: &'a [u8]) -> Result<(), AllocError> {
     for value in (3..50u32).rev() {
         let key = bytes.chunks(1).nth(value as usize);
         rows.push((Asked::DeleteMax, Told::Deleted(key.map(|key| (key, value)))))?;
     }
-    rows.push((Asked::Insert(&[], 9), Told::Conflict(&[], 9, &[])))?;
-    rows.push((Asked::InsertPrefix(&[], 9), Told::Overwrote(None, 3)))?;
-    rows.push((Asked::Insert(&[1], 1), Told::Conflict(&[1], 1, &[1])))?;
+    Ok(())
+}
+
+/// 106 commands, and the replies to them where there is memory: a tree grows to 51 children and to every kind of node,
+/// goes over to the other store and shrinks again.
+fn script(alloc: Global, bytes: &[u8]) -> Result<Vec<Row<'_>>, AllocError> {
+    let mut rows: Vec<Row<'_>> = Vec::with_capacity(alloc, 106)?;
+    push_insertions(&mut rows, bytes)?;
+    rows.extend_from_slice(&AT_ITS_LARGEST)?;
+    push_deletions(&mut rows, bytes)?;
+    rows.extend_from_slice(&WITH_THREE_LEFT)?;
     Ok(rows)
 }
 
@@ -87,16 +111,24 @@ fn left_beside<const P: usize>(first: &mut NodeStore<Key, u32, P>) -> Option<Lef
     left_by(first, &mut NodeStore::new(alloc))
 }
 
+/// The same with both stores of its own.
+fn left_with<const P: usize>(alloc: Global) -> Option<Left>
+    requires { P < 256 }
+{
+    left_beside::<P>(&mut NodeStore::new(alloc))
+}
+
 #[test]
-fn commands_are_answered_with_memory(rt: HostRuntime) {
+fn commands_are_answered_with_memory(rt: HostRuntime) -> Result<(), Fail> {
     let alloc = rt.alloc();
-    let at_0 = left_beside::<0>(&mut NodeStore::new(alloc));
-    let at_2 = left_beside::<2>(&mut NodeStore::new(alloc));
-    let at_4 = left_beside::<4>(&mut NodeStore::new(alloc));
-    let at_16 = left_beside::<16>(&mut NodeStore::new(alloc));
-    let left = [at_0, at_2, at_4, at_16];
+    let left = [
+        left_with::<0>(alloc),
+        left_with::<2>(alloc),
+        left_with::<4>(alloc),
+        left_with::<16>(alloc),
+    ];
     let wanted = Some((None, Side::Second, true, [(0, 0), (1, 0)]));
-    assert_eq!(rt; left, [wanted; 4]);
+    same(left, [wanted; 4])
 }
 
 fn are_related(one: &[u8], other: &[u8]) -> bool {
@@ -327,6 +359,13 @@ fn tried_beside<const P: usize>(first: &mut NodeStore<Key, u32, P>) -> Result<Ou
     tried(first, &mut NodeStore::new(alloc))
 }
 
+/// The same with both stores of its own.
+fn tried_with<const P: usize>(alloc: Global) -> Result<Outcome, AllocError>
+    requires { P < 256 }
+{
+    tried_beside::<P>(&mut NodeStore::new(alloc))
+}
+
 /// Asserts what came of a run, and says so once for each refusal that was met.
 fn assert_whole(rt: &(impl Abort + Print), outcome: Outcome) -> Result<(), Fail> {
     assert_ne!(rt; outcome, Outcome::Wrong);
@@ -338,24 +377,20 @@ fn assert_whole(rt: &(impl Abort + Print), outcome: Outcome) -> Result<(), Fail>
 
 #[test]
 fn refused_commands_count_as_not_made_with_0_stored(rt: HostRuntime) -> Result<(), Fail> {
-    let outcome = tried_beside::<0>(&mut NodeStore::new(rt.alloc()))?;
-    assert_whole(&rt, outcome)
+    assert_whole(&rt, tried_with::<0>(rt.alloc())?)
 }
 
 #[test]
 fn refused_commands_count_as_not_made_with_2_stored(rt: HostRuntime) -> Result<(), Fail> {
-    let outcome = tried_beside::<2>(&mut NodeStore::new(rt.alloc()))?;
-    assert_whole(&rt, outcome)
+    assert_whole(&rt, tried_with::<2>(rt.alloc())?)
 }
 
 #[test]
 fn refused_commands_count_as_not_made_with_4_stored(rt: HostRuntime) -> Result<(), Fail> {
-    let outcome = tried_beside::<4>(&mut NodeStore::new(rt.alloc()))?;
-    assert_whole(&rt, outcome)
+    assert_whole(&rt, tried_with::<4>(rt.alloc())?)
 }
 
 #[test]
 fn refused_commands_count_as_not_made_with_16_stored(rt: HostRuntime) -> Result<(), Fail> {
-    let outcome = tried_beside::<16>(&mut NodeStore::new(rt.alloc()))?;
-    assert_whole(&rt, outcome)
+    assert_whole(&rt, tried_with::<16>(rt.alloc())?)
 }

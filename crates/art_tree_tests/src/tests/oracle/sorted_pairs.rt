@@ -4,6 +4,7 @@ ghost use Rattle.art_model.specs.Pairs.{IsMap, of_key};
 
 use art_nodes::node::AsBytes;
 use art_oracle::pairs::{contains, has_related, insert_at, remove, replace_at, search};
+use art_test_support::expected::same;
 use art_test_support::memory::all_memory;
 use art_test_support::trees::Key;
 use std::alloc::{AllocError, Global};
@@ -77,8 +78,7 @@ fn searched(pairs: &[(Key, u32)]) -> ([Result<usize, usize>; 3], [bool; 2])
 fn keeps_keys_in_order(rt: HostRuntime) -> Result<(), Fail> {
     let pairs = three_pairs(rt.alloc())?;
     let wanted = ([Ok(0), Ok(2), Err(1)], [true, false]);
-    assert_eq!(rt; searched(&pairs), wanted);
-    Ok(())
+    same(searched(&pairs), wanted)
 }
 
 /// Whether each of three more keys comes in.
@@ -96,8 +96,7 @@ fn are_apart(alloc: Global, pairs: &mut Vec<(Key, u32)>) -> Result<[bool; 3], Al
 fn sees_related_keys(rt: HostRuntime) -> Result<(), Fail> {
     let mut pairs = three_pairs(rt.alloc())?;
     let came = are_apart(rt.alloc(), &mut pairs)?;
-    assert_eq!(rt; (came, pairs.len()), ([false, false, true], 4));
-    Ok(())
+    same((came, pairs.len()), ([false, false, true], 4))
 }
 
 /// The old values of keys that are given others, and then of one that is taken out twice.
@@ -119,8 +118,7 @@ fn replaced_and_taken(
 fn replaces_and_removes(rt: HostRuntime) -> Result<(), Fail> {
     let mut pairs = three_pairs(rt.alloc())?;
     let old = replaced_and_taken(rt.alloc(), &mut pairs)?;
-    assert_eq!(rt; (old, pairs.len()), ([Some(20), None, Some(21), None], 2));
-    Ok(())
+    same((old, pairs.len()), ([Some(20), None, Some(21), None], 2))
 }
 
 /// Whether a pair comes in where there is no memory, and how many pairs there are then.
@@ -143,6 +141,5 @@ fn without_memory_an_insertion_leaves_the_list(rt: HostRuntime) -> Result<(), Fa
     let refused = inserted_without_memory(rt.alloc(), &mut pairs)?;
     let inserted = insert_apart(&mut pairs, [7], 70)?;
     let found = search(&pairs, &[7]);
-    assert_eq!(rt; (refused, inserted, found), ((None, 0), true, Ok(0)));
-    Ok(())
+    same((refused, inserted, found), ((None, 0), true, Ok(0)))
 }

@@ -6,7 +6,7 @@ use art_nodes::node::OpaqueNodePtr;
 use art_nodes::store::NodeStore;
 use art_operations::deallocate::{deallocate_tree, deallocate_tree_non_leaves};
 use art_test_support::cases::{FOUR, names_of_four};
-use art_test_support::expected::as_expected;
+use art_test_support::expected::{as_expected, same};
 use art_test_support::nodes::{count_nodes, count_touched, nodes_seen};
 use art_test_support::trees::{Key, keys_of_three, planted_all, planted_keys, value_of};
 use std::alloc::Global;
@@ -120,10 +120,10 @@ fn leaves_of(leaves: usize, inners: usize) -> Left {
 }
 
 #[test]
-fn leaves_stay_where_inner_nodes_are_freed(rt: HostRuntime) {
+fn leaves_stay_where_inner_nodes_are_freed(rt: HostRuntime) -> Result<(), Fail> {
     let seen = leaves_left::<4>(&mut NodeStore::new(rt.alloc()));
     let values = [Some(0), Some(1), Some(2), Some(3)];
-    assert_eq!(rt; seen, Some((leaves_of(4, 3), values)));
+    same(seen, Some((leaves_of(4, 3), values)))
 }
 
 // What is left of the tree of one key whose inner nodes are freed.
@@ -133,7 +133,7 @@ fn one_left<const P: usize>(store: &mut NodeStore<Key, u32, P>) -> Option<Left> 
 }
 
 #[test]
-fn a_leaf_has_no_inner_nodes_to_free(rt: HostRuntime) {
+fn a_leaf_has_no_inner_nodes_to_free(rt: HostRuntime) -> Result<(), Fail> {
     let seen = one_left::<4>(&mut NodeStore::new(rt.alloc()));
-    assert_eq!(rt; seen, Some(leaves_of(1, 0)));
+    same(seen, Some(leaves_of(1, 0)))
 }

@@ -11,7 +11,7 @@ use art_operations::delete::{
 use art_operations::lookup::Visits;
 use art_operations::path::TreePath;
 use art_test_support::cases::{FOUR, names_of_four};
-use art_test_support::expected::as_expected;
+use art_test_support::expected::{as_expected, same};
 use art_test_support::trees::{
     Key, child, keys_of_three, keys_of_zeros, planted_all, planted_keys, value_of,
 };
@@ -160,9 +160,9 @@ fn has_none<const P: usize>(store: &mut NodeStore<Key, u32, P>, keys: &[&[u8]]) 
 static ABSENT: [&[u8]; 6] = [&[], &[1], &[1, 2], &[1, 2, 5], &[1, 2, 3, 4], &[7]];
 
 #[test]
-fn finds_no_point_of_an_absent_key(rt: HostRuntime) {
+fn finds_no_point_of_an_absent_key(rt: HostRuntime) -> Result<(), Fail> {
     let seen = has_none::<16>(&mut NodeStore::new(rt.alloc()), &ABSENT);
-    assert_eq!(rt; seen, Some(true));
+    same(seen, Some(true))
 }
 
 // The values of four keys, two of which are absent, and how many nodes the searches read.
@@ -193,12 +193,12 @@ fn counted_zeros<const P: usize>(
 }
 
 #[test]
-fn counts_readings(rt: HostRuntime) {
+fn counts_readings(rt: HostRuntime) -> Result<(), Fail> {
     let seen = counted_zeros::<4>(&mut NodeStore::new(rt.alloc()));
-    assert_eq!(rt;
+    same(
         seen,
-        Some([(Some(0), 2), (Some(11), 12), (None, 5), (None, 1)])
-    );
+        Some([(Some(0), 2), (Some(11), 12), (None, 5), (None, 1)]),
+    )
 }
 
 // The same for a key that is not that of the leaf that it leads to, and for that one.
@@ -212,9 +212,9 @@ fn counted_skipped<const P: usize>(
 }
 
 #[test]
-fn compares_the_whole_key_after_skipped_bytes(rt: HostRuntime) {
+fn compares_the_whole_key_after_skipped_bytes(rt: HostRuntime) -> Result<(), Fail> {
     let seen = counted_skipped::<2>(&mut NodeStore::new(rt.alloc()));
-    assert_eq!(rt; seen, Some([(None, 2), (Some(0), 2)]));
+    same(seen, Some([(None, 2), (Some(0), 2)]))
 }
 
 // The point of the leaf that three bytes lead to from the root, each from a node to its child.

@@ -7,7 +7,7 @@ use art_nodes::node::{NodeType, OpaqueNodePtr};
 use art_nodes::store::NodeStore;
 use art_test_support::cases::{assert_where_refused, planted_bytes};
 use art_test_support::crowds::{fill, place_beside};
-use art_test_support::expected::as_expected;
+use art_test_support::expected::{as_expected, same};
 use art_test_support::memory::all_memory;
 use art_test_support::nodes::{Seen, nodes_seen};
 use art_test_support::points::Gone;
@@ -57,9 +57,9 @@ fn all_taken_out<const P: usize>(
 }
 
 #[test]
-fn shrinks_through_every_kind(rt: HostRuntime) {
+fn shrinks_through_every_kind(rt: HostRuntime) -> Result<(), Fail> {
     let left = all_taken_out::<4>(&mut NodeStore::new(rt.alloc()));
-    assert_eq!(rt; left, Some((None, None)));
+    same(left, Some((None, None)))
 }
 
 // What the deletion of one of these keys touches.
@@ -147,9 +147,9 @@ fn left_of_five<const P: usize>(
 }
 
 #[test]
-fn without_memory_a_promised_shrink_is_made(rt: HostRuntime) {
+fn without_memory_a_promised_shrink_is_made(rt: HostRuntime) -> Result<(), Fail> {
     let left = left_of_five::<4>(&mut NodeStore::new(rt.alloc()));
-    assert_eq!(rt; left, Some((2, Some(NodeType::Node4))));
+    same(left, Some((2, Some(NodeType::Node4))))
 }
 
 // More nodes of one kind than a store has room for before it is asked for.

@@ -7,7 +7,7 @@ use art_nodes::node::{NodeType, OpaqueNodePtr};
 use art_nodes::store::NodeStore;
 use art_operations::insert::InsertParentNodeChange;
 use art_test_support::cases::planted_bytes;
-use art_test_support::expected::as_expected;
+use art_test_support::expected::{as_expected, same};
 use art_test_support::points::{Insertion, Way};
 use art_test_support::trees::{Key, child, value_of};
 use std::alloc::Global;
@@ -180,9 +180,9 @@ fn grows_to_each_kind(rt: HostRuntime) {
 }
 
 #[test]
-fn without_memory_a_value_is_replaced(rt: HostRuntime) {
+fn without_memory_a_value_is_replaced(rt: HostRuntime) -> Result<(), Fail> {
     let mut store: NodeStore<Key, u32, 16> = NodeStore::new(rt.alloc());
     let told = told_without_memory(Way::Apart, &mut store, &[&[1, 2]], &[1, 2]);
     drop(store);
-    assert_eq!(rt; told, Some((Some(0), 0)));
+    same(told, Some((Some(0), 0)))
 }

@@ -13,7 +13,7 @@ use art_operations::insert::{
 };
 use art_operations::lookup::search_unchecked;
 use art_operations::path::TreePath;
-use art_test_support::expected::as_expected;
+use art_test_support::expected::{as_expected, same};
 use art_test_support::nodes::count_nodes;
 use art_test_support::points::{Insertion, Way, put};
 use art_test_support::trees::{Key, keys_of_three, planted_all, planted_keys, value_of};
@@ -531,9 +531,9 @@ fn texts_told<const P: usize>(store: &mut NodeStore<Key, u32, P>) -> Option<Text
 }
 
 #[test]
-fn a_shorter_text_takes_the_place_of_a_longer_one(rt: HostRuntime) {
+fn a_shorter_text_takes_the_place_of_a_longer_one(rt: HostRuntime) -> Result<(), Fail> {
     let seen = texts_told::<16>(&mut NodeStore::new(rt.alloc()));
-    assert_eq!(rt; seen, Some(TEXTS));
+    same(seen, Some(TEXTS))
 }
 
 // What is told of a key between two others while all memory is held.

@@ -8,7 +8,7 @@ use art_nodes::store::NodeStore;
 use art_operations::insert::{InsertKind, InsertPoint, InsertSearchError, search_for_insert_point};
 use art_operations::path::{ExplicitMismatch, TreePath};
 use art_test_support::cases::{FOUR, names_of_four};
-use art_test_support::expected::as_expected;
+use art_test_support::expected::{as_expected, same};
 use art_test_support::memory::all_memory;
 use art_test_support::trees::{Key, child, planted_all, value_of};
 use std::alloc::Global;
@@ -283,7 +283,7 @@ fn told_without_memory<const P: usize>(store: &mut NodeStore<Key, u32, P>) -> Op
 }
 
 #[test]
-fn without_memory_only_a_refusal_fails(rt: HostRuntime) {
+fn without_memory_only_a_refusal_fails(rt: HostRuntime) -> Result<(), Fail> {
     let told = told_without_memory::<2>(&mut NodeStore::new(rt.alloc()));
-    assert_eq!(rt; told, Some([true; 3]));
+    same(told, Some([true; 3]))
 }
