@@ -1,5 +1,5 @@
 -- The copying of a tree's children, one after the other, below a node that was placed for them.
-use Rattle.std.proofs.Common.{◌≡◌, ◌≢◌, ℕ, ◌<◌, ◌≤◌, ◌++◌, List, [], ◌∷◌, length, map, Option, Some, None, IsSomeAnd, true, refl, ap, sym, ◌∙◌, subst, arith, append-nil, ◌⊎◌, inl, inr}
+use Rattle.std.proofs.Common.{◌≡◌, ◌≢◌, ℕ, ◌<◌, ◌≤◌, ◌++◌, List, [], ◌∷◌, length, map, Option, Some, None, IsSome, IsSomeAnd, true, refl, ap, sym, ◌∙◌, subst, arith, append-nil, ◌⊎◌, inl, inr}
 use Rattle.std.specs.List.{AllByRecursion as Each}
 use Rattle.std.specs.Option.{option_map, option_or}
 use Rattle.std.specs.FinMap.{get, insert}
@@ -42,6 +42,7 @@ use Rattle.art_model.proofs.Stores.{frame}
 use Rattle.art_model.proofs.Views.{leaf_or}
 use Rattle.art_model.proofs.Writes.{inner_at, node_at-leaf, same_inner}
 use Rattle.art_writing.specs.declared.clone.CloneResult.{CloneResult}
+use Rattle.art_writing.specs.declared.clone.LeafEnds.{LeafEnds}
 use Rattle.art_writing.specs.Cloned.{IsCopied}
 use Rattle.art_writing.specs.Freed.{CanGo, going}
 use Rattle.art_writing.specs.Writes.{SameNodes}
@@ -73,6 +74,13 @@ some_or : (o : Option LeafPtr) (q : LeafPtr) → (p : LeafPtr) × (option_or o (
 some_or None q = (q, refl)
 some_or (Some p) q = (p, refl)
 
+-- the first and the last leaf of what is copied, where there are some
+abbrev pub first_leaf : Option LeafEnds → Option LeafPtr
+first_leaf ends = option_map (λ ends. ends.first) ends
+
+abbrev pub last_leaf : Option LeafEnds → Option LeafPtr
+last_leaf ends = option_map (λ ends. ends.last) ends
+
 -- So many children are copied below the new node, and the others are to come.
 pub record IsCloning {K V : Type 0} (IsClone : K × V → K × V → Type 0) (s : Nodes K V) (tree : Tree OpaqueNodePtr (K × V)) (old now : Nodes K V)
     (parent : InnerPtr) (rest : List (ℕ × OpaqueNodePtr)) (min max : Option LeafPtr) : Type 0 where
@@ -99,27 +107,21 @@ pub record IsCloning {K V : Type 0} (IsClone : K × V → K × V → Type 0) (s 
 
 module _ {K V : Type 0} (is_key_clone : K → K → Type 0) (is_value_clone : V → V → Type 0) where
   -- a leaf is copied
-  pub copied_leaf : (s old new : Nodes K V) (p q : LeafPtr) (root name : OpaqueNodePtr) (tree : Tree OpaqueNodePtr (K × V)) → leaf_name p ≡ root → IsFullTree s root tree → get old.leaves q ≡ None →
-      IsSomeAnd (get s.leaves p) (λ x. (y : LeafNode K V) × IsLeafClone is_key_clone is_value_clone x y × (new.leaves ≡ insert old.leaves q y)) →
+  pub copied_leaf : (s old new : Nodes K V) (p q : LeafPtr) (tree : Tree OpaqueNodePtr (K × V)) {name : OpaqueNodePtr} (x y : LeafNode K V) → IsFullTree s (leaf_name p) tree →
+      get s.leaves p ≡ Some x → IsLeafClone is_key_clone is_value_clone x y → get old.leaves q ≡ None → new.leaves ≡ insert old.leaves q y →
       new.inners ≡ old.inners → new.promise ≡ take_leaf old.promise → name ≡ leaf_name q →
       IsCopied (IsPairClone is_key_clone is_value_clone) tree old new (record { root = name; min_leaf = q; max_leaf = q })
-  copied_leaf s old new p q root name tree named (is, full) free placed inners taken e = go (get s.leaves p) refl placed
-    where
-      go : (o : Option (LeafNode K V)) → o ≡ get s.leaves p →
-          IsSomeAnd o (λ x. (y : LeafNode K V) × IsLeafClone is_key_clone is_value_clone x y × (new.leaves ≡ insert old.leaves q y)) →
-          IsCopied (IsPairClone is_key_clone is_value_clone) tree old new (record { root = name; min_leaf = q; max_leaf = q })
-      go None there h = absurd h
-      go (Some x) there (y, clone, leaves) =
-          let at = leaf_shown s p tree (is.named ∙ sym named) is.holds x there in
-          record {
-            copy = leaf (leaf_name q) (pair_of y);
-            named = sym e;
-            same = subst (λ t. IsCopy (IsPairClone is_key_clone is_value_clone) t (leaf (leaf_name q) (pair_of y))) (sym at) (clone.key, clone.value);
-            gains = gained_leaf q y clone.previous clone.next free leaves inners;
-            promise = taken ∙ sym (ap (λ t. tree_taken t old.promise) at);
-            first = refl;
-            last = refl;
-          }
+  copied_leaf s old new p q tree x y (is, full) there clone free leaves inners taken named =
+      let at = leaf_shown s p tree is.named is.holds x (sym there) in
+      record {
+        copy = leaf (leaf_name q) (pair_of y);
+        named = sym named;
+        same = subst (λ t. IsCopy (IsPairClone is_key_clone is_value_clone) t (leaf (leaf_name q) (pair_of y))) (sym at) (clone.key, clone.value);
+        gains = gained_leaf q y clone.previous clone.next free leaves inners;
+        promise = taken ∙ sym (ap (λ t. tree_taken t old.promise) at);
+        first = refl;
+        last = refl;
+      }
 
 -- a store in which a copy is put below a node
 abbrev put_below : {K V : Type 0} → InnerPtr → ℕ → Option LeafPtr → Nodes K V → CloneResult → Nodes K V
@@ -358,12 +360,11 @@ module _ {K V : Type 0} {IsClone : K × V → K × V → Type 0} where
     all = cloning_end s tree old now parent min max (subst (λ l. IsCloning IsClone s tree old now parent l min max) steps so_far)
 
     -- the whole is copied
-    pub cloned_whole : {name : OpaqueNodePtr} {p q : LeafPtr} → min ≡ Some p → max ≡ Some q → name ≡ inner_name parent →
-        IsCopied IsClone tree old now (record { root = name; min_leaf = p; max_leaf = q })
-    cloned_whole {name} {p} {q} e g named =
+    pub cloned_whole : {done : CloneResult} → min ≡ Some done.min_leaf → max ≡ Some done.max_leaf → done.root ≡ inner_name parent → IsCopied IsClone tree old now done
+    cloned_whole {done} e g named =
         let (k, l, h, i, copied) = all in
-        let first : k ≡ p = cc in
-        let last : l ≡ q = cc in
+        let first : k ≡ done.min_leaf = cc in
+        let last : l ≡ done.max_leaf = cc in
         record {
           copy = copied.copy;
           named = copied.named ∙ sym named;
@@ -374,8 +375,14 @@ module _ {K V : Type 0} {IsClone : K × V → K × V → Type 0} where
           last = copied.last ∙ ap (λ z. Some (leaf_name z)) last;
         }
 
-    -- there is an end then
-    pub no_end : (min ≡ None) ⊎ (max ≡ None) → ⊥
-    no_end none =
+    -- there is a first leaf then
+    pub has_first : IsSome min
+    has_first =
         let (p, q, e, g, copied) = all in
-        elim none [ inl h ↦ absurd (cc (sym e ∙ h)) | inr h ↦ absurd (cc (sym g ∙ h)) ]
+        subst IsSome (sym e) refl
+
+  -- there are ends then
+  pub has_ends : {s : Nodes K V} {tree : Tree OpaqueNodePtr (K × V)} {old now : Nodes K V} {parent : InnerPtr} {items : List (ℕ × OpaqueNodePtr)} (ends : Option LeafEnds) →
+      items ≡ [] → IsCloning IsClone s tree old now parent items (first_leaf ends) (last_leaf ends) → IsSome ends
+  has_ends None steps so_far = has_first steps so_far
+  has_ends (Some ends) steps so_far = refl

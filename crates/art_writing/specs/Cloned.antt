@@ -1,5 +1,5 @@
 -- What is told of a tree that was copied into another store. No public clause cites this module.
-use Rattle.std.specs.Prelude.{◌≡◌, Some, None}
+use Rattle.std.specs.Prelude.{◌≡◌, Some, None, Result, IfOk, OnErr}
 use Rattle.art_parts.specs.Names.{leaf_name}
 use Rattle.art_nodes.specs.Nodes.{Nodes}
 use Rattle.art_parts.specs.declared.names.OpaqueNodePtr.{OpaqueNodePtr}
@@ -7,7 +7,8 @@ use Rattle.art_model.specs.Trees.{Tree}
 use Rattle.art_model.specs.Layouts.{name_of, leaf_names, first_or, last_or}
 use Rattle.art_model.specs.Clones.{IsCopy}
 use Rattle.art_model.specs.Gains.{Gains}
-use Rattle.art_model.specs.Promises.{tree_taken}
+use Rattle.art_model.specs.Promises.{IsLessened, tree_taken}
+use Rattle.art_model.specs.Roots.{IsFullTree}
 use Rattle.art_writing.specs.declared.clone.CloneResult.{CloneResult}
 
 -- The store gained a tree of the first one's form with clones of its pairs, which is taken from its promise; the root and the ends of the leaves are named.
@@ -20,3 +21,12 @@ pub record IsCopied {K V : Type 0} (IsClone : K × V → K × V → Type 0) (tre
   pub promise : new.promise ≡ tree_taken tree old.promise
   pub first : first_or (leaf_names copy) None ≡ Some (leaf_name done.min_leaf)
   pub last : last_or (leaf_names copy) None ≡ Some (leaf_name done.max_leaf)
+
+-- The tree of a name is copied into another store; or that store has the nodes that it had. It promises no more than it did.
+pub record IsCloned {K V E : Type 0} (IsClone : K × V → K × V → Type 0) (s : Nodes K V) (root : OpaqueNodePtr)
+    (old new : Nodes K V) (result : Result CloneResult E) : Type 0 where
+  pub copied : (tree : Tree OpaqueNodePtr (K × V)) → IsFullTree s root tree →
+      IfOk result (IsCopied IsClone tree old new)
+  pub leaves : OnErr result (new.leaves ≡ old.leaves)
+  pub inners : OnErr result (new.inners ≡ old.inners)
+  pub lessened : IsLessened old.promise new.promise

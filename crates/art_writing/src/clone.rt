@@ -1,6 +1,7 @@
 //! The copying of a tree into another store.
 ghost use Rattle.std.specs.Prelude.{◌≡◌, ◌≢◌, List, [], Some, None, IsSome, IsSomeAnd, IfOk, OnOk, OnErr};
 ghost use Rattle.std.specs.FinMap as map;
+ghost use Rattle.std.specs.Option.{option_map, option_or};
 ghost use Rattle.art_inner.specs.Changes.{with_child};
 ghost use Rattle.art_parts.specs.Clones.{IsLeafClone, IsPairClone};
 ghost use Rattle.art_inner.specs.Inner.{HasPlace, childless};
@@ -21,13 +22,11 @@ ghost use Rattle.art_model.specs.Promises.{IsLessened, tree_taken};
 ghost use Rattle.art_model.specs.Roots.{ForTree, IsCanonicalRoot, IsFullTree};
 ghost use Rattle.art_model.specs.Trees.{Tree};
 ghost use Rattle.art_model.specs.Writes.{IsThere, joined};
-ghost use Rattle.art_writing.specs.Cloned.{IsCopied};
+ghost use Rattle.art_writing.specs.Cloned.{IsCloned};
 
 use crate::deallocate::free_nodes;
 use crate::writes::link;
-use art_nodes::node::{
-    AnyInner, AsBytes, InnerPtr, InnerRef, LeafPtr, NodePtr, OpaqueNodePtr, OptionalLeafPtr,
-};
+use art_nodes::node::{AnyInner, AsBytes, InnerPtr, InnerRef, LeafPtr, NodePtr, OpaqueNodePtr};
 use art_nodes::store::NodeStore;
 use std::alloc::AllocError;
 
@@ -37,6 +36,13 @@ pub struct CloneResult {
     pub root: OpaqueNodePtr,
     pub min_leaf: LeafPtr,
     pub max_leaf: LeafPtr,
+}
+
+// The first and the last one of some leaves.
+#[derive(Clone, Copy)]
+struct LeafEnds {
+    first: LeafPtr,
+    last: LeafPtr,
 }
 
 /// Clones the tree of a canonical root into another store, pair by pair, and leaves the source as it is.
@@ -80,53 +86,44 @@ fn clone_tree<K: AsBytes + Clone + Drop, V: Clone + Drop, const P: usize>(
     into: &mut NodeStore<K, V, P>,
 ) -> Result<CloneResult, AllocError>
     requires { (tree : Tree OpaqueNodePtr (K × V)) × IsFullTree store.now root tree }
-    ensures copied { (tree : Tree OpaqueNodePtr (K × V)) → IsFullTree store.now root tree →
-        IfOk result (IsCopied (IsPairClone K.is_clone V.is_clone) tree into.old into.new) }
-    ensures leaves { OnErr result (into.new.leaves ≡ into.old.leaves) }
-    ensures inners { OnErr result (into.new.inners ≡ into.old.inners) }
-    ensures lessened { IsLessened into.old.promise into.new.promise }
+    ensures { IsCloned (IsPairClone K.is_clone V.is_clone) store.now root into.old into.new result }
 {
-    match root.split() {
-        NodePtr::Leaf(name) => {
-            let leaf = clone_leaf(store, name, into)?;
-            Ok(CloneResult {
-                root: leaf.to_opaque(),
-                min_leaf: leaf,
-                max_leaf: leaf,
-            })
-        }
-        NodePtr::Inner(name) => {
-            let Some(node) = store.inner(name) else {
-                unreachable!()
-            };
-            let parent = place_like(node, into)?;
-            let mut min_leaf = None;
-            let mut max_leaf = None;
-            for (byte, child) in node.iter() {
-                match clone_tree(store, child, into) {
-                    Ok(copy) => {
-                        add_copy(into, parent, byte, max_leaf, &copy);
-                        min_leaf = min_leaf.or(Some(copy.min_leaf));
-                        max_leaf = Some(copy.max_leaf);
-                    }
-                    Err(error) => {
-                        free_nodes(into, parent.to_opaque(), true);
-                        return Err(error);
-                    }
-                }
+    let name = match root.split() {
+        NodePtr::Leaf(name) => return clone_leaf(store, name, into),
+        NodePtr::Inner(name) => name,
+    };
+    let Some(node) = store.inner(name) else {
+        unreachable!()
+    };
+    let Ok(parent) = place_like(node, into) else {
+        return Err(AllocError);
+    };
+    let copy_root = parent.to_opaque();
+    let mut ends = None;
+    for (byte, child) in node.iter() {
+        match clone_tree(store, child, into) {
+            Ok(copy) => ends = Some(add_copy(into, parent, byte, ends, copy)),
+            Err(error) => {
+                free_nodes(into, copy_root, true);
+                return Err(error);
             }
-            let Some(min_leaf) = min_leaf else {
-                unreachable!()
-            };
-            let Some(max_leaf) = max_leaf else {
-                unreachable!()
-            };
-            Ok(CloneResult {
-                root: parent.to_opaque(),
-                min_leaf,
-                max_leaf,
-            })
         }
+    }
+    Ok(clone_of(copy_root, ends))
+}
+
+// The names of a clone with this root and these ends.
+fn clone_of(root: OpaqueNodePtr, ends: Option<LeafEnds>) -> CloneResult
+    requires { IsSome ends }
+    ensures root { result.root ≡ root }
+    ensures first { option_map (λ ends. ends.first) ends ≡ Some result.min_leaf }
+    ensures last { option_map (λ ends. ends.last) ends ≡ Some result.max_leaf }
+{
+    let Some(ends) = ends else { unreachable!() };
+    CloneResult {
+        root,
+        min_leaf: ends.first,
+        max_leaf: ends.last,
     }
 }
 
@@ -135,25 +132,23 @@ fn clone_leaf<K: AsBytes + Clone + Drop, V: Clone + Drop, const P: usize>(
     store: &NodeStore<K, V, P>,
     name: LeafPtr,
     into: &mut NodeStore<K, V, P>,
-) -> Result<LeafPtr, AllocError>
+) -> Result<CloneResult, AllocError>
     requires { IsSome (map.get store.now.leaves name) }
-    ensures placed { IfOk result (λ copy. IsSomeAnd (map.get store.now.leaves name) (λ leaf.
-        (x : LeafNode K V) × IsLeafClone K.is_clone V.is_clone leaf x ×
-        (into.new.leaves ≡ map.insert into.old.leaves copy x))) }
-    ensures fresh { IfOk result (λ copy. map.get into.old.leaves copy ≡ None) }
-    ensures inners { into.new.inners ≡ into.old.inners }
-    ensures promise { OnOk result (into.new.promise ≡ take_leaf into.old.promise) }
-    ensures lessened { IsLessened into.old.promise into.new.promise }
-    ensures refused { OnErr result (into.new ≡ into.old) }
+    ensures { IsCloned (IsPairClone K.is_clone V.is_clone)
+        store.now (leaf_name name) into.old into.new result }
 {
     let Some(leaf) = store.leaf(name) else {
         unreachable!()
     };
     let copy = leaf.clone_without_siblings()?;
-    match into.place_leaf(copy) {
-        Ok(copy) => Ok(copy),
-        Err((_, error)) => Err(error),
-    }
+    let Ok(name) = into.place_leaf(copy) else {
+        return Err(AllocError);
+    };
+    Ok(CloneResult {
+        root: name.to_opaque(),
+        min_leaf: name,
+        max_leaf: name,
+    })
 }
 
 // Places an inner node of the kind and with the header of another one, without a child.
@@ -166,7 +161,6 @@ fn place_like<K: AsBytes + Drop, V: Drop, const P: usize>(
     ensures placed { IfOk result (λ copy. into.new.inners ≡
         map.insert into.old.inners copy (childless (ref_view node.entry).prefix)) }
     ensures kind { IfOk result (λ copy. copy.kind ≡ ref_kind node.entry) }
-    ensures inner { ref_kind node.entry ≢ Leaf }
     ensures fresh { IfOk result (λ copy. map.get into.old.inners copy ≡ None) }
     ensures leaves { into.new.leaves ≡ into.old.leaves }
     ensures promise { OnOk result (into.new.promise ≡
@@ -175,30 +169,42 @@ fn place_like<K: AsBytes + Drop, V: Drop, const P: usize>(
     ensures refused { OnErr result (into.new ≡ into.old) }
 {
     let copy = AnyInner::from_header(node.node_type(), node.header());
-    match into.place_inner(copy) {
-        Ok(name) => Ok(name),
-        Err((_, error)) => Err(error),
-    }
+    let Ok(name) = into.place_inner(copy) else {
+        return Err(AllocError);
+    };
+    Ok(name)
 }
 
-// Puts a tree under a byte of an inner node, and its leaves behind those that are there.
+// Puts a copy under a byte of an inner node, its leaves behind the others, and answers the ends of all.
 fn add_copy<K: AsBytes + Drop, V: Drop, const P: usize>(
     into: &mut NodeStore<K, V, P>,
     parent: InnerPtr,
     byte: u8,
-    last: OptionalLeafPtr,
-    copy: &CloneResult,
-)
-    requires last { IsThere into.old.leaves last }
-    requires first { IsThere into.old.leaves (Some copy.now.min_leaf) }
+    ends: Option<LeafEnds>,
+    copy: CloneResult,
+) -> LeafEnds
+    requires last { IsThere into.old.leaves (option_map (λ ends. ends.last) ends) }
+    requires first { IsThere into.old.leaves (Some copy.min_leaf) }
     requires place { IsSomeAnd (map.get into.old.inners parent) (λ node.
         HasPlace (kind_capacity parent.kind) node.children byte) }
+    ensures first { Some result.first ≡
+        option_or (option_map (λ ends. ends.first) ends) (Some copy.min_leaf) }
+    ensures last { result.last ≡ copy.max_leaf }
     ensures leaves { into.new.leaves ≡
-        joined into.old.leaves last (Some copy.now.min_leaf) (Some copy.now.min_leaf) last }
+        joined into.old.leaves (option_map (λ ends. ends.last) ends) (Some copy.min_leaf)
+        (Some copy.min_leaf) (option_map (λ ends. ends.last) ends) }
     ensures inners { into.new.inners ≡
-        change into.old.inners parent (with_child byte copy.now.root) }
+        change into.old.inners parent (with_child byte copy.root) }
     ensures promise { into.new.promise ≡ into.old.promise }
 {
+    let (first, last) = match ends {
+        Some(ends) => (ends.first, Some(ends.last)),
+        None => (copy.min_leaf, None),
+    };
     link(into, last, Some(copy.min_leaf));
     into.write_child(parent, byte, copy.root);
+    LeafEnds {
+        first,
+        last: copy.max_leaf,
+    }
 }

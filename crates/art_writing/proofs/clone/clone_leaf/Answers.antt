@@ -1,9 +1,15 @@
 use Rattle.std.proofs.Common.{sym}
+use Rattle.art_model.proofs.Lessened.{lessened_leaf}
+use Rattle.art_writing.proofs.Cloning.{copied_leaf}
 use Rattle.art_writing.proofs.clone.clone_leaf.Goals as goal
-use Rattle.art_writing.proofs.clone.clone_leaf.Goals.{in-Ok, in-Err}
 
-pub returns-clause-placed : goal.returns-clause-placed
-returns-clause-placed g c = elim c.match-place_leaf.branch [
-  | in-Ok w ↦ rw (w.result-is, sym c.leaf.ensures, c.in-Some.is) (c.in_ok-copy.copy, c.in_ok-copy.ensures.leaf, w.in-Ok.ensures.placed)
-  | in-Err w ↦ rw w.result-is tt
-]
+pub returns : goal.returns
+returns g c = record {
+  copied = λ tree full.
+      copied_leaf g.K.Clone.is_clone g.V.Clone.is_clone c.args.store.now c.args.into.now c.place_leaf.new.self c.args.name c.in-Ok.name tree
+      c.in-Some.leaf.now c.in_ok-copy.copy full (sym c.in-Some.ensures) c.in_ok-copy.ensures.leaf
+      c.in-Ok.ensures.fresh c.in-Ok.ensures.placed c.in-Ok.ensures.inners c.in-Ok.ensures.promise c.to_opaque.ensures;
+  leaves = tt;
+  inners = tt;
+  lessened = rw c.in-Ok.ensures.promise (lessened_leaf c.args.into.now.promise);
+}
