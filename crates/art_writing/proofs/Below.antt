@@ -1,10 +1,10 @@
 -- The leaf of a delete point below its parent, and what the writes that take it out leave.
 use Rattle.std.proofs.Common.{◌≡◌, ◌≢◌, ℕ, suc, ◌<◌, ◌≤◌, List, [], ◌∷◌, length, Bool, true, false, cond, leb, refl, ap, sym, ◌∙◌, subst, arith, Option, Some, None, IsSome, is_some, IfSome, IsSomeAnd}
 use Rattle.std.specs.FinMap.{get, insert, remove}
-use Rattle.std.proofs.lemmas.Bool.{leb-true, leb-false}
+use Rattle.std.proofs.lemmas.Bool.{le-leb, leb-true, leb-false, lt-leb}
 use Rattle.art_inner.specs.Changes.{without_child}
 use Rattle.art_inner.specs.Inner.{Inner, child_at, remove_child}
-use Rattle.art_parts.specs.Kinds.{kind_capacity, kind_least, smaller_kind}
+use Rattle.art_parts.specs.Kinds.{kind_capacity, kind_least, next_smaller, smaller_kind}
 use Rattle.art_parts.specs.Names.{leaf_name, inner_name}
 use Rattle.art_nodes.specs.Nodes.{Nodes, change}
 use Rattle.art_parts.specs.declared.names.NodeType.{NodeType}
@@ -32,6 +32,7 @@ use Rattle.art_model.proofs.Writes.{parent_ready}
 use Rattle.art_writing.specs.declared.delete.DeletePoint.{DeletePoint}
 use Rattle.art_writing.specs.declared.delete.DeleteResult.{DeleteResult}
 use Rattle.art_writing.specs.Deleted.{IsRootAfter, LeadsTo, TouchesFor, ParentChange, change_of, parent_change, no_parent, keeps, shrinks, is_compressed}
+use Rattle.art_reading.specs.declared.path.TreePath.{TreePath}
 use Rattle.art_writing.specs.Inserted.{alone}
 use Rattle.art_reading.specs.Paths.{last_step, path_of, up, root_with}
 use Rattle.art_writing.specs.TakenOut.{IsLeafTaken}
@@ -68,6 +69,52 @@ shrinks_least Node16 to count e = ((λ f. absurd cc), leb-true count 5 (passed (
 shrinks_least Node48 to count e = ((λ f. absurd cc), leb-true count 17 (passed (leb count 17) (shrinks Node16) keeps (shrinks to) (λ f. absurd cc) e))
 shrinks_least Node256 to count e = ((λ f. absurd cc), leb-true count 49 (passed (leb count 49) (shrinks Node48) keeps (shrinks to) (λ f. absurd cc) e))
 shrinks_least Leaf to count e = ((λ f. absurd cc), leb-true count 0 (passed (leb count 0) (shrinks Leaf) keeps (shrinks to) (λ f. absurd cc) e))
+
+-- ---- what becomes of a parent, by its kind and its number of children
+
+-- of one that is in the store
+pub change_seen : {K V : Type 0} (s : Nodes K V) (path : TreePath) {parent : InnerPtr} {byte count : ℕ} {node : Inner} {kind : NodeType} → last_step path ≡ Some (parent, byte) →
+    get s.inners parent ≡ Some node → kind ≡ parent.kind → count ≡ length node.children → parent_change s path ≡ change_of kind count
+change_seen s path {parent} {count = count} step got kind_is count_is =
+    ap (λ (o : Option (InnerPtr × ℕ)). elim o as (λ _. ParentChange) [
+      | None ↦ no_parent
+      | Some p ↦
+          elim (get s.inners p.0) as (λ _. ParentChange) [ None ↦ no_parent | Some i ↦ change_of p.0.kind (length i.children) ]
+    ]) step
+    ∙ ap (λ (o : Option Inner). elim o as (λ _. ParentChange) [ None ↦ no_parent | Some i ↦ change_of parent.kind (length i.children) ]) got
+    ∙ ap (change_of parent.kind) (sym count_is) ∙ ap (λ k. change_of k count) (sym kind_is)
+
+-- it keeps its kind
+pub change-keeps : (kind : NodeType) (count : ℕ) → kind_least kind < count → change_of kind count ≡ keeps
+change-keeps Node4 count more = rw (lt-leb count 2 more) refl
+change-keeps Node16 count more = rw (lt-leb count 5 more) refl
+change-keeps Node48 count more = rw (lt-leb count 17 more) refl
+change-keeps Node256 count more = rw (lt-leb count 49 more) refl
+change-keeps Leaf count more = rw (lt-leb count 0 more) refl
+
+-- it shrinks
+pub change-shrinks : (kind to : NodeType) (count : ℕ) → count ≤ kind_least kind → next_smaller kind ≡ Some to → change_of kind count ≡ shrinks to
+change-shrinks Node4 to count most e = absurd cc
+change-shrinks Node16 to count most e = rw (le-leb count 5 most) (ap shrinks (some_same e))
+change-shrinks Node48 to count most e = rw (le-leb count 17 most) (ap shrinks (some_same e))
+change-shrinks Node256 to count most e = rw (le-leb count 49 most) (ap shrinks (some_same e))
+change-shrinks Leaf to count most e = absurd cc
+
+-- it is compressed
+pub change-is_compressed : (kind : NodeType) (count : ℕ) → kind ≢ Leaf → count ≤ kind_least kind → next_smaller kind ≡ None → change_of kind count ≡ is_compressed
+change-is_compressed Node4 count proper most e = rw (le-leb count 2 most) refl
+change-is_compressed Node16 count proper most e = absurd cc
+change-is_compressed Node48 count proper most e = absurd cc
+change-is_compressed Node256 count proper most e = absurd cc
+change-is_compressed Leaf count proper most e = absurd (proper refl)
+
+-- the kind to which one shrinks is that of an inner node
+pub smaller_is : (kind to : NodeType) → next_smaller kind ≡ Some to → (to ≡ smaller_kind kind) × (to ≢ Leaf)
+smaller_is Node4 to e = absurd cc
+smaller_is Node16 to e = (cc, λ f. absurd cc)
+smaller_is Node48 to e = (cc, λ f. absurd cc)
+smaller_is Node256 to e = (cc, λ f. absurd cc)
+smaller_is Leaf to e = absurd cc
 
 -- a node that is compressed has at most two children
 pub compressed_most : (kind : NodeType) (count : ℕ) → change_of kind count ≡ is_compressed → count ≤ 2
@@ -157,13 +204,7 @@ module _ {K V : Type 0} {bytes : K × V → List ℕ} {P : ℕ} {s : Nodes K V} 
         change_of at.frame.mark.kind (suc (length (bytes_of (join at.frame.left at.frame.right)))) ≡ to
     change_is to step is =
         let (node, got, off, count) = parent_there in
-        let told : parent_change s point.path ≡ change_of parent.kind (length node.children) =
-        ap (λ (o : Option (InnerPtr × ℕ)). elim o as (λ _. ParentChange) [
-          | None ↦ no_parent
-          | Some p ↦
-              elim (get s.inners p.0) as (λ _. ParentChange) [ None ↦ no_parent | Some i ↦ change_of p.0.kind (length i.children) ]
-        ]) step
-        ∙ ap (λ (o : Option Inner). elim o as (λ _. ParentChange) [ None ↦ no_parent | Some i ↦ change_of parent.kind (length i.children) ]) got in
+        let told : parent_change s point.path ≡ change_of parent.kind (length node.children) = change_seen s point.path step got refl refl in
         ap (λ (p : InnerPtr). change_of p.kind (suc (length (bytes_of (join at.frame.left at.frame.right))))) at.parent_is ∙ ap (change_of parent.kind) (sym count) ∙ sym told ∙ is
 
     -- ---- after writes that change no leaf the leaf goes

@@ -1,5 +1,5 @@
 -- What follows from a deletion's record for each clause of an applied point, and what stands at a point: the leaf and its parent.
-use Rattle.std.proofs.Common.{◌≡◌, ◌≢◌, ℕ, List, [], ◌∷◌, refl, ap, sym, ◌∙◌, subst, Bool, true, false, cond, IsTrue, IsFalse, Option, Some, None, IfSome, IsSomeAnd, Result, Ok, OnOk, is_err, eq-eqb}
+use Rattle.std.proofs.Common.{◌≡◌, ◌≢◌, ℕ, List, [], ◌∷◌, refl, ap, sym, ◌∙◌, subst, Bool, true, false, cond, IsTrue, IsFalse, Option, Some, None, IfSome, IsSomeAnd, Result, Ok, Err, IsOk, OnOk, OnErr, is_err, eq-eqb}
 use Rattle.std.specs.Option.{option_map}
 use Rattle.std.specs.FinMap.{get}
 use Rattle.art_parts.specs.Kinds.{kind_index}
@@ -14,7 +14,7 @@ use Rattle.art_model.specs.Kept.{ChangesInPlace}
 use Rattle.art_model.specs.Layouts.{leaf_node, Node, Holds}
 use Rattle.art_model.specs.Pairs.{remove_key}
 use Rattle.art_model.specs.Paths.{Frame, plug, HoldsPath}
-use Rattle.art_model.specs.Promises.{promise_after}
+use Rattle.art_model.specs.Promises.{is_covered, promise_after}
 use Rattle.art_model.specs.Roots.{IsCanonicalRoot, IsRootOf}
 use Rattle.art_model.specs.Stores.{node_at, pair_of}
 use Rattle.art_model.specs.Trees.{Tree, leaf}
@@ -160,3 +160,23 @@ module _ {K V : Type 0} {bytes : K × V → List ℕ} {P : ℕ} {s t : Nodes K V
       placed : (t : Bool) → covers s.promise 0 (Some kind) ≡ t → take_inner kind r.promise ≡ promise_after (record { leaves = 0; inner = Some kind }) s.promise
       placed true e = subst (λ z. take_inner kind r.promise ≡ cond z (take_inner kind s.promise) no_promise) (sym e) (ap (λ (z : Nodes K V). take_inner kind z.promise) (kept e))
       placed false e = subst (λ z. take_inner kind r.promise ≡ cond z (take_inner kind s.promise) no_promise) (sym e) (ap (take_inner kind) (not_refused reserved ok (granted e)) ∙ all_taken)
+
+-- where the smaller node can't be reserved the point is handed back
+pub shrink_refused : {K V Y E : Type 0} {bytes : K × V → List ℕ} {P : ℕ} {s r : Nodes K V} {root : OpaqueNodePtr} {point : DeletePoint} (kind : NodeType) (reserved : Result Y E) →
+    is_err reserved ≡ true → (IsTrue (covers s.promise 0 (Some kind)) → IsOk reserved) → r.leaves ≡ s.leaves → r.inners ≡ s.inners → OnErr reserved (r.promise ≡ no_promise) →
+    parent_change s point.path ≡ shrinks kind → IsTakenOut bytes P s r root point (Err (record { point = point }))
+shrink_refused kind (Ok y) failed succeeds leaves inners void told = absurd cc
+shrink_refused {s = s} kind (Err e) failed succeeds leaves inners void told = record {
+  canonical = λ pairs layout by. tt;
+  left = tt;
+  deleted = tt;
+  root_is = tt;
+  kept = λ pairs layout by. tt;
+  touches = tt;
+  promise = tt;
+  succeeds = λ covered. succeeds (subst (λ change. IsTrue (is_covered (placed_by change) s.promise)) told covered);
+  handed_back = refl;
+  leaves = leaves;
+  inners = inners;
+  void = void;
+}

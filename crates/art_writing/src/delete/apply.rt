@@ -1,5 +1,5 @@
 //! Delete points, applied.
-ghost use Rattle.std.specs.Prelude.{◌≡◌, IsOk, IsSome, IsTrue, IfOk, IfErr, IfSome, OnOk, OnErr};
+ghost use Rattle.std.specs.Prelude.{◌≡◌, Some, IsOk, IsSome, IsTrue, IfOk, IfErr, IfSome, OnOk, OnErr};
 ghost use Rattle.std.specs.FinMap as map;
 ghost use Rattle.art_nodes.specs.Nodes.{no_promise};
 ghost use Rattle.art_model.specs.Canonical.{IsCanonical};
@@ -9,13 +9,15 @@ ghost use Rattle.art_model.specs.Promises.{is_covered, promise_after};
 ghost use Rattle.art_model.specs.Roots.{ForRoot, ForTree, IsCanonicalRoot};
 ghost use Rattle.art_model.specs.Stores.{pair_of};
 ghost use Rattle.art_writing.specs.Inserted.{alone};
-ghost use Rattle.art_writing.specs.Deleted.{IsDeletePointIn, IsRootAfter, TouchesFor, parent_change, placed_for_deletion};
+ghost use Rattle.art_writing.specs.Deleted.{IsDeletePointIn, IsRootAfter, TouchesFor, parent_change, placed_for_deletion, shrinks};
+ghost use Rattle.art_reading.specs.Paths.{last_step};
+ghost use Rattle.art_parts.specs.Kinds.{next_smaller};
 ghost use Rattle.art_writing.specs.TakenOut.{IsLeafTaken, IsTakenOut};
 ghost use Rattle.art_writing.specs.Writes.{LinksAreThere};
 
 use super::{DeletePoint, DeleteRefused, DeleteResult};
 use crate::writes::{replace_at, take_from_between};
-use art_nodes::node::{AsBytes, OpaqueNodePtr};
+use art_nodes::node::{AsBytes, InnerPtr, NodeType, OpaqueNodePtr};
 use art_nodes::store::NodeStore;
 use art_reading::ways::{last_step, up};
 
@@ -84,6 +86,24 @@ impl DeletePoint {
         let Some(smaller) = kind.smaller() else {
             return Ok(self.compress_parent(store, root, parent, byte));
         };
+        self.shrink_parent(store, root, parent, byte, smaller)
+    }
+
+    // Takes the leaf out, and a node of the next smaller kind comes in its parent's place, or is refused.
+    fn shrink_parent<K: AsBytes + Drop, V: Drop, const P: usize>(
+        self,
+        store: &mut NodeStore<K, V, P>,
+        root: OpaqueNodePtr,
+        parent: InnerPtr,
+        byte: u8,
+        smaller: NodeType,
+    ) -> Result<DeleteResult<K, V>, DeleteRefused>
+        requires parent { last_step self.path ≡ Some (parent, byte) }
+        requires smaller { next_smaller parent.kind ≡ Some smaller }
+        requires shrinks { parent_change store.old self.path ≡ shrinks smaller }
+        requires answers { IsDeletePointIn (of_key K.bytes) P store.old root self }
+        ensures { IsTakenOut (of_key K.bytes) P store.old store.new root self result }
+    {
         if store.reserve(0, Some(smaller)).is_err() {
             return Err(DeleteRefused { point: self });
         }

@@ -1,0 +1,66 @@
+use Rattle.std.proofs.Common.{rules, ap, sym, ◌∙◌, subst, IsTrue}
+use Rattle.art_nodes.specs.Nodes.{promises, take_inner}
+use Rattle.art_model.specs.Writes.{with_child_at}
+use Rattle.art_reading.specs.Paths.{last_step, up, root_with}
+use Rattle.art_writing.proofs.Below.{IsSmaller, is_below, leaf_ready, shrinks_fit, smaller_is, above_ready, parent_deleted}
+use Rattle.art_writing.proofs.Deletions.{shrink_refused, some_same, taken_out_with}
+use Rattle.art_writing.proofs.Reserved.{covered_inner, not_refused}
+use Rattle.art_writing.proofs.delete.DeletePoint.shrink_parent.Goals as goal
+use Rattle.art_writing.proofs.delete.DeletePoint.shrink_parent.Goals.{After-put_smaller-node}
+use Rattle.art_writing.proofs.delete.DeletePoint.shrink_parent.Given.{Over}
+
+pub reserve-requires : goal.reserve-requires
+reserve-requires g c = (search rules, λ leaf. (smaller_is c.args.parent.kind c.args.smaller c.requires.smaller).1 (some_same leaf))
+
+pub returns-then-is_err : goal.returns-then-is_err
+returns-then-is_err g c =
+    shrink_refused c.args.smaller c.reserve.result (sym c.is_err.ensures.value ∙ c.if-is_err.true) c.reserve.ensures.succeeds
+    c.reserve.ensures.leaves c.reserve.ensures.inners c.reserve.ensures.refused c.requires.shrinks
+
+smaller : (g : Over) (c : After-put_smaller-node g) → IsSmaller c.reserve.new.self c.put_smaller-node.new.self c.args.parent c.args.byte c.put_smaller-node.result
+smaller g c = record { kind = c.put_smaller-node.ensures.kind; fresh = c.put_smaller-node.ensures.fresh; inners = c.put_smaller-node.ensures.inners }
+
+pub put_smaller-node-requires : goal.put_smaller-node-requires
+put_smaller-node-requires g c =
+    let (pairs, layout, x, by, leads) = c.requires.answers in
+    let (larger, fit) = shrinks_fit (is_below by leads c.requires.parent) c.reserve.new.self c.reserve.ensures.inners c.args.smaller c.requires.parent c.requires.shrinks in
+    let covered = not_refused c.reserve.result (sym c.is_err.ensures.value ∙ c.if-is_err.false) c.reserve.ensures.reserved in (
+      search rules,
+      (
+        larger,
+        (
+          fit,
+          subst (λ kind. IsTrue (promises c.reserve.new.self.promise.inner kind)) (smaller_is c.args.parent.kind c.args.smaller c.requires.smaller).0
+              (covered_inner c.reserve.new.self.promise 0 c.args.smaller covered),
+        ),
+      ),
+    )
+
+pub replace_at-new_root-requires : goal.replace_at-new_root-requires
+replace_at-new_root-requires g c =
+    let (pairs, layout, x, by, leads) = c.requires.answers in
+    let at = goal.at.replace_at-new_root-requires g c in (
+      search rules,
+      rw c.up.ensures (above_ready (is_below by leads c.requires.parent) c.reserve.new.self c.reserve.ensures.inners c.args.smaller c.requires.parent
+          c.requires.shrinks (smaller g at.After-put_smaller-node)),
+    )
+
+pub take_leaf-requires : goal.take_leaf-requires
+take_leaf-requires g c =
+    let (pairs, layout, x, by, leads) = c.requires.answers in
+    (search rules, rw (c.replace_at-new_root.ensures.leaves, c.put_smaller-node.ensures.leaves, c.reserve.ensures.leaves) (leaf_ready (is_below by leads c.requires.parent)))
+
+pub returns : goal.returns
+returns g c =
+    let (pairs, layout, x, by, leads) = c.requires.answers in
+    let at = goal.at.returns g c in
+    taken_out_with c.requires.answers (parent_deleted (is_below by leads c.requires.parent) c.reserve.new.self c.reserve.ensures.inners c.args.smaller c.requires.parent
+    c.requires.shrinks (smaller g at.After-put_smaller-node)
+    (c.replace_at-new_root.ensures.leaves ∙ c.put_smaller-node.ensures.leaves ∙ c.reserve.ensures.leaves)
+    (c.replace_at-new_root.ensures.inners ∙ ap (λ path. with_child_at (last_step path) c.to_opaque.result c.put_smaller-node.new.self.inners) c.up.ensures
+    ∙ ap (λ name. with_child_at (last_step (up c.args.self.path)) name c.put_smaller-node.new.self.inners) c.to_opaque.ensures)
+    (c.replace_at-new_root.ensures.root ∙ ap (λ path. root_with path c.args.root c.to_opaque.result) c.up.ensures ∙ ap (root_with (up c.args.self.path) c.args.root) c.to_opaque.ensures)
+    c.take_leaf.ensures)
+    c.reserve.new.self c.args.smaller c.reserve.result (sym c.is_err.ensures.value ∙ c.if-is_err.false) c.reserve.ensures.covered c.reserve.ensures.granted c.requires.shrinks
+    (c.take_leaf.ensures.promise ∙ c.replace_at-new_root.ensures.promise ∙ c.put_smaller-node.ensures.promise
+    ∙ ap (λ kind. take_inner kind c.reserve.new.self.promise) (sym (smaller_is c.args.parent.kind c.args.smaller c.requires.smaller).0))
