@@ -1,11 +1,11 @@
 -- What is told of an applied point, from what is left for each layout of the root: by whatever layout of the new root.
-use Rattle.std.proofs.Common.{rules, ◌≡◌, ℕ, List, Some, Ok, Err, refl, ap, sym, ◌∙◌, subst}
+use Rattle.std.proofs.Common.{rules, ◌≡◌, ℕ, List, Some, Ok, Err, false, true, IsTrue, refl, ap, sym, ◌∙◌, subst}
 use Rattle.std.specs.Option.{option_map}
-use Rattle.art_nodes.specs.Nodes.{Nodes, Promise}
+use Rattle.art_nodes.specs.Nodes.{Nodes, Promise, no_promise}
 use Rattle.art_model.specs.Canonical.{IsCanonical}
 use Rattle.art_model.specs.Kept.{ChangesInPlace}
 use Rattle.art_model.specs.Pairs.{of_key, overwrite, put, stored_for}
-use Rattle.art_model.specs.Promises.{promise_after}
+use Rattle.art_model.specs.Promises.{is_covered, promise_after}
 use Rattle.art_model.specs.Roots.{ForTree}
 use Rattle.art_model.proofs.MapLaws.{stored_again}
 use Rattle.art_model.proofs.PutOver.{put_is_overwrite, put_reply_is, was_free}
@@ -27,6 +27,11 @@ module _ {K V : Type 0} {s t : Nodes K V} {placed : Promise} {pair : K × V} whe
   -- what is placed was covered, or is now
   pub granted : {X : Type 0} {done : X} → t.promise ≡ promise_after placed s.promise → TakesMemory s t placed pair (Ok done)
   granted after = record { promise = after; succeeds = λ covered. refl; handed_back = tt; leaves = tt; inners = tt; void = tt }
+
+  -- what was not covered is refused, and nothing is promised then
+  handed_back : {X : Type 0} → (IsTrue (is_covered placed s.promise) → false ≡ true) → t.leaves ≡ s.leaves → t.inners ≡ s.inners → t.promise ≡ no_promise →
+      TakesMemory {X = X} s t placed pair (Err (record { key = pair.0; value = pair.1 }))
+  handed_back gone leaves inners void = record { promise = tt; succeeds = gone; handed_back = (refl, refl); leaves = leaves; inners = inners; void = void }
 
   -- a refusal is one of each call
   refused_too : {X Y : Type 0} {refused : Refused K V} → TakesMemory {X = X} s t placed pair (Err refused) → TakesMemory {X = Y} s t placed pair (Err refused)
@@ -54,6 +59,35 @@ module _ {K V : Type 0} (bytes : K → List ℕ) {P : ℕ} {s t : Nodes K V} {pa
             (sym (has_one_map (of_key bytes) P t done.new_root (put (of_key bytes) pair ps) after is.tree new is.canonical c).1) is.kept;
         touches = own.touches;
         memory = granted promise;
+      }
+
+  -- the memory is refused, and the pair is handed back
+  pub refused : {point : InsertPoint} → (IsTrue (is_covered (placed_for s point.insert_kind) s.promise) → false ≡ true) → t.leaves ≡ s.leaves → t.inners ≡ s.inners →
+      t.promise ≡ no_promise → IsApplied (of_key bytes) P s t point pair (Err (record { key = pair.0; value = pair.1 }))
+  refused gone leaves inners void =
+      record {
+        canonical = λ ps l b. tt;
+        root = tt;
+        leaf = tt;
+        replaced = λ ps l b. tt;
+        kept = λ ps l b. tt;
+        touches = tt;
+        memory = handed_back gone leaves inners void;
+      }
+
+  -- and so where the pair would have come in the place of others
+  pub refused_overwrite : {point : OverwritePoint} → (IsTrue (is_covered (placed_for_overwrite point.overwrite_point.kind) s.promise) → false ≡ true) → t.leaves ≡ s.leaves →
+      t.inners ≡ s.inners → t.promise ≡ no_promise → IsPrefixApplied (of_key bytes) P s t (points.OverwritePoint point) pair (Err (record { key = pair.0; value = pair.1 }))
+  refused_overwrite gone leaves inners void =
+      record {
+        canonical = λ ps l b. tt;
+        root = tt;
+        leaf = tt;
+        replaced = λ ps l b. tt;
+        removed = λ ps l b. tt;
+        kept = λ ps l b. tt;
+        touches = λ ps l b. tt;
+        memory = handed_back gone leaves inners void;
       }
 
   -- an insertion is one in the place of related keys, where none but an equal one is stored

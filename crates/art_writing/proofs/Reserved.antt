@@ -1,5 +1,5 @@
 -- what is reserved for a leaf and an inner node, and what is left of it
-use Rattle.std.proofs.Common.{◌≡◌, ℕ, zero, suc, ◌<◌, Bool, true, false, ◌&&◌, IsTrue, IsFalse, Option, Some, None, Result, Ok, Err, OnOk, is_err, is_some, refl, ap, ◌∙◌, subst, leb, arith, eq-eqb}
+use Rattle.std.proofs.Common.{◌≡◌, ℕ, zero, suc, ◌<◌, Bool, true, false, ◌&&◌, IsTrue, IsFalse, Option, Some, None, Result, Ok, Err, OnOk, OnErr, IsOk, is_err, is_some, refl, ap, ◌∙◌, subst, leb, arith, eq-eqb}
 use Rattle.std.proofs.lemmas.Bool.{leb-true}
 use Rattle.std.proofs.lemmas.Grind.{common_steps}
 use Rattle.art_nodes.specs.Nodes.{Nodes, Promise, covers, promises, take_leaf}
@@ -46,6 +46,16 @@ nothing_after promise = grind (arith, common_steps)
 pub not_refused : {X E Q : Type 0} (r : Result X E) → is_err r ≡ false → OnOk r Q → Q
 not_refused (Ok x) e h = h
 not_refused (Err y) e h = absurd cc
+
+-- and where it was refused
+pub was_refused : {X E Q : Type 0} (r : Result X E) → is_err r ≡ true → OnErr r Q → Q
+was_refused (Ok x) e h = absurd cc
+was_refused (Err y) e h = h
+
+-- a call that was refused did not succeed
+pub not_granted : {X E Q : Type 0} (r : Result X E) → is_err r ≡ true → (Q → IsOk r) → Q → false ≡ true
+not_granted (Ok x) e h q = absurd cc
+not_granted (Err y) e h q = h q
 
 -- what is left of a promise when the leaf and the inner node that were reserved for are placed
 pub after_reserve : {K V Y E : Type 0} (s r : Nodes K V) (o : Option NodeType) {placed : Promise} (reserved : Result Y E) → is_err reserved ≡ false → (IsTrue (covers s.promise 1 o) → r ≡ s) →

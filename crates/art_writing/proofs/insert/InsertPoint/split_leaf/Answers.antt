@@ -1,13 +1,20 @@
-use Rattle.std.proofs.Common.{rules, ◌∙◌, ap, sym, Some}
+use Rattle.std.proofs.Common.{rules, ◌∙◌, ap, sym, subst, Some, IsTrue}
 use Rattle.art_parts.specs.declared.names.NodeType.TheVariants.{Node4}
+use Rattle.art_model.specs.Promises.{is_covered}
 use Rattle.art_writing.specs.Inserted.{placed_for}
 use Rattle.art_writing.specs.Writes.{SameNodes}
-use Rattle.art_writing.proofs.Applied.{applied}
+use Rattle.art_writing.proofs.Applied.{applied, refused}
 use Rattle.art_writing.proofs.Branches.{end_parent, previous_is_there, next_is_there, read_for}
-use Rattle.art_writing.proofs.Reserved.{after_reserve}
+use Rattle.art_writing.proofs.Reserved.{after_reserve, not_granted, was_refused}
 use Rattle.art_writing.proofs.Standing.{tree_stays, answers_to, point_stays}
 use Rattle.art_writing.proofs.Splits.{leaf_split}
 use Rattle.art_writing.proofs.insert.InsertPoint.split_leaf.Goals as goal
+
+pub returns-then-is_err : goal.returns-then-is_err
+returns-then-is_err g c =
+    refused g.K.AsBytes.bytes (λ covered. not_granted c.reserve.result (sym c.is_err.ensures.value ∙ c.if-is_err.true) c.reserve.ensures.succeeds
+    (subst (λ kind. IsTrue (is_covered (placed_for c.args.store.now kind) c.args.store.now.promise)) c.requires.point covered))
+    c.reserve.ensures.leaves c.reserve.ensures.inners (was_refused c.reserve.result (sym c.is_err.ensures.value ∙ c.if-is_err.true) c.reserve.ensures.refused)
 
 pub branch_at_leaf-branch-requires : goal.branch_at_leaf-branch-requires
 branch_at_leaf-branch-requires g c =

@@ -1,11 +1,18 @@
-use Rattle.std.proofs.Common.{◌∙◌, ap, refl, rules, sym, None}
+use Rattle.std.proofs.Common.{◌∙◌, ap, refl, rules, sym, subst, IsTrue, None}
 use Rattle.art_parts.specs.declared.leaf.LeafNode.{LeafNode}
+use Rattle.art_model.specs.Promises.{is_covered}
 use Rattle.art_writing.specs.Writes.{SameNodes}
 use Rattle.art_reading.specs.Paths.{root_with}
-use Rattle.art_writing.proofs.Applied.{overwritten}
-use Rattle.art_writing.proofs.Reserved.{after_reserve, leaf_promised, not_refused}
+use Rattle.art_writing.proofs.Applied.{overwritten, refused_overwrite}
+use Rattle.art_writing.proofs.Reserved.{after_reserve, leaf_promised, not_granted, not_refused, was_refused}
 use Rattle.art_writing.proofs.Overwrites.{end_full, end_parent, end_still, ends_there, placed_for_inner, put_at, read_next, read_previous, subtree_at, subtree_overwritten, subtree_still}
 use Rattle.art_writing.proofs.insert.OverwritePoint.overwrite_subtree.Goals as goal
+
+pub returns-then-is_err : goal.returns-then-is_err
+returns-then-is_err g c =
+    refused_overwrite g.K.AsBytes.bytes (λ covered. not_granted c.reserve.result (sym c.is_err.ensures.value ∙ c.if-is_err.true) c.reserve.ensures.succeeds
+    (subst (λ placed. IsTrue (is_covered placed c.args.store.now.promise)) (placed_for_inner _ c.requires.inner) covered))
+    c.reserve.ensures.leaves c.reserve.ensures.inners (was_refused c.reserve.result (sym c.is_err.ensures.value ∙ c.if-is_err.true) c.reserve.ensures.refused)
 
 pub links_beside-previous-requires : goal.links_beside-previous-requires
 links_beside-previous-requires g c = (search rules, end_full c.requires.answers c.requires.inner c.reserve.new.self (c.reserve.ensures.leaves, c.reserve.ensures.inners))
