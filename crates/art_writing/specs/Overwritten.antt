@@ -9,7 +9,7 @@ use Rattle.art_model.specs.Canonical.{IsCanonicalTree}
 use Rattle.art_model.specs.Footprints.{TouchesAtMost, PlacesOneFor}
 use Rattle.art_model.specs.Layouts.{names_of}
 use Rattle.art_model.specs.Lookups.{HasLeaf}
-use Rattle.art_model.specs.Pairs.{overwrite, related_to, stored_for}
+use Rattle.art_model.specs.Pairs.{related_to, stored_for}
 use Rattle.art_model.specs.Paths.{Frame, plug}
 use Rattle.art_model.specs.Radix.{pairs_of}
 use Rattle.art_model.specs.Trees.{Tree}
