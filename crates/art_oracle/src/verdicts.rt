@@ -73,90 +73,120 @@ pub fn judge<K: AsBytes + Drop, V: Drop, const P: usize>(
         met: Vec::new(alloc),
     };
     way.steps.push(Step::Look(root, Vec::new(alloc)))?;
-    for _ in 0..most_steps {
-        let flaw = match way.steps.pop() {
-            None => return way.end(store),
-            Some(Step::Look(name, place)) => way.look(store, name, place)?,
-            Some(Step::Count(place, kind, count)) => count_flaw(place, kind, count),
-        };
-        if let Some(flaw) = flaw {
-            return Ok(Verdict::Flawed(flaw));
-        }
-    }
-    Ok(Verdict::Unknown)
+    way.go(store)
 }
 
 impl Way {
+    /// Makes the steps, one after another, until a flaw is found.
+    fn go<K: AsBytes + Drop, V: Drop, const P: usize>(
+        &mut self,
+        store: &NodeStore<K, V, P>,
+    ) -> Result<Verdict, AllocError> {
+        for _ in 0..self.most_steps {
+            let Some(step) = self.steps.pop() else {
+                return self.end(store);
+            };
+            if let Some(flaw) = self.make(store, step)? {
+                return Ok(Verdict::Flawed(flaw));
+            }
+        }
+        Ok(Verdict::Unknown)
+    }
+
+    /// Makes a step.
+    fn make<K: AsBytes + Drop, V: Drop, const P: usize>(
+        &mut self,
+        store: &NodeStore<K, V, P>,
+        step: Step,
+    ) -> Result<Option<Flaw>, AllocError> {
+        match step {
+            Step::Look(name, place) => self.look(store, name, &place),
+            Step::Count(place, kind, count) => Ok(count_flaw(place, kind, count)),
+        }
+    }
+
     /// Looks at the node that some bytes lead to.
     fn look<K: AsBytes + Drop, V: Drop, const P: usize>(
         &mut self,
         store: &NodeStore<K, V, P>,
         name: OpaqueNodePtr,
-        place: Vec<u8>,
+        place: &[u8],
     ) -> Result<Option<Flaw>, AllocError> {
         for (other, first) in &self.met {
             if *other == name {
-                return Ok(Some(Flaw::Twice(name, first.clone()?, place)));
+                let (first, later) = (first.clone()?, place.to_vec(self.alloc)?);
+                return Ok(Some(Flaw::Twice(name, first, later)));
             }
         }
-        self.met.push((name, place.clone()?))?;
+        self.met.push((name, place.to_vec(self.alloc)?))?;
         match name.split() {
             NodePtr::Leaf(leaf) => match store.leaf(leaf) {
-                None => Ok(Some(Flaw::NoNode(place, name))),
+                None => Ok(Some(Flaw::NoNode(place.to_vec(self.alloc)?, name))),
                 Some(node) => leaf_flaw(store, node, place),
             },
             NodePtr::Inner(inner) => match store.inner(inner) {
-                None => Ok(Some(Flaw::NoNode(place, name))),
-                Some(node) => self.look_below(store, inner, node, place),
+                None => Ok(Some(Flaw::NoNode(place.to_vec(self.alloc)?, name))),
+                Some(node) => self.look_below(store, inner, &node, place),
             },
         }
     }
 
-    /// Reads the prefix of a node, and adds a step for each of its children and one for their number.
+    /// Reads the prefix of a node, and adds the steps below it.
     fn look_below<K: AsBytes + Drop, V: Drop, const P: usize>(
         &mut self,
         store: &NodeStore<K, V, P>,
         name: InnerPtr,
-        node: InnerRef<'_, P>,
-        place: Vec<u8>,
+        node: &InnerRef<'_, P>,
+        place: &[u8],
     ) -> Result<Option<Flaw>, AllocError> {
         let Some(prefix) = self.whole_prefix(store, name, node, place.len())? else {
-            return Ok(Some(Flaw::NoPrefix(place, name.to_opaque())));
+            return Ok(Some(Flaw::NoPrefix(place.to_vec(self.alloc)?, name.to_opaque())));
         };
         let stored = node.read_prefix();
-        let read = front(&prefix, stored.len());
-        if read != stored {
-            let (stored, read) = (stored.to_vec(self.alloc)?, read.to_vec(self.alloc)?);
-            return Ok(Some(Flaw::Stored(place, stored, read)));
+        let read = front(prefix, stored.len());
+        if read == stored {
+            self.add_steps(node, place, prefix)?;
+            return Ok(None);
         }
-        let mut below = place.clone()?;
-        below.extend_from_slice(&prefix)?;
-        let count = Step::Count(place, node.node_type(), node.num_children());
+        let (stored, read) = (stored.to_vec(self.alloc)?, read.to_vec(self.alloc)?);
+        Ok(Some(Flaw::Stored(place.to_vec(self.alloc)?, stored, read)))
+    }
+
+    /// Adds a step for each child of a node with this prefix, and one for their number.
+    fn add_steps<const P: usize>(
+        &mut self,
+        node: &InnerRef<'_, P>,
+        place: &[u8],
+        prefix: &[u8],
+    ) -> Result<(), AllocError> {
+        let count = Step::Count(
+            place.to_vec(self.alloc)?,
+            node.node_type(),
+            node.num_children(),
+        );
         self.steps.push(count)?;
         for (byte, child) in node.iter().rev() {
-            let mut way = below.clone()?;
+            let mut way = place.to_vec(self.alloc)?;
+            way.extend_from_slice(prefix)?;
             way.push(byte)?;
             self.steps.push(Step::Look(child, way))?;
         }
-        Ok(None)
+        Ok(())
     }
 
     /// The prefix of a node at a depth. None where it can't be read.
-    fn whole_prefix<K: AsBytes + Drop, V: Drop, const P: usize>(
+    fn whole_prefix<'a, K: AsBytes + Drop, V: Drop, const P: usize>(
         &self,
-        store: &NodeStore<K, V, P>,
+        store: &'a NodeStore<K, V, P>,
         name: InnerPtr,
-        node: InnerRef<'_, P>,
+        node: &'a InnerRef<'_, P>,
         depth: usize,
-    ) -> Result<Option<Vec<u8>>, AllocError> {
+    ) -> Result<Option<&'a [u8]>, AllocError> {
         let len = node.prefix_len();
         if len <= P {
-            return Ok(Some(node.read_prefix().to_vec(self.alloc)?));
+            return Ok(Some(node.read_prefix()));
         }
-        match self.least_bytes(store, name, depth, len)? {
-            None => Ok(None),
-            Some(bytes) => Ok(Some(bytes.to_vec(self.alloc)?)),
-        }
+        self.least_bytes(store, name, depth, len)
     }
 
     /// So many bytes from a depth on of the key of the least leaf below a node. None where there is no such
@@ -191,23 +221,23 @@ impl Way {
         &self,
         store: &NodeStore<K, V, P>,
     ) -> Result<Verdict, AllocError> {
+        let leaves = self.leaves_met()?;
+        let inners = self.met.len().saturating_sub(leaves.len());
+        Ok(match links_flaw(store, &leaves)? {
+            Some(flaw) => Verdict::Flawed(flaw),
+            None => Verdict::Tree(leaves.len(), inners),
+        })
+    }
+
+    /// The leaves, in the order in which they were met.
+    fn leaves_met(&self) -> Result<Vec<LeafPtr>, AllocError> {
         let mut leaves = Vec::new(self.alloc);
         for (name, _) in &self.met {
             if let NodePtr::Leaf(leaf) = name.split() {
                 leaves.push(leaf)?;
             }
         }
-        for (at, leaf) in leaves.iter().enumerate() {
-            let previous = match at.checked_sub(1) {
-                None => None,
-                Some(before) => leaves.get(before).copied(),
-            };
-            let next = leaves.get(at.saturating_add(1)).copied();
-            if let Some(flaw) = links_flaw(store, *leaf, [previous, next])? {
-                return Ok(Verdict::Flawed(flaw));
-            }
-        }
-        Ok(Verdict::Tree(leaves.len(), self.met.len().saturating_sub(leaves.len())))
+        Ok(leaves)
     }
 }
 
@@ -258,12 +288,13 @@ fn count_flaw(place: Vec<u8>, kind: NodeType, count: usize) -> Option<Flaw> {
 fn leaf_flaw<K: AsBytes + Drop, V: Drop, const P: usize>(
     store: &NodeStore<K, V, P>,
     node: &LeafNode<K, V>,
-    place: Vec<u8>,
+    place: &[u8],
 ) -> Result<Option<Flaw>, AllocError> {
     let alloc = store.alloc();
     let key = node.key.as_bytes();
-    if front(key, place.len()) != place.as_slice() {
-        return Ok(Some(Flaw::Key(place, key.to_vec(alloc)?)));
+    if front(key, place.len()) != place {
+        let (place, key) = (place.to_vec(alloc)?, key.to_vec(alloc)?);
+        return Ok(Some(Flaw::Key(place, key)));
     }
     for (link, wanted) in [
         (node.previous, Ordering::Less),
@@ -273,7 +304,7 @@ fn leaf_flaw<K: AsBytes + Drop, V: Drop, const P: usize>(
             continue;
         };
         let Some(sibling) = store.leaf(name) else {
-            return Ok(Some(Flaw::NoNode(place, name.to_opaque())));
+            return Ok(Some(Flaw::NoNode(place.to_vec(alloc)?, name.to_opaque())));
         };
         let other = sibling.key.as_bytes();
         let order = other.cmp(key);
@@ -285,19 +316,22 @@ fn leaf_flaw<K: AsBytes + Drop, V: Drop, const P: usize>(
     Ok(None)
 }
 
-/// Whether a leaf has other links than these.
+/// The first of these leaves that has other links than its neighbours here.
 fn links_flaw<K: AsBytes + Drop, V: Drop, const P: usize>(
     store: &NodeStore<K, V, P>,
-    leaf: LeafPtr,
-    wanted: [OptionalLeafPtr; 2],
+    leaves: &[LeafPtr],
 ) -> Result<Option<Flaw>, AllocError> {
-    let Some(node) = store.leaf(leaf) else {
-        return Ok(None);
-    };
-    let links = [node.previous, node.next];
-    if links == wanted {
-        return Ok(None);
+    let mut previous = None;
+    for (at, leaf) in leaves.iter().enumerate() {
+        let wanted = [previous, leaves.get(at.saturating_add(1)).copied()];
+        if let Some(node) = store.leaf(*leaf) {
+            let links = [node.previous, node.next];
+            if links != wanted {
+                let key = node.key.as_bytes().to_vec(store.alloc())?;
+                return Ok(Some(Flaw::Links(key, wanted, links)));
+            }
+        }
+        previous = Some(*leaf);
     }
-    let key = node.key.as_bytes().to_vec(store.alloc())?;
-    Ok(Some(Flaw::Links(key, wanted, links)))
+    Ok(None)
 }
