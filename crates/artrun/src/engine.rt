@@ -2,23 +2,17 @@
 
 ghost use Rattle.std.specs.Prelude.{◌≤◌, None, IfOk};
 ghost use Rattle.art_parts.specs.Clones.{IsPairClone};
-ghost use Rattle.artrun.specs.Commands.{IsAnswered, IsCommandFor};
-ghost use Rattle.artrun.specs.KeptTrees.{IsKept};
+ghost use Rattle.art_session.specs.Commands.{IsAnswered, IsCommandFor};
+ghost use Rattle.art_session.specs.KeptTrees.{IsKept};
 
-use crate::print::{Order, write_check, write_no_memory, write_reply};
-use crate::tree::KeptTree;
+use crate::print::{Order, write_check, write_no_memory, write_nodes, write_pairs, write_reply};
 use art_lines::line::Request;
-use art_operations::run::Command;
+use art_session::commands::command_of;
+use art_session::status::{End, status_of};
+use art_session::tree::KeptTree;
 use std::alloc::{AllocError, Global};
 use std::io;
 use std::io::{BufRead, BufReader, Read, Write};
-
-/// Why no further line is read.
-#[derive(Drop)]
-enum End {
-    Input,
-    BadLine,
-}
 
 /// Answers each line of the input on the output. The status is 0 at the end of the input, 2 after a line that asks for
 /// nothing that there is, and 1 where the input can't be read, the output can't be written, or there is no memory for a
@@ -37,17 +31,6 @@ pub fn serve(
     let end = answer_lines(alloc, &mut tree, &mut input, &mut output);
     let written = output.flush();
     status_of(end, written)
-}
-
-// The status that an end of reading, and the last writing, come to.
-fn status_of(end: io::Result<End>, written: io::Result<()>) -> u8
-    ensures { result ≤ 2 }
-{
-    match (end, written) {
-        (Ok(End::Input), Ok(())) => 0,
-        (Ok(End::BadLine), Ok(())) => 2,
-        _ => 1,
-    }
 }
 
 fn answer_lines(
@@ -111,35 +94,16 @@ fn answer(
     }
 }
 
-// The command that a request asks for, where it asks for one.
-fn command_of(
-    alloc: Global,
-    request: Request<'_>,
-) -> Result<Option<Command<Vec<u8>, u32>>, AllocError>
-    ensures { IfOk result (IsCommandFor request.entry) }
-{
-    Ok(Some(match request {
-        Request::Insert(key, value) => Command::Insert(key.copy(alloc)?, value),
-        Request::Prefix(key, value) => Command::InsertPrefix(key.copy(alloc)?, value),
-        Request::Delete(key) => Command::Delete(key.copy(alloc)?),
-        Request::First => Command::DeleteMin,
-        Request::Last => Command::DeleteMax,
-        Request::Clone => Command::Clone,
-        Request::Find(key) => Command::Contains(key.copy(alloc)?),
-        Request::Longest(key) => Command::LongestMatch(key.copy(alloc)?),
-        Request::Walk | Request::Back | Request::Nodes | Request::Check => return Ok(None),
-    }))
-}
-
 // Writes what a request that asks for no command asks to see.
 fn show(tree: &KeptTree, request: Request<'_>, output: &mut impl Write) -> io::Result<()>
     requires kept { IsKept tree.now }
     requires no_command { IsCommandFor request None }
 {
+    let (store, root) = tree.tree();
     match request {
-        Request::Walk => tree.write_pairs(output, Order::Rising),
-        Request::Back => tree.write_pairs(output, Order::Falling),
-        Request::Nodes => tree.write_nodes(output),
+        Request::Walk => write_pairs(output, store, root, Order::Rising),
+        Request::Back => write_pairs(output, store, root, Order::Falling),
+        Request::Nodes => write_nodes(output, store, root),
         Request::Check => write_check(output, &tree.check()),
         _ => unreachable!(),
     }

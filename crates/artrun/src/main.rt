@@ -3,8 +3,6 @@
 
 mod engine;
 mod print;
-mod tree;
-mod walk;
 
 use std::io;
 use std::io::{BufReader, BufWriter};

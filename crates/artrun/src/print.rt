@@ -3,15 +3,15 @@ ghost use Rattle.std.specs.Prelude.{IfSome, IsSome, List};
 ghost use Rattle.std.specs.FinMap as map;
 ghost use Rattle.art_parts.specs.declared.names.OpaqueNodePtr.{OpaqueNodePtr};
 ghost use Rattle.art_operations.specs.Iterators.{IsIteratorOf};
-ghost use Rattle.artrun.specs.Trees.{IsLinkedTreeIn, IsTreeIn};
+ghost use Rattle.art_session.specs.Trees.{IsLinkedTreeIn, IsTreeIn};
 
-use crate::walk::{Pending, reserve_walk, turn};
-use art_nodes::node::{LeafNode, LeafPtr, NodePtr, OpaqueNodePtr};
+use art_nodes::node::{LeafPtr, NodePtr, OpaqueNodePtr};
 use art_nodes::store::NodeStore;
 use art_operations::iterator::RawIterator;
 use art_operations::minmax::{maximum_unchecked, minimum_unchecked};
 use art_operations::run::Reply;
 use art_operations::well_formed::{MalformedTreeError, WellFormedTreeStats};
+use art_session::walk::{Pending, reserve_walk, turn};
 use std::io::Write;
 use std::{fmt, io};
 
@@ -54,24 +54,32 @@ impl fmt::Display for Place {
 
 /// Writes the reply to a command, a line.
 pub fn write_reply(output: &mut impl Write, reply: &Reply<Vec<u8>, u32>) -> io::Result<()> {
-    match reply {
-        Reply::Inserted(None) => writeln!(output, "inserted"),
-        Reply::Inserted(Some((key, value))) => writeln!(output, "replaced {} {value}", Key(key)),
-        Reply::Overwrote(None, 0) => writeln!(output, "inserted"),
-        Reply::Overwrote(None, count) => writeln!(output, "removed {count}"),
-        Reply::Overwrote(Some((key, value)), _) => {
-            writeln!(output, "replaced {} {value}", Key(key))
+    let words = match reply {
+        Reply::Inserted(Some(old)) | Reply::Overwrote(Some(old), _) => {
+            return write_pair(output, "replaced", old);
         }
-        Reply::Conflict(_, _, error) => writeln!(output, "conflict: {error}"),
-        Reply::Deleted(None) => writeln!(output, "absent"),
-        Reply::Deleted(Some((key, value))) => writeln!(output, "deleted {} {value}", Key(key)),
-        Reply::Cloned => writeln!(output, "cloned"),
-        Reply::Found(true) => writeln!(output, "yes"),
-        Reply::Found(false) => writeln!(output, "no"),
-        Reply::MatchLen(Some(len)) => writeln!(output, "match {len}"),
-        Reply::MatchLen(None) => writeln!(output, "none"),
-        Reply::NoMemory(_) => write_no_memory(output),
-    }
+        Reply::Deleted(Some(old)) => return write_pair(output, "deleted", old),
+        Reply::Inserted(None) | Reply::Overwrote(None, 0) => "inserted",
+        Reply::Overwrote(None, count) => return writeln!(output, "removed {count}"),
+        Reply::Conflict(_, _, error) => return writeln!(output, "conflict: {error}"),
+        Reply::MatchLen(Some(len)) => return writeln!(output, "match {len}"),
+        Reply::MatchLen(None) => "none",
+        Reply::Deleted(None) => "absent",
+        Reply::Cloned => "cloned",
+        Reply::Found(true) => "yes",
+        Reply::Found(false) => "no",
+        Reply::NoMemory(_) => return write_no_memory(output),
+    };
+    writeln!(output, "{words}")
+}
+
+// Writes what became of a pair, and the pair.
+fn write_pair(
+    output: &mut impl Write,
+    outcome: &str,
+    (key, value): &(Vec<u8>, u32),
+) -> io::Result<()> {
+    writeln!(output, "{outcome} {} {value}", Key(key))
 }
 
 /// Writes what a check has found, a line.
