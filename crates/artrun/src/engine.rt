@@ -2,14 +2,14 @@
 
 ghost use Rattle.std.specs.Prelude.{◌≤◌, None, IfOk};
 ghost use Rattle.art_parts.specs.Clones.{IsPairClone};
-ghost use Rattle.art_session.specs.Commands.{IsAnswered, IsCommandFor};
-ghost use Rattle.art_session.specs.KeptTrees.{IsKept};
+ghost use Rattle.art_keeping.specs.Commands.{IsAnswered, IsCommandFor};
+ghost use Rattle.art_keeping.specs.KeptTrees.{IsKept};
 
 use crate::print::{Order, write_check, write_no_memory, write_nodes, write_pairs, write_reply};
+use art_keeping::commands::command_of;
+use art_keeping::status::{End, status_of};
+use art_keeping::tree::KeptTree;
 use art_lines::line::Request;
-use art_session::commands::command_of;
-use art_session::status::{End, status_of};
-use art_session::tree::KeptTree;
 use std::alloc::{AllocError, Global};
 use std::io;
 use std::io::{BufRead, BufReader, Read, Write};

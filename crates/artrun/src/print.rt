@@ -3,15 +3,15 @@ ghost use Rattle.std.specs.Prelude.{IfSome, IsSome, List};
 ghost use Rattle.std.specs.FinMap as map;
 ghost use Rattle.art_parts.specs.declared.names.OpaqueNodePtr.{OpaqueNodePtr};
 ghost use Rattle.art_operations.specs.Iterators.{IsIteratorOf};
-ghost use Rattle.art_session.specs.Trees.{IsLinkedTreeIn, IsTreeIn};
+ghost use Rattle.art_keeping.specs.Trees.{IsLinkedTreeIn, IsTreeIn};
 
+use art_keeping::walk::{Pending, reserve_walk, turn};
 use art_nodes::node::{LeafPtr, NodePtr, OpaqueNodePtr};
 use art_nodes::store::NodeStore;
 use art_operations::iterator::RawIterator;
 use art_operations::minmax::{maximum_unchecked, minimum_unchecked};
 use art_operations::run::Reply;
 use art_operations::well_formed::{MalformedTreeError, WellFormedTreeStats};
-use art_session::walk::{Pending, reserve_walk, turn};
 use std::io::Write;
 use std::{fmt, io};
 

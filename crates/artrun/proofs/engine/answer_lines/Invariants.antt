@@ -1,4 +1,4 @@
-use Rattle.art_session.specs.KeptTrees.{IsKept}
+use Rattle.art_keeping.specs.KeptTrees.{IsKept}
 use Rattle.artrun.proofs.engine.answer_lines.Given as goal
 
 -- the root is canonical

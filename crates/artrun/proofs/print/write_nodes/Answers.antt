@@ -1,8 +1,8 @@
 use Rattle.std.proofs.Common.{rules, suc, length, ap, sym, ◌∙◌, arith, subst}
 use Rattle.std.specs.List.{AllByRecursion as Each}
-use Rattle.art_session.specs.Trees.{IsTreeIn}
-use Rattle.art_session.specs.Walks.{HasRoom, names, turned}
-use Rattle.art_session.proofs.Subtrees.{tree_taken, trees_turned}
+use Rattle.art_keeping.specs.Trees.{IsTreeIn}
+use Rattle.art_keeping.specs.Walks.{HasRoom, names, turned}
+use Rattle.art_keeping.proofs.Subtrees.{tree_taken, trees_turned}
 use Rattle.artrun.proofs.print.write_nodes.Goals as goal
 
 pub push_reserved-requires : goal.push_reserved-requires

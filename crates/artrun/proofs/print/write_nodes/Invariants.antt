@@ -2,8 +2,8 @@ use Rattle.std.proofs.Common.{◌≡◌, ℕ}
 use Rattle.std.specs.List.{AllByRecursion as Each}
 use Rattle.std.specs.Vec.{vec_capacity}
 use Rattle.art_parts.specs.declared.names.OpaqueNodePtr.{OpaqueNodePtr}
-use Rattle.art_session.specs.Trees.{IsTreeIn}
-use Rattle.art_session.specs.Walks.{HasRoom, left_after, names}
+use Rattle.art_keeping.specs.Trees.{IsTreeIn}
+use Rattle.art_keeping.specs.Walks.{HasRoom, left_after, names}
 use Rattle.artrun.proofs.print.write_nodes.Given as goal
 
 -- what is left after so many turns stands for trees, and there is room for what will be

@@ -9,7 +9,7 @@ use Rattle.art_model.specs.Roots.{IsFullTree}
 use Rattle.art_model.specs.Trees.{Tree}
 use Rattle.art_model.proofs.Segments.{tree_segment}
 use Rattle.art_operations.specs.Iterators.{IsIteratorOf}
-use Rattle.art_session.specs.Trees.{IsLinkedTreeIn}
+use Rattle.art_keeping.specs.Trees.{IsLinkedTreeIn}
 use Rattle.artrun.proofs.print.write_pairs.Goals as goal
 
 -- the leaves of a tree, from the first to the last one

@@ -1,0 +1,11 @@
+use Rattle.std.proofs.Common.{rules, length, ap, sym, ◌∙◌, arith}
+use Rattle.art_keeping.proofs.Walks.{turned-names}
+use Rattle.art_keeping.proofs.walk.turn.Goals as goal
+
+pub push_below-requires : goal.push_below-requires
+push_below-requires g c =
+    let left = turned-names c.args.store.now c.args.pending.now.items c.pop.new.self.items c.in_ok-next.next c.in_ok-next.ensures.items in
+    (search rules, omega (arith, ap length left, c.requires, c.pop.ensures.capacity))
+
+pub returns-clause-left : goal.returns-clause-left
+returns-clause-left g c = c.push_below.ensures.names ∙ sym (turned-names c.args.store.now c.args.pending.now.items c.pop.new.self.items c.in_ok-next.next c.in_ok-next.ensures.items)

@@ -1,0 +1,23 @@
+//! The status that the program ends with.
+ghost use Rattle.std.specs.Prelude.{◌≤◌};
+
+use std::io;
+
+/// Why no further line is read.
+#[derive(Drop)]
+pub enum End {
+    Input,
+    BadLine,
+}
+
+/// The exit status that an end of reading, and the last writing, come to: 0 at the end of the input, 2 after a line that
+/// asks for nothing that there is, and 1 where reading or writing failed.
+pub fn status_of(end: io::Result<End>, written: io::Result<()>) -> u8
+    ensures { result ≤ 2 }
+{
+    match (end, written) {
+        (Ok(End::Input), Ok(())) => 0,
+        (Ok(End::BadLine), Ok(())) => 2,
+        _ => 1,
+    }
+}

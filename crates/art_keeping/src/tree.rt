@@ -1,0 +1,90 @@
+//! The tree that the lines so far have left, and the stores that it lives in.
+ghost use Rattle.std.specs.Prelude.{◌≡◌, ◌∷◌, [], None, IfOk, IfErr, IfSome, OnErr};
+ghost use Rattle.art_parts.specs.Clones.{IsPairClone};
+ghost use Rattle.art_model.specs.Faults.{out_of_memory};
+ghost use Rattle.art_operations.specs.Checks.{fault_of};
+ghost use Rattle.art_operations.specs.Runs.{IsRun};
+ghost use Rattle.art_operations.specs.declared.run.Side.{Side};
+ghost use Rattle.art_keeping.specs.Trees.{IsLinkedTreeIn, IsTreeIn, key_bytes};
+
+use art_nodes::node::OpaqueNodePtr;
+use art_nodes::store::NodeStore;
+use art_operations::run::{Command, Reply, Side, run};
+use art_operations::well_formed::{MalformedTreeError, WellFormedChecker, WellFormedTreeStats};
+use std::alloc::{AllocError, Global};
+use std::mem;
+
+/// How many bytes of its prefix an inner node stores.
+pub const PREFIX_LEN: usize = 4;
+
+/// The tree that the commands so far have left.
+#[derive(Drop)]
+pub struct KeptTree {
+    first: NodeStore<Vec<u8>, u32, PREFIX_LEN>,
+    second: NodeStore<Vec<u8>, u32, PREFIX_LEN>,
+    root: Option<OpaqueNodePtr>,
+}
+
+impl KeptTree {
+    ghost use Rattle.art_keeping.specs.KeptTrees.{IsKept, seen, stood};
+
+    /// No tree.
+    pub fn new(alloc: Global) -> Self
+        ensures kept { IsKept result }
+        ensures root { (seen result).root ≡ None }
+    {
+        KeptTree {
+            first: NodeStore::new(alloc),
+            second: NodeStore::new(alloc),
+            root: None,
+        }
+    }
+
+    /// The store that the tree lives in, and its root.
+    pub fn tree(&self) -> (&NodeStore<Vec<u8>, u32, PREFIX_LEN>, Option<OpaqueNodePtr>)
+        requires { IsKept self.now }
+        ensures nodes { IfSome result.1 (IsTreeIn result.0.now) }
+        ensures linked { IfSome result.1 (IsLinkedTreeIn result.0.now) }
+    {
+        (&self.first, self.root)
+    }
+
+    /// Counts the leaves and the inner nodes of the tree, which has no fault.
+    pub fn check(&self) -> Result<WellFormedTreeStats, MalformedTreeError>
+        requires { IsKept self.now }
+        ensures { IfErr result (λ error. fault_of error ≡ out_of_memory) }
+    {
+        WellFormedChecker::check(&self.first, self.root, 0)
+    }
+
+    /// Answers one more command, by a run of it alone. An `Err` leaves the tree as it is.
+    pub fn answer(
+        &mut self,
+        command: Command<Vec<u8>, u32>,
+    ) -> Result<Reply<Vec<u8>, u32>, AllocError>
+        requires { IsKept self.old }
+        ensures kept { IsKept self.new }
+        ensures run { IfOk result (λ reply. (side : Side) ×
+            IsRun key_bytes 4 (IsPairClone ⟦<Vec<u8> as Clone>⟧.is_clone ⟦<u32 as Clone>⟧.is_clone)
+            (seen self.old) (command ∷ []) (reply ∷ []) (stood side self.new)) }
+        ensures refused { OnErr result (seen self.new ≡ seen self.old) }
+    {
+        let mut commands = Vec::with_capacity(self.first.alloc(), 1)?;
+        commands.push_reserved(command);
+        match run(&mut self.first, &mut self.second, self.root, commands) {
+            Ok(done) => {
+                self.root = done.root;
+                match done.side {
+                    Side::First => {}
+                    Side::Second => mem::swap(&mut self.first, &mut self.second),
+                }
+                let mut replies = done.replies;
+                let Some(reply) = replies.pop() else {
+                    unreachable!()
+                };
+                Ok(reply)
+            }
+            Err((_, error)) => Err(error),
+        }
+    }
+}

@@ -1,0 +1,113 @@
+//! The nodes of a tree from its root on, each before all that stands below it. What is left of such a walk stands in a
+//! list, so that no depth ends it.
+ghost use Rattle.std.specs.Prelude.{◌≡◌, ◌≤◌, ◌+◌, ◌++◌, [], length, IfSome, IfNone, IfOk};
+ghost use Rattle.std.specs.Vec.{vec_capacity};
+ghost use Rattle.art_keeping.specs.Walks.{EndsWith, HasRoom, below, falling, names, turned};
+
+use art_nodes::node::{Children, NodePtr, OpaqueNodePtr};
+use art_nodes::store::NodeStore;
+use std::alloc::AllocError;
+
+/// A node that is still to come, with all that stands below it: how many inner nodes stand above it, and the byte that
+/// it is the child under, which a root has not.
+#[derive(Clone, Copy)]
+pub struct Pending {
+    pub depth: usize,
+    pub byte: Option<u8>,
+    pub name: OpaqueNodePtr,
+}
+
+impl Pending {
+    /// The root, of which all is still to come.
+    pub fn root(name: OpaqueNodePtr) -> Self
+        ensures { result.name ≡ name }
+    {
+        Pending {
+            depth: 0,
+            byte: None,
+            name,
+        }
+    }
+}
+
+/// Makes the walk of the nodes below a root once, and answers an empty list with room for another one.
+pub fn reserve_walk<const P: usize>(
+    store: &NodeStore<Vec<u8>, u32, P>,
+    root: OpaqueNodePtr,
+) -> Result<Vec<Pending>, AllocError>
+    ensures room { IfOk result (λ pending. HasRoom store.now root (vec_capacity pending)) }
+    ensures empty { IfOk result (λ pending. pending.items ≡ []) }
+{
+    let mut pending = Vec::with_capacity(store.alloc(), 1)?;
+    pending.push_reserved(Pending::root(root));
+    for _ in 0..u64::MAX {
+        let Some(next) = pending.pop() else {
+            return Ok(pending);
+        };
+        pending.reserve(count_children(store, next.name))?;
+        push_below(&mut pending, store, next);
+    }
+    Err(AllocError)
+}
+
+/// Takes the node that comes next, and puts its children in its place.
+pub fn turn<const P: usize>(
+    pending: &mut Vec<Pending>,
+    store: &NodeStore<Vec<u8>, u32, P>,
+) -> Option<Pending>
+    requires { length (turned store.now (names pending.old.items)) ≤ vec_capacity pending.old }
+    ensures left { names pending.new.items ≡ turned store.now (names pending.old.items) }
+    ensures next { IfSome result (λ next. EndsWith (names pending.old.items) next.name) }
+    ensures none { IfNone result (names pending.old.items ≡ []) }
+    ensures capacity { vec_capacity pending.new ≡ vec_capacity pending.old }
+{
+    let next = pending.pop()?;
+    push_below(pending, store, next);
+    Some(next)
+}
+
+// How many children stand under a name.
+fn count_children<const P: usize>(store: &NodeStore<Vec<u8>, u32, P>, name: OpaqueNodePtr) -> usize
+    ensures { result ≡ length (below store.now name) }
+{
+    let NodePtr::Inner(name) = name.split() else {
+        return 0;
+    };
+    match store.inner(name) {
+        Some(node) => node.num_children(),
+        None => 0,
+    }
+}
+
+// Puts the children of a node on, the last one first, so that the first one comes next.
+fn push_below<const P: usize>(
+    pending: &mut Vec<Pending>,
+    store: &NodeStore<Vec<u8>, u32, P>,
+    parent: Pending,
+)
+    requires { length (names pending.old.items ++ below store.now parent.name)
+        ≤ vec_capacity pending.old }
+    ensures names { names pending.new.items ≡
+        names pending.old.items ++ below store.now parent.name }
+    ensures capacity { vec_capacity pending.new ≡ vec_capacity pending.old }
+{
+    let NodePtr::Inner(name) = parent.name.split() else {
+        return;
+    };
+    let Some(node) = store.inner(name) else {
+        return;
+    };
+    push_children(pending, node.iter(), parent.depth.saturating_add(1));
+}
+
+// Puts children on, the last one first.
+fn push_children(pending: &mut Vec<Pending>, children: Children<'_>, depth: usize)
+    requires { length pending.old.items + length children ≤ vec_capacity pending.old }
+    ensures names { names pending.new.items ≡ names pending.old.items ++ falling children.entry }
+    ensures capacity { vec_capacity pending.new ≡ vec_capacity pending.old }
+{
+    for (byte, name) in children.rev() {
+        let byte = Some(byte);
+        pending.push_reserved(Pending { depth, byte, name });
+    }
+}

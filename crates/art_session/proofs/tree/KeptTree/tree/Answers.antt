@@ -1,8 +1,0 @@
-use Rattle.art_session.proofs.Subtrees.{canonical_is_linked, canonical_is_tree}
-use Rattle.art_session.proofs.tree.KeptTree.tree.Goals as goal
-
-pub returns-clause-nodes : goal.returns-clause-nodes
-returns-clause-nodes c = canonical_is_tree c.args.self.now.first c.args.self.now.root c.requires
-
-pub returns-clause-linked : goal.returns-clause-linked
-returns-clause-linked c = canonical_is_linked c.args.self.now.first c.args.self.now.root c.requires

@@ -1,7 +1,0 @@
-//! What a session of `artrun` keeps: the tree that its commands have left.
-#![tactic(auto)]
-
-pub mod commands;
-pub mod status;
-pub mod tree;
-pub mod walk;
