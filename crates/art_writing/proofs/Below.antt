@@ -73,16 +73,16 @@ shrinks_least Leaf to count e = ((λ f. absurd cc), leb-true count 0 (passed (le
 -- ---- what becomes of a parent, by its kind and its number of children
 
 -- of one that is in the store
-pub change_seen : {K V : Type 0} (s : Nodes K V) (path : TreePath) {parent : InnerPtr} {byte count : ℕ} {node : Inner} {kind : NodeType} → last_step path ≡ Some (parent, byte) →
-    get s.inners parent ≡ Some node → kind ≡ parent.kind → count ≡ length node.children → parent_change s path ≡ change_of kind count
-change_seen s path {parent} {count = count} step got kind_is count_is =
+pub change_seen : {K V : Type 0} (s : Nodes K V) (path : TreePath) {parent : InnerPtr} {byte : ℕ} {node : Inner} {kind : NodeType} → last_step path ≡ Some (parent, byte) →
+    get s.inners parent ≡ Some node → kind ≡ parent.kind → parent_change s path ≡ change_of kind (length node.children)
+change_seen s path {parent} {node = node} step got kind_is =
     ap (λ (o : Option (InnerPtr × ℕ)). elim o as (λ _. ParentChange) [
       | None ↦ no_parent
       | Some p ↦
           elim (get s.inners p.0) as (λ _. ParentChange) [ None ↦ no_parent | Some i ↦ change_of p.0.kind (length i.children) ]
     ]) step
     ∙ ap (λ (o : Option Inner). elim o as (λ _. ParentChange) [ None ↦ no_parent | Some i ↦ change_of parent.kind (length i.children) ]) got
-    ∙ ap (change_of parent.kind) (sym count_is) ∙ ap (λ k. change_of k count) (sym kind_is)
+    ∙ ap (λ k. change_of k (length node.children)) (sym kind_is)
 
 -- it keeps its kind
 pub change-keeps : (kind : NodeType) (count : ℕ) → kind_least kind < count → change_of kind count ≡ keeps
@@ -204,7 +204,7 @@ module _ {K V : Type 0} {bytes : K × V → List ℕ} {P : ℕ} {s : Nodes K V} 
         change_of at.frame.mark.kind (suc (length (bytes_of (join at.frame.left at.frame.right)))) ≡ to
     change_is to step is =
         let (node, got, off, count) = parent_there in
-        let told : parent_change s point.path ≡ change_of parent.kind (length node.children) = change_seen s point.path step got refl refl in
+        let told : parent_change s point.path ≡ change_of parent.kind (length node.children) = change_seen s point.path step got refl in
         ap (λ (p : InnerPtr). change_of p.kind (suc (length (bytes_of (join at.frame.left at.frame.right))))) at.parent_is ∙ ap (change_of parent.kind) (sym count) ∙ sym told ∙ is
 
     -- ---- after writes that change no leaf the leaf goes
