@@ -9,9 +9,6 @@ use Rattle.art_writing.proofs.delete.DeletePoint.shrink_parent.Goals as goal
 use Rattle.art_writing.proofs.delete.DeletePoint.shrink_parent.Goals.{After-put_smaller-node}
 use Rattle.art_writing.proofs.delete.DeletePoint.shrink_parent.Given.{Over}
 
-pub reserve-requires : goal.reserve-requires
-reserve-requires g c = (search rules, λ leaf. (smaller_is c.args.parent.kind c.args.smaller c.requires.smaller).1 (some_same leaf))
-
 pub returns-then-is_err : goal.returns-then-is_err
 returns-then-is_err g c =
     shrink_refused c.args.smaller c.reserve.result (sym c.is_err.ensures.value ∙ c.if-is_err.true) c.reserve.ensures.succeeds

@@ -30,43 +30,10 @@ returns-then-has_spare_child g c =
 
 -- ---- a parent that shrinks
 
-pub shrink_parent-requires : goal.shrink_parent-requires
-shrink_parent-requires g c =
-    let smaller = ap next_smaller (sym c.node_type-kind.ensures.kind) ∙ sym c.smaller.ensures ∙ c.in-Some-smaller.is in
-    let fewest = ltb-false _ _ (sym c.has_spare_child.ensures ∙ c.if-has_spare_child.false) in (
-      search rules,
-      (
-        c.requires.parent,
-        (
-          ap next_smaller (sym c.in-Some.ensures.kind) ∙ smaller,
-          (
-            change_seen c.args.store.now c.args.self.path c.requires.parent (sym c.in-Some.ensures.view) c.in-Some.ensures.kind
-                ∙ change-shrinks (ref_kind c.in-Some.node) c.in-Some-smaller.smaller _ fewest smaller,
-            c.requires.answers,
-          ),
-        ),
-      ),
-    )
-
 pub returns-in-Some-smaller : goal.returns-in-Some-smaller
 returns-in-Some-smaller g c = c.shrink_parent.ensures
 
 -- ---- a parent that is compressed
-
-pub compress_parent-requires : goal.compress_parent-requires
-compress_parent-requires g c =
-    let last = ap next_smaller (sym c.node_type-kind.ensures.kind) ∙ sym c.smaller.ensures ∙ c.in-None.is in
-    let fewest = ltb-false _ _ (sym c.has_spare_child.ensures ∙ c.if-has_spare_child.false) in (
-      search rules,
-      (
-        c.requires.parent,
-        (
-          change_seen c.args.store.now c.args.self.path c.requires.parent (sym c.in-Some.ensures.view) c.in-Some.ensures.kind
-              ∙ change-is_compressed (ref_kind c.in-Some.node) _ c.node_type-kind.ensures.inner fewest last,
-          c.requires.answers,
-        ),
-      ),
-    )
 
 pub returns-in-None : goal.returns-in-None
 returns-in-None g c = c.compress_parent.ensures

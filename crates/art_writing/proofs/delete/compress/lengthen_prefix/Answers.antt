@@ -18,16 +18,6 @@ unreachable-requires-in_default-leaf g c =
     leaf_there g.K.AsBytes.bytes (map.get c.args.store.now.leaves c.args.below) (map.get c.args.store.now.inners (as_inner c.args.name)) c.args.front.len
     (c.requires (c.in-Some.ensures.inner.0 refl)) c.in_default-leaf.ensures
 
-pub header_below-header-requires : goal.header_below-header-requires
-header_below-header-requires g c =
-    let sum =
-    lengths_sum g.K.AsBytes.bytes (map.get c.args.store.now.leaves c.args.below) (map.get c.args.store.now.inners (as_inner c.args.name)) c.args.front.len
-    (c.requires (c.in-Some.ensures.inner.0 refl)) c.in-Some-leaf.ensures (c.in-Some-inner.ensures.view ∙ ap (λ name. map.get c.args.store.now.inners (as_inner name)) c.in-Some.ensures.name) in
-    (search rules, (search rules, (search rules, (search rules, (search rules, rw c.as_bytes.ensures sum)))))
-
-pub set_header-requires : goal.set_header-requires
-set_header-requires g c = (search rules, (search rules, subst IsSome c.in-Some-inner.ensures.view refl))
-
 pub returns-clause-leaf : goal.returns-clause-leaf
 returns-clause-leaf g c leaf = absurd (c.in-Some.ensures.inner.0 refl leaf)
 

@@ -24,10 +24,6 @@ links_below-previous-requires g c =
     let e = entry c.requires.answers c.requires.point (ap (λ l. get_or l c.args.self.key_bytes_used 0) c.as_bytes.ensures) by in
     (search rules, (entry_inner by e, (e.left, e.right, entry_gap by e)))
 
-pub reserve-requires : goal.reserve-requires
-reserve-requires g c =
-    (search rules, λ asked. no_leaf_asked c.args.inner_node_ptr.kind (is_full c.args.store.now c.args.inner_node_ptr) (sym c.kind_if_full-larger.ensures ∙ asked))
-
 pub place_between-leaf_node_ptr-requires : goal.place_between-leaf_node_ptr-requires
 place_between-leaf_node_ptr-requires g c =
     let (pairs, layout, by, own) = c.requires.answers in
