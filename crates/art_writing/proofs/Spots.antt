@@ -423,12 +423,21 @@ module _ {K V : Type 0} {s : Nodes K V} {bytes : K × V → List ℕ} {P : ℕ} 
             by_length false e = let long = leb-false (length key) (depth + m.matched_bytes) e in subst (IsStepFrom bytes P key pairs layout depth) (sym (parts long)) (mismatch_point long)
 
 -- what was compared of the key at a spot is no more than the key has
-module _ {K V : Type 0} {s : Nodes K V} {bytes : K × V → List ℕ} {P : ℕ} {root : OpaqueNodePtr} {key : List ℕ} {spot : Spot} {part : OpaqueNodePtr}
-    (canonical : IsCanonicalRoot bytes P s root) (at : ForTree bytes P s root (λ pairs layout. IsAt bytes P key layout spot)) (is : part ≡ spot.name) where
-  pub prefix_fits : {match : PrefixMatch} → ((node : Tree OpaqueNodePtr (K × V)) → IsPart bytes P s part spot.depth node → IsCompared bytes P key node spot.depth (Ok match)) →
+module _ {K V : Type 0} {s : Nodes K V} {bytes : K × V → List ℕ} {P : ℕ} {root : OpaqueNodePtr} {key : List ℕ} {spot : Spot}
+    (canonical : IsCanonicalRoot bytes P s root) (at : ForTree bytes P s root (λ pairs layout. IsAt bytes P key layout spot)) where
+  pub prefix_fits : {match : PrefixMatch} → ForTree bytes P s root (λ pairs layout. (d : IsAt bytes P key layout spot) → IsCompared bytes P key d.node spot.depth (Ok match)) →
       spot.depth + match.matched_bytes ≤ length key
-  prefix_fits compared = let (pairs, layout, by) = canonical in let d = at pairs layout by in prefix_used by d (compared d.node (part_there by d is))
+  prefix_fits compared = let (pairs, layout, by) = canonical in let d = at pairs layout by in prefix_used by d (compared pairs layout by d)
 
-  pub mismatch_fits : {m : ExplicitMismatch} → ((node : Tree OpaqueNodePtr (K × V)) → IsPart bytes P s part spot.depth node → IsCompared bytes P key node spot.depth (Err m)) →
+  pub mismatch_fits : {m : ExplicitMismatch} → ForTree bytes P s root (λ pairs layout. (d : IsAt bytes P key layout spot) → IsCompared bytes P key d.node spot.depth (Err m)) →
       spot.depth + m.matched_bytes ≤ length key
-  mismatch_fits compared = let (pairs, layout, by) = canonical in let d = at pairs layout by in mismatch_used by d (compared d.node (part_there by d is))
+  mismatch_fits compared = let (pairs, layout, by) = canonical in let d = at pairs layout by in mismatch_used by d (compared pairs layout by d)
+
+-- the part of the tree at a spot, and the key, which is as long as the way to it
+module _ {K V : Type 0} {s : Nodes K V} {bytes : K × V → List ℕ} {P : ℕ} {key : List ℕ} {spot : Spot}
+    (spotted : (root : OpaqueNodePtr) × IsCanonicalRoot bytes P s root × ForTree bytes P s root (λ pairs layout. IsAt bytes P key layout spot)) where
+  pub part_at : {part : OpaqueNodePtr} → part ≡ spot.name → (node : Tree OpaqueNodePtr (K × V)) × IsPart bytes P s part spot.depth node
+  part_at is = let (root, (pairs, layout, by), at) = spotted in let d = at pairs layout by in (d.node, part_there by d is)
+
+  pub key_reaches : spot.depth ≤ length key
+  key_reaches = let (root, (pairs, layout, by), at) = spotted in inside by (at pairs layout by)

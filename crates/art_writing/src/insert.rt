@@ -401,7 +401,7 @@ fn step_at_inner<K: AsBytes + Drop, V: Drop, const PREFIX_LEN: usize>(
     let Some(node) = store.inner(inner) else {
         unreachable!()
     };
-    match match_full_prefix(store, inner, node, key_bytes, spot.depth) {
+    match match_full_prefix(store, spot, inner, node, key_bytes) {
         Ok(matched) => {
             let depth = spot.depth + matched.matched_bytes;
             spot.step_past_prefix(root, key_bytes, inner, node, depth)
@@ -437,24 +437,27 @@ fn kind_at_leaf<K: AsBytes, V>(
     }
 }
 
-// Compares the whole prefix of an inner node, to which so many bytes lead, with the rest of the key.
+// Compares the whole prefix of the inner node at a spot with the rest of the key.
 #[inline(always)]
 fn match_full_prefix<K: AsBytes + Drop, V: Drop, const PREFIX_LEN: usize>(
     store: &NodeStore<K, V, PREFIX_LEN>,
+    spot: Spot,
     name: InnerPtr,
     node: InnerRef<'_, PREFIX_LEN>,
     key_bytes: &[u8],
-    depth: usize,
 ) -> Result<PrefixMatch, ExplicitMismatch>
     requires inner { name.kind ≢ Leaf }
+    requires name { inner_name name ≡ spot.name }
     requires node { Some (ref_view node) ≡ map.get store.now.inners name }
-    requires depth { depth ≤ length key_bytes.now }
-    requires part { (node : Tree OpaqueNodePtr (K × V)) ×
-        IsPart (of_key K.bytes) PREFIX_LEN store.now (inner_name name) depth node }
-    ensures { (node : Tree OpaqueNodePtr (K × V)) →
-        IsPart (of_key K.bytes) PREFIX_LEN store.now (inner_name name) depth node →
-        IsCompared (of_key K.bytes) PREFIX_LEN key_bytes.now node depth result }
+    requires spot { (root : OpaqueNodePtr) ×
+        IsCanonicalRoot (of_key K.bytes) PREFIX_LEN store.now root ×
+        ForTree (of_key K.bytes) PREFIX_LEN store.now root (λ pairs layout.
+        IsAt (of_key K.bytes) PREFIX_LEN key_bytes.now layout spot) }
+    ensures { (root : OpaqueNodePtr) → ForTree (of_key K.bytes) PREFIX_LEN store.now root
+        (λ pairs layout. (at : IsAt (of_key K.bytes) PREFIX_LEN key_bytes.now layout spot) →
+        IsCompared (of_key K.bytes) PREFIX_LEN key_bytes.now at.node spot.depth result) }
 {
+    let depth = spot.depth;
     let rest_of_key = &key_bytes[depth..];
     let len = node.prefix_len();
     if len <= PREFIX_LEN {
