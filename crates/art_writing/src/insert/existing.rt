@@ -48,7 +48,7 @@ impl InsertPoint {
     }
 }
 
-ghost use Rattle.std.specs.Prelude.{◌≢◌, ◌<◌, IsSome, IsSomeAnd, IsTrue, IfSome, None, length};
+ghost use Rattle.std.specs.Prelude.{◌≢◌, ◌<◌, IsSomeAnd, IsTrue, IfSome, None, length};
 ghost use Rattle.std.specs.FinMap as map;
 ghost use Rattle.art_inner.specs.Changes.{with_child};
 ghost use Rattle.art_inner.specs.Inner.{HasPlace};
@@ -94,16 +94,11 @@ fn kind_if_full<K: AsBytes + Drop, V: Drop, const P: usize>(
     store: &NodeStore<K, V, P>,
     name: InnerPtr,
 ) -> Option<NodeType>
-    requires { IsSome (map.get store.now.inners name) }
     ensures { result ≡ (placed_for store.now (kinds.IntoExisting name)).inner }
 {
-    let Some(node) = store.inner(name) else {
-        unreachable!()
-    };
-    if node.is_full() {
-        name.kind.larger()
-    } else {
-        None
+    match store.inner(name) {
+        Some(node) if node.is_full() => name.kind.larger(),
+        _ => None,
     }
 }
 

@@ -13,11 +13,6 @@ use Rattle.art_writing.proofs.LeafAdded.{no_leaf_asked, previous_is_there, next_
 use Rattle.art_writing.proofs.Reserved.{leaf_promised, inner_promised, after_reserve, is_none, not_refused}
 use Rattle.art_writing.proofs.insert.InsertPoint.add_child.Goals as goal
 
-pub kind_if_full-larger-requires : goal.kind_if_full-larger-requires
-kind_if_full-larger-requires g c =
-    let (pairs, layout, by, own) = c.requires.answers in
-    (search rules, entry_there by (entry c.requires.answers c.requires.point refl by))
-
 pub links_below-previous-requires : goal.links_below-previous-requires
 links_below-previous-requires g c =
     let (pairs, layout, by, own) = c.requires.answers in
