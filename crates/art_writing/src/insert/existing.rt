@@ -1,5 +1,5 @@
 //! A new leaf below a node that is there.
-ghost use Rattle.std.specs.Prelude.{◌≡◌};
+ghost use Rattle.std.specs.Prelude.{◌≡◌, get_or};
 ghost use Rattle.art_model.specs.Pairs.{of_key};
 ghost use Rattle.art_writing.specs.Applied.{IsApplied};
 ghost use Rattle.art_writing.specs.Inserted.{IsPointIn, placed_for};
@@ -24,9 +24,10 @@ impl InsertPoint {
         requires answers { IsPointIn (of_key K.bytes) P store.old (K.bytes key) self }
         ensures { IsApplied (of_key K.bytes) P store.old store.new self (key, value) result }
     {
-        let byte = key.as_bytes()[self.key_bytes_used];
+        let key_bytes = key.as_bytes();
+        let byte = key_bytes[self.key_bytes_used];
         let larger = kind_if_full(store, inner_node_ptr);
-        let (previous, next) = links_below(store, inner_node_ptr, byte);
+        let (previous, next) = self.links_below(store, inner_node_ptr, key_bytes);
         if store.reserve(1, larger).is_err() {
             return Err(Refused { key, value });
         }
@@ -45,6 +46,30 @@ impl InsertPoint {
         }
         store.write_child(inner_node_ptr, byte, child);
         Ok(new_child(leaf_node_ptr, inner_node_ptr, byte, self.root))
+    }
+
+    // The leaves beside a new one that comes below an inner node.
+    fn links_below<K: AsBytes + Drop, V: Drop, const P: usize>(
+        self,
+        store: &NodeStore<K, V, P>,
+        name: InnerPtr,
+        key_bytes: &[u8],
+    ) -> (OptionalLeafPtr, OptionalLeafPtr)
+        requires point { self.insert_kind ≡ kinds.IntoExisting name }
+        requires answers { IsPointIn (of_key K.bytes) P store.now key_bytes.now self }
+        ensures beside { (left : Subtrees OpaqueNodePtr (K × V)) →
+            (right : Subtrees OpaqueNodePtr (K × V)) →
+            HasGap store.now name (get_or key_bytes.now self.key_bytes_used 0) left right →
+            ComesBetween store.now left right result.0 result.1 }
+        ensures few { IfSome (map.get store.now.inners name) (λ node.
+            length node.children < 256) }
+    {
+        let Some(node) = store.inner(name) else {
+            unreachable!()
+        };
+        let byte = key_bytes[self.key_bytes_used];
+        let (other, child) = node.beside(byte);
+        links_beside(store, child, Side::of(byte, other))
     }
 }
 
@@ -100,27 +125,6 @@ fn kind_if_full<K: AsBytes + Drop, V: Drop, const P: usize>(
         Some(node) if node.is_full() => name.kind.larger(),
         _ => None,
     }
-}
-
-// The leaves beside a new one that comes below an inner node, under a byte that has no child yet.
-fn links_below<K: AsBytes + Drop, V: Drop, const P: usize>(
-    store: &NodeStore<K, V, P>,
-    name: InnerPtr,
-    byte: u8,
-) -> (OptionalLeafPtr, OptionalLeafPtr)
-    requires inner { name.kind ≢ Leaf }
-    requires gap { (left : Subtrees OpaqueNodePtr (K × V)) ×
-        (right : Subtrees OpaqueNodePtr (K × V)) × HasGap store.now name byte left right }
-    ensures beside { (left : Subtrees OpaqueNodePtr (K × V)) →
-        (right : Subtrees OpaqueNodePtr (K × V)) → HasGap store.now name byte left right →
-        ComesBetween store.now left right result.0 result.1 }
-    ensures few { IfSome (map.get store.now.inners name) (λ node. length node.children < 256) }
-{
-    let Some(node) = store.inner(name) else {
-        unreachable!()
-    };
-    let (other, child) = node.beside(byte);
-    links_beside(store, child, Side::of(byte, other))
 }
 
 // Puts a larger node with a child more in the place of one at the end of a path, and answers its name
