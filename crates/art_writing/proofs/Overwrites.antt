@@ -23,7 +23,7 @@ use Rattle.art_model.specs.Paths.{Frame, plug, leaves_before, leaves_after}
 use Rattle.art_model.specs.Places.{depth_of, prefix_of, IsEndNode}
 use Rattle.art_model.specs.Radix.{AreRadix, bytes_of, pairs_of, pairs_below}
 use Rattle.art_model.specs.Roots.{ForTree, IsFullTree}
-use Rattle.art_model.specs.Stores.{held, seen, node_at, links_at, pair_of}
+use Rattle.art_model.specs.Stores.{node_at, links_at, pair_of}
 use Rattle.art_model.specs.Trees.{Tree, leaf, inner, Subtrees, child, no_child}
 use Rattle.art_model.specs.Writes.{as_inner, parent_of, with_child_at, with_leaf, IsThere}
 use Rattle.art_model.proofs.Canonical.{IsLaidOut, laid_out, canonical_from}

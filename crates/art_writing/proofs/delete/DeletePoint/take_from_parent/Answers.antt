@@ -1,9 +1,8 @@
-use Rattle.std.proofs.Common.{rules, ◌≡◌, ap, sym, ◌∙◌}
-use Rattle.std.proofs.lemmas.Bool.{ltb-false, ltb-true}
-use Rattle.art_parts.specs.Kinds.{next_smaller}
+use Rattle.std.proofs.Common.{rules, ◌≡◌, sym, ◌∙◌}
+use Rattle.std.proofs.lemmas.Bool.{ltb-true}
 use Rattle.art_inner.specs.Views.{ref_kind}
 use Rattle.art_writing.specs.Deleted.{parent_change, keeps}
-use Rattle.art_writing.proofs.Below.{is_below, leaf_ready, child_deleted, change_seen, change-keeps, change-shrinks, change-is_compressed}
+use Rattle.art_writing.proofs.Below.{is_below, leaf_ready, child_deleted, change_seen, change-keeps}
 use Rattle.art_writing.proofs.Deletions.{parent_at, taken_out_of}
 use Rattle.art_writing.proofs.delete.DeletePoint.take_from_parent.Goals as goal
 

@@ -1,15 +1,15 @@
-use Rattle.std.proofs.Common.{rules, ◌∙◌, ap, sym, refl, subst, get_or, Some, IsTrue}
+use Rattle.std.proofs.Common.{rules, ◌∙◌, ap, sym, subst, get_or, Some, IsTrue}
 use Rattle.std.specs.FinMap as map
 use Rattle.art_parts.specs.Kinds.{larger_kind}
 use Rattle.art_nodes.specs.Nodes.{covers, promises, take_leaf}
 use Rattle.art_model.specs.Promises.{inner_taken}
 use Rattle.art_model.specs.Writes.{IsThere}
-use Rattle.art_writing.specs.Inserted.{is_full, placed_for}
+use Rattle.art_writing.specs.Inserted.{placed_for}
 use Rattle.art_writing.specs.Writes.{HasChild}
 use Rattle.art_reading.specs.Paths.{last_step}
 use Rattle.art_writing.proofs.Applied.{applied}
 use Rattle.art_writing.proofs.Entered.{entry, entry_gap, entry_parent}
-use Rattle.art_writing.proofs.LeafAdded.{no_leaf_asked, previous_is_there, next_is_there, room_inserted, full_inserted, has_room, larger_has_room, asked_full, asked_room}
+use Rattle.art_writing.proofs.LeafAdded.{previous_is_there, next_is_there, room_inserted, full_inserted, has_room, larger_has_room, asked_full, asked_room}
 use Rattle.art_writing.proofs.Reserved.{leaf_promised, inner_promised, after_reserve, is_none, not_refused}
 use Rattle.art_writing.proofs.insert.InsertPoint.add_child.Goals as goal
 

@@ -2,11 +2,10 @@ use Rattle.std.proofs.Common.{rules, ◌∙◌, ap, sym, subst, Some, IsTrue}
 use Rattle.art_parts.specs.declared.names.NodeType.TheVariants.{Node4}
 use Rattle.art_model.specs.Promises.{is_covered}
 use Rattle.art_writing.specs.Inserted.{placed_for}
-use Rattle.art_writing.specs.Writes.{SameNodes}
 use Rattle.art_writing.proofs.Applied.{applied, refused}
 use Rattle.art_writing.proofs.Branches.{end_parent, previous_is_there, next_is_there, read_for}
 use Rattle.art_writing.proofs.Reserved.{after_reserve, not_granted, was_refused}
-use Rattle.art_writing.proofs.Standing.{tree_stays, answers_to, point_stays}
+use Rattle.art_writing.proofs.Standing.{tree_stays, answers_to}
 use Rattle.art_writing.proofs.Splits.{leaf_split}
 use Rattle.art_writing.proofs.insert.InsertPoint.split_leaf.Goals as goal
 

@@ -1,4 +1,4 @@
-use Rattle.std.proofs.Common.{rules, refl, ap, sym, ◌∙◌, subst, Some, IsTrue}
+use Rattle.std.proofs.Common.{rules, ap, sym, ◌∙◌, subst, Some, IsTrue}
 use Rattle.art_inner.specs.Changes.{with_header}
 use Rattle.art_nodes.specs.Nodes.{change, take_inner, take_leaf}
 use Rattle.art_parts.specs.declared.names.NodeType.TheVariants.{Node4}
@@ -8,11 +8,9 @@ use Rattle.art_writing.specs.Inserted.{placed_for}
 use Rattle.art_writing.specs.Writes.{SameNodes}
 use Rattle.art_writing.proofs.Applied.{applied, refused}
 use Rattle.art_writing.proofs.Branches.{previous_is_there, next_is_there, read_for}
-use Rattle.art_writing.proofs.LeafWrites.{some_there}
 use Rattle.art_writing.proofs.Reserved.{after_reserve, not_granted, was_refused}
-use Rattle.art_writing.proofs.Standing.{tree_stays, answers_to, point_stays}
+use Rattle.art_writing.proofs.Standing.{tree_stays, answers_to}
 use Rattle.art_writing.proofs.Splits.{parent_stays, prefix_split}
-use Rattle.art_writing.proofs.Trims.{inner_gone}
 use Rattle.art_writing.proofs.insert.InsertPoint.split_prefix.Goals as goal
 
 pub returns-then-is_err : goal.returns-then-is_err
