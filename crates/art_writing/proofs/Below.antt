@@ -1,7 +1,7 @@
 -- The leaf of a delete point below its parent, and what the writes that take it out leave.
 use Rattle.std.proofs.Common.{◌≡◌, ◌≢◌, ℕ, suc, ◌<◌, ◌≤◌, List, [], ◌∷◌, length, Bool, true, false, cond, leb, refl, ap, sym, ◌∙◌, subst, arith, Option, Some, None, IsSome, is_some, IfSome, IsSomeAnd}
 use Rattle.std.specs.FinMap.{get, insert, remove}
-use Rattle.std.proofs.lemmas.Bool.{le-leb, leb-true, leb-false, lt-leb}
+use Rattle.std.proofs.lemmas.Bool.{leb-true, leb-false, lt-leb}
 use Rattle.art_inner.specs.Changes.{without_child}
 use Rattle.art_inner.specs.Inner.{Inner, child_at, remove_child}
 use Rattle.art_parts.specs.Kinds.{kind_capacity, kind_least, next_smaller, smaller_kind}
@@ -91,22 +91,6 @@ change-keeps Node16 count more = rw (lt-leb count 5 more) refl
 change-keeps Node48 count more = rw (lt-leb count 17 more) refl
 change-keeps Node256 count more = rw (lt-leb count 49 more) refl
 change-keeps Leaf count more = rw (lt-leb count 0 more) refl
-
--- it shrinks
-pub change-shrinks : (kind to : NodeType) (count : ℕ) → count ≤ kind_least kind → next_smaller kind ≡ Some to → change_of kind count ≡ shrinks to
-change-shrinks Node4 to count most e = absurd cc
-change-shrinks Node16 to count most e = rw (le-leb count 5 most) (ap shrinks (some_same e))
-change-shrinks Node48 to count most e = rw (le-leb count 17 most) (ap shrinks (some_same e))
-change-shrinks Node256 to count most e = rw (le-leb count 49 most) (ap shrinks (some_same e))
-change-shrinks Leaf to count most e = absurd cc
-
--- it is compressed
-pub change-is_compressed : (kind : NodeType) (count : ℕ) → kind ≢ Leaf → count ≤ kind_least kind → next_smaller kind ≡ None → change_of kind count ≡ is_compressed
-change-is_compressed Node4 count proper most e = rw (le-leb count 2 most) refl
-change-is_compressed Node16 count proper most e = absurd cc
-change-is_compressed Node48 count proper most e = absurd cc
-change-is_compressed Node256 count proper most e = absurd cc
-change-is_compressed Leaf count proper most e = absurd (proper refl)
 
 -- the kind to which one shrinks is that of an inner node
 pub smaller_is : (kind to : NodeType) → next_smaller kind ≡ Some to → (to ≡ smaller_kind kind) × (to ≢ Leaf)

@@ -1,5 +1,5 @@
 //! Insertion: the point at which a key comes into a tree.
-ghost use Rattle.std.specs.Prelude.{◌≡◌, ◌≢◌, ◌≤◌, ◌↔◌, length, true, false, IsOk, IfOk, IfErr};
+ghost use Rattle.std.specs.Prelude.{◌≡◌, ◌≢◌, ◌≤◌, ◌↔◌, length, false, IsOk, IfOk, IfErr};
 ghost use Rattle.art_parts.specs.Names.{inner_name};
 ghost use Rattle.art_parts.specs.declared.names.NodeType.TheVariants.{Leaf};
 ghost use Rattle.art_parts.specs.declared.names.OpaqueNodePtr.{OpaqueNodePtr};
@@ -8,11 +8,10 @@ ghost use Rattle.art_inner.specs.Views.{ref_view};
 ghost use Rattle.art_model.specs.Keys.{IsFront};
 ghost use Rattle.art_model.specs.Pairs.{is_conflict, of_key};
 ghost use Rattle.art_model.specs.Roots.{ForTree, IsCanonicalRoot};
-ghost use Rattle.art_model.specs.Trees.{Tree};
 ghost use Rattle.art_writing.specs.Inserted.{IsPointIn};
 ghost use Rattle.art_reading.specs.Matching.{shared_len};
 ghost use Rattle.art_writing.specs.Overwritten.{IsPrefixPointIn, root_of};
-ghost use Rattle.art_writing.specs.Points.{AnswersTo, IsAt, IsCompared, IsKindFor, IsPart, IsPointFor, IsRefusedFor, IsStepFrom};
+ghost use Rattle.art_writing.specs.Points.{AnswersTo, IsAt, IsCompared, IsKindFor, IsPointFor, IsRefusedFor, IsStepFrom};
 
 use art_nodes::node::{
     AsBytes, InnerPtr, InnerRef, LeafNode, LeafPtr, NodePtr, OpaqueNodePtr, OptionalLeafPtr,

@@ -77,11 +77,10 @@ ghost use Rattle.std.specs.Prelude.{◌≢◌, ◌<◌, IsSomeAnd, IsTrue, IfSom
 ghost use Rattle.std.specs.FinMap as map;
 ghost use Rattle.art_inner.specs.Changes.{with_child};
 ghost use Rattle.art_inner.specs.Inner.{HasPlace};
-ghost use Rattle.art_inner.specs.Views.{ref_view};
 ghost use Rattle.art_parts.specs.Kinds.{kind_capacity, larger_kind};
 ghost use Rattle.art_parts.specs.Names.{inner_name};
 ghost use Rattle.art_nodes.specs.Nodes.{promises, take_inner};
-ghost use Rattle.art_parts.specs.declared.names.NodeType.TheVariants.{Leaf, Node256};
+ghost use Rattle.art_parts.specs.declared.names.NodeType.TheVariants.{Node256};
 ghost use Rattle.art_parts.specs.declared.names.OpaqueNodePtr.{OpaqueNodePtr};
 ghost use Rattle.art_model.specs.Trees.{Subtrees};
 ghost use Rattle.art_model.specs.Writes.{with_child_at};
