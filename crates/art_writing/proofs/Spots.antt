@@ -342,7 +342,8 @@ module _ {K V : Type 0} {s : Nodes K V} {bytes : K × V → List ℕ} {P : ℕ} 
               }
 
         -- the step past the prefix
-        pub prefix_step : {step : SearchStep} → (length key ≤ depth + match.matched_bytes → step ≡ overwriting (record { path = path; name = name; depth = depth }) root (depth + match.matched_bytes - 1)) →
+        pub prefix_step : {step : SearchStep} →
+            (length key ≤ depth + match.matched_bytes → step ≡ overwriting (record { path = path; name = name; depth = depth }) root (depth + match.matched_bytes - 1)) →
             (depth + match.matched_bytes < length key → child_at shown.children (get_or key (depth + match.matched_bytes) 0) ≡ None →
             step ≡ inserting (record { path = path; name = name; depth = depth }) root (IntoExisting p) (depth + match.matched_bytes)) →
             (depth + match.matched_bytes < length key → (to : OpaqueNodePtr) → child_at shown.children (get_or key (depth + match.matched_bytes) 0) ≡ Some to →

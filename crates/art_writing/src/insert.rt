@@ -279,7 +279,7 @@ impl Spot {
         }))
     }
 
-    // The point at this node where the key parts from its prefix after so many bytes, or ends there.
+    // The point at this node where the key, after so many bytes, parts from its prefix or ends in it.
     #[inline(always)]
     fn point_in_prefix(
         self,

@@ -149,7 +149,8 @@ impl DeletePoint {
 // Whether a node has more children than its kind has at least.
 #[inline(always)]
 fn has_spare_child<const P: usize>(node: InnerRef<'_, P>) -> bool
-    ensures { result ≡ nat_lt (kind_least (ref_kind node.entry)) (length (ref_view node.entry).children) }
+    ensures { result ≡
+        nat_lt (kind_least (ref_kind node.entry)) (length (ref_view node.entry).children) }
 {
     let kind = node.node_type();
     node.num_children() > *kind.capacity_range().start()

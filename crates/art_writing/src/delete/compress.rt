@@ -92,7 +92,8 @@ fn lengthen_prefix<K: AsBytes + Drop, V: Drop, const P: usize>(
     store.set_header(inner, header);
 }
 
-// The header of a prefix, a byte and the prefix of a node, one behind the other. A key has all these bytes.
+// The header of a prefix, a byte and the prefix of a node, one behind the other. A key has all these
+// bytes.
 #[inline(always)]
 fn header_below<const P: usize>(
     front: Header<P>,

@@ -55,7 +55,8 @@ impl OverwritePoint {
         store: &NodeStore<K, V, P>,
     ) -> (OptionalLeafPtr, OptionalLeafPtr)
         requires inner { self.overwrite_point.kind ≢ Leaf }
-        requires answers { (key : List ℕ) × IsOverwritePointIn (of_key K.bytes) P store.now key self }
+        requires answers { (key : List ℕ) ×
+            IsOverwritePointIn (of_key K.bytes) P store.now key self }
         ensures previous { (tree : Tree OpaqueNodePtr (K × V)) →
             IsFullTree store.now self.overwrite_point tree →
             (first : Option LeafPtr) × IsBeside store.now tree Before result.0 first }
