@@ -1,7 +1,7 @@
 -- The leaf of a delete point below its parent, and what the writes that take it out leave.
 use Rattle.std.proofs.Common.{◌≡◌, ◌≢◌, ℕ, suc, ◌<◌, ◌≤◌, List, [], ◌∷◌, length, Bool, true, false, cond, leb, refl, ap, sym, ◌∙◌, subst, arith, Option, Some, None, IsSome, is_some, IfSome, IsSomeAnd}
 use Rattle.std.specs.FinMap.{get, insert, remove}
-use Rattle.std.proofs.lemmas.Bool.{le-leb, leb-true, leb-false, lt-leb}
+use Rattle.std.proofs.lemmas.Bool.{leb-true, leb-false, lt-leb}
 use Rattle.art_inner.specs.Changes.{without_child}
 use Rattle.art_inner.specs.Inner.{Inner, child_at, remove_child}
 use Rattle.art_parts.specs.Kinds.{kind_capacity, kind_least, next_smaller, smaller_kind}
@@ -73,16 +73,16 @@ shrinks_least Leaf to count e = ((λ f. absurd cc), leb-true count 0 (passed (le
 -- ---- what becomes of a parent, by its kind and its number of children
 
 -- of one that is in the store
-pub change_seen : {K V : Type 0} (s : Nodes K V) (path : TreePath) {parent : InnerPtr} {byte count : ℕ} {node : Inner} {kind : NodeType} → last_step path ≡ Some (parent, byte) →
-    get s.inners parent ≡ Some node → kind ≡ parent.kind → count ≡ length node.children → parent_change s path ≡ change_of kind count
-change_seen s path {parent} {count = count} step got kind_is count_is =
+pub change_seen : {K V : Type 0} (s : Nodes K V) (path : TreePath) {parent : InnerPtr} {byte : ℕ} {node : Inner} {kind : NodeType} → last_step path ≡ Some (parent, byte) →
+    get s.inners parent ≡ Some node → kind ≡ parent.kind → parent_change s path ≡ change_of kind (length node.children)
+change_seen s path {parent} {node = node} step got kind_is =
     ap (λ (o : Option (InnerPtr × ℕ)). elim o as (λ _. ParentChange) [
       | None ↦ no_parent
       | Some p ↦
           elim (get s.inners p.0) as (λ _. ParentChange) [ None ↦ no_parent | Some i ↦ change_of p.0.kind (length i.children) ]
     ]) step
     ∙ ap (λ (o : Option Inner). elim o as (λ _. ParentChange) [ None ↦ no_parent | Some i ↦ change_of parent.kind (length i.children) ]) got
-    ∙ ap (change_of parent.kind) (sym count_is) ∙ ap (λ k. change_of k count) (sym kind_is)
+    ∙ ap (λ k. change_of k (length node.children)) (sym kind_is)
 
 -- it keeps its kind
 pub change-keeps : (kind : NodeType) (count : ℕ) → kind_least kind < count → change_of kind count ≡ keeps
@@ -91,22 +91,6 @@ change-keeps Node16 count more = rw (lt-leb count 5 more) refl
 change-keeps Node48 count more = rw (lt-leb count 17 more) refl
 change-keeps Node256 count more = rw (lt-leb count 49 more) refl
 change-keeps Leaf count more = rw (lt-leb count 0 more) refl
-
--- it shrinks
-pub change-shrinks : (kind to : NodeType) (count : ℕ) → count ≤ kind_least kind → next_smaller kind ≡ Some to → change_of kind count ≡ shrinks to
-change-shrinks Node4 to count most e = absurd cc
-change-shrinks Node16 to count most e = rw (le-leb count 5 most) (ap shrinks (some_same e))
-change-shrinks Node48 to count most e = rw (le-leb count 17 most) (ap shrinks (some_same e))
-change-shrinks Node256 to count most e = rw (le-leb count 49 most) (ap shrinks (some_same e))
-change-shrinks Leaf to count most e = absurd cc
-
--- it is compressed
-pub change-is_compressed : (kind : NodeType) (count : ℕ) → kind ≢ Leaf → count ≤ kind_least kind → next_smaller kind ≡ None → change_of kind count ≡ is_compressed
-change-is_compressed Node4 count proper most e = rw (le-leb count 2 most) refl
-change-is_compressed Node16 count proper most e = absurd cc
-change-is_compressed Node48 count proper most e = absurd cc
-change-is_compressed Node256 count proper most e = absurd cc
-change-is_compressed Leaf count proper most e = absurd (proper refl)
 
 -- the kind to which one shrinks is that of an inner node
 pub smaller_is : (kind to : NodeType) → next_smaller kind ≡ Some to → (to ≡ smaller_kind kind) × (to ≢ Leaf)
@@ -204,7 +188,7 @@ module _ {K V : Type 0} {bytes : K × V → List ℕ} {P : ℕ} {s : Nodes K V} 
         change_of at.frame.mark.kind (suc (length (bytes_of (join at.frame.left at.frame.right)))) ≡ to
     change_is to step is =
         let (node, got, off, count) = parent_there in
-        let told : parent_change s point.path ≡ change_of parent.kind (length node.children) = change_seen s point.path step got refl refl in
+        let told : parent_change s point.path ≡ change_of parent.kind (length node.children) = change_seen s point.path step got refl in
         ap (λ (p : InnerPtr). change_of p.kind (suc (length (bytes_of (join at.frame.left at.frame.right))))) at.parent_is ∙ ap (change_of parent.kind) (sym count) ∙ sym told ∙ is
 
     -- ---- after writes that change no leaf the leaf goes

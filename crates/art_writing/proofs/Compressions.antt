@@ -30,8 +30,3 @@ module _ {K V : Type 0} (bytes : K → List ℕ) (leaves : Option (LeafNode K V)
       none : (l : Option (LeafNode K V)) → IsSomeAnd l (λ leaf. ⊥) → ⊥
       none None h = h
       none (Some x) h = h
-
-  pub lengths_sum : {leaf : LeafNode K V} {node : Inner} → Some leaf ≡ leaves → Some node ≡ inners → front + 1 + node.prefix.len ≤ length (bytes leaf.key)
-  lengths_sum {leaf} {node} leaf_is node_is =
-      subst (λ i. IsSomeAnd i (λ node. front + 1 + node.prefix.len ≤ length (bytes leaf.key))) (sym node_is)
-      (subst (λ l. IsSomeAnd l (λ leaf. IsSomeAnd inners (λ node. front + 1 + node.prefix.len ≤ length (bytes leaf.key)))) (sym leaf_is) may)

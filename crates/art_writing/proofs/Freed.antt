@@ -1,5 +1,5 @@
 -- What is freed, one name after another.
-use Rattle.std.proofs.Common.{◌≡◌, ◌≢◌, ℕ, ◌-◌, suc, List, [], ◌∷◌, ◌++◌, Option, Some, None, IsSome, refl, ap, sym, ◌∙◌, subst, append-nil, append_assoc, arith, cond, is_some, true, inl, inr}
+use Rattle.std.proofs.Common.{◌≡◌, ◌≢◌, ℕ, ◌-◌, suc, List, [], ◌∷◌, ◌++◌, Option, Some, None, IfSome, IsSome, refl, ap, sym, ◌∙◌, subst, append-nil, append_assoc, arith, cond, is_some, true, inl, inr}
 use Rattle.std.specs.Option.{option_map, option_and_then}
 use Rattle.std.specs.FinMap as map
 use Rattle.std.proofs.lemmas.Bool.{false≢true, eq-eqb, ne_eqb}
@@ -137,3 +137,9 @@ pub first_taken : (m : map.FinMap inner_cmp Inner) (p : InnerPtr) (node : Inner)
     Some node ≡ map.get m p → node.children ≡ (b, child) ∷ rest → IsRising node.children → change m p (without_child b) ≡ change m p without_first_child
 first_taken m p node b child rest there is rising =
     changed_from m p (without_child b) (Some node) (sym there) ∙ ap (map.insert m p) (first_gone node b child rest is rising) ∙ sym (changed_from m p without_first_child (Some node) (sym there))
+
+-- its first child's name, by the children that are left of it
+pub first_named : {o : Option Inner} {node : Inner} {children : List (ℕ × OpaqueNodePtr)} {answer : Option OpaqueNodePtr} → Some node ≡ o → children ≡ node.children →
+    answer ≡ option_map (λ child. child.1) (first_of children) → IfSome o (λ node. answer ≡ option_map (λ child. child.1) (first_of node.children))
+first_named {answer = answer} there same is =
+    subst (λ o. IfSome o (λ node. answer ≡ option_map (λ child. child.1) (first_of node.children))) there (is ∙ ap (λ l. option_map (λ child. child.1) (first_of l)) same)

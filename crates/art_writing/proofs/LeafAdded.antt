@@ -61,15 +61,6 @@ next_larger_is Node48 not_last proper = refl
 next_larger_is Node256 not_last proper = absurd (not_last refl)
 next_larger_is Leaf not_last proper = absurd (proper refl)
 
--- no kind of a leaf is asked for
-pub no_leaf_asked : (kind : NodeType) (full : Bool) → cond full (next_larger kind) None ≢ Some Leaf
-no_leaf_asked Node4 true e = absurd cc
-no_leaf_asked Node16 true e = absurd cc
-no_leaf_asked Node48 true e = absurd cc
-no_leaf_asked Node256 true e = absurd cc
-no_leaf_asked Leaf true e = absurd cc
-no_leaf_asked kind false e = absurd cc
-
 module _ {K V : Type 0} {bytes : K × V → List ℕ} {P : ℕ} {s : Nodes K V} (point : InsertPoint) {p : InnerPtr} {pairs : List (K × V)} {layout : Tree OpaqueNodePtr (K × V)} (new : K × V) {b : ℕ}
     (by : IsCanonicalTree bytes P s point.root pairs layout) (e : IsEntry bytes P p layout (bytes new) point.path b) where
   abbrev count : ℕ

@@ -23,7 +23,7 @@ use Rattle.art_model.specs.Paths.{Frame, plug, leaves_before, leaves_after}
 use Rattle.art_model.specs.Places.{depth_of, prefix_of, IsEndNode}
 use Rattle.art_model.specs.Radix.{AreRadix, bytes_of, pairs_of, pairs_below}
 use Rattle.art_model.specs.Roots.{ForTree, IsFullTree}
-use Rattle.art_model.specs.Stores.{held, seen, node_at, links_at, pair_of}
+use Rattle.art_model.specs.Stores.{node_at, links_at, pair_of}
 use Rattle.art_model.specs.Trees.{Tree, leaf, inner, Subtrees, child, no_child}
 use Rattle.art_model.specs.Writes.{as_inner, parent_of, with_child_at, with_leaf, IsThere}
 use Rattle.art_model.proofs.Canonical.{IsLaidOut, laid_out, canonical_from}
@@ -197,20 +197,6 @@ module _ {K V : Type 0} {bytes : K × V → List ℕ} {P : ℕ} {s : Nodes K V} 
               let (y, ys, f) = radix_some bytes P u ((place ++ hole.radix.0) ++ c ∷ []) h.1.0 in
               rw (e, f) (let l = length-append xs (y ∷ (ys ++ pairs_below cs)) in omega arith)
 
-module _ {K V : Type 0} (s r : Nodes K V) (same : SameNodes s r) where
-  -- a tree stands in a store with the same nodes
-  pub full_stays : {name : OpaqueNodePtr} {tree : Tree OpaqueNodePtr (K × V)} → IsFullTree s name tree → IsFullTree r name tree
-  full_stays {name} {tree} full = (
-    record {
-      named = full.0.named;
-      holds = frame (node_at s) (node_at r) tree (each_from (λ k. node_at r k ≡ node_at s k) (names_of tree)
-          (λ k i. ap (option_map (seen k.kind)) (ap₂ (λ leaves inners. held (record r { leaves = leaves; inners = inners }) k) same.0 same.1))) full.0.holds;
-      distinct = full.0.distinct;
-    },
-    full.1,
-  )
-
--- a tree has as many leaves as pairs
 -- more than one went
 went_many : {X : Type 0} (xs : List X) → 2 ≤ length xs → went xs ≡ (None, length xs)
 went_many [] two = absurd (omega arith)
@@ -286,19 +272,16 @@ module _ {K V : Type 0} {bytes : K × V → List ℕ} {P : ℕ} {s : Nodes K V} 
       has None h = tt
       has (Some p) h = some (map.get s.inners p.0) p.1 h
 
-  -- what is read of the leaves beside it, in a store with the same nodes
-  module _ (r : Nodes K V) (same : SameNodes s r) where
-    pub read_previous : (read : Option LeafPtr × Option LeafPtr) →
-        ((tree : Tree OpaqueNodePtr (K × V)) → IsFullTree r point.overwrite_point tree → IsBeside r tree Before read.0 read.1) → option_map leaf_name read.0 ≡ last_or (leaves_before at.path) None
-    read_previous read told =
-        let (f, has, is, here) = told at.node (full_stays s r same at.full) in
-        links_previous read.0 read.1 (f, has, is, subst (λ m. IsSomeAnd (map.get m f) (λ leaf. read.0 ≡ leaf.previous)) same.0 here)
+  -- what is read of the leaves beside it
+  pub read_previous : (previous : Option LeafPtr) →
+      ((tree : Tree OpaqueNodePtr (K × V)) → IsFullTree s point.overwrite_point tree → (first : Option LeafPtr) × IsBeside s tree Before previous first) →
+      option_map leaf_name previous ≡ last_or (leaves_before at.path) None
+  read_previous previous told = let (first, beside) = told at.node at.full in links_previous previous first beside
 
-    pub read_next : (read : Option LeafPtr × Option LeafPtr) →
-        ((tree : Tree OpaqueNodePtr (K × V)) → IsFullTree r point.overwrite_point tree → IsBeside r tree After read.0 read.1) → option_map leaf_name read.1 ≡ first_or (leaves_after at.path) None
-    read_next read told =
-        let (l, has, is, here) = told at.node (full_stays s r same at.full) in
-        links_next read.0 read.1 (l, has, is, subst (λ m. IsSomeAnd (map.get m l) (λ leaf. read.1 ≡ leaf.next)) same.0 here)
+  pub read_next : (next : Option LeafPtr) →
+      ((tree : Tree OpaqueNodePtr (K × V)) → IsFullTree s point.overwrite_point tree → (last : Option LeafPtr) × IsBeside s tree After last next) →
+      option_map leaf_name next ≡ first_or (leaves_after at.path) None
+  read_next next told = let (last, beside) = told at.node at.full in links_next last next beside
 
   module _ {u : Nodes K V} {n : LeafPtr} {x : LeafNode K V} (put : IsPutAt s u point n x) where
     parent_inners : u.inners ≡ with_child_at (parent_of at.path) (leaf_name n) s.inners
@@ -363,20 +346,23 @@ module _ {K V : Type 0} {bytes : K × V → List ℕ} {P : ℕ} {s : Nodes K V} 
 -- ---- what is asked of the store where the pair is put
 
 module _ {K V : Type 0} {bytes : K × V → List ℕ} {P : ℕ} {s : Nodes K V} {point : OverwritePoint} {key : List ℕ} (answers : IsOverwritePointIn bytes P s key point)
-    (off : point.overwrite_point.kind ≢ Leaf) (r : Nodes K V) (same : SameNodes s r) where
+    (off : point.overwrite_point.kind ≢ Leaf) where
   -- the end node stands for a full tree
-  pub end_full : (tree : Tree OpaqueNodePtr (K × V)) × IsFullTree r point.overwrite_point tree
-  end_full = let (pairs, layout, by, own) = answers in let at = subtree_at answers off by in (at.node, full_stays s r same at.full)
+  pub end_full : (tree : Tree OpaqueNodePtr (K × V)) × IsFullTree s point.overwrite_point tree
+  end_full = let (pairs, layout, by, own) = answers in let at = subtree_at answers off by in (at.node, at.full)
 
+module _ {K V : Type 0} {bytes : K × V → List ℕ} {P : ℕ} {s : Nodes K V} {point : OverwritePoint} {key : List ℕ} (answers : IsOverwritePointIn bytes P s key point)
+    (off : point.overwrite_point.kind ≢ Leaf) (r : Nodes K V) (same : SameNodes s r) where
   -- the leaves beside it are there
-  pub ends_there : {before after : Option LeafPtr × Option LeafPtr} →
-      ((tree : Tree OpaqueNodePtr (K × V)) → IsFullTree r point.overwrite_point tree → IsBeside r tree Before before.0 before.1) →
-      ((tree : Tree OpaqueNodePtr (K × V)) → IsFullTree r point.overwrite_point tree → IsBeside r tree After after.0 after.1) → IsThere r.leaves before.0 × IsThere r.leaves after.1
-  ends_there {before} {after} told_before told_after =
+  pub ends_there : (previous next : Option LeafPtr) →
+      ((tree : Tree OpaqueNodePtr (K × V)) → IsFullTree s point.overwrite_point tree → (first : Option LeafPtr) × IsBeside s tree Before previous first) →
+      ((tree : Tree OpaqueNodePtr (K × V)) → IsFullTree s point.overwrite_point tree → (last : Option LeafPtr) × IsBeside s tree After last next) →
+      IsThere r.leaves previous × IsThere r.leaves next
+  ends_there previous next told_before told_after =
       let (pairs, layout, by, own) = answers in
       let at = subtree_at answers off by in (
-        subst (λ m. IsThere m before.0) (sym same.0) (subtree_previous by at (read_previous by at r same before told_before)),
-        subst (λ m. IsThere m after.1) (sym same.0) (subtree_next by at (read_next by at r same after told_after)),
+        subst (λ m. IsThere m previous) (sym same.0) (subtree_previous by at (read_previous by at previous told_before)),
+        subst (λ m. IsThere m next) (sym same.0) (subtree_next by at (read_next by at next told_after)),
       )
 
   -- and the parent

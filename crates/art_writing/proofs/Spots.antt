@@ -1,8 +1,8 @@
 -- the way down with a key to its end node
-use Rattle.std.proofs.Common.{◌≡◌, ◌≢◌, ℕ, ◌+◌, ◌-◌, ◌<◌, ◌≤◌, List, [], ◌∷◌, ◌++◌, length, drop, get_or, refl, ap, sym, ◌∙◌, arith, subst, append_assoc, append-nil, length-append, length-drop, Option, Some, None, Ok, Err, true, false}
+use Rattle.std.proofs.Common.{◌≡◌, ◌≢◌, ℕ, ◌+◌, ◌-◌, ◌<◌, ◌≤◌, List, [], ◌∷◌, ◌++◌, length, drop, get_or, refl, ap, sym, ◌∙◌, arith, subst, append_assoc, append-nil, length-append, length-drop, Option, Some, None, Ok, Err, true, false, Bool, leb}
 use Rattle.std.specs.List.{AllByRecursion as Each}
 use Rattle.std.specs.FinMap as map
-use Rattle.std.proofs.lemmas.Bool.{eq-eqb, ne_eqb}
+use Rattle.std.proofs.lemmas.Bool.{eq-eqb, ne_eqb, leb-true, leb-false}
 use Rattle.std.proofs.lemmas.Option.{slice_get_within}
 use Rattle.art_inner.specs.Inner.{Inner, child_at}
 use Rattle.art_parts.specs.Names.{leaf_name, inner_name}
@@ -35,6 +35,8 @@ use Rattle.art_model.proofs.Shown.{IsShown, IsThere, leaf_shown, leaf_met, inner
 use Rattle.art_model.proofs.Stores.{path_holds}
 use Rattle.art_model.specs.Roots.{ForTree, IsCanonicalRoot}
 use Rattle.art_writing.specs.declared.insert.Spot.{Spot}
+use Rattle.art_writing.specs.declared.insert.SearchStep.{SearchStep}
+use Rattle.art_writing.specs.declared.insert.SearchStep.TheVariants.{Down}
 use Rattle.art_writing.specs.declared.insert.InsertKind.{InsertKind}
 use Rattle.art_writing.specs.declared.insert.InsertKind.TheVariants.{MismatchPrefix, SplitLeaf, Exact, IntoExisting}
 use Rattle.art_reading.specs.declared.path.ExplicitMismatch.{ExplicitMismatch}
@@ -42,7 +44,7 @@ use Rattle.art_reading.specs.declared.path.PrefixMatch.{PrefixMatch}
 use Rattle.art_reading.specs.declared.path.TreePath.{TreePath}
 use Rattle.art_reading.specs.declared.path.TreePath.TheVariants.{Root}
 use Rattle.art_reading.specs.Matching.{shared_len}
-use Rattle.art_writing.specs.Points.{IsAt, AnswersTo, AnswersToOverwrite, IsOverwrittenWith, IsPointFor, IsKindFor, IsKindAtLeaf, IsKindOf, IsCompared, IsMismatch, IsPart, used_in_prefix}
+use Rattle.art_writing.specs.Points.{IsAt, AnswersTo, AnswersToOverwrite, IsOverwrittenWith, IsPointFor, IsKindFor, IsKindAtLeaf, IsKindOf, IsCompared, IsMismatch, IsPart, IsStepFrom, used_in_prefix, inserting, overwriting}
 use Rattle.art_reading.specs.Paths.{step_down}
 use Rattle.art_writing.specs.declared.insert.PrefixInsertPoint.TheVariants.{InsertPoint, OverwritePoint}
 use Rattle.art_writing.proofs.Partings.{parted_unrelated, unrelated_after, conflict-related, no_conflict, first_conflict, same_conflict}
@@ -99,14 +101,6 @@ module _ {K V : Type 0} {s : Nodes K V} {bytes : K × V → List ℕ} {P : ℕ} 
 
     pub shown_there : {p : InnerPtr} {shown : Inner} → p.kind ≢ Leaf → inner_name p ≡ name → Some shown ≡ map.get s.inners p → IsShown d.node p shown
     shown_there = shown_met node_there
-
-    -- the node that the store shows under an inner name on the way
-    pub some_shown : {p : InnerPtr} → p.kind ≢ Leaf → inner_name p ≡ name → (shown : Inner) × IsShown d.node p shown
-    some_shown {p} proper is = go (map.get s.inners p) refl
-      where
-        go : (o : Option Inner) → o ≡ map.get s.inners p → (shown : Inner) × IsShown d.node p shown
-        go None gone = absurd (inner_there proper is gone)
-        go (Some shown) there = (shown, shown_there proper is there)
 
     -- the part of the tree below
     pub part_there : {part : OpaqueNodePtr} → part ≡ name → IsPart bytes P s part depth d.node
@@ -275,7 +269,7 @@ module _ {K V : Type 0} {s : Nodes K V} {bytes : K × V → List ℕ} {P : ℕ} 
         used : depth + match.matched_bytes ≡ length front
         used = let l = front_len in let k = c.0 in omega arith
 
-        pub prefix_conflict : length key ≤ depth + match.matched_bytes →
+        prefix_conflict : length key ≤ depth + match.matched_bytes →
             IsPointFor bytes P key pairs layout (OverwritePoint (record { path = path; overwrite_point = name; key_bytes_used = depth + match.matched_bytes - 1; root = root }))
         prefix_conflict short =
             let same : drop depth key ≡ radix.0 = go c.1 in
@@ -305,7 +299,7 @@ module _ {K V : Type 0} {s : Nodes K V} {bytes : K × V → List ℕ} {P : ℕ} 
               (unrelated cs h.1 others.1)
 
           -- no child goes on with the key
-          pub into_point : None ≡ child_at shown.children (get_or key (depth + match.matched_bytes) 0) →
+          into_point : None ≡ child_at shown.children (get_or key (depth + match.matched_bytes) 0) →
               IsPointFor bytes P key pairs layout (InsertPoint (record { path = path; insert_kind = IntoExisting p; key_bytes_used = depth + match.matched_bytes; root = root }))
           into_point none =
               let gone : child_at (slots_of at.children) (get_or key (depth + match.matched_bytes) 0) ≡ None =
@@ -317,7 +311,7 @@ module _ {K V : Type 0} {s : Nodes K V} {bytes : K × V → List ℕ} {P : ℕ} 
               )
 
           -- a child goes on with the key
-          pub goes_on : {to : OpaqueNodePtr} → Some to ≡ child_at shown.children (get_or key (depth + match.matched_bytes) 0) →
+          goes_on : {to : OpaqueNodePtr} → Some to ≡ child_at shown.children (get_or key (depth + match.matched_bytes) 0) →
               IsAt bytes P key layout (record { path = step_down path p (get_or key (depth + match.matched_bytes) 0); name = to; depth = depth + match.matched_bytes + 1 })
           goes_on {to} there =
               let b = get_or key (depth + match.matched_bytes) 0 in
@@ -347,12 +341,31 @@ module _ {K V : Type 0} {s : Nodes K V} {bytes : K × V → List ℕ} {P : ℕ} 
                 path_is = ap (λ z. step_down z p b) d.path_is;
               }
 
+        -- the step past the prefix
+        pub prefix_step : {step : SearchStep} →
+            (length key ≤ depth + match.matched_bytes → step ≡ overwriting (record { path = path; name = name; depth = depth }) root (depth + match.matched_bytes - 1)) →
+            (depth + match.matched_bytes < length key → child_at shown.children (get_or key (depth + match.matched_bytes) 0) ≡ None →
+            step ≡ inserting (record { path = path; name = name; depth = depth }) root (IntoExisting p) (depth + match.matched_bytes)) →
+            (depth + match.matched_bytes < length key → (to : OpaqueNodePtr) → child_at shown.children (get_or key (depth + match.matched_bytes) 0) ≡ Some to →
+            step ≡ Down (record { path = step_down path p (get_or key (depth + match.matched_bytes) 0); name = to; depth = depth + match.matched_bytes + 1 })) →
+            IsStepFrom bytes P key pairs layout depth step
+        prefix_step {step} ends into down = by_length (leb (length key) (depth + match.matched_bytes)) refl
+          where
+            by_child : depth + match.matched_bytes < length key → (o : Option OpaqueNodePtr) → child_at shown.children (get_or key (depth + match.matched_bytes) 0) ≡ o →
+                IsStepFrom bytes P key pairs layout depth step
+            by_child long None e = subst (IsStepFrom bytes P key pairs layout depth) (sym (into long e)) (into_point long (sym e))
+            by_child long (Some to) e = subst (IsStepFrom bytes P key pairs layout depth) (sym (down long to e)) (omega arith, goes_on long (sym e))
+
+            by_length : (t : Bool) → leb (length key) (depth + match.matched_bytes) ≡ t → IsStepFrom bytes P key pairs layout depth step
+            by_length true e = let short = leb-true (length key) (depth + match.matched_bytes) e in subst (IsStepFrom bytes P key pairs layout depth) (sym (ends short)) (prefix_conflict short)
+            by_length false e = by_child (leb-false (length key) (depth + match.matched_bytes) e) (child_at shown.children (get_or key (depth + match.matched_bytes) 0)) refl
+
       -- the prefix and the key part, or the key ends
       module _ {m : ExplicitMismatch} (c : IsMismatch bytes P key d.node depth m) where
         shared_is : m.matched_bytes ≡ shared_len radix.0 (drop depth key)
         shared_is = c.matched ∙ ap (λ l. shared_len l (drop depth key)) whole_prefix
 
-        pub mismatch_conflict : length key ≤ depth + m.matched_bytes →
+        mismatch_conflict : length key ≤ depth + m.matched_bytes →
             IsPointFor bytes P key pairs layout (OverwritePoint (record { path = path; overwrite_point = name; key_bytes_used = depth; root = root }))
         mismatch_conflict short =
             let rest : length (drop depth key) ≤ shared_len radix.0 (drop depth key) = let k = ap length key_is in let n = d.depth_is in let q = shared_is in omega (arith, simp length-append at k) in
@@ -392,7 +405,7 @@ module _ {K V : Type 0} {s : Nodes K V} {bytes : K × V → List ℕ} {P : ℕ} 
               (front_trans (a.front ++ a.x ∷ []) front (bytes x) (a.r, a.a_is ∙ sym (append_assoc a.front (a.x ∷ []) a.r)) f) (λ e. a.differ (sym e)))
               (pairs_below at.children) (radix_below bytes P at.children front radix.4)
 
-          pub mismatch_point : IsPointFor bytes P key pairs layout (InsertPoint (record { path = path; insert_kind = MismatchPrefix m p; key_bytes_used = depth; root = root }))
+          mismatch_point : IsPointFor bytes P key pairs layout (InsertPoint (record { path = path; insert_kind = MismatchPrefix m p; key_bytes_used = depth; root = root }))
           mismatch_point = (
             below ∙ no_conflict bytes key (pairs_below at.children) unrelated_below,
             answers depth (MismatchPrefix m p) (longest_inner
@@ -400,13 +413,32 @@ module _ {K V : Type 0} {s : Nodes K V} {bytes : K × V → List ℕ} {P : ℕ} 
                 (refl, (header_at p.kind shown, at.children, at.is, c, long)),
           )
 
--- what was compared of the key at a spot is no more than the key has
-module _ {K V : Type 0} {s : Nodes K V} {bytes : K × V → List ℕ} {P : ℕ} {root : OpaqueNodePtr} {key : List ℕ} {spot : Spot} {part : OpaqueNodePtr}
-    (canonical : IsCanonicalRoot bytes P s root) (at : ForTree bytes P s root (λ pairs layout. IsAt bytes P key layout spot)) (is : part ≡ spot.name) where
-  pub prefix_fits : {match : PrefixMatch} → ((node : Tree OpaqueNodePtr (K × V)) → IsPart bytes P s part spot.depth node → IsCompared bytes P key node spot.depth (Ok match)) →
-      spot.depth + match.matched_bytes ≤ length key
-  prefix_fits compared = let (pairs, layout, by) = canonical in let d = at pairs layout by in prefix_used by d (compared d.node (part_there by d is))
+        -- the step in the prefix
+        pub mismatch_step : {step : SearchStep} → (length key ≤ depth + m.matched_bytes → step ≡ overwriting (record { path = path; name = name; depth = depth }) root depth) →
+            (depth + m.matched_bytes < length key → step ≡ inserting (record { path = path; name = name; depth = depth }) root (MismatchPrefix m p) depth) →
+            IsStepFrom bytes P key pairs layout depth step
+        mismatch_step {step} ends parts = by_length (leb (length key) (depth + m.matched_bytes)) refl
+          where
+            by_length : (t : Bool) → leb (length key) (depth + m.matched_bytes) ≡ t → IsStepFrom bytes P key pairs layout depth step
+            by_length true e = let short = leb-true (length key) (depth + m.matched_bytes) e in subst (IsStepFrom bytes P key pairs layout depth) (sym (ends short)) (mismatch_conflict short)
+            by_length false e = let long = leb-false (length key) (depth + m.matched_bytes) e in subst (IsStepFrom bytes P key pairs layout depth) (sym (parts long)) (mismatch_point long)
 
-  pub mismatch_fits : {m : ExplicitMismatch} → ((node : Tree OpaqueNodePtr (K × V)) → IsPart bytes P s part spot.depth node → IsCompared bytes P key node spot.depth (Err m)) →
+-- what was compared of the key at a spot is no more than the key has
+module _ {K V : Type 0} {s : Nodes K V} {bytes : K × V → List ℕ} {P : ℕ} {root : OpaqueNodePtr} {key : List ℕ} {spot : Spot}
+    (canonical : IsCanonicalRoot bytes P s root) (at : ForTree bytes P s root (λ pairs layout. IsAt bytes P key layout spot)) where
+  pub prefix_fits : {match : PrefixMatch} → ForTree bytes P s root (λ pairs layout. (d : IsAt bytes P key layout spot) → IsCompared bytes P key d.node spot.depth (Ok match)) →
+      spot.depth + match.matched_bytes ≤ length key
+  prefix_fits compared = let (pairs, layout, by) = canonical in let d = at pairs layout by in prefix_used by d (compared pairs layout by d)
+
+  pub mismatch_fits : {m : ExplicitMismatch} → ForTree bytes P s root (λ pairs layout. (d : IsAt bytes P key layout spot) → IsCompared bytes P key d.node spot.depth (Err m)) →
       spot.depth + m.matched_bytes ≤ length key
-  mismatch_fits compared = let (pairs, layout, by) = canonical in let d = at pairs layout by in mismatch_used by d (compared d.node (part_there by d is))
+  mismatch_fits compared = let (pairs, layout, by) = canonical in let d = at pairs layout by in mismatch_used by d (compared pairs layout by d)
+
+-- the part of the tree at a spot, and the key, which is as long as the way to it
+module _ {K V : Type 0} {s : Nodes K V} {bytes : K × V → List ℕ} {P : ℕ} {key : List ℕ} {spot : Spot}
+    (spotted : (root : OpaqueNodePtr) × IsCanonicalRoot bytes P s root × ForTree bytes P s root (λ pairs layout. IsAt bytes P key layout spot)) where
+  pub part_at : {part : OpaqueNodePtr} → part ≡ spot.name → (node : Tree OpaqueNodePtr (K × V)) × IsPart bytes P s part spot.depth node
+  part_at is = let (root, (pairs, layout, by), at) = spotted in let d = at pairs layout by in (d.node, part_there by d is)
+
+  pub key_reaches : spot.depth ≤ length key
+  key_reaches = let (root, (pairs, layout, by), at) = spotted in inside by (at pairs layout by)

@@ -33,10 +33,6 @@ module _ {K V : Type 0} {bytes : K × V → List ℕ} {P : ℕ} {s : Nodes K V} 
   overwrite_answers_to {key} {point} {pairs} {layout} (others, other, by, at) mine =
       subst (λ l. AnswersToOverwrite bytes l key point) (has_one_map bytes P s point.root pairs others layout other mine by).1 at
 
-  -- a point is one in such a store
-  pub point_stays : {mid : Nodes K V} {text key : List ℕ} {point : InsertPoint} → SameNodes s mid → text ≡ key → IsPointIn bytes P s key point → IsPointIn bytes P mid text point
-  point_stays {point = point} same text_is (pairs, layout, by, at) = (pairs, layout, tree_stays same by, subst (λ k. AnswersTo bytes P layout k point) (sym text_is) at)
-
   -- a point that was found for a root is one in the store
   pub point_in : {root : OpaqueNodePtr} {text key : List ℕ} {point : InsertPoint} {pairs : List (K × V)} {layout : Tree OpaqueNodePtr (K × V)} →
       IsCanonicalTree bytes P s root pairs layout → text ≡ key → AnswersTo bytes P layout text point → IsPointIn bytes P s key point

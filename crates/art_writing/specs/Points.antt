@@ -75,6 +75,20 @@ module _ {A : Type 0} (bytes : A → List ℕ) (P : ℕ) (key : List ℕ) (node 
       (node ≡ inner (inner_name p) header children) × IsMismatch mismatch ×
       (depth + mismatch.matched_bytes < length key))
 
+-- a step to the point of an insertion at a spot
+abbrev pub inserting : Spot → OpaqueNodePtr → InsertKind → ℕ → SearchStep
+inserting spot root kind used =
+    Point (points.InsertPoint (record { path = spot.path; insert_kind = kind; key_bytes_used = used; root = root }))
+
+-- a step to the point of an overwriting at a spot
+abbrev pub overwriting : Spot → OpaqueNodePtr → ℕ → SearchStep
+overwriting spot root used = Point (points.OverwritePoint (record {
+  path = spot.path;
+  overwrite_point = spot.name;
+  key_bytes_used = used;
+  root = root;
+}))
+
 -- whether the point is one to overwrite
 abbrev pub overwrites : PrefixInsertPoint → Bool
 overwrites (points.InsertPoint point) = false

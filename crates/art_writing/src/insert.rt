@@ -1,5 +1,5 @@
 //! Insertion: the point at which a key comes into a tree.
-ghost use Rattle.std.specs.Prelude.{◌≡◌, ◌≢◌, ◌≤◌, ◌↔◌, length, true, false, IsOk, IfOk, IfErr};
+ghost use Rattle.std.specs.Prelude.{◌≡◌, ◌≢◌, ◌≤◌, ◌↔◌, length, false, IsOk, IfOk, IfErr};
 ghost use Rattle.art_parts.specs.Names.{inner_name};
 ghost use Rattle.art_parts.specs.declared.names.NodeType.TheVariants.{Leaf};
 ghost use Rattle.art_parts.specs.declared.names.OpaqueNodePtr.{OpaqueNodePtr};
@@ -8,11 +8,10 @@ ghost use Rattle.art_inner.specs.Views.{ref_view};
 ghost use Rattle.art_model.specs.Keys.{IsFront};
 ghost use Rattle.art_model.specs.Pairs.{is_conflict, of_key};
 ghost use Rattle.art_model.specs.Roots.{ForTree, IsCanonicalRoot};
-ghost use Rattle.art_model.specs.Trees.{Tree};
 ghost use Rattle.art_writing.specs.Inserted.{IsPointIn};
 ghost use Rattle.art_reading.specs.Matching.{shared_len};
 ghost use Rattle.art_writing.specs.Overwritten.{IsPrefixPointIn, root_of};
-ghost use Rattle.art_writing.specs.Points.{AnswersTo, IsAt, IsCompared, IsKindFor, IsPart, IsPointFor, IsRefusedFor, IsStepFrom};
+ghost use Rattle.art_writing.specs.Points.{AnswersTo, IsAt, IsCompared, IsKindFor, IsPointFor, IsRefusedFor, IsStepFrom};
 
 use art_nodes::node::{
     AsBytes, InnerPtr, InnerRef, LeafNode, LeafPtr, NodePtr, OpaqueNodePtr, OptionalLeafPtr,
@@ -242,7 +241,11 @@ struct Spot {
 }
 
 impl Spot {
-    ghost use Rattle.art_writing.specs.declared.insert.PrefixInsertPoint.TheVariants as points;
+    ghost use Rattle.std.specs.Prelude.{◌+◌, ◌-◌, ◌<◌, get_or, None};
+    ghost use Rattle.art_inner.specs.Inner.{child_at};
+    ghost use Rattle.art_reading.specs.Paths.{step_down};
+    ghost use Rattle.art_writing.specs.Points.{inserting, overwriting};
+    ghost use Rattle.art_writing.specs.declared.insert.InsertKind.TheVariants as kinds;
     ghost use Rattle.art_writing.specs.declared.insert.SearchStep.TheVariants as steps;
 
     // The point at this node.
@@ -253,12 +256,7 @@ impl Spot {
         insert_kind: InsertKind,
         key_bytes_used: usize,
     ) -> SearchStep
-        ensures { result ≡ steps.Point (points.InsertPoint (record {
-          path = self.path;
-          insert_kind = insert_kind;
-          key_bytes_used = key_bytes_used;
-          root = root;
-        })) }
+        ensures { result ≡ inserting self root insert_kind key_bytes_used }
     {
         SearchStep::Point(PrefixInsertPoint::InsertPoint(InsertPoint {
             path: self.path,
@@ -271,12 +269,7 @@ impl Spot {
     // The point at this node where it gives way.
     #[inline(always)]
     fn overwrite(self, root: OpaqueNodePtr, key_bytes_used: usize) -> SearchStep
-        ensures { result ≡ steps.Point (points.OverwritePoint (record {
-          path = self.path;
-          overwrite_point = self.name;
-          key_bytes_used = key_bytes_used;
-          root = root;
-        })) }
+        ensures { result ≡ overwriting self root key_bytes_used }
     {
         SearchStep::Point(PrefixInsertPoint::OverwritePoint(OverwritePoint {
             path: self.path,
@@ -284,6 +277,69 @@ impl Spot {
             key_bytes_used,
             root,
         }))
+    }
+
+    // The point at this node where the key, after so many bytes, parts from its prefix or ends in it.
+    #[inline(always)]
+    fn point_in_prefix(
+        self,
+        root: OpaqueNodePtr,
+        key_bytes: &[u8],
+        inner: InnerPtr,
+        mismatch: ExplicitMismatch,
+        depth: usize,
+    ) -> SearchStep
+        ensures ends { length key_bytes.now ≤ depth → result ≡ overwriting self root self.depth }
+        ensures parts { depth < length key_bytes.now →
+            result ≡ inserting self root (kinds.MismatchPrefix mismatch inner) self.depth }
+    {
+        if depth >= key_bytes.len() {
+            return self.overwrite(root, self.depth);
+        }
+        let insert_kind = InsertKind::MismatchPrefix {
+            mismatch,
+            mismatched_inner_node_ptr: inner,
+        };
+        self.point(root, insert_kind, self.depth)
+    }
+
+    // The step from this node with a key that has so many bytes up to the end of the node's prefix.
+    #[inline(always)]
+    fn step_past_prefix<const P: usize>(
+        self,
+        root: OpaqueNodePtr,
+        key_bytes: &[u8],
+        inner: InnerPtr,
+        node: InnerRef<'_, P>,
+        depth: usize,
+    ) -> SearchStep
+        ensures ends { length key_bytes.now ≤ depth → result ≡ overwriting self root (depth - 1) }
+        ensures into { depth < length key_bytes.now →
+            child_at (ref_view node.entry).children (get_or key_bytes.now depth 0) ≡ None →
+            result ≡ inserting self root (kinds.IntoExisting inner) depth }
+        ensures down { depth < length key_bytes.now → (child : OpaqueNodePtr) →
+            child_at (ref_view node.entry).children (get_or key_bytes.now depth 0) ≡ Some child →
+            result ≡ steps.Down (record {
+              path = step_down self.path inner (get_or key_bytes.now depth 0);
+              name = child;
+              depth = depth + 1;
+            }) }
+    {
+        if depth >= key_bytes.len() {
+            return self.overwrite(root, depth.saturating_sub(1));
+        }
+        let byte = key_bytes[depth];
+        let Some(child) = node.lookup_child(byte) else {
+            let insert_kind = InsertKind::IntoExisting {
+                inner_node_ptr: inner,
+            };
+            return self.point(root, insert_kind, depth);
+        };
+        SearchStep::Down(Spot {
+            path: self.path.step_down(inner, byte),
+            name: child,
+            depth: depth + 1,
+        })
     }
 }
 
@@ -344,35 +400,16 @@ fn step_at_inner<K: AsBytes + Drop, V: Drop, const PREFIX_LEN: usize>(
     let Some(node) = store.inner(inner) else {
         unreachable!()
     };
-    let matched = match match_full_prefix(store, inner, node, key_bytes, spot.depth) {
-        Ok(matched) => matched,
-        Err(mismatch) => {
-            if spot.depth + mismatch.matched_bytes >= key_bytes.len() {
-                return spot.overwrite(root, spot.depth);
-            }
-            let insert_kind = InsertKind::MismatchPrefix {
-                mismatch,
-                mismatched_inner_node_ptr: inner,
-            };
-            return spot.point(root, insert_kind, spot.depth);
+    match match_full_prefix(store, spot, inner, node, key_bytes) {
+        Ok(matched) => {
+            let depth = spot.depth + matched.matched_bytes;
+            spot.step_past_prefix(root, key_bytes, inner, node, depth)
         }
-    };
-    let depth = spot.depth + matched.matched_bytes;
-    if depth >= key_bytes.len() {
-        return spot.overwrite(root, depth.saturating_sub(1));
+        Err(mismatch) => {
+            let depth = spot.depth + mismatch.matched_bytes;
+            spot.point_in_prefix(root, key_bytes, inner, mismatch, depth)
+        }
     }
-    let byte = key_bytes[depth];
-    let Some(child) = node.lookup_child(byte) else {
-        let insert_kind = InsertKind::IntoExisting {
-            inner_node_ptr: inner,
-        };
-        return spot.point(root, insert_kind, depth);
-    };
-    SearchStep::Down(Spot {
-        path: spot.path.step_down(inner, byte),
-        name: child,
-        depth: depth + 1,
-    })
 }
 
 // What is to be done at a leaf, or `None` where its key and the key are related but not equal.
@@ -399,24 +436,27 @@ fn kind_at_leaf<K: AsBytes, V>(
     }
 }
 
-// Compares the whole prefix of an inner node, to which so many bytes lead, with the rest of the key.
+// Compares the whole prefix of the inner node at a spot with the rest of the key.
 #[inline(always)]
 fn match_full_prefix<K: AsBytes + Drop, V: Drop, const PREFIX_LEN: usize>(
     store: &NodeStore<K, V, PREFIX_LEN>,
+    spot: Spot,
     name: InnerPtr,
     node: InnerRef<'_, PREFIX_LEN>,
     key_bytes: &[u8],
-    depth: usize,
 ) -> Result<PrefixMatch, ExplicitMismatch>
     requires inner { name.kind ≢ Leaf }
+    requires name { inner_name name ≡ spot.name }
     requires node { Some (ref_view node) ≡ map.get store.now.inners name }
-    requires depth { depth ≤ length key_bytes.now }
-    requires part { (node : Tree OpaqueNodePtr (K × V)) ×
-        IsPart (of_key K.bytes) PREFIX_LEN store.now (inner_name name) depth node }
-    ensures { (node : Tree OpaqueNodePtr (K × V)) →
-        IsPart (of_key K.bytes) PREFIX_LEN store.now (inner_name name) depth node →
-        IsCompared (of_key K.bytes) PREFIX_LEN key_bytes.now node depth result }
+    requires spot { (root : OpaqueNodePtr) ×
+        IsCanonicalRoot (of_key K.bytes) PREFIX_LEN store.now root ×
+        ForTree (of_key K.bytes) PREFIX_LEN store.now root (λ pairs layout.
+        IsAt (of_key K.bytes) PREFIX_LEN key_bytes.now layout spot) }
+    ensures { (root : OpaqueNodePtr) → ForTree (of_key K.bytes) PREFIX_LEN store.now root
+        (λ pairs layout. (at : IsAt (of_key K.bytes) PREFIX_LEN key_bytes.now layout spot) →
+        IsCompared (of_key K.bytes) PREFIX_LEN key_bytes.now at.node spot.depth result) }
 {
+    let depth = spot.depth;
     let rest_of_key = &key_bytes[depth..];
     let len = node.prefix_len();
     if len <= PREFIX_LEN {

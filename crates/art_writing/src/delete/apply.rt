@@ -1,5 +1,5 @@
 //! Delete points, applied.
-ghost use Rattle.std.specs.Prelude.{◌≡◌, Some, IsOk, IsSome, IsTrue, IfOk, IfErr, IfSome, OnOk, OnErr};
+ghost use Rattle.std.specs.Prelude.{◌≡◌, nat_lt, length, Some, IsOk, IsSome, IsTrue, IfOk, IfErr, IfSome, OnOk, OnErr};
 ghost use Rattle.std.specs.FinMap as map;
 ghost use Rattle.art_nodes.specs.Nodes.{no_promise};
 ghost use Rattle.art_model.specs.Canonical.{IsCanonical};
@@ -11,13 +11,14 @@ ghost use Rattle.art_model.specs.Stores.{pair_of};
 ghost use Rattle.art_writing.specs.Inserted.{alone};
 ghost use Rattle.art_writing.specs.Deleted.{IsDeletePointIn, IsRootAfter, TouchesFor, parent_change, placed_for_deletion, shrinks};
 ghost use Rattle.art_reading.specs.Paths.{last_step};
-ghost use Rattle.art_parts.specs.Kinds.{next_smaller};
+ghost use Rattle.art_inner.specs.Views.{ref_kind, ref_view};
+ghost use Rattle.art_parts.specs.Kinds.{kind_least, next_smaller};
 ghost use Rattle.art_writing.specs.TakenOut.{IsLeafTaken, IsTakenOut};
 ghost use Rattle.art_writing.specs.Writes.{LinksAreThere};
 
 use super::{DeletePoint, DeleteRefused, DeleteResult};
 use crate::writes::{replace_at, take_from_between};
-use art_nodes::node::{AsBytes, InnerPtr, NodeType, OpaqueNodePtr};
+use art_nodes::node::{AsBytes, InnerPtr, InnerRef, NodeType, OpaqueNodePtr};
 use art_nodes::store::NodeStore;
 use art_reading::ways::{last_step, up};
 
@@ -72,21 +73,36 @@ impl DeletePoint {
         requires { IsDeletePointIn (of_key K.bytes) P store.old root self }
         ensures { IsTakenOut (of_key K.bytes) P store.old store.new root self result }
     {
-        let Some((parent, byte)) = last_step(self.path) else {
-            return Ok(self.take_leaf(store, None));
-        };
+        match last_step(self.path) {
+            None => Ok(self.take_leaf(store, None)),
+            Some((parent, byte)) => self.take_from_parent(store, root, parent, byte),
+        }
+    }
+
+    // Takes the leaf out, and its parent keeps its kind, shrinks or goes with the leaf.
+    fn take_from_parent<K: AsBytes + Drop, V: Drop, const P: usize>(
+        self,
+        store: &mut NodeStore<K, V, P>,
+        root: OpaqueNodePtr,
+        parent: InnerPtr,
+        byte: u8,
+    ) -> Result<DeleteResult<K, V>, DeleteRefused>
+        requires parent { last_step self.path ≡ Some (parent, byte) }
+        requires answers { IsDeletePointIn (of_key K.bytes) P store.old root self }
+        ensures { IsTakenOut (of_key K.bytes) P store.old store.new root self result }
+    {
         let Some(node) = store.inner(parent) else {
             unreachable!()
         };
         let kind = node.node_type();
-        if node.num_children() > *kind.capacity_range().start() {
+        if has_spare_child(node) {
             store.remove_child(parent, byte);
             return Ok(self.take_leaf(store, Some(root)));
         }
-        let Some(smaller) = kind.smaller() else {
-            return Ok(self.compress_parent(store, root, parent, byte));
-        };
-        self.shrink_parent(store, root, parent, byte, smaller)
+        match kind.smaller() {
+            Some(smaller) => self.shrink_parent(store, root, parent, byte, smaller),
+            None => Ok(self.compress_parent(store, root, parent, byte)),
+        }
     }
 
     // Takes the leaf out, and a node of the next smaller kind comes in its parent's place, or is refused.
@@ -128,4 +144,14 @@ impl DeletePoint {
             deleted_leaf: take_from_between(store, self.leaf_node_ptr),
         }
     }
+}
+
+// Whether a node has more children than its kind has at least.
+#[inline(always)]
+fn has_spare_child<const P: usize>(node: InnerRef<'_, P>) -> bool
+    ensures { result ≡
+        nat_lt (kind_least (ref_kind node.entry)) (length (ref_view node.entry).children) }
+{
+    let kind = node.node_type();
+    node.num_children() > *kind.capacity_range().start()
 }

@@ -2,6 +2,7 @@
 ghost use Rattle.std.specs.Prelude.{◌≡◌, ◌≢◌, ◌+◌, ◌≤◌, ℕ, List, ◌∷◌, ◌++◌, length, IsSome, IsSomeAnd, IfSome, Some, Ok, cond};
 ghost use Rattle.std.specs.FinMap as map;
 ghost use Rattle.art_inner.specs.Changes.{with_header};
+ghost use Rattle.art_inner.specs.Views.{ref_view};
 ghost use Rattle.art_parts.specs.Headers.{header_of};
 ghost use Rattle.art_nodes.specs.Nodes.{change};
 ghost use Rattle.art_model.specs.Pairs.{of_key};
@@ -13,7 +14,7 @@ ghost use Rattle.art_reading.specs.Paths.{last_step};
 
 use super::{DeletePoint, DeleteResult};
 use crate::writes::replace_at;
-use art_nodes::node::{AsBytes, Header, InnerPtr, LeafPtr, OpaqueNodePtr};
+use art_nodes::node::{AsBytes, Header, InnerPtr, InnerRef, LeafPtr, OpaqueNodePtr};
 use art_nodes::store::NodeStore;
 use art_reading::ways::up;
 
@@ -87,10 +88,27 @@ fn lengthen_prefix<K: AsBytes + Drop, V: Drop, const P: usize>(
     let Some(leaf) = store.leaf(below) else {
         unreachable!()
     };
-    let key = leaf.key.as_bytes();
+    let header = header_below(front, byte, node, leaf.key.as_bytes());
+    store.set_header(inner, header);
+}
+
+// The header of a prefix, a byte and the prefix of a node, one behind the other. A key has all these
+// bytes.
+#[inline(always)]
+fn header_below<const P: usize>(
+    front: Header<P>,
+    byte: u8,
+    node: InnerRef<'_, P>,
+    key: &[u8],
+) -> Header<P>
+    requires { front.len + 1 + (ref_view node).prefix.len ≤ length key.now }
+    ensures { (first rest : List ℕ) → front.entry ≡ header_of P first →
+        (ref_view node.entry).prefix ≡ header_of P rest →
+        result ≡ header_of P (first ++ byte ∷ rest) }
+{
     prove!(front.prefix_len() + 1 + node.prefix_len() <= key.len());
     let mut header = front;
     header.push_prefix(&[byte], 1);
     header.push_prefix(node.read_prefix(), node.prefix_len());
-    store.set_header(inner, header);
+    header
 }

@@ -1,5 +1,6 @@
 //! A new node above a leaf and a new one, or above an inner node and a new leaf.
-ghost use Rattle.std.specs.Prelude.{◌≡◌, ℕ, ◌+◌, drop, List, IsTrue, Some};
+ghost use Rattle.std.specs.Prelude.{◌≡◌, ℕ, ◌+◌, drop, List, IsSome, IsTrue, Some};
+ghost use Rattle.std.specs.FinMap as map;
 ghost use Rattle.art_parts.specs.Headers.{header_of};
 ghost use Rattle.art_nodes.specs.Nodes.{covers, take_inner, take_leaf};
 ghost use Rattle.art_parts.specs.declared.names.NodeType.TheVariants.{Node4};
@@ -120,9 +121,10 @@ impl InsertPoint {
     ) -> Header<P>
         requires point { self.insert_kind ≡ kinds.MismatchPrefix mismatch inner_node_ptr }
         requires answers { (key : List ℕ) × IsPointIn (of_key K.bytes) P store.now key self }
-        ensures { (key : List ℕ) → ForEnd (of_key K.bytes) P store.now key self (λ path node.
+        ensures header { (key : List ℕ) → ForEnd (of_key K.bytes) P store.now key self (λ path node.
             result ≡ header_of P
             (drop (mismatch.matched_bytes + 1) (prefix_of (of_key K.bytes) (depth_of path) node))) }
+        ensures node { IsSome (map.get store.now.inners inner_node_ptr) }
     {
         let Some(node) = store.inner(inner_node_ptr) else {
             unreachable!()
@@ -190,10 +192,10 @@ impl InsertPoint {
         requires answers { IsPointIn (of_key K.bytes) P store.old (K.bytes key) self }
         ensures { IsApplied (of_key K.bytes) P store.old store.new self (key, value) result }
     {
+        let branch = self.branch_at_leaf(store, leaf_node_ptr, new_key_bytes_used, key.as_bytes());
         if store.reserve(1, Some(NodeType::Node4)).is_err() {
             return Err(Refused { key, value });
         }
-        let branch = self.branch_at_leaf(store, leaf_node_ptr, new_key_bytes_used, key.as_bytes());
         let old = leaf_node_ptr.to_opaque();
         Ok(self.place_branch(store, old, branch, key, value))
     }
@@ -211,11 +213,11 @@ impl InsertPoint {
         requires answers { IsPointIn (of_key K.bytes) P store.old (K.bytes key) self }
         ensures { IsApplied (of_key K.bytes) P store.old store.new self (key, value) result }
     {
+        let branch = self.branch_at_prefix(store, mismatch, inner_node_ptr, key.as_bytes());
+        let header = self.trimmed_header(store, mismatch, inner_node_ptr);
         if store.reserve(1, Some(NodeType::Node4)).is_err() {
             return Err(Refused { key, value });
         }
-        let branch = self.branch_at_prefix(store, mismatch, inner_node_ptr, key.as_bytes());
-        let header = self.trimmed_header(store, mismatch, inner_node_ptr);
         store.set_header(inner_node_ptr, header);
         let old = inner_node_ptr.to_opaque();
         Ok(self.place_branch(store, old, branch, key, value))

@@ -1,5 +1,5 @@
 //! A new leaf below a node that is there.
-ghost use Rattle.std.specs.Prelude.{◌≡◌};
+ghost use Rattle.std.specs.Prelude.{◌≡◌, get_or};
 ghost use Rattle.art_model.specs.Pairs.{of_key};
 ghost use Rattle.art_writing.specs.Applied.{IsApplied};
 ghost use Rattle.art_writing.specs.Inserted.{IsPointIn, placed_for};
@@ -24,9 +24,10 @@ impl InsertPoint {
         requires answers { IsPointIn (of_key K.bytes) P store.old (K.bytes key) self }
         ensures { IsApplied (of_key K.bytes) P store.old store.new self (key, value) result }
     {
-        let byte = key.as_bytes()[self.key_bytes_used];
+        let key_bytes = key.as_bytes();
+        let byte = key_bytes[self.key_bytes_used];
         let larger = kind_if_full(store, inner_node_ptr);
-        let (previous, next) = links_below(store, inner_node_ptr, byte);
+        let (previous, next) = self.links_below(store, inner_node_ptr, key_bytes);
         if store.reserve(1, larger).is_err() {
             return Err(Refused { key, value });
         }
@@ -46,17 +47,40 @@ impl InsertPoint {
         store.write_child(inner_node_ptr, byte, child);
         Ok(new_child(leaf_node_ptr, inner_node_ptr, byte, self.root))
     }
+
+    // The leaves beside a new one that comes below an inner node.
+    fn links_below<K: AsBytes + Drop, V: Drop, const P: usize>(
+        self,
+        store: &NodeStore<K, V, P>,
+        name: InnerPtr,
+        key_bytes: &[u8],
+    ) -> (OptionalLeafPtr, OptionalLeafPtr)
+        requires point { self.insert_kind ≡ kinds.IntoExisting name }
+        requires answers { IsPointIn (of_key K.bytes) P store.now key_bytes.now self }
+        ensures beside { (left : Subtrees OpaqueNodePtr (K × V)) →
+            (right : Subtrees OpaqueNodePtr (K × V)) →
+            HasGap store.now name (get_or key_bytes.now self.key_bytes_used 0) left right →
+            ComesBetween store.now left right result.0 result.1 }
+        ensures few { IfSome (map.get store.now.inners name) (λ node.
+            length node.children < 256) }
+    {
+        let Some(node) = store.inner(name) else {
+            unreachable!()
+        };
+        let byte = key_bytes[self.key_bytes_used];
+        let (other, child) = node.beside(byte);
+        links_beside(store, child, Side::of(byte, other))
+    }
 }
 
-ghost use Rattle.std.specs.Prelude.{◌≢◌, ◌<◌, IsSome, IsSomeAnd, IsTrue, IfSome, None, length};
+ghost use Rattle.std.specs.Prelude.{◌≢◌, ◌<◌, IsSomeAnd, IsTrue, IfSome, None, length};
 ghost use Rattle.std.specs.FinMap as map;
 ghost use Rattle.art_inner.specs.Changes.{with_child};
 ghost use Rattle.art_inner.specs.Inner.{HasPlace};
-ghost use Rattle.art_inner.specs.Views.{ref_view};
 ghost use Rattle.art_parts.specs.Kinds.{kind_capacity, larger_kind};
 ghost use Rattle.art_parts.specs.Names.{inner_name};
 ghost use Rattle.art_nodes.specs.Nodes.{promises, take_inner};
-ghost use Rattle.art_parts.specs.declared.names.NodeType.TheVariants.{Leaf, Node256};
+ghost use Rattle.art_parts.specs.declared.names.NodeType.TheVariants.{Node256};
 ghost use Rattle.art_parts.specs.declared.names.OpaqueNodePtr.{OpaqueNodePtr};
 ghost use Rattle.art_model.specs.Trees.{Subtrees};
 ghost use Rattle.art_model.specs.Writes.{with_child_at};
@@ -94,38 +118,12 @@ fn kind_if_full<K: AsBytes + Drop, V: Drop, const P: usize>(
     store: &NodeStore<K, V, P>,
     name: InnerPtr,
 ) -> Option<NodeType>
-    requires { IsSome (map.get store.now.inners name) }
     ensures { result ≡ (placed_for store.now (kinds.IntoExisting name)).inner }
 {
-    let Some(node) = store.inner(name) else {
-        unreachable!()
-    };
-    if node.is_full() {
-        name.kind.larger()
-    } else {
-        None
+    match store.inner(name) {
+        Some(node) if node.is_full() => name.kind.larger(),
+        _ => None,
     }
-}
-
-// The leaves beside a new one that comes below an inner node, under a byte that has no child yet.
-fn links_below<K: AsBytes + Drop, V: Drop, const P: usize>(
-    store: &NodeStore<K, V, P>,
-    name: InnerPtr,
-    byte: u8,
-) -> (OptionalLeafPtr, OptionalLeafPtr)
-    requires inner { name.kind ≢ Leaf }
-    requires gap { (left : Subtrees OpaqueNodePtr (K × V)) ×
-        (right : Subtrees OpaqueNodePtr (K × V)) × HasGap store.now name byte left right }
-    ensures beside { (left : Subtrees OpaqueNodePtr (K × V)) →
-        (right : Subtrees OpaqueNodePtr (K × V)) → HasGap store.now name byte left right →
-        ComesBetween store.now left right result.0 result.1 }
-    ensures few { IfSome (map.get store.now.inners name) (λ node. length node.children < 256) }
-{
-    let Some(node) = store.inner(name) else {
-        unreachable!()
-    };
-    let (other, child) = node.beside(byte);
-    links_beside(store, child, Side::of(byte, other))
 }
 
 // Puts a larger node with a child more in the place of one at the end of a path, and answers its name

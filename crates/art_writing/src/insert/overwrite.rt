@@ -1,15 +1,21 @@
 //! A leaf in the place of all below an inner node.
-ghost use Rattle.std.specs.Prelude.{◌≢◌};
+ghost use Rattle.std.specs.Prelude.{◌≢◌, ℕ, List, Option};
+ghost use Rattle.art_parts.specs.declared.names.LeafPtr.{LeafPtr};
+ghost use Rattle.art_parts.specs.declared.names.OpaqueNodePtr.{OpaqueNodePtr};
 ghost use Rattle.art_parts.specs.declared.names.NodeType.TheVariants.{Leaf};
 ghost use Rattle.art_model.specs.Pairs.{of_key};
+ghost use Rattle.art_model.specs.Roots.{IsFullTree};
+ghost use Rattle.art_model.specs.Trees.{Tree};
 ghost use Rattle.art_writing.specs.Applied.{IsPrefixApplied};
+ghost use Rattle.art_writing.specs.Writes.{IsBeside};
+ghost use Rattle.art_writing.specs.declared.writes.Side.TheVariants.{Before, After};
 ghost use Rattle.art_writing.specs.Overwritten.{IsOverwritePointIn};
 ghost use Rattle.art_writing.specs.declared.insert.PrefixInsertPoint.TheVariants as points;
 
 use super::{InsertParentNodeChange, InsertResult, OverwritePoint, PrefixInsertResult, Refused};
 use crate::deallocate::deallocate_tree;
 use crate::writes::{Side, links_beside, place_between, replace_at};
-use art_nodes::node::AsBytes;
+use art_nodes::node::{AsBytes, OptionalLeafPtr};
 use art_nodes::store::NodeStore;
 
 impl OverwritePoint {
@@ -25,11 +31,10 @@ impl OverwritePoint {
         ensures { IsPrefixApplied (of_key K.bytes) P store.old store.new
             (points.OverwritePoint self) (key, value) result }
     {
+        let (previous, next) = self.links_around(store);
         if store.reserve(1, None).is_err() {
             return Err(Refused { key, value });
         }
-        let (previous, _) = links_beside(store, self.overwrite_point, Side::Before);
-        let (_, next) = links_beside(store, self.overwrite_point, Side::After);
         let leaf_node_ptr = place_between(store, key, value, previous, next);
         let new_root = replace_at(store, self.path, self.root, leaf_node_ptr.to_opaque());
         let leafs_removed = deallocate_tree(self.overwrite_point, store);
@@ -42,5 +47,25 @@ impl OverwritePoint {
             },
             leafs_removed,
         })
+    }
+
+    // The leaves beside all that is below an inner node.
+    fn links_around<K: AsBytes + Drop, V: Drop, const P: usize>(
+        self,
+        store: &NodeStore<K, V, P>,
+    ) -> (OptionalLeafPtr, OptionalLeafPtr)
+        requires inner { self.overwrite_point.kind ≢ Leaf }
+        requires answers { (key : List ℕ) ×
+            IsOverwritePointIn (of_key K.bytes) P store.now key self }
+        ensures previous { (tree : Tree OpaqueNodePtr (K × V)) →
+            IsFullTree store.now self.overwrite_point tree →
+            (first : Option LeafPtr) × IsBeside store.now tree Before result.0 first }
+        ensures next { (tree : Tree OpaqueNodePtr (K × V)) →
+            IsFullTree store.now self.overwrite_point tree →
+            (last : Option LeafPtr) × IsBeside store.now tree After last result.1 }
+    {
+        let (previous, _) = links_beside(store, self.overwrite_point, Side::Before);
+        let (_, next) = links_beside(store, self.overwrite_point, Side::After);
+        (previous, next)
     }
 }

@@ -1,7 +1,17 @@
-use Rattle.std.proofs.Common.{◌∙◌, sym}
+use Rattle.std.proofs.Common.{◌∙◌, ap, sym}
+use Rattle.std.specs.Option.{option_map}
 use Rattle.art_inner.specs.Views.{ref_view}
-use Rattle.art_writing.proofs.Freed.{first_taken}
+use Rattle.art_model.specs.Pairs.{first_of}
+use Rattle.art_writing.proofs.Freed.{first_named, first_taken}
 use Rattle.art_writing.proofs.deallocate.take_first_child.Goals as goal
+
+pub returns-in_err-byte-clause-child : goal.returns-in_err-byte-clause-child
+returns-in_err-byte-clause-child g c =
+    first_named c.in-Some.ensures.view c.iter.ensures.children (c.from_residual.ensures ∙ ap (λ l. option_map (λ child. child.1) (first_of l)) (sym c.in_err-byte.ensures.steps.0))
+
+pub returns-clause-child : goal.returns-clause-child
+returns-clause-child g c =
+    first_named c.in-Some.ensures.view c.iter.ensures.children (ap (λ l. option_map (λ child. child.1) (first_of l)) (sym c.in_ok-byte.ensures.steps))
 
 pub returns-clause-taken : goal.returns-clause-taken
 returns-clause-taken g c =

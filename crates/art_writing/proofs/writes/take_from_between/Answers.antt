@@ -6,9 +6,6 @@ use Rattle.art_writing.specs.Inserted.{alone}
 use Rattle.art_writing.proofs.LeafWrites.{some_there, joined_there, joined_keeps}
 use Rattle.art_writing.proofs.writes.take_from_between.Goals as goal
 
-pub link-requires : goal.link-requires
-link-requires g c = (search rules, rw (sym c.leaf.ensures ∙ ap option_copied c.in-Some.is) at c.requires.beside)
-
 pub free_leaf-leaf-requires : goal.free_leaf-leaf-requires
 free_leaf-leaf-requires g c =
     let m = c.args.store.now.leaves in

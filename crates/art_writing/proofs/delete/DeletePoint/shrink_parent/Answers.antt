@@ -3,14 +3,11 @@ use Rattle.art_nodes.specs.Nodes.{promises, take_inner}
 use Rattle.art_model.specs.Writes.{with_child_at}
 use Rattle.art_reading.specs.Paths.{last_step, up, root_with}
 use Rattle.art_writing.proofs.Below.{IsSmaller, is_below, leaf_ready, shrinks_fit, smaller_is, above_ready, parent_deleted}
-use Rattle.art_writing.proofs.Deletions.{shrink_refused, some_same, taken_out_with}
+use Rattle.art_writing.proofs.Deletions.{shrink_refused, taken_out_with}
 use Rattle.art_writing.proofs.Reserved.{covered_inner, not_refused}
 use Rattle.art_writing.proofs.delete.DeletePoint.shrink_parent.Goals as goal
 use Rattle.art_writing.proofs.delete.DeletePoint.shrink_parent.Goals.{After-put_smaller-node}
 use Rattle.art_writing.proofs.delete.DeletePoint.shrink_parent.Given.{Over}
-
-pub reserve-requires : goal.reserve-requires
-reserve-requires g c = (search rules, λ leaf. (smaller_is c.args.parent.kind c.args.smaller c.requires.smaller).1 (some_same leaf))
 
 pub returns-then-is_err : goal.returns-then-is_err
 returns-then-is_err g c =

@@ -1,37 +1,22 @@
-use Rattle.std.proofs.Common.{rules, ◌∙◌, ap, sym, refl, subst, get_or, Some, IsTrue}
+use Rattle.std.proofs.Common.{rules, ◌∙◌, ap, sym, subst, get_or, Some, IsTrue}
 use Rattle.std.specs.FinMap as map
 use Rattle.art_parts.specs.Kinds.{larger_kind}
 use Rattle.art_nodes.specs.Nodes.{covers, promises, take_leaf}
 use Rattle.art_model.specs.Promises.{inner_taken}
 use Rattle.art_model.specs.Writes.{IsThere}
-use Rattle.art_writing.specs.Inserted.{is_full, placed_for}
+use Rattle.art_writing.specs.Inserted.{placed_for}
 use Rattle.art_writing.specs.Writes.{HasChild}
 use Rattle.art_reading.specs.Paths.{last_step}
 use Rattle.art_writing.proofs.Applied.{applied}
-use Rattle.art_writing.proofs.Entered.{entry, entry_there, entry_inner, entry_gap, entry_parent}
-use Rattle.art_writing.proofs.LeafAdded.{no_leaf_asked, previous_is_there, next_is_there, room_inserted, full_inserted, has_room, larger_has_room, asked_full, asked_room}
+use Rattle.art_writing.proofs.Entered.{entry, entry_gap, entry_parent}
+use Rattle.art_writing.proofs.LeafAdded.{previous_is_there, next_is_there, room_inserted, full_inserted, has_room, larger_has_room, asked_full, asked_room}
 use Rattle.art_writing.proofs.Reserved.{leaf_promised, inner_promised, after_reserve, is_none, not_refused}
 use Rattle.art_writing.proofs.insert.InsertPoint.add_child.Goals as goal
-
-pub kind_if_full-larger-requires : goal.kind_if_full-larger-requires
-kind_if_full-larger-requires g c =
-    let (pairs, layout, by, own) = c.requires.answers in
-    (search rules, entry_there by (entry c.requires.answers c.requires.point refl by))
-
-pub links_below-previous-requires : goal.links_below-previous-requires
-links_below-previous-requires g c =
-    let (pairs, layout, by, own) = c.requires.answers in
-    let e = entry c.requires.answers c.requires.point (ap (λ l. get_or l c.args.self.key_bytes_used 0) c.as_bytes.ensures) by in
-    (search rules, (entry_inner by e, (e.left, e.right, entry_gap by e)))
-
-pub reserve-requires : goal.reserve-requires
-reserve-requires g c =
-    (search rules, λ asked. no_leaf_asked c.args.inner_node_ptr.kind (is_full c.args.store.now c.args.inner_node_ptr) (sym c.kind_if_full-larger.ensures ∙ asked))
 
 pub place_between-leaf_node_ptr-requires : goal.place_between-leaf_node_ptr-requires
 place_between-leaf_node_ptr-requires g c =
     let (pairs, layout, by, own) = c.requires.answers in
-    let e = entry c.requires.answers c.requires.point (ap (λ l. get_or l c.args.self.key_bytes_used 0) c.as_bytes.ensures) by in
+    let e = entry c.requires.answers c.requires.point (ap (λ l. get_or l c.args.self.key_bytes_used 0) c.as_bytes-key_bytes.ensures) by in
     let beside = c.links_below-previous.ensures.beside e.left e.right (entry_gap by e) in
     let same = sym c.reserve.ensures.leaves in (
       search rules,
@@ -47,7 +32,7 @@ place_between-leaf_node_ptr-requires g c =
 pub put_larger-requires : goal.put_larger-requires
 put_larger-requires g c =
     let (pairs, layout, by, own) = c.requires.answers in
-    let e = entry c.requires.answers c.requires.point (ap (λ l. get_or l c.args.self.key_bytes_used 0) c.as_bytes.ensures) by in
+    let e = entry c.requires.answers c.requires.point (ap (λ l. get_or l c.args.self.key_bytes_used 0) c.as_bytes-key_bytes.ensures) by in
     let same = c.place_between-leaf_node_ptr.ensures.inners ∙ c.reserve.ensures.inners in
     let p = c.args.inner_node_ptr in
     let (full, last, asked) = asked_full c.args.self (c.args.key, c.args.value) by e c.links_below-previous.ensures.few c.kind_if_full-larger.ensures (sym c.is_some.ensures ∙ c.if-is_some.true) in
@@ -70,10 +55,10 @@ pub returns-then-is_some : goal.returns-then-is_some
 returns-then-is_some g c =
     let granted = sym c.is_err.ensures.value ∙ c.if-is_err.false in
     let (pairs, layout, own, answers) = c.requires.answers in
-    let entered = entry c.requires.answers c.requires.point (ap (λ l. get_or l c.args.self.key_bytes_used 0) c.as_bytes.ensures) own in
+    let entered = entry c.requires.answers c.requires.point (ap (λ l. get_or l c.args.self.key_bytes_used 0) c.as_bytes-key_bytes.ensures) own in
     let asked = (asked_full c.args.self (c.args.key, c.args.value) own entered c.links_below-previous.ensures.few c.kind_if_full-larger.ensures (sym c.is_some.ensures ∙ c.if-is_some.true)).2 in
     applied g.K.AsBytes.bytes c.requires.answers (λ pairs layout by.
-    let e = entry c.requires.answers c.requires.point (ap (λ l. get_or l c.args.self.key_bytes_used 0) c.as_bytes.ensures) by in
+    let e = entry c.requires.answers c.requires.point (ap (λ l. get_or l c.args.self.key_bytes_used 0) c.as_bytes-key_bytes.ensures) by in
     let beside = c.links_below-previous.ensures.beside e.left e.right (entry_gap by e) in
     let (full, last, asked) = asked_full c.args.self (c.args.key, c.args.value) by e c.links_below-previous.ensures.few c.kind_if_full-larger.ensures (sym c.is_some.ensures ∙ c.if-is_some.true) in
     full_inserted c.args.self (c.args.key, c.args.value) by e _ _ beside c.reserve.new.self c.place_between-leaf_node_ptr.new.store
@@ -89,7 +74,7 @@ returns-then-is_some g c =
 pub write_child-requires : goal.write_child-requires
 write_child-requires g c =
     let (pairs, layout, by, own) = c.requires.answers in
-    let e = entry c.requires.answers c.requires.point (ap (λ l. get_or l c.args.self.key_bytes_used 0) c.as_bytes.ensures) by in
+    let e = entry c.requires.answers c.requires.point (ap (λ l. get_or l c.args.self.key_bytes_used 0) c.as_bytes-key_bytes.ensures) by in
     let p = c.args.inner_node_ptr in
     let same = c.place_between-leaf_node_ptr.ensures.inners ∙ c.reserve.ensures.inners in
     let room = asked_room c.args.self (c.args.key, c.args.value) by e c.links_below-previous.ensures.few c.kind_if_full-larger.ensures (sym c.is_some.ensures ∙ c.if-is_some.false) in
@@ -99,7 +84,7 @@ pub returns : goal.returns
 returns g c =
     let none = is_none c.kind_if_full-larger.result (sym c.is_some.ensures ∙ c.if-is_some.false) in
     applied g.K.AsBytes.bytes c.requires.answers (λ pairs layout by.
-    let e = entry c.requires.answers c.requires.point (ap (λ l. get_or l c.args.self.key_bytes_used 0) c.as_bytes.ensures) by in
+    let e = entry c.requires.answers c.requires.point (ap (λ l. get_or l c.args.self.key_bytes_used 0) c.as_bytes-key_bytes.ensures) by in
     let beside = c.links_below-previous.ensures.beside e.left e.right (entry_gap by e) in
     let room = asked_room c.args.self (c.args.key, c.args.value) by e c.links_below-previous.ensures.few c.kind_if_full-larger.ensures (sym c.is_some.ensures ∙ c.if-is_some.false) in
     room_inserted c.args.self (c.args.key, c.args.value) by e _ _ beside c.reserve.new.self c.place_between-leaf_node_ptr.new.store

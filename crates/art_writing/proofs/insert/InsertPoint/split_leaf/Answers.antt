@@ -2,11 +2,10 @@ use Rattle.std.proofs.Common.{rules, ◌∙◌, ap, sym, subst, Some, IsTrue}
 use Rattle.art_parts.specs.declared.names.NodeType.TheVariants.{Node4}
 use Rattle.art_model.specs.Promises.{is_covered}
 use Rattle.art_writing.specs.Inserted.{placed_for}
-use Rattle.art_writing.specs.Writes.{SameNodes}
 use Rattle.art_writing.proofs.Applied.{applied, refused}
 use Rattle.art_writing.proofs.Branches.{end_parent, previous_is_there, next_is_there, read_for}
 use Rattle.art_writing.proofs.Reserved.{after_reserve, not_granted, was_refused}
-use Rattle.art_writing.proofs.Standing.{tree_stays, answers_to, point_stays}
+use Rattle.art_writing.proofs.Standing.{tree_stays, answers_to}
 use Rattle.art_writing.proofs.Splits.{leaf_split}
 use Rattle.art_writing.proofs.insert.InsertPoint.split_leaf.Goals as goal
 
@@ -16,24 +15,19 @@ returns-then-is_err g c =
     (subst (λ kind. IsTrue (is_covered (placed_for c.args.store.now kind) c.args.store.now.promise)) c.requires.point covered))
     c.reserve.ensures.leaves c.reserve.ensures.inners (was_refused c.reserve.result (sym c.is_err.ensures.value ∙ c.if-is_err.true) c.reserve.ensures.refused)
 
-pub branch_at_leaf-branch-requires : goal.branch_at_leaf-branch-requires
-branch_at_leaf-branch-requires g c =
-    (search rules, (search rules, (c.requires.point, point_stays (c.reserve.ensures.leaves, c.reserve.ensures.inners) c.as_bytes.ensures c.requires.answers)))
-
 pub place_branch-requires : goal.place_branch-requires
 place_branch-requires g c =
     let (pairs, layout, old, at) = c.requires.answers in
-    let by = tree_stays (c.reserve.ensures.leaves, c.reserve.ensures.inners) old in
-    let is = read_for c.as_bytes.ensures c.branch_at_leaf-branch.ensures pairs layout by at in
+    let by = tree_stays {mid = c.reserve.new.self} (c.reserve.ensures.leaves, c.reserve.ensures.inners) old in
+    let is = read_for c.as_bytes.ensures c.branch_at_leaf-branch.ensures pairs layout old at in
     (search rules, (search rules, (search rules, (previous_is_there by at is, (next_is_there by at is, end_parent by at)))))
 
 pub returns : goal.returns
 returns g c =
     applied g.K.AsBytes.bytes c.requires.answers (λ pairs layout by.
-    let same : SameNodes c.args.store.now c.reserve.new.self = (c.reserve.ensures.leaves, c.reserve.ensures.inners) in
     let at = answers_to c.requires.answers by in
-    let is = read_for c.as_bytes.ensures c.branch_at_leaf-branch.ensures pairs layout (tree_stays same by) at in
-    leaf_split by at is c.requires.point c.to_opaque-old.ensures same c.place_branch.ensures.placed)
+    let is = read_for c.as_bytes.ensures c.branch_at_leaf-branch.ensures pairs layout by at in
+    leaf_split by at is c.requires.point c.to_opaque-old.ensures (c.reserve.ensures.leaves, c.reserve.ensures.inners) c.place_branch.ensures.placed)
     (c.place_branch.ensures.promise
     ∙ after_reserve c.args.store.now c.reserve.new.self (Some Node4) c.reserve.result (sym c.is_err.ensures.value ∙ c.if-is_err.false) c.reserve.ensures.covered c.reserve.ensures.granted
     (ap (placed_for c.args.store.now) (sym c.requires.point)))

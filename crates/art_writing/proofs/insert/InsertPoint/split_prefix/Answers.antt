@@ -1,4 +1,4 @@
-use Rattle.std.proofs.Common.{rules, refl, ap, sym, ◌∙◌, subst, Some, IsTrue}
+use Rattle.std.proofs.Common.{rules, ap, sym, ◌∙◌, subst, Some, IsTrue}
 use Rattle.art_inner.specs.Changes.{with_header}
 use Rattle.art_nodes.specs.Nodes.{change, take_inner, take_leaf}
 use Rattle.art_parts.specs.declared.names.NodeType.TheVariants.{Node4}
@@ -8,11 +8,9 @@ use Rattle.art_writing.specs.Inserted.{placed_for}
 use Rattle.art_writing.specs.Writes.{SameNodes}
 use Rattle.art_writing.proofs.Applied.{applied, refused}
 use Rattle.art_writing.proofs.Branches.{previous_is_there, next_is_there, read_for}
-use Rattle.art_writing.proofs.LeafWrites.{some_there}
 use Rattle.art_writing.proofs.Reserved.{after_reserve, not_granted, was_refused}
-use Rattle.art_writing.proofs.Standing.{tree_stays, answers_to, point_stays}
+use Rattle.art_writing.proofs.Standing.{tree_stays, answers_to}
 use Rattle.art_writing.proofs.Splits.{parent_stays, prefix_split}
-use Rattle.art_writing.proofs.Trims.{inner_gone}
 use Rattle.art_writing.proofs.insert.InsertPoint.split_prefix.Goals as goal
 
 pub returns-then-is_err : goal.returns-then-is_err
@@ -21,24 +19,11 @@ returns-then-is_err g c =
     (subst (λ kind. IsTrue (is_covered (placed_for c.args.store.now kind) c.args.store.now.promise)) c.requires.point covered))
     c.reserve.ensures.leaves c.reserve.ensures.inners (was_refused c.reserve.result (sym c.is_err.ensures.value ∙ c.if-is_err.true) c.reserve.ensures.refused)
 
-pub branch_at_prefix-branch-requires : goal.branch_at_prefix-branch-requires
-branch_at_prefix-branch-requires g c =
-    (search rules, (search rules, (c.requires.point, point_stays (c.reserve.ensures.leaves, c.reserve.ensures.inners) c.as_bytes.ensures c.requires.answers)))
-
-pub trimmed_header-header-requires : goal.trimmed_header-header-requires
-trimmed_header-header-requires g c =
-    (search rules, (search rules, (c.requires.point, (g.K.AsBytes.bytes c.args.key, point_stays (c.reserve.ensures.leaves, c.reserve.ensures.inners) refl c.requires.answers))))
-
-pub set_header-requires : goal.set_header-requires
-set_header-requires g c =
-    let (pairs, layout, by, at) = c.requires.answers in
-    (search rules, (search rules, some_there _ (λ e. inner_gone (tree_stays {mid = c.reserve.new.self} (c.reserve.ensures.leaves, c.reserve.ensures.inners) by) at c.requires.point (sym e))))
-
 pub place_branch-requires : goal.place_branch-requires
 place_branch-requires g c =
     let (pairs, layout, by, at) = c.requires.answers in
     let same : SameNodes c.args.store.now c.reserve.new.self = (c.reserve.ensures.leaves, c.reserve.ensures.inners) in
-    let is = read_for c.as_bytes.ensures c.branch_at_prefix-branch.ensures.branch pairs layout (tree_stays same by) at in (
+    let is = read_for c.as_bytes.ensures c.branch_at_prefix-branch.ensures.branch pairs layout by at in (
       search rules,
       (
         search rules,
@@ -62,10 +47,10 @@ returns g c =
     applied g.K.AsBytes.bytes c.requires.answers (λ pairs layout by.
     let same : SameNodes c.args.store.now c.reserve.new.self = (c.reserve.ensures.leaves, c.reserve.ensures.inners) in
     let at = answers_to c.requires.answers by in
-    let is = read_for c.as_bytes.ensures c.branch_at_prefix-branch.ensures.branch pairs layout (tree_stays same by) at in
+    let is = read_for c.as_bytes.ensures c.branch_at_prefix-branch.ensures.branch pairs layout by at in
     prefix_split by at is c.requires.point c.to_opaque-old.ensures (c.set_header.ensures.leaves ∙ c.reserve.ensures.leaves)
     (c.set_header.ensures.inners ∙ ap (λ m. change m c.args.inner_node_ptr (with_header c.trimmed_header-header.result)) c.reserve.ensures.inners)
-    (c.trimmed_header-header.ensures (g.K.AsBytes.bytes c.args.key) pairs layout (tree_stays same by) at) c.branch_at_prefix-branch.ensures.len c.place_branch.ensures.placed)
+    (c.trimmed_header-header.ensures.header (g.K.AsBytes.bytes c.args.key) pairs layout by at) c.branch_at_prefix-branch.ensures.len c.place_branch.ensures.placed)
     (c.place_branch.ensures.promise
     ∙ ap (λ promise. take_inner Node4 (take_leaf promise)) c.set_header.ensures.promise
     ∙ after_reserve c.args.store.now c.reserve.new.self (Some Node4) c.reserve.result (sym c.is_err.ensures.value ∙ c.if-is_err.false) c.reserve.ensures.covered c.reserve.ensures.granted

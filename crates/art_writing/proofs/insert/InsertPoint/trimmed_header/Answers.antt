@@ -18,8 +18,8 @@ ltrim_by-requires g c =
     let (key, (pairs, layout, by, at)) = c.requires.answers in
     (search rules, trim_whole by at c.requires.point c.in-Some.ensures.view c.header-header.ensures c.in_default-leaf_ptr.is)
 
-pub returns-in_default-leaf_ptr : goal.returns-in_default-leaf_ptr
-returns-in_default-leaf_ptr g c key pairs layout by at =
+pub returns-in_default-leaf_ptr-clause-header : goal.returns-in_default-leaf_ptr-clause-header
+returns-in_default-leaf_ptr-clause-header g c key pairs layout by at =
     trim_stored by at c.requires.point c.in-Some.ensures.view c.header-header.ensures c.in_default-leaf_ptr.is c.ltrim_by.ensures.len c.ltrim_by.ensures.stored
 
 pub unreachable-requires-in_default-leaf : goal.unreachable-requires-in_default-leaf
@@ -32,7 +32,7 @@ ltrim_by_with_leaf-requires g c =
     let (key, (pairs, layout, by, at)) = c.requires.answers in
     (search rules, trim_given by at c.requires.point c.in-Some.ensures.view c.header-header.ensures c.in-Some-leaf_ptr.is c.in-Some-leaf.ensures c.as_bytes.ensures)
 
-pub returns : goal.returns
-returns g c key pairs layout by at =
+pub returns-clause-header : goal.returns-clause-header
+returns-clause-header g c key pairs layout by at =
     trim_read by at c.requires.point c.in-Some.ensures.view c.header-header.ensures c.in-Some-leaf_ptr.is c.in-Some-leaf.ensures c.as_bytes.ensures
     c.ltrim_by_with_leaf.ensures.len c.ltrim_by_with_leaf.ensures.stored

@@ -5,7 +5,7 @@ use Rattle.art_writing.specs.Writes.{SameNodes}
 use Rattle.art_reading.specs.Paths.{root_with}
 use Rattle.art_writing.proofs.Applied.{overwritten, refused_overwrite}
 use Rattle.art_writing.proofs.Reserved.{after_reserve, leaf_promised, not_granted, not_refused, was_refused}
-use Rattle.art_writing.proofs.Overwrites.{end_full, end_parent, end_still, ends_there, placed_for_inner, put_at, read_next, read_previous, subtree_at, subtree_overwritten, subtree_still}
+use Rattle.art_writing.proofs.Overwrites.{end_parent, end_still, ends_there, placed_for_inner, put_at, read_next, read_previous, subtree_at, subtree_overwritten, subtree_still}
 use Rattle.art_writing.proofs.insert.OverwritePoint.overwrite_subtree.Goals as goal
 
 pub returns-then-is_err : goal.returns-then-is_err
@@ -14,18 +14,13 @@ returns-then-is_err g c =
     (subst (λ placed. IsTrue (is_covered placed c.args.store.now.promise)) (placed_for_inner _ c.requires.inner) covered))
     c.reserve.ensures.leaves c.reserve.ensures.inners (was_refused c.reserve.result (sym c.is_err.ensures.value ∙ c.if-is_err.true) c.reserve.ensures.refused)
 
-pub links_beside-previous-requires : goal.links_beside-previous-requires
-links_beside-previous-requires g c = (search rules, end_full c.requires.answers c.requires.inner c.reserve.new.self (c.reserve.ensures.leaves, c.reserve.ensures.inners))
-
-pub links_beside-next-requires : goal.links_beside-next-requires
-links_beside-next-requires g c = (search rules, end_full c.requires.answers c.requires.inner c.reserve.new.self (c.reserve.ensures.leaves, c.reserve.ensures.inners))
-
 pub place_between-leaf_node_ptr-requires : goal.place_between-leaf_node_ptr-requires
 place_between-leaf_node_ptr-requires g c = (
   search rules,
   (
     leaf_promised c.reserve.new.self.promise None (not_refused c.reserve.result (sym c.is_err.ensures.value ∙ c.if-is_err.false) c.reserve.ensures.reserved),
-    ends_there c.requires.answers c.requires.inner c.reserve.new.self (c.reserve.ensures.leaves, c.reserve.ensures.inners) c.links_beside-previous.ensures c.links_beside-next.ensures,
+    ends_there c.requires.answers c.requires.inner c.reserve.new.self (c.reserve.ensures.leaves, c.reserve.ensures.inners) c.links_around-previous.result.0 c.links_around-previous.result.1
+        c.links_around-previous.ensures.previous c.links_around-previous.ensures.next,
   ),
 )
 
@@ -51,13 +46,13 @@ returns g c =
     overwritten c.requires.answers (λ pairs layout by.
     let same : SameNodes c.args.store.now c.reserve.new.self = (c.reserve.ensures.leaves, c.reserve.ensures.inners) in
     let at = subtree_at c.requires.answers c.requires.inner by in
-    let x : LeafNode g.row.K.Denot g.row.V.Denot = record { key = c.args.key; value = c.args.value; previous = c.links_beside-previous.result.0; next = c.links_beside-next.result.1 } in
+    let x : LeafNode g.row.K.Denot g.row.V.Denot = record { key = c.args.key; value = c.args.value; previous = c.links_around-previous.result.0; next = c.links_around-previous.result.1 } in
     let put = put_at c.reserve.new.self c.place_between-leaf_node_ptr.new.store c.replace_at-new_root.new.store x
     same c.place_between-leaf_node_ptr.ensures.fresh c.place_between-leaf_node_ptr.ensures.leaves
     c.place_between-leaf_node_ptr.ensures.inners c.to_opaque.ensures c.replace_at-new_root.ensures.leaves c.replace_at-new_root.ensures.inners in
     let still = subtree_still by at put in
-    subtree_overwritten by at put refl (read_previous by at c.reserve.new.self same c.links_beside-previous.result c.links_beside-previous.ensures)
-    (read_next by at c.reserve.new.self same c.links_beside-next.result c.links_beside-next.ensures) (c.deallocate_tree-leafs_removed.ensures.freed at.node still)
+    subtree_overwritten by at put refl (read_previous by at c.links_around-previous.result.0 c.links_around-previous.ensures.previous)
+    (read_next by at c.links_around-previous.result.1 c.links_around-previous.ensures.next) (c.deallocate_tree-leafs_removed.ensures.freed at.node still)
     c.replace_at-new_root.result c.deallocate_tree-leafs_removed.result
     (c.replace_at-new_root.ensures.root ∙ ap (λ z. root_with c.args.self.path c.args.self.root z) c.to_opaque.ensures)
     (c.deallocate_tree-leafs_removed.ensures.count at.node still) c.requires.inner)
