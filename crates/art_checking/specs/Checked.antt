@@ -76,6 +76,16 @@ module _ {K V : Type 0} (bytes : K × V → List ℕ) (P : ℕ) (s : Nodes K V) 
     pub leaves : names_of_leaves new.leaves.items ≡ names_of_leaves old.leaves.items ++ leaf_names layout
     pub count : count_met new ≡ count_met old + length below
 
+  -- From the name on, at the place, the nodes are those of a radix tree, and from the first state to the second all of its names were met.
+  pub record IsPassed (old new : Seen) (place : List ℕ) (name : OpaqueNodePtr) : Type 0 where
+    pub layout : Tree OpaqueNodePtr (K × V)
+    pub named : name_of layout ≡ name
+    pub holds : Holds (node_at s) layout
+    pub radix : IsRadix bytes P place layout
+    pub meets : Meets (place_in old) (place_in new) (names_of layout)
+    pub leaves : names_of_leaves new.leaves.items ≡ names_of_leaves old.leaves.items ++ leaf_names layout
+    pub count : count_met new ≡ count_met old + length (names_of layout)
+
   -- The names that were met are those of a radix tree below the root, its leaves in order.
   pub record IsMetTree (seen : Seen) (root : OpaqueNodePtr) : Type 0 where
     pub layout : Tree OpaqueNodePtr (K × V)

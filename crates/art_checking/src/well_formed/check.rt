@@ -13,7 +13,7 @@ ghost use Rattle.art_model.specs.Layouts.{AreLinked, IsLayout, leaf_names, leaf_
 ghost use Rattle.art_model.specs.Pairs.{of_key};
 ghost use Rattle.art_model.specs.Trees.{Tree};
 ghost use Rattle.art_model.specs.Stores.{IsUsed, header_at, links_at, node_at};
-ghost use Rattle.art_checking.specs.Checked.{AreReached, IsBetween, IsChecked, IsFirstMet, IsInOrder, IsLeafAt, IsLeastLeaf, IsMetTree, IsPartOf, IsRead, IsReadFrom, IsTrueAt, IsTrueBehind, IsWalked, NoneBelow, names_of_leaves};
+ghost use Rattle.art_checking.specs.Checked.{AreReached, IsBetween, IsChecked, IsFirstMet, IsInOrder, IsLeafAt, IsLeastLeaf, IsMetTree, IsPartOf, IsPassed, IsRead, IsReadFrom, IsTrueAt, IsTrueBehind, IsWalked, NoneBelow, NoneFrom, names_of_leaves};
 ghost use Rattle.art_checking.specs.Checks.{fault_of};
 ghost use Rattle.art_checking.specs.Meetings.{place_in};
 
@@ -36,12 +36,36 @@ pub(super) fn check_nodes<K: AsBytes + Drop, V: Drop, const P: usize>(
 {
     let mut seen = Seen::new(store.alloc());
     let mut place = Vec::new(store.alloc());
-    meet(store, root, &place, &mut seen)?;
-    match root.split() {
-        NodePtr::Leaf(leaf) => check_leaf(store, leaf, &place)?,
-        NodePtr::Inner(inner) => check_inner(store, inner, None, &mut place, &mut seen)?,
-    }
+    check_node(store, root, None, &mut place, &mut seen)?;
     Ok(seen)
+}
+
+// Checks the node that a name stands for, which is reached at a place, and all that is below it. `least` is
+// its least leaf, where that is known.
+#[cycle(checks)]
+fn check_node<K: AsBytes + Drop, V: Drop, const P: usize>(
+    store: &NodeStore<K, V, P>,
+    name: OpaqueNodePtr,
+    least: Option<LeafPtr>,
+    place: &mut Vec<u8>,
+    seen: &mut Seen,
+) -> Result<(), MalformedTreeError>
+    requires free { NoneFrom (place_in seen.old) place.old.items }
+    requires least { IfSome least (λ leaf.
+        IsLeastLeaf (of_key K.bytes) P store.now name (Some leaf)) }
+    ensures passed { OnOk result (IsPassed (of_key K.bytes) P store.now
+        seen.old seen.new place.old.items name) }
+    ensures place { OnOk result (place.new.items ≡ place.old.items) }
+    ensures walked { OnOk result (IsWalked (of_key K.bytes) P store.now
+        (place_in seen.old) (place_in seen.new) place.old.items name) }
+    ensures fault { IfErr result (IsTrueBehind (of_key K.bytes) P store.now
+        (place_in seen.old) place.old.items name) }
+{
+    meet(store, name, place, seen)?;
+    match name.split() {
+        NodePtr::Leaf(leaf) => check_leaf(store, leaf, place),
+        NodePtr::Inner(inner) => check_inner(store, inner, least, place, seen),
+    }
 }
 
 // Adds a name that is reached at a place to those that were met: a name for the second time is a loop,
@@ -93,6 +117,7 @@ fn is_there<K: AsBytes + Drop, V: Drop, const P: usize>(
 
 // Checks an inner node that was met at a place, and all that is below it. `least` is its least leaf,
 // where that is known.
+#[cycle(checks)]
 fn check_inner<K: AsBytes + Drop, V: Drop, const P: usize>(
     store: &NodeStore<K, V, P>,
     name: InnerPtr,
@@ -121,17 +146,12 @@ fn check_inner<K: AsBytes + Drop, V: Drop, const P: usize>(
     let mut least = read_prefix(store, name, node, least, place)?;
     for (byte, child) in node.iter() {
         place.push(byte)?;
-        meet(store, child, place, seen)?;
-        match child.split() {
-            NodePtr::Leaf(leaf) => check_leaf(store, leaf, place)?,
-            NodePtr::Inner(inner) => check_inner(store, inner, least, place, seen)?,
-        }
+        check_node(store, child, least, place, seen)?;
         place.pop();
         least = None;
     }
     place.truncate(depth);
-    check_count(store, node, place)?;
-    Ok(())
+    check_count(store, node, place)
 }
 
 // Appends the prefix of an inner node to the bytes that lead to it. A prefix that is not stored whole is
