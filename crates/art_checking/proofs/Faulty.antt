@@ -11,12 +11,12 @@ use Rattle.art_parts.specs.declared.names.InnerPtr.{InnerPtr}
 use Rattle.art_parts.specs.declared.names.NodeType.{NodeType}
 use Rattle.art_parts.specs.declared.names.NodeType.TheVariants.{Leaf}
 use Rattle.art_parts.specs.declared.names.OpaqueNodePtr.{OpaqueNodePtr}
-use Rattle.art_model.specs.Faults.{IsTrueOf, Reaches, out_of_memory, wrong_children_count}
+use Rattle.art_model.specs.Faults.{Fault, IsTrueOf, Reaches, out_of_memory, wrong_children_count}
 use Rattle.art_model.specs.Roots.{IsCanonicalRoot}
 use Rattle.art_model.specs.Stores.{header_at}
 use Rattle.art_model.proofs.Canonical.{laid_out}
 use Rattle.art_model.proofs.Faultless.{no_fault}
-use Rattle.art_checking.specs.Checked.{IsTrueAt, IsTrueBehind, IsWalked}
+use Rattle.art_checking.specs.Checked.{IsTrueAt, IsTrueBehind, IsWalked, Says}
 use Rattle.art_checking.specs.Checks.{fault_of}
 use Rattle.art_checking.specs.Meetings.{Places}
 use Rattle.art_checking.proofs.Descents.{inner_at}
@@ -46,6 +46,12 @@ pub canonical_error : {K V : Type 0} {bytes : K × V → List ℕ} {P : ℕ} {s 
     IsCanonicalRoot bytes P s root → IsTrueOf bytes P s root (fault_of error) → error ≡ OutOfMemory
 canonical_error {bytes = bytes} {P = P} {s = s} {root = root} error (pairs, layout, by) is = memory_alone error (no_fault bytes P s root pairs layout (laid_out by) (fault_of error) is)
 
+-- what an error says is true, or there was no memory to say it
+pub said : {K V : Type 0} (bytes : K × V → List ℕ) (P : ℕ) (s : Nodes K V) (root : OpaqueNodePtr) {fault : Fault} (error : MalformedTreeError) → Says fault error →
+    IsTrueOf bytes P s root fault → IsTrueOf bytes P s root (fault_of error)
+said bytes P s root error (inl e) true = subst (IsTrueOf bytes P s root) (sym e) true
+said bytes P s root error (inr e) true = subst (IsTrueOf bytes P s root) (sym e) tt
+
 module _ {K V T : Type 0} (bytes : K × V → List ℕ) (P : ℕ) (s : Nodes K V) (r : Result T MalformedTreeError) where
   -- what is true at a place is true there behind all that was met
   pub true_at : (places : Places) {front place : List ℕ} {node name : OpaqueNodePtr} → front ≡ place → node ≡ name →
@@ -61,15 +67,19 @@ module _ {K V T : Type 0} (bytes : K × V → List ℕ) (P : ℕ) (s : Nodes K V
       IfErr-weaker r (IsTrueBehind bytes P s mid place node) (IsTrueBehind bytes P s old place name)
       (λ error true root all reach. true root (walked.reached root all reach) (subst (Reaches bytes P s root place) (sym is) reach))
 
-  -- a node has fewer children than its kind may have, or memory ran out
+  -- a node has fewer children than its kind may have
   pub too_few : (places : Places) {front place : List ℕ} {kind : NodeType} (p : InnerPtr) (node : Inner) → p.kind ≢ Leaf → map.get s.inners p ≡ Some node → front ≡ place → kind ≡ p.kind →
-      IfErr r (λ error. (fault_of error ≡ out_of_memory) ⊎ ((fault_of error ≡ wrong_children_count front kind (length node.children)) × (length node.children < kind_least kind))) →
+      IfErr r (λ error. Says (wrong_children_count front kind (length node.children)) error × (length node.children < kind_least kind)) →
       IfErr r (IsTrueBehind bytes P s places place (inner_name p))
   too_few places {front} {place} {kind} p node proper there at is =
-      IfErr-weaker r (λ error. (fault_of error ≡ out_of_memory) ⊎ ((fault_of error ≡ wrong_children_count front kind (length node.children)) × (length node.children < kind_least kind)))
+      IfErr-weaker r (λ error. Says (wrong_children_count front kind (length node.children)) error × (length node.children < kind_least kind))
       (IsTrueBehind bytes P s places place (inner_name p))
-      (λ error either root all reach. elim either [
-        | inl e ↦ subst (IsTrueOf bytes P s root) (sym e) tt
-        | inr (e, few) ↦ subst (IsTrueOf bytes P s root) (sym e)
-            (inner_name p, header_at p.kind node, node.children, (subst (λ ps. Reaches bytes P s root ps (inner_name p)) (sym at) reach, inner_at s p node proper there), sym is, refl, few)
-      ])
+      (λ error few root all reach. said bytes P s root error few.0 (
+        inner_name p,
+        header_at p.kind node,
+        node.children,
+        (subst (λ ps. Reaches bytes P s root ps (inner_name p)) (sym at) reach, inner_at s p node proper there),
+        sym is,
+        refl,
+        few.1,
+      ))

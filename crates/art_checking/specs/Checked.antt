@@ -11,7 +11,7 @@ use Rattle.art_nodes.specs.Nodes.{Nodes}
 use Rattle.art_parts.specs.declared.leaf.LeafNode.{LeafNode}
 use Rattle.art_parts.specs.declared.names.LeafPtr.{LeafPtr}
 use Rattle.art_parts.specs.declared.names.OpaqueNodePtr.{OpaqueNodePtr}
-use Rattle.art_model.specs.Faults.{Reaches, EndsBadly, IsTrueOf}
+use Rattle.art_model.specs.Faults.{Fault, out_of_memory, Reaches, EndsBadly, IsTrueOf}
 use Rattle.art_model.specs.Keys.{IsFront}
 use Rattle.art_model.specs.Layouts.{leaf_node, name_of, names_of, leaf_names, AreDistinct, Holds}
 use Rattle.art_model.specs.Radix.{IsRadix}
@@ -47,6 +47,10 @@ pub record IsFirstMet (old new : Seen) (name : OpaqueNodePtr) (place : List ℕ)
   pub met : IsMet (place_in old) (place_in new) name place
   pub leaves : new.leaves.items ≡ leaves_with name old.leaves.items
   pub count : count_met new ≡ count_met old + 1
+
+-- the error says the fault, or that there was no memory to say it
+abbrev pub Says : Fault → MalformedTreeError → Type 0
+Says fault error = (fault_of error ≡ fault) ⊎ (fault_of error ≡ out_of_memory)
 
 module _ {K V : Type 0} (bytes : K × V → List ℕ) (P : ℕ) (s : Nodes K V) where
   -- a leaf stands there, and its key begins with the place

@@ -1,4 +1,4 @@
-use Rattle.std.proofs.Common.{ℕ, ◌≡◌, ◌++◌, ◌≤◌, length, take, rules, sym, ◌∙◌, ap₂, arith, subst, refl, Some, IfSome}
+use Rattle.std.proofs.Common.{ℕ, List, ◌≡◌, ◌++◌, ◌≤◌, length, take, rules, sym, ◌∙◌, ap₂, arith, subst, refl, Some, IfSome}
 use Rattle.std.proofs.Math.Seq.{take-append_seam}
 use Rattle.std.proofs.lemmas.Result.{on_ok_weaker}
 use Rattle.art_inner.specs.Views.{ref_kind, ref_view}
@@ -81,6 +81,9 @@ turn_of : (g : Over) (t : ℕ) (c : check_inner-In_ok-push g t) →
 turn_of g t c =
     turn_from c.requires.proper (sym c.in-Some.ensures.view) c.iter-byte-items.ensures.rising c.in-Some-2.ensures.steps c.loop-byte.invariant.3 c.in_ok-push.ensures.items
 
+pub check_inner-returns-in_err-least-clause-fault : goal.check_inner-returns-in_err-least-clause-fault
+check_inner-returns-in_err-least-clause-fault g t c = passed_on _ _ _ c.from_residual.ensures.1 (λ root all reach. c.in_err-least.ensures.fault root reach)
+
 pub check_inner-loop-byte-init : goal.check_inner-loop-byte-init
 check_inner-loop-byte-init g t c =
     let bytes = of_key g.K.AsBytes.bytes in
@@ -127,10 +130,21 @@ check_inner-returns-clause-checked g t c =
     (λ (enough : kind_least (ref_kind c.in-Some.node) ≤ length node.children). passed_all has.read.part c.args.name node c.requires.proper (sym c.in-Some.ensures.view) passed
     has.read.long has.read.stored c.iter-byte-items.ensures.rising (subst (λ k. kind_least k ≤ length node.children) c.in-Some.ensures.kind enough) most) c.check_count.ensures.enough
 
+-- the bytes that lead to it are as they were, once those of its prefix are cut off
+cut_again : {items read whole : List ℕ} {depth long : ℕ} (place part : List ℕ) → whole ≡ items → items ≡ take depth read → depth ≡ long → long ≡ length place → read ≡ place ++ part → whole ≡ place
+cut_again place part same cut deep long is = same ∙ cut ∙ ap₂ (λ n l. take n l) (deep ∙ long) is ∙ take-append_seam place part
+
+pub check_inner-returns-clause-place : goal.check_inner-returns-clause-place
+check_inner-returns-clause-place g t c =
+    let read = c.loop-byte.invariant.3.read in
+    on_ok_weaker c.check_count.result (λ enough. cut_again c.args.place.now.items read.part refl c.truncate.ensures.items c.len-depth.ensures c.args.place.now.ok.0 read.is) c.check_count.ensures.enough
+
+pub check_inner-returns-clause-walked : goal.check_inner-returns-clause-walked
+check_inner-returns-clause-walked g t c = on_ok_weaker c.check_count.result (λ enough. c.loop-byte.invariant.3.walked.walked) c.check_count.ensures.enough
+
 pub check_inner-returns-clause-fault : goal.check_inner-returns-clause-fault
 check_inner-returns-clause-fault g t c =
-    let place = c.args.place.now.items in
     let read = c.loop-byte.invariant.3.read in
-    let deep : c.len-depth.result ≡ length place = c.len-depth.ensures ∙ c.args.place.now.ok.0 in
-    let cut : c.deref.result.now ≡ place = c.deref.ensures.value ∙ c.truncate.ensures.items ∙ ap₂ (λ n l. take n l) deep read.is ∙ take-append_seam place read.part in
-    too_few (of_key g.K.AsBytes.bytes) g.row.P c.args.store.now c.check_count.result (place_in c.args.seen.now) c.args.name (ref_view c.in-Some.node) c.requires.proper (sym c.in-Some.ensures.view) cut c.in-Some.ensures.kind c.check_count.ensures.fault
+    let cut = cut_again c.args.place.now.items read.part c.deref.ensures.value c.truncate.ensures.items c.len-depth.ensures c.args.place.now.ok.0 read.is in
+    too_few (of_key g.K.AsBytes.bytes) g.row.P c.args.store.now c.check_count.result (place_in c.args.seen.now)
+    c.args.name (ref_view c.in-Some.node) c.requires.proper (sym c.in-Some.ensures.view) cut c.in-Some.ensures.kind c.check_count.ensures.fault

@@ -8,11 +8,12 @@ use Rattle.art_parts.specs.contracts.names.LeafPtrPartialEq.TheImpl as derived
 use Rattle.art_parts.specs.declared.names.LeafPtr.{LeafPtr}
 use Rattle.art_parts.specs.declared.names.OpaqueNodePtr.{OpaqueNodePtr}
 use Rattle.art_model.specs.Layouts.{Links}
-use Rattle.art_model.specs.Pairs.{first_of as first_name, last_of}
+use Rattle.art_model.specs.Pairs.{first_of as first_name, last_of, of_key}
 use Rattle.art_model.specs.Stores.{held_leaf, links_of, pair_of}
 use Rattle.art_checking.specs.Checked.{names_of_leaves}
 use Rattle.art_checking.specs.Checks.{between}
 use Rattle.art_checking.proofs.Descents.{leaf_at}
+use Rattle.art_checking.proofs.Faulty.{said}
 use Rattle.art_checking.proofs.well_formed.check.check_links.Goals as goal
 use Rattle.art_checking.proofs.well_formed.check.check_links.Goals.{then-ne-via-then-ne, then-ne-via-else-ne+then-ne-2}
 
@@ -55,7 +56,8 @@ returns-then-ne-clause-fault g c root layout is leaves =
     let off : between node.previous node.next ≢ between c.along.previous c.copied-next.result = elim c.then-ne.branch [
       | then-ne-via-then-ne w ↦ λ e. differs node.previous c.along.previous (sym c.ne.ensures ∙ w.if-ne.true) (ap (λ l. l.previous) e)
       | then-ne-via-else-ne+then-ne-2 w ↦ λ e. differs node.next c.copied-next.result (sym w.ne-else-ne.ensures ∙ w.if-ne-2.true) (ap (λ l. l.next) e)
-    ] in (
+    ] in
+    said (of_key g.K.AsBytes.bytes) g.row.P s root c.wrong_sibling_links.result c.wrong_sibling_links.ensures (
       layout,
       names_of_leaves done,
       names_of_leaves c.in-Some.others.now,
@@ -64,7 +66,7 @@ returns-then-ne-clause-fault g c root layout is leaves =
       is,
       leaves ∙ ap names_of_leaves whole ∙ names_around done leaf c.in-Some.others.now,
       leaf_at s leaf node (sym c.in-Some-leaf.ensures),
-      sym c.as_bytes.ensures ∙ sym c.in_ok-copy_of.ensures,
+      sym c.as_bytes.ensures,
       ap₂ (λ p n. let l : Links OpaqueNodePtr = record { previous = p; next = n } in l) before after,
       ap (λ o. option_and_then links_of (option_map held_leaf o)) (sym c.in-Some-leaf.ensures),
       off,
