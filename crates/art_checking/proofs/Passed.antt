@@ -12,13 +12,14 @@ use Rattle.art_parts.specs.Names.{leaf_name, inner_name, inner_cmp}
 use Rattle.art_nodes.specs.Nodes.{Nodes}
 use Rattle.art_parts.specs.declared.names.NodeType.{NodeType}
 use Rattle.art_parts.specs.declared.names.NodeType.TheVariants.{Node4, Node16, Node48, Node256, Leaf}
+use Rattle.art_parts.specs.declared.leaf.LeafNode.{LeafNode}
 use Rattle.art_parts.specs.declared.names.LeafPtr.{LeafPtr}
 use Rattle.art_parts.specs.declared.names.InnerPtr.{InnerPtr}
 use Rattle.art_parts.specs.declared.names.OpaqueNodePtr.{OpaqueNodePtr}
 use Rattle.art_model.specs.Keys.{IsFront}
 use Rattle.art_model.specs.Layouts.{leaf_node, inner_node, name_of, slots_of, names_of, names_below, leaf_names, leaf_names_below, inner_names, inner_names_below, Holds, HoldsBelow, AreLinked, IsLayout}
 use Rattle.art_model.specs.Radix.{join, pairs_of, bytes_of, BytesRise, IsRadix, AreRadix}
-use Rattle.art_model.specs.Stores.{node_at, header_at, held_inner, Held, IsUsed, links_at}
+use Rattle.art_model.specs.Stores.{node_at, header_at, held_inner, held_leaf, Held, IsUsed, links_at}
 use Rattle.art_model.specs.Trees.{Tree, leaf, inner, Subtrees, child, no_child, NodeHeader, canonical_header, kind_of}
 use Rattle.art_model.proofs.Canonical.{canonical_from}
 use Rattle.art_model.proofs.Lists.{Each-append}
@@ -219,6 +220,13 @@ inner_is_there {K} {V} s p proper used = go (finite.get s.inners p) refl (λ e. 
     go : (o : Option Inner) → finite.get s.inners p ≡ o → (option_map {T = Inner} {U = Held K V} held_inner (finite.get s.inners p) ≡ None → ⊥) → (node : Inner) × (finite.get s.inners p ≡ Some node)
     go None e f = absurd (f (ap (option_map held_inner) e))
     go (Some node) e f = (node, e)
+
+pub leaf_is_there : {K V : Type 0} (s : Nodes K V) (p : LeafPtr) → IsUsed s (leaf_name p) → IsSome (finite.get s.leaves p)
+leaf_is_there {K} {V} s p used = go (finite.get s.leaves p) used
+  where
+    go : (o : Option (LeafNode K V)) → (option_map {U = Held K V} held_leaf o ≡ None → ⊥) → IsSome o
+    go None f = absurd (f refl)
+    go (Some node) f = refl
 
 -- the bytes before the last one
 pub before_last : (items rest front : List ℕ) (b len : ℕ) → items ≡ front ++ b ∷ [] → length items ≡ len → rest ≡ take (len - 1) items → rest ≡ front

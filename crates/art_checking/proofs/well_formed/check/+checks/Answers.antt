@@ -1,4 +1,4 @@
-use Rattle.std.proofs.Common.{ℕ, List, ◌≡◌, ◌++◌, ◌≤◌, length, take, rules, sym, ◌∙◌, ap₂, arith, subst, refl, Some, IfSome}
+use Rattle.std.proofs.Common.{ℕ, List, ◌≡◌, ◌++◌, ◌≤◌, length, take, rules, sym, ◌∙◌, ap₂, arith, subst, refl, ◌+◌, ◌*◌, ◌<◌, Option, Some, None, IfSome}
 use Rattle.std.proofs.Math.Seq.{take-append_seam}
 use Rattle.std.proofs.lemmas.Result.{on_ok_weaker}
 use Rattle.art_inner.specs.Views.{ref_kind, ref_view}
@@ -8,18 +8,28 @@ use Rattle.art_model.specs.Faults.{Reaches}
 use Rattle.art_model.specs.Layouts.{names_below}
 use Rattle.art_model.specs.Stores.{IsUsed, header_at}
 use Rattle.art_model.specs.Pairs.{of_key}
-use Rattle.art_checking.specs.Checked.{IsFirstMet, IsLeastLeaf, NoneBelow}
+use Rattle.art_checking.specs.Checked.{IsFirstMet, IsLeastLeaf}
 use Rattle.art_checking.specs.Meetings.{place_in}
 use Rattle.art_checking.proofs.Descents.{inner_at}
 use Rattle.art_checking.proofs.Faulty.{passed_on, too_few, true_at, true_behind}
-use Rattle.art_checking.proofs.Passed.{HasPassed, inner_is_there, less_to_try, no_more_to_try, passed_all, passed_inner, passed_leaf}
+use Rattle.art_checking.proofs.Passed.{HasPassed, inner_is_there, leaf_is_there, less_to_try, no_more_to_try, passed_all, passed_inner, passed_leaf}
 use Rattle.art_checking.proofs.Turns.{IsTurn, free, none_turned, reached, turn_from, turned}
 use Rattle.art_checking.proofs.Walked.{IsFirstLeast, first_least, least_known, met_walked, none_below, stands_elsewhere, walked_also}
 use Rattle.art_checking.proofs.well_formed.check.+checks.Given.{Over}
 use Rattle.art_checking.proofs.well_formed.check.+checks.Goals as goal
 use Rattle.art_checking.proofs.well_formed.check.+checks.Goals.{check_inner-In_ok-push, check_node-In_ok-meet}
 
+some_none : {X : Type 0} {o : Option X} {x : X} → o ≡ Some x → o ≡ None → ⊥
+some_none e f = cc
+
 -- ---- a node
+
+-- the measure falls where one more was met, and in an inner node's children
+falls_below : {t m n : ℕ} → 2 * m ≡ t → n < m → 2 * n + 1 < t
+falls_below e l = omega arith
+
+falls_within : {t m n : ℕ} → 2 * m + 1 ≡ t → n ≤ m → 2 * n < t
+falls_within e l = omega arith
 
 -- its name was met for the first time
 met_first : (g : Over) (t : ℕ) (c : check_node-In_ok-meet g t) → IsFirstMet c.args.seen.now c.meet.new.seen c.args.name c.args.place.now.items
@@ -42,7 +52,11 @@ check_node-check_inner-requires g t c κs within =
     let (node, there) = inner_is_there s inner proper (subst (IsUsed s) (sym same) c.in_ok-meet.ensures.there) in
     let lower = less_to_try s.inners (place_in c.args.seen.now) (place_in c.meet.new.seen) inner node c.args.place.now.items there own.fresh own.met in
     let least = subst (λ n. IfSome c.args.least (λ leaf. IsLeastLeaf (of_key g.K.AsBytes.bytes) g.row.P s n (Some leaf))) (sym same) c.requires.least in
-    (omega (arith, c.decreases, lower), (within.0, (within.1, (search rules, (search rules, (rw there (search rules), (proper, ((λ e. absurd (let h = own.met.here in cc)), (none_below own.met c.requires.free, least)))))))))
+    (falls_below c.decreases lower, (within.0, (within.1, (search rules, (search rules, (rw there (search rules), (proper, ((λ e. absurd (some_none own.met.here e)), (none_below own.met c.requires.free, least)))))))))
+
+pub check_node-check_leaf-requires : goal.check_node-check_leaf-requires
+check_node-check_leaf-requires g t c =
+    (search rules, leaf_is_there c.args.store.now c.in-Leaf.leaf (subst (IsUsed c.args.store.now) (sym c.in-Leaf.ensures.name) c.in_ok-meet.ensures.there))
 
 pub check_node-returns-in-Leaf-clause-passed : goal.check_node-returns-in-Leaf-clause-passed
 check_node-returns-in-Leaf-clause-passed g t c =
@@ -106,7 +120,7 @@ check_inner-check_node-requires g t c κs within =
     let no_more = no_more_to_try s.inners (place_in c.args.seen.now) (place_in c.loop-byte.seen) (names_below turn.passed.children) turn.passed.meets in
     let first = subst (IsFirstLeast bytes g.row.P s c.loop-byte.least) c.in-Some-2.ensures.steps c.loop-byte.invariant.2 in
     let least = least_known bytes g.row.P s c.loop-byte.least c.in-Some-2.byte c.in-Some-2.child c.next.new.self first in
-    (omega (arith, c.decreases, no_more), (within.0, (within.1, (search rules, (search rules, (free turn, least))))))
+    (falls_within c.decreases no_more, (within.0, (within.1, (search rules, (search rules, (free turn, least))))))
 
 pub check_inner-returns-in_err-check_node-clause-fault : goal.check_inner-returns-in_err-check_node-clause-fault
 check_inner-returns-in_err-check_node-clause-fault g t c =
