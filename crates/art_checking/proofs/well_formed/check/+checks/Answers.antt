@@ -1,4 +1,4 @@
-use Rattle.std.proofs.Common.{ℕ, List, ◌≡◌, ◌++◌, ◌≤◌, length, take, rules, sym, ◌∙◌, ap₂, arith, subst, refl, ◌+◌, ◌*◌, ◌<◌, Option, Some, None, IfSome}
+use Rattle.std.proofs.Common.{ℕ, List, is_some, ap, ◌≡◌, ◌++◌, ◌≤◌, length, take, rules, sym, ◌∙◌, ap₂, arith, subst, refl, ◌+◌, ◌*◌, ◌<◌, Option, Some, None, IfSome}
 use Rattle.std.proofs.Math.Seq.{take-append_seam}
 use Rattle.std.proofs.lemmas.Result.{on_ok_weaker}
 use Rattle.art_inner.specs.Views.{ref_kind, ref_view}
@@ -52,7 +52,7 @@ check_node-check_inner-requires g t c κs within =
     let (node, there) = inner_is_there s inner proper (subst (IsUsed s) (sym same) c.in_ok-meet.ensures.there) in
     let lower = less_to_try s.inners (place_in c.args.seen.now) (place_in c.meet.new.seen) inner node c.args.place.now.items there own.fresh own.met in
     let least = subst (λ n. IfSome c.args.least (λ leaf. IsLeastLeaf (of_key g.K.AsBytes.bytes) g.row.P s n (Some leaf))) (sym same) c.requires.least in
-    (falls_below c.decreases lower, (within.0, (within.1, (search rules, (search rules, (rw there (search rules), (proper, ((λ e. absurd (some_none own.met.here e)), (none_below own.met c.requires.free, least)))))))))
+    (falls_below c.decreases lower, (within.0, (within.1, (search rules, (search rules, (ap is_some there, (proper, ((λ e. absurd (some_none own.met.here e)), (none_below own.met c.requires.free, least)))))))))
 
 pub check_node-check_leaf-requires : goal.check_node-check_leaf-requires
 check_node-check_leaf-requires g t c =
