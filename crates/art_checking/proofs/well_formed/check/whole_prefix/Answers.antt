@@ -1,4 +1,4 @@
-use Rattle.std.proofs.Common.{sym, ◌∙◌, ap, subst, ◌≡◌, ◌≢◌, ◌<◌, ◌≤◌, ℕ, List, take, Bool, true, false, not, eqb, refl}
+use Rattle.std.proofs.Common.{arith, sym, ◌∙◌, ap, subst, ◌≡◌, ◌≢◌, ◌<◌, ◌≤◌, ℕ, List, take, Bool, true, false, not, eqb, refl}
 use Rattle.std.proofs.lemmas.Bool.{true≢false, false≢true}
 use Rattle.std.proofs.lemmas.Bool.Decides.{Decides-eqb}
 use Rattle.std.proofs.lemmas.Slice.Eq.{slice_eq-Decides}
@@ -7,7 +7,7 @@ use Rattle.art_inner.specs.Views.{ref_view}
 use Rattle.art_parts.specs.Names.{inner_name}
 use Rattle.art_model.specs.Faults.{IsUnreadable, StoresOthers}
 use Rattle.art_model.specs.Pairs.{of_key}
-use Rattle.art_checking.proofs.Faulty.{said}
+use Rattle.art_checking.proofs.Faulty.{passed_on, said}
 use Rattle.art_checking.proofs.Readings.{least_if, read_found, read_long, read_whole, stores_others, unreadable}
 use Rattle.art_checking.proofs.well_formed.check.whole_prefix.Goals as goal
 
@@ -60,3 +60,18 @@ returns-clause-prefix g c =
 
 pub returns-clause-least : goal.returns-clause-least
 returns-clause-least g c = least_if (of_key g.K.AsBytes.bytes) g.row.P c.args.store.now (inner_name c.args.name) c.in_ok-found.found c.in_ok-found.ensures.least
+
+pub returns-then-len-clause-least : goal.returns-then-len-clause-least
+returns-then-len-clause-least g c = c.requires.least
+
+pub returns-in_err-found-clause-fault : goal.returns-in_err-found-clause-fault
+returns-in_err-found-clause-fault g c = passed_on _ _ _ c.from_residual.ensures.1 (λ root reach. tt)
+
+enough : {n m k : ℕ} → n < k → m ≡ k → n ≤ m
+enough l e = omega arith
+
+pub split_at-requires : goal.split_at-requires
+split_at-requires g c =
+    let read = read_found (of_key g.K.AsBytes.bytes) g.row.P c.args.store.now (inner_name c.args.name) c.args.place.now (ref_view c.args.node.now)
+    refl c.prefix_len-len.ensures c.in-Some.is c.in_ok-found.ensures.part in
+    enough (subst (λ n. g.row.P < n) c.prefix_len-len.ensures c.if-len.false) read.2.0
