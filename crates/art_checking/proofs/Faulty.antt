@@ -1,5 +1,5 @@
 -- Errors that are passed on, and those of a canonical root.
-use Rattle.std.proofs.Common.{◌≡◌, ◌≢◌, ◌<◌, ◌⊎◌, inl, inr, ℕ, List, length, sym, subst, refl, Result, Ok, Err, IfErr, Some}
+use Rattle.std.proofs.Common.{◌≡◌, ◌≢◌, ◌<◌, inl, inr, ℕ, List, length, sym, subst, refl, Result, Ok, Err, IfErr, Some}
 use Rattle.std.proofs.lemmas.Result.{IfErr-weaker}
 use Rattle.std.specs.FinMap as map
 use Rattle.std.specs.Result.{IsErrAnd}

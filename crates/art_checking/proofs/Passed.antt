@@ -18,7 +18,7 @@ use Rattle.art_parts.specs.declared.names.InnerPtr.{InnerPtr}
 use Rattle.art_parts.specs.declared.names.OpaqueNodePtr.{OpaqueNodePtr}
 use Rattle.art_model.specs.Keys.{IsFront}
 use Rattle.art_model.specs.Layouts.{leaf_node, inner_node, name_of, slots_of, names_of, names_below, leaf_names, leaf_names_below, inner_names, inner_names_below, Holds, HoldsBelow, AreLinked, IsLayout}
-use Rattle.art_model.specs.Radix.{join, pairs_of, bytes_of, BytesRise, IsRadix, AreRadix}
+use Rattle.art_model.specs.Radix.{join, pairs_of, bytes_of, BytesRise, AreRadix}
 use Rattle.art_model.specs.Stores.{node_at, header_at, held_inner, held_leaf, Held, IsUsed, links_at}
 use Rattle.art_model.specs.Trees.{Tree, leaf, inner, Subtrees, child, no_child, NodeHeader, canonical_header, kind_of}
 use Rattle.art_model.proofs.Canonical.{canonical_from}

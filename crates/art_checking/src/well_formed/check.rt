@@ -1,14 +1,14 @@
 //! The check, node by node.
-ghost use Rattle.std.specs.Prelude.{◌≡◌, ◌≢◌, ◌+◌, ◌<◌, ◌≤◌, ◌++◌, ◌↔◌, ◌⊎◌, ℕ, List, length, take, drop, min, Some, None, IsTrue, IsSome, IsNone, OnOk, IfOk, IfErr, IfSome, MatchOption};
+ghost use Rattle.std.specs.Prelude.{◌≡◌, ◌≢◌, ◌+◌, ◌<◌, ◌≤◌, ◌++◌, ◌↔◌, ℕ, List, length, Some, None, IsTrue, IsSome, OnOk, IfOk, IfErr, IfSome, MatchOption};
 ghost use Rattle.std.specs.FinMap as map;
 ghost use Rattle.std.specs.List.{AllByRecursion as Each};
 ghost use Rattle.art_inner.specs.Views.{ref_kind, ref_view};
-ghost use Rattle.art_parts.specs.Kinds.{kind_capacity, kind_least};
+ghost use Rattle.art_parts.specs.Kinds.{kind_least};
 ghost use Rattle.art_parts.specs.Names.{inner_name, leaf_name};
 ghost use Rattle.art_parts.specs.declared.leaf.LeafNode.{LeafNode};
 ghost use Rattle.art_parts.specs.declared.names.NodeType.TheVariants.{Leaf};
 ghost use Rattle.art_parts.specs.declared.names.OpaqueNodePtr.{OpaqueNodePtr};
-ghost use Rattle.art_model.specs.Faults.{HasSibling, IsTrueOf, Reaches, ReachesLeaf, out_of_memory, wrong_children_count};
+ghost use Rattle.art_model.specs.Faults.{HasSibling, IsTrueOf, Reaches, ReachesLeaf, wrong_children_count};
 ghost use Rattle.art_model.specs.Layouts.{AreLinked, IsLayout, leaf_names, leaf_node};
 ghost use Rattle.art_model.specs.Pairs.{of_key};
 ghost use Rattle.art_model.specs.Trees.{Tree};

@@ -1,4 +1,4 @@
-use Rattle.std.proofs.Common.{◌≡◌, ◌<◌, ◌≤◌, ◌∙◌, ap, length, subst}
+use Rattle.std.proofs.Common.{◌<◌, ◌≤◌, ◌∙◌, ap, length, subst}
 use Rattle.art_inner.specs.Views.{ref_kind, ref_view}
 use Rattle.art_parts.specs.Kinds.{kind_least}
 use Rattle.art_model.specs.Faults.{wrong_children_count}

@@ -58,6 +58,9 @@ module _ {K V : Type 0} (bytes : K × V → List ℕ) (P : ℕ) (s : Nodes K V) 
   at_leaf (Ok x) place link order is names h = tt
   at_leaf (Err error) place link order is names h = λ root reach. h root (leaf_name p) (pair_of node) (reach, leaf_at s p node there) is (names root)
 
+one_node : {X : Type 0} {x y : X} {o : Option X} → Some x ≡ o → o ≡ Some y → x ≡ y
+one_node e f = cc
+
 pub returns-clause-leaf : goal.returns-clause-leaf
 returns-clause-leaf g c =
     let begun = begins (g.K.AsBytes.bytes c.in-Some.node.now.key) c.args.place.now (subst (λ key. true ≡ starts_with eqb key c.args.place.now) c.as_bytes-key.ensures c.if-not-starts_with.ensures.value) in
@@ -92,7 +95,6 @@ returns-clause-siblings g c =
     let bytes = of_key {V = g.row.V.Denot} g.K.AsBytes.bytes in
     let own = c.in-Some.node.now in
     let Stand = λ (k : List ℕ). IfSome own.previous (λ l. IsInOrder bytes g.row.P s l Less k) × IfSome own.next (λ l. IsInOrder bytes g.row.P s l Greater k) in
-    let found = c.in-Some.ensures in
     on_ok_weaker c.check_order-2.result
     (λ (after : IfSome own.next (λ l. IsInOrder bytes g.row.P s l Greater c.as_bytes-key.result.now)) (node : LeafNode g.row.K.Denot g.row.V.Denot) (is : map.get s.leaves c.args.leaf ≡ Some node).
-    let same : own ≡ node = cc in subst (IsBetween bytes g.row.P s) same (subst Stand c.as_bytes-key.ensures (c.in_ok-check_order.ensures.sibling, after))) c.check_order-2.ensures.sibling
+    subst (IsBetween bytes g.row.P s) (one_node c.in-Some.ensures is) (subst Stand c.as_bytes-key.ensures (c.in_ok-check_order.ensures.sibling, after))) c.check_order-2.ensures.sibling
