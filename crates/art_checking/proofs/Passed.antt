@@ -109,7 +109,8 @@ module _ {K V : Type 0} {bytes : K × V → List ℕ} {P : ℕ} {s : Nodes K V} 
     }
 
     -- an inner node was passed
-    pub passed_inner : {new : Seen} (inner_ptr : InnerPtr) → inner_name inner_ptr ≡ name → inner_ptr.kind ≢ Leaf → IsChecked bytes P s mid new place (inner_name inner_ptr) → IsPassed bytes P s old new place name
+    pub passed_inner : {new : Seen} (inner_ptr : InnerPtr) → inner_name inner_ptr ≡ name → inner_ptr.kind ≢ Leaf → IsChecked bytes P s mid new place (inner_name inner_ptr) →
+        IsPassed bytes P s old new place name
     passed_inner {new} inner_ptr is proper done =
         let checked = subst (IsChecked bytes P s mid new place) is done in
         let kept = inner_same name old.leaves.items (subst (λ n. n.kind ≢ Leaf) is proper) in record {

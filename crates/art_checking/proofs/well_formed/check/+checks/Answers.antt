@@ -52,7 +52,8 @@ check_node-check_inner-requires g t c κs within =
     let (node, there) = inner_is_there s inner proper (subst (IsUsed s) (sym same) c.in_ok-meet.ensures.there) in
     let lower = less_to_try s.inners (place_in c.args.seen.now) (place_in c.meet.new.seen) inner node c.args.place.now.items there own.fresh own.met in
     let least = subst (λ n. IfSome c.args.least (λ leaf. IsLeastLeaf (of_key g.K.AsBytes.bytes) g.row.P s n (Some leaf))) (sym same) c.requires.least in
-    (falls_below c.decreases lower, (within.0, (within.1, (search rules, (search rules, (ap is_some there, (proper, ((λ e. absurd (some_none own.met.here e)), (none_below own.met c.requires.free, least)))))))))
+    let is_met = λ (e : place_in c.meet.new.seen (inner_name inner) ≡ None). some_none own.met.here e in
+    (falls_below c.decreases lower, (within.0, (within.1, (search rules, (search rules, (ap is_some there, (proper, (is_met, (none_below own.met c.requires.free, least)))))))))
 
 pub check_node-check_leaf-requires : goal.check_node-check_leaf-requires
 check_node-check_leaf-requires g t c =
@@ -69,7 +70,8 @@ check_node-returns-in-Leaf-clause-walked g t c =
     on_ok_weaker c.check_leaf.result (λ stands. met_walked met.met) c.check_leaf.ensures.leaf
 
 pub check_node-returns-in-Leaf-clause-fault : goal.check_node-returns-in-Leaf-clause-fault
-check_node-returns-in-Leaf-clause-fault g t c = true_at (of_key g.K.AsBytes.bytes) g.row.P c.args.store.now c.check_leaf.result (place_in c.args.seen.now) c.deref-in-Leaf.ensures.value c.in-Leaf.ensures.name c.check_leaf.ensures.fault
+check_node-returns-in-Leaf-clause-fault g t c =
+    true_at (of_key g.K.AsBytes.bytes) g.row.P c.args.store.now c.check_leaf.result (place_in c.args.seen.now) c.deref-in-Leaf.ensures.value c.in-Leaf.ensures.name c.check_leaf.ensures.fault
 
 pub check_node-returns-in-Inner-clause-passed : goal.check_node-returns-in-Inner-clause-passed
 check_node-returns-in-Inner-clause-passed g t c =
@@ -138,7 +140,9 @@ pub check_inner-returns-clause-checked : goal.check_inner-returns-clause-checked
 check_inner-returns-clause-checked g t c =
     let node = ref_view c.in-Some.node in
     let has = c.loop-byte.invariant.3 in
-    let passed = subst (HasPassed (of_key g.K.AsBytes.bytes) g.row.P c.args.store.now c.args.seen.now c.loop-byte.seen (c.args.place.now.items ++ has.read.part) node.children) c.in-None.ensures.steps.0 has.passed in
+    let passed =
+    subst (HasPassed (of_key g.K.AsBytes.bytes) g.row.P c.args.store.now c.args.seen.now c.loop-byte.seen (c.args.place.now.items ++ has.read.part) node.children)
+    c.in-None.ensures.steps.0 has.passed in
     let most = subst (λ k. length node.children ≤ kind_capacity k) c.in-Some.ensures.kind c.iter-byte-items.ensures.bound in
     on_ok_weaker c.check_count.result
     (λ (enough : kind_least (ref_kind c.in-Some.node) ≤ length node.children). passed_all has.read.part c.args.name node c.requires.proper (sym c.in-Some.ensures.view) passed
@@ -151,7 +155,8 @@ cut_again place part same cut deep long is = same ∙ cut ∙ ap₂ (λ n l. tak
 pub check_inner-returns-clause-place : goal.check_inner-returns-clause-place
 check_inner-returns-clause-place g t c =
     let read = c.loop-byte.invariant.3.read in
-    on_ok_weaker c.check_count.result (λ enough. cut_again c.args.place.now.items read.part refl c.truncate.ensures.items c.len-depth.ensures c.args.place.now.ok.0 read.is) c.check_count.ensures.enough
+    on_ok_weaker c.check_count.result
+    (λ enough. cut_again c.args.place.now.items read.part refl c.truncate.ensures.items c.len-depth.ensures c.args.place.now.ok.0 read.is) c.check_count.ensures.enough
 
 pub check_inner-returns-clause-walked : goal.check_inner-returns-clause-walked
 check_inner-returns-clause-walked g t c = on_ok_weaker c.check_count.result (λ enough. c.loop-byte.invariant.3.walked.walked) c.check_count.ensures.enough

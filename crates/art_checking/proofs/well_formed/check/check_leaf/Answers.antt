@@ -63,7 +63,8 @@ one_node e f = cc
 
 pub returns-clause-leaf : goal.returns-clause-leaf
 returns-clause-leaf g c =
-    let begun = begins (g.K.AsBytes.bytes c.in-Some.node.now.key) c.args.place.now (subst (λ key. true ≡ starts_with eqb key c.args.place.now) c.as_bytes-key.ensures c.if-not-starts_with.ensures.value) in
+    let begun = begins (g.K.AsBytes.bytes c.in-Some.node.now.key) c.args.place.now
+    (subst (λ key. true ≡ starts_with eqb key c.args.place.now) c.as_bytes-key.ensures c.if-not-starts_with.ensures.value) in
     on_ok_weaker c.check_order-2.result (λ after. (pair_of c.in-Some.node.now, leaf_at c.args.store.now c.args.leaf c.in-Some.node.now (sym c.in-Some.ensures), begun)) c.check_order-2.ensures.sibling
 
 pub returns-in_err-check_order-clause-fault : goal.returns-in_err-check_order-clause-fault
@@ -76,8 +77,8 @@ returns-in_err-check_order-clause-fault g c =
 pub returns-clause-fault : goal.returns-clause-fault
 returns-clause-fault g c =
     let there = sym c.in-Some.ensures in
-    at_leaf (of_key g.K.AsBytes.bytes) g.row.P c.args.store.now c.args.leaf c.in-Some.node.now there c.check_order-2.result c.args.place.now c.in-Some.node.now.next Greater (sym c.as_bytes-key.ensures)
-    (next_named (of_key g.K.AsBytes.bytes) g.row.P c.args.store.now c.args.leaf c.in-Some.node.now there) c.check_order-2.ensures.fault
+    at_leaf (of_key g.K.AsBytes.bytes) g.row.P c.args.store.now c.args.leaf c.in-Some.node.now there c.check_order-2.result c.args.place.now c.in-Some.node.now.next Greater
+    (sym c.as_bytes-key.ensures) (next_named (of_key g.K.AsBytes.bytes) g.row.P c.args.store.now c.args.leaf c.in-Some.node.now there) c.check_order-2.ensures.fault
 
 pub returns-then-not-starts_with-clause-fault : goal.returns-then-not-starts_with-clause-fault
 returns-then-not-starts_with-clause-fault g c root reach =

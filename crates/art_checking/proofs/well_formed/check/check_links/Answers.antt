@@ -102,7 +102,8 @@ along-preserved g c =
     let node = c.in-Some-leaf.node.now in
     let split = c.in-Some.ensures.cases.0 in
     let previous = agrees node.previous c.along.previous (sym c.ne.ensures ∙ c.if-ne.false) in
-    let next = agrees node.next c.copied-next.result (sym c.ne-else-ne.ensures ∙ c.if-ne-2.false) ∙ ap (option_map leaf_name) (c.copied-next.ensures ∙ c.first.ensures.value) ∙ next_is others ∙ first_same (names_of_leaves others) in
+    let names = next_is others ∙ first_same (names_of_leaves others) in
+    let next = agrees node.next c.copied-next.result (sym c.ne-else-ne.ensures ∙ c.if-ne-2.false) ∙ ap (option_map leaf_name) (c.copied-next.ensures ∙ c.first.ensures.value) ∙ names in
     let own = linked_so s leaf node (sym c.in-Some-leaf.ensures) previous next in (
       (subst (Each (λ l. IsSome (map.get s.leaves l))) split c.along.invariant.0).1,
       (done ++ leaf ∷ [], parts ∙ ap (λ ls. done ++ ls) split ∙ sym (append_assoc done (leaf ∷ []) others), sym (last_more done leaf)),

@@ -34,4 +34,5 @@ returns-in_err-check_node-clause-fault g c =
 pub returns-clause-met : goal.returns-clause-met
 returns-clause-met g c =
     met_tree c.new-seen.ensures.leaves c.new-seen.ensures.count
-    (subst (λ place. IsPassed (of_key g.K.AsBytes.bytes) g.row.P c.args.store.now c.new-seen.result c.check_node.new.seen place c.args.root) c.new-place.ensures.items c.in_ok-check_node.ensures.passed)
+    (subst (λ place. IsPassed (of_key g.K.AsBytes.bytes) g.row.P c.args.store.now c.new-seen.result c.check_node.new.seen place c.args.root)
+    c.new-place.ensures.items c.in_ok-check_node.ensures.passed)
