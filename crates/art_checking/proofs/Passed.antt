@@ -12,13 +12,14 @@ use Rattle.art_parts.specs.Names.{leaf_name, inner_name, inner_cmp}
 use Rattle.art_nodes.specs.Nodes.{Nodes}
 use Rattle.art_parts.specs.declared.names.NodeType.{NodeType}
 use Rattle.art_parts.specs.declared.names.NodeType.TheVariants.{Node4, Node16, Node48, Node256, Leaf}
+use Rattle.art_parts.specs.declared.leaf.LeafNode.{LeafNode}
 use Rattle.art_parts.specs.declared.names.LeafPtr.{LeafPtr}
 use Rattle.art_parts.specs.declared.names.InnerPtr.{InnerPtr}
 use Rattle.art_parts.specs.declared.names.OpaqueNodePtr.{OpaqueNodePtr}
 use Rattle.art_model.specs.Keys.{IsFront}
 use Rattle.art_model.specs.Layouts.{leaf_node, inner_node, name_of, slots_of, names_of, names_below, leaf_names, leaf_names_below, inner_names, inner_names_below, Holds, HoldsBelow, AreLinked, IsLayout}
-use Rattle.art_model.specs.Radix.{join, pairs_of, bytes_of, BytesRise, IsRadix, AreRadix}
-use Rattle.art_model.specs.Stores.{node_at, header_at, held_inner, Held, IsUsed, links_at}
+use Rattle.art_model.specs.Radix.{join, pairs_of, bytes_of, BytesRise, AreRadix}
+use Rattle.art_model.specs.Stores.{node_at, header_at, held_inner, held_leaf, Held, IsUsed, links_at}
 use Rattle.art_model.specs.Trees.{Tree, leaf, inner, Subtrees, child, no_child, NodeHeader, canonical_header, kind_of}
 use Rattle.art_model.proofs.Canonical.{canonical_from}
 use Rattle.art_model.proofs.Lists.{Each-append}
@@ -29,14 +30,14 @@ use Rattle.art_model.proofs.Slots.{IsInRange, kind_of-range, length-slots_of}
 use Rattle.art_model.proofs.Stores.{HoldsBelow-join}
 use Rattle.art_model.proofs.TreeLaws.{has_few_inner_nodes, have_two_children}
 use Rattle.art_model.proofs.Views.{held_in_inner, leaf_there}
-use Rattle.art_checking.specs.Checked.{names_of_leaves, IsFirstMet, IsLeafAt, IsChecked, IsMetTree}
+use Rattle.art_checking.specs.Checked.{names_of_leaves, IsFirstMet, IsLeafAt, IsChecked, IsMetTree, IsPassed}
 use Rattle.art_checking.specs.Checks.{IsWellFormed}
 use Rattle.art_checking.specs.Meetings.{Meets, IsMet, Places, count_met, leaves_with, place_in}
 use Rattle.art_checking.specs.Untried.{untried}
 use Rattle.art_checking.specs.declared.well_formed.seen.Seen.{Seen}
 use Rattle.art_checking.proofs.Descents.{inner_at}
 use Rattle.art_checking.proofs.Meetings.{meets_none, meets_one, meets_then, stays_met}
-use Rattle.art_checking.proofs.Untried.{untried_less, key_of_inner}
+use Rattle.art_checking.proofs.Untried.{untried_less, untried_no_more, key_of_inner}
 
 -- a number between the least and the most of a kind is in its range
 in_range : (kind : NodeType) (n : ℕ) → kind ≢ Leaf → kind_least kind ≤ n → n ≤ kind_capacity kind → IsInRange kind n
@@ -79,16 +80,6 @@ inner_same name leaves proper = go name.kind proper
     go Node256 off = refl
     go Leaf off = absurd (off refl)
 
--- A name that was met and all below it were passed.
-pub record IsPassed {K V : Type 0} (bytes : K × V → List ℕ) (P : ℕ) (s : Nodes K V) (old new : Seen) (place : List ℕ) (name : OpaqueNodePtr) : Type 0 where
-  pub layout : Tree OpaqueNodePtr (K × V)
-  pub named : name_of layout ≡ name
-  pub holds : Holds (node_at s) layout
-  pub radix : IsRadix bytes P place layout
-  pub meets : Meets (place_in old) (place_in new) (names_of layout)
-  pub leaves : names_of_leaves new.leaves.items ≡ names_of_leaves old.leaves.items ++ leaf_names layout
-  pub count : count_met new ≡ count_met old + length (names_of layout)
-
 -- Of the children of a node, in the bytes that lead to them, some were passed, and these are left.
 pub record HasPassed {K V : Type 0} (bytes : K × V → List ℕ) (P : ℕ) (s : Nodes K V) (old new : Seen) (front : List ℕ) (all left : List (ℕ × OpaqueNodePtr)) : Type 0 where
   pub children : Subtrees OpaqueNodePtr (K × V)
@@ -103,11 +94,11 @@ pub record HasPassed {K V : Type 0} (bytes : K × V → List ℕ) (P : ℕ) (s :
 one_met : {old mid : Seen} {name : OpaqueNodePtr} {place : List ℕ} → IsFirstMet old mid name place → Meets (place_in old) (place_in mid) (name ∷ [])
 one_met {old} {mid} {name} {place} first = meets_one (place_in old) (place_in mid) name place first.fresh first.met
 
-module _ {K V : Type 0} {bytes : K × V → List ℕ} {P : ℕ} {s : Nodes K V} {old mid new : Seen} where
-  module _ {place front : List ℕ} {name : OpaqueNodePtr} (first : IsFirstMet old mid name place) (at : front ≡ place) where
+module _ {K V : Type 0} {bytes : K × V → List ℕ} {P : ℕ} {s : Nodes K V} {old mid : Seen} where
+  module _ {place : List ℕ} {name : OpaqueNodePtr} (first : IsFirstMet old mid name place) where
     -- a leaf was passed
-    pub passed_leaf : (leaf_ptr : LeafPtr) → leaf_name leaf_ptr ≡ name → IsLeafAt bytes P s leaf_ptr front → new ≡ mid → IsPassed bytes P s old new place name
-    passed_leaf leaf_ptr is (x, there, begins) same = subst (λ z. IsPassed bytes P s old z place name) (sym same) (record {
+    pub passed_leaf : {front : List ℕ} (leaf_ptr : LeafPtr) → leaf_name leaf_ptr ≡ name → front ≡ place → IsLeafAt bytes P s leaf_ptr front → IsPassed bytes P s old mid place name
+    passed_leaf leaf_ptr is at (x, there, begins) = record {
       layout = leaf name x;
       named = refl;
       holds = subst (λ n. node_at s n ≡ Some (leaf_node x)) is there;
@@ -115,28 +106,27 @@ module _ {K V : Type 0} {bytes : K × V → List ℕ} {P : ℕ} {s : Nodes K V} 
       meets = one_met first;
       leaves = ap names_of_leaves first.leaves ∙ subst (λ n. names_of_leaves (leaves_with n old.leaves.items) ≡ names_of_leaves old.leaves.items ++ n ∷ []) is (leaf_more leaf_ptr old.leaves.items);
       count = first.count;
-    })
+    }
 
     -- an inner node was passed
-    pub passed_inner : {low : Seen} (inner_ptr : InnerPtr) → inner_name inner_ptr ≡ name → inner_ptr.kind ≢ Leaf → IsChecked bytes P s mid low front (inner_name inner_ptr) → new ≡ low →
+    pub passed_inner : {new : Seen} (inner_ptr : InnerPtr) → inner_name inner_ptr ≡ name → inner_ptr.kind ≢ Leaf → IsChecked bytes P s mid new place (inner_name inner_ptr) →
         IsPassed bytes P s old new place name
-    passed_inner {low} inner_ptr is proper done same =
-        let checked = subst (IsChecked bytes P s mid low place) is (subst (λ p. IsChecked bytes P s mid low p (inner_name inner_ptr)) at done) in
-        let kept = inner_same name old.leaves.items (subst (λ n. n.kind ≢ Leaf) is proper) in
-        subst (λ z. IsPassed bytes P s old z place name) (sym same) (record {
+    passed_inner {new} inner_ptr is proper done =
+        let checked = subst (IsChecked bytes P s mid new place) is done in
+        let kept = inner_same name old.leaves.items (subst (λ n. n.kind ≢ Leaf) is proper) in record {
           layout = checked.layout;
           named = head_is (names_of checked.layout) (names_head checked.layout) checked.names;
           holds = checked.holds;
           radix = checked.radix;
-          meets = subst (Meets (place_in old) (place_in low)) (sym checked.names) (meets_then (place_in old) (place_in mid) (place_in low) (name ∷ []) checked.below (one_met first) checked.meets);
+          meets = subst (Meets (place_in old) (place_in new)) (sym checked.names) (meets_then (place_in old) (place_in mid) (place_in new) (name ∷ []) checked.below (one_met first) checked.meets);
           leaves = checked.leaves ∙ ap (λ ls. names_of_leaves ls ++ leaf_names checked.layout) (first.leaves ∙ kept);
           count = let one = first.count in let more = checked.count in rw checked.names (omega arith);
-        })
+        }
 
   -- one child more was passed
-  pub passed_more : {front : List ℕ} {all left : List (ℕ × OpaqueNodePtr)} (b : ℕ) (name : OpaqueNodePtr) →
+  pub passed_more : {new : Seen} {front : List ℕ} {all left : List (ℕ × OpaqueNodePtr)} (b : ℕ) (name : OpaqueNodePtr) →
       HasPassed bytes P s old mid front all ((b, name) ∷ left) → IsPassed bytes P s mid new (front ++ b ∷ []) name → HasPassed bytes P s old new front all left
-  passed_more {front} {all} {left} b name has passed =
+  passed_more {new} {front} {all} {left} b name has passed =
       let cs = has.children in
       let t = passed.layout in record {
         children = join cs (child b t no_child);
@@ -198,10 +188,6 @@ module _ {K V : Type 0} {bytes : K × V → List ℕ} {P : ℕ} {s : Nodes K V} 
           ap (λ b. let h : NodeHeader = record { kind = kind_of n; length_of = length part; stored = b } in h) b
 
 -- ---- what a step of the check leaves to try
-none_from : {X : Type 0} (o : Option X) → (o ≢ None → ⊥) → o ≡ None
-none_from None f = refl
-none_from (Some x) f = absurd (f (λ e. absurd cc))
-
 some_from : {X : Type 0} (o : Option X) → o ≢ None → is_some o ≡ true
 some_from None f = absurd (f refl)
 some_from (Some x) f = refl
@@ -210,17 +196,23 @@ not_none : {X : Type 0} (o : Option X) → is_some o ≡ true → o ≢ None
 not_none None e f = false≢true e
 not_none (Some x) e f = absurd cc
 
+still_met : (f g : Places) (names : List OpaqueNodePtr) → Meets f g names → (q : InnerPtr) → is_some (f (inner_name q)) ≡ true → is_some (g (inner_name q)) ≡ true
+still_met f g names meets q e = some_from (g (inner_name q)) (stays_met f g names meets (inner_name q) (not_none (f (inner_name q)) e))
+
 -- an inner node that was met only now is one less to try
-pub less_to_try : (inners : finite.FinMap inner_cmp Inner) (f g h : Places) (names : List OpaqueNodePtr) (p : InnerPtr) (node : Inner)
-    (place : List ℕ) → finite.get inners p ≡ Some node → Meets f g names → g (inner_name p) ≡ None → IsMet g h (inner_name p) place →
-    untried (λ q. is_some (h (inner_name q))) (finite.keys inners) < untried (λ q. is_some (f (inner_name q))) (finite.keys inners)
-less_to_try inners f g h names p node place there meets free met =
-    let all = meets_then f g h names (inner_name p ∷ []) meets (meets_one g h (inner_name p) place free met) in
-    untried_less (λ q. is_some (f (inner_name q))) (λ q. is_some (h (inner_name q)))
-    (λ q e. some_from (h (inner_name q)) (stays_met f h (names ++ inner_name p ∷ []) all (inner_name q) (not_none (f (inner_name q)) e)))
-    (finite.keys inners) p (key_of_inner inners p node there)
-    (ap is_some (none_from (f (inner_name p)) (λ some. stays_met f g names meets (inner_name p) some free)))
-    (ap is_some met.here)
+pub less_to_try : (inners : finite.FinMap inner_cmp Inner) (f g : Places) (p : InnerPtr) (node : Inner) (place : List ℕ) → finite.get inners p ≡ Some node →
+    f (inner_name p) ≡ None → IsMet f g (inner_name p) place →
+    untried (λ q. is_some (g (inner_name q))) (finite.keys inners) < untried (λ q. is_some (f (inner_name q))) (finite.keys inners)
+less_to_try inners f g p node place there free met =
+    untried_less (λ q. is_some (f (inner_name q))) (λ q. is_some (g (inner_name q)))
+    (still_met f g (inner_name p ∷ []) (meets_one f g (inner_name p) place free met))
+    (finite.keys inners) p (key_of_inner inners p node there) (ap is_some free) (ap is_some met.here)
+
+-- and none more is to try once others were met
+pub no_more_to_try : (inners : finite.FinMap inner_cmp Inner) (f g : Places) (names : List OpaqueNodePtr) → Meets f g names →
+    untried (λ q. is_some (g (inner_name q))) (finite.keys inners) ≤ untried (λ q. is_some (f (inner_name q))) (finite.keys inners)
+no_more_to_try inners f g names meets =
+    untried_no_more (λ q. is_some (f (inner_name q))) (λ q. is_some (g (inner_name q))) (still_met f g names meets) (finite.keys inners)
 
 -- a name in use is there
 pub inner_is_there : {K V : Type 0} (s : Nodes K V) (p : InnerPtr) → p.kind ≢ Leaf → IsUsed s (inner_name p) → (node : Inner) × (finite.get s.inners p ≡ Some node)
@@ -229,6 +221,13 @@ inner_is_there {K} {V} s p proper used = go (finite.get s.inners p) refl (λ e. 
     go : (o : Option Inner) → finite.get s.inners p ≡ o → (option_map {T = Inner} {U = Held K V} held_inner (finite.get s.inners p) ≡ None → ⊥) → (node : Inner) × (finite.get s.inners p ≡ Some node)
     go None e f = absurd (f (ap (option_map held_inner) e))
     go (Some node) e f = (node, e)
+
+pub leaf_is_there : {K V : Type 0} (s : Nodes K V) (p : LeafPtr) → IsUsed s (leaf_name p) → IsSome (finite.get s.leaves p)
+leaf_is_there {K} {V} s p used = go (finite.get s.leaves p) used
+  where
+    go : (o : Option (LeafNode K V)) → (option_map {U = Held K V} held_leaf o ≡ None → ⊥) → IsSome o
+    go None f = absurd (f refl)
+    go (Some node) f = refl
 
 -- the bytes before the last one
 pub before_last : (items rest front : List ℕ) (b len : ℕ) → items ≡ front ++ b ∷ [] → length items ≡ len → rest ≡ take (len - 1) items → rest ≡ front

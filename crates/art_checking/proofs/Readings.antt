@@ -1,5 +1,6 @@
--- a prefix that is not stored whole, as read from the least leaf, or not
-use Rattle.std.proofs.Common.{◌≡◌, ◌≢◌, ℕ, ◌+◌, ◌<◌, List, length, take, min, refl, ap, subst, ◌∙◌, Bor, Option, Some, None, inr, arith}
+-- a prefix as read from its node or from the least leaf, or not
+use Rattle.std.proofs.Common.{◌≡◌, ◌≢◌, ℕ, ◌+◌, ◌<◌, ◌≤◌, List, ◌++◌, length, take, min, refl, ap, subst, ◌∙◌, Bor, Option, Some, None, IfSome, inl, inr, arith}
+use Rattle.std.proofs.lemmas.List.{take_all}
 use Rattle.std.specs.FinMap as map
 use Rattle.std.specs.Option.{MatchOption}
 use Rattle.art_inner.specs.Inner.{Inner}
@@ -13,7 +14,7 @@ use Rattle.art_model.specs.Faults.{Reaches, IsUnreadable, StoresOthers}
 use Rattle.art_model.specs.Layouts.{leaf_node}
 use Rattle.art_model.specs.Stores.{node_at, header_at}
 use Rattle.art_model.specs.Trails.{IsPrefix}
-use Rattle.art_checking.specs.Checked.{IsLeastLeaf, IsPartOf, IsReadFrom}
+use Rattle.art_checking.specs.Checked.{IsLeastLeaf, IsPartOf, IsRead, IsReadFrom}
 use Rattle.art_checking.proofs.Descents.{inner_at}
 
 module _ {K V : Type 0} (bytes : K × V → List ℕ) (P : ℕ) (s : Nodes K V) where
@@ -33,6 +34,18 @@ module _ {K V : Type 0} (bytes : K × V → List ℕ) (P : ℕ) (s : Nodes K V) 
       subst (IsReadFrom bytes P s name (length place) node.prefix.len) is (subst (λ n. IsReadFrom bytes P s name (length place) n found) long
       (subst (λ n. IsReadFrom bytes P s name n len found) deep read))
 
+  -- a prefix that is stored whole is read from the node
+  pub read_whole : (p : InnerPtr) (node : Inner) (place : List ℕ) {part : List ℕ} → node.prefix.len ≤ P → length node.prefix.stored ≡ min node.prefix.len P → part ≡ node.prefix.stored →
+      IsRead bytes P s place (place ++ part) (inner_name p) (header_at p.kind node)
+  read_whole p node place fits count is =
+      let all : length node.prefix.stored ≡ node.prefix.len = omega arith in
+      record { part = node.prefix.stored; is = ap (λ q. place ++ q) is; long = all; stored = take_all P node.prefix.stored (omega arith); is_prefix = inl (fits, refl) }
+
+  -- a leaf that was found is the least one
+  pub least_if : (name : OpaqueNodePtr) (found : Option LeafPtr) → IsLeastLeaf bytes P s name found → IfSome found (λ leaf. IsLeastLeaf bytes P s name (Some leaf))
+  least_if name None least = tt
+  least_if name (Some leaf) least = least
+
   module _ (p : InnerPtr) (node : Inner) (place : List ℕ) (proper : p.kind ≢ Leaf) (there : map.get s.inners p ≡ Some node) (more : P < node.prefix.len) where
     pub unreadable : (root : OpaqueNodePtr) → IsReadFrom bytes P s (inner_name p) (length place) node.prefix.len None →
         Reaches bytes P s root place (inner_name p) → IsUnreadable bytes P s root place (inner_name p)
@@ -41,6 +54,11 @@ module _ {K V : Type 0} (bytes : K × V → List ℕ) (P : ℕ) (s : Nodes K V) 
     pub prefix_read : (part : Bor (List ℕ)) → IsReadFrom bytes P s (inner_name p) (length place) node.prefix.len (Some part) →
         IsPrefix (node_at s) bytes P (length place) (inner_name p) (header_at p.kind node) part.now
     prefix_read part (x, descends, is) = inr (more, (x, descends, is.1, is.2))
+
+    -- then the bytes of the leaf's key, of which the first ones are stored, are the prefix
+    pub read_long : (part : Bor (List ℕ)) → IsReadFrom bytes P s (inner_name p) (length place) node.prefix.len (Some part) → take P part.now ≡ node.prefix.stored →
+        IsRead bytes P s place (place ++ part.now) (inner_name p) (header_at p.kind node)
+    read_long part read same = record { part = part.now; is = refl; long = read.2.0; stored = same; is_prefix = prefix_read part read }
 
     pub stores_others : (root : OpaqueNodePtr) (part : Bor (List ℕ)) →
         IsReadFrom bytes P s (inner_name p) (length place) node.prefix.len (Some part) → length node.prefix.stored ≡ min node.prefix.len P → take P part.now ≢ node.prefix.stored →

@@ -125,11 +125,11 @@ module _ {K V : Type 0} {bytes : K × V → List ℕ} {P : ℕ} {s : Nodes K V} 
     ];
   }
 
-  pub walked_then : {old mid new : Places} {name : OpaqueNodePtr} {place : List ℕ} → IsWalked bytes P s old mid place name →
-      IsWalked bytes P s mid new place name → IsWalked bytes P s old new place name
-  walked_then first second = record {
+  pub walked_also : {old mid new : Places} {node name : OpaqueNodePtr} {place : List ℕ} → node ≡ name → IsWalked bytes P s old mid place name →
+      IsWalked bytes P s mid new place node → IsWalked bytes P s old new place name
+  walked_also {place = place} is first second = record {
     below = λ n other e. elim (second.below n other e) [ inl h ↦ first.below n other h | inr f ↦ inr f ];
-    reached = λ root all reach. second.reached root (first.reached root all reach) reach;
+    reached = λ root all reach. second.reached root (first.reached root all reach) (subst (Reaches bytes P s root place) (sym is) reach);
   }
 
 -- ---- the children of a node, one by one

@@ -11,7 +11,7 @@ use Rattle.art_nodes.specs.Nodes.{Nodes}
 use Rattle.art_parts.specs.declared.leaf.LeafNode.{LeafNode}
 use Rattle.art_parts.specs.declared.names.LeafPtr.{LeafPtr}
 use Rattle.art_parts.specs.declared.names.OpaqueNodePtr.{OpaqueNodePtr}
-use Rattle.art_model.specs.Faults.{Reaches, EndsBadly, IsTrueOf}
+use Rattle.art_model.specs.Faults.{Fault, out_of_memory, Reaches, EndsBadly, IsTrueOf}
 use Rattle.art_model.specs.Keys.{IsFront}
 use Rattle.art_model.specs.Layouts.{leaf_node, name_of, names_of, leaf_names, AreDistinct, Holds}
 use Rattle.art_model.specs.Radix.{IsRadix}
@@ -48,6 +48,10 @@ pub record IsFirstMet (old new : Seen) (name : OpaqueNodePtr) (place : List ℕ)
   pub leaves : new.leaves.items ≡ leaves_with name old.leaves.items
   pub count : count_met new ≡ count_met old + 1
 
+-- the error says the fault, or that there was no memory to say it
+abbrev pub Says : Fault → MalformedTreeError → Type 0
+Says fault error = (fault_of error ≡ fault) ⊎ (fault_of error ≡ out_of_memory)
+
 module _ {K V : Type 0} (bytes : K × V → List ℕ) (P : ℕ) (s : Nodes K V) where
   -- a leaf stands there, and its key begins with the place
   abbrev pub IsLeafAt : LeafPtr → List ℕ → Type 0
@@ -75,6 +79,16 @@ module _ {K V : Type 0} (bytes : K × V → List ℕ) (P : ℕ) (s : Nodes K V) 
     pub meets : Meets (place_in old) (place_in new) below
     pub leaves : names_of_leaves new.leaves.items ≡ names_of_leaves old.leaves.items ++ leaf_names layout
     pub count : count_met new ≡ count_met old + length below
+
+  -- From the name on, at the place, the nodes are those of a radix tree, and from the first state to the second all of its names were met.
+  pub record IsPassed (old new : Seen) (place : List ℕ) (name : OpaqueNodePtr) : Type 0 where
+    pub layout : Tree OpaqueNodePtr (K × V)
+    pub named : name_of layout ≡ name
+    pub holds : Holds (node_at s) layout
+    pub radix : IsRadix bytes P place layout
+    pub meets : Meets (place_in old) (place_in new) (names_of layout)
+    pub leaves : names_of_leaves new.leaves.items ≡ names_of_leaves old.leaves.items ++ leaf_names layout
+    pub count : count_met new ≡ count_met old + length (names_of layout)
 
   -- The names that were met are those of a radix tree below the root, its leaves in order.
   pub record IsMetTree (seen : Seen) (root : OpaqueNodePtr) : Type 0 where

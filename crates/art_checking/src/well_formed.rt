@@ -11,6 +11,7 @@ use std::fmt;
 use std::ops::{Add, AddAssign};
 
 mod check;
+mod errors;
 mod fault;
 mod seen;
 

@@ -1,27 +1,29 @@
 //! The check, node by node.
-ghost use Rattle.std.specs.Prelude.{◌≡◌, ◌≢◌, ◌+◌, ◌<◌, ◌≤◌, ◌++◌, ◌↔◌, ◌⊎◌, ℕ, List, length, take, drop, min, Some, None, IsTrue, IsSome, IsNone, OnOk, IfOk, IfErr, IfSome, MatchOption};
+ghost use Rattle.std.specs.Prelude.{◌≡◌, ◌≢◌, ◌+◌, ◌<◌, ◌≤◌, ◌++◌, ◌↔◌, ℕ, List, length, Some, None, IsTrue, IsSome, OnOk, IfOk, IfErr, IfSome, MatchOption};
 ghost use Rattle.std.specs.FinMap as map;
 ghost use Rattle.std.specs.List.{AllByRecursion as Each};
 ghost use Rattle.art_inner.specs.Views.{ref_kind, ref_view};
-ghost use Rattle.art_parts.specs.Kinds.{kind_capacity, kind_least};
+ghost use Rattle.art_parts.specs.Kinds.{kind_least};
 ghost use Rattle.art_parts.specs.Names.{inner_name, leaf_name};
 ghost use Rattle.art_parts.specs.declared.leaf.LeafNode.{LeafNode};
 ghost use Rattle.art_parts.specs.declared.names.NodeType.TheVariants.{Leaf};
 ghost use Rattle.art_parts.specs.declared.names.OpaqueNodePtr.{OpaqueNodePtr};
-ghost use Rattle.art_model.specs.Faults.{HasSibling, IsTrueOf, Reaches, ReachesLeaf, out_of_memory, wrong_children_count};
+ghost use Rattle.art_model.specs.Faults.{HasSibling, IsTrueOf, Reaches, ReachesLeaf, wrong_children_count};
 ghost use Rattle.art_model.specs.Layouts.{AreLinked, IsLayout, leaf_names, leaf_node};
 ghost use Rattle.art_model.specs.Pairs.{of_key};
 ghost use Rattle.art_model.specs.Trees.{Tree};
 ghost use Rattle.art_model.specs.Stores.{IsUsed, header_at, links_at, node_at};
-ghost use Rattle.art_checking.specs.Checked.{AreReached, IsBetween, IsChecked, IsFirstMet, IsInOrder, IsLeafAt, IsLeastLeaf, IsMetTree, IsPartOf, IsRead, IsReadFrom, IsTrueAt, IsTrueBehind, IsWalked, NoneBelow, names_of_leaves};
+ghost use Rattle.art_checking.specs.Checked.{AreReached, IsBetween, IsChecked, IsFirstMet, IsInOrder, IsLeafAt, IsLeastLeaf, IsMetTree, IsPartOf, IsPassed, IsRead, IsReadFrom, IsTrueAt, IsTrueBehind, IsWalked, NoneBelow, NoneFrom, Says, names_of_leaves};
 ghost use Rattle.art_checking.specs.Checks.{fault_of};
 ghost use Rattle.art_checking.specs.Meetings.{place_in};
 
+use super::MalformedTreeError;
 use super::seen::Seen;
-use super::{KeyPrefix, MalformedTreeError};
-use art_nodes::node::{AsBytes, InnerPtr, InnerRef, LeafPtr, NodePtr, OpaqueNodePtr};
+use art_nodes::node::{
+    AsBytes, InnerPtr, InnerRef, LeafPtr, NodePtr, OpaqueNodePtr, OptionalLeafPtr,
+};
 use art_nodes::store::NodeStore;
-use std::alloc::{AllocError, Global};
+use std::alloc::AllocError;
 use std::cmp::Ordering;
 use std::collections::BTreeSet;
 
@@ -36,12 +38,36 @@ pub(super) fn check_nodes<K: AsBytes + Drop, V: Drop, const P: usize>(
 {
     let mut seen = Seen::new(store.alloc());
     let mut place = Vec::new(store.alloc());
-    meet(store, root, &place, &mut seen)?;
-    match root.split() {
-        NodePtr::Leaf(leaf) => check_leaf(store, leaf, &place)?,
-        NodePtr::Inner(inner) => check_inner(store, inner, None, &mut place, &mut seen)?,
-    }
+    check_node(store, root, None, &mut place, &mut seen)?;
     Ok(seen)
+}
+
+// Checks the node that a name stands for, which is reached at a place, and all that is below it. `least` is
+// its least leaf, where that is known.
+#[cycle(checks)]
+fn check_node<K: AsBytes + Drop, V: Drop, const P: usize>(
+    store: &NodeStore<K, V, P>,
+    name: OpaqueNodePtr,
+    least: Option<LeafPtr>,
+    place: &mut Vec<u8>,
+    seen: &mut Seen,
+) -> Result<(), MalformedTreeError>
+    requires free { NoneFrom (place_in seen.old) place.old.items }
+    requires least { IfSome least (λ leaf.
+        IsLeastLeaf (of_key K.bytes) P store.now name (Some leaf)) }
+    ensures passed { OnOk result (IsPassed (of_key K.bytes) P store.now
+        seen.old seen.new place.old.items name) }
+    ensures place { OnOk result (place.new.items ≡ place.old.items) }
+    ensures walked { OnOk result (IsWalked (of_key K.bytes) P store.now
+        (place_in seen.old) (place_in seen.new) place.old.items name) }
+    ensures fault { IfErr result (IsTrueBehind (of_key K.bytes) P store.now
+        (place_in seen.old) place.old.items name) }
+{
+    meet(store, name, place, seen)?;
+    match name.split() {
+        NodePtr::Leaf(leaf) => check_leaf(store, leaf, place),
+        NodePtr::Inner(inner) => check_inner(store, inner, least, place, seen),
+    }
 }
 
 // Adds a name that is reached at a place to those that were met: a name for the second time is a loop,
@@ -62,17 +88,10 @@ fn meet<K: AsBytes + Drop, V: Drop, const P: usize>(
 {
     let alloc = store.alloc();
     if let Some(first) = seen.place_of(name) {
-        return Err(MalformedTreeError::LoopFound {
-            node_ptr: name,
-            first_observed: first.clone()?,
-            later_observed: KeyPrefix::from_slice(alloc, place)?,
-        });
+        return Err(MalformedTreeError::loop_found(alloc, name, first.as_slice(), place));
     }
     if !is_there(store, name) {
-        return Err(MalformedTreeError::DeadName {
-            key_prefix: KeyPrefix::from_slice(alloc, place)?,
-            name,
-        });
+        return Err(MalformedTreeError::dead_name(alloc, place, name));
     }
     seen.record(alloc, name, place)?;
     Ok(())
@@ -93,6 +112,7 @@ fn is_there<K: AsBytes + Drop, V: Drop, const P: usize>(
 
 // Checks an inner node that was met at a place, and all that is below it. `least` is its least leaf,
 // where that is known.
+#[cycle(checks)]
 fn check_inner<K: AsBytes + Drop, V: Drop, const P: usize>(
     store: &NodeStore<K, V, P>,
     name: InnerPtr,
@@ -121,17 +141,12 @@ fn check_inner<K: AsBytes + Drop, V: Drop, const P: usize>(
     let mut least = read_prefix(store, name, node, least, place)?;
     for (byte, child) in node.iter() {
         place.push(byte)?;
-        meet(store, child, place, seen)?;
-        match child.split() {
-            NodePtr::Leaf(leaf) => check_leaf(store, leaf, place)?,
-            NodePtr::Inner(inner) => check_inner(store, inner, least, place, seen)?,
-        }
+        check_node(store, child, least, place, seen)?;
         place.pop();
         least = None;
     }
     place.truncate(depth);
-    check_count(store, node, place)?;
-    Ok(())
+    check_count(store, node, place)
 }
 
 // Appends the prefix of an inner node to the bytes that lead to it. A prefix that is not stored whole is
@@ -155,29 +170,48 @@ fn read_prefix<K: AsBytes + Drop, V: Drop, const P: usize>(
     ensures fault { IfErr result
         (IsTrueAt (of_key K.bytes) P store.now place.old.items (inner_name name)) }
 {
+    let (found, part) = whole_prefix(store, name, &node, least, place)?;
+    place.extend_from_slice(part)?;
+    Ok(found)
+}
+
+// The prefix of an inner node: what is stored of it, or what the least leaf below has there, where that is
+// not all. With that leaf, where it is known.
+fn whole_prefix<'a, K: AsBytes + Drop, V: Drop, const P: usize>(
+    store: &'a NodeStore<K, V, P>,
+    name: InnerPtr,
+    node: &'a InnerRef<'_, P>,
+    least: Option<LeafPtr>,
+    place: &[u8],
+) -> Result<(Option<LeafPtr>, &'a [u8]), MalformedTreeError>
+    requires there { map.get store.now.inners name ≡ Some (ref_view node.now) }
+    requires proper { name.kind ≢ Leaf }
+    requires least { IfSome least (λ leaf.
+        IsLeastLeaf (of_key K.bytes) P store.now (inner_name name) (Some leaf)) }
+    ensures prefix { IfOk result (λ read. IsRead (of_key K.bytes) P store.now
+        place.now (place.now ++ read.1.now) (inner_name name)
+        (header_at name.kind (ref_view node.now))) }
+    ensures least { IfOk result (λ read. IfSome read.0 (λ leaf.
+        IsLeastLeaf (of_key K.bytes) P store.now (inner_name name) (Some leaf))) }
+    ensures fault { IfErr result
+        (IsTrueAt (of_key K.bytes) P store.now place.now (inner_name name)) }
+{
+    let alloc = store.alloc();
     let len = node.prefix_len();
     let stored = node.read_prefix();
     if len <= P {
-        place.extend_from_slice(stored)?;
-        return Ok(least);
+        return Ok((least, stored));
     }
     let (found, part) = read_least(store, name, least, place.len(), len)?;
     let Some(part) = part else {
-        return Err(MalformedTreeError::UnreadablePrefix {
-            key_prefix: KeyPrefix::from_slice(store.alloc(), place)?,
-            name: name.to_opaque(),
-        });
+        let name = name.to_opaque();
+        return Err(MalformedTreeError::unreadable_prefix(alloc, place, name));
     };
     let (front, _) = part.split_at(P);
     if front != stored {
-        return Err(MalformedTreeError::StoredPrefixMismatch {
-            key_prefix: KeyPrefix::from_slice(store.alloc(), place)?,
-            stored: copy_of(store.alloc(), stored)?,
-            actual: copy_of(store.alloc(), front)?,
-        });
+        return Err(MalformedTreeError::stored_prefix_mismatch(alloc, place, stored, front));
     }
-    place.extend_from_slice(part)?;
-    Ok(found)
+    Ok((found, part))
 }
 
 // The least leaf below a node, and so many bytes of its key from a depth on, if it has them.
@@ -257,21 +291,16 @@ fn check_count<K: AsBytes + Drop, V: Drop, const P: usize>(
 ) -> Result<(), MalformedTreeError>
     ensures enough { OnOk result
         (kind_least (ref_kind node.entry) ≤ length (ref_view node.entry).children) }
-    ensures fault { IfErr result (λ error. (fault_of error ≡ out_of_memory) ⊎
-        ((fault_of error ≡ wrong_children_count place.now (ref_kind node.entry)
-        (length (ref_view node.entry).children)) ×
-        (length (ref_view node.entry).children < kind_least (ref_kind node.entry)))) }
+    ensures fault { IfErr result (λ error. Says (wrong_children_count place.now
+        (ref_kind node.entry) (length (ref_view node.entry).children)) error ×
+        (length (ref_view node.entry).children < kind_least (ref_kind node.entry))) }
 {
     let kind = node.node_type();
     let count = node.num_children();
     if *kind.capacity_range().start() <= count {
         return Ok(());
     }
-    Err(MalformedTreeError::WrongChildrenCount {
-        key_prefix: KeyPrefix::from_slice(store.alloc(), place)?,
-        inner_node_type: kind,
-        num_children: count,
-    })
+    Err(MalformedTreeError::wrong_children_count(store.alloc(), place, kind, count))
 }
 
 // Checks a leaf that was met at a place.
@@ -292,52 +321,46 @@ fn check_leaf<K: AsBytes + Drop, V: Drop, const P: usize>(
     };
     let key = node.key.as_bytes();
     if !key.starts_with(place) {
-        return Err(MalformedTreeError::PrefixMismatch {
-            expected_prefix: KeyPrefix::from_slice(store.alloc(), place)?,
-            entire_key: copy_of(store.alloc(), key)?,
-        });
+        return Err(MalformedTreeError::prefix_mismatch(store.alloc(), place, key));
     }
-    if let Some(previous) = node.previous {
-        check_order(store, key, previous, Ordering::Less, place)?;
-    }
-    if let Some(next) = node.next {
-        check_order(store, key, next, Ordering::Greater, place)?;
-    }
-    Ok(())
+    check_order(store, key, node.previous, Ordering::Less, place)?;
+    check_order(store, key, node.next, Ordering::Greater, place)
 }
 
-// Checks that a leaf's sibling is there, and stands in this order to it.
+// Checks that a leaf's sibling, if it has one, is there and stands in this order to it.
 fn check_order<K: AsBytes + Drop, V: Drop, const P: usize>(
     store: &NodeStore<K, V, P>,
     key: &[u8],
-    sibling: LeafPtr,
+    sibling: OptionalLeafPtr,
     expected: Ordering,
     place: &[u8],
 ) -> Result<(), MalformedTreeError>
-    ensures sibling { OnOk result
-        (IsInOrder (of_key K.bytes) P store.now sibling expected key.now) }
+    ensures sibling { OnOk result (IfSome sibling (λ name.
+        IsInOrder (of_key K.bytes) P store.now name expected key.now)) }
     ensures fault { IfErr result (λ error. (root leaf : OpaqueNodePtr) (x : K × V) →
         ReachesLeaf (of_key K.bytes) P store.now root place.now leaf x → K.bytes x.0 ≡ key.now →
-        HasSibling (of_key K.bytes) P store.now root leaf expected (leaf_name sibling) →
+        IfSome sibling (λ name.
+        HasSibling (of_key K.bytes) P store.now root leaf expected (leaf_name name)) →
         IsTrueOf (of_key K.bytes) P store.now root (fault_of error)) }
 {
+    let Some(sibling) = sibling else {
+        return Ok(());
+    };
     let Some(node) = store.leaf(sibling) else {
-        return Err(MalformedTreeError::DeadName {
-            key_prefix: KeyPrefix::from_slice(store.alloc(), place)?,
-            name: sibling.to_opaque(),
-        });
+        return Err(MalformedTreeError::dead_name(store.alloc(), place, sibling.to_opaque()));
     };
     let sibling_key = node.key.as_bytes();
     let actual = sibling_key.cmp(key);
     if actual == expected {
         return Ok(());
     }
-    Err(MalformedTreeError::LeafSiblingWrongOrder {
-        sibling_key: copy_of(store.alloc(), sibling_key)?,
-        leaf_key: copy_of(store.alloc(), key)?,
-        expected_order: expected,
-        actual_order: actual,
-    })
+    Err(MalformedTreeError::leaf_sibling_wrong_order(
+        store.alloc(),
+        sibling_key,
+        key,
+        expected,
+        actual,
+    ))
 }
 
 // Checks that each leaf names its neighbours in the list.
@@ -361,23 +384,15 @@ pub(super) fn check_links<K: AsBytes + Drop, V: Drop, const P: usize>(
             unreachable!()
         };
         if node.previous != previous || node.next != next {
-            return Err(MalformedTreeError::WrongSiblingLinks {
-                leaf_key: copy_of(store.alloc(), node.key.as_bytes())?,
-                expected_previous: previous,
-                expected_next: next,
-                actual_previous: node.previous,
-                actual_next: node.next,
-            });
+            return Err(MalformedTreeError::wrong_sibling_links(
+                store.alloc(),
+                node.key.as_bytes(),
+                (previous, next),
+                (node.previous, node.next),
+            ));
         }
         previous = Some(leaf);
         rest = others;
     }
     Ok(())
-}
-
-// A copy of these bytes.
-fn copy_of(alloc: Global, bytes: &[u8]) -> Result<Vec<u8>, AllocError>
-    ensures { IfOk result (λ copy. copy.items ≡ bytes.now) }
-{
-    bytes.to_vec(alloc)
 }

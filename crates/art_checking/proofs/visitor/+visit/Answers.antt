@@ -1,7 +1,10 @@
-use Rattle.std.proofs.Common.{rules, sym, ◌∙◌, arith, subst}
+use Rattle.std.proofs.Common.{ℕ, ◌≡◌, ◌<◌, rules, sym, ◌∙◌, arith, subst}
 use Rattle.art_inner.specs.Views.{ref_kind, ref_view}
 use Rattle.art_checking.proofs.Folded.{HasJoined, folds_leaf, full_shown, full_some, full_held, first_child, started, more_child, stepped, ended}
 use Rattle.art_checking.proofs.visitor.+visit.Goals as goal
+
+falls : {t m n : ℕ} → m ≡ t → n < m → n < t
+falls e l = omega arith
 
 pub returns-in-Leaf : goal.returns-in-Leaf
 returns-in-Leaf g t c layout full =
@@ -23,7 +26,7 @@ visit-joined-requires g t c κs within =
     let (below, lower) =
     first_child g.T.Visitor.of_leaf g.T.Visitor.of_inner g.T.Visitor.combines c.args.store.now full (ref_kind c.in-Some-inner.node)
     (ref_view c.in-Some-inner.node) cs (c.in-Some-next.field-0-0, c.in-Some-next.first) c.next.new.self is (sym slots ∙ sym c.iter-children.ensures.children ∙ c.in-Some-next.ensures.steps) in
-    (omega (arith, c.decreases, lower), (within.0, (within.1.0, (within.1.1.0, (search rules, (within.1.1.1, (search rules, below)))))))
+    (falls c.decreases lower, (within.0, (within.1.0, (within.1.1.0, (search rules, (within.1.1.1, (search rules, below)))))))
 
 pub visit-output-requires : goal.visit-output-requires
 visit-output-requires g t c κs within =
@@ -33,7 +36,7 @@ visit-output-requires g t c κs within =
     (ref_kind c.in-Some-inner.node) (ref_view c.in-Some-inner.node) left c.args.visitor.now c.loop-child.joined c.loop-child.visitor)
     c.in-Some-2.ensures.steps (c.loop-child.invariant.2 layout full) in
     let (below, lower) = more_child g.T.Visitor.of_leaf g.T.Visitor.of_inner g.T.Visitor.combines c.args.store.now full (ref_kind c.in-Some-inner.node) (ref_view c.in-Some-inner.node) has in
-    (omega (arith, c.decreases, lower), (within.0, (within.1.0, (within.1.1.0, (search rules, (within.1.1.1, (search rules, below)))))))
+    (falls c.decreases lower, (within.0, (within.1.0, (within.1.1.0, (search rules, (within.1.1.1, (search rules, below)))))))
 
 pub returns : goal.returns
 returns g t c layout full =

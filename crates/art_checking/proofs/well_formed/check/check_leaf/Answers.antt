@@ -1,21 +1,29 @@
-use Rattle.std.proofs.Common.{ap, sym, ◌≡◌, ◌∙◌, List, ◌++◌, ℕ, length, drop, eqb, true, refl, subst, inl, inr, IfSome}
-use Rattle.std.proofs.lemmas.Slice.Eq.{starts_is}
+use Rattle.std.proofs.Common.{ap, sym, ◌≡◌, ◌∙◌, List, ◌++◌, ℕ, length, drop, eqb, true, refl, subst, inl, inr, Option, Some, None, Result, Ok, Err, IfErr, IfSome}
+use Rattle.std.proofs.lemmas.Bool.{false≢true}
 use Rattle.std.proofs.lemmas.Bool.Decides.{Decides-eqb}
+use Rattle.std.proofs.lemmas.Result.{on_ok_weaker}
+use Rattle.std.proofs.lemmas.Slice.Eq.{starts_is}
+use Rattle.std.specs.FinMap as map
 use Rattle.std.specs.List.{starts_with}
 use Rattle.std.specs.Option.{option_map, option_and_then}
+use Rattle.std.specs.declared.cmp.Ordering.{Ordering}
 use Rattle.std.specs.declared.cmp.Ordering.TheVariants.{Less, Greater}
 use Rattle.art_parts.specs.Names.{leaf_name}
-use Rattle.std.proofs.lemmas.Bool.{false≢true}
-use Rattle.art_model.specs.Faults.{Reaches}
+use Rattle.art_parts.specs.declared.leaf.LeafNode.{LeafNode}
+use Rattle.art_parts.specs.declared.names.LeafPtr.{LeafPtr}
+use Rattle.art_parts.specs.declared.names.OpaqueNodePtr.{OpaqueNodePtr}
+use Rattle.art_nodes.specs.Nodes.{Nodes}
+use Rattle.art_model.specs.Faults.{HasSibling, IsTrueOf, ReachesLeaf}
+use Rattle.art_model.specs.Layouts.{Links}
 use Rattle.art_model.specs.Pairs.{of_key}
 use Rattle.art_model.specs.Keys.{IsFront}
-use Rattle.art_model.specs.Stores.{held_leaf, links_of, pair_of}
-use Rattle.art_checking.specs.Checked.{IsBetween, IsInOrder}
-use Rattle.art_checking.specs.Checks.{between}
+use Rattle.art_model.specs.Stores.{held_leaf, links_at, links_of, pair_of}
+use Rattle.art_checking.specs.Checked.{IsBetween, IsInOrder, IsTrueAt}
+use Rattle.art_checking.specs.Checks.{between, fault_of}
+use Rattle.art_checking.specs.declared.well_formed.fault.MalformedTreeError.{MalformedTreeError}
 use Rattle.art_checking.proofs.Descents.{leaf_at}
-use Rattle.art_checking.proofs.Faulty.{passed_on}
+use Rattle.art_checking.proofs.Faulty.{passed_on, said}
 use Rattle.art_checking.proofs.well_formed.check.check_leaf.Goals as goal
-use Rattle.art_checking.proofs.well_formed.check.check_leaf.Goals.{in-Some-previous+in_ok-check_order, in_default-previous, in-Some-next+in_ok-check_order-2, in_default-next}
 
 begins : (whole front : List ℕ) → true ≡ starts_with eqb whole front → IsFront front whole
 begins whole front e = (drop (length front) whole, (starts_is Decides-eqb whole front true e).0 refl)
@@ -23,64 +31,71 @@ begins whole front e = (drop (length front) whole, (starts_is Decides-eqb whole 
 tests : (whole front rest : List ℕ) → whole ≡ front ++ rest → starts_with eqb whole front ≡ true
 tests whole front rest e = (starts_is Decides-eqb whole front (starts_with eqb whole front) refl).1 rest e
 
+module _ {K V : Type 0} (bytes : K × V → List ℕ) (P : ℕ) (s : Nodes K V) (p : LeafPtr) (node : LeafNode K V) (there : map.get s.leaves p ≡ Some node) where
+  -- its siblings are those that it names
+  named : (links : Links OpaqueNodePtr) → links ≡ between node.previous node.next → links_at s (leaf_name p) ≡ Some links
+  named links is = ap (λ o. option_and_then links_of (option_map held_leaf o)) there ∙ ap Some (sym is)
+
+  previous_named : (root : OpaqueNodePtr) → IfSome node.previous (λ l. HasSibling bytes P s root (leaf_name p) Less (leaf_name l))
+  previous_named root = go node.previous refl
+    where
+      go : (o : Option LeafPtr) → node.previous ≡ o → IfSome o (λ l. HasSibling bytes P s root (leaf_name p) Less (leaf_name l))
+      go None e = tt
+      go (Some l) e = (between node.previous node.next, named (between node.previous node.next) refl, inl (refl, ap (option_map leaf_name) e))
+
+  next_named : (root : OpaqueNodePtr) → IfSome node.next (λ l. HasSibling bytes P s root (leaf_name p) Greater (leaf_name l))
+  next_named root = go node.next refl
+    where
+      go : (o : Option LeafPtr) → node.next ≡ o → IfSome o (λ l. HasSibling bytes P s root (leaf_name p) Greater (leaf_name l))
+      go None e = tt
+      go (Some l) e = (between node.previous node.next, named (between node.previous node.next) refl, inr (refl, ap (option_map leaf_name) e))
+
+  -- what is said of a sibling is true at the leaf
+  at_leaf : {T : Type 0} (r : Result T MalformedTreeError) (place : List ℕ) (link : Option LeafPtr) (order : Ordering) {key : List ℕ} → bytes (pair_of node) ≡ key →
+      ((root : OpaqueNodePtr) → IfSome link (λ l. HasSibling bytes P s root (leaf_name p) order (leaf_name l))) →
+      IfErr r (λ error. (root leaf : OpaqueNodePtr) (x : K × V) → ReachesLeaf bytes P s root place leaf x → bytes x ≡ key →
+      IfSome link (λ l. HasSibling bytes P s root leaf order (leaf_name l)) → IsTrueOf bytes P s root (fault_of error)) → IfErr r (IsTrueAt bytes P s place (leaf_name p))
+  at_leaf (Ok x) place link order is names h = tt
+  at_leaf (Err error) place link order is names h = λ root reach. h root (leaf_name p) (pair_of node) (reach, leaf_at s p node there) is (names root)
+
+one_node : {X : Type 0} {x y : X} {o : Option X} → Some x ≡ o → o ≡ Some y → x ≡ y
+one_node e f = cc
+
 pub returns-clause-leaf : goal.returns-clause-leaf
-returns-clause-leaf g c = (
-  pair_of c.in-Some.node.now,
-  leaf_at c.args.store.now c.args.leaf c.in-Some.node.now (sym c.in-Some.ensures),
-  begins
-      (g.K.AsBytes.bytes c.in-Some.node.now.key) c.args.place.now (subst (λ key. true ≡ starts_with eqb key c.args.place.now) c.as_bytes-key.ensures c.if-not-starts_with.ensures.value),
-)
+returns-clause-leaf g c =
+    let begun = begins (g.K.AsBytes.bytes c.in-Some.node.now.key) c.args.place.now
+    (subst (λ key. true ≡ starts_with eqb key c.args.place.now) c.as_bytes-key.ensures c.if-not-starts_with.ensures.value) in
+    on_ok_weaker c.check_order-2.result (λ after. (pair_of c.in-Some.node.now, leaf_at c.args.store.now c.args.leaf c.in-Some.node.now (sym c.in-Some.ensures), begun)) c.check_order-2.ensures.sibling
 
 pub returns-in_err-check_order-clause-fault : goal.returns-in_err-check_order-clause-fault
 returns-in_err-check_order-clause-fault g c =
-    passed_on _ _ _ c.from_residual-in_err-check_order.ensures.1
+    passed_on _ _ _ c.from_residual.ensures.1
     (λ root reach. c.in_err-check_order.ensures.fault root (leaf_name c.args.leaf) (pair_of c.in-Some.node.now)
-    (reach, leaf_at c.args.store.now c.args.leaf c.in-Some.node.now (sym c.in-Some.ensures)) (sym c.as_bytes-key.ensures) (
-      between c.in-Some.node.now.previous c.in-Some.node.now.next,
-      ap (λ o. option_and_then links_of (option_map held_leaf o)) (sym c.in-Some.ensures),
-      inl (refl, ap (option_map leaf_name) c.in-Some-previous.is),
-    ))
+    (reach, leaf_at c.args.store.now c.args.leaf c.in-Some.node.now (sym c.in-Some.ensures)) (sym c.as_bytes-key.ensures)
+    (previous_named (of_key g.K.AsBytes.bytes) g.row.P c.args.store.now c.args.leaf c.in-Some.node.now (sym c.in-Some.ensures) root))
 
-pub returns-in_err-check_order-2-clause-fault : goal.returns-in_err-check_order-2-clause-fault
-returns-in_err-check_order-2-clause-fault g c =
-    passed_on _ _ _ c.from_residual-in_err-check_order-2.ensures.1
-    (λ root reach. c.in_err-check_order-2.ensures.fault root (leaf_name c.args.leaf) (pair_of c.in-Some.node.now)
-    (reach, leaf_at c.args.store.now c.args.leaf c.in-Some.node.now (sym c.in-Some.ensures)) (sym c.as_bytes-key.ensures) (
-      between c.in-Some.node.now.previous c.in-Some.node.now.next,
-      ap (λ o. option_and_then links_of (option_map held_leaf o)) (sym c.in-Some.ensures),
-      inr (refl, ap (option_map leaf_name) c.in-Some-next.is),
-    ))
+pub returns-clause-fault : goal.returns-clause-fault
+returns-clause-fault g c =
+    let there = sym c.in-Some.ensures in
+    at_leaf (of_key g.K.AsBytes.bytes) g.row.P c.args.store.now c.args.leaf c.in-Some.node.now there c.check_order-2.result c.args.place.now c.in-Some.node.now.next Greater
+    (sym c.as_bytes-key.ensures) (next_named (of_key g.K.AsBytes.bytes) g.row.P c.args.store.now c.args.leaf c.in-Some.node.now there) c.check_order-2.ensures.fault
 
 pub returns-then-not-starts_with-clause-fault : goal.returns-then-not-starts_with-clause-fault
-returns-then-not-starts_with-clause-fault g c root reach = (
-  leaf_name c.args.leaf,
-  pair_of c.in-Some.node.now,
-  (
-    subst
-        (λ place. Reaches (of_key g.K.AsBytes.bytes) g.row.P c.args.store.now root place (leaf_name c.args.leaf)) (sym c.in_ok-from_slice.ensures)
-        reach,
-    leaf_at c.args.store.now c.args.leaf c.in-Some.node.now (sym c.in-Some.ensures),
-  ),
-  sym c.as_bytes-key.ensures ∙
-      sym c.in_ok-copy_of.ensures,
-  λ front. false≢true (sym c.if-not-starts_with.true ∙ c.starts_with.ensures.value ∙
-      tests c.as_bytes-key.result.now c.args.place.now front.0 (sym c.in_ok-copy_of.ensures ∙ front.1 ∙ ap (λ p. p ++ front.0) c.in_ok-from_slice.ensures)),
-)
+returns-then-not-starts_with-clause-fault g c root reach =
+    said (of_key g.K.AsBytes.bytes) g.row.P c.args.store.now root c.prefix_mismatch.result c.prefix_mismatch.ensures (
+      leaf_name c.args.leaf,
+      pair_of c.in-Some.node.now,
+      (reach, leaf_at c.args.store.now c.args.leaf c.in-Some.node.now (sym c.in-Some.ensures)),
+      sym c.as_bytes-key.ensures,
+      λ front. false≢true (sym c.if-not-starts_with.true ∙ c.starts_with.ensures.value ∙ tests c.as_bytes-key.result.now c.args.place.now front.0 front.1),
+    )
 
 pub returns-clause-siblings : goal.returns-clause-siblings
-returns-clause-siblings g c node is =
-    let key = c.as_bytes-key.result.now in
+returns-clause-siblings g c =
+    let s = c.args.store.now in
     let bytes = of_key {V = g.row.V.Denot} g.K.AsBytes.bytes in
-    let found = c.in-Some.ensures in
-    let same : c.in-Some.node.now ≡ node = cc in
-    let before : IfSome c.in-Some.node.now.previous (λ l. IsInOrder bytes g.row.P c.args.store.now l Less key) = elim c.match-node.branch [
-      | in-Some-previous+in_ok-check_order w ↦ subst (λ o. IfSome o (λ l. IsInOrder bytes g.row.P c.args.store.now l Less key)) (sym w.in-Some-previous.is) w.in_ok-check_order.ensures.sibling
-      | in_default-previous w ↦ subst (λ o. IfSome o (λ l. IsInOrder bytes g.row.P c.args.store.now l Less key)) (sym w.in_default-previous.is) tt
-    ] in
-    let after : IfSome c.in-Some.node.now.next (λ l. IsInOrder bytes g.row.P c.args.store.now l Greater key) = elim c.match-node-2.branch [
-      | in-Some-next+in_ok-check_order-2 w ↦ subst (λ o. IfSome o (λ l. IsInOrder bytes g.row.P c.args.store.now l Greater key)) (sym w.in-Some-next.is) w.in_ok-check_order-2.ensures.sibling
-      | in_default-next w ↦ subst (λ o. IfSome o (λ l. IsInOrder bytes g.row.P c.args.store.now l Greater key)) (sym w.in_default-next.is) tt
-    ] in
-    subst (IsBetween bytes g.row.P c.args.store.now) same (subst
-    (λ k. IfSome c.in-Some.node.now.previous (λ l. IsInOrder bytes g.row.P c.args.store.now l Less k) ×
-    IfSome c.in-Some.node.now.next (λ l. IsInOrder bytes g.row.P c.args.store.now l Greater k)) c.as_bytes-key.ensures (before, after))
+    let own = c.in-Some.node.now in
+    let Stand = λ (k : List ℕ). IfSome own.previous (λ l. IsInOrder bytes g.row.P s l Less k) × IfSome own.next (λ l. IsInOrder bytes g.row.P s l Greater k) in
+    on_ok_weaker c.check_order-2.result
+    (λ (after : IfSome own.next (λ l. IsInOrder bytes g.row.P s l Greater c.as_bytes-key.result.now)) (node : LeafNode g.row.K.Denot g.row.V.Denot) (is : map.get s.leaves c.args.leaf ≡ Some node).
+    subst (IsBetween bytes g.row.P s) (one_node c.in-Some.ensures is) (subst Stand c.as_bytes-key.ensures (c.in_ok-check_order.ensures.sibling, after))) c.check_order-2.ensures.sibling

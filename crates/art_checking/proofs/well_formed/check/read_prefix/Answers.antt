@@ -1,60 +1,25 @@
-use Rattle.std.proofs.Common.{sym, ◌∙◌, ap, subst, ◌≡◌, ◌≢◌, ◌<◌, ℕ, List, take, Bool, true, false, not, eqb, refl}
-use Rattle.std.proofs.lemmas.Bool.{true≢false, false≢true}
-use Rattle.std.proofs.lemmas.Bool.Decides.{Decides-eqb}
-use Rattle.std.proofs.lemmas.Slice.Eq.{slice_eq-Decides}
-use Rattle.std.specs.Cmp.Lexicographic.{pointwise}
+use Rattle.std.proofs.Common.{sym, subst, ◌++◌}
 use Rattle.art_inner.specs.Views.{ref_view}
 use Rattle.art_parts.specs.Names.{inner_name}
-use Rattle.art_model.specs.Faults.{IsUnreadable, StoresOthers}
+use Rattle.art_model.specs.Faults.{Reaches}
 use Rattle.art_model.specs.Pairs.{of_key}
-use Rattle.art_checking.proofs.Readings.{read_found, unreadable, prefix_read, stores_others}
+use Rattle.art_model.specs.Stores.{header_at}
+use Rattle.art_checking.specs.Checked.{IsRead}
+use Rattle.art_checking.proofs.Faulty.{passed_on}
 use Rattle.art_checking.proofs.well_formed.check.read_prefix.Goals as goal
-
-differs : (xs ys : List ℕ) → not (pointwise eqb xs ys) ≡ true → xs ≢ ys
-differs xs ys e same = false≢true (sym (ap not ((slice_eq-Decides Decides-eqb xs ys (pointwise eqb xs ys) refl).1 same)) ∙ e)
-
-agrees : (xs ys : List ℕ) → not (pointwise eqb xs ys) ≡ false → xs ≡ ys
-agrees xs ys e = (slice_eq-Decides Decides-eqb xs ys (pointwise eqb xs ys) refl).0 (go (pointwise eqb xs ys) e)
-  where
-    go : (b : Bool) → not b ≡ false → b ≡ true
-    go true e = refl
-    go false e = absurd (true≢false e)
-
-pub returns-in_default-clause-fault : goal.returns-in_default-clause-fault
-returns-in_default-clause-fault g c root reach =
-    let read = read_found (of_key g.K.AsBytes.bytes) g.row.P c.args.store.now (inner_name c.args.name) c.args.place.now.items (ref_view c.args.node)
-    (c.len.ensures ∙ c.args.place.now.ok.0) c.prefix_len-len.ensures c.in_default.is c.in_ok-found.ensures.part in
-    let Unreadable = IsUnreadable (of_key g.K.AsBytes.bytes) g.row.P c.args.store.now root in
-    subst (Unreadable (c.in_ok-from_slice.field-0.bytes.items)) (sym c.to_opaque.ensures)
-    (subst (λ p. Unreadable p (inner_name c.args.name)) (sym (c.in_ok-from_slice.ensures ∙ c.deref.ensures.value))
-    (unreadable (of_key g.K.AsBytes.bytes) g.row.P c.args.store.now c.args.name (ref_view c.args.node) c.args.place.now.items
-    c.requires.proper c.requires.there (subst (λ n. g.row.P < n) c.prefix_len-len.ensures c.if-len.false) root read reach))
-
-pub returns-then-ne-clause-fault : goal.returns-then-ne-clause-fault
-returns-then-ne-clause-fault g c root reach =
-    let read = read_found (of_key g.K.AsBytes.bytes) g.row.P c.args.store.now (inner_name c.args.name) c.args.place.now.items (ref_view c.args.node)
-    (c.len.ensures ∙ c.args.place.now.ok.0) c.prefix_len-len.ensures c.in-Some.is c.in_ok-found.ensures.part in
-    let node = ref_view c.args.node in
-    let place = c.args.place.now.items in
-    let Others = StoresOthers (of_key g.K.AsBytes.bytes) g.row.P c.args.store.now root in
-    let front : c.split_at.result.0.now ≡ take g.row.P c.in-Some.part.now = c.split_at.ensures.front in
-    let stored : c.read_prefix-stored.result.now ≡ node.prefix.stored = c.read_prefix-stored.ensures.stored in
-    let off : take g.row.P c.in-Some.part.now ≢ node.prefix.stored = λ e. differs c.split_at.result.0.now c.read_prefix-stored.result.now (sym c.ne.ensures ∙ c.if-ne.true) (front ∙ e ∙ sym stored) in
-    subst (λ p. Others p c.in_ok-copy_of.field-0.items c.in_ok-copy_of-2.field-0.items) (sym (c.in_ok-from_slice-2.ensures ∙ c.deref-then-ne.ensures.value))
-    (subst (λ a. Others place a c.in_ok-copy_of-2.field-0.items) (sym (c.in_ok-copy_of.ensures ∙ stored))
-    (subst (Others place node.prefix.stored) (sym (c.in_ok-copy_of-2.ensures ∙ front))
-    (stores_others (of_key g.K.AsBytes.bytes) g.row.P c.args.store.now c.args.name node place c.requires.proper c.requires.there
-    (subst (λ n. g.row.P < n) c.prefix_len-len.ensures c.if-len.false) root c.in-Some.part read c.read_prefix-stored.ensures.count off reach)))
 
 pub returns-clause-prefix : goal.returns-clause-prefix
 returns-clause-prefix g c =
-    let read = read_found (of_key g.K.AsBytes.bytes) g.row.P c.args.store.now (inner_name c.args.name) c.args.place.now.items (ref_view c.args.node)
-    (c.len.ensures ∙ c.args.place.now.ok.0) c.prefix_len-len.ensures c.in-Some.is c.in_ok-found.ensures.part in
-    record {
-      part = c.in-Some.part.now;
-      is = c.in_ok-extend_from_slice-2.ensures.items;
-      long = read.2.0;
-      stored = sym c.split_at.ensures.front ∙ agrees c.split_at.result.0.now c.read_prefix-stored.result.now (sym c.ne.ensures ∙ c.if-ne.false) ∙ c.read_prefix-stored.ensures.stored;
-      is_prefix = prefix_read (of_key g.K.AsBytes.bytes) g.row.P c.args.store.now c.args.name (ref_view c.args.node) c.args.place.now.items
-          c.requires.proper c.requires.there (subst (λ n. g.row.P < n) c.prefix_len-len.ensures c.if-len.false) c.in-Some.part read;
-    }
+    let prefix = subst (λ place. IsRead (of_key g.K.AsBytes.bytes) g.row.P c.args.store.now place (place ++ c.in_ok-found.part.now) (inner_name c.args.name)
+    (header_at c.args.name.kind (ref_view c.args.node))) c.deref.ensures.value c.in_ok-found.ensures.prefix in
+    subst (λ read. IsRead (of_key g.K.AsBytes.bytes) g.row.P c.args.store.now c.args.place.now.items read (inner_name c.args.name) (header_at c.args.name.kind (ref_view c.args.node)))
+    (sym c.in_ok-extend_from_slice.ensures.items) prefix
+
+pub returns-clause-least : goal.returns-clause-least
+returns-clause-least g c = c.in_ok-found.ensures.least
+
+pub returns-in_err-found-clause-fault : goal.returns-in_err-found-clause-fault
+returns-in_err-found-clause-fault g c =
+    passed_on _ _ _ c.from_residual.ensures.1
+    (λ root reach. c.in_err-found.ensures.fault root
+    (subst (λ place. Reaches (of_key g.K.AsBytes.bytes) g.row.P c.args.store.now root place (inner_name c.args.name)) (sym c.deref.ensures.value) reach))
