@@ -13,14 +13,14 @@ use thiserror::Error;
 #[derive(PartialEq, Eq, Debug, Drop, Error)]
 pub enum MalformedTreeError {
     /// A node was met on two ways: there is a loop, or the node is shared.
-    #[error(fmt = loop_text)]
+    #[error("Found a loop in the tree containing the node [{node_ptr}]. First observed that node at [{first_observed:?}], then later observed the same node at [{later_observed:?}]")]
     LoopFound {
         node_ptr: OpaqueNodePtr,
         first_observed: KeyPrefix,
         later_observed: KeyPrefix,
     },
     /// An inner node has fewer children than its kind may have. It never has more.
-    #[error(fmt = count_text)]
+    #[error("Found an inner node of type [{inner_node_type}] at location [{key_prefix:?}] that had the wrong number of children! Expected children in range [{least}..={most}], but found [{num_children}] children", least = range_of(*.inner_node_type).0, most = range_of(*.inner_node_type).1)]
     WrongChildrenCount {
         key_prefix: KeyPrefix,
         inner_node_type: NodeType,
@@ -36,7 +36,7 @@ pub enum MalformedTreeError {
     #[error("The length of the tree is not 0, even though the root is None")]
     EmptyTreeWithLen,
     /// A leaf names a sibling whose key is not before its own, or not after it.
-    #[error(fmt = order_text)]
+    #[error("Found a leaf with key [{leaf_key:?}] and sibling with key [{sibling_key:?}] that was expected to have [{expected_order:?}] but had [{actual_order:?}]")]
     LeafSiblingWrongOrder {
         sibling_key: Vec<u8>,
         leaf_key: Vec<u8>,
@@ -70,7 +70,7 @@ pub enum MalformedTreeError {
     },
     /// A prefix is longer than what can be stored, and its stored bytes are not those of the leaf that
     /// it is read from.
-    #[error(fmt = prefix_text)]
+    #[error("Found an inner node at location [{key_prefix:?}] that stores the prefix bytes [{stored:?}], but its least leaf has [{actual:?}]")]
     StoredPrefixMismatch {
         key_prefix: KeyPrefix,
         stored: Vec<u8>,
@@ -79,60 +79,6 @@ pub enum MalformedTreeError {
     /// There was no memory for the check. It says nothing of the tree.
     #[error("Memory ran out while the tree was checked")]
     OutOfMemory,
-}
-
-// A name that was met on two ways.
-fn loop_text<W: fmt::Write>(
-    node_ptr: &OpaqueNodePtr,
-    first_observed: &KeyPrefix,
-    later_observed: &KeyPrefix,
-    f: &mut fmt::Formatter<W>,
-) -> fmt::Result {
-    write!(
-        f,
-        "Found a loop in the tree containing the node [{node_ptr}]. First observed that node at [{first_observed:?}], then later observed the same node at [{later_observed:?}]"
-    )
-}
-
-// A number of children, with the range that it should be in.
-fn count_text<W: fmt::Write>(
-    key_prefix: &KeyPrefix,
-    inner_node_type: &NodeType,
-    num_children: &usize,
-    f: &mut fmt::Formatter<W>,
-) -> fmt::Result {
-    let (least, most) = range_of(*inner_node_type);
-    write!(
-        f,
-        "Found an inner node of type [{inner_node_type}] at location [{key_prefix:?}] that had the wrong number of children! Expected children in range [{least}..={most}], but found [{num_children}] children"
-    )
-}
-
-// Two keys, with the order that they should have and the one that they have.
-fn order_text<W: fmt::Write>(
-    sibling_key: &Vec<u8>,
-    leaf_key: &Vec<u8>,
-    expected_order: &Ordering,
-    actual_order: &Ordering,
-    f: &mut fmt::Formatter<W>,
-) -> fmt::Result {
-    write!(
-        f,
-        "Found a leaf with key [{leaf_key:?}] and sibling with key [{sibling_key:?}] that was expected to have [{expected_order:?}] but had [{actual_order:?}]"
-    )
-}
-
-// The bytes that are stored of a prefix, and those of the leaf.
-fn prefix_text<W: fmt::Write>(
-    key_prefix: &KeyPrefix,
-    stored: &Vec<u8>,
-    actual: &Vec<u8>,
-    f: &mut fmt::Formatter<W>,
-) -> fmt::Result {
-    write!(
-        f,
-        "Found an inner node at location [{key_prefix:?}] that stores the prefix bytes [{stored:?}], but its least leaf has [{actual:?}]"
-    )
 }
 
 impl Clone for MalformedTreeError {
