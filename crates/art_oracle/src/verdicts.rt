@@ -9,7 +9,7 @@ use std::alloc::{AllocError, Global};
 use std::cmp::Ordering;
 
 /// What is wrong with a tree. The first bytes of each are those that lead to the node.
-#[derive(PartialEq, Eq, Debug, Drop)]
+#[derive(Drop)]
 pub enum Flaw {
     /// A name is met twice.
     Twice(OpaqueNodePtr, Vec<u8>, Vec<u8>),
@@ -30,7 +30,7 @@ pub enum Flaw {
 }
 
 /// What is found below a name.
-#[derive(PartialEq, Eq, Debug, Drop)]
+#[derive(Drop)]
 pub enum Verdict {
     /// A tree with so many leaves and inner nodes.
     Tree(usize, usize),
@@ -112,20 +112,38 @@ impl Way {
         name: OpaqueNodePtr,
         place: &[u8],
     ) -> Result<Option<Flaw>, AllocError> {
-        for (other, first) in &self.met {
-            if *other == name {
-                let (first, later) = (first.clone()?, place.to_vec(self.alloc)?);
-                return Ok(Some(Flaw::Twice(name, first, later)));
-            }
+        if let Some(first) = self.first_place(name) {
+            let (first, later) = copies(self.alloc, first, place)?;
+            return Ok(Some(Flaw::Twice(name, first, later)));
         }
         self.met.push((name, place.to_vec(self.alloc)?))?;
+        self.look_at(store, name, place)
+    }
+
+    /// The bytes that led to a name when it was met before.
+    fn first_place(&self, name: OpaqueNodePtr) -> Option<&[u8]> {
+        for (other, first) in &self.met {
+            if *other == name {
+                return Some(first.as_slice());
+            }
+        }
+        None
+    }
+
+    /// Looks at the node under a name that was not met before.
+    fn look_at<K: AsBytes + Drop, V: Drop, const P: usize>(
+        &mut self,
+        store: &NodeStore<K, V, P>,
+        name: OpaqueNodePtr,
+        place: &[u8],
+    ) -> Result<Option<Flaw>, AllocError> {
         match name.split() {
             NodePtr::Leaf(leaf) => match store.leaf(leaf) {
-                None => Ok(Some(Flaw::NoNode(place.to_vec(self.alloc)?, name))),
+                None => no_node(self.alloc, place, name),
                 Some(node) => leaf_flaw(store, node, place),
             },
             NodePtr::Inner(inner) => match store.inner(inner) {
-                None => Ok(Some(Flaw::NoNode(place.to_vec(self.alloc)?, name))),
+                None => no_node(self.alloc, place, name),
                 Some(node) => self.look_below(store, inner, &node, place),
             },
         }
@@ -140,16 +158,14 @@ impl Way {
         place: &[u8],
     ) -> Result<Option<Flaw>, AllocError> {
         let Some(prefix) = self.whole_prefix(store, name, node, place.len())? else {
-            return Ok(Some(Flaw::NoPrefix(place.to_vec(self.alloc)?, name.to_opaque())));
+            let place = place.to_vec(self.alloc)?;
+            return Ok(Some(Flaw::NoPrefix(place, name.to_opaque())));
         };
-        let stored = node.read_prefix();
-        let read = front(prefix, stored.len());
-        if read == stored {
-            self.add_steps(node, place, prefix)?;
-            return Ok(None);
+        if let Some(flaw) = stored_flaw(self.alloc, place, node.read_prefix(), prefix)? {
+            return Ok(Some(flaw));
         }
-        let (stored, read) = (stored.to_vec(self.alloc)?, read.to_vec(self.alloc)?);
-        Ok(Some(Flaw::Stored(place.to_vec(self.alloc)?, stored, read)))
+        self.add_steps(node, place, prefix)?;
+        Ok(None)
     }
 
     /// Adds a step for each child of a node with this prefix, and one for their number.
@@ -166,9 +182,7 @@ impl Way {
         );
         self.steps.push(count)?;
         for (byte, child) in node.iter().rev() {
-            let mut way = place.to_vec(self.alloc)?;
-            way.extend_from_slice(prefix)?;
-            way.push(byte)?;
+            let way = way_below(self.alloc, place, prefix, byte)?;
             self.steps.push(Step::Look(child, way))?;
         }
         Ok(())
@@ -250,6 +264,19 @@ fn first_child<K: AsBytes + Drop, V: Drop, const P: usize>(
     Some(child)
 }
 
+/// The bytes that lead to a child under a byte of a node with this prefix.
+fn way_below(
+    alloc: Global,
+    place: &[u8],
+    prefix: &[u8],
+    byte: u8,
+) -> Result<Vec<u8>, AllocError> {
+    let mut way = place.to_vec(alloc)?;
+    way.extend_from_slice(prefix)?;
+    way.push(byte)?;
+    Ok(way)
+}
+
 /// So many bytes in front, or all.
 fn front(bytes: &[u8], len: usize) -> &[u8] {
     match bytes.get(..len) {
@@ -284,36 +311,82 @@ fn count_flaw(place: Vec<u8>, kind: NodeType, count: usize) -> Option<Flaw> {
     }
 }
 
+/// Copies of two lists of bytes.
+fn copies(
+    alloc: Global,
+    first: &[u8],
+    second: &[u8],
+) -> Result<(Vec<u8>, Vec<u8>), AllocError> {
+    Ok((first.to_vec(alloc)?, second.to_vec(alloc)?))
+}
+
+/// That there is no node where these bytes lead to.
+fn no_node(
+    alloc: Global,
+    place: &[u8],
+    name: OpaqueNodePtr,
+) -> Result<Option<Flaw>, AllocError> {
+    Ok(Some(Flaw::NoNode(place.to_vec(alloc)?, name)))
+}
+
+/// Whether other bytes are stored of a prefix than those that it begins with.
+fn stored_flaw(
+    alloc: Global,
+    place: &[u8],
+    stored: &[u8],
+    prefix: &[u8],
+) -> Result<Option<Flaw>, AllocError> {
+    let read = front(prefix, stored.len());
+    if read == stored {
+        return Ok(None);
+    }
+    let place = place.to_vec(alloc)?;
+    let (stored, read) = copies(alloc, stored, read)?;
+    Ok(Some(Flaw::Stored(place, stored, read)))
+}
+
 /// Whether a leaf has a key that begins with other bytes, or siblings that don't stand around it.
 fn leaf_flaw<K: AsBytes + Drop, V: Drop, const P: usize>(
     store: &NodeStore<K, V, P>,
     node: &LeafNode<K, V>,
     place: &[u8],
 ) -> Result<Option<Flaw>, AllocError> {
-    let alloc = store.alloc();
     let key = node.key.as_bytes();
     if front(key, place.len()) != place {
-        let (place, key) = (place.to_vec(alloc)?, key.to_vec(alloc)?);
+        let (place, key) = copies(store.alloc(), place, key)?;
         return Ok(Some(Flaw::Key(place, key)));
     }
-    for (link, wanted) in [
+    let links = [
         (node.previous, Ordering::Less),
         (node.next, Ordering::Greater),
-    ] {
-        let Some(name) = link else {
-            continue;
-        };
-        let Some(sibling) = store.leaf(name) else {
-            return Ok(Some(Flaw::NoNode(place.to_vec(alloc)?, name.to_opaque())));
-        };
-        let other = sibling.key.as_bytes();
-        let order = other.cmp(key);
-        if order != wanted {
-            let (other, key) = (other.to_vec(alloc)?, key.to_vec(alloc)?);
-            return Ok(Some(Flaw::Order(other, key, wanted, order)));
+    ];
+    for (link, wanted) in links {
+        if let Some(name) = link
+            && let Some(flaw) = sibling_flaw(store, (key, place), name, wanted)?
+        {
+            return Ok(Some(flaw));
         }
     }
     Ok(None)
+}
+
+/// Whether a leaf's sibling is missing, or stands on the other side of it.
+fn sibling_flaw<K: AsBytes + Drop, V: Drop, const P: usize>(
+    store: &NodeStore<K, V, P>,
+    (key, place): (&[u8], &[u8]),
+    name: LeafPtr,
+    wanted: Ordering,
+) -> Result<Option<Flaw>, AllocError> {
+    let Some(sibling) = store.leaf(name) else {
+        return no_node(store.alloc(), place, name.to_opaque());
+    };
+    let other = sibling.key.as_bytes();
+    let order = other.cmp(key);
+    if order == wanted {
+        return Ok(None);
+    }
+    let (other, key) = copies(store.alloc(), other, key)?;
+    Ok(Some(Flaw::Order(other, key, wanted, order)))
 }
 
 /// The first of these leaves that has other links than its neighbours here.
