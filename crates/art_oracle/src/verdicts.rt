@@ -157,7 +157,7 @@ impl Way {
         node: &InnerRef<'_, P>,
         place: &[u8],
     ) -> Result<Option<Flaw>, AllocError> {
-        let Some(prefix) = self.whole_prefix(store, name, node, place.len())? else {
+        let Some(prefix) = self.whole_prefix(store, name, node, place.len()) else {
             let place = place.to_vec(self.alloc)?;
             return Ok(Some(Flaw::NoPrefix(place, name.to_opaque())));
         };
@@ -195,39 +195,29 @@ impl Way {
         name: InnerPtr,
         node: &'a InnerRef<'_, P>,
         depth: usize,
-    ) -> Result<Option<&'a [u8]>, AllocError> {
+    ) -> Option<&'a [u8]> {
         let len = node.prefix_len();
         if len <= P {
-            return Ok(Some(node.read_prefix()));
+            return Some(node.read_prefix());
         }
-        self.least_bytes(store, name, depth, len)
+        bytes_of(store, self.least_leaf(store, name)?, depth, len)
     }
 
-    /// So many bytes from a depth on of the key of the least leaf below a node. None where there is no such
-    /// leaf, or its key is shorter.
-    fn least_bytes<'a, K: AsBytes + Drop, V: Drop, const P: usize>(
+    /// The least leaf below a node. None where the way to it ends, or takes too many steps.
+    fn least_leaf<K: AsBytes + Drop, V: Drop, const P: usize>(
         &self,
-        store: &'a NodeStore<K, V, P>,
+        store: &NodeStore<K, V, P>,
         name: InnerPtr,
-        depth: usize,
-        len: usize,
-    ) -> Result<Option<&'a [u8]>, AllocError> {
-        let mut passed = Vec::new(self.alloc);
-        let mut name = name.to_opaque();
+    ) -> Option<LeafPtr> {
+        let mut name = name;
         for _ in 0..self.most_steps {
-            if passed.contains(&name) {
-                return Ok(None);
-            }
-            passed.push(name)?;
-            match name.split() {
-                NodePtr::Leaf(leaf) => return Ok(bytes_of(store, leaf, depth, len)),
-                NodePtr::Inner(inner) => match first_child(store, inner) {
-                    None => return Ok(None),
-                    Some(child) => name = child,
-                },
+            let child = first_child(store, name)?;
+            match child.split() {
+                NodePtr::Leaf(leaf) => return Some(leaf),
+                NodePtr::Inner(inner) => name = inner,
             }
         }
-        Ok(None)
+        None
     }
 
     /// Once each node was looked at: whether the leaves are linked in the order in which they were met.
@@ -260,8 +250,11 @@ fn first_child<K: AsBytes + Drop, V: Drop, const P: usize>(
     store: &NodeStore<K, V, P>,
     name: InnerPtr,
 ) -> Option<OpaqueNodePtr> {
-    let (_, child) = store.inner(name)?.iter().next()?;
-    Some(child)
+    let node = store.inner(name)?;
+    if node.num_children() == 0 {
+        return None;
+    }
+    Some(node.min().1)
 }
 
 /// The bytes that lead to a child under a byte of a node with this prefix.
@@ -292,7 +285,8 @@ fn bytes_of<K: AsBytes + Drop, V: Drop, const P: usize>(
     depth: usize,
     len: usize,
 ) -> Option<&[u8]> {
-    store.leaf(leaf)?.key.as_bytes().get(depth..)?.get(..len)
+    let end = depth.checked_add(len)?;
+    store.leaf(leaf)?.key.as_bytes().get(depth..end)
 }
 
 /// Whether a node has fewer or more children than its kind has.
@@ -395,16 +389,28 @@ fn links_flaw<K: AsBytes + Drop, V: Drop, const P: usize>(
     leaves: &[LeafPtr],
 ) -> Result<Option<Flaw>, AllocError> {
     let mut previous = None;
-    for (at, leaf) in leaves.iter().enumerate() {
-        let wanted = [previous, leaves.get(at.saturating_add(1)).copied()];
-        if let Some(node) = store.leaf(*leaf) {
-            let links = [node.previous, node.next];
-            if links != wanted {
-                let key = node.key.as_bytes().to_vec(store.alloc())?;
-                return Ok(Some(Flaw::Links(key, wanted, links)));
-            }
+    for at in 0..leaves.len() {
+        let wanted = [previous, leaves.get(at + 1).copied()];
+        if let Some(node) = store.leaf(leaves[at])
+            && let Some(flaw) = link_flaw(store.alloc(), node, wanted)?
+        {
+            return Ok(Some(flaw));
         }
-        previous = Some(*leaf);
+        previous = Some(leaves[at]);
     }
     Ok(None)
+}
+
+/// Whether a leaf has other links than these.
+fn link_flaw<K: AsBytes + Drop, V: Drop>(
+    alloc: Global,
+    node: &LeafNode<K, V>,
+    wanted: [OptionalLeafPtr; 2],
+) -> Result<Option<Flaw>, AllocError> {
+    let links = [node.previous, node.next];
+    if links == wanted {
+        return Ok(None);
+    }
+    let key = node.key.as_bytes().to_vec(alloc)?;
+    Ok(Some(Flaw::Links(key, wanted, links)))
 }
