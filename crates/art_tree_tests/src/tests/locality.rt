@@ -91,15 +91,28 @@ fn keeps_key<const P: usize>(store: &NodeStore<Key, u32, P>, seen: &Seen) -> boo
     }
 }
 
+// The same of all these.
+fn keep_keys<const P: usize>(store: &NodeStore<Key, u32, P>, before: &[Seen]) -> bool {
+    for seen in before {
+        if !keeps_key(store, seen) {
+            return false;
+        }
+    }
+    true
+}
+
 // Whether a name had a node, and has another one or none.
 fn is_changed<const P: usize>(
     store: &NodeStore<Key, u32, P>,
     before: &[Seen],
     name: OpaqueNodePtr,
 ) -> bool {
-    before
-        .iter()
-        .any(|seen| seen.name() == name && !is_still(store, seen))
+    for seen in before {
+        if seen.name() == name && !is_still(store, seen) {
+            return true;
+        }
+    }
+    false
 }
 
 // What is seen where the insertion touched this.
@@ -114,7 +127,7 @@ fn behind_seen<const P: usize>(
         touched,
         is_root_changed: is_changed(store, before, root),
         is_last_changed: is_changed(store, before, last),
-        keeps_keys: before.iter().all(|seen| keeps_key(store, seen)),
+        keeps_keys: keep_keys(store, before),
     }
 }
 

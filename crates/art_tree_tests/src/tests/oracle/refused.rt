@@ -8,7 +8,7 @@ use art_nodes::node::OpaqueNodePtr;
 use art_nodes::store::NodeStore;
 use art_operations::run::{Command, Reply, RunResult, Side, run};
 use art_operations::well_formed::WellFormedChecker;
-use art_test_support::commands::{Asked, Row, Told, command, commands, first_wrong, told_by};
+use art_test_support::commands::{Asked, Row, Told, command, commands, first_apart, first_wrong, told_by};
 use art_test_support::expected::same;
 use art_test_support::memory::end_refusals;
 use art_test_support::shapes::count_nodes;
@@ -370,6 +370,11 @@ fn is_same(command: &Command<Key, u32>, asked: Asked<'_>) -> bool {
     }
 }
 
+/// The same of the command of a row.
+fn is_asked(command: &Command<Key, u32>, row: &Row<'_>) -> bool {
+    is_same(command, row.0)
+}
+
 /// Whether all commands came back, and there is no node in either store.
 fn are_handed_back<const P: usize>(
     first: &NodeStore<Key, u32, P>,
@@ -377,12 +382,8 @@ fn are_handed_back<const P: usize>(
     back: &[Command<Key, u32>],
 ) -> Result<bool, AllocError> {
     let rows = script(first.alloc(), &BYTES)?;
-    let are_same = back
-        .iter()
-        .zip(&rows)
-        .all(|(command, row)| is_same(command, row.0));
     let counts = [count_nodes(first, SLOTS), count_nodes(second, SLOTS)];
-    Ok(are_same && back.len() == rows.len() && counts == [(0, 0); 2])
+    Ok(first_apart(back, &rows, is_asked).is_none() && counts == [(0, 0); 2])
 }
 
 /// Runs the commands while requests may be refused, and then judges with memory what came of it.
