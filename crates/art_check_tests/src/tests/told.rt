@@ -1,7 +1,11 @@
 //! What a check answers, as plain values.
 
 use art_nodes::node::{LeafPtr, NodeType, OpaqueNodePtr, OptionalLeafPtr};
-use art_operations::well_formed::{KeyPrefix, MalformedTreeError, WellFormedTreeStats};
+use art_nodes::store::NodeStore;
+use art_operations::well_formed::{
+    KeyPrefix, MalformedTreeError, WellFormedChecker, WellFormedTreeStats,
+};
+use art_test_support::trees::Key;
 use std::alloc::{AllocError, Global};
 use std::cmp::Ordering;
 
@@ -54,8 +58,27 @@ pub fn told_by(answer: &Result<WellFormedTreeStats, MalformedTreeError>) -> Told
 }
 
 /// Whether an answer says this.
-pub fn says(answer: &Result<WellFormedTreeStats, MalformedTreeError>, told: Told<'_>) -> bool {
+fn says(answer: &Result<WellFormedTreeStats, MalformedTreeError>, told: Told<'_>) -> bool {
     told_by(answer) == told
+}
+
+/// Whether the check of a tree, or of no tree, says this.
+pub fn check_says<const P: usize>(
+    store: &NodeStore<Key, u32, P>,
+    root: Option<OpaqueNodePtr>,
+    len: usize,
+    told: Told<'_>,
+) -> bool {
+    says(&WellFormedChecker::check(store, root, len), told)
+}
+
+/// Whether the check of a name says this.
+pub fn check_tree_says<const P: usize>(
+    store: &NodeStore<Key, u32, P>,
+    name: OpaqueNodePtr,
+    told: Told<'_>,
+) -> bool {
+    says(&WellFormedChecker::check_tree(store, name), told)
 }
 
 /// What a fault says.
