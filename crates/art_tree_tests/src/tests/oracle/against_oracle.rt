@@ -38,6 +38,26 @@ struct Hundred {
     replies: Vec<Reply<Tagged, u32>>,
 }
 
+impl Hundred {
+    /// Draws one command more, and carries it out on a list.
+    fn draw(
+        &mut self,
+        drawer: &mut Drawer,
+        drawn: &mut Drawn,
+        pairs: &mut Vec<(Tagged, u32)>,
+        is_growing: bool,
+    ) -> Result<(), AllocError>
+        requires { IsMap (of_key ⟦<Tagged as AsBytes>⟧.bytes) pairs.old.items }
+        ensures { IsMap (of_key ⟦<Tagged as AsBytes>⟧.bytes) pairs.new.items }
+    {
+        let command = drawer.command(pairs, is_growing)?;
+        drawn.count(&command);
+        self.commands.push(copy_of(&command)?)?;
+        self.replies.push(answer(drawer.alloc(), pairs, command)?)?;
+        Ok(())
+    }
+}
+
 /// Draws a hundred commands, and carries them out on a list.
 fn draw_hundred(
     drawer: &mut Drawer,
@@ -49,15 +69,14 @@ fn draw_hundred(
     ensures { IsMap (of_key ⟦<Tagged as AsBytes>⟧.bytes) pairs.new.items }
 {
     let alloc = drawer.alloc();
-    let mut commands = Vec::new(alloc);
-    let mut replies = Vec::new(alloc);
+    let mut hundred = Hundred {
+        commands: Vec::new(alloc),
+        replies: Vec::new(alloc),
+    };
     for _ in 0..100 {
-        let command = drawer.command(pairs, is_growing)?;
-        drawn.count(&command);
-        commands.push(copy_of(&command)?)?;
-        replies.push(answer(alloc, pairs, command)?)?;
+        hundred.draw(drawer, drawn, pairs, is_growing)?;
     }
-    Ok(Hundred { commands, replies })
+    Ok(hundred)
 }
 
 /// The replies to commands on a tree. The store that it is in at the end comes to be the first.
