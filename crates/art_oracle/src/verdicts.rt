@@ -258,12 +258,7 @@ fn first_child<K: AsBytes + Drop, V: Drop, const P: usize>(
 }
 
 /// The bytes that lead to a child under a byte of a node with this prefix.
-fn way_below(
-    alloc: Global,
-    place: &[u8],
-    prefix: &[u8],
-    byte: u8,
-) -> Result<Vec<u8>, AllocError> {
+fn way_below(alloc: Global, place: &[u8], prefix: &[u8], byte: u8) -> Result<Vec<u8>, AllocError> {
     let mut way = place.to_vec(alloc)?;
     way.extend_from_slice(prefix)?;
     way.push(byte)?;
@@ -306,20 +301,12 @@ fn count_flaw(place: Vec<u8>, kind: NodeType, count: usize) -> Option<Flaw> {
 }
 
 /// Copies of two lists of bytes.
-fn copies(
-    alloc: Global,
-    first: &[u8],
-    second: &[u8],
-) -> Result<(Vec<u8>, Vec<u8>), AllocError> {
+fn copies(alloc: Global, first: &[u8], second: &[u8]) -> Result<(Vec<u8>, Vec<u8>), AllocError> {
     Ok((first.to_vec(alloc)?, second.to_vec(alloc)?))
 }
 
 /// That there is no node where these bytes lead to.
-fn no_node(
-    alloc: Global,
-    place: &[u8],
-    name: OpaqueNodePtr,
-) -> Result<Option<Flaw>, AllocError> {
+fn no_node(alloc: Global, place: &[u8], name: OpaqueNodePtr) -> Result<Option<Flaw>, AllocError> {
     Ok(Some(Flaw::NoNode(place.to_vec(alloc)?, name)))
 }
 

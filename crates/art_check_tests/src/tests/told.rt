@@ -149,11 +149,7 @@ fn link_to(slot: Option<usize>) -> OptionalLeafPtr {
 }
 
 // Copies of two lists of bytes.
-fn copies(
-    alloc: Global,
-    first: &[u8],
-    second: &[u8],
-) -> Result<(Vec<u8>, Vec<u8>), AllocError> {
+fn copies(alloc: Global, first: &[u8], second: &[u8]) -> Result<(Vec<u8>, Vec<u8>), AllocError> {
     Ok((first.to_vec(alloc)?, second.to_vec(alloc)?))
 }
 

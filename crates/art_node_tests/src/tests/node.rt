@@ -55,7 +55,10 @@ fn prints_names(rt: HostRuntime) -> Result<(), Fail> {
     ];
     for (kind, slot, text) in wanted {
         let name = OpaqueNodePtr::from_parts(kind, slot);
-        same((text, prints_as(rt.alloc(), name, text)?), (text, [true; 2]))?;
+        same(
+            (text, prints_as(rt.alloc(), name, text)?),
+            (text, [true; 2]),
+        )?;
     }
     Ok(())
 }
@@ -231,7 +234,10 @@ fn empties_a_prefix() -> Result<(), Fail> {
     let mut front = Header::<2>::new(&[1, 2], 5);
     let told = (whole.clear_prefix(), front.clear_prefix());
     same(told, (([1, 2, 3, 0], 3, 3), ([1, 2], 5, 2)))?;
-    same([reads_as(whole, 0, &[]), reads_as(front, 0, &[])], [[true; 2]; 2])
+    same(
+        [reads_as(whole, 0, &[]), reads_as(front, 0, &[])],
+        [[true; 2]; 2],
+    )
 }
 
 // A walk over the children comes by what a look-up finds.

@@ -117,7 +117,10 @@ static ODD: [Row<'static>; 5] = [
 #[test]
 fn odd_trees_are_read_back(rt: HostRuntime) -> Result<(), Fail> {
     for (number, row) in ODD.iter().enumerate() {
-        same((number, wrong_at_each(rt.alloc(), *row)), (number, [Some(None); 2]))?;
+        same(
+            (number, wrong_at_each(rt.alloc(), *row)),
+            (number, [Some(None); 2]),
+        )?;
     }
     Ok(())
 }

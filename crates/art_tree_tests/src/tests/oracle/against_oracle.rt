@@ -227,11 +227,7 @@ fn is_wide_with<const P: usize>(
 }
 
 /// Whether a trial for each number of stored bytes is wide.
-fn are_wide(
-    alloc: Global,
-    shape: KeyShape,
-    greatest_kind: NodeType,
-) -> Result<[bool; 4], Fail> {
+fn are_wide(alloc: Global, shape: KeyShape, greatest_kind: NodeType) -> Result<[bool; 4], Fail> {
     Ok([
         is_wide_with::<0>(alloc, shape, greatest_kind)?,
         is_wide_with::<2>(alloc, shape, greatest_kind)?,

@@ -8,7 +8,9 @@ use art_nodes::node::OpaqueNodePtr;
 use art_nodes::store::NodeStore;
 use art_operations::run::{Command, Reply, RunResult, Side, run};
 use art_operations::well_formed::WellFormedChecker;
-use art_test_support::commands::{Asked, Row, Told, command, commands, first_apart, first_wrong, told_by};
+use art_test_support::commands::{
+    Asked, Row, Told, command, commands, first_apart, first_wrong, told_by,
+};
 use art_test_support::expected::same;
 use art_test_support::memory::end_refusals;
 use art_test_support::shapes::count_nodes;
@@ -129,10 +131,7 @@ fn left_of<const P: usize>(
 }
 
 /// The first reply that is not the one of its row.
-fn wrong_reply(
-    alloc: Global,
-    replies: &[Reply<Key, u32>],
-) -> Result<Option<usize>, AllocError> {
+fn wrong_reply(alloc: Global, replies: &[Reply<Key, u32>]) -> Result<Option<usize>, AllocError> {
     let rows = script(alloc, &BYTES)?;
     Ok(first_wrong(replies, &rows))
 }

@@ -104,7 +104,10 @@ fn touches_no_more_than_it_must(rt: HostRuntime) -> Result<(), Fail> {
         (&SEVENTEEN, &[0, 2], (1, 2, 3)),
     ];
     for (slices, key, touched) in cases {
-        same((key, touched_by(rt.alloc(), slices, key)), (key, Some(touched)))?;
+        same(
+            (key, touched_by(rt.alloc(), slices, key)),
+            (key, Some(touched)),
+        )?;
     }
     Ok(())
 }

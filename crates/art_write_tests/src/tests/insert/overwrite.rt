@@ -555,7 +555,10 @@ fn told_between(alloc: Global, key: &[u8]) -> Option<Told> {
 fn without_memory_one_pair_is_replaced(rt: HostRuntime) -> Result<(), Fail> {
     let keys: [&[u8]; 3] = [&[1, 2], &[1, 2, 3], &[1, 2, 3, 4]];
     for key in keys {
-        same((key, told_between(rt.alloc(), key)), (key, Some((Some(1), 0))))?;
+        same(
+            (key, told_between(rt.alloc(), key)),
+            (key, Some((Some(1), 0))),
+        )?;
     }
     Ok(())
 }
