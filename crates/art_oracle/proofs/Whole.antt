@@ -72,7 +72,8 @@ has_leaves old mid new names list pairs e placed same keeps linked same' = recor
 }
 
 -- where no leaf was placed, the pairs are none
-pub has_none : {K V : Type 0} (old new : Nodes K V) (names : List LeafPtr) (pairs : List (K × V)) → names ≡ [] → IsPlaced old.leaves new.leaves names pairs → new.inners ≡ old.inners → HasLeaves old new [] pairs
+pub has_none : {K V : Type 0} (old new : Nodes K V) (names : List LeafPtr) (pairs : List (K × V)) → names ≡ [] → IsPlaced old.leaves new.leaves names pairs →
+    new.inners ≡ old.inners → HasLeaves old new [] pairs
 has_none old new names pairs e placed same = record {
   placed = subst (λ l. IsPlaced old.leaves new.leaves l pairs) e placed;
   linked = tt;

@@ -11,7 +11,8 @@ pub returns-then-is_empty : goal.returns-then-is_empty
 returns-then-is_empty g c =
     let names = c.in_ok-names.names.items in
     let H = has_none c.args.store.now c.place_leaves.new.store names c.args.pairs.items
-    (nil_from_length names (sym c.in_ok-names.names.ok.0 ∙ eqb-true c.in_ok-names.names.len 0 (sym c.is_empty.ensures ∙ c.if-is_empty.true))) c.in_ok-names.ensures.placed c.in_ok-names.ensures.inners in
+    (nil_from_length names (sym c.in_ok-names.names.ok.0 ∙ eqb-true c.in_ok-names.names.len 0 (sym c.is_empty.ensures ∙ c.if-is_empty.true)))
+    c.in_ok-names.ensures.placed c.in_ok-names.ensures.inners in
     record {
       canonical = sym H.placed.its;
       kept = leaves_kept H;

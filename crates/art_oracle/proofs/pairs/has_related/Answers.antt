@@ -15,7 +15,8 @@ precedes_related-requires g c = record {
 
 pub returns-then-follows_related : goal.returns-then-follows_related
 returns-then-follows_related g c =
-    conflict_low g.K.AsBytes.bytes c.args.key.now c.args.at c.args.pairs.now c.split_at.result.0.now c.follows_related.result c.split_at.ensures.front c.follows_related.ensures c.if-follows_related.true
+    conflict_low g.K.AsBytes.bytes c.args.key.now c.args.at c.args.pairs.now c.split_at.result.0.now c.follows_related.result
+    c.split_at.ensures.front c.follows_related.ensures c.if-follows_related.true
 
 pub returns-else-follows_related : goal.returns-else-follows_related
 returns-else-follows_related g c =
