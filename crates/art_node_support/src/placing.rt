@@ -75,21 +75,42 @@ pub fn placed_all<const P: usize>(
     nodes: &[Plain<'_>],
 ) -> Result<Option<Vec<OpaqueNodePtr>>, AllocError> {
     let mut names = Vec::new(store.alloc());
-    for node in nodes {
-        let Some(name) = place(store, *node, &names)? else {
-            return Ok(None);
-        };
-        names.push(name)?;
+    if !place_each(store, nodes, &mut names)? || !join_each(store, nodes, &names) {
+        return Ok(None);
     }
-    for (name, node) in names.iter().zip(nodes) {
-        if join(store, *name, *node, &names).is_none() {
-            return Ok(None);
-        }
-    }
-    for (name, node) in names.iter().zip(nodes) {
-        free_gone(store, *name, *node);
+    for at in 0..nodes.len().min(names.len()) {
+        free_gone(store, names[at], nodes[at]);
     }
     Ok(Some(names))
+}
+
+/// Places these nodes without their children and links, and lists their names. Answers whether all have one.
+fn place_each<const P: usize>(
+    store: &mut NodeStore<Key, u32, P>,
+    nodes: &[Plain<'_>],
+    names: &mut Vec<OpaqueNodePtr>,
+) -> Result<bool, AllocError> {
+    for node in nodes {
+        match place(store, *node, names)? {
+            Some(name) => names.push(name)?,
+            None => return Ok(false),
+        }
+    }
+    Ok(true)
+}
+
+/// Gives these nodes, which are placed under these names, their children and links. Answers whether there was room.
+fn join_each<const P: usize>(
+    store: &mut NodeStore<Key, u32, P>,
+    nodes: &[Plain<'_>],
+    names: &[OpaqueNodePtr],
+) -> bool {
+    for at in 0..nodes.len().min(names.len()) {
+        if join(store, names[at], nodes[at], names).is_none() {
+            return false;
+        }
+    }
+    true
 }
 
 /// Places a node without its children and links. These are the names before it.
@@ -102,11 +123,10 @@ fn place<const P: usize>(
         Plain::Leaf { key, value, .. } => Ok(Some(place_leaf(store, key, value)?)),
         Plain::Gone => Ok(Some(place_leaf(store, &[], 0)?)),
         Plain::Renamed(kind, at) => {
-            Ok(
-                names
-                    .get(at)
-                    .map(|other| OpaqueNodePtr::from_parts(kind, other.slot())),
-            )
+            let Some(other) = names.get(at) else {
+                return Ok(None);
+            };
+            Ok(Some(OpaqueNodePtr::from_parts(kind, other.slot())))
         }
         Plain::Inner {
             kind,
@@ -118,8 +138,10 @@ fn place<const P: usize>(
                 return Ok(None);
             }
             let node = AnyInner::from_header(kind, Header::new(prefix, prefix_len));
-            let name = store.place_inner(node).map_err(|refused| refused.1)?;
-            Ok(Some(name.to_opaque()))
+            match store.place_inner(node) {
+                Ok(name) => Ok(Some(name.to_opaque())),
+                Err((_, error)) => Err(error),
+            }
         }
     }
 }
@@ -131,8 +153,10 @@ fn place_leaf<const P: usize>(
     value: u32,
 ) -> Result<OpaqueNodePtr, AllocError> {
     let leaf = LeafNode::with_no_siblings(key.to_vec(store.alloc())?, value);
-    let name = store.place_leaf(leaf).map_err(|refused| refused.1)?;
-    Ok(name.to_opaque())
+    match store.place_leaf(leaf) {
+        Ok(name) => Ok(name.to_opaque()),
+        Err((_, error)) => Err(error),
+    }
 }
 
 /// Gives a node that is placed its children or its links.

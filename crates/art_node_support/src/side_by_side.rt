@@ -31,6 +31,34 @@ impl Walk {
         }
     }
 
+    // Looks at all nodes of two trees. Answers the greatest kind, where the trees are the same and of these pairs.
+    fn compare<K: AsBytes + PartialEq + Drop, const P: usize>(
+        &mut self,
+        (store, root): (&NodeStore<K, u32, P>, Option<OpaqueNodePtr>),
+        (other, other_root): (&NodeStore<K, u32, P>, Option<OpaqueNodePtr>),
+        pairs: &[(K, u32)],
+    ) -> Result<Option<NodeType>, AllocError> {
+        if let (Some(name), Some(other_name)) = (root, other_root) {
+            self.open.push((name, other_name))?;
+        }
+        if !self.go(store, other)? || !self.has_pairs(store, other, pairs) {
+            return Ok(None);
+        }
+        Ok(Some(self.greatest_kind))
+    }
+
+    // Whether the leaves that were met hold these pairs, and the first store has no other node than those that were met.
+    fn has_pairs<K: AsBytes + PartialEq + Drop, const P: usize>(
+        &self,
+        store: &NodeStore<K, u32, P>,
+        other: &NodeStore<K, u32, P>,
+        pairs: &[(K, u32)],
+    ) -> bool {
+        are_leaves(store, &self.leaves, pairs)
+            && are_leaves(other, &self.other_leaves, pairs)
+            && count_nodes(store, MOST_NODES) == (pairs.len(), self.inner)
+    }
+
     // Looks at all nodes under the names that are open. Answers whether they are the same.
     fn go<K: AsBytes + Drop, const P: usize>(
         &mut self,
@@ -119,15 +147,18 @@ fn are_leaves<K: AsBytes + PartialEq + Drop, const P: usize>(
     leaves: &[LeafPtr],
     pairs: &[(K, u32)],
 ) -> bool {
+    if leaves.len() != pairs.len() {
+        return false;
+    }
     let mut previous = None;
-    for (at, (name, pair)) in leaves.iter().zip(pairs).enumerate() {
-        let next = leaves.get(at.saturating_add(1)).copied();
-        if !is_leaf(store, *name, pair, (previous, next)) {
+    for at in 0..leaves.len() {
+        let next = leaves.get(at + 1).copied();
+        if !is_leaf(store, leaves[at], &pairs[at], (previous, next)) {
             return false;
         }
-        previous = Some(*name);
+        previous = Some(leaves[at]);
     }
-    leaves.len() == pairs.len()
+    true
 }
 
 /// The greatest kind of node of two trees that are the same but for the names of their nodes, whose leaves hold these
@@ -140,17 +171,5 @@ pub fn kind_if_same<K: AsBytes + PartialEq + Drop, const P: usize>(
     if [root.is_none(), other_root.is_none()] != [pairs.is_empty(); 2] {
         return Ok(None);
     }
-    let mut walk = Walk::new(store.alloc());
-    if let (Some(name), Some(other_name)) = (root, other_root) {
-        walk.open.push((name, other_name))?;
-    }
-    let are_same = walk.go(store, other)?
-        && are_leaves(store, &walk.leaves, pairs)
-        && are_leaves(other, &walk.other_leaves, pairs)
-        && count_nodes(store, MOST_NODES) == (pairs.len(), walk.inner);
-    Ok(if are_same {
-        Some(walk.greatest_kind)
-    } else {
-        None
-    })
+    Walk::new(store.alloc()).compare((store, root), (other, other_root), pairs)
 }

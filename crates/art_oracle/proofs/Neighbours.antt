@@ -37,6 +37,19 @@ module _ {K V : Type 0} (bytes : K → List ℕ) where
       is_conflict (of_key bytes) key pairs ≡ (is_conflict (of_key bytes) key (take at pairs) || is_conflict (of_key bytes) key (drop at pairs))
   conflict_split key at pairs = ap (is_conflict (of_key bytes) key) (sym (take-append-drop at pairs)) ∙ list_any-append (λ x. is_other key (bytes x.0)) (take at pairs) (drop at pairs)
 
+  -- a key that is in conflict with a pair in front
+  pub conflict_low : (key : List ℕ) (at : ℕ) (pairs low : List (K × V)) (r : Bool) → low ≡ take at pairs → r ≡ is_conflict (of_key bytes) key low → r ≡ true →
+      r ≡ is_conflict (of_key bytes) key pairs
+  conflict_low key at pairs low r e is so =
+      so ∙ sym (conflict_split key at pairs ∙ ap (λ b. b || is_conflict (of_key bytes) key (drop at pairs)) (sym (ap (is_conflict (of_key bytes) key) e) ∙ sym is ∙ so))
+
+  -- a key that is in no conflict with a pair in front
+  pub conflict_high : (key : List ℕ) (at : ℕ) (pairs low high : List (K × V)) (s r : Bool) → low ≡ take at pairs → s ≡ is_conflict (of_key bytes) key low → s ≡ false →
+      high ≡ drop at pairs → r ≡ is_conflict (of_key bytes) key high → r ≡ is_conflict (of_key bytes) key pairs
+  conflict_high key at pairs low high s r e low_is not_so f is =
+      is ∙ ap (is_conflict (of_key bytes) key) f
+      ∙ sym (conflict_split key at pairs ∙ ap (λ b. b || is_conflict (of_key bytes) key (drop at pairs)) (sym (ap (is_conflict (of_key bytes) key) e) ∙ sym low_is ∙ not_so))
+
   pub map_low : (at : ℕ) (pairs : List (K × V)) → IsMap (of_key bytes) pairs → IsMap (of_key bytes) (take at pairs)
   map_low at pairs h = IsMap-left (of_key bytes) (take at pairs) (drop at pairs) (subst (IsMap (of_key bytes)) (sym (take-append-drop at pairs)) h)
 

@@ -71,6 +71,15 @@ has_leaves old mid new names list pairs e placed same keeps linked same' = recor
   inners = same' ∙ same;
 }
 
+-- where no leaf was placed, the pairs are none
+pub has_none : {K V : Type 0} (old new : Nodes K V) (names : List LeafPtr) (pairs : List (K × V)) → names ≡ [] → IsPlaced old.leaves new.leaves names pairs →
+    new.inners ≡ old.inners → HasLeaves old new [] pairs
+has_none old new names pairs e placed same = record {
+  placed = subst (λ l. IsPlaced old.leaves new.leaves l pairs) e placed;
+  linked = tt;
+  inners = same;
+}
+
 module _ {K V : Type 0} {old new : Nodes K V} {names : List LeafPtr} {pairs : List (K × V)} (H : HasLeaves old new names pairs) where
   pub leaves_ready : (bytes : K → List ℕ) → IsMap (of_key bytes) pairs → Ready bytes new.leaves [] names 0
   leaves_ready bytes map = record {
@@ -126,14 +135,14 @@ module _ {K V : Type 0} {old new : Nodes K V} {names : List LeafPtr} {pairs : Li
   leaves_others Node48 slot = inr (ap (λ m. option_map held_inner (finite.get m (record { kind = Node48; slot = slot }))) H.inners)
   leaves_others Node256 slot = inr (ap (λ m. option_map held_inner (finite.get m (record { kind = Node256; slot = slot }))) H.inners)
 
-  leaves_kept : KeepsNodes old new
+  pub leaves_kept : KeepsNodes old new
   leaves_kept name used = go (leaves_others name.kind name.slot)
     where
       go : IsIn name (map leaf_name names) ⊎ (held new name ≡ held old name) → held new name ≡ held old name
       go (inl i) = absurd (used (each_in (λ n. held old n ≡ None) name (map leaf_name names) names_free i))
       go (inr e) = e
 
-  leaves_added : (name : OpaqueNodePtr) → IsUsed new name → IsUsed old name ⊎ IsIn name (map leaf_name names)
+  pub leaves_added : (name : OpaqueNodePtr) → IsUsed new name → IsUsed old name ⊎ IsIn name (map leaf_name names)
   leaves_added name used = go (leaves_others name.kind name.slot)
     where
       go : IsIn name (map leaf_name names) ⊎ (held new name ≡ held old name) → IsUsed old name ⊎ IsIn name (map leaf_name names)

@@ -23,7 +23,6 @@ pub fn search<K: AsBytes, V>(pairs: &[(K, V)], key: &[u8]) -> Result<usize, usiz
 }
 
 /// Whether a key that isn't stored is related to a stored one. It looks at the two pairs beside its place.
-#[tactic(auto, using(crate::proofs::Neighbours::conflict_split, crate::proofs::Neighbours::map_low, crate::proofs::Neighbours::map_high))]
 pub fn has_related<K: AsBytes, V>(pairs: &[(K, V)], at: usize, key: &[u8]) -> bool
     requires map { IsMap (of_key K.bytes) pairs.now }
     requires gap { IsGapFor K.bytes pairs.now at key.now }

@@ -9,7 +9,7 @@ use std::alloc::{AllocError, Global};
 use std::cmp::Ordering;
 
 /// What is wrong with a tree. The first bytes of each are those that lead to the node.
-#[derive(PartialEq, Eq, Debug, Drop)]
+#[derive(Drop)]
 pub enum Flaw {
     /// A name is met twice.
     Twice(OpaqueNodePtr, Vec<u8>, Vec<u8>),
@@ -30,7 +30,7 @@ pub enum Flaw {
 }
 
 /// What is found below a name.
-#[derive(PartialEq, Eq, Debug, Drop)]
+#[derive(Drop)]
 pub enum Verdict {
     /// A tree with so many leaves and inner nodes.
     Tree(usize, usize),
@@ -112,20 +112,38 @@ impl Way {
         name: OpaqueNodePtr,
         place: &[u8],
     ) -> Result<Option<Flaw>, AllocError> {
-        for (other, first) in &self.met {
-            if *other == name {
-                let (first, later) = (first.clone()?, place.to_vec(self.alloc)?);
-                return Ok(Some(Flaw::Twice(name, first, later)));
-            }
+        if let Some(first) = self.first_place(name) {
+            let (first, later) = copies(self.alloc, first, place)?;
+            return Ok(Some(Flaw::Twice(name, first, later)));
         }
         self.met.push((name, place.to_vec(self.alloc)?))?;
+        self.look_at(store, name, place)
+    }
+
+    /// The bytes that led to a name when it was met before.
+    fn first_place(&self, name: OpaqueNodePtr) -> Option<&[u8]> {
+        for (other, first) in &self.met {
+            if *other == name {
+                return Some(first.as_slice());
+            }
+        }
+        None
+    }
+
+    /// Looks at the node under a name that was not met before.
+    fn look_at<K: AsBytes + Drop, V: Drop, const P: usize>(
+        &mut self,
+        store: &NodeStore<K, V, P>,
+        name: OpaqueNodePtr,
+        place: &[u8],
+    ) -> Result<Option<Flaw>, AllocError> {
         match name.split() {
             NodePtr::Leaf(leaf) => match store.leaf(leaf) {
-                None => Ok(Some(Flaw::NoNode(place.to_vec(self.alloc)?, name))),
+                None => no_node(self.alloc, place, name),
                 Some(node) => leaf_flaw(store, node, place),
             },
             NodePtr::Inner(inner) => match store.inner(inner) {
-                None => Ok(Some(Flaw::NoNode(place.to_vec(self.alloc)?, name))),
+                None => no_node(self.alloc, place, name),
                 Some(node) => self.look_below(store, inner, &node, place),
             },
         }
@@ -139,17 +157,15 @@ impl Way {
         node: &InnerRef<'_, P>,
         place: &[u8],
     ) -> Result<Option<Flaw>, AllocError> {
-        let Some(prefix) = self.whole_prefix(store, name, node, place.len())? else {
-            return Ok(Some(Flaw::NoPrefix(place.to_vec(self.alloc)?, name.to_opaque())));
+        let Some(prefix) = self.whole_prefix(store, name, node, place.len()) else {
+            let place = place.to_vec(self.alloc)?;
+            return Ok(Some(Flaw::NoPrefix(place, name.to_opaque())));
         };
-        let stored = node.read_prefix();
-        let read = front(prefix, stored.len());
-        if read == stored {
-            self.add_steps(node, place, prefix)?;
-            return Ok(None);
+        if let Some(flaw) = stored_flaw(self.alloc, place, node.read_prefix(), prefix)? {
+            return Ok(Some(flaw));
         }
-        let (stored, read) = (stored.to_vec(self.alloc)?, read.to_vec(self.alloc)?);
-        Ok(Some(Flaw::Stored(place.to_vec(self.alloc)?, stored, read)))
+        self.add_steps(node, place, prefix)?;
+        Ok(None)
     }
 
     /// Adds a step for each child of a node with this prefix, and one for their number.
@@ -166,9 +182,7 @@ impl Way {
         );
         self.steps.push(count)?;
         for (byte, child) in node.iter().rev() {
-            let mut way = place.to_vec(self.alloc)?;
-            way.extend_from_slice(prefix)?;
-            way.push(byte)?;
+            let way = way_below(self.alloc, place, prefix, byte)?;
             self.steps.push(Step::Look(child, way))?;
         }
         Ok(())
@@ -181,39 +195,29 @@ impl Way {
         name: InnerPtr,
         node: &'a InnerRef<'_, P>,
         depth: usize,
-    ) -> Result<Option<&'a [u8]>, AllocError> {
+    ) -> Option<&'a [u8]> {
         let len = node.prefix_len();
         if len <= P {
-            return Ok(Some(node.read_prefix()));
+            return Some(node.read_prefix());
         }
-        self.least_bytes(store, name, depth, len)
+        bytes_of(store, self.least_leaf(store, name)?, depth, len)
     }
 
-    /// So many bytes from a depth on of the key of the least leaf below a node. None where there is no such
-    /// leaf, or its key is shorter.
-    fn least_bytes<'a, K: AsBytes + Drop, V: Drop, const P: usize>(
+    /// The least leaf below a node. None where the way to it ends, or takes too many steps.
+    fn least_leaf<K: AsBytes + Drop, V: Drop, const P: usize>(
         &self,
-        store: &'a NodeStore<K, V, P>,
+        store: &NodeStore<K, V, P>,
         name: InnerPtr,
-        depth: usize,
-        len: usize,
-    ) -> Result<Option<&'a [u8]>, AllocError> {
-        let mut passed = Vec::new(self.alloc);
-        let mut name = name.to_opaque();
+    ) -> Option<LeafPtr> {
+        let mut name = name;
         for _ in 0..self.most_steps {
-            if passed.contains(&name) {
-                return Ok(None);
-            }
-            passed.push(name)?;
-            match name.split() {
-                NodePtr::Leaf(leaf) => return Ok(bytes_of(store, leaf, depth, len)),
-                NodePtr::Inner(inner) => match first_child(store, inner) {
-                    None => return Ok(None),
-                    Some(child) => name = child,
-                },
+            let child = first_child(store, name)?;
+            match child.split() {
+                NodePtr::Leaf(leaf) => return Some(leaf),
+                NodePtr::Inner(inner) => name = inner,
             }
         }
-        Ok(None)
+        None
     }
 
     /// Once each node was looked at: whether the leaves are linked in the order in which they were met.
@@ -246,8 +250,19 @@ fn first_child<K: AsBytes + Drop, V: Drop, const P: usize>(
     store: &NodeStore<K, V, P>,
     name: InnerPtr,
 ) -> Option<OpaqueNodePtr> {
-    let (_, child) = store.inner(name)?.iter().next()?;
-    Some(child)
+    let node = store.inner(name)?;
+    if node.num_children() == 0 {
+        return None;
+    }
+    Some(node.min().1)
+}
+
+/// The bytes that lead to a child under a byte of a node with this prefix.
+fn way_below(alloc: Global, place: &[u8], prefix: &[u8], byte: u8) -> Result<Vec<u8>, AllocError> {
+    let mut way = place.to_vec(alloc)?;
+    way.extend_from_slice(prefix)?;
+    way.push(byte)?;
+    Ok(way)
 }
 
 /// So many bytes in front, or all.
@@ -265,7 +280,8 @@ fn bytes_of<K: AsBytes + Drop, V: Drop, const P: usize>(
     depth: usize,
     len: usize,
 ) -> Option<&[u8]> {
-    store.leaf(leaf)?.key.as_bytes().get(depth..)?.get(..len)
+    let end = depth.checked_add(len)?;
+    store.leaf(leaf)?.key.as_bytes().get(depth..end)
 }
 
 /// Whether a node has fewer or more children than its kind has.
@@ -284,36 +300,74 @@ fn count_flaw(place: Vec<u8>, kind: NodeType, count: usize) -> Option<Flaw> {
     }
 }
 
+/// Copies of two lists of bytes.
+fn copies(alloc: Global, first: &[u8], second: &[u8]) -> Result<(Vec<u8>, Vec<u8>), AllocError> {
+    Ok((first.to_vec(alloc)?, second.to_vec(alloc)?))
+}
+
+/// That there is no node where these bytes lead to.
+fn no_node(alloc: Global, place: &[u8], name: OpaqueNodePtr) -> Result<Option<Flaw>, AllocError> {
+    Ok(Some(Flaw::NoNode(place.to_vec(alloc)?, name)))
+}
+
+/// Whether other bytes are stored of a prefix than those that it begins with.
+fn stored_flaw(
+    alloc: Global,
+    place: &[u8],
+    stored: &[u8],
+    prefix: &[u8],
+) -> Result<Option<Flaw>, AllocError> {
+    let read = front(prefix, stored.len());
+    if read == stored {
+        return Ok(None);
+    }
+    let place = place.to_vec(alloc)?;
+    let (stored, read) = copies(alloc, stored, read)?;
+    Ok(Some(Flaw::Stored(place, stored, read)))
+}
+
 /// Whether a leaf has a key that begins with other bytes, or siblings that don't stand around it.
 fn leaf_flaw<K: AsBytes + Drop, V: Drop, const P: usize>(
     store: &NodeStore<K, V, P>,
     node: &LeafNode<K, V>,
     place: &[u8],
 ) -> Result<Option<Flaw>, AllocError> {
-    let alloc = store.alloc();
     let key = node.key.as_bytes();
     if front(key, place.len()) != place {
-        let (place, key) = (place.to_vec(alloc)?, key.to_vec(alloc)?);
+        let (place, key) = copies(store.alloc(), place, key)?;
         return Ok(Some(Flaw::Key(place, key)));
     }
-    for (link, wanted) in [
+    let links = [
         (node.previous, Ordering::Less),
         (node.next, Ordering::Greater),
-    ] {
-        let Some(name) = link else {
-            continue;
-        };
-        let Some(sibling) = store.leaf(name) else {
-            return Ok(Some(Flaw::NoNode(place.to_vec(alloc)?, name.to_opaque())));
-        };
-        let other = sibling.key.as_bytes();
-        let order = other.cmp(key);
-        if order != wanted {
-            let (other, key) = (other.to_vec(alloc)?, key.to_vec(alloc)?);
-            return Ok(Some(Flaw::Order(other, key, wanted, order)));
+    ];
+    for (link, wanted) in links {
+        if let Some(name) = link
+            && let Some(flaw) = sibling_flaw(store, (key, place), name, wanted)?
+        {
+            return Ok(Some(flaw));
         }
     }
     Ok(None)
+}
+
+/// Whether a leaf's sibling is missing, or stands on the other side of it.
+fn sibling_flaw<K: AsBytes + Drop, V: Drop, const P: usize>(
+    store: &NodeStore<K, V, P>,
+    (key, place): (&[u8], &[u8]),
+    name: LeafPtr,
+    wanted: Ordering,
+) -> Result<Option<Flaw>, AllocError> {
+    let Some(sibling) = store.leaf(name) else {
+        return no_node(store.alloc(), place, name.to_opaque());
+    };
+    let other = sibling.key.as_bytes();
+    let order = other.cmp(key);
+    if order == wanted {
+        return Ok(None);
+    }
+    let (other, key) = copies(store.alloc(), other, key)?;
+    Ok(Some(Flaw::Order(other, key, wanted, order)))
 }
 
 /// The first of these leaves that has other links than its neighbours here.
@@ -322,16 +376,28 @@ fn links_flaw<K: AsBytes + Drop, V: Drop, const P: usize>(
     leaves: &[LeafPtr],
 ) -> Result<Option<Flaw>, AllocError> {
     let mut previous = None;
-    for (at, leaf) in leaves.iter().enumerate() {
-        let wanted = [previous, leaves.get(at.saturating_add(1)).copied()];
-        if let Some(node) = store.leaf(*leaf) {
-            let links = [node.previous, node.next];
-            if links != wanted {
-                let key = node.key.as_bytes().to_vec(store.alloc())?;
-                return Ok(Some(Flaw::Links(key, wanted, links)));
-            }
+    for at in 0..leaves.len() {
+        let wanted = [previous, leaves.get(at + 1).copied()];
+        if let Some(node) = store.leaf(leaves[at])
+            && let Some(flaw) = link_flaw(store.alloc(), node, wanted)?
+        {
+            return Ok(Some(flaw));
         }
-        previous = Some(*leaf);
+        previous = Some(leaves[at]);
     }
     Ok(None)
+}
+
+/// Whether a leaf has other links than these.
+fn link_flaw<K: AsBytes + Drop, V: Drop>(
+    alloc: Global,
+    node: &LeafNode<K, V>,
+    wanted: [OptionalLeafPtr; 2],
+) -> Result<Option<Flaw>, AllocError> {
+    let links = [node.previous, node.next];
+    if links == wanted {
+        return Ok(None);
+    }
+    let key = node.key.as_bytes().to_vec(alloc)?;
+    Ok(Some(Flaw::Links(key, wanted, links)))
 }

@@ -113,20 +113,26 @@ pub fn first_apart<T, W, F: Fn(&T, &W) -> bool + Drop>(
 ) -> Option<usize>
     requires { F.IsAlwaysCallable is_wanted }
 {
-    for (at, (this, want)) in these.iter().zip(wanted).enumerate() {
-        if !is_wanted(this, want) {
+    let count = these.len().min(wanted.len());
+    for at in 0..count {
+        if !is_wanted(&these[at], &wanted[at]) {
             return Some(at);
         }
     }
     if these.len() == wanted.len() {
         return None;
     }
-    Some(these.len().min(wanted.len()))
+    Some(count)
 }
 
 /// The place of the first reply that is not the one of its row, or that is missing or too many.
 pub fn first_wrong(replies: &[Reply<Key, u32>], rows: &[Row<'_>]) -> Option<usize> {
-    first_apart(replies, rows, |reply, row| told_by(reply) == row.1)
+    first_apart(replies, rows, is_told)
+}
+
+// Whether a reply is the one of a row.
+fn is_told(reply: &Reply<Key, u32>, row: &Row<'_>) -> bool {
+    told_by(reply) == row.1
 }
 
 // What a run leaves.

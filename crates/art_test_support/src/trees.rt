@@ -36,19 +36,25 @@ pub fn planted<K: AsBytes + Clone + Drop, const P: usize>(
     requires { KeepBytes K.bytes K.is_clone }
     ensures { IfOk result (λ root. IfSome root (λ root. IsCanonicalRoot (of_key K.bytes) P store.new root)) }
 {
-    let mut commands = Vec::new(store.alloc());
-    let mut value = 0u32;
-    for key in keys {
-        commands.push(Command::Insert(key, value))?;
-        value = value.wrapping_add(1);
-    }
-    match run(store, second, None, commands) {
+    let asked = insertions(store.alloc(), keys)?;
+    match run(store, second, None, asked) {
         Ok(done) => match done.side {
             Side::First => Ok(done.root),
             Side::Second => Err(AllocError),
         },
         Err((_, error)) => Err(error),
     }
+}
+
+// The insertions of these keys, with the place of each among them as its value.
+fn insertions<K: Drop>(alloc: Global, keys: Vec<K>) -> Result<Vec<Command<K, u32>>, AllocError> {
+    let mut commands = Vec::new(alloc);
+    let mut value = 0u32;
+    for key in keys {
+        commands.push(Command::Insert(key, value))?;
+        value = value.wrapping_add(1);
+    }
+    Ok(commands)
 }
 
 /// Copies of these keys.

@@ -1,7 +1,7 @@
 //! The check of trees that insertions make, and what counts of nodes are.
 ghost use Rattle.std.specs.Prelude.{◌<◌};
 
-use super::told::{Told, says};
+use super::told::{Told, check_says};
 use art_nodes::node::OpaqueNodePtr;
 use art_nodes::store::NodeStore;
 use art_operations::well_formed::{WellFormedChecker, WellFormedTreeStats};
@@ -28,8 +28,17 @@ fn counts_of<const P: usize>(
     root: OpaqueNodePtr,
     len: usize,
 ) -> Option<Counts> {
-    match WellFormedChecker::check(store, Some(root), len) {
-        Ok(stats) => counted(stats),
+    counted(stats_of(store, Some(root), len)?)
+}
+
+/// What the check counts. None where it finds a fault.
+fn stats_of<const P: usize>(
+    store: &NodeStore<Key, u32, P>,
+    root: Option<OpaqueNodePtr>,
+    len: usize,
+) -> Option<WellFormedTreeStats> {
+    match WellFormedChecker::check(store, root, len) {
+        Ok(stats) => Some(stats),
         Err(_) => None,
     }
 }
@@ -126,10 +135,8 @@ fn counts_below(
     root: Option<OpaqueNodePtr>,
     len: usize,
 ) -> Option<(usize, usize)> {
-    match WellFormedChecker::check(store, root, len) {
-        Ok(stats) => Some((stats.num_leaf, stats.num_inner)),
-        Err(_) => None,
-    }
+    let stats = stats_of(store, root, len)?;
+    Some((stats.num_leaf, stats.num_inner))
 }
 
 /// The same after all insertions and so many deletions. None where a reply is another.
@@ -140,11 +147,12 @@ fn counts_after(
 ) -> Option<(usize, usize)> {
     let bytes = all_bytes();
     let rows = insertions_and_deletions(first.alloc(), &bytes, deletions).ok()?;
-    let (left, root) = ran_from(first, second, None, &rows).ok()?;
-    if left.wrong.is_some() {
-        return None;
+    match ran_from(first, second, None, &rows) {
+        Ok((left, root)) if left.wrong.is_none() => {
+            counts_below(first, root, 256usize.saturating_sub(deletions))
+        }
+        _ => None,
     }
-    counts_below(first, root, 256usize.saturating_sub(deletions))
 }
 
 /// The same in stores of its own.
@@ -157,12 +165,13 @@ fn counts_left(alloc: Global, deletions: usize) -> Option<(usize, usize)> {
 }
 
 #[test]
-fn trees_are_well_formed_while_nodes_shrink(rt: HostRuntime) {
+fn trees_are_well_formed_while_nodes_shrink(rt: HostRuntime) -> Result<(), Fail> {
     for left in [0, 1, 2, 3, 4, 5, 15, 16, 17, 47, 48, 49, 255, 256] {
         let counts = counts_left(rt.alloc(), 256usize.saturating_sub(left));
         let inner = if left < 2 { 0 } else { 1 };
-        assert_eq!(rt; counts, Some((left, inner)));
+        same(counts, Some((left, inner)))?;
     }
+    Ok(())
 }
 
 /// Whether the check says what it should of so many pairs where there is no root.
@@ -171,7 +180,7 @@ fn without_root<const P: usize>(store: &NodeStore<Key, u32, P>, len: usize) -> b
         0 => Told::Whole(0, 0),
         _ => Told::LenOfNone,
     };
-    says(&WellFormedChecker::check(store, None, len), wanted)
+    check_says(store, None, len, wanted)
 }
 
 /// The same for three lengths, the first of which is none.

@@ -3,7 +3,7 @@
 //! holds then.
 ghost use Rattle.std.specs.Prelude.{◌<◌};
 
-use super::told::{Told, fault, named, says, told_by, told_by_fault};
+use super::told::{Told, check_says, fault, named, told_by, told_by_fault};
 use art_nodes::node::{NodeType, OpaqueNodePtr};
 use art_nodes::store::NodeStore;
 use art_operations::insert::InsertPrefixError;
@@ -21,16 +21,12 @@ use std::test::Fail;
 
 /// Whether a check is refused.
 fn is_refused<const P: usize>(store: &NodeStore<Key, u32, P>, root: OpaqueNodePtr) -> bool {
-    says(
-        &WellFormedChecker::check(store, Some(root), 0),
-        Told::OutOfMemory,
-    )
+    check_says(store, Some(root), 0, Told::OutOfMemory)
 }
 
 /// Whether there is no tree where there is no root, and a length of none is a fault. It takes no memory.
 fn is_told_without_root<const P: usize>(store: &NodeStore<Key, u32, P>) -> bool {
-    says(&WellFormedChecker::check(store, None, 0), Told::Whole(0, 0))
-        && says(&WellFormedChecker::check(store, None, 1), Told::LenOfNone)
+    check_says(store, None, 0, Told::Whole(0, 0)) && check_says(store, None, 1, Told::LenOfNone)
 }
 
 /// The same of a planted tree and of no root, while all memory is held.
@@ -110,7 +106,13 @@ fn what_comes<const P: usize>(
     root: OpaqueNodePtr,
     wanted: Told<'_>,
 ) -> Outcome {
-    match told_by(&WellFormedChecker::check_tree(store, root)) {
+    let answer = WellFormedChecker::check_tree(store, root);
+    outcome_of(told_by(&answer), wanted)
+}
+
+/// What comes of a check that tells this.
+fn outcome_of(told: Told<'_>, wanted: Told<'_>) -> Outcome {
+    match told {
         Told::OutOfMemory => Outcome::Refused,
         told if told == wanted => Outcome::Right,
         _ => Outcome::Wrong,
@@ -222,8 +224,14 @@ fn outcome_of_clone(is_right: Result<bool, AllocError>, is_kept: bool) -> Outcom
 /// fault itself is refused.
 fn clone_of(alloc: Global, told: Told<'_>) -> Option<Outcome> {
     let fault = fault(alloc, told).ok()?;
-    let is_same = fault.clone().map(|copy| copy == fault);
-    Some(outcome_of_clone(is_same, told_by_fault(&fault) == told))
+    let is_kept = told_by_fault(&fault) == told;
+    Some(outcome_of_clone(is_same_cloned(&fault), is_kept))
+}
+
+/// Whether a clone of a fault equals it.
+fn is_same_cloned(fault: &MalformedTreeError) -> Result<bool, AllocError> {
+    let copy = fault.clone()?;
+    Ok(copy == *fault)
 }
 
 /// The same of a prefix.

@@ -2,10 +2,9 @@
 ghost use Rattle.std.specs.Prelude.{◌<◌};
 
 use super::spoiling::{draw_keys, names_below, spoil};
-use super::told::{Told, named, says, slots};
+use super::told::{Told, check_tree_says, named, slots};
 use art_nodes::node::OpaqueNodePtr;
 use art_nodes::store::NodeStore;
-use art_operations::well_formed::WellFormedChecker;
 use art_oracle::verdicts::{Flaw, Verdict, judge};
 use art_test_support::expected::same;
 use art_test_support::numbers::Numbers;
@@ -64,7 +63,7 @@ fn number_if_same<const P: usize>(
 ) -> Result<Option<usize>, AllocError> {
     let verdict = judge(store, root, 10_000)?;
     let told = told_by_verdict(&verdict);
-    let is_same = says(&WellFormedChecker::check_tree(store, root), told);
+    let is_same = check_tree_says(store, root, told);
     Ok(is_same.then_some(number_of(told)))
 }
 
@@ -76,7 +75,7 @@ fn is_counted<const P: usize>(
 ) -> bool {
     let leaves = names.iter().filter(|name| name.as_leaf().is_some()).count();
     let told = Told::Whole(leaves, names.len().saturating_sub(leaves));
-    says(&WellFormedChecker::check_tree(store, root), told)
+    check_tree_says(store, root, told)
 }
 
 /// Checks a tree of nodes with these names, and checks it again once it is spoiled. Answers the number of what is told

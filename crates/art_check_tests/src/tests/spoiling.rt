@@ -166,14 +166,25 @@ fn spoil_leaf<const P: usize>(
         0 => store.set_links(name, link, next),
         1 => store.set_links(name, previous, link),
         2 => store.set_links(name, next, previous),
-        3 => {
-            let key = changed(leaf.key.clone()?, numbers)?;
-            store.swap_pair(name, key, 0);
-        }
+        3 => return spoil_key(store, name, numbers),
         _ => {
             store.free_leaf(name);
         }
     }
+    Ok(())
+}
+
+// Changes the key of a leaf.
+fn spoil_key<const P: usize>(
+    store: &mut NodeStore<Key, u32, P>,
+    name: LeafPtr,
+    numbers: &mut Numbers,
+) -> Result<(), AllocError> {
+    let Some(leaf) = store.leaf(name) else {
+        return Ok(());
+    };
+    let key = changed(leaf.key.clone()?, numbers)?;
+    store.swap_pair(name, key, 0);
     Ok(())
 }
 
@@ -209,8 +220,8 @@ fn spoil_inner<const P: usize>(
             drawn_name(names, name.to_opaque(), numbers),
         ),
         3 => drop_children(store, name, numbers),
-        4 | 5 => spoil_prefix(store, name, numbers)?,
-        6 => grow_child(store, name, numbers)?,
+        4 | 5 => return spoil_prefix(store, name, numbers),
+        6 => return grow_child(store, name, numbers),
         _ => {
             if store.inner(name).is_some() {
                 store.free_inner(name);

@@ -1,7 +1,11 @@
 //! What a check answers, as plain values.
 
 use art_nodes::node::{LeafPtr, NodeType, OpaqueNodePtr, OptionalLeafPtr};
-use art_operations::well_formed::{KeyPrefix, MalformedTreeError, WellFormedTreeStats};
+use art_nodes::store::NodeStore;
+use art_operations::well_formed::{
+    KeyPrefix, MalformedTreeError, WellFormedChecker, WellFormedTreeStats,
+};
+use art_test_support::trees::Key;
 use std::alloc::{AllocError, Global};
 use std::cmp::Ordering;
 
@@ -54,8 +58,27 @@ pub fn told_by(answer: &Result<WellFormedTreeStats, MalformedTreeError>) -> Told
 }
 
 /// Whether an answer says this.
-pub fn says(answer: &Result<WellFormedTreeStats, MalformedTreeError>, told: Told<'_>) -> bool {
+fn says(answer: &Result<WellFormedTreeStats, MalformedTreeError>, told: Told<'_>) -> bool {
     told_by(answer) == told
+}
+
+/// Whether the check of a tree, or of no tree, says this.
+pub fn check_says<const P: usize>(
+    store: &NodeStore<Key, u32, P>,
+    root: Option<OpaqueNodePtr>,
+    len: usize,
+    told: Told<'_>,
+) -> bool {
+    says(&WellFormedChecker::check(store, root, len), told)
+}
+
+/// Whether the check of a name says this.
+pub fn check_tree_says<const P: usize>(
+    store: &NodeStore<Key, u32, P>,
+    name: OpaqueNodePtr,
+    told: Told<'_>,
+) -> bool {
+    says(&WellFormedChecker::check_tree(store, name), told)
 }
 
 /// What a fault says.
@@ -125,55 +148,109 @@ fn link_to(slot: Option<usize>) -> OptionalLeafPtr {
     slot.map(LeafPtr::from_slot)
 }
 
+// Copies of two lists of bytes.
+fn copies(alloc: Global, first: &[u8], second: &[u8]) -> Result<(Vec<u8>, Vec<u8>), AllocError> {
+    Ok((first.to_vec(alloc)?, second.to_vec(alloc)?))
+}
+
 /// The fault that says this. What is told of no fault has that of want of memory.
 pub fn fault(alloc: Global, told: Told<'_>) -> Made {
-    Ok(match told {
-        Told::Loop(name, first, later) => MalformedTreeError::LoopFound {
-            node_ptr: name_of(name),
-            first_observed: KeyPrefix::from_slice(alloc, first)?,
-            later_observed: KeyPrefix::from_slice(alloc, later)?,
-        },
-        Told::Count(place, inner_node_type, num_children) => {
-            MalformedTreeError::WrongChildrenCount {
-                key_prefix: KeyPrefix::from_slice(alloc, place)?,
-                inner_node_type,
-                num_children,
-            }
+    match told {
+        Told::Loop(name, first, later) => a_loop(alloc, name, first, later),
+        Told::Count(place, kind, count) => wrong_count(alloc, place, kind, count),
+        Told::Prefix(place, key) => another_key(alloc, place, key),
+        Told::LenOfNone => Ok(MalformedTreeError::EmptyTreeWithLen),
+        Told::Order(sibling, key, expected, actual) => {
+            wrong_order(alloc, (sibling, key), expected, actual)
         }
-        Told::Prefix(place, key) => MalformedTreeError::PrefixMismatch {
-            expected_prefix: KeyPrefix::from_slice(alloc, place)?,
-            entire_key: key.to_vec(alloc)?,
-        },
-        Told::LenOfNone => MalformedTreeError::EmptyTreeWithLen,
-        Told::Order(sibling, key, expected_order, actual_order) => {
-            MalformedTreeError::LeafSiblingWrongOrder {
-                sibling_key: sibling.to_vec(alloc)?,
-                leaf_key: key.to_vec(alloc)?,
-                expected_order,
-                actual_order,
-            }
-        }
-        Told::Links(key, expected, actual) => MalformedTreeError::WrongSiblingLinks {
-            leaf_key: key.to_vec(alloc)?,
-            expected_previous: link_to(expected.0),
-            expected_next: link_to(expected.1),
-            actual_previous: link_to(actual.0),
-            actual_next: link_to(actual.1),
-        },
-        Told::Dead(place, name) => MalformedTreeError::DeadName {
-            key_prefix: KeyPrefix::from_slice(alloc, place)?,
-            name: name_of(name),
-        },
-        Told::Unreadable(place, name) => MalformedTreeError::UnreadablePrefix {
-            key_prefix: KeyPrefix::from_slice(alloc, place)?,
-            name: name_of(name),
-        },
-        Told::Stored(place, stored, actual) => MalformedTreeError::StoredPrefixMismatch {
-            key_prefix: KeyPrefix::from_slice(alloc, place)?,
-            stored: stored.to_vec(alloc)?,
-            actual: actual.to_vec(alloc)?,
-        },
-        Told::Whole(..) | Told::OutOfMemory => MalformedTreeError::OutOfMemory,
+        Told::Links(key, expected, actual) => wrong_links(alloc, key, expected, actual),
+        Told::Dead(place, name) => dead_name(alloc, place, name),
+        Told::Unreadable(place, name) => unreadable(alloc, place, name),
+        Told::Stored(place, stored, actual) => wrongly_stored(alloc, place, stored, actual),
+        Told::Whole(..) | Told::OutOfMemory => Ok(MalformedTreeError::OutOfMemory),
+    }
+}
+
+fn a_loop(alloc: Global, name: Named, first: &[u8], later: &[u8]) -> Made {
+    let first_observed = KeyPrefix::from_slice(alloc, first)?;
+    Ok(MalformedTreeError::LoopFound {
+        node_ptr: name_of(name),
+        first_observed,
+        later_observed: KeyPrefix::from_slice(alloc, later)?,
+    })
+}
+
+fn wrong_count(
+    alloc: Global,
+    place: &[u8],
+    inner_node_type: NodeType,
+    num_children: usize,
+) -> Made {
+    let key_prefix = KeyPrefix::from_slice(alloc, place)?;
+    Ok(MalformedTreeError::WrongChildrenCount {
+        key_prefix,
+        inner_node_type,
+        num_children,
+    })
+}
+
+fn another_key(alloc: Global, place: &[u8], key: &[u8]) -> Made {
+    let expected_prefix = KeyPrefix::from_slice(alloc, place)?;
+    Ok(MalformedTreeError::PrefixMismatch {
+        expected_prefix,
+        entire_key: key.to_vec(alloc)?,
+    })
+}
+
+fn wrong_order(
+    alloc: Global,
+    (sibling, key): (&[u8], &[u8]),
+    expected_order: Ordering,
+    actual_order: Ordering,
+) -> Made {
+    let (sibling_key, leaf_key) = copies(alloc, sibling, key)?;
+    Ok(MalformedTreeError::LeafSiblingWrongOrder {
+        sibling_key,
+        leaf_key,
+        expected_order,
+        actual_order,
+    })
+}
+
+fn wrong_links(alloc: Global, key: &[u8], expected: Links, actual: Links) -> Made {
+    let leaf_key = key.to_vec(alloc)?;
+    Ok(MalformedTreeError::WrongSiblingLinks {
+        leaf_key,
+        expected_previous: link_to(expected.0),
+        expected_next: link_to(expected.1),
+        actual_previous: link_to(actual.0),
+        actual_next: link_to(actual.1),
+    })
+}
+
+fn dead_name(alloc: Global, place: &[u8], name: Named) -> Made {
+    let key_prefix = KeyPrefix::from_slice(alloc, place)?;
+    Ok(MalformedTreeError::DeadName {
+        key_prefix,
+        name: name_of(name),
+    })
+}
+
+fn unreadable(alloc: Global, place: &[u8], name: Named) -> Made {
+    let key_prefix = KeyPrefix::from_slice(alloc, place)?;
+    Ok(MalformedTreeError::UnreadablePrefix {
+        key_prefix,
+        name: name_of(name),
+    })
+}
+
+fn wrongly_stored(alloc: Global, place: &[u8], stored: &[u8], actual: &[u8]) -> Made {
+    let key_prefix = KeyPrefix::from_slice(alloc, place)?;
+    let (stored, actual) = copies(alloc, stored, actual)?;
+    Ok(MalformedTreeError::StoredPrefixMismatch {
+        key_prefix,
+        stored,
+        actual,
     })
 }
 

@@ -200,9 +200,9 @@ fn orders_seen(alloc: Global) -> Option<[bool; 4]> {
 }
 
 #[test]
-fn key_prefixes_hold_their_bytes(rt: HostRuntime) {
-    assert_eq!(rt; prefixes_seen(rt.alloc()), Some([[true; 4]; 2]));
-    assert_eq!(rt; orders_seen(rt.alloc()), Some([true, true, true, false]));
+fn key_prefixes_hold_their_bytes(rt: HostRuntime) -> Result<(), Fail> {
+    same(prefixes_seen(rt.alloc()), Some([[true; 4]; 2]))?;
+    same(orders_seen(rt.alloc()), Some([true, true, true, false]))
 }
 
 /// Whether a clone of an error about these bytes equals it.

@@ -55,7 +55,10 @@ fn prints_names(rt: HostRuntime) -> Result<(), Fail> {
     ];
     for (kind, slot, text) in wanted {
         let name = OpaqueNodePtr::from_parts(kind, slot);
-        assert_eq!(rt; prints_as(rt.alloc(), name, text)?, [true; 2], "{text}");
+        same(
+            (text, prints_as(rt.alloc(), name, text)?),
+            (text, [true; 2]),
+        )?;
     }
     Ok(())
 }
@@ -122,22 +125,20 @@ fn knows_each_range(rt: HostRuntime) -> Result<(), Fail> {
 }
 
 #[test]
-fn makes_a_leaf(rt: HostRuntime) {
+fn makes_a_leaf() -> Result<(), Fail> {
     let leaf = LeafNode::with_no_siblings([1, 2, 3], 7u32);
-    assert_eq!(rt;
+    same(
         (*leaf.key_ref(), *leaf.value_ref(), leaf.previous, leaf.next),
-        ([1, 2, 3], 7, None, None)
-    );
-    assert_eq!(rt;
-        [
-            leaf.key_ref().as_bytes() == [1, 2, 3].as_slice(),
-            leaf.matches_full_key(&[1, 2, 3]),
-            leaf.matches_full_key(&[1, 2]),
-            leaf.matches_full_key(&[1, 2, 3, 4]),
-            leaf.matches_full_key(&[1, 2, 4]),
-        ],
-        [true, true, false, false, false]
-    );
+        ([1, 2, 3], 7, None, None),
+    )?;
+    let matches = [
+        leaf.key_ref().as_bytes() == [1, 2, 3].as_slice(),
+        leaf.matches_full_key(&[1, 2, 3]),
+        leaf.matches_full_key(&[1, 2]),
+        leaf.matches_full_key(&[1, 2, 3, 4]),
+        leaf.matches_full_key(&[1, 2, 4]),
+    ];
+    same(matches, [true, true, false, false, false])
 }
 
 // Whether a prefix has this length, and whether these of its bytes are stored.
@@ -228,15 +229,15 @@ fn extends_a_prefix(rt: HostRuntime) -> Result<(), Fail> {
 }
 
 #[test]
-fn empties_a_prefix(rt: HostRuntime) {
+fn empties_a_prefix() -> Result<(), Fail> {
     let mut whole = Header::<4>::new(&[1, 2, 3], 3);
     let mut front = Header::<2>::new(&[1, 2], 5);
     let told = (whole.clear_prefix(), front.clear_prefix());
-    assert_eq!(rt; told, (([1, 2, 3, 0], 3, 3), ([1, 2], 5, 2)));
-    assert_eq!(rt;
+    same(told, (([1, 2, 3, 0], 3, 3), ([1, 2], 5, 2)))?;
+    same(
         [reads_as(whole, 0, &[]), reads_as(front, 0, &[])],
-        [[true; 2]; 2]
-    );
+        [[true; 2]; 2],
+    )
 }
 
 // A walk over the children comes by what a look-up finds.
@@ -533,7 +534,7 @@ fn made(kind: NodeType) -> Option<(NodeType, bool, Reading)> {
 }
 
 #[test]
-fn reads_a_node_of_any_kind(rt: HostRuntime) {
+fn reads_a_node_of_any_kind() -> Result<(), Fail> {
     let kinds = [
         NodeType::Node4,
         NodeType::Node16,
@@ -550,8 +551,9 @@ fn reads_a_node_of_any_kind(rt: HostRuntime) {
             ends: Some([(0, name(0)), (255, name(255))]),
             walks: [true; 3],
         };
-        assert_eq!(rt; made(kind), Some((kind, true, expected)));
+        same(made(kind), Some((kind, true, expected)))?;
     }
+    Ok(())
 }
 
 // A node of the next larger kind, where this one is full and not of the largest.

@@ -1,5 +1,3 @@
-#![tactic(auto, using(crate::proofs::Laws::leaf_laws, crate::proofs::Laws::inner_laws))]
-
 ghost use Rattle.std.specs.Prelude.{◌≡◌, ◌≢◌, Some, None, IsSome, IfSome, IfOk};
 ghost use Rattle.std.specs.FinMap as map;
 ghost use Rattle.art_inner.specs.Changes.{with_child};
@@ -31,6 +29,7 @@ fn node4(prefix: &[u8; 2]) -> AnyInner<2> {
 }
 
 // A caller: places a leaf and links it behind another one.
+#[tactic(auto, using(crate::proofs::Laws::leaf_laws))]
 fn place_behind<K: AsBytes + Drop, V: Drop, const P: usize>(
     store: &mut NodeStore<K, V, P>,
     last: LeafPtr,
@@ -47,6 +46,7 @@ fn place_behind<K: AsBytes + Drop, V: Drop, const P: usize>(
 }
 
 // A caller: frees one leaf and gives its pair to another, whose pair it answers.
+#[tactic(auto, using(crate::proofs::Laws::leaf_laws))]
 fn move_pair<K: AsBytes + Drop, V: Drop, const P: usize>(
     store: &mut NodeStore<K, V, P>,
     from: LeafPtr,
@@ -63,6 +63,7 @@ fn move_pair<K: AsBytes + Drop, V: Drop, const P: usize>(
 }
 
 // A caller: gives a leaf another value and then the old one again; no other leaf has changed.
+#[tactic(auto, using(crate::proofs::Laws::leaf_laws))]
 fn try_value<K: AsBytes + Drop, V: Drop, const P: usize>(
     store: &mut NodeStore<K, V, P>,
     leaf: LeafPtr,
@@ -79,6 +80,7 @@ fn try_value<K: AsBytes + Drop, V: Drop, const P: usize>(
 }
 
 // A caller: places a node with one child.
+#[tactic(auto, using(crate::proofs::Laws::inner_laws))]
 fn place_above<K: AsBytes + Drop, V: Drop, const P: usize>(
     store: &mut NodeStore<K, V, P>,
     header: Header<P>,
@@ -96,6 +98,7 @@ fn place_above<K: AsBytes + Drop, V: Drop, const P: usize>(
 }
 
 // A caller: frees one inner node and gives its header to another.
+#[tactic(auto, using(crate::proofs::Laws::inner_laws))]
 fn move_header<K: AsBytes + Drop, V: Drop, const P: usize>(
     store: &mut NodeStore<K, V, P>,
     from: InnerPtr,
@@ -128,6 +131,7 @@ fn cut_child<K: AsBytes + Drop, V: Drop, const P: usize>(
 }
 
 // A caller: no placement is refused that the promise covers.
+#[tactic(auto, using(crate::proofs::Laws::leaf_laws))]
 fn place_promised<K: AsBytes + Drop, V: Drop, const P: usize>(
     store: &mut NodeStore<K, V, P>,
     leaves: (LeafNode<K, V>, LeafNode<K, V>),
@@ -223,6 +227,7 @@ fn inner_seen(store: &Store, name: InnerPtr, byte: u8) -> Option<SeenInner> {
 }
 
 // Places a leaf.
+#[tactic(auto, using(crate::proofs::Laws::leaf_laws))]
 fn place(store: &mut Store, leaf: LeafNode<[u8; 1], u32>) -> Result<LeafPtr, AllocError>
     ensures { IfOk result (λ name. IsSome (map.get store.new.leaves name)) }
 {
@@ -257,6 +262,7 @@ fn a_store_hands_out_its_allocator(rt: HostRuntime) -> Result<(), Fail> {
 }
 
 // Places a leaf and another one behind it, and answers both names.
+#[tactic(auto, using(crate::proofs::Laws::leaf_laws))]
 fn place_pair(store: &mut Store) -> Result<(LeafPtr, LeafPtr), AllocError>
     ensures first { IfOk result (λ names. IsSome (map.get store.new.leaves names.0)) }
     ensures second { IfOk result (λ names. IsSome (map.get store.new.leaves names.1)) }
@@ -318,6 +324,7 @@ fn a_leaf_is_given_another_value(rt: HostRuntime) -> Result<(), Fail> {
 }
 
 // Places a node with this child under 3 and one with none, and answers both names.
+#[tactic(auto, using(crate::proofs::Laws::inner_laws))]
 fn place_two(store: &mut Store, child: OpaqueNodePtr) -> Result<(InnerPtr, InnerPtr), AllocError>
     ensures lower { IfOk result (λ names. IsSome (map.get store.new.inners names.0)) }
     ensures upper { IfOk result (λ names. IsSome (map.get store.new.inners names.1)) }

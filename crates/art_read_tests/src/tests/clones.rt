@@ -224,12 +224,13 @@ fn cloned_of(alloc: Global, number: usize) -> Option<Cloned> {
 static COUNTS: [(usize, usize); 6] = [(24, 17), (3, 1), (324, 19), (127, 126), (27, 13), (1, 0)];
 
 #[test]
-fn a_clone_is_the_same_tree(rt: HostRuntime) {
+fn a_clone_is_the_same_tree(rt: HostRuntime) -> Result<(), Fail> {
     let alloc = rt.alloc();
     for (number, counts) in COUNTS.iter().enumerate() {
         let wanted = (*counts, true, [Some(true); 2]);
-        assert_eq!(rt; cloned_of(alloc, number), Some(wanted), "tree {number}");
+        same((number, cloned_of(alloc, number)), (number, Some(wanted)))?;
     }
+    Ok(())
 }
 
 // A clone that may be refused.

@@ -12,14 +12,16 @@ pub fn first_wrong<const P: usize>(
     names: &[OpaqueNodePtr],
     nodes: &[Plain<'_>],
 ) -> Option<usize> {
-    let wrong = names
-        .iter()
-        .zip(nodes)
-        .position(|(name, node)| !has_wanted(store, names, *name, *node));
-    if wrong.is_some() || names.len() == nodes.len() {
-        return wrong;
+    let count = names.len().min(nodes.len());
+    for at in 0..count {
+        if !has_wanted(store, names, names[at], nodes[at]) {
+            return Some(at);
+        }
     }
-    Some(names.len().min(nodes.len()))
+    if names.len() == nodes.len() {
+        return None;
+    }
+    Some(count)
 }
 
 // Whether a store has the wanted node under a name.
@@ -83,10 +85,13 @@ fn has_children<const P: usize>(
     children: &[(u8, usize)],
     names: &[OpaqueNodePtr],
 ) -> bool {
-    for ((byte, child), (wanted, at)) in found.iter().zip(children) {
-        if byte != *wanted || names.get(*at).copied() != Some(child) {
-            return false;
+    let mut number = 0usize;
+    for (byte, child) in found.iter() {
+        match children.get(number) {
+            Some((wanted, at)) if *wanted == byte && names.get(*at) == Some(&child) => {}
+            _ => return false,
         }
+        number = number.saturating_add(1);
     }
-    found.iter().count() == children.len()
+    number == children.len()
 }

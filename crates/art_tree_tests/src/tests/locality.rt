@@ -17,6 +17,26 @@ use std::test::Fail;
 /// How many names came into use, went out of it, and have another node.
 type Touched = (usize, usize, usize);
 
+// Asks a command, with a second store for the run alone, and answers the root. None where the reply is not the one of the
+// row, or the tree came into the second store.
+fn root_after<const P: usize>(
+    store: &mut NodeStore<Key, u32, P>,
+    second: &mut NodeStore<Key, u32, P>,
+    root: Option<OpaqueNodePtr>,
+    row: Row<'_>,
+) -> Option<Option<OpaqueNodePtr>>
+    requires { HasTree P store.old root }
+    ensures { IfSome result (λ root. HasTree P store.new root) }
+{
+    match ran_from(store, second, root, &[row]) {
+        Ok((left, new_root)) => match (left.side, left.wrong) {
+            (Side::First, None) => Some(new_root),
+            _ => None,
+        },
+        Err(_) => None,
+    }
+}
+
 // Asks a command, with a second store for the run alone. Answers what it touches in the first, which had these nodes. None
 // where the reply is not the one of the row.
 fn touched_since<const P: usize>(
@@ -29,14 +49,8 @@ fn touched_since<const P: usize>(
     requires { HasTree P store.old root.old }
     ensures { IfSome result (λ _. HasTree P store.new root.new) }
 {
-    let (left, new_root) = ran_from(store, second, *root, &[row]).ok()?;
-    match left.side {
-        Side::First if left.wrong.is_none() => {
-            *root = new_root;
-            Some(count_touched(store, before))
-        }
-        _ => None,
-    }
+    *root = root_after(store, second, *root, row)?;
+    Some(count_touched(store, before))
 }
 
 // What a command touches. None where the reply is not the one of the row.
@@ -77,15 +91,28 @@ fn keeps_key<const P: usize>(store: &NodeStore<Key, u32, P>, seen: &Seen) -> boo
     }
 }
 
+// The same of all these.
+fn keep_keys<const P: usize>(store: &NodeStore<Key, u32, P>, before: &[Seen]) -> bool {
+    for seen in before {
+        if !keeps_key(store, seen) {
+            return false;
+        }
+    }
+    true
+}
+
 // Whether a name had a node, and has another one or none.
 fn is_changed<const P: usize>(
     store: &NodeStore<Key, u32, P>,
     before: &[Seen],
     name: OpaqueNodePtr,
 ) -> bool {
-    before
-        .iter()
-        .any(|seen| seen.name() == name && !is_still(store, seen))
+    for seen in before {
+        if seen.name() == name && !is_still(store, seen) {
+            return true;
+        }
+    }
+    false
 }
 
 // What is seen where the insertion touched this.
@@ -100,7 +127,7 @@ fn behind_seen<const P: usize>(
         touched,
         is_root_changed: is_changed(store, before, root),
         is_last_changed: is_changed(store, before, last),
-        keeps_keys: before.iter().all(|seen| keeps_key(store, seen)),
+        keeps_keys: keep_keys(store, before),
     }
 }
 

@@ -115,10 +115,14 @@ static ODD: [Row<'static>; 5] = [
 ];
 
 #[test]
-fn odd_trees_are_read_back(rt: HostRuntime) {
-    for row in &ODD {
-        assert_eq!(rt; wrong_at_each(rt.alloc(), *row), [Some(None); 2]);
+fn odd_trees_are_read_back(rt: HostRuntime) -> Result<(), Fail> {
+    for (number, row) in ODD.iter().enumerate() {
+        same(
+            (number, wrong_at_each(rt.alloc(), *row)),
+            (number, [Some(None); 2]),
+        )?;
     }
+    Ok(())
 }
 
 /// A root with a prefix of 20 bytes, of which these are the first or all, above two leaves.

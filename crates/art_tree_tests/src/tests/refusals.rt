@@ -8,6 +8,7 @@ use art_nodes::node::{LeafPtr, OpaqueNodePtr};
 use art_nodes::store::NodeStore;
 use art_operations::run::{Command, Reply, RunResult, run};
 use art_test_support::commands::{Asked, Row, Told, ran_from};
+use art_test_support::expected::same;
 use art_test_support::shapes::count_nodes;
 use art_test_support::trees::{Key, planted_all, planted_keys};
 use std::alloc::{AllocError, Global};
@@ -107,7 +108,7 @@ fn refused_commands_leave_the_tree_of_the_others(rt: HostRuntime) -> Result<(), 
     match run_insertions_with(rt.alloc()) {
         None => {}
         Some(Outcome::HandedBack(count, is_empty)) => {
-            assert_eq!(rt; (count, is_empty), (6, true));
+            same((count, is_empty), (6, true))?;
             println!(rt; "asserted")?;
         }
         Some(Outcome::Ran(tally, leaves)) => {
@@ -115,7 +116,7 @@ fn refused_commands_leave_the_tree_of_the_others(rt: HostRuntime) -> Result<(), 
                 .inserted
                 .saturating_add(tally.refused)
                 .saturating_add(tally.conflicts);
-            assert_eq!(rt; (tally.replies, told, leaves), (6, 6, Some(tally.inserted)));
+            same((tally.replies, told, leaves), (6, 6, Some(tally.inserted)))?;
             assert!(rt; tally.conflicts <= 1);
             if tally.refused != 0 {
                 println!(rt; "asserted")?;
@@ -128,6 +129,20 @@ fn refused_commands_leave_the_tree_of_the_others(rt: HostRuntime) -> Result<(), 
 /// A clone that is refused.
 static NO_CLONE: [Row<'static>; 1] = [(Asked::Clone, Told::NoMemory(None))];
 
+// Asks for a clone. Answers whether it was refused, and nothing else.
+fn is_clone_refused<const P: usize>(
+    first: &mut NodeStore<Key, u32, P>,
+    second: &mut NodeStore<Key, u32, P>,
+    root: OpaqueNodePtr,
+) -> bool
+    requires { IsCanonicalRoot (of_key (λ key. key.items)) P first.old root }
+{
+    match ran_from(first, second, Some(root), &NO_CLONE) {
+        Ok((left, _)) => left.wrong.is_none(),
+        Err(_) => false,
+    }
+}
+
 // How many nodes the first store has before a clone that is refused, and the first and the second have after it. None
 // where the clone was not refused, or something else was.
 fn counts_at_refused_clone<const P: usize>(
@@ -136,11 +151,10 @@ fn counts_at_refused_clone<const P: usize>(
 ) -> Option<[(usize, usize); 3]> {
     let root = planted_all(first, &SIX).ok()??;
     let before = count_nodes(first, 6);
-    let (left, _) = ran_from(first, second, Some(root), &NO_CLONE).ok()?;
-    match left.wrong {
-        None => Some([before, count_nodes(first, 6), count_nodes(second, 6)]),
-        Some(_) => None,
+    if !is_clone_refused(first, second, root) {
+        return None;
     }
+    Some([before, count_nodes(first, 6), count_nodes(second, 6)])
 }
 
 // The same in stores of its own.
@@ -152,7 +166,7 @@ fn counts_with(alloc: Global) -> Option<[(usize, usize); 3]> {
 fn refused_clones_leave_both_stores(rt: HostRuntime) -> Result<(), Fail> {
     if let Some(counts) = counts_with(rt.alloc()) {
         let [before, first, second] = counts;
-        assert_eq!(rt; [first, second], [before, (0, 0)]);
+        same([first, second], [before, (0, 0)])?;
         println!(rt; "asserted")?;
     }
     Ok(())
@@ -177,6 +191,13 @@ fn keys_up_to(alloc: Global, last: u8) -> Result<Vec<Key>, AllocError> {
     Ok(keys)
 }
 
+// The overwrite of all keys, with the value 7.
+fn overwrite_alone(alloc: Global) -> Result<Vec<Command<Key, u32>>, AllocError> {
+    let mut commands = Vec::new(alloc);
+    commands.push(Command::InsertPrefix(Vec::new(alloc), 7))?;
+    Ok(commands)
+}
+
 // What comes of an overwrite by these replies. `is_kept` says whether there are as many nodes as before, under the same
 // root; `left` is how many there are.
 fn overwrite_told(replies: &[Reply<Key, u32>], is_kept: bool, left: (usize, usize)) -> Overwrite {
@@ -187,6 +208,18 @@ fn overwrite_told(replies: &[Reply<Key, u32>], is_kept: bool, left: (usize, usiz
     }
 }
 
+// What comes of an overwrite that was run and left this, where there was this root and so many nodes.
+fn overwrite_left<const P: usize>(
+    store: &NodeStore<Key, u32, P>,
+    done: &RunResult<Key, u32>,
+    root: OpaqueNodePtr,
+    before: (usize, usize),
+) -> Overwrite {
+    let after = count_nodes(store, 20);
+    let is_kept = after == before && done.root == Some(root);
+    overwrite_told(&done.replies, is_kept, after)
+}
+
 // Overwrites a whole tree, with the value 7. None where a refusal fell outside the run.
 fn overwrite_all<const P: usize>(
     first: &mut NodeStore<Key, u32, P>,
@@ -195,16 +228,10 @@ fn overwrite_all<const P: usize>(
 ) -> Option<Overwrite>
     requires { IsCanonicalRoot (of_key (λ key. key.items)) P first.old root }
 {
-    let alloc = first.alloc();
     let before = count_nodes(first, 20);
-    let overwrite = Command::InsertPrefix(Vec::new(alloc), 7);
-    let asked = Vec::from_array(alloc, [overwrite]).ok()?;
+    let asked = overwrite_alone(first.alloc()).ok()?;
     match run(first, second, Some(root), asked) {
-        Ok(done) => {
-            let after = count_nodes(first, 20);
-            let is_kept = after == before && done.root == Some(root);
-            Some(overwrite_told(&done.replies, is_kept, after))
-        }
+        Ok(done) => Some(overwrite_left(first, &done, root, before)),
         Err(_) => None,
     }
 }
@@ -234,7 +261,7 @@ fn refused_overwrites_leave_the_tree(rt: HostRuntime) -> Result<(), Fail> {
                 assert!(rt; is_kept);
                 println!(rt; "asserted")?;
             }
-            Some(made) => assert_eq!(rt; made, Overwrite::Made((1, 0))),
+            Some(made) => same(made, Overwrite::Made((1, 0)))?,
         }
     }
     Ok(())

@@ -4,6 +4,7 @@ ghost use Rattle.std.specs.Prelude.{◌<◌};
 use super::trees::{Shape, shape_of};
 use art_nodes::node::NodeType::{Node4, Node16, Node256};
 use art_nodes::store::NodeStore;
+use art_test_support::expected::same;
 use art_test_support::trees::{Key, keys_of_three, keys_of_zeros, planted_keys};
 use std::alloc::Global;
 use std::test::Fail;
@@ -80,7 +81,7 @@ fn shape_with_each(alloc: Global, keys: Keys) -> Result<[Option<Shape>; 4], Fail
 #[test]
 fn trees_have_their_shapes(rt: HostRuntime) -> Result<(), Fail> {
     for (keys, shape) in &TREES {
-        assert_eq!(rt; shape_with_each(rt.alloc(), *keys)?, [Some(*shape); 4]);
+        same(shape_with_each(rt.alloc(), *keys)?, [Some(*shape); 4])?;
     }
     Ok(())
 }

@@ -1,10 +1,7 @@
 use Rattle.std.proofs.Common.{rules, ◌≡◌, ◌≤◌, ◌<◌, ◌+◌, ◌∷◌, [], ◌++◌, length, take, drop, arith, sym, ap, ◌∙◌, subst, inl}
 use Rattle.std.proofs.lemmas.Grind.{common_steps}
 use Rattle.art_inner.specs.Changes.{with_child}
-use Rattle.art_nodes.proofs.StoreLaws.{inner_here}
-use Rattle.art_model.specs.Pairs.{of_key}
-use Rattle.art_model.specs.Trees.{byte_at, kind_of}
-use Rattle.art_oracle.specs.Build.{Ready, ReadyBelow, AreBelow, Built, BuiltUnder, count_groups, started}
+use Rattle.art_oracle.specs.Build.{Ready, ReadyBelow, AreBelow, Built, BuiltUnder, count_groups}
 use Rattle.art_oracle.proofs.Counting.{count_few}
 use Rattle.art_oracle.proofs.Grouping.{grouped, group_ready, others_ready, compose, empty_below, below_others, length-drafted, count_split, one_in_group}
 use Rattle.art_oracle.proofs.Placing.{kind_not_leaf, leaf_built, finished_built, placed_childless, finished_kept, placed_ready, placed_there, two_below}

@@ -1,9 +1,28 @@
 use Rattle.std.proofs.Common.{rules, ◌≡◌, ◌≤◌, [], length, ap, sym, ◌∙◌, subst, arith}
 use Rattle.std.proofs.lemmas.Grind.{common_steps}
+use Rattle.std.proofs.lemmas.List.{nil_from_length}
+use Rattle.std.proofs.lemmas.Bool.{eqb-true}
 use Rattle.art_oracle.specs.Build.{Built}
 use Rattle.art_oracle.proofs.Leaves.{pairs_long}
-use Rattle.art_oracle.proofs.Whole.{has_leaves, leaves_ready, whole_kept, whole_tree, whole_added, whole_fresh}
+use Rattle.art_oracle.proofs.Whole.{has_leaves, has_none, leaves_kept, leaves_added, leaves_ready, whole_kept, whole_tree, whole_added, whole_fresh}
 use Rattle.art_oracle.proofs.build.build.Goals as goal
+
+pub returns-then-is_empty : goal.returns-then-is_empty
+returns-then-is_empty g c =
+    let names = c.in_ok-names.names.items in
+    let H = has_none c.args.store.now c.place_leaves.new.store names c.args.pairs.items
+    (nil_from_length names (sym c.in_ok-names.names.ok.0 ∙ eqb-true c.in_ok-names.names.len 0 (sym c.is_empty.ensures ∙ c.if-is_empty.true)))
+    c.in_ok-names.ensures.placed c.in_ok-names.ensures.inners in
+    record {
+      canonical = sym H.placed.its;
+      kept = leaves_kept H;
+      names = leaves_added H;
+      fresh = λ name none. absurd none;
+    }
+
+pub link_leaves-requires : goal.link_leaves-requires
+link_leaves-requires g c =
+    (search rules, (rw c.as_slice.ensures.value c.in_ok-names.ensures.placed.there, rw c.as_slice.ensures.value c.in_ok-names.ensures.placed.distinct))
 
 pub build_node-requires : goal.build_node-requires
 build_node-requires g c =

@@ -24,3 +24,9 @@ returns-in-Err-clause-pairs g c = sym (removed_none g.K.AsBytes.bytes c.args.pai
 
 pub returns-in-Err-clause-old : goal.returns-in-Err-clause-old
 returns-in-Err-clause-old g c = with_none g.K.AsBytes.bytes c.args.pairs.now.items c.in-Err.field-0 _ (search rules) (rw c.deref.ensures.value at c.in-Err.ensures.absent)
+
+pub returns-in-Err-clause-map : goal.returns-in-Err-clause-map
+returns-in-Err-clause-map g c = c.requires
+
+pub search-requires : goal.search-requires
+search-requires g c = rw c.deref.ensures.value c.requires

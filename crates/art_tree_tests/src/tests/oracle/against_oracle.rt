@@ -11,11 +11,11 @@ use art_nodes::store::NodeStore;
 use art_operations::run::{Command, Reply, Side, run};
 use art_oracle::build::build;
 use art_test_support::commands::first_apart;
+use art_test_support::expected::same;
 use art_test_support::side_by_side::kind_if_same;
 use art_test_support::tagged::Tagged;
 use std::alloc::{AllocError, Global};
 use std::mem;
-use std::process::Abort;
 use std::test::Fail;
 
 fn copy_of(command: &Command<Tagged, u32>) -> Result<Command<Tagged, u32>, AllocError> {
@@ -38,6 +38,26 @@ struct Hundred {
     replies: Vec<Reply<Tagged, u32>>,
 }
 
+impl Hundred {
+    /// Draws one command more, and carries it out on a list.
+    fn draw(
+        &mut self,
+        drawer: &mut Drawer,
+        drawn: &mut Drawn,
+        pairs: &mut Vec<(Tagged, u32)>,
+        is_growing: bool,
+    ) -> Result<(), AllocError>
+        requires { IsMap (of_key ⟦<Tagged as AsBytes>⟧.bytes) pairs.old.items }
+        ensures { IsMap (of_key ⟦<Tagged as AsBytes>⟧.bytes) pairs.new.items }
+    {
+        let command = drawer.command(pairs, is_growing)?;
+        drawn.count(&command);
+        self.commands.push(copy_of(&command)?)?;
+        self.replies.push(answer(drawer.alloc(), pairs, command)?)?;
+        Ok(())
+    }
+}
+
 /// Draws a hundred commands, and carries them out on a list.
 fn draw_hundred(
     drawer: &mut Drawer,
@@ -49,15 +69,14 @@ fn draw_hundred(
     ensures { IsMap (of_key ⟦<Tagged as AsBytes>⟧.bytes) pairs.new.items }
 {
     let alloc = drawer.alloc();
-    let mut commands = Vec::new(alloc);
-    let mut replies = Vec::new(alloc);
+    let mut hundred = Hundred {
+        commands: Vec::new(alloc),
+        replies: Vec::new(alloc),
+    };
     for _ in 0..100 {
-        let command = drawer.command(pairs, is_growing)?;
-        drawn.count(&command);
-        commands.push(copy_of(&command)?)?;
-        replies.push(answer(alloc, pairs, command)?)?;
+        hundred.draw(drawer, drawn, pairs, is_growing)?;
     }
-    Ok(Hundred { commands, replies })
+    Ok(hundred)
 }
 
 /// The replies to commands on a tree. The store that it is in at the end comes to be the first.
@@ -159,7 +178,6 @@ impl Met {
 /// Carries 10,000 commands out, with a comparison after each hundred. The pairs grow for 1,300 commands and then shrink
 /// for 700.
 fn check<const P: usize>(
-    rt: &impl Abort,
     first: &mut NodeStore<Tagged, u32, P>,
     second: &mut NodeStore<Tagged, u32, P>,
     shape: KeyShape,
@@ -178,7 +196,7 @@ fn check<const P: usize>(
         let is_growing = turn % 20 < 13;
         let hundred = draw_hundred(&mut drawer, &mut met.drawn, &mut pairs, is_growing)?;
         let (other, kind) = carry_out(first, second, &mut root, hundred, &pairs)?;
-        assert_eq!(rt; other, None);
+        same(other, None)?;
         met.most_pairs = met.most_pairs.max(pairs.len());
         met.greatest_kind = met.greatest_kind.max(kind.ok_or("another tree")?);
         met.was_empty |= root.is_none();
@@ -188,40 +206,33 @@ fn check<const P: usize>(
 
 /// Whether a trial is wide.
 fn is_wide<const P: usize>(
-    rt: &impl Abort,
     first: &mut NodeStore<Tagged, u32, P>,
     shape: KeyShape,
     greatest_kind: NodeType,
 ) -> Result<bool, Fail> {
     let alloc = first.alloc();
-    let met = check(rt, first, &mut NodeStore::new(alloc), shape)?;
+    let met = check(first, &mut NodeStore::new(alloc), shape)?;
     Ok(met.is_wide(greatest_kind))
 }
 
 /// The same in a store of its own.
 fn is_wide_with<const P: usize>(
-    rt: &impl Abort,
     alloc: Global,
     shape: KeyShape,
     greatest_kind: NodeType,
 ) -> Result<bool, Fail>
     requires { P < 256 }
 {
-    is_wide::<P>(rt, &mut NodeStore::new(alloc), shape, greatest_kind)
+    is_wide::<P>(&mut NodeStore::new(alloc), shape, greatest_kind)
 }
 
 /// Whether a trial for each number of stored bytes is wide.
-fn are_wide(
-    rt: &impl Abort,
-    alloc: Global,
-    shape: KeyShape,
-    greatest_kind: NodeType,
-) -> Result<[bool; 4], Fail> {
+fn are_wide(alloc: Global, shape: KeyShape, greatest_kind: NodeType) -> Result<[bool; 4], Fail> {
     Ok([
-        is_wide_with::<0>(rt, alloc, shape, greatest_kind)?,
-        is_wide_with::<2>(rt, alloc, shape, greatest_kind)?,
-        is_wide_with::<4>(rt, alloc, shape, greatest_kind)?,
-        is_wide_with::<16>(rt, alloc, shape, greatest_kind)?,
+        is_wide_with::<0>(alloc, shape, greatest_kind)?,
+        is_wide_with::<2>(alloc, shape, greatest_kind)?,
+        is_wide_with::<4>(alloc, shape, greatest_kind)?,
+        is_wide_with::<16>(alloc, shape, greatest_kind)?,
     ])
 }
 
@@ -236,10 +247,8 @@ static SHAPES: [(KeyShape, NodeType); 4] = [
 #[test]
 fn trees_of_drawn_keys_are_those_built(rt: HostRuntime) -> Result<(), Fail> {
     for (shape, greatest_kind) in &SHAPES {
-        assert_eq!(rt;
-            are_wide(&rt, rt.alloc(), *shape, *greatest_kind)?,
-            [true; 4]
-        );
+        let wide = are_wide(rt.alloc(), *shape, *greatest_kind)?;
+        same((*shape, wide), (*shape, [true; 4]))?;
     }
     Ok(())
 }

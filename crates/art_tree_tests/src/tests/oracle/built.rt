@@ -115,7 +115,7 @@ fn takes_the_kind_for_the_number_of_children(rt: HostRuntime) -> Result<(), Fail
         (255, NodeType::Node256),
     ];
     for (count, kind) in kinds {
-        assert_eq!(rt; root_kind(rt.alloc(), count)?, Some(kind));
+        same((count, root_kind(rt.alloc(), count)?), (count, Some(kind)))?;
     }
     Ok(())
 }

@@ -43,15 +43,22 @@ fn insert<K: AsBytes + Drop>(
 {
     match search(pairs, key.as_bytes()) {
         Ok(at) => Ok(Reply::Inserted(Some(replace_at(pairs, at, key, value)))),
-        Err(at) if has_related(pairs, at, key.as_bytes()) => {
-            let byte_repr = BoxedSlice::from_slice(alloc, key.as_bytes())?;
-            Ok(Reply::Conflict(key, value, InsertPrefixError { byte_repr }))
-        }
+        Err(at) if has_related(pairs, at, key.as_bytes()) => conflict(alloc, key, value),
         Err(at) => match insert_at(pairs, at, key, value) {
             Ok(()) => Ok(Reply::Inserted(None)),
             Err(_) => Err(AllocError),
         },
     }
+}
+
+/// The reply to a key that is in conflict with a stored one.
+fn conflict<K: AsBytes + Drop>(
+    alloc: Global,
+    key: K,
+    value: u32,
+) -> Result<Reply<K, u32>, AllocError> {
+    let byte_repr = BoxedSlice::from_slice(alloc, key.as_bytes())?;
+    Ok(Reply::Conflict(key, value, InsertPrefixError { byte_repr }))
 }
 
 /// Puts a pair in, in the place of all with related keys; but a stored key that is equal stays, and gets the value.

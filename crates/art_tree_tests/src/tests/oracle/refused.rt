@@ -8,7 +8,9 @@ use art_nodes::node::OpaqueNodePtr;
 use art_nodes::store::NodeStore;
 use art_operations::run::{Command, Reply, RunResult, Side, run};
 use art_operations::well_formed::WellFormedChecker;
-use art_test_support::commands::{Asked, Row, Told, command, commands, first_wrong, told_by};
+use art_test_support::commands::{
+    Asked, Row, Told, command, commands, first_apart, first_wrong, told_by,
+};
 use art_test_support::expected::same;
 use art_test_support::memory::end_refusals;
 use art_test_support::shapes::count_nodes;
@@ -44,19 +46,30 @@ static WITH_THREE_LEFT: [Row<'static>; 3] = [
     (Asked::Insert(&[1], 1), Told::Conflict(&[1], 1, &[1])),
 ];
 
+/// The key of the one byte at a place of these, or else of none.
+fn key_at(bytes: &[u8], at: u8) -> &[u8] {
+    let at = usize::from(at);
+    if at < bytes.len() {
+        &bytes[at..at + 1]
+    } else {
+        &[]
+    }
+}
+
 /// Each of the first fifty bytes comes as a key.
 fn push_insertions<'a>(rows: &mut Vec<Row<'a>>, bytes: &'a [u8]) -> Result<(), AllocError> {
-    for (key, value) in bytes.chunks(1).take(50).zip(0u32..) {
-        rows.push((Asked::Insert(key, value), Told::Inserted(None)))?;
+    for value in 0..50u8 {
+        let key = key_at(bytes, value);
+        rows.push((Asked::Insert(key, u32::from(value)), Told::Inserted(None)))?;
     }
     Ok(())
 }
 
 /// All but the first three go, from the last one on.
 fn push_deletions<'a>(rows: &mut Vec<Row<'a>>, bytes: &'a [u8]) -> Result<(), AllocError> {
-    for value in (3..50u32).rev() {
-        let key = bytes.chunks(1).nth(value as usize);
-        rows.push((Asked::DeleteMax, Told::Deleted(key.map(|key| (key, value)))))?;
+    for value in (3..50u8).rev() {
+        let pair = (key_at(bytes, value), u32::from(value));
+        rows.push((Asked::DeleteMax, Told::Deleted(Some(pair))))?;
     }
     Ok(())
 }
@@ -64,12 +77,16 @@ fn push_deletions<'a>(rows: &mut Vec<Row<'a>>, bytes: &'a [u8]) -> Result<(), Al
 /// 106 commands, and the replies to them where there is memory: a tree grows to 51 children and to every kind of node,
 /// goes over to the other store and shrinks again.
 fn script(alloc: Global, bytes: &[u8]) -> Result<Vec<Row<'_>>, AllocError> {
-    let mut rows: Vec<Row<'_>> = Vec::with_capacity(alloc, 106)?;
-    push_insertions(&mut rows, bytes)?;
-    rows.extend_from_slice(&AT_ITS_LARGEST)?;
-    push_deletions(&mut rows, bytes)?;
-    rows.extend_from_slice(&WITH_THREE_LEFT)?;
+    let mut rows = Vec::with_capacity(alloc, 106)?;
+    push_script(&mut rows, bytes)?;
     Ok(rows)
+}
+
+fn push_script<'a>(rows: &mut Vec<Row<'a>>, bytes: &'a [u8]) -> Result<(), AllocError> {
+    push_insertions(rows, bytes)?;
+    rows.extend_from_slice(&AT_ITS_LARGEST)?;
+    push_deletions(rows, bytes)?;
+    rows.extend_from_slice(&WITH_THREE_LEFT)
 }
 
 /// The commands alone.
@@ -94,15 +111,29 @@ fn left_by<const P: usize>(
     first: &mut NodeStore<Key, u32, P>,
     second: &mut NodeStore<Key, u32, P>,
 ) -> Option<Left> {
-    let alloc = first.alloc();
-    let rows = script(alloc, &BYTES).ok()?;
-    let done = run(first, second, None, commands(alloc, &rows).ok()?).ok()?;
-    Some((
-        first_wrong(&done.replies, &rows),
-        done.side,
-        is_leaf_of_nothing(second, done.root)?,
-        [count_nodes(first, SLOTS), count_nodes(second, SLOTS)],
-    ))
+    let asked = scripted(first.alloc()).ok()?;
+    match run(first, second, None, asked) {
+        Ok(done) => left_of(first, second, &done),
+        Err(_) => None,
+    }
+}
+
+/// What is left where the run answered this.
+fn left_of<const P: usize>(
+    first: &NodeStore<Key, u32, P>,
+    second: &NodeStore<Key, u32, P>,
+    done: &RunResult<Key, u32>,
+) -> Option<Left> {
+    let wrong = wrong_reply(first.alloc(), &done.replies).ok()?;
+    let is_leaf = is_leaf_of_nothing(second, done.root)?;
+    let counts = [count_nodes(first, SLOTS), count_nodes(second, SLOTS)];
+    Some((wrong, done.side, is_leaf, counts))
+}
+
+/// The first reply that is not the one of its row.
+fn wrong_reply(alloc: Global, replies: &[Reply<Key, u32>]) -> Result<Option<usize>, AllocError> {
+    let rows = script(alloc, &BYTES)?;
+    Ok(first_wrong(replies, &rows))
 }
 
 /// The same with a second store of its own.
@@ -202,6 +233,11 @@ fn refusal_of(asked: Asked<'_>) -> Told<'_> {
     })
 }
 
+/// Whether a reply is a refusal, of a command that takes memory where these pairs are stored.
+fn is_refusal(pairs: &[(Key, u32)], asked: Asked<'_>, reply: &Reply<Key, u32>) -> bool {
+    told_by(reply) == refusal_of(asked) && may_be_refused(pairs, asked)
+}
+
 /// Whether a reply is the list's, which carries the command out.
 fn is_answer(
     alloc: Global,
@@ -226,19 +262,19 @@ fn count_refused(
 ) -> Result<Option<usize>, AllocError>
     requires { IsMap (of_key (λ key. key.items)) pairs.old.items }
 {
+    if replies.len() != rows.len() {
+        return Ok(None);
+    }
     let mut refused = 0usize;
-    for ((asked, _), reply) in rows.iter().zip(replies) {
-        if told_by(reply) == refusal_of(*asked) && may_be_refused(pairs, *asked) {
+    for at in 0..rows.len() {
+        let (asked, _) = rows[at];
+        if is_refusal(pairs, asked, &replies[at]) {
             refused = refused.saturating_add(1);
-        } else if !is_answer(alloc, pairs, *asked, reply)? {
+        } else if !is_answer(alloc, pairs, asked, &replies[at])? {
             return Ok(None);
         }
     }
-    Ok(if replies.len() == rows.len() {
-        Some(refused)
-    } else {
-        None
-    })
+    Ok(Some(refused))
 }
 
 /// Whether the checker finds a tree of these pairs in a store, and there is no other node in it nor any in the other.
@@ -248,13 +284,21 @@ fn is_tree_of<const P: usize>(
     root: Option<OpaqueNodePtr>,
     pairs: &[(Key, u32)],
 ) -> Result<bool, AllocError> {
-    let has_pairs = kind_if_same((store, root), (store, root), pairs)?.is_some();
-    let counts = match WellFormedChecker::check(store, root, 0) {
-        Ok(stats) => (stats.num_leaf, stats.num_inner),
-        Err(_) => return Ok(false),
-    };
-    let is_counted = counts.0 == pairs.len() && counts == count_nodes(store, SLOTS);
-    Ok(has_pairs && is_counted && count_nodes(other, SLOTS) == (0, 0))
+    let kind = kind_if_same((store, root), (store, root), pairs)?;
+    let (leaves, inners) = count_nodes(store, SLOTS);
+    let counts = [checked_counts(store, root), Some(count_nodes(other, SLOTS))];
+    Ok(kind.is_some() && leaves == pairs.len() && counts == [Some((leaves, inners)), Some((0, 0))])
+}
+
+/// How many leaves and inner nodes the checker counts. None where it finds no tree.
+fn checked_counts<const P: usize>(
+    store: &NodeStore<Key, u32, P>,
+    root: Option<OpaqueNodePtr>,
+) -> Option<(usize, usize)> {
+    match WellFormedChecker::check(store, root, 0) {
+        Ok(stats) => Some((stats.num_leaf, stats.num_inner)),
+        Err(_) => None,
+    }
 }
 
 /// What comes of commands of which some may be refused.
@@ -286,13 +330,24 @@ fn judge<const P: usize>(
     other: &NodeStore<Key, u32, P>,
     done: &RunResult<Key, u32>,
 ) -> Result<Outcome, AllocError> {
-    let alloc = store.alloc();
-    let mut pairs = Vec::new(alloc);
-    let rows = script(alloc, &BYTES)?;
-    let Some(refused) = count_refused(alloc, &mut pairs, &rows, &done.replies)? else {
+    let rows = script(store.alloc(), &BYTES)?;
+    judge_beside(store, other, done, &rows, &mut Vec::new(store.alloc()))
+}
+
+/// The same beside a list without pairs, which carries out the commands of these rows that were not refused.
+fn judge_beside<const P: usize>(
+    store: &NodeStore<Key, u32, P>,
+    other: &NodeStore<Key, u32, P>,
+    done: &RunResult<Key, u32>,
+    rows: &[Row<'_>],
+    pairs: &mut Vec<(Key, u32)>,
+) -> Result<Outcome, AllocError>
+    requires { IsMap (of_key (λ key. key.items)) pairs.old.items }
+{
+    let Some(refused) = count_refused(store.alloc(), pairs, rows, &done.replies)? else {
         return Ok(Outcome::Wrong);
     };
-    if is_tree_of(store, other, done.root, &pairs)? {
+    if is_tree_of(store, other, done.root, pairs)? {
         Ok(Outcome::Ran(refused))
     } else {
         Ok(Outcome::Wrong)
@@ -314,6 +369,11 @@ fn is_same(command: &Command<Key, u32>, asked: Asked<'_>) -> bool {
     }
 }
 
+/// The same of the command of a row.
+fn is_asked(command: &Command<Key, u32>, row: &Row<'_>) -> bool {
+    is_same(command, row.0)
+}
+
 /// Whether all commands came back, and there is no node in either store.
 fn are_handed_back<const P: usize>(
     first: &NodeStore<Key, u32, P>,
@@ -321,12 +381,8 @@ fn are_handed_back<const P: usize>(
     back: &[Command<Key, u32>],
 ) -> Result<bool, AllocError> {
     let rows = script(first.alloc(), &BYTES)?;
-    let are_same = back
-        .iter()
-        .zip(&rows)
-        .all(|(command, row)| is_same(command, row.0));
     let counts = [count_nodes(first, SLOTS), count_nodes(second, SLOTS)];
-    Ok(are_same && back.len() == rows.len() && counts == [(0, 0); 2])
+    Ok(first_apart(back, &rows, is_asked).is_none() && counts == [(0, 0); 2])
 }
 
 /// Runs the commands while requests may be refused, and then judges with memory what came of it.

@@ -73,7 +73,7 @@ fn nothing_of(leaves: usize, inners: usize) -> Left {
 }
 
 #[test]
-fn a_freed_tree_leaves_nothing(rt: HostRuntime) {
+fn a_freed_tree_leaves_nothing(rt: HostRuntime) -> Result<(), Fail> {
     let cases: [(&[&[u8]], usize, usize); 3] = [
         (&[&[1, 2, 3]], 1, 0),
         (&FOUR, 4, 3),
@@ -81,8 +81,9 @@ fn a_freed_tree_leaves_nothing(rt: HostRuntime) {
     ];
     for (slices, leaves, inners) in cases {
         let left = freed_of(rt.alloc(), slices);
-        assert_eq!(rt; left, Some(nothing_of(leaves, inners)));
+        same(left, Some(nothing_of(leaves, inners)))?;
     }
+    Ok(())
 }
 
 // What is left of the tree of these 24 keys, and what is to be.

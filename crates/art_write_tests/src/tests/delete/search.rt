@@ -35,8 +35,10 @@ fn with_value<const P: usize>(
     store: &NodeStore<Key, u32, P>,
     (point, count): (Option<DeletePoint>, usize),
 ) -> (Option<u32>, usize) {
-    let value = point.and_then(|point| value_of(store, point.leaf_node_ptr));
-    (value, count)
+    match point {
+        Some(point) => (value_of(store, point.leaf_node_ptr), count),
+        None => (None, count),
+    }
 }
 
 // The points of the first and the last leaf.

@@ -93,7 +93,7 @@ static SEVENTEEN: [&[u8]; 18] = [
 ];
 
 #[test]
-fn touches_no_more_than_it_must(rt: HostRuntime) {
+fn touches_no_more_than_it_must(rt: HostRuntime) -> Result<(), Fail> {
     let cases: [(&[&[u8]], &[u8], (usize, usize, usize)); 4] = [
         // The leaf, with those beside it and the parent.
         (&SIX, &[2], (0, 1, 3)),
@@ -104,8 +104,12 @@ fn touches_no_more_than_it_must(rt: HostRuntime) {
         (&SEVENTEEN, &[0, 2], (1, 2, 3)),
     ];
     for (slices, key, touched) in cases {
-        assert_eq!(rt; touched_by(rt.alloc(), slices, key), Some(touched));
+        same(
+            (key, touched_by(rt.alloc(), slices, key)),
+            (key, Some(touched)),
+        )?;
     }
+    Ok(())
 }
 
 // The root that is left and the deleted pair.
@@ -198,11 +202,12 @@ static SHRINKING: [(u16, NodeType); 3] = [
 ];
 
 #[test]
-fn without_memory_a_shrink_leaves_the_tree(rt: HostRuntime) {
+fn without_memory_a_shrink_leaves_the_tree(rt: HostRuntime) -> Result<(), Fail> {
     for (count, kind) in &SHRINKING {
         let touched = refused_with(rt.alloc(), *count, *kind);
-        assert_eq!(rt; touched, Some((true, (0, 0))));
+        same((*kind, touched), (*kind, Some((true, (0, 0)))))?;
     }
+    Ok(())
 }
 
 // Places so many leaves beside a tree, or else fills its store. Answers whether there was memory.

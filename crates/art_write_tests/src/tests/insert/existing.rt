@@ -172,11 +172,12 @@ fn grown_from<const P: usize>(
 }
 
 #[test]
-fn grows_to_each_kind(rt: HostRuntime) {
+fn grows_to_each_kind(rt: HostRuntime) -> Result<(), Fail> {
     for (count, kind) in [(16u8, NodeType::Node48), (48, NodeType::Node256)] {
         let grown = grown_from::<16>(&mut NodeStore::new(rt.alloc()), count);
-        assert_eq!(rt; grown, Some((kind, true)));
+        same(grown, Some((kind, true)))?;
     }
+    Ok(())
 }
 
 #[test]

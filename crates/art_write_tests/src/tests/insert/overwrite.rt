@@ -34,6 +34,14 @@ struct After {
     values: [Option<u32>; 3],
 }
 
+// The value of the leaf that a link leads to, if it leads to one.
+fn value_behind<const P: usize>(
+    store: &NodeStore<Key, u32, P>,
+    link: OptionalLeafPtr,
+) -> Option<u32> {
+    value_of(store, link?)
+}
+
 // What a store has once the leaf of a key came.
 fn after_insertion<const P: usize>(
     store: &NodeStore<Key, u32, P>,
@@ -41,11 +49,12 @@ fn after_insertion<const P: usize>(
     key: &[u8],
 ) -> Option<After> {
     let leaf = store.leaf(done.leaf)?;
-    let value = |name: OptionalLeafPtr| name.and_then(|name| value_of(store, name));
+    let previous = value_behind(store, leaf.previous);
+    let next = value_behind(store, leaf.next);
     Some(After {
         nodes: count_nodes(store),
         has_key: leaf.key.as_slice() == key,
-        values: [value(leaf.previous), Some(leaf.value), value(leaf.next)],
+        values: [previous, Some(leaf.value), next],
     })
 }
 
@@ -407,10 +416,11 @@ static APART: [(&[&[u8]], &[u8], Ordinary); 4] = [
 ];
 
 #[test]
-fn comes_in_beside_unrelated_keys(rt: HostRuntime) {
+fn comes_in_beside_unrelated_keys(rt: HostRuntime) -> Result<(), Fail> {
     for (slices, key, expected) in &APART {
-        assert_eq!(rt; tried_apart(rt.alloc(), slices, key), Some(*expected));
+        same(tried_apart(rt.alloc(), slices, key), Some(*expected))?;
     }
+    Ok(())
 }
 
 // The first of these keys of which the point is another than an insertion finds.
@@ -542,9 +552,13 @@ fn told_between(alloc: Global, key: &[u8]) -> Option<Told> {
 }
 
 #[test]
-fn without_memory_one_pair_is_replaced(rt: HostRuntime) {
+fn without_memory_one_pair_is_replaced(rt: HostRuntime) -> Result<(), Fail> {
     let keys: [&[u8]; 3] = [&[1, 2], &[1, 2, 3], &[1, 2, 3, 4]];
     for key in keys {
-        assert_eq!(rt; told_between(rt.alloc(), key), Some((Some(1), 0)));
+        same(
+            (key, told_between(rt.alloc(), key)),
+            (key, Some((Some(1), 0))),
+        )?;
     }
+    Ok(())
 }
