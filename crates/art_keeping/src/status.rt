@@ -1,5 +1,6 @@
 //! The status that the program ends with.
-ghost use Rattle.std.specs.Prelude.{◌≤◌};
+ghost use Rattle.std.specs.Prelude.{◌≡◌, ◌≤◌, IsOk, IsOkAnd};
+ghost use Rattle.art_keeping.specs.declared.status.End.TheVariants.{Input, BadLine};
 
 use std::io;
 
@@ -13,7 +14,10 @@ pub enum End {
 /// The exit status that an end of reading, and the last writing, come to: 0 at the end of the input, 2 after a line that
 /// asks for nothing that there is, and 1 where reading or writing failed.
 pub fn status_of(end: io::Result<End>, written: io::Result<()>) -> u8
-    ensures { result ≤ 2 }
+    ensures input { IsOkAnd end (λ why. why ≡ Input) → IsOk written → result ≡ 0 }
+    ensures bad_line { IsOkAnd end (λ why. why ≡ BadLine) → IsOk written → result ≡ 2 }
+    ensures failed { ¬ (IsOk end × IsOk written) → result ≡ 1 }
+    ensures few { result ≤ 2 }
 {
     match (end, written) {
         (Ok(End::Input), Ok(())) => 0,

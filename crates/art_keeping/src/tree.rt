@@ -43,6 +43,8 @@ impl KeptTree {
     /// The store that the tree lives in, and its root.
     pub fn tree(&self) -> (&NodeStore<Vec<u8>, u32, PREFIX_LEN>, Option<OpaqueNodePtr>)
         requires { IsKept self.now }
+        ensures store { result.0.now ≡ (seen self.now).first }
+        ensures root { result.1 ≡ (seen self.now).root }
         ensures nodes { IfSome result.1 (IsTreeIn result.0.now) }
         ensures linked { IfSome result.1 (IsLinkedTreeIn result.0.now) }
     {

@@ -1,6 +1,6 @@
 //! The nodes of a tree from its root on, each before all that stands below it. What is left of such a walk stands in a
 //! list, so that no depth ends it.
-ghost use Rattle.std.specs.Prelude.{◌≡◌, ◌≤◌, ◌+◌, ◌++◌, [], length, IfSome, IfNone, IfOk};
+ghost use Rattle.std.specs.Prelude.{◌≡◌, ◌≤◌, ◌+◌, ◌++◌, [], length, None, IfSome, IfNone, IfOk};
 ghost use Rattle.std.specs.Vec.{vec_capacity};
 ghost use Rattle.art_keeping.specs.Walks.{EndsWith, HasRoom, below, falling, names, turned};
 
@@ -20,7 +20,7 @@ pub struct Pending {
 impl Pending {
     /// The root, of which all is still to come.
     pub fn root(name: OpaqueNodePtr) -> Self
-        ensures { result.name ≡ name }
+        ensures { result ≡ record { depth = 0; byte = None; name = name } }
     {
         Pending {
             depth: 0,
