@@ -1,8 +1,9 @@
 //! The tree that the lines so far have left, and the stores that it lives in.
-ghost use Rattle.std.specs.Prelude.{◌≡◌, ◌∷◌, [], None, IfOk, IfErr, IfSome, OnErr};
+ghost use Rattle.std.specs.Prelude.{◌≡◌, ◌∷◌, [], None, IfOk, IfErr, IfSome, IsOkAnd, OnErr};
 ghost use Rattle.art_parts.specs.Clones.{IsPairClone};
 ghost use Rattle.art_model.specs.Faults.{out_of_memory};
-ghost use Rattle.art_operations.specs.Checks.{fault_of};
+ghost use Rattle.art_model.specs.Pairs.{of_key};
+ghost use Rattle.art_operations.specs.Checks.{IsWellFormed, fault_of};
 ghost use Rattle.art_operations.specs.Runs.{IsRun};
 ghost use Rattle.art_operations.specs.declared.run.Side.{Side};
 ghost use Rattle.art_keeping.specs.Trees.{IsLinkedTreeIn, IsTreeIn, key_bytes};
@@ -54,7 +55,11 @@ impl KeptTree {
     /// Counts the leaves and the inner nodes of the tree, which has no fault.
     pub fn check(&self) -> Result<WellFormedTreeStats, MalformedTreeError>
         requires { IsKept self.now }
-        ensures { IfErr result (λ error. fault_of error ≡ out_of_memory) }
+        ensures empty { (seen self.now).root ≡ None → IsOkAnd result (λ stats.
+            (stats.num_leaf ≡ 0) × (stats.num_inner ≡ 0)) }
+        ensures counts { IfSome (seen self.now).root (λ name. IfOk result
+            (IsWellFormed (of_key key_bytes) 4 (seen self.now).first name)) }
+        ensures fault { IfErr result (λ error. fault_of error ≡ out_of_memory) }
     {
         WellFormedChecker::check(&self.first, self.root, 0)
     }
