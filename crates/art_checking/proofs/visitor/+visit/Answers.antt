@@ -1,10 +1,20 @@
 use Rattle.std.proofs.Common.{ℕ, ◌≡◌, ◌<◌, rules, sym, ◌∙◌, arith, subst}
 use Rattle.art_inner.specs.Views.{ref_kind, ref_view}
-use Rattle.art_checking.proofs.Folded.{HasJoined, folds_leaf, full_shown, full_some, full_held, first_child, started, more_child, stepped, ended}
+use Rattle.art_checking.proofs.Folded.{HasJoined, folds_leaf, full_inner, full_leaf, full_shown, full_some, full_held, first_child, started, more_child, stepped, ended}
 use Rattle.art_checking.proofs.visitor.+visit.Goals as goal
 
 falls : {t m n : ℕ} → m ≡ t → n < m → n < t
 falls e l = omega arith
+
+pub unreachable-requires : goal.unreachable-requires
+unreachable-requires g t c =
+    let (layout, full) = c.requires in
+    full_leaf c.args.store.now full c.in-Leaf.leaf c.in-Leaf.ensures.name c.in_default.ensures
+
+pub unreachable-requires-in_default-inner : goal.unreachable-requires-in_default-inner
+unreachable-requires-in_default-inner g t c =
+    let (layout, full) = c.requires in
+    full_inner c.args.store.now full c.in-Inner.inner c.in-Inner.ensures.proper c.in-Inner.ensures.name c.in_default-inner.ensures.view
 
 pub returns-in-Leaf : goal.returns-in-Leaf
 returns-in-Leaf g t c layout full =

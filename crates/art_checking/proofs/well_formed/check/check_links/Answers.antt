@@ -93,6 +93,14 @@ returns-then-ne-clause-fault g c root layout is leaves =
       off,
     )
 
+pub along-init : goal.along-init
+along-init g c = (c.requires.there, ([], refl, refl), λ linked. linked)
+
+pub unreachable-requires : goal.unreachable-requires
+unreachable-requires g c =
+    let there = (subst (Each (λ l. IsSome (map.get c.args.store.now.leaves l))) c.in-Some.ensures.cases.0 c.along.invariant.0).0 in
+    false≢true (subst IsSome (sym c.in_default-leaf.ensures) there)
+
 pub along-preserved : goal.along-preserved
 along-preserved g c =
     let s = c.args.store.now in
