@@ -1,4 +1,4 @@
-use Rattle.std.proofs.Common.{◌≡◌, ◌∙◌, sym, Some}
+use Rattle.std.proofs.Common.{◌≡◌, ◌∙◌, ap, is_some, sym, Some}
 use Rattle.art_reading.proofs.Iterators.{only_taken, only_there, no_end_gone, next_there, next_taken}
 use Rattle.art_reading.proofs.iterator.RawIterator.take_end.Goals as goal
 
@@ -31,3 +31,6 @@ returns-clause-taken g c names is =
     let e : c.args.self.now ≡ Some (c.in_ok-first.first, c.in_ok-first.last) = sym c.self.view_is ∙ c.in_ok-first.was in
     next_taken c.args.store.now c.in_ok-first.first c.in_ok-first.last c.args.end names c.of-taken.result c.of-taken.ensures (rw e at is) (sym c.eq.ensures ∙ c.if-eq.false)
     c.in-Some.leaf.now c.in-Some-of.next c.in-Some.ensures c.of.ensures c.in-Some-of.is c.of-2.ensures
+
+pub returns-clause-there : goal.returns-clause-there
+returns-clause-there g c = ap is_some (sym c.in-Some.ensures)
