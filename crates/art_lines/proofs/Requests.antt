@@ -6,7 +6,7 @@ use Rattle.art_lines.specs.Keys.{IsKeyWord}
 use Rattle.art_lines.specs.Lines.{line_of, HasSmallValue}
 use Rattle.art_lines.specs.declared.line.KeyWord.{KeyWord}
 use Rattle.art_lines.specs.declared.line.Request.{Request}
-use Rattle.art_lines.specs.declared.line.Request.TheVariants.{Insert, Prefix, Delete, First, Last, Find, Longest}
+use Rattle.art_lines.specs.declared.line.Request.TheVariants.{Insert, Prefix, Delete, First, Last, Clone, Find, Longest, Walk, Back, Nodes, Check}
 
 -- the character at a place of a line
 abbrev at : ℕ → List ℕ → ℕ
@@ -49,3 +49,25 @@ pub no_find : (line word : List ℕ) → line ≡ codes "find " ++ word → ¬ (
 no_find line word is none (Find key) small same = no_key key word (ap (drop 5) (sym is ∙ same)) none
 no_find line word is none First small same = omega (arith, ap (at 2) (sym is ∙ same))
 no_find line word is none request small same = omega (arith, ap (at 0) (sym is ∙ same))
+
+-- the line does not begin so
+abbrev BeginsOtherwise : List ℕ → List ℕ → Type 0
+BeginsOtherwise line front = (rest : List ℕ) → line ≢ front ++ rest
+
+-- a line that is no word alone, and begins with none of the other words, asks for nothing
+pub no_request : (line : List ℕ) →
+    (line ≢ codes "first") × (line ≢ codes "last") × (line ≢ codes "clone") × (line ≢ codes "walk") × (line ≢ codes "back") × (line ≢ codes "nodes") × (line ≢ codes "check") →
+    BeginsOtherwise line (codes "insert ") → BeginsOtherwise line (codes "prefix ") → BeginsOtherwise line (codes "delete ") → BeginsOtherwise line (codes "longest ") →
+    BeginsOtherwise line (codes "find ") → AsksNothing line
+no_request line alone insert prefix delete longest find (Insert key value) small same = insert (key.word.now ++ 32 ∷ decimal value) same
+no_request line alone insert prefix delete longest find (Prefix key value) small same = prefix (key.word.now ++ 32 ∷ decimal value) same
+no_request line alone insert prefix delete longest find (Delete key) small same = delete key.word.now same
+no_request line alone insert prefix delete longest find (Longest key) small same = longest key.word.now same
+no_request line alone insert prefix delete longest find (Find key) small same = find key.word.now same
+no_request line alone insert prefix delete longest find First small same = alone.0 same
+no_request line alone insert prefix delete longest find Last small same = alone.1 same
+no_request line alone insert prefix delete longest find Clone small same = alone.2 same
+no_request line alone insert prefix delete longest find Walk small same = alone.3 same
+no_request line alone insert prefix delete longest find Back small same = alone.4 same
+no_request line alone insert prefix delete longest find Nodes small same = alone.5 same
+no_request line alone insert prefix delete longest find Check small same = alone.6 same

@@ -1,5 +1,5 @@
 -- The pairs that a walk of leaves has left.
-use Rattle.std.proofs.Common.{◌≡◌, ℕ, suc, ◌+◌, ◌-◌, List, [], ◌∷◌, ◌++◌, length, refl, ap, ap₂, sym, ◌∙◌, subst, arith, length-append, append_assoc, Option, Some, None}
+use Rattle.std.proofs.Common.{◌≡◌, ℕ, suc, ◌+◌, ◌-◌, ◌≤◌, List, [], ◌∷◌, ◌++◌, length, refl, ap, ap₂, sym, ◌∙◌, subst, arith, length-append, append_assoc, Option, Some, None}
 use Rattle.std.specs.Option.{option_map}
 use Rattle.std.specs.FinMap as map
 use Rattle.art_parts.specs.Names.{leaf_name}
@@ -162,11 +162,29 @@ module _ {K V : Type 0} {s : Nodes K V} {walk left : Option (LeafPtr × LeafPtr)
         left_are s walk w.names len w.is counted ∙ first_left s w.names p pair (e w.names w.is) read
         ∙ ap (λ xs. pair ∷ xs) (sym (left_are s left (without_first w.names) (len - 1) (after w.names w.is) (omega arith)))
 
+    pub first_walk : {p : LeafPtr} → ((names : List OpaqueNodePtr) → IsIteratorOf s walk names → Some (leaf_name p) ≡ first_of names) → IsWalk s left (len - 1)
+    first_walk {p} e =
+        let less = less_first w.names (leaf_name p) (e w.names w.is) in
+        let counted = w.len_is in
+        record { names = without_first w.names; is = after w.names w.is; len_is = omega arith }
+
   module _ (after : (names : List OpaqueNodePtr) → IsIteratorOf s walk names → IsIteratorOf s left (without_last names)) where
     pub last_ended : ((names : List OpaqueNodePtr) → IsIteratorOf s walk names → None ≡ last_of names) → (pairs_left s walk len ≡ []) × (pairs_left s left len ≡ [])
     last_ended e = ended without_last refl (after w.names w.is) (none_last w.names (e w.names w.is))
 
+    -- and the walk is one of no more leaves
+    pub last_over : ((names : List OpaqueNodePtr) → IsIteratorOf s walk names → None ≡ last_of names) → IsWalk s left len
+    last_over e =
+        let none = none_last w.names (e w.names w.is) in
+        record { names = without_last w.names; is = after w.names w.is; len_is = w.len_is ∙ ap length (none ∙ sym (ap without_last none)) }
+
     module _ {p : LeafPtr} (e : (names : List OpaqueNodePtr) → IsIteratorOf s walk names → Some (leaf_name p) ≡ last_of names) where
+      pub last_counts : 1 ≤ len
+      last_counts =
+          let less = less_last w.names (leaf_name p) (e w.names w.is) in
+          let counted = w.len_is in
+          omega arith
+
       pub last_walk : IsWalk s left (len - 1)
       last_walk =
           let less = less_last w.names (leaf_name p) (e w.names w.is) in
@@ -197,8 +215,9 @@ module _ {K V : Type 0} {bytes : K × V → List ℕ} {P : ℕ} {s : Nodes K V} 
 pub none_left : {K V : Type 0} (s : Nodes K V) → pairs_left s None 0 ≡ []
 none_left s = left_are s None [] 0 empty_iterator refl
 
-pub no_pairs : {K V : Type 0} (bytes : K × V → List ℕ) (P : ℕ) (s : Nodes K V) {len : ℕ} {pairs : List (K × V)} → HoldsPairs bytes P s None len pairs → pairs ≡ []
-no_pairs {K} {V} bytes P s {len} {pairs} is = go is.tree is.canonical
+pub no_pairs : {K V : Type 0} (bytes : K × V → List ℕ) (P : ℕ) (s : Nodes K V) {root : Option OpaqueNodePtr} {len : ℕ} {pairs : List (K × V)} → root ≡ None →
+    HoldsPairs bytes P s root len pairs → pairs ≡ []
+no_pairs {K} {V} bytes P s {len = len} {pairs = pairs} e is = let none = subst (λ r. HoldsPairs bytes P s r len pairs) e is in go none.tree none.canonical
   where
     go : (tree : Option (Tree OpaqueNodePtr (K × V))) → IsRootOf bytes P s None pairs tree → pairs ≡ []
     go None h = h

@@ -17,7 +17,7 @@ use Rattle.art_model.specs.Keys.{are_related}
 use Rattle.art_model.specs.Layouts.{names_of}
 use Rattle.art_model.specs.MapLaws.{Tells}
 use Rattle.art_model.specs.Pairs.{IsMap, first_of, of_key, has_key, overwrite, overwrite_reply, put, put_reply, related_to, with_key, is_conflict}
-use Rattle.art_model.specs.Roots.{IsRootOf, ForTree}
+use Rattle.art_model.specs.Roots.{IsCanonicalRoot, IsRootOf, ForTree}
 use Rattle.art_model.specs.Stores.{held, pair_of}
 use Rattle.art_model.specs.Trees.{Tree, leaf}
 use Rattle.art_model.proofs.MapLaws.{overwrite_counts, overwrite_of_key_is_put, overwrite_tells, put_counts, put_tells}
@@ -52,6 +52,11 @@ module _ {K V : Type 0} (bytes : K × V → List ℕ) (P : ℕ) where
   pub at_some : {s : Nodes K V} {root : Option OpaqueNodePtr} {name : OpaqueNodePtr} {len : ℕ} {pairs : List (K × V)} → root ≡ Some name → HoldsPairs bytes P s root len pairs →
       HasTreeAt s name len pairs
   at_some {s} {len = len} {pairs = pairs} e is = at_root (subst (λ r. HoldsPairs bytes P s r len pairs) e is)
+
+  -- the name of a root that is there is canonical
+  pub canonical_root : {s : Nodes K V} {root : Option OpaqueNodePtr} {name : OpaqueNodePtr} {len : ℕ} {pairs : List (K × V)} → root ≡ Some name → HoldsPairs bytes P s root len pairs →
+      IsCanonicalRoot bytes P s name
+  canonical_root {pairs = pairs} e is = let has = at_some e is in (pairs, has.layout, has.by)
 
   module _ (s t : Nodes K V) (same_leaves : t.leaves ≡ s.leaves) (same_inners : t.inners ≡ s.inners) where
     same_held : (k : OpaqueNodePtr) → held t k ≡ held s k

@@ -7,7 +7,7 @@ use Rattle.art_model.specs.Canonical.{IsCanonicalTree, IsCanonical}
 use Rattle.art_model.specs.Layouts.{name_of}
 use Rattle.art_model.specs.Pairs.{of_key}
 use Rattle.art_model.specs.Radix.{pairs_of}
-use Rattle.art_model.specs.Roots.{IsRootOf}
+use Rattle.art_model.specs.Roots.{IsCanonicalRoot, IsRootOf}
 use Rattle.art_model.specs.Trees.{Tree}
 use Rattle.art_model.proofs.Canonical.{tree_radix}
 use Rattle.art_running.specs.Answers.{Answers}
@@ -48,6 +48,11 @@ module _ {K V : Type 0} (bytes : K → List ℕ) (P : ℕ) where
       IsCanonicalTree (of_key bytes) P s (name_of layout) (pairs_of layout) layout
   own_pairs {s} {root} {pairs} {layout} by =
       subst (λ n. IsCanonicalTree (of_key bytes) P s n (pairs_of layout) layout) (sym by.stands.0.named) (subst (λ xs. IsCanonicalTree (of_key bytes) P s root xs layout) (sym (tree_radix by).1) by)
+
+  -- the name of a canonical root is that of a canonical tree
+  pub canonical_root : (s : Nodes K V) (root : Option OpaqueNodePtr) {name : OpaqueNodePtr} → root ≡ Some name → (pairs : List (K × V)) × IsCanonical (of_key bytes) P s root pairs →
+      IsCanonicalRoot (of_key bytes) P s name
+  canonical_root s root is (pairs, canonical) = let (layout, by) = subst (λ r. IsCanonical (of_key bytes) P s r pairs) is canonical in (pairs, layout, by)
 
   -- a root is canonical for the pairs of a state that shows it
   pub sound_canonical : (old : State K V) (side : Side) (s z : Nodes K V) (root : Option OpaqueNodePtr) → shown old ≡ beside side s z root →

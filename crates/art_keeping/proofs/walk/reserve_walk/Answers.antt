@@ -10,6 +10,12 @@ returns-in_default-clause-room g c =
     let none = names-none c.loop.pending.items (omega (arith, c.in_default.ensures.cases.0, c.loop.pending.ok.0)) in
     subst (HasRoom c.args.store.now c.args.root) (sym c.pop.ensures.capacity) (room_whole c.args.store.now c.args.root turns (vec_capacity c.loop.pending) room (sym left ∙ none))
 
+pub push_below-requires : goal.push_below-requires
+push_below-requires g c =
+    let under = below c.args.store.now c.in-Some.next.name in
+    let rest = c.reserve.new.self in
+    omega (arith, length-append (names rest.items) under, length-names rest.items, c.in_ok-reserve.ensures.ok, rest.ok.0, c.count_children.ensures)
+
 pub loop-preserved : goal.loop-preserved
 loop-preserved g c =
     let s = c.args.store.now in

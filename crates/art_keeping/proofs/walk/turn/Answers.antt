@@ -9,3 +9,6 @@ push_below-requires g c =
 
 pub returns-clause-left : goal.returns-clause-left
 returns-clause-left g c = c.push_below.ensures.names ∙ sym (turned-names c.args.store.now c.args.pending.now.items c.pop.new.self.items c.in_ok-next.next c.in_ok-next.ensures.items)
+
+pub returns-clause-none : goal.returns-clause-none
+returns-clause-none g c = tt

@@ -1,4 +1,4 @@
-use Rattle.std.proofs.Common.{◌≡◌, rules, refl, ap, sym, ◌∙◌, subst, arith, true, Some}
+use Rattle.std.proofs.Common.{◌≡◌, ℕ, List, rules, refl, ap, sym, ◌∙◌, subst, arith, false, true, Some}
 use Rattle.std.proofs.lemmas.Bool.{false≢true}
 use Rattle.art_model.specs.Canonical.{IsCanonicalTree}
 use Rattle.art_model.specs.Pairs.{of_key, is_conflict}
@@ -7,8 +7,40 @@ use Rattle.art_writing.proofs.KeysFound.{conflict_new, not_false}
 use Rattle.art_writing.proofs.Unstored.{refused_new}
 use Rattle.art_map.specs.MapPairs.{pairs_at}
 use Rattle.art_map.proofs.Enough.{enough}
-use Rattle.art_map.proofs.Puts.{accepted, at_some, left_holds, pair_more, same_many, stays}
+use Rattle.art_map.proofs.Items.{no_pairs}
+use Rattle.art_map.proofs.Puts.{accepted, at_some, canonical_root, left_holds, pair_more, same_many, stays}
 use Rattle.art_map.proofs.map.put_in.Goals as goal
+
+-- a search that accepts no key has met a conflict
+conflicts : {K V : Type 0} (bytes : K × V → List ℕ) (pairs : List (K × V)) {spelled key : List ℕ} → (is_conflict bytes spelled pairs ≡ false → false ≡ true) → spelled ≡ key →
+    is_conflict bytes key pairs ≡ true
+conflicts bytes pairs {spelled} refused same = subst (λ k. is_conflict bytes k pairs ≡ true) same (not_false (is_conflict bytes spelled pairs) (λ free. false≢true (refused free)))
+
+pub plant-requires : goal.plant-requires
+plant-requires g c = (search rules, (c.in_default.is, rw c.in_default.is at c.requires))
+
+pub returns-in-Ok : goal.returns-in-Ok
+returns-in-Ok g c = rw (no_pairs (of_key g.K.AsBytes.bytes) g.row.P c.args.store.now c.in_default.is c.requires) (c.in-Ok.ensures, refl, refl)
+
+pub returns-in-Err : goal.returns-in-Err
+returns-in-Err g c =
+    let refused = c.in-Err.ensures in
+    rw (no_pairs (of_key g.K.AsBytes.bytes) g.row.P c.args.store.now c.in_default.is c.requires, c.without_memory.ensures) (refused.0, (refused.1, refused.2, refl))
+
+pub search_for_insert_point-requires : goal.search_for_insert_point-requires
+search_for_insert_point-requires g c = (search rules, canonical_root (of_key g.K.AsBytes.bytes) g.row.P c.in-Some.is c.requires)
+
+pub apply-requires : goal.apply-requires
+apply-requires g c = (search rules, rw c.as_bytes.ensures at c.in-Ok-search_for_insert_point.ensures.applies)
+
+pub returns-in-Err-Prefix : goal.returns-in-Err-Prefix
+returns-in-Err-Prefix g c =
+    let bytes = of_key g.K.AsBytes.bytes in
+    let pairs = pairs_at c.args.store.now c.args.root.now in
+    let has = at_some bytes g.row.P c.in-Some.is c.requires in
+    let accepted = c.in-Err-Prefix.ensures.accepted pairs has.layout has.by in
+    let spelled = (rw c.in-Err-Prefix.field-0-is at c.in-Err-Prefix.ensures.refused) ∙ c.as_bytes.ensures in
+    (c.requires, (refl, refl, spelled, conflicts bytes pairs accepted.1 c.as_bytes.ensures))
 
 pub returns-in-Err-Memory : goal.returns-in-Err-Memory
 returns-in-Err-Memory g c =
@@ -16,8 +48,7 @@ returns-in-Err-Memory g c =
     let pairs = pairs_at c.args.store.now c.args.root.now in
     let has = at_some bytes g.row.P c.in-Some.is c.requires in
     let accepted = c.in-Err-Memory.ensures.accepted pairs has.layout has.by in
-    let related = not_false (is_conflict bytes c.as_bytes.result.now pairs) (λ free. absurd (false≢true (accepted.1 free))) in
-    (c.requires, (refl, refl, conflict_new bytes (g.K.AsBytes.bytes c.args.key) pairs has.by.is_map (subst (λ key. is_conflict bytes key pairs ≡ true) c.as_bytes.ensures related)))
+    (c.requires, (refl, refl, conflict_new bytes (g.K.AsBytes.bytes c.args.key) pairs has.by.is_map (conflicts bytes pairs accepted.1 c.as_bytes.ensures)))
 
 pub one_more-requires : goal.one_more-requires
 one_more-requires g c =

@@ -5,8 +5,14 @@ use Rattle.art_writing.specs.Points.{IsPointFor}
 use Rattle.art_writing.proofs.RelatedPairs.{not_alone}
 use Rattle.art_map.specs.MapPairs.{pairs_at}
 use Rattle.art_map.proofs.Enough.{enough}
-use Rattle.art_map.proofs.Puts.{at_some, left_holds, over_counted, stays}
+use Rattle.art_map.proofs.Puts.{at_some, canonical_root, left_holds, over_counted, stays}
 use Rattle.art_map.proofs.map.put_over.Goals as goal
+
+pub search_for_prefix_insert_point-point-requires : goal.search_for_prefix_insert_point-point-requires
+search_for_prefix_insert_point-point-requires g c = (search rules, canonical_root (of_key g.K.AsBytes.bytes) g.row.P c.in-Some.is c.requires)
+
+pub apply-requires : goal.apply-requires
+apply-requires g c = (search rules, rw c.as_bytes.ensures at c.search_for_prefix_insert_point-point.ensures.applies)
 
 pub overflow_sub-len : goal.overflow_sub-len
 overflow_sub-len g c =

@@ -9,9 +9,7 @@ use Rattle.art_map.proofs.map.take_all.Goals as goal
 pub returns-in_default : goal.returns-in_default
 returns-in_default g c =
     let B = of_key g.K.AsBytes.bytes in
-    let pairs = pairs_at c.args.store.now c.args.root.now in
-    let is = subst (λ root. HoldsPairs B g.row.P c.args.store.now root c.args.len.now pairs) c.in_default.is c.requires in
-    subst (HoldsPairs B g.row.P c.args.store.now c.args.root.now c.args.len.now) (no_pairs B g.row.P c.args.store.now is) c.requires
+    subst (HoldsPairs B g.row.P c.args.store.now c.args.root.now c.args.len.now) (no_pairs B g.row.P c.args.store.now c.in_default.is c.requires) c.requires
 
 pub deallocate_tree-requires : goal.deallocate_tree-requires
 deallocate_tree-requires g c =

@@ -1,12 +1,15 @@
-use Rattle.std.proofs.Common.{sym, subst, Some}
+use Rattle.std.proofs.Common.{rules, sym, subst, Some}
 use Rattle.art_model.specs.Pairs.{of_key}
 use Rattle.art_writing.proofs.KeysFound.{point_some}
 use Rattle.art_map.specs.MapAnswers.{end_of, without_end}
 use Rattle.art_map.specs.MapChanges.{HasTaken}
 use Rattle.art_map.specs.MapPairs.{pairs_at}
-use Rattle.art_map.proofs.Puts.{at_some}
+use Rattle.art_map.proofs.Puts.{at_some, canonical_root}
 use Rattle.art_map.proofs.Takings.{end_goes}
 use Rattle.art_map.proofs.map.take_end.Goals as goal
+
+pub find_end_to_delete-point-requires : goal.find_end_to_delete-point-requires
+find_end_to_delete-point-requires g c = (search rules, canonical_root (of_key g.K.AsBytes.bytes) g.row.P c.in-Some.is c.requires)
 
 pub returns : goal.returns
 returns g c =

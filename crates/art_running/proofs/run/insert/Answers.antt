@@ -7,6 +7,12 @@ use Rattle.art_running.proofs.Moves.{from_root}
 use Rattle.art_running.proofs.Stepped.{inserted_step, refused_step, conflict_step, no_bytes_step, at_root}
 use Rattle.art_running.proofs.run.insert.Goals as goal
 
+pub search_for_insert_point-requires : goal.search_for_insert_point-requires
+search_for_insert_point-requires g c = (search rules, c.requires.canonical)
+
+pub apply-requires : goal.apply-requires
+apply-requires g c = (search rules, rw c.as_bytes.ensures at c.in-Ok.ensures.applies)
+
 pub returns-in-Err-Prefix : goal.returns-in-Err-Prefix
 returns-in-Err-Prefix g c side second =
     rw c.requires.root (from_root g.K.AsBytes.bytes g.row.P side second (λ layout by.

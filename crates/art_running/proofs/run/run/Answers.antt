@@ -1,5 +1,5 @@
-use Rattle.std.proofs.Common.{◌≡◌, ◌∙◌, [], refl, ap, sym, append_assoc, arith, rules, ◌++◌}
-use Rattle.std.proofs.lemmas.Grind.{common_steps}
+use Rattle.std.proofs.Common.{◌∙◌, refl, ap, sym, append_assoc, arith, rules, ◌++◌}
+use Rattle.std.proofs.lemmas.List.{append-nil, nil_from_length}
 use Rattle.art_running.proofs.Chains.{run_none, run_more}
 use Rattle.art_running.proofs.Moves.{canonical_sound, on_canonical}
 use Rattle.art_running.specs.declared.run.Side.TheVariants.{First}
@@ -9,12 +9,14 @@ pub loop-command-init : goal.loop-command-init
 loop-command-init g c =
     let (pairs, canonical) = c.requires.canonical in
     let (old, shows, sound) = canonical_sound g.K.AsBytes.bytes g.row.PREFIX_LEN First c.args.first.now c.args.second.now c.args.root pairs canonical in
-    let none : c.in-Ok.replies.items ≡ [] = search rules in
-    record { run = rw none (run_none old shows sound); commands = search rules; capacity = search rules }
+    let given = c.into_iter-command-iterator.ensures.into_iter_gives in
+    record { run = rw c.in-Ok.ensures.items (run_none old shows sound); commands = sym given.0; capacity = search rules }
 
 pub returns-clause-run : goal.returns-clause-run
 returns-clause-run g c =
-    let all : c.args.commands.items ≡ c.loop-command.yielded = grind (arith, common_steps) in
+    let rest = c.loop-command.command-iterator.rest in
+    let none = nil_from_length rest.items (sym rest.ok.0 ∙ c.in-None.ensures.steps.0) in
+    let all = c.loop-command.invariant.commands ∙ ap (λ l. c.loop-command.yielded ++ l) none ∙ append-nil c.loop-command.yielded in
     rw all c.loop-command.invariant.run
 
 pub returns-in-Err-clause-refused : goal.returns-in-Err-clause-refused
@@ -30,6 +32,9 @@ answer_next-reply-requires g c =
         c.requires.clones,
       ),
     )
+
+pub push_reserved-requires : goal.push_reserved-requires
+push_reserved-requires g c = omega (arith, c.loop-command.invariant.capacity, c.in-Some.ensures.steps.1)
 
 pub loop-command-preserved : goal.loop-command-preserved
 loop-command-preserved g c =

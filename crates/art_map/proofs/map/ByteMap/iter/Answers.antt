@@ -4,7 +4,6 @@ use Rattle.art_model.specs.Pairs.{of_key}
 use Rattle.art_model.proofs.StoreLaws.{has_children}
 use Rattle.art_reading.specs.Iterators.{IsIteratorOf}
 use Rattle.art_map.specs.MapItems.{pairs_left}
-use Rattle.art_map.specs.MapPairs.{HoldsPairs, pairs_at}
 use Rattle.art_map.proofs.Items.{none_left, no_pairs, whole_walk, whole_len, whole_pairs}
 use Rattle.art_map.proofs.Puts.{at_some}
 use Rattle.art_map.proofs.Views.{view_sorted}
@@ -13,9 +12,8 @@ use Rattle.art_map.proofs.map.ByteMap.iter.Goals as goal
 pub returns-in_default-clause-pairs : goal.returns-in_default-clause-pairs
 returns-in_default-clause-pairs g c =
     let B = of_key g.K.AsBytes.bytes in
-    let pairs = pairs_at c.self.inside.store c.self.inside.root in
-    let is = subst (λ root. HoldsPairs B g.row.P c.self.inside.store root c.self.inside.len pairs) c.in_default.is c.self.invariant in
-    c.new.ensures ∙ ap (λ walk. pairs_left c.self.inside.store walk 0) c.empty.ensures ∙ none_left c.self.inside.store ∙ sym (no_pairs B g.row.P c.self.inside.store is) ∙ c.self.view_is
+    c.new.ensures ∙ ap (λ walk. pairs_left c.self.inside.store walk 0) c.empty.ensures ∙ none_left c.self.inside.store
+    ∙ sym (no_pairs B g.row.P c.self.inside.store c.in_default.is c.self.invariant) ∙ c.self.view_is
 
 pub minimum_unchecked-first-requires : goal.minimum_unchecked-first-requires
 minimum_unchecked-first-requires g c =
