@@ -1,5 +1,5 @@
 -- The child that is left of two when one goes.
-use Rattle.std.proofs.Common.{◌≡◌, ◌≢◌, ℕ, suc, ◌-◌, ◌≤◌, [], ◌∷◌, ◌++◌, length, slice_get, Some, None, All, refl, ap, sym, ◌∙◌, inl, inr, arith}
+use Rattle.std.proofs.Common.{◌≡◌, ◌≢◌, ℕ, suc, ◌-◌, ◌<◌, ◌≤◌, [], ◌∷◌, ◌++◌, length, slice_get, Some, None, All, refl, ap, sym, ◌∙◌, inl, inr, arith}
 use Rattle.std.proofs.lemmas.Bool.{cases_eq}
 use Rattle.std.proofs.lemmas.List.{length-append}
 use Rattle.art_inner.specs.Inner.{Children, remove_child}
@@ -12,6 +12,11 @@ same_entry c x e = ap (λ o. elim o [ None ↦ c | Some y ↦ y ]) e
 none_left : (c : Entry) (cs : Children) → length (c ∷ cs) ≡ 1 → cs ≡ []
 none_left c [] one = refl
 none_left c (d ∷ cs) one = absurd (omega (arith, one))
+
+-- where a child is left, there was one
+pub some_left : (cs : Children) (b : ℕ) → length (remove_child cs b) ≡ 1 → 0 < length cs
+some_left [] b one = absurd (omega arith)
+some_left (c ∷ cs) b one = omega arith
 
 -- the first child stays, under another byte
 pub first_left : (cs : Children) (b : ℕ) (x : Entry) → length (remove_child cs b) ≡ 1 → slice_get cs 0 ≡ Some x → x.0 ≢ b → remove_child cs b ≡ x ∷ []
