@@ -13,7 +13,7 @@ use art_operations::run::{Command, Reply, RunResult, Side, run};
 use std::alloc::{AllocError, Global};
 
 /// A command, with the bytes of its key.
-#[derive(Clone, Copy, Debug)]
+#[derive(Clone, Copy)]
 pub enum Asked<'a> {
     Insert(&'a [u8], u32),
     InsertPrefix(&'a [u8], u32),
@@ -26,7 +26,7 @@ pub enum Asked<'a> {
 }
 
 /// What a reply says, with the bytes of its keys.
-#[derive(Clone, Copy, PartialEq, Eq, Debug)]
+#[derive(Clone, Copy, PartialEq, Eq)]
 pub enum Told<'a> {
     Inserted(Option<(&'a [u8], u32)>),
     Conflict(&'a [u8], u32, &'a [u8]),

@@ -2,16 +2,23 @@ use Rattle.std.proofs.Common.{rules, ◌∙◌, ap, sym, subst, get_or, Some, Is
 use Rattle.std.specs.FinMap as map
 use Rattle.art_parts.specs.Kinds.{larger_kind}
 use Rattle.art_nodes.specs.Nodes.{covers, promises, take_leaf}
-use Rattle.art_model.specs.Promises.{inner_taken}
+use Rattle.art_model.specs.Promises.{inner_taken, is_covered}
 use Rattle.art_model.specs.Writes.{IsThere}
 use Rattle.art_writing.specs.Inserted.{placed_for}
 use Rattle.art_writing.specs.Writes.{HasChild}
 use Rattle.art_reading.specs.Paths.{last_step}
-use Rattle.art_writing.proofs.Applied.{applied}
+use Rattle.art_writing.proofs.Applied.{applied, refused}
 use Rattle.art_writing.proofs.Entered.{entry, entry_gap, entry_parent}
 use Rattle.art_writing.proofs.LeafAdded.{previous_is_there, next_is_there, room_inserted, full_inserted, has_room, larger_has_room, asked_full, asked_room}
-use Rattle.art_writing.proofs.Reserved.{leaf_promised, inner_promised, after_reserve, is_none, not_refused}
+use Rattle.art_writing.proofs.Reserved.{leaf_promised, inner_promised, after_reserve, is_none, not_granted, not_refused, was_refused}
 use Rattle.art_writing.proofs.insert.InsertPoint.add_child.Goals as goal
+
+pub returns-then-is_err : goal.returns-then-is_err
+returns-then-is_err g c =
+    refused g.K.AsBytes.bytes (λ covered. not_granted c.reserve.result (sym c.is_err.ensures.value ∙ c.if-is_err.true) c.reserve.ensures.succeeds
+    (subst (λ kind. IsTrue (covers c.args.store.now.promise 1 kind)) (sym c.kind_if_full-larger.ensures)
+    (subst (λ kind. IsTrue (is_covered (placed_for c.args.store.now kind) c.args.store.now.promise)) c.requires.point covered)))
+    c.reserve.ensures.leaves c.reserve.ensures.inners (was_refused c.reserve.result (sym c.is_err.ensures.value ∙ c.if-is_err.true) c.reserve.ensures.refused)
 
 pub place_between-leaf_node_ptr-requires : goal.place_between-leaf_node_ptr-requires
 place_between-leaf_node_ptr-requires g c =
