@@ -16,9 +16,8 @@ use Rattle.art_model.specs.Roots.{IsCanonicalRoot}
 use Rattle.art_model.specs.Stores.{header_at}
 use Rattle.art_model.proofs.Canonical.{laid_out}
 use Rattle.art_model.proofs.Faultless.{no_fault}
-use Rattle.art_checking.specs.Checked.{IsTrueAt, IsTrueBehind, IsWalked, Says}
+use Rattle.art_checking.specs.Checked.{IsTrueAt, Says}
 use Rattle.art_checking.specs.Checks.{fault_of}
-use Rattle.art_checking.specs.Meetings.{Places}
 use Rattle.art_checking.proofs.Descents.{inner_at}
 use Rattle.art_checking.specs.declared.well_formed.fault.MalformedTreeError.{MalformedTreeError}
 use Rattle.art_checking.specs.declared.well_formed.fault.MalformedTreeError.TheVariants.{LoopFound, WrongChildrenCount, PrefixMismatch, EmptyTreeWithLen, LeafSiblingWrongOrder, WrongSiblingLinks, DeadName, UnreadablePrefix, StoredPrefixMismatch, OutOfMemory}
@@ -53,28 +52,14 @@ said bytes P s root error (inl e) true = subst (IsTrueOf bytes P s root) (sym e)
 said bytes P s root error (inr e) true = subst (IsTrueOf bytes P s root) (sym e) tt
 
 module _ {K V T : Type 0} (bytes : K × V → List ℕ) (P : ℕ) (s : Nodes K V) (r : Result T MalformedTreeError) where
-  -- what is true at a place is true there behind all that was met
-  pub true_at : (places : Places) {front place : List ℕ} {node name : OpaqueNodePtr} → front ≡ place → node ≡ name →
-      IfErr r (IsTrueAt bytes P s front node) → IfErr r (IsTrueBehind bytes P s places place name)
-  true_at places {front} {place} {node} {name} at is =
-      IfErr-weaker r (IsTrueAt bytes P s front node) (IsTrueBehind bytes P s places place name)
-      (λ error true root all reach. true root (subst (λ p. Reaches bytes P s root p node) (sym at) (subst (Reaches bytes P s root place) (sym is) reach)))
-
-  -- what is true behind a name that was met is true behind those before it
-  pub true_behind : {old mid : Places} {place : List ℕ} {node name : OpaqueNodePtr} → IsWalked bytes P s old mid place name → node ≡ name →
-      IfErr r (IsTrueBehind bytes P s mid place node) → IfErr r (IsTrueBehind bytes P s old place name)
-  true_behind {old} {mid} {place} {node} {name} walked is =
-      IfErr-weaker r (IsTrueBehind bytes P s mid place node) (IsTrueBehind bytes P s old place name)
-      (λ error true root all reach. true root (walked.reached root all reach) (subst (Reaches bytes P s root place) (sym is) reach))
-
   -- a node has fewer children than its kind may have
-  pub too_few : (places : Places) {front place : List ℕ} {kind : NodeType} (p : InnerPtr) (node : Inner) → p.kind ≢ Leaf → map.get s.inners p ≡ Some node → front ≡ place → kind ≡ p.kind →
+  pub too_few_at : {front place : List ℕ} {kind : NodeType} (p : InnerPtr) (node : Inner) → p.kind ≢ Leaf → map.get s.inners p ≡ Some node → front ≡ place → kind ≡ p.kind →
       IfErr r (λ error. Says (wrong_children_count front kind (length node.children)) error × (length node.children < kind_least kind)) →
-      IfErr r (IsTrueBehind bytes P s places place (inner_name p))
-  too_few places {front} {place} {kind} p node proper there at is =
+      IfErr r (IsTrueAt bytes P s place (inner_name p))
+  too_few_at {front} {place} {kind} p node proper there at is =
       IfErr-weaker r (λ error. Says (wrong_children_count front kind (length node.children)) error × (length node.children < kind_least kind))
-      (IsTrueBehind bytes P s places place (inner_name p))
-      (λ error few root all reach. said bytes P s root error few.0 (
+      (IsTrueAt bytes P s place (inner_name p))
+      (λ error few root reach. said bytes P s root error few.0 (
         inner_name p,
         header_at p.kind node,
         node.children,

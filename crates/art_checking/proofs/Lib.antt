@@ -8,3 +8,4 @@ pub mod Passed
 pub mod Walked
 pub mod Faulty
 pub mod Turns
+pub mod Below

@@ -91,7 +91,7 @@ pub record HasPassed {K V : Type 0} (bytes : K × V → List ℕ) (P : ℕ) (s :
   pub count : count_met new ≡ count_met old + length (names_below children)
 
 -- one name was met
-one_met : {old mid : Seen} {name : OpaqueNodePtr} {place : List ℕ} → IsFirstMet old mid name place → Meets (place_in old) (place_in mid) (name ∷ [])
+pub one_met : {old mid : Seen} {name : OpaqueNodePtr} {place : List ℕ} → IsFirstMet old mid name place → Meets (place_in old) (place_in mid) (name ∷ [])
 one_met {old} {mid} {name} {place} first = meets_one (place_in old) (place_in mid) name place first.fresh first.met
 
 module _ {K V : Type 0} {bytes : K × V → List ℕ} {P : ℕ} {s : Nodes K V} {old mid : Seen} where

@@ -19,7 +19,7 @@ use Rattle.art_model.specs.Trails.{end_of, HasChild, IsTrail, HasPrefix, IsReadA
 use Rattle.art_model.specs.Trees.{NodeHeader}
 use Rattle.art_model.proofs.Lists.{front_cut}
 use Rattle.art_model.proofs.Places.{one_way}
-use Rattle.art_checking.specs.Checked.{IsLeastLeaf, IsRead, IsWalked, NoneBelow, NoneFrom}
+use Rattle.art_checking.specs.Checked.{IsFirstLeast, IsLeastLeaf, IsRead, IsWalked, NoneBelow, NoneFrom}
 use Rattle.art_checking.specs.Meetings.{Places, IsMet, same_name}
 use Rattle.art_checking.proofs.Descents.{inner_at, least_below}
 use Rattle.art_checking.proofs.Meetings.{same_is, same_self}
@@ -169,19 +169,13 @@ module _ {K V : Type 0} {bytes : K × V → List ℕ} {P : ℕ} {s : Nodes K V} 
 
 -- ---- the least leaf is that of the first child
 module _ {K V : Type 0} (bytes : K × V → List ℕ) (P : ℕ) (s : Nodes K V) where
-  -- a leaf that is known is the first child's least
-  abbrev pub IsFirstLeast : Option LeafPtr → entries.Children → Type 0
-  IsFirstLeast None left = Unit {0}
-  IsFirstLeast (Some leaf) [] = Unit {0}
-  IsFirstLeast (Some leaf) (step ∷ left) = IsLeastLeaf bytes P s step.1 (Some leaf)
-
   pub first_least : (name : OpaqueNodePtr) (h : NodeHeader) (slots : entries.Children) (found : Option LeafPtr) →
-      node_at s name ≡ Some (inner_node h slots) → IfSome found (λ leaf. IsLeastLeaf bytes P s name (Some leaf)) → IsFirstLeast found slots
+      node_at s name ≡ Some (inner_node h slots) → IfSome found (λ leaf. IsLeastLeaf bytes P s name (Some leaf)) → IsFirstLeast bytes P s found slots
   first_least name h slots None there least = tt
   first_least name h [] (Some leaf) there least = tt
   first_least name h (step ∷ slots) (Some leaf) there least = least_below bytes P s name h step.0 step.1 slots leaf there least
 
-  pub least_known : (found : Option LeafPtr) (b : ℕ) (child : OpaqueNodePtr) (left : entries.Children) → IsFirstLeast found ((b, child) ∷ left) →
+  pub least_known : (found : Option LeafPtr) (b : ℕ) (child : OpaqueNodePtr) (left : entries.Children) → IsFirstLeast bytes P s found ((b, child) ∷ left) →
       IfSome found (λ leaf. IsLeastLeaf bytes P s child (Some leaf))
   least_known None b child left least = tt
   least_known (Some leaf) b child left least = least

@@ -6,16 +6,19 @@ use Rattle.std.specs.FinMap as finite
 use Rattle.std.specs.Ordering.{nat_cmp}
 use Rattle.std.specs.declared.cmp.Ordering.{Ordering}
 use Rattle.std.specs.declared.cmp.Ordering.TheVariants.{Less, Greater}
-use Rattle.art_parts.specs.Names.{leaf_name}
+use Rattle.art_inner.specs.Inner.{Inner, Children, IsRising}
+use Rattle.art_parts.specs.Kinds.{kind_capacity}
+use Rattle.art_parts.specs.Names.{inner_name, leaf_name}
 use Rattle.art_nodes.specs.Nodes.{Nodes}
 use Rattle.art_parts.specs.declared.leaf.LeafNode.{LeafNode}
+use Rattle.art_parts.specs.declared.names.InnerPtr.{InnerPtr}
 use Rattle.art_parts.specs.declared.names.LeafPtr.{LeafPtr}
 use Rattle.art_parts.specs.declared.names.OpaqueNodePtr.{OpaqueNodePtr}
 use Rattle.art_model.specs.Faults.{Fault, out_of_memory, Reaches, EndsBadly, IsTrueOf}
 use Rattle.art_model.specs.Keys.{IsFront}
 use Rattle.art_model.specs.Layouts.{leaf_node, name_of, names_of, leaf_names, AreDistinct, Holds}
 use Rattle.art_model.specs.Radix.{IsRadix}
-use Rattle.art_model.specs.Stores.{node_at, pair_of}
+use Rattle.art_model.specs.Stores.{header_at, node_at, pair_of}
 use Rattle.art_model.specs.Trails.{bottom_of, DescendsTo, IsDescent, IsPrefix}
 use Rattle.art_model.specs.Trees.{Tree, NodeHeader}
 use Rattle.art_checking.specs.Checks.{fault_of}
@@ -47,6 +50,12 @@ pub record IsFirstMet (old new : Seen) (name : OpaqueNodePtr) (place : List ℕ)
   pub met : IsMet (place_in old) (place_in new) name place
   pub leaves : new.leaves.items ≡ leaves_with name old.leaves.items
   pub count : count_met new ≡ count_met old + 1
+
+-- nothing was met yet
+pub record IsStart (seen : Seen) : Type 0 where
+  pub none : (n : OpaqueNodePtr) → place_in seen n ≡ None
+  pub leaves : seen.leaves.items ≡ []
+  pub count : count_met seen ≡ 0
 
 -- the error says the fault, or that there was no memory to say it
 abbrev pub Says : Fault → MalformedTreeError → Type 0
@@ -144,3 +153,16 @@ module _ {K V : Type 0} (bytes : K × V → List ℕ) (P : ℕ) (s : Nodes K V) 
     pub long : length part ≡ h.length_of
     pub stored : take P part ≡ h.stored
     pub is_prefix : IsPrefix (node_at s) bytes P (length place) name h part
+
+  -- The prefix of a node was put behind the bytes that lead to it, and these are its children.
+  pub record IsEntered (place read : List ℕ) (name : InnerPtr) (node : Inner) (children : Children) : Type 0 where
+    pub prefix : IsRead place read (inner_name name) (header_at name.kind node)
+    pub all : children ≡ node.children
+    pub rising : IsRising node.children
+    pub bound : length node.children ≤ kind_capacity name.kind
+
+  -- a leaf that is known is the least one of the first child
+  abbrev pub IsFirstLeast : Option LeafPtr → Children → Type 0
+  IsFirstLeast None left = Unit {0}
+  IsFirstLeast (Some leaf) [] = Unit {0}
+  IsFirstLeast (Some leaf) (step ∷ left) = IsLeastLeaf step.1 (Some leaf)

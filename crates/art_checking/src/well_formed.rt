@@ -114,7 +114,7 @@ impl AddAssign for WellFormedTreeStats {
 /// Checks trees. It visits each node once; besides, it looks up the siblings of each leaf, and walks down
 /// each chain of least children once where a prefix is read from the leaf below. It looks up each name in an
 /// ordered map of those that were met, where a name is noted with a copy of all bytes that lead to it. The
-/// stack grows with the number of inner nodes on the longest way down.
+/// inner nodes above the one that it is at stand in a list.
 pub struct WellFormedChecker;
 
 impl WellFormedChecker {

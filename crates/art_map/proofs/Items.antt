@@ -27,7 +27,7 @@ use Rattle.art_map.proofs.Enough.{leaf_used, as_leaf}
 
 module _ {K V : Type 0} (s : Nodes K V) where
   -- the pairs of the leaves under these names
-  abbrev one_pair : Option (LeafNode K V) → List (K × V)
+  abbrev pub one_pair : Option (LeafNode K V) → List (K × V)
   one_pair None = []
   one_pair (Some node) = pair_of node ∷ []
 
@@ -35,7 +35,7 @@ module _ {K V : Type 0} (s : Nodes K V) where
   read_pair None pair e = absurd cc
   read_pair (Some node) pair e = let same : pair_of node ≡ pair = cc in ap (λ x. x ∷ []) same
 
-  abbrev named_pairs : List OpaqueNodePtr → List (K × V)
+  abbrev pub named_pairs : List OpaqueNodePtr → List (K × V)
   named_pairs [] = []
   named_pairs (n ∷ ns) = one_pair (map.get s.leaves (as_leaf n)) ++ named_pairs ns
 
@@ -109,13 +109,13 @@ module _ {K V : Type 0} (s : Nodes K V) where
     leaves_named_below (child b t cs) h = named_append (leaf_names t) (leaf_names_below cs) ∙ ap₂ (λ xs ys. xs ++ ys) (leaves_named t h.0) (leaves_named_below cs h.1)
 
   -- the first of the names gives the first of the pairs
-  first_left : (names : List OpaqueNodePtr) (p : LeafPtr) (pair : K × V) → Some (leaf_name p) ≡ first_of names → option_map pair_of (map.get s.leaves p) ≡ Some pair →
+  pub first_left : (names : List OpaqueNodePtr) (p : LeafPtr) (pair : K × V) → Some (leaf_name p) ≡ first_of names → option_map pair_of (map.get s.leaves p) ≡ Some pair →
       named_pairs names ≡ pair ∷ named_pairs (without_first names)
   first_left [] p pair e read = absurd cc
   first_left (n ∷ ns) p pair e read = let same : n ≡ leaf_name p = cc in rw same (ap (λ xs. xs ++ named_pairs ns) (read_pair (map.get s.leaves p) pair read))
 
   -- and the last of them the last one
-  last_left : (names : List OpaqueNodePtr) (p : LeafPtr) (pair : K × V) → Some (leaf_name p) ≡ last_of names → option_map pair_of (map.get s.leaves p) ≡ Some pair →
+  pub last_left : (names : List OpaqueNodePtr) (p : LeafPtr) (pair : K × V) → Some (leaf_name p) ≡ last_of names → option_map pair_of (map.get s.leaves p) ≡ Some pair →
       named_pairs names ≡ named_pairs (without_last names) ++ pair ∷ []
   last_left [] p pair e read = absurd cc
   last_left (n ∷ ns) p pair e read =
@@ -123,20 +123,20 @@ module _ {K V : Type 0} (s : Nodes K V) where
       ∙ ap (λ xs. named_pairs (without_last (n ∷ ns)) ++ (xs ++ [])) (read_pair (map.get s.leaves p) pair read)
 
 -- the names of a list with a first one, or with a last one, are one more than the others
-less_first : {N : Type 0} (names : List N) (n : N) → Some n ≡ first_of names → length names ≡ length (without_first names) + 1
+pub less_first : {N : Type 0} (names : List N) (n : N) → Some n ≡ first_of names → length names ≡ length (without_first names) + 1
 less_first [] n e = absurd cc
 less_first (x ∷ xs) n e = omega arith
 
-less_last : {N : Type 0} (names : List N) (n : N) → Some n ≡ last_of names → length names ≡ length (without_last names) + 1
+pub less_last : {N : Type 0} (names : List N) (n : N) → Some n ≡ last_of names → length names ≡ length (without_last names) + 1
 less_last [] n e = absurd cc
 less_last (x ∷ xs) n e = ap length (but_last x xs n (sym e)) ∙ length-append (without_last (x ∷ xs)) (n ∷ [])
 
 -- a list without a first element is empty, and so is one without a last one
-none_first : {N : Type 0} (xs : List N) → None ≡ first_of xs → xs ≡ []
+pub none_first : {N : Type 0} (xs : List N) → None ≡ first_of xs → xs ≡ []
 none_first [] e = refl
 none_first (x ∷ xs) e = absurd cc
 
-none_last : {N : Type 0} (xs : List N) → None ≡ last_of xs → xs ≡ []
+pub none_last : {N : Type 0} (xs : List N) → None ≡ last_of xs → xs ≡ []
 none_last [] e = refl
 none_last (x ∷ []) e = absurd cc
 none_last (x ∷ y ∷ ys) e = let none : y ∷ ys ≡ [] = none_last (y ∷ ys) e in absurd cc

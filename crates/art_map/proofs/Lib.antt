@@ -4,5 +4,9 @@ pub mod Puts
 pub mod Results
 pub mod Takings
 pub mod Items
+pub mod Ranges
 pub mod CallerLaws
 pub mod Shrinking
+pub mod ValueLaws
+pub mod Written
+pub mod Entered

@@ -1,9 +1,10 @@
 -- What the calls of a map answer, by its pairs.
-use Rattle.std.specs.Prelude.{◌≡◌, ℕ, true, false, List, [], ◌∷◌, length, Option, Some, None}
+use Rattle.std.specs.Prelude.{◌≡◌, ℕ, true, false, if◌then◌else◌, List, [], ◌∷◌, length, map, Option, Some, None}
 use Rattle.std.specs.Box.{boxed_slice_items}
 use Rattle.std.specs.Option.{option_map}
 use Rattle.art_parts.specs.declared.names.OpaqueNodePtr.{OpaqueNodePtr}
 use Rattle.art_model.specs.Footprints.{IsIn}
+use Rattle.art_model.specs.Keys.{are_same}
 use Rattle.art_model.specs.Pairs.{of_key, first_of, last_of, without_first, without_last, with_key, has_key, is_conflict}
 use Rattle.art_model.specs.Paths.{Frame, fill, plug}
 use Rattle.art_model.specs.Radix.{IsRadix, bytes_of, pairs_of}
@@ -53,3 +54,7 @@ without_end Last pairs = without_last pairs
 -- the value under a key
 abbrev pub value_at : {K V : Type 0} → (K → List ℕ) → List ℕ → List (K × V) → Option V
 value_at bytes key pairs = option_map (λ x. x.1) (first_of (with_key (of_key bytes) key pairs))
+
+-- the pairs with another value under a key
+abbrev pub with_value_at : {K V : Type 0} → (K → List ℕ) → List ℕ → V → List (K × V) → List (K × V)
+with_value_at bytes key value pairs = map (λ x. if are_same key (bytes x.0) then (x.0, value) else x) pairs

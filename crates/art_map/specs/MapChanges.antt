@@ -1,12 +1,13 @@
 -- What a change leaves of a store, a root and a length that stand for pairs. No public clause cites this module.
-use Rattle.std.specs.Prelude.{◌≡◌, ◌≢◌, ℕ, false, List, [], ◌∷◌, length, Option, Some, None, Result, Ok, Err}
+use Rattle.std.specs.Prelude.{◌≡◌, ◌≢◌, ℕ, false, if◌then◌else◌, List, [], ◌∷◌, length, Option, Some, None, Result, Ok, Err}
 use Rattle.art_nodes.specs.Nodes.{Nodes}
 use Rattle.art_parts.specs.declared.names.OpaqueNodePtr.{OpaqueNodePtr}
 use Rattle.art_parts.specs.Names.{leaf_name}
 use Rattle.art_parts.specs.declared.names.LeafPtr.{LeafPtr}
+use Rattle.art_model.specs.Canonical.{IsCanonicalTree}
 use Rattle.art_model.specs.Clones.{AreClones}
 use Rattle.art_model.specs.Lookups.{HasLeaf}
-use Rattle.art_model.specs.Pairs.{of_key, is_conflict, put, put_reply, overwrite, related_to}
+use Rattle.art_model.specs.Pairs.{of_key, has_key, is_conflict, put, put_reply, overwrite, related_to}
 use Rattle.art_model.specs.Trees.{Tree}
 use Rattle.art_writing.specs.declared.insert.PrefixInsertResult.{PrefixInsertResult}
 use Rattle.art_writing.specs.declared.insert.Refused.{Refused}
@@ -23,6 +24,22 @@ gone_count done = elim done.insert_result.existing_leaf [ None ↦ done.leafs_re
 abbrev pub NamesPair : {A : Type 0} → Tree OpaqueNodePtr A → Option A → LeafPtr → Type 0
 NamesPair {A} layout pair leaf = (x : A) × (pair ≡ Some x) × HasLeaf layout (leaf_name leaf) x
 
+-- The root's tree has the leaf of a key under this name.
+pub record NamesLeafOf {K V : Type 0} (bytes : K → List ℕ) (P : ℕ) (s : Nodes K V) (root : Option OpaqueNodePtr)
+    (key : List ℕ) (leaf : LeafPtr) : Type 0 where
+  pub name : OpaqueNodePtr
+  pub pairs : List (K × V)
+  pub layout : Tree OpaqueNodePtr (K × V)
+  pub pair : K × V
+  pub root_is : root ≡ Some name
+  pub by : IsCanonicalTree (of_key bytes) P s name pairs layout
+  pub has : HasLeaf layout (leaf_name leaf) pair
+  pub key_is : bytes pair.0 ≡ key
+
+-- the pairs with a new one, where its key is not stored yet
+abbrev pub put_new : {K V : Type 0} → (K → List ℕ) → K × V → List (K × V) → List (K × V)
+put_new bytes new pairs = if has_key (of_key bytes) (bytes new.0) pairs then pairs else put (of_key bytes) new pairs
+
 module _ {K V : Type 0} (bytes : K → List ℕ) (P : ℕ) where
   -- the pair is the only one, or it is handed back and there is none
   abbrev pub HasPlanted : K → V → Result (Unit {0}) (Refused K V) → Nodes K V → Option OpaqueNodePtr → ℕ → Type 0
@@ -38,6 +55,14 @@ module _ {K V : Type 0} (bytes : K → List ℕ) (P : ℕ) (pairs : List (K × V
       HoldsPairs (of_key bytes) P t root len (put (of_key bytes) (key, value) pairs) ×
       (replaced ≡ put_reply (of_key bytes) (key, value) pairs) × (is_conflict (of_key bytes) (bytes key) pairs ≡ false)
   HasPut key value (Err error) t root len =
+      HoldsPairs (of_key bytes) P t root len pairs × IsRefusalOf bytes key value pairs error
+
+  -- the pair was put where its key was not stored, and the leaf of the key is told, or the pair is handed back and the pairs are as before
+  abbrev pub HasEntered : K → V → Result LeafPtr (MapInsertError K V) → Nodes K V → Option OpaqueNodePtr → ℕ → Type 0
+  HasEntered key value (Ok leaf) t root len =
+      HoldsPairs (of_key bytes) P t root len (put_new bytes (key, value) pairs) × NamesLeafOf bytes P t root (bytes key) leaf ×
+      (is_conflict (of_key bytes) (bytes key) pairs ≡ false)
+  HasEntered key value (Err error) t root len =
       HoldsPairs (of_key bytes) P t root len pairs × IsRefusalOf bytes key value pairs error
 
   -- the pair was put in the place of those with related keys, or it is handed back, the pairs are as before, and it was not to take the place of just one

@@ -1,7 +1,7 @@
 -- The pairs that an iterator has left.
-use Rattle.std.specs.Prelude.{◌≡◌, ℕ, zero, suc, List, [], ◌∷◌, ◌++◌, length, MatchOption, Option, Some, None}
+use Rattle.std.specs.Prelude.{◌≡◌, ◌≤◌, ◌==◌, if◌then◌else◌, ℕ, zero, suc, List, [], ◌∷◌, ◌++◌, length, map, MatchOption, Option, Some, None}
 use Rattle.std.specs.Option.{option_map}
-use Rattle.std.specs.FinMap as map
+use Rattle.std.specs.FinMap as nodes
 use Rattle.art_nodes.specs.Nodes.{Nodes}
 use Rattle.art_parts.specs.declared.names.LeafPtr.{LeafPtr}
 use Rattle.art_parts.specs.declared.names.OpaqueNodePtr.{OpaqueNodePtr}
@@ -15,7 +15,7 @@ module _ {K V : Type 0} where
   pairs_from s zero leaf = []
   pairs_from s (suc n) None = []
   pairs_from s (suc n) (Some p) =
-      elim (map.get s.leaves p) [ None ↦ [] | Some leaf ↦ pair_of leaf ∷ pairs_from s n leaf.next ]
+      elim (nodes.get s.leaves p) [ None ↦ [] | Some leaf ↦ pair_of leaf ∷ pairs_from s n leaf.next ]
 
   -- the pairs that are left of a walk with so many leaves
   abbrev pub pairs_left : Nodes K V → Option (LeafPtr × LeafPtr) → ℕ → List (K × V)
@@ -26,6 +26,30 @@ pub record IsWalk {K V : Type 0} (s : Nodes K V) (walk : Option (LeafPtr × Leaf
   pub names : List OpaqueNodePtr
   pub is : IsIteratorOf s walk names
   pub len_is : len ≡ length names
+
+module _ {K V : Type 0} where
+  -- how many leaves there are from this one to the last one, of at most so many
+  unfoldable pub leaves_to : Nodes K V → LeafPtr → ℕ → Option LeafPtr → ℕ
+  leaves_to s last zero leaf = 0
+  leaves_to s last (suc n) None = 0
+  leaves_to s last (suc n) (Some p) =
+      if p.slot == last.slot then 1
+      else elim (nodes.get s.leaves p) [ None ↦ 0 | Some leaf ↦ suc (leaves_to s last n leaf.next) ]
+
+  -- how many leaves a walk has, of at most so many
+  abbrev pub walk_len : Nodes K V → Option (LeafPtr × LeafPtr) → ℕ → ℕ
+  walk_len s None n = 0
+  walk_len s (Some ends) n = leaves_to s ends.1 n (Some ends.0)
+
+  -- the pairs that are left of a walk with at most so many leaves
+  abbrev pub pairs_between : Nodes K V → Option (LeafPtr × LeafPtr) → ℕ → List (K × V)
+  pairs_between s walk n = pairs_left s walk (walk_len s walk n)
+
+-- The walk is one of at most so many leaves of the store.
+pub record IsRange {K V : Type 0} (s : Nodes K V) (walk : Option (LeafPtr × LeafPtr)) (at_most : ℕ) : Type 0 where
+  pub names : List OpaqueNodePtr
+  pub is : IsIteratorOf s walk names
+  pub few : length names ≤ at_most
 
 -- what a pair of borrows points to
 abbrev pub deref_pair : {K V : Type 0} → Bor K × Bor V → K × V
@@ -39,3 +63,20 @@ module _ {K V : Type 0} where
   -- the last of them came
   abbrev pub TakesLast : List (K × V) → Option (Bor K × Bor V) → List (K × V) → Type 0
   TakesLast s r t = MatchOption r ((s ≡ []) × (t ≡ [])) (λ x. s ≡ t ++ deref_pair x ∷ [])
+
+-- the keys of pairs
+abbrev pub keys_of : {K V : Type 0} → List (K × V) → List K
+keys_of pairs = map (λ x. x.0) pairs
+
+-- the values of pairs
+abbrev pub values_of : {K V : Type 0} → List (K × V) → List V
+values_of pairs = map (λ x. x.1) pairs
+
+module _ {A : Type 0} where
+  -- the first of a list came, by a borrow, and the others are left, or there was none
+  abbrev pub ShowsFirst : List A → Option (Bor A) → List A → Type 0
+  ShowsFirst s r t = MatchOption r ((s ≡ []) × (t ≡ [])) (λ x. s ≡ x.now ∷ t)
+
+  -- the last of it came
+  abbrev pub ShowsLast : List A → Option (Bor A) → List A → Type 0
+  ShowsLast s r t = MatchOption r ((s ≡ []) × (t ≡ [])) (λ x. s ≡ t ++ x.now ∷ [])

@@ -1,16 +1,20 @@
 //! An ordered map from keys of bytes to values. Its contracts speak of lists of pairs alone.
 ghost use Rattle.std.specs.Prelude.{◌≡◌, ◌≢◌, ◌+◌, ◌<◌, ◌↔◌, [], length, false, true, IsTrue, IfOk, IfErr, OnOk, OnErr, None, Some, option_copied, IsSome};
 ghost use Rattle.std.specs.FinMap as map;
-ghost use Rattle.std.specs.Option.{option_map};
+ghost use Rattle.std.specs.Borrow.{sem};
+ghost use Rattle.std.specs.Option.{option_copied_mut, option_map, unwrap_or};
+ghost use Rattle.std.specs.Range.Bound.{bound_map};
+ghost use Rattle.std.specs.declared.ops.Bound.TheVariants.{Unbounded};
 ghost use Rattle.art_model.specs.Clones.{KeepBytes};
-ghost use Rattle.art_model.specs.Pairs.{IsMap, first_of, has_key, is_conflict, last_of, match_of, of_key, overwrite, put, put_reply, related_to, remove_key, remove_reply, without_first, without_last};
+ghost use Rattle.art_model.specs.Pairs.{IsMap, first_of, has_key, is_conflict, last_of, match_of, of_key, overwrite, put, put_reply, related_to, remove_key, remove_reply, with_key, without_first, without_last};
+ghost use Rattle.art_model.specs.Parts.{below, between};
 ghost use Rattle.art_model.specs.Roots.{ForTree, IsCanonicalRoot};
 ghost use Rattle.art_model.specs.Stores.{pair_of};
 ghost use Rattle.art_writing.specs.Deleted.{IsDeletePoint, IsDeletePointIn, LeadsTo};
 ghost use Rattle.art_map.specs.declared.map.MapInsertError.TheVariants as errors;
 ghost use Rattle.art_map.specs.MapAnswers.{end_of, without_end};
-ghost use Rattle.art_map.specs.MapChanges.{HasPlanted, HasPut, HasPutOver, HasTaken, HoldsClones, gone_count};
-ghost use Rattle.art_map.specs.MapItems.{deref_pair};
+ghost use Rattle.art_map.specs.MapChanges.{HasEntered, HasPlanted, HasPut, HasPutOver, HasTaken, HoldsClones, gone_count};
+ghost use Rattle.art_map.specs.MapItems.{deref_pair, keys_of, values_of};
 ghost use Rattle.art_map.specs.MapPairs.{HoldsPairs, pairs_at};
 
 use art_nodes::node::{AsBytes, LeafNode, LeafPtr, OpaqueNodePtr};
@@ -18,24 +22,34 @@ use art_nodes::store::NodeStore;
 use art_reading::iterator::RawIterator;
 use art_reading::lookup::{prefix_search_unchecked, search_unchecked};
 use art_reading::minmax::{maximum_unchecked, minimum_unchecked};
+use art_reading::range::{
+    first_from_unchecked, last_up_to_unchecked, prefix_unchecked, range_unchecked,
+};
 use art_reading::ways::{End, walk_to_end};
 use art_writing::clone::clone_unchecked;
-use art_writing::deallocate::deallocate_tree;
 use art_writing::delete::{
     DeletePoint, find_maximum_to_delete, find_minimum_to_delete, search_for_delete_point,
 };
 use art_writing::insert::{
-    InsertPrefixError, InsertSearchError, PrefixInsertResult, Refused, search_for_insert_point,
-    search_for_prefix_insert_point,
+    InsertKind, InsertPrefixError, InsertSearchError, PrefixInsertResult, Refused,
+    search_for_insert_point, search_for_prefix_insert_point,
 };
 use std::alloc::{AllocError, Global};
 use std::fmt;
 use std::marker::Model;
+use std::ops::{Bound, Index, RangeBounds};
 use thiserror::Error;
 
+mod compared;
+mod entry;
 mod iter;
+mod parts;
+mod range;
 
+pub use entry::{Entry, EntryOf};
 pub use iter::{Leaves, MapIter, MapIterOf};
+pub use parts::{Keys, KeysOf, Values, ValuesOf};
+pub use range::{Range, RangeOf};
 
 /// A pair that was not inserted.
 #[derive(Debug, Drop, Error)]
@@ -87,6 +101,7 @@ impl<K: AsBytes, V, const P: usize> Model for ByteMap<K, V, P> {
 
 impl<K: AsBytes + Drop, V: Drop, const P: usize> ByteMap<K, V, P> {
     ghost use Rattle.art_map.specs.MapAnswers.{IsRefusalOf, MayRefuseRemoval, value_at};
+    ghost use Rattle.art_map.specs.MapLends.{lends_put, lends_value};
 
     /// An empty map, which takes no memory.
     pub fn new(alloc: Global) -> Self
@@ -127,6 +142,25 @@ impl<K: AsBytes + Drop, V: Drop, const P: usize> ByteMap<K, V, P> {
     {
         let leaf = search_unchecked(&self.store, self.root?, key_bytes)?;
         Some(pair_at(&self.store, leaf).1)
+    }
+
+    /// The pair of the key with these bytes.
+    pub fn get_key_value(&self, key_bytes: &[u8]) -> Option<(&K, &V)>
+        ensures { option_map deref_pair result ≡
+            first_of (with_key (of_key K.bytes) key_bytes.now self.now) }
+    {
+        let leaf = search_unchecked(&self.store, self.root?, key_bytes)?;
+        Some(pair_at(&self.store, leaf))
+    }
+
+    /// The value of the key with these bytes, to be written.
+    pub fn get_mut(&mut self, key_bytes: &[u8]) -> Option<&mut V>
+        ensures* writes_back { sem 𝓛
+            (lends_value K.row V.row P.row K.AsBytes self.entry key_bytes.now result) }
+        ensures value { option_copied_mut result ≡ value_at K.bytes key_bytes.now self.old }
+    {
+        let leaf = search_unchecked(&self.store, self.root?, key_bytes)?;
+        self.store.value_mut(leaf)
     }
 
     /// The pair whose key is a prefix of the query. There is at most one.
@@ -174,6 +208,73 @@ impl<K: AsBytes + Drop, V: Drop, const P: usize> ByteMap<K, V, P> {
         MapIterOf::new(&self.store, walk, self.len)
     }
 
+    /// The pairs whose keys begin with these bytes, in the order of their keys.
+    pub fn prefix(&self, prefix: &[u8]) -> Range<'_, K, V, P>
+        ensures pairs { result ≡ below (of_key K.bytes) prefix.now self.now }
+        ensures sorted { IsMap (of_key K.bytes) self.now }
+    {
+        let Some(root) = self.root else {
+            return RangeOf::new(&self.store, RawIterator::empty(), 0);
+        };
+        let walk = prefix_unchecked(&self.store, root, prefix);
+        RangeOf::new(&self.store, walk, self.len)
+    }
+
+    /// The pairs whose keys are in a range, in the order of their keys; none where it runs backwards.
+    pub fn range<'k, R: RangeBounds<&'k [u8]> + Drop>(&self, range: R) -> Range<'_, K, V, P>
+        ensures pairs { R.has_bounds range → result ≡ between (of_key K.bytes)
+            (bound_map (λ b. b.now) (R.start_bound range))
+            (bound_map (λ b. b.now) (R.end_bound range)) self.now }
+        ensures sorted { IsMap (of_key K.bytes) self.now }
+    {
+        self.between(bound_of(range.start_bound()), bound_of(range.end_bound()))
+    }
+
+    // The pairs whose keys are between two bounds.
+    fn between(&self, from: Bound<&[u8]>, to: Bound<&[u8]>) -> Range<'_, K, V, P>
+        ensures pairs { result ≡ between (of_key K.bytes) (bound_map (λ b. b.now) from.entry)
+            (bound_map (λ b. b.now) to.entry) self.now }
+        ensures sorted { IsMap (of_key K.bytes) self.now }
+    {
+        let Some(root) = self.root else {
+            return RangeOf::new(&self.store, RawIterator::empty(), 0);
+        };
+        let walk = range_unchecked(&self.store, root, from, to);
+        RangeOf::new(&self.store, walk, self.len)
+    }
+
+    /// The first pair whose key is after a bound, or at it where that is included.
+    pub fn first_from(&self, from: Bound<&[u8]>) -> Option<(&K, &V)>
+        ensures { option_map deref_pair result ≡ first_of (between (of_key K.bytes)
+            (bound_map (λ b. b.now) from.entry) Unbounded self.now) }
+    {
+        let leaf = first_from_unchecked(&self.store, self.root?, from)?;
+        Some(pair_at(&self.store, leaf))
+    }
+
+    /// The last pair whose key is before a bound, or at it where that is included.
+    pub fn last_up_to(&self, to: Bound<&[u8]>) -> Option<(&K, &V)>
+        ensures { option_map deref_pair result ≡ last_of (between (of_key K.bytes) Unbounded
+            (bound_map (λ b. b.now) to.entry) self.now) }
+    {
+        let leaf = last_up_to_unchecked(&self.store, self.root?, to)?;
+        Some(pair_at(&self.store, leaf))
+    }
+
+    /// The keys as they rise.
+    pub fn keys(&self) -> Keys<'_, K, V, P>
+        ensures { result ≡ keys_of self.now }
+    {
+        KeysOf::new(self.iter())
+    }
+
+    /// The values in the order of their keys.
+    pub fn values(&self) -> Values<'_, K, V, P>
+        ensures { result ≡ values_of self.now }
+    {
+        ValuesOf::new(self.iter())
+    }
+
     /// Puts a pair in. Where an equal key is stored, that key stays and gets the value, and the key
     /// that was handed in comes back with the old value.
     pub fn insert(&mut self, key: K, value: V) -> Result<Option<(K, V)>, MapInsertError<K, V>>
@@ -189,10 +290,39 @@ impl<K: AsBytes + Drop, V: Drop, const P: usize> ByteMap<K, V, P> {
         put_in(&mut self.store, &mut self.root, &mut self.len, key, value)
     }
 
+    /// The value of a key, to be written. Where no equal key is stored the pair comes in first; a key
+    /// that is stored stays, with its value.
+    pub fn get_or_insert(&mut self, key: K, value: V) -> Result<&mut V, MapInsertError<K, V>>
+        ensures* writes_back { sem 𝓛
+            (lends_put K.row V.row P.row K.AsBytes self.entry key result) }
+        ensures value { IfOk result (λ lent.
+            lent.now ≡ unwrap_or (value_at K.bytes (K.bytes key) self.old) value) }
+        ensures accepted { OnOk result
+            (is_conflict (of_key K.bytes) (K.bytes key) self.old ≡ false) }
+        ensures refused { IfErr result (IsRefusalOf K.bytes key value self.old) }
+    {
+        let leaf = match leaf_for(&mut self.store, &mut self.root, &mut self.len, key, value) {
+            Ok(leaf) => leaf,
+            Err(error) => return Err(error),
+        };
+        let Some(value) = self.store.value_mut(leaf) else {
+            unreachable!()
+        };
+        Ok(value)
+    }
+
+    /// The map with a key, to put the key in where it is not stored, and to write its value.
+    pub fn entry(&mut self, key: K) -> Entry<'_, K, V, P>
+        ensures same_map { result.map.ghost_name ≡ self.entry.ghost_name }
+        ensures pairs { result.map.now ≡ self.old }
+        ensures key { result.key ≡ key }
+    {
+        EntryOf { map: self, key }
+    }
+
     /// Puts a pair in, in the place of all pairs with related keys, and answers how many gave way. A
     /// stored key that is equal stays and gets the value. It is refused only for want of memory, and
-    /// takes none where just one pair gives way. Those that give way are freed by a recursion as deep as
-    /// their tree.
+    /// takes none where just one pair gives way.
     pub fn insert_over(&mut self, key: K, value: V) -> Result<usize, Refused<K, V>>
         ensures pairs { OnOk result (self.new ≡ overwrite (of_key K.bytes) (key, value) self.old) }
         ensures gone { IfOk result (λ gone.
@@ -253,7 +383,7 @@ impl<K: AsBytes + Drop, V: Drop, const P: usize> ByteMap<K, V, P> {
         take_end(&mut self.store, &mut self.root, &mut self.len, end)
     }
 
-    /// Takes out all pairs, and takes no memory. The recursion is as deep as the tree.
+    /// Takes out all pairs, and takes no memory. The room of their nodes stays for others.
     pub fn clear(&mut self)
         ensures { self.new ≡ [] }
     {
@@ -265,7 +395,7 @@ impl<K: AsBytes + Clone + Drop, V: Clone + Drop, const P: usize> ByteMap<K, V, P
     ghost use Rattle.art_model.specs.Clones.{AreClones, KeepBytes};
 
     /// A map of clones of all pairs, with a store of its own. An `Err` is for want of memory, for a node or
-    /// for the clone of a key or a value. The recursion is as deep as the tree.
+    /// for the clone of a key or a value.
     pub fn clone(&self) -> Result<Self, AllocError>
         requires { KeepBytes K.bytes K.is_clone }
         ensures { IfOk result (AreClones K.is_clone V.is_clone self.now) }
@@ -299,6 +429,20 @@ impl<'a, K: AsBytes + Drop, V: Drop, const P: usize> IntoIterator for &'a ByteMa
     }
 }
 
+impl<'b, K: AsBytes + Drop, V: Drop, const P: usize> Index<&'b [u8]> for ByteMap<K, V, P> {
+    type Output = V;
+
+    ghost use Rattle.art_map.specs.MapAnswers.{value_at};
+
+    ghost can_index = { λ map key. IsSome (value_at K.bytes key.now map) };
+
+    ghost index_gives = { λ map key value. value_at K.bytes key.now map ≡ Some value };
+
+    fn index(&self, key_bytes: &'b [u8]) -> &V {
+        self.get(key_bytes).unwrap()
+    }
+}
+
 impl<K: AsBytes + fmt::Debug + Drop, V: fmt::Debug + Drop, const P: usize> fmt::Debug
     for ByteMap<K, V, P> {
     fn fmt<W: fmt::Write>(&self, f: &mut fmt::Formatter<W>) -> fmt::Result {
@@ -307,6 +451,17 @@ impl<K: AsBytes + fmt::Debug + Drop, V: fmt::Debug + Drop, const P: usize> fmt::
             out.entry(key, value);
         }
         out.finish()
+    }
+}
+
+// The bound that is pointed to.
+fn bound_of<'k, 'r>(bound: Bound<&'r &'k [u8]>) -> Bound<&'k [u8]>
+    ensures { bound_map (λ b. b.now) result ≡ bound_map (λ b. b.now.now) bound.entry }
+{
+    match bound {
+        Bound::Included(key_bytes) => Bound::Included(*key_bytes),
+        Bound::Excluded(key_bytes) => Bound::Excluded(*key_bytes),
+        Bound::Unbounded => Bound::Unbounded,
     }
 }
 
@@ -358,6 +513,54 @@ fn put_in<K: AsBytes + Drop, V: Drop, const P: usize>(
                 return Ok(None);
             };
             Ok(Some((leaf.key, leaf.value)))
+        }
+        Err(refused) => Err(without_memory(refused)),
+    }
+}
+
+// The leaf of a key: that of the equal key that is stored, or a new one with the value.
+fn leaf_for<K: AsBytes + Drop, V: Drop, const P: usize>(
+    store: &mut NodeStore<K, V, P>,
+    root: &mut Option<OpaqueNodePtr>,
+    len: &mut usize,
+    key: K,
+    value: V,
+) -> Result<LeafPtr, MapInsertError<K, V>>
+    requires { HoldsPairs (of_key K.bytes) P store.old root.old len.old
+        (pairs_at store.old root.old) }
+    ensures { HasEntered K.bytes P (pairs_at store.old root.old) key value result
+        store.new root.new len.new }
+{
+    let Some(name) = *root else {
+        return match store.place_leaf(LeafNode::with_no_siblings(key, value)) {
+            Ok(leaf) => {
+                *root = Some(leaf.to_opaque());
+                *len = 1;
+                Ok(leaf)
+            }
+            Err((leaf, _)) => Err(MapInsertError::Memory {
+                key: leaf.key,
+                value: leaf.value,
+            }),
+        };
+    };
+    let point = match search_for_insert_point(store, name, key.as_bytes()) {
+        Ok(point) => point,
+        Err(InsertSearchError::Prefix(error)) => {
+            return Err(MapInsertError::Conflict { key, value, error });
+        }
+        Err(InsertSearchError::Memory(_error)) => {
+            return Err(MapInsertError::Memory { key, value });
+        }
+    };
+    if let InsertKind::Exact { leaf_node_ptr } = point.insert_kind {
+        return Ok(leaf_node_ptr);
+    }
+    match point.apply(store, key, value) {
+        Ok(done) => {
+            *root = Some(done.new_root);
+            *len = one_more(store, *len);
+            Ok(done.leaf_node_ptr)
         }
         Err(refused) => Err(without_memory(refused)),
     }
@@ -543,10 +746,7 @@ fn take_all<K: AsBytes + Drop, V: Drop, const P: usize>(
         (pairs_at store.old root.old) }
     ensures { HoldsPairs (of_key K.bytes) P store.new root.new len.new [] }
 {
-    let Some(name) = *root else {
-        return;
-    };
-    deallocate_tree(name, store);
+    store.clear();
     *root = None;
     *len = 0;
 }

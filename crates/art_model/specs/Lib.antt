@@ -2,6 +2,7 @@
 pub mod Keys
 pub mod KeyLaws
 pub mod Pairs
+pub mod Parts
 pub mod MapLaws
 pub mod Changes
 pub mod Clones

@@ -1,6 +1,7 @@
 -- keys, maps of pairs, and their trees
 pub use Rattle.art_model.specs.Keys
 pub use Rattle.art_model.specs.Pairs
+pub use Rattle.art_model.specs.Parts
 pub use Rattle.art_model.specs.Clones
 pub use Rattle.art_model.specs.Trees
 -- trees under the names of a store
@@ -36,6 +37,8 @@ pub use Rattle.art_checking.specs.Checks
 pub use Rattle.art_map.specs.MapPairs
 pub use Rattle.art_map.specs.MapAnswers
 pub use Rattle.art_map.specs.MapItems
+pub use Rattle.art_map.specs.MapLends
+pub use Rattle.art_map.specs.MapCalls
 -- runs of commands
 pub use Rattle.art_running.specs.Answers
 pub use Rattle.art_running.specs.Needs

@@ -75,7 +75,7 @@ module _ {K V : Type 0} where
 
 module _ {K V : Type 0} (s : Nodes K V) where
   -- a leaf that is linked is there
-  there_in : (names : List OpaqueNodePtr) (before after : Option OpaqueNodePtr) (p : LeafPtr) → AreLinked (links_at s) before names after → IsIn (leaf_name p) names → IsSome (map.get s.leaves p)
+  pub there_in : (names : List OpaqueNodePtr) (before after : Option OpaqueNodePtr) (p : LeafPtr) → AreLinked (links_at s) before names after → IsIn (leaf_name p) names → IsSome (map.get s.leaves p)
   there_in [] before after p linked i = absurd i
   there_in (x ∷ xs) before after p linked (inl e) =
       let found =

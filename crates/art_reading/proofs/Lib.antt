@@ -5,3 +5,11 @@ pub mod OnWay
 pub mod Steps
 pub mod Ends
 pub mod Along
+pub mod Descents
+pub mod Below
+pub mod Parts
+pub mod Sides
+pub mod Beside
+pub mod Cuts
+pub mod Spans
+pub mod Bounds

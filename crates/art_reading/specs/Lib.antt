@@ -7,3 +7,4 @@ pub mod Matching
 pub mod Paths
 pub mod Walks
 pub mod Iterators
+pub mod Parts

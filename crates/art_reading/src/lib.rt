@@ -5,4 +5,5 @@ pub mod iterator;
 pub mod lookup;
 pub mod minmax;
 pub mod path;
+pub mod range;
 pub mod ways;

@@ -1,5 +1,5 @@
 //! What the map and the operations that change a tree need of the ways down it, beside what a caller uses.
-ghost use Rattle.std.specs.Prelude.{◌≡◌, ◌+◌, ◌<◌, ◌^◌, length, IsSome};
+ghost use Rattle.std.specs.Prelude.{◌≡◌, ◌+◌, ◌<◌, ◌≤◌, ◌^◌, length, take, drop, IsSome, IsTrue};
 ghost use Rattle.art_inner.specs.Views.{ref_view};
 ghost use Rattle.art_parts.specs.declared.names.OpaqueNodePtr.{OpaqueNodePtr};
 ghost use Rattle.art_model.specs.Pairs.{of_key};
@@ -13,6 +13,7 @@ use crate::lookup::{PrefixMatchBehavior, Visits, walk};
 use crate::path::{LastSteps, TreePath};
 use art_nodes::node::{AsBytes, InnerPtr, InnerRef, LeafNode, LeafPtr, NodePtr, OpaqueNodePtr};
 use art_nodes::store::NodeStore;
+use std::simd::prelude::*;
 
 /// The parent at the end of a path, with the byte under which it has the node.
 #[inline(always)]
@@ -55,12 +56,38 @@ pub fn shared_len(a: &[u8], b: &[u8]) -> usize
     ensures { result ≡ shared_len a.now b.now }
 {
     let end = a.len().min(b.len());
-    for i in 0..end {
+    for i in same_blocks(a, b, end)..end {
         if a[i] != b[i] {
             return i;
         }
     }
     end
+}
+
+// How many bytes in front are seen to be the same by comparing eight at a time.
+#[inline(always)]
+fn same_blocks(a: &[u8], b: &[u8], end: usize) -> usize
+    requires in_a { end ≤ length a.now }
+    requires in_b { end ≤ length b.now }
+    ensures within { result ≤ end }
+    ensures same { take result a.now ≡ take result b.now }
+{
+    let mut at = 0;
+    while end - at >= 8 && are_same(a, b, at) {
+        at += 8;
+    }
+    at
+}
+
+// Whether the eight bytes from a place on are the same in both.
+#[inline(always)]
+fn are_same(a: &[u8], b: &[u8], at: usize) -> bool
+    requires in_a { at + 8 ≤ length a.now }
+    requires in_b { at + 8 ≤ length b.now }
+    ensures { IsTrue result → take 8 (drop at a.now) ≡ take 8 (drop at b.now) }
+{
+    let (x, y) = (u8x8::from_slice(&a[at..]), u8x8::from_slice(&b[at..]));
+    x.simd_ne(y).to_bitmask() == 0
 }
 
 /// The leaf that a way down ends at, and how its key is to be compared there.

@@ -132,7 +132,7 @@ all_names : {N A : Type 0} (cs : Subtrees N A) (b : ℕ) (u : Tree N A) → leaf
 all_names cs b u = leaf_names_below-join cs (child b u no_child) ∙ ap (λ z. leaf_names_below cs ++ z) (append-nil (leaf_names u))
 
 -- where a child is not copied, the tree so far is freed, and the store has what it had
-record IsRefused {K V : Type 0} (old next : Nodes K V) (name : OpaqueNodePtr) : Type 0 where
+pub record IsRefused {K V : Type 0} (old next : Nodes K V) (name : OpaqueNodePtr) : Type 0 where
   pub tree : Tree OpaqueNodePtr (K × V)
   pub is_layout : IsLayout (node_at next) name tree
   pub leaves : (freed : Nodes K V) → Loses next freed tree → freed.leaves ≡ old.leaves
@@ -283,7 +283,7 @@ module _ {K V : Type 0} {IsClone : K × V → K × V → Type 0} where
         NextCloned IsClone s tree old now parent b name rest min max
     cloning_next steps so_far = next_below (subst (λ l. IsCloning IsClone s tree old now parent l min max) steps so_far)
 
-  cloning_refused : {s : Nodes K V} {tree : Tree OpaqueNodePtr (K × V)} {old now next : Nodes K V} {parent : InnerPtr} {name : OpaqueNodePtr}
+  pub cloning_refused : {s : Nodes K V} {tree : Tree OpaqueNodePtr (K × V)} {old now next : Nodes K V} {parent : InnerPtr} {name : OpaqueNodePtr}
       {rest : List (ℕ × OpaqueNodePtr)} {min max : Option LeafPtr} → IsCloning IsClone s tree old now parent rest min max → next.leaves ≡ now.leaves →
       next.inners ≡ now.inners → name ≡ inner_name parent → IsRefused old next name
   cloning_refused {old = old} {now} {next} {parent} f leaves inners named =

@@ -1,18 +1,16 @@
 -- What is freed, one name after another.
-use Rattle.std.proofs.Common.{◌≡◌, ◌≢◌, ℕ, ◌-◌, suc, List, [], ◌∷◌, ◌++◌, Option, Some, None, IfSome, IsSome, refl, ap, sym, ◌∙◌, subst, append-nil, append_assoc, arith, cond, is_some, true, inl, inr}
+use Rattle.std.proofs.Common.{◌≡◌, ◌≢◌, ℕ, ◌-◌, suc, List, [], ◌∷◌, ◌++◌, Option, Some, None, IsSome, refl, ap, sym, ◌∙◌, subst, append-nil, append_assoc, arith, cond, is_some, true, inl, inr}
 use Rattle.std.specs.Option.{option_map, option_and_then}
 use Rattle.std.specs.FinMap as map
-use Rattle.std.proofs.lemmas.Bool.{false≢true, eq-eqb, ne_eqb}
-use Rattle.art_inner.specs.Inner.{Inner, IsBelow, IsRising, remove_child}
-use Rattle.art_parts.specs.Names.{leaf_name, leaf_cmp, inner_cmp}
-use Rattle.art_inner.specs.Changes.{without_child}
-use Rattle.art_nodes.specs.Nodes.{Nodes, change}
+use Rattle.std.proofs.lemmas.Bool.{false≢true, ne_eqb}
+use Rattle.art_inner.specs.Inner.{IsBelow, remove_child}
+use Rattle.art_parts.specs.Names.{leaf_name, leaf_cmp}
+use Rattle.art_nodes.specs.Nodes.{Nodes}
 use Rattle.art_parts.specs.declared.names.LeafPtr.{LeafPtr}
-use Rattle.art_parts.specs.declared.names.InnerPtr.{InnerPtr}
 use Rattle.art_parts.specs.declared.leaf.LeafNode.{LeafNode}
 use Rattle.art_parts.specs.declared.names.OpaqueNodePtr.{OpaqueNodePtr}
 use Rattle.art_parts.proofs.NameLemmas.{leaf_cmp_total}
-use Rattle.art_nodes.proofs.StoreLaws.{changed_from, leaf_gone, leaf_gone_elsewhere}
+use Rattle.art_nodes.proofs.StoreLaws.{leaf_gone, leaf_gone_elsewhere}
 use Rattle.art_model.specs.Footprints.{IsIn}
 use Rattle.art_model.specs.Kept.{Frees}
 use Rattle.art_model.specs.Layouts.{AreDistinct}
@@ -22,7 +20,6 @@ use Rattle.art_model.proofs.Lists.{in_left, in_right, in_either}
 use Rattle.art_model.proofs.Names.{apart_in}
 use Rattle.art_model.proofs.Pairwises.{Pairwise-right}
 use Rattle.art_model.proofs.Views.{held_in_inner, leaf_or}
-use Rattle.art_writing.specs.Freed.{without_first_child}
 use Rattle.art_reading.specs.Iterators.{IsIteratorOf}
 use Rattle.art_reading.proofs.Iterators.{goes_on}
 
@@ -118,28 +115,9 @@ leaf_less m p some =
     go None h = absurd cc
     go (Some x) h = refl
 
--- ---- the first child of a node
+-- ---- the bytes of children rise
 
 -- no other child has its byte
-below_kept : (b : ℕ) (cs : List (ℕ × OpaqueNodePtr)) → IsBelow b cs → remove_child cs b ≡ cs
+pub below_kept : (b : ℕ) (cs : List (ℕ × OpaqueNodePtr)) → IsBelow b cs → remove_child cs b ≡ cs
 below_kept b [] h = refl
 below_kept b (c ∷ cs) h = rw (ne_eqb c.0 b (λ e. let l = h.0 in omega arith)) (ap (λ z. c ∷ z) (below_kept b cs h.1))
-
-first_gone : (node : Inner) (b : ℕ) (child : OpaqueNodePtr) (rest : List (ℕ × OpaqueNodePtr)) → node.children ≡ (b, child) ∷ rest →
-    IsRising node.children → without_child b node ≡ without_first_child node
-first_gone node b child rest is rising =
-    let up = subst IsRising is rising in
-    let same : remove_child node.children b ≡ without_first node.children =
-    ap (λ z. remove_child z b) is ∙ rw (eq-eqb b b refl) (below_kept b rest up.0) ∙ sym (ap without_first is) in
-    ap (λ z. let r : Inner = record node { children = z } in r) same
-
-pub first_taken : (m : map.FinMap inner_cmp Inner) (p : InnerPtr) (node : Inner) (b : ℕ) (child : OpaqueNodePtr) (rest : List (ℕ × OpaqueNodePtr)) →
-    Some node ≡ map.get m p → node.children ≡ (b, child) ∷ rest → IsRising node.children → change m p (without_child b) ≡ change m p without_first_child
-first_taken m p node b child rest there is rising =
-    changed_from m p (without_child b) (Some node) (sym there) ∙ ap (map.insert m p) (first_gone node b child rest is rising) ∙ sym (changed_from m p without_first_child (Some node) (sym there))
-
--- its first child's name, by the children that are left of it
-pub first_named : {o : Option Inner} {node : Inner} {children : List (ℕ × OpaqueNodePtr)} {answer : Option OpaqueNodePtr} → Some node ≡ o → children ≡ node.children →
-    answer ≡ option_map (λ child. child.1) (first_of children) → IfSome o (λ node. answer ≡ option_map (λ child. child.1) (first_of node.children))
-first_named {answer = answer} there same is =
-    subst (λ o. IfSome o (λ node. answer ≡ option_map (λ child. child.1) (first_of node.children))) there (is ∙ ap (λ l. option_map (λ child. child.1) (first_of l)) same)

@@ -1,6 +1,7 @@
 pub mod Ways
 pub mod Freed
 pub mod FreedTrees
+pub mod Turned
 pub mod LeafWrites
 pub mod Partings
 pub mod KeysFound
@@ -32,4 +33,5 @@ pub mod Entered
 pub mod Beside
 pub mod LeafAdded
 pub mod Cloning
+pub mod Copying
 pub mod Cloned

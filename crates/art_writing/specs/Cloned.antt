@@ -1,7 +1,11 @@
 -- What is told of a tree that was copied into another store. No public clause cites this module.
-use Rattle.std.specs.Prelude.{◌≡◌, Some, None, Result, IfOk, OnErr}
+use Rattle.std.specs.Prelude.{◌≡◌, ◌≤◌, length, Some, None, Result, IfOk, OnErr}
+use Rattle.std.specs.FinMap as map
+use Rattle.art_inner.specs.Inner.{Inner, Children, IsRising, childless}
+use Rattle.art_parts.specs.Kinds.{kind_capacity}
 use Rattle.art_parts.specs.Names.{leaf_name}
-use Rattle.art_nodes.specs.Nodes.{Nodes}
+use Rattle.art_nodes.specs.Nodes.{Nodes, take_inner}
+use Rattle.art_parts.specs.declared.names.InnerPtr.{InnerPtr}
 use Rattle.art_parts.specs.declared.names.OpaqueNodePtr.{OpaqueNodePtr}
 use Rattle.art_model.specs.Trees.{Tree}
 use Rattle.art_model.specs.Layouts.{name_of, leaf_names, first_or, last_or}
@@ -30,3 +34,14 @@ pub record IsCloned {K V E : Type 0} (IsClone : K × V → K × V → Type 0) (s
   pub leaves : OnErr result (new.leaves ≡ old.leaves)
   pub inners : OnErr result (new.inners ≡ old.inners)
   pub lessened : IsLessened old.promise new.promise
+
+-- A copy of an inner node was placed, with its header and without a child, and these children are to be copied.
+pub record IsBegun {K V : Type 0} (old new : Nodes K V) (name : InnerPtr) (node : Inner) (copy : InnerPtr) (children : Children) : Type 0 where
+  pub kind : copy.kind ≡ name.kind
+  pub fresh : map.get old.inners copy ≡ None
+  pub placed : new.inners ≡ map.insert old.inners copy (childless node.prefix)
+  pub leaves : new.leaves ≡ old.leaves
+  pub promise : new.promise ≡ take_inner name.kind old.promise
+  pub all : children ≡ node.children
+  pub rising : IsRising node.children
+  pub bound : length node.children ≤ kind_capacity name.kind

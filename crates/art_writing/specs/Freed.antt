@@ -1,17 +1,24 @@
 -- The nodes below a name that go, with the leaves or without them. No public clause cites this module.
-use Rattle.std.specs.Prelude.{◌≡◌, ℕ, Bool, true, if◌then◌else◌, List, [], ◌∷◌, ◌++◌, length}
+use Rattle.std.specs.Prelude.{◌≡◌, ℕ, Bool, true, if◌then◌else◌, List, [], ◌∷◌, ◌++◌, length, Option, Some, None, ⊤}
 use Rattle.std.specs.List.{AllByRecursion as Each}
-use Rattle.art_inner.specs.Inner.{Inner}
+use Rattle.art_inner.specs.Inner.{Children}
 use Rattle.art_nodes.specs.Nodes.{Nodes}
 use Rattle.art_parts.specs.declared.names.OpaqueNodePtr.{OpaqueNodePtr}
-use Rattle.art_model.specs.Layouts.{IsLayout, leaf_names}
-use Rattle.art_model.specs.Pairs.{without_first}
+use Rattle.art_model.specs.Layouts.{Node, leaf_node, inner_node, IsLayout, leaf_names}
 use Rattle.art_model.specs.Stores.{IsUsed, shape_at}
 use Rattle.art_model.specs.Trees.{Tree, leaf, inner, Subtrees, child, no_child}
 
--- a node without its first child
-abbrev pub without_first_child : Inner → Inner
-without_first_child node = record node { children = without_first node.children }
+-- the children of what is seen under a name: a leaf has none
+abbrev pub children_seen : {A : Type 0} → Option (Node OpaqueNodePtr A) → Children
+children_seen None = []
+children_seen (Some (leaf_node x)) = []
+children_seen (Some (inner_node h slots)) = slots
+
+-- a leaf, or an inner node without children
+abbrev pub IsEnd : {N A : Type 0} → Tree N A → Type 0
+IsEnd (leaf n x) = ⊤
+IsEnd (inner n h no_child) = ⊤
+IsEnd (inner n h (child b t cs)) = ⊥
 
 module _ {N A : Type 0} (leaves_too : Bool) where
   -- the names that go

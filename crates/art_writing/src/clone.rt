@@ -1,5 +1,5 @@
 //! The copying of a tree into another store.
-ghost use Rattle.std.specs.Prelude.{◌≡◌, ◌≢◌, List, [], Some, None, IsSome, IsSomeAnd, IfOk, OnOk, OnErr};
+ghost use Rattle.std.specs.Prelude.{◌≡◌, ◌≢◌, List, [], Some, None, IsSome, IsSomeAnd, IfOk, IfSome, OnOk, OnErr};
 ghost use Rattle.std.specs.FinMap as map;
 ghost use Rattle.std.specs.Option.{option_map, option_or};
 ghost use Rattle.art_inner.specs.Changes.{with_child};
@@ -7,7 +7,7 @@ ghost use Rattle.art_parts.specs.Clones.{IsLeafClone, IsPairClone};
 ghost use Rattle.art_inner.specs.Inner.{HasPlace, childless};
 ghost use Rattle.art_inner.specs.Views.{ref_kind, ref_view};
 ghost use Rattle.art_parts.specs.Kinds.{kind_capacity};
-ghost use Rattle.art_parts.specs.Names.{leaf_name};
+ghost use Rattle.art_parts.specs.Names.{inner_name, leaf_name};
 ghost use Rattle.art_nodes.specs.Nodes.{change, take_inner, take_leaf};
 ghost use Rattle.art_parts.specs.declared.leaf.LeafNode.{LeafNode};
 ghost use Rattle.art_parts.specs.declared.names.NodeType.TheVariants.{Leaf};
@@ -22,11 +22,13 @@ ghost use Rattle.art_model.specs.Promises.{IsLessened, tree_taken};
 ghost use Rattle.art_model.specs.Roots.{ForTree, IsCanonicalRoot, IsFullTree};
 ghost use Rattle.art_model.specs.Trees.{Tree};
 ghost use Rattle.art_model.specs.Writes.{IsThere, joined};
-ghost use Rattle.art_writing.specs.Cloned.{IsCloned};
+ghost use Rattle.art_writing.specs.Cloned.{IsBegun, IsCloned};
 
 use crate::deallocate::free_nodes;
 use crate::writes::link;
-use art_nodes::node::{AnyInner, AsBytes, InnerPtr, InnerRef, LeafPtr, NodePtr, OpaqueNodePtr};
+use art_nodes::node::{
+    AnyInner, AsBytes, Children, InnerPtr, InnerRef, LeafPtr, NodePtr, OpaqueNodePtr,
+};
 use art_nodes::store::NodeStore;
 use std::alloc::AllocError;
 
@@ -47,8 +49,8 @@ struct LeafEnds {
 
 /// Clones the tree of a canonical root into another store, pair by pair, and leaves the source as it is.
 ///
-/// An `Err` is for want of memory, for a node or for the clone of a key or a value. What was placed is freed
-/// then, and the other store has the nodes that it had. The recursion is as deep as the tree.
+/// An `Err` is for want of memory, for a node, for the clone of a key or a value, or for the list of the nodes
+/// above. What was placed is freed then, and the other store has the nodes that it had.
 pub fn clone_unchecked<K: AsBytes + Clone + Drop, V: Clone + Drop, const PREFIX_LEN: usize>(
     store: &NodeStore<K, V, PREFIX_LEN>,
     root: OpaqueNodePtr,
@@ -79,6 +81,16 @@ pub fn clone_unchecked<K: AsBytes + Clone + Drop, V: Clone + Drop, const PREFIX_
     clone_tree(store, root, into)
 }
 
+// An inner node that is copied, while a child of it is: that child's byte, the children that come after it, and
+// the ends of the leaves so far.
+#[derive(Drop)]
+struct Above<'a> {
+    copy: InnerPtr,
+    byte: u8,
+    children: Children<'a>,
+    ends: Option<LeafEnds>,
+}
+
 // Clones the tree that a name stands for.
 fn clone_tree<K: AsBytes + Clone + Drop, V: Clone + Drop, const P: usize>(
     store: &NodeStore<K, V, P>,
@@ -88,28 +100,95 @@ fn clone_tree<K: AsBytes + Clone + Drop, V: Clone + Drop, const P: usize>(
     requires { (tree : Tree OpaqueNodePtr (K × V)) × IsFullTree store.now root tree }
     ensures { IsCloned (IsPairClone K.is_clone V.is_clone) store.now root into.old into.new result }
 {
-    let name = match root.split() {
-        NodePtr::Leaf(name) => return clone_leaf(store, name, into),
-        NodePtr::Inner(name) => name,
-    };
-    let Some(node) = store.inner(name) else {
-        unreachable!()
-    };
-    let Ok(parent) = place_like(node, into) else {
+    match root.split() {
+        NodePtr::Leaf(name) => clone_leaf(store, name, into),
+        NodePtr::Inner(name) => clone_inner(store, name, into),
+    }
+}
+
+// Clones the tree of an inner node. The copies above the one whose children have their turns stand in a list;
+// where a clone is refused each of them is freed with what is below it.
+fn clone_inner<K: AsBytes + Clone + Drop, V: Clone + Drop, const P: usize>(
+    store: &NodeStore<K, V, P>,
+    root: InnerPtr,
+    into: &mut NodeStore<K, V, P>,
+) -> Result<CloneResult, AllocError>
+    requires proper { root.kind ≢ Leaf }
+    requires tree { (tree : Tree OpaqueNodePtr (K × V)) ×
+        IsFullTree store.now (inner_name root) tree }
+    ensures { IsCloned (IsPairClone K.is_clone V.is_clone)
+        store.now (inner_name root) into.old into.new result }
+{
+    let mut above: Vec<Above<'_>> = Vec::new(into.alloc());
+    let Ok((mut copy, mut children)) = begin(store, root, into) else {
         return Err(AllocError);
     };
-    let copy_root = parent.to_opaque();
     let mut ends = None;
-    for (byte, child) in node.iter() {
-        match clone_tree(store, child, into) {
-            Ok(copy) => ends = Some(add_copy(into, parent, byte, ends, copy)),
-            Err(error) => {
-                free_nodes(into, copy_root, true);
-                return Err(error);
+    'children: loop {
+        let Some((byte, child)) = children.next() else {
+            let done = clone_of(copy.to_opaque(), ends);
+            let Some(outer) = above.pop() else {
+                return Ok(done);
+            };
+            ends = Some(add_copy(into, outer.copy, outer.byte, outer.ends, done));
+            copy = outer.copy;
+            children = outer.children;
+            continue 'children;
+        };
+        match child.split() {
+            NodePtr::Leaf(leaf) => {
+                let Ok(done) = clone_leaf(store, leaf, into) else {
+                    break 'children;
+                };
+                ends = Some(add_copy(into, copy, byte, ends, done));
+            }
+            NodePtr::Inner(inner) => {
+                if above.reserve(1).is_err() {
+                    break 'children;
+                }
+                let Ok(begun) = begin(store, inner, into) else {
+                    break 'children;
+                };
+                above.push_reserved(Above {
+                    copy,
+                    byte,
+                    children,
+                    ends,
+                });
+                copy = begun.0;
+                children = begun.1;
+                ends = None;
             }
         }
     }
-    Ok(clone_of(copy_root, ends))
+    'back: loop {
+        free_nodes(into, copy.to_opaque(), true);
+        let Some(outer) = above.pop() else {
+            return Err(AllocError);
+        };
+        copy = outer.copy;
+    }
+}
+
+// Places a copy of an inner node, without a child, and answers it with the children that are to be copied.
+fn begin<'a, K: AsBytes + Clone + Drop, V: Clone + Drop, const P: usize>(
+    store: &'a NodeStore<K, V, P>,
+    name: InnerPtr,
+    into: &mut NodeStore<K, V, P>,
+) -> Result<(InnerPtr, Children<'a>), AllocError>
+    requires { IsSome (map.get store.now.inners name) }
+    ensures begun { IfOk result (λ begun. IfSome (map.get store.now.inners name) (λ node.
+        IsBegun into.old into.new name node begun.0 begun.1)) }
+    ensures lessened { IsLessened into.old.promise into.new.promise }
+    ensures refused { OnErr result (into.new ≡ into.old) }
+{
+    let Some(node) = store.inner(name) else {
+        unreachable!()
+    };
+    let Ok(copy) = place_like(node, into) else {
+        return Err(AllocError);
+    };
+    Ok((copy, node.iter()))
 }
 
 // The names of a clone with this root and these ends.
@@ -152,7 +231,7 @@ fn clone_leaf<K: AsBytes + Clone + Drop, V: Clone + Drop, const P: usize>(
 }
 
 // Places an inner node of the kind and with the header of another one, without a child.
-// A node is large: it stands on the stack while it is placed, and not through the recursion.
+// A node is large: it stands on the stack while it is placed, and not in the frame of the loop.
 #[inline(never)]
 fn place_like<K: AsBytes + Drop, V: Drop, const P: usize>(
     node: InnerRef<'_, P>,

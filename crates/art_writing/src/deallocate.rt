@@ -1,18 +1,18 @@
 //! Leaves, inner nodes and whole trees are freed. Nothing here takes memory.
-ghost use Rattle.std.specs.Prelude.{◌≡◌, ◌≢◌, ◌+◌, ◌≤◌, ◌<◌, ◌^◌, Bool, true, IsTrue, List, length, IsSome, IfSome, IfNone, OnSome};
+ghost use Rattle.std.specs.Prelude.{◌≡◌, ◌≢◌, ◌+◌, ◌≤◌, ◌<◌, ◌^◌, Bool, true, IsTrue, List, length, IsSome};
 ghost use Rattle.std.specs.FinMap as map;
-ghost use Rattle.std.specs.Option.{option_map};
-ghost use Rattle.art_nodes.specs.Nodes.{change};
 ghost use Rattle.art_parts.specs.declared.names.InnerPtr.{InnerPtr};
 ghost use Rattle.art_parts.specs.declared.names.NodeType.TheVariants.{Leaf};
 ghost use Rattle.art_parts.specs.declared.names.OpaqueNodePtr.{OpaqueNodePtr};
 ghost use Rattle.art_model.specs.Kept.{Frees};
 ghost use Rattle.art_model.specs.Layouts.{IsLayout, inner_names, leaf_names, names_of};
-ghost use Rattle.art_model.specs.Pairs.{first_of};
+ghost use Rattle.art_model.specs.Pairs.{first_of, without_first};
 ghost use Rattle.art_model.specs.Roots.{IsFullTree};
 ghost use Rattle.art_model.specs.Stores.{shape_at};
 ghost use Rattle.art_model.specs.Trees.{Tree};
-ghost use Rattle.art_writing.specs.Freed.{CanGo, going, leaves_going, without_first_child};
+ghost use Rattle.art_model.specs.Writes.{as_inner};
+ghost use Rattle.art_inner.specs.Inner.{IsRising};
+ghost use Rattle.art_writing.specs.Freed.{CanGo, IsEnd, children_seen, going, leaves_going};
 ghost use Rattle.art_reading.specs.Iterators.{IsIteratorOf};
 
 use art_nodes::node::{AsBytes, InnerPtr, NodePtr, OpaqueNodePtr};
@@ -39,7 +39,7 @@ pub fn deallocate_leaves<K: AsBytes + Drop, V: Drop, const PREFIX_LEN: usize>(
 }
 
 /// Frees the inner nodes of the tree that a name stands for. It reads no leaf: the leaves may be freed
-/// before or after. The recursion is as deep as the tree.
+/// before or after.
 pub fn deallocate_tree_non_leaves<K: AsBytes + Drop, V: Drop, const PREFIX_LEN: usize>(
     root: OpaqueNodePtr,
     store: &mut NodeStore<K, V, PREFIX_LEN>,
@@ -52,8 +52,7 @@ pub fn deallocate_tree_non_leaves<K: AsBytes + Drop, V: Drop, const PREFIX_LEN: 
     free_nodes(store, root, false);
 }
 
-/// Frees all nodes of the tree that a name stands for, and answers how many leaves it had. The recursion is
-/// as deep as the tree.
+/// Frees all nodes of the tree that a name stands for, and answers how many leaves it had.
 pub fn deallocate_tree<K: AsBytes + Drop, V: Drop, const PREFIX_LEN: usize>(
     root: OpaqueNodePtr,
     store: &mut NodeStore<K, V, PREFIX_LEN>,
@@ -70,6 +69,9 @@ pub fn deallocate_tree<K: AsBytes + Drop, V: Drop, const PREFIX_LEN: usize>(
 
 // Frees the inner nodes below a name, and the leaves too if asked to; answers how many leaves it freed.
 // An inner node may be without children.
+//
+// No list of what is left is kept, and no stack: the nodes that are left are one tree all the time, which is
+// turned until its root has an end below it. An only child takes its parent's place.
 pub(crate) fn free_nodes<K: AsBytes + Drop, V: Drop, const P: usize>(
     store: &mut NodeStore<K, V, P>,
     root: OpaqueNodePtr,
@@ -88,27 +90,96 @@ pub(crate) fn free_nodes<K: AsBytes + Drop, V: Drop, const P: usize>(
     ensures total { result + map.len store.new.leaves ≡ map.len store.old.leaves }
     ensures few { 0 < result → map.len store.old.leaves < 2 ^ 64 }
 {
-    let inner = match root.split() {
+    let mut left = root;
+    let mut count = 0;
+    'left: loop {
+        let (first, second) = first_two(store, left);
+        let Some((_, only)) = first else {
+            return count + free_end(store, left, leaves_too);
+        };
+        let upper = inner_of(left);
+        let Some((byte, lower)) = second else {
+            free_node(store, upper);
+            left = only;
+            continue 'left;
+        };
+        let (below, _) = first_two(store, lower);
+        let Some((low_byte, lowest)) = below else {
+            store.remove_child(upper, byte);
+            count += free_end(store, lower, leaves_too);
+            continue 'left;
+        };
+        store.write_child(upper, byte, lowest);
+        store.write_child(inner_of(lower), low_byte, left);
+        left = lower;
+    }
+}
+
+// The first two children of an inner node with their bytes; a leaf has none.
+fn first_two<K: AsBytes + Drop, V: Drop, const P: usize>(
+    store: &NodeStore<K, V, P>,
+    name: OpaqueNodePtr,
+) -> (Option<(u8, OpaqueNodePtr)>, Option<(u8, OpaqueNodePtr)>)
+    ensures first { result.0 ≡ first_of (children_seen (shape_at store.now name)) }
+    ensures second { result.1 ≡ first_of (without_first (children_seen (shape_at store.now name))) }
+    ensures rising { IsRising (children_seen (shape_at store.now name)) }
+{
+    let Some(inner) = name.as_inner() else {
+        return (None, None);
+    };
+    let Some(node) = store.inner(inner) else {
+        return (None, None);
+    };
+    let mut children = node.iter();
+    (children.next(), children.next())
+}
+
+// The name of an inner node, as such a one.
+fn inner_of(name: OpaqueNodePtr) -> InnerPtr
+    ensures { result ≡ as_inner name }
+{
+    InnerPtr {
+        kind: name.kind,
+        slot: name.slot,
+    }
+}
+
+// Frees an inner node without children, or a leaf if asked to; answers how many leaves it freed.
+fn free_end<K: AsBytes + Drop, V: Drop, const P: usize>(
+    store: &mut NodeStore<K, V, P>,
+    name: OpaqueNodePtr,
+    leaves_too: bool,
+) -> usize
+    requires { (shape : Tree OpaqueNodePtr (Unit {0})) × IsEnd shape ×
+        CanGo store.old leaves_too name shape }
+    ensures freed { (shape : Tree OpaqueNodePtr (Unit {0})) → IsEnd shape →
+        CanGo store.old leaves_too name shape →
+        Frees (going leaves_too shape) store.old store.new }
+    ensures count { (shape : Tree OpaqueNodePtr (Unit {0})) → IsEnd shape →
+        CanGo store.old leaves_too name shape →
+        result ≡ leaves_going leaves_too shape }
+    ensures promise { store.new.promise ≡ store.old.promise }
+    ensures improper { (name : InnerPtr) → name.kind ≡ Leaf →
+        map.get store.new.inners name ≡ map.get store.old.inners name }
+    ensures total { result + map.len store.new.leaves ≡ map.len store.old.leaves }
+    ensures few { 0 < result → map.len store.old.leaves < 2 ^ 64 }
+{
+    match name.split() {
         NodePtr::Leaf(leaf) => {
             if leaves_too {
                 store.free_leaf(leaf);
                 return 1;
             }
-            return 0;
+            0
         }
-        NodePtr::Inner(inner) => inner,
-    };
-    let mut count = 0;
-    'children: loop {
-        let Some(child) = take_first_child(store, inner) else {
+        NodePtr::Inner(inner) => {
             free_node(store, inner);
-            return count;
-        };
-        count += free_nodes(store, child, leaves_too);
+            0
+        }
     }
 }
 
-// Frees an inner node. It is large: it stands on the stack while it goes, and not through the recursion.
+// Frees an inner node. It is large: it stands on the stack while it goes, and not in the frame of the loop.
 #[inline(never)]
 fn free_node<K: AsBytes + Drop, V: Drop, const P: usize>(
     store: &mut NodeStore<K, V, P>,
@@ -120,26 +191,4 @@ fn free_node<K: AsBytes + Drop, V: Drop, const P: usize>(
     ensures promise { store.new.promise ≡ store.old.promise }
 {
     store.free_inner(inner);
-}
-
-// Takes the first child out of an inner node, and answers its name.
-fn take_first_child<K: AsBytes + Drop, V: Drop, const P: usize>(
-    store: &mut NodeStore<K, V, P>,
-    inner: InnerPtr,
-) -> Option<OpaqueNodePtr>
-    requires { IsSome (map.get store.old.inners inner) }
-    ensures child { IfSome (map.get store.old.inners inner) (λ node. result ≡ option_map (λ child.
-        child.1) (first_of node.children)) }
-    ensures taken { OnSome result (store.new.inners ≡
-        change store.old.inners inner without_first_child) }
-    ensures none { IfNone result (store.new.inners ≡ store.old.inners) }
-    ensures leaves { store.new.leaves ≡ store.old.leaves }
-    ensures promise { store.new.promise ≡ store.old.promise }
-{
-    let Some(node) = store.inner(inner) else {
-        unreachable!()
-    };
-    let (byte, child) = node.iter().next()?;
-    store.remove_child(inner, byte);
-    Some(child)
 }

@@ -22,7 +22,9 @@ use art_operations::lookup::{prefix_search_unchecked, search_unchecked};
 use art_operations::minmax::{maximum_unchecked, minimum_unchecked};
 use art_operations::visitor::{Visitor, visit_with};
 
+pub mod counts;
 pub mod months;
+pub mod parts;
 
 /// Puts a pair in, and answers the root. `None` where the key is related to an unequal stored one, or for
 /// want of memory; then the root stands for what it stood for.

@@ -13,11 +13,15 @@ fn is_gap(byte: &u8) -> bool {
     *byte == 0 || byte.is_ascii_whitespace()
 }
 
-fn count_word(counts: &mut Counts, alloc: Global, word: &[u8]) -> Result<(), AllocError> {
-    let mut key = word.to_vec(alloc)?;
+fn count_word(counts: &mut Counts, key: &mut Vec<u8>, word: &[u8]) -> Result<(), AllocError> {
+    key.clear();
+    key.extend_from_slice(word)?;
     key.push(0)?;
-    let count = counts.get(&key).copied().unwrap_or(0);
-    match counts.insert(key, count.saturating_add(1)) {
+    if let Some(count) = counts.get_mut(key) {
+        *count = count.saturating_add(1);
+        return Ok(());
+    }
+    match counts.insert(key.clone()?, 1) {
         Ok(_) => Ok(()),
         Err(_) => Err(AllocError),
     }
@@ -26,6 +30,7 @@ fn count_word(counts: &mut Counts, alloc: Global, word: &[u8]) -> Result<(), All
 fn count_words(alloc: Global, input: &mut impl BufRead) -> io::Result<Counts> {
     let mut counts = ByteMap::new(alloc);
     let mut line = Vec::new(alloc);
+    let mut key = Vec::new(alloc);
     for _ in 0..u64::MAX {
         line.clear();
         if input.read_until(b'\n', &mut line)? == 0 {
@@ -33,7 +38,7 @@ fn count_words(alloc: Global, input: &mut impl BufRead) -> io::Result<Counts> {
         }
         for word in line.split(is_gap) {
             if !word.is_empty() {
-                count_word(&mut counts, alloc, word)?;
+                count_word(&mut counts, &mut key, word)?;
             }
         }
     }

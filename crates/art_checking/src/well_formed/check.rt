@@ -1,5 +1,5 @@
 //! The check, node by node.
-ghost use Rattle.std.specs.Prelude.{◌≡◌, ◌≢◌, ◌+◌, ◌<◌, ◌≤◌, ◌++◌, ◌↔◌, ℕ, List, length, Some, None, IsTrue, IsSome, OnOk, IfOk, IfErr, IfSome, MatchOption};
+ghost use Rattle.std.specs.Prelude.{◌≡◌, ◌≢◌, ◌+◌, ◌<◌, ◌≤◌, ◌++◌, ◌↔◌, ℕ, List, [], length, take, Some, None, IsTrue, IsSome, OnOk, IfOk, IfErr, IfSome, MatchOption};
 ghost use Rattle.std.specs.FinMap as map;
 ghost use Rattle.std.specs.List.{AllByRecursion as Each};
 ghost use Rattle.art_inner.specs.Views.{ref_kind, ref_view};
@@ -13,19 +13,28 @@ ghost use Rattle.art_model.specs.Layouts.{AreLinked, IsLayout, leaf_names, leaf_
 ghost use Rattle.art_model.specs.Pairs.{of_key};
 ghost use Rattle.art_model.specs.Trees.{Tree};
 ghost use Rattle.art_model.specs.Stores.{IsUsed, header_at, links_at, node_at};
-ghost use Rattle.art_checking.specs.Checked.{AreReached, IsBetween, IsChecked, IsFirstMet, IsInOrder, IsLeafAt, IsLeastLeaf, IsMetTree, IsPartOf, IsPassed, IsRead, IsReadFrom, IsTrueAt, IsTrueBehind, IsWalked, NoneBelow, NoneFrom, Says, names_of_leaves};
+ghost use Rattle.art_checking.specs.Checked.{AreReached, IsBetween, IsEntered, IsFirstLeast, IsFirstMet, IsInOrder, IsLeafAt, IsLeastLeaf, IsMetTree, IsPartOf, IsRead, IsReadFrom, IsStart, IsTrueAt, Says, names_of_leaves};
 ghost use Rattle.art_checking.specs.Checks.{fault_of};
 ghost use Rattle.art_checking.specs.Meetings.{place_in};
+ghost use Rattle.art_checking.specs.declared.well_formed.seen.Seen.{Seen};
 
 use super::MalformedTreeError;
 use super::seen::Seen;
 use art_nodes::node::{
-    AsBytes, InnerPtr, InnerRef, LeafPtr, NodePtr, OpaqueNodePtr, OptionalLeafPtr,
+    AsBytes, Children, InnerPtr, InnerRef, LeafPtr, NodePtr, OpaqueNodePtr, OptionalLeafPtr,
 };
 use art_nodes::store::NodeStore;
 use std::alloc::AllocError;
 use std::cmp::Ordering;
 use std::collections::BTreeSet;
+
+// A node whose child is checked: where the bytes that lead to it end, and its children that come after that one.
+#[derive(Drop)]
+struct Above<'a> {
+    name: InnerPtr,
+    depth: usize,
+    children: Children<'a>,
+}
 
 // Checks all nodes below a root, and answers what was met.
 pub(super) fn check_nodes<K: AsBytes + Drop, V: Drop, const P: usize>(
@@ -38,36 +47,135 @@ pub(super) fn check_nodes<K: AsBytes + Drop, V: Drop, const P: usize>(
 {
     let mut seen = Seen::new(store.alloc());
     let mut place = Vec::new(store.alloc());
-    check_node(store, root, None, &mut place, &mut seen)?;
+    check_root(store, root, &mut place, &mut seen)?;
     Ok(seen)
 }
 
-// Checks the node that a name stands for, which is reached at a place, and all that is below it. `least` is
-// its least leaf, where that is known.
-#[cycle(checks)]
-fn check_node<K: AsBytes + Drop, V: Drop, const P: usize>(
+// Checks the node of a root and all that is below it, where nothing was met yet.
+fn check_root<K: AsBytes + Drop, V: Drop, const P: usize>(
     store: &NodeStore<K, V, P>,
-    name: OpaqueNodePtr,
-    least: Option<LeafPtr>,
+    root: OpaqueNodePtr,
     place: &mut Vec<u8>,
     seen: &mut Seen,
 ) -> Result<(), MalformedTreeError>
-    requires free { NoneFrom (place_in seen.old) place.old.items }
-    requires least { IfSome least (λ leaf.
-        IsLeastLeaf (of_key K.bytes) P store.now name (Some leaf)) }
-    ensures passed { OnOk result (IsPassed (of_key K.bytes) P store.now
-        seen.old seen.new place.old.items name) }
-    ensures place { OnOk result (place.new.items ≡ place.old.items) }
-    ensures walked { OnOk result (IsWalked (of_key K.bytes) P store.now
-        (place_in seen.old) (place_in seen.new) place.old.items name) }
-    ensures fault { IfErr result (IsTrueBehind (of_key K.bytes) P store.now
-        (place_in seen.old) place.old.items name) }
+    requires start { IsStart seen.old }
+    requires place { place.old.items ≡ [] }
+    ensures met { OnOk result (IsMetTree (of_key K.bytes) P store.now seen.new root) }
+    ensures fault { IfErr result (λ error.
+        IsTrueOf (of_key K.bytes) P store.now root (fault_of error)) }
 {
-    meet(store, name, place, seen)?;
-    match name.split() {
+    meet(store, root, place, seen)?;
+    match root.split() {
         NodePtr::Leaf(leaf) => check_leaf(store, leaf, place),
-        NodePtr::Inner(inner) => check_inner(store, inner, least, place, seen),
+        NodePtr::Inner(inner) => check_below(store, inner, place, seen),
     }
+}
+
+// Checks an inner root that was met, and all that is below it. The nodes above the one whose children have
+// their turns stand in a list.
+fn check_below<K: AsBytes + Drop, V: Drop, const P: usize>(
+    store: &NodeStore<K, V, P>,
+    root: InnerPtr,
+    place: &mut Vec<u8>,
+    seen: &mut Seen,
+) -> Result<(), MalformedTreeError>
+    requires there { IsSome (map.get store.now.inners root) }
+    requires proper { root.kind ≢ Leaf }
+    requires met { (start : Seen) × IsStart start × IsFirstMet start seen.old (inner_name root) [] }
+    requires place { place.old.items ≡ [] }
+    ensures met { OnOk result
+        (IsMetTree (of_key K.bytes) P store.now seen.new (inner_name root)) }
+    ensures fault { IfErr result (λ error.
+        IsTrueOf (of_key K.bytes) P store.now (inner_name root) (fault_of error)) }
+{
+    let mut above: Vec<Above<'_>> = Vec::new(store.alloc());
+    let (mut name, mut depth) = (root, 0);
+    let (mut children, mut least) = enter(store, root, None, place)?;
+    'below: loop {
+        let Some((byte, child)) = children.next() else {
+            leave(store, name, depth, place)?;
+            let Some(parent) = above.pop() else {
+                return Ok(());
+            };
+            place.pop();
+            name = parent.name;
+            depth = parent.depth;
+            children = parent.children;
+            least = None;
+            continue 'below;
+        };
+        place.push(byte)?;
+        meet(store, child, place, seen)?;
+        let inner = match child.split() {
+            NodePtr::Leaf(leaf) => {
+                check_leaf(store, leaf, place)?;
+                place.pop();
+                least = None;
+                continue 'below;
+            }
+            NodePtr::Inner(inner) => inner,
+        };
+        above.push(Above {
+            name,
+            depth,
+            children,
+        })?;
+        name = inner;
+        depth = place.len();
+        let entered = enter(store, inner, least, place)?;
+        children = entered.0;
+        least = entered.1;
+    }
+}
+
+// Comes to an inner node that was met: appends its prefix to the bytes that lead to it, and answers its
+// children, with their least leaf where it is known.
+fn enter<'a, K: AsBytes + Drop, V: Drop, const P: usize>(
+    store: &'a NodeStore<K, V, P>,
+    name: InnerPtr,
+    least: Option<LeafPtr>,
+    place: &mut Vec<u8>,
+) -> Result<(Children<'a>, Option<LeafPtr>), MalformedTreeError>
+    requires there { IsSome (map.get store.now.inners name) }
+    requires proper { name.kind ≢ Leaf }
+    requires least { IfSome least (λ leaf.
+        IsLeastLeaf (of_key K.bytes) P store.now (inner_name name) (Some leaf)) }
+    ensures entered { IfOk result (λ entered. IfSome (map.get store.now.inners name) (λ node.
+        IsEntered (of_key K.bytes) P store.now place.old.items place.new.items name node
+        entered.0)) }
+    ensures least { IfOk result (λ entered.
+        IsFirstLeast (of_key K.bytes) P store.now entered.1 entered.0) }
+    ensures fault { IfErr result
+        (IsTrueAt (of_key K.bytes) P store.now place.old.items (inner_name name)) }
+{
+    let Some(node) = store.inner(name) else {
+        unreachable!()
+    };
+    let least = read_prefix(store, name, node, least, place)?;
+    Ok((node.iter(), least))
+}
+
+// Goes from an inner node all of whose children were passed: cuts its prefix off the bytes that lead to it,
+// and counts its children.
+fn leave<K: AsBytes + Drop, V: Drop, const P: usize>(
+    store: &NodeStore<K, V, P>,
+    name: InnerPtr,
+    depth: usize,
+    place: &mut Vec<u8>,
+) -> Result<(), MalformedTreeError>
+    requires there { IsSome (map.get store.now.inners name) }
+    requires proper { name.kind ≢ Leaf }
+    ensures place { OnOk result (place.new.items ≡ take depth place.old.items) }
+    ensures enough { OnOk result (IfSome (map.get store.now.inners name) (λ node.
+        kind_least name.kind ≤ length node.children)) }
+    ensures fault { IfErr result (IsTrueAt (of_key K.bytes) P store.now
+        (take depth place.old.items) (inner_name name)) }
+{
+    let Some(node) = store.inner(name) else {
+        unreachable!()
+    };
+    place.truncate(depth);
+    check_count(store, node, place)
 }
 
 // Adds a name that is reached at a place to those that were met: a name for the second time is a loop,
@@ -108,45 +216,6 @@ fn is_there<K: AsBytes + Drop, V: Drop, const P: usize>(
         NodePtr::Leaf(leaf) => store.leaf(leaf).is_some(),
         NodePtr::Inner(inner) => store.inner(inner).is_some(),
     }
-}
-
-// Checks an inner node that was met at a place, and all that is below it. `least` is its least leaf,
-// where that is known.
-#[cycle(checks)]
-fn check_inner<K: AsBytes + Drop, V: Drop, const P: usize>(
-    store: &NodeStore<K, V, P>,
-    name: InnerPtr,
-    least: Option<LeafPtr>,
-    place: &mut Vec<u8>,
-    seen: &mut Seen,
-) -> Result<(), MalformedTreeError>
-    requires there { IsSome (map.get store.now.inners name) }
-    requires proper { name.kind ≢ Leaf }
-    requires met { place_in seen.old (inner_name name) ≢ None }
-    requires below { NoneBelow (place_in seen.old) place.old.items }
-    requires least { IfSome least (λ leaf.
-        IsLeastLeaf (of_key K.bytes) P store.now (inner_name name) (Some leaf)) }
-    ensures checked { OnOk result (IsChecked (of_key K.bytes) P store.now
-        seen.old seen.new place.old.items (inner_name name)) }
-    ensures place { OnOk result (place.new.items ≡ place.old.items) }
-    ensures walked { OnOk result (IsWalked (of_key K.bytes) P store.now
-        (place_in seen.old) (place_in seen.new) place.old.items (inner_name name)) }
-    ensures fault { IfErr result (IsTrueBehind (of_key K.bytes) P store.now
-        (place_in seen.old) place.old.items (inner_name name)) }
-{
-    let Some(node) = store.inner(name) else {
-        unreachable!()
-    };
-    let depth = place.len();
-    let mut least = read_prefix(store, name, node, least, place)?;
-    for (byte, child) in node.iter() {
-        place.push(byte)?;
-        check_node(store, child, least, place, seen)?;
-        place.pop();
-        least = None;
-    }
-    place.truncate(depth);
-    check_count(store, node, place)
 }
 
 // Appends the prefix of an inner node to the bytes that lead to it. A prefix that is not stored whole is

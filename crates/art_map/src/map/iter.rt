@@ -1,7 +1,7 @@
 //! The pairs of a map, in order.
 ghost use Rattle.std.specs.Prelude.{◌≡◌, length};
 ghost use Rattle.std.specs.Iterator.{at_most};
-ghost use Rattle.art_map.specs.MapItems.{IsWalk, TakesFirst, TakesLast, pairs_left};
+ghost use Rattle.art_map.specs.MapItems.{IsRange, IsWalk, TakesFirst, TakesLast, pairs_between, pairs_left};
 
 use super::pair_at;
 use art_nodes::node::AsBytes;
@@ -28,6 +28,20 @@ pub trait Leaves<K, V> {
         ensures walk { IsWalk (seen self.now) walk.new len.new }
         ensures pair { TakesLast (pairs_left (seen self.now) walk.old len.old) result
             (pairs_left (seen self.now) walk.new len.new) };
+
+    /// The pair of the first leaf that is left, of at most so many.
+    fn take(&self, walk: &mut RawIterator, at_most: &mut usize) -> Option<(&K, &V)>
+        requires { IsRange (seen self.now) walk.old at_most.old }
+        ensures range { IsRange (seen self.now) walk.new at_most.new }
+        ensures pair { TakesFirst (pairs_between (seen self.now) walk.old at_most.old) result
+            (pairs_between (seen self.now) walk.new at_most.new) };
+
+    /// The pair of the last leaf that is left, of at most so many.
+    fn take_back(&self, walk: &mut RawIterator, at_most: &mut usize) -> Option<(&K, &V)>
+        requires { IsRange (seen self.now) walk.old at_most.old }
+        ensures range { IsRange (seen self.now) walk.new at_most.new }
+        ensures pair { TakesLast (pairs_between (seen self.now) walk.old at_most.old) result
+            (pairs_between (seen self.now) walk.new at_most.new) };
 }
 
 impl<K: AsBytes + Drop, V: Drop, const P: usize> Leaves<K, V> for NodeStore<K, V, P> {
@@ -43,6 +57,18 @@ impl<K: AsBytes + Drop, V: Drop, const P: usize> Leaves<K, V> for NodeStore<K, V
         let name = walk.next_back(self)?;
         *len -= 1;
         Some(pair_at(self, name))
+    }
+
+    fn take(&self, walk: &mut RawIterator, at_most: &mut usize) -> Option<(&K, &V)> {
+        let leaf = walk.next(self)?;
+        *at_most -= 1;
+        Some(pair_at(self, leaf))
+    }
+
+    fn take_back(&self, walk: &mut RawIterator, at_most: &mut usize) -> Option<(&K, &V)> {
+        let leaf = walk.next_back(self)?;
+        *at_most -= 1;
+        Some(pair_at(self, leaf))
     }
 }
 

@@ -1,4 +1,5 @@
 mod beside_btree;
 mod calls;
 mod memory;
+mod ranges;
 mod related;

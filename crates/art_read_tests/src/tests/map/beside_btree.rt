@@ -133,3 +133,87 @@ fn drawn_calls_answer_as_those_of_a_btree_map(rt: HostRuntime) -> Result<(), Fai
     let seen = compared(&mut ByteMap::new(alloc), &mut BTreeMap::new(alloc), 10_000);
     as_expected(Some((seen, (None, true))))
 }
+
+// A write of the value of a key in both, by one of four calls, and whether both had it.
+fn agree_on_write(
+    map: &mut Map,
+    model: &mut BTreeMap<Key, u32>,
+    key: Key,
+    value: u32,
+    call: usize,
+) -> bool {
+    match call {
+        0 => match (map.get_mut(&key), model.get_mut(&key)) {
+            (Some(own), Some(other)) => {
+                let agree = *own == *other;
+                *own = value;
+                *other = value;
+                agree
+            }
+            (None, None) => true,
+            _ => false,
+        },
+        1 => match (map.get_or_insert(key, 7), model.entry(key)) {
+            (Ok(own), Ok(entry)) => {
+                let other = entry.or_insert(7);
+                let agree = *own == *other;
+                *own = value;
+                *other = value;
+                agree
+            }
+            _ => false,
+        },
+        2 => match (map.entry(key).or_insert(value), model.entry(key)) {
+            (Ok(own), Ok(entry)) => *own == *entry.or_insert(value),
+            _ => false,
+        },
+        _ => {
+            let own = map
+                .entry(key)
+                .and_modify(|stored| *stored = value)
+                .get()
+                .copied();
+            if let Some(other) = model.get_mut(&key) {
+                *other = value;
+            }
+            own == model.get(&key).copied() && map.get_key_value(&key) == model.get_key_value(&key)
+        }
+    }
+}
+
+// Whether both have the same keys, and the same values.
+fn agree_on_parts(map: &Map, model: &BTreeMap<Key, u32>) -> bool {
+    map.keys().eq(model.keys()) && map.values().rev().eq(model.values().rev())
+}
+
+// The number of the first write or call after which they differ, if they do. All 300 calls they are cleared.
+fn differ_at_write(map: &mut Map, model: &mut BTreeMap<Key, u32>, calls: usize) -> Option<usize> {
+    let mut numbers = Numbers::new(2);
+    for call in 0..calls {
+        let (key, value) = (drawn_key(&mut numbers), numbers.value());
+        let which = numbers.below(5);
+        if which == 4 {
+            if !agree_on_call(map, model, &mut numbers, true) {
+                return Some(call);
+            }
+        } else if !agree_on_write(map, model, key, value, which) {
+            return Some(call);
+        }
+        if call % 50 == 0 && !(agree_on_pairs(map, model) && agree_on_parts(map, model)) {
+            return Some(call);
+        }
+        if call % 300 == 299 {
+            map.clear();
+            model.clear();
+        }
+    }
+    None
+}
+
+#[test]
+fn drawn_writes_answer_as_those_of_a_btree_map(rt: HostRuntime) -> Result<(), Fail> {
+    let alloc = rt.alloc();
+    let (mut map, mut model) = (ByteMap::new(alloc), BTreeMap::new(alloc));
+    let differ = differ_at_write(&mut map, &mut model, 5_000);
+    as_expected(Some(((differ, agree_on_pairs(&map, &model)), (None, true))))
+}

@@ -1,0 +1,18 @@
+use Rattle.std.proofs.Common.{sym, subst}
+use Rattle.art_inner.specs.Views.{ref_view}
+use Rattle.art_parts.specs.Names.{inner_name}
+use Rattle.art_model.specs.Pairs.{of_key}
+use Rattle.art_model.specs.Stores.{header_at}
+use Rattle.art_checking.specs.Checked.{IsFirstLeast}
+use Rattle.art_checking.proofs.Descents.{inner_at}
+use Rattle.art_checking.proofs.Walked.{first_least}
+use Rattle.art_checking.proofs.well_formed.check.enter.Goals as goal
+
+pub returns-clause-least : goal.returns-clause-least
+returns-clause-least g c =
+    let bytes = of_key g.K.AsBytes.bytes in
+    let s = c.args.store.now in
+    let node = ref_view c.in-Some.node in
+    subst (IsFirstLeast bytes g.row.P s c.in_ok-least.least) (sym c.iter.ensures.children)
+    (first_least bytes g.row.P s (inner_name c.args.name) (header_at c.args.name.kind node) node.children c.in_ok-least.least
+    (inner_at s c.args.name node c.requires.proper (sym c.in-Some.ensures.view)) c.in_ok-least.ensures.least)

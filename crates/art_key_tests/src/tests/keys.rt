@@ -1,0 +1,184 @@
+//! Keys and their bytes.
+use art_keys::escaped::Escaped;
+use art_keys::joined::Joined;
+use art_keys::numbers::{Signed, Unsigned};
+use art_keys::terminated::{EndError, Terminated};
+use art_node_support::expected::{as_expected, same};
+use art_nodes::node::AsBytes;
+use std::alloc::Global;
+use std::test::Fail;
+
+// What becomes of bytes that are to be ended.
+#[derive(Clone, Copy, PartialEq, Debug)]
+enum Ended {
+    Key(usize),
+    InnerZero(usize),
+    Memory(usize),
+}
+
+// The same of a copy of the bytes, with the length of what came back.
+fn make_ended(alloc: Global, text: &[u8]) -> Option<Ended> {
+    let bytes = text.to_vec(alloc).ok()?;
+    match Terminated::new(bytes) {
+        Ok(key) => Some(Ended::Key(key.as_bytes().len())),
+        Err(EndError::InnerZero { text: back }) => Some(Ended::InnerZero(back.len())),
+        Err(EndError::Memory { text: back }) => Some(Ended::Memory(back.len())),
+    }
+}
+
+#[test]
+fn bytes_are_ended_unless_a_zero_stands_among_them(rt: HostRuntime) -> Result<(), Fail> {
+    let alloc = rt.alloc();
+    let seen = [
+        make_ended(alloc, b"car"),
+        make_ended(alloc, b""),
+        make_ended(alloc, b"c\0r"),
+    ];
+    same(
+        seen,
+        [
+            Some(Ended::Key(4)),
+            Some(Ended::Key(1)),
+            Some(Ended::InnerZero(3)),
+        ],
+    )
+}
+
+// How a key with an end is shown, and whether it has its bytes.
+fn shown(alloc: Global, text: &[u8], display: &str, debug: &str) -> Option<[bool; 4]> {
+    let key = Terminated::new(text.to_vec(alloc).ok()?).ok()?;
+    let as_text = key.to_string(alloc).ok()?;
+    let as_debug = format!(in alloc; "{key:?}").ok()?;
+    let is_whole = key.as_bytes_without_end() == text;
+    let back = key.into_bytes_without_end();
+    Some([
+        as_text.as_str() == display,
+        as_debug.as_str() == debug,
+        is_whole,
+        back.as_slice() == text,
+    ])
+}
+
+#[test]
+fn keys_with_an_end_are_shown_as_text(rt: HostRuntime) -> Result<(), Fail> {
+    let alloc = rt.alloc();
+    let seen = [
+        shown(
+            alloc,
+            "caf\u{e9}".as_bytes(),
+            "caf\u{e9}",
+            "\"caf\\xc3\\xa9\"",
+        ),
+        shown(alloc, b"a\xffb", "a\u{fffd}b", "\"a\\xffb\""),
+    ];
+    same(seen, [Some([true; 4]); 2])
+}
+
+// Strings in the order of their bytes.
+static STRINGS: [&[u8]; 9] = [
+    b"",
+    b"\0",
+    b"\0\0",
+    b"\0\x01",
+    b"\x01",
+    b"\x01\x02",
+    b"\x02",
+    b"car",
+    b"cart",
+];
+
+// Whether the string comes back from its key, and the key is after the one before.
+fn comes_back(alloc: Global, text: &[u8], before: &Escaped) -> Option<(bool, Escaped)> {
+    let key = Escaped::encode(alloc, text).ok()?;
+    let back = key.decode(alloc).ok()?;
+    let is_right = back.as_slice() == text && before.as_bytes() <= key.as_bytes();
+    Some((is_right, key))
+}
+
+// How many strings come back in order.
+fn count_back(alloc: Global) -> Option<usize> {
+    let mut before = Escaped::encode(alloc, b"").ok()?;
+    let mut count = 0usize;
+    for text in STRINGS.iter() {
+        let (is_right, key) = comes_back(alloc, text, &before)?;
+        before = key;
+        count = count.saturating_add(is_right as usize);
+    }
+    Some(count)
+}
+
+#[test]
+fn escaped_strings_come_back_in_order(rt: HostRuntime) -> Result<(), Fail> {
+    same(count_back(rt.alloc()), Some(9))
+}
+
+// The bytes of an escaped string, and how it is shown.
+fn escaped(alloc: Global) -> Option<(bool, bool)> {
+    let key = Escaped::encode(alloc, b"a\0\x01b").ok()?;
+    let shown = format!(in alloc; "{key:?}").ok()?;
+    Some((
+        key.as_bytes() == b"a\x01\x01\x01\x02b\0".as_slice(),
+        shown.as_str() == "\"a\\x00\\x01b\"",
+    ))
+}
+
+#[test]
+fn zeros_and_ones_are_escaped(rt: HostRuntime) -> Result<(), Fail> {
+    as_expected(Some((escaped(rt.alloc()), Some((true, true)))))
+}
+
+#[test]
+fn numbers_have_the_highest_byte_first() -> Result<(), Fail> {
+    let key = Unsigned::from(0x0102_0304u32);
+    same(
+        (key.as_bytes() == [1, 2, 3, 4].as_slice(), u32::from(key)),
+        (true, 0x0102_0304),
+    )
+}
+
+#[test]
+fn signed_numbers_have_the_bit_of_the_sign_flipped() -> Result<(), Fail> {
+    let keys = [
+        Signed::from(i16::MIN),
+        Signed::from(-1i16),
+        Signed::from(0i16),
+        Signed::from(i16::MAX),
+    ];
+    let bytes: [&[u8]; 4] = [&[0, 0], &[0x7f, 0xff], &[0x80, 0], &[0xff, 0xff]];
+    let mut are_right = true;
+    for (key, wanted) in keys.iter().zip(bytes) {
+        are_right = are_right && key.as_bytes() == wanted;
+    }
+    same((are_right, i16::from(keys[1])), (true, -1))
+}
+
+#[test]
+fn numbers_of_all_widths_come_back() -> Result<(), Fail> {
+    let unsigned = (
+        u8::from(Unsigned::from(7u8)),
+        u16::from(Unsigned::from(700u16)),
+        u64::from(Unsigned::from(1u64 << 40)),
+        u128::from(Unsigned::from(1u128 << 100)),
+    );
+    let signed = (
+        i8::from(Signed::from(-7i8)),
+        i32::from(Signed::from(-70_000i32)),
+        i64::from(Signed::from(i64::MIN)),
+    );
+    same(
+        (unsigned, signed),
+        ((7, 700, 1 << 40, 1 << 100), (-7, -70_000, i64::MIN)),
+    )
+}
+
+// The bytes of two keys as one.
+fn joined(alloc: Global) -> Option<bool> {
+    let name = Escaped::encode(alloc, b"a").ok()?;
+    let key = Joined::join(alloc, &name, &Unsigned::from(513u16)).ok()?;
+    Some(key.as_bytes() == [b'a', 0, 2, 1].as_slice())
+}
+
+#[test]
+fn a_second_key_stands_after_the_first(rt: HostRuntime) -> Result<(), Fail> {
+    same(joined(rt.alloc()), Some(true))
+}

@@ -1,0 +1,26 @@
+-- Any string of bytes as one that is ended by a zero and has no zero before it.
+use Rattle.std.specs.Prelude.{◌≡◌, ℕ, zero, suc, List, [], ◌∷◌, ◌++◌}
+
+-- a byte as one or two that are not zero: 0 and 1 are told apart by what stands after a 1
+abbrev pub escape_byte : ℕ → List ℕ
+escape_byte zero = 1 ∷ 1 ∷ []
+escape_byte (suc zero) = 1 ∷ 2 ∷ []
+escape_byte (suc (suc n)) = suc (suc n) ∷ []
+
+-- the bytes, each escaped, and then a zero
+abbrev pub escape : List ℕ → List ℕ
+escape [] = 0 ∷ []
+escape (byte ∷ rest) = escape_byte byte ++ escape rest
+
+-- the bytes that were escaped
+abbrev pub unescape : List ℕ → List ℕ
+unescape [] = []
+unescape (zero ∷ rest) = []
+unescape (suc zero ∷ []) = []
+unescape (suc zero ∷ suc zero ∷ rest) = 0 ∷ unescape rest
+unescape (suc zero ∷ byte ∷ rest) = 1 ∷ unescape rest
+unescape (byte ∷ rest) = byte ∷ unescape rest
+
+-- the bytes are those of an escaped string
+abbrev pub IsEscape : List ℕ → Type 0
+IsEscape bytes = escape (unescape bytes) ≡ bytes

@@ -1,0 +1,45 @@
+-- Numbers as bytes, the highest first. A signed number is moved up by a half of all, so that the least one has zeros.
+use Rattle.std.specs.Prelude.{◌≡◌, ℕ, suc, ◌+◌, ◌-◌, ◌*◌, ◌/◌, ◌^◌, ◌<◌, List, [], ◌∷◌, length, ℤ, pos, negsuc}
+use Rattle.std.specs.Int.{bytes_high_first}
+use Rattle.std.proofs.Math.IntN.{sub_ℕ}
+
+-- the number with these digits in base 256
+abbrev pub number_of : List ℕ → ℕ
+number_of [] = 0
+number_of (byte ∷ bytes) = byte * 256 ^ length bytes + number_of bytes
+
+-- it is a number of so many bytes
+abbrev pub HasBytes : ℕ → ℕ → Type 0
+HasBytes count n = n < 256 ^ count
+
+-- the bytes are those of a number of so many
+pub record IsNumber (count : ℕ) (bytes : List ℕ) : Type 0 where
+  pub small : HasBytes count (number_of bytes)
+  pub is : bytes ≡ bytes_high_first count (number_of bytes)
+
+-- half of all numbers of so many bytes
+abbrev pub half : ℕ → ℕ
+half count = 256 ^ count / 2
+
+-- it is a signed number of so many bytes
+abbrev pub HasSignedBytes : ℕ → ℤ → Type 0
+HasSignedBytes count (pos n) = n < half count
+HasSignedBytes count (negsuc n) = n < half count
+
+-- a signed number moved up by a half of all
+abbrev pub lifted : ℕ → ℤ → ℕ
+lifted count (pos n) = half count + n
+lifted count (negsuc n) = half count - suc n
+
+-- a number moved down by a half of all
+abbrev pub lowered : ℕ → ℕ → ℤ
+lowered count n = sub_ℕ n (half count)
+
+-- the bytes of a signed number
+abbrev pub signed_bytes : ℕ → ℤ → List ℕ
+signed_bytes count z = bytes_high_first count (lifted count z)
+
+-- the bytes are those of a signed number of so many
+pub record IsSignedNumber (count : ℕ) (bytes : List ℕ) : Type 0 where
+  pub small : HasSignedBytes count (lowered count (number_of bytes))
+  pub is : bytes ≡ signed_bytes count (lowered count (number_of bytes))

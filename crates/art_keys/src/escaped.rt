@@ -1,0 +1,217 @@
+//! Any bytes, escaped so that none is a prefix of another, and in their order.
+ghost use Rattle.std.specs.Prelude.{◌≡◌, ℕ, List, ◌<◌, ◌++◌, [], ◌∷◌, length, IfOk, IfSome, MatchOption, OnOk};
+ghost use Rattle.std.specs.Cmp.Lexicographic.{slice_cmp};
+ghost use Rattle.std.specs.Ordering.{nat_cmp};
+ghost use Rattle.art_keys.specs.Escapes.{escape, escape_byte, unescape};
+ghost use Rattle.art_model.specs.Keys.{IsFront};
+
+use super::laws::{CloneBytes, NoPrefixesBytes, OrderedBytes, compare};
+use art_nodes::node::AsBytes;
+use std::alloc::{AllocError, Global};
+use std::cmp::Ordering;
+use std::fmt;
+use std::marker::Model;
+
+/// Any string of bytes as a key. It is seen as the string, and its bytes are the escaped one.
+#[derive(Drop)]
+pub struct Escaped {
+    bytes: Vec<u8>,
+}
+
+impl Model for Escaped {
+    ghost use Rattle.std.specs.Prelude.{List, ℕ};
+    ghost use Rattle.art_keys.specs.Escapes.{IsEscape, unescape};
+
+    ghost Value = { List ℕ };
+
+    ghost view = { λ e. unescape e.bytes.items };
+
+    ghost invariant = { λ e. IsEscape e.bytes.items };
+}
+
+impl Escaped {
+    /// The key of a string. The only error is want of memory.
+    pub fn encode(alloc: Global, text: &[u8]) -> Result<Self, AllocError>
+        ensures { IfOk result (λ key. key ≡ text.now) }
+    {
+        let mut bytes = Vec::new(alloc);
+        for byte in text {
+            push_escaped(&mut bytes, *byte)?;
+        }
+        bytes.push(0)?;
+        Ok(Escaped { bytes })
+    }
+
+    /// The string. The only error is want of memory.
+    pub fn decode(&self, alloc: Global) -> Result<Vec<u8>, AllocError>
+        ensures { IfOk result (λ text. text.items ≡ self.now) }
+    {
+        let mut text = Vec::new(alloc);
+        let mut rest = self.bytes.as_slice();
+        while let Some((byte, others)) = first_escaped(rest) {
+            text.push(byte)?;
+            rest = others;
+        }
+        Ok(text)
+    }
+}
+
+impl fmt::Debug for Escaped {
+    fn fmt<W: fmt::Write>(&self, f: &mut fmt::Formatter<W>) -> fmt::Result {
+        f.write_str("\"")?;
+        let mut rest = self.bytes.as_slice();
+        while let Some((byte, others)) = first_escaped(rest) {
+            let shown = byte.escape_ascii();
+            write!(f, "{shown}")?;
+            rest = others;
+        }
+        f.write_str("\"")
+    }
+}
+
+// The first byte of what was escaped, and the bytes after its own.
+fn first_escaped(bytes: &[u8]) -> Option<(u8, &[u8])>
+    ensures byte { MatchOption result (unescape bytes.now ≡ [])
+        (λ first. unescape bytes.now ≡ first.0 ∷ unescape first.1.now) }
+    ensures rest { IfSome result (λ first. length first.1.now < length bytes.now) }
+{
+    match bytes {
+        [] | [0, ..] | [1] => None,
+        [1, 1, rest @ ..] => Some((0, rest)),
+        [1, _, rest @ ..] => Some((1, rest)),
+        [byte, rest @ ..] => Some((*byte, rest)),
+    }
+}
+
+// Writes the escape of a byte.
+fn push_escaped(bytes: &mut Vec<u8>, byte: u8) -> Result<(), AllocError>
+    ensures { OnOk result (bytes.new.items ≡ bytes.old.items ++ escape_byte byte) }
+{
+    match byte {
+        0 => {
+            bytes.push(1)?;
+            bytes.push(1)?;
+        }
+        1 => {
+            bytes.push(1)?;
+            bytes.push(2)?;
+        }
+        _ => bytes.push(byte)?,
+    }
+    Ok(())
+}
+
+impl AsBytes for Escaped {
+    ghost use Rattle.art_keys.specs.Escapes.{escape};
+
+    ghost bytes = { escape };
+
+    fn as_bytes(&self) -> &[u8] {
+        &self.bytes
+    }
+}
+
+impl NoPrefixesBytes for Escaped {
+    ghost use Rattle.std.specs.Prelude.{⊤};
+    ghost use Rattle.art_keys.specs.EscapeLaws.{escape_no_prefixes};
+
+    ghost is_key = { λ text. ⊤ };
+
+    fn as_key(&self) {}
+
+    ghost no_prefixes = { escape_no_prefixes };
+}
+
+impl OrderedBytes for Escaped {
+    ghost use Rattle.std.specs.Cmp.Lexicographic.{slice_cmp};
+    ghost use Rattle.std.specs.Ordering.{nat_cmp};
+    ghost use Rattle.art_keys.specs.EscapeLaws.{escape_keeps_order};
+
+    ghost order = { slice_cmp nat_cmp };
+
+    ghost keeps_order = { escape_keeps_order };
+}
+
+impl Clone for Escaped {
+    ghost is_clone = { λ key copy. copy ≡ key };
+
+    fn clone(&self) -> Result<Self, AllocError> {
+        Ok(Escaped {
+            bytes: self.bytes.clone()?,
+        })
+    }
+}
+
+impl CloneBytes for Escaped {
+    ghost use Rattle.std.proofs.Common.{ap, subst, sym};
+    ghost use Rattle.art_keys.specs.Escapes.{escape};
+
+    ghost keeps_bytes = { λ x y e. ap escape e };
+
+    ghost keeps_key = { λ x y e of_x. of_x };
+}
+
+/// What was escaped comes back, and is in the order of the originals; none is a front of another's.
+pub fn escapes_come_back_in_order()
+    ensures back { (text : List ℕ) → unescape (escape text) ≡ text }
+    ensures order { (a b : List ℕ) →
+        slice_cmp nat_cmp (escape a) (escape b) ≡ slice_cmp nat_cmp a b }
+    ensures apart { (a b : List ℕ) → IsFront (escape a) (escape b) → a ≡ b }
+{}
+
+impl PartialEq for Escaped {
+    ghost use Rattle.std.proofs.Common.{rules};
+    ghost use Rattle.std.specs.Cmp.Rules.{comparing};
+    ghost use Rattle.std.specs.Cmp.Lexicographic.{slice_cmp};
+    ghost use Rattle.std.specs.Ordering.{eq_by_cmp, nat_cmp};
+
+    ghost eq = { eq_by_cmp (slice_cmp nat_cmp) };
+
+    ghost laws = { Prim.search (comparing, rules) };
+
+    fn eq(&self, other: &Self) -> bool {
+        compare(self, other).is_eq()
+    }
+}
+
+impl Eq for Escaped {
+    ghost use Rattle.std.proofs.Common.{rules};
+    ghost use Rattle.std.specs.Cmp.Rules.{comparing};
+
+    ghost laws = { Prim.search (comparing, rules) };
+}
+
+impl PartialOrd for Escaped {
+    ghost use Rattle.std.proofs.Common.{rules};
+    ghost use Rattle.std.specs.Cmp.Rules.{comparing};
+    ghost use Rattle.std.specs.Cmp.Lexicographic.{slice_cmp};
+    ghost use Rattle.std.specs.Ordering.{as_partial_cmp, nat_cmp};
+
+    ghost partial_cmp = { as_partial_cmp (slice_cmp nat_cmp) };
+
+    ghost laws = { Prim.search (comparing, rules) };
+
+    fn partial_cmp(&self, other: &Self) -> Option<Ordering> {
+        Some(compare(self, other))
+    }
+}
+
+/// The order of the strings.
+impl Ord for Escaped {
+    ghost use Rattle.std.proofs.Common.{rules};
+    ghost use Rattle.std.specs.Cmp.Rules.{comparing};
+    ghost use Rattle.std.specs.Cmp.Lexicographic.{slice_cmp};
+    ghost use Rattle.std.specs.Ordering.{nat_cmp};
+
+    ghost cmp = { slice_cmp nat_cmp };
+
+    ghost total = { Prim.search (comparing, rules) };
+
+    ghost matches_partial_cmp = { Prim.search (comparing, rules) };
+
+    ghost matches_eq = { Prim.search (comparing, rules) };
+
+    fn cmp(&self, other: &Self) -> Ordering {
+        compare(self, other)
+    }
+}

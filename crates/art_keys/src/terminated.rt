@@ -1,0 +1,211 @@
+//! Bytes without a zero, ended by one.
+ghost use Rattle.std.specs.Prelude.{◌≡◌, IfOk, IfErr, OnOk};
+ghost use Rattle.std.specs.Bool.{OnFalse, OnTrue};
+ghost use Rattle.art_keys.specs.Ended.{HasNoZero, IsEndRefusal};
+
+use super::laws::{CloneBytes, NoPrefixesBytes, OrderedBytes, compare};
+use art_nodes::node::AsBytes;
+use std::alloc::{AllocError, Global};
+use std::cmp::Ordering;
+use std::fmt;
+use std::marker::Model;
+use thiserror::Error;
+
+/// Bytes that were not ended by a zero.
+#[derive(Debug, Drop, Error)]
+pub enum EndError {
+    /// A zero stands among them.
+    #[error("a zero byte stands among the bytes of the key")]
+    InnerZero { text: Vec<u8> },
+    /// There was no memory for one byte more.
+    #[error("memory allocation failed")]
+    Memory { text: Vec<u8> },
+}
+
+/// Bytes without a zero, ended by one, so that none is a prefix of another. It is seen as the bytes before its end.
+#[derive(Drop)]
+pub struct Terminated {
+    bytes: Vec<u8>,
+}
+
+impl Model for Terminated {
+    ghost use Rattle.std.specs.Prelude.{List, ℕ};
+    ghost use Rattle.art_keys.specs.Ended.{IsEnded, without_end};
+
+    ghost Value = { List ℕ };
+
+    ghost view = { λ t. without_end t.bytes.items };
+
+    ghost invariant = { λ t. IsEnded t.bytes.items };
+}
+
+impl Terminated {
+    /// Ends the bytes. It takes memory only where they have no room for one more, and hands them back where
+    /// a zero stands among them or there is no memory.
+    pub fn new(mut text: Vec<u8>) -> Result<Self, EndError>
+        ensures key { IfOk result (λ key. key ≡ text.items) }
+        ensures accepted { OnOk result (HasNoZero text.items) }
+        ensures refused { IfErr result (IsEndRefusal text.items) }
+    {
+        if has_zero(&text) {
+            return Err(EndError::InnerZero { text });
+        }
+        match text.push(0) {
+            Ok(()) => Ok(Terminated { bytes: text }),
+            Err(_) => Err(EndError::Memory { text }),
+        }
+    }
+
+    /// The bytes before the end.
+    pub fn as_bytes_without_end(&self) -> &[u8]
+        ensures text { result.now ≡ self.now }
+        ensures no_zero { HasNoZero self.now }
+    {
+        &self.bytes[..self.bytes.len() - 1]
+    }
+
+    /// The bytes without their end.
+    pub fn into_bytes_without_end(self) -> Vec<u8>
+        ensures { result.items ≡ self }
+    {
+        let mut bytes = self.bytes;
+        bytes.pop();
+        bytes
+    }
+}
+
+impl fmt::Debug for Terminated {
+    fn fmt<W: fmt::Write>(&self, f: &mut fmt::Formatter<W>) -> fmt::Result {
+        let text = self.as_bytes_without_end().escape_ascii();
+        write!(f, "\"{text}\"")
+    }
+}
+
+/// As text, with a replacement character for what is none.
+impl fmt::Display for Terminated {
+    fn fmt<W: fmt::Write>(&self, f: &mut fmt::Formatter<W>) -> fmt::Result {
+        for chunk in self.as_bytes_without_end().utf8_chunks() {
+            f.write_str(chunk.valid())?;
+            if !chunk.invalid().is_empty() {
+                f.write_str("\u{FFFD}")?;
+            }
+        }
+        Ok(())
+    }
+}
+
+/// Whether a byte is zero.
+pub fn has_zero(bytes: &[u8]) -> bool
+    ensures found { OnTrue result (¬ HasNoZero bytes.now) }
+    ensures none { OnFalse result (HasNoZero bytes.now) }
+{
+    bytes.contains(&0)
+}
+
+impl AsBytes for Terminated {
+    ghost use Rattle.art_keys.specs.Ended.{ended};
+
+    ghost bytes = { ended };
+
+    fn as_bytes(&self) -> &[u8] {
+        self.bytes.as_slice()
+    }
+}
+
+impl NoPrefixesBytes for Terminated {
+    ghost use Rattle.art_keys.specs.EndedLaws.{ended_no_prefixes};
+
+    ghost is_key = { HasNoZero };
+
+    fn as_key(&self) {
+        let _ = &self.bytes;
+    }
+
+    ghost no_prefixes = { ended_no_prefixes };
+}
+
+impl OrderedBytes for Terminated {
+    ghost use Rattle.std.specs.Cmp.Lexicographic.{slice_cmp};
+    ghost use Rattle.std.specs.Ordering.{nat_cmp};
+    ghost use Rattle.art_keys.specs.EndedLaws.{ended_keeps_order};
+
+    ghost order = { slice_cmp nat_cmp };
+
+    ghost keeps_order = { ended_keeps_order };
+}
+
+impl Clone for Terminated {
+    ghost is_clone = { λ key copy. copy ≡ key };
+
+    fn clone(&self) -> Result<Self, AllocError> {
+        Ok(Terminated {
+            bytes: self.bytes.clone()?,
+        })
+    }
+}
+
+impl CloneBytes for Terminated {
+    ghost use Rattle.std.proofs.Common.{ap, subst, sym};
+    ghost use Rattle.art_keys.specs.Ended.{HasNoZero, ended};
+
+    ghost keeps_bytes = { λ x y e. ap ended e };
+
+    ghost keeps_key = { λ x y e of_x. subst HasNoZero (sym e) of_x };
+}
+
+impl PartialEq for Terminated {
+    ghost use Rattle.std.proofs.Common.{rules};
+    ghost use Rattle.std.specs.Cmp.Rules.{comparing};
+    ghost use Rattle.std.specs.Cmp.Lexicographic.{slice_cmp};
+    ghost use Rattle.std.specs.Ordering.{eq_by_cmp, nat_cmp};
+
+    ghost eq = { eq_by_cmp (slice_cmp nat_cmp) };
+
+    ghost laws = { Prim.search (comparing, rules) };
+
+    fn eq(&self, other: &Self) -> bool {
+        compare(self, other).is_eq()
+    }
+}
+
+impl Eq for Terminated {
+    ghost use Rattle.std.proofs.Common.{rules};
+    ghost use Rattle.std.specs.Cmp.Rules.{comparing};
+
+    ghost laws = { Prim.search (comparing, rules) };
+}
+
+impl PartialOrd for Terminated {
+    ghost use Rattle.std.proofs.Common.{rules};
+    ghost use Rattle.std.specs.Cmp.Rules.{comparing};
+    ghost use Rattle.std.specs.Cmp.Lexicographic.{slice_cmp};
+    ghost use Rattle.std.specs.Ordering.{as_partial_cmp, nat_cmp};
+
+    ghost partial_cmp = { as_partial_cmp (slice_cmp nat_cmp) };
+
+    ghost laws = { Prim.search (comparing, rules) };
+
+    fn partial_cmp(&self, other: &Self) -> Option<Ordering> {
+        Some(compare(self, other))
+    }
+}
+
+/// The order of the bytes before the end.
+impl Ord for Terminated {
+    ghost use Rattle.std.proofs.Common.{rules};
+    ghost use Rattle.std.specs.Cmp.Rules.{comparing};
+    ghost use Rattle.std.specs.Cmp.Lexicographic.{slice_cmp};
+    ghost use Rattle.std.specs.Ordering.{nat_cmp};
+
+    ghost cmp = { slice_cmp nat_cmp };
+
+    ghost total = { Prim.search (comparing, rules) };
+
+    ghost matches_partial_cmp = { Prim.search (comparing, rules) };
+
+    ghost matches_eq = { Prim.search (comparing, rules) };
+
+    fn cmp(&self, other: &Self) -> Ordering {
+        compare(self, other)
+    }
+}

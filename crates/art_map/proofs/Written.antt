@@ -1,0 +1,133 @@
+-- A value that is written in the leaf of a key.
+use Rattle.std.proofs.Common.{◌≡◌, ◌⊎◌, ℕ, List, [], ◌∷◌, Option, Some, None, IsSome, is_some, refl, ap, sym, ◌∙◌, subst, inl, true}
+use Rattle.std.specs.FinMap.{get}
+use Rattle.std.specs.Option.{option_map}
+use Rattle.std.proofs.lemmas.Bool.{false≢true}
+use Rattle.std.proofs.lemmas.List.{length-map}
+use Rattle.art_parts.specs.Names.{leaf_name}
+use Rattle.art_parts.specs.declared.leaf.LeafNode.{LeafNode}
+use Rattle.art_parts.specs.declared.names.LeafPtr.{LeafPtr}
+use Rattle.art_parts.specs.declared.names.OpaqueNodePtr.{OpaqueNodePtr}
+use Rattle.art_nodes.specs.LeafChanges.{with_value}
+use Rattle.art_nodes.specs.Lends.{with_leaf_value}
+use Rattle.art_nodes.specs.Nodes.{Nodes}
+use Rattle.art_model.specs.Kept.{ChangesInPlace}
+use Rattle.art_model.specs.Keys.{are_same}
+use Rattle.art_model.specs.Lookups.{FindsLeaf}
+use Rattle.art_model.specs.Pairs.{first_of, has_key, of_key, with_key}
+use Rattle.art_model.specs.Paths.{plug}
+use Rattle.art_model.specs.Radix.{pairs_of}
+use Rattle.art_model.specs.Roots.{ForTree}
+use Rattle.art_model.specs.Stores.{links_at, node_at, pair_of}
+use Rattle.art_model.specs.Trees.{leaf}
+use Rattle.art_model.proofs.Between.{IsLocal}
+use Rattle.art_model.proofs.Canonical.{IsLaidOut, canonical_from, laid_out}
+use Rattle.art_model.proofs.InHole.{with_key-hole}
+use Rattle.art_model.proofs.IntoLeaf.{IntoLeaf, leaf_changed, leaf_kept}
+use Rattle.art_model.proofs.Keys.{front_same, same_equal}
+use Rattle.art_model.proofs.LeavesFound.{leaf_found}
+use Rattle.art_model.proofs.Paths.{IsHole, hole_of}
+use Rattle.art_model.proofs.Puts.{any_is_first}
+use Rattle.art_map.specs.MapAnswers.{value_at, with_value_at}
+use Rattle.art_map.specs.MapChanges.{NamesLeafOf}
+use Rattle.art_map.specs.MapPairs.{HoldsPairs, pairs_at}
+use Rattle.art_map.proofs.Puts.{at_some}
+use Rattle.art_map.proofs.Takings.{for_tree}
+use Rattle.art_map.proofs.ValueLaws.{has_the_key, written_between}
+use Rattle.art_map.proofs.Views.{none_other, view_is}
+
+-- what there is
+pub some_of : {A : Type 0} (o : Option A) → IsSome o → (x : A) × (o ≡ Some x)
+some_of None none = absurd (false≢true none)
+some_of (Some x) some = (x, refl)
+
+-- in the same there is the same
+pub one_value : {A : Type 0} {x y : A} → Some x ≡ Some y → x ≡ y
+one_value e = cc
+
+-- a borrow lends the same under the same name
+pub lends_same : {A B C D : Type 0} {name : A} {f h : B → C} → ((w : B) → f w ≡ h w) → ◌≡◌ {A = (A × (B → C)) ⊎ D} (inl (name, f)) (inl (name, h))
+lends_same {name = name} same = λ i. inl (name, λ w. same w i)
+
+module _ {K V : Type 0} (bytes : K → List ℕ) (P : ℕ) {s : Nodes K V} {p : LeafPtr} {root : Option OpaqueNodePtr} (key : List ℕ) where
+  -- the leaf that a look-up finds
+  pub leaf_named : {name : OpaqueNodePtr} {len : ℕ} → root ≡ Some name → HoldsPairs (of_key bytes) P s root len (pairs_at s root) →
+      ForTree (of_key bytes) P s name (λ pairs layout. FindsLeaf layout (with_key (of_key bytes) key pairs) (Some p)) → V → NamesLeafOf bytes P s root key p
+  leaf_named {name} e is found any =
+      let has = at_some (of_key bytes) P e is in
+      let (x, only, leaf_is) = found (pairs_at s root) has.layout has.by in
+      record {
+        name = name;
+        pairs = pairs_at s root;
+        layout = has.layout;
+        pair = x;
+        root_is = e;
+        by = has.by;
+        has = leaf_is;
+        key_is = same_equal key (bytes x.0) (has_the_key bytes key any (pairs_at s root) x only);
+      }
+
+module _ {K V : Type 0} (bytes : K → List ℕ) (P : ℕ) {s : Nodes K V} {p : LeafPtr} {root : Option OpaqueNodePtr} (key : List ℕ) (n : NamesLeafOf bytes P s root key p) where
+  -- the leaf is there
+  node : LeafNode K V
+  node = (leaf_found (of_key bytes) P n.by n.has).0
+
+  there : get s.leaves p ≡ Some node
+  unfolding node
+  there = (leaf_found (of_key bytes) P n.by n.has).1
+
+  its : pair_of node ≡ n.pair
+  unfolding node
+  its = (leaf_found (of_key bytes) P n.by n.has).2
+
+  own : bytes node.key ≡ key
+  own = ap (λ z. bytes z.0) its ∙ n.key_is
+
+  whole : plug n.has.path (leaf (leaf_name p) (pair_of node)) ≡ n.layout
+  whole = ap (λ z. plug n.has.path (leaf (leaf_name p) z)) its ∙ n.has.whole
+
+  old : IsLaidOut (of_key bytes) P (node_at s) (links_at s) n.name n.pairs (plug n.has.path (leaf (leaf_name p) (pair_of node)))
+  old = subst (IsLaidOut (of_key bytes) P (node_at s) (links_at s) n.name n.pairs) (sym whole) (laid_out n.by)
+
+  hole : (place : List ℕ) × IsHole (of_key bytes) P n.has.path place (leaf (leaf_name p) (pair_of node)) (bytes node.key)
+  hole = hole_of (of_key bytes) P n.has.path (leaf (leaf_name p) (pair_of node)) (pair_of node) old.radix (inl refl)
+
+  pub is_there : IsSome (get s.leaves p)
+  is_there = ap is_some there
+
+  -- these are the pairs
+  pub pairs_are : pairs_at s root ≡ n.pairs
+  pairs_are = ap (pairs_at s) n.root_is ∙ view_is (of_key bytes) P s (Some n.name) (Some n.layout) n.by
+
+  -- the key is stored in it alone
+  its_pair : with_key (of_key bytes) key n.pairs ≡ pair_of node ∷ []
+  its_pair =
+      let found = with_key-hole (of_key bytes) P n.has.path hole.0 (bytes node.key) (leaf (leaf_name p) (pair_of node)) hole.1.path hole.1.front in
+      ap (with_key (of_key bytes) key) (sym old.pairs_are)
+      ∙ ap (λ k. with_key (of_key bytes) k (pairs_of (plug n.has.path (leaf (leaf_name p) (pair_of node))))) (sym own) ∙ found ∙ rw (front_same (bytes node.key)) refl
+
+  pub is_stored : has_key (of_key bytes) key (pairs_at s root) ≡ true
+  is_stored = ap (has_key (of_key bytes) key) pairs_are ∙ any_is_first (λ x. are_same key (bytes x.0)) n.pairs ∙ ap (λ xs. is_some (first_of xs)) its_pair
+
+  -- the value that the leaf has is that of the key
+  pub value_read : {before : List (K × V)} → pairs_at s root ≡ before → option_map (λ node. node.value) (get s.leaves p) ≡ value_at bytes key before
+  value_read view = ap (option_map (λ node. node.value)) there ∙ ap (λ xs. option_map (λ x. x.1) (first_of xs)) (sym its_pair) ∙ ap (value_at bytes key) (sym pairs_are ∙ view)
+
+  -- the leaf gets another value, and nothing else changes
+  pub value_written : {len : ℕ} → HoldsPairs (of_key bytes) P s root len (pairs_at s root) → (w : V) →
+      HoldsPairs (of_key bytes) P (with_leaf_value s p w) root len (with_value_at bytes key w (pairs_at s root))
+  value_written {len} is w =
+      let at_name = subst (λ r. HoldsPairs (of_key bytes) P s r len (pairs_at s root)) n.root_is is in
+      let (no_other, counted) = for_tree bytes P n.by at_name in
+      let into : IntoLeaf (of_key bytes) P s (with_leaf_value s p w) n.has.path hole.0 p node (node.key, w) =
+      record { hole = hole.1; here = there; write = with_value w; written = refl; leaves = refl; inners = refl } in
+      let local : IsLocal (of_key bytes) (bytes node.key) (with_value_at bytes key w) = subst (λ k. IsLocal (of_key bytes) k (with_value_at bytes key w)) (sym own) (written_between bytes key w) in
+      let its_own : with_value_at bytes key w (pair_of node ∷ []) ≡ (node.key, w) ∷ [] = rw (ap (are_same key) own, front_same key) refl in
+      let tree = plug n.has.path (leaf (leaf_name p) (node.key, w)) in
+      let kept = subst (λ z. ChangesInPlace (of_key bytes) s (with_leaf_value s p w) (Some z) (Some tree)) whole (leaf_kept old into (with_value_at bytes key w) local its_own) in
+      rw (pairs_are, n.root_is) (record {
+        tree = Some tree;
+        canonical = canonical_from (leaf_changed old into (with_value_at bytes key w) local its_own);
+        no_other = none_other kept.others no_other;
+        len_is = counted ∙ sym (length-map n.pairs _);
+      })

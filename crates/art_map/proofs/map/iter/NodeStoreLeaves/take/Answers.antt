@@ -1,0 +1,21 @@
+use Rattle.std.proofs.Common.{rules}
+use Rattle.art_map.proofs.Ranges.{first_left_over, first_taken, no_first, no_first_left, some_first}
+use Rattle.art_map.proofs.map.iter.NodeStoreLeaves.take.Goals as goal
+
+pub returns-in_err-leaf-clause-pair : goal.returns-in_err-leaf-clause-pair
+returns-in_err-leaf-clause-pair g c = rw c.from_residual.ensures (no_first c.requires c.in_err-leaf.ensures.rest c.in_err-leaf.ensures.leaf)
+
+pub returns-in_err-leaf-clause-range : goal.returns-in_err-leaf-clause-range
+returns-in_err-leaf-clause-range g c = no_first_left c.requires c.in_err-leaf.ensures.rest c.in_err-leaf.ensures.leaf
+
+pub overflow_sub-at_most : goal.overflow_sub-at_most
+overflow_sub-at_most g c = some_first c.requires c.in_ok-leaf.ensures.rest c.in_ok-leaf.ensures.leaf
+
+pub pair_at-requires : goal.pair_at-requires
+pair_at-requires g c = (search rules, c.in_ok-leaf.ensures.there)
+
+pub returns-clause-pair : goal.returns-clause-pair
+returns-clause-pair g c = first_taken c.requires c.in_ok-leaf.ensures.rest c.in_ok-leaf.ensures.leaf c.pair_at.ensures
+
+pub returns-clause-range : goal.returns-clause-range
+returns-clause-range g c = first_left_over c.requires c.in_ok-leaf.ensures.rest c.in_ok-leaf.ensures.leaf

@@ -1,0 +1,142 @@
+//! The keys of a map, and its values, in order.
+ghost use Rattle.std.specs.Prelude.{◌≡◌, length};
+ghost use Rattle.std.specs.Iterator.{at_most};
+ghost use Rattle.art_map.specs.MapItems.{ShowsFirst, ShowsLast, keys_of, values_of};
+
+use super::iter::{Leaves, MapIterOf};
+use art_nodes::store::NodeStore;
+use std::marker::Model;
+
+/// The keys of a map as they rise, seen as the list of those that have not come yet.
+#[derive(Drop)]
+pub struct KeysOf<'a, K, V, S: Leaves<K, V>> {
+    pairs: MapIterOf<'a, K, V, S>,
+}
+
+/// The same, over the store of a map.
+pub type Keys<'a, K, V, const P: usize> = KeysOf<'a, K, V, NodeStore<K, V, P>>;
+
+impl<'a, K, V, S: Leaves<K, V>> Model for KeysOf<'a, K, V, S> {
+    ghost use Rattle.std.specs.Prelude.{List};
+    ghost use Rattle.std.specs.Coded.{coded_list};
+
+    ghost Value = { List K };
+
+    ghost coded = { coded_list K.code };
+
+    ghost use Rattle.art_map.specs.MapItems.{keys_of};
+
+    ghost view = { λ m. keys_of m.pairs };
+}
+
+impl<'a, K, V, S: Leaves<K, V>> KeysOf<'a, K, V, S> {
+    pub(crate) fn new(pairs: MapIterOf<'a, K, V, S>) -> Self
+        ensures { result ≡ keys_of pairs.entry }
+    {
+        KeysOf { pairs }
+    }
+}
+
+impl<'a, K, V, S: Leaves<K, V>> Iterator for KeysOf<'a, K, V, S> {
+    type Item = &'a K;
+
+    ghost next_gives = { ShowsFirst };
+
+    ghost remaining = { λ s. at_most (length s) };
+
+    fn next(&mut self) -> Option<&'a K> {
+        match self.pairs.next() {
+            Some((key, _)) => Some(key),
+            None => None,
+        }
+    }
+
+    fn size_hint(&self) -> (usize, Option<usize>) {
+        let len = self.pairs.len();
+        (len, Some(len))
+    }
+}
+
+impl<'a, K, V, S: Leaves<K, V>> ExactSizeIterator for KeysOf<'a, K, V, S> {
+    fn len(&self) -> usize {
+        self.pairs.len()
+    }
+}
+
+impl<'a, K, V, S: Leaves<K, V>> DoubleEndedIterator for KeysOf<'a, K, V, S> {
+    ghost next_back_gives = { ShowsLast };
+
+    fn next_back(&mut self) -> Option<&'a K> {
+        match self.pairs.next_back() {
+            Some((key, _)) => Some(key),
+            None => None,
+        }
+    }
+}
+
+/// The values of a map by rising keys, seen as the list of those that have not come yet.
+#[derive(Drop)]
+pub struct ValuesOf<'a, K, V, S: Leaves<K, V>> {
+    pairs: MapIterOf<'a, K, V, S>,
+}
+
+/// The same, over the store of a map.
+pub type Values<'a, K, V, const P: usize> = ValuesOf<'a, K, V, NodeStore<K, V, P>>;
+
+impl<'a, K, V, S: Leaves<K, V>> Model for ValuesOf<'a, K, V, S> {
+    ghost use Rattle.std.specs.Prelude.{List};
+    ghost use Rattle.std.specs.Coded.{coded_list};
+
+    ghost Value = { List V };
+
+    ghost coded = { coded_list V.code };
+
+    ghost use Rattle.art_map.specs.MapItems.{values_of};
+
+    ghost view = { λ m. values_of m.pairs };
+}
+
+impl<'a, K, V, S: Leaves<K, V>> ValuesOf<'a, K, V, S> {
+    pub(crate) fn new(pairs: MapIterOf<'a, K, V, S>) -> Self
+        ensures { result ≡ values_of pairs.entry }
+    {
+        ValuesOf { pairs }
+    }
+}
+
+impl<'a, K, V, S: Leaves<K, V>> Iterator for ValuesOf<'a, K, V, S> {
+    type Item = &'a V;
+
+    ghost next_gives = { ShowsFirst };
+
+    ghost remaining = { λ s. at_most (length s) };
+
+    fn next(&mut self) -> Option<&'a V> {
+        match self.pairs.next() {
+            Some((_, value)) => Some(value),
+            None => None,
+        }
+    }
+
+    fn size_hint(&self) -> (usize, Option<usize>) {
+        let len = self.pairs.len();
+        (len, Some(len))
+    }
+}
+
+impl<'a, K, V, S: Leaves<K, V>> ExactSizeIterator for ValuesOf<'a, K, V, S> {
+    fn len(&self) -> usize {
+        self.pairs.len()
+    }
+}
+
+impl<'a, K, V, S: Leaves<K, V>> DoubleEndedIterator for ValuesOf<'a, K, V, S> {
+    ghost next_back_gives = { ShowsLast };
+
+    fn next_back(&mut self) -> Option<&'a V> {
+        match self.pairs.next_back() {
+            Some((_, value)) => Some(value),
+            None => None,
+        }
+    }
+}

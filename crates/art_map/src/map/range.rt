@@ -1,0 +1,76 @@
+//! The pairs of a part of a map, in order.
+ghost use Rattle.std.specs.Prelude.{◌≡◌, length};
+ghost use Rattle.std.specs.Iterator.{at_most};
+ghost use Rattle.art_map.specs.MapItems.{IsRange, TakesFirst, TakesLast, pairs_between};
+
+use super::iter::Leaves;
+use art_nodes::store::NodeStore;
+use art_reading::iterator::RawIterator;
+use std::marker::Model;
+
+/// Pairs of a map that stand one after another, by rising keys, seen as the list of those that have not
+/// come yet. Their number is not known until they came; an upper bound of it is.
+#[derive(Drop)]
+pub struct RangeOf<'a, K, V, S: Leaves<K, V>> {
+    store: &'a S,
+    walk: RawIterator,
+    at_most: usize,
+    // None: it names the lifetime of what is lent.
+    nothing: Option<(&'a K, &'a V)>,
+}
+
+/// The same, over the store of a map.
+pub type Range<'a, K, V, const P: usize> = RangeOf<'a, K, V, NodeStore<K, V, P>>;
+
+impl<'a, K, V, S: Leaves<K, V>> Model for RangeOf<'a, K, V, S> {
+    ghost use Rattle.std.specs.Prelude.{List};
+    ghost use Rattle.std.specs.Coded.{coded×, coded_list};
+
+    ghost Value = { List (K × V) };
+
+    ghost coded = { coded_list (coded× K.code V.code) };
+
+    ghost use Rattle.art_map.specs.MapItems.{IsRange, pairs_between};
+
+    ghost view = { λ m. pairs_between (S.seen m.store.now) m.walk m.at_most };
+
+    ghost invariant = { λ m. IsRange (S.seen m.store.now) m.walk m.at_most };
+}
+
+impl<'a, K, V, S: Leaves<K, V>> RangeOf<'a, K, V, S> {
+    pub(crate) fn new(store: &'a S, walk: RawIterator, at_most: usize) -> Self
+        requires { IsRange (S.seen store.now) walk at_most }
+        ensures { result ≡ pairs_between (S.seen store.now) walk at_most }
+    {
+        RangeOf {
+            store,
+            walk,
+            at_most,
+            nothing: None,
+        }
+    }
+}
+
+impl<'a, K, V, S: Leaves<K, V>> Iterator for RangeOf<'a, K, V, S> {
+    type Item = (&'a K, &'a V);
+
+    ghost next_gives = { TakesFirst };
+
+    ghost remaining = { λ s. at_most (length s) };
+
+    fn next(&mut self) -> Option<(&'a K, &'a V)> {
+        self.store.take(&mut self.walk, &mut self.at_most)
+    }
+
+    fn size_hint(&self) -> (usize, Option<usize>) {
+        (0, Some(self.at_most))
+    }
+}
+
+impl<'a, K, V, S: Leaves<K, V>> DoubleEndedIterator for RangeOf<'a, K, V, S> {
+    ghost next_back_gives = { TakesLast };
+
+    fn next_back(&mut self) -> Option<(&'a K, &'a V)> {
+        self.store.take_back(&mut self.walk, &mut self.at_most)
+    }
+}

@@ -1,0 +1,285 @@
+//! Parts of a map: the pairs below a prefix, those between two bounds, and those next to a bound; worked, and
+//! drawn beside a `BTreeMap`.
+use super::calls::value_of;
+use art_operations::map::{ByteMap, Range};
+use art_test_support::expected::as_expected;
+use art_test_support::numbers::Numbers;
+use std::collections::BTreeMap;
+use std::ops::Bound;
+use std::test::Fail;
+
+/// Keys of one length, so that none is a prefix of another.
+type Key = [u8; 4];
+
+/// One byte of a prefix is stored.
+type Map = ByteMap<Key, u32, 1>;
+
+// Under 1, 1 are four keys that share more bytes than are stored; under 2 is one key, and under 3 are two.
+static KEYS: [Key; 7] = [
+    [1, 1, 1, 4],
+    [1, 1, 1, 6],
+    [1, 1, 3, 4],
+    [1, 1, 3, 9],
+    [2, 5, 5, 5],
+    [3, 0, 0, 7],
+    [3, 9, 0, 0],
+];
+
+// Puts the keys in, with their places as values, and says whether all are there.
+fn fill(map: &mut Map) -> bool {
+    let mut value = 0;
+    for key in KEYS.iter() {
+        if map.insert(*key, value).is_err() {
+            return false;
+        }
+        value = value.saturating_add(1);
+    }
+    map.len() == 7
+}
+
+// The first two values of a part, the last two, and how many pairs are between.
+type Seen = ([Option<u32>; 4], usize);
+
+fn seen(mut part: Range<'_, Key, u32, 1>) -> Seen {
+    let ends = [
+        value_of(part.next()),
+        value_of(part.next_back()),
+        value_of(part.next()),
+        value_of(part.next_back()),
+    ];
+    (ends, part.count())
+}
+
+// Whether a map was filled, and what is below some prefixes.
+fn below(map: &mut Map) -> (bool, [Seen; 6]) {
+    let filled = fill(map);
+    let parts = [
+        seen(map.prefix(&[])),
+        seen(map.prefix(&[1])),
+        seen(map.prefix(&[1, 1, 3])),
+        seen(map.prefix(&[1, 2])),
+        seen(map.prefix(&[2, 5, 5, 5])),
+        seen(map.prefix(&[2, 5, 5, 5, 0])),
+    ];
+    (filled, parts)
+}
+
+#[test]
+fn pairs_below_a_prefix_come_from_both_ends(rt: HostRuntime) -> Result<(), Fail> {
+    let expected = [
+        ([Some(0), Some(6), Some(1), Some(5)], 3),
+        ([Some(0), Some(3), Some(1), Some(2)], 0),
+        ([Some(2), Some(3), None, None], 0),
+        ([None, None, None, None], 0),
+        ([Some(4), None, None, None], 0),
+        ([None, None, None, None], 0),
+    ];
+    as_expected(Some((below(&mut ByteMap::new(rt.alloc())), (true, expected))))
+}
+
+// The same of some bounds.
+fn between(map: &mut Map) -> (bool, [Seen; 6]) {
+    let filled = fill(map);
+    let (low, high): (&[u8], &[u8]) = (&[1, 1, 1, 6], &[3, 0, 0, 7]);
+    let (front, gap): (&[u8], &[u8]) = (&[1, 1, 2], &[2, 5, 4]);
+    let parts = [
+        seen(map.range(low..=high)),
+        seen(map.range((Bound::Excluded(low), Bound::Excluded(high)))),
+        seen(map.range(front..gap)),
+        seen(map.range(..=front)),
+        seen(map.range((Bound::Excluded(gap), Bound::Unbounded))),
+        seen(map.range(high..low)),
+    ];
+    (filled, parts)
+}
+
+#[test]
+fn pairs_between_bounds_come_from_both_ends(rt: HostRuntime) -> Result<(), Fail> {
+    let expected = [
+        ([Some(1), Some(5), Some(2), Some(4)], 1),
+        ([Some(2), Some(4), Some(3), None], 0),
+        ([Some(2), Some(3), None, None], 0),
+        ([Some(0), Some(1), None, None], 0),
+        ([Some(4), Some(6), Some(5), None], 0),
+        ([None, None, None, None], 0),
+    ];
+    as_expected(Some((between(&mut ByteMap::new(rt.alloc())), (true, expected))))
+}
+
+// Whether a map was filled, and the values next to some bounds.
+fn beside(map: &mut Map) -> (bool, [Option<u32>; 8]) {
+    let filled = fill(map);
+    let (key, gap): (&[u8], &[u8]) = (&[2, 5, 5, 5], &[1, 1, 2]);
+    let values = [
+        value_of(map.first_from(Bound::Included(key))),
+        value_of(map.first_from(Bound::Excluded(key))),
+        value_of(map.first_from(Bound::Excluded(gap))),
+        value_of(map.first_from(Bound::Unbounded)),
+        value_of(map.last_up_to(Bound::Included(key))),
+        value_of(map.last_up_to(Bound::Excluded(key))),
+        value_of(map.last_up_to(Bound::Included(gap))),
+        value_of(map.last_up_to(Bound::Unbounded)),
+    ];
+    (filled, values)
+}
+
+#[test]
+fn pairs_next_to_a_bound_are_found(rt: HostRuntime) -> Result<(), Fail> {
+    let expected = [
+        Some(4),
+        Some(5),
+        Some(2),
+        Some(0),
+        Some(4),
+        Some(3),
+        Some(1),
+        Some(6),
+    ];
+    as_expected(Some((beside(&mut ByteMap::new(rt.alloc())), (true, expected))))
+}
+
+// ---- drawn calls
+
+// Few bytes in front, so that many keys share them, and many at the end, so that nodes are large.
+fn drawn_key(numbers: &mut Numbers) -> Key {
+    [
+        numbers.below(2) as u8,
+        [0, 1, 255][numbers.below(3)],
+        numbers.below(2) as u8,
+        numbers.below(60) as u8 * 4,
+    ]
+}
+
+// A bound at a key or at a front of it.
+fn drawn_bound<'a>(numbers: &mut Numbers, key: &'a Key) -> Bound<&'a [u8]> {
+    let bytes = &key[..numbers.below(5)];
+    match numbers.below(5) {
+        0 => Bound::Unbounded,
+        1 | 2 => Bound::Included(bytes),
+        _ => Bound::Excluded(bytes),
+    }
+}
+
+fn is_from(from: Bound<&[u8]>, key: &[u8]) -> bool {
+    match from {
+        Bound::Included(bound) => bound.cmp(key).is_le(),
+        Bound::Excluded(bound) => bound.cmp(key).is_lt(),
+        Bound::Unbounded => true,
+    }
+}
+
+fn is_up_to(to: Bound<&[u8]>, key: &[u8]) -> bool {
+    match to {
+        Bound::Included(bound) => key.cmp(bound).is_le(),
+        Bound::Excluded(bound) => key.cmp(bound).is_lt(),
+        Bound::Unbounded => true,
+    }
+}
+
+// What of the pairs is asked for.
+#[derive(Clone, Copy)]
+enum Part<'a> {
+    Below(&'a [u8]),
+    Between(Bound<&'a [u8]>, Bound<&'a [u8]>),
+}
+
+fn is_part(part: Part<'_>, key: &[u8]) -> bool {
+    match part {
+        Part::Below(prefix) => key.starts_with(prefix),
+        Part::Between(from, to) => is_from(from, key) && is_up_to(to, key),
+    }
+}
+
+fn part_of<'a>(map: &'a Map, part: Part<'_>) -> Range<'a, Key, u32, 1> {
+    match part {
+        Part::Below(prefix) => map.prefix(prefix),
+        Part::Between(from, to) => map.range((from, to)),
+    }
+}
+
+// Whether a part of the map has the same pairs as of the other one, in order from the front.
+fn agree_from_front(map: &Map, model: &BTreeMap<Key, u32>, part: Part<'_>) -> bool {
+    let mut own = part_of(map, part);
+    for pair in model.iter() {
+        if is_part(part, pair.0) && own.next() != Some(pair) {
+            return false;
+        }
+    }
+    own.next().is_none()
+}
+
+// The same from the back.
+fn agree_from_back(map: &Map, model: &BTreeMap<Key, u32>, part: Part<'_>) -> bool {
+    let mut own = part_of(map, part);
+    for pair in model.iter().rev() {
+        if is_part(part, pair.0) && own.next_back() != Some(pair) {
+            return false;
+        }
+    }
+    own.next_back().is_none()
+}
+
+// The same of a part from both ends, and of the pair at each end of it.
+fn agree_on_part(map: &Map, model: &BTreeMap<Key, u32>, part: Part<'_>) -> bool {
+    agree_from_front(map, model, part) && agree_from_back(map, model, part)
+}
+
+// Whether the pairs next to two bounds are the ends of the parts that begin and end there.
+fn agree_on_ends(map: &Map, from: Bound<&[u8]>, to: Bound<&[u8]>) -> bool {
+    map.first_from(from) == map.range((from, Bound::Unbounded)).next()
+        && map.last_up_to(to) == map.range((Bound::Unbounded, to)).next_back()
+}
+
+// The same of drawn parts.
+fn agree_on_drawn(map: &Map, model: &BTreeMap<Key, u32>, numbers: &mut Numbers) -> bool {
+    let (low, high) = (drawn_key(numbers), drawn_key(numbers));
+    let (from, to) = (drawn_bound(numbers, &low), drawn_bound(numbers, &high));
+    agree_on_part(map, model, Part::Below(&low[..numbers.below(5)]))
+        && agree_on_part(map, model, Part::Between(from, to))
+        && agree_on_ends(map, from, to)
+}
+
+// A change of both, and whether they answer the same.
+fn agree_on_change(
+    map: &mut Map,
+    model: &mut BTreeMap<Key, u32>,
+    numbers: &mut Numbers,
+    grows: bool,
+) -> bool {
+    let key = drawn_key(numbers);
+    let value = numbers.value();
+    if grows || numbers.below(4) == 0 {
+        return map.insert(key, value).is_ok() == model.insert(key, value).is_ok();
+    }
+    let taken = match numbers.below(3) {
+        0 => map.pop_first(),
+        1 => map.pop_last(),
+        _ => map.remove(&key),
+    };
+    let Ok(Some((key, _))) = taken else {
+        return taken.is_ok();
+    };
+    model.remove(&key).is_some()
+}
+
+// The number of the first change after which they differ, if they do.
+fn differ_at(map: &mut Map, model: &mut BTreeMap<Key, u32>, changes: usize) -> Option<usize> {
+    let mut numbers = Numbers::new(7);
+    for change in 0..changes {
+        let grows = (change / 400) % 2 == 0;
+        if !agree_on_change(map, model, &mut numbers, grows) {
+            return Some(change);
+        }
+        if !agree_on_drawn(map, model, &mut numbers) {
+            return Some(change);
+        }
+    }
+    None
+}
+
+#[test]
+fn drawn_parts_are_those_of_a_btree_map(rt: HostRuntime) -> Result<(), Fail> {
+    let alloc = rt.alloc();
+    let seen = differ_at(&mut ByteMap::new(alloc), &mut BTreeMap::new(alloc), 4_000);
+    as_expected(Some((seen, None)))
+}

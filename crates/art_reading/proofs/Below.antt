@@ -1,0 +1,95 @@
+-- the way down to the keys that begin with a prefix
+use Rattle.std.proofs.Common.{◌≡◌, ◌≢◌, ℕ, ◌+◌, ◌<◌, ◌≤◌, List, [], ◌∷◌, ◌++◌, length, get_or, drop, refl, ap, sym, ◌∙◌, arith, subst, Some, None, Bool, true, false, eqb}
+use Rattle.std.specs.List.{AllByRecursion as Each, starts_with}
+use Rattle.std.proofs.lemmas.Bool.{false≢true}
+use Rattle.std.proofs.lemmas.Bool.Decides.{Decides-eqb}
+use Rattle.std.proofs.lemmas.List.{get_or_append_left}
+use Rattle.std.proofs.lemmas.List.Elements.{filter-append}
+use Rattle.std.proofs.lemmas.Slice.Eq.{starts_is}
+use Rattle.art_inner.specs.Inner.{Inner, child_at}
+use Rattle.art_parts.specs.declared.names.InnerPtr.{InnerPtr}
+use Rattle.art_parts.specs.declared.names.OpaqueNodePtr.{OpaqueNodePtr}
+use Rattle.art_model.specs.Keys.{IsFront, is_front}
+use Rattle.art_model.specs.Parts.{below}
+use Rattle.art_model.specs.Paths.{pairs_before, pairs_after}
+use Rattle.art_model.specs.Radix.{pairs_of}
+use Rattle.art_model.specs.Trees.{Tree, leaf}
+use Rattle.art_model.proofs.Keys.{front_from, front_is}
+use Rattle.art_model.proofs.Lists.{filter_none, front_cut}
+use Rattle.art_model.proofs.OnWay.{byte_after}
+use Rattle.art_model.proofs.Paths.{pairs_of-plug}
+use Rattle.art_model.proofs.Shown.{IsShown}
+use Rattle.art_reading.specs.Parts.{IsNotBelow, EndsBelow}
+use Rattle.art_reading.proofs.Descents.{IsDescent, front, front_len, child_there, each_under, down}
+
+-- a key that goes on after a front with another byte than the prefix has there does not begin with the prefix
+other_byte : (prefix front x : List ℕ) (c : ℕ) → length front < length prefix → c ≢ get_or prefix (length front) 0 → IsFront (front ++ c ∷ []) x → is_front prefix x ≡ false
+other_byte prefix front x c within other leads = go (is_front prefix x) refl
+  where
+    go : (t : Bool) → is_front prefix x ≡ t → t ≡ false
+    go false e = refl
+    go true e =
+        let (r, is) = front_from prefix x e in
+        absurd (other (sym (byte_after front x c leads) ∙ ap (λ z. get_or z (length front) 0) is ∙ get_or_append_left prefix r 0 (length front) within))
+
+-- whether a prefix is a front of a key is told by as many bytes of the key as the prefix has
+pub front_within : (prefix front r : List ℕ) → length prefix ≤ length front → is_front prefix (front ++ r) ≡ is_front prefix front
+front_within [] front r h = refl
+front_within (a ∷ prefix) [] r h = absurd (omega arith)
+front_within (a ∷ prefix) (b ∷ front) r h = rw (front_within prefix front r (omega arith)) refl
+
+-- what `starts_with` says
+pub starts_front : (x prefix : List ℕ) (t : Bool) → t ≡ starts_with eqb x prefix → is_front prefix x ≡ t
+starts_front x prefix true e = let r = (starts_is Decides-eqb x prefix true e).0 refl in ap (is_front prefix) r ∙ front_is prefix (drop (length prefix) x)
+starts_front x prefix false e = go (is_front prefix x) refl
+  where
+    go : (t : Bool) → is_front prefix x ≡ t → t ≡ false
+    go false i = refl
+    go true i = let f = front_from prefix x i in absurd (false≢true ((starts_is Decides-eqb x prefix false e).1 f.0 f.1))
+
+module _ {A : Type 0} {bytes : A → List ℕ} {P : ℕ} (prefix : List ℕ) {tree : Tree OpaqueNodePtr A} {name : OpaqueNodePtr} {depth : ℕ}
+    (d : IsDescent bytes P (IsNotBelow bytes prefix) (IsNotBelow bytes prefix) tree name depth) where
+  -- at a leaf the way ends
+  pub at_leaf : (n : OpaqueNodePtr) (x : A) → d.at.node ≡ leaf n x → EndsBelow bytes prefix tree (Some name)
+  at_leaf n x is = record {
+    at = d.at;
+    begin = is_front prefix (bytes x);
+    alike = subst (λ t. Each (λ y. is_front prefix (bytes y) ≡ is_front prefix (bytes x)) (pairs_of t)) (sym is) (refl, tt);
+  }
+
+  module _ {p : InnerPtr} {shown : Inner} (at : IsShown d.at.node p shown) {len : ℕ} (len_is : len ≡ shown.prefix.len) where
+    long_front : length (front d at) ≡ depth + len
+    long_front = let l = front_len d at in omega arith
+
+    -- the prefix ends with the node's own, or before
+    pub at_end : length prefix ≤ depth + len → EndsBelow bytes prefix tree (Some name)
+    at_end short =
+        let long : length prefix ≤ length (front d at) = let l = long_front in omega arith in
+        record {
+          at = d.at;
+          begin = is_front prefix (front d at);
+          alike = each_under d at (λ x. is_front prefix (bytes x) ≡ is_front prefix (front d at))
+              (λ c i x leads. let (r, e) = front_cut (front d at) (c ∷ []) (bytes x) leads in ap (is_front prefix) e ∙ front_within prefix (front d at) r long);
+        }
+
+    module _ (long : depth + len < length prefix) where
+      off : (c : ℕ) → c ≢ get_or prefix (depth + len) 0 → (x : A) → IsFront (front d at ++ c ∷ []) (bytes x) → is_front prefix (bytes x) ≡ false
+      off c other x leads =
+          let l = long_front in
+          other_byte prefix (front d at) (bytes x) c (omega arith) (λ e. other (e ∙ ap (λ n. get_or prefix n 0) l)) leads
+
+      -- there is no child for its byte
+      pub at_gap : child_at shown.children (get_or prefix (depth + len) 0) ≡ None → EndsBelow bytes prefix tree None
+      at_gap none =
+          let test = λ (x : A). is_front prefix (bytes x) in
+          let middle =
+          each_under d at (IsNotBelow bytes prefix) (λ c i x leads. off c (λ e. child_there d at c i (ap (child_at shown.children) e ∙ none)) x leads) in
+          ap (λ t. below bytes prefix (pairs_of t)) (sym d.at.whole) ∙ ap (below bytes prefix) (pairs_of-plug d.at.path d.at.node)
+          ∙ simp (filter-append, filter_none test (pairs_before d.at.path) d.at.before, filter_none test (pairs_of d.at.node) middle, filter_none test (pairs_after d.at.path) d.at.after) refl
+
+      -- the way goes on below the child
+      pub goes_down : {to : OpaqueNodePtr} → child_at shown.children (get_or prefix (depth + len) 0) ≡ Some to →
+          IsDescent bytes P (IsNotBelow bytes prefix) (IsNotBelow bytes prefix) tree to (depth + len + 1)
+      goes_down {to} there =
+          subst (λ n. IsDescent bytes P (IsNotBelow bytes prefix) (IsNotBelow bytes prefix) tree to (depth + n + 1)) (sym len_is)
+          (down d at (get_or prefix (depth + len) 0) there (λ c i less x leads. off c (λ e. omega arith) x leads) (λ c i more x leads. off c (λ e. omega arith) x leads))

@@ -1,0 +1,257 @@
+-- the way down to a node beside a key
+use Rattle.std.proofs.Common.{◌≡◌, ◌≢◌, ℕ, suc, ◌+◌, ◌<◌, ◌≤◌, ◌⊎◌, List, [], ◌∷◌, ◌++◌, length, take, drop, get_or, refl, ap, sym, ◌∙◌, arith, subst, length-append, append_assoc, Some, None, Bool, IsTrue, ◌↔◌, inl, inr}
+use Rattle.std.specs.List.{AllByRecursion as Each, starts_with}
+use Rattle.std.specs.Ordering.{is_lt}
+use Rattle.std.specs.FinMap as map
+use Rattle.std.proofs.Common.{eqb}
+use Rattle.std.proofs.lemmas.Bool.{cases_order}
+use Rattle.std.proofs.lemmas.List.{take_all, take_at, take-append-drop}
+use Rattle.art_inner.specs.Beside.{IsNextTo}
+use Rattle.art_inner.specs.Inner.{Inner, child_at}
+use Rattle.art_nodes.specs.Nodes.{Nodes}
+use Rattle.art_parts.specs.Names.{inner_name, leaf_name}
+use Rattle.art_parts.specs.declared.leaf.LeafNode.{LeafNode}
+use Rattle.art_parts.specs.declared.names.InnerPtr.{InnerPtr}
+use Rattle.art_parts.specs.declared.names.LeafPtr.{LeafPtr}
+use Rattle.art_parts.specs.declared.names.NodeType.TheVariants.{Leaf}
+use Rattle.art_parts.specs.declared.names.OpaqueNodePtr.{OpaqueNodePtr}
+use Rattle.art_model.specs.Canonical.{IsCanonicalTree}
+use Rattle.art_model.specs.Footprints.{IsIn}
+use Rattle.art_model.specs.Keys.{IsFront, Precedes, is_before, is_front}
+use Rattle.art_model.specs.Lookups.{HasFirstLeaf}
+use Rattle.art_model.specs.Places.{prefix_of}
+use Rattle.art_model.specs.Radix.{IsRadix, bytes_of, pairs_of}
+use Rattle.art_model.specs.Roots.{IsFullTree}
+use Rattle.art_model.specs.Stores.{header_at, pair_of}
+use Rattle.art_model.specs.Layouts.{slots_of}
+use Rattle.art_model.specs.Trees.{Tree, leaf, inner, Subtrees, child, no_child}
+use Rattle.art_model.proofs.Lists.{Each-weaker, after_front, front_cut}
+use Rattle.art_model.proofs.OnWay.{byte_after, front_byte}
+use Rattle.art_model.proofs.Places.{prefix_is}
+use Rattle.art_model.proofs.Radix.{parts}
+use Rattle.art_model.proofs.Rebuild.{radix_below, radix_way}
+use Rattle.art_model.proofs.Shown.{IsShown, inner_shown}
+use Rattle.art_model.proofs.TreeLaws.{have_two_children, one_child}
+use Rattle.art_reading.specs.Parts.{IsPlaced, StandsBeside}
+use Rattle.art_reading.proofs.Below.{front_within, starts_front}
+use Rattle.art_reading.proofs.Descents.{IsDescent, start, shown_radix, front, front_len, part_len, child_there, each_under, down}
+use Rattle.art_reading.proofs.Parts.{least_is, node_full}
+use Rattle.art_reading.proofs.Sides.{apart_left, apart_right, ended_left, ended_right, whole_front}
+
+slots_long : {N A : Type 0} (cs : Subtrees N A) → length (slots_of cs) ≡ length (bytes_of cs)
+slots_long no_child = refl
+slots_long (child b t cs) = ap suc (slots_long cs)
+
+-- A node of the tree at a place that is a front of the key.
+pub record IsOnKey {A : Type 0} (bytes : A → List ℕ) (P : ℕ) (key : List ℕ) (tree : Tree OpaqueNodePtr A) (name : OpaqueNodePtr) (depth : ℕ) : Type 0 where
+  pub descent : IsDescent bytes P (λ x. Precedes (bytes x) key) (λ x. Precedes key (bytes x)) tree name depth
+  pub on_way : IsFront descent.place key
+
+module _ {A : Type 0} {bytes : A → List ℕ} {P : ℕ} {key : List ℕ} {tree : Tree OpaqueNodePtr A} {name : OpaqueNodePtr} {depth : ℕ} where
+  -- where the key does not begin with the place, all keys below are on the side of the place
+  off_place : (d : IsDescent bytes P (λ x. Precedes (bytes x) key) (λ x. Precedes key (bytes x)) tree name depth) → (IsFront d.place key → ⊥) → StandsBeside bytes key tree name
+  off_place d off = record {
+    at = d.at;
+    is_lower = is_before d.place key;
+    is_upper = is_before key d.place;
+    lower = Each-weaker (λ x. IsFront d.place (bytes x)) (λ x. is_before (bytes x) key ≡ is_before d.place key)
+        (λ x f. ap (λ z. is_before z key) f.1 ∙ ap is_lt (apart_left d.place f.0 key off)) (pairs_of d.at.node) (radix_way bytes P d.at.node d.place d.radix);
+    upper = Each-weaker (λ x. IsFront d.place (bytes x)) (λ x. is_before key (bytes x) ≡ is_before key d.place)
+        (λ x f. ap (is_before key) f.1 ∙ ap is_lt (apart_right d.place f.0 key off)) (pairs_of d.at.node) (radix_way bytes P d.at.node d.place d.radix);
+  }
+
+module _ {A : Type 0} {bytes : A → List ℕ} {P : ℕ} {key : List ℕ} {tree : Tree OpaqueNodePtr A} {name : OpaqueNodePtr} {depth : ℕ} where
+  module _ (o : IsOnKey bytes P key tree name depth) where
+    -- a leaf
+    pub beside_leaf : (n : OpaqueNodePtr) (x : A) → o.descent.at.node ≡ leaf n x → StandsBeside bytes key tree name
+    beside_leaf n x is = record {
+      at = o.descent.at;
+      is_lower = is_before (bytes x) key;
+      is_upper = is_before key (bytes x);
+      lower = subst (λ t. Each (λ y. is_before (bytes y) key ≡ is_before (bytes x) key) (pairs_of t)) (sym is) (refl, tt);
+      upper = subst (λ t. Each (λ y. is_before key (bytes y) ≡ is_before key (bytes x)) (pairs_of t)) (sym is) (refl, tt);
+    }
+
+    module _ {p : InnerPtr} {shown : Inner} (at : IsShown o.descent.at.node p shown) {len : ℕ} (len_is : len ≡ shown.prefix.len) where
+      place_len : length (front o.descent at) ≡ depth + len
+      place_len = let l = front_len o.descent at in omega arith
+
+      -- the key ends with the node's prefix, or before
+      pub beside_end : length key ≤ depth + len → StandsBeside bytes key tree name
+      beside_end short =
+          let w = front o.descent at in
+          let long : length key ≤ length (front o.descent at) = let l = place_len in omega arith in
+          record {
+            at = o.descent.at;
+            is_lower = is_before (w ++ 0 ∷ []) key;
+            is_upper = is_before key (w ++ 0 ∷ []);
+            lower = each_under o.descent at (λ x. is_before (bytes x) key ≡ is_before (front o.descent at ++ 0 ∷ []) key)
+                (λ c i x (r, e). ap (λ z. is_before z key) (e ∙ append_assoc (front o.descent at) (c ∷ []) r) ∙ ap is_lt (ended_left (front o.descent at) key r c long));
+            upper = each_under o.descent at (λ x. is_before key (bytes x) ≡ is_before key (front o.descent at ++ 0 ∷ []))
+                (λ c i x (r, e). ap (is_before key) (e ∙ append_assoc (front o.descent at) (c ∷ []) r) ∙ ap is_lt (ended_right (front o.descent at) key r c long));
+          }
+
+      -- the key parts from the node's prefix
+      pub beside_off : (IsFront (front o.descent at) key → ⊥) → StandsBeside bytes key tree name
+      beside_off off =
+          let w = front o.descent at in
+          record {
+            at = o.descent.at;
+            is_lower = is_before w key;
+            is_upper = is_before key w;
+            lower = each_under o.descent at (λ x. is_before (bytes x) key ≡ is_before (front o.descent at) key)
+                (λ c i x f. let (r, e) = front_cut (front o.descent at) (c ∷ []) (bytes x) f in ap (λ z. is_before z key) e ∙ ap is_lt (apart_left (front o.descent at) r key off));
+            upper = each_under o.descent at (λ x. is_before key (bytes x) ≡ is_before key (front o.descent at))
+                (λ c i x f. let (r, e) = front_cut (front o.descent at) (c ∷ []) (bytes x) f in ap (is_before key) e ∙ ap is_lt (apart_right (front o.descent at) r key off));
+          }
+
+      module _ (long : depth + len < length key) (goes : IsFront (front o.descent at) key) where
+        key_byte : IsFront (front o.descent at ++ get_or key (depth + len) 0 ∷ []) key
+        key_byte =
+            let l = place_len in
+            subst (λ n. IsFront (front o.descent at ++ get_or key n 0 ∷ []) key) l (front_byte (front o.descent at) key goes (omega arith))
+
+        below_key : (c : ℕ) → c < get_or key (depth + len) 0 → (x : A) → IsFront (front o.descent at ++ c ∷ []) (bytes x) → Precedes (bytes x) key
+        below_key c less x f = parts bytes (front o.descent at) c (get_or key (depth + len) 0) (bytes x) key f key_byte less
+
+        above_key : (c : ℕ) → get_or key (depth + len) 0 < c → (x : A) → IsFront (front o.descent at ++ c ∷ []) (bytes x) → Precedes key (bytes x)
+        above_key c more x f = parts bytes (front o.descent at) (get_or key (depth + len) 0) c key (bytes x) key_byte f more
+
+        -- the key goes on below a child
+        pub onto_child : {to : OpaqueNodePtr} → child_at shown.children (get_or key (depth + len) 0) ≡ Some to → IsOnKey bytes P key tree to (depth + len + 1)
+        onto_child {to} there =
+            subst (λ n. IsOnKey bytes P key tree to (depth + n + 1)) (sym len_is)
+            (record {
+              descent = down o.descent at (get_or key (depth + len) 0) there (λ c i less. below_key c less) (λ c i more. above_key c more);
+              on_way = key_byte;
+            })
+
+        -- there is no child for the key's byte, and this is the next one
+        pub beside_gap : child_at shown.children (get_or key (depth + len) 0) ≡ None → {r : ℕ × OpaqueNodePtr} →
+            IsNextTo shown.children (get_or key (depth + len) 0) r → StandsBeside bytes key tree r.1
+        beside_gap none {r} next =
+            let b = get_or key (depth + len) 0 in
+            off_place (down o.descent at r.0 next.there lower upper) (λ f.
+            same (sym (byte_after (front o.descent at) key r.0 f) ∙ ap (λ n. get_or key n 0) place_len))
+          where
+            same : r.0 ≡ get_or key (depth + len) 0 → ⊥
+            same e = let there = next.there in let gone = ap (child_at shown.children) e ∙ none in absurd cc
+
+            -- a child's byte is another one, and not between
+            lower : (c : ℕ) → IsIn c (bytes_of at.children) → c < r.0 → (x : A) → IsFront (front o.descent at ++ c ∷ []) (bytes x) → Precedes (bytes x) key
+            lower c i less = go (cases_order c (get_or key (depth + len) 0))
+              where
+                go : (c ≡ get_or key (depth + len) 0) ⊎ ((c < get_or key (depth + len) 0) ⊎ (get_or key (depth + len) 0 < c)) →
+                    (x : A) → IsFront (front o.descent at ++ c ∷ []) (bytes x) → Precedes (bytes x) key
+                go (inl e) = absurd (child_there o.descent at c i (ap (child_at shown.children) e ∙ none))
+                go (inr (inl l)) = below_key c l
+                go (inr (inr l)) = absurd (child_there o.descent at c i (next.above c l less))
+
+            upper : (c : ℕ) → IsIn c (bytes_of at.children) → r.0 < c → (x : A) → IsFront (front o.descent at ++ c ∷ []) (bytes x) → Precedes key (bytes x)
+            upper c i more = go (cases_order c (get_or key (depth + len) 0))
+              where
+                go : (c ≡ get_or key (depth + len) 0) ⊎ ((c < get_or key (depth + len) 0) ⊎ (get_or key (depth + len) 0 < c)) →
+                    (x : A) → IsFront (front o.descent at ++ c ∷ []) (bytes x) → Precedes key (bytes x)
+                go (inl e) = absurd (child_there o.descent at c i (ap (child_at shown.children) e ∙ none))
+                go (inr (inl l)) = absurd (child_there o.descent at c i (next.below c more l))
+                go (inr (inr l)) = above_key c l
+
+      -- the node has a child
+      pub has_child : 0 < length shown.children
+      has_child =
+          let own = shown_radix o.descent at in
+          let two = own.2 in
+          let all = slots_long at.children in
+          rw at.slots (omega arith)
+
+      -- ---- the whole prefix, compared with a part of the key
+      own_prefix : prefix_of bytes depth o.descent.at.node ≡ (shown_radix o.descent at).0
+      own_prefix =
+          ap (prefix_of bytes depth) at.is
+          ∙ subst (λ n. prefix_of bytes n (inner (inner_name p) (header_at p.kind shown) at.children) ≡ (shown_radix o.descent at).0) o.descent.depth_is
+          (prefix_is bytes P (inner_name p) (header_at p.kind shown) at.children o.descent.place (shown_radix o.descent at))
+
+      -- they are the same where the key goes on
+      pub same_goes : {part : List ℕ} (n : ℕ) → part ≡ take n (drop depth key) → part ≡ prefix_of bytes depth o.descent.at.node → IsFront (front o.descent at) key
+      same_goes {part} n part_is same =
+          let (r, e) = o.on_way in
+          let rest : drop depth key ≡ r = ap (λ m. drop m key) (sym o.descent.depth_is) ∙ after_front o.descent.place key r e in
+          let own = shown_radix o.descent at in (
+            drop n r,
+            e ∙ ap (λ z. o.descent.place ++ z) (sym (take-append-drop n r)
+                ∙ ap (λ z. z ++ drop n r) (ap (take n) (sym rest) ∙ sym part_is ∙ same ∙ own_prefix))
+                ∙ sym (append_assoc o.descent.place own.0 (drop n r)),
+          )
+
+      -- and the other way round
+      pub goes_same : {part : List ℕ} (n : ℕ) → n ≡ len → part ≡ take n (drop depth key) → IsFront (front o.descent at) key → part ≡ prefix_of bytes depth o.descent.at.node
+      goes_same {part} n count part_is (r, e) =
+          let own = shown_radix o.descent at in
+          let rest : drop depth key ≡ own.0 ++ r =
+          ap (λ m. drop m key) (sym o.descent.depth_is) ∙ after_front o.descent.place key (own.0 ++ r) (e ∙ append_assoc o.descent.place own.0 r) in
+          part_is ∙ ap (take n) rest ∙ take_at own.0 r n (let l = part_len o.descent at in omega arith) ∙ sym own_prefix
+
+module _ {K V : Type 0} {s : Nodes K V} {bytes : K × V → List ℕ} {P : ℕ} {root : OpaqueNodePtr} {pairs : List (K × V)} {layout : Tree OpaqueNodePtr (K × V)}
+    (by : IsCanonicalTree bytes P s root pairs layout) {key : List ℕ} where
+  pub on_key_start : IsOnKey bytes P key layout root 0
+  on_key_start = record { descent = start by; on_way = (key, refl) }
+
+  -- a node on the way is placed under its name
+  pub placed_on : {name other : OpaqueNodePtr} {depth : ℕ} (o : IsOnKey bytes P key layout name depth) → other ≡ name → IsPlaced bytes P s other depth o.descent.at.node
+  placed_on {depth = depth} o is =
+      subst (λ n. IsPlaced bytes P s n depth o.descent.at.node) (sym is)
+      (record { place = o.descent.place; depth_is = o.descent.depth_is; radix = o.descent.radix; layout = (node_full by o.descent.at).0 })
+
+-- ---- the whole prefix of a node, as it is read
+module _ {K V : Type 0} {s : Nodes K V} {bytes : K × V → List ℕ} {P : ℕ} {p : InnerPtr} {depth : ℕ} {tree : Tree OpaqueNodePtr (K × V)} (at : IsPlaced bytes P s (inner_name p) depth tree) where
+  pub placed_full : {name : OpaqueNodePtr} → name ≡ inner_name p → IsFullTree s name tree
+  placed_full is = subst (λ n. IsFullTree s n tree) (sym is) (at.layout, one_child tree (have_two_children bytes P at.place tree at.radix))
+
+  module _ (proper : p.kind ≢ Leaf) {shown : Inner} (there : Some shown ≡ map.get s.inners p) where
+    seen_at : IsShown tree p shown
+    seen_at = inner_shown s p proper tree at.layout.named at.layout.holds shown there
+
+    own : IsRadix bytes P at.place (inner (inner_name p) (header_at p.kind shown) seen_at.children)
+    own = subst (IsRadix bytes P at.place) seen_at.is at.radix
+
+    whole_is : prefix_of bytes depth tree ≡ own.0
+    whole_is =
+        ap (prefix_of bytes depth) seen_at.is
+        ∙ subst (λ n. prefix_of bytes n (inner (inner_name p) (header_at p.kind shown) seen_at.children) ≡ own.0) at.depth_is
+        (prefix_is bytes P (inner_name p) (header_at p.kind shown) seen_at.children at.place own)
+
+    len_is : shown.prefix.len ≡ length own.0
+    len_is = ap (λ h. h.length_of) own.1
+
+    -- from what is stored
+    pub told_by_stored : {part stored : List ℕ} (t : Bool) → length part ≡ shown.prefix.len → length part ≤ P → stored ≡ shown.prefix.stored → t ≡ starts_with eqb part stored →
+        IsTrue t ↔ (part ≡ prefix_of bytes depth tree)
+    told_by_stored {part} {stored} t long short read test =
+        let l = len_is in
+        let stored_is : stored ≡ prefix_of bytes depth tree = read ∙ ap (λ h. h.stored) own.1 ∙ take_all P own.0 (omega arith) ∙ sym whole_is in
+        let same_len : length (prefix_of bytes depth tree) ≡ length part = ap length whole_is ∙ sym l ∙ sym long in
+        whole_front (prefix_of bytes depth tree) part same_len t (ap (λ z. is_front z part) (sym stored_is) ∙ starts_front part stored t test)
+
+    -- from the least leaf
+    module _ {q : LeafPtr} (first : HasFirstLeaf tree (leaf_name q)) {l : LeafNode K V} (read : Some l ≡ map.get s.leaves q) where
+      least_begins : IsFront (at.place ++ own.0) (bytes (pair_of l))
+      least_begins =
+          least_is s at.layout.holds first (λ x. IsFront (at.place ++ own.0) (bytes x))
+          (subst (λ t. Each (λ x. IsFront (at.place ++ own.0) (bytes x)) (pairs_of t)) (sym seen_at.is) (radix_below bytes P seen_at.children (at.place ++ own.0) own.4)) l read
+
+      pub least_long : depth ≤ length (bytes (pair_of l))
+      least_long =
+          let (r, e) = least_begins in
+          let n = ap length e in
+          let d = at.depth_is in
+          omega (arith, simp length-append at n)
+
+      pub told_by_least : {part rest : List ℕ} (t : Bool) → length part ≡ shown.prefix.len → rest ≡ drop depth (bytes (pair_of l)) → t ≡ starts_with eqb rest part →
+          IsTrue t ↔ (part ≡ prefix_of bytes depth tree)
+      told_by_least {part} {rest} t long rest_is test =
+          let (r, e) = least_begins in
+          let is : rest ≡ own.0 ++ r =
+          rest_is ∙ ap (λ m. drop m (bytes (pair_of l))) (sym at.depth_is) ∙ after_front at.place (bytes (pair_of l)) (own.0 ++ r) (e ∙ append_assoc at.place own.0 r) in
+          let same_len : length part ≡ length own.0 = let k = len_is in omega arith in
+          let told = whole_front part own.0 same_len t (sym (front_within part own.0 r (omega arith)) ∙ ap (is_front part) (sym is) ∙ starts_front rest part t test) in
+          (λ on. sym (told.0 on) ∙ sym whole_is, λ same. told.1 (sym whole_is ∙ sym same))

@@ -1,0 +1,20 @@
+use Rattle.std.proofs.Common.{◌≡◌, ◌+◌, ◌<◌, ◌^◌}
+use Rattle.std.specs.FinMap as map
+use Rattle.art_parts.specs.declared.names.InnerPtr.{InnerPtr}
+use Rattle.art_parts.specs.declared.names.NodeType.TheVariants.{Leaf}
+use Rattle.art_writing.specs.Freed.{CanGo}
+use Rattle.art_writing.proofs.FreedTrees.{Shape, work_at}
+use Rattle.art_writing.proofs.Turned.{IsLeft}
+use Rattle.art_writing.proofs.deallocate.free_nodes.Given as goal
+
+abbrev pub invariant-left : goal.invariant-left
+invariant-left g l = record {
+  left : (shape : Shape) → CanGo l.fn.store l.fn.leaves_too l.fn.root shape → IsLeft l.fn.store l.store l.fn.leaves_too l.left shape l.count;
+  promise : l.store.promise ≡ l.fn.store.promise;
+  improper : (name : InnerPtr) → name.kind ≡ Leaf → map.get l.store.inners name ≡ map.get l.fn.store.inners name;
+  total : l.count + map.len l.store.leaves ≡ map.len l.fn.store.leaves;
+  few : 0 < l.count → map.len l.fn.store.leaves < 2 ^ 64;
+}
+
+abbrev pub decreases-left : goal.decreases-left
+decreases-left g l = work_at l.store l.left

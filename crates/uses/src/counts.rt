@@ -1,0 +1,77 @@
+//! A map whose values are written where they are. What is written is seen in the pairs.
+ghost use Rattle.std.specs.Prelude.{◌≡◌, ◌+◌, ◌<◌, ◌^◌, ◌∷◌, [], Some, IfSome, IsTrue, IsFalse};
+ghost use Rattle.art_model.specs.Pairs.{of_key, put};
+ghost use Rattle.art_operations.specs.MapAnswers.{with_value_at};
+
+use art_operations::map::ByteMap;
+use std::alloc::Global;
+
+/// Puts two pairs in, counts the first key twice more and a new one once, and takes both ends out. `None` for
+/// want of memory.
+pub fn count_twice(alloc: Global) -> Option<(Option<([u8; 1], u32)>, Option<([u8; 1], u32)>)>
+    ensures { IfSome result (λ told. told ≡ (Some (1 ∷ [], 9), Some (3 ∷ [], 1))) }
+{
+    let mut counts: ByteMap<[u8; 1], u32, 4> = ByteMap::new(alloc);
+    let Ok(_) = counts.insert([2], 5) else {
+        return None;
+    };
+    let Ok(_) = counts.insert([1], 7) else {
+        return None;
+    };
+    if let Some(count) = counts.get_mut(&[1]) {
+        *count += 2;
+    }
+    let Ok(count) = counts.get_or_insert([3], 0) else {
+        return None;
+    };
+    *count += 1;
+    let Ok(first) = counts.pop_first() else {
+        return None;
+    };
+    let Ok(last) = counts.pop_last() else {
+        return None;
+    };
+    Some((first, last))
+}
+
+/// Writes the value of a key, where there is one.
+pub fn write_value(map: &mut ByteMap<[u8; 1], u32, 4>, key: &[u8], value: u32) -> bool
+    ensures written { IsTrue result →
+        map.new ≡ with_value_at (λ key. key) key.now value map.old }
+    ensures kept { IsFalse result → map.new ≡ map.old }
+{
+    let Some(old) = map.get_mut(key) else {
+        return false;
+    };
+    *old = value;
+    true
+}
+
+/// Puts a pair in by the entry of its key.
+pub fn put_by_entry(map: &mut ByteMap<[u8; 1], u32, 4>, key: [u8; 1], value: u32) -> bool
+    ensures put { IsTrue result →
+        map.new ≡ put (of_key (λ key. key)) (key, value) map.old }
+    ensures kept { IsFalse result → map.new ≡ map.old }
+{
+    let Ok(stored) = map.entry(key).or_insert(0) else {
+        return false;
+    };
+    *stored = value;
+    true
+}
+
+/// The first key of a map of one pair, and how many pairs are left when the map is cleared.
+pub fn first_key(alloc: Global) -> Option<(Option<[u8; 1]>, usize)>
+    ensures { IfSome result (λ told. told ≡ (Some (4 ∷ []), 0)) }
+{
+    let mut map: ByteMap<[u8; 1], u32, 4> = ByteMap::new(alloc);
+    let Ok(_) = map.insert([4], 2) else {
+        return None;
+    };
+    let first = match map.keys().next() {
+        Some(key) => Some(*key),
+        None => None,
+    };
+    map.clear();
+    Some((first, map.len()))
+}
