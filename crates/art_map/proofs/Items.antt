@@ -44,7 +44,7 @@ module _ {K V : Type 0} (s : Nodes K V) where
   named_append (x ∷ xs) ys =
       ap (λ z. one_pair (map.get s.leaves (as_leaf x)) ++ z) (named_append xs ys) ∙ sym (append_assoc (one_pair (map.get s.leaves (as_leaf x))) (named_pairs xs) (named_pairs ys))
 
-  from_there : (p : LeafPtr) (node : LeafNode K V) (n : ℕ) → map.get s.leaves p ≡ Some node → pairs_from s (suc n) (Some p) ≡ pair_of node ∷ pairs_from s n node.next
+  pub from_there : (p : LeafPtr) (node : LeafNode K V) (n : ℕ) → map.get s.leaves p ≡ Some node → pairs_from s (suc n) (Some p) ≡ pair_of node ∷ pairs_from s n node.next
   unfolding pairs_from
   from_there p node n there = ap (λ o. let r : List (K × V) = elim o [ None ↦ [] | Some other ↦ pair_of other ∷ pairs_from s n other.next ] in r) there
 
@@ -63,7 +63,7 @@ module _ {K V : Type 0} (s : Nodes K V) where
         from_there p node (length ns) there ∙ ap (λ xs. pair_of node ∷ xs) (chained ns (Some n) after after node.next linked.1 next)
         ∙ sym (ap (λ o. one_pair o ++ named_pairs ns) (ap (map.get s.leaves) at ∙ there))
 
-  first_first : (names : List OpaqueNodePtr) (n : OpaqueNodePtr) → first_of names ≡ Some n → Some n ≡ first_or names None
+  pub first_first : (names : List OpaqueNodePtr) (n : OpaqueNodePtr) → first_of names ≡ Some n → Some n ≡ first_or names None
   first_first [] n e = absurd cc
   first_first (x ∷ xs) n e = sym e
 
@@ -162,7 +162,7 @@ module _ {K V : Type 0} {s : Nodes K V} {walk left : Option (LeafPtr × LeafPtr)
         left_are s walk w.names len w.is counted ∙ first_left s w.names p pair (e w.names w.is) read
         ∙ ap (λ xs. pair ∷ xs) (sym (left_are s left (without_first w.names) (len - 1) (after w.names w.is) (omega arith)))
 
-    pub first_walk : {p : LeafPtr} → ((names : List OpaqueNodePtr) → IsIteratorOf s walk names → Some (leaf_name p) ≡ first_of names) → IsWalk s left (len - 1)
+    unfoldable pub first_walk : {p : LeafPtr} → ((names : List OpaqueNodePtr) → IsIteratorOf s walk names → Some (leaf_name p) ≡ first_of names) → IsWalk s left (len - 1)
     first_walk {p} e =
         let less = less_first w.names (leaf_name p) (e w.names w.is) in
         let counted = w.len_is in
@@ -185,7 +185,7 @@ module _ {K V : Type 0} {s : Nodes K V} {walk left : Option (LeafPtr × LeafPtr)
           let counted = w.len_is in
           omega arith
 
-      pub last_walk : IsWalk s left (len - 1)
+      unfoldable pub last_walk : IsWalk s left (len - 1)
       last_walk =
           let less = less_last w.names (leaf_name p) (e w.names w.is) in
           let counted = w.len_is in

@@ -5,8 +5,10 @@ pub mod Results
 pub mod Takings
 pub mod Items
 pub mod Ranges
+pub mod Owned
 pub mod CallerLaws
 pub mod Shrinking
 pub mod ValueLaws
 pub mod Written
 pub mod Entered
+pub mod SetLaws

@@ -4,3 +4,4 @@ pub mod MapChanges
 pub mod MapItems
 pub mod MapLends
 pub mod MapCalls
+pub mod SetKeys

@@ -43,11 +43,13 @@ use thiserror::Error;
 mod compared;
 mod entry;
 mod iter;
+mod owned;
 mod parts;
 mod range;
 
 pub use entry::{Entry, EntryOf};
 pub use iter::{Leaves, MapIter, MapIterOf};
+pub use owned::{IntoIter, IntoKeys, IntoValues};
 pub use parts::{Keys, KeysOf, Values, ValuesOf};
 pub use range::{Range, RangeOf};
 

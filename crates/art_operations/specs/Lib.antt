@@ -39,6 +39,7 @@ pub use Rattle.art_map.specs.MapAnswers
 pub use Rattle.art_map.specs.MapItems
 pub use Rattle.art_map.specs.MapLends
 pub use Rattle.art_map.specs.MapCalls
+pub use Rattle.art_map.specs.SetKeys
 -- runs of commands
 pub use Rattle.art_running.specs.Answers
 pub use Rattle.art_running.specs.Needs

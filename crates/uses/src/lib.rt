@@ -23,6 +23,7 @@ use art_operations::minmax::{maximum_unchecked, minimum_unchecked};
 use art_operations::visitor::{Visitor, visit_with};
 
 pub mod counts;
+pub mod given;
 pub mod months;
 pub mod parts;
 
