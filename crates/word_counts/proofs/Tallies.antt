@@ -1,5 +1,5 @@
 -- How often words stand in a list, and how a map keeps that.
-use Rattle.std.proofs.Common.{◌≡◌, ℕ, zero, suc, ◌+◌, ◌-◌, ◌^◌, ◌<◌, Bool, true, false, cond, eqb, eqb-true, ne_eqb, inr, take_at, min, List, [], ◌∷◌, ◌++◌, length, filter, map, unwrap_or, refl, ap, sym, ◌∙◌, subst, arith, append_assoc, length-append}
+use Rattle.std.proofs.Common.{◌≡◌, ℕ, zero, suc, ◌+◌, ◌-◌, ◌^◌, ◌<◌, Bool, true, false, cond, eqb, eqb-true, ne_eqb, inr, take_at, min, List, [], ◌∷◌, ◌++◌, length, filter, map, unwrap_or, Some, refl, ap, sym, ◌∙◌, subst, arith, append_assoc, length-append}
 use Rattle.std.specs.List.{AllByRecursion as Each}
 use Rattle.std.specs.Option.{option_map}
 use Rattle.std.specs.Cmp.Lexicographic.{slice_cmp}
@@ -16,7 +16,7 @@ use Rattle.art_model.proofs.Keys.{before_apart, front_same, same_equal}
 use Rattle.art_model.proofs.KeyLaws.{order_is_decided, sameness_is_decided}
 use Rattle.art_model.proofs.MapLaws.{put_is_found}
 use Rattle.art_model.proofs.Puts.{stored_value}
-use Rattle.art_operations.specs.MapAnswers.{value_at}
+use Rattle.art_operations.specs.MapAnswers.{value_at, with_value_at}
 use Rattle.word_counts.specs.Counts.{IsCountOf, IsKeptFor, key_of, numbers_for, shown, times}
 use Rattle.word_counts.proofs.Texts.{IsWhole}
 
@@ -74,6 +74,65 @@ counted_once_more {K} bytes ws word key value pairs is number kept = record { ea
             ap (λ n. n ∷ []) (stored_value bytes (key, value) pairs ∙ number ∙ ap (λ o. min (unwrap_or o 0 + 1) (2 ^ 64 - 1)) v)
             ∙ next_number (times k (map key_of ws))
         go false e = kept.each k ∙ ap numbers_for (omega arith)
+
+-- ---- a word that is counted already
+
+module _ {K : Type 0} (bytes : K → List ℕ) (key : List ℕ) (value : ℕ) where
+  -- where a value is written, it is found as often as there was one
+  written_here : (pairs : List (K × ℕ)) → map (λ x. x.1) (with_key (of_key bytes) key (with_value_at bytes key value pairs)) ≡ map (λ x. value) (with_key (of_key bytes) key pairs)
+  written_here [] = refl
+  written_here (x ∷ xs) = go (are_same key (bytes x.0)) refl (written_here xs)
+    where
+      go : (t : Bool) → are_same key (bytes x.0) ≡ t → map (λ x. x.1) (with_key (of_key bytes) key (with_value_at bytes key value xs)) ≡ map (λ x. value) (with_key (of_key bytes) key xs) →
+          map (λ x. x.1) (with_key (of_key bytes) key (with_value_at bytes key value (x ∷ xs))) ≡ map (λ x. value) (with_key (of_key bytes) key (x ∷ xs))
+      go true e ih = rw e (rw e (ap (λ vs. value ∷ vs) ih))
+      go false e ih = rw e (rw e ih)
+
+  -- and under every other key what was found before
+  written_elsewhere : (other : List ℕ) (pairs : List (K × ℕ)) → are_same other key ≡ false →
+      map (λ x. x.1) (with_key (of_key bytes) other (with_value_at bytes key value pairs)) ≡ map (λ x. x.1) (with_key (of_key bytes) other pairs)
+  written_elsewhere other [] apart = refl
+  written_elsewhere other (x ∷ xs) apart = go (are_same key (bytes x.0)) (are_same other (bytes x.0)) refl refl (written_elsewhere other xs apart)
+    where
+      go : (b d : Bool) → are_same key (bytes x.0) ≡ b → are_same other (bytes x.0) ≡ d →
+          map (λ x. x.1) (with_key (of_key bytes) other (with_value_at bytes key value xs)) ≡ map (λ x. x.1) (with_key (of_key bytes) other xs) →
+          map (λ x. x.1) (with_key (of_key bytes) other (with_value_at bytes key value (x ∷ xs))) ≡ map (λ x. x.1) (with_key (of_key bytes) other (x ∷ xs))
+      go true true e f ih = absurd (false≢true (sym apart ∙ ap (are_same other) (sym (same_equal key (bytes x.0) e)) ∙ f))
+      go true false e f ih = rw (e, f) ih
+      go false true e f ih = rw (e, f) (ap (λ vs. x.1 ∷ vs) ih)
+      go false false e f ih = rw (e, f) ih
+
+-- the one number that is kept gives way to the next one
+only_number : {A : Type 0} (value : A → ℕ) (xs : List A) (n count next : ℕ) → map value xs ≡ numbers_for n → first_of (map value xs) ≡ Some count →
+    next ≡ min (count + 1) (2 ^ 64 - 1) → map (λ x. next) xs ≡ numbers_for (n + 1)
+only_number value [] n count next all first is = absurd cc
+only_number value (x ∷ []) n count next all first is =
+    ap (λ k. k ∷ []) (is ∙ ap (λ o. min (unwrap_or o 0 + 1) (2 ^ 64 - 1)) (sym first ∙ ap first_of all)) ∙ next_number n
+only_number value (x ∷ y ∷ xs) n count next all first is = go (eqb n 0) all
+  where
+    go : (t : Bool) → value x ∷ value y ∷ map value xs ≡ cond t [] (min n (2 ^ 64 - 1) ∷ []) → map (λ x. next) (x ∷ y ∷ xs) ≡ numbers_for (n + 1)
+    go true e = absurd cc
+    go false e = absurd cc
+
+-- a word that is counted already is counted once more
+pub counted_again : {K : Type 0} (bytes : K → List ℕ) (ws : List (List ℕ)) (word key : List ℕ) (count next : ℕ) (pairs : List (K × ℕ)) →
+    key ≡ key_of word → value_at bytes key pairs ≡ Some count → next ≡ min (count + 1) (2 ^ 64 - 1) → IsKeptFor bytes ws pairs →
+    IsKeptFor bytes (ws ++ word ∷ []) (with_value_at bytes key next pairs)
+counted_again {K} bytes ws word key count next pairs is found number kept = record { each = each }
+  where
+    each : (k : List ℕ) → map (λ x. x.1) (with_key (of_key bytes) k (with_value_at bytes key next pairs)) ≡ numbers_for (times k (map key_of (ws ++ word ∷ [])))
+    each k =
+        go (are_same k key) refl
+        ∙ sym (ap numbers_for (ap (times k) (map-append key_of ws (word ∷ [])) ∙ times_more k (map key_of ws) (key_of word)
+        ∙ ap (λ b. times k (map key_of ws) + cond (are_same k b) 1 0) (sym is)))
+      where
+        go : (t : Bool) → are_same k key ≡ t →
+            map (λ x. x.1) (with_key (of_key bytes) k (with_value_at bytes key next pairs)) ≡ numbers_for (times k (map key_of ws) + cond t 1 0)
+        go true e =
+            subst (λ j. map (λ x. x.1) (with_key (of_key bytes) j (with_value_at bytes key next pairs)) ≡ numbers_for (times j (map key_of ws) + 1)) (same_equal k key e)
+            (written_here bytes key next pairs
+            ∙ only_number (λ x. x.1) (with_key (of_key bytes) key pairs) (times key (map key_of ws)) count next (kept.each key) (sym (value_is_first bytes key pairs) ∙ found) number)
+        go false e = written_elsewhere bytes key next k pairs e ∙ kept.each k ∙ ap numbers_for (omega arith)
 
 -- ---- words and their keys
 

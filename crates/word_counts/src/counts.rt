@@ -41,41 +41,58 @@ pub fn count_words<R: BufRead>(alloc: Global, input: &mut R) -> io::Result<Count
 {
     let mut counts = ByteMap::new(alloc);
     let mut line = Vec::new(alloc);
+    let mut key = Vec::new(alloc);
     for _ in 0..u64::MAX {
         line.clear();
         if input.read_until(b'\n', &mut line)? == 0 {
             return Ok(counts);
         }
-        count_line(&mut counts, alloc, &line)?;
+        count_line(&mut counts, &mut key, alloc, &line)?;
     }
     Err(io::Error::from(ErrorKind::FileTooLarge))
 }
 
-/// Counts each word of a line once more.
-pub fn count_line(counts: &mut Counts, alloc: Global, line: &[u8]) -> Result<(), AllocError>
+/// Counts each word of a line once more. The buffer is for their keys.
+pub fn count_line(
+    counts: &mut Counts,
+    buffer: &mut Vec<u8>,
+    alloc: Global,
+    line: &[u8],
+) -> Result<(), AllocError>
     ensures { OnOk result ((before : List (List ℕ)) →
         IsKeptFor (λ key. key.items) before counts.old →
         IsKeptFor (λ key. key.items) (before ++ words line.now) counts.new) }
 {
     for word in line.split(is_gap) {
         if !word.is_empty() {
-            count_word(counts, alloc, word)?;
+            count_word(counts, buffer, alloc, word)?;
         }
     }
     Ok(())
 }
 
-/// Counts a word once more. An `Err` changes nothing.
-pub fn count_word(counts: &mut Counts, alloc: Global, word: &[u8]) -> Result<(), AllocError>
+/// Counts a word once more, by one way down the tree where it is stored already. The buffer is for its key, so
+/// that memory is taken for a new word alone. An `Err` changes no count.
+pub fn count_word(
+    counts: &mut Counts,
+    buffer: &mut Vec<u8>,
+    alloc: Global,
+    word: &[u8],
+) -> Result<(), AllocError>
     ensures counted { OnOk result ((before : List (List ℕ)) →
         IsKeptFor (λ key. key.items) before counts.old →
         IsKeptFor (λ key. key.items) (before ++ word.now ∷ []) counts.new) }
     ensures kept { OnErr result (counts.new ≡ counts.old) }
 {
-    let mut key = Vec::from_slice(alloc, word)?;
-    key.push(0)?;
-    let count = counts.get(&key).copied().unwrap_or(0);
-    match counts.insert(key, count.saturating_add(1)) {
+    buffer.clear();
+    buffer.extend_from_slice(word)?;
+    buffer.push(0)?;
+    if let Some(count) = counts.get_mut(buffer) {
+        *count = count.saturating_add(1);
+        return Ok(());
+    }
+    let key = Vec::from_slice(alloc, buffer)?;
+    match counts.insert(key, 1) {
         Ok(_) => Ok(()),
         Err(_) => Err(AllocError),
     }
