@@ -1,0 +1,4 @@
+mod LineParts
+mod EntryLemmas
+mod TableLemmas
+mod ReplyLemmas

@@ -1,0 +1,4 @@
+pub mod Lines
+pub mod Entries
+pub mod Tables
+pub mod Replies

@@ -1,0 +1,36 @@
+-- What is written in reply to numbers.
+use Rattle.std.specs.Prelude.{◌≡◌, ℕ, ◌+◌, true, false, List, ◌∷◌, ◌++◌, length, flat_map, codes, Option, Some, None}
+use Rattle.std.specs.List.{AllByRecursion as Each}
+use Rattle.std.specs.Io.KnownBytes.{Appends}
+use Rattle.art_model.specs.Pairs.{first_of, match_of}
+use Rattle.dial_codes.specs.Lines.{lines}
+use Rattle.dial_codes.specs.Entries.{code_of, is_code, line_of}
+
+-- the line of the entry, or none
+abbrev pub reply_with : Option (List ℕ × List ℕ) → List ℕ
+reply_with None = codes "none\n"
+reply_with (Some entry) = line_of entry ++ codes "\n"
+
+-- the line of the first entry whose code is a front of the number
+abbrev pub reply_of : List (List ℕ × List ℕ) → List ℕ → List ℕ
+reply_of entries number = reply_with (first_of (match_of code_of number entries))
+
+-- The replies to these numbers were appended.
+pub record HaveReplies (entries : List (List ℕ × List ℕ)) (numbers : List (List ℕ)) (old new : Option (List ℕ)) : Type 0 where
+  pub numbers_are : Each (λ number. is_code number ≡ true) numbers
+  pub written : Appends old new (flat_map (reply_of entries) numbers)
+
+-- The lines before this one are numbers, and were answered, and it is none.
+pub record IsStoppedAt (entries : List (List ℕ × List ℕ)) (text : List ℕ) (number : ℕ) (old new : Option (List ℕ)) : Type 0 where
+  pub before : List (List ℕ)
+  pub line : List ℕ
+  pub after : List (List ℕ)
+  pub lines_are : lines text ≡ before ++ line ∷ after
+  pub number_is : number ≡ length before + 1
+  pub none : is_code line ≡ false
+  pub replies : HaveReplies entries before old new
+
+-- all lines are numbers, and were answered; or this line is the first that is none
+abbrev pub AreAnswered : List (List ℕ × List ℕ) → List ℕ → Option ℕ → Option (List ℕ) → Option (List ℕ) → Type 0
+AreAnswered entries text None old new = HaveReplies entries (lines text) old new
+AreAnswered entries text (Some number) old new = IsStoppedAt entries text number old new

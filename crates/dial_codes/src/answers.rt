@@ -1,0 +1,59 @@
+//! Numbers are answered with the entries whose codes they begin with.
+ghost use Rattle.std.specs.Prelude.{◌≡◌, IfOk, IfSome, OnOk, Some};
+ghost use Rattle.std.specs.Io.KnownBytes.{Appends};
+ghost use Rattle.dial_codes.specs.Entries.{entries_of};
+ghost use Rattle.dial_codes.specs.Replies.{AreAnswered, reply_of, reply_with};
+
+use crate::entry::is_code;
+use crate::lines::next_line;
+use crate::table::{Table, find};
+use std::alloc::Global;
+use std::io;
+use std::io::{BufRead, ErrorKind, Write};
+
+/// Answers each line of the input, which is a number, with the entry whose code it begins with, or with `none`. Where
+/// a line is no number it stops there, and answers which line that is.
+pub fn answer_numbers<R: BufRead, W: Write>(
+    alloc: Global,
+    table: &Table,
+    input: &mut R,
+    output: &mut W,
+) -> io::Result<Option<u64>>
+    ensures { IfOk result (λ refused. IfSome (R.remaining input.old) (λ text.
+        AreAnswered (entries_of table.now) text refused
+        (W.contents output.old) (W.contents output.new))) }
+{
+    let mut line = Vec::new(alloc);
+    for number in 1..u64::MAX {
+        if !next_line(input, &mut line)? {
+            return Ok(None);
+        }
+        if !is_code(&line) {
+            return Ok(Some(number));
+        }
+        answer_number(table, &line, output)?;
+    }
+    Err(io::Error::from(ErrorKind::FileTooLarge))
+}
+
+// Writes the entry whose code the number begins with, or `none`, a line.
+fn answer_number<W: Write>(table: &Table, number: &[u8], output: &mut W) -> io::Result<()>
+    ensures { OnOk result (Appends (W.contents output.old) (W.contents output.new)
+        (reply_of (entries_of table.now) number.now)) }
+{
+    match find(table, number) {
+        Some((code, name)) => write_entry(output, code, name),
+        None => output.write_all(b"none\n"),
+    }
+}
+
+// Writes a code and its name, a line.
+fn write_entry<W: Write>(output: &mut W, code: &[u8], name: &[u8]) -> io::Result<()>
+    ensures { OnOk result (Appends (W.contents output.old) (W.contents output.new)
+        (reply_with (Some (code.now, name.now)))) }
+{
+    output.write_all(code)?;
+    output.write_all(b" ")?;
+    output.write_all(name)?;
+    output.write_all(b"\n")
+}

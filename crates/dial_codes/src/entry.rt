@@ -1,0 +1,44 @@
+//! The lines of a table.
+ghost use Rattle.std.specs.Prelude.{◌≡◌, ◌≢◌, ◌++◌, ◌∷◌, All, ℕ, List, IfNone, IfSome, true};
+ghost use Rattle.std.specs.Char.{is_ascii_digit};
+ghost use Rattle.std.specs.List.{list_all};
+ghost use Rattle.dial_codes.specs.Entries.{is_code, line_of};
+
+/// Whether these are one digit or more.
+pub fn is_code(bytes: &[u8]) -> bool
+    ensures { result ≡ is_code bytes.now }
+{
+    !bytes.is_empty() && are_digits(bytes)
+}
+
+fn are_digits(bytes: &[u8]) -> bool
+    ensures { result ≡ list_all is_ascii_digit bytes.now }
+{
+    bytes.iter().all(|byte| byte.is_ascii_digit())
+}
+
+/// The code and the name of a line: one digit or more, a space, and the name.
+pub fn parse_entry(line: &[u8]) -> Option<(&[u8], &[u8])>
+    ensures entry { IfSome result (λ entry. line.now ≡ line_of (entry.0.now, entry.1.now)) }
+    ensures code { IfSome result (λ entry. is_code entry.0.now ≡ true) }
+    ensures none { IfNone result ((code name : List ℕ) → is_code code ≡ true →
+        line.now ≢ line_of (code, name)) }
+{
+    let (code, name) = split_word(line)?;
+    if is_code(code) {
+        Some((code, name))
+    } else {
+        None
+    }
+}
+
+// What stands before the first space, and what stands after it.
+fn split_word(words: &[u8]) -> Option<(&[u8], &[u8])>
+    ensures parts { IfSome result (λ parts. words.now ≡ parts.0.now ++ 32 ∷ parts.1.now) }
+    ensures word { IfSome result (λ parts. All (λ c. c ≢ 32) parts.0.now) }
+    ensures none { IfNone result (All (λ c. c ≢ 32) words.now) }
+{
+    let space = words.iter().position(|&character| character == b' ')?;
+    let (word, rest) = words.split_at(space);
+    Some((word, &rest[1..]))
+}

@@ -1,0 +1,7 @@
+//! A table of codes with names, and the code that a number begins with.
+#![tactic(auto)]
+
+pub mod answers;
+pub mod entry;
+pub mod lines;
+pub mod table;

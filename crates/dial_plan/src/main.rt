@@ -1,0 +1,83 @@
+//! Finds for each number on standard input the code that it begins with, in a table that a file has.
+#![tactic(auto)]
+
+use dial_codes::answers::answer_numbers;
+use dial_codes::table::{LineError, Table, TableError, read_table};
+use std::io::{BufReader, BufWriter, Write};
+use std::process::ExitCode;
+use std::rt::{Env, Files};
+use std::{env, fs, io};
+
+// The exit status where a line of the table or of the input is refused, or no table is named.
+const REFUSED: u8 = 2;
+
+// The exit status where something can't be read or written, or there is no memory.
+const FAILED: u8 = 1;
+
+// The first argument.
+fn table_path(rt: &(impl Env + AllocGlobal)) -> io::Result<Option<String>> {
+    let mut args = env::args(rt)?;
+    args.next();
+    Ok(args.next())
+}
+
+fn read_table_of(rt: &(impl Files + Eprint + AllocGlobal), path: &str) -> Result<Table, u8> {
+    match read_file(rt, path) {
+        Ok(table) => Ok(table),
+        Err(error) => {
+            let _ = eprintln!(rt; "{path}: {error}");
+            Err(match error {
+                TableError::Line(_, LineError::NoEntry | LineError::Related) => REFUSED,
+                _ => FAILED,
+            })
+        }
+    }
+}
+
+fn read_file(rt: &(impl Files + AllocGlobal), path: &str) -> Result<Table, TableError> {
+    let alloc = rt.alloc();
+    let opened = fs::open(rt, path).and_then(|file| BufReader::new(alloc, file));
+    match opened {
+        Ok(mut input) => read_table(alloc, &mut input),
+        Err(error) => Err(TableError::Input(error)),
+    }
+}
+
+// Answers the numbers of standard input, and says which line is none.
+fn answer(rt: &(impl Input + Print + AllocGlobal), table: &Table) -> io::Result<Option<u64>> {
+    let alloc = rt.alloc();
+    let mut input = BufReader::new(alloc, rt.reader())?;
+    let mut output = BufWriter::new(alloc, io::writer(rt))?;
+    let refused = answer_numbers(alloc, table, &mut input, &mut output)?;
+    output.flush()?;
+    Ok(refused)
+}
+
+fn status_of(rt: &(impl Env + Files + Input + Print + Eprint + AllocGlobal)) -> Result<(), u8> {
+    let Ok(path) = table_path(rt) else {
+        return Err(FAILED);
+    };
+    let Some(path) = path else {
+        let _ = eprintln!(rt; "usage: dial_plan TABLE");
+        return Err(REFUSED);
+    };
+    let table = read_table_of(rt, &path)?;
+    match answer(rt, &table) {
+        Ok(None) => Ok(()),
+        Ok(Some(number)) => {
+            let _ = eprintln!(rt; "line {number}: not a number");
+            Err(REFUSED)
+        }
+        Err(error) => {
+            let _ = eprintln!(rt; "{error}");
+            Err(FAILED)
+        }
+    }
+}
+
+fn main(rt: HostRuntime) -> ExitCode {
+    match status_of(&rt) {
+        Ok(()) => ExitCode::from(0),
+        Err(status) => ExitCode::from(status),
+    }
+}
