@@ -1,24 +1,11 @@
 //! `artrun`: an adaptive radix tree that the lines of standard input build.
 #![tactic(auto)]
 
-mod engine;
-mod print;
-
+use art_engine::engine::serve;
 use std::io;
-use std::io::{BufReader, BufWriter};
 use std::process::ExitCode;
 
-fn status(rt: &(impl Input + Print + AllocGlobal)) -> u8 {
-    let alloc = rt.alloc();
-    let Ok(input) = BufReader::new(alloc, rt.reader()) else {
-        return 1;
-    };
-    let Ok(output) = BufWriter::new(alloc, io::writer(rt)) else {
-        return 1;
-    };
-    engine::serve(alloc, input, output)
-}
-
 fn main(rt: HostRuntime) -> ExitCode {
-    ExitCode::from(status(&rt))
+    let status = serve(rt.alloc(), rt.reader(), io::writer(&rt));
+    ExitCode::from(status)
 }

@@ -12,21 +12,23 @@ use art_keeping::tree::KeptTree;
 use art_lines::line::Request;
 use std::alloc::{AllocError, Global};
 use std::io;
-use std::io::{BufRead, BufReader, Read, Write};
+use std::io::{BufRead, BufReader, BufWriter, Read, Write};
 
 /// Answers each line of the input on the output. The status is 0 at the end of the input, 2 after a line that asks for
 /// nothing that there is, and 1 where the input can't be read, the output can't be written, or there is no memory for a
-/// line.
+/// buffer or a line.
 ///
-/// Replies are written out before it waits for a line, and while the next line has come already they
-/// gather in the output's buffer.
-pub fn serve(
-    alloc: Global,
-    mut input: BufReader<impl Read + Drop>,
-    mut output: impl Write + Drop,
-) -> u8
+/// It reads and writes by buffers of its own. Replies are written out before it waits for a line, and while the next
+/// line has come already they gather in the output's buffer.
+pub fn serve(alloc: Global, input: impl Read + Drop, output: impl Write + Drop) -> u8
     ensures { result ≤ 2 }
 {
+    let Ok(mut input) = BufReader::new(alloc, input) else {
+        return 1;
+    };
+    let Ok(mut output) = BufWriter::new(alloc, output) else {
+        return 1;
+    };
     let mut tree = KeptTree::new(alloc);
     let end = answer_lines(alloc, &mut tree, &mut input, &mut output);
     let written = output.flush();

@@ -1,7 +1,7 @@
 use Rattle.std.proofs.Common.{List}
 use Rattle.art_parts.specs.declared.names.OpaqueNodePtr.{OpaqueNodePtr}
 use Rattle.art_operations.specs.Iterators.{IsIteratorOf}
-use Rattle.artrun.proofs.print.write_pairs.Given as goal
+use Rattle.art_engine.proofs.print.write_pairs.Given as goal
 
 -- the leaves to come are there, and linked
 abbrev pub invariant-loop-written : goal.invariant-loop-written

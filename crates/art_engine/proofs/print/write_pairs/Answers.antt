@@ -10,7 +10,7 @@ use Rattle.art_model.specs.Trees.{Tree}
 use Rattle.art_model.proofs.Segments.{tree_segment}
 use Rattle.art_operations.specs.Iterators.{IsIteratorOf}
 use Rattle.art_keeping.specs.Trees.{IsLinkedTreeIn}
-use Rattle.artrun.proofs.print.write_pairs.Goals as goal
+use Rattle.art_engine.proofs.print.write_pairs.Goals as goal
 
 -- the leaves of a tree, from the first to the last one
 all_leaves : {K V : Type 0} (s : Nodes K V) (root : OpaqueNodePtr) (first last : LeafPtr) → IsLinkedTreeIn s root →

@@ -1,0 +1,5 @@
+//! The engine of `artrun`: lines in, replies out.
+#![tactic(auto)]
+
+pub mod engine;
+mod print;
