@@ -1,5 +1,5 @@
--- A tree that is freed without a list of what is left: it stays one tree, which is turned.
-use Rattle.std.proofs.Common.{◌≡◌, ◌≢◌, ℕ, zero, suc, ◌*◌, ◌≤◌, ◌+◌, Bool, true, false, cond, List, [], ◌∷◌, ◌++◌, length, length-append, Option, Some, None, IsSome, is_some, refl, ap, ap₂, sym, ◌∙◌, subst, arith, inl, inr}
+-- A tree that is freed: what a store tells of it, and which of its names go.
+use Rattle.std.proofs.Common.{◌≡◌, ◌≢◌, ℕ, zero, suc, ◌≤◌, ◌+◌, Bool, true, false, cond, List, [], ◌∷◌, ◌++◌, length, length-append, Option, Some, None, IsSome, is_some, refl, ap, ap₂, sym, ◌∙◌, subst, arith, inl, inr}
 use Rattle.std.specs.List.{AllByRecursion as Each}
 use Rattle.std.specs.Option.{option_map}
 use Rattle.std.specs.FinMap as map
@@ -34,19 +34,6 @@ Shape = Tree OpaqueNodePtr (Unit {0})
 
 abbrev pub Shapes : Type 0
 Shapes = Subtrees OpaqueNodePtr (Unit {0})
-
--- ---- how long the freeing takes
-
-module _ {N A : Type 0} where
-  -- Each name takes two turns at most, and those on the way down first children one: there a node only goes.
-  abbrev mutual
-    pub work : Tree N A → ℕ
-    work (leaf n x) = 1
-    work (inner n h cs) = 1 + work_below cs
-
-    pub work_below : Subtrees N A → ℕ
-    work_below no_child = 0
-    work_below (child b t cs) = work t + 2 * length (names_below cs)
 
 -- ---- a tree that is read off a store, where at most so many inner nodes stand on a way down
 
@@ -135,12 +122,12 @@ module _ {K V : Type 0} (s : Nodes K V) where
   read_at_is t root is =
       ap (read (shape_at s) (map.len s.inners)) (sym is.named) ∙ read_is (shape_at s) t (map.len s.inners) is.holds (shape_enough t root is)
 
-  -- how many turns the freeing of a name's tree takes at most
-  abbrev pub work_at : OpaqueNodePtr → ℕ
-  work_at name = work (read (shape_at s) (map.len s.inners) name)
+  -- how many names the tree of a name has
+  abbrev pub count_at : OpaqueNodePtr → ℕ
+  count_at name = length (names_of (read (shape_at s) (map.len s.inners) name))
 
-  pub work_at_is : (t : Shape) (root : OpaqueNodePtr) → IsLayout (shape_at s) root t → work_at root ≡ work t
-  work_at_is t root is = ap work (read_at_is t root is)
+  pub count_at_is : (t : Shape) (root : OpaqueNodePtr) → IsLayout (shape_at s) root t → count_at root ≡ length (names_of t)
+  count_at_is t root is = ap (λ z. length (names_of z)) (read_at_is t root is)
 
 -- a name that holds what it held is seen as it was
 pub shape_same : {K V : Type 0} (s t : Nodes K V) (k : OpaqueNodePtr) → held t k ≡ held s k → shape_at t k ≡ shape_at s k

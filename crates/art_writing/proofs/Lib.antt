@@ -1,7 +1,7 @@
 pub mod Ways
 pub mod Freed
 pub mod FreedTrees
-pub mod Turned
+pub mod OneTree
 pub mod LeafWrites
 pub mod Partings
 pub mod KeysFound

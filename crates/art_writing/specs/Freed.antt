@@ -1,10 +1,11 @@
 -- The nodes below a name that go, with the leaves or without them. No public clause cites this module.
-use Rattle.std.specs.Prelude.{◌≡◌, ℕ, Bool, true, if◌then◌else◌, List, [], ◌∷◌, ◌++◌, length, Option, Some, None, ⊤}
+use Rattle.std.specs.Prelude.{◌≡◌, ℕ, ◌+◌, ◌<◌, Bool, true, if◌then◌else◌, List, [], ◌∷◌, ◌++◌, length, Option, Some, None, ⊤}
 use Rattle.std.specs.List.{AllByRecursion as Each}
 use Rattle.art_inner.specs.Inner.{Children}
 use Rattle.art_nodes.specs.Nodes.{Nodes}
 use Rattle.art_parts.specs.declared.names.OpaqueNodePtr.{OpaqueNodePtr}
-use Rattle.art_model.specs.Layouts.{Node, leaf_node, inner_node, IsLayout, leaf_names}
+use Rattle.art_model.specs.Kept.{KeepsOthers}
+use Rattle.art_model.specs.Layouts.{AreDistinct, Node, leaf_node, inner_node, IsLayout, leaf_names, names_of}
 use Rattle.art_model.specs.Stores.{IsUsed, shape_at}
 use Rattle.art_model.specs.Trees.{Tree, leaf, inner, Subtrees, child, no_child}
 
@@ -40,3 +41,21 @@ pub record CanGo {K V : Type 0} (s : Nodes K V) (leaves_too : Bool) (root : Opaq
     (shape : Tree OpaqueNodePtr (Unit {0})) : Type 0 where
   pub layout : IsLayout (shape_at s) root shape
   pub leaves : leaves_too ≡ true → Each (IsUsed s) (leaf_names shape)
+
+-- The names stand for two trees that have no name in common, as `CanGo` says of one.
+pub record CanBothGo {K V : Type 0} (s : Nodes K V) (leaves_too : Bool) (left child : OpaqueNodePtr)
+    (upper lower : Tree OpaqueNodePtr (Unit {0})) : Type 0 where
+  pub above : CanGo s leaves_too left upper
+  pub below : CanGo s leaves_too child lower
+  pub apart : AreDistinct (names_of upper ++ names_of lower)
+
+-- From one store to the next two trees became one, which has fewer names: those that went are out
+-- of use, and so many leaves are freed.
+pub record AreJoined {K V : Type 0} (s t : Nodes K V) (leaves_too : Bool)
+    (upper lower : Tree OpaqueNodePtr (Unit {0})) (root : OpaqueNodePtr) (freed : ℕ) : Type 0 where
+  pub both : Tree OpaqueNodePtr (Unit {0})
+  pub can : CanGo t leaves_too root both
+  pub kept : KeepsOthers s t (going leaves_too upper ++ going leaves_too lower) (going leaves_too both)
+  pub counted : leaves_going leaves_too upper + leaves_going leaves_too lower
+      ≡ freed + leaves_going leaves_too both
+  pub fewer : length (names_of both) < length (names_of upper) + length (names_of lower)

@@ -1,18 +1,18 @@
 //! Leaves, inner nodes and whole trees are freed. Nothing here takes memory.
-ghost use Rattle.std.specs.Prelude.{◌≡◌, ◌≢◌, ◌+◌, ◌≤◌, ◌<◌, ◌^◌, Bool, true, IsTrue, List, length, IsSome};
+ghost use Rattle.std.specs.Prelude.{◌≡◌, ◌+◌, ◌<◌, ◌↔◌, ◌++◌, ◌^◌, List, [], ◌∷◌, length, IsTrue, IsSome, IfSome, IfNone};
 ghost use Rattle.std.specs.FinMap as map;
 ghost use Rattle.art_parts.specs.declared.names.InnerPtr.{InnerPtr};
 ghost use Rattle.art_parts.specs.declared.names.NodeType.TheVariants.{Leaf};
 ghost use Rattle.art_parts.specs.declared.names.OpaqueNodePtr.{OpaqueNodePtr};
 ghost use Rattle.art_model.specs.Kept.{Frees};
 ghost use Rattle.art_model.specs.Layouts.{IsLayout, inner_names, leaf_names, names_of};
-ghost use Rattle.art_model.specs.Pairs.{first_of, without_first};
+ghost use Rattle.art_model.specs.Pairs.{first_of};
 ghost use Rattle.art_model.specs.Roots.{IsFullTree};
 ghost use Rattle.art_model.specs.Stores.{shape_at};
 ghost use Rattle.art_model.specs.Trees.{Tree};
 ghost use Rattle.art_model.specs.Writes.{as_inner};
-ghost use Rattle.art_inner.specs.Inner.{IsRising};
-ghost use Rattle.art_writing.specs.Freed.{CanGo, IsEnd, children_seen, going, leaves_going};
+ghost use Rattle.art_inner.specs.Inner.{Children, IsRising};
+ghost use Rattle.art_writing.specs.Freed.{AreJoined, CanBothGo, CanGo, IsEnd, children_seen, going, leaves_going};
 ghost use Rattle.art_reading.specs.Iterators.{IsIteratorOf};
 
 use art_nodes::node::{AsBytes, InnerPtr, NodePtr, OpaqueNodePtr};
@@ -52,7 +52,7 @@ pub fn deallocate_tree_non_leaves<K: AsBytes + Drop, V: Drop, const PREFIX_LEN: 
     free_nodes(store, root, false);
 }
 
-/// Frees all nodes of the tree that a name stands for, and answers how many leaves it had.
+/// Frees all nodes of the tree that a name stands for, and returns how many leaves it had.
 pub fn deallocate_tree<K: AsBytes + Drop, V: Drop, const PREFIX_LEN: usize>(
     root: OpaqueNodePtr,
     store: &mut NodeStore<K, V, PREFIX_LEN>,
@@ -67,11 +67,11 @@ pub fn deallocate_tree<K: AsBytes + Drop, V: Drop, const PREFIX_LEN: usize>(
     free_nodes(store, root, true)
 }
 
-// Frees the inner nodes below a name, and the leaves too if asked to; answers how many leaves it freed.
+// Frees the inner nodes below a name, and the leaves too if asked to; returns how many leaves it freed.
 // An inner node may be without children.
 //
-// No list of what is left is kept, and no stack: the nodes that are left are one tree all the time, which is
-// turned until its root has an end below it. An only child takes its parent's place.
+// No list of what is left is kept, and no stack: the nodes that are left are one tree all the time. Its root goes
+// once it has one child, and else hangs below its last child from then on.
 pub(crate) fn free_nodes<K: AsBytes + Drop, V: Drop, const P: usize>(
     store: &mut NodeStore<K, V, P>,
     root: OpaqueNodePtr,
@@ -93,45 +93,91 @@ pub(crate) fn free_nodes<K: AsBytes + Drop, V: Drop, const P: usize>(
     let mut left = root;
     let mut count = 0;
     'left: loop {
-        let (first, second) = first_two(store, left);
-        let Some((_, only)) = first else {
+        let Some(last) = last_child(store, left) else {
             return count + free_end(store, left, leaves_too);
         };
         let upper = inner_of(left);
-        let Some((byte, lower)) = second else {
+        if last.is_only {
             free_node(store, upper);
-            left = only;
+            left = last.name;
             continue 'left;
-        };
-        let (below, _) = first_two(store, lower);
-        let Some((low_byte, lowest)) = below else {
-            store.remove_child(upper, byte);
-            count += free_end(store, lower, leaves_too);
-            continue 'left;
-        };
-        store.write_child(upper, byte, lowest);
-        store.write_child(inner_of(lower), low_byte, left);
-        left = lower;
+        }
+        store.remove_child(upper, last.byte);
+        let (next, freed) = hang(store, left, last.name, leaves_too);
+        left = next;
+        count += freed;
     }
 }
 
-// The first two children of an inner node with their bytes; a leaf has none.
-fn first_two<K: AsBytes + Drop, V: Drop, const P: usize>(
+// Makes one tree of two: the first takes the place of the end to which first children lead in the second, and that
+// end goes. Returns the root of both, and how many leaves were freed.
+fn hang<K: AsBytes + Drop, V: Drop, const P: usize>(
+    store: &mut NodeStore<K, V, P>,
+    left: OpaqueNodePtr,
+    child: OpaqueNodePtr,
+    leaves_too: bool,
+) -> (OpaqueNodePtr, usize)
+    requires { (upper lower : Tree OpaqueNodePtr (Unit {0})) ×
+        CanBothGo store.old leaves_too left child upper lower }
+    ensures joined { (upper lower : Tree OpaqueNodePtr (Unit {0})) →
+        CanBothGo store.old leaves_too left child upper lower →
+        AreJoined store.old store.new leaves_too upper lower result.0 result.1 }
+    ensures promise { store.new.promise ≡ store.old.promise }
+    ensures improper { (name : InnerPtr) → name.kind ≡ Leaf →
+        map.get store.new.inners name ≡ map.get store.old.inners name }
+    ensures total { result.1 + map.len store.new.leaves ≡ map.len store.old.leaves }
+    ensures few { 0 < result.1 → map.len store.old.leaves < 2 ^ 64 }
+{
+    let (mut left, mut child) = (left, child);
+    'down: loop {
+        let Some((byte, first)) = first_child(store, child) else {
+            let freed = free_end(store, child, leaves_too);
+            return (left, freed);
+        };
+        store.write_child(inner_of(child), byte, left);
+        left = child;
+        child = first;
+    }
+}
+
+// The first child of an inner node with its byte; a leaf has none.
+fn first_child<K: AsBytes + Drop, V: Drop, const P: usize>(
     store: &NodeStore<K, V, P>,
     name: OpaqueNodePtr,
-) -> (Option<(u8, OpaqueNodePtr)>, Option<(u8, OpaqueNodePtr)>)
-    ensures first { result.0 ≡ first_of (children_seen (shape_at store.now name)) }
-    ensures second { result.1 ≡ first_of (without_first (children_seen (shape_at store.now name))) }
+) -> Option<(u8, OpaqueNodePtr)>
+    ensures { result ≡ first_of (children_seen (shape_at store.now name)) }
+{
+    let node = store.inner(name.as_inner()?)?;
+    node.iter().next()
+}
+
+// The last child of an inner node, and whether it is the only one.
+#[derive(Clone, Copy)]
+struct LastChild {
+    byte: u8,
+    name: OpaqueNodePtr,
+    is_only: bool,
+}
+
+// The last child of an inner node; a leaf has none.
+fn last_child<K: AsBytes + Drop, V: Drop, const P: usize>(
+    store: &NodeStore<K, V, P>,
+    name: OpaqueNodePtr,
+) -> Option<LastChild>
+    ensures last { IfSome result (λ last. (others : Children) ×
+        (children_seen (shape_at store.now name) ≡ others ++ (last.byte, last.name) ∷ []) ×
+        (IsTrue last.is_only ↔ (others ≡ []))) }
+    ensures none { IfNone result (children_seen (shape_at store.now name) ≡ []) }
     ensures rising { IsRising (children_seen (shape_at store.now name)) }
 {
-    let Some(inner) = name.as_inner() else {
-        return (None, None);
-    };
-    let Some(node) = store.inner(inner) else {
-        return (None, None);
-    };
+    let node = store.inner(name.as_inner()?)?;
     let mut children = node.iter();
-    (children.next(), children.next())
+    let (byte, name) = children.next_back()?;
+    Some(LastChild {
+        byte,
+        name,
+        is_only: children.len() == 0,
+    })
 }
 
 // The name of an inner node, as such a one.
@@ -144,7 +190,7 @@ fn inner_of(name: OpaqueNodePtr) -> InnerPtr
     }
 }
 
-// Frees an inner node without children, or a leaf if asked to; answers how many leaves it freed.
+// Frees an inner node without children, or a leaf if asked to; returns how many leaves it freed.
 fn free_end<K: AsBytes + Drop, V: Drop, const P: usize>(
     store: &mut NodeStore<K, V, P>,
     name: OpaqueNodePtr,

@@ -3,8 +3,8 @@ use Rattle.std.specs.FinMap as map
 use Rattle.art_parts.specs.declared.names.InnerPtr.{InnerPtr}
 use Rattle.art_parts.specs.declared.names.NodeType.TheVariants.{Leaf}
 use Rattle.art_writing.specs.Freed.{CanGo}
-use Rattle.art_writing.proofs.FreedTrees.{Shape, work_at}
-use Rattle.art_writing.proofs.Turned.{IsLeft}
+use Rattle.art_writing.proofs.FreedTrees.{Shape, count_at}
+use Rattle.art_writing.proofs.OneTree.{IsLeft}
 use Rattle.art_writing.proofs.deallocate.free_nodes.Given as goal
 
 abbrev pub invariant-left : goal.invariant-left
@@ -17,4 +17,4 @@ invariant-left g l = record {
 }
 
 abbrev pub decreases-left : goal.decreases-left
-decreases-left g l = work_at l.store l.left
+decreases-left g l = count_at l.store l.left
