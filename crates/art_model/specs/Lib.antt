@@ -35,3 +35,4 @@ pub mod Faults
 -- examples
 pub mod Examples
 pub mod FaultExamples
+pub mod NameExamples

@@ -5,7 +5,10 @@ ghost use Rattle.std.specs.declared.cmp.Ordering.TheVariants.{Equal, Greater};
 ghost use Rattle.art_parts.specs.declared.names.NodeType.TheVariants.{Node4, Node16, Node48, Node256};
 ghost use Rattle.art_model.specs.Pairs.{first_of, last_of, without_first, without_last, put, put_reply, overwrite, overwrite_reply, remove_key, remove_reply, match_of, is_conflict};
 ghost use Rattle.art_model.specs.Trees.{Tree, leaf};
+ghost use Rattle.art_model.specs.Footprints.{TouchesAtMost};
+ghost use Rattle.art_model.specs.Kept.{ChangesInPlace};
 ghost use Rattle.art_model.specs.Radix.{unmarked};
+ghost use Rattle.art_model.specs.NameExamples.{two_keys, tree_of_two, three_keys, tree_of_three};
 ghost use Rattle.art_model.specs.Layouts.{IsLayout, AreLinked, leaf_names};
 ghost use Rattle.art_model.specs.Places.{places, inner_nodes};
 ghost use Rattle.art_model.specs.FaultExamples.{looped, shared, self_linked, linked_to_nothing, misplaced, unreadable, misstored};
@@ -133,4 +136,18 @@ pub fn faults_of_small_stores()
         (unreadable_prefix [] (node4 0)) }
     ensures stored { IsTrueOf bytes_of_pair 2 misstored (node4 0)
         (stored_prefix_mismatch [] (1 ∷ 2 ∷ []) (1 ∷ 1 ∷ [])) }
+{}
+
+/// Two insertions of a key that leave a tree of the new pairs and touch no more than an insertion may, but give
+/// a stored node another name: the one a leaf, the other an inner node. Neither changes the tree in place; the one
+/// that gives none does.
+pub fn stored_nodes_with_new_names()
+    ensures all_names_stay { ChangesInPlace bytes_of_pair two_keys (three_keys 1 0)
+        (Some tree_of_two) (Some (tree_of_three 1 0)) }
+    ensures few_for_a_leaf { TouchesAtMost 2 2 4 two_keys (three_keys 0 0) }
+    ensures a_leaf_is_renamed { ChangesInPlace bytes_of_pair two_keys (three_keys 0 0)
+        (Some tree_of_two) (Some (tree_of_three 0 0)) → ⊥ }
+    ensures few_for_an_inner_node { TouchesAtMost 2 2 4 two_keys (three_keys 1 1) }
+    ensures an_inner_node_is_renamed { ChangesInPlace bytes_of_pair two_keys (three_keys 1 1)
+        (Some tree_of_two) (Some (tree_of_three 1 1)) → ⊥ }
 {}
