@@ -1,7 +1,9 @@
 // Refuses requests for memory of the process that it is preloaded into. REFUSE_AT is the number of
 // the first request that is refused, counted from 1 (0 or unset: none), and REFUSE_FOR how many are refused in a row
-// from it on (0 or unset: all). A request for SIGN bytes is a sign of the process that its test is over: no request is
-// counted or refused from then on. At the end it writes 'requests=N refused=M' to the file descriptor REFUSE_FD.
+// from it on (0 or unset: all). With REFUSE_WITHIN set it counts requests only from a sign of the process on that the
+// call begins which its test is on: a request for BEGIN bytes. A request for END bytes is a sign that this call is over:
+// no request is counted or refused from then on. At the end it writes 'requests=N refused=M' to the file descriptor
+// REFUSE_FD.
 #define _GNU_SOURCE
 #include <errno.h>
 #include <stdio.h>
@@ -13,10 +15,11 @@ extern void *__libc_calloc(size_t, size_t);
 extern void *__libc_realloc(void *, size_t);
 extern void *__libc_memalign(size_t, size_t);
 
-#define SIGN 12345677
+#define BEGIN 12345679
+#define END 12345677
 
 static unsigned long requests, refused, at, in_a_row;
-static int descriptor = -1, counting;
+static int descriptor = -1, counting, within;
 
 static unsigned long number(const char *name) {
     const char *text = getenv(name);
@@ -27,11 +30,16 @@ __attribute__((constructor)) static void begin(void) {
     at = number("REFUSE_AT");
     in_a_row = number("REFUSE_FOR");
     if (getenv("REFUSE_FD")) descriptor = (int)number("REFUSE_FD");
-    counting = 1;
+    within = number("REFUSE_WITHIN") != 0;
+    counting = !within;
 }
 
 static int is_refused(size_t size) {
-    if (size == SIGN) counting = 0;
+    if (size == END) counting = within = 0;
+    if (size == BEGIN && within) {
+        counting = 1;
+        return 0;
+    }
     if (!counting) return 0;
     requests++;
     if (at == 0 || requests < at || (in_a_row != 0 && requests - at >= in_a_row)) return 0;

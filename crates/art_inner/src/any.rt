@@ -1,5 +1,5 @@
 //! Inner nodes of any kind.
-ghost use Rattle.std.specs.Prelude.{◌≡◌, ◌≢◌, ℕ, ◌-◌, min, ◌<◌, ◌≤◌, length, Some, All, slice_get, IsTrue, ◌↔◌};
+ghost use Rattle.std.specs.Prelude.{◌≡◌, ◌≢◌, ℕ, ◌-◌, min, ◌<◌, ◌≤◌, length, Some, All, slice_get, IsTrue, ◌↔◌, ⊤};
 
 use crate::children::Children;
 use crate::inner::{InnerNode, InnerNode4, InnerNode16, InnerNode48, InnerNodeDirect};
@@ -27,6 +27,10 @@ pub enum InnerRefOf<'a, A, B, C, D> {
 }
 
 impl<A, B, C, D> Clone for InnerRefOf<'_, A, B, C, D> {
+    ghost is_clone = { λ node copy. copy ≡ node };
+
+    ghost is_infallible = { λ _. ⊤ };
+
     fn clone(&self) -> Result<Self, AllocError> {
         Ok(*self)
     }

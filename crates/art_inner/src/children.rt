@@ -1,17 +1,19 @@
 //! The children of an inner node, in order.
-ghost use Rattle.std.specs.Prelude.{◌≡◌, ℕ, ◌+◌, ◌-◌, ◌<◌, ◌≤◌, List, length, slice_get, Some, All, take, drop};
-ghost use Rattle.std.specs.Iterator.{YieldsFirst, YieldsLast, item_count};
+ghost use Rattle.std.specs.Prelude.{◌≡◌, ℕ, ◌+◌, ◌-◌, ◌<◌, ◌≤◌, List, length, slice_get, Some, IfSome, All, take, drop, ⊤};
+ghost use Rattle.std.specs.Iterator.{UpTo, YieldsFirst, YieldsLast, item_count};
+ghost use Rattle.std.specs.Iterator.SizeHint.{IsWithinCount};
 
 use crate::direct::Direct;
 use crate::indexed::Indexed;
 use crate::places::{Span, between_in, next_back_in, next_in};
 use crate::rows::Rows;
 use art_parts::names::OpaqueNodePtr;
+use std::alloc::AllocError;
 use std::iter::FusedIterator;
 use std::marker::Model;
 
 /// The children of an inner node by rising bytes, each with its byte, seen as the list of those that have not come yet.
-#[derive(Clone, Drop)]
+#[derive(Drop)]
 pub struct Children<'a> {
     rest: Rest<'a>,
 }
@@ -33,6 +35,16 @@ impl<'a> Model for Children<'a> {
     ghost view = { λ c. rest_list c.rest };
 
     ghost invariant = { λ c. IsRest c.rest };
+}
+
+impl<'a> Clone for Children<'a> {
+    ghost is_clone = { λ children copy. copy ≡ children };
+
+    ghost is_infallible = { λ _. ⊤ };
+
+    fn clone(&self) -> Result<Self, AllocError> {
+        Ok(Children { rest: self.rest })
+    }
 }
 
 impl<'a> Children<'a> {
@@ -162,7 +174,11 @@ impl<'a> Iterator for Children<'a> {
         }
     }
 
-    fn size_hint(&self) -> (usize, Option<usize>) {
+    fn size_hint(&self) -> (usize, Option<usize>)
+        ensures lower { IsWithinCount result.0 (item_count (λ children. children) self.now) }
+        ensures upper { IfSome result.1 (UpTo (item_count (λ children. children) self.now)) }
+        ensures exact { result ≡ (length self.now, Some (length self.now)) }
+    {
         (self.len(), Some(self.len()))
     }
 }

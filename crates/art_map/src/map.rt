@@ -627,8 +627,7 @@ fn one_more<K: AsBytes + Drop, V: Drop, const P: usize>(
     requires { len < map.len store.now.leaves }
     ensures { result ≡ len + 1 }
 {
-    // `alloc` says that a store has fewer leaves than numbers, so that the sum fits.
-    store.alloc();
+    prove!(len < store.leaf_count());
     len + 1
 }
 

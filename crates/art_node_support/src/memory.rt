@@ -28,11 +28,18 @@ pub fn all_memory(alloc: Global) -> Result<Vec<Vec<u8>>, AllocError> {
     Ok(held)
 }
 
-// A request for so many bytes is a sign for tools/refuse.c, which has the same number.
-const SIGN: usize = 12_345_677;
+// A request for so many bytes is a sign for tools/refuse.c, which has the same numbers.
+const BEGIN: usize = 12_345_679;
+const END: usize = 12_345_677;
+
+/// Tells tools/refusals that the call which a test is on begins: in a test named `refused_each_..` it counts requests,
+/// and refuses one, only from now on. Elsewhere this does nothing.
+pub fn begin_refusals(alloc: Global) {
+    drop(Vec::<u8>::with_capacity(alloc, BEGIN));
+}
 
 /// Tells tools/refusals that what a test is on is over: from now on it refuses nothing, and counts no request. Where no
 /// request is refused this does nothing.
 pub fn end_refusals(alloc: Global) {
-    drop(Vec::<u8>::with_capacity(alloc, SIGN));
+    drop(Vec::<u8>::with_capacity(alloc, END));
 }

@@ -1,46 +1,39 @@
--- A store has no more leaves than its slab has values.
-use Rattle.std.proofs.Common.{◌≡◌, ℕ, ◌+◌, ◌≤◌, suc, Bool, true, false, cond, List, [], ◌∷◌, length, Option, Some, None, arith}
-use Rattle.std.specs.List.{filter_map, cons_option}
-use Rattle.std.specs.Cmp.{IsTotalOrder}
-use Rattle.std.specs.FinMap.{contains_key, from_entries, insert, len, len-empty, len-insert}
-use Rattle.std.specs.declared.cmp.Ordering.{Ordering}
-use Rattle.slab.specs.Slab.{entries_from}
-use Rattle.slab.proofs.SlabLemmas.{length-entries_from}
-use Rattle.std.specs.Prelude.{count_by, is_some}
-use Rattle.art_nodes.specs.StoreView.{leaves_of}
+-- A store has as many leaves as its slab has values, and as many inner nodes of a kind as the slab of that kind.
+use Rattle.std.proofs.Common.{◌≡◌, ℕ, Bool, true, false, cond, List, Option, None, is_some, eqb, eqb-true, refl, sym, ap, ◌∙◌}
+use Rattle.std.specs.Prelude.{count_by, ◌==◌}
+use Rattle.std.specs.FinMap.{from_entries, get, get-from_entries, get-retain_keys, len, same_map}
+use Rattle.slab.specs.Slab.{get as slab_get, slab_len}
+use Rattle.art_inner.specs.Inner.{Inner}
+use Rattle.art_nodes.specs.Nodes.{of_kind}
+use Rattle.art_nodes.specs.StoreView.{leaves_of, inners_of, kind_entries, slab_of}
+use Rattle.art_nodes.proofs.SlotMaps.{len-slots}
+use Rattle.art_nodes.proofs.StoreLemmas.{find_kind, there_of}
+use Rattle.art_parts.specs.Kinds.{kind_index}
+use Rattle.art_parts.specs.Names.{inner_cmp}
 use Rattle.art_parts.specs.declared.leaf.LeafNode.{LeafNode}
-use Rattle.art_parts.specs.declared.names.LeafPtr.{LeafPtr}
-use Rattle.art_parts.proofs.NameLemmas.{leaf_cmp_total}
+use Rattle.art_parts.specs.declared.names.InnerPtr.{InnerPtr}
+use Rattle.art_parts.specs.declared.names.NodeType.{NodeType}
+use Rattle.art_nodes.specs.declared.store.InnerSlabs.{InnerSlabs}
+use Rattle.art_parts.proofs.NameLemmas.{leaf_cmp_total, inner_cmp_total, leaf_cmp-IsAntisymmetric, inner_cmp-IsAntisymmetric, same_kind}
 
--- one entry more
-one_more : (there : Bool) (n k m : ℕ) → m ≡ cond there k (k + 1) → k ≤ n → m ≤ suc n
-one_more true n k m is at_most = omega arith
-one_more false n k m is at_most = omega arith
-
--- a map has no more entries than the list that it is of
-len-from_entries : {N X : Type 0} {R : N → N → Ordering} → IsTotalOrder R → (es : List (N × X)) → len (from_entries {R = R} es) ≤ length es
-len-from_entries {N} {X} {R} order [] = let e = len-empty R X in omega arith
-len-from_entries {N} {X} {R} order (e ∷ es) =
-    one_more (contains_key (from_entries {R = R} es) e.0) (length es) (len (from_entries {R = R} es)) (len (insert (from_entries {R = R} es) e.0 e.1))
-    (len-insert order (from_entries es) e.0 e.1) (len-from_entries {R = R} order es)
-
-one_or_none : {Y : Type 0} (o : Option Y) (ys : List Y) (n : ℕ) → length ys ≤ n → length (cons_option o ys) ≤ suc n
-one_or_none None ys n at_most = omega arith
-one_or_none (Some y) ys n at_most = omega arith
-
--- some of the items give something
-length-filter_map : {X Y : Type 0} (f : X → Option Y) (xs : List X) → length (filter_map f xs) ≤ length xs
-length-filter_map f [] = omega arith
-length-filter_map f (x ∷ xs) = one_or_none (f x) (filter_map f xs) (length xs) (length-filter_map f xs)
-
--- the leaf in a slot, with its name
-abbrev leaf_entry : {K V : Type 0} → ℕ × LeafNode K V → Option (LeafPtr × LeafNode K V)
-leaf_entry e = Some (record { slot = e.0 }, e.1)
-
-pub leaves_of-few : {K V : Type 0} (slots : List (Option (LeafNode K V))) → len (leaves_of slots) ≤ count_by is_some slots
+pub len-leaves_of : {K V : Type 0} (slots : List (Option (LeafNode K V))) → len (leaves_of slots) ≡ count_by is_some slots
 unfolding leaves_of
-leaves_of-few slots =
-    let a = len-from_entries leaf_cmp_total (filter_map leaf_entry (entries_from 0 slots)) in
-    let b = length-filter_map leaf_entry (entries_from 0 slots) in
-    let c = length-entries_from 0 slots in
-    omega arith
+len-leaves_of slots = len-slots leaf_cmp-IsAntisymmetric (λ p. p.slot) (λ at. record { slot = at }) (λ _. refl) leaf_cmp_total 0 slots
+
+len-kind_entries : (kind : NodeType) (slots : List (Option Inner)) → len (from_entries {R = inner_cmp} (kind_entries kind slots)) ≡ count_by is_some slots
+len-kind_entries kind slots = len-slots inner_cmp-IsAntisymmetric (λ p. p.slot) (λ at. record { kind = kind; slot = at }) (λ _. refl) inner_cmp_total 0 slots
+
+module _ {P : ℕ} (s : InnerSlabs P) (kind : NodeType) where
+  -- the nodes of a kind are those in its slab
+  of_kind-entries : of_kind kind (inners_of s) ≡ from_entries (kind_entries kind (slab_of kind s).slots)
+  of_kind-entries = same_map inner_cmp_total inner_cmp-IsAntisymmetric _ _ (λ q.
+      get-retain_keys (inners_of s) (λ name. kind_index name.kind == kind_index kind) q (λ x tie. ap (λ name. kind_index name.kind == kind_index kind) (sym (inner_cmp-IsAntisymmetric q x tie)))
+      ∙ in_slab q (eqb (kind_index q.kind) (kind_index kind)) refl
+      ∙ sym (get-from_entries inner_cmp_total _ q ∙ find_kind kind (slab_of kind s).slots q))
+    where
+      in_slab : (q : InnerPtr) (b : Bool) → eqb (kind_index q.kind) (kind_index kind) ≡ b → cond b (get (inners_of s) q) None ≡ cond b (slab_get (slab_of kind s) q.slot) None
+      in_slab q true e = there_of s q kind (same_kind _ _ (eqb-true _ _ e))
+      in_slab q false e = refl
+
+  pub len-of_kind : (own : NodeType) → kind ≡ own → len (of_kind kind (inners_of s)) ≡ slab_len (slab_of own s)
+  len-of_kind own is = ap len of_kind-entries ∙ len-kind_entries kind (slab_of kind s).slots ∙ ap (λ k. slab_len (slab_of k s)) is

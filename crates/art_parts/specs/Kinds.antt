@@ -1,5 +1,5 @@
 -- The kinds of nodes.
-use Rattle.std.specs.Prelude.{ℕ, Option, Some, None}
+use Rattle.std.specs.Prelude.{ℕ, List, Option, Some, None, codes}
 use Rattle.art_parts.specs.declared.names.NodeType.{NodeType}
 use Rattle.art_parts.specs.declared.names.NodeType.TheVariants as kind
 
@@ -58,3 +58,11 @@ smaller_kind kind.Node16 = kind.Node4
 smaller_kind kind.Node48 = kind.Node16
 smaller_kind kind.Node256 = kind.Node48
 smaller_kind kind.Leaf = kind.Leaf
+
+-- how a kind is displayed
+abbrev pub kind_text : NodeType → List ℕ
+kind_text kind.Node4 = codes "Node4"
+kind_text kind.Node16 = codes "Node16"
+kind_text kind.Node48 = codes "Node48"
+kind_text kind.Node256 = codes "Node256"
+kind_text kind.Leaf = codes "Leaf"

@@ -1,8 +1,10 @@
 -- Names of leaves and of inner nodes among the names of nodes.
-use Rattle.std.specs.Prelude.{◌≢◌, ⊤}
+use Rattle.std.specs.Prelude.{◌≢◌, ⊤, ℕ, List, ◌++◌, codes, decimal}
 use Rattle.std.specs.Ordering.{nat_cmp, on, then_cmp}
 use Rattle.std.specs.declared.cmp.Ordering.{Ordering}
-use Rattle.art_parts.specs.Kinds.{kind_index}
+use Rattle.std.specs.declared.cmp.Ordering.TheVariants.{Less, Greater}
+use Rattle.art_parts.specs.Kinds.{kind_index, kind_text}
+use Rattle.art_parts.specs.declared.names.NodeType.{NodeType}
 use Rattle.art_parts.specs.declared.names.NodeType.TheVariants.{Leaf}
 use Rattle.art_parts.specs.declared.names.LeafPtr.{LeafPtr}
 use Rattle.art_parts.specs.declared.names.InnerPtr.{InnerPtr}
@@ -28,6 +30,10 @@ abbrev pub IsProper : NodePtr → Type 0
 IsProper (split.Leaf p) = ⊤
 IsProper (split.Inner p) = p.kind ≢ Leaf
 
+-- the order of kinds
+abbrev pub kind_cmp : NodeType → NodeType → Ordering
+kind_cmp = on kind_index nat_cmp
+
 -- the order of leaves' names
 abbrev pub leaf_cmp : LeafPtr → LeafPtr → Ordering
 leaf_cmp = on (λ p. p.slot) nat_cmp
@@ -35,3 +41,18 @@ leaf_cmp = on (λ p. p.slot) nat_cmp
 -- the order of inner nodes' names
 abbrev pub inner_cmp : InnerPtr → InnerPtr → Ordering
 inner_cmp = then_cmp (on (λ p. kind_index p.kind) nat_cmp) (on (λ p. p.slot) nat_cmp)
+
+-- the order of nodes' names
+abbrev pub name_cmp : OpaqueNodePtr → OpaqueNodePtr → Ordering
+name_cmp = then_cmp (on (λ p. kind_index p.kind) nat_cmp) (on (λ p. p.slot) nat_cmp)
+
+-- the order of names that are told apart: leaves come first
+abbrev pub split_cmp : NodePtr → NodePtr → Ordering
+split_cmp (split.Leaf p) (split.Leaf q) = leaf_cmp p q
+split_cmp (split.Leaf p) (split.Inner q) = Less
+split_cmp (split.Inner p) (split.Leaf q) = Greater
+split_cmp (split.Inner p) (split.Inner q) = inner_cmp p q
+
+-- how a node's name is displayed: its kind, and its slot in decimal
+abbrev pub name_text : OpaqueNodePtr → List ℕ
+name_text p = kind_text p.kind ++ codes "#" ++ decimal p.slot

@@ -1,5 +1,7 @@
 //! The names of nodes, and their kinds.
-ghost use Rattle.std.specs.Prelude.{◌≡◌, ◌≢◌, false, IsSome, IfSome, ◌↔◌};
+ghost use Rattle.std.specs.Prelude.{◌≡◌, ◌≢◌, false, Some, IsSome, IfSome, ◌↔◌};
+ghost use Rattle.art_parts.specs.Kinds.{kind_text};
+ghost use Rattle.art_parts.specs.Names.{inner_cmp, inner_name, kind_cmp, leaf_cmp, leaf_name, name_cmp, name_text, split_cmp};
 
 use std::fmt;
 use std::ops::RangeInclusive;
@@ -75,6 +77,8 @@ impl NodeType {
 }
 
 impl fmt::Display for NodeType {
+    ghost output = { λ kind. Some (kind_text kind) };
+
     fn fmt<W: fmt::Write>(&self, f: &mut fmt::Formatter<W>) -> fmt::Result {
         f.write_str(match self {
             NodeType::Node4 => "Node4",
@@ -117,8 +121,6 @@ pub enum NodePtr {
 }
 
 impl LeafPtr {
-    ghost use Rattle.art_parts.specs.Names.{leaf_name};
-
     /// The name of the leaf in this slot. No store is asked whether there is one.
     pub fn from_slot(slot: usize) -> Self
         ensures { result.slot ≡ slot }
@@ -138,7 +140,6 @@ impl LeafPtr {
 }
 
 impl InnerPtr {
-    ghost use Rattle.art_parts.specs.Names.{inner_name};
     ghost use Rattle.art_parts.specs.declared.names.NodeType.TheVariants.{Leaf};
 
     /// The name of the inner node of this kind in this slot, or `None` for the kind of leaves.
@@ -164,7 +165,7 @@ impl InnerPtr {
 }
 
 impl OpaqueNodePtr {
-    ghost use Rattle.art_parts.specs.Names.{leaf_name, inner_name, name_in, IsProper};
+    ghost use Rattle.art_parts.specs.Names.{name_in, IsProper};
     ghost use Rattle.art_parts.specs.declared.names.NodeType.TheVariants.{Leaf};
 
     /// The name of the node of this kind in this slot. No store is asked whether there is one.
@@ -228,7 +229,19 @@ impl OpaqueNodePtr {
     }
 }
 
+/// Names are in the order of their kinds, and those of one kind in that of their slots. The kinds are in the order
+/// of their room, and the kind of leaves is the last; but among names that are told apart leaves come first.
+pub fn names_are_in_order()
+    ensures kinds { (a b : NodeType) → ⟦<NodeType as Ord>⟧.cmp a b ≡ kind_cmp a b }
+    ensures leaves { (a b : LeafPtr) → ⟦<LeafPtr as Ord>⟧.cmp a b ≡ leaf_cmp a b }
+    ensures inners { (a b : InnerPtr) → ⟦<InnerPtr as Ord>⟧.cmp a b ≡ inner_cmp a b }
+    ensures nodes { (a b : OpaqueNodePtr) → ⟦<OpaqueNodePtr as Ord>⟧.cmp a b ≡ name_cmp a b }
+    ensures split { (a b : NodePtr) → ⟦<NodePtr as Ord>⟧.cmp a b ≡ split_cmp a b }
+{}
+
 impl fmt::Display for LeafPtr {
+    ghost output = { λ leaf. Some (name_text (leaf_name leaf)) };
+
     fn fmt<W: fmt::Write>(&self, f: &mut fmt::Formatter<W>) -> fmt::Result {
         let name = self.to_opaque();
         write!(f, "{name}")
@@ -236,6 +249,8 @@ impl fmt::Display for LeafPtr {
 }
 
 impl fmt::Display for InnerPtr {
+    ghost output = { λ inner. Some (name_text (inner_name inner)) };
+
     fn fmt<W: fmt::Write>(&self, f: &mut fmt::Formatter<W>) -> fmt::Result {
         let name = self.to_opaque();
         write!(f, "{name}")
@@ -243,6 +258,8 @@ impl fmt::Display for InnerPtr {
 }
 
 impl fmt::Display for OpaqueNodePtr {
+    ghost output = { λ name. Some (name_text name) };
+
     fn fmt<W: fmt::Write>(&self, f: &mut fmt::Formatter<W>) -> fmt::Result {
         let OpaqueNodePtr { kind, slot } = *self;
         write!(f, "{kind}#{slot}")

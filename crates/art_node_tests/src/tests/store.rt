@@ -388,6 +388,35 @@ fn a_reservation_past_all_numbers_is_refused(rt: HostRuntime) -> Result<(), Fail
     same(granted, [false, true])
 }
 
+// How many leaves a store counts, and how many nodes of the first two kinds and of that of leaves.
+fn counts_of(store: &Store) -> (usize, [usize; 3]) {
+    let kinds = [
+        store.inner_count(NodeType::Node4),
+        store.inner_count(NodeType::Node16),
+        store.inner_count(NodeType::Leaf),
+    ];
+    (store.leaf_count(), kinds)
+}
+
+// The counts of an empty store, then with two leaves, with one of them freed, and once two nodes are placed of which one
+// is freed.
+fn count_steps(store: &mut Store) -> Option<[(usize, [usize; 3]); 4]> {
+    let empty = counts_of(store);
+    let (first, _) = place_pair(store).ok()?;
+    let placed = counts_of(store);
+    store.free_leaf(first);
+    let freed = counts_of(store);
+    move_lower(store)?;
+    Some([empty, placed, freed, counts_of(store)])
+}
+
+#[test]
+fn a_store_counts_its_nodes(rt: HostRuntime) -> Result<(), Fail> {
+    let counted = count_steps(&mut Store::new(rt.alloc()));
+    let expected = [(0, [0; 3]), (2, [0; 3]), (1, [0; 3]), (1, [1, 0, 0])];
+    same(counted, Some(expected))
+}
+
 // Places leaves that are linked behind this one until one is refused, and answers what is handed back.
 fn refused_leaf(store: &mut Store, last: LeafPtr) -> Option<SeenLeaf> {
     for _ in 0..MORE_THAN_FIT {

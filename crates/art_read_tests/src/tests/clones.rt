@@ -10,7 +10,7 @@ use art_operations::clone::clone_unchecked;
 use art_operations::run::Side;
 use art_test_support::commands::{Asked, Left, Row, Told, ran_from};
 use art_test_support::expected::{as_expected, same};
-use art_test_support::memory::end_refusals;
+use art_test_support::memory::{begin_refusals, end_refusals};
 use art_test_support::nodes::{Seen, count_touched, nodes_seen};
 use art_test_support::shapes::count_nodes;
 use art_test_support::side_by_side::kind_if_same;
@@ -325,6 +325,7 @@ fn clone_beside<const P: usize>(
 ) -> Result<Outcome, AllocError>
     requires { IsCanonicalRoot (of_key (λ key. key.items)) P store.now root }
 {
+    begin_refusals(store.alloc());
     let cloned = clone_unchecked(store, root, into);
     end_refusals(store.alloc());
     match cloned {
@@ -410,7 +411,7 @@ fn assert_clone(rt: &impl Print, seen: Option<(Outcome, Outcome)>) -> Result<(),
 }
 
 #[test]
-fn refused_clones_leave_no_node(rt: HostRuntime) -> Result<(), Fail> {
+fn refused_each_clone_leaves_no_node(rt: HostRuntime) -> Result<(), Fail> {
     assert_clone(&rt, clone_seen::<4>(rt.alloc(), FIVE_ALONE))
 }
 

@@ -2,7 +2,7 @@
 use super::calls::{Map, Removal, fill, remove, value_of};
 use art_operations::map::{ByteMap, MapInsertError, MapRefused};
 use art_test_support::expected::{as_expected, same};
-use art_test_support::memory::all_memory;
+use art_test_support::memory::{all_memory, begin_refusals, end_refusals};
 use std::alloc::Global;
 use std::test::Fail;
 
@@ -44,6 +44,24 @@ fn starve_new(alloc: Global, map: &mut Map) -> Option<([bool; 2], usize)> {
 fn without_memory_a_first_insertion_is_refused(rt: HostRuntime) -> Result<(), Fail> {
     let seen = starve_new(rt.alloc(), &mut ByteMap::new(rt.alloc()));
     as_expected(Some((seen, Some(([true, true], 0)))))
+}
+
+// Whether the first insertion of a map is refused, with its pair, and how many pairs it has then.
+fn insert_first(alloc: Global, map: &mut Map) -> (bool, usize) {
+    begin_refusals(alloc);
+    let is_refused = is_refused(map, 1, 2);
+    end_refusals(alloc);
+    (is_refused, map.len())
+}
+
+#[test]
+fn refused_each_first_insertion_hands_the_pair_back(rt: HostRuntime) -> Result<(), Fail> {
+    let (is_refused, len) = insert_first(rt.alloc(), &mut ByteMap::new(rt.alloc()));
+    same(len, if is_refused { 0 } else { 1 })?;
+    if is_refused {
+        println!(rt; "asserted")?;
+    }
+    Ok(())
 }
 
 // Whether a removal of the pair of this byte, or else its refusal, left the map as it has to be.
