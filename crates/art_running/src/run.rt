@@ -17,7 +17,7 @@ ghost use Rattle.art_running.specs.declared.run.Command.TheVariants as commands;
 ghost use Rattle.art_running.specs.declared.run.Command.{Command};
 ghost use Rattle.art_running.specs.declared.run.Side.TheVariants.{First};
 
-use art_nodes::node::{AsBytes, LeafNode, OpaqueNodePtr};
+use art_nodes::node::{AsBytes, OpaqueNodePtr};
 use art_nodes::store::NodeStore;
 use art_reading::lookup::{prefix_search_unchecked, search_unchecked};
 use art_writing::clone::clone_unchecked;
@@ -26,7 +26,8 @@ use art_writing::delete::{
     DeletePoint, find_maximum_to_delete, find_minimum_to_delete, search_for_delete_point,
 };
 use art_writing::insert::{
-    InsertPrefixError, InsertSearchError, search_for_insert_point, search_for_prefix_insert_point,
+    InsertPrefixError, InsertSearchError, plant, search_for_insert_point,
+    search_for_prefix_insert_point,
 };
 use std::alloc::AllocError;
 
@@ -226,11 +227,11 @@ fn answer_without_tree<K: AsBytes + Clone + Drop, V: Clone + Drop, const P: usiz
         store.old None command result store.new root.new }
 {
     match command {
-        Command::Insert(key, value) => match plant(store, root, key, value) {
+        Command::Insert(key, value) => match begin(store, root, key, value) {
             Ok(()) => Reply::Inserted(None),
             Err(pair) => Reply::NoMemory(Some(pair)),
         },
-        Command::InsertPrefix(key, value) => match plant(store, root, key, value) {
+        Command::InsertPrefix(key, value) => match begin(store, root, key, value) {
             Ok(()) => Reply::Overwrote(None, 0),
             Err(pair) => Reply::NoMemory(Some(pair)),
         },
@@ -241,8 +242,8 @@ fn answer_without_tree<K: AsBytes + Clone + Drop, V: Clone + Drop, const P: usiz
     }
 }
 
-// Makes a tree of one leaf, or hands its pair back where there is no memory for it.
-fn plant<K: AsBytes + Drop, V: Drop, const P: usize>(
+// Begins the tree with a pair, or hands the pair back where there is no memory for it.
+fn begin<K: AsBytes + Drop, V: Drop, const P: usize>(
     store: &mut NodeStore<K, V, P>,
     root: &mut Option<OpaqueNodePtr>,
     key: K,
@@ -255,12 +256,12 @@ fn plant<K: AsBytes + Drop, V: Drop, const P: usize>(
     ensures refused { OnErr result ((root.new ≡ root.old) × (store.new ≡ store.old)) }
     ensures succeeds { 0 < store.old.promise.leaves → IsOk result }
 {
-    match store.place_leaf(LeafNode::with_no_siblings(key, value)) {
+    match plant(store, key, value) {
         Ok(leaf) => {
             *root = Some(leaf.to_opaque());
             Ok(())
         }
-        Err((leaf, _)) => Err((leaf.key, leaf.value)),
+        Err(refused) => Err((refused.key, refused.value)),
     }
 }
 

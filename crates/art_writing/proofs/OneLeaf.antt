@@ -1,9 +1,10 @@
 -- A tree of one leaf, where there was no tree.
 use Rattle.std.proofs.Common.{◌≡◌, ℕ, List, [], ◌∷◌, refl, ap, sym, ◌∙◌, subst, Some, None, inr}
 use Rattle.std.specs.Option.{option_map, option_and_then}
-use Rattle.std.specs.FinMap.{get}
+use Rattle.std.specs.FinMap.{get, insert}
 use Rattle.art_parts.specs.Names.{leaf_name}
-use Rattle.art_nodes.specs.Nodes.{Nodes}
+use Rattle.art_nodes.specs.Nodes.{Nodes, take_leaf}
+use Rattle.art_parts.specs.declared.leaf.LeafNode.{LeafNode}
 use Rattle.art_parts.specs.declared.names.LeafPtr.{LeafPtr}
 use Rattle.art_parts.specs.declared.names.NodeType.TheVariants.{Leaf}
 use Rattle.art_parts.proofs.NameLemmas.{leaf_cmp_total, leaf_cmp-IsAntisymmetric}
@@ -11,6 +12,7 @@ use Rattle.art_nodes.proofs.StoreLaws.{leaf_here}
 use Rattle.art_model.specs.Canonical.{IsCanonicalTree}
 use Rattle.art_model.specs.Kept.{ChangesInPlace}
 use Rattle.art_model.specs.Pairs.{of_key}
+use Rattle.art_model.specs.Roots.{IsCanonicalRoot}
 use Rattle.art_model.specs.Stores.{held_leaf, seen, links_of}
 use Rattle.art_model.specs.Trees.{leaf}
 use Rattle.art_model.proofs.Canonical.{canonical_from}
@@ -18,6 +20,11 @@ use Rattle.art_model.proofs.InPlace.{others_kept}
 use Rattle.art_model.proofs.Touches.{Touched, touched_none, then_placed, footprint_of}
 use Rattle.art_writing.specs.Inserted.{alone}
 use Rattle.art_writing.specs.Writes.{IsPlanted}
+
+-- a leaf without siblings that is placed is planted
+pub placed_alone : {K V : Type 0} (s : Nodes K V) {t : Nodes K V} {n : LeafPtr} {x : K × V} {made : LeafNode K V} → get s.leaves n ≡ None → t.leaves ≡ insert s.leaves n made →
+    t.inners ≡ s.inners → t.promise ≡ take_leaf s.promise → made ≡ alone x → IsPlanted s t n x
+placed_alone s {n = n} fresh placed inners promise is = record { fresh = fresh; leaves = placed ∙ ap (insert s.leaves n) is; inners = inners; promise = promise }
 
 module _ {K V : Type 0} (bytes : K → List ℕ) (P : ℕ) {s t : Nodes K V} {n : LeafPtr} {x : K × V} (is : IsPlanted s t n x) where
   there : get t.leaves n ≡ Some (alone x)
@@ -33,6 +40,9 @@ module _ {K V : Type 0} (bytes : K → List ℕ) (P : ℕ) {s t : Nodes K V} {n 
     distinct = (tt, tt);
     linked = (ap (λ o. option_and_then links_of (option_map held_leaf o)) there, tt);
   })
+
+  pub planted_root : IsCanonicalRoot (of_key bytes) P t (leaf_name n)
+  planted_root = (x ∷ [], leaf (leaf_name n) x, planted)
 
   -- one leaf came, and nothing else
   pub leaves_touched : Touched s.leaves t.leaves (n ∷ []) [] []

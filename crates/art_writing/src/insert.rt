@@ -25,9 +25,12 @@ use std::boxed::BoxedSlice;
 use thiserror::Error;
 
 mod apply;
+mod beginning;
 mod branch;
 mod existing;
 mod overwrite;
+
+pub use beginning::plant;
 
 /// A key that can't be inserted: a stored key begins with it, or it begins with a stored key.
 #[derive(PartialEq, Eq, Debug, Drop, Error)]

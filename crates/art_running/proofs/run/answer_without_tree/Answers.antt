@@ -16,16 +16,16 @@ returns-in-Insert g c side second =
     rw (c.in-Insert.is, root) (from_none g.K.AsBytes.bytes g.row.P side second
     (unplanted_step g.K.AsBytes.bytes g.row.P second c.requires same c.in-Err.ensures.handed_back (λ promised. absurd (false≢true (c.in-Err.ensures.succeeds promised)))))
 
-pub returns-in-Ok-plant : goal.returns-in-Ok-plant
-returns-in-Ok-plant g c side second =
-    let (leaf, root, planted) = c.in-Ok-plant.ensures.planted in
+pub returns-in-Ok-begin : goal.returns-in-Ok-begin
+returns-in-Ok-begin g c side second =
+    let (leaf, root, planted) = c.in-Ok-begin.ensures.planted in
     rw (c.in-InsertPrefix.is, root) (from_none g.K.AsBytes.bytes g.row.P side second (planted_prefix_step g.K.AsBytes.bytes g.row.P second planted))
 
 pub returns-in-InsertPrefix : goal.returns-in-InsertPrefix
 returns-in-InsertPrefix g c side second =
-    let (root, same) = c.in-Err-plant.ensures.refused in
+    let (root, same) = c.in-Err-begin.ensures.refused in
     rw (c.in-InsertPrefix.is, root) (from_none g.K.AsBytes.bytes g.row.P side second
-    (unplanted_prefix_step g.K.AsBytes.bytes g.row.P second c.requires same c.in-Err-plant.ensures.handed_back (λ promised. absurd (false≢true (c.in-Err-plant.ensures.succeeds promised)))))
+    (unplanted_prefix_step g.K.AsBytes.bytes g.row.P second c.requires same c.in-Err-begin.ensures.handed_back (λ promised. absurd (false≢true (c.in-Err-begin.ensures.succeeds promised)))))
 
 pub returns-in-Delete : goal.returns-in-Delete
 returns-in-Delete g c side second = elim c.in-Delete.is [

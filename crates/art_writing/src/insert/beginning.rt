@@ -1,0 +1,40 @@
+//! How a tree begins.
+ghost use Rattle.std.specs.Prelude.{◌≡◌, ◌<◌, ◌∷◌, [], IfOk, IfErr, IsOk, OnErr};
+ghost use Rattle.art_parts.specs.Names.{leaf_name};
+ghost use Rattle.art_model.specs.Canonical.{IsCanonical};
+ghost use Rattle.art_model.specs.Pairs.{of_key};
+ghost use Rattle.art_model.specs.Roots.{IsCanonicalRoot};
+ghost use Rattle.art_writing.specs.Writes.{IsPlanted};
+
+use super::Refused;
+use art_nodes::node::{AsBytes, LeafNode, LeafPtr};
+use art_nodes::store::NodeStore;
+
+/// Places the leaf of a pair, with no siblings, and returns its name. That is the root of a tree of its own,
+/// whatever else the store has.
+///
+/// Where the store's promise covers no leaf, it may be refused for want of memory: then key and value come back,
+/// and the store is as before.
+pub fn plant<K: AsBytes + Drop, V: Drop, const PREFIX_LEN: usize>(
+    store: &mut NodeStore<K, V, PREFIX_LEN>,
+    key: K,
+    value: V,
+) -> Result<LeafPtr, Refused<K, V>>
+    ensures canonical { IfOk result (λ name. IsCanonical (of_key K.bytes) PREFIX_LEN store.new
+        (Some (leaf_name name)) ((key, value) ∷ [])) }
+    ensures root { IfOk result (λ name.
+        IsCanonicalRoot (of_key K.bytes) PREFIX_LEN store.new (leaf_name name)) }
+    ensures planted { IfOk result (λ name. IsPlanted store.old store.new name (key, value)) }
+    ensures handed_back { IfErr result (λ refused.
+        (refused.key ≡ key) × (refused.value ≡ value)) }
+    ensures refused { OnErr result (store.new ≡ store.old) }
+    ensures succeeds { 0 < store.old.promise.leaves → IsOk result }
+{
+    match store.place_leaf(LeafNode::with_no_siblings(key, value)) {
+        Ok(name) => Ok(name),
+        Err((leaf, _)) => Err(Refused {
+            key: leaf.key,
+            value: leaf.value,
+        }),
+    }
+}
