@@ -1,27 +1,37 @@
 //! Lines in, replies out.
-
-ghost use Rattle.std.specs.Prelude.{◌≤◌, None, IfOk};
+ghost use Rattle.std.specs.Prelude.{◌≡◌, ◌≤◌, None, IfOk, IfSome, OnOk};
+ghost use Rattle.std.specs.Io.Buffered.{reader_remaining};
+ghost use Rattle.std.specs.Io.KnownBytes.{Keeps};
 ghost use Rattle.art_parts.specs.Clones.{IsPairClone};
 ghost use Rattle.art_keeping.specs.Commands.{IsAnswered, IsCommandFor};
 ghost use Rattle.art_keeping.specs.KeptTrees.{IsKept};
+ghost use Rattle.art_engine.specs.Served.{AllAsk, AreServed, OneAsksForNothing};
+ghost use Rattle.art_engine.specs.Shown.{IsReplied, IsShown};
+ghost use Rattle.art_engine.specs.TextLines.{lines};
 
-use crate::print::{Order, write_check, write_no_memory, write_nodes, write_pairs, write_reply};
+use crate::checks::write_check;
+use crate::lines::next_line;
+use crate::nodes::write_nodes;
+use crate::pairs::{Order, write_pairs};
+use crate::replies::{write_no_memory, write_reply};
 use art_keeping::commands::command_of;
 use art_keeping::status::{End, status_of};
 use art_keeping::tree::KeptTree;
 use art_lines::line::Request;
 use std::alloc::{AllocError, Global};
 use std::io;
-use std::io::{BufRead, BufReader, BufWriter, Read, Write};
+use std::io::{BufReader, BufWriter, ErrorKind, Read, Write};
 
-/// Answers each line of the input on the output. The status is 0 at the end of the input, 2 after a line that asks for
-/// nothing that there is, and 1 where the input can't be read, the output can't be written, or there is no memory for a
-/// buffer or a line.
+/// Answers each line of the input on the output. Returns the status: 0 at the end of the input, 2
+/// after a line that asks for nothing that there is, and 1 where the input can't be read, the output
+/// can't be written, or there is no memory for a buffer or a line.
 ///
-/// It reads and writes by buffers of its own. Replies are written out before it waits for a line, and while the next
-/// line has come already they gather in the output's buffer.
-pub fn serve(alloc: Global, input: impl Read + Drop, output: impl Write + Drop) -> u8
-    ensures { result ≤ 2 }
+/// It reads and writes by buffers of its own, as `answer_lines` does.
+pub fn serve<R: Read + Drop, W: Write + Drop>(alloc: Global, input: R, output: W) -> u8
+    ensures ended { result ≡ 0 → IfSome (R.remaining input) (λ text. AllAsk (lines text)) }
+    ensures refused { result ≡ 2 → IfSome (R.remaining input) (λ text.
+        OneAsksForNothing (lines text)) }
+    ensures few { result ≤ 2 }
 {
     let Ok(mut input) = BufReader::new(alloc, input) else {
         return 1;
@@ -35,17 +45,26 @@ pub fn serve(alloc: Global, input: impl Read + Drop, output: impl Write + Drop) 
     status_of(end, written)
 }
 
-fn answer_lines(
+/// Answers each line of the input on the output, by commands on the tree. Returns why no further line
+/// is read. An `Err` is for an input that can't be read, an output that can't be written, or want of
+/// memory for a line.
+///
+/// Replies are written out before it waits for a line. While the next line has come already they
+/// gather in the output, which has a buffer for that.
+pub fn answer_lines<R: Read, W: Write>(
     alloc: Global,
     tree: &mut KeptTree,
-    input: &mut BufReader<impl Read>,
-    output: &mut impl Write,
+    input: &mut BufReader<R>,
+    output: &mut W,
 ) -> io::Result<End>
     requires { IsKept tree.old }
+    ensures kept { IsKept tree.new }
+    ensures served { IfOk result (λ why. IfSome (reader_remaining R.remaining input.old) (λ text.
+        AreServed (lines text) 1 tree.old (W.contents output.old) why (W.contents output.new))) }
 {
     let mut line = Vec::new(alloc);
     for number in 1..u64::MAX {
-        if !read_line(input, &mut line)? {
+        if !next_line(input, &mut line)? {
             return Ok(End::Input);
         }
         let Some(request) = Request::parse(&line) else {
@@ -53,37 +72,36 @@ fn answer_lines(
             return Ok(End::BadLine);
         };
         answer(alloc, tree, request, output)?;
-        if !input.buffer().contains(&b'\n') {
-            output.flush()?;
-        }
+        write_out(input, output)?;
     }
-    Ok(End::Input)
+    Err(io::Error::from(ErrorKind::FileTooLarge))
 }
 
-// Reads the next line, without the byte that ends it. Answers whether there was one.
-fn read_line(input: &mut BufReader<impl Read>, line: &mut Vec<u8>) -> io::Result<bool> {
-    line.clear();
-    if input.read_until(b'\n', line)? == 0 {
-        return Ok(false);
+// Writes out what has gathered, unless the next line has come already.
+fn write_out<R: Read, W: Write>(input: &BufReader<R>, output: &mut W) -> io::Result<()>
+    ensures { Keeps (W.contents output.old) (W.contents output.new) }
+{
+    if input.buffer().contains(&b'\n') {
+        return Ok(());
     }
-    if line.last() == Some(&b'\n') {
-        line.pop();
-    }
-    Ok(true)
+    output.flush()
 }
 
 // Answers a request by a run of the command that it asks for, or by what it asks to see.
-fn answer(
+fn answer<W: Write>(
     alloc: Global,
     tree: &mut KeptTree,
     request: Request<'_>,
-    output: &mut impl Write,
+    output: &mut W,
 ) -> io::Result<()>
     requires { IsKept tree.old }
     ensures kept { IsKept tree.new }
     ensures answered { IsAnswered
         (IsPairClone ⟦<Vec<u8> as Clone>⟧.is_clone ⟦<u32 as Clone>⟧.is_clone)
         request.entry tree.old tree.new }
+    ensures replied { OnOk result (IsReplied
+        (IsPairClone ⟦<Vec<u8> as Clone>⟧.is_clone ⟦<u32 as Clone>⟧.is_clone)
+        request.entry tree.old tree.new (W.contents output.old) (W.contents output.new)) }
 {
     let command = match command_of(alloc, request) {
         Ok(Some(command)) => command,
@@ -97,9 +115,11 @@ fn answer(
 }
 
 // Writes what a request that asks for no command asks to see.
-fn show(tree: &KeptTree, request: Request<'_>, output: &mut impl Write) -> io::Result<()>
+fn show<W: Write>(tree: &KeptTree, request: Request<'_>, output: &mut W) -> io::Result<()>
     requires kept { IsKept tree.now }
     requires no_command { IsCommandFor request None }
+    ensures { OnOk result (IsShown request.entry tree.now
+        (W.contents output.old) (W.contents output.new)) }
 {
     let (store, root) = tree.tree();
     match request {

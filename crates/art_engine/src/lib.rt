@@ -1,5 +1,10 @@
 //! The engine of `artrun`: lines in, replies out.
 #![tactic(auto)]
 
+pub mod checks;
 pub mod engine;
-mod print;
+pub mod key;
+pub mod lines;
+pub mod nodes;
+pub mod pairs;
+pub mod replies;

@@ -1,6 +1,11 @@
+use Rattle.std.proofs.Common.{IfSome}
+use Rattle.std.specs.Io.Buffered.{reader_remaining}
 use Rattle.art_keeping.specs.KeptTrees.{IsKept}
+use Rattle.art_engine.proofs.Serving.{GoesOn}
 use Rattle.art_engine.proofs.engine.answer_lines.Given as goal
 
--- the root is canonical
+-- the root is canonical, and whatever the lines that are left come to, all lines come to
 abbrev pub invariant-loop-number : goal.invariant-loop-number
-invariant-loop-number g l = IsKept l.tree
+invariant-loop-number g l =
+    IsKept l.tree × IfSome (reader_remaining g.R.Read.remaining l.initial.input) (λ text.
+    GoesOn text (reader_remaining g.R.Read.remaining l.input) l.number-counter l.initial.tree l.tree (g.W.Write.contents l.initial.output) (g.W.Write.contents l.output))

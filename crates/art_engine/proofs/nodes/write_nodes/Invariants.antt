@@ -4,7 +4,7 @@ use Rattle.std.specs.Vec.{vec_capacity}
 use Rattle.art_parts.specs.declared.names.OpaqueNodePtr.{OpaqueNodePtr}
 use Rattle.art_keeping.specs.Trees.{IsTreeIn}
 use Rattle.art_keeping.specs.Walks.{HasRoom, left_after, names}
-use Rattle.art_engine.proofs.print.write_nodes.Given as goal
+use Rattle.art_engine.proofs.nodes.write_nodes.Given as goal
 
 -- what is left after so many turns stands for trees, and there is room for what will be
 abbrev pub invariant-loop : goal.invariant-loop

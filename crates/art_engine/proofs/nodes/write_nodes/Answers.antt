@@ -3,7 +3,7 @@ use Rattle.std.specs.List.{AllByRecursion as Each}
 use Rattle.art_keeping.specs.Trees.{IsTreeIn}
 use Rattle.art_keeping.specs.Walks.{HasRoom, names, turned}
 use Rattle.art_keeping.proofs.Subtrees.{tree_taken, trees_turned}
-use Rattle.art_engine.proofs.print.write_nodes.Goals as goal
+use Rattle.art_engine.proofs.nodes.write_nodes.Goals as goal
 
 pub push_reserved-requires : goal.push_reserved-requires
 push_reserved-requires g c = omega (arith, c.in-Ok.pending.ok.0, ap length c.in-Ok.ensures.empty, c.in-Ok.ensures.room 0)

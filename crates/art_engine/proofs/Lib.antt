@@ -1,0 +1,4 @@
+pub mod Keys
+pub mod LineParts
+pub mod Rows
+pub mod Serving

@@ -1,0 +1,49 @@
+-- What the lines of a text come to.
+use Rattle.std.specs.Prelude.{◌≡◌, ◌≢◌, ℕ, ◌+◌, ◌⊎◌, List, [], ◌∷◌, ◌++◌, codes, Option, vec_len}
+use Rattle.std.specs.Fmt.{decimal}
+use Rattle.std.specs.List.{AllByRecursion as Each, AllZip}
+use Rattle.std.specs.Io.KnownBytes.{Appends, Keeps}
+use Rattle.art_parts.specs.Clones.{IsPairClone}
+use Rattle.art_lines.specs.Lines.{HasSmallValue, line_of}
+use Rattle.art_lines.specs.declared.line.Request.{Request}
+use Rattle.art_keeping.specs.declared.status.End.{End}
+use Rattle.art_keeping.specs.declared.status.End.TheVariants.{Input, BadLine}
+use Rattle.art_keeping.specs.declared.tree.KeptTree.{KeptTree}
+use Rattle.art_keeping.specs.Trees.{Key}
+use Rattle.art_engine.specs.Shown.{IsReplied}
+
+-- the line asks for something
+abbrev pub IsAsked : List ℕ → Type 0
+IsAsked line = (request : Request) × (line ≡ line_of request)
+
+-- the line asks for nothing that there is
+abbrev pub AsksForNothing : List ℕ → Type 0
+AsksForNothing line = (request : Request) → HasSmallValue request → line ≢ line_of request
+
+-- each line asks for something
+abbrev pub AllAsk : List (List ℕ) → Type 0
+AllAsk = Each IsAsked
+
+-- one line asks for nothing that there is, and each before it for something
+abbrev pub OneAsksForNothing : List (List ℕ) → Type 0
+OneAsksForNothing lines =
+    (before : List (List ℕ)) × (line : List ℕ) × (after : List (List ℕ)) × (lines ≡ before ++ line ∷ after) ×
+    AllAsk before × AsksForNothing line
+
+-- the reply to a line of this number that asks for nothing
+abbrev pub refusal : ℕ → List ℕ
+refusal number = codes "line " ++ decimal number ++ codes ": refused\n"
+
+-- a clone of a pair: a key of equal bytes, and an equal value
+abbrev pub IsClone : Key × ℕ → Key × ℕ → Type 0
+IsClone = IsPairClone (λ old new. AllZip (λ b c. c ≡ b) old.items new.items × (vec_len new ≡ vec_len old)) (λ old new. new ≡ old)
+
+-- Each line is answered in its turn, and leaves the tree that the next one finds; the first that asks for nothing that
+-- there is gets a refusal with its number, and no further one is answered.
+abbrev pub AreServed : List (List ℕ) → ℕ → KeptTree → Option (List ℕ) → End → Option (List ℕ) → Type 0
+AreServed [] number tree old why new = (why ≡ Input) × Keeps old new
+AreServed (line ∷ lines) number tree old why new =
+    (AsksForNothing line × (why ≡ BadLine) × Appends old new (refusal number)) ⊎
+    ((request : Request) × (left : KeptTree) × (replied : Option (List ℕ)) × (kept : Option (List ℕ)) ×
+    (line ≡ line_of request) × IsReplied IsClone request tree left old replied × Keeps replied kept ×
+    AreServed lines (number + 1) left kept why new)

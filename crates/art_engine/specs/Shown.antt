@@ -1,0 +1,57 @@
+-- What is appended for a request that asks to see the tree.
+use Rattle.std.specs.Prelude.{◌≡◌, ℕ, ⊤, ◌⊎◌, List, [], ◌∷◌, ◌++◌, reverse, codes, Option, Some, None, Result, IfErr, IfOk, IfSome, IsOkAnd}
+use Rattle.std.specs.Io.KnownBytes.{Appends}
+use Rattle.art_lines.specs.declared.line.Request.{Request}
+use Rattle.art_lines.specs.declared.line.Request.TheVariants.{Walk, Back, Nodes, Check}
+use Rattle.art_model.specs.Canonical.{IsCanonical}
+use Rattle.art_model.specs.Faults.{out_of_memory}
+use Rattle.art_model.specs.Pairs.{of_key}
+use Rattle.art_operations.specs.Checks.{IsWellFormed, fault_of}
+use Rattle.art_operations.specs.Runs.{IsRun}
+use Rattle.art_operations.specs.declared.run.Command.{Command}
+use Rattle.art_operations.specs.declared.run.Reply.{Reply}
+use Rattle.art_operations.specs.declared.run.Side.{Side}
+use Rattle.art_operations.specs.declared.well_formed.MalformedTreeError.{MalformedTreeError}
+use Rattle.art_operations.specs.declared.well_formed.WellFormedTreeStats.{WellFormedTreeStats}
+use Rattle.art_keeping.specs.declared.tree.KeptTree.{KeptTree}
+use Rattle.art_keeping.specs.Commands.{IsCommandFor}
+use Rattle.art_keeping.specs.KeptTrees.{seen, stood}
+use Rattle.art_keeping.specs.Trees.{Key, key_bytes}
+use Rattle.art_engine.specs.Texts.{check_text, pairs_text, reply_text}
+
+-- the line of the tree's pairs, in this order
+abbrev pub ShowsPairs : (List (Key × ℕ) → List (Key × ℕ)) → KeptTree → Option (List ℕ) → Option (List ℕ) → Type 0
+ShowsPairs order tree old new =
+    (pairs : List (Key × ℕ)) → IsCanonical (of_key key_bytes) 4 (seen tree).first (seen tree).root pairs →
+    Appends old new (pairs_text (order pairs) ++ codes "\n")
+
+-- what a check of the tree may answer: the numbers of its nodes, or that there was no memory
+abbrev pub IsCheckOf : KeptTree → Result WellFormedTreeStats MalformedTreeError → Type 0
+IsCheckOf tree checked =
+    ((seen tree).root ≡ None → IsOkAnd checked (λ stats. (stats.num_leaf ≡ 0) × (stats.num_inner ≡ 0))) ×
+    IfSome (seen tree).root (λ name. IfOk checked (IsWellFormed (of_key key_bytes) 4 (seen tree).first name)) ×
+    IfErr checked (λ error. fault_of error ≡ out_of_memory)
+
+-- the line of such an answer
+abbrev pub ShowsCheck : KeptTree → Option (List ℕ) → Option (List ℕ) → Type 0
+ShowsCheck tree old new =
+    (checked : Result WellFormedTreeStats MalformedTreeError) × IsCheckOf tree checked ×
+    IfSome (check_text checked) (λ text. Appends old new (text ++ codes "\n"))
+
+-- the pairs rising or falling, or a check's answer; of the nodes it isn't said; no other request asks to see something
+abbrev pub IsShown : Request → KeptTree → Option (List ℕ) → Option (List ℕ) → Type 0
+IsShown Walk tree old new = ShowsPairs (λ pairs. pairs) tree old new
+IsShown Back tree old new = ShowsPairs reverse tree old new
+IsShown Check tree old new = ShowsCheck tree old new
+IsShown Nodes tree old new = ⊤
+IsShown request tree old new = ⊥
+
+-- What is appended for a request: that there was no memory, and then the tree is as before; or the reply to a run of the
+-- one command that is asked for; or what is asked to be seen of the tree, which is as before.
+abbrev pub IsReplied : (Key × ℕ → Key × ℕ → Type 0) → Request → KeptTree → KeptTree → Option (List ℕ) → Option (List ℕ) → Type 0
+IsReplied IsClone request tree after old new =
+    ((seen after ≡ seen tree) × Appends old new (codes "no memory\n")) ⊎
+    (((command : Command Key ℕ) × (reply : Reply Key ℕ) × (side : Side) × IsCommandFor request (Some command) ×
+    IsRun key_bytes 4 IsClone (seen tree) (command ∷ []) (reply ∷ []) (stood side after) ×
+    IfSome (reply_text reply) (λ text. Appends old new (text ++ codes "\n"))) ⊎
+    ((seen after ≡ seen tree) × IsShown request tree old new))

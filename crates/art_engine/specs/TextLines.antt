@@ -1,0 +1,18 @@
+-- The lines of a text.
+use Rattle.std.specs.Prelude.{◌≡◌, ℕ, Bool, true, false, ◌==◌, if◌then◌else◌, List, [], ◌∷◌, length, Option, Some}
+use Rattle.std.specs.List.{slice_split}
+
+-- without an empty part at the end
+abbrev pub without_empty_end : List (List ℕ) → List (List ℕ)
+without_empty_end [] = []
+without_empty_end (part ∷ []) = if length part == 0 then [] else part ∷ []
+without_empty_end (part ∷ next ∷ parts) = part ∷ without_empty_end (next ∷ parts)
+
+-- what stands between line feeds; after the last one, where that is something
+abbrev pub lines : List ℕ → List (List ℕ)
+lines text = without_empty_end (slice_split (λ b. b == 10) text)
+
+-- the first line was read and the rest is left, or there is none
+abbrev pub IsLineRead : Bool → List ℕ → List ℕ → Option (List ℕ) → Type 0
+IsLineRead true text line left = (rest : List ℕ) × (left ≡ Some rest) × (lines text ≡ line ∷ lines rest)
+IsLineRead false text line left = lines text ≡ []

@@ -1,0 +1,88 @@
+//! The nodes of a tree, as they are written.
+ghost use Rattle.std.specs.Prelude.{IfSome};
+ghost use Rattle.art_keeping.specs.Trees.{IsTreeIn};
+
+use crate::key::ShownKey;
+use crate::replies::write_no_memory;
+use art_keeping::walk::{Pending, reserve_walk, turn};
+use art_nodes::node::{NodePtr, OpaqueNodePtr};
+use art_nodes::store::NodeStore;
+use std::io::Write;
+use std::{fmt, io};
+
+/// Where a node stands, which is displayed as the beginning of its line: two spaces for each inner node above it, and
+/// the byte that it is the child under, or `*` for the root.
+#[derive(Clone, Copy)]
+struct Place {
+    depth: usize,
+    byte: Option<u8>,
+}
+
+impl fmt::Display for Place {
+    fn fmt<W: fmt::Write>(&self, f: &mut fmt::Formatter<W>) -> fmt::Result {
+        for _ in 0..self.depth {
+            f.write_str("  ")?;
+        }
+        match self.byte {
+            Some(byte) => write!(f, "{byte}: "),
+            None => f.write_str("*: "),
+        }
+    }
+}
+
+/// Writes the nodes of a tree, a line each: the root, and after each inner node its children in the order of their
+/// bytes, each with all that stands below it. Room for what is left of the walk is taken before anything is written.
+pub fn write_nodes<const P: usize>(
+    output: &mut impl Write,
+    store: &NodeStore<Vec<u8>, u32, P>,
+    root: Option<OpaqueNodePtr>,
+) -> io::Result<()>
+    requires { IfSome root (IsTreeIn store.now) }
+{
+    let Some(root) = root else {
+        return writeln!(output, "empty");
+    };
+    let Ok(mut pending) = reserve_walk(store, root) else {
+        return write_no_memory(output);
+    };
+    pending.push_reserved(Pending::root(root));
+    for _ in 0..u64::MAX {
+        let Some(next) = turn(&mut pending, store) else {
+            break;
+        };
+        write_node(output, store, next)?;
+    }
+    Ok(())
+}
+
+fn write_node<const P: usize>(
+    output: &mut impl Write,
+    store: &NodeStore<Vec<u8>, u32, P>,
+    node: Pending,
+) -> io::Result<()>
+    requires { IsTreeIn store.now node.name }
+{
+    let place = Place {
+        depth: node.depth,
+        byte: node.byte,
+    };
+    match node.name.split() {
+        NodePtr::Leaf(name) => match store.leaf(name) {
+            Some(leaf) => writeln!(output, "{place}Leaf {}={}", ShownKey(&leaf.key), leaf.value),
+            None => unreachable!(),
+        },
+        NodePtr::Inner(name) => match store.inner(name) {
+            Some(node) => {
+                let kind = node.node_type();
+                let len = node.prefix_len();
+                let stored = ShownKey(node.read_prefix());
+                let count = node.num_children();
+                writeln!(
+                    output,
+                    "{place}{kind} prefix {len} stored {stored} children {count}"
+                )
+            }
+            None => unreachable!(),
+        },
+    }
+}
