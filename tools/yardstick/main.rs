@@ -1,6 +1,7 @@
 //! Runs the same work on a tree of the library and on what it is compared with, in one process, and prints a line each:
 //! the tree, the nanoseconds of an insertion, a look-up and a deletion, and the bytes that a key takes, at the end and
-//! at most, where they are counted. Arguments: SHAPE COUNT ROUNDS TREE..
+//! at most, where they are counted. For `library_walks` and `btree_walks` it is how many keys a walk below a prefix has.
+//! Arguments: SHAPE COUNT ROUNDS TREE..
 
 mod heap;
 mod tree;
@@ -8,6 +9,7 @@ mod tree;
 use std::collections::BTreeMap;
 use std::hint::black_box;
 use std::mem::forget;
+use std::ops::Bound::{Included, Unbounded};
 use std::time::Instant;
 use tree::{Neighbours, Tree, Unlinked};
 
@@ -29,7 +31,19 @@ unsafe extern "C" {
         rounds: u32,
         counts: &mut Counts,
     );
+
+    fn art_walks(
+        keys: *const u8,
+        keys_len: usize,
+        asked: *const u8,
+        asked_len: usize,
+        width: usize,
+        prefix_len: usize,
+    ) -> u64;
 }
+
+/// How many bytes of a path are walked below: up to the second digit of its page.
+const WALKED: usize = "/srv/www/site-07/pages/1f".len();
 
 /// Keys of one width, one after another, and the same ones in another order.
 struct Work {
@@ -124,6 +138,30 @@ impl Work {
         assert!(taken == self.count as u64 || taken == 0);
         let seconds = [built - start, looked_up - built, end - looked_up];
         self.report(name, seconds.map(|it| it.as_secs_f64()), memory);
+    }
+
+    /// Walks the keys below each prefix in the library's tree, and answers how many came.
+    fn walk_library(&self) -> u64 {
+        let (keys, asked) = (&self.keys, &self.asked);
+        unsafe {
+            art_walks(
+                keys.as_ptr(),
+                keys.len(),
+                asked.as_ptr(),
+                asked.len(),
+                self.width,
+                WALKED,
+            )
+        }
+    }
+
+    /// The same in a `BTreeMap`.
+    fn walk_btree(&self) -> u64 {
+        btree_walk(&btree_build(&self.keys, self.width), &self.asked, self.width)
+    }
+
+    fn report_walks(&self, came: u64) {
+        println!("walks {:.2}", came as f64 / self.count as f64);
     }
 
     /// Times the library's tree, which tells by marks where its parts begin.
@@ -226,6 +264,21 @@ fn btree_take(map: &mut BTreeMap<Vec<u8>, u32>, asked: &[u8], width: usize) -> u
         .count() as u64
 }
 
+#[inline(never)]
+#[unsafe(no_mangle)]
+fn btree_walk(map: &BTreeMap<Vec<u8>, u32>, asked: &[u8], width: usize) -> u64 {
+    asked
+        .chunks_exact(width)
+        .map(|key| {
+            let prefix = &key[..WALKED];
+            map.range::<[u8], _>((Included(prefix), Unbounded))
+                .take_while(|(key, _)| key.starts_with(prefix))
+                .filter(|(_, value)| **value > 0)
+                .count() as u64
+        })
+        .sum()
+}
+
 fn main() {
     let words: Vec<String> = std::env::args().skip(1).collect();
     let [shape, count, rounds, trees @ ..] = words.as_slice() else {
@@ -238,6 +291,8 @@ fn main() {
             "plain" => work.run("plain", plain_build, plain_find, |_, _, _| 0),
             "linked" => work.run("linked", linked_build, linked_find, |_, _, _| 0),
             "btree" => work.run("btree", btree_build, btree_find, btree_take),
+            "library_walks" => work.report_walks(work.walk_library()),
+            "btree_walks" => work.report_walks(work.walk_btree()),
             _ => panic!("no such tree: {tree}"),
         }
     }

@@ -80,6 +80,37 @@ fn is_taken(map: &mut Map, key_bytes: &[u8]) -> bool {
     }
 }
 
+/// Walks the pairs below each of so many bytes of each key. Answers how many came.
+#[inline(never)]
+fn walk_all(map: &Map, asked: &[u8], width: usize, prefix_len: usize) -> u64 {
+    let mut count = 0u64;
+    if width == 0 {
+        return count;
+    }
+    for bytes in asked.chunks_exact(width) {
+        let prefix = bytes.get(..prefix_len).unwrap_or(bytes);
+        for (_, value) in map.prefix(prefix) {
+            count = count.wrapping_add(u64::from(*value > 0));
+        }
+    }
+    count
+}
+
+/// Puts in all keys of this width, and walks those below each prefix of so many bytes of `asked`.
+/// Answers how many came whose number is not 0.
+#[unsafe(no_mangle)]
+pub extern "C" fn art_walks(
+    alloc: Global,
+    keys: &[u8],
+    asked: &[u8],
+    width: usize,
+    prefix_len: usize,
+) -> u64 {
+    let mut map = ByteMap::new(alloc);
+    put_all(&mut map, alloc, keys, width);
+    walk_all(&map, asked, width, prefix_len)
+}
+
 /// Puts in all keys of this width, looks up each of `asked` so many times, and takes those out.
 #[unsafe(no_mangle)]
 pub extern "C" fn art_workload(

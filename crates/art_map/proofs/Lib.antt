@@ -5,6 +5,7 @@ pub mod Results
 pub mod Takings
 pub mod Items
 pub mod Ranges
+pub mod PartsOut
 pub mod Owned
 pub mod CallerLaws
 pub mod Shrinking

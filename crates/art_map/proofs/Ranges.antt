@@ -1,5 +1,5 @@
 -- The pairs of a walk of at most so many leaves.
-use Rattle.std.proofs.Common.{◌≡◌, ℕ, zero, suc, ◌-◌, ◌≤◌, List, [], ◌∷◌, ◌++◌, length, map as each, filter, refl, ap, sym, ◌∙◌, subst, arith, Option, Some, None, Bool, true, false, cond, ◌&&◌, eqb, eq-eqb}
+use Rattle.std.proofs.Common.{◌≡◌, ℕ, zero, suc, ◌-◌, ◌≤◌, List, [], ◌∷◌, ◌++◌, length, length-append, map as each, filter, refl, ap, sym, ◌∙◌, subst, arith, Option, Some, None, Bool, true, false, cond, ◌&&◌, eqb, eq-eqb, Bor}
 use Rattle.std.specs.List.{AllByRecursion as Each}
 use Rattle.std.specs.Option.{option_map}
 use Rattle.std.specs.FinMap as map
@@ -22,7 +22,7 @@ use Rattle.art_model.proofs.Segments.{empty_segment, last_of_in}
 use Rattle.art_model.proofs.Views.{leaf_there}
 use Rattle.art_reading.specs.Iterators.{IsIteratorOf}
 use Rattle.art_reading.proofs.Iterators.{linked_leaf}
-use Rattle.art_map.specs.MapItems.{leaves_to, pairs_between, walk_len, IsRange}
+use Rattle.art_map.specs.MapItems.{leaves_to, pairs_between, pairs_left, walk_len, deref_pair, CountsDown, IsRange, IsWalk, TakesFirst, TakesLast}
 use Rattle.art_map.proofs.Enough.{leaf_used, as_leaf}
 use Rattle.art_map.proofs.Items.{named_pairs, one_pair, left_are, left_len, first_left, last_left, less_first, less_last, none_first, none_last}
 
@@ -136,6 +136,41 @@ module _ {K V : Type 0} {s : Nodes K V} {walk left : Option (LeafPtr × LeafPtr)
           let few = w.few in
           between_are s walk w.names n w.is w.few ∙ last_left s w.names p pair (e w.names w.is) read
           ∙ ap (λ xs. xs ++ pair ∷ []) (sym (between_are s left (without_last w.names) (n - 1) (after w.names w.is) (omega arith)))
+
+-- ---- walks of just so many leaves
+module _ {K V : Type 0} {s : Nodes K V} {walk : Option (LeafPtr × LeafPtr)} {n : ℕ} where
+  -- it is one of at most so many
+  pub walk_range : IsWalk s walk n → IsRange s walk n
+  walk_range w = let counted = w.len_is in record { names = w.names; is = w.is; few = omega arith }
+
+  -- with the same pairs
+  pub walk_pairs : IsWalk s walk n → pairs_between s walk n ≡ pairs_left s walk n
+  walk_pairs w =
+      let counted = w.len_is in
+      ap (λ k. pairs_left s walk k) (walk_counted s walk w.names n w.is (omega arith) ∙ sym w.len_is)
+
+  -- as many as it has leaves
+  pub walk_full : IsWalk s walk n → length (pairs_between s walk n) ≡ n
+  walk_full w = ap length (walk_pairs w) ∙ left_len s walk n w
+
+  -- one of at most so many with as many pairs is such a walk
+  full_walk : IsRange s walk n → length (pairs_between s walk n) ≡ n → IsWalk s walk n
+  full_walk w full =
+      let counted = walk_counted s walk w.names n w.is w.few in
+      record { names = w.names; is = w.is; len_is = sym full ∙ left_len s walk (walk_len s walk n) (record { names = w.names; is = w.is; len_is = counted }) ∙ counted }
+
+module _ {K V : Type 0} {s : Nodes K V} {walk left : Option (LeafPtr × LeafPtr)} {n m : ℕ} (w : IsWalk s walk n) (range : IsRange s left m) where
+  -- and it stays one when a pair comes
+  pub first_counted : (pair : Option (Bor K × Bor V)) → TakesFirst (pairs_between s walk n) pair (pairs_between s left m) → CountsDown n pair m → IsWalk s left m
+  first_counted None (none, over) counts = let full = walk_full w in let before = ap length none in let after = ap length over in full_walk range (omega arith)
+  first_counted (Some x) takes counts = let full = walk_full w in let lens = ap length takes in full_walk range (omega arith)
+
+  pub last_counted : (pair : Option (Bor K × Bor V)) → TakesLast (pairs_between s walk n) pair (pairs_between s left m) → CountsDown n pair m → IsWalk s left m
+  last_counted None (none, over) counts = let full = walk_full w in let before = ap length none in let after = ap length over in full_walk range (omega arith)
+  last_counted (Some x) takes counts =
+      let full = walk_full w in
+      let lens = ap length takes ∙ length-append (pairs_between s left m) (deref_pair x ∷ []) in
+      full_walk range (omega arith)
 
 -- ---- the leaves of a tree whose pairs pass a test
 module _ {K V : Type 0} (s : Nodes K V) where

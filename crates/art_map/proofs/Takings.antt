@@ -12,7 +12,7 @@ use Rattle.art_model.specs.Footprints.{IsIn}
 use Rattle.art_model.specs.Kept.{ChangesInPlace}
 use Rattle.art_model.specs.Keys.{are_same}
 use Rattle.art_model.specs.Layouts.{names_of}
-use Rattle.art_model.specs.Lookups.{pair_under}
+use Rattle.art_model.specs.Lookups.{HasFirstLeaf, HasLastLeaf, pair_under}
 use Rattle.art_model.specs.Pairs.{IsMap, first_of, last_of, without_first, of_key, has_key, remove_key, with_key}
 use Rattle.art_model.specs.Paths.{pairs_before, pairs_after}
 use Rattle.art_model.specs.Radix.{pairs_of}
@@ -26,14 +26,12 @@ use Rattle.art_model.proofs.MapLaws.{keys_are_once, removal_counts, first_is_rem
 use Rattle.art_model.proofs.Paths.{pairs_of-plug}
 use Rattle.art_model.proofs.Puts.{any_is_first}
 use Rattle.art_model.proofs.StoreLaws.{has_one_map}
-use Rattle.art_reading.specs.declared.ways.End.{End}
-use Rattle.art_reading.specs.declared.ways.End.TheVariants.{First, Last}
+use Rattle.art_map.specs.declared.map.End.{End}
+use Rattle.art_map.specs.declared.map.End.TheVariants.{First, Last}
 use Rattle.art_writing.specs.Deleted.{LeadsTo}
 use Rattle.art_writing.specs.Inserted.{alone}
 use Rattle.art_writing.specs.declared.delete.DeletePoint.{DeletePoint}
 use Rattle.art_writing.proofs.KeysFound.{deleted_pair}
-use Rattle.art_reading.specs.Walks.{LeadsToEnd}
-use Rattle.art_reading.specs.declared.path.TreePath.{TreePath}
 use Rattle.art_map.specs.MapAnswers.{end_of, value_at, without_end}
 use Rattle.art_map.specs.MapChanges.{NamesPair}
 use Rattle.art_map.specs.MapPairs.{HoldsPairs, pairs_at}
@@ -107,11 +105,14 @@ module _ {A : Type 0} (bytes : A → List ℕ) where
 -- ---- what is read off a leaf
 
 module _ {K V : Type 0} (bytes : K → List ℕ) (P : ℕ) {s : Nodes K V} {name : OpaqueNodePtr} where
-  -- the end of a tree that a walk leads to has the pair at that end
-  pub end_named : (end : End) {pairs : List (K × V)} {layout : Tree OpaqueNodePtr (K × V)} (path : TreePath) (p : LeafPtr) → IsCanonicalTree (of_key bytes) P s name pairs layout →
-      LeadsToEnd layout end path p → NamesPair layout (end_of end pairs) p
-  end_named First path p by (first, way) = (first.pair, sym (ap first_of (tree_radix by).1) ∙ first.pair_is, first.has)
-  end_named Last path p by (last, way) = (last.pair, sym (ap last_of (tree_radix by).1) ∙ last.pair_is, last.has)
+  -- the first leaf of a tree has the first pair, and the last leaf the last one
+  pub first_named : {pairs : List (K × V)} {layout : Tree OpaqueNodePtr (K × V)} (p : LeafPtr) → IsCanonicalTree (of_key bytes) P s name pairs layout →
+      HasFirstLeaf layout (leaf_name p) → NamesPair layout (first_of pairs) p
+  first_named p by first = (first.pair, sym (ap first_of (tree_radix by).1) ∙ first.pair_is, first.has)
+
+  pub last_named : {pairs : List (K × V)} {layout : Tree OpaqueNodePtr (K × V)} (p : LeafPtr) → IsCanonicalTree (of_key bytes) P s name pairs layout →
+      HasLastLeaf layout (leaf_name p) → NamesPair layout (last_of pairs) p
+  last_named p by last = (last.pair, sym (ap last_of (tree_radix by).1) ∙ last.pair_is, last.has)
 
   module _ {root : Option OpaqueNodePtr} {len : ℕ} {p : LeafPtr} (e : root ≡ Some name) (is : HoldsPairs (of_key bytes) P s root len (pairs_at s root)) where
     module _ (wanted : List (K × V) → Option (K × V)) (named : ForTree (of_key bytes) P s name (λ pairs layout. NamesPair layout (wanted pairs) p)) where

@@ -9,8 +9,8 @@ use Rattle.art_model.specs.Pairs.{of_key, first_of, last_of, without_first, with
 use Rattle.art_model.specs.Paths.{Frame, fill, plug}
 use Rattle.art_model.specs.Radix.{IsRadix, bytes_of, pairs_of}
 use Rattle.art_model.specs.Trees.{Tree, leaf, inner}
-use Rattle.art_reading.specs.declared.ways.End.{End}
-use Rattle.art_reading.specs.declared.ways.End.TheVariants.{First, Last}
+use Rattle.art_map.specs.declared.map.End.{End}
+use Rattle.art_map.specs.declared.map.End.TheVariants.{First, Last}
 use Rattle.art_map.specs.declared.map.MapInsertError.{MapInsertError}
 use Rattle.art_map.specs.declared.map.MapInsertError.TheVariants.{Conflict, Memory}
 

@@ -51,6 +51,10 @@ pub record IsRange {K V : Type 0} (s : Nodes K V) (walk : Option (LeafPtr × Lea
   pub is : IsIteratorOf s walk names
   pub few : length names ≤ at_most
 
+-- one was counted where a pair came
+abbrev pub CountsDown : {A : Type 0} → ℕ → Option A → ℕ → Type 0
+CountsDown old pair new = MatchOption pair (new ≡ old) (λ x. old ≡ suc new)
+
 -- what a pair of borrows points to
 abbrev pub deref_pair : {K V : Type 0} → Bor K × Bor V → K × V
 deref_pair p = (p.0.now, p.1.now)

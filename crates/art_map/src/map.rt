@@ -1,5 +1,5 @@
 //! An ordered map from keys of bytes to values. Its contracts speak of lists of pairs alone.
-ghost use Rattle.std.specs.Prelude.{◌≡◌, ◌≢◌, ◌+◌, ◌<◌, ◌↔◌, [], length, false, true, IsTrue, IfOk, IfErr, OnOk, OnErr, None, Some, option_copied, IsSome};
+ghost use Rattle.std.specs.Prelude.{◌≡◌, ◌≢◌, ◌+◌, ◌^◌, ◌<◌, ◌↔◌, [], length, false, true, IsTrue, IfOk, IfErr, OnOk, OnErr, None, Some, option_copied, IsSome};
 ghost use Rattle.std.specs.FinMap as map;
 ghost use Rattle.std.specs.Borrow.{sem};
 ghost use Rattle.std.specs.Option.{option_copied_mut, option_map, unwrap_or};
@@ -7,7 +7,7 @@ ghost use Rattle.std.specs.Range.Bound.{bound_map};
 ghost use Rattle.std.specs.declared.ops.Bound.TheVariants.{Unbounded};
 ghost use Rattle.art_model.specs.Clones.{KeepBytes};
 ghost use Rattle.art_model.specs.Pairs.{IsMap, first_of, has_key, is_conflict, last_of, match_of, of_key, overwrite, put, put_reply, related_to, remove_key, remove_reply, with_key, without_first, without_last};
-ghost use Rattle.art_model.specs.Parts.{below, between};
+ghost use Rattle.art_model.specs.Parts.{below, between, not_below, without_below};
 ghost use Rattle.art_model.specs.Roots.{ForTree, IsCanonicalRoot};
 ghost use Rattle.art_model.specs.Stores.{pair_of};
 ghost use Rattle.art_writing.specs.Deleted.{IsDeletePoint, IsDeletePointIn, LeadsTo};
@@ -25,7 +25,6 @@ use art_reading::minmax::{maximum_unchecked, minimum_unchecked};
 use art_reading::range::{
     first_from_unchecked, last_up_to_unchecked, prefix_unchecked, range_unchecked,
 };
-use art_reading::ways::{End, walk_to_end};
 use art_writing::clone::clone_unchecked;
 use art_writing::delete::{
     DeletePoint, find_maximum_to_delete, find_minimum_to_delete, search_for_delete_point,
@@ -75,6 +74,21 @@ pub enum MapInsertError<K, V> {
 #[derive(Clone, Copy, PartialEq, Eq, Debug, Error)]
 #[error("memory allocation failed")]
 pub struct MapRefused;
+
+/// Removals of which the first ones were made and the others were not, for want of memory.
+#[derive(Clone, Copy, PartialEq, Eq, Debug, Error)]
+#[error("memory allocation failed after {removed} pairs were removed")]
+pub struct RemovedInPart {
+    /// How many pairs were removed.
+    pub removed: usize,
+}
+
+/// An end of the pairs.
+#[derive(Clone, Copy)]
+enum End {
+    First,
+    Last,
+}
 
 /// A map whose keys are in the order of their bytes, and none of which is a prefix of another.
 #[derive(Drop)]
@@ -178,21 +192,15 @@ impl<K: AsBytes + Drop, V: Drop, const P: usize> ByteMap<K, V, P> {
     pub fn first_key_value(&self) -> Option<(&K, &V)>
         ensures { option_map deref_pair result ≡ first_of self.now }
     {
-        self.end_key_value(End::First)
+        let leaf = minimum_unchecked(&self.store, self.root?);
+        Some(pair_at(&self.store, leaf))
     }
 
     /// The last pair.
     pub fn last_key_value(&self) -> Option<(&K, &V)>
         ensures { option_map deref_pair result ≡ last_of self.now }
     {
-        self.end_key_value(End::Last)
-    }
-
-    // The pair at an end.
-    fn end_key_value(&self, end: End) -> Option<(&K, &V)>
-        ensures { option_map deref_pair result ≡ end_of end self.now }
-    {
-        let (_, leaf) = walk_to_end(&self.store, self.root?, end);
+        let leaf = maximum_unchecked(&self.store, self.root?);
         Some(pair_at(&self.store, leaf))
     }
 
@@ -200,6 +208,7 @@ impl<K: AsBytes + Drop, V: Drop, const P: usize> ByteMap<K, V, P> {
     pub fn iter(&self) -> MapIter<'_, K, V, P>
         ensures pairs { result ≡ self.now }
         ensures sorted { IsMap (of_key K.bytes) self.now }
+        ensures fits { length result < 2 ^ 64 }
     {
         let Some(root) = self.root else {
             return MapIterOf::new(&self.store, RawIterator::empty(), 0);
@@ -210,10 +219,14 @@ impl<K: AsBytes + Drop, V: Drop, const P: usize> ByteMap<K, V, P> {
         MapIterOf::new(&self.store, walk, self.len)
     }
 
-    /// The pairs whose keys begin with these bytes, in the order of their keys.
+    /// Returns the pairs whose keys begin with these bytes, in the order of their keys.
+    ///
+    /// It takes no memory. It reads at most one inner node for each of the bytes, and the ways to
+    /// the first and the last of the pairs; how many there are is not counted.
     pub fn prefix(&self, prefix: &[u8]) -> Range<'_, K, V, P>
         ensures pairs { result ≡ below (of_key K.bytes) prefix.now self.now }
         ensures sorted { IsMap (of_key K.bytes) self.now }
+        ensures fits { length result < 2 ^ 64 }
     {
         let Some(root) = self.root else {
             return RangeOf::new(&self.store, RawIterator::empty(), 0);
@@ -222,21 +235,27 @@ impl<K: AsBytes + Drop, V: Drop, const P: usize> ByteMap<K, V, P> {
         RangeOf::new(&self.store, walk, self.len)
     }
 
-    /// The pairs whose keys are in a range, in the order of their keys; none where it runs backwards.
+    /// Returns the pairs whose keys are in a range, in the order of their keys: none where it runs
+    /// backwards.
+    ///
+    /// It takes no memory, and costs what `first_from` and `last_up_to` do together; how many pairs
+    /// there are is not counted.
     pub fn range<'k, R: RangeBounds<&'k [u8]> + Drop>(&self, range: R) -> Range<'_, K, V, P>
         ensures pairs { R.has_bounds range → result ≡ between (of_key K.bytes)
             (bound_map (λ b. b.now) (R.start_bound range))
             (bound_map (λ b. b.now) (R.end_bound range)) self.now }
         ensures sorted { IsMap (of_key K.bytes) self.now }
+        ensures fits { length result < 2 ^ 64 }
     {
         self.between(bound_of(range.start_bound()), bound_of(range.end_bound()))
     }
 
-    // The pairs whose keys are between two bounds.
+    // Returns the pairs whose keys are between two bounds.
     fn between(&self, from: Bound<&[u8]>, to: Bound<&[u8]>) -> Range<'_, K, V, P>
         ensures pairs { result ≡ between (of_key K.bytes) (bound_map (λ b. b.now) from.entry)
             (bound_map (λ b. b.now) to.entry) self.now }
         ensures sorted { IsMap (of_key K.bytes) self.now }
+        ensures fits { length result < 2 ^ 64 }
     {
         let Some(root) = self.root else {
             return RangeOf::new(&self.store, RawIterator::empty(), 0);
@@ -245,7 +264,10 @@ impl<K: AsBytes + Drop, V: Drop, const P: usize> ByteMap<K, V, P> {
         RangeOf::new(&self.store, walk, self.len)
     }
 
-    /// The first pair whose key is after a bound, or at it where that is included.
+    /// Returns the first pair whose key is after a bound, or at it where that is included.
+    ///
+    /// It takes no memory, and goes down the tree once with the bound's bytes, and from there to
+    /// two leaves.
     pub fn first_from(&self, from: Bound<&[u8]>) -> Option<(&K, &V)>
         ensures { option_map deref_pair result ≡ first_of (between (of_key K.bytes)
             (bound_map (λ b. b.now) from.entry) Unbounded self.now) }
@@ -254,7 +276,8 @@ impl<K: AsBytes + Drop, V: Drop, const P: usize> ByteMap<K, V, P> {
         Some(pair_at(&self.store, leaf))
     }
 
-    /// The last pair whose key is before a bound, or at it where that is included.
+    /// Returns the last pair whose key is before a bound, or at it where that is included. It costs
+    /// what `first_from` does.
     pub fn last_up_to(&self, to: Bound<&[u8]>) -> Option<(&K, &V)>
         ensures { option_map deref_pair result ≡ last_of (between (of_key K.bytes) Unbounded
             (bound_map (λ b. b.now) to.entry) self.now) }
@@ -292,8 +315,8 @@ impl<K: AsBytes + Drop, V: Drop, const P: usize> ByteMap<K, V, P> {
         put_in(&mut self.store, &mut self.root, &mut self.len, key, value)
     }
 
-    /// The value of a key, to be written. Where no equal key is stored the pair comes in first; a key
-    /// that is stored stays, with its value.
+    /// The value of a key, to be written. Where no equal key is stored the pair comes in first; a
+    /// key that is stored stays, with its value.
     pub fn get_or_insert(&mut self, key: K, value: V) -> Result<&mut V, MapInsertError<K, V>>
         ensures* writes_back { sem 𝓛
             (lends_put K.row V.row P.row K.AsBytes self.entry key result) }
@@ -322,9 +345,9 @@ impl<K: AsBytes + Drop, V: Drop, const P: usize> ByteMap<K, V, P> {
         EntryOf { map: self, key }
     }
 
-    /// Puts a pair in, in the place of all pairs with related keys, and answers how many gave way. A
-    /// stored key that is equal stays and gets the value. It is refused only for want of memory, and
-    /// takes none where just one pair gives way.
+    /// Puts a pair in, in the place of all pairs with related keys, and answers how many gave way.
+    /// A stored key that is equal stays and gets the value. It is refused only for want of memory,
+    /// and takes none where just one pair gives way.
     pub fn insert_over(&mut self, key: K, value: V) -> Result<usize, Refused<K, V>>
         ensures pairs { OnOk result (self.new ≡ overwrite (of_key K.bytes) (key, value) self.old) }
         ensures gone { IfOk result (λ gone.
@@ -374,6 +397,47 @@ impl<K: AsBytes + Drop, V: Drop, const P: usize> ByteMap<K, V, P> {
         self.pop_end(End::Last)
     }
 
+    /// Takes out the first of the pairs whose keys begin with these bytes, and returns it. It is
+    /// refused as `remove` is.
+    pub fn pop_first_below(&mut self, prefix: &[u8]) -> Result<Option<(K, V)>, MapRefused>
+        ensures pairs { OnOk result
+            (self.new ≡ without_below (of_key K.bytes) prefix.now 1 self.old) }
+        ensures removed { IfOk result (λ removed.
+            removed ≡ first_of (below (of_key K.bytes) prefix.now self.old)) }
+        ensures kept { OnErr result (self.new ≡ self.old) }
+        ensures refused { OnErr result (MayRefuseRemoval (of_key K.bytes) P self.old
+            (first_of (below (of_key K.bytes) prefix.now self.old))) }
+    {
+        take_below(&mut self.store, &mut self.root, &mut self.len, prefix)
+    }
+
+    /// Takes out the pairs whose keys begin with these bytes, one after another from the first one
+    /// on, and returns how many.
+    ///
+    /// Where one of the removals is refused, as `remove` is, the error says how many were made, and
+    /// all other pairs stay: a second call goes on from there.
+    pub fn remove_prefix(&mut self, prefix: &[u8]) -> Result<usize, RemovedInPart>
+        ensures pairs { OnOk result
+            (self.new ≡ not_below (of_key K.bytes) prefix.now self.old) }
+        ensures removed { IfOk result (λ removed.
+            removed ≡ length (below (of_key K.bytes) prefix.now self.old)) }
+        ensures kept { IfErr result (λ error.
+            self.new ≡ without_below (of_key K.bytes) prefix.now error.removed self.old) }
+        ensures refused { OnErr result (MayRefuseRemoval (of_key K.bytes) P self.new
+            (first_of (below (of_key K.bytes) prefix.now self.new))) }
+    {
+        // `len` says that there are fewer pairs than numbers, so that the count fits.
+        self.len();
+        let mut removed = 0;
+        'pairs: loop {
+            match self.pop_first_below(prefix) {
+                Ok(Some(_)) => removed += 1,
+                Ok(None) => return Ok(removed),
+                Err(_) => return Err(RemovedInPart { removed }),
+            }
+        }
+    }
+
     // Takes out the pair at an end.
     fn pop_end(&mut self, end: End) -> Result<Option<(K, V)>, MapRefused>
         ensures pairs { OnOk result (self.new ≡ without_end end self.old) }
@@ -396,8 +460,8 @@ impl<K: AsBytes + Drop, V: Drop, const P: usize> ByteMap<K, V, P> {
 impl<K: AsBytes + Clone + Drop, V: Clone + Drop, const P: usize> ByteMap<K, V, P> {
     ghost use Rattle.art_model.specs.Clones.{AreClones, KeepBytes};
 
-    /// A map of clones of all pairs, with a store of its own. An `Err` is for want of memory, for a node or
-    /// for the clone of a key or a value.
+    /// A map of clones of all pairs, with a store of its own. An `Err` is for want of memory, for a
+    /// node or for the clone of a key or a value.
     pub fn clone(&self) -> Result<Self, AllocError>
         requires { KeepBytes K.bytes K.is_clone }
         ensures { IfOk result (AreClones K.is_clone V.is_clone self.now) }
@@ -696,6 +760,33 @@ fn take_key<K: AsBytes + Drop, V: Drop, const P: usize>(
     };
     let Some(point) = search_for_delete_point(store, name, key_bytes) else {
         return Ok(None);
+    };
+    take_out(store, root, len, name, point)
+}
+
+// Takes the first of the pairs whose keys begin with a prefix out of the tree.
+fn take_below<K: AsBytes + Drop, V: Drop, const P: usize>(
+    store: &mut NodeStore<K, V, P>,
+    root: &mut Option<OpaqueNodePtr>,
+    len: &mut usize,
+    prefix: &[u8],
+) -> Result<Option<(K, V)>, MapRefused>
+    requires { HoldsPairs (of_key K.bytes) P store.old root.old len.old
+        (pairs_at store.old root.old) }
+    ensures { HasTaken K.bytes P (pairs_at store.old root.old)
+        (first_of (below (of_key K.bytes) prefix.now (pairs_at store.old root.old)))
+        (without_below (of_key K.bytes) prefix.now 1 (pairs_at store.old root.old)) result
+        store.new root.new len.new }
+{
+    let Some(name) = *root else {
+        return Ok(None);
+    };
+    let Some(leaf) = prefix_unchecked(store, name, prefix).next(store) else {
+        return Ok(None);
+    };
+    let key_bytes = pair_at(store, leaf).0.as_bytes();
+    let Some(point) = search_for_delete_point(store, name, key_bytes) else {
+        unreachable!()
     };
     take_out(store, root, len, name, point)
 }

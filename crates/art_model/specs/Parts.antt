@@ -1,5 +1,5 @@
 -- Parts of a map: the pairs whose keys begin with a prefix, and those between two bounds.
-use Rattle.std.specs.Prelude.{ℕ, Bool, true, not, ◌&&◌, List, filter, map}
+use Rattle.std.specs.Prelude.{ℕ, zero, suc, Bool, true, not, ◌&&◌, if◌then◌else◌, List, [], ◌∷◌, filter, map}
 use Rattle.std.specs.declared.ops.Bound.{Bound}
 use Rattle.std.specs.declared.ops.Bound.TheVariants.{Included, Excluded, Unbounded}
 use Rattle.art_model.specs.Keys.{is_before, is_front}
@@ -26,6 +26,17 @@ module _ {A : Type 0} (bytes : A → List ℕ) where
   -- the pairs whose keys begin with this prefix
   abbrev pub below : List ℕ → List A → List A
   below prefix pairs = filter (λ x. is_front prefix (bytes x)) pairs
+
+  -- the other pairs
+  abbrev pub not_below : List ℕ → List A → List A
+  not_below prefix pairs = filter (λ x. not (is_front prefix (bytes x))) pairs
+
+  -- the pairs without the first so many of those whose keys begin with this prefix
+  abbrev pub without_below : List ℕ → ℕ → List A → List A
+  without_below prefix zero pairs = pairs
+  without_below prefix (suc n) [] = []
+  without_below prefix (suc n) (x ∷ pairs) =
+      if is_front prefix (bytes x) then without_below prefix n pairs else x ∷ without_below prefix (suc n) pairs
 
   -- the pairs whose keys are between two bounds
   abbrev pub between : Bound (List ℕ) → Bound (List ℕ) → List A → List A

@@ -60,7 +60,7 @@ pub record IsPlaced {K V : Type 0} (bytes : K × V → List ℕ) (P : ℕ) (s : 
   pub radix : IsRadix bytes P place tree
   pub layout : IsLayout (node_at s) name tree
 
--- whether another key stands before the cut at a key
+-- whether another key is before the cut at a key
 abbrev pub is_before_cut : Cut → List ℕ → List ℕ → Bool
 is_before_cut Before key other = is_before other key
 is_before_cut After key other = not (is_before key other)

@@ -23,10 +23,10 @@ use art_nodes::node::{AsBytes, InnerPtr, InnerRef, NodePtr, OpaqueNodePtr, Optio
 use art_nodes::store::NodeStore;
 use std::ops::Bound;
 
-/// The leaves whose keys begin with a prefix.
+/// Returns a walk of the leaves whose keys begin with a prefix, in order.
 ///
-/// The search goes down once, to the node below which they are, and reads one of them: at most one inner
-/// node for each byte of the prefix, and then the ways to the first and the last of them.
+/// It takes no memory. It goes down to the node below which these leaves are, by at most one inner
+/// node for each byte of the prefix, then to the first and the last of them, and reads one key.
 pub fn prefix_unchecked<K: AsBytes + Drop, V: Drop, const PREFIX_LEN: usize>(
     store: &NodeStore<K, V, PREFIX_LEN>,
     root: OpaqueNodePtr,
@@ -51,8 +51,9 @@ pub fn prefix_unchecked<K: AsBytes + Drop, V: Drop, const PREFIX_LEN: usize>(
     RawIterator::new(store, first, last)
 }
 
-// The node below which all keys are that begin with a prefix, if any does. All keys below it begin so, or none.
-// The bytes of its own prefix and of those above it are not compared.
+// Returns the node below which all keys are that begin with a prefix; `None` only where no key
+// does. All keys below the node begin so, or none does: the bytes of prefixes of nodes are passed
+// over, and not compared.
 #[inline(always)]
 fn walk_below<K: AsBytes + Drop, V: Drop, const PREFIX_LEN: usize>(
     store: &NodeStore<K, V, PREFIX_LEN>,
@@ -82,7 +83,11 @@ fn walk_below<K: AsBytes + Drop, V: Drop, const PREFIX_LEN: usize>(
     }
 }
 
-/// The leaves whose keys are between two bounds; none where the first bound is after the second.
+/// Returns a walk of the leaves whose keys are between two bounds, in order: of none where the
+/// first bound is after the second.
+///
+/// It takes no memory, and costs what `first_from_unchecked` and `last_up_to_unchecked` do
+/// together.
 pub fn range_unchecked<K: AsBytes + Drop, V: Drop, const PREFIX_LEN: usize>(
     store: &NodeStore<K, V, PREFIX_LEN>,
     root: OpaqueNodePtr,
@@ -110,7 +115,11 @@ pub fn range_unchecked<K: AsBytes + Drop, V: Drop, const PREFIX_LEN: usize>(
     RawIterator::new(store, first, last)
 }
 
-/// The first leaf whose key is after a bound, or at it where that is included.
+/// Returns the first leaf whose key is after a bound, or at it where that is included.
+///
+/// It takes no memory. It reads at most one inner node for each byte of the bound, and the ways
+/// from the last of these to its first and its last leaf; where a prefix is not stored whole, also
+/// the way to a leaf that has it.
 pub fn first_from_unchecked<K: AsBytes + Drop, V: Drop, const PREFIX_LEN: usize>(
     store: &NodeStore<K, V, PREFIX_LEN>,
     root: OpaqueNodePtr,
@@ -131,7 +140,8 @@ pub fn first_from_unchecked<K: AsBytes + Drop, V: Drop, const PREFIX_LEN: usize>
     }
 }
 
-/// The last leaf whose key is before a bound, or at it where that is included.
+/// Returns the last leaf whose key is before a bound, or at it where that is included. It costs
+/// what `first_from_unchecked` does.
 pub fn last_up_to_unchecked<K: AsBytes + Drop, V: Drop, const PREFIX_LEN: usize>(
     store: &NodeStore<K, V, PREFIX_LEN>,
     root: OpaqueNodePtr,
@@ -150,7 +160,7 @@ pub fn last_up_to_unchecked<K: AsBytes + Drop, V: Drop, const PREFIX_LEN: usize>
     }
 }
 
-// Whether a key is before an upper bound, or at it where that is included.
+// Returns whether a key is before an upper bound, or at it where that is included.
 fn ends_after(to: Bound<&[u8]>, key_bytes: &[u8]) -> bool
     ensures { result ≡ is_up_to (bound_map (λ b. b.now) to.entry) key_bytes.now }
 {
@@ -161,16 +171,17 @@ fn ends_after(to: Bound<&[u8]>, key_bytes: &[u8]) -> bool
     }
 }
 
-/// Where the keys are cut in two, those before a key and those after it: an equal one is of the second part,
-/// or of the first.
+/// A cut between keys, at a key.
 #[derive(Clone, Copy)]
 enum Cut {
+    /// Right before the key: an equal one is after the cut.
     Before,
+    /// Right after it: an equal one is before the cut.
     After,
 }
 
 impl Cut {
-    // Whether a key stands before the cut at a key.
+    // Returns whether the cut at a key is after another one.
     fn is_after(self, key_bytes: &[u8], other: &[u8]) -> bool
         ensures { result ≡ is_before_cut self key_bytes.now other.now }
     {
@@ -181,7 +192,7 @@ impl Cut {
     }
 }
 
-// The first leaf after a cut, or the last one before it.
+// Returns the first leaf after a cut, or the last one before it.
 fn leaf_at_cut<K: AsBytes + Drop, V: Drop, const PREFIX_LEN: usize>(
     store: &NodeStore<K, V, PREFIX_LEN>,
     root: OpaqueNodePtr,
@@ -208,8 +219,8 @@ fn leaf_at_cut<K: AsBytes + Drop, V: Drop, const PREFIX_LEN: usize>(
     end.of((leaf.next, Some(last)))
 }
 
-// A node beside a key: what stands before it is before the key, what stands after it is after the key, and all
-// keys below it are on one side.
+// Returns a node beside a key: what stands before the node is before the key, what stands after it
+// is after the key, and all keys below it are on one side.
 #[inline(always)]
 fn walk_beside<K: AsBytes + Drop, V: Drop, const PREFIX_LEN: usize>(
     store: &NodeStore<K, V, PREFIX_LEN>,
@@ -246,8 +257,8 @@ fn walk_beside<K: AsBytes + Drop, V: Drop, const PREFIX_LEN: usize>(
     }
 }
 
-// Whether the whole prefix of a node at a depth is this one of the same length. Where it is not stored whole it is
-// read from the least leaf below the node.
+// Returns whether the whole prefix of a node at a depth is this one, of the same length. Where it
+// is not stored whole it is read from the least leaf below the node.
 #[inline(always)]
 fn has_prefix<K: AsBytes + Drop, V: Drop, const PREFIX_LEN: usize>(
     store: &NodeStore<K, V, PREFIX_LEN>,

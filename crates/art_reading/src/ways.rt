@@ -1,4 +1,4 @@
-//! What the map and the operations that change a tree need of the ways down it, beside what a caller uses.
+//! What the operations that change a tree need of the ways down it, beside what a caller uses.
 ghost use Rattle.std.specs.Prelude.{◌≡◌, ◌+◌, ◌<◌, ◌≤◌, ◌^◌, length, take, drop, IsSome, IsTrue};
 ghost use Rattle.art_inner.specs.Views.{ref_view};
 ghost use Rattle.art_parts.specs.declared.names.OpaqueNodePtr.{OpaqueNodePtr};

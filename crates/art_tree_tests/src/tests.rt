@@ -2,6 +2,7 @@ mod by_hand;
 mod locality;
 mod odd_trees;
 mod oracle;
+mod parts;
 mod refusals;
 mod shapes;
 mod trees;

@@ -1,17 +1,58 @@
 //! Parts of a map, as a user asks for them. Each answer is known.
-ghost use Rattle.std.specs.Prelude.{◌≡◌, Some, IfSome};
+ghost use Rattle.std.specs.Prelude.{◌≡◌, ◌≤◌, ◌∷◌, [], length, Some, IfSome};
 ghost use Rattle.std.specs.Option.{option_map};
-ghost use Rattle.art_model.specs.Pairs.{first_of, last_of};
+ghost use Rattle.art_model.specs.Pairs.{first_of, last_of, of_key};
+ghost use Rattle.art_model.specs.Parts.{below};
 
+use art_nodes::node::AsBytes;
 use art_operations::map::{ByteMap, Range};
 use std::alloc::Global;
 
-/// Puts four pairs in, and asks for the last value below the byte 1, the first value of a range of keys, and the
-/// last value of the same range. `None` for want of memory.
+type Map = ByteMap<[u8; 2], u32, 4>;
+
+/// Asks for the last value below the byte 1, the first value of a range of keys, and the last value
+/// of the same range. `None` for want of memory.
 pub fn build_and_ask(alloc: Global) -> Option<(Option<u32>, Option<u32>, Option<u32>)>
     ensures { IfSome result (λ told. told ≡ (Some 12, Some 12, Some 21)) }
 {
-    let mut map: ByteMap<[u8; 2], u32, 4> = ByteMap::new(alloc);
+    let map = build(alloc)?;
+    let below = last_value(map.prefix(&[1]));
+    let (from, to): (&[u8], &[u8]) = (&[1, 2], &[3]);
+    Some((
+        below,
+        first_value(map.range(from..to)),
+        last_value(map.range(from..to)),
+    ))
+}
+
+/// Takes the pairs below the byte 1 out, and returns how many went and the first value that is left.
+/// `None` for want of memory.
+pub fn build_and_remove(alloc: Global) -> Option<(usize, Option<u32>)>
+    ensures { IfSome result (λ told. told ≡ (2, Some 21)) }
+{
+    let mut map = build(alloc)?;
+    let Ok(removed) = map.remove_prefix(&[1]) else {
+        return None;
+    };
+    Some((removed, first_value(map.prefix(&[]))))
+}
+
+/// Counts the pairs below a prefix of any map: they are not more than a `usize` has numbers for.
+pub fn count_below<K: AsBytes + Drop, V: Drop, const P: usize>(
+    map: &ByteMap<K, V, P>,
+    prefix: &[u8],
+) -> usize
+    ensures { result ≤ length (below (of_key K.bytes) prefix.now map.now) }
+{
+    map.prefix(prefix).count()
+}
+
+// A map of four pairs.
+fn build(alloc: Global) -> Option<Map>
+    ensures { IfSome result (λ map. map ≡
+        (1 ∷ 1 ∷ [], 11) ∷ (1 ∷ 2 ∷ [], 12) ∷ (2 ∷ 1 ∷ [], 21) ∷ (3 ∷ 1 ∷ [], 31) ∷ []) }
+{
+    let mut map: Map = ByteMap::new(alloc);
     let Ok(_) = map.insert([1, 1], 11) else {
         return None;
     };
@@ -24,13 +65,7 @@ pub fn build_and_ask(alloc: Global) -> Option<(Option<u32>, Option<u32>, Option<
     let Ok(_) = map.insert([3, 1], 31) else {
         return None;
     };
-    let below = last_value(map.prefix(&[1]));
-    let (from, to): (&[u8], &[u8]) = (&[1, 2], &[3]);
-    Some((
-        below,
-        first_value(map.range(from..to)),
-        last_value(map.range(from..to)),
-    ))
+    Some(map)
 }
 
 // The first value of a part.

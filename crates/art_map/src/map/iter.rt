@@ -1,7 +1,7 @@
 //! The pairs of a map, in order.
-ghost use Rattle.std.specs.Prelude.{◌≡◌, length};
+ghost use Rattle.std.specs.Prelude.{◌≡◌, ◌<◌, ◌^◌, length};
 ghost use Rattle.std.specs.Iterator.{at_most};
-ghost use Rattle.art_map.specs.MapItems.{IsRange, IsWalk, TakesFirst, TakesLast, pairs_between, pairs_left};
+ghost use Rattle.art_map.specs.MapItems.{CountsDown, IsRange, IsWalk, TakesFirst, TakesLast, pairs_between};
 
 use super::pair_at;
 use art_nodes::node::AsBytes;
@@ -15,57 +15,33 @@ pub trait Leaves<K, V> {
 
     ghost seen: { Self → Nodes K V };
 
-    /// The pair of the first leaf that is left.
-    fn step(&self, walk: &mut RawIterator, len: &mut usize) -> Option<(&K, &V)>
-        requires { IsWalk (seen self.now) walk.old len.old }
-        ensures walk { IsWalk (seen self.now) walk.new len.new }
-        ensures pair { TakesFirst (pairs_left (seen self.now) walk.old len.old) result
-            (pairs_left (seen self.now) walk.new len.new) };
-
-    /// The pair of the last leaf that is left.
-    fn step_back(&self, walk: &mut RawIterator, len: &mut usize) -> Option<(&K, &V)>
-        requires { IsWalk (seen self.now) walk.old len.old }
-        ensures walk { IsWalk (seen self.now) walk.new len.new }
-        ensures pair { TakesLast (pairs_left (seen self.now) walk.old len.old) result
-            (pairs_left (seen self.now) walk.new len.new) };
-
-    /// The pair of the first leaf that is left, of at most so many.
-    fn take(&self, walk: &mut RawIterator, at_most: &mut usize) -> Option<(&K, &V)>
+    /// Returns the pair of the first leaf that is left, of at most so many.
+    fn step(&self, walk: &mut RawIterator, at_most: &mut usize) -> Option<(&K, &V)>
         requires { IsRange (seen self.now) walk.old at_most.old }
         ensures range { IsRange (seen self.now) walk.new at_most.new }
         ensures pair { TakesFirst (pairs_between (seen self.now) walk.old at_most.old) result
-            (pairs_between (seen self.now) walk.new at_most.new) };
+            (pairs_between (seen self.now) walk.new at_most.new) }
+        ensures count { CountsDown at_most.old result at_most.new };
 
-    /// The pair of the last leaf that is left, of at most so many.
-    fn take_back(&self, walk: &mut RawIterator, at_most: &mut usize) -> Option<(&K, &V)>
+    /// Returns the pair of the last leaf that is left, of at most so many.
+    fn step_back(&self, walk: &mut RawIterator, at_most: &mut usize) -> Option<(&K, &V)>
         requires { IsRange (seen self.now) walk.old at_most.old }
         ensures range { IsRange (seen self.now) walk.new at_most.new }
         ensures pair { TakesLast (pairs_between (seen self.now) walk.old at_most.old) result
-            (pairs_between (seen self.now) walk.new at_most.new) };
+            (pairs_between (seen self.now) walk.new at_most.new) }
+        ensures count { CountsDown at_most.old result at_most.new };
 }
 
 impl<K: AsBytes + Drop, V: Drop, const P: usize> Leaves<K, V> for NodeStore<K, V, P> {
     ghost seen = { λ s. s };
 
-    fn step(&self, walk: &mut RawIterator, len: &mut usize) -> Option<(&K, &V)> {
-        let name = walk.next(self)?;
-        *len -= 1;
-        Some(pair_at(self, name))
-    }
-
-    fn step_back(&self, walk: &mut RawIterator, len: &mut usize) -> Option<(&K, &V)> {
-        let name = walk.next_back(self)?;
-        *len -= 1;
-        Some(pair_at(self, name))
-    }
-
-    fn take(&self, walk: &mut RawIterator, at_most: &mut usize) -> Option<(&K, &V)> {
+    fn step(&self, walk: &mut RawIterator, at_most: &mut usize) -> Option<(&K, &V)> {
         let leaf = walk.next(self)?;
         *at_most -= 1;
         Some(pair_at(self, leaf))
     }
 
-    fn take_back(&self, walk: &mut RawIterator, at_most: &mut usize) -> Option<(&K, &V)> {
+    fn step_back(&self, walk: &mut RawIterator, at_most: &mut usize) -> Option<(&K, &V)> {
         let leaf = walk.next_back(self)?;
         *at_most -= 1;
         Some(pair_at(self, leaf))
@@ -93,9 +69,9 @@ impl<'a, K, V, S: Leaves<K, V>> Model for MapIterOf<'a, K, V, S> {
 
     ghost coded = { coded_list (coded× K.code V.code) };
 
-    ghost use Rattle.art_map.specs.MapItems.{IsWalk, pairs_left};
+    ghost use Rattle.art_map.specs.MapItems.{IsWalk, pairs_between};
 
-    ghost view = { λ m. pairs_left (S.seen m.store.now) m.walk m.len };
+    ghost view = { λ m. pairs_between (S.seen m.store.now) m.walk m.len };
 
     ghost invariant = { λ m. IsWalk (S.seen m.store.now) m.walk m.len };
 }
@@ -103,7 +79,8 @@ impl<'a, K, V, S: Leaves<K, V>> Model for MapIterOf<'a, K, V, S> {
 impl<'a, K, V, S: Leaves<K, V>> MapIterOf<'a, K, V, S> {
     pub(crate) fn new(store: &'a S, walk: RawIterator, len: usize) -> Self
         requires { IsWalk (S.seen store.now) walk len }
-        ensures { result ≡ pairs_left (S.seen store.now) walk len }
+        ensures pairs { result ≡ pairs_between (S.seen store.now) walk len }
+        ensures fits { length result < 2 ^ 64 }
     {
         MapIterOf {
             store,

@@ -1,5 +1,5 @@
 //! The pairs of a part of a map, in order.
-ghost use Rattle.std.specs.Prelude.{◌≡◌, length};
+ghost use Rattle.std.specs.Prelude.{◌≡◌, ◌<◌, ◌^◌, length};
 ghost use Rattle.std.specs.Iterator.{at_most};
 ghost use Rattle.art_map.specs.MapItems.{IsRange, TakesFirst, TakesLast, pairs_between};
 
@@ -8,8 +8,8 @@ use art_nodes::store::NodeStore;
 use art_reading::iterator::RawIterator;
 use std::marker::Model;
 
-/// Pairs of a map that stand one after another, by rising keys, seen as the list of those that have not
-/// come yet. Their number is not known until they came; an upper bound of it is.
+/// Pairs of a map that stand one after another, by rising keys, seen as the list of those that have
+/// not come yet. How many they are is not known before they came; `size_hint` has an upper bound.
 #[derive(Drop)]
 pub struct RangeOf<'a, K, V, S: Leaves<K, V>> {
     store: &'a S,
@@ -40,7 +40,8 @@ impl<'a, K, V, S: Leaves<K, V>> Model for RangeOf<'a, K, V, S> {
 impl<'a, K, V, S: Leaves<K, V>> RangeOf<'a, K, V, S> {
     pub(crate) fn new(store: &'a S, walk: RawIterator, at_most: usize) -> Self
         requires { IsRange (S.seen store.now) walk at_most }
-        ensures { result ≡ pairs_between (S.seen store.now) walk at_most }
+        ensures pairs { result ≡ pairs_between (S.seen store.now) walk at_most }
+        ensures fits { length result < 2 ^ 64 }
     {
         RangeOf {
             store,
@@ -59,7 +60,7 @@ impl<'a, K, V, S: Leaves<K, V>> Iterator for RangeOf<'a, K, V, S> {
     ghost remaining = { λ s. at_most (length s) };
 
     fn next(&mut self) -> Option<(&'a K, &'a V)> {
-        self.store.take(&mut self.walk, &mut self.at_most)
+        self.store.step(&mut self.walk, &mut self.at_most)
     }
 
     fn size_hint(&self) -> (usize, Option<usize>) {
@@ -71,6 +72,6 @@ impl<'a, K, V, S: Leaves<K, V>> DoubleEndedIterator for RangeOf<'a, K, V, S> {
     ghost next_back_gives = { TakesLast };
 
     fn next_back(&mut self) -> Option<(&'a K, &'a V)> {
-        self.store.take_back(&mut self.walk, &mut self.at_most)
+        self.store.step_back(&mut self.walk, &mut self.at_most)
     }
 }

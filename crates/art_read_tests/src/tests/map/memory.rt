@@ -1,6 +1,6 @@
 //! Calls without memory.
 use super::calls::{Map, Removal, fill, remove, value_of};
-use art_operations::map::{ByteMap, MapInsertError, MapRefused};
+use art_operations::map::{ByteMap, MapInsertError, MapRefused, RemovedInPart};
 use art_test_support::expected::{as_expected, same};
 use art_test_support::memory::{all_memory, begin_refusals, end_refusals};
 use std::alloc::Global;
@@ -194,27 +194,28 @@ fn crowd_deep(map: &mut Deep) -> bool {
     false
 }
 
-// Whether an insertion is refused while there is no memory, and then a removal that asks for a smaller node; and
-// whether that leaves the map as it was.
-fn starve_deep(alloc: Global, map: &mut Deep) -> Option<[bool; 3]> {
+// Whether an insertion is refused while there is no memory, and then removals that ask for a smaller node; and
+// whether these leave the map as it was.
+fn starve_deep(alloc: Global, map: &mut Deep) -> Option<[bool; 4]> {
     let held = all_memory(alloc).ok()?;
     let is_full = crowd_deep(map);
     let before = map.len();
     let is_refused = map.remove(&[5, 2, 0, 0, 0]).is_err();
+    let is_part_refused = map.remove_prefix(&[5]) == Err(RemovedInPart { removed: 0 });
     drop(held);
     let is_kept = map.len() == before && map.get(&[5, 2, 0, 0, 0]).copied() == Some(7);
-    Some([is_full, is_refused, is_kept])
+    Some([is_full, is_refused, is_part_refused, is_kept])
 }
 
 // Whether a deep map was filled, and the same of it.
-fn starve_filled_deep(alloc: Global, map: &mut Deep) -> (bool, Option<[bool; 3]>) {
+fn starve_filled_deep(alloc: Global, map: &mut Deep) -> (bool, Option<[bool; 4]>) {
     (fill_deep(map), starve_deep(alloc, map))
 }
 
 #[test]
 fn without_memory_a_shrinking_removal_is_refused(rt: HostRuntime) -> Result<(), Fail> {
     let seen = starve_filled_deep(rt.alloc(), &mut ByteMap::new(rt.alloc()));
-    as_expected(Some((seen, (true, Some([true; 3])))))
+    as_expected(Some((seen, (true, Some([true; 4])))))
 }
 
 fn is_clone_refused(map: &Map) -> bool {

@@ -1,9 +1,12 @@
 //! Parts of a map: the pairs below a prefix, those between two bounds, and those next to a bound; worked, and
 //! drawn beside a `BTreeMap`.
+ghost use Rattle.std.specs.Prelude.{◌<◌, ◌^◌, length};
+
 use super::calls::value_of;
 use art_operations::map::{ByteMap, Range};
 use art_test_support::expected::as_expected;
 use art_test_support::numbers::Numbers;
+use std::alloc::{AllocError, Global};
 use std::collections::BTreeMap;
 use std::ops::Bound;
 use std::test::Fail;
@@ -40,7 +43,9 @@ fn fill(map: &mut Map) -> bool {
 // The first two values of a part, the last two, and how many pairs are between.
 type Seen = ([Option<u32>; 4], usize);
 
-fn seen(mut part: Range<'_, Key, u32, 1>) -> Seen {
+fn seen(mut part: Range<'_, Key, u32, 1>) -> Seen
+    requires { length part.entry < 2 ^ 64 }
+{
     let ends = [
         value_of(part.next()),
         value_of(part.next_back()),
@@ -81,12 +86,12 @@ fn pairs_below_a_prefix_come_from_both_ends(rt: HostRuntime) -> Result<(), Fail>
 fn between(map: &mut Map) -> (bool, [Seen; 6]) {
     let filled = fill(map);
     let (low, high): (&[u8], &[u8]) = (&[1, 1, 1, 6], &[3, 0, 0, 7]);
-    let (front, gap): (&[u8], &[u8]) = (&[1, 1, 2], &[2, 5, 4]);
+    let (prefix, gap): (&[u8], &[u8]) = (&[1, 1, 2], &[2, 5, 4]);
     let parts = [
         seen(map.range(low..=high)),
         seen(map.range((Bound::Excluded(low), Bound::Excluded(high)))),
-        seen(map.range(front..gap)),
-        seen(map.range(..=front)),
+        seen(map.range(prefix..gap)),
+        seen(map.range(..=prefix)),
         seen(map.range((Bound::Excluded(gap), Bound::Unbounded))),
         seen(map.range(high..low)),
     ];
@@ -138,6 +143,30 @@ fn pairs_next_to_a_bound_are_found(rt: HostRuntime) -> Result<(), Fail> {
     as_expected(Some((beside(&mut ByteMap::new(rt.alloc())), (true, expected))))
 }
 
+// Whether a map was filled, how many pairs went with each of some prefixes, and the values that are left at
+// both ends.
+fn removed(map: &mut Map) -> (bool, [Option<usize>; 4], [Option<u32>; 2]) {
+    let filled = fill(map);
+    let counts = [
+        map.remove_prefix(&[1, 1, 3]).ok(),
+        map.remove_prefix(&[1, 1, 3]).ok(),
+        map.remove_prefix(&[2, 5, 5, 5, 0]).ok(),
+        map.remove_prefix(&[3, 9, 0, 0]).ok(),
+    ];
+    let ends = [value_of(map.iter().next()), value_of(map.iter().next_back())];
+    (filled, counts, ends)
+}
+
+#[test]
+fn pairs_below_a_prefix_go(rt: HostRuntime) -> Result<(), Fail> {
+    let expected = (
+        true,
+        [Some(2), Some(0), Some(0), Some(1)],
+        [Some(0), Some(5)],
+    );
+    as_expected(Some((removed(&mut ByteMap::new(rt.alloc())), expected)))
+}
+
 // ---- drawn calls
 
 // Few bytes in front, so that many keys share them, and many at the end, so that nodes are large.
@@ -150,7 +179,7 @@ fn drawn_key(numbers: &mut Numbers) -> Key {
     ]
 }
 
-// A bound at a key or at a front of it.
+// A bound at a key or at a prefix of it.
 fn drawn_bound<'a>(numbers: &mut Numbers, key: &'a Key) -> Bound<&'a [u8]> {
     let bytes = &key[..numbers.below(5)];
     match numbers.below(5) {
@@ -197,6 +226,46 @@ fn part_of<'a>(map: &'a Map, part: Part<'_>) -> Range<'a, Key, u32, 1> {
     }
 }
 
+// The pairs of a part, in order.
+fn pairs_of(
+    alloc: Global,
+    model: &BTreeMap<Key, u32>,
+    part: Part<'_>,
+) -> Result<Vec<(Key, u32)>, AllocError> {
+    let mut pairs = Vec::new(alloc);
+    for (key, value) in model.iter() {
+        if is_part(part, key) {
+            pairs.push((*key, *value))?;
+        }
+    }
+    Ok(pairs)
+}
+
+fn copied(pair: Option<(&Key, &u32)>) -> Option<(Key, u32)> {
+    let (key, value) = pair?;
+    Some((*key, *value))
+}
+
+// Whether a part of the map has these pairs, each taken from an end that is drawn.
+fn agree_from_both(
+    mut own: Range<'_, Key, u32, 1>,
+    pairs: &[(Key, u32)],
+    numbers: &mut Numbers,
+) -> bool {
+    let mut rest = pairs.iter();
+    for _ in 0..pairs.len() {
+        let agree = if numbers.is_heads() {
+            copied(own.next()) == rest.next().copied()
+        } else {
+            copied(own.next_back()) == rest.next_back().copied()
+        };
+        if !agree {
+            return false;
+        }
+    }
+    own.next().is_none() && own.next_back().is_none()
+}
+
 // Whether a part of the map has the same pairs as of the other one, in order from the front.
 fn agree_from_front(map: &Map, model: &BTreeMap<Key, u32>, part: Part<'_>) -> bool {
     let mut own = part_of(map, part);
@@ -219,9 +288,20 @@ fn agree_from_back(map: &Map, model: &BTreeMap<Key, u32>, part: Part<'_>) -> boo
     own.next_back().is_none()
 }
 
-// The same of a part from both ends, and of the pair at each end of it.
-fn agree_on_part(map: &Map, model: &BTreeMap<Key, u32>, part: Part<'_>) -> bool {
-    agree_from_front(map, model, part) && agree_from_back(map, model, part)
+// The same from either end, and from both in turn.
+fn agree_on_part(
+    map: &Map,
+    model: &BTreeMap<Key, u32>,
+    part: Part<'_>,
+    alloc: Global,
+    numbers: &mut Numbers,
+) -> Option<bool> {
+    let pairs = pairs_of(alloc, model, part).ok()?;
+    Some(
+        agree_from_front(map, model, part)
+            && agree_from_back(map, model, part)
+            && agree_from_both(part_of(map, part), &pairs, numbers),
+    )
 }
 
 // Whether the pairs next to two bounds are the ends of the parts that begin and end there.
@@ -231,12 +311,26 @@ fn agree_on_ends(map: &Map, from: Bound<&[u8]>, to: Bound<&[u8]>) -> bool {
 }
 
 // The same of drawn parts.
-fn agree_on_drawn(map: &Map, model: &BTreeMap<Key, u32>, numbers: &mut Numbers) -> bool {
+fn agree_on_drawn(
+    map: &Map,
+    model: &BTreeMap<Key, u32>,
+    alloc: Global,
+    numbers: &mut Numbers,
+) -> Option<bool> {
     let (low, high) = (drawn_key(numbers), drawn_key(numbers));
     let (from, to) = (drawn_bound(numbers, &low), drawn_bound(numbers, &high));
-    agree_on_part(map, model, Part::Below(&low[..numbers.below(5)]))
-        && agree_on_part(map, model, Part::Between(from, to))
-        && agree_on_ends(map, from, to)
+    let below = Part::Below(&low[..numbers.below(5)]);
+    let agree = agree_on_part(map, model, below, alloc, numbers)?
+        && agree_on_part(map, model, Part::Between(from, to), alloc, numbers)?
+        && agree_on_ends(map, from, to);
+    Some(agree)
+}
+
+// A removal of all pairs below a prefix from both, and whether they say that as many went.
+fn agree_on_removal_below(map: &mut Map, model: &mut BTreeMap<Key, u32>, prefix: &[u8]) -> bool {
+    let before = model.len();
+    model.retain(|key, _| !key.starts_with(prefix));
+    map.remove_prefix(prefix) == Ok(before.saturating_sub(model.len()))
 }
 
 // A change of both, and whether they answer the same.
@@ -251,9 +345,11 @@ fn agree_on_change(
     if grows || numbers.below(4) == 0 {
         return map.insert(key, value).is_ok() == model.insert(key, value).is_ok();
     }
-    let taken = match numbers.below(3) {
+    let taken = match numbers.below(5) {
         0 => map.pop_first(),
         1 => map.pop_last(),
+        2 => map.pop_first_below(&key[..2]),
+        3 => return agree_on_removal_below(map, model, &key[..3 + numbers.below(2)]),
         _ => map.remove(&key),
     };
     let Ok(Some((key, _))) = taken else {
@@ -263,14 +359,19 @@ fn agree_on_change(
 }
 
 // The number of the first change after which they differ, if they do.
-fn differ_at(map: &mut Map, model: &mut BTreeMap<Key, u32>, changes: usize) -> Option<usize> {
+fn differ_at(
+    map: &mut Map,
+    model: &mut BTreeMap<Key, u32>,
+    alloc: Global,
+    changes: usize,
+) -> Option<usize> {
     let mut numbers = Numbers::new(7);
     for change in 0..changes {
         let grows = (change / 400) % 2 == 0;
         if !agree_on_change(map, model, &mut numbers, grows) {
             return Some(change);
         }
-        if !agree_on_drawn(map, model, &mut numbers) {
+        if agree_on_drawn(map, model, alloc, &mut numbers) != Some(true) {
             return Some(change);
         }
     }
@@ -280,6 +381,6 @@ fn differ_at(map: &mut Map, model: &mut BTreeMap<Key, u32>, changes: usize) -> O
 #[test]
 fn drawn_parts_are_those_of_a_btree_map(rt: HostRuntime) -> Result<(), Fail> {
     let alloc = rt.alloc();
-    let seen = differ_at(&mut ByteMap::new(alloc), &mut BTreeMap::new(alloc), 4_000);
+    let seen = differ_at(&mut ByteMap::new(alloc), &mut BTreeMap::new(alloc), alloc, 4_000);
     as_expected(Some((seen, None)))
 }

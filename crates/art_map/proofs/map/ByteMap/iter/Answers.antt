@@ -3,16 +3,17 @@ use Rattle.art_model.specs.Layouts.{leaf_names}
 use Rattle.art_model.specs.Pairs.{of_key}
 use Rattle.art_model.proofs.StoreLaws.{has_children}
 use Rattle.art_reading.specs.Iterators.{IsIteratorOf}
-use Rattle.art_map.specs.MapItems.{pairs_left}
-use Rattle.art_map.proofs.Items.{none_left, no_pairs, whole_walk, whole_len, whole_pairs}
+use Rattle.art_map.specs.MapItems.{pairs_between}
+use Rattle.art_map.proofs.Items.{no_pairs, whole_walk, whole_len, whole_pairs}
 use Rattle.art_map.proofs.Puts.{at_some}
+use Rattle.art_map.proofs.Ranges.{no_range, walk_pairs}
 use Rattle.art_map.proofs.Views.{view_sorted}
 use Rattle.art_map.proofs.map.ByteMap.iter.Goals as goal
 
 pub returns-in_default-clause-pairs : goal.returns-in_default-clause-pairs
 returns-in_default-clause-pairs g c =
     let B = of_key g.K.AsBytes.bytes in
-    c.new.ensures ∙ ap (λ walk. pairs_left c.self.inside.store walk 0) c.empty.ensures ∙ none_left c.self.inside.store
+    c.new.ensures.pairs ∙ ap (λ walk. pairs_between c.self.inside.store walk 0) c.empty.ensures ∙ no_range c.self.inside.store 0
     ∙ sym (no_pairs B g.row.P c.self.inside.store c.in_default.is c.self.invariant) ∙ c.self.view_is
 
 pub minimum_unchecked-first-requires : goal.minimum_unchecked-first-requires
@@ -46,7 +47,9 @@ pub returns-clause-pairs : goal.returns-clause-pairs
 returns-clause-pairs g c =
     let has = at_some (of_key g.K.AsBytes.bytes) g.row.P c.in-Some.is c.self.invariant in
     let full = has_children _ _ _ _ _ has.layout has.by in
-    c.new-2.ensures ∙ ap (λ walk. pairs_left c.self.inside.store walk c.self.inside.len) c.new-walk.ensures
+    let walks = whole_walk has.by (c.minimum_unchecked-first.ensures has.layout full) (c.maximum_unchecked-last.ensures has.layout full) in
+    c.new-2.ensures.pairs ∙ ap (λ walk. pairs_between c.self.inside.store walk c.self.inside.len) c.new-walk.ensures
+    ∙ walk_pairs {s = c.self.inside.store} (record { names = leaf_names has.layout; is = walks; len_is = has.len_is ∙ sym (whole_len has.by) })
     ∙ whole_pairs has.by (c.minimum_unchecked-first.ensures has.layout full) (c.maximum_unchecked-last.ensures has.layout full) has.len_is ∙ c.self.view_is
 
 pub returns-in_default-clause-sorted : goal.returns-in_default-clause-sorted

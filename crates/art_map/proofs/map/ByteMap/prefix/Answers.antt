@@ -11,7 +11,7 @@ use Rattle.art_map.proofs.map.ByteMap.prefix.Goals as goal
 pub returns-in_default-clause-pairs : goal.returns-in_default-clause-pairs
 returns-in_default-clause-pairs g c =
     let B = of_key g.K.AsBytes.bytes in
-    c.new.ensures ∙ ap (λ walk. pairs_between c.self.inside.store walk 0) c.empty.ensures ∙ no_range c.self.inside.store 0
+    c.new.ensures.pairs ∙ ap (λ walk. pairs_between c.self.inside.store walk 0) c.empty.ensures ∙ no_range c.self.inside.store 0
     ∙ ap (below B c.args.prefix.now) (sym (no_pairs B g.row.P c.self.inside.store c.in_default.is c.self.invariant) ∙ c.self.view_is)
 
 pub new-requires-2 : goal.new-requires-2
@@ -22,5 +22,5 @@ new-requires-2 g c =
 pub returns-clause-pairs : goal.returns-clause-pairs
 returns-clause-pairs g c =
     let has = at_some (of_key g.K.AsBytes.bytes) g.row.P c.in-Some.is c.self.invariant in
-    c.new-2.ensures ∙ range_pairs has.by (λ x. is_front c.args.prefix.now (g.K.AsBytes.bytes x.0)) (c.prefix_unchecked-walk.ensures _ has.layout has.by) has.len_is
+    c.new-2.ensures.pairs ∙ range_pairs has.by (λ x. is_front c.args.prefix.now (g.K.AsBytes.bytes x.0)) (c.prefix_unchecked-walk.ensures _ has.layout has.by) has.len_is
     ∙ ap (below (of_key g.K.AsBytes.bytes) c.args.prefix.now) c.self.view_is

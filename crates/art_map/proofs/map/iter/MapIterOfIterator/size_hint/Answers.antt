@@ -1,9 +1,9 @@
 use Rattle.std.proofs.Common.{◌≡◌, length, subst, arith}
-use Rattle.art_map.proofs.Items.{left_len}
+use Rattle.art_map.proofs.Ranges.{walk_full}
 use Rattle.art_map.proofs.map.iter.MapIterOfIterator.size_hint.Goals as goal
 
 pub returns-clause-lower : goal.returns-clause-lower
-returns-clause-lower g c = let same = subst (λ pairs. length pairs ≡ c.self.inside.len) c.self.view_is (left_len _ _ _ c.self.invariant) in omega arith
+returns-clause-lower g c = let same = subst (λ pairs. length pairs ≡ c.self.inside.len) c.self.view_is (walk_full c.self.invariant) in omega arith
 
 pub returns-clause-upper : goal.returns-clause-upper
-returns-clause-upper g c = let same = subst (λ pairs. length pairs ≡ c.self.inside.len) c.self.view_is (left_len _ _ _ c.self.invariant) in omega arith
+returns-clause-upper g c = let same = subst (λ pairs. length pairs ≡ c.self.inside.len) c.self.view_is (walk_full c.self.invariant) in omega arith

@@ -1,0 +1,16 @@
+use Rattle.art_model.specs.Pairs.{first_of, of_key}
+use Rattle.art_model.specs.Parts.{below, without_below}
+use Rattle.art_map.proofs.Results.{taken_holds, tells_taken}
+use Rattle.art_map.proofs.map.ByteMap.pop_first_below.Goals as goal
+
+pub invariant_of-self : goal.invariant_of-self
+invariant_of-self g c =
+    let B = of_key g.K.AsBytes.bytes in
+    taken_holds g.K.AsBytes.bytes g.row.P _ _ _ _ (λ pairs. first_of (below B c.args.prefix.now pairs)) (without_below B c.args.prefix.now 1) c.take_below.result c.take_below.ensures
+
+pub returns : goal.returns
+returns g c =
+    let B = of_key g.K.AsBytes.bytes in
+    let told =
+    tells_taken g.K.AsBytes.bytes g.row.P _ _ _ _ (λ pairs. first_of (below B c.args.prefix.now pairs)) (without_below B c.args.prefix.now 1) c.self.view_is c.take_below.result c.take_below.ensures in
+    record { pairs = told.pairs; removed = told.removed; kept = told.kept; refused = told.refused }
