@@ -1,3 +1,6 @@
+mod drawn;
 mod keys;
 mod map;
 mod memory;
+mod set;
+mod short;

@@ -1,13 +1,20 @@
 -- Keys that are never in conflict stay so, and stand in the order of their type.
-use Rattle.std.proofs.Common.{◌≡◌, ℕ, List, [], ◌∷◌, Bool, true, false, ◌||◌, ◌&&◌, not, ◌⊎◌, inl, inr, Option, Some, None, Result, Ok, Err, OnOk, OnErr, refl, sym, ◌∙◌}
+use Rattle.std.proofs.Common.{◌≡◌, ℕ, List, [], ◌∷◌, Bool, true, false, ◌||◌, ◌&&◌, if◌then◌else◌, not, ◌⊎◌, inl, inr, Option, Some, None, Result, Ok, Err, OnOk, OnErr, refl, sym, ◌∙◌}
 use Rattle.std.specs.List.{AllByRecursion as Each}
 use Rattle.std.specs.declared.cmp.Ordering.{Ordering}
 use Rattle.std.specs.declared.cmp.Ordering.TheVariants.{Less}
 use Rattle.art_keys.specs.Prefixes.{HasNoPrefixes, IsKept, KeepsOrder}
 use Rattle.art_model.specs.Clones.{AreClones}
-use Rattle.art_keyed.specs.KeyedPairs.{HaveKeys, RiseBy, IsNeverInConflict}
+use Rattle.art_keyed.specs.KeyedPairs.{HaveKeys, RiseBy, KeysRiseBy, IsNeverInConflict}
 use Rattle.art_model.specs.Keys.{IsFront, Precedes, are_related, are_same}
-use Rattle.art_model.specs.Pairs.{IsMap, first_of, with_key, of_key, put, stored_for, remove_key, without_last}
+use Rattle.art_model.specs.Pairs.{IsMap, first_of, has_key, is_conflict, with_key, of_key, put, stored_for, remove_key, without_first, without_last}
+use Rattle.art_map.specs.SetKeys.{add_key}
+use Rattle.std.proofs.lemmas.Bool.{true≢false}
+use Rattle.art_map.specs.MapAnswers.{IsRefusalOf, with_value_at}
+use Rattle.art_map.specs.declared.map.MapInsertError.{MapInsertError}
+use Rattle.art_map.specs.declared.map.MapInsertError.TheVariants.{Conflict, Memory}
+use Rattle.art_keyed.specs.KeyedRefusals.{IsHandedBack}
+use Rattle.art_keyed.specs.declared.map.PairRefused.{PairRefused}
 use Rattle.art_model.proofs.Keys.{front_same}
 use Rattle.art_model.proofs.KeyLaws.{relation_is_decided, before_less}
 use Rattle.art_model.proofs.Filters.{Each-filter, Each-add, Each-without_last}
@@ -27,13 +34,29 @@ module _ {K : Type 0} (V : Type 0) (is_key : K → Type 0) (bytes : K → List �
       go (inl f) = same (law a b of_a of_b f)
       go (inr f) = same (sym (law b a of_b of_a f))
 
-  pub never_in_conflict : HasNoPrefixes is_key bytes → IsNeverInConflict V is_key bytes
-  never_in_conflict law key [] of_key all = refl
-  never_in_conflict law key (x ∷ pairs) of_key all = rw (never_in_conflict law key pairs of_key all.1) (go (are_related (bytes key) (bytes x.0)) refl)
+  -- whatever has a key is in conflict with no key
+  none_in_conflict : {A : Type 0} (key_of : A → K) → HasNoPrefixes is_key bytes → (key : K) (xs : List A) → is_key key → Each (λ x. is_key (key_of x)) xs →
+      is_conflict (λ x. bytes (key_of x)) (bytes key) xs ≡ false
+  none_in_conflict key_of law key [] of_key all = refl
+  none_in_conflict key_of law key (x ∷ xs) of_key all =
+      rw (none_in_conflict key_of law key xs of_key all.1) (go (are_related (bytes key) (bytes (key_of x))) refl)
     where
-      go : (t : Bool) → are_related (bytes key) (bytes x.0) ≡ t → ((t && not (are_same (bytes key) (bytes x.0))) || false) ≡ false
-      go true e = rw (related_same law key x.0 of_key all.0 e) refl
+      go : (t : Bool) → are_related (bytes key) (bytes (key_of x)) ≡ t → ((t && not (are_same (bytes key) (bytes (key_of x)))) || false) ≡ false
+      go true e = rw (related_same law key (key_of x) of_key all.0 e) refl
       go false e = refl
+
+  pub never_in_conflict : HasNoPrefixes is_key bytes → IsNeverInConflict V is_key bytes
+  never_in_conflict = none_in_conflict (λ x. x.0)
+
+  pub key_never_in_conflict : HasNoPrefixes is_key bytes → (key : K) (keys : List K) → is_key key → Each is_key keys → is_conflict bytes (bytes key) keys ≡ false
+  key_never_in_conflict = none_in_conflict (λ key. key)
+
+  -- so a refusal is for want of memory
+  pub refusal_told : HasNoPrefixes is_key bytes → (key : K) (value : V) (pairs : List (K × V)) → is_key key → HaveKeys is_key pairs →
+      (error : MapInsertError K V) → IsRefusalOf bytes key value pairs error → (refused : PairRefused K V) → IsHandedBack error refused →
+      ((refused.key ≡ key) × (refused.value ≡ value)) × (has_key (of_key bytes) (bytes key) pairs ≡ false)
+  refusal_told law key value pairs of_key' all (Conflict k v error) told refused back = absurd (true≢false (sym told.3 ∙ never_in_conflict law key pairs of_key' all))
+  refusal_told law key value pairs of_key' all (Memory k v) told refused back = ((back.0 ∙ told.0, back.1 ∙ told.1), told.2)
 
   -- ---- what stays
 
@@ -58,6 +81,18 @@ module _ {K : Type 0} (V : Type 0) (is_key : K → Type 0) (bytes : K → List �
   pub last_keeps : (pairs : List (K × V)) → HaveKeys is_key pairs → HaveKeys is_key (without_last pairs)
   last_keeps pairs all = Each-without_last (λ x. is_key x.0) pairs all
 
+  pub first_keeps : (pairs : List (K × V)) → HaveKeys is_key pairs → HaveKeys is_key (without_first pairs)
+  first_keeps [] all = tt
+  first_keeps (x ∷ pairs) all = all.1
+
+  pub written_keeps : (key : List ℕ) (value : V) (pairs : List (K × V)) → HaveKeys is_key pairs → HaveKeys is_key (with_value_at bytes key value pairs)
+  written_keeps key value [] all = tt
+  written_keeps key value (x ∷ pairs) all = (go (are_same key (bytes x.0)) refl, written_keeps key value pairs all.1)
+    where
+      go : (t : Bool) → are_same key (bytes x.0) ≡ t → is_key (if are_same key (bytes x.0) then (x.0, value) else x).0
+      go true e = rw e all.0
+      go false e = rw e all.0
+
   pub remove_keeps : (key : List ℕ) (pairs : List (K × V)) → HaveKeys is_key pairs → HaveKeys is_key (remove_key (of_key bytes) key pairs)
   remove_keeps key pairs all = Each-filter (λ x. is_key x.0) _ pairs all
 
@@ -78,3 +113,34 @@ module _ {K : Type 0} (V : Type 0) (is_key : K → Type 0) (bytes : K → List �
       each : (others : List (K × V)) → HaveKeys is_key others → Each (λ y. Precedes (bytes x.0) (bytes y.0)) others → Each (λ y. order x.0 y.0 ≡ Less) others
       each [] of_others h = tt
       each (y ∷ others) of_others h = (sym (keeps x.0 y.0 all.0 of_others.0) ∙ before_less _ h.0.0, each others of_others.1 h.1)
+
+  -- ---- sets
+
+  pub key_put_keeps : (key : K) (keys : List K) → is_key key → Each is_key keys → Each is_key (add_key bytes key keys)
+  key_put_keeps key keys of_key' all = go (has_key bytes (bytes key) keys) refl
+    where
+      go : (t : Bool) → has_key bytes (bytes key) keys ≡ t → Each is_key (add_key bytes key keys)
+      go true e = rw e all
+      go false e = rw e (Each-add bytes is_key key keys of_key' all)
+
+  pub key_remove_keeps : (key : List ℕ) (keys : List K) → Each is_key keys → Each is_key (remove_key bytes key keys)
+  key_remove_keeps key keys all = Each-filter is_key _ keys all
+
+  pub key_last_keeps : (keys : List K) → Each is_key keys → Each is_key (without_last keys)
+  key_last_keeps keys all = Each-without_last is_key keys all
+
+  pub key_first_keeps : (keys : List K) → Each is_key keys → Each is_key (without_first keys)
+  key_first_keeps [] all = tt
+  key_first_keeps (x ∷ keys) all = all.1
+
+  pub key_left_keeps : {A E : Type 0} (r : Result A E) (old done new : List K) → OnOk r (new ≡ done) → OnErr r (new ≡ old) → Each is_key old → Each is_key done → Each is_key new
+  key_left_keeps (Ok x) old done new ok err h k = rw ok k
+  key_left_keeps (Err e) old done new ok err h k = rw err h
+
+  pub keys_rise : {order : K → K → Ordering} → KeepsOrder is_key bytes order → (keys : List K) → Each is_key keys → IsMap bytes keys → KeysRiseBy order keys
+  keys_rise keeps [] all sorted = tt
+  keys_rise {order} keeps (x ∷ keys) all sorted = (each keys all.1 sorted.0, keys_rise keeps keys all.1 sorted.1)
+    where
+      each : (others : List K) → Each is_key others → Each (λ y. Precedes (bytes x) (bytes y)) others → Each (λ y. order x y ≡ Less) others
+      each [] of_others h = tt
+      each (y ∷ others) of_others h = (sym (keeps x y all.0 of_others.0) ∙ before_less _ h.0.0, each others of_others.1 h.1)

@@ -1,1 +1,3 @@
 pub mod Keyed
+pub mod Between
+pub mod Ended

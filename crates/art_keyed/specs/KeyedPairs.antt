@@ -1,8 +1,12 @@
--- Pairs whose keys are never in conflict, and the order in which they stand.
-use Rattle.std.specs.Prelude.{◌≡◌, ℕ, false, List}
+-- Pairs whose keys are never in conflict, the order in which they stand, and their parts.
+use Rattle.std.specs.Prelude.{◌≡◌, ℕ, Bool, true, false, not, ◌&&◌, List, filter, ⊤}
 use Rattle.std.specs.List.{AllByRecursion as Each}
+use Rattle.std.specs.Ordering.{is_lt}
 use Rattle.std.specs.declared.cmp.Ordering.{Ordering}
 use Rattle.std.specs.declared.cmp.Ordering.TheVariants.{Less}
+use Rattle.std.specs.declared.ops.Bound.{Bound}
+use Rattle.std.specs.declared.ops.Bound.TheVariants.{Included, Excluded, Unbounded}
+use Rattle.art_model.specs.Keys.{is_front}
 use Rattle.art_model.specs.Pairs.{Pairwise, is_conflict, of_key}
 
 module _ {K V : Type 0} where
@@ -13,6 +17,37 @@ module _ {K V : Type 0} where
   -- the keys rise strictly in this order
   abbrev pub RiseBy : (K → K → Ordering) → List (K × V) → Type 0
   RiseBy order pairs = Pairwise (λ x y. order x.0 y.0 ≡ Less) pairs
+
+  -- the pairs whose strings begin with this one
+  abbrev pub strings_below : (K → List ℕ) → List ℕ → List (K × V) → List (K × V)
+  strings_below text prefix pairs = filter (λ pair. is_front prefix (text pair.0)) pairs
+
+module _ {K : Type 0} where
+  -- the keys of a set rise strictly in this order
+  abbrev pub KeysRiseBy : (K → K → Ordering) → List K → Type 0
+  KeysRiseBy order keys = Pairwise (λ a b. order a b ≡ Less) keys
+
+  -- this is known of the key of a bound, if it has one
+  abbrev pub OnBound : (K → Type 0) → Bound K → Type 0
+  OnBound is_key (Included key) = is_key key
+  OnBound is_key (Excluded key) = is_key key
+  OnBound is_key Unbounded = ⊤
+
+  -- whether a key is after a lower bound in this order, or at it where that is included
+  abbrev pub is_key_from : (K → K → Ordering) → Bound K → K → Bool
+  is_key_from order (Included bound) key = not (is_lt (order key bound))
+  is_key_from order (Excluded bound) key = is_lt (order bound key)
+  is_key_from order Unbounded key = true
+
+  -- whether a key is before an upper bound in this order, or at it where that is included
+  abbrev pub is_key_up_to : (K → K → Ordering) → Bound K → K → Bool
+  is_key_up_to order (Included bound) key = not (is_lt (order bound key))
+  is_key_up_to order (Excluded bound) key = is_lt (order key bound)
+  is_key_up_to order Unbounded key = true
+
+-- the pairs whose keys are between two bounds in this order
+abbrev pub keys_between : {K V : Type 0} → (K → K → Ordering) → Bound K → Bound K → List (K × V) → List (K × V)
+keys_between order from to pairs = filter (λ pair. is_key_from order from pair.0 && is_key_up_to order to pair.0) pairs
 
 -- a key is in conflict with no keys of its type
 abbrev pub IsNeverInConflict : {K : Type 0} (V : Type 0) → (K → Type 0) → (K → List ℕ) → Type 0

@@ -1,1 +1,3 @@
 pub mod KeyedPairs
+pub mod KeyedRefusals
+pub mod KeyedLends

@@ -1,4 +1,5 @@
-//! A map of keys that are never in conflict.
+//! Maps and sets of keys that are never in conflict.
 #![tactic(auto)]
 
 pub mod map;
+pub mod set;

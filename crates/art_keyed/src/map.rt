@@ -1,16 +1,49 @@
 //! An ordered map whose keys are never in conflict. Its contracts speak of lists of pairs alone.
-ghost use Rattle.std.specs.Prelude.{◌≡◌, ◌↔◌, [], length, false, IfOk, IfErr, IsTrue, OnOk, OnErr, option_copied};
-ghost use Rattle.std.specs.Option.{option_map};
+ghost use Rattle.std.specs.Prelude.{◌≡◌, ◌↔◌, [], length, false, IfOk, IfErr, IsSome, IsTrue, OnOk, OnErr, Some, option_copied};
+ghost use Rattle.std.specs.Borrow.{sem};
+ghost use Rattle.std.specs.Option.{option_copied_mut, option_map, unwrap_or};
 ghost use Rattle.art_map.specs.MapAnswers.{MayRefuseRemoval, value_at};
-ghost use Rattle.art_map.specs.MapItems.{deref_pair};
+ghost use Rattle.art_map.specs.MapItems.{deref_pair, keys_of, values_of};
 ghost use Rattle.art_keyed.specs.KeyedPairs.{IsNeverInConflict};
 
-use art_keys::laws::{CloneBytes, NoPrefixesBytes, OrderedBytes};
-use art_map::map::{ByteMap, MapInsertError, MapIter, MapRefused};
-use art_writing::insert::Refused;
+use art_keys::laws::{CloneBytes, NoPrefixesBytes};
+use art_map::map::{
+    ByteMap, IntoIter, IntoKeys, IntoValues, Keys, MapInsertError, MapIter, MapRefused, Values,
+};
 use std::alloc::{AllocError, Global};
 use std::fmt;
 use std::marker::Model;
+use std::ops::Index;
+use thiserror::Error;
+
+mod compared;
+mod entry;
+mod ordered;
+mod strings;
+
+pub use entry::{KeyedEntry, KeyedEntryOf};
+
+/// A pair that was not put in, for want of memory.
+#[derive(Debug, Drop, Error)]
+#[error("memory allocation failed")]
+pub struct PairRefused<K, V> {
+    pub key: K,
+    pub value: V,
+}
+
+/// The same of the error of a map of any keys.
+impl<K, V> From<MapInsertError<K, V>> for PairRefused<K, V> {
+    ghost use Rattle.art_keyed.specs.KeyedRefusals.{IsHandedBack};
+
+    ghost from_gives = { IsHandedBack };
+
+    fn from(error: MapInsertError<K, V>) -> Self {
+        match error {
+            MapInsertError::Conflict { key, value, .. } => PairRefused { key, value },
+            MapInsertError::Memory { key, value } => PairRefused { key, value },
+        }
+    }
+}
 
 /// A map whose keys are in the order of their bytes. No key of the type is a prefix of another, so that a
 /// pair is refused only for want of memory.
@@ -35,10 +68,11 @@ impl<K: NoPrefixesBytes, V, const P: usize> Model for KeyedMap<K, V, P> {
 }
 
 impl<K: NoPrefixesBytes + Drop, V: Drop, const P: usize> KeyedMap<K, V, P> {
-    ghost use Rattle.art_model.specs.Pairs.{IsMap, first_of, has_key, last_of, of_key, put, put_reply, remove_key, remove_reply, without_first, without_last};
+    ghost use Rattle.art_model.specs.Pairs.{IsMap, first_of, has_key, last_of, of_key, put, put_reply, remove_key, remove_reply, with_key, without_first, without_last};
     ghost use Rattle.art_keyed.specs.KeyedPairs.{HaveKeys};
+    ghost use Rattle.art_keyed.specs.KeyedLends.{lends_put, lends_value};
 
-    /// An empty map, which takes no memory.
+    /// Returns an empty map, and takes no memory.
     pub fn new(alloc: Global) -> Self
         ensures { result ≡ [] }
     {
@@ -47,7 +81,7 @@ impl<K: NoPrefixesBytes + Drop, V: Drop, const P: usize> KeyedMap<K, V, P> {
         }
     }
 
-    /// The map without the promise of its keys, for all that only reads.
+    /// Returns the map without what is known of its keys, for all that only reads.
     pub fn as_byte_map(&self) -> &ByteMap<K, V, P>
         ensures pairs { result.now ≡ self.now }
         ensures keys { HaveKeys K.is_key self.now }
@@ -55,7 +89,7 @@ impl<K: NoPrefixesBytes + Drop, V: Drop, const P: usize> KeyedMap<K, V, P> {
         &self.map
     }
 
-    /// The number of pairs.
+    /// Returns the number of pairs.
     pub fn len(&self) -> usize
         ensures len { result ≡ length self.now }
         ensures sorted { IsMap (of_key K.bytes) self.now }
@@ -63,28 +97,45 @@ impl<K: NoPrefixesBytes + Drop, V: Drop, const P: usize> KeyedMap<K, V, P> {
         self.map.len()
     }
 
-    /// Whether there is no pair.
+    /// Returns whether there is no pair.
     pub fn is_empty(&self) -> bool
         ensures { IsTrue result ↔ (self.now ≡ []) }
     {
         self.map.is_empty()
     }
 
-    /// Whether a key is stored.
+    /// Returns whether a key is stored.
     pub fn contains_key(&self, key: &K) -> bool
         ensures { result ≡ has_key (of_key K.bytes) (K.bytes key.now) self.now }
     {
         self.map.contains_key(key.as_bytes())
     }
 
-    /// The value of a key.
+    /// Returns the value of a key.
     pub fn get(&self, key: &K) -> Option<&V>
         ensures { option_copied result ≡ value_at K.bytes (K.bytes key.now) self.now }
     {
         self.map.get(key.as_bytes())
     }
 
-    /// The pairs in the order of the bytes of their keys.
+    /// Returns the pair of a key.
+    pub fn get_key_value(&self, key: &K) -> Option<(&K, &V)>
+        ensures { option_map deref_pair result ≡
+            first_of (with_key (of_key K.bytes) (K.bytes key.now) self.now) }
+    {
+        self.map.get_key_value(key.as_bytes())
+    }
+
+    /// Returns the value of a key, to be written.
+    pub fn get_mut(&mut self, key: &K) -> Option<&mut V>
+        ensures* writes_back { sem 𝓛 (lends_value K.row V.row P.row K.NoPrefixesBytes
+            self.entry (K.bytes key.now) result) }
+        ensures value { option_copied_mut result ≡ value_at K.bytes (K.bytes key.now) self.old }
+    {
+        self.map.get_mut(key.as_bytes())
+    }
+
+    /// Returns the pairs in the order of the bytes of their keys.
     pub fn iter(&self) -> MapIter<'_, K, V, P>
         ensures pairs { result ≡ self.now }
         ensures sorted { IsMap (of_key K.bytes) self.now }
@@ -92,14 +143,42 @@ impl<K: NoPrefixesBytes + Drop, V: Drop, const P: usize> KeyedMap<K, V, P> {
         self.map.iter()
     }
 
-    /// The first pair.
+    /// Returns the keys as they rise.
+    pub fn keys(&self) -> Keys<'_, K, V, P>
+        ensures { result ≡ keys_of self.now }
+    {
+        self.map.keys()
+    }
+
+    /// Returns the values in the order of their keys.
+    pub fn values(&self) -> Values<'_, K, V, P>
+        ensures { result ≡ values_of self.now }
+    {
+        self.map.values()
+    }
+
+    /// Returns the keys as they rise, by value.
+    pub fn into_keys(self) -> IntoKeys<K, V, P>
+        ensures { result ≡ keys_of self }
+    {
+        self.map.into_keys()
+    }
+
+    /// Returns the values in the order of their keys, by value.
+    pub fn into_values(self) -> IntoValues<K, V, P>
+        ensures { result ≡ values_of self }
+    {
+        self.map.into_values()
+    }
+
+    /// Returns the first pair.
     pub fn first_key_value(&self) -> Option<(&K, &V)>
         ensures { option_map deref_pair result ≡ first_of self.now }
     {
         self.map.first_key_value()
     }
 
-    /// The last pair.
+    /// Returns the last pair.
     pub fn last_key_value(&self) -> Option<(&K, &V)>
         ensures { option_map deref_pair result ≡ last_of self.now }
     {
@@ -107,9 +186,9 @@ impl<K: NoPrefixesBytes + Drop, V: Drop, const P: usize> KeyedMap<K, V, P> {
     }
 
     /// Puts a pair in. Where an equal key is stored, that key stays and gets the value, and the key
-    /// that was handed in comes back with the old value. It is refused only for want of memory, and never
+    /// that was handed in is returned with the old value. It is refused only for want of memory, and never
     /// where an equal key is stored.
-    pub fn insert(&mut self, key: K, value: V) -> Result<Option<(K, V)>, Refused<K, V>>
+    pub fn insert(&mut self, key: K, value: V) -> Result<Option<(K, V)>, PairRefused<K, V>>
         ensures pairs { OnOk result (self.new ≡ put (of_key K.bytes) (key, value) self.old) }
         ensures replaced { IfOk result (λ replaced.
             replaced ≡ put_reply (of_key K.bytes) (key, value) self.old) }
@@ -124,11 +203,36 @@ impl<K: NoPrefixesBytes + Drop, V: Drop, const P: usize> KeyedMap<K, V, P> {
         match self.map.insert(key, value) {
             Ok(replaced) => Ok(replaced),
             Err(MapInsertError::Conflict { .. }) => unreachable!(),
-            Err(MapInsertError::Memory { key, value }) => Err(Refused { key, value }),
+            Err(MapInsertError::Memory { key, value }) => Err(PairRefused { key, value }),
         }
     }
 
-    /// Takes out the pair of a key.
+    /// Returns the value of a key, to be written. Where no equal key is stored the pair comes in first; a key
+    /// that is stored stays, with its value. It is refused as `insert` is.
+    pub fn get_or_insert(&mut self, key: K, value: V) -> Result<&mut V, PairRefused<K, V>>
+        ensures* writes_back { sem 𝓛 (lends_put K.row V.row P.row K.NoPrefixesBytes
+            self.entry key result) }
+        ensures value { IfOk result (λ lent.
+            lent.now ≡ unwrap_or (value_at K.bytes (K.bytes key) self.old) value) }
+        ensures handed_back { IfErr result (λ refused.
+            (refused.key ≡ key) × (refused.value ≡ value)) }
+        ensures refused { OnErr result
+            (has_key (of_key K.bytes) (K.bytes key) self.old ≡ false) }
+    {
+        key.as_key();
+        Ok(self.map.get_or_insert(key, value)?)
+    }
+
+    /// Returns the map with a key, to put the key in where it is not stored, and to write its value.
+    pub fn entry(&mut self, key: K) -> KeyedEntry<'_, K, V, P>
+        ensures same_map { result.map.ghost_name ≡ self.entry.ghost_name }
+        ensures pairs { result.map.now ≡ self.old }
+        ensures key { result.key ≡ key }
+    {
+        KeyedEntryOf { map: self, key }
+    }
+
+    /// Takes out the pair of a key, and returns it.
     pub fn remove(&mut self, key: &K) -> Result<Option<(K, V)>, MapRefused>
         ensures pairs { OnOk result
             (self.new ≡ remove_key (of_key K.bytes) (K.bytes key.now) self.old) }
@@ -141,7 +245,7 @@ impl<K: NoPrefixesBytes + Drop, V: Drop, const P: usize> KeyedMap<K, V, P> {
         self.map.remove(key.as_bytes())
     }
 
-    /// Takes out the first pair.
+    /// Takes out the first pair, and returns it.
     pub fn pop_first(&mut self) -> Result<Option<(K, V)>, MapRefused>
         ensures pairs { OnOk result (self.new ≡ without_first self.old) }
         ensures removed { IfOk result (λ removed. removed ≡ first_of self.old) }
@@ -152,7 +256,7 @@ impl<K: NoPrefixesBytes + Drop, V: Drop, const P: usize> KeyedMap<K, V, P> {
         self.map.pop_first()
     }
 
-    /// Takes out the last pair.
+    /// Takes out the last pair, and returns it.
     pub fn pop_last(&mut self) -> Result<Option<(K, V)>, MapRefused>
         ensures pairs { OnOk result (self.new ≡ without_last self.old) }
         ensures removed { IfOk result (λ removed. removed ≡ last_of self.old) }
@@ -163,7 +267,7 @@ impl<K: NoPrefixesBytes + Drop, V: Drop, const P: usize> KeyedMap<K, V, P> {
         self.map.pop_last()
     }
 
-    /// Takes out all pairs, and takes no memory. The recursion is as deep as the tree.
+    /// Takes out all pairs, and takes no memory. The room of their nodes stays for others.
     pub fn clear(&mut self)
         ensures { self.new ≡ [] }
     {
@@ -174,8 +278,8 @@ impl<K: NoPrefixesBytes + Drop, V: Drop, const P: usize> KeyedMap<K, V, P> {
 impl<K: CloneBytes + Drop, V: Clone + Drop, const P: usize> KeyedMap<K, V, P> {
     ghost use Rattle.art_model.specs.Clones.{AreClones};
 
-    /// A map of clones of all pairs, with a store of its own. An `Err` is for want of memory, for a node or
-    /// for the clone of a key or a value. The recursion is as deep as the tree.
+    /// Returns a map of clones of all pairs, with a store of its own. An `Err` is for want of memory, for a
+    /// node or for the clone of a key or a value.
     pub fn clone(&self) -> Result<Self, AllocError>
         ensures { IfOk result (AreClones K.is_clone V.is_clone self.now) }
     {
@@ -197,21 +301,36 @@ impl<'a, K: NoPrefixesBytes + Drop, V: Drop, const P: usize> IntoIterator
     }
 }
 
+impl<K: NoPrefixesBytes + Drop, V: Drop, const P: usize> IntoIterator for KeyedMap<K, V, P> {
+    type Item = (K, V);
+
+    type IntoIter = IntoIter<K, V, P>;
+
+    ghost into_iter_gives = { λ map pairs. pairs ≡ map };
+
+    fn into_iter(self) -> IntoIter<K, V, P> {
+        self.map.into_iter()
+    }
+}
+
+impl<'b, K: NoPrefixesBytes + Drop, V: Drop, const P: usize> Index<&'b K> for KeyedMap<K, V, P> {
+    type Output = V;
+
+    ghost use Rattle.art_map.specs.MapAnswers.{value_at};
+
+    ghost can_index = { λ map key. IsSome (value_at K.bytes (K.bytes key.now) map) };
+
+    ghost index_gives = { λ map key value. value_at K.bytes (K.bytes key.now) map ≡ Some value };
+
+    fn index(&self, key: &'b K) -> &V {
+        self.get(key).unwrap()
+    }
+}
+
 impl<K: NoPrefixesBytes + fmt::Debug + Drop, V: fmt::Debug + Drop, const P: usize> fmt::Debug
     for KeyedMap<K, V, P> {
     fn fmt<W: fmt::Write>(&self, f: &mut fmt::Formatter<W>) -> fmt::Result {
         self.map.fmt(f)
-    }
-}
-
-impl<K: OrderedBytes + Drop, V: Drop, const P: usize> KeyedMap<K, V, P> {
-    ghost use Rattle.art_keyed.specs.KeyedPairs.{RiseBy};
-
-    /// Does nothing, and tells that the keys rise in the order of their type.
-    pub fn rises(&self)
-        ensures { RiseBy K.order self.now }
-    {
-        self.map.len();
     }
 }
 

@@ -1,10 +1,11 @@
--- Strings of bytes that are ended by a zero: none is a front of another, and they stand in the order of what is ended.
-use Rattle.std.proofs.Common.{◌≡◌, ◌≢◌, ℕ, List, [], ◌∷◌, ◌++◌, refl, ap, arith}
+-- Strings of bytes that are ended by a zero: none is a prefix of another, they stand in the order of what is ended, and begin as it does.
+use Rattle.std.proofs.Common.{◌≡◌, ◌≢◌, ℕ, List, [], ◌∷◌, ◌++◌, ◌&&◌, eqb, refl, ap, arith}
 use Rattle.std.proofs.lemmas.Bool.{le-ltb, lt-ltb, ne_eqb}
 use Rattle.std.specs.Cmp.Lexicographic.{slice_cmp}
 use Rattle.std.specs.Ordering.{nat_cmp}
 use Rattle.art_keys.specs.Ended.{HasNoZero, IsEnded, ended, without_end}
 use Rattle.art_keys.specs.Prefixes.{HasNoPrefixes, KeepsOrder}
+use Rattle.art_model.specs.Keys.{is_front}
 
 pub ended_no_prefixes : HasNoPrefixes HasNoZero ended
 ended_no_prefixes [] [] of_a of_b is = refl
@@ -30,3 +31,9 @@ without_end-ended (x ∷ y ∷ text) = ap (λ t. x ∷ t) (without_end-ended (y 
 
 pub ended_is : (text : List ℕ) → HasNoZero text → IsEnded (ended text)
 ended_is text h = record { text = rw (without_end-ended text) h; is_end = rw (without_end-ended text) refl }
+
+-- a string without a zero begins what is ended where it begins what stands before the end
+pub ended_begins : (text other : List ℕ) → HasNoZero text → is_front text (ended other) ≡ is_front text other
+ended_begins [] other of_text = refl
+ended_begins (x ∷ text) [] of_text = rw (ne_eqb x 0 of_text.0) refl
+ended_begins (x ∷ text) (y ∷ other) of_text = ap (λ b. eqb x y && b) (ended_begins text other of_text.1)

@@ -1,12 +1,12 @@
--- Escaped strings: what was escaped comes back, none is a front of another, and they stand in the order of the originals.
-use Rattle.std.proofs.Common.{◌≡◌, ℕ, zero, suc, List, [], ◌∷◌, ◌++◌, refl, ap, sym, ◌∙◌, arith}
+-- Escaped strings: what was escaped comes back, none is a prefix of another, they stand in the order of the originals, and begin as they do.
+use Rattle.std.proofs.Common.{◌≡◌, ℕ, zero, suc, List, [], ◌∷◌, ◌++◌, ◌&&◌, eqb, length, length-append, refl, ap, ap₂, sym, ◌∙◌, arith}
 use Rattle.std.specs.Prelude.{⊤}
 use Rattle.std.proofs.lemmas.Bool.{le-ltb, lt-ltb, ne_eqb}
 use Rattle.std.specs.Cmp.Lexicographic.{slice_cmp}
 use Rattle.std.specs.Ordering.{nat_cmp}
-use Rattle.art_keys.specs.Escapes.{escape, unescape}
+use Rattle.art_keys.specs.Escapes.{escape, escape_inside, unescape}
 use Rattle.art_keys.specs.Prefixes.{HasNoPrefixes, KeepsOrder}
-use Rattle.art_model.specs.Keys.{IsFront}
+use Rattle.art_model.specs.Keys.{IsFront, is_front}
 
 pub unescape-escape : (text : List ℕ) → unescape (escape text) ≡ text
 unescape-escape [] = refl
@@ -33,7 +33,7 @@ escape_order (suc (suc m) ∷ a) (zero ∷ b) =
 escape_order (suc (suc m) ∷ a) (suc zero ∷ b) = rw (le-ltb (suc (suc m)) 1 (omega arith), ne_eqb (suc (suc m)) 1 (λ e. omega arith)) refl
 escape_order (suc (suc m) ∷ a) (suc (suc n) ∷ b) = rw (escape_order a b) refl
 
--- an escaped string that is a front of another is the same
+-- an escaped string that is a prefix of another is the same
 front_same : (a b rest : List ℕ) → escape b ≡ escape a ++ rest → escape a ≡ escape b
 front_same [] [] rest is = refl
 front_same [] (zero ∷ b) rest is = absurd cc
@@ -62,6 +62,50 @@ escape_no_prefixes a b of_a of_b (rest, is) = front_same a b rest is
 pub escape_keeps_order : KeepsOrder {K = List ℕ} (λ text. ⊤) escape (slice_cmp nat_cmp)
 escape_keeps_order a b of_a of_b = escape_order a b
 
--- strings of which one is escaped to a front of the other's are the same
+-- strings of which one is escaped to a prefix of the other's are the same
 pub escape_apart : (a b : List ℕ) → IsFront (escape a) (escape b) → a ≡ b
 escape_apart a b (rest, is) = sym (unescape-escape a) ∙ ap unescape (front_same a b rest is) ∙ unescape-escape b
+
+-- an escaped string is its escaped bytes and an end
+pub escape_is : (text : List ℕ) → escape text ≡ escape_inside text ++ 0 ∷ []
+escape_is [] = refl
+escape_is (zero ∷ text) = ap (λ t. 1 ∷ 1 ∷ t) (escape_is text)
+escape_is (suc zero ∷ text) = ap (λ t. 1 ∷ 2 ∷ t) (escape_is text)
+escape_is (suc (suc n) ∷ text) = ap (λ t. suc (suc n) ∷ t) (escape_is text)
+
+-- and these begin another one where the string begins the other string
+pub escape_begins : (text other : List ℕ) → is_front (escape_inside text) (escape other) ≡ is_front text other
+escape_begins [] other = refl
+escape_begins (zero ∷ text) [] = refl
+escape_begins (zero ∷ text) (zero ∷ other) = escape_begins text other
+escape_begins (zero ∷ text) (suc zero ∷ other) = refl
+escape_begins (zero ∷ text) (suc (suc n) ∷ other) = rw (ne_eqb 1 (suc (suc n)) (λ e. omega arith), ne_eqb 0 (suc (suc n)) (λ e. omega arith)) refl
+escape_begins (suc zero ∷ text) [] = refl
+escape_begins (suc zero ∷ text) (zero ∷ other) = refl
+escape_begins (suc zero ∷ text) (suc zero ∷ other) = escape_begins text other
+escape_begins (suc zero ∷ text) (suc (suc n) ∷ other) = rw (ne_eqb 1 (suc (suc n)) (λ e. omega arith)) refl
+escape_begins (suc (suc m) ∷ text) [] = rw (ne_eqb (suc (suc m)) 0 (λ e. omega arith)) refl
+escape_begins (suc (suc m) ∷ text) (zero ∷ other) = rw (ne_eqb (suc (suc m)) 1 (λ e. omega arith), ne_eqb (suc (suc m)) 0 (λ e. omega arith)) refl
+escape_begins (suc (suc m) ∷ text) (suc zero ∷ other) = rw (ne_eqb (suc (suc m)) 1 (λ e. omega arith)) refl
+escape_begins (suc (suc m) ∷ text) (suc (suc n) ∷ other) = ap (λ b. eqb (suc (suc m)) (suc (suc n)) && b) (escape_begins text other)
+
+-- strings with one byte more are the same where both parts are
+pub snoc_same : (a b : List ℕ) (x y : ℕ) → a ++ x ∷ [] ≡ b ++ y ∷ [] → (a ≡ b) × (x ≡ y)
+snoc_same [] [] x y e = (refl, cc)
+snoc_same [] (z ∷ []) x y e = absurd cc
+snoc_same [] (z ∷ w ∷ b) x y e = absurd cc
+snoc_same (z ∷ []) [] x y e = absurd cc
+snoc_same (z ∷ w ∷ a) [] x y e = absurd cc
+snoc_same (z ∷ a) (w ∷ b) x y e =
+    let first : z ≡ w = cc in
+    let t : a ++ x ∷ [] ≡ b ++ y ∷ [] = cc in
+    let s = snoc_same a b x y t in
+    (ap₂ (λ n r. n ∷ r) first s.0, s.1)
+
+-- what stands before the end of an escaped string are its escaped bytes
+pub before_end : (text bytes inside : List ℕ) (end : ℕ) → escape text ≡ bytes → bytes ≡ inside ++ end ∷ [] → inside ≡ escape_inside text
+before_end text bytes inside end e f = (snoc_same inside (escape_inside text) end 0 (sym f ∙ sym e ∙ escape_is text)).0
+
+-- an escaped string is not empty
+pub has_end : (text bytes : List ℕ) → escape text ≡ bytes → length bytes ≡ 0 → ⊥
+has_end text bytes e none = let l = ap length (sym (escape_is text) ∙ e) in omega (arith, simp length-append at l)

@@ -7,6 +7,11 @@ escape_byte zero = 1 ∷ 1 ∷ []
 escape_byte (suc zero) = 1 ∷ 2 ∷ []
 escape_byte (suc (suc n)) = suc (suc n) ∷ []
 
+-- the bytes, each escaped
+abbrev pub escape_inside : List ℕ → List ℕ
+escape_inside [] = []
+escape_inside (byte ∷ rest) = escape_byte byte ++ escape_inside rest
+
 -- the bytes, each escaped, and then a zero
 abbrev pub escape : List ℕ → List ℕ
 escape [] = 0 ∷ []

@@ -5,7 +5,7 @@ use Rattle.std.specs.List.{each_same}
 use Rattle.art_keys.specs.Prefixes.{HasNoPrefixes, IsKept}
 use Rattle.art_model.specs.Clones.{KeepBytes}
 
--- none is a front of another
+-- none is a prefix of another
 pub fixed_no_prefixes : (n : ℕ) → HasNoPrefixes (λ bytes. length bytes ≡ n) (λ bytes. bytes)
 fixed_no_prefixes n a b of_a of_b (rest, is) = go rest is (let l = ap length is in omega (arith, simp length-append at l))
   where

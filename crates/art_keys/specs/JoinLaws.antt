@@ -1,4 +1,4 @@
--- Two keys as one: none is a front of another, and they stand in the order of the first keys and then of the second ones.
+-- Two keys as one: none is a prefix of another, and they stand in the order of the first keys and then of the second ones.
 use Rattle.std.proofs.Common.{◌≡◌, ℕ, ◌<◌, List, [], ◌∷◌, ◌++◌, refl, ap, ap₂, sym, ◌∙◌, arith, ◌⊎◌, inl, inr}
 use Rattle.std.proofs.lemmas.Bool.{le-ltb, lt-ltb, ne_eqb, eq-eqb, cases_order}
 use Rattle.std.specs.Cmp.Lexicographic.{slice_cmp}
@@ -15,7 +15,7 @@ longer z x y (rest, e) = (rest, ap (λ t. z ∷ t) e)
 tail_same : (z : ℕ) (x y : List ℕ) → z ∷ x ≡ z ∷ y → x ≡ y
 tail_same z x y e = cc
 
--- where neither of two strings is a proper front of the other, a front that goes on after both parts where they do
+-- where neither of two strings is a proper prefix of the other, a longer prefix is both parts' own
 parts_front : (x y b d : List ℕ) → (IsFront x y → x ≡ y) → (IsFront y x → y ≡ x) → IsFront (x ++ b) (y ++ d) → (x ≡ y) × IsFront b d
 parts_front [] [] b d f g front = (refl, front)
 parts_front [] (w ∷ y) b d f g front = let e : [] ≡ w ∷ y = f (w ∷ y, refl) in absurd cc

@@ -1,4 +1,4 @@
--- Numbers as bytes: they come back, none is a front of another, and they stand in the order of the numbers.
+-- Numbers as bytes: they come back, none is a prefix of another, and they stand in the order of the numbers.
 use Rattle.std.proofs.Common.{◌≡◌, ℕ, zero, suc, ◌+◌, ◌-◌, ◌*◌, ◌/◌, ◌%◌, ◌^◌, ◌<◌, ◌≤◌, length, refl, ap, sym, ◌∙◌, arith, ◌⊎◌, inl, inr}
 use Rattle.std.specs.Prelude.{ℤ, pos, negsuc}
 use Rattle.std.proofs.lemmas.Bool.{le-ltb, lt-ltb, ne_eqb, cases_order, eq-eqb}
@@ -7,7 +7,7 @@ use Rattle.std.proofs.Math.Nat as nat
 use Rattle.std.specs.Cmp.Lexicographic.{slice_cmp}
 use Rattle.std.specs.Int.{bytes_high_first, byte_at}
 use Rattle.std.specs.Ordering.{nat_cmp, int_cmp, ordering_then}
-use Rattle.art_keys.specs.Numbers.{number_of, HasBytes, IsNumber, half, HasSignedBytes, lifted, lowered, signed_bytes}
+use Rattle.art_keys.specs.Numbers.{number_of, HasBytes, IsNumber, half, HasSignedBytes, IsSignedNumber, lifted, lowered, signed_bytes}
 use Rattle.art_keys.specs.Prefixes.{HasNoPrefixes, KeepsOrder}
 use Rattle.art_keys.specs.FixedLaws.{fixed_no_prefixes}
 
@@ -119,3 +119,6 @@ signed_no_prefixes count a b of_a of_b front = fixed_no_prefixes count _ _ (leng
 
 pub signed_back : (count : ℕ) (z : ℤ) → HasSignedBytes count z → lowered count (number_of (signed_bytes count z)) ≡ z
 signed_back count z h = ap (lowered count) (number_back count (lifted count z) (lifted_small count z h)) ∙ lowered-lifted count z h
+
+pub signed_is : (count : ℕ) (z : ℤ) → HasSignedBytes count z → IsSignedNumber count (signed_bytes count z)
+signed_is count z h = record { small = rw (signed_back count z h) h; is = rw (signed_back count z h) refl }

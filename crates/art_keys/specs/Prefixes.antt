@@ -3,16 +3,20 @@ use Rattle.std.specs.Prelude.{◌≡◌, ℕ, List}
 use Rattle.std.specs.Cmp.Lexicographic.{slice_cmp}
 use Rattle.std.specs.Ordering.{nat_cmp}
 use Rattle.std.specs.declared.cmp.Ordering.{Ordering}
-use Rattle.art_model.specs.Keys.{IsFront}
+use Rattle.art_model.specs.Keys.{IsFront, is_front}
 
 module _ {K : Type 0} (is_key : K → Type 0) (bytes : K → List ℕ) where
-  -- a key that is a front of another has the same bytes
+  -- a key whose bytes are a prefix of another's has the same bytes
   abbrev pub HasNoPrefixes : Type 0
   HasNoPrefixes = (a b : K) → is_key a → is_key b → IsFront (bytes a) (bytes b) → bytes a ≡ bytes b
 
   -- the bytes of keys compare as the keys do
   abbrev pub KeepsOrder : (K → K → Ordering) → Type 0
   KeepsOrder order = (a b : K) → is_key a → is_key b → slice_cmp nat_cmp (bytes a) (bytes b) ≡ order a b
+
+  -- these bytes begin those of a key just where this key's string begins the other's
+  abbrev pub BeginsAs : (K → List ℕ) → K → List ℕ → Type 0
+  BeginsAs text key beginning = (other : K) → is_key other → is_front beginning (bytes other) ≡ is_front (text key) (text other)
 
 -- what is known of a key is known of its clones
 abbrev pub IsKept : {K : Type 0} → (K → Type 0) → (K → K → Type 0) → Type 0

@@ -5,7 +5,7 @@ ghost use Rattle.std.specs.Ordering.{nat_cmp};
 ghost use Rattle.art_keys.specs.Escapes.{escape, escape_byte, unescape};
 ghost use Rattle.art_model.specs.Keys.{IsFront};
 
-use super::laws::{CloneBytes, NoPrefixesBytes, OrderedBytes, compare};
+use super::laws::{CloneBytes, NoPrefixesBytes, OrderedBytes, StringBytes, compare};
 use art_nodes::node::AsBytes;
 use std::alloc::{AllocError, Global};
 use std::cmp::Ordering;
@@ -30,7 +30,7 @@ impl Model for Escaped {
 }
 
 impl Escaped {
-    /// The key of a string. The only error is want of memory.
+    /// Returns the key of a string. The only error is want of memory.
     pub fn encode(alloc: Global, text: &[u8]) -> Result<Self, AllocError>
         ensures { IfOk result (λ key. key ≡ text.now) }
     {
@@ -42,7 +42,14 @@ impl Escaped {
         Ok(Escaped { bytes })
     }
 
-    /// The string. The only error is want of memory.
+    /// The same of a text.
+    pub fn encode_str(alloc: Global, text: &str) -> Result<Self, AllocError>
+        ensures { IfOk result (λ key. key ≡ text.now) }
+    {
+        Escaped::encode(alloc, text.as_bytes())
+    }
+
+    /// Returns the string. The only error is want of memory.
     pub fn decode(&self, alloc: Global) -> Result<Vec<u8>, AllocError>
         ensures { IfOk result (λ text. text.items ≡ self.now) }
     {
@@ -69,7 +76,7 @@ impl fmt::Debug for Escaped {
     }
 }
 
-// The first byte of what was escaped, and the bytes after its own.
+// Returns the first byte of what was escaped, and the bytes after its own.
 fn first_escaped(bytes: &[u8]) -> Option<(u8, &[u8])>
     ensures byte { MatchOption result (unescape bytes.now ≡ [])
         (λ first. unescape bytes.now ≡ first.0 ∷ unescape first.1.now) }
@@ -132,6 +139,17 @@ impl OrderedBytes for Escaped {
     ghost keeps_order = { escape_keeps_order };
 }
 
+impl StringBytes for Escaped {
+    ghost text = { λ text. text };
+
+    fn beginning(&self) -> &[u8] {
+        match self.bytes.split_last() {
+            Some((_, inside)) => inside,
+            None => &[],
+        }
+    }
+}
+
 impl Clone for Escaped {
     ghost is_clone = { λ key copy. copy ≡ key };
 
@@ -151,7 +169,7 @@ impl CloneBytes for Escaped {
     ghost keeps_key = { λ x y e of_x. of_x };
 }
 
-/// What was escaped comes back, and is in the order of the originals; none is a front of another's.
+/// What was escaped comes back, and is in the order of the originals; none is a prefix of another's.
 pub fn escapes_come_back_in_order()
     ensures back { (text : List ℕ) → unescape (escape text) ≡ text }
     ensures order { (a b : List ℕ) →

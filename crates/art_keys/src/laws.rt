@@ -1,6 +1,6 @@
 //! What a type of keys promises, proved for each type.
-ghost use Rattle.std.specs.Prelude.{◌≡◌, length};
-ghost use Rattle.art_keys.specs.Prefixes.{HasNoPrefixes, IsKept, KeepsOrder};
+ghost use Rattle.std.specs.Prelude.{◌≡◌};
+ghost use Rattle.art_keys.specs.Prefixes.{BeginsAs, HasNoPrefixes, IsKept, KeepsOrder};
 ghost use Rattle.art_model.specs.Clones.{KeepBytes};
 
 use art_nodes::node::AsBytes;
@@ -15,7 +15,7 @@ pub trait NoPrefixesBytes: AsBytes {
     fn as_key(&self)
         ensures { is_key self.now };
 
-    /// A key that is a front of another has its bytes.
+    /// A key whose bytes are a prefix of another's has the same bytes.
     ghost no_prefixes: { HasNoPrefixes is_key Self.bytes };
 }
 
@@ -39,39 +39,23 @@ pub trait CloneBytes: NoPrefixesBytes + Clone {
     ghost keeps_key: { IsKept Self.is_key Self.is_clone };
 }
 
-/// How two keys stand to each other in the order of their type. Their bytes are compared.
+/// Keys that stand for strings of bytes.
+pub trait StringBytes: OrderedBytes {
+    ghost use Rattle.std.specs.Prelude.{List, ℕ};
+
+    /// The string that a key stands for.
+    ghost text: { Self → List ℕ };
+
+    /// Returns the bytes that begin those of each key whose string begins with this one's, and no others.
+    fn beginning(&self) -> &[u8]
+        ensures { BeginsAs Self.is_key Self.bytes text self.now result.now };
+}
+
+/// Returns how two keys compare in the order of their type, by their bytes.
 pub fn compare<K: OrderedBytes>(a: &K, b: &K) -> Ordering
     ensures { result ≡ K.order a.now b.now }
 {
     a.as_key();
     b.as_key();
     a.as_bytes().cmp(b.as_bytes())
-}
-
-impl<const N: usize> NoPrefixesBytes for [u8; N] {
-    ghost use Rattle.art_keys.specs.FixedLaws.{fixed_no_prefixes};
-
-    ghost is_key = { λ bytes. length bytes ≡ N };
-
-    fn as_key(&self) {}
-
-    ghost no_prefixes = { fixed_no_prefixes N };
-}
-
-impl<const N: usize> CloneBytes for [u8; N] {
-    ghost use Rattle.art_keys.specs.FixedLaws.{fixed_keeps_bytes, fixed_keeps_key};
-
-    ghost keeps_bytes = { fixed_keeps_bytes N };
-
-    ghost keeps_key = { fixed_keeps_key N };
-}
-
-impl<const N: usize> OrderedBytes for [u8; N] {
-    ghost use Rattle.std.specs.Cmp.Lexicographic.{slice_cmp};
-    ghost use Rattle.std.specs.Ordering.{nat_cmp};
-    ghost use Rattle.std.proofs.Common.{refl};
-
-    ghost order = { slice_cmp nat_cmp };
-
-    ghost keeps_order = { λ a b of_a of_b. refl };
 }

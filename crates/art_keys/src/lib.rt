@@ -1,8 +1,10 @@
-//! Keys of which none is a prefix of another, by the types that they have.
+//! Types of keys of which none is a prefix of another, proved of each type.
 #![tactic(auto)]
 
 pub mod escaped;
+pub mod fixed;
 pub mod joined;
 pub mod laws;
-pub mod numbers;
+pub mod signed;
 pub mod terminated;
+pub mod unsigned;

@@ -1,9 +1,9 @@
 //! Bytes without a zero, ended by one.
-ghost use Rattle.std.specs.Prelude.{◌≡◌, IfOk, IfErr, OnOk};
+ghost use Rattle.std.specs.Prelude.{◌≡◌, IfOk, IfErr, OnOk, string_bytes};
 ghost use Rattle.std.specs.Bool.{OnFalse, OnTrue};
 ghost use Rattle.art_keys.specs.Ended.{HasNoZero, IsEndRefusal};
 
-use super::laws::{CloneBytes, NoPrefixesBytes, OrderedBytes, compare};
+use super::laws::{CloneBytes, NoPrefixesBytes, OrderedBytes, StringBytes, compare};
 use art_nodes::node::AsBytes;
 use std::alloc::{AllocError, Global};
 use std::cmp::Ordering;
@@ -22,7 +22,8 @@ pub enum EndError {
     Memory { text: Vec<u8> },
 }
 
-/// Bytes without a zero, ended by one, so that none is a prefix of another. It is seen as the bytes before its end.
+/// Bytes without a zero, ended by one, so that none is a prefix of another. It is seen as the bytes before
+/// its end.
 #[derive(Drop)]
 pub struct Terminated {
     bytes: Vec<u8>,
@@ -40,8 +41,8 @@ impl Model for Terminated {
 }
 
 impl Terminated {
-    /// Ends the bytes. It takes memory only where they have no room for one more, and hands them back where
-    /// a zero stands among them or there is no memory.
+    /// Returns the key of these bytes. It takes memory only where they have no room for one more, and hands
+    /// them back where a zero stands among them or there is no memory.
     pub fn new(mut text: Vec<u8>) -> Result<Self, EndError>
         ensures key { IfOk result (λ key. key ≡ text.items) }
         ensures accepted { OnOk result (HasNoZero text.items) }
@@ -56,7 +57,16 @@ impl Terminated {
         }
     }
 
-    /// The bytes before the end.
+    /// The same of the bytes of a text.
+    pub fn from_string(text: String) -> Result<Self, EndError>
+        ensures key { IfOk result (λ key. key ≡ string_bytes text) }
+        ensures accepted { OnOk result (HasNoZero (string_bytes text)) }
+        ensures refused { IfErr result (IsEndRefusal (string_bytes text)) }
+    {
+        Terminated::new(text.into_bytes())
+    }
+
+    /// Returns the bytes before the end.
     pub fn as_bytes_without_end(&self) -> &[u8]
         ensures text { result.now ≡ self.now }
         ensures no_zero { HasNoZero self.now }
@@ -64,7 +74,7 @@ impl Terminated {
         &self.bytes[..self.bytes.len() - 1]
     }
 
-    /// The bytes without their end.
+    /// Returns the bytes without their end.
     pub fn into_bytes_without_end(self) -> Vec<u8>
         ensures { result.items ≡ self }
     {
@@ -81,7 +91,7 @@ impl fmt::Debug for Terminated {
     }
 }
 
-/// As text, with a replacement character for what is none.
+/// Its text, with U+FFFD in the place of bytes that are none.
 impl fmt::Display for Terminated {
     fn fmt<W: fmt::Write>(&self, f: &mut fmt::Formatter<W>) -> fmt::Result {
         for chunk in self.as_bytes_without_end().utf8_chunks() {
@@ -94,7 +104,7 @@ impl fmt::Display for Terminated {
     }
 }
 
-/// Whether a byte is zero.
+/// Returns whether a byte is zero.
 pub fn has_zero(bytes: &[u8]) -> bool
     ensures found { OnTrue result (¬ HasNoZero bytes.now) }
     ensures none { OnFalse result (HasNoZero bytes.now) }
@@ -132,6 +142,14 @@ impl OrderedBytes for Terminated {
     ghost order = { slice_cmp nat_cmp };
 
     ghost keeps_order = { ended_keeps_order };
+}
+
+impl StringBytes for Terminated {
+    ghost text = { λ text. text };
+
+    fn beginning(&self) -> &[u8] {
+        self.as_bytes_without_end()
+    }
 }
 
 impl Clone for Terminated {

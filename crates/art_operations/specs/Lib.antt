@@ -40,6 +40,15 @@ pub use Rattle.art_map.specs.MapItems
 pub use Rattle.art_map.specs.MapLends
 pub use Rattle.art_map.specs.MapCalls
 pub use Rattle.art_map.specs.SetKeys
+-- keys that are never in conflict, and maps and sets of them
+pub use Rattle.art_keys.specs.Prefixes
+pub use Rattle.art_keys.specs.Ended
+pub use Rattle.art_keys.specs.Escapes
+pub use Rattle.art_keys.specs.Numbers
+pub use Rattle.art_keys.specs.Joins
+pub use Rattle.art_keyed.specs.KeyedPairs
+pub use Rattle.art_keyed.specs.KeyedRefusals
+pub use Rattle.art_keyed.specs.KeyedLends
 -- runs of commands
 pub use Rattle.art_running.specs.Answers
 pub use Rattle.art_running.specs.Needs

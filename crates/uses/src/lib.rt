@@ -24,6 +24,7 @@ use art_operations::visitor::{Visitor, visit_with};
 
 pub mod counts;
 pub mod given;
+pub mod keys;
 pub mod months;
 pub mod parts;
 

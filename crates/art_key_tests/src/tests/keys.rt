@@ -1,8 +1,9 @@
 //! Keys and their bytes.
 use art_keys::escaped::Escaped;
 use art_keys::joined::Joined;
-use art_keys::numbers::{Signed, Unsigned};
+use art_keys::signed::Signed;
 use art_keys::terminated::{EndError, Terminated};
+use art_keys::unsigned::Unsigned;
 use art_node_support::expected::{as_expected, same};
 use art_nodes::node::AsBytes;
 use std::alloc::Global;
@@ -168,6 +169,65 @@ fn numbers_of_all_widths_come_back() -> Result<(), Fail> {
     same(
         (unsigned, signed),
         ((7, 700, 1 << 40, 1 << 100), (-7, -70_000, i64::MIN)),
+    )
+}
+
+// The least number of 16 bytes, -1, 0 and the greatest.
+#[test]
+fn wide_numbers_have_the_bit_of_the_sign_flipped() -> Result<(), Fail> {
+    let keys = [
+        Signed::from(i128::MIN),
+        Signed::from(-1i128),
+        Signed::from(0i128),
+        Signed::from(i128::MAX),
+    ];
+    let seen = (
+        keys[0].as_bytes() == [0; 16].as_slice(),
+        (keys[1].as_bytes()[0], keys[1].as_bytes()[15]),
+        (keys[2].as_bytes()[0], keys[2].as_bytes()[15]),
+        keys[3].as_bytes() == [0xff; 16].as_slice(),
+        [
+            i128::from(keys[0]),
+            i128::from(keys[1]),
+            i128::from(keys[3]),
+        ],
+    );
+    same(
+        seen,
+        (
+            true,
+            (0x7f, 0xff),
+            (0x80, 0),
+            true,
+            [i128::MIN, -1, i128::MAX],
+        ),
+    )
+}
+
+#[test]
+fn the_ends_of_numbers_are_in_order() -> Result<(), Fail> {
+    let (zero, one, last) = (
+        Unsigned::from(0u128),
+        Unsigned::from(1u128),
+        Unsigned::from(u128::MAX),
+    );
+    let (least, below, above, greatest) = (
+        Signed::from(i64::MIN),
+        Signed::from(-1i64),
+        Signed::from(1i64),
+        Signed::from(i64::MAX),
+    );
+    same(
+        [
+            zero < one,
+            one < last,
+            least < below,
+            below < above,
+            above < greatest,
+            zero.as_bytes() < last.as_bytes(),
+            below.as_bytes() < above.as_bytes(),
+        ],
+        [true; 7],
     )
 }
 

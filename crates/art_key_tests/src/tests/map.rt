@@ -2,10 +2,11 @@
 use art_keyed::map::KeyedMap;
 use art_keys::escaped::Escaped;
 use art_keys::laws::NoPrefixesBytes;
-use art_keys::numbers::Signed;
+use art_keys::signed::Signed;
 use art_keys::terminated::Terminated;
 use art_node_support::expected::same;
 use std::alloc::Global;
+use std::ops::Bound;
 use std::test::Fail;
 
 // The values of a map, in the order of its keys.
@@ -135,4 +136,96 @@ fn cloned(map: &mut KeyedMap<[u8; 2], u32, 8>) -> Option<([Option<u32>; 4], bool
 fn a_clone_has_clones_of_the_pairs(rt: HostRuntime) -> Result<(), Fail> {
     let seen = cloned(&mut KeyedMap::new(rt.alloc()));
     same(seen, Some(([Some(8), Some(7), None, None], true)))
+}
+
+// The values of a part of a map.
+fn count_part(map: &KeyedMap<Signed<4>, u32, 8>) -> (usize, usize, Option<u32>, Option<u32>) {
+    let first = match map.first_from(Bound::Excluded(&Signed::from(-1))) {
+        Some((_, value)) => Some(*value),
+        None => None,
+    };
+    let last = match map.last_up_to(Bound::Included(&Signed::from(-1))) {
+        Some((_, value)) => Some(*value),
+        None => None,
+    };
+    (
+        map.range(Signed::from(-5)..Signed::from(5)).count(),
+        map.range(Signed::from(5)..=Signed::from(-5)).count(),
+        first,
+        last,
+    )
+}
+
+// The same of a map of four numbers.
+fn parts(
+    map: &mut KeyedMap<Signed<4>, u32, 8>,
+) -> Option<(usize, usize, Option<u32>, Option<u32>)> {
+    for (i, n) in [5i32, -1, 0, i32::MIN].iter().enumerate() {
+        if map.insert(Signed::from(*n), i as u32).is_err() {
+            return None;
+        }
+    }
+    Some(count_part(map))
+}
+
+#[test]
+fn numbers_between_two_are_a_part(rt: HostRuntime) -> Result<(), Fail> {
+    let seen = parts(&mut KeyedMap::new(rt.alloc()));
+    same(seen, Some((2, 0, Some(2), Some(1))))
+}
+
+// What is found by bytes that are not a key yet, and how many words begin with one.
+fn look_up(
+    map: &mut KeyedMap<Terminated, u32, 8>,
+    alloc: Global,
+) -> Option<([Option<u32>; 5], usize)> {
+    for (i, text) in [b"cart".as_slice(), b"", b"car", b"care"]
+        .iter()
+        .enumerate()
+    {
+        word(map, alloc, text, i as u32)?;
+    }
+    let found = [
+        map.get_string(b"car").copied(),
+        map.get_string(b"").copied(),
+        map.get_string(b"ca").copied(),
+        map.get_string(b"car\0").copied(),
+        map.get_string(b"cars").copied(),
+    ];
+    let key = Terminated::from_string("car".to_string(alloc).ok()?).ok()?;
+    Some((found, map.prefix(&key).count()))
+}
+
+#[test]
+fn words_are_found_by_their_bytes(rt: HostRuntime) -> Result<(), Fail> {
+    let seen = look_up(&mut KeyedMap::new(rt.alloc()), rt.alloc());
+    same(seen, Some(([Some(2), Some(1), None, None, None], 3)))
+}
+
+// What writes of values leave, and what a map and its clone have in common.
+fn written(map: &mut KeyedMap<[u8; 2], u32, 8>) -> Option<([Option<u32>; 4], u32, bool)> {
+    if map.insert([1, 2], 7).is_err() {
+        return None;
+    }
+    *map.get_mut(&[1, 2])? += 1;
+    let Ok(value) = map.get_or_insert([1, 1], 3) else {
+        return None;
+    };
+    *value += 1;
+    let Ok(value) = map
+        .entry([1, 2])
+        .and_modify(|value| *value = 5)
+        .or_insert(9)
+    else {
+        return None;
+    };
+    *value += 1;
+    let copy = map.clone().ok()?;
+    Some((values(map), map[&[1, 1]], *map == copy))
+}
+
+#[test]
+fn values_are_written_where_they_are(rt: HostRuntime) -> Result<(), Fail> {
+    let seen = written(&mut KeyedMap::new(rt.alloc()));
+    same(seen, Some(([Some(4), Some(6), None, None], 4, true)))
 }

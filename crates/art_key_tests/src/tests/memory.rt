@@ -1,8 +1,8 @@
 //! Keys and maps of them without memory.
 use art_keyed::map::KeyedMap;
 use art_keys::escaped::Escaped;
-use art_keys::numbers::Unsigned;
 use art_keys::terminated::{EndError, Terminated};
+use art_keys::unsigned::Unsigned;
 use art_node_support::expected::same;
 use art_node_support::memory::all_memory;
 use std::alloc::Global;

@@ -1,0 +1,48 @@
+//! Sets of such keys.
+use art_keyed::set::KeyedSet;
+use art_keys::signed::Signed;
+use art_node_support::expected::same;
+use std::test::Fail;
+
+// Which of four numbers, of which one comes twice, are new, and whether two of them are there.
+fn put_in(set: &mut KeyedSet<Signed<2>, 2>) -> Option<([bool; 4], [bool; 2])> {
+    let mut added = [false; 4];
+    for (added, number) in added.iter_mut().zip([3i16, -1, 3, i16::MIN]) {
+        *added = set.insert(Signed::from(number)).ok()?;
+    }
+    let are_there = [
+        set.contains(&Signed::from(-1i16)),
+        set.contains(&Signed::from(1i16)),
+    ];
+    Some((added, are_there))
+}
+
+// The first number and the last one, whether two are taken out, and the two ends of what is left.
+fn take_out(set: &mut KeyedSet<Signed<2>, 2>) -> Option<([i16; 4], [bool; 2], usize)> {
+    let (first, last) = (i16::from(*set.first()?), i16::from(*set.last()?));
+    let removed = [
+        set.remove(&Signed::from(-1i16)).ok()?,
+        set.remove(&Signed::from(-1i16)).ok()?,
+    ];
+    let ends = [
+        first,
+        last,
+        i16::from(set.pop_first().ok()??),
+        i16::from(set.pop_last().ok()??),
+    ];
+    set.clear();
+    Some((ends, removed, set.len()))
+}
+
+#[test]
+fn a_set_has_each_number_once(rt: HostRuntime) -> Result<(), Fail> {
+    let mut set = KeyedSet::new(rt.alloc());
+    let seen = (put_in(&mut set), take_out(&mut set));
+    same(
+        seen,
+        (
+            Some(([true, true, false, true], [true, false])),
+            Some(([i16::MIN, 3, i16::MIN, 3], [true, false], 0)),
+        ),
+    )
+}

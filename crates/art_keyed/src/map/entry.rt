@@ -1,0 +1,74 @@
+//! A map with a key, which may be stored or not.
+ghost use Rattle.std.specs.Prelude.{◌≡◌, false, IfErr, IfOk, OnErr, Some, option_copied};
+ghost use Rattle.std.specs.Borrow.{MutBor, sem};
+ghost use Rattle.std.specs.Option.{unwrap_or};
+ghost use Rattle.art_model.specs.Pairs.{has_key, of_key};
+ghost use Rattle.art_map.specs.MapAnswers.{value_at};
+ghost use Rattle.art_map.specs.MapCalls.{Modifies};
+ghost use Rattle.art_keyed.specs.KeyedLends.{lends_put};
+
+use super::{KeyedMap, PairRefused};
+use art_keys::laws::NoPrefixesBytes;
+
+/// A map with a key.
+#[derive(Drop)]
+pub struct KeyedEntryOf<'a, K, M> {
+    pub(crate) map: &'a mut M,
+    pub(crate) key: K,
+}
+
+/// The same, of a map whose keys these are.
+pub type KeyedEntry<'a, K, V, const P: usize> = KeyedEntryOf<'a, K, KeyedMap<K, V, P>>;
+
+impl<'a, K: NoPrefixesBytes + Drop, V: Drop, const P: usize> KeyedEntryOf<
+    'a,
+    K,
+    KeyedMap<K, V, P>,
+> {
+    /// Returns the key.
+    pub fn key(&self) -> &K
+        ensures { result.now ≡ self.now.key }
+    {
+        &self.key
+    }
+
+    /// Returns the value of the key, where it is stored.
+    pub fn get(&self) -> Option<&V>
+        ensures { option_copied result ≡
+            value_at K.bytes (K.bytes self.now.key) self.now.map.now }
+    {
+        self.map.get(&self.key)
+    }
+
+    /// Returns the same, after a change of the value of the key, where it is stored.
+    pub fn and_modify<F: FnOnce(&mut V)>(self, f: F) -> Self
+        requires { (value : MutBor V) →
+            value_at K.bytes (K.bytes self.key) self.map.now ≡ Some value.now → F.pre f value }
+        ensures same_map { result.map.ghost_name ≡ self.entry.map.ghost_name }
+        ensures key { result.key ≡ self.entry.key }
+        ensures pairs { Modifies F.FnOnce f K.bytes (K.bytes self.entry.key)
+            self.entry.map.now result.map.now }
+    {
+        let KeyedEntryOf { map, key } = self;
+        if let Some(value) = map.get_mut(&key) {
+            f(value);
+        }
+        KeyedEntryOf { map, key }
+    }
+
+    /// Returns the value of the key, to be written. Where no equal key is stored the pair comes in first,
+    /// by the same way down the tree.
+    pub fn or_insert(self, value: V) -> Result<&'a mut V, PairRefused<K, V>>
+        ensures* writes_back { sem 𝓛 (lends_put K.row V.row P.row K.NoPrefixesBytes
+            self.entry.map self.entry.key result) }
+        ensures value { IfOk result (λ lent. lent.now ≡ unwrap_or
+            (value_at K.bytes (K.bytes self.entry.key) self.entry.map.now) value) }
+        ensures handed_back { IfErr result (λ refused.
+            (refused.key ≡ self.entry.key) × (refused.value ≡ value)) }
+        ensures refused { OnErr result (has_key (of_key K.bytes)
+            (K.bytes self.entry.key) self.entry.map.now ≡ false) }
+    {
+        let KeyedEntryOf { map, key } = self;
+        map.get_or_insert(key, value)
+    }
+}

@@ -1,0 +1,172 @@
+//! An ordered set of keys that are never in conflict. Its contracts speak of lists of keys alone.
+ghost use Rattle.std.specs.Prelude.{◌≡◌, ◌↔◌, [], length, false, not, IfOk, IfErr, IsTrue, OnOk, OnErr, option_copied};
+ghost use Rattle.std.specs.List.{AllByRecursion as Each};
+ghost use Rattle.art_model.specs.Pairs.{IsMap, first_of, has_key, last_of, of_key, remove_key, remove_reply, without_first, without_last};
+ghost use Rattle.art_map.specs.MapAnswers.{MayRefuseRemoval};
+ghost use Rattle.art_map.specs.SetKeys.{add_key, as_pairs};
+ghost use Rattle.art_keyed.specs.KeyedPairs.{KeysRiseBy};
+
+use art_keys::laws::{NoPrefixesBytes, OrderedBytes};
+use art_map::map::{Keys, MapInsertError, MapRefused};
+use art_map::set::ByteSet;
+use std::alloc::Global;
+use std::marker::Model;
+
+/// A key that was not put in, for want of memory.
+#[derive(Drop)]
+pub struct KeyRefused<K> {
+    pub key: K,
+}
+
+/// A set of keys in the order of their bytes. No key of the type is a prefix of another, so that a key is
+/// refused only for want of memory.
+#[derive(Drop)]
+pub struct KeyedSet<K: NoPrefixesBytes, const P: usize> {
+    set: ByteSet<K, P>,
+}
+
+impl<K: NoPrefixesBytes, const P: usize> Model for KeyedSet<K, P> {
+    ghost use Rattle.std.specs.Prelude.{List};
+    ghost use Rattle.std.specs.Coded.{coded_list};
+    ghost use Rattle.std.specs.List.{AllByRecursion as Each};
+
+    ghost Value = { List K };
+
+    ghost coded = { coded_list K.code };
+
+    ghost view = { λ s. s.set };
+
+    ghost invariant = { λ s. Each K.is_key s.set };
+}
+
+impl<K: NoPrefixesBytes + Drop, const P: usize> KeyedSet<K, P> {
+    /// Returns an empty set, and takes no memory.
+    pub fn new(alloc: Global) -> Self
+        ensures { result ≡ [] }
+    {
+        KeyedSet {
+            set: ByteSet::new(alloc),
+        }
+    }
+
+    /// Returns the set without what is known of its keys, for all that only reads.
+    pub fn as_byte_set(&self) -> &ByteSet<K, P>
+        ensures keys { result.now ≡ self.now }
+        ensures known { Each K.is_key self.now }
+    {
+        &self.set
+    }
+
+    /// Returns the number of keys.
+    pub fn len(&self) -> usize
+        ensures len { result ≡ length self.now }
+        ensures sorted { IsMap K.bytes self.now }
+    {
+        self.set.len()
+    }
+
+    /// Returns whether there is no key.
+    pub fn is_empty(&self) -> bool
+        ensures { IsTrue result ↔ (self.now ≡ []) }
+    {
+        self.set.is_empty()
+    }
+
+    /// Returns whether a key is stored.
+    pub fn contains(&self, key: &K) -> bool
+        ensures { result ≡ has_key K.bytes (K.bytes key.now) self.now }
+    {
+        self.set.contains(key.as_bytes())
+    }
+
+    /// Returns the first key.
+    pub fn first(&self) -> Option<&K>
+        ensures { option_copied result ≡ first_of self.now }
+    {
+        self.set.first()
+    }
+
+    /// Returns the last key.
+    pub fn last(&self) -> Option<&K>
+        ensures { option_copied result ≡ last_of self.now }
+    {
+        self.set.last()
+    }
+
+    /// Returns the keys as they rise.
+    pub fn iter(&self) -> Keys<'_, K, (), P>
+        ensures { result ≡ self.now }
+    {
+        self.set.iter()
+    }
+
+    /// Puts a key in, and returns whether it was new. Where an equal key is stored, that key stays and
+    /// the one that was handed in is dropped. It is refused only for want of memory, and never where an
+    /// equal key is stored.
+    pub fn insert(&mut self, key: K) -> Result<bool, KeyRefused<K>>
+        ensures keys { OnOk result (self.new ≡ add_key K.bytes key self.old) }
+        ensures added { IfOk result (λ added.
+            added ≡ not (has_key K.bytes (K.bytes key) self.old)) }
+
+        ensures handed_back { IfErr result (λ refused. refused.key ≡ key) }
+        ensures refused { OnErr result (has_key K.bytes (K.bytes key) self.old ≡ false) }
+        ensures kept { OnErr result (self.new ≡ self.old) }
+    {
+        key.as_key();
+        match self.set.insert(key) {
+            Ok(added) => Ok(added),
+            Err(MapInsertError::Conflict { .. }) => unreachable!(),
+            Err(MapInsertError::Memory { key, .. }) => Err(KeyRefused { key }),
+        }
+    }
+
+    /// Takes out a key, and returns whether it was there.
+    pub fn remove(&mut self, key: &K) -> Result<bool, MapRefused>
+        ensures keys { OnOk result (self.new ≡ remove_key K.bytes (K.bytes key.now) self.old) }
+        ensures removed { IfOk result (λ removed.
+            removed ≡ has_key K.bytes (K.bytes key.now) self.old) }
+        ensures kept { OnErr result (self.new ≡ self.old) }
+        ensures refused { OnErr result (MayRefuseRemoval (of_key K.bytes) P (as_pairs self.old)
+            (remove_reply (of_key K.bytes) (K.bytes key.now) (as_pairs self.old))) }
+    {
+        self.set.remove(key.as_bytes())
+    }
+
+    /// Takes out the first key, and returns it.
+    pub fn pop_first(&mut self) -> Result<Option<K>, MapRefused>
+        ensures keys { OnOk result (self.new ≡ without_first self.old) }
+        ensures removed { IfOk result (λ removed. removed ≡ first_of self.old) }
+        ensures kept { OnErr result (self.new ≡ self.old) }
+        ensures refused { OnErr result (MayRefuseRemoval (of_key K.bytes) P (as_pairs self.old)
+            (first_of (as_pairs self.old))) }
+    {
+        self.set.pop_first()
+    }
+
+    /// Takes out the last key, and returns it.
+    pub fn pop_last(&mut self) -> Result<Option<K>, MapRefused>
+        ensures keys { OnOk result (self.new ≡ without_last self.old) }
+        ensures removed { IfOk result (λ removed. removed ≡ last_of self.old) }
+        ensures kept { OnErr result (self.new ≡ self.old) }
+        ensures refused { OnErr result (MayRefuseRemoval (of_key K.bytes) P (as_pairs self.old)
+            (last_of (as_pairs self.old))) }
+    {
+        self.set.pop_last()
+    }
+
+    /// Takes out all keys, and takes no memory. The room of their nodes stays for others.
+    pub fn clear(&mut self)
+        ensures { self.new ≡ [] }
+    {
+        self.set.clear();
+    }
+}
+
+impl<K: OrderedBytes + Drop, const P: usize> KeyedSet<K, P> {
+    /// Does nothing, and tells that the keys rise in the order of their type.
+    pub fn rises(&self)
+        ensures { KeysRiseBy K.order self.now }
+    {
+        self.set.len();
+    }
+}

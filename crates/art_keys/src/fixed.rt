@@ -1,0 +1,32 @@
+//! Arrays of bytes as keys: all of one length.
+ghost use Rattle.std.specs.Prelude.{◌≡◌, length};
+
+use super::laws::{CloneBytes, NoPrefixesBytes, OrderedBytes};
+
+impl<const N: usize> NoPrefixesBytes for [u8; N] {
+    ghost use Rattle.art_keys.specs.FixedLaws.{fixed_no_prefixes};
+
+    ghost is_key = { λ bytes. length bytes ≡ N };
+
+    fn as_key(&self) {}
+
+    ghost no_prefixes = { fixed_no_prefixes N };
+}
+
+impl<const N: usize> OrderedBytes for [u8; N] {
+    ghost use Rattle.std.specs.Cmp.Lexicographic.{slice_cmp};
+    ghost use Rattle.std.specs.Ordering.{nat_cmp};
+    ghost use Rattle.std.proofs.Common.{refl};
+
+    ghost order = { slice_cmp nat_cmp };
+
+    ghost keeps_order = { λ a b of_a of_b. refl };
+}
+
+impl<const N: usize> CloneBytes for [u8; N] {
+    ghost use Rattle.art_keys.specs.FixedLaws.{fixed_keeps_bytes, fixed_keeps_key};
+
+    ghost keeps_bytes = { fixed_keeps_bytes N };
+
+    ghost keeps_key = { fixed_keeps_key N };
+}

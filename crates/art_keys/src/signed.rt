@@ -1,0 +1,252 @@
+//! Numbers with a sign as keys, in their order.
+ghost use Rattle.std.specs.Prelude.{◌≡◌, ℕ, ℤ};
+ghost use Rattle.std.specs.Ordering.{int_cmp};
+ghost use Rattle.art_keys.specs.Numbers.{HasSignedBytes, lifted, lowered, number_of, signed_bytes};
+ghost use Rattle.art_keys.specs.Prefixes.{KeepsOrder};
+
+use super::laws::{CloneBytes, NoPrefixesBytes, OrderedBytes, compare};
+use art_nodes::node::AsBytes;
+use std::cmp::Ordering;
+use std::marker::Model;
+
+/// A signed number of so many bytes. It is seen as the number, and its bytes have the sign's bit flipped.
+#[derive(Clone, Copy, Debug)]
+pub struct Signed<const N: usize> {
+    bytes: [u8; N],
+}
+
+impl<const N: usize> Model for Signed<N> {
+    ghost use Rattle.std.specs.Prelude.{ℤ};
+    ghost use Rattle.art_keys.specs.Numbers.{IsSignedNumber, lowered, number_of};
+
+    ghost Value = { ℤ };
+
+    ghost view = { λ s. lowered N (number_of s.bytes) };
+
+    ghost invariant = { λ s. IsSignedNumber N s.bytes };
+
+    ghost use Rattle.std.proofs.Common.{sym};
+    ghost use Rattle.art_keys.specs.Numbers.{signed_bytes};
+
+    ghost inverse = { λ z. record { bytes = signed_bytes N z } };
+
+    ghost inverse_ok = { λ s h i. record { bytes = sym h.is i } };
+}
+
+impl From<i8> for Signed<1> {
+    ghost from_gives = { λ n key. key ≡ n };
+
+    fn from(n: i8) -> Self {
+        let lifted = n.cast_unsigned().wrapping_add(1 << 7);
+        Signed {
+            bytes: lifted.to_be_bytes(),
+        }
+    }
+}
+
+impl From<Signed<1>> for i8 {
+    ghost from_gives = { λ key n. n ≡ key };
+
+    fn from(key: Signed<1>) -> Self {
+        let lifted = u8::from_be_bytes(key.bytes);
+        lifted.wrapping_sub(1 << 7).cast_signed()
+    }
+}
+
+impl From<i16> for Signed<2> {
+    ghost from_gives = { λ n key. key ≡ n };
+
+    fn from(n: i16) -> Self {
+        let lifted = n.cast_unsigned().wrapping_add(1 << 15);
+        Signed {
+            bytes: lifted.to_be_bytes(),
+        }
+    }
+}
+
+impl From<Signed<2>> for i16 {
+    ghost from_gives = { λ key n. n ≡ key };
+
+    fn from(key: Signed<2>) -> Self {
+        let lifted = u16::from_be_bytes(key.bytes);
+        lifted.wrapping_sub(1 << 15).cast_signed()
+    }
+}
+
+impl From<i32> for Signed<4> {
+    ghost from_gives = { λ n key. key ≡ n };
+
+    fn from(n: i32) -> Self {
+        let lifted = n.cast_unsigned().wrapping_add(1 << 31);
+        Signed {
+            bytes: lifted.to_be_bytes(),
+        }
+    }
+}
+
+impl From<Signed<4>> for i32 {
+    ghost from_gives = { λ key n. n ≡ key };
+
+    fn from(key: Signed<4>) -> Self {
+        let lifted = u32::from_be_bytes(key.bytes);
+        lifted.wrapping_sub(1 << 31).cast_signed()
+    }
+}
+
+impl From<i64> for Signed<8> {
+    ghost from_gives = { λ n key. key ≡ n };
+
+    fn from(n: i64) -> Self {
+        let lifted = n.cast_unsigned().wrapping_add(1 << 63);
+        Signed {
+            bytes: lifted.to_be_bytes(),
+        }
+    }
+}
+
+impl From<Signed<8>> for i64 {
+    ghost from_gives = { λ key n. n ≡ key };
+
+    fn from(key: Signed<8>) -> Self {
+        let lifted = u64::from_be_bytes(key.bytes);
+        lifted.wrapping_sub(1 << 63).cast_signed()
+    }
+}
+
+impl From<i128> for Signed<16> {
+    ghost from_gives = { λ n key. key ≡ n };
+
+    fn from(n: i128) -> Self {
+        let lifted = lift(n);
+        Signed {
+            bytes: lifted.to_be_bytes(),
+        }
+    }
+}
+
+impl From<Signed<16>> for i128 {
+    ghost from_gives = { λ key n. n ≡ key };
+
+    fn from(key: Signed<16>) -> Self {
+        lower(u128::from_be_bytes(key.bytes))
+    }
+}
+
+// The number, moved up by a half of all.
+fn lift(n: i128) -> u128
+    ensures lifted { result ≡ lifted 16 n }
+    ensures fits { HasSignedBytes 16 n }
+{
+    n.cast_unsigned().wrapping_add(1 << 127)
+}
+
+// The number, moved down by a half of all.
+fn lower(lifted: u128) -> i128
+    ensures { result ≡ lowered 16 lifted }
+{
+    lifted.wrapping_sub(1 << 127).cast_signed()
+}
+
+impl<const N: usize> AsBytes for Signed<N> {
+    ghost use Rattle.art_keys.specs.Numbers.{signed_bytes};
+
+    ghost bytes = { signed_bytes N };
+
+    fn as_bytes(&self) -> &[u8] {
+        &self.bytes[..]
+    }
+}
+
+impl<const N: usize> NoPrefixesBytes for Signed<N> {
+    ghost use Rattle.art_keys.specs.Numbers.{HasSignedBytes};
+    ghost use Rattle.art_keys.specs.NumberLaws.{signed_no_prefixes};
+
+    ghost is_key = { HasSignedBytes N };
+
+    fn as_key(&self) {
+        let _ = &self.bytes;
+    }
+
+    ghost no_prefixes = { signed_no_prefixes N };
+}
+
+impl<const N: usize> OrderedBytes for Signed<N> {
+    ghost use Rattle.std.specs.Ordering.{int_cmp};
+    ghost use Rattle.art_keys.specs.NumberLaws.{signed_keep_order};
+
+    ghost order = { int_cmp };
+
+    ghost keeps_order = { signed_keep_order N };
+}
+
+impl<const N: usize> CloneBytes for Signed<N> {
+    ghost use Rattle.std.proofs.Common.{ap, subst, sym};
+    ghost use Rattle.art_keys.specs.Numbers.{signed_bytes};
+    ghost use Rattle.art_keys.specs.Numbers.{HasSignedBytes};
+
+    ghost keeps_bytes = { λ key copy is. ap (signed_bytes N) is };
+
+    ghost keeps_key = { λ key copy is of_key. subst (HasSignedBytes N) (sym is) of_key };
+}
+
+impl<const N: usize> PartialEq for Signed<N> {
+    ghost use Rattle.std.proofs.Common.{rules};
+    ghost use Rattle.std.specs.Cmp.Rules.{comparing};
+    ghost use Rattle.std.specs.Ordering.{eq_by_cmp, int_cmp};
+
+    ghost eq = { eq_by_cmp int_cmp };
+
+    ghost laws = { Prim.search (comparing, rules) };
+
+    fn eq(&self, other: &Self) -> bool {
+        compare(self, other).is_eq()
+    }
+}
+
+impl<const N: usize> Eq for Signed<N> {
+    ghost use Rattle.std.proofs.Common.{rules};
+    ghost use Rattle.std.specs.Cmp.Rules.{comparing};
+
+    ghost laws = { Prim.search (comparing, rules) };
+}
+
+impl<const N: usize> PartialOrd for Signed<N> {
+    ghost use Rattle.std.proofs.Common.{rules};
+    ghost use Rattle.std.specs.Cmp.Rules.{comparing};
+    ghost use Rattle.std.specs.Ordering.{as_partial_cmp, int_cmp};
+
+    ghost partial_cmp = { as_partial_cmp int_cmp };
+
+    ghost laws = { Prim.search (comparing, rules) };
+
+    fn partial_cmp(&self, other: &Self) -> Option<Ordering> {
+        Some(compare(self, other))
+    }
+}
+
+/// The order of the numbers.
+impl<const N: usize> Ord for Signed<N> {
+    ghost use Rattle.std.proofs.Common.{rules};
+    ghost use Rattle.std.specs.Cmp.Rules.{comparing};
+    ghost use Rattle.std.specs.Ordering.{int_cmp};
+
+    ghost cmp = { int_cmp };
+
+    ghost total = { Prim.search (comparing, rules) };
+
+    ghost matches_partial_cmp = { Prim.search (comparing, rules) };
+
+    ghost matches_eq = { Prim.search (comparing, rules) };
+
+    fn cmp(&self, other: &Self) -> Ordering {
+        compare(self, other)
+    }
+}
+
+/// Numbers come back from their bytes, which are in the order of the numbers.
+pub fn signed_numbers_come_back_in_order()
+    ensures back { (count : ℕ) (z : ℤ) → HasSignedBytes count z →
+        lowered count (number_of (signed_bytes count z)) ≡ z }
+    ensures order { (count : ℕ) →
+        KeepsOrder (HasSignedBytes count) (signed_bytes count) int_cmp }
+{}

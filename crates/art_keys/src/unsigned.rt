@@ -1,0 +1,227 @@
+//! Numbers without a sign as keys, in their order.
+ghost use Rattle.std.specs.Prelude.{◌≡◌, ℕ};
+ghost use Rattle.std.specs.Int.{bytes_high_first};
+ghost use Rattle.std.specs.Ordering.{nat_cmp};
+ghost use Rattle.art_keys.specs.Numbers.{HasBytes, number_of};
+ghost use Rattle.art_keys.specs.Prefixes.{KeepsOrder};
+
+use super::laws::{CloneBytes, NoPrefixesBytes, OrderedBytes, compare};
+use art_nodes::node::AsBytes;
+use std::cmp::Ordering;
+use std::marker::Model;
+
+/// A number of so many bytes, the highest first. It is seen as the number.
+#[derive(Clone, Copy, Debug)]
+pub struct Unsigned<const N: usize> {
+    bytes: [u8; N],
+}
+
+impl<const N: usize> Model for Unsigned<N> {
+    ghost use Rattle.std.specs.Prelude.{ℕ};
+    ghost use Rattle.art_keys.specs.Numbers.{IsNumber, number_of};
+
+    ghost Value = { ℕ };
+
+    ghost view = { λ u. number_of u.bytes };
+
+    ghost invariant = { λ u. IsNumber N u.bytes };
+
+    ghost use Rattle.std.specs.Int.{bytes_high_first};
+    ghost use Rattle.std.proofs.Common.{sym};
+
+    ghost inverse = { λ n. record { bytes = bytes_high_first N n } };
+
+    ghost inverse_ok = { λ u h i. record { bytes = sym h.is i } };
+}
+
+impl From<u8> for Unsigned<1> {
+    ghost from_gives = { λ n key. key ≡ n };
+
+    fn from(n: u8) -> Self {
+        Unsigned {
+            bytes: n.to_be_bytes(),
+        }
+    }
+}
+
+impl From<Unsigned<1>> for u8 {
+    ghost from_gives = { λ key n. n ≡ key };
+
+    fn from(key: Unsigned<1>) -> Self {
+        u8::from_be_bytes(key.bytes)
+    }
+}
+
+impl From<u16> for Unsigned<2> {
+    ghost from_gives = { λ n key. key ≡ n };
+
+    fn from(n: u16) -> Self {
+        Unsigned {
+            bytes: n.to_be_bytes(),
+        }
+    }
+}
+
+impl From<Unsigned<2>> for u16 {
+    ghost from_gives = { λ key n. n ≡ key };
+
+    fn from(key: Unsigned<2>) -> Self {
+        u16::from_be_bytes(key.bytes)
+    }
+}
+
+impl From<u32> for Unsigned<4> {
+    ghost from_gives = { λ n key. key ≡ n };
+
+    fn from(n: u32) -> Self {
+        Unsigned {
+            bytes: n.to_be_bytes(),
+        }
+    }
+}
+
+impl From<Unsigned<4>> for u32 {
+    ghost from_gives = { λ key n. n ≡ key };
+
+    fn from(key: Unsigned<4>) -> Self {
+        u32::from_be_bytes(key.bytes)
+    }
+}
+
+impl From<u64> for Unsigned<8> {
+    ghost from_gives = { λ n key. key ≡ n };
+
+    fn from(n: u64) -> Self {
+        Unsigned {
+            bytes: n.to_be_bytes(),
+        }
+    }
+}
+
+impl From<Unsigned<8>> for u64 {
+    ghost from_gives = { λ key n. n ≡ key };
+
+    fn from(key: Unsigned<8>) -> Self {
+        u64::from_be_bytes(key.bytes)
+    }
+}
+
+impl From<u128> for Unsigned<16> {
+    ghost from_gives = { λ n key. key ≡ n };
+
+    fn from(n: u128) -> Self {
+        Unsigned {
+            bytes: n.to_be_bytes(),
+        }
+    }
+}
+
+impl From<Unsigned<16>> for u128 {
+    ghost from_gives = { λ key n. n ≡ key };
+
+    fn from(key: Unsigned<16>) -> Self {
+        u128::from_be_bytes(key.bytes)
+    }
+}
+
+impl<const N: usize> AsBytes for Unsigned<N> {
+    ghost use Rattle.std.specs.Int.{bytes_high_first};
+
+    ghost bytes = { bytes_high_first N };
+
+    fn as_bytes(&self) -> &[u8] {
+        &self.bytes[..]
+    }
+}
+
+impl<const N: usize> NoPrefixesBytes for Unsigned<N> {
+    ghost use Rattle.art_keys.specs.Numbers.{HasBytes};
+    ghost use Rattle.art_keys.specs.NumberLaws.{numbers_no_prefixes};
+
+    ghost is_key = { HasBytes N };
+
+    fn as_key(&self) {
+        let _ = &self.bytes;
+    }
+
+    ghost no_prefixes = { numbers_no_prefixes N };
+}
+
+impl<const N: usize> OrderedBytes for Unsigned<N> {
+    ghost use Rattle.std.specs.Ordering.{nat_cmp};
+    ghost use Rattle.art_keys.specs.NumberLaws.{numbers_keep_order};
+
+    ghost order = { nat_cmp };
+
+    ghost keeps_order = { numbers_keep_order N };
+}
+
+impl<const N: usize> CloneBytes for Unsigned<N> {
+    ghost use Rattle.std.proofs.Common.{ap, subst, sym};
+    ghost use Rattle.std.specs.Int.{bytes_high_first};
+    ghost use Rattle.art_keys.specs.Numbers.{HasBytes};
+
+    ghost keeps_bytes = { λ key copy is. ap (bytes_high_first N) is };
+
+    ghost keeps_key = { λ key copy is of_key. subst (HasBytes N) (sym is) of_key };
+}
+
+impl<const N: usize> PartialEq for Unsigned<N> {
+    ghost use Rattle.std.proofs.Common.{rules};
+    ghost use Rattle.std.specs.Cmp.Rules.{comparing};
+    ghost use Rattle.std.specs.Ordering.{eq_by_cmp, nat_cmp};
+
+    ghost eq = { eq_by_cmp nat_cmp };
+
+    ghost laws = { Prim.search (comparing, rules) };
+
+    fn eq(&self, other: &Self) -> bool {
+        compare(self, other).is_eq()
+    }
+}
+
+impl<const N: usize> Eq for Unsigned<N> {
+    ghost use Rattle.std.proofs.Common.{rules};
+    ghost use Rattle.std.specs.Cmp.Rules.{comparing};
+
+    ghost laws = { Prim.search (comparing, rules) };
+}
+
+impl<const N: usize> PartialOrd for Unsigned<N> {
+    ghost use Rattle.std.proofs.Common.{rules};
+    ghost use Rattle.std.specs.Cmp.Rules.{comparing};
+    ghost use Rattle.std.specs.Ordering.{as_partial_cmp, nat_cmp};
+
+    ghost partial_cmp = { as_partial_cmp nat_cmp };
+
+    ghost laws = { Prim.search (comparing, rules) };
+
+    fn partial_cmp(&self, other: &Self) -> Option<Ordering> {
+        Some(compare(self, other))
+    }
+}
+
+/// The order of the numbers.
+impl<const N: usize> Ord for Unsigned<N> {
+    ghost use Rattle.std.proofs.Common.{rules};
+    ghost use Rattle.std.specs.Cmp.Rules.{comparing};
+    ghost use Rattle.std.specs.Ordering.{nat_cmp};
+
+    ghost cmp = { nat_cmp };
+
+    ghost total = { Prim.search (comparing, rules) };
+
+    ghost matches_partial_cmp = { Prim.search (comparing, rules) };
+
+    ghost matches_eq = { Prim.search (comparing, rules) };
+
+    fn cmp(&self, other: &Self) -> Ordering {
+        compare(self, other)
+    }
+}
+
+/// Numbers come back from their bytes, which are in the order of the numbers.
+pub fn unsigned_numbers_come_back_in_order()
+    ensures back { (count n : ℕ) → HasBytes count n → number_of (bytes_high_first count n) ≡ n }
+    ensures order { (count : ℕ) → KeepsOrder (HasBytes count) (bytes_high_first count) nat_cmp }
+{}

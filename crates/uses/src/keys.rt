@@ -1,0 +1,67 @@
+//! Maps of keys that are never in conflict, as a user has them.
+ghost use Rattle.std.specs.Prelude.{◌≡◌, Some, IfSome, OnErr, OnOk, negsuc, option_copied};
+ghost use Rattle.std.specs.Cmp.Lexicographic.{slice_cmp};
+ghost use Rattle.std.specs.Ordering.{nat_cmp};
+ghost use Rattle.art_model.specs.Pairs.{of_key, put};
+ghost use Rattle.art_operations.specs.Ended.{ended};
+ghost use Rattle.art_operations.specs.Escapes.{escape};
+ghost use Rattle.art_operations.specs.KeyedPairs.{RiseBy};
+ghost use Rattle.art_operations.specs.MapAnswers.{value_at};
+
+use art_operations::keyed::KeyedMap;
+use art_operations::keys::{Escaped, Signed, Terminated};
+use std::alloc::{AllocError, Global};
+
+/// Words with their numbers. Any word may be the beginning of another.
+pub type Words = KeyedMap<Escaped, u64, 16>;
+
+/// Puts a word in. The only error is want of memory.
+pub fn put_word(
+    words: &mut Words,
+    alloc: Global,
+    word: &[u8],
+    number: u64,
+) -> Result<(), AllocError>
+    ensures pairs { OnOk result (words.new ≡ put (of_key escape) (word.now, number) words.old) }
+    ensures kept { OnErr result (words.new ≡ words.old) }
+{
+    let key = Escaped::encode(alloc, word)?;
+    match words.insert(key, number) {
+        Ok(_) => Ok(()),
+        Err(_) => Err(AllocError),
+    }
+}
+
+/// Does nothing, and tells that the words rise as their bytes do, and not as their escapes.
+pub fn words_rise(words: &Words)
+    ensures { RiseBy (slice_cmp nat_cmp) words.now }
+{
+    words.rises();
+}
+
+/// Returns the number of a name, and takes no memory.
+pub fn number_of_name(names: &KeyedMap<Terminated, u64, 16>, name: &str) -> Option<u64>
+    ensures { result ≡ value_at ended (ended name.now) names.now }
+{
+    names.get_string(name.as_bytes()).copied()
+}
+
+/// Takes three temperatures in, and returns the lowest with its day. `None` for want of memory.
+pub fn coldest(alloc: Global) -> Option<Option<(Signed<4>, u32)>>
+    ensures { IfSome result (λ told. told ≡ Some (negsuc 11, 2)) }
+{
+    let mut days: KeyedMap<Signed<4>, u32, 4> = KeyedMap::new(alloc);
+    let Ok(_) = days.insert(Signed::from(3), 1) else {
+        return None;
+    };
+    let Ok(_) = days.insert(Signed::from(-12), 2) else {
+        return None;
+    };
+    let Ok(_) = days.insert(Signed::from(0), 3) else {
+        return None;
+    };
+    let Ok(first) = days.pop_first() else {
+        return None;
+    };
+    Some(first)
+}
