@@ -39,7 +39,9 @@ pub use Rattle.art_map.specs.MapAnswers
 pub use Rattle.art_map.specs.MapItems
 pub use Rattle.art_map.specs.MapLends
 pub use Rattle.art_map.specs.MapCalls
+pub use Rattle.art_map.specs.MapRetain
 pub use Rattle.art_map.specs.SetKeys
+pub use Rattle.art_map.specs.SetAlgebra
 -- runs of commands
 pub use Rattle.art_running.specs.Answers
 pub use Rattle.art_running.specs.Needs
