@@ -13,3 +13,8 @@ pub mod ValueLaws
 pub mod Written
 pub mod Entered
 pub mod SetLaws
+pub mod SetOrders
+pub mod Extended
+pub mod Retained
+pub mod Refusing
+pub mod SetSides

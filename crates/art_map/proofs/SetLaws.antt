@@ -1,15 +1,19 @@
 -- What a map's calls do to the keys alone.
-use Rattle.std.proofs.Common.{◌≡◌, List, [], ◌∷◌, Bool, Option, Some, None, ℕ, suc, ◌||◌, ◌&&◌, length, refl, ap, sym, ◌∙◌, true, false, not, is_some}
+use Rattle.std.proofs.Common.{◌≡◌, List, [], ◌∷◌, Bool, Option, Some, None, ℕ, suc, ◌||◌, ◌&&◌, cond, filter, length, refl, ap, sym, ◌∙◌, true, false, not, is_some}
 use Rattle.std.proofs.lemmas.Bool.{false≢true}
 use Rattle.std.specs.List.{AllByRecursion as Each}
 use Rattle.std.specs.Option.{option_map}
+use Rattle.std.specs.declared.ops.Bound.{Bound}
 use Rattle.art_model.specs.Keys.{Precedes, are_related, are_same, is_before}
 use Rattle.art_model.specs.Pairs.{IsMap, add_in_order, first_of, has_key, is_conflict, last_of, of_key, put, put_reply, remove_key, remove_reply, with_key, without_first, without_last}
+use Rattle.art_model.specs.Parts.{below, between}
 use Rattle.art_model.proofs.Puts.{any_is_first, has_is_stored, put-new}
-use Rattle.art_map.specs.MapAnswers.{with_value_at}
+use Rattle.art_map.specs.declared.map.MapInsertError.{MapInsertError}
+use Rattle.art_map.specs.declared.map.MapInsertError.TheVariants.{Conflict, Memory}
+use Rattle.art_map.specs.MapAnswers.{IsRefusalOf, with_value_at}
 use Rattle.art_map.specs.MapChanges.{put_new}
 use Rattle.art_map.specs.MapItems.{keys_of}
-use Rattle.art_map.specs.SetKeys.{add_key, as_pairs}
+use Rattle.art_map.specs.SetKeys.{IsKeyRefusal, add_key, as_pairs, key_error}
 use Rattle.art_map.proofs.ValueLaws.{new_written}
 
 module _ {K V : Type 0} where
@@ -41,6 +45,16 @@ module _ {K V : Type 0} (pairs : List (K × V)) where
 
   pub without_first_keys : without_first (keys_of pairs) ≡ keys_of (without_first pairs)
   without_first_keys = sym (keys_without_first pairs)
+
+-- a filter of pairs by their keys is one of the keys
+pub keys_where : {K V : Type 0} (test : K → Bool) (pairs : List (K × V)) → filter test (keys_of pairs) ≡ keys_of (filter (λ x. test x.0) pairs)
+keys_where test [] = refl
+keys_where test (x ∷ xs) = go (keys_where test xs) (test x.0)
+  where
+    go : filter test (keys_of xs) ≡ keys_of (filter (λ y. test y.0) xs) → (b : Bool) →
+        cond b (x.0 ∷ filter test (keys_of xs)) (filter test (keys_of xs)) ≡ keys_of (cond b (x ∷ filter (λ y. test y.0) xs) (filter (λ y. test y.0) xs))
+    go e true = ap (λ zs. x.0 ∷ zs) e
+    go e false = e
 
 pub flipped : (b d : Bool) → b ≡ not d → d ≡ not b
 flipped b true e = rw e refl
@@ -107,7 +121,16 @@ module _ {K V : Type 0} (bytes : K → List ℕ) where
       go ih true e = rw e (ap (λ ks. x.0 ∷ ks) ih)
       go ih false e = rw e (ap (λ ks. x.0 ∷ ks) ih)
 
-  -- a removal answers a pair where the key is there
+  pub keys_below : (prefix : List ℕ) (pairs : List (K × V)) → below bytes prefix (keys_of pairs) ≡ keys_of (below (of_key bytes) prefix pairs)
+  keys_below prefix pairs = keys_where _ pairs
+
+  pub keys_between : (from to : Bound (List ℕ)) (pairs : List (K × V)) → between bytes from to (keys_of pairs) ≡ keys_of (between (of_key bytes) from to pairs)
+  keys_between from to pairs = keys_where _ pairs
+
+  pub keys_with : (key : List ℕ) (pairs : List (K × V)) → with_key bytes key (keys_of pairs) ≡ keys_of (with_key (of_key bytes) key pairs)
+  keys_with key pairs = keys_where _ pairs
+
+  -- a removal returns a pair where the key is there
   pub removed_has : (key : List ℕ) (pairs : List (K × V)) → is_some (remove_reply (of_key bytes) key pairs) ≡ has_key bytes key (keys_of pairs)
   removed_has key pairs = sym (any_is_first (λ x. are_same key (bytes x.0)) pairs) ∙ sym (keys_have key pairs)
 
@@ -137,5 +160,11 @@ module _ {K V : Type 0} (bytes : K → List ℕ) where
         go None = refl
         go (Some x) = refl
 
+-- what a map refuses without a value, a set refuses
+pub key_refused : {K : Type 0} (bytes : K → List ℕ) (key : K) (pairs : List (K × Unit {0})) (error : MapInsertError K (Unit {0})) →
+    IsRefusalOf bytes key tt pairs error → IsKeyRefusal bytes key (keys_of pairs) (key_error error)
+key_refused bytes key pairs (Conflict k v e) is = (is.0, is.2, keys_conflict bytes (bytes key) pairs ∙ is.3)
+key_refused bytes key pairs (Memory k v) is = (is.0, keys_have bytes (bytes key) pairs ∙ is.2)
+
 -- what is asked of the keys, by the pairs
-pub ruleset set_laws = (keys_len, keys_first, keys_last, without_first_keys, without_last_keys, no_values, keys_have, keys_conflict, removed_keys)
+pub ruleset set_laws = (keys_len, keys_first, keys_last, without_first_keys, without_last_keys, no_values, keys_have, keys_conflict, removed_keys, keys_below, keys_between, keys_with)

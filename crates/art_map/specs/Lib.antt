@@ -5,3 +5,5 @@ pub mod MapItems
 pub mod MapLends
 pub mod MapCalls
 pub mod SetKeys
+pub mod SetAlgebra
+pub mod MapRetain

@@ -1,8 +1,11 @@
--- What a closure did with a value of a map.
-use Rattle.std.specs.Prelude.{◌≡◌, ℕ, List, MatchOption}
+-- What a closure or an iterator that was handed in did with a map.
+use Rattle.std.specs.Prelude.{◌≡◌, ℕ, List, [], ◌∷◌, Option, Some, None, MatchOption}
 use Rattle.std.specs.Borrow.{MutBor}
 use Rattle.std.specs.Fn.{FnOnceReturnsAtMut, Once}
-use Rattle.art_map.specs.MapAnswers.{value_at, with_value_at}
+use Rattle.std.specs.Iterator.{YieldsThen}
+use Rattle.art_model.specs.Pairs.{of_key, put}
+use Rattle.art_map.specs.declared.map.MapInsertError.{MapInsertError}
+use Rattle.art_map.specs.MapAnswers.{IsRefusalOf, value_at, with_value_at}
 
 -- the pairs are as before where the key is not stored; else a call of f at its value left another, which the key has now
 abbrev pub Modifies : {K V F : Type 0} → Once F (MutBor V × Unit {0}) (Unit {0} × (MutBor V × Unit {0})) → F → (K → List ℕ) → List ℕ →
@@ -10,3 +13,18 @@ abbrev pub Modifies : {K V F : Type 0} → Once F (MutBor V × Unit {0}) (Unit {
 Modifies {K} {V} g f bytes key before after =
     MatchOption (value_at bytes key before) (after ≡ before) (λ value.
     (left : V) × FnOnceReturnsAtMut g f value tt left × (after ≡ with_value_at bytes key left before))
+
+-- the pairs that are left when others are put, one after another
+abbrev pub put_all : {K V : Type 0} → (K → List ℕ) → List (K × V) → List (K × V) → List (K × V)
+put_all bytes [] pairs = pairs
+put_all bytes (x ∷ xs) pairs = put_all bytes xs (put (of_key bytes) x pairs)
+
+module _ {I K V : Type 0} (steps : I → Option (K × V) → I → Type 0) (bytes : K → List ℕ) where
+  -- all that came of an iterator was put
+  abbrev pub PutsAll : I → List (K × V) → I → List (K × V) → Type 0
+  PutsAll from before to after = (xs : List (K × V)) × YieldsThen steps from xs None to × (after ≡ put_all bytes xs before)
+
+  -- what came before a pair was put, and that pair was refused; the iterator has the others
+  abbrev pub PutsUntil : I → List (K × V) → MapInsertError K V → I → List (K × V) → Type 0
+  PutsUntil from before error to after =
+      (xs : List (K × V)) × (x : K × V) × YieldsThen steps from xs (Some x) to × (after ≡ put_all bytes xs before) × IsRefusalOf bytes x.0 x.1 after error

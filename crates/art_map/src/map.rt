@@ -41,10 +41,12 @@ use thiserror::Error;
 
 mod compared;
 mod entry;
+mod extend;
 mod iter;
 mod owned;
 mod parts;
 mod range;
+mod retain;
 
 pub use entry::{Entry, EntryOf};
 pub use iter::{Leaves, MapIter, MapIterOf};
@@ -145,14 +147,14 @@ impl<K: AsBytes + Drop, V: Drop, const P: usize> ByteMap<K, V, P> {
         self.len == 0
     }
 
-    /// Whether a key with these bytes is stored.
+    /// Whether a key with these bytes is stored, by one descent along them.
     pub fn contains_key(&self, key_bytes: &[u8]) -> bool
         ensures { result ≡ has_key (of_key K.bytes) key_bytes.now self.now }
     {
         self.get(key_bytes).is_some()
     }
 
-    /// The value of the key with these bytes.
+    /// The value of the key with these bytes, by one descent along them.
     pub fn get(&self, key_bytes: &[u8]) -> Option<&V>
         ensures { option_copied result ≡ value_at K.bytes key_bytes.now self.now }
     {
@@ -169,7 +171,7 @@ impl<K: AsBytes + Drop, V: Drop, const P: usize> ByteMap<K, V, P> {
         Some(pair_at(&self.store, leaf))
     }
 
-    /// The value of the key with these bytes, to be written.
+    /// The value of the key with these bytes, to be written. It costs what `get` does.
     pub fn get_mut(&mut self, key_bytes: &[u8]) -> Option<&mut V>
         ensures* writes_back { sem 𝓛
             (lends_value K.row V.row P.row K.AsBytes self.entry key_bytes.now result) }
@@ -179,7 +181,7 @@ impl<K: AsBytes + Drop, V: Drop, const P: usize> ByteMap<K, V, P> {
         self.store.value_mut(leaf)
     }
 
-    /// The pair whose key is a prefix of the query. There is at most one.
+    /// The pair whose key is a prefix of the query, by one descent along it. There is at most one.
     pub fn longest_match(&self, query: &[u8]) -> Option<(&K, &V)>
         ensures { option_map deref_pair result ≡
             first_of (match_of (of_key K.bytes) query.now self.now) }
@@ -204,7 +206,7 @@ impl<K: AsBytes + Drop, V: Drop, const P: usize> ByteMap<K, V, P> {
         Some(pair_at(&self.store, leaf))
     }
 
-    /// The pairs in the order of their keys.
+    /// The pairs in the order of their keys, from both ends. A step of the walk takes no descent.
     pub fn iter(&self) -> MapIter<'_, K, V, P>
         ensures pairs { result ≡ self.now }
         ensures sorted { IsMap (of_key K.bytes) self.now }
@@ -300,8 +302,9 @@ impl<K: AsBytes + Drop, V: Drop, const P: usize> ByteMap<K, V, P> {
         ValuesOf::new(self.iter())
     }
 
-    /// Puts a pair in. Where an equal key is stored, that key stays and gets the value, and the key
-    /// that was handed in comes back with the old value.
+    /// Puts a pair in, by one descent. Where an equal key is stored, that key stays and gets the value, and
+    /// the key that was handed in comes back with the old value. An error hands the pair back: `Conflict`
+    /// where an unequal stored key is related to the key, `Memory` where there was none for a new key.
     pub fn insert(&mut self, key: K, value: V) -> Result<Option<(K, V)>, MapInsertError<K, V>>
         ensures pairs { OnOk result (self.new ≡ put (of_key K.bytes) (key, value) self.old) }
         ensures replaced { IfOk result (λ replaced.
@@ -315,8 +318,9 @@ impl<K: AsBytes + Drop, V: Drop, const P: usize> ByteMap<K, V, P> {
         put_in(&mut self.store, &mut self.root, &mut self.len, key, value)
     }
 
-    /// The value of a key, to be written. Where no equal key is stored the pair comes in first; a
-    /// key that is stored stays, with its value.
+    /// The value of a key, to be written, by one descent. Where no equal key is stored the pair comes in
+    /// first; a key that is stored stays, with its value. The errors are those of `insert`. For keys that
+    /// mostly are stored, `get_mut` and then `insert` is cheaper.
     pub fn get_or_insert(&mut self, key: K, value: V) -> Result<&mut V, MapInsertError<K, V>>
         ensures* writes_back { sem 𝓛
             (lends_put K.row V.row P.row K.AsBytes self.entry key result) }
@@ -336,7 +340,8 @@ impl<K: AsBytes + Drop, V: Drop, const P: usize> ByteMap<K, V, P> {
         Ok(value)
     }
 
-    /// The map with a key, to put the key in where it is not stored, and to write its value.
+    /// The map with a key, to put the key in where it is not stored, and to write its value. This takes no
+    /// step down the tree; each call of the entry that needs the key's leaf takes its own.
     pub fn entry(&mut self, key: K) -> Entry<'_, K, V, P>
         ensures same_map { result.map.ghost_name ≡ self.entry.ghost_name }
         ensures pairs { result.map.now ≡ self.old }
@@ -345,7 +350,7 @@ impl<K: AsBytes + Drop, V: Drop, const P: usize> ByteMap<K, V, P> {
         EntryOf { map: self, key }
     }
 
-    /// Puts a pair in, in the place of all pairs with related keys, and answers how many gave way.
+    /// Puts a pair in, in the place of all pairs with related keys, and returns how many gave way.
     /// A stored key that is equal stays and gets the value. It is refused only for want of memory,
     /// and takes none where just one pair gives way.
     pub fn insert_over(&mut self, key: K, value: V) -> Result<usize, Refused<K, V>>
@@ -362,7 +367,8 @@ impl<K: AsBytes + Drop, V: Drop, const P: usize> ByteMap<K, V, P> {
         put_over(&mut self.store, &mut self.root, &mut self.len, key, value)
     }
 
-    /// Takes out the pair of the key with these bytes.
+    /// Takes out the pair of the key with these bytes, by one descent, and returns it. It is refused only
+    /// where a node of 5, 17 or 49 children gives way to a smaller one, and there is no memory for that.
     pub fn remove(&mut self, key_bytes: &[u8]) -> Result<Option<(K, V)>, MapRefused>
         ensures pairs { OnOk result
             (self.new ≡ remove_key (of_key K.bytes) key_bytes.now self.old) }
@@ -375,7 +381,7 @@ impl<K: AsBytes + Drop, V: Drop, const P: usize> ByteMap<K, V, P> {
         take_key(&mut self.store, &mut self.root, &mut self.len, key_bytes)
     }
 
-    /// Takes out the first pair.
+    /// Takes out the first pair, and returns it. It is refused as `remove` is.
     pub fn pop_first(&mut self) -> Result<Option<(K, V)>, MapRefused>
         ensures pairs { OnOk result (self.new ≡ without_first self.old) }
         ensures removed { IfOk result (λ removed. removed ≡ first_of self.old) }
@@ -386,7 +392,7 @@ impl<K: AsBytes + Drop, V: Drop, const P: usize> ByteMap<K, V, P> {
         self.pop_end(End::First)
     }
 
-    /// Takes out the last pair.
+    /// Takes out the last pair, and returns it. It is refused as `remove` is.
     pub fn pop_last(&mut self) -> Result<Option<(K, V)>, MapRefused>
         ensures pairs { OnOk result (self.new ≡ without_last self.old) }
         ensures removed { IfOk result (λ removed. removed ≡ last_of self.old) }
@@ -721,7 +727,7 @@ fn plant<K: AsBytes + Drop, V: Drop, const P: usize>(
     }
 }
 
-// Copies the tree into an empty store, and answers the root of the copy.
+// Copies the tree into an empty store, and returns the root of the copy.
 fn copy_tree<K: AsBytes + Clone + Drop, V: Clone + Drop, const P: usize>(
     store: &NodeStore<K, V, P>,
     root: OpaqueNodePtr,

@@ -2,14 +2,38 @@
 #![tactic(auto, using(crate::proofs::SetLaws::set_laws))]
 
 ghost use Rattle.std.specs.Prelude.{◌≡◌, ◌↔◌, [], length, false, not, IsTrue, IfOk, IfErr, OnOk, OnErr, option_copied};
-ghost use Rattle.art_model.specs.Pairs.{IsMap, first_of, has_key, is_conflict, last_of, of_key, remove_key, remove_reply, without_first, without_last};
+ghost use Rattle.art_model.specs.Pairs.{IsMap, first_of, has_key, is_conflict, last_of, of_key, remove_key, remove_reply, with_key, without_first, without_last};
 ghost use Rattle.art_map.specs.MapAnswers.{MayRefuseRemoval};
-ghost use Rattle.art_map.specs.SetKeys.{IsKeyRefusal, add_key, as_pairs};
+ghost use Rattle.art_map.specs.SetKeys.{IsKeyRefusal, add_key, as_pairs, key_error};
 
-use crate::map::{ByteMap, Keys, MapInsertError, MapRefused};
+use crate::map::{ByteMap, IntoKeys, Keys, MapInsertError, MapRefused};
 use art_nodes::node::AsBytes;
+use art_writing::insert::InsertPrefixError;
 use std::alloc::Global;
+use std::fmt;
 use std::marker::Model;
+use thiserror::Error;
+
+mod algebra;
+mod compared;
+mod extend;
+mod range;
+
+pub use algebra::{
+    Difference, HasKey, Intersection, MergedOf, SelectedOf, SymmetricDifference, Union,
+};
+pub use range::{KeyRange, KeyRangeOf};
+
+/// A key that was not inserted.
+#[derive(Debug, Drop, Error)]
+pub enum SetInsertError<K> {
+    /// An unequal stored key is related to the key: one of the two is a prefix of the other.
+    #[error("{error}")]
+    Conflict { key: K, error: InsertPrefixError },
+    /// There was no memory, and no equal key is stored.
+    #[error("memory allocation failed")]
+    Memory { key: K },
+}
 
 /// A set of keys in the order of their bytes, none of which is a prefix of another.
 #[derive(Drop)]
@@ -62,6 +86,16 @@ impl<K: AsBytes + Drop, const P: usize> ByteSet<K, P> {
         self.map.contains_key(key_bytes)
     }
 
+    /// The stored key with these bytes.
+    pub fn get(&self, key_bytes: &[u8]) -> Option<&K>
+        ensures { option_copied result ≡ first_of (with_key K.bytes key_bytes.now self.now) }
+    {
+        match self.map.get_key_value(key_bytes) {
+            Some((key, _)) => Some(key),
+            None => None,
+        }
+    }
+
     /// The first key.
     pub fn first(&self) -> Option<&K>
         ensures { option_copied result ≡ first_of self.now }
@@ -89,9 +123,9 @@ impl<K: AsBytes + Drop, const P: usize> ByteSet<K, P> {
         self.map.keys()
     }
 
-    /// Puts a key in, and answers whether it was new. Where an equal key is stored, that key stays and
+    /// Puts a key in, and returns whether it was new. Where an equal key is stored, that key stays and
     /// the one that was handed in is dropped.
-    pub fn insert(&mut self, key: K) -> Result<bool, MapInsertError<K, ()>>
+    pub fn insert(&mut self, key: K) -> Result<bool, SetInsertError<K>>
         ensures keys { OnOk result (self.new ≡ add_key K.bytes key self.old) }
         ensures added { IfOk result (λ added.
             added ≡ not (has_key K.bytes (K.bytes key) self.old)) }
@@ -104,12 +138,12 @@ impl<K: AsBytes + Drop, const P: usize> ByteSet<K, P> {
         self.map.len();
         let replaced = match self.map.insert(key, ()) {
             Ok(replaced) => replaced,
-            Err(error) => return Err(error),
+            Err(error) => return Err(without_value(error)),
         };
         Ok(replaced.is_none())
     }
 
-    /// Takes out the key with these bytes, and answers whether it was there.
+    /// Takes out the key with these bytes, and returns whether it was there.
     pub fn remove(&mut self, key_bytes: &[u8]) -> Result<bool, MapRefused>
         ensures keys { OnOk result (self.new ≡ remove_key K.bytes key_bytes.now self.old) }
         ensures removed { IfOk result (λ removed.
@@ -123,6 +157,25 @@ impl<K: AsBytes + Drop, const P: usize> ByteSet<K, P> {
             Err(refused) => return Err(refused),
         };
         Ok(removed.is_some())
+    }
+
+    /// Takes out the key with these bytes, and returns it.
+    pub fn take(&mut self, key_bytes: &[u8]) -> Result<Option<K>, MapRefused>
+        ensures keys { OnOk result (self.new ≡ remove_key K.bytes key_bytes.now self.old) }
+        ensures removed { IfOk result (λ removed.
+            removed ≡ remove_reply K.bytes key_bytes.now self.old) }
+        ensures kept { OnErr result (self.new ≡ self.old) }
+        ensures refused { OnErr result (MayRefuseRemoval (of_key K.bytes) P (as_pairs self.old)
+            (remove_reply (of_key K.bytes) key_bytes.now (as_pairs self.old))) }
+    {
+        let removed = match self.map.remove(key_bytes) {
+            Ok(removed) => removed,
+            Err(refused) => return Err(refused),
+        };
+        match removed {
+            Some((key, _)) => Ok(Some(key)),
+            None => Ok(None),
+        }
     }
 
     /// Takes out the first key.
@@ -160,5 +213,53 @@ impl<K: AsBytes + Drop, const P: usize> ByteSet<K, P> {
         ensures { self.new ≡ [] }
     {
         self.map.clear();
+    }
+}
+
+impl<'a, K: AsBytes + Drop, const P: usize> IntoIterator for &'a ByteSet<K, P> {
+    type Item = &'a K;
+
+    type IntoIter = Keys<'a, K, (), P>;
+
+    ghost into_iter_gives = { λ set keys. keys ≡ set.now };
+
+    fn into_iter(self) -> Keys<'a, K, (), P> {
+        self.iter()
+    }
+}
+
+impl<K: AsBytes + Drop, const P: usize> IntoIterator for ByteSet<K, P> {
+    type Item = K;
+
+    type IntoIter = IntoKeys<K, (), P>;
+
+    ghost into_iter_gives = { λ set keys. keys ≡ set };
+
+    fn into_iter(self) -> IntoKeys<K, (), P> {
+        self.map.into_keys()
+    }
+}
+
+impl<K: AsBytes + fmt::Debug + Drop, const P: usize> fmt::Debug for ByteSet<K, P> {
+    fn fmt<W: fmt::Write>(&self, f: &mut fmt::Formatter<W>) -> fmt::Result {
+        let mut out = f.debug_set();
+        for key in self.iter() {
+            out.entry(key);
+        }
+        out.finish()
+    }
+}
+
+// The error of a map's insertion, without the value.
+fn without_value<K>(error: MapInsertError<K, ()>) -> SetInsertError<K>
+    ensures { result ≡ key_error error }
+{
+    match error {
+        MapInsertError::Conflict {
+            key,
+            value: _,
+            error,
+        } => SetInsertError::Conflict { key, error },
+        MapInsertError::Memory { key, value: _ } => SetInsertError::Memory { key },
     }
 }

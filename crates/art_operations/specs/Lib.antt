@@ -39,7 +39,9 @@ pub use Rattle.art_map.specs.MapAnswers
 pub use Rattle.art_map.specs.MapItems
 pub use Rattle.art_map.specs.MapLends
 pub use Rattle.art_map.specs.MapCalls
+pub use Rattle.art_map.specs.MapRetain
 pub use Rattle.art_map.specs.SetKeys
+pub use Rattle.art_map.specs.SetAlgebra
 -- keys that are never in conflict, and maps and sets of them
 pub use Rattle.art_keys.specs.Prefixes
 pub use Rattle.art_keys.specs.Ended

@@ -10,7 +10,7 @@ ghost use Rattle.art_map.specs.MapLends.{lends_put};
 use super::{ByteMap, MapInsertError};
 use art_nodes::node::AsBytes;
 
-/// A map with a key.
+/// A map and a key, which may be stored there or not.
 #[derive(Drop)]
 pub struct EntryOf<'a, K, M> {
     pub(crate) map: &'a mut M,
@@ -36,7 +36,7 @@ impl<'a, K: AsBytes + Drop, V: Drop, const P: usize> EntryOf<'a, K, ByteMap<K, V
         self.map.get(self.key.as_bytes())
     }
 
-    /// The same, after a change of the value of the key, where it is stored.
+    /// The entry, after a change of the value of the key where it is stored. It takes a descent.
     pub fn and_modify<F: FnOnce(&mut V)>(self, f: F) -> Self
         requires { (value : MutBor V) →
             value_at K.bytes (K.bytes self.key) self.map.now ≡ Some value.now → F.pre f value }
@@ -53,7 +53,7 @@ impl<'a, K: AsBytes + Drop, V: Drop, const P: usize> EntryOf<'a, K, ByteMap<K, V
     }
 
     /// The value of the key, to be written. Where no equal key is stored the pair comes in first, by the
-    /// same way down the tree.
+    /// same descent. The errors are those of `insert`.
     pub fn or_insert(self, value: V) -> Result<&'a mut V, MapInsertError<K, V>>
         ensures* writes_back { sem 𝓛 (lends_put K.row V.row P.row K.AsBytes
             self.entry.map self.entry.key result) }

@@ -10,6 +10,7 @@ use art_nodes::node::{AsBytes, OpaqueNodePtr};
 use art_nodes::store::NodeStore;
 use art_reading::iterator::RawIterator;
 use art_reading::minmax::{maximum_unchecked, minimum_unchecked};
+use std::iter::FusedIterator;
 use std::marker::Model;
 
 /// The pairs of a map by rising keys, by value, seen as the list of those that have not come yet. Those
@@ -65,6 +66,8 @@ impl<K: AsBytes + Drop, V: Drop, const P: usize> DoubleEndedIterator for IntoIte
         take_next_back(&mut self.store, &mut self.walk, &mut self.len)
     }
 }
+
+impl<K: AsBytes + Drop, V: Drop, const P: usize> FusedIterator for IntoIter<K, V, P> {}
 
 impl<K: AsBytes + Drop, V: Drop, const P: usize> IntoIterator for ByteMap<K, V, P> {
     type Item = (K, V);
@@ -136,6 +139,8 @@ impl<K: AsBytes + Drop, V: Drop, const P: usize> DoubleEndedIterator for IntoKey
     }
 }
 
+impl<K: AsBytes + Drop, V: Drop, const P: usize> FusedIterator for IntoKeys<K, V, P> {}
+
 /// The values of a map by rising keys, by value, seen as the list of those that have not come yet.
 #[derive(Drop)]
 pub struct IntoValues<K, V, const P: usize> {
@@ -191,6 +196,8 @@ impl<K: AsBytes + Drop, V: Drop, const P: usize> DoubleEndedIterator for IntoVal
         }
     }
 }
+
+impl<K: AsBytes + Drop, V: Drop, const P: usize> FusedIterator for IntoValues<K, V, P> {}
 
 impl<K: AsBytes + Drop, V: Drop, const P: usize> ByteMap<K, V, P> {
     /// The keys as they rise, by value.

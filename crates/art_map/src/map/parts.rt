@@ -5,6 +5,7 @@ ghost use Rattle.art_map.specs.MapItems.{ShowsFirst, ShowsLast, keys_of, values_
 
 use super::iter::{Leaves, MapIterOf};
 use art_nodes::store::NodeStore;
+use std::iter::FusedIterator;
 use std::marker::Model;
 
 /// The keys of a map as they rise, seen as the list of those that have not come yet.
@@ -74,6 +75,8 @@ impl<'a, K, V, S: Leaves<K, V>> DoubleEndedIterator for KeysOf<'a, K, V, S> {
     }
 }
 
+impl<'a, K, V, S: Leaves<K, V>> FusedIterator for KeysOf<'a, K, V, S> {}
+
 /// The values of a map by rising keys, seen as the list of those that have not come yet.
 #[derive(Drop)]
 pub struct ValuesOf<'a, K, V, S: Leaves<K, V>> {
@@ -140,3 +143,5 @@ impl<'a, K, V, S: Leaves<K, V>> DoubleEndedIterator for ValuesOf<'a, K, V, S> {
         }
     }
 }
+
+impl<'a, K, V, S: Leaves<K, V>> FusedIterator for ValuesOf<'a, K, V, S> {}

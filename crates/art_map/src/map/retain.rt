@@ -1,0 +1,111 @@
+//! The pairs of a map that a closure picks stay.
+ghost use Rattle.std.specs.Prelude.{◌≡◌, OnErr, OnOk, Some};
+ghost use Rattle.std.specs.Range.Bound.{bound_map};
+ghost use Rattle.art_model.specs.Pairs.{of_key};
+ghost use Rattle.art_map.specs.MapPairs.{HoldsPairs, pairs_at};
+ghost use Rattle.art_map.specs.MapRetain.{AsksPair, FindsRefused, HasTakenRefused, RetainsAll, RetainsUntil, TakesRefused, after_pair, pairs_after};
+
+use super::range::RangeOf;
+use super::{ByteMap, MapRefused, take_out};
+use art_nodes::node::{AsBytes, OpaqueNodePtr};
+use art_nodes::store::NodeStore;
+use art_reading::range::range_unchecked;
+use art_writing::delete::{DeletePoint, search_for_delete_point};
+use std::ops::Bound;
+
+impl<K: AsBytes + Drop, V: Drop, const P: usize> ByteMap<K, V, P> {
+    /// Keeps the pairs of which the closure returns true, and takes out the others. It is called once at
+    /// each pair, in the order of the keys. A removal may be refused for want of memory, as that of
+    /// `remove`: then the pair stays, and so do all after it, of which the closure was not asked. A pair
+    /// that stays costs a step of a walk, and one that goes two descents more.
+    pub fn retain<F: FnMut(&K, &V) -> bool>(&mut self, mut f: F) -> Result<(), MapRefused>
+        requires { F.IsAlwaysCallable f }
+        ensures pairs { OnOk result (RetainsAll (AsksPair F.FnMut) f self.old self.new) }
+        ensures refused { OnErr result
+            (RetainsUntil (AsksPair F.FnMut) (of_key K.bytes) P f self.old self.new) }
+    {
+        let mut last = None;
+        loop {
+            // `len` says that the keys rise.
+            self.len();
+            match self.take_refused(&last, &mut f) {
+                Ok(Some(pair)) => last = Some(pair),
+                Ok(None) => return Ok(()),
+                Err(refused) => return Err(refused),
+            }
+        }
+    }
+
+    // Takes out the first pair after another one of which the closure returns false.
+    fn take_refused<F: FnMut(&K, &V) -> bool>(
+        &mut self,
+        last: &Option<(K, V)>,
+        f: &mut F,
+    ) -> Result<Option<(K, V)>, MapRefused>
+        requires { F.IsAlwaysCallable f.old }
+        ensures callable { F.IsAlwaysCallable f.new }
+        ensures taken { TakesRefused (AsksPair F.FnMut) K.bytes P last.now f.old self.old result
+            f.new self.new }
+    {
+        take_refused(&mut self.store, &mut self.root, &mut self.len, last, f)
+    }
+}
+
+// Takes the first pair after another one of which the closure returns false out of the tree.
+fn take_refused<K: AsBytes + Drop, V: Drop, const P: usize, F: FnMut(&K, &V) -> bool>(
+    store: &mut NodeStore<K, V, P>,
+    root: &mut Option<OpaqueNodePtr>,
+    len: &mut usize,
+    last: &Option<(K, V)>,
+    f: &mut F,
+) -> Result<Option<(K, V)>, MapRefused>
+    requires callable { F.IsAlwaysCallable f.old }
+    requires holds { HoldsPairs (of_key K.bytes) P store.old root.old len.old
+        (pairs_at store.old root.old) }
+    ensures callable { F.IsAlwaysCallable f.new }
+    ensures taken { HasTakenRefused (AsksPair F.FnMut) K.bytes P last.now f.old
+        (pairs_at store.old root.old) result f.new store.new root.new len.new }
+{
+    let Some(name) = *root else {
+        return Ok(None);
+    };
+    let Some(point) = find_refused(store, name, *len, last, f) else {
+        return Ok(None);
+    };
+    take_out(store, root, len, name, point)
+}
+
+// The point of the first pair after another one of which the closure returns false.
+fn find_refused<K: AsBytes + Drop, V: Drop, const P: usize, F: FnMut(&K, &V) -> bool>(
+    store: &NodeStore<K, V, P>,
+    root: OpaqueNodePtr,
+    len: usize,
+    last: &Option<(K, V)>,
+    f: &mut F,
+) -> Option<DeletePoint>
+    requires callable { F.IsAlwaysCallable f.old }
+    requires holds { HoldsPairs (of_key K.bytes) P store.now (Some root) len
+        (pairs_at store.now (Some root)) }
+    ensures callable { F.IsAlwaysCallable f.new }
+    ensures found { FindsRefused (AsksPair F.FnMut) K.bytes P store.now root f.old
+        (pairs_after (of_key K.bytes) last.now (pairs_at store.now (Some root))) result f.new }
+{
+    let walk = range_unchecked(store, root, bound_after(last), Bound::Unbounded);
+    let mut pairs = RangeOf::new(store, walk, len);
+    while let Some((key, value)) = pairs.next() {
+        if !f(key, value) {
+            return search_for_delete_point(store, root, key.as_bytes());
+        }
+    }
+    None
+}
+
+// The bound after the key of a pair, where there is one.
+fn bound_after<K: AsBytes, V>(last: &Option<(K, V)>) -> Bound<&[u8]>
+    ensures { bound_map (λ b. b.now) result ≡ after_pair (of_key K.bytes) last.now }
+{
+    match last {
+        Some((key, _)) => Bound::Excluded(key.as_bytes()),
+        None => Bound::Unbounded,
+    }
+}

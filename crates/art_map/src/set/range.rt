@@ -1,0 +1,119 @@
+//! The keys of a part of a set, in order.
+ghost use Rattle.std.specs.Prelude.{◌≡◌, length, option_copied};
+ghost use Rattle.std.specs.Iterator.{at_most};
+ghost use Rattle.std.specs.Range.Bound.{bound_map};
+ghost use Rattle.std.specs.declared.ops.Bound.TheVariants.{Unbounded};
+ghost use Rattle.art_model.specs.Pairs.{first_of, last_of};
+ghost use Rattle.art_model.specs.Parts.{below, between};
+ghost use Rattle.art_map.specs.MapItems.{ShowsFirst, ShowsLast, keys_of};
+
+use super::ByteSet;
+use crate::map::{Leaves, RangeOf};
+use art_nodes::node::AsBytes;
+use art_nodes::store::NodeStore;
+use std::iter::FusedIterator;
+use std::marker::Model;
+use std::ops::{Bound, RangeBounds};
+
+/// Keys of a set that stand one after another, as they rise, seen as the list of those that have not
+/// come yet. Their number is not known until they came; an upper bound of it is.
+#[derive(Drop)]
+pub struct KeyRangeOf<'a, K, S: Leaves<K, ()>> {
+    pairs: RangeOf<'a, K, (), S>,
+}
+
+/// The same, over the store of a set.
+pub type KeyRange<'a, K, const P: usize> = KeyRangeOf<'a, K, NodeStore<K, (), P>>;
+
+impl<'a, K, S: Leaves<K, ()>> Model for KeyRangeOf<'a, K, S> {
+    ghost use Rattle.std.specs.Prelude.{List};
+    ghost use Rattle.std.specs.Coded.{coded_list};
+
+    ghost Value = { List K };
+
+    ghost coded = { coded_list K.code };
+
+    ghost use Rattle.art_map.specs.MapItems.{keys_of};
+
+    ghost view = { λ m. keys_of m.pairs };
+}
+
+impl<'a, K, S: Leaves<K, ()>> KeyRangeOf<'a, K, S> {
+    fn new(pairs: RangeOf<'a, K, (), S>) -> Self
+        ensures { result ≡ keys_of pairs.entry }
+    {
+        KeyRangeOf { pairs }
+    }
+}
+
+impl<'a, K, S: Leaves<K, ()>> Iterator for KeyRangeOf<'a, K, S> {
+    type Item = &'a K;
+
+    ghost next_gives = { ShowsFirst };
+
+    ghost remaining = { λ s. at_most (length s) };
+
+    fn next(&mut self) -> Option<&'a K> {
+        match self.pairs.next() {
+            Some((key, _)) => Some(key),
+            None => None,
+        }
+    }
+
+    fn size_hint(&self) -> (usize, Option<usize>) {
+        self.pairs.size_hint()
+    }
+}
+
+impl<'a, K, S: Leaves<K, ()>> DoubleEndedIterator for KeyRangeOf<'a, K, S> {
+    ghost next_back_gives = { ShowsLast };
+
+    fn next_back(&mut self) -> Option<&'a K> {
+        match self.pairs.next_back() {
+            Some((key, _)) => Some(key),
+            None => None,
+        }
+    }
+}
+
+impl<'a, K, S: Leaves<K, ()>> FusedIterator for KeyRangeOf<'a, K, S> {}
+
+impl<K: AsBytes + Drop, const P: usize> ByteSet<K, P> {
+    /// The keys that begin with these bytes, as they rise.
+    pub fn prefix(&self, prefix: &[u8]) -> KeyRange<'_, K, P>
+        ensures { result ≡ below K.bytes prefix.now self.now }
+    {
+        KeyRangeOf::new(self.map.prefix(prefix))
+    }
+
+    /// The keys in a range, as they rise; none where it runs backwards.
+    pub fn range<'k, R: RangeBounds<&'k [u8]> + Drop>(&self, range: R) -> KeyRange<'_, K, P>
+        ensures { R.has_bounds range → result ≡ between K.bytes
+            (bound_map (λ b. b.now) (R.start_bound range))
+            (bound_map (λ b. b.now) (R.end_bound range)) self.now }
+    {
+        KeyRangeOf::new(self.map.range(range))
+    }
+
+    /// The first key after a bound, or at it where that is included.
+    pub fn first_from(&self, from: Bound<&[u8]>) -> Option<&K>
+        ensures { option_copied result ≡ first_of (between K.bytes
+            (bound_map (λ b. b.now) from.entry) Unbounded self.now) }
+    {
+        match self.map.first_from(from) {
+            Some((key, _)) => Some(key),
+            None => None,
+        }
+    }
+
+    /// The last key before a bound, or at it where that is included.
+    pub fn last_up_to(&self, to: Bound<&[u8]>) -> Option<&K>
+        ensures { option_copied result ≡ last_of (between K.bytes Unbounded
+            (bound_map (λ b. b.now) to.entry) self.now) }
+    {
+        match self.map.last_up_to(to) {
+            Some((key, _)) => Some(key),
+            None => None,
+        }
+    }
+}
