@@ -1,6 +1,9 @@
 -- What the answers of a check say.
 use Rattle.std.specs.Prelude.{◌≡◌, ℕ, ◌+◌, ◌≤◌, List, length, Option}
+use Rattle.std.specs.Cmp.Lexicographic.{slice_cmp}
 use Rattle.std.specs.Option.{option_map}
+use Rattle.std.specs.Ordering.{nat_cmp, on}
+use Rattle.std.specs.declared.cmp.Ordering.{Ordering}
 use Rattle.art_parts.specs.Names.{leaf_name}
 use Rattle.art_parts.specs.declared.names.LeafPtr.{LeafPtr}
 use Rattle.art_parts.specs.declared.names.OpaqueNodePtr.{OpaqueNodePtr}
@@ -17,6 +20,10 @@ use Rattle.art_checking.specs.declared.well_formed.WellFormedTreeStats.{WellForm
 -- the bytes of a prefix
 abbrev pub prefix_bytes : KeyPrefix → List ℕ
 prefix_bytes prefix = prefix.bytes.items
+
+-- the order of prefixes: that of their bytes
+abbrev pub prefix_cmp : KeyPrefix → KeyPrefix → Ordering
+prefix_cmp = on prefix_bytes (slice_cmp nat_cmp)
 
 -- the links of a leaf between these two
 abbrev pub between : Option LeafPtr → Option LeafPtr → Links OpaqueNodePtr

@@ -1,7 +1,8 @@
 //! Whether a tree is well formed, asked of any store and any name.
 ghost use Rattle.std.specs.Prelude.{◌≡◌, ◌+◌, ◌^◌, ◌<◌, ◌≢◌, [], IfOk, IfErr, IfSome, IsNone, IsOkAnd, IsErrAnd};
 ghost use Rattle.art_model.specs.Pairs.{of_key};
-ghost use Rattle.art_checking.specs.Checks.{IsWellFormed, prefix_bytes};
+ghost use Rattle.art_checking.specs.Checks.{IsWellFormed, prefix_bytes, prefix_cmp};
+ghost use Rattle.std.specs.Bool.{Decides};
 
 use art_nodes::node::{AsBytes, OpaqueNodePtr};
 use art_nodes::store::NodeStore;
@@ -49,6 +50,13 @@ impl KeyPrefix {
     }
 }
 
+/// Prefixes are in the order of their bytes, and equal where these are.
+pub fn key_prefixes_are_in_order()
+    ensures order { (a b : KeyPrefix) → ⟦<KeyPrefix as Ord>⟧.cmp a b ≡ prefix_cmp a b }
+    ensures equal { (a b : KeyPrefix) →
+        Decides (⟦<KeyPrefix as PartialEq>⟧.eq a b) (prefix_bytes a ≡ prefix_bytes b) }
+{}
+
 impl Clone for KeyPrefix {
     ghost is_clone = { λ prefix copy. prefix_bytes copy ≡ prefix_bytes prefix };
 
@@ -70,6 +78,13 @@ pub struct WellFormedTreeStats {
     pub num_leaf: usize,
     pub num_inner: usize,
 }
+
+/// By default no node is counted.
+pub fn stats_start_at_zero()
+    ensures { (stats : WellFormedTreeStats) →
+        ⟦<WellFormedTreeStats as Default>⟧.is_default stats →
+        stats ≡ record { num_leaf = 0; num_inner = 0 } }
+{}
 
 impl WellFormedTreeStats {
     /// The number of all nodes, leaves and inner ones.

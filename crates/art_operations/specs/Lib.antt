@@ -13,6 +13,7 @@ pub use Rattle.art_model.specs.Roots
 pub use Rattle.art_model.specs.Lookups
 pub use Rattle.art_reading.specs.Matching
 pub use Rattle.art_reading.specs.Paths
+pub use Rattle.art_reading.specs.Stored
 pub use Rattle.art_reading.specs.Walks
 pub use Rattle.art_reading.specs.Iterators
 -- what every change keeps, touches and takes of a promise

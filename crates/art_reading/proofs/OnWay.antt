@@ -1,14 +1,14 @@
 -- the way down with a key: what a look-up keeps at each node
 use Rattle.std.proofs.Common.{◌≡◌, ℕ, ◌+◌, ◌<◌, ◌≤◌, suc, zero, List, [], ◌∷◌, ◌++◌, length, take, drop, get_or, refl, ap, ap₂, sym, ◌∙◌, arith, subst, append_assoc, length-append, Some, None, Bool, true, false, cond}
-use Rattle.std.proofs.lemmas.List.{take-append-drop}
+use Rattle.std.proofs.lemmas.List.{length-take, take-append-drop}
 use Rattle.art_inner.specs.Inner.{Inner, child_at}
 use Rattle.art_parts.specs.Names.{inner_name}
 use Rattle.art_parts.specs.declared.names.InnerPtr.{InnerPtr}
 use Rattle.art_parts.specs.declared.names.OpaqueNodePtr.{OpaqueNodePtr}
 use Rattle.art_model.specs.Keys.{IsFront, is_front}
 use Rattle.art_model.specs.Pairs.{match_of}
-use Rattle.art_model.specs.Trees.{Tree, leaf, inner, child}
-use Rattle.art_model.specs.Radix.{IsRadix, AreRadix, pairs_of, pairs_below}
+use Rattle.art_model.specs.Trees.{Tree, leaf, inner, Subtrees, no_child, child}
+use Rattle.art_model.specs.Radix.{IsRadix, AreRadix, join, pairs_of, pairs_below}
 use Rattle.art_model.specs.Layouts.{name_of}
 use Rattle.art_model.specs.Stores.{header_at}
 use Rattle.art_model.specs.Paths.{Frame, plug}
@@ -25,12 +25,18 @@ use Rattle.art_reading.specs.declared.lookup.PrefixMatchBehavior.TheVariants.{Pe
 use Rattle.art_reading.specs.declared.path.TreePath.{TreePath}
 use Rattle.art_reading.specs.Matching.{shared_len}
 use Rattle.art_reading.specs.Paths.{step_down, path_of}
+use Rattle.art_reading.specs.Stored.{IsWholeStored, AreWholeStored}
 
 -- how many of these nodes are on the key's way
 abbrev pub count_on_way : {N : Type 0} → List ℕ → List (List ℕ × N) → ℕ
 count_on_way key nodes = length (match_of (λ node. node.0) key nodes)
 
--- A node of the tree below which all pairs are that match the key. The nodes above it were counted, and all of them are on the key's way if it is.
+-- each prefix of a child is stored whole if each of its parent is
+whole_child : {N A : Type 0} (P : ℕ) (cs : Subtrees N A) (b : ℕ) (t : Tree N A) (ds : Subtrees N A) → AreWholeStored P (join cs (child b t ds)) → IsWholeStored P t
+whole_child P no_child b t ds whole = whole.0
+whole_child P (child c u cs) b t ds whole = whole_child P cs b t ds whole.1
+
+-- A node of the tree below which all pairs are that match the key. The nodes above it were counted, and all of them are on the key's way if it is, as where each prefix is stored whole.
 pub record IsOnWay {A : Type 0} (bytes : A → List ℕ) (P : ℕ) (key : List ℕ) (tree : Tree OpaqueNodePtr A) (way : TreePath) (name : OpaqueNodePtr)
     (depth : ℕ) (behavior : PrefixMatchBehavior) (before now : ℕ) : Type 0 where
   pub path : List (Frame OpaqueNodePtr A)
@@ -45,6 +51,7 @@ pub record IsOnWay {A : Type 0} (bytes : A → List ℕ) (P : ℕ) (key : List �
   pub matches : match_of bytes key (pairs_of tree) ≡ match_of bytes key (pairs_of node)
   pub at_least : before + count_on_way key (places bytes 0 tree) ≤ now + count_on_way key (places bytes depth node)
   pub exactly : IsFront place key → before + count_on_way key (places bytes 0 tree) ≡ now + count_on_way key (places bytes depth node)
+  pub compares : IsWholeStored P tree → (behavior ≡ Pessimistic) × IsWholeStored P node
 
 -- the first of some nodes counts at most once, and exactly once where its place is a front of the key
 module _ {N : Type 0} (key : List ℕ) (node : List ℕ × N) (nodes : List (List ℕ × N)) where
@@ -134,15 +141,20 @@ module _ {A : Type 0} {bytes : A → List ℕ} {P : ℕ} {key : List ℕ} {tree 
 
     -- no pair matches, and no node further down is on the key's way
     abbrev pub IsEnd : Type 0
-    IsEnd = (match_of bytes key (pairs_of tree) ≡ []) × (before + count_on_way key (places bytes 0 tree) ≤ now + 1)
+    IsEnd =
+        (match_of bytes key (pairs_of tree) ≡ []) × (before + count_on_way key (places bytes 0 tree) ≤ now + 1)
+        × (IsWholeStored P tree → before + count_on_way key (places bytes 0 tree) ≡ now + 1)
 
     ends_aside : AreAside front key at.children → IsEnd
     ends_aside aside =
         let none =
         ap length (none_match (λ node. node.0) key (places_below bytes (depth + shown.prefix.len + 1) at.children)
         (aside_places bytes P front key (depth + shown.prefix.len + 1) at.children deep radix.4 aside)) in
-        let l = inner_least in
-        (inner_matches ∙ none_match bytes key (pairs_below at.children) (aside_pairs bytes P front key at.children radix.4 aside), omega arith)
+        let l = inner_least in (
+          inner_matches ∙ none_match bytes key (pairs_below at.children) (aside_pairs bytes P front key at.children radix.4 aside),
+          omega arith,
+          λ whole. let e = inner_exactly (d.compared (d.compares whole).0) in omega arith,
+        )
 
     -- the key ends with the prefix, or before
     pub ends_short : length key ≤ depth + shown.prefix.len → IsEnd
@@ -185,11 +197,16 @@ module _ {A : Type 0} {bytes : A → List ℕ} {P : ℕ} {key : List ℕ} {tree 
         whole_take zero (x ∷ xs) h = absurd (omega arith)
         whole_take (suc n) (x ∷ xs) h = ap (λ l. x ∷ l) (whole_take n xs (omega arith))
 
+    -- a prefix of no more bytes than can be stored is stored whole
+    whole_len : shown.prefix.len ≤ P → shown.prefix.len ≤ length shown.prefix.stored
+    whole_len few = let l = len_is in let t = ap length stored_is in let k = length-take P radix.0 in omega arith
+
     -- a child goes on with the key
     pub goes_on : {to : OpaqueNodePtr} {after : PrefixMatchBehavior} → depth + shown.prefix.len < length key →
         child_at shown.children (get_or key (depth + shown.prefix.len) 0) ≡ Some to → (after ≡ Pessimistic → IsFront front key) →
+        (behavior ≡ Pessimistic → shown.prefix.len ≤ length shown.prefix.stored → after ≡ Pessimistic) →
         IsOnWay bytes P key tree (step_down way p (get_or key (depth + shown.prefix.len) 0)) to (depth + shown.prefix.len + 1) after before (now + 1)
-    goes_on {to} {after} long there sure =
+    goes_on {to} {after} long there sure keeps =
         let b = get_or key (length front) 0 in
         let e = ap (λ cs. child_at cs b) (sym at.slots) ∙ ap (λ n. child_at shown.children (get_or key n 0)) front_len ∙ there in
         let u = child_under at.children b to radix.3 e in
@@ -213,4 +230,8 @@ module _ {A : Type 0} {bytes : A → List ℕ} {P : ℕ} {key : List ℕ} {tree 
           matches = inner_matches ∙ ap (λ cs. match_of bytes key (pairs_below cs)) u.whole ∙ pairs_between bytes P front key u.left b u.tree u.right below low high;
           at_least = let l = inner_least in omega arith;
           exactly = λ f. let l = inner_exactly (front_cut d.place radix.0 key (front_cut front (b ∷ []) key f)) in omega arith;
+          compares = λ whole.
+              let (was, own) = d.compares whole in
+              let (few, children) = subst (IsWholeStored P) at.is own in
+              (keeps was (whole_len few), whole_child P u.left b u.tree u.right (subst (AreWholeStored P) u.whole children));
         }

@@ -76,6 +76,17 @@ module _ (prefix : Prefix) (rest : List ℕ) where
       go (inr h) (inl stored) l =
           let k = rw (le-ltb (shared_len prefix.stored rest) (length prefix.stored) h, le-ltb (length rest) prefix.len l, lt-ltb (length prefix.stored) prefix.len stored) at after in absurd cc
 
+  -- who is pessimistic before a match with a prefix that is stored whole stays so
+  pub ok_sure : (behavior : PrefixMatchBehavior) (m : AttemptOptimisticPrefixMatch) → prefix_match behavior prefix rest ≡ Ok m →
+      behavior ≡ Pessimistic → prefix.len ≤ length prefix.stored → behavior_after behavior prefix rest ≡ Pessimistic
+  ok_sure Optimistic m e was stored = absurd cc
+  ok_sure Pessimistic m e was stored = go (cases_lt (shared_len prefix.stored rest) (length prefix.stored)) (ok_len Pessimistic m e).1
+    where
+      go : Parts → prefix.len ≤ length rest → behavior_after Pessimistic prefix rest ≡ Pessimistic
+      go (inl h) l = rw (lt-ltb (shared_len prefix.stored rest) (length prefix.stored) h) refl
+      go (inr h) l =
+          rw (le-ltb (shared_len prefix.stored rest) (length prefix.stored) h, le-ltb (length rest) prefix.len l, le-ltb (length prefix.stored) prefix.len stored) refl
+
 module _ (stored rest : List ℕ) where
   -- `starts_with` says whether the rest parts from what is stored
   pub starts_parts : (r : Bool) → r ≡ starts_with eqb rest stored → not r ≡ parts_from rest stored

@@ -25,8 +25,9 @@ use Rattle.art_reading.specs.declared.path.TreePath.{TreePath}
 use Rattle.art_reading.specs.declared.path.TreePath.TheVariants.{Root}
 use Rattle.art_reading.specs.Matching.{child_below, prefix_match, behavior_after}
 use Rattle.art_reading.specs.Paths.{step_down}
+use Rattle.art_reading.specs.Stored.{IsWholeStored}
 use Rattle.art_reading.specs.Walks.{IsLastLeaf}
-use Rattle.art_reading.proofs.Outcomes.{Why, err_why, ok_compared}
+use Rattle.art_reading.proofs.Outcomes.{Why, err_why, ok_compared, ok_sure}
 use Rattle.art_reading.proofs.OnWay.{IsOnWay, leaf_leads, leaf_whole, leaf_only, leaf_least, leaf_exactly, IsEnd, ends_short, ends_off, ends_childless, still_compared, goes_on}
 
 module _ {K V : Type 0} {s : Nodes K V} {bytes : K × V → List ℕ} {P : ℕ} {root : OpaqueNodePtr} {pairs : List (K × V)}
@@ -47,6 +48,7 @@ module _ {K V : Type 0} {s : Nodes K V} {bytes : K × V → List ℕ} {P : ℕ} 
         matches = refl;
         at_least = omega arith;
         exactly = λ _. refl;
+        compares = λ whole. (refl, whole);
       }
 
   module _ {key : List ℕ} {way : TreePath} {name : OpaqueNodePtr} {depth : ℕ} {behavior : PrefixMatchBehavior} {before now : ℕ}
@@ -58,7 +60,7 @@ module _ {K V : Type 0} {s : Nodes K V} {bytes : K × V → List ℕ} {P : ℕ} 
   -- at a leaf the way ends
   pub last_leaf : {key : List ℕ} {name : OpaqueNodePtr} {before now after : ℕ} (last : LastLeaf K V) →
       IsOnWay bytes P key layout last.path name last.depth last.behavior before now → leaf_name last.name ≡ name →
-      Some last.node.now ≡ map.get s.leaves last.name → last.depth ≤ length key → after ≡ now + 1 → IsLastLeaf bytes key pairs layout before after last
+      Some last.node.now ≡ map.get s.leaves last.name → last.depth ≤ length key → after ≡ now + 1 → IsLastLeaf bytes P key pairs layout before after last
   last_leaf last d is there short e =
       let n = leaf_name last.name in
       let x = pair_of last.node.now in
@@ -71,6 +73,7 @@ module _ {K V : Type 0} {s : Nodes K V} {bytes : K × V → List ℕ} {P : ℕ} 
         depth_is = d.depth_is;
         is_short = short;
         compared = d.compared;
+        compares = λ whole. (d.compares whole).0;
         only = ap (match_of bytes _) (sym (tree_radix by).1) ∙ leaf_only d n x at;
         at_least = let l = leaf_least d n x at in omega arith;
         exactly = λ f. let l = leaf_exactly d n x at f in omega arith;
@@ -85,14 +88,16 @@ module _ {K V : Type 0} {s : Nodes K V} {bytes : K × V → List ℕ} {P : ℕ} 
 
   -- no key matches
   abbrev Ends : ℕ → Type 0
-  Ends after = (match_of bytes key pairs ≡ []) × (before + length (nodes_on_way bytes key layout) ≤ after)
+  Ends after =
+      (match_of bytes key pairs ≡ []) × (before + length (nodes_on_way bytes key layout) ≤ after)
+      × (IsWholeStored P layout → before + length (nodes_on_way bytes key layout) ≡ after)
 
   -- the key leads to no child
   pub stops : {after : ℕ} → after ≡ now + 1 → None ≡ child_below behavior shown key depth → Ends after
   stops {after} counted none = go (prefix_match behavior shown.prefix (drop depth key)) refl (cases_lt place (length key)) (child_at shown.children (get_or key place 0)) refl
     where
       ends : IsEnd d at → Ends after
-      ends (nothing, few) = (ap (match_of bytes key) (sym (tree_radix by).1) ∙ nothing, omega arith)
+      ends (nothing, few, exactly) = (ap (match_of bytes key) (sym (tree_radix by).1) ∙ nothing, omega arith, λ whole. let l = exactly whole in omega arith)
 
       off : Why shown.prefix (drop depth key) behavior → Ends after
       off (inl (sure, less)) = ends (ends_off d at sure less)
@@ -123,5 +128,5 @@ module _ {K V : Type 0} {s : Nodes K V} {bytes : K × V → List ℕ} {P : ℕ} 
           let same : ◌≡◌ {A = ℕ × OpaqueNodePtr} (place, other) to = cc in
           let down = goes_on d at {to = other} {after = behavior'} long there (λ sure.
           let (was, all, stored) = ok_compared shown.prefix (drop depth key) behavior m e (sym is ∙ sure) in
-          still_compared d at was all stored) in
+          still_compared d at was all stored) (λ was stored. is ∙ ok_sure shown.prefix (drop depth key) behavior m e was stored) in
           subst (Below to) (sym counted) (subst (λ z. Below z (now + 1)) same down)

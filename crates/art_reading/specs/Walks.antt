@@ -20,8 +20,9 @@ use Rattle.art_reading.specs.declared.ways.End.{End}
 use Rattle.art_reading.specs.declared.ways.End.TheVariants.{First, Last}
 use Rattle.art_reading.specs.declared.path.TreePath.{TreePath}
 use Rattle.art_reading.specs.Paths.{path_of}
+use Rattle.art_reading.specs.Stored.{IsWholeStored}
 
-module _ {K V : Type 0} (bytes : K × V → List ℕ) (key : List ℕ) (pairs : List (K × V))
+module _ {K V : Type 0} (bytes : K × V → List ℕ) (P : ℕ) (key : List ℕ) (pairs : List (K × V))
     (layout : Tree OpaqueNodePtr (K × V)) (before after : ℕ) where
   -- the only leaf that can match the key, and what is left to compare of it: the bytes after its place, or all of them
   pub record IsLastLeaf (last : LastLeaf K V) : Type 0 where
@@ -32,21 +33,26 @@ module _ {K V : Type 0} (bytes : K × V → List ℕ) (key : List ℕ) (pairs : 
     pub depth_is : length place ≡ last.depth
     pub is_short : last.depth ≤ length key
     pub compared : last.behavior ≡ Pessimistic → IsFront place key
+    pub compares : IsWholeStored P layout → last.behavior ≡ Pessimistic
     pub only : match_of bytes key pairs ≡ match_of bytes key (pair_of last.node.now ∷ [])
     pub at_least : before + length (nodes_on_way bytes key layout) ≤ after
     pub exactly : IsFront place key → before + length (nodes_on_way bytes key layout) ≡ after
 
   -- the way ends at a leaf, or where no key can match
   abbrev pub WalkEnds : Option (LastLeaf K V) → Type 0
-  WalkEnds None = (match_of bytes key pairs ≡ []) × (before + length (nodes_on_way bytes key layout) ≤ after)
+  WalkEnds None =
+      (match_of bytes key pairs ≡ []) × (before + length (nodes_on_way bytes key layout) ≤ after)
+      × (IsWholeStored P layout → before + length (nodes_on_way bytes key layout) ≡ after)
   WalkEnds (Some last) = IsLastLeaf last
 
--- what a look-up counts: at least the nodes on the key's way, exactly these where a leaf is found, and at most one more than the key has bytes
+-- what a look-up counts: at least the nodes on the key's way, exactly these where a leaf is found or each prefix is stored whole, and at most one more than the key has bytes
 pub record CountsVisits {K V : Type 0} (bytes : K × V → List ℕ) (P : ℕ) (s : Nodes K V) (root : OpaqueNodePtr) (key : List ℕ)
     (before after : ℕ) (IsFound : Type 0) : Type 0 where
   pub at_least : ForTree bytes P s root (λ pairs layout. before + length (nodes_on_way bytes key layout) ≤ after)
   pub exactly : ForTree bytes P s root (λ pairs layout.
       IsFound → before + length (nodes_on_way bytes key layout) ≡ after)
+  pub if_whole : ForTree bytes P s root (λ pairs layout.
+      IsWholeStored P layout → before + length (nodes_on_way bytes key layout) ≡ after)
   pub at_most : after ≤ before + length key + 1
 
 -- the pairs that are asked for: those with the key, or with a front of it

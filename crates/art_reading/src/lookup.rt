@@ -5,6 +5,7 @@ ghost use Rattle.art_model.specs.Lookups.{FindsLeaf, pair_under};
 ghost use Rattle.art_model.specs.Pairs.{first_of, match_of, of_key, with_key};
 ghost use Rattle.art_model.specs.Roots.{ForTree, IsCanonicalRoot};
 ghost use Rattle.art_reading.specs.Walks.{CountsVisits, WalkEnds, asked_of};
+ghost use Rattle.art_reading.specs.declared.lookup.PrefixMatchBehavior.TheVariants.{Optimistic, Pessimistic};
 
 use crate::path::{AttemptOptimisticPrefixMatch, LastSteps, PessimisticMismatch};
 use crate::ways::{Asked, LastLeaf, shared_len, walk_to_key};
@@ -30,7 +31,6 @@ pub enum PrefixMatchBehavior {
 impl PrefixMatchBehavior {
     ghost use Rattle.art_reading.specs.Matching.{LeafKeyIsPrefix, MatchesLeafKey, behavior_after, child_below, parts_from, prefix_match};
     ghost use Rattle.art_inner.specs.Views.{ref_view};
-    ghost use Rattle.art_reading.specs.declared.lookup.PrefixMatchBehavior.TheVariants.{Optimistic, Pessimistic};
 
     /// Compares the prefix of an inner node with the rest of the key, from the node's depth on.
     pub fn match_prefix<N: InnerNode<P>, const P: usize>(
@@ -250,6 +250,13 @@ impl Visits {
     }
 }
 
+/// By default a look-up has compared all bytes so far, and no node has been read.
+pub fn look_ups_start_by_default()
+    ensures behavior { (behavior : PrefixMatchBehavior) →
+        ⟦<PrefixMatchBehavior as Default>⟧.is_default behavior → behavior ≡ Pessimistic }
+    ensures visits { (visits : Visits) → ⟦<Visits as Default>⟧.is_default visits → visits ≡ 0 }
+{}
+
 // Goes down with a key to the only leaf whose key can be a prefix of it, and counts each node that it reads.
 #[inline(always)]
 pub(crate) fn walk<'a, K: AsBytes + Drop, V: Drop, const PREFIX_LEN: usize>(
@@ -261,7 +268,8 @@ pub(crate) fn walk<'a, K: AsBytes + Drop, V: Drop, const PREFIX_LEN: usize>(
     requires root { IsCanonicalRoot (of_key K.bytes) PREFIX_LEN store.now root }
     requires room { visits.old + length key_bytes.now + 1 < 2 ^ 64 }
     ensures ends { ForTree (of_key K.bytes) PREFIX_LEN store.now root (λ pairs layout.
-        WalkEnds (of_key K.bytes) key_bytes.now pairs layout visits.old visits.new result) }
+        WalkEnds (of_key K.bytes) PREFIX_LEN key_bytes.now pairs layout
+        visits.old visits.new result) }
     ensures at_most { visits.new ≤ visits.old + length key_bytes.now + 1 }
 {
     let mut steps = LastSteps::new();

@@ -111,6 +111,25 @@ fn counts_readings(rt: HostRuntime) -> Result<(), Fail> {
     )
 }
 
+// What searches that part from the stored bytes of the root's prefix find, and one that does not, with what each reads.
+fn readings_of_two(
+    store: &mut NodeStore<Key, u32, 16>,
+) -> Option<([(Option<u32>, usize); 2], (Option<u32>, usize))> {
+    let root = planted_all(store, &[&[1, 2, 3], &[1, 2, 4]]).ok()??;
+    let parting = [
+        reading(store, root, Search::Whole(&[9, 9, 3])),
+        reading(store, root, Search::Prefix(&[1, 9, 3, 5])),
+    ];
+    let kept = reading(store, root, Search::Prefix(&[1, 2, 4, 5]));
+    Some((parting, kept))
+}
+
+#[test]
+fn reads_nothing_where_stored_bytes_differ(rt: HostRuntime) -> Result<(), Fail> {
+    let seen = readings_of_two(&mut NodeStore::new(rt.alloc()));
+    same(seen, Some(([(None, 1); 2], (Some(1), 2))))
+}
+
 // Searches that end at a node without a child for the next byte.
 static WITHOUT_CHILD: [Search<'static>; 5] = [
     Search::Whole(&[7]),

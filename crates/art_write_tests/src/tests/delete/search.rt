@@ -74,6 +74,20 @@ fn names_no_parent_of_the_root(rt: HostRuntime) -> Result<(), Fail> {
     as_expected(points_of_one::<16>(&mut NodeStore::new(rt.alloc())))
 }
 
+// How many nodes a search for a key reads that parts from the stored bytes of the root's prefix, and whether it finds a
+// point.
+fn searched_aside(store: &mut NodeStore<Key, u32, 16>) -> Option<(bool, usize)> {
+    let root = planted_all(store, &[&[1, 2, 3], &[1, 2, 4]]).ok()??;
+    let (point, count) = searched(store, root, &[9, 9, 3]);
+    Some((point.is_some(), count))
+}
+
+#[test]
+fn reads_nothing_where_stored_bytes_differ(rt: HostRuntime) -> Result<(), Fail> {
+    let seen = searched_aside(&mut NodeStore::new(rt.alloc()));
+    same(seen, Some((false, 1)))
+}
+
 // The points of three leaves, and how many nodes lead to each.
 type Points = [(Option<DeletePoint>, usize); 3];
 
