@@ -170,7 +170,7 @@ fn clone_inner<K: AsBytes + Clone + Drop, V: Clone + Drop, const P: usize>(
     }
 }
 
-// Places a copy of an inner node, without a child, and answers it with the children that are to be copied.
+// Places a copy of an inner node, without a child, and returns it with the children that are to be copied.
 fn begin<'a, K: AsBytes + Clone + Drop, V: Clone + Drop, const P: usize>(
     store: &'a NodeStore<K, V, P>,
     name: InnerPtr,
@@ -254,7 +254,7 @@ fn place_like<K: AsBytes + Drop, V: Drop, const P: usize>(
     Ok(name)
 }
 
-// Puts a copy under a byte of an inner node, its leaves behind the others, and answers the ends of all.
+// Puts a copy under a byte of an inner node, its leaves behind the others, and returns the ends of all.
 fn add_copy<K: AsBytes + Drop, V: Drop, const P: usize>(
     into: &mut NodeStore<K, V, P>,
     parent: InnerPtr,

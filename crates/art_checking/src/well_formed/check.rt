@@ -36,7 +36,7 @@ struct Above<'a> {
     children: Children<'a>,
 }
 
-// Checks all nodes below a root, and answers what was met.
+// Checks all nodes below a root, and returns what was met.
 pub(super) fn check_nodes<K: AsBytes + Drop, V: Drop, const P: usize>(
     store: &NodeStore<K, V, P>,
     root: OpaqueNodePtr,
@@ -128,7 +128,7 @@ fn check_below<K: AsBytes + Drop, V: Drop, const P: usize>(
     }
 }
 
-// Comes to an inner node that was met: appends its prefix to the bytes that lead to it, and answers its
+// Comes to an inner node that was met: appends its prefix to the bytes that lead to it, and returns its
 // children, with their least leaf where it is known.
 fn enter<'a, K: AsBytes + Drop, V: Drop, const P: usize>(
     store: &'a NodeStore<K, V, P>,
@@ -152,7 +152,8 @@ fn enter<'a, K: AsBytes + Drop, V: Drop, const P: usize>(
         unreachable!()
     };
     let least = read_prefix(store, name, node, least, place)?;
-    Ok((node.iter(), least))
+    let children = node.iter();
+    Ok((children, least))
 }
 
 // Goes from an inner node all of whose children were passed: cuts its prefix off the bytes that lead to it,
@@ -219,7 +220,7 @@ fn is_there<K: AsBytes + Drop, V: Drop, const P: usize>(
 }
 
 // Appends the prefix of an inner node to the bytes that lead to it. A prefix that is not stored whole is
-// read from the least leaf below. Answers that leaf, where it is known.
+// read from the least leaf below. Returns that leaf, where it is known.
 fn read_prefix<K: AsBytes + Drop, V: Drop, const P: usize>(
     store: &NodeStore<K, V, P>,
     name: InnerPtr,
