@@ -17,7 +17,7 @@ ghost use Rattle.art_map.specs.MapChanges.{HasEntered, HasPlanted, HasPut, HasPu
 ghost use Rattle.art_map.specs.MapItems.{deref_pair, keys_of, values_of};
 ghost use Rattle.art_map.specs.MapPairs.{HoldsPairs, pairs_at};
 
-use art_nodes::node::{AsBytes, LeafNode, LeafPtr, OpaqueNodePtr};
+use art_nodes::node::{AsBytes, LeafPtr, OpaqueNodePtr};
 use art_nodes::store::NodeStore;
 use art_reading::iterator::RawIterator;
 use art_reading::lookup::{prefix_search_unchecked, search_unchecked};
@@ -30,7 +30,7 @@ use art_writing::delete::{
     DeletePoint, find_maximum_to_delete, find_minimum_to_delete, search_for_delete_point,
 };
 use art_writing::insert::{
-    InsertKind, InsertPrefixError, InsertSearchError, PrefixInsertResult, Refused,
+    InsertKind, InsertPrefixError, InsertSearchError, PrefixInsertResult, Refused, plant,
     search_for_insert_point, search_for_prefix_insert_point,
 };
 use std::alloc::{AllocError, Global};
@@ -565,7 +565,7 @@ fn put_in<K: AsBytes + Drop, V: Drop, const P: usize>(
         store.new root.new len.new }
 {
     let Some(name) = *root else {
-        return match plant(store, root, len, key, value) {
+        return match begin(store, root, len, key, value) {
             Ok(()) => Ok(None),
             Err(refused) => Err(without_memory(refused)),
         };
@@ -604,15 +604,15 @@ fn leaf_for<K: AsBytes + Drop, V: Drop, const P: usize>(
         store.new root.new len.new }
 {
     let Some(name) = *root else {
-        return match store.place_leaf(LeafNode::with_no_siblings(key, value)) {
+        return match plant(store, key, value) {
             Ok(leaf) => {
                 *root = Some(leaf.to_opaque());
                 *len = 1;
                 Ok(leaf)
             }
-            Err((leaf, _)) => Err(MapInsertError::Memory {
-                key: leaf.key,
-                value: leaf.value,
+            Err(refused) => Err(MapInsertError::Memory {
+                key: refused.key,
+                value: refused.value,
             }),
         };
     };
@@ -662,7 +662,7 @@ fn put_over<K: AsBytes + Drop, V: Drop, const P: usize>(
         store.new root.new len.new }
 {
     let Some(name) = *root else {
-        return match plant(store, root, len, key, value) {
+        return match begin(store, root, len, key, value) {
             Ok(()) => Ok(0),
             Err(refused) => Err(refused),
         };
@@ -701,8 +701,8 @@ fn one_more<K: AsBytes + Drop, V: Drop, const P: usize>(
     len + 1
 }
 
-// Makes a tree of one leaf.
-fn plant<K: AsBytes + Drop, V: Drop, const P: usize>(
+// Begins the tree with a pair.
+fn begin<K: AsBytes + Drop, V: Drop, const P: usize>(
     store: &mut NodeStore<K, V, P>,
     root: &mut Option<OpaqueNodePtr>,
     len: &mut usize,
@@ -714,16 +714,13 @@ fn plant<K: AsBytes + Drop, V: Drop, const P: usize>(
         (pairs_at store.old None) }
     ensures { HasPlanted K.bytes P key value result store.new root.new len.new }
 {
-    match store.place_leaf(LeafNode::with_no_siblings(key, value)) {
+    match plant(store, key, value) {
         Ok(leaf) => {
             *root = Some(leaf.to_opaque());
             *len = 1;
             Ok(())
         }
-        Err((leaf, _)) => Err(Refused {
-            key: leaf.key,
-            value: leaf.value,
-        }),
+        Err(refused) => Err(refused),
     }
 }
 

@@ -1,12 +1,10 @@
 use Rattle.std.proofs.Common.{◌≡◌, ℕ, ◌+◌, List, [], ◌∷◌, rules, refl, ap, sym, ◌∙◌, subst, arith, false, true, Some}
 use Rattle.std.proofs.lemmas.Bool.{false≢true}
-use Rattle.std.specs.FinMap.{insert}
 use Rattle.art_parts.specs.Names.{leaf_name}
 use Rattle.art_model.specs.Canonical.{IsCanonicalTree}
 use Rattle.art_model.specs.Pairs.{of_key, is_conflict}
 use Rattle.art_model.specs.Trees.{leaf}
 use Rattle.art_writing.specs.Points.{AnswersTo}
-use Rattle.art_writing.specs.Writes.{IsPlanted}
 use Rattle.art_writing.proofs.KeysFound.{conflict_new, not_false}
 use Rattle.art_writing.proofs.OneLeaf as one_leaf
 use Rattle.art_map.specs.MapPairs.{pairs_at}
@@ -25,13 +23,7 @@ conflicts bytes pairs {spelled} refused same = subst (λ k. is_conflict bytes k 
 pub returns-in-Ok : goal.returns-in-Ok
 returns-in-Ok g c =
     let bytes = g.K.AsBytes.bytes in
-    let at : IsPlanted c.args.store.now c.place_leaf.new.self c.in-Ok.leaf (c.args.key, c.args.value) =
-    record {
-      fresh = c.in-Ok.ensures.fresh;
-      leaves = c.in-Ok.ensures.placed ∙ ap (insert c.args.store.now.leaves c.in-Ok.leaf) c.with_no_siblings.ensures;
-      inners = c.in-Ok.ensures.inners;
-      promise = c.in-Ok.ensures.promise;
-    } in
+    let at = c.in-Ok.ensures.planted in
     rw (no_pairs (of_key bytes) g.row.P c.args.store.now c.in_default.is c.requires, c.to_opaque.ensures) (
       planted bytes g.row.P (rw c.in_default.is at c.requires) at,
       record {

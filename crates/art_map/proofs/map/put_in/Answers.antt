@@ -16,8 +16,8 @@ conflicts : {K V : Type 0} (bytes : K × V → List ℕ) (pairs : List (K × V))
     is_conflict bytes key pairs ≡ true
 conflicts bytes pairs {spelled} refused same = subst (λ k. is_conflict bytes k pairs ≡ true) same (not_false (is_conflict bytes spelled pairs) (λ free. false≢true (refused free)))
 
-pub plant-requires : goal.plant-requires
-plant-requires g c = (search rules, (c.in_default.is, rw c.in_default.is at c.requires))
+pub begin-requires : goal.begin-requires
+begin-requires g c = (search rules, (c.in_default.is, rw c.in_default.is at c.requires))
 
 pub returns-in-Ok : goal.returns-in-Ok
 returns-in-Ok g c = rw (no_pairs (of_key g.K.AsBytes.bytes) g.row.P c.args.store.now c.in_default.is c.requires) (c.in-Ok.ensures, refl, refl)
