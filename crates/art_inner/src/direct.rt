@@ -140,7 +140,7 @@ fn name_in(place: Place, slot: usize) -> Option<OpaqueNodePtr>
         Place::Node48 => NodeType::Node48,
         Place::Node256 => NodeType::Node256,
         Place::Leaf => NodeType::Leaf,
-        Place::Vacant => NodeType::Leaf,
+        Place::Vacant => return None,
     };
     Some(OpaqueNodePtr { kind, slot })
 }

@@ -143,7 +143,7 @@ impl<const P: usize> FromHeader<Header<P>> for InnerNode4<P> {
     ghost starts = { λ h n. n ≡ childless h };
 
     fn from_header(header: Header<P>) -> Self {
-        let header = header; InnerNode4 {
+        InnerNode4 {
             header,
             table: Table::new(),
         }
@@ -396,7 +396,7 @@ impl<const P: usize> InnerNode<P> for InnerNode48<P> {
     }
 
     fn into_any(self) -> AnyInner<P> {
-        { self.header(); AnyInner::Node48(self) }
+        AnyInner::Node48(self)
     }
 
     fn grow(self) -> AnyInner<P> {

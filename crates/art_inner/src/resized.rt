@@ -58,7 +58,7 @@ impl<const P: usize> Grows<P> for InnerNode48<P> {
     fn grown(self) -> InnerNodeDirect<P> {
         InnerNodeDirect {
             header: self.header,
-            table: { let mut table = Direct::of(self.iter()); table.iter(); table },
+            table: Direct::of(self.iter()),
         }
     }
 }
