@@ -143,15 +143,23 @@ impl<const P: usize> FromHeader<Header<P>> for InnerNode4<P> {
     ghost starts = { λ h n. n ≡ childless h };
 
     fn from_header(header: Header<P>) -> Self {
-        InnerNode4 {
-            header,
-            table: Table::new(),
-        }
+        InnerNode4::from_header(header)
     }
 }
 
 impl<const P: usize> InnerNode4<P> {
     ghost use Rattle.art_inner.specs.Changes.{with_header};
+    ghost use Rattle.art_inner.specs.Inner.{childless};
+
+    /// Returns a node with this header and no child.
+    pub fn from_header(header: Header<P>) -> Self
+        ensures { result ≡ childless header.entry }
+    {
+        InnerNode4 {
+            header,
+            table: Table::new(),
+        }
+    }
 
     /// Gives the node another header.
     pub fn set_header(&mut self, header: Header<P>)
@@ -239,15 +247,23 @@ impl<const P: usize> FromHeader<Header<P>> for InnerNode16<P> {
     ghost starts = { λ h n. n ≡ childless h };
 
     fn from_header(header: Header<P>) -> Self {
-        InnerNode16 {
-            header,
-            table: Table::new(),
-        }
+        InnerNode16::from_header(header)
     }
 }
 
 impl<const P: usize> InnerNode16<P> {
     ghost use Rattle.art_inner.specs.Changes.{with_header};
+    ghost use Rattle.art_inner.specs.Inner.{childless};
+
+    /// Returns a node with this header and no child.
+    pub fn from_header(header: Header<P>) -> Self
+        ensures { result ≡ childless header.entry }
+    {
+        InnerNode16 {
+            header,
+            table: Table::new(),
+        }
+    }
 
     /// Gives the node another header.
     pub fn set_header(&mut self, header: Header<P>)
@@ -335,15 +351,23 @@ impl<const P: usize> FromHeader<Header<P>> for InnerNode48<P> {
     ghost starts = { λ h n. n ≡ childless h };
 
     fn from_header(header: Header<P>) -> Self {
-        InnerNode48 {
-            header,
-            table: Indexed::new(),
-        }
+        InnerNode48::from_header(header)
     }
 }
 
 impl<const P: usize> InnerNode48<P> {
     ghost use Rattle.art_inner.specs.Changes.{with_header};
+    ghost use Rattle.art_inner.specs.Inner.{childless};
+
+    /// Returns a node with this header and no child.
+    pub fn from_header(header: Header<P>) -> Self
+        ensures { result ≡ childless header.entry }
+    {
+        InnerNode48 {
+            header,
+            table: Indexed::new(),
+        }
+    }
 
     /// Gives the node another header.
     pub fn set_header(&mut self, header: Header<P>)
@@ -431,15 +455,23 @@ impl<const P: usize> FromHeader<Header<P>> for InnerNodeDirect<P> {
     ghost starts = { λ h n. n ≡ childless h };
 
     fn from_header(header: Header<P>) -> Self {
-        InnerNodeDirect {
-            header,
-            table: Direct::new(),
-        }
+        InnerNodeDirect::from_header(header)
     }
 }
 
 impl<const P: usize> InnerNodeDirect<P> {
     ghost use Rattle.art_inner.specs.Changes.{with_header};
+    ghost use Rattle.art_inner.specs.Inner.{childless};
+
+    /// Returns a node with this header and no child.
+    pub fn from_header(header: Header<P>) -> Self
+        ensures { result ≡ childless header.entry }
+    {
+        InnerNodeDirect {
+            header,
+            table: Direct::new(),
+        }
+    }
 
     /// Gives the node another header.
     pub fn set_header(&mut self, header: Header<P>)

@@ -1,5 +1,6 @@
 mod beside;
 mod mixed_calls;
 mod names;
+mod new_nodes;
 mod node;
 mod store;
