@@ -5,12 +5,12 @@ ghost use Rattle.art_nodes.specs.LeafChanges.{with_links};
 ghost use Rattle.art_inner.specs.Inner.{child_at, childless};
 
 use art_node_support::expected::same;
-use art_node_support::memory::all_memory;
+use art_node_support::memory::{all_memory, begin_refusals, end_refusals};
 use art_nodes::node::{
     AnyInner, AsBytes, Header, InnerPtr, InnerRef, LeafNode, LeafPtr, NodeType, OpaqueNodePtr,
 };
 use art_nodes::store::NodeStore;
-use std::alloc::AllocError;
+use std::alloc::{AllocError, Global};
 use std::test::Fail;
 
 type Store = NodeStore<[u8; 1], u32, 2>;
@@ -491,6 +491,24 @@ fn refused_placements_leave_the_nodes(rt: HostRuntime) -> Result<(), Fail> {
         if any_refused {
             println!(rt; "asserted")?;
         }
+    }
+    Ok(())
+}
+
+// Whether the first placement of a store is refused, and how many leaves it has then.
+fn place_first(alloc: Global, store: &mut Store) -> (bool, usize) {
+    begin_refusals(alloc);
+    let is_refused = store.place_leaf(leaf_of(1, 10)).is_err();
+    end_refusals(alloc);
+    (is_refused, store.leaf_count())
+}
+
+#[test]
+fn refused_each_first_placement_leaves_no_leaf(rt: HostRuntime) -> Result<(), Fail> {
+    let (is_refused, count) = place_first(rt.alloc(), &mut Store::new(rt.alloc()));
+    same(count, if is_refused { 0 } else { 1 })?;
+    if is_refused {
+        println!(rt; "asserted")?;
     }
     Ok(())
 }
