@@ -172,36 +172,26 @@ fn numbers_of_all_widths_come_back() -> Result<(), Fail> {
     )
 }
 
-// The least number of 16 bytes, -1, 0 and the greatest.
+// Whether a number of 16 bytes has these first and these other bytes, and comes back.
+fn is_wide(number: i128, first: u8, others: u8) -> bool {
+    let key = Signed::from(number);
+    match key.as_bytes().split_first() {
+        Some((byte, rest)) => {
+            *byte == first && rest == [others; 15].as_slice() && i128::from(key) == number
+        }
+        None => false,
+    }
+}
+
 #[test]
 fn wide_numbers_have_the_bit_of_the_sign_flipped() -> Result<(), Fail> {
-    let keys = [
-        Signed::from(i128::MIN),
-        Signed::from(-1i128),
-        Signed::from(0i128),
-        Signed::from(i128::MAX),
+    let seen = [
+        is_wide(i128::MIN, 0, 0),
+        is_wide(-1, 0x7f, 0xff),
+        is_wide(0, 0x80, 0),
+        is_wide(i128::MAX, 0xff, 0xff),
     ];
-    let seen = (
-        keys[0].as_bytes() == [0; 16].as_slice(),
-        (keys[1].as_bytes()[0], keys[1].as_bytes()[15]),
-        (keys[2].as_bytes()[0], keys[2].as_bytes()[15]),
-        keys[3].as_bytes() == [0xff; 16].as_slice(),
-        [
-            i128::from(keys[0]),
-            i128::from(keys[1]),
-            i128::from(keys[3]),
-        ],
-    );
-    same(
-        seen,
-        (
-            true,
-            (0x7f, 0xff),
-            (0x80, 0),
-            true,
-            [i128::MIN, -1, i128::MAX],
-        ),
-    )
+    same(seen, [true; 4])
 }
 
 #[test]
