@@ -23,7 +23,7 @@ fn value_of(pair: Option<(&Key, &u32)>) -> Option<u32> {
 }
 
 fn seen<const P: usize>(mut part: Range<'_, Key, u32, P>) -> Seen
-    requires { length part.entry < 2 ^ 64 }
+    requires { length part < 2 ^ 64 }
 {
     let first = value_of(part.next());
     let last = value_of(part.next_back());

@@ -44,7 +44,7 @@ fn fill(map: &mut Map) -> bool {
 type Seen = ([Option<u32>; 4], usize);
 
 fn seen(mut part: Range<'_, Key, u32, 1>) -> Seen
-    requires { length part.entry < 2 ^ 64 }
+    requires { length part < 2 ^ 64 }
 {
     let ends = [
         value_of(part.next()),
@@ -153,7 +153,10 @@ fn removed(map: &mut Map) -> (bool, [Option<usize>; 4], [Option<u32>; 2]) {
         map.remove_prefix(&[2, 5, 5, 5, 0]).ok(),
         map.remove_prefix(&[3, 9, 0, 0]).ok(),
     ];
-    let ends = [value_of(map.iter().next()), value_of(map.iter().next_back())];
+    let ends = [
+        value_of(map.iter().next()),
+        value_of(map.iter().next_back()),
+    ];
     (filled, counts, ends)
 }
 
@@ -269,8 +272,8 @@ fn agree_from_both(
 // Whether a part of the map has the same pairs as of the other one, in order from the front.
 fn agree_from_front(map: &Map, model: &BTreeMap<Key, u32>, part: Part<'_>) -> bool {
     let mut own = part_of(map, part);
-    for pair in model.iter() {
-        if is_part(part, pair.0) && own.next() != Some(pair) {
+    for (key, value) in model.iter() {
+        if is_part(part, key) && own.next() != Some((key, value)) {
             return false;
         }
     }
@@ -280,8 +283,8 @@ fn agree_from_front(map: &Map, model: &BTreeMap<Key, u32>, part: Part<'_>) -> bo
 // The same from the back.
 fn agree_from_back(map: &Map, model: &BTreeMap<Key, u32>, part: Part<'_>) -> bool {
     let mut own = part_of(map, part);
-    for pair in model.iter().rev() {
-        if is_part(part, pair.0) && own.next_back() != Some(pair) {
+    for (key, value) in model.iter().rev() {
+        if is_part(part, key) && own.next_back() != Some((key, value)) {
             return false;
         }
     }
@@ -352,10 +355,11 @@ fn agree_on_change(
         3 => return agree_on_removal_below(map, model, &key[..3 + numbers.below(2)]),
         _ => map.remove(&key),
     };
-    let Ok(Some((key, _))) = taken else {
+    let Ok(Some(pair)) = taken else {
         return taken.is_ok();
     };
-    model.remove(&key).is_some()
+    let taken_key = pair.0;
+    model.remove(&taken_key).is_some()
 }
 
 // The number of the first change after which they differ, if they do.
@@ -367,7 +371,7 @@ fn differ_at(
 ) -> Option<usize> {
     let mut numbers = Numbers::new(7);
     for change in 0..changes {
-        let grows = (change / 400) % 2 == 0;
+        let grows = (change / 150) % 2 == 0;
         if !agree_on_change(map, model, &mut numbers, grows) {
             return Some(change);
         }
@@ -381,6 +385,11 @@ fn differ_at(
 #[test]
 fn drawn_parts_are_those_of_a_btree_map(rt: HostRuntime) -> Result<(), Fail> {
     let alloc = rt.alloc();
-    let seen = differ_at(&mut ByteMap::new(alloc), &mut BTreeMap::new(alloc), alloc, 4_000);
+    let seen = differ_at(
+        &mut ByteMap::new(alloc),
+        &mut BTreeMap::new(alloc),
+        alloc,
+        900,
+    );
     as_expected(Some((seen, None)))
 }
