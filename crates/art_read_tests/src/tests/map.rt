@@ -1,4 +1,5 @@
 mod beside_btree;
+mod beside_btree_set;
 mod calls;
 mod memory;
 mod owned;

@@ -4,12 +4,15 @@ use super::calls::Removal;
 use art_operations::map::{ByteMap, MapRefused};
 use art_test_support::expected::as_expected;
 use art_test_support::numbers::Numbers;
+use std::alloc::Global;
 use std::collections::BTreeMap;
 use std::test::Fail;
 
 type Key = [u8; 2];
 
 type Map = ByteMap<Key, u32, 1>;
+
+type Model = BTreeMap<Key, u32>;
 
 fn drawn_key(numbers: &mut Numbers) -> Key {
     [numbers.below(12) as u8, numbers.below(40) as u8]
@@ -216,4 +219,65 @@ fn drawn_writes_answer_as_those_of_a_btree_map(rt: HostRuntime) -> Result<(), Fa
     let (mut map, mut model) = (ByteMap::new(alloc), BTreeMap::new(alloc));
     let differ = differ_at_write(&mut map, &mut model, 5_000);
     as_expected(Some(((differ, agree_on_pairs(&map, &model)), (None, true))))
+}
+
+// Whether two maps compare in the same way.
+fn agree_on_order(map: &Map, other: &Map, model: &Model, beside: &Model) -> bool {
+    (map == other) == (model == beside)
+        && map.cmp(other) == model.cmp(beside)
+        && map.partial_cmp(other) == model.partial_cmp(beside)
+}
+
+// Puts drawn pairs into both.
+fn fill_both(map: &mut Map, model: &mut Model, numbers: &mut Numbers) -> bool {
+    let mut agree = true;
+    for _ in 0..numbers.below(30) {
+        let (key, value) = (drawn_key(numbers), numbers.value());
+        agree = agree_on_insertion(map, model, key, value) && agree;
+    }
+    agree
+}
+
+// Whether as many pairs stay that pass a test, and they are the same ones.
+fn agree_on_retained(map: &mut Map, model: &mut Model, rest: u32) -> bool {
+    let retained = map.retain(|key, value| value.wrapping_add(key[1] as u32) % 5 != rest);
+    model.retain(|key, value| value.wrapping_add(key[1] as u32) % 5 != rest);
+    retained.is_ok() && agree_on_pairs(map, model)
+}
+
+// Whether they are the same when each has taken the pairs of another one.
+fn agree_on_extended(map: &mut Map, more: Map, model: &mut Model, others: &mut Model) -> bool {
+    let mut pairs = more.into_iter();
+    let extended = map.extend(&mut pairs).is_ok() && model.append(others).is_ok();
+    extended && pairs.next().is_none() && agree_on_pairs(map, model)
+}
+
+// The number of the first round after which they differ, if they do.
+fn differ_in_round(
+    map: &mut Map,
+    model: &mut Model,
+    numbers: &mut Numbers,
+    rounds: usize,
+    alloc: Global,
+) -> Option<usize> {
+    for round in 0..rounds {
+        let (mut more, mut others) = (ByteMap::new(alloc), BTreeMap::new(alloc));
+        let agree = fill_both(&mut more, &mut others, numbers)
+            && agree_on_order(map, &more, model, &others)
+            && agree_on_extended(map, more, model, &mut others)
+            && agree_on_retained(map, model, numbers.below(5) as u32);
+        if !agree {
+            return Some(round);
+        }
+    }
+    None
+}
+
+#[test]
+fn maps_are_extended_and_retained_as_btree_maps(rt: HostRuntime) -> Result<(), Fail> {
+    let alloc = rt.alloc();
+    let (mut map, mut model) = (ByteMap::new(alloc), BTreeMap::new(alloc));
+    let mut numbers = Numbers::new(3);
+    let seen = differ_in_round(&mut map, &mut model, &mut numbers, 200, alloc);
+    as_expected(Some((seen, None)))
 }

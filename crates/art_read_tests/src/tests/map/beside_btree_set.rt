@@ -1,0 +1,129 @@
+//! Drawn calls of sets beside the same ones of `BTreeSet`s. The keys have one length, so that none is a
+//! prefix of another.
+use art_operations::set::ByteSet;
+use art_test_support::expected::as_expected;
+use art_test_support::numbers::Numbers;
+use std::collections::BTreeSet;
+use std::ops::Bound;
+use std::test::Fail;
+
+type Key = [u8; 2];
+
+type Set = ByteSet<Key, 1>;
+
+type Model = BTreeSet<Key>;
+
+fn drawn_key(numbers: &mut Numbers) -> Key {
+    [numbers.below(5) as u8, numbers.below(12) as u8]
+}
+
+// A change of both, and whether they return the same.
+fn agree_on_change(set: &mut Set, model: &mut Model, key: Key, call: usize) -> bool {
+    match call {
+        0 => set.remove(&key).ok() == Some(model.remove(&key)),
+        1 => set.take(&key).ok() == Some(model.take(&key)),
+        2 => set.pop_first().ok() == Some(model.pop_first()),
+        3 => set.pop_last().ok() == Some(model.pop_last()),
+        _ => match (set.insert(key), model.insert(key)) {
+            (Ok(own), Ok(other)) => own == other,
+            _ => false,
+        },
+    }
+}
+
+// Questions to both, and whether they return the same.
+fn agree_on_questions(set: &Set, model: &Model, key: Key) -> bool {
+    set.contains(&key) == model.contains(&key)
+        && set.get(&key) == model.get(&key)
+        && set.first() == model.first()
+        && set.last() == model.last()
+        && set.len() == model.len()
+        && set.is_empty() == model.is_empty()
+}
+
+// Whether both have the same keys from both ends.
+fn agree_on_keys(set: &Set, model: &Model) -> bool {
+    set.iter().eq(model.iter()) && set.iter().rev().eq(model.iter().rev())
+}
+
+// Whether the parts below a prefix, and after and before a key, are the same.
+fn agree_on_parts(set: &Set, model: &Model, key: Key) -> bool {
+    let bytes = &key[..];
+    let (after, before) = (Bound::Excluded(bytes), Bound::Included(bytes));
+    let mut below = set.prefix(&key[..1]);
+    for stored in model.iter() {
+        if stored[0] == key[0] && below.next() != Some(stored) {
+            return false;
+        }
+    }
+    below.next().is_none()
+        && set.first_from(after) == model.iter().find(|stored| **stored > key)
+        && set.last_up_to(before) == model.iter().rev().find(|stored| **stored <= key)
+        && set.range((after, Bound::Unbounded)).next() == set.first_from(after)
+        && set.range((Bound::Unbounded, before)).next_back() == set.last_up_to(before)
+}
+
+// Whether what two sets have together is the same.
+fn agree_on_walks(set: &Set, other: &Set, model: &Model, beside: &Model) -> bool {
+    set.union(other).eq(model.union(beside))
+        && set.intersection(other).eq(model.intersection(beside))
+        && set.difference(other).eq(model.difference(beside))
+        && set
+            .symmetric_difference(other)
+            .eq(model.symmetric_difference(beside))
+}
+
+// Whether two sets compare in the same way.
+fn agree_on_order(set: &Set, other: &Set, model: &Model, beside: &Model) -> bool {
+    set.is_subset(other) == model.is_subset(beside)
+        && set.is_superset(other) == model.is_superset(beside)
+        && set.is_disjoint(other) == model.is_disjoint(beside)
+        && (set == other) == (model == beside)
+        && set.cmp(other) == model.cmp(beside)
+        && set.partial_cmp(other) == model.partial_cmp(beside)
+}
+
+// The number of the first change after which they differ, if they do.
+fn differ_at(
+    sets: (&mut Set, &mut Set),
+    models: (&mut Model, &mut Model),
+    changes: usize,
+) -> Option<usize> {
+    let mut numbers = Numbers::new(11);
+    let (left, right) = sets;
+    let (left_model, right_model) = models;
+    for change in 0..changes {
+        let key = drawn_key(&mut numbers);
+        let call = numbers.below(if (change / 100) % 2 == 0 { 12 } else { 5 });
+        let agree = if numbers.is_heads() {
+            agree_on_change(left, left_model, key, call)
+        } else {
+            agree_on_change(right, right_model, key, call)
+        };
+        if !agree || !agree_on_questions(left, left_model, key) {
+            return Some(change);
+        }
+        if !agree_on_keys(left, left_model) || !agree_on_parts(right, right_model, key) {
+            return Some(change);
+        }
+        if !agree_on_walks(left, right, left_model, right_model)
+            || !agree_on_order(left, right, left_model, right_model)
+        {
+            return Some(change);
+        }
+    }
+    None
+}
+
+#[test]
+fn drawn_calls_of_sets_return_as_those_of_btree_sets(rt: HostRuntime) -> Result<(), Fail> {
+    let alloc = rt.alloc();
+    let (mut left, mut right) = (ByteSet::new(alloc), ByteSet::new(alloc));
+    let (mut left_model, mut right_model) = (BTreeSet::new(alloc), BTreeSet::new(alloc));
+    let seen = differ_at(
+        (&mut left, &mut right),
+        (&mut left_model, &mut right_model),
+        2_000,
+    );
+    as_expected(Some((seen, None)))
+}
