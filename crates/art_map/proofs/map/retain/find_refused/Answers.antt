@@ -29,7 +29,7 @@ returns-then-not-f-clause-found g c =
     let pairs = pairs_at c.args.store.now (Some c.args.root) in
     let (seen, so_far, kept) = c.loop-key.invariant.0 in
     let whole =
-    c.new-pairs.ensures ∙ range_pairs has.by (λ x. is_between (bound_map (λ b. b.now) c.bound_after.result) Unbounded (bytes x.0)) (c.range_unchecked-walk.ensures _ has.layout has.by) has.len_is
+    c.new-pairs.ensures.pairs ∙ range_pairs has.by (λ x. is_between (bound_map (λ b. b.now) c.bound_after.result) Unbounded (bytes x.0)) (c.range_unchecked-walk.ensures _ has.layout has.by) has.len_is
     ∙ ap (λ b. between B b Unbounded pairs) c.bound_after.ensures in
     let no : c.f.result ≡ false = search rules in
     let stops : StopsAt (AsksPair g.F.FnMut) c.args.f.now (pairs_after B c.args.last.now pairs) (c.in-Some.key.now, c.in-Some.value.now) c.f.new.self = record {
@@ -65,6 +65,6 @@ returns-clause-found g c =
     let pairs = pairs_at c.args.store.now (Some c.args.root) in
     let (seen, so_far, kept) = c.loop-key.invariant.0 in
     let whole =
-    c.new-pairs.ensures ∙ range_pairs has.by (λ x. is_between (bound_map (λ b. b.now) c.bound_after.result) Unbounded (bytes x.0)) (c.range_unchecked-walk.ensures _ has.layout has.by) has.len_is
+    c.new-pairs.ensures.pairs ∙ range_pairs has.by (λ x. is_between (bound_map (λ b. b.now) c.bound_after.result) Unbounded (bytes x.0)) (c.range_unchecked-walk.ensures _ has.layout has.by) has.len_is
     ∙ ap (λ b. between B b Unbounded pairs) c.bound_after.ensures in
     subst (λ xs. Retains (AsksPair g.F.FnMut) c.args.f.now xs xs c.loop-key.f) (sym (so_far ∙ ap (λ zs. seen ++ zs) c.in_default.ensures.steps.0 ∙ append-nil seen) ∙ whole) kept
