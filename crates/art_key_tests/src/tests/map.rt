@@ -207,11 +207,12 @@ fn written(map: &mut KeyedMap<[u8; 2], u32, 8>) -> Option<([Option<u32>; 4], u32
     if map.insert([1, 2], 7).is_err() {
         return None;
     }
-    *map.get_mut(&[1, 2])? += 1;
+    let value = map.get_mut(&[1, 2])?;
+    *value = value.saturating_add(1);
     let Ok(value) = map.get_or_insert([1, 1], 3) else {
         return None;
     };
-    *value += 1;
+    *value = value.saturating_add(1);
     let Ok(value) = map
         .entry([1, 2])
         .and_modify(|value| *value = 5)
@@ -219,9 +220,9 @@ fn written(map: &mut KeyedMap<[u8; 2], u32, 8>) -> Option<([Option<u32>; 4], u32
     else {
         return None;
     };
-    *value += 1;
+    *value = value.saturating_add(1);
     let copy = map.clone().ok()?;
-    Some((values(map), map[&[1, 1]], *map == copy))
+    Some((values(map), map.get(&[1, 1]).copied()?, *map == copy))
 }
 
 #[test]
