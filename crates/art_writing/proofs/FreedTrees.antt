@@ -168,19 +168,6 @@ module _ {N A : Type 0} where
     all_going_below no_child = refl
     all_going_below (child b t cs) = ap₂ (λ (x y : List N). x ++ y) (all_going t) (all_going_below cs)
 
--- ---- a tree stays where its names hold what they held
-
-module _ {K V : Type 0} {s t : Nodes K V} where
-  pub can_still : {too : Bool} {root : OpaqueNodePtr} (shape : Shape) → ((k : OpaqueNodePtr) → IsIn k (names_of shape) → held t k ≡ held s k) → CanGo s too root shape → CanGo t too root shape
-  can_still shape same can = record {
-    layout = record {
-      named = can.layout.named;
-      holds = frame (shape_at s) (shape_at t) shape (each_from (λ k. shape_at t k ≡ shape_at s k) (names_of shape) (λ k i. shape_same s t k (same k i))) can.layout.holds;
-      distinct = can.layout.distinct;
-    };
-    leaves = λ all. each_from (IsUsed t) (leaf_names shape) (λ k i none. each_in (IsUsed s) k (leaf_names shape) (can.leaves all) i (sym (same k (taken_in takes_leaves shape k i)) ∙ none));
-  }
-
 -- a write to an inner node leaves what other names hold
 pub written_elsewhere : {K V : Type 0} (t u : Nodes K V) (p : InnerPtr) (f : Inner → Inner) → u.inners ≡ change t.inners p f → u.leaves ≡ t.leaves →
     (k : OpaqueNodePtr) → k ≢ inner_name p → held u k ≡ held t k
