@@ -22,9 +22,8 @@ use Rattle.art_model.specs.Trees.{Tree, leaf, inner, Subtrees, child, no_child, 
 use Rattle.art_model.specs.Writes.{as_inner}
 use Rattle.art_model.proofs.Heights.{height_long, enough_inners}
 use Rattle.art_model.proofs.Lists.{Each-append, Each-weaker, in_left, in_right, in_either, each_in, each_from}
-use Rattle.art_model.proofs.Names.{IsTaken as IsInUse, all_taken, among, among_below, taken_distinct, taken_in, takes_inners, takes_leaves}
+use Rattle.art_model.proofs.Names.{IsTaken as IsInUse, all_taken, among, among_below, taken_distinct, takes_inners, takes_leaves}
 use Rattle.art_model.proofs.Shapes.{has_shape, leaf_names-shape, names_of-shape}
-use Rattle.art_model.proofs.Stores.{frame}
 use Rattle.art_model.proofs.Views.{held_in_inner, leaf_or, same_inner_held}
 use Rattle.art_writing.specs.Freed.{CanGo, IsEnd, going, going_below, leaves_going}
 use Rattle.art_writing.proofs.Freed.{leaf_freed, frees_none}
