@@ -22,9 +22,8 @@ use Rattle.art_model.specs.Trees.{Tree, leaf, inner, Subtrees, child, no_child, 
 use Rattle.art_model.specs.Writes.{as_inner}
 use Rattle.art_model.proofs.Heights.{height_long, enough_inners}
 use Rattle.art_model.proofs.Lists.{Each-append, Each-weaker, in_left, in_right, in_either, each_in, each_from}
-use Rattle.art_model.proofs.Names.{IsTaken as IsInUse, all_taken, among, among_below, taken_distinct, taken_in, takes_inners, takes_leaves}
+use Rattle.art_model.proofs.Names.{IsTaken as IsInUse, all_taken, among, among_below, taken_distinct, takes_inners, takes_leaves}
 use Rattle.art_model.proofs.Shapes.{has_shape, leaf_names-shape, names_of-shape}
-use Rattle.art_model.proofs.Stores.{frame}
 use Rattle.art_model.proofs.Views.{held_in_inner, leaf_or, same_inner_held}
 use Rattle.art_writing.specs.Freed.{CanGo, IsEnd, going, going_below, leaves_going}
 use Rattle.art_writing.proofs.Freed.{leaf_freed, frees_none}
@@ -167,19 +166,6 @@ module _ {N A : Type 0} where
     all_going_below : (cs : Subtrees N A) → going_below true cs ≡ names_below cs
     all_going_below no_child = refl
     all_going_below (child b t cs) = ap₂ (λ (x y : List N). x ++ y) (all_going t) (all_going_below cs)
-
--- ---- a tree stays where its names hold what they held
-
-module _ {K V : Type 0} {s t : Nodes K V} where
-  pub can_still : {too : Bool} {root : OpaqueNodePtr} (shape : Shape) → ((k : OpaqueNodePtr) → IsIn k (names_of shape) → held t k ≡ held s k) → CanGo s too root shape → CanGo t too root shape
-  can_still shape same can = record {
-    layout = record {
-      named = can.layout.named;
-      holds = frame (shape_at s) (shape_at t) shape (each_from (λ k. shape_at t k ≡ shape_at s k) (names_of shape) (λ k i. shape_same s t k (same k i))) can.layout.holds;
-      distinct = can.layout.distinct;
-    };
-    leaves = λ all. each_from (IsUsed t) (leaf_names shape) (λ k i none. each_in (IsUsed s) k (leaf_names shape) (can.leaves all) i (sym (same k (taken_in takes_leaves shape k i)) ∙ none));
-  }
 
 -- a write to an inner node leaves what other names hold
 pub written_elsewhere : {K V : Type 0} (t u : Nodes K V) (p : InnerPtr) (f : Inner → Inner) → u.inners ≡ change t.inners p f → u.leaves ≡ t.leaves →
