@@ -4,14 +4,13 @@ use Rattle.std.proofs.lemmas.Bool.{false≢true}
 use Rattle.std.specs.Io.KnownBytes.{Appends, Keeps, prepend_known}
 use Rattle.std.specs.Io.Buffered.{reader_remaining, reader_inner, reader_buffer, reader_capacity}
 use Rattle.std.specs.declared.io.buffered.BufReader.{BufReader}
-use Rattle.art_lines.specs.Lines.{line_of}
 use Rattle.art_lines.specs.declared.line.Request.{Request}
 use Rattle.art_keeping.specs.declared.status.End.{End}
 use Rattle.art_keeping.specs.declared.status.End.TheVariants.{Input, BadLine}
 use Rattle.art_keeping.specs.declared.tree.KeptTree.{KeptTree}
 use Rattle.art_engine.specs.TextLines.{IsLineRead, lines}
 use Rattle.art_engine.specs.Shown.{IsReplied}
-use Rattle.art_engine.specs.Served.{AllAsk, AreServed, AsksForNothing, IsClone, OneAsksForNothing, refusal}
+use Rattle.art_engine.specs.Served.{AllAsk, AreServed, AsksFor, AsksForNothing, IsClone, OneAsksForNothing, refusal}
 
 -- Whatever the lines that are left come to from here, all lines come to from the start.
 pub record GoesOn (text : List ℕ) (left : Option (List ℕ)) (number : ℕ) (first tree : KeptTree) (old now : Option (List ℕ)) : Type 0 where
@@ -32,7 +31,7 @@ keeps_itself (Some xs) = refl
 
 module _ (text left next : Option (List ℕ)) (number : ℕ) (line : List ℕ) (first tree : KeptTree) (old now : Option (List ℕ)) where
   pub goes_on : (request : Request) (after : KeptTree) (replied kept : Option (List ℕ)) → IfSome text (λ bs. GoesOn bs left number first tree old now) →
-      IfSome left (λ bs. IsLineRead true bs line next) → line ≡ line_of request → IsReplied IsClone request tree after now replied → Keeps replied kept →
+      IfSome left (λ bs. IsLineRead true bs line next) → AsksFor line request → IsReplied IsClone request tree after now replied → Keeps replied kept →
       IfSome text (λ bs. GoesOn bs next (number + 1) first after old kept)
   goes_on request after replied kept h is asked reply keeps = go text h
     where

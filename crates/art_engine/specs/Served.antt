@@ -12,9 +12,13 @@ use Rattle.art_keeping.specs.declared.tree.KeptTree.{KeptTree}
 use Rattle.art_keeping.specs.Trees.{Key}
 use Rattle.art_engine.specs.Shown.{IsReplied}
 
+-- the line is how the request is written, and its value is one that a request can have
+abbrev pub AsksFor : List ℕ → Request → Type 0
+AsksFor line request = HasSmallValue request × (line ≡ line_of request)
+
 -- the line asks for something
 abbrev pub IsAsked : List ℕ → Type 0
-IsAsked line = (request : Request) × (line ≡ line_of request)
+IsAsked line = (request : Request) × AsksFor line request
 
 -- the line asks for nothing that there is
 abbrev pub AsksForNothing : List ℕ → Type 0
@@ -45,5 +49,5 @@ AreServed [] number tree old why new = (why ≡ Input) × Keeps old new
 AreServed (line ∷ lines) number tree old why new =
     (AsksForNothing line × (why ≡ BadLine) × Appends old new (refusal number)) ⊎
     ((request : Request) × (left : KeptTree) × (replied : Option (List ℕ)) × (kept : Option (List ℕ)) ×
-    (line ≡ line_of request) × IsReplied IsClone request tree left old replied × Keeps replied kept ×
+    AsksFor line request × IsReplied IsClone request tree left old replied × Keeps replied kept ×
     AreServed lines (number + 1) left kept why new)

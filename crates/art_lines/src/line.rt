@@ -63,6 +63,7 @@ impl<'a> Request<'a> {
     /// What a line without its line feed asks for, or None where there is nothing that it asks for.
     pub fn parse(line: &'a [u8]) -> Option<Self>
         ensures line { IfSome result (λ request. line.now ≡ line_of request) }
+        ensures small { IfSome result HasSmallValue }
         ensures none { IfNone result ((request : Request) →
             HasSmallValue request → line.now ≢ line_of request) }
     {
@@ -90,6 +91,7 @@ impl<'a> Request<'a> {
     // What a line of one word asks for.
     fn parse_word(line: &[u8]) -> Option<Self>
         ensures line { IfSome result (λ request. line.now ≡ line_of request) }
+        ensures small { IfSome result HasSmallValue }
         ensures none { IfNone result (
             (line.now ≢ codes "first") × (line.now ≢ codes "last") × (line.now ≢ codes "clone")
             × (line.now ≢ codes "walk") × (line.now ≢ codes "back") × (line.now ≢ codes "nodes")

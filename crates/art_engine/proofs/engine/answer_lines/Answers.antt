@@ -16,7 +16,7 @@ loop-number-preserved g c = (
       (g.W.Write.contents c.args.output.now) (g.W.Write.contents c.loop-number.output)
       c.in-Some.request c.answer.new.tree (g.W.Write.contents c.answer.new.output) (g.W.Write.contents c.write_out.new.output) c.loop-number.invariant.1
       (read_as _ _ _ c.in_ok-next_line.field-0 true c.if-not-branch.false c.in_ok-next_line.ensures)
-      (sym c.deref.ensures.value ∙ c.in-Some.ensures.line) c.in_ok-answer.ensures.replied c.write_out.ensures,
+      (c.in-Some.ensures.small, sym c.deref.ensures.value ∙ c.in-Some.ensures.line) c.in_ok-answer.ensures.replied c.write_out.ensures,
 )
 
 pub returns-then-not-branch-clause-served : goal.returns-then-not-branch-clause-served
