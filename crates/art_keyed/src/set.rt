@@ -7,8 +7,8 @@ ghost use Rattle.art_map.specs.SetKeys.{add_key, as_pairs};
 ghost use Rattle.art_keyed.specs.KeyedPairs.{KeysRiseBy};
 
 use art_keys::laws::{NoPrefixesBytes, OrderedBytes};
-use art_map::map::{Keys, MapInsertError, MapRefused};
-use art_map::set::ByteSet;
+use art_map::map::{Keys, MapRefused};
+use art_map::set::{ByteSet, SetInsertError};
 use std::alloc::Global;
 use std::marker::Model;
 
@@ -115,8 +115,8 @@ impl<K: NoPrefixesBytes + Drop, const P: usize> KeyedSet<K, P> {
         key.as_key();
         match self.set.insert(key) {
             Ok(added) => Ok(added),
-            Err(MapInsertError::Conflict { .. }) => unreachable!(),
-            Err(MapInsertError::Memory { key, .. }) => Err(KeyRefused { key }),
+            Err(SetInsertError::Conflict { .. }) => unreachable!(),
+            Err(SetInsertError::Memory { key }) => Err(KeyRefused { key }),
         }
     }
 
