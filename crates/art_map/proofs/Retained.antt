@@ -1,12 +1,12 @@
 -- What is left of a map of which a closure was asked, pair by pair.
-use Rattle.std.proofs.Common.{◌≡◌, ◌⊎◌, ℕ, ◌+◌, ◌<◌, suc, List, [], ◌∷◌, ◌++◌, Bool, true, false, cond, not, ◌&&◌, filter, length, refl, ap, sym, ◌∙◌, subst, arith, length-append, append_assoc, append-nil, Option, Some, None, Bor}
+use Rattle.std.proofs.Common.{◌≡◌, ℕ, ◌<◌, List, [], ◌∷◌, ◌++◌, Bool, true, false, cond, filter, length, refl, ap, sym, ◌∙◌, subst, arith, length-append, append_assoc, append-nil, Option, Some, None, Bor}
 use Rattle.std.specs.Fn.{Called, Mut}
 use Rattle.std.specs.List.{AllByRecursion as Each}
 use Rattle.std.specs.declared.ops.Bound.TheVariants.{Excluded, Unbounded}
-use Rattle.art_model.specs.Keys.{Precedes, are_same, is_before}
+use Rattle.art_model.specs.Keys.{Precedes, are_same}
 use Rattle.art_model.specs.Pairs.{IsMap, first_of, remove_key, with_key}
-use Rattle.art_model.specs.Parts.{between, is_between}
-use Rattle.art_model.proofs.Keys.{IsMap-right, front_same, precedes_apart, related_sym, same_related}
+use Rattle.art_model.specs.Parts.{is_between}
+use Rattle.art_model.proofs.Keys.{front_same, precedes_apart, related_sym, same_related}
 use Rattle.art_model.proofs.MapLaws.{first_is_removed_by_key}
 use Rattle.art_map.specs.MapAnswers.{HasShrinkingParent}
 use Rattle.art_map.specs.MapRetain.{AsksPair, Retains, RetainsAll, RetainsUntil, StopsAt, pairs_after}

@@ -1,5 +1,5 @@
 -- Maps without values are compared and hashed as the lists of their keys.
-use Rattle.std.proofs.Common.{◌≡◌, List, [], ◌∷◌, ◌++◌, Bool, Option, Some, None, ◌&&◌, length, refl, sym, true, false, append-nil}
+use Rattle.std.proofs.Common.{◌≡◌, List, [], ◌∷◌, ◌++◌, Bool, Option, Some, None, ◌&&◌, refl, sym, true, false, append-nil}
 use Rattle.std.proofs.lemmas.List.{length-map}
 use Rattle.std.specs.Hash as fed
 use Rattle.std.specs.List.{flat_map}

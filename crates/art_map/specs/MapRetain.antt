@@ -1,5 +1,5 @@
 -- What `retain` asked of the pairs of a map, and which it left.
-use Rattle.std.specs.Prelude.{◌≡◌, ℕ, Bool, true, false, cond, List, [], ◌∷◌, ◌++◌, Option, Some, None, Result, Ok, Err}
+use Rattle.std.specs.Prelude.{◌≡◌, ℕ, Bool, false, cond, List, [], ◌∷◌, ◌++◌, Option, Some, None, Result, Ok, Err}
 use Rattle.std.specs.Fn.{Called, Mut}
 use Rattle.std.specs.declared.ops.Bound.{Bound}
 use Rattle.std.specs.declared.ops.Bound.TheVariants.{Excluded, Unbounded}
@@ -12,7 +12,7 @@ use Rattle.art_writing.specs.Deleted.{LeadsTo, IsDeletePointIn}
 use Rattle.art_writing.specs.declared.delete.DeletePoint.{DeletePoint}
 use Rattle.art_map.specs.MapAnswers.{HasShrinkingParent}
 use Rattle.art_map.specs.MapItems.{deref_pair}
-use Rattle.art_map.specs.MapPairs.{HoldsPairs, pairs_at}
+use Rattle.art_map.specs.MapPairs.{HoldsPairs}
 use Rattle.art_map.specs.declared.map.MapRefused.{MapRefused}
 use denote.Ref.{Bor}
 

@@ -1,4 +1,4 @@
-use Rattle.std.proofs.Common.{ap, sym, ◌∙◌}
+use Rattle.std.proofs.Common.{sym, ◌∙◌}
 use Rattle.art_model.specs.Pairs.{of_key}
 use Rattle.art_keyed.proofs.Ended.{ended_missing, ended_found, ended_unfound}
 use Rattle.art_keyed.proofs.map.strings.ended_pair.Goals as goal

@@ -1,5 +1,3 @@
-use Rattle.std.proofs.Common.{subst}
-use Rattle.art_keys.specs.Ended.{HasNoZero}
 use Rattle.art_keys.specs.EndedLaws.{ended_begins}
 use Rattle.art_keys.proofs.terminated.TerminatedStringBytes.beginning.Goals as goal
 

@@ -1,6 +1,6 @@
 use Rattle.std.proofs.Common.{refl, ap, sym, subst, ◌∙◌}
 use Rattle.std.proofs.iter.Next as it
-use Rattle.art_map.specs.SetKeys.{IsKeyRefusal, add_all, add_key}
+use Rattle.art_map.specs.SetKeys.{IsKeyRefusal, add_key}
 use Rattle.art_map.proofs.Extended.{add_last}
 use Rattle.art_map.proofs.set.ByteSet.extend.Goals as goal
 
