@@ -30,6 +30,7 @@ pub fn all_memory(alloc: Global) -> Result<Vec<Vec<u8>>, AllocError> {
 
 // A request for so many bytes is a sign for tools/refuse.c, which has the same numbers.
 const BEGIN: usize = 12_345_679;
+
 const END: usize = 12_345_677;
 
 /// Tells tools/refusals that the call which a test is on begins: in a test named `refused_each_..` it counts requests,

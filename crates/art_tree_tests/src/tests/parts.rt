@@ -87,15 +87,43 @@ fn copies(alloc: Global, all: &[Key]) -> Result<Vec<Key>, AllocError> {
 
 /// Trees, parts of them, and what these have.
 static PARTS: [(Keys, Part, Seen); 13] = [
-    (Keys::OfThree([4, 3, 2]), Part::Below(&[]), (Some(0), Some(23), 22)),
-    (Keys::OfThree([4, 3, 2]), Part::Below(&[2]), (Some(12), Some(17), 4)),
-    (Keys::OfThree([4, 3, 2]), Part::Below(&[2, 1]), (Some(14), Some(15), 0)),
-    (Keys::OfThree([4, 3, 2]), Part::Below(&[2, 1, 1]), (Some(15), None, 0)),
+    (
+        Keys::OfThree([4, 3, 2]),
+        Part::Below(&[]),
+        (Some(0), Some(23), 22),
+    ),
+    (
+        Keys::OfThree([4, 3, 2]),
+        Part::Below(&[2]),
+        (Some(12), Some(17), 4),
+    ),
+    (
+        Keys::OfThree([4, 3, 2]),
+        Part::Below(&[2, 1]),
+        (Some(14), Some(15), 0),
+    ),
+    (
+        Keys::OfThree([4, 3, 2]),
+        Part::Below(&[2, 1, 1]),
+        (Some(15), None, 0),
+    ),
     (Keys::OfThree([4, 3, 2]), Part::Below(&[2, 1, 1, 0]), NONE),
     (Keys::OfThree([4, 3, 2]), Part::Below(&[4]), NONE),
-    (Keys::OfThree([51, 2, 3]), Part::Below(&[50]), (Some(300), Some(305), 4)),
-    (Keys::OfThree([6, 6, 6]), Part::Below(&[5, 5]), (Some(210), Some(215), 4)),
-    (Keys::OfZeros, Part::Below(&[0, 0, 0]), (Some(11), Some(3), 7)),
+    (
+        Keys::OfThree([51, 2, 3]),
+        Part::Below(&[50]),
+        (Some(300), Some(305), 4),
+    ),
+    (
+        Keys::OfThree([6, 6, 6]),
+        Part::Below(&[5, 5]),
+        (Some(210), Some(215), 4),
+    ),
+    (
+        Keys::OfZeros,
+        Part::Below(&[0, 0, 0]),
+        (Some(11), Some(3), 7),
+    ),
     (
         Keys::OfThree([4, 3, 2]),
         Part::Between(Bound::Included(&[1, 2, 0]), Bound::Excluded(&[3])),
@@ -157,10 +185,19 @@ static PARTS_OF_PATHS: [(Part, Seen); 19] = [
         Part::Between(Bound::Excluded(b"/srv/www/t"), Bound::Unbounded),
         (Some(3), None, 0),
     ),
-    (Part::Between(Bound::Unbounded, Bound::Excluded(b"/srv/www/r")), NONE),
-    (Part::Between(Bound::Unbounded, Bound::Included(b"/srv/www/site/pagesz")), SHARED),
     (
-        Part::Between(Bound::Included(b"/srv/www/site/pages/1b"), Bound::Excluded(b"x")),
+        Part::Between(Bound::Unbounded, Bound::Excluded(b"/srv/www/r")),
+        NONE,
+    ),
+    (
+        Part::Between(Bound::Unbounded, Bound::Included(b"/srv/www/site/pagesz")),
+        SHARED,
+    ),
+    (
+        Part::Between(
+            Bound::Included(b"/srv/www/site/pages/1b"),
+            Bound::Excluded(b"x"),
+        ),
         (Some(1), Some(2), 0),
     ),
     (
@@ -171,7 +208,10 @@ static PARTS_OF_PATHS: [(Part, Seen); 19] = [
         (Some(1), Some(2), 0),
     ),
     (
-        Part::Between(Bound::Included(b"/srv/www/site/pages/1a/"), Bound::Unbounded),
+        Part::Between(
+            Bound::Included(b"/srv/www/site/pages/1a/"),
+            Bound::Unbounded,
+        ),
         (Some(1), Some(3), 1),
     ),
     (Part::Between(Bound::Unbounded, Bound::Excluded(b"-")), NONE),
