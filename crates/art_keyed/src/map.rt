@@ -1,5 +1,5 @@
 //! An ordered map whose keys are never in conflict. Its contracts speak of lists of pairs alone.
-ghost use Rattle.std.specs.Prelude.{◌≡◌, ◌↔◌, [], length, false, IfOk, IfErr, IsSome, IsTrue, OnOk, OnErr, Some, option_copied};
+ghost use Rattle.std.specs.Prelude.{◌≡◌, ◌↔◌, ◌<◌, ◌^◌, [], length, false, IfOk, IfErr, IsSome, IsTrue, OnOk, OnErr, Some, option_copied};
 ghost use Rattle.std.specs.Borrow.{sem};
 ghost use Rattle.std.specs.Option.{option_copied_mut, option_map, unwrap_or};
 ghost use Rattle.art_map.specs.MapAnswers.{MayRefuseRemoval, value_at};
@@ -139,6 +139,7 @@ impl<K: NoPrefixesBytes + Drop, V: Drop, const P: usize> KeyedMap<K, V, P> {
     pub fn iter(&self) -> MapIter<'_, K, V, P>
         ensures pairs { result ≡ self.now }
         ensures sorted { IsMap (of_key K.bytes) self.now }
+        ensures fits { length result < 2 ^ 64 }
     {
         self.map.iter()
     }

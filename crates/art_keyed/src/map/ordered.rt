@@ -1,5 +1,5 @@
 //! Maps whose keys are in the order of their type.
-ghost use Rattle.std.specs.Prelude.{◌≡◌};
+ghost use Rattle.std.specs.Prelude.{◌≡◌, ◌<◌, ◌^◌, length};
 ghost use Rattle.std.specs.Option.{option_map};
 ghost use Rattle.std.specs.Range.Bound.{bound_map};
 ghost use Rattle.std.specs.declared.ops.Bound.TheVariants.{Unbounded};
@@ -25,6 +25,7 @@ impl<K: OrderedBytes + Drop, V: Drop, const P: usize> KeyedMap<K, V, P> {
         ensures pairs { R.has_bounds range → result ≡
             keys_between K.order (R.start_bound range) (R.end_bound range) self.now }
         ensures sorted { IsMap (of_key K.bytes) self.now }
+        ensures fits { length result < 2 ^ 64 }
     {
         self.between(range.start_bound(), range.end_bound())
     }
@@ -34,6 +35,7 @@ impl<K: OrderedBytes + Drop, V: Drop, const P: usize> KeyedMap<K, V, P> {
         ensures pairs { result ≡ keys_between K.order (bound_map (λ b. b.now) from.entry)
             (bound_map (λ b. b.now) to.entry) self.now }
         ensures sorted { IsMap (of_key K.bytes) self.now }
+        ensures fits { length result < 2 ^ 64 }
     {
         self.map.range((bytes_of(from), bytes_of(to)))
     }

@@ -1,5 +1,5 @@
 //! Maps whose keys stand for strings of bytes.
-ghost use Rattle.std.specs.Prelude.{◌≡◌, ◌∷◌, ◌++◌, [], option_copied};
+ghost use Rattle.std.specs.Prelude.{◌≡◌, ◌<◌, ◌^◌, ◌∷◌, ◌++◌, [], length, option_copied};
 ghost use Rattle.std.specs.Option.{option_map};
 ghost use Rattle.art_model.specs.Keys.{are_same};
 ghost use Rattle.art_model.specs.Pairs.{IsMap, first_of, of_key, with_key};
@@ -19,6 +19,7 @@ impl<K: StringBytes + Drop, V: Drop, const P: usize> KeyedMap<K, V, P> {
     pub fn prefix(&self, prefix: &K) -> Range<'_, K, V, P>
         ensures pairs { result ≡ strings_below K.text (K.text prefix.now) self.now }
         ensures sorted { IsMap (of_key K.bytes) self.now }
+        ensures fits { length result < 2 ^ 64 }
     {
         self.map.prefix(prefix.beginning())
     }
