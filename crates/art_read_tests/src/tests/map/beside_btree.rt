@@ -137,50 +137,67 @@ fn drawn_calls_answer_as_those_of_a_btree_map(rt: HostRuntime) -> Result<(), Fai
     as_expected(Some((seen, (None, true))))
 }
 
-// A write of the value of a key in both, by one of four calls, and whether both had it.
-fn agree_on_write(
-    map: &mut Map,
-    model: &mut BTreeMap<Key, u32>,
-    key: Key,
-    value: u32,
-    call: usize,
-) -> bool {
+// Writes the value of a key in both, and says whether both had the same.
+fn agree_on_get_mut(map: &mut Map, model: &mut Model, key: Key, value: u32) -> bool {
+    let Some(own) = map.get_mut(&key) else {
+        return model.get(&key).is_none();
+    };
+    let was = *own;
+    *own = value;
+    let Some(other) = model.get_mut(&key) else {
+        return false;
+    };
+    let agree = was == *other;
+    *other = value;
+    agree
+}
+
+// The same, where the key is put in first if it is new.
+fn agree_on_get_or_insert(map: &mut Map, model: &mut Model, key: Key, value: u32) -> bool {
+    let Ok(own) = map.get_or_insert(key, 7) else {
+        return false;
+    };
+    let was = *own;
+    *own = value;
+    let Ok(entry) = model.entry(key) else {
+        return false;
+    };
+    let other = entry.or_insert(7);
+    let agree = was == *other;
+    *other = value;
+    agree
+}
+
+// Puts a key in by its entry, and says whether both have the same value then.
+fn agree_on_or_insert(map: &mut Map, model: &mut Model, key: Key, value: u32) -> bool {
+    let Ok(own) = map.entry(key).or_insert(value) else {
+        return false;
+    };
+    let stored = *own;
+    let Ok(entry) = model.entry(key) else {
+        return false;
+    };
+    stored == *entry.or_insert(value)
+}
+
+// Writes the value of a key that is stored by its entry, and says whether both have the same pair then.
+fn agree_on_and_modify(map: &mut Map, model: &mut Model, key: Key, value: u32) -> bool {
+    let entry = map.entry(key).and_modify(|stored| *stored = value);
+    let own = entry.get().copied();
+    if let Some(other) = model.get_mut(&key) {
+        *other = value;
+    }
+    own == model.get(&key).copied()
+        && copied(map.get_key_value(&key)) == copied(model.get_key_value(&key))
+}
+
+// A write of the value of a key in both, by one of four calls, and whether they agree.
+fn agree_on_write(map: &mut Map, model: &mut Model, key: Key, value: u32, call: usize) -> bool {
     match call {
-        0 => match (map.get_mut(&key), model.get_mut(&key)) {
-            (Some(own), Some(other)) => {
-                let agree = *own == *other;
-                *own = value;
-                *other = value;
-                agree
-            }
-            (None, None) => true,
-            _ => false,
-        },
-        1 => match (map.get_or_insert(key, 7), model.entry(key)) {
-            (Ok(own), Ok(entry)) => {
-                let other = entry.or_insert(7);
-                let agree = *own == *other;
-                *own = value;
-                *other = value;
-                agree
-            }
-            _ => false,
-        },
-        2 => match (map.entry(key).or_insert(value), model.entry(key)) {
-            (Ok(own), Ok(entry)) => *own == *entry.or_insert(value),
-            _ => false,
-        },
-        _ => {
-            let own = map
-                .entry(key)
-                .and_modify(|stored| *stored = value)
-                .get()
-                .copied();
-            if let Some(other) = model.get_mut(&key) {
-                *other = value;
-            }
-            own == model.get(&key).copied() && map.get_key_value(&key) == model.get_key_value(&key)
-        }
+        0 => agree_on_get_mut(map, model, key, value),
+        1 => agree_on_get_or_insert(map, model, key, value),
+        2 => agree_on_or_insert(map, model, key, value),
+        _ => agree_on_and_modify(map, model, key, value),
     }
 }
 
