@@ -1,46 +1,27 @@
-//! The heap of both sides. It counts what is in use where it is built with `--cfg counted`, and notes the marks that
-//! the library's work leaves: requests that none can meet.
+//! The heap of both sides. It counts what is in use where it is built with `--cfg counted`, and ends a part of the work
+//! where the library's side asks for what none can meet.
 
+use crate::parts;
 use std::alloc::{GlobalAlloc, Layout};
 use std::ptr::{addr_of_mut, dangling_mut, null_mut};
-use std::time::Instant;
 
 unsafe extern "C" {
     fn malloc(size: usize) -> *mut u8;
     fn realloc(block: *mut u8, size: usize) -> *mut u8;
     fn free(block: *mut u8);
     fn malloc_usable_size(block: *mut u8) -> usize;
+    fn malloc_trim(kept: usize) -> i32;
 }
 
 const COUNTED: bool = cfg!(counted);
 const MARK: usize = 1 << 62;
 
-/// Bytes in use since the start, and the most that were.
-#[derive(Clone, Copy)]
-pub struct Memory {
-    pub live: usize,
-    pub most: usize,
-}
-
-#[derive(Clone, Copy)]
-pub struct Mark {
-    pub at: Instant,
-    pub memory: Memory,
-}
-
 struct State {
     live: usize,
     start: usize,
-    most: usize,
-    marks: [Option<Mark>; 4],
 }
 
-static mut STATE: State = State {
-    live: 0,
-    start: 0,
-    most: 0,
-    marks: [None; 4],
-};
+static mut STATE: State = State { live: 0, start: 0 };
 
 // One thread alone runs here.
 fn state() -> &'static mut State {
@@ -50,19 +31,18 @@ fn state() -> &'static mut State {
 /// Counts anew from what is in use now.
 pub fn start() {
     let state = state();
-    (state.start, state.most) = (state.live, state.live);
+    state.start = state.live;
 }
 
-pub fn memory() -> Memory {
+/// Gives the system what nobody uses.
+pub fn give_back() {
+    unsafe { malloc_trim(0) };
+}
+
+/// Bytes in use, less those at the start.
+pub fn in_use() -> usize {
     let state = state();
-    Memory {
-        live: state.live.saturating_sub(state.start),
-        most: state.most - state.start,
-    }
-}
-
-pub fn marks() -> [Mark; 4] {
-    state().marks.map(|mark| mark.expect("a mark is missing"))
+    state.live.saturating_sub(state.start)
 }
 
 // What a block costs: what can be used of it, and the word before it. Nothing where nothing is counted.
@@ -74,9 +54,7 @@ fn cost(block: *mut u8) -> usize {
 }
 
 fn gain(block: *mut u8) -> *mut u8 {
-    let state = state();
-    state.live += cost(block);
-    state.most = state.most.max(state.live);
+    state().live += cost(block);
     block
 }
 
@@ -133,10 +111,7 @@ fn tried(block: *mut u8) -> Tried {
 #[unsafe(no_mangle)]
 pub extern "C" fn rattle_alloc(size: usize, align: usize) -> Tried {
     if size >= MARK {
-        state().marks[size & 3] = Some(Mark {
-            at: Instant::now(),
-            memory: memory(),
-        });
+        parts::begin(size - MARK);
         return tried(null_mut());
     }
     tried(gain(unsafe { malloc(if size == 0 { align } else { size }) }))

@@ -1,7 +1,8 @@
 //! A yardstick: an adaptive radix tree with boxed nodes of four kinds, of which nothing is verified. So many bytes of a
-//! prefix are stored; the others are passed over and compared at the leaf. No key may be a front of another.
+//! prefix are stored; the others are passed over and compared at the leaf. No key may be a prefix of another.
 
 use std::arch::x86_64::*;
+use std::iter::successors;
 use std::mem::replace;
 use std::ptr::null_mut;
 
@@ -156,6 +157,7 @@ impl<L> Children<L> {
         Children::Node4(0, [0; 4], [const { None }; 4])
     }
 
+    #[inline(always)]
     fn get(&self, byte: u8) -> Option<&Node<L>> {
         match self {
             Children::Node4(count, bytes, slots) => {
@@ -307,7 +309,7 @@ enum Meets {
     Whole,
     /// The key parts from the node's after so many bytes, at this byte; an inner node keeps a shorter prefix.
     Parts(usize, u8, Option<Header>),
-    /// The key is a front of the node's, or the leaf's key of it.
+    /// The key is a prefix of the node's, or the leaf's key of it.
     Related,
 }
 
@@ -328,7 +330,50 @@ fn new_leaf<L: Links>(key: &[u8], value: u32) -> Box<Node<L>> {
     }))
 }
 
+impl Tree<Neighbours> {
+    /// The pairs in the order of their keys.
+    pub fn iter(&self) -> impl Iterator<Item = (&[u8], u32)> {
+        let first = self.root.as_deref().map(Node::least);
+        successors(first, |leaf| unsafe { leaf.links.next.as_ref() }).map(Leaf::pair)
+    }
+
+    /// The same from the last to the first.
+    pub fn iter_back(&self) -> impl Iterator<Item = (&[u8], u32)> {
+        let last = self.root.as_deref().map(Node::greatest);
+        successors(last, |leaf| unsafe { leaf.links.previous.as_ref() }).map(Leaf::pair)
+    }
+}
+
+impl<L> Leaf<L> {
+    fn pair(&self) -> (&[u8], u32) {
+        (&self.key, self.value)
+    }
+}
+
 impl<L: Links> Tree<L> {
+    /// The value of the stored key that is a prefix of this one.
+    #[inline(always)]
+    pub fn longest_match(&self, key: &[u8]) -> Option<u32> {
+        let mut node = self.root.as_deref()?;
+        let mut depth = 0;
+        loop {
+            match node {
+                Node::Leaf(leaf) => return key.starts_with(&leaf.key).then_some(leaf.value),
+                Node::Inner(header, children) => {
+                    let len = header.len as usize;
+                    let stored = &header.stored[..len.min(STORED)];
+                    if key.len() <= depth + len || key[depth..depth + stored.len()] != *stored {
+                        return None;
+                    }
+                    depth += len;
+                    node = children.get(key[depth])?;
+                    depth += 1;
+                }
+            }
+        }
+    }
+
+    #[inline(always)]
     pub fn get(&self, key: &[u8]) -> Option<u32> {
         let mut node = self.root.as_deref()?;
         let mut depth = 0;

@@ -1,4 +1,5 @@
-pub mod Keys
-pub mod LineParts
-pub mod Rows
-pub mod Serving
+mod Keys
+mod NodeWalks
+mod Replied
+mod Rows
+mod Serving

@@ -1,5 +1,5 @@
 -- Lines that are answered one after another.
-use Rattle.std.proofs.Common.{◌≡◌, ℕ, ◌+◌, true, false, List, [], ◌∷◌, ◌++◌, Option, Some, None, IfSome, Result, Ok, Err, IfOk, IsOk, IsOkAnd, ◌==◌, if◌then◌else◌, refl, ap, sym, subst, inl, inr, arith}
+use Rattle.std.proofs.Common.{◌≡◌, ℕ, ◌+◌, List, [], ◌∷◌, ◌++◌, length, Option, Some, None, IfSome, Result, Ok, Err, IfOk, IsOk, IsOkAnd, ◌==◌, if◌then◌else◌, refl, ap, sym, subst, inl, inr, arith, append_assoc, append-nil}
 use Rattle.std.proofs.lemmas.Bool.{false≢true}
 use Rattle.std.specs.Io.KnownBytes.{Appends, Keeps, prepend_known}
 use Rattle.std.specs.Io.Buffered.{reader_remaining, reader_inner, reader_buffer, reader_capacity}
@@ -8,62 +8,32 @@ use Rattle.art_lines.specs.declared.line.Request.{Request}
 use Rattle.art_keeping.specs.declared.status.End.{End}
 use Rattle.art_keeping.specs.declared.status.End.TheVariants.{Input, BadLine}
 use Rattle.art_keeping.specs.declared.tree.KeptTree.{KeptTree}
-use Rattle.art_engine.specs.TextLines.{IsLineRead, lines}
+use Rattle.text_lines.proofs.Writing.{keeps_itself}
+use Rattle.text_lines.specs.Lines.{lines}
 use Rattle.art_engine.specs.Shown.{IsReplied}
 use Rattle.art_engine.specs.Served.{AllAsk, AreServed, AsksFor, AsksForNothing, IsClone, OneAsksForNothing, refusal}
 
 -- Whatever the lines that are left come to from here, all lines come to from the start.
-pub record GoesOn (text : List ℕ) (left : Option (List ℕ)) (number : ℕ) (first tree : KeptTree) (old now : Option (List ℕ)) : Type 0 where
-  pub rest : List ℕ
-  pub left_is : left ≡ Some rest
-  pub all : (why : End) (new : Option (List ℕ)) → AreServed (lines rest) number tree now why new → AreServed (lines text) 1 first old why new
+abbrev pub GoesOn : ℕ → KeptTree → KeptTree → Option (List ℕ) → Option (List ℕ) → List (List ℕ) → Type 0
+GoesOn number first tree old now before =
+    (rest : List (List ℕ)) (why : End) (new : Option (List ℕ)) → AreServed rest number tree now why new → AreServed (before ++ rest) 1 first old why new
 
-pub begins : (text : Option (List ℕ)) (tree : KeptTree) (old : Option (List ℕ)) → IfSome text (λ bs. GoesOn bs text 1 tree tree old old)
-begins None tree old = tt
-begins (Some bs) tree old = record { rest = bs; left_is = refl; all = λ why new served. served }
+pub none_served : (tree : KeptTree) (old : Option (List ℕ)) → GoesOn 1 tree tree old old []
+none_served tree old rest why new served = served
 
-line_is_read : (left : Option (List ℕ)) (rest : List ℕ) (line : List ℕ) (new : Option (List ℕ)) → left ≡ Some rest → IfSome left (λ bs. IsLineRead true bs line new) → IsLineRead true rest line new
-line_is_read left rest line new e h = subst (λ (o : Option (List ℕ)). IfSome o (λ bs. IsLineRead true bs line new)) e h
+module _ (number : ℕ) (first tree : KeptTree) (old now : Option (List ℕ)) (line : List ℕ) where
+  pub one_line_more : (request : Request) (after : KeptTree) (replied kept : Option (List ℕ)) → AsksFor line request → IsReplied IsClone request tree after now replied → Keeps replied kept →
+      (before : List (List ℕ)) → number ≡ length before + 1 → GoesOn number first tree old now before → GoesOn (number + 1) first after old kept (before ++ line ∷ [])
+  one_line_more request after replied kept asked reply keeps before n goes rest why new served =
+      subst (λ ls. AreServed ls 1 first old why new) (sym (append_assoc before (line ∷ []) rest))
+      (goes (line ∷ rest) why new (inr (request, after, replied, kept, asked, reply, keeps, served)))
 
-pub keeps_itself : (known : Option (List ℕ)) → Keeps known known
-keeps_itself None = tt
-keeps_itself (Some xs) = refl
+  pub all_served : (ls : List (List ℕ)) → GoesOn number first tree old now ls → AreServed ls 1 first old Input now
+  all_served ls goes = subst (λ all. AreServed all 1 first old Input now) (append-nil ls) (goes [] Input now (refl, keeps_itself now))
 
-module _ (text left next : Option (List ℕ)) (number : ℕ) (line : List ℕ) (first tree : KeptTree) (old now : Option (List ℕ)) where
-  pub goes_on : (request : Request) (after : KeptTree) (replied kept : Option (List ℕ)) → IfSome text (λ bs. GoesOn bs left number first tree old now) →
-      IfSome left (λ bs. IsLineRead true bs line next) → AsksFor line request → IsReplied IsClone request tree after now replied → Keeps replied kept →
-      IfSome text (λ bs. GoesOn bs next (number + 1) first after old kept)
-  goes_on request after replied kept h is asked reply keeps = go text h
-    where
-      go : (text : Option (List ℕ)) → IfSome text (λ bs. GoesOn bs left number first tree old now) → IfSome text (λ bs. GoesOn bs next (number + 1) first after old kept)
-      go None h = tt
-      go (Some bs) h =
-          let more = line_is_read left h.rest line next h.left_is is in
-          record {
-            rest = more.0;
-            left_is = more.1;
-            all = λ why new served. h.all why new (subst (λ ls. AreServed ls number tree now why new) (sym more.2) (inr (request, after, replied, kept, asked, reply, keeps, served)));
-          }
-
-  pub ends : IfSome text (λ bs. GoesOn bs left number first tree old now) → IfSome left (λ bs. IsLineRead false bs line next) →
-      IfSome text (λ bs. AreServed (lines bs) 1 first old Input now)
-  ends h is = go text h
-    where
-      go : (text : Option (List ℕ)) → IfSome text (λ bs. GoesOn bs left number first tree old now) → IfSome text (λ bs. AreServed (lines bs) 1 first old Input now)
-      go None h = tt
-      go (Some bs) h =
-          let none : lines h.rest ≡ [] = subst (λ (o : Option (List ℕ)). IfSome o (λ bs. IsLineRead false bs line next)) h.left_is is in
-          h.all Input now (subst (λ ls. AreServed ls number tree now Input now) (sym none) (refl, keeps_itself now))
-
-  pub stops : (new : Option (List ℕ)) → IfSome text (λ bs. GoesOn bs left number first tree old now) → IfSome left (λ bs. IsLineRead true bs line next) →
-      AsksForNothing line → Appends now new (refusal number) → IfSome text (λ bs. AreServed (lines bs) 1 first old BadLine new)
-  stops new h is nothing refused = go text h
-    where
-      go : (text : Option (List ℕ)) → IfSome text (λ bs. GoesOn bs left number first tree old now) → IfSome text (λ bs. AreServed (lines bs) 1 first old BadLine new)
-      go None h = tt
-      go (Some bs) h =
-          let more = line_is_read left h.rest line next h.left_is is in
-          h.all BadLine new (subst (λ ls. AreServed ls number tree now BadLine new) (sym more.2) (inl (nothing, refl, refused)))
+  pub refused_here : (new : Option (List ℕ)) → AsksForNothing line → Appends now new (refusal number) → (before after : List (List ℕ)) → number ≡ length before + 1 →
+      GoesOn number first tree old now before → AreServed (before ++ line ∷ after) 1 first old BadLine new
+  refused_here new nothing appends before after n goes = goes (line ∷ after) BadLine new (inl (nothing, refl, appends))
 
 -- ---- what the status tells of the lines
 

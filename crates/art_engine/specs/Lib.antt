@@ -1,4 +1,4 @@
 pub mod Texts
+pub mod NodeLines
 pub mod Shown
-pub mod TextLines
 pub mod Served

@@ -1,5 +1,5 @@
 -- What is appended for a request that asks to see the tree.
-use Rattle.std.specs.Prelude.{◌≡◌, ℕ, ⊤, ◌⊎◌, List, [], ◌∷◌, ◌++◌, reverse, codes, Option, Some, None, Result, IfErr, IfOk, IfSome, IsOkAnd}
+use Rattle.std.specs.Prelude.{◌≡◌, ℕ, ◌⊎◌, List, [], ◌∷◌, ◌++◌, reverse, codes, Option, Some, None, Result, IfErr, IfOk, IfSome, IsOkAnd}
 use Rattle.std.specs.Io.KnownBytes.{Appends}
 use Rattle.art_lines.specs.declared.line.Request.{Request}
 use Rattle.art_lines.specs.declared.line.Request.TheVariants.{Walk, Back, Nodes, Check}
@@ -17,13 +17,24 @@ use Rattle.art_keeping.specs.declared.tree.KeptTree.{KeptTree}
 use Rattle.art_keeping.specs.Commands.{IsCommandFor}
 use Rattle.art_keeping.specs.KeptTrees.{seen, stood}
 use Rattle.art_keeping.specs.Trees.{Key, key_bytes}
+use Rattle.art_engine.specs.NodeLines.{nodes_text}
 use Rattle.art_engine.specs.Texts.{check_text, pairs_text, reply_text}
+
+-- these bytes are appended, or a line that says that there was no memory
+abbrev pub AppendsUnlessNoMemory : Option (List ℕ) → Option (List ℕ) → List ℕ → Type 0
+AppendsUnlessNoMemory old new text = Appends old new (codes "no memory\n") ⊎ Appends old new text
 
 -- the line of the tree's pairs, in this order
 abbrev pub ShowsPairs : (List (Key × ℕ) → List (Key × ℕ)) → KeptTree → Option (List ℕ) → Option (List ℕ) → Type 0
 ShowsPairs order tree old new =
     (pairs : List (Key × ℕ)) → IsCanonical (of_key key_bytes) 4 (seen tree).first (seen tree).root pairs →
     Appends old new (pairs_text (order pairs) ++ codes "\n")
+
+-- the lines of the nodes of the tree of its pairs
+abbrev pub ShowsNodes : KeptTree → Option (List ℕ) → Option (List ℕ) → Type 0
+ShowsNodes tree old new =
+    (pairs : List (Key × ℕ)) → IsCanonical (of_key key_bytes) 4 (seen tree).first (seen tree).root pairs →
+    AppendsUnlessNoMemory old new (nodes_text 4 pairs)
 
 -- what a check of the tree may answer: the numbers of its nodes, or that there was no memory
 abbrev pub IsCheckOf : KeptTree → Result WellFormedTreeStats MalformedTreeError → Type 0
@@ -38,12 +49,12 @@ ShowsCheck tree old new =
     (checked : Result WellFormedTreeStats MalformedTreeError) × IsCheckOf tree checked ×
     IfSome (check_text checked) (λ text. Appends old new (text ++ codes "\n"))
 
--- the pairs rising or falling, or a check's answer; of the nodes it isn't said; no other request asks to see something
+-- the pairs rising or falling, the nodes, or a check's answer; no other request asks to see something
 abbrev pub IsShown : Request → KeptTree → Option (List ℕ) → Option (List ℕ) → Type 0
 IsShown Walk tree old new = ShowsPairs (λ pairs. pairs) tree old new
 IsShown Back tree old new = ShowsPairs reverse tree old new
 IsShown Check tree old new = ShowsCheck tree old new
-IsShown Nodes tree old new = ⊤
+IsShown Nodes tree old new = ShowsNodes tree old new
 IsShown request tree old new = ⊥
 
 -- What is appended for a request: that there was no memory, and then the tree is as before; or the reply to a run of the
@@ -53,5 +64,5 @@ IsReplied IsClone request tree after old new =
     ((seen after ≡ seen tree) × Appends old new (codes "no memory\n")) ⊎
     (((command : Command Key ℕ) × (reply : Reply Key ℕ) × (side : Side) × IsCommandFor request (Some command) ×
     IsRun key_bytes 4 IsClone (seen tree) (command ∷ []) (reply ∷ []) (stood side after) ×
-    IfSome (reply_text reply) (λ text. Appends old new (text ++ codes "\n"))) ⊎
+    Appends old new (reply_text reply ++ codes "\n")) ⊎
     ((seen after ≡ seen tree) × IsShown request tree old new))

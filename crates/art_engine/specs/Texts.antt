@@ -1,15 +1,17 @@
 -- What is written in reply, as bytes.
 use Rattle.std.specs.Prelude.{ℕ, zero, suc, true, false, List, [], ◌∷◌, ◌++◌, flat_map, reverse, codes, Option, Some, None, Result, Ok, Err}
+use Rattle.std.specs.Box.{boxed_slice_items}
 use Rattle.std.specs.Fmt.{decimal}
 use Rattle.art_lines.specs.Keys.{key_word}
 use Rattle.art_keeping.specs.Trees.{Key}
-use Rattle.art_reading.specs.declared.ways.End.{End}
-use Rattle.art_reading.specs.declared.ways.End.TheVariants.{First, Last}
+use Rattle.art_reading.specs.declared.descent.End.{End}
+use Rattle.art_reading.specs.declared.descent.End.TheVariants.{First, Last}
 use Rattle.art_engine.specs.declared.pairs.Order.{Order}
 use Rattle.art_engine.specs.declared.pairs.Order.TheVariants.{Rising, Falling}
 use Rattle.art_operations.specs.declared.well_formed.WellFormedTreeStats.{WellFormedTreeStats}
 use Rattle.art_operations.specs.declared.well_formed.MalformedTreeError.{MalformedTreeError}
 use Rattle.art_operations.specs.declared.well_formed.MalformedTreeError.TheVariants.{OutOfMemory}
+use Rattle.art_operations.specs.Conflicts.{conflict_text}
 use Rattle.art_operations.specs.declared.run.Reply.{Reply}
 use Rattle.art_operations.specs.declared.run.Reply.TheVariants.{Inserted, Conflict, Overwrote, Deleted, Cloned, Found, MatchLen, NoMemory}
 
@@ -36,17 +38,17 @@ abbrev pub match_text : Option ℕ → List ℕ
 match_text None = codes "none"
 match_text (Some len) = codes "match " ++ decimal len
 
--- the reply to a command, but that of a conflict is not said
-abbrev pub reply_text : Reply Key ℕ → Option (List ℕ)
-reply_text (Inserted old) = Some (inserted_text old)
-reply_text (Conflict key value error) = None
-reply_text (Overwrote old count) = Some (overwrote_text old count)
-reply_text (Deleted old) = Some (deleted_text old)
-reply_text Cloned = Some (codes "cloned")
-reply_text (Found true) = Some (codes "yes")
-reply_text (Found false) = Some (codes "no")
-reply_text (MatchLen len) = Some (match_text len)
-reply_text (NoMemory pair) = Some (codes "no memory")
+-- the reply to a command
+abbrev pub reply_text : Reply Key ℕ → List ℕ
+reply_text (Inserted old) = inserted_text old
+reply_text (Conflict key value error) = codes "conflict: " ++ conflict_text (boxed_slice_items error.byte_repr)
+reply_text (Overwrote old count) = overwrote_text old count
+reply_text (Deleted old) = deleted_text old
+reply_text Cloned = codes "cloned"
+reply_text (Found true) = codes "yes"
+reply_text (Found false) = codes "no"
+reply_text (MatchLen len) = match_text len
+reply_text (NoMemory pair) = codes "no memory"
 
 -- what a check has found, but a fault is not said
 abbrev pub check_text : Result WellFormedTreeStats MalformedTreeError → Option (List ℕ)

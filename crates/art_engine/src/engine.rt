@@ -1,16 +1,14 @@
 //! Lines in, replies out.
 ghost use Rattle.std.specs.Prelude.{◌≡◌, ◌≤◌, None, IfOk, IfSome, OnOk};
 ghost use Rattle.std.specs.Io.Buffered.{reader_remaining};
-ghost use Rattle.std.specs.Io.KnownBytes.{Keeps};
 ghost use Rattle.art_parts.specs.Clones.{IsPairClone};
 ghost use Rattle.art_keeping.specs.Commands.{IsAnswered, IsCommandFor};
 ghost use Rattle.art_keeping.specs.KeptTrees.{IsKept};
 ghost use Rattle.art_engine.specs.Served.{AllAsk, AreServed, OneAsksForNothing};
 ghost use Rattle.art_engine.specs.Shown.{IsReplied, IsShown};
-ghost use Rattle.art_engine.specs.TextLines.{lines};
+ghost use Rattle.text_lines.specs.Lines.{lines};
 
 use crate::checks::write_check;
-use crate::lines::next_line;
 use crate::nodes::write_nodes;
 use crate::pairs::{Order, write_pairs};
 use crate::replies::{write_no_memory, write_reply};
@@ -21,6 +19,7 @@ use art_lines::line::Request;
 use std::alloc::{AllocError, Global};
 use std::io;
 use std::io::{BufReader, BufWriter, ErrorKind, Read, Write};
+use text_lines::lines::{next_line, write_out};
 
 /// Answers each line of the input on the output. Returns the status: 0 at the end of the input, 2
 /// after a line that asks for nothing that there is, and 1 where the input can't be read, the output
@@ -75,16 +74,6 @@ pub fn answer_lines<R: Read, W: Write>(
         write_out(input, output)?;
     }
     Err(io::Error::from(ErrorKind::FileTooLarge))
-}
-
-// Writes out what has gathered, unless the next line has come already.
-fn write_out<R: Read, W: Write>(input: &BufReader<R>, output: &mut W) -> io::Result<()>
-    ensures { Keeps (W.contents output.old) (W.contents output.new) }
-{
-    if input.buffer().contains(&b'\n') {
-        return Ok(());
-    }
-    output.flush()
 }
 
 // Answers a request by a run of the command that it asks for, or by what it asks to see.

@@ -4,7 +4,6 @@
 pub mod checks;
 pub mod engine;
 pub mod key;
-pub mod lines;
 pub mod nodes;
 pub mod pairs;
 pub mod replies;

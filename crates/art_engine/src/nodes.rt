@@ -1,13 +1,19 @@
 //! The nodes of a tree, as they are written.
-ghost use Rattle.std.specs.Prelude.{IfSome};
-ghost use Rattle.art_keeping.specs.Trees.{IsTreeIn};
+ghost use Rattle.std.specs.Prelude.{IfSome, List, OnOk, Some, ℕ};
+ghost use Rattle.std.specs.Io.KnownBytes.{Appends};
+ghost use Rattle.art_model.specs.Canonical.{IsCanonical};
+ghost use Rattle.art_model.specs.Pairs.{of_key};
+ghost use Rattle.art_model.specs.Stores.{node_at};
+ghost use Rattle.art_keeping.specs.Trees.{IsTreeIn, Key, key_bytes};
+ghost use Rattle.art_engine.specs.NodeLines.{line_at, node_text, nodes_text};
+ghost use Rattle.art_engine.specs.Shown.{AppendsUnlessNoMemory};
 
 use crate::key::ShownKey;
 use crate::replies::write_no_memory;
 use art_keeping::walk::{Pending, reserve_walk, turn};
 use art_nodes::node::{NodePtr, OpaqueNodePtr};
 use art_nodes::store::NodeStore;
-use std::io::Write;
+use std::io::{ErrorKind, Write};
 use std::{fmt, io};
 
 /// Where a node stands, which is displayed as the beginning of its line: two spaces for each inner node above it, and
@@ -19,6 +25,10 @@ struct Place {
 }
 
 impl fmt::Display for Place {
+    ghost use Rattle.art_engine.specs.NodeLines.{place_text};
+
+    ghost output = { λ place. Some (place_text place.depth place.byte) };
+
     fn fmt<W: fmt::Write>(&self, f: &mut fmt::Formatter<W>) -> fmt::Result {
         for _ in 0..self.depth {
             f.write_str("  ")?;
@@ -31,13 +41,18 @@ impl fmt::Display for Place {
 }
 
 /// Writes the nodes of a tree, a line each: the root, and after each inner node its children in the order of their
-/// bytes, each with all that stands below it. Room for what is left of the walk is taken before anything is written.
-pub fn write_nodes<const P: usize>(
-    output: &mut impl Write,
+/// bytes, each with all that stands below it. Room for what is left of the walk is taken before anything is written;
+/// where there is none, one line says so.
+pub fn write_nodes<W: Write, const P: usize>(
+    output: &mut W,
     store: &NodeStore<Vec<u8>, u32, P>,
     root: Option<OpaqueNodePtr>,
 ) -> io::Result<()>
     requires { IfSome root (IsTreeIn store.now) }
+    ensures { OnOk result ((pairs : List (Key × ℕ)) →
+        IsCanonical (of_key key_bytes) P store.now root pairs →
+        AppendsUnlessNoMemory (W.contents output.old) (W.contents output.new)
+        (nodes_text P pairs)) }
 {
     let Some(root) = root else {
         return writeln!(output, "empty");
@@ -48,19 +63,23 @@ pub fn write_nodes<const P: usize>(
     pending.push_reserved(Pending::root(root));
     for _ in 0..u64::MAX {
         let Some(next) = turn(&mut pending, store) else {
-            break;
+            return Ok(());
         };
         write_node(output, store, next)?;
     }
-    Ok(())
+    Err(io::Error::from(ErrorKind::FileTooLarge))
 }
 
-fn write_node<const P: usize>(
-    output: &mut impl Write,
+// Writes the line of a node.
+fn write_node<W: Write, const P: usize>(
+    output: &mut W,
     store: &NodeStore<Vec<u8>, u32, P>,
     node: Pending,
 ) -> io::Result<()>
     requires { IsTreeIn store.now node.name }
+    ensures { OnOk result (IfSome (node_at store.now node.name) (λ there.
+        Appends (W.contents output.old) (W.contents output.new)
+        (line_at node.depth node.byte (node_text there)))) }
 {
     let place = Place {
         depth: node.depth,

@@ -1,5 +1,5 @@
 //! What is written in reply to a command, and to a check.
-ghost use Rattle.std.specs.Prelude.{◌++◌, IfSome, OnOk, codes};
+ghost use Rattle.std.specs.Prelude.{◌++◌, OnOk, codes};
 ghost use Rattle.std.specs.Io.KnownBytes.{Appends};
 ghost use Rattle.art_engine.specs.Texts.{pair_text, reply_text};
 
@@ -10,8 +10,8 @@ use std::io::Write;
 
 /// Writes the reply to a command, a line.
 pub fn write_reply<W: Write>(output: &mut W, reply: &Reply<Vec<u8>, u32>) -> io::Result<()>
-    ensures { OnOk result (IfSome (reply_text reply.now) (λ text.
-        Appends (W.contents output.old) (W.contents output.new) (text ++ codes "\n"))) }
+    ensures { OnOk result (Appends (W.contents output.old) (W.contents output.new)
+        (reply_text reply.now ++ codes "\n")) }
 {
     let words = match reply {
         Reply::Inserted(Some(old)) | Reply::Overwrote(Some(old), _) => {

@@ -11,14 +11,16 @@ use Rattle.art_parts.specs.declared.names.InnerPtr.{InnerPtr}
 use Rattle.art_parts.specs.declared.names.OpaqueNodePtr.{OpaqueNodePtr}
 use Rattle.art_model.specs.Trees.{leaf, inner, Subtrees, child, no_child}
 use Rattle.art_model.specs.Layouts.{name_of, slots_of, names_of, names_below, HoldsBelow, AreDistinct, IsLayout}
-use Rattle.art_model.specs.Pairs.{of_key}
+use Rattle.art_model.specs.Pairs.{last_of, of_key}
 use Rattle.art_model.specs.Stores.{node_at}
-use Rattle.art_model.proofs.Lists.{Each-append, Each-right}
+use Rattle.art_model.proofs.Filters.{last_each}
+use Rattle.art_model.proofs.Lists.{Each-append}
 use Rattle.art_model.proofs.Views.{leaf_there, leaf_name_is, inner_there, inner_name_is}
 use Rattle.art_model.proofs.Pairwises.{Pairwise-left, Pairwise-right}
 use Rattle.art_model.proofs.StoreLaws.{has_children}
 use Rattle.art_keeping.specs.Trees.{IsTreeIn, IsLinkedTreeIn, Key, HasCanonicalTree, key_bytes}
-use Rattle.art_keeping.specs.Walks.{EndsWith, below, names_under, falling, turned}
+use Rattle.art_keeping.specs.Walks.{children_of, falling, one_deeper, turned}
+use Rattle.art_keeping.specs.declared.walk.Pending.{Pending}
 
 module _ {K V : Type 0} (s : Nodes K V) where
   -- the leaf of a leaf's name is there
@@ -31,28 +33,33 @@ module _ {K V : Type 0} (s : Nodes K V) where
   inner_is_there p root proper is (leaf n x, h) none = inner_name_is s p x proper (ap (node_at s) (is ∙ sym h.named) ∙ h.holds)
   inner_is_there p root proper is (inner n head cs, h) none = let there = inner_there s p head (slots_of cs) proper (ap (node_at s) (is ∙ sym h.named) ∙ h.holds.0) in let e = there.1 in cc
 
+  -- a pending node stands for a tree
+  abbrev pub IsPendingTree : Pending → Type 0
+  IsPendingTree next = IsTreeIn s next.name
+
   -- children that are held stand for trees
-  trees_held : (cs : Subtrees OpaqueNodePtr (K × V)) → HoldsBelow (node_at s) cs → AreDistinct (names_below cs) → Each (IsTreeIn s) (falling (slots_of cs))
-  trees_held no_child holds distinct = tt
-  trees_held (child b t cs) holds distinct =
+  trees_held : (depth : ℕ) (cs : Subtrees OpaqueNodePtr (K × V)) → HoldsBelow (node_at s) cs → AreDistinct (names_below cs) → Each IsPendingTree (falling depth (slots_of cs))
+  trees_held depth no_child holds distinct = tt
+  trees_held depth (child b t cs) holds distinct =
       let is : IsLayout (node_at s) (name_of t) t = record { named = refl; holds = holds.0; distinct = Pairwise-left ◌≢◌ (names_of t) (names_below cs) distinct } in
-      Each-append (IsTreeIn s) (falling (slots_of cs)) (name_of t ∷ []) (trees_held cs holds.1 (Pairwise-right ◌≢◌ (names_of t) (names_below cs) distinct)) ((t, is), tt)
+      let others = trees_held depth cs holds.1 (Pairwise-right ◌≢◌ (names_of t) (names_below cs) distinct) in
+      Each-append IsPendingTree (falling depth (slots_of cs)) (record { depth = depth; byte = Some b; name = name_of t } ∷ []) others ((t, is), tt)
 
-  -- the children under a tree's name stand for trees
-  trees_below : (name : OpaqueNodePtr) → IsTreeIn s name → Each (IsTreeIn s) (below s name)
-  trees_below name (leaf n x, h) = subst (λ o. Each (IsTreeIn s) (names_under o)) (sym (ap (node_at s) (sym h.named) ∙ h.holds)) tt
-  trees_below name (inner n head cs, h) =
-      subst (λ o. Each (IsTreeIn s) (names_under o)) (sym (ap (node_at s) (sym h.named) ∙ h.holds.0)) (trees_held cs h.holds.1 (Pairwise-right ◌≢◌ (n ∷ []) (names_below cs) h.distinct))
+  -- the children of a tree's root stand for trees
+  trees_under : (depth : ℕ) (name : OpaqueNodePtr) → IsTreeIn s name → Each IsPendingTree (children_of depth (node_at s name))
+  trees_under depth name (leaf n x, h) = subst (λ o. Each IsPendingTree (children_of depth o)) (sym (ap (node_at s) (sym h.named) ∙ h.holds)) tt
+  trees_under depth name (inner n head cs, h) =
+      subst (λ o. Each IsPendingTree (children_of depth o)) (sym (ap (node_at s) (sym h.named) ∙ h.holds.0)) (trees_held depth cs h.holds.1 (Pairwise-right ◌≢◌ (n ∷ []) (names_below cs) h.distinct))
 
-  -- a turn leaves names of trees
-  pub trees_turned : (names : List OpaqueNodePtr) → Each (IsTreeIn s) names → Each (IsTreeIn s) (turned s names)
+  -- a turn leaves trees
+  pub trees_turned : (pending : List Pending) → Each IsPendingTree pending → Each IsPendingTree (turned s pending)
   trees_turned [] trees = tt
-  trees_turned (name ∷ []) trees = trees_below name trees.0
-  trees_turned (name ∷ next ∷ rest) trees = (trees.0, trees_turned (next ∷ rest) trees.1)
+  trees_turned (next ∷ []) trees = trees_under (one_deeper next.depth) next.name trees.0
+  trees_turned (first ∷ next ∷ rest) trees = (trees.0, trees_turned (next ∷ rest) trees.1)
 
   -- and takes one
-  pub tree_taken : (names : List OpaqueNodePtr) (name : OpaqueNodePtr) → EndsWith names name → Each (IsTreeIn s) names → IsTreeIn s name
-  tree_taken names name (before, is) trees = (Each-right (IsTreeIn s) before (name ∷ []) (subst (Each (IsTreeIn s)) is trees)).0
+  pub tree_taken : (pending : List Pending) (next : Pending) → Some next ≡ last_of pending → Each IsPendingTree pending → IsTreeIn s next.name
+  tree_taken pending next is trees = last_each IsPendingTree pending next trees (sym is)
 
 -- a canonical root stands for a tree
 pub canonical_is_tree : (s : Nodes Key ℕ) (root : Option OpaqueNodePtr) → HasCanonicalTree s root → IfSome root (IsTreeIn s)

@@ -3,8 +3,7 @@ use Rattle.std.proofs.Common.{◌≡◌, ◌≢◌, ℕ, zero, suc, ◌+◌, ◌
 use Rattle.std.specs.Option.{option_map}
 use Rattle.std.specs.FinMap as map
 use Rattle.std.proofs.lemmas.Bool.{cases_order}
-use Rattle.std.proofs.lemmas.List.{map-append}
-use Rattle.art_inner.specs.Inner.{Inner}
+use Rattle.art_inner.specs.Inner.{Children, Inner}
 use Rattle.art_parts.specs.Names.{leaf_name, inner_name}
 use Rattle.art_nodes.specs.Nodes.{Nodes}
 use Rattle.art_parts.specs.declared.names.NodeType.TheVariants.{Leaf}
@@ -12,74 +11,86 @@ use Rattle.art_parts.specs.declared.leaf.LeafNode.{LeafNode}
 use Rattle.art_parts.specs.declared.names.LeafPtr.{LeafPtr}
 use Rattle.art_parts.specs.declared.names.InnerPtr.{InnerPtr}
 use Rattle.art_parts.specs.declared.names.OpaqueNodePtr.{OpaqueNodePtr}
-use Rattle.art_model.specs.Stores.{held_leaf, held_inner, seen}
+use Rattle.art_model.specs.Pairs.{last_of}
+use Rattle.art_model.specs.Stores.{held_leaf, held_inner, node_at, seen}
 use Rattle.art_model.proofs.Views.{held_in_inner}
-use Rattle.art_keeping.specs.Walks.{HasRoom, below, names_under, falling, left_after, names, turned}
+use Rattle.art_keeping.specs.Walks.{HasRoom, below, children_of, falling, left_after, turned}
 use Rattle.art_keeping.specs.declared.walk.Pending.{Pending}
 
--- the children of children with one more at the end
-pub falling-push : (slots : List (ℕ × OpaqueNodePtr)) (slot : ℕ × OpaqueNodePtr) → falling (slots ++ slot ∷ []) ≡ slot.1 ∷ falling slots
-falling-push [] slot = refl
-falling-push (other ∷ slots) slot = ap (λ names. names ++ other.1 ∷ []) (falling-push slots slot)
+-- the last of a list that ends with it
+pub last-pushed : (old pending : List Pending) (next : Pending) → old ≡ pending ++ next ∷ [] → last_of old ≡ Some next
+last-pushed old pending next is = ap last_of is ∙ go pending
+  where
+    go : (before : List Pending) → last_of (before ++ next ∷ []) ≡ Some next
+    go [] = refl
+    go (first ∷ []) = refl
+    go (first ∷ second ∷ before) = go (second ∷ before)
 
--- there are as many names as children
-pub length-falling : (slots : List (ℕ × OpaqueNodePtr)) → length (falling slots) ≡ length slots
-length-falling [] = refl
-length-falling (slot ∷ slots) = let few = length-falling slots in let all = length-append (falling slots) (slot.1 ∷ []) in omega arith
+-- nothing has no last one
+pub last-none : (pending : List Pending) → length pending ≡ 0 → last_of pending ≡ None
+last-none [] none = refl
+last-none (next ∷ pending) none = absurd (omega arith)
 
--- a name more at the end
-pub names-push : (pending : List Pending) (next : Pending) → names (pending ++ next ∷ []) ≡ names pending ++ next.name ∷ []
-names-push pending next = map-append (λ p. p.name) pending (next ∷ [])
+-- a list without elements is empty
+pub none_left : (pending : List Pending) → length pending ≡ 0 → pending ≡ []
+none_left [] none = refl
+none_left (next ∷ pending) none = absurd (omega arith)
 
--- there are as many names as nodes
-pub length-names : (pending : List Pending) → length (names pending) ≡ length pending
-length-names [] = refl
-length-names (next ∷ pending) = ap suc (length-names pending)
+module _ (depth : ℕ) where
+  -- a child under its byte, at the depth
+  abbrev pub pending_child : ℕ × OpaqueNodePtr → Pending
+  pending_child slot = record { depth = depth; byte = Some slot.0; name = slot.1 }
 
--- no nodes have no names
-pub names-none : (pending : List Pending) → length pending ≡ 0 → names pending ≡ []
-names-none [] none = refl
-names-none (next ∷ pending) none = absurd (omega arith)
+  -- children with one more at the end
+  pub falling-push : (slots : Children) (slot : ℕ × OpaqueNodePtr) → falling depth (slots ++ slot ∷ []) ≡ pending_child slot ∷ falling depth slots
+  falling-push [] slot = refl
+  falling-push (other ∷ slots) slot = ap (λ below. below ++ pending_child other ∷ []) (falling-push slots slot)
 
--- room for names is room for nodes
-pub room_for : (pending : List Pending) (slots : List (ℕ × OpaqueNodePtr)) (under : List OpaqueNodePtr) (capacity : ℕ) → under ≡ falling slots →
-    length (names pending ++ under) ≤ capacity → length pending + length slots ≤ capacity
-room_for pending slots under capacity is room = omega (arith, room, ap length is, length-append (names pending) under, length-names pending, length-falling slots)
+  -- there are as many nodes as children
+  pub length-falling : (slots : Children) → length (falling depth slots) ≡ length slots
+  length-falling [] = refl
+  length-falling (slot ∷ slots) = let few = length-falling slots in let all = length-append (falling depth slots) (pending_child slot ∷ []) in omega arith
 
--- the last of the children to come is put on
-pub pushed : (pending : List Pending) (next : Pending) (old rest : List (ℕ × OpaqueNodePtr)) (b : ℕ) (all : List OpaqueNodePtr) →
-    old ≡ rest ++ (b, next.name) ∷ [] → names pending ++ falling old ≡ all → names (pending ++ next ∷ []) ++ falling rest ≡ all
-pushed pending next old rest b all is so_far =
-    ap (λ l. l ++ falling rest) (names-push pending next) ∙ append_assoc (names pending) (next.name ∷ []) (falling rest)
-    ∙ sym (ap (λ l. names pending ++ l) (ap falling is ∙ falling-push rest (b, next.name))) ∙ so_far
+  -- room for what stands below is room for the children
+  pub room_for : (pending : List Pending) (slots : Children) (under : List Pending) (capacity : ℕ) → under ≡ falling depth slots →
+      length (pending ++ under) ≤ capacity → length pending + length slots ≤ capacity
+  room_for pending slots under capacity is room = omega (arith, room, ap length is, length-append pending under, length-falling slots)
+
+  -- the last of the children to come is put on
+  pub pushed : (pending : List Pending) (slot : ℕ × OpaqueNodePtr) (old rest : Children) (all : List Pending) →
+      old ≡ rest ++ slot ∷ [] → pending ++ falling depth old ≡ all → (pending ++ pending_child slot ∷ []) ++ falling depth rest ≡ all
+  pushed pending slot old rest all is so_far =
+      append_assoc pending (pending_child slot ∷ []) (falling depth rest)
+      ∙ sym (ap (λ l. pending ++ l) (ap (falling depth) is ∙ falling-push rest slot)) ∙ so_far
 
 module _ {K V : Type 0} (s : Nodes K V) where
-  -- no children stand under a leaf's name
-  pub below-leaf : (p : LeafPtr) → below s (leaf_name p) ≡ []
-  below-leaf p = go (map.get s.leaves p)
-    where
-      go : (o : Option (LeafNode K V)) → names_under (option_map (seen {K = K} {V = V} Leaf) (option_map held_leaf o)) ≡ []
-      go None = refl
-      go (Some node) = refl
+  module _ (depth : ℕ) where
+    -- a leaf has no children
+    pub children-leaf : (p : LeafPtr) → children_of depth (node_at s (leaf_name p)) ≡ []
+    children-leaf p = go (map.get s.leaves p)
+      where
+        go : (o : Option (LeafNode K V)) → children_of depth (option_map (seen {K = K} {V = V} Leaf) (option_map held_leaf o)) ≡ []
+        go None = refl
+        go (Some node) = refl
 
-  -- and under an inner node's name those of the node
-  pub below-inner : (p : InnerPtr) → p.kind ≢ Leaf → (node : Inner) → Some node ≡ map.get s.inners p → below s (inner_name p) ≡ falling node.children
-  below-inner p proper node there =
-      ap (λ o. names_under (option_map (seen p.kind) o)) (held_in_inner s p.kind p.slot proper ∙ ap (option_map held_inner) (sym there))
+    -- an inner node has its own
+    pub children-inner : (p : InnerPtr) → p.kind ≢ Leaf → (node : Inner) → Some node ≡ map.get s.inners p → children_of depth (node_at s (inner_name p)) ≡ falling depth node.children
+    children-inner p proper node there =
+        ap (λ o. children_of depth (option_map (seen p.kind) o)) (held_in_inner s p.kind p.slot proper ∙ ap (option_map held_inner) (sym there))
 
-  -- and none where there is no node
-  pub below-none : (p : InnerPtr) → p.kind ≢ Leaf → None ≡ map.get s.inners p → below s (inner_name p) ≡ []
-  below-none p proper there = ap (λ o. names_under (option_map (seen p.kind) o)) (held_in_inner s p.kind p.slot proper ∙ ap (option_map held_inner) (sym there))
+    -- and there are none where there is no node
+    pub children-none : (p : InnerPtr) → p.kind ≢ Leaf → None ≡ map.get s.inners p → children_of depth (node_at s (inner_name p)) ≡ []
+    children-none p proper there = ap (λ o. children_of depth (option_map (seen p.kind) o)) (held_in_inner s p.kind p.slot proper ∙ ap (option_map held_inner) (sym there))
 
-  -- a turn of a list with its last name
-  pub turned-push : (names : List OpaqueNodePtr) (name : OpaqueNodePtr) → turned s (names ++ name ∷ []) ≡ names ++ below s name
-  turned-push [] name = refl
-  turned-push (first ∷ []) name = refl
-  turned-push (first ∷ next ∷ names) name = ap (λ rest. first ∷ rest) (turned-push (next ∷ names) name)
+  -- a turn of a list with its last node
+  turned-push : (pending : List Pending) (next : Pending) → turned s (pending ++ next ∷ []) ≡ pending ++ below s next
+  turned-push [] next = refl
+  turned-push (first ∷ []) next = refl
+  turned-push (first ∷ second ∷ pending) next = ap (λ rest. first ∷ rest) (turned-push (second ∷ pending) next)
 
-  -- and of nodes with a last one
-  pub turned-names : (old pending : List Pending) (next : Pending) → old ≡ pending ++ next ∷ [] → turned s (names old) ≡ names pending ++ below s next.name
-  turned-names old pending next is = ap (λ l. turned s (names l)) is ∙ ap (turned s) (names-push pending next) ∙ turned-push (names pending) next.name
+  -- and of one that ends with it
+  pub turned-last : (old pending : List Pending) (next : Pending) → old ≡ pending ++ next ∷ [] → turned s old ≡ pending ++ below s next
+  turned-last old pending next is = ap (turned s) is ∙ turned-push pending next
 
   module _ (root : OpaqueNodePtr) where
     -- there is room for what is left after so many turns, and after fewer

@@ -1,46 +1,47 @@
--- A walk of the nodes below a root, each before its children: what is left of it is a list of names, of which the last comes next.
-use Rattle.std.specs.Prelude.{◌≡◌, ◌≤◌, ℕ, zero, suc, List, [], ◌∷◌, ◌++◌, length, map, Option, Some, None}
+-- A walk of the nodes below a root, each before its children: what is left of it is a list of nodes, of which the last comes next.
+use Rattle.std.specs.Prelude.{◌≤◌, ◌+◌, ◌-◌, ◌^◌, ℕ, zero, suc, min, List, [], ◌∷◌, ◌++◌, length, Option, Some, None}
+use Rattle.art_inner.specs.Inner.{Children}
 use Rattle.art_nodes.specs.Nodes.{Nodes}
 use Rattle.art_parts.specs.declared.names.OpaqueNodePtr.{OpaqueNodePtr}
 use Rattle.art_model.specs.Layouts.{Node, leaf_node, inner_node}
 use Rattle.art_model.specs.Stores.{node_at}
 use Rattle.art_keeping.specs.declared.walk.Pending.{Pending}
 
--- the names of nodes that are still to come
-abbrev pub names : List Pending → List OpaqueNodePtr
-names pending = map (λ next. next.name) pending
+-- the root: no node stands above it, and no byte leads to it
+abbrev pub pending_root : OpaqueNodePtr → Pending
+pending_root name = record { depth = 0; byte = None; name = name }
 
--- the names of children, from the last to the first
-abbrev pub falling : List (ℕ × OpaqueNodePtr) → List OpaqueNodePtr
-falling [] = []
-falling (slot ∷ slots) = falling slots ++ slot.1 ∷ []
+-- one level further down, as far as a usize counts
+abbrev pub one_deeper : ℕ → ℕ
+one_deeper depth = min (depth + 1) (2 ^ 64 - 1)
 
--- the children of a node, from the last to the first
-abbrev pub names_under : {A : Type 0} → Option (Node OpaqueNodePtr A) → List OpaqueNodePtr
-names_under None = []
-names_under (Some (leaf_node x)) = []
-names_under (Some (inner_node h slots)) = falling slots
+-- children at a depth with the bytes that lead to them, from the last to the first
+abbrev pub falling : ℕ → Children → List Pending
+falling depth [] = []
+falling depth ((byte, name) ∷ slots) = falling depth slots ++ record { depth = depth; byte = Some byte; name = name } ∷ []
+
+-- the children of a node, at a depth, from the last to the first
+abbrev pub children_of : {A : Type 0} → ℕ → Option (Node OpaqueNodePtr A) → List Pending
+children_of depth None = []
+children_of depth (Some (leaf_node x)) = []
+children_of depth (Some (inner_node h slots)) = falling depth slots
 
 module _ {K V : Type 0} (s : Nodes K V) where
-  -- the children under a name, from the last to the first
-  abbrev pub below : OpaqueNodePtr → List OpaqueNodePtr
-  below name = names_under (node_at s name)
+  -- what stands right below a node, from the last to the first
+  abbrev pub below : Pending → List Pending
+  below next = children_of (one_deeper next.depth) (node_at s next.name)
 
-  -- what is left after a turn: children in the place of the name that came
-  abbrev pub turned : List OpaqueNodePtr → List OpaqueNodePtr
+  -- what is left after a turn: children in the place of the node that came
+  abbrev pub turned : List Pending → List Pending
   turned [] = []
-  turned (name ∷ []) = below name
-  turned (name ∷ next ∷ rest) = name ∷ turned (next ∷ rest)
+  turned (next ∷ []) = below next
+  turned (first ∷ next ∷ rest) = first ∷ turned (next ∷ rest)
 
   -- what is left of the walk after so many turns
-  abbrev pub left_after : OpaqueNodePtr → ℕ → List OpaqueNodePtr
-  left_after root zero = root ∷ []
+  abbrev pub left_after : OpaqueNodePtr → ℕ → List Pending
+  left_after root zero = pending_root root ∷ []
   left_after root (suc turns) = turned (left_after root turns)
 
   -- there is room for what is left, after any number of turns
   abbrev pub HasRoom : OpaqueNodePtr → ℕ → Type 0
   HasRoom root capacity = (turns : ℕ) → length (left_after root turns) ≤ capacity
-
--- the name is the last one
-abbrev pub EndsWith : List OpaqueNodePtr → OpaqueNodePtr → Type 0
-EndsWith names name = (before : List OpaqueNodePtr) × (names ≡ before ++ name ∷ [])

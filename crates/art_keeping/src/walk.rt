@@ -1,8 +1,9 @@
 //! The nodes of a tree from its root on, each before all that stands below it. What is left of such a walk stands in a
 //! list, so that no depth ends it.
-ghost use Rattle.std.specs.Prelude.{◌≡◌, ◌≤◌, ◌+◌, ◌++◌, [], length, None, IfSome, IfNone, IfOk};
+ghost use Rattle.std.specs.Prelude.{◌≡◌, ◌≤◌, ◌+◌, ◌++◌, [], length, IfOk};
 ghost use Rattle.std.specs.Vec.{vec_capacity};
-ghost use Rattle.art_keeping.specs.Walks.{EndsWith, HasRoom, below, falling, names, turned};
+ghost use Rattle.art_model.specs.Pairs.{last_of};
+ghost use Rattle.art_keeping.specs.Walks.{HasRoom, below, falling, pending_root, turned};
 
 use art_nodes::node::{Children, NodePtr, OpaqueNodePtr};
 use art_nodes::store::NodeStore;
@@ -20,7 +21,7 @@ pub struct Pending {
 impl Pending {
     /// The root, of which all is still to come.
     pub fn root(name: OpaqueNodePtr) -> Self
-        ensures { result ≡ record { depth = 0; byte = None; name = name } }
+        ensures { result ≡ pending_root name }
     {
         Pending {
             depth: 0,
@@ -44,7 +45,7 @@ pub fn reserve_walk<const P: usize>(
         let Some(next) = pending.pop() else {
             return Ok(pending);
         };
-        pending.reserve(count_children(store, next.name))?;
+        pending.reserve(count_children(store, next))?;
         push_below(&mut pending, store, next);
     }
     Err(AllocError)
@@ -55,10 +56,9 @@ pub fn turn<const P: usize>(
     pending: &mut Vec<Pending>,
     store: &NodeStore<Vec<u8>, u32, P>,
 ) -> Option<Pending>
-    requires { length (turned store.now (names pending.old.items)) ≤ vec_capacity pending.old }
-    ensures left { names pending.new.items ≡ turned store.now (names pending.old.items) }
-    ensures next { IfSome result (λ next. EndsWith (names pending.old.items) next.name) }
-    ensures none { IfNone result (names pending.old.items ≡ []) }
+    requires { length (turned store.now pending.old.items) ≤ vec_capacity pending.old }
+    ensures left { pending.new.items ≡ turned store.now pending.old.items }
+    ensures next { result ≡ last_of pending.old.items }
     ensures capacity { vec_capacity pending.new ≡ vec_capacity pending.old }
 {
     let next = pending.pop()?;
@@ -66,11 +66,11 @@ pub fn turn<const P: usize>(
     Some(next)
 }
 
-// How many children stand under a name.
-fn count_children<const P: usize>(store: &NodeStore<Vec<u8>, u32, P>, name: OpaqueNodePtr) -> usize
-    ensures { result ≡ length (below store.now name) }
+// How many children a node has.
+fn count_children<const P: usize>(store: &NodeStore<Vec<u8>, u32, P>, parent: Pending) -> usize
+    ensures { result ≡ length (below store.now parent) }
 {
-    let NodePtr::Inner(name) = name.split() else {
+    let NodePtr::Inner(name) = parent.name.split() else {
         return 0;
     };
     match store.inner(name) {
@@ -85,10 +85,8 @@ fn push_below<const P: usize>(
     store: &NodeStore<Vec<u8>, u32, P>,
     parent: Pending,
 )
-    requires { length (names pending.old.items ++ below store.now parent.name)
-        ≤ vec_capacity pending.old }
-    ensures names { names pending.new.items ≡
-        names pending.old.items ++ below store.now parent.name }
+    requires { length (pending.old.items ++ below store.now parent) ≤ vec_capacity pending.old }
+    ensures items { pending.new.items ≡ pending.old.items ++ below store.now parent }
     ensures capacity { vec_capacity pending.new ≡ vec_capacity pending.old }
 {
     let NodePtr::Inner(name) = parent.name.split() else {
@@ -103,7 +101,7 @@ fn push_below<const P: usize>(
 // Puts children on, the last one first.
 fn push_children(pending: &mut Vec<Pending>, children: Children<'_>, depth: usize)
     requires { length pending.old.items + length children ≤ vec_capacity pending.old }
-    ensures names { names pending.new.items ≡ names pending.old.items ++ falling children.entry }
+    ensures items { pending.new.items ≡ pending.old.items ++ falling depth children.entry }
     ensures capacity { vec_capacity pending.new ≡ vec_capacity pending.old }
 {
     for (byte, name) in children.rev() {

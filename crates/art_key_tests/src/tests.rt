@@ -1,6 +1,9 @@
 mod drawn;
+mod joined;
 mod keys;
 mod map;
 mod memory;
 mod set;
 mod short;
+mod texts;
+mod visits;

@@ -1,5 +1,5 @@
 -- Parts of a map by the order of its keys, and by their strings.
-use Rattle.std.proofs.Common.{◌≡◌, ℕ, List, [], ◌∷◌, Bool, true, false, ◌&&◌, not, refl, ap, ap₂, ◌∙◌}
+use Rattle.std.proofs.Common.{◌≡◌, ℕ, List, [], ◌∷◌, Bool, true, false, ◌&&◌, ◌++◌, not, eqb, eqb-true, eq-eqb, length, Result, Ok, Err, IfOk, OnOk, OnErr, refl, ap, ap₂, sym, ◌∙◌}
 use Rattle.std.specs.Prelude.{filter}
 use Rattle.std.specs.List.{AllByRecursion as Each}
 use Rattle.std.specs.Ordering.{is_lt}
@@ -7,10 +7,14 @@ use Rattle.std.specs.Range.Bound.{bound_map}
 use Rattle.std.specs.declared.cmp.Ordering.{Ordering}
 use Rattle.std.specs.declared.ops.Bound.{Bound}
 use Rattle.std.specs.declared.ops.Bound.TheVariants.{Included, Excluded, Unbounded}
-use Rattle.art_keys.specs.Prefixes.{BeginsAs, KeepsOrder}
+use Rattle.art_keys.specs.Joins.{AreKeys, joined}
+use Rattle.art_keys.specs.Prefixes.{BeginsAs, HasNoPrefixes, KeepsOrder}
+use Rattle.art_model.specs.Keys.{IsFront, are_same, is_front}
 use Rattle.art_model.specs.Pairs.{of_key}
-use Rattle.art_model.specs.Parts.{below, between, is_from, is_up_to}
-use Rattle.art_keyed.specs.KeyedPairs.{HaveKeys, OnBound, is_key_from, is_key_up_to, keys_between, strings_below}
+use Rattle.art_model.specs.Parts.{below, between, is_from, is_up_to, not_below}
+use Rattle.art_model.proofs.Filters.{Each-filter}
+use Rattle.art_map.specs.MapAnswers.{HasShrinkingParentBelow}
+use Rattle.art_keyed.specs.KeyedPairs.{HaveKeys, OnBound, is_key_from, is_key_up_to, keys_between, pairs_with_first, set_below, set_between, strings_below, strings_not_below}
 use denote.Ref.{Bor}
 
 -- two tests that agree on each element leave the same
@@ -38,18 +42,96 @@ map_twice bytes (Included b) = refl
 map_twice bytes (Excluded b) = refl
 map_twice bytes Unbounded = refl
 
-module _ {K V : Type 0} (is_key : K → Type 0) (bytes : K → List ℕ) where
-  -- keys are between two bounds where their bytes are between those of the bounds
-  pub between_keys : {order : K → K → Ordering} → KeepsOrder is_key bytes order → (from to : Bound (Bor K)) (low high : Bound (List ℕ)) →
+module _ {K : Type 0} (is_key : K → Type 0) (bytes : K → List ℕ) where
+  -- whatever has a key is between two bounds where the bytes of its key are between those of the bounds
+  between_by : {A : Type 0} (key_of : A → K) {order : K → K → Ordering} → KeepsOrder is_key bytes order → (from to : Bound (Bor K)) (low high : Bound (List ℕ)) →
       low ≡ bound_map (λ b. bytes b.now) from → high ≡ bound_map (λ b. bytes b.now) to →
-      OnBound is_key (bound_map (λ b. b.now) from) → OnBound is_key (bound_map (λ b. b.now) to) → (pairs : List (K × V)) → HaveKeys is_key pairs →
-      between (of_key bytes) low high pairs ≡ keys_between order (bound_map (λ b. b.now) from) (bound_map (λ b. b.now) to) pairs
-  between_keys keeps from to low high is_low is_high of_from of_to pairs all =
+      OnBound is_key (bound_map (λ b. b.now) from) → OnBound is_key (bound_map (λ b. b.now) to) → (xs : List A) → Each (λ x. is_key (key_of x)) xs →
+      between (λ x. bytes (key_of x)) low high xs ≡
+      filter (λ x. is_key_from order (bound_map (λ b. b.now) from) (key_of x) && is_key_up_to order (bound_map (λ b. b.now) to) (key_of x)) xs
+  between_by key_of keeps from to low high is_low is_high of_from of_to xs all =
       rw (is_low ∙ map_twice bytes from, is_high ∙ map_twice bytes to)
-      (filter_same (λ x. is_key x.0) _ _
-      (λ x of_x. ap₂ (λ a b. a && b) (same_from is_key bytes keeps (bound_map (λ b. b.now) from) x.0 of_from of_x) (same_up_to is_key bytes keeps (bound_map (λ b. b.now) to) x.0 of_to of_x)) pairs all)
+      (filter_same (λ x. is_key (key_of x)) _ _
+      (λ x of_x. ap₂ (λ a b. a && b) (same_from is_key bytes keeps (bound_map (λ b. b.now) from) (key_of x) of_from of_x) (same_up_to is_key bytes keeps (bound_map (λ b. b.now) to) (key_of x) of_to of_x)) xs all)
 
   -- strings begin with another where the bytes of their keys do
-  pub below_strings : (text : K → List ℕ) (key : K) (beginning : List ℕ) → BeginsAs is_key bytes text key beginning → (pairs : List (K × V)) → HaveKeys is_key pairs →
-      below (of_key bytes) beginning pairs ≡ strings_below text (text key) pairs
-  below_strings text key beginning begins pairs all = filter_same (λ x. is_key x.0) _ _ (λ x of_x. begins x.0 of_x) pairs all
+  below_by : {A : Type 0} (key_of : A → K) (text : K → List ℕ) (key : K) (beginning : List ℕ) → BeginsAs is_key bytes text key beginning → (xs : List A) → Each (λ x. is_key (key_of x)) xs →
+      below (λ x. bytes (key_of x)) beginning xs ≡ filter (λ x. is_front (text key) (text (key_of x))) xs
+  below_by key_of text key beginning begins xs all = filter_same (λ x. is_key (key_of x)) _ _ (λ x of_x. begins (key_of x) of_x) xs all
+
+  -- ---- maps
+
+  module _ {V : Type 0} where
+    pub between_keys : {order : K → K → Ordering} → KeepsOrder is_key bytes order → (from to : Bound (Bor K)) (low high : Bound (List ℕ)) →
+        low ≡ bound_map (λ b. bytes b.now) from → high ≡ bound_map (λ b. bytes b.now) to →
+        OnBound is_key (bound_map (λ b. b.now) from) → OnBound is_key (bound_map (λ b. b.now) to) → (pairs : List (K × V)) → HaveKeys is_key pairs →
+        between (of_key bytes) low high pairs ≡ keys_between order (bound_map (λ b. b.now) from) (bound_map (λ b. b.now) to) pairs
+    between_keys = between_by (λ x. x.0)
+
+    pub below_strings : (text : K → List ℕ) (key : K) (beginning : List ℕ) → BeginsAs is_key bytes text key beginning → (pairs : List (K × V)) → HaveKeys is_key pairs →
+        below (of_key bytes) beginning pairs ≡ strings_below text (text key) pairs
+    below_strings = below_by (λ x. x.0)
+
+    -- the other pairs are those whose strings don't begin so
+    not_below_strings : (text : K → List ℕ) (key : K) (beginning : List ℕ) → BeginsAs is_key bytes text key beginning → (pairs : List (K × V)) → HaveKeys is_key pairs →
+        not_below (of_key bytes) beginning pairs ≡ strings_not_below text (text key) pairs
+    not_below_strings text key beginning begins pairs all = filter_same (λ x. is_key x.0) _ _ (λ x of_x. ap not (begins x.0 of_x)) pairs all
+
+    pub strings_taken : {E : Type 0} (text : K → List ℕ) (key : K) (beginning : List ℕ) → BeginsAs is_key bytes text key beginning → (r : Result ℕ E) (pairs new : List (K × V)) →
+        HaveKeys is_key pairs → OnOk r (new ≡ not_below (of_key bytes) beginning pairs) → OnOk r (new ≡ strings_not_below text (text key) pairs)
+    strings_taken text key beginning begins (Ok n) pairs new all is = is ∙ not_below_strings text key beginning begins pairs all
+    strings_taken text key beginning begins (Err e) pairs new all is = tt
+
+    pub strings_counted : {E : Type 0} (text : K → List ℕ) (key : K) (beginning : List ℕ) → BeginsAs is_key bytes text key beginning → (r : Result ℕ E) (pairs : List (K × V)) →
+        HaveKeys is_key pairs → IfOk r (λ n. n ≡ length (below (of_key bytes) beginning pairs)) → IfOk r (λ n. n ≡ length (strings_below text (text key) pairs))
+    strings_counted text key beginning begins (Ok n) pairs all is = is ∙ ap length (below_strings text key beginning begins pairs all)
+    strings_counted text key beginning begins (Err e) pairs all is = tt
+
+    pub strings_refused : {E : Type 0} (P : ℕ) (text : K → List ℕ) (key : K) (beginning : List ℕ) → BeginsAs is_key bytes text key beginning → (r : Result ℕ E) (pairs : List (K × V)) →
+        OnErr r (HasShrinkingParentBelow (of_key bytes) P pairs beginning) →
+        OnErr r ((start : List ℕ) × BeginsAs is_key bytes text key start × HasShrinkingParentBelow (of_key bytes) P pairs start)
+    strings_refused P text key beginning begins (Ok n) pairs refused = tt
+    strings_refused P text key beginning begins (Err e) pairs refused = (beginning, begins, refused)
+
+    -- what is left of keys is keys
+    pub others_keep : (beginning : List ℕ) (pairs : List (K × V)) → HaveKeys is_key pairs → HaveKeys is_key (not_below (of_key bytes) beginning pairs)
+    others_keep beginning pairs all = Each-filter (λ x. is_key x.0) _ pairs all
+
+  -- ---- sets
+
+  pub between_in_set : {order : K → K → Ordering} → KeepsOrder is_key bytes order → (from to : Bound (Bor K)) (low high : Bound (List ℕ)) →
+      low ≡ bound_map (λ b. bytes b.now) from → high ≡ bound_map (λ b. bytes b.now) to →
+      OnBound is_key (bound_map (λ b. b.now) from) → OnBound is_key (bound_map (λ b. b.now) to) → (keys : List K) → Each is_key keys →
+      between bytes low high keys ≡ set_between order (bound_map (λ b. b.now) from) (bound_map (λ b. b.now) to) keys
+  between_in_set = between_by (λ key. key)
+
+  pub below_in_set : (text : K → List ℕ) (key : K) (beginning : List ℕ) → BeginsAs is_key bytes text key beginning → (keys : List K) → Each is_key keys →
+      below bytes beginning keys ≡ set_below text (text key) keys
+  below_in_set = below_by (λ key. key)
+
+-- ---- two keys as one
+
+-- what begins two strings one after the other is the first of them, where neither is a proper prefix of the other
+front_of_joined : (a x y : List ℕ) → (IsFront a x → a ≡ x) → (IsFront x a → x ≡ a) → is_front a (x ++ y) ≡ are_same a x
+front_of_joined [] [] y f g = refl
+front_of_joined [] (z ∷ x) y f g = let e : [] ≡ z ∷ x = f (z ∷ x, refl) in absurd cc
+front_of_joined (c ∷ a) [] y f g = let e : [] ≡ c ∷ a = g (c ∷ a, refl) in absurd cc
+front_of_joined (c ∷ a) (z ∷ x) y f g = go (front_of_joined a x y) (eqb c z) refl
+  where
+    tail : (n m : ℕ) (s t : List ℕ) → n ≡ m → (IsFront (n ∷ s) (m ∷ t) → n ∷ s ≡ m ∷ t) → IsFront s t → s ≡ t
+    tail n m s t same h (rest, e) = let l : n ∷ s ≡ m ∷ t = h (rest, ap₂ (λ b bs. b ∷ bs) (sym same) e) in cc
+
+    go : ((IsFront a x → a ≡ x) → (IsFront x a → x ≡ a) → is_front a (x ++ y) ≡ are_same a x) → (t : Bool) → eqb c z ≡ t →
+        is_front (c ∷ a) ((z ∷ x) ++ y) ≡ are_same (c ∷ a) (z ∷ x)
+    go ih true e =
+        let same : c ≡ z = eqb-true c z e in
+        rw (e, eq-eqb z c (sym same)) (ih (tail c z a x same f) (tail z c x a (sym same) g))
+    go ih false e = rw e refl
+
+module _ {A B V : Type 0} (is_first : A → Type 0) (first : A → List ℕ) (is_second : B → Type 0) (second : B → List ℕ) where
+  -- the bytes of a first key begin those of the keys that have it, and no others
+  pub below_first : HasNoPrefixes is_first first → (key : A) → is_first key → (pairs : List ((A × B) × V)) → HaveKeys (AreKeys is_first is_second) pairs →
+      below (of_key (joined first second)) (first key) pairs ≡ pairs_with_first first (first key) pairs
+  below_first apart key of_key' pairs all =
+      filter_same (λ x. AreKeys is_first is_second x.0) _ _
+      (λ x of_x. front_of_joined (first key) (first x.0.0) (second x.0.1) (apart key x.0.0 of_key' of_x.0) (apart x.0.0 key of_x.0 of_key')) pairs all

@@ -1,3 +1,4 @@
 pub mod Keyed
 pub mod Between
 pub mod Ended
+pub mod Retained

@@ -6,7 +6,7 @@ use Rattle.std.specs.declared.cmp.Ordering.{Ordering}
 use Rattle.std.specs.declared.cmp.Ordering.TheVariants.{Less}
 use Rattle.std.specs.declared.ops.Bound.{Bound}
 use Rattle.std.specs.declared.ops.Bound.TheVariants.{Included, Excluded, Unbounded}
-use Rattle.art_model.specs.Keys.{is_front}
+use Rattle.art_model.specs.Keys.{are_same, is_front}
 use Rattle.art_model.specs.Pairs.{Pairwise, is_conflict, of_key}
 
 module _ {K V : Type 0} where
@@ -21,6 +21,14 @@ module _ {K V : Type 0} where
   -- the pairs whose strings begin with this one
   abbrev pub strings_below : (K → List ℕ) → List ℕ → List (K × V) → List (K × V)
   strings_below text prefix pairs = filter (λ pair. is_front prefix (text pair.0)) pairs
+
+  -- the other pairs
+  abbrev pub strings_not_below : (K → List ℕ) → List ℕ → List (K × V) → List (K × V)
+  strings_not_below text prefix pairs = filter (λ pair. not (is_front prefix (text pair.0))) pairs
+
+-- the pairs of two keys and a value whose first key has these bytes
+abbrev pub pairs_with_first : {A B V : Type 0} → (A → List ℕ) → List ℕ → List ((A × B) × V) → List ((A × B) × V)
+pairs_with_first bytes first pairs = filter (λ pair. are_same first (bytes pair.0.0)) pairs
 
 module _ {K : Type 0} where
   -- the keys of a set rise strictly in this order
@@ -44,6 +52,14 @@ module _ {K : Type 0} where
   is_key_up_to order (Included bound) key = not (is_lt (order bound key))
   is_key_up_to order (Excluded bound) key = is_lt (order key bound)
   is_key_up_to order Unbounded key = true
+
+  -- the keys of a set that are between two bounds in this order
+  abbrev pub set_between : (K → K → Ordering) → Bound K → Bound K → List K → List K
+  set_between order from to keys = filter (λ key. is_key_from order from key && is_key_up_to order to key) keys
+
+  -- the keys of a set whose strings begin with this one
+  abbrev pub set_below : (K → List ℕ) → List ℕ → List K → List K
+  set_below text prefix keys = filter (λ key. is_front prefix (text key)) keys
 
 -- the pairs whose keys are between two bounds in this order
 abbrev pub keys_between : {K V : Type 0} → (K → K → Ordering) → Bound K → Bound K → List (K × V) → List (K × V)

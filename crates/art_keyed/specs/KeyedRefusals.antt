@@ -1,10 +1,28 @@
--- What is handed back of a pair that was not put in.
-use Rattle.std.specs.Prelude.{◌≡◌}
+-- What is handed back of what was not put in.
+use Rattle.std.specs.Prelude.{◌≡◌, ℕ, false, List, Option, Some}
+use Rattle.std.specs.Iterator.{YieldsThen}
+use Rattle.art_model.specs.Pairs.{has_key, of_key}
+use Rattle.art_map.specs.MapCalls.{put_all}
+use Rattle.art_map.specs.SetKeys.{add_all}
 use Rattle.art_map.specs.declared.map.MapInsertError.{MapInsertError}
 use Rattle.art_map.specs.declared.map.MapInsertError.TheVariants.{Conflict, Memory}
 use Rattle.art_keyed.specs.declared.map.PairRefused.{PairRefused}
+use Rattle.art_keyed.specs.declared.set.KeyRefused.{KeyRefused}
 
 -- the pair of an error
 abbrev pub IsHandedBack : {K V : Type 0} → MapInsertError K V → PairRefused K V → Type 0
 IsHandedBack (Conflict key value error) refused = (refused.key ≡ key) × (refused.value ≡ value)
 IsHandedBack (Memory key value) refused = (refused.key ≡ key) × (refused.value ≡ value)
+
+module _ {I K V : Type 0} (steps : I → Option (K × V) → I → Type 0) (bytes : K → List ℕ) where
+  -- what came before a pair was put, and that pair was handed back, whose key is not stored; the iterator has the others
+  abbrev pub PutsUntilRefused : I → List (K × V) → PairRefused K V → I → List (K × V) → Type 0
+  PutsUntilRefused from before refused to after =
+      (xs : List (K × V)) × YieldsThen steps from xs (Some (refused.key, refused.value)) to × (after ≡ put_all bytes xs before) ×
+      (has_key (of_key bytes) (bytes refused.key) after ≡ false)
+
+module _ {I K : Type 0} (steps : I → Option K → I → Type 0) (bytes : K → List ℕ) where
+  -- what came before a key was added, and that key was handed back, which is not stored; the iterator has the others
+  abbrev pub AddsUntilRefused : I → List K → KeyRefused K → I → List K → Type 0
+  AddsUntilRefused from before refused to after =
+      (ks : List K) × YieldsThen steps from ks (Some refused.key) to × (after ≡ add_all bytes ks before) × (has_key bytes (bytes refused.key) after ≡ false)

@@ -1,5 +1,5 @@
 //! An ordered map whose keys are never in conflict. Its contracts speak of lists of pairs alone.
-ghost use Rattle.std.specs.Prelude.{◌≡◌, ◌↔◌, ◌<◌, ◌^◌, [], length, false, IfOk, IfErr, IsSome, IsTrue, OnOk, OnErr, Some, option_copied};
+ghost use Rattle.std.specs.Prelude.{◌≡◌, ◌≢◌, ◌↔◌, ◌<◌, ◌^◌, ℕ, List, [], length, false, IfOk, IfErr, IsSome, IsTrue, OnOk, OnErr, Some, None, option_copied};
 ghost use Rattle.std.specs.Borrow.{sem};
 ghost use Rattle.std.specs.Option.{option_copied_mut, option_map, unwrap_or};
 ghost use Rattle.art_map.specs.MapAnswers.{MayRefuseRemoval, value_at};
@@ -18,10 +18,14 @@ use thiserror::Error;
 
 mod compared;
 mod entry;
+mod extend;
+mod joined;
 mod ordered;
+mod retain;
 mod strings;
 
 pub use entry::{KeyedEntry, KeyedEntryOf};
+pub(crate) use ordered::bytes_of;
 
 /// A pair that was not put in, for want of memory.
 #[derive(Debug, Drop, Error)]
@@ -113,7 +117,8 @@ impl<K: NoPrefixesBytes + Drop, V: Drop, const P: usize> KeyedMap<K, V, P> {
 
     /// Returns the value of a key.
     pub fn get(&self, key: &K) -> Option<&V>
-        ensures { option_copied result ≡ value_at K.bytes (K.bytes key.now) self.now }
+        ensures value { option_copied result ≡ value_at K.bytes (K.bytes key.now) self.now }
+        ensures sorted { IsMap (of_key K.bytes) self.now }
     {
         self.map.get(key.as_bytes())
     }
@@ -193,6 +198,11 @@ impl<K: NoPrefixesBytes + Drop, V: Drop, const P: usize> KeyedMap<K, V, P> {
         ensures pairs { OnOk result (self.new ≡ put (of_key K.bytes) (key, value) self.old) }
         ensures replaced { IfOk result (λ replaced.
             replaced ≡ put_reply (of_key K.bytes) (key, value) self.old) }
+        ensures found { OnOk result
+            (value_at K.bytes (K.bytes key) self.new ≡ Some value) }
+        ensures others { OnOk result ((other : List ℕ) → other ≢ K.bytes key →
+            value_at K.bytes other self.new ≡ value_at K.bytes other self.old) }
+        ensures sorted { IsMap (of_key K.bytes) self.new }
 
         ensures handed_back { IfErr result (λ refused.
             (refused.key ≡ key) × (refused.value ≡ value)) }
@@ -239,6 +249,9 @@ impl<K: NoPrefixesBytes + Drop, V: Drop, const P: usize> KeyedMap<K, V, P> {
             (self.new ≡ remove_key (of_key K.bytes) (K.bytes key.now) self.old) }
         ensures removed { IfOk result (λ removed.
             removed ≡ remove_reply (of_key K.bytes) (K.bytes key.now) self.old) }
+        ensures gone { OnOk result (value_at K.bytes (K.bytes key.now) self.new ≡ None) }
+        ensures others { OnOk result ((other : List ℕ) → other ≢ K.bytes key.now →
+            value_at K.bytes other self.new ≡ value_at K.bytes other self.old) }
         ensures kept { OnErr result (self.new ≡ self.old) }
         ensures refused { OnErr result (MayRefuseRemoval (of_key K.bytes) P self.old
             (remove_reply (of_key K.bytes) (K.bytes key.now) self.old)) }

@@ -1,19 +1,26 @@
 //! An ordered set of keys that are never in conflict. Its contracts speak of lists of keys alone.
 ghost use Rattle.std.specs.Prelude.{◌≡◌, ◌↔◌, [], length, false, not, IfOk, IfErr, IsTrue, OnOk, OnErr, option_copied};
 ghost use Rattle.std.specs.List.{AllByRecursion as Each};
-ghost use Rattle.art_model.specs.Pairs.{IsMap, first_of, has_key, last_of, of_key, remove_key, remove_reply, without_first, without_last};
+ghost use Rattle.art_model.specs.Pairs.{IsMap, first_of, has_key, last_of, of_key, remove_key, remove_reply, with_key, without_first, without_last};
 ghost use Rattle.art_map.specs.MapAnswers.{MayRefuseRemoval};
 ghost use Rattle.art_map.specs.SetKeys.{add_key, as_pairs};
-ghost use Rattle.art_keyed.specs.KeyedPairs.{KeysRiseBy};
 
-use art_keys::laws::{NoPrefixesBytes, OrderedBytes};
-use art_map::map::{Keys, MapRefused};
+use art_keys::laws::NoPrefixesBytes;
+use art_map::map::{IntoKeys, Keys, MapRefused};
 use art_map::set::{ByteSet, SetInsertError};
 use std::alloc::Global;
+use std::fmt;
 use std::marker::Model;
+use thiserror::Error;
+
+mod algebra;
+mod compared;
+mod extend;
+mod ordered;
 
 /// A key that was not put in, for want of memory.
-#[derive(Drop)]
+#[derive(Debug, Drop, Error)]
+#[error("memory allocation failed")]
 pub struct KeyRefused<K> {
     pub key: K,
 }
@@ -79,6 +86,13 @@ impl<K: NoPrefixesBytes + Drop, const P: usize> KeyedSet<K, P> {
         self.set.contains(key.as_bytes())
     }
 
+    /// Returns the stored key that is equal to a key.
+    pub fn get(&self, key: &K) -> Option<&K>
+        ensures { option_copied result ≡ first_of (with_key K.bytes (K.bytes key.now) self.now) }
+    {
+        self.set.get(key.as_bytes())
+    }
+
     /// Returns the first key.
     pub fn first(&self) -> Option<&K>
         ensures { option_copied result ≡ first_of self.now }
@@ -132,6 +146,18 @@ impl<K: NoPrefixesBytes + Drop, const P: usize> KeyedSet<K, P> {
         self.set.remove(key.as_bytes())
     }
 
+    /// Takes out the stored key that is equal to a key, and returns it.
+    pub fn take(&mut self, key: &K) -> Result<Option<K>, MapRefused>
+        ensures keys { OnOk result (self.new ≡ remove_key K.bytes (K.bytes key.now) self.old) }
+        ensures removed { IfOk result (λ removed.
+            removed ≡ remove_reply K.bytes (K.bytes key.now) self.old) }
+        ensures kept { OnErr result (self.new ≡ self.old) }
+        ensures refused { OnErr result (MayRefuseRemoval (of_key K.bytes) P (as_pairs self.old)
+            (remove_reply (of_key K.bytes) (K.bytes key.now) (as_pairs self.old))) }
+    {
+        self.set.take(key.as_bytes())
+    }
+
     /// Takes out the first key, and returns it.
     pub fn pop_first(&mut self) -> Result<Option<K>, MapRefused>
         ensures keys { OnOk result (self.new ≡ without_first self.old) }
@@ -162,11 +188,32 @@ impl<K: NoPrefixesBytes + Drop, const P: usize> KeyedSet<K, P> {
     }
 }
 
-impl<K: OrderedBytes + Drop, const P: usize> KeyedSet<K, P> {
-    /// Does nothing, and tells that the keys rise in the order of their type.
-    pub fn rises(&self)
-        ensures { KeysRiseBy K.order self.now }
-    {
-        self.set.len();
+impl<'a, K: NoPrefixesBytes + Drop, const P: usize> IntoIterator for &'a KeyedSet<K, P> {
+    type Item = &'a K;
+
+    type IntoIter = Keys<'a, K, (), P>;
+
+    ghost into_iter_gives = { λ set keys. keys ≡ set.now };
+
+    fn into_iter(self) -> Keys<'a, K, (), P> {
+        self.iter()
+    }
+}
+
+impl<K: NoPrefixesBytes + Drop, const P: usize> IntoIterator for KeyedSet<K, P> {
+    type Item = K;
+
+    type IntoIter = IntoKeys<K, (), P>;
+
+    ghost into_iter_gives = { λ set keys. keys ≡ set };
+
+    fn into_iter(self) -> IntoKeys<K, (), P> {
+        self.set.into_iter()
+    }
+}
+
+impl<K: NoPrefixesBytes + fmt::Debug + Drop, const P: usize> fmt::Debug for KeyedSet<K, P> {
+    fn fmt<W: fmt::Write>(&self, f: &mut fmt::Formatter<W>) -> fmt::Result {
+        self.set.fmt(f)
     }
 }

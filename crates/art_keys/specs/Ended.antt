@@ -1,5 +1,5 @@
 -- Strings of bytes that are ended by a zero.
-use Rattle.std.specs.Prelude.{◌≡◌, ◌≢◌, ℕ, ◌++◌, List, [], ◌∷◌}
+use Rattle.std.specs.Prelude.{◌≡◌, ◌≢◌, ℕ, zero, suc, ◌++◌, List, [], ◌∷◌}
 use Rattle.std.specs.List.{AllByRecursion as Each}
 use Rattle.art_keys.specs.declared.terminated.EndError.{EndError}
 use Rattle.art_keys.specs.declared.terminated.EndError.TheVariants.{InnerZero, Memory}
@@ -17,6 +17,16 @@ abbrev pub without_end : List ℕ → List ℕ
 without_end [] = []
 without_end (byte ∷ []) = []
 without_end (byte ∷ next ∷ rest) = byte ∷ without_end (next ∷ rest)
+
+-- how many bytes stand before the first zero
+abbrev pub zero_at : List ℕ → ℕ
+zero_at [] = 0
+zero_at (zero ∷ rest) = 0
+zero_at (suc byte ∷ rest) = suc (zero_at rest)
+
+-- how many bytes a string takes that its first zero ends
+abbrev pub ended_length : List ℕ → ℕ
+ended_length bytes = suc (zero_at bytes)
 
 -- a zero stands at the end, and nowhere else
 pub record IsEnded (bytes : List ℕ) : Type 0 where

@@ -1,9 +1,10 @@
 -- Strings of bytes that are ended by a zero: none is a prefix of another, they stand in the order of what is ended, and begin as it does.
-use Rattle.std.proofs.Common.{◌≡◌, ◌≢◌, ℕ, List, [], ◌∷◌, ◌++◌, ◌&&◌, eqb, refl, ap, arith}
+use Rattle.std.proofs.Common.{◌≡◌, ◌≢◌, ℕ, zero, suc, length, length-append, List, [], ◌∷◌, ◌++◌, ◌&&◌, eqb, refl, ap, arith}
 use Rattle.std.proofs.lemmas.Bool.{le-ltb, lt-ltb, ne_eqb}
 use Rattle.std.specs.Cmp.Lexicographic.{slice_cmp}
 use Rattle.std.specs.Ordering.{nat_cmp}
-use Rattle.art_keys.specs.Ended.{HasNoZero, IsEnded, ended, without_end}
+use Rattle.art_keys.specs.Decoded.{ComesBack}
+use Rattle.art_keys.specs.Ended.{HasNoZero, IsEnded, ended, ended_length, without_end, zero_at}
 use Rattle.art_keys.specs.Prefixes.{HasNoPrefixes, KeepsOrder}
 use Rattle.art_model.specs.Keys.{is_front}
 
@@ -37,3 +38,15 @@ pub ended_begins : (text other : List ℕ) → HasNoZero text → is_front text 
 ended_begins [] other of_text = refl
 ended_begins (x ∷ text) [] of_text = rw (ne_eqb x 0 of_text.0) refl
 ended_begins (x ∷ text) (y ∷ other) of_text = ap (λ b. eqb x y && b) (ended_begins text other of_text.1)
+
+-- the first zero is the end
+pub zero_at-ended : (text rest : List ℕ) → HasNoZero text → zero_at ((text ++ 0 ∷ []) ++ rest) ≡ length text
+zero_at-ended [] rest of_text = refl
+zero_at-ended (zero ∷ text) rest of_text = absurd (of_text.0 refl)
+zero_at-ended (suc byte ∷ text) rest of_text = ap suc (zero_at-ended text rest of_text.1)
+
+pub ended_length-is : (text rest : List ℕ) → HasNoZero text → ended_length ((text ++ 0 ∷ []) ++ rest) ≡ length (text ++ 0 ∷ [])
+ended_length-is text rest of_text = rw (zero_at-ended text rest of_text, length-append text (0 ∷ [])) (omega arith)
+
+pub ended_comes_back : ComesBack HasNoZero ended without_end ended_length
+ended_comes_back text of_text = (without_end-ended text, λ rest. ended_length-is text rest of_text)

@@ -4,7 +4,10 @@ use Rattle.std.specs.Prelude.{⊤}
 use Rattle.std.proofs.lemmas.Bool.{le-ltb, lt-ltb, ne_eqb}
 use Rattle.std.specs.Cmp.Lexicographic.{slice_cmp}
 use Rattle.std.specs.Ordering.{nat_cmp}
-use Rattle.art_keys.specs.Escapes.{escape, escape_inside, unescape}
+use Rattle.art_keys.specs.Decoded.{ComesBack}
+use Rattle.art_keys.specs.Ended.{HasNoZero, ended_length}
+use Rattle.art_keys.specs.EndedLaws.{ended_length-is}
+use Rattle.art_keys.specs.Escapes.{IsPlain, escape, escape_inside, unescape}
 use Rattle.art_keys.specs.Prefixes.{HasNoPrefixes, KeepsOrder}
 use Rattle.art_model.specs.Keys.{IsFront, is_front}
 
@@ -109,3 +112,20 @@ before_end text bytes inside end e f = (snoc_same inside (escape_inside text) en
 -- an escaped string is not empty
 pub has_end : (text bytes : List ℕ) → escape text ≡ bytes → length bytes ≡ 0 → ⊥
 has_end text bytes e none = let l = ap length (sym (escape_is text) ∙ e) in omega (arith, simp length-append at l)
+
+-- no escaped byte is zero
+pub inside_no_zero : (text : List ℕ) → HasNoZero (escape_inside text)
+inside_no_zero [] = tt
+inside_no_zero (zero ∷ text) = ((λ e. absurd cc), ((λ e. absurd cc), inside_no_zero text))
+inside_no_zero (suc zero ∷ text) = ((λ e. absurd cc), ((λ e. absurd cc), inside_no_zero text))
+inside_no_zero (suc (suc n) ∷ text) = ((λ e. absurd cc), inside_no_zero text)
+
+pub escape_comes_back : ComesBack {K = List ℕ} (λ text. ⊤) escape unescape ended_length
+escape_comes_back text of_text = (unescape-escape text, λ rest. rw (escape_is text) (ended_length-is (escape_inside text) rest (inside_no_zero text)))
+
+-- a plain string stays as it is
+pub escape-plain : (text : List ℕ) → IsPlain text → escape text ≡ text ++ 0 ∷ []
+escape-plain [] plain = refl
+escape-plain (zero ∷ text) plain = absurd (omega (arith, plain.0))
+escape-plain (suc zero ∷ text) plain = absurd (omega (arith, plain.0))
+escape-plain (suc (suc n) ∷ text) plain = ap (λ t. suc (suc n) ∷ t) (escape-plain text plain.1)

@@ -1,5 +1,6 @@
 -- Any string of bytes as one that is ended by a zero and has no zero before it.
-use Rattle.std.specs.Prelude.{◌≡◌, ℕ, zero, suc, List, [], ◌∷◌, ◌++◌}
+use Rattle.std.specs.Prelude.{◌≡◌, ◌<◌, ℕ, zero, suc, List, [], ◌∷◌, ◌++◌}
+use Rattle.std.specs.List.{AllByRecursion as Each}
 
 -- a byte as one or two that are not zero: 0 and 1 are told apart by what stands after a 1
 abbrev pub escape_byte : ℕ → List ℕ
@@ -16,6 +17,10 @@ escape_inside (byte ∷ rest) = escape_byte byte ++ escape_inside rest
 abbrev pub escape : List ℕ → List ℕ
 escape [] = 0 ∷ []
 escape (byte ∷ rest) = escape_byte byte ++ escape rest
+
+-- no byte is 0 or 1, so that the escaped string is the string and a zero
+abbrev pub IsPlain : List ℕ → Type 0
+IsPlain = Each (λ byte. 1 < byte)
 
 -- the bytes that were escaped
 abbrev pub unescape : List ℕ → List ℕ

@@ -1,7 +1,8 @@
 -- Strings of bytes of one length.
-use Rattle.std.proofs.Common.{◌≡◌, ℕ, List, [], ◌∷◌, ◌++◌, length, ap, arith, append-nil, length-append, ◌∙◌, sym}
+use Rattle.std.proofs.Common.{◌≡◌, ℕ, List, [], ◌∷◌, ◌++◌, length, ap, arith, append-nil, length-append, ◌∙◌, refl, sym}
 use Rattle.std.specs.Array.{AllZipBelow}
 use Rattle.std.specs.List.{each_same}
+use Rattle.art_keys.specs.Decoded.{ComesBack}
 use Rattle.art_keys.specs.Prefixes.{HasNoPrefixes, IsKept}
 use Rattle.art_model.specs.Clones.{KeepBytes}
 
@@ -19,3 +20,6 @@ fixed_keeps_bytes n a b is = each_same a b is.whole
 
 pub fixed_keeps_key : (n : ℕ) → IsKept (λ bytes. length bytes ≡ n) (λ a b. AllZipBelow (λ (x y : ℕ). y ≡ x) a b n)
 fixed_keeps_key n a b is of_a = is.long
+
+pub fixed_comes_back : (n : ℕ) → ComesBack (λ bytes. length bytes ≡ n) (λ bytes. bytes) (λ bytes. bytes) (λ bytes. n)
+fixed_comes_back n key of_key = (refl, λ rest. sym of_key)

@@ -1,20 +1,26 @@
 -- Two keys as one, the second after the first.
-use Rattle.std.specs.Prelude.{◌≡◌, ℕ, List, ◌++◌}
-use Rattle.std.specs.Cmp.Lexicographic.{slice_cmp}
-use Rattle.std.specs.Ordering.{nat_cmp, ordering_then}
+use Rattle.std.specs.Prelude.{ℕ, ◌+◌, List, ◌++◌, take, drop}
+use Rattle.std.specs.Ordering.{ordering_then}
 use Rattle.std.specs.declared.cmp.Ordering.{Ordering}
 
-module _ {A B : Type 0} (is_first : A → Type 0) (first : A → List ℕ) (is_second : B → Type 0) (second : B → List ℕ) where
-  -- the bytes are those of a key and of another
-  pub record IsJoin (bytes : List ℕ) : Type 0 where
-    pub a : A
-    pub b : B
-    pub of_a : is_first a
-    pub of_b : is_second b
-    pub is : bytes ≡ first a ++ second b
+module _ {A B : Type 0} where
+  -- what is known of each of two keys
+  abbrev pub AreKeys : (A → Type 0) → (B → Type 0) → A × B → Type 0
+  AreKeys is_first is_second pair = is_first pair.0 × is_second pair.1
 
-  -- two keys as one compare by the first of them, and then by the second
-  abbrev pub JoinsKeepOrder : (A → A → Ordering) → (B → B → Ordering) → Type 0
-  JoinsKeepOrder by_first by_second =
-      (a c : A) (b d : B) → is_first a → is_first c → is_second b → is_second d →
-      slice_cmp nat_cmp (first a ++ second b) (first c ++ second d) ≡ ordering_then (by_first a c) (by_second b d)
+  -- the bytes of two keys, one after the other
+  abbrev pub joined : (A → List ℕ) → (B → List ℕ) → A × B → List ℕ
+  joined first second pair = first pair.0 ++ second pair.1
+
+  -- the order of the first keys, and then of the second ones
+  abbrev pub pair_cmp : (A → A → Ordering) → (B → B → Ordering) → A × B → A × B → Ordering
+  pair_cmp by_first by_second x y = ordering_then (by_first x.0 y.0) (by_second x.1 y.1)
+
+  -- the two keys of which the first takes so many of the bytes, and the second the others
+  abbrev pub parted : (List ℕ → A) → (List ℕ → ℕ) → (List ℕ → B) → List ℕ → A × B
+  parted first_of first_length second_of bytes =
+      (first_of (take (first_length bytes) bytes), second_of (drop (first_length bytes) bytes))
+
+-- how many of the bytes are those of two keys
+abbrev pub joined_length : (List ℕ → ℕ) → (List ℕ → ℕ) → List ℕ → ℕ
+joined_length first_length second_length bytes = first_length bytes + second_length (drop (first_length bytes) bytes)

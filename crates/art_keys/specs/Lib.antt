@@ -1,4 +1,5 @@
 pub mod Prefixes
+pub mod Decoded
 pub mod Ended
 pub mod Escapes
 -- proofs of the laws of the types, which their impls name
@@ -9,3 +10,4 @@ pub mod Numbers
 pub mod NumberLaws
 pub mod Joins
 pub mod JoinLaws
+pub mod HashLaws

@@ -7,6 +7,7 @@ use Rattle.std.proofs.Math.Nat as nat
 use Rattle.std.specs.Cmp.Lexicographic.{slice_cmp}
 use Rattle.std.specs.Int.{bytes_high_first, byte_at}
 use Rattle.std.specs.Ordering.{nat_cmp, int_cmp, ordering_then}
+use Rattle.art_keys.specs.Decoded.{ComesBack}
 use Rattle.art_keys.specs.Numbers.{number_of, HasBytes, IsNumber, half, HasSignedBytes, IsSignedNumber, lifted, lowered, signed_bytes}
 use Rattle.art_keys.specs.Prefixes.{HasNoPrefixes, KeepsOrder}
 use Rattle.art_keys.specs.FixedLaws.{fixed_no_prefixes}
@@ -74,6 +75,9 @@ numbers_keep_order count a b of_a of_b = bytes_cmp count a b ∙ ap (λ x. nat_c
 pub numbers_no_prefixes : (count : ℕ) → HasNoPrefixes (HasBytes count) (bytes_high_first count)
 numbers_no_prefixes count a b of_a of_b front = fixed_no_prefixes count _ _ (length-bytes count a) (length-bytes count b) front
 
+pub numbers_come_back : (count : ℕ) → ComesBack (HasBytes count) (bytes_high_first count) number_of (λ bytes. count)
+numbers_come_back count n small = (number_back count n small, λ rest. sym (length-bytes count n))
+
 -- ---- signed numbers
 
 -- what is lifted has so many bytes
@@ -122,3 +126,6 @@ signed_back count z h = ap (lowered count) (number_back count (lifted count z) (
 
 pub signed_is : (count : ℕ) (z : ℤ) → HasSignedBytes count z → IsSignedNumber count (signed_bytes count z)
 signed_is count z h = record { small = rw (signed_back count z h) h; is = rw (signed_back count z h) refl }
+
+pub signed_come_back : (count : ℕ) → ComesBack (HasSignedBytes count) (signed_bytes count) (λ bytes. lowered count (number_of bytes)) (λ bytes. count)
+signed_come_back count z small = (signed_back count z small, λ rest. sym (length-bytes count (lifted count z)))

@@ -1,15 +1,18 @@
 //! Any bytes, escaped so that none is a prefix of another, and in their order.
 ghost use Rattle.std.specs.Prelude.{◌≡◌, ℕ, List, ◌<◌, ◌++◌, [], ◌∷◌, length, IfOk, IfSome, MatchOption, OnOk};
+ghost use Rattle.std.specs.Bool.{OnFalse, OnTrue};
 ghost use Rattle.std.specs.Cmp.Lexicographic.{slice_cmp};
 ghost use Rattle.std.specs.Ordering.{nat_cmp};
-ghost use Rattle.art_keys.specs.Escapes.{escape, escape_byte, unescape};
+ghost use Rattle.art_keys.specs.Escapes.{IsPlain, escape, escape_byte, unescape};
 ghost use Rattle.art_model.specs.Keys.{IsFront};
 
-use super::laws::{CloneBytes, NoPrefixesBytes, OrderedBytes, StringBytes, compare};
+use super::laws::{CloneBytes, DecodeBytes, NoPrefixesBytes, OrderedBytes, StringBytes, compare};
+use super::terminated::{write_text, zero_at};
 use art_nodes::node::AsBytes;
 use std::alloc::{AllocError, Global};
 use std::cmp::Ordering;
 use std::fmt;
+use std::hash::{Hash, Hasher};
 use std::marker::Model;
 
 /// Any string of bytes as a key. It is seen as the string, and its bytes are the escaped one.
@@ -49,6 +52,18 @@ impl Escaped {
         Escaped::encode(alloc, text.as_bytes())
     }
 
+    /// Returns whether no byte of a string is 0 or 1, so that its escape is the string and a zero.
+    pub fn is_plain(text: &[u8]) -> bool
+        ensures yes { OnTrue result (IsPlain text.now) }
+        ensures no { OnFalse result (¬ IsPlain text.now) }
+    {
+        let mut rest = text;
+        while let [2..=255, others @ ..] = rest {
+            rest = others;
+        }
+        rest.is_empty()
+    }
+
     /// Returns the string. The only error is want of memory.
     pub fn decode(&self, alloc: Global) -> Result<Vec<u8>, AllocError>
         ensures { IfOk result (λ text. text.items ≡ self.now) }
@@ -73,6 +88,32 @@ impl fmt::Debug for Escaped {
             rest = others;
         }
         f.write_str("\"")
+    }
+}
+
+/// Its text, with U+FFFD in the place of bytes that are none.
+impl fmt::Display for Escaped {
+    fn fmt<W: fmt::Write>(&self, f: &mut fmt::Formatter<W>) -> fmt::Result {
+        let mut rest = self.beginning();
+        // A byte 0 or 1 is a text of its own, so that what stands between two of them is written by itself.
+        while let Some((plain, escaped, others)) = split_at_escape(rest) {
+            write_text(f, plain)?;
+            f.write_str(escaped)?;
+            rest = others;
+        }
+        write_text(f, rest)
+    }
+}
+
+// Returns the bytes before the first that was escaped, the text of that one, and the bytes after it.
+fn split_at_escape(bytes: &[u8]) -> Option<(&[u8], &'static str, &[u8])>
+    ensures { IfSome result (λ parts. length parts.2.now < length bytes.now) }
+{
+    let at = bytes.iter().position(|byte| *byte == 1)?;
+    match &bytes[at..] {
+        [1, 1, others @ ..] => Some((&bytes[..at], "\0", others)),
+        [1, _, others @ ..] => Some((&bytes[..at], "\u{1}", others)),
+        _ => None,
     }
 }
 
@@ -147,6 +188,28 @@ impl StringBytes for Escaped {
             Some((_, inside)) => inside,
             None => &[],
         }
+    }
+}
+
+impl DecodeBytes for Escaped {
+    ghost use Rattle.art_keys.specs.Ended.{ended_length};
+    ghost use Rattle.art_keys.specs.Escapes.{unescape};
+    ghost use Rattle.art_keys.specs.EscapeLaws.{escape_comes_back};
+
+    ghost key_of = { unescape };
+
+    ghost length_of = { ended_length };
+
+    ghost comes_back = { escape_comes_back };
+
+    fn key_len(bytes: &[u8]) -> usize {
+        zero_at(bytes) + 1
+    }
+
+    fn from_key_bytes(alloc: Global, bytes: &[u8]) -> Result<Self, AllocError> {
+        Ok(Escaped {
+            bytes: bytes.to_vec(alloc)?,
+        })
     }
 }
 
@@ -231,5 +294,19 @@ impl Ord for Escaped {
 
     fn cmp(&self, other: &Self) -> Ordering {
         compare(self, other)
+    }
+}
+
+impl Hash for Escaped {
+    ghost use Rattle.std.specs.Hash as fed;
+    ghost use Rattle.art_keys.specs.Escapes.{escape};
+    ghost use Rattle.art_keys.specs.HashLaws.{strings_hash};
+
+    ghost hash_input = { λ key. fed.slice fed.u8 (escape key) };
+
+    ghost respects_eq = { strings_hash escape };
+
+    fn hash<H: Hasher>(&self, state: &mut H) {
+        self.as_bytes().hash(state);
     }
 }

@@ -1,7 +1,8 @@
 //! Arrays of bytes as keys: all of one length.
 ghost use Rattle.std.specs.Prelude.{◌≡◌, length};
 
-use super::laws::{CloneBytes, NoPrefixesBytes, OrderedBytes};
+use super::laws::{CloneBytes, DecodeBytes, NoPrefixesBytes, OrderedBytes};
+use std::alloc::{AllocError, Global};
 
 impl<const N: usize> NoPrefixesBytes for [u8; N] {
     ghost use Rattle.art_keys.specs.FixedLaws.{fixed_no_prefixes};
@@ -29,4 +30,33 @@ impl<const N: usize> CloneBytes for [u8; N] {
     ghost keeps_bytes = { fixed_keeps_bytes N };
 
     ghost keeps_key = { fixed_keeps_key N };
+}
+
+impl<const N: usize> DecodeBytes for [u8; N] {
+    ghost use Rattle.art_keys.specs.FixedLaws.{fixed_comes_back};
+
+    ghost key_of = { λ bytes. bytes };
+
+    ghost length_of = { λ bytes. N };
+
+    ghost comes_back = { fixed_comes_back N };
+
+    fn key_len(bytes: &[u8]) -> usize {
+        N
+    }
+
+    fn from_key_bytes(alloc: Global, bytes: &[u8]) -> Result<Self, AllocError> {
+        Ok(all_of(bytes))
+    }
+}
+
+// Returns all of the bytes, of which there are so many, as an array.
+pub(crate) fn all_of<const N: usize>(bytes: &[u8]) -> [u8; N]
+    requires { length bytes.now ≡ N }
+    ensures { result ≡ bytes.now }
+{
+    match bytes.split_first_chunk::<N>() {
+        Some((all, _)) => *all,
+        None => unreachable!(),
+    }
 }

@@ -1,60 +1,106 @@
 //! Two keys as one.
-ghost use Rattle.std.specs.Prelude.{◌≡◌, ◌++◌, IfOk};
-ghost use Rattle.art_keys.specs.Joins.{JoinsKeepOrder};
+ghost use Rattle.std.specs.Prelude.{◌≡◌, IfOk};
+ghost use Rattle.art_keys.specs.Joins.{AreKeys, joined, pair_cmp};
+ghost use Rattle.art_keys.specs.Prefixes.{KeepsOrder};
 
-use super::laws::{CloneBytes, NoPrefixesBytes, OrderedBytes, compare};
+use super::laws::{CloneBytes, DecodeBytes, NoPrefixesBytes, OrderedBytes};
 use art_nodes::node::AsBytes;
 use std::alloc::{AllocError, Global};
 use std::cmp::Ordering;
+use std::fmt;
+use std::hash::{Hash, Hasher};
 use std::marker::{Model, PhantomData};
 
-/// A key and then another, as one. It is seen as its bytes.
+/// A key and then another, as one. It is seen as the pair of them.
 #[derive(Drop)]
-pub struct Joined<A: NoPrefixesBytes, B: NoPrefixesBytes> {
+pub struct Joined<A: DecodeBytes, B: DecodeBytes> {
     bytes: Vec<u8>,
     of: PhantomData<(A, B)>,
 }
 
-impl<A: NoPrefixesBytes, B: NoPrefixesBytes> Model for Joined<A, B> {
-    ghost use Rattle.std.specs.Prelude.{List, ℕ};
-    ghost use Rattle.art_keys.specs.Joins.{IsJoin};
+impl<A: DecodeBytes, B: DecodeBytes> Model for Joined<A, B> {
+    ghost use Rattle.std.specs.Coded.{coded×};
 
-    ghost Value = { List ℕ };
+    ghost Value = { A × B };
 
-    ghost view = { λ j. j.bytes.items };
+    ghost coded = { coded× A.code B.code };
 
-    ghost invariant = { λ j. IsJoin A.is_key A.bytes B.is_key B.bytes j.bytes.items };
+    ghost use Rattle.art_keys.specs.Decoded.{IsOfKey};
+    ghost use Rattle.art_keys.specs.Joins.{AreKeys, joined, parted};
+
+    ghost view = { λ j. parted A.key_of A.length_of B.key_of j.bytes.items };
+
+    ghost invariant = { λ j.
+        IsOfKey (AreKeys A.is_key B.is_key) (joined A.bytes B.bytes) j.bytes.items };
 }
 
-impl<A: NoPrefixesBytes, B: NoPrefixesBytes> Joined<A, B> {
-    /// The key of two. The only error is want of memory.
+impl<A: DecodeBytes + Drop, B: DecodeBytes + Drop> Joined<A, B> {
+    /// Returns the key of two. The only error is want of memory.
     pub fn join(alloc: Global, first: &A, second: &B) -> Result<Self, AllocError>
-        ensures { IfOk result (λ key. key ≡ A.bytes first.now ++ B.bytes second.now) }
+        ensures { IfOk result (λ key. key ≡ (first.now, second.now)) }
     {
         first.as_key();
         second.as_key();
-        let mut bytes = first.as_bytes().to_vec(alloc)?;
-        bytes.extend_from_slice(second.as_bytes())?;
+        let (first, second) = (first.as_bytes(), second.as_bytes());
+        let mut bytes = Vec::with_capacity(alloc, first.len() + second.len())?;
+        bytes.extend_from_slice(first)?;
+        bytes.extend_from_slice(second)?;
         Ok(Joined {
             bytes,
             of: PhantomData,
         })
     }
+
+    /// Returns the first key. The only error is want of memory.
+    pub fn first(&self, alloc: Global) -> Result<A, AllocError>
+        ensures { IfOk result (λ key. key ≡ self.now.0) }
+    {
+        let middle = A::key_len(&self.bytes);
+        A::from_key_bytes(alloc, &self.bytes[..middle])
+    }
+
+    /// Returns the second key. The only error is want of memory.
+    pub fn second(&self, alloc: Global) -> Result<B, AllocError>
+        ensures { IfOk result (λ key. key ≡ self.now.1) }
+    {
+        let middle = A::key_len(&self.bytes);
+        B::from_key_bytes(alloc, &self.bytes[middle..])
+    }
+
+    /// Returns the two keys. The only error is want of memory.
+    pub fn split(&self, alloc: Global) -> Result<(A, B), AllocError>
+        ensures { IfOk result (λ keys. keys ≡ self.now) }
+    {
+        let middle = A::key_len(&self.bytes);
+        let first = A::from_key_bytes(alloc, &self.bytes[..middle])?;
+        let second = B::from_key_bytes(alloc, &self.bytes[middle..])?;
+        Ok((first, second))
+    }
 }
 
-impl<A: NoPrefixesBytes, B: NoPrefixesBytes> AsBytes for Joined<A, B> {
-    ghost bytes = { λ bytes. bytes };
+/// Its bytes, in quotes and with escapes.
+impl<A: DecodeBytes, B: DecodeBytes> fmt::Debug for Joined<A, B> {
+    fn fmt<W: fmt::Write>(&self, f: &mut fmt::Formatter<W>) -> fmt::Result {
+        let bytes = self.bytes.escape_ascii();
+        write!(f, "\"{bytes}\"")
+    }
+}
+
+impl<A: DecodeBytes, B: DecodeBytes> AsBytes for Joined<A, B> {
+    ghost use Rattle.art_keys.specs.Joins.{joined};
+
+    ghost bytes = { joined A.bytes B.bytes };
 
     fn as_bytes(&self) -> &[u8] {
         &self.bytes
     }
 }
 
-impl<A: NoPrefixesBytes, B: NoPrefixesBytes> NoPrefixesBytes for Joined<A, B> {
-    ghost use Rattle.art_keys.specs.Joins.{IsJoin};
+impl<A: DecodeBytes, B: DecodeBytes> NoPrefixesBytes for Joined<A, B> {
+    ghost use Rattle.art_keys.specs.Joins.{AreKeys};
     ghost use Rattle.art_keys.specs.JoinLaws.{joins_no_prefixes};
 
-    ghost is_key = { IsJoin A.is_key A.bytes B.is_key B.bytes };
+    ghost is_key = { AreKeys A.is_key B.is_key };
 
     fn as_key(&self) {
         let _ = &self.bytes;
@@ -63,17 +109,41 @@ impl<A: NoPrefixesBytes, B: NoPrefixesBytes> NoPrefixesBytes for Joined<A, B> {
     ghost no_prefixes = { joins_no_prefixes A.is_key A.bytes B.is_key B.bytes A.no_prefixes B.no_prefixes };
 }
 
-impl<A: NoPrefixesBytes, B: NoPrefixesBytes> OrderedBytes for Joined<A, B> {
-    ghost use Rattle.std.specs.Cmp.Lexicographic.{slice_cmp};
-    ghost use Rattle.std.specs.Ordering.{nat_cmp};
-    ghost use Rattle.std.proofs.Common.{refl};
+impl<A: DecodeBytes + OrderedBytes, B: DecodeBytes + OrderedBytes> OrderedBytes for Joined<A, B> {
+    ghost use Rattle.art_keys.specs.Joins.{pair_cmp};
+    ghost use Rattle.art_keys.specs.JoinLaws.{joins_keep_order};
 
-    ghost order = { slice_cmp nat_cmp };
+    ghost order = { pair_cmp A.order B.order };
 
-    ghost keeps_order = { λ a b of_a of_b. refl };
+    ghost keeps_order = { joins_keep_order A.is_key A.bytes B.is_key B.bytes
+        A.no_prefixes A.keeps_order B.keeps_order };
 }
 
-impl<A: NoPrefixesBytes, B: NoPrefixesBytes> Clone for Joined<A, B> {
+impl<A: DecodeBytes, B: DecodeBytes> DecodeBytes for Joined<A, B> {
+    ghost use Rattle.art_keys.specs.Joins.{joined_length, parted};
+    ghost use Rattle.art_keys.specs.JoinLaws.{joins_come_back};
+
+    ghost key_of = { parted A.key_of A.length_of B.key_of };
+
+    ghost length_of = { joined_length A.length_of B.length_of };
+
+    ghost comes_back = { joins_come_back A.is_key A.bytes B.is_key B.bytes
+        A.key_of A.length_of B.key_of B.length_of A.comes_back B.comes_back };
+
+    fn key_len(bytes: &[u8]) -> usize {
+        let middle = A::key_len(bytes);
+        middle + B::key_len(&bytes[middle..])
+    }
+
+    fn from_key_bytes(alloc: Global, bytes: &[u8]) -> Result<Self, AllocError> {
+        Ok(Joined {
+            bytes: bytes.to_vec(alloc)?,
+            of: PhantomData,
+        })
+    }
+}
+
+impl<A: DecodeBytes, B: DecodeBytes> Clone for Joined<A, B> {
     ghost is_clone = { λ key copy. copy ≡ key };
 
     fn clone(&self) -> Result<Self, AllocError> {
@@ -84,66 +154,70 @@ impl<A: NoPrefixesBytes, B: NoPrefixesBytes> Clone for Joined<A, B> {
     }
 }
 
-impl<A: NoPrefixesBytes, B: NoPrefixesBytes> CloneBytes for Joined<A, B> {
-    ghost use Rattle.std.proofs.Common.{subst, sym};
-    ghost use Rattle.art_keys.specs.Joins.{IsJoin};
+impl<A: DecodeBytes, B: DecodeBytes> CloneBytes for Joined<A, B> {
+    ghost use Rattle.std.proofs.Common.{ap, subst, sym};
+    ghost use Rattle.art_keys.specs.Joins.{AreKeys, joined};
 
-    ghost keeps_bytes = { λ key copy is. is };
+    ghost keeps_bytes = { λ key copy is. ap (joined A.bytes B.bytes) is };
 
     ghost keeps_key = { λ key copy is of_key.
-        subst (IsJoin A.is_key A.bytes B.is_key B.bytes) (sym is) of_key };
+        subst (AreKeys A.is_key B.is_key) (sym is) of_key };
 }
 
 /// The bytes of two keys are in the order of the first keys, and then of the second ones.
 pub fn joined_keys_keep_order<A: OrderedBytes, B: OrderedBytes>()
-    ensures { JoinsKeepOrder A.is_key A.bytes B.is_key B.bytes A.order B.order }
+    ensures { KeepsOrder (AreKeys A.is_key B.is_key) (joined A.bytes B.bytes)
+        (pair_cmp A.order B.order) }
 {}
 
-impl<A: NoPrefixesBytes, B: NoPrefixesBytes> PartialEq for Joined<A, B> {
+impl<A: DecodeBytes, B: DecodeBytes> PartialEq for Joined<A, B> {
     ghost use Rattle.std.proofs.Common.{rules};
     ghost use Rattle.std.specs.Cmp.Rules.{comparing};
     ghost use Rattle.std.specs.Cmp.Lexicographic.{slice_cmp};
-    ghost use Rattle.std.specs.Ordering.{eq_by_cmp, nat_cmp};
+    ghost use Rattle.art_keys.specs.Joins.{joined};
+    ghost use Rattle.std.specs.Ordering.{eq_by_cmp, nat_cmp, on};
 
-    ghost eq = { eq_by_cmp (slice_cmp nat_cmp) };
+    ghost eq = { eq_by_cmp (on (joined A.bytes B.bytes) (slice_cmp nat_cmp)) };
 
     ghost laws = { Prim.search (comparing, rules) };
 
     fn eq(&self, other: &Self) -> bool {
-        compare(self, other).is_eq()
+        self.bytes.cmp(&other.bytes).is_eq()
     }
 }
 
-impl<A: NoPrefixesBytes, B: NoPrefixesBytes> Eq for Joined<A, B> {
+impl<A: DecodeBytes, B: DecodeBytes> Eq for Joined<A, B> {
     ghost use Rattle.std.proofs.Common.{rules};
     ghost use Rattle.std.specs.Cmp.Rules.{comparing};
 
     ghost laws = { Prim.search (comparing, rules) };
 }
 
-impl<A: NoPrefixesBytes, B: NoPrefixesBytes> PartialOrd for Joined<A, B> {
+impl<A: DecodeBytes, B: DecodeBytes> PartialOrd for Joined<A, B> {
     ghost use Rattle.std.proofs.Common.{rules};
     ghost use Rattle.std.specs.Cmp.Rules.{comparing};
     ghost use Rattle.std.specs.Cmp.Lexicographic.{slice_cmp};
-    ghost use Rattle.std.specs.Ordering.{as_partial_cmp, nat_cmp};
+    ghost use Rattle.art_keys.specs.Joins.{joined};
+    ghost use Rattle.std.specs.Ordering.{as_partial_cmp, nat_cmp, on};
 
-    ghost partial_cmp = { as_partial_cmp (slice_cmp nat_cmp) };
+    ghost partial_cmp = { as_partial_cmp (on (joined A.bytes B.bytes) (slice_cmp nat_cmp)) };
 
     ghost laws = { Prim.search (comparing, rules) };
 
     fn partial_cmp(&self, other: &Self) -> Option<Ordering> {
-        Some(compare(self, other))
+        Some(self.bytes.cmp(&other.bytes))
     }
 }
 
 /// The order of the bytes: that of the first keys, and then of the second ones.
-impl<A: NoPrefixesBytes, B: NoPrefixesBytes> Ord for Joined<A, B> {
+impl<A: DecodeBytes, B: DecodeBytes> Ord for Joined<A, B> {
     ghost use Rattle.std.proofs.Common.{rules};
     ghost use Rattle.std.specs.Cmp.Rules.{comparing};
     ghost use Rattle.std.specs.Cmp.Lexicographic.{slice_cmp};
-    ghost use Rattle.std.specs.Ordering.{nat_cmp};
+    ghost use Rattle.art_keys.specs.Joins.{joined};
+    ghost use Rattle.std.specs.Ordering.{nat_cmp, on};
 
-    ghost cmp = { slice_cmp nat_cmp };
+    ghost cmp = { on (joined A.bytes B.bytes) (slice_cmp nat_cmp) };
 
     ghost total = { Prim.search (comparing, rules) };
 
@@ -152,6 +226,20 @@ impl<A: NoPrefixesBytes, B: NoPrefixesBytes> Ord for Joined<A, B> {
     ghost matches_eq = { Prim.search (comparing, rules) };
 
     fn cmp(&self, other: &Self) -> Ordering {
-        compare(self, other)
+        self.bytes.cmp(&other.bytes)
+    }
+}
+
+impl<A: DecodeBytes, B: DecodeBytes> Hash for Joined<A, B> {
+    ghost use Rattle.std.specs.Hash as fed;
+    ghost use Rattle.art_keys.specs.Joins.{joined};
+    ghost use Rattle.art_keys.specs.HashLaws.{bytes_hash};
+
+    ghost hash_input = { λ key. fed.slice fed.u8 (joined A.bytes B.bytes key) };
+
+    ghost respects_eq = { bytes_hash (joined A.bytes B.bytes) };
+
+    fn hash<H: Hasher>(&self, state: &mut H) {
+        self.as_bytes().hash(state);
     }
 }

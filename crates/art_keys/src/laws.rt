@@ -1,9 +1,11 @@
 //! What a type of keys promises, proved for each type.
-ghost use Rattle.std.specs.Prelude.{◌≡◌};
+ghost use Rattle.std.specs.Prelude.{◌≡◌, IfOk};
+ghost use Rattle.art_keys.specs.Decoded.{BeginsWithKey, ComesBack, IsOfKey};
 ghost use Rattle.art_keys.specs.Prefixes.{BeginsAs, HasNoPrefixes, IsKept, KeepsOrder};
 ghost use Rattle.art_model.specs.Clones.{KeepBytes};
 
 use art_nodes::node::AsBytes;
+use std::alloc::{AllocError, Global};
 use std::cmp::Ordering;
 
 /// Keys that are never in conflict: the bytes of one are a prefix of another's only where both have the same.
@@ -37,6 +39,30 @@ pub trait CloneBytes: NoPrefixesBytes + Clone {
 
     /// What is known of a key is known of its clones.
     ghost keeps_key: { IsKept Self.is_key Self.is_clone };
+}
+
+/// Keys that come back from their bytes.
+pub trait DecodeBytes: NoPrefixesBytes {
+    ghost use Rattle.std.specs.Prelude.{List, ℕ};
+
+    /// The key whose bytes these are.
+    ghost key_of: { List ℕ → Self };
+
+    /// How many of the bytes are those of the key that they begin with.
+    ghost length_of: { List ℕ → ℕ };
+
+    /// Returns how many of the bytes are those of the key that they begin with.
+    fn key_len(bytes: &[u8]) -> usize
+        requires { BeginsWithKey Self.is_key Self.bytes bytes.now }
+        ensures { result ≡ length_of bytes.now };
+
+    /// Returns the key whose bytes these are. The only error is want of memory.
+    fn from_key_bytes(alloc: Global, bytes: &[u8]) -> Result<Self, AllocError>
+        requires { IsOfKey Self.is_key Self.bytes bytes.now }
+        ensures { IfOk result (λ key. key ≡ key_of bytes.now) };
+
+    /// A key comes back from its bytes, and their number from them and whatever stands after them.
+    ghost comes_back: { ComesBack Self.is_key Self.bytes key_of length_of };
 }
 
 /// Keys that stand for strings of bytes.

@@ -1,6 +1,7 @@
 //! Types of keys of which none is a prefix of another, proved of each type.
 #![tactic(auto)]
 
+mod digits;
 pub mod escaped;
 pub mod fixed;
 pub mod joined;

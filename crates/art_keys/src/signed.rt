@@ -4,9 +4,12 @@ ghost use Rattle.std.specs.Ordering.{int_cmp};
 ghost use Rattle.art_keys.specs.Numbers.{HasSignedBytes, lifted, lowered, number_of, signed_bytes};
 ghost use Rattle.art_keys.specs.Prefixes.{KeepsOrder};
 
-use super::laws::{CloneBytes, NoPrefixesBytes, OrderedBytes, compare};
+use super::fixed::all_of;
+use super::laws::{CloneBytes, DecodeBytes, NoPrefixesBytes, OrderedBytes, compare};
 use art_nodes::node::AsBytes;
+use std::alloc::{AllocError, Global};
 use std::cmp::Ordering;
+use std::hash::{Hash, Hasher};
 use std::marker::Model;
 
 /// A signed number of so many bytes. It is seen as the number, and its bytes have the sign's bit flipped.
@@ -179,6 +182,27 @@ impl<const N: usize> OrderedBytes for Signed<N> {
     ghost keeps_order = { signed_keep_order N };
 }
 
+impl<const N: usize> DecodeBytes for Signed<N> {
+    ghost use Rattle.art_keys.specs.Numbers.{lowered, number_of};
+    ghost use Rattle.art_keys.specs.NumberLaws.{signed_come_back};
+
+    ghost key_of = { λ bytes. lowered N (number_of bytes) };
+
+    ghost length_of = { λ bytes. N };
+
+    ghost comes_back = { signed_come_back N };
+
+    fn key_len(bytes: &[u8]) -> usize {
+        N
+    }
+
+    fn from_key_bytes(alloc: Global, bytes: &[u8]) -> Result<Self, AllocError> {
+        Ok(Signed {
+            bytes: all_of(bytes),
+        })
+    }
+}
+
 impl<const N: usize> CloneBytes for Signed<N> {
     ghost use Rattle.std.proofs.Common.{ap, subst, sym};
     ghost use Rattle.art_keys.specs.Numbers.{signed_bytes};
@@ -240,6 +264,21 @@ impl<const N: usize> Ord for Signed<N> {
 
     fn cmp(&self, other: &Self) -> Ordering {
         compare(self, other)
+    }
+}
+
+impl<const N: usize> Hash for Signed<N> {
+    ghost use Rattle.std.proofs.Common.{rules};
+    ghost use Rattle.std.specs.Cmp.Rules.{hashing};
+    ghost use Rattle.std.specs.Hash as fed;
+    ghost use Rattle.art_keys.specs.Numbers.{signed_bytes};
+
+    ghost hash_input = { λ key. fed.slice fed.u8 (signed_bytes N key) };
+
+    ghost respects_eq = { Prim.search (hashing, rules) };
+
+    fn hash<H: Hasher>(&self, state: &mut H) {
+        self.as_bytes().hash(state);
     }
 }
 

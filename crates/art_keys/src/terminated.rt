@@ -1,13 +1,16 @@
 //! Bytes without a zero, ended by one.
-ghost use Rattle.std.specs.Prelude.{◌≡◌, IfOk, IfErr, OnOk, string_bytes};
+ghost use Rattle.std.specs.Prelude.{◌≡◌, ◌≤◌, ◌↔◌, length, IfOk, IfErr, IfSome, IsSome, OnOk, string_bytes};
 ghost use Rattle.std.specs.Bool.{OnFalse, OnTrue};
-ghost use Rattle.art_keys.specs.Ended.{HasNoZero, IsEndRefusal};
+ghost use Rattle.std.specs.Fmt.{WritesOnOk};
+ghost use Rattle.std.specs.Str.Lossy.{utf8_lossy};
+ghost use Rattle.art_keys.specs.Ended.{HasNoZero, IsEndRefusal, zero_at};
 
-use super::laws::{CloneBytes, NoPrefixesBytes, OrderedBytes, StringBytes, compare};
+use super::laws::{CloneBytes, DecodeBytes, NoPrefixesBytes, OrderedBytes, StringBytes, compare};
 use art_nodes::node::AsBytes;
 use std::alloc::{AllocError, Global};
 use std::cmp::Ordering;
 use std::fmt;
+use std::hash::{Hash, Hasher};
 use std::marker::Model;
 use thiserror::Error;
 
@@ -66,6 +69,29 @@ impl Terminated {
         Terminated::new(text.into_bytes())
     }
 
+    /// Returns the key of a copy of these bytes, and `None` where a zero stands among them. The only error
+    /// is want of memory.
+    pub fn encode(alloc: Global, text: &[u8]) -> Result<Option<Self>, AllocError>
+        ensures key { IfOk result (λ made. IfSome made (λ key. key ≡ text.now)) }
+        ensures made { IfOk result (λ made. IsSome made ↔ HasNoZero text.now) }
+    {
+        if has_zero(text) {
+            return Ok(None);
+        }
+        let mut bytes = Vec::with_capacity(alloc, text.len() + 1)?;
+        bytes.extend_from_slice(text)?;
+        bytes.push(0)?;
+        Ok(Some(Terminated { bytes }))
+    }
+
+    /// The same of a text.
+    pub fn encode_str(alloc: Global, text: &str) -> Result<Option<Self>, AllocError>
+        ensures key { IfOk result (λ made. IfSome made (λ key. key ≡ text.now)) }
+        ensures made { IfOk result (λ made. IsSome made ↔ HasNoZero text.now) }
+    {
+        Terminated::encode(alloc, text.as_bytes())
+    }
+
     /// Returns the bytes before the end.
     pub fn as_bytes_without_end(&self) -> &[u8]
         ensures text { result.now ≡ self.now }
@@ -93,15 +119,27 @@ impl fmt::Debug for Terminated {
 
 /// Its text, with U+FFFD in the place of bytes that are none.
 impl fmt::Display for Terminated {
+    ghost use Rattle.std.specs.Prelude.{Some};
+    ghost use Rattle.std.specs.Str.Lossy.{utf8_lossy};
+
+    ghost output = { λ text. Some (utf8_lossy text) };
+
     fn fmt<W: fmt::Write>(&self, f: &mut fmt::Formatter<W>) -> fmt::Result {
-        for chunk in self.as_bytes_without_end().utf8_chunks() {
-            f.write_str(chunk.valid())?;
-            if !chunk.invalid().is_empty() {
-                f.write_str("\u{FFFD}")?;
-            }
-        }
-        Ok(())
+        write_text(f, self.as_bytes_without_end())
     }
+}
+
+// Writes the text of bytes, with U+FFFD in the place of those that are none.
+pub(crate) fn write_text<W: fmt::Write>(f: &mut fmt::Formatter<W>, bytes: &[u8]) -> fmt::Result
+    ensures { WritesOnOk W.write_str_gives f.old result (utf8_lossy bytes.now) f.new }
+{
+    for chunk in bytes.utf8_chunks() {
+        f.write_str(chunk.valid())?;
+        if !chunk.invalid().is_empty() {
+            f.write_str("\u{FFFD}")?;
+        }
+    }
+    Ok(())
 }
 
 /// Returns whether a byte is zero.
@@ -110,6 +148,20 @@ pub fn has_zero(bytes: &[u8]) -> bool
     ensures none { OnFalse result (HasNoZero bytes.now) }
 {
     bytes.contains(&0)
+}
+
+// Returns how many bytes stand before the first zero.
+pub(crate) fn zero_at(bytes: &[u8]) -> usize
+    ensures at { result ≡ zero_at bytes.now }
+    ensures within { result ≤ length bytes.now }
+{
+    let mut count = 0;
+    let mut rest = bytes;
+    while let [1..=255, others @ ..] = rest {
+        count += 1;
+        rest = others;
+    }
+    count
 }
 
 impl AsBytes for Terminated {
@@ -149,6 +201,27 @@ impl StringBytes for Terminated {
 
     fn beginning(&self) -> &[u8] {
         self.as_bytes_without_end()
+    }
+}
+
+impl DecodeBytes for Terminated {
+    ghost use Rattle.art_keys.specs.Ended.{ended_length, without_end};
+    ghost use Rattle.art_keys.specs.EndedLaws.{ended_comes_back};
+
+    ghost key_of = { without_end };
+
+    ghost length_of = { ended_length };
+
+    ghost comes_back = { ended_comes_back };
+
+    fn key_len(bytes: &[u8]) -> usize {
+        zero_at(bytes) + 1
+    }
+
+    fn from_key_bytes(alloc: Global, bytes: &[u8]) -> Result<Self, AllocError> {
+        Ok(Terminated {
+            bytes: bytes.to_vec(alloc)?,
+        })
     }
 }
 
@@ -225,5 +298,19 @@ impl Ord for Terminated {
 
     fn cmp(&self, other: &Self) -> Ordering {
         compare(self, other)
+    }
+}
+
+impl Hash for Terminated {
+    ghost use Rattle.std.specs.Hash as fed;
+    ghost use Rattle.art_keys.specs.Ended.{ended};
+    ghost use Rattle.art_keys.specs.HashLaws.{strings_hash};
+
+    ghost hash_input = { λ text. fed.slice fed.u8 (ended text) };
+
+    ghost respects_eq = { strings_hash ended };
+
+    fn hash<H: Hasher>(&self, state: &mut H) {
+        self.as_bytes().hash(state);
     }
 }

@@ -5,9 +5,12 @@ ghost use Rattle.std.specs.Ordering.{nat_cmp};
 ghost use Rattle.art_keys.specs.Numbers.{HasBytes, number_of};
 ghost use Rattle.art_keys.specs.Prefixes.{KeepsOrder};
 
-use super::laws::{CloneBytes, NoPrefixesBytes, OrderedBytes, compare};
+use super::fixed::all_of;
+use super::laws::{CloneBytes, DecodeBytes, NoPrefixesBytes, OrderedBytes, compare};
 use art_nodes::node::AsBytes;
+use std::alloc::{AllocError, Global};
 use std::cmp::Ordering;
+use std::hash::{Hash, Hasher};
 use std::marker::Model;
 
 /// A number of so many bytes, the highest first. It is seen as the number.
@@ -156,6 +159,27 @@ impl<const N: usize> OrderedBytes for Unsigned<N> {
     ghost keeps_order = { numbers_keep_order N };
 }
 
+impl<const N: usize> DecodeBytes for Unsigned<N> {
+    ghost use Rattle.art_keys.specs.Numbers.{number_of};
+    ghost use Rattle.art_keys.specs.NumberLaws.{numbers_come_back};
+
+    ghost key_of = { number_of };
+
+    ghost length_of = { λ bytes. N };
+
+    ghost comes_back = { numbers_come_back N };
+
+    fn key_len(bytes: &[u8]) -> usize {
+        N
+    }
+
+    fn from_key_bytes(alloc: Global, bytes: &[u8]) -> Result<Self, AllocError> {
+        Ok(Unsigned {
+            bytes: all_of(bytes),
+        })
+    }
+}
+
 impl<const N: usize> CloneBytes for Unsigned<N> {
     ghost use Rattle.std.proofs.Common.{ap, subst, sym};
     ghost use Rattle.std.specs.Int.{bytes_high_first};
@@ -217,6 +241,21 @@ impl<const N: usize> Ord for Unsigned<N> {
 
     fn cmp(&self, other: &Self) -> Ordering {
         compare(self, other)
+    }
+}
+
+impl<const N: usize> Hash for Unsigned<N> {
+    ghost use Rattle.std.proofs.Common.{rules};
+    ghost use Rattle.std.specs.Cmp.Rules.{hashing};
+    ghost use Rattle.std.specs.Hash as fed;
+    ghost use Rattle.std.specs.Int.{bytes_high_first};
+
+    ghost hash_input = { λ key. fed.slice fed.u8 (bytes_high_first N key) };
+
+    ghost respects_eq = { Prim.search (hashing, rules) };
+
+    fn hash<H: Hasher>(&self, state: &mut H) {
+        self.as_bytes().hash(state);
     }
 }
 

@@ -1,29 +1,38 @@
 -- The leaf of a key that is stored, or comes in.
-use Rattle.std.proofs.Common.{◌≡◌, ℕ, List, Option, Some, None, Result, Ok, Err, refl, ap, sym, ◌∙◌, true, false, is_some}
+use Rattle.std.proofs.Common.{◌≡◌, ℕ, Bool, List, Option, Some, None, Result, Ok, Err, refl, ap, sym, ◌∙◌, subst, true, false, is_some}
 use Rattle.std.proofs.lemmas.Bool.{false≢true}
+use Rattle.std.specs.Option.{UnwrapsOrElse, unwrap_or}
 use Rattle.art_parts.specs.declared.names.LeafPtr.{LeafPtr}
 use Rattle.art_parts.specs.declared.names.NodeType.{NodeType}
 use Rattle.art_parts.specs.declared.names.OpaqueNodePtr.{OpaqueNodePtr}
 use Rattle.art_nodes.specs.Nodes.{Nodes, covers, no_promise}
 use Rattle.art_model.specs.Canonical.{IsCanonical, IsCanonicalTree}
-use Rattle.art_model.specs.Pairs.{first_of, has_key, of_key, put, put_reply, stored_for, with_key}
+use Rattle.art_model.specs.Pairs.{IsMap, first_of, has_key, is_conflict, of_key, put, put_reply, stored_for, with_key}
 use Rattle.art_model.specs.Promises.{is_covered}
 use Rattle.art_model.specs.Roots.{ForTree}
 use Rattle.art_model.specs.Stores.{pair_of}
-use Rattle.art_model.proofs.Puts.{has_is_stored, put_reply-new, stored_bytes}
+use Rattle.art_model.specs.Keys.{are_same}
+use Rattle.art_model.proofs.Puts.{any_is_first, has_is_stored, put_reply-new, stored_bytes}
 use Rattle.art_writing.specs.Inserted.{HasInserted, IsPointIn, placed_for}
 use Rattle.art_writing.specs.Points.{AnswersTo}
 use Rattle.art_writing.specs.declared.insert.InsertKind.{InsertKind}
 use Rattle.art_writing.specs.declared.insert.InsertKind.TheVariants.{Exact, IntoExisting, MismatchPrefix, SplitLeaf}
 use Rattle.art_writing.specs.declared.insert.InsertPoint.{InsertPoint}
 use Rattle.art_writing.specs.declared.insert.InsertResult.{InsertResult}
+use Rattle.art_writing.proofs.KeysFound.{conflict_new}
 use Rattle.art_writing.proofs.Replaced.{own_leaf}
 use Rattle.art_writing.proofs.Standing.{tree_stays}
 use Rattle.art_writing.proofs.Unstored.{refused_new}
-use Rattle.art_map.specs.MapChanges.{HasEntered, NamesLeafOf, put_new}
+use Rattle.art_map.specs.MapAnswers.{IsRefusalOf, value_at}
+use Rattle.art_map.specs.MapChanges.{HasEntered, HasMade, IsPlaceOf, NamesLeafOf, put_new}
 use Rattle.art_map.specs.MapPairs.{HoldsPairs, pairs_at}
 use Rattle.art_map.specs.declared.map.MapInsertError.{MapInsertError}
-use Rattle.art_map.proofs.Views.{holds}
+use Rattle.art_map.specs.declared.map.MapInsertError.TheVariants as errors
+use Rattle.art_map.specs.declared.map.place.Place.{Place}
+use Rattle.art_map.specs.declared.map.place.Place.TheVariants as places
+use Rattle.art_map.proofs.Items.{no_pairs}
+use Rattle.art_map.proofs.Puts.{is_some-map}
+use Rattle.art_map.proofs.Views.{holds, map_held, view_is}
 
 -- a leaf is not covered by no promise
 no_leaf : (inner : Option NodeType) → covers no_promise 1 inner ≡ true → ⊥
@@ -50,6 +59,45 @@ module _ {K V : Type 0} (bytes : K → List ℕ) (P : ℕ) {s : Nodes K V} {key 
   pub unstored : {pairs : List (K × V)} {layout : _} → IsCanonicalTree (of_key bytes) P s point.root pairs layout → AnswersTo (of_key bytes) P layout key point →
       ((p : LeafPtr) → point.insert_kind ≡ Exact p → ⊥) → has_key (of_key bytes) key pairs ≡ false
   unstored by at off = refused_new (tree_stays {mid = record s { promise = no_promise }} (refl, refl) by) at (uncovered s point.insert_kind off)
+
+  -- so it is not stored where the store stands for a list of pairs
+  pub point_new : {root : Option OpaqueNodePtr} → root ≡ Some point.root → IsPointIn (of_key bytes) P s key point → ((p : LeafPtr) → point.insert_kind ≡ Exact p → ⊥) →
+      has_key (of_key bytes) key (pairs_at s root) ≡ false
+  point_new {root} e (pairs, layout, by, at) off =
+      subst (λ xs. has_key (of_key bytes) key xs ≡ false) (sym (ap (pairs_at s) e ∙ view_is (of_key bytes) P s (Some point.root) (Some layout) by)) (unstored by at off)
+
+-- a key that is stored is not in conflict
+pub stored_free : {K V : Type 0} (bytes : K → List ℕ) (key : List ℕ) (pairs : List (K × V)) → IsMap (of_key bytes) pairs → has_key (of_key bytes) key pairs ≡ true →
+    is_conflict (of_key bytes) key pairs ≡ false
+stored_free bytes key pairs rising stored = go (is_conflict (of_key bytes) key pairs) refl
+  where
+    go : (b : Bool) → is_conflict (of_key bytes) key pairs ≡ b → b ≡ false
+    go false e = refl
+    go true e = absurd (false≢true (sym (conflict_new (of_key bytes) key pairs rising e) ∙ stored))
+
+-- a key whose place is no leaf is not stored
+pub place_new : {K V : Type 0} (bytes : K → List ℕ) (P : ℕ) {s : Nodes K V} {root : Option OpaqueNodePtr} {len : ℕ} (key : List ℕ) → HoldsPairs (of_key bytes) P s root len (pairs_at s root) →
+    (place : Place) → IsPlaceOf bytes P s root key place → ((leaf : LeafPtr) → place ≡ places.Leaf leaf → ⊥) → has_key (of_key bytes) key (pairs_at s root) ≡ false
+place_new bytes P key is (places.Leaf leaf) at off = absurd (off leaf refl)
+place_new bytes P key is (places.Point point) (root_is, point_in, exact, free) off = point_new bytes P root_is point_in exact
+place_new bytes P {s} key is places.Bare at off = ap (has_key (of_key bytes) key) (no_pairs (of_key bytes) P s at is)
+place_new bytes P {s} {root} key is (places.Refused error) (any, related) off = conflict_new (of_key bytes) key (pairs_at s root) (map_held (of_key bytes) P s is) related
+
+-- a key under which there is no value is not stored
+pub none_stored : {K V : Type 0} (bytes : K → List ℕ) (key : List ℕ) (pairs : List (K × V)) → value_at bytes key pairs ≡ None → has_key (of_key bytes) key pairs ≡ false
+none_stored bytes key pairs e =
+    any_is_first (λ x. are_same key (bytes x.0)) pairs ∙ sym (is_some-map (λ x. x.1) (first_of (with_key (of_key bytes) key pairs))) ∙ ap is_some e
+
+-- and neither is a key that is refused
+pub none_refused : {K V : Type 0} (bytes : K → List ℕ) (key : K) (value : V) (pairs : List (K × V)) → IsMap (of_key bytes) pairs → (error : MapInsertError K V) →
+    IsRefusalOf bytes key value pairs error → has_key (of_key bytes) (bytes key) pairs ≡ false
+none_refused bytes key value pairs rising (errors.Conflict k v error) (same_key, same_value, spelled, related) = conflict_new (of_key bytes) (bytes key) pairs rising related
+none_refused bytes key value pairs rising (errors.Memory k v) (same_key, same_value, none) = none
+
+-- what is there, or was made
+pub unwraps : {V : Type 0} (IsMade : V → Type 0) (o : Option V) (value lent : V) → (o ≡ None → IsMade value) → lent ≡ unwrap_or o value → UnwrapsOrElse o IsMade lent
+unwraps IsMade None value lent made e = subst IsMade (sym e) (made refl)
+unwraps IsMade (Some x) value lent made e = e
 
 module _ {K V : Type 0} (bytes : K → List ℕ) (new : K × V) (pairs : List (K × V)) (none : has_key (of_key bytes) (bytes new.0) pairs ≡ false) where
   -- a pair whose key is not stored is put
@@ -87,3 +135,8 @@ module _ {K V : Type 0} (bytes : K → List ℕ) (P : ℕ) (pairs : List (K × V
   pub enters_holds : (result : Result LeafPtr (MapInsertError K V)) → HasEntered bytes P pairs key value result t root len → HoldsPairs (of_key bytes) P t root len (pairs_at t root)
   enters_holds (Ok leaf) h = holds (of_key bytes) P t h.0
   enters_holds (Err error) h = holds (of_key bytes) P t h.0
+
+-- the same where the value was made
+pub made_holds : {K V : Type 0} (bytes : K → List ℕ) (P : ℕ) (pairs : List (K × V)) (t : Nodes K V) (root : Option OpaqueNodePtr) (len : ℕ) (key : K) (IsMade : V → Type 0)
+    (result : Result LeafPtr (MapInsertError K V)) → HasMade bytes P pairs key IsMade result t root len → HoldsPairs (of_key bytes) P t root len (pairs_at t root)
+made_holds bytes P pairs t root len key IsMade result (value, made, entered) = enters_holds bytes P pairs t root len key value result entered

@@ -1,15 +1,27 @@
--- The pairs that are left when the first of those whose keys begin with a prefix are taken out.
-use Rattle.std.proofs.Common.{◌≡◌, ℕ, zero, suc, ◌+◌, ◌≤◌, List, [], ◌∷◌, length, refl, ap, sym, ◌∙◌, subst, arith, Some, None, Bool, true, false, not, cond}
+-- The pairs that are left when the first of those whose keys begin with a prefix is taken out, or all of them.
+use Rattle.std.proofs.Common.{◌≡◌, ℕ, suc, ◌+◌, ◌-◌, ◌≤◌, Option, List, [], ◌∷◌, length, refl, ap, sym, ◌∙◌, subst, arith, Some, None, Bool, true, false, not, cond}
 use Rattle.std.specs.List.{AllByRecursion as Each}
 use Rattle.std.proofs.lemmas.Bool.{true≢false}
+use Rattle.art_nodes.specs.Nodes.{Nodes}
+use Rattle.art_parts.specs.declared.names.OpaqueNodePtr.{OpaqueNodePtr}
+use Rattle.art_model.specs.Canonical.{IsCanonical}
+use Rattle.art_model.specs.Kept.{ChangesInPlace}
 use Rattle.art_model.specs.Keys.{are_same, is_front}
 use Rattle.art_model.specs.Pairs.{IsMap, first_of, remove_key, remove_reply}
 use Rattle.art_model.specs.Parts.{below, not_below, without_below}
+use Rattle.art_model.specs.Radix.{pairs_of}
+use Rattle.art_model.specs.Roots.{ForRoot, IsRootOf}
+use Rattle.art_model.specs.Trees.{Tree}
+use Rattle.art_model.proofs.Canonical.{tree_radix}
 use Rattle.art_model.proofs.Filters.{filter_all, filter_passes, none_passes}
 use Rattle.art_model.proofs.Keys.{front_same, same_equal}
 use Rattle.art_model.proofs.Lists.{Each-weaker}
 use Rattle.art_model.proofs.MapLaws.{first_is_removed_by_key}
-use Rattle.art_map.proofs.Items.{none_first}
+use Rattle.art_writing.specs.Subtrees.{HasPrefixBelow, LeadsToNode, pairs_beside}
+use Rattle.art_writing.specs.declared.delete.subtree.SubtreeDeletePoint.{SubtreeDeletePoint}
+use Rattle.art_map.specs.MapPairs.{HoldsPairs}
+use Rattle.art_map.proofs.Puts.{HasTreeAt}
+use Rattle.art_map.proofs.Views.{none_other, with_tree}
 
 module _ {A : Type 0} (bytes : A → List ℕ) (prefix : List ℕ) where
   first_begins : (pairs : List A) (x : A) → first_of (below bytes prefix pairs) ≡ Some x → is_front prefix (bytes x) ≡ true
@@ -70,72 +82,56 @@ module _ {A : Type 0} (bytes : A → List ℕ) (prefix : List ℕ) where
       go ih true is f = absurd cc
       go ih false is f = ap (λ zs. y ∷ zs) (ih f)
 
-  -- one more
-  pub one_more_out : (n : ℕ) (pairs : List A) → without_below bytes prefix 1 (without_below bytes prefix n pairs) ≡ without_below bytes prefix (suc n) pairs
-  one_more_out zero pairs = refl
-  one_more_out (suc n) [] = refl
-  one_more_out (suc n) (y ∷ ys) = go (one_more_out n ys) (one_more_out (suc n) ys) (is_front prefix (bytes y)) refl
-    where
-      go : without_below bytes prefix 1 (without_below bytes prefix n ys) ≡ without_below bytes prefix (suc n) ys →
-          without_below bytes prefix 1 (without_below bytes prefix (suc n) ys) ≡ without_below bytes prefix (suc (suc n)) ys →
-          (b : Bool) → is_front prefix (bytes y) ≡ b →
-          without_below bytes prefix 1 (cond b (without_below bytes prefix n ys) (y ∷ without_below bytes prefix (suc n) ys)) ≡
-          cond b (without_below bytes prefix (suc n) ys) (y ∷ without_below bytes prefix (suc (suc n)) ys)
-      go one more true e = one
-      go one more false e = rw e (ap (λ zs. y ∷ zs) more)
-
-  -- so there is one less of them
-  pub one_less_below : (pairs : List A) (x : A) → first_of (below bytes prefix pairs) ≡ Some x →
-      length (below bytes prefix pairs) ≡ suc (length (below bytes prefix (without_below bytes prefix 1 pairs)))
-  one_less_below [] x e = absurd cc
-  one_less_below (y ∷ ys) x e = go (λ later. one_less_below ys x later) (is_front prefix (bytes y)) refl e
-    where
-      go : (first_of (below bytes prefix ys) ≡ Some x → length (below bytes prefix ys) ≡ suc (length (below bytes prefix (without_below bytes prefix 1 ys)))) →
-          (b : Bool) → is_front prefix (bytes y) ≡ b → first_of (cond b (y ∷ below bytes prefix ys) (below bytes prefix ys)) ≡ Some x →
-          length (cond b (y ∷ below bytes prefix ys) (below bytes prefix ys)) ≡ suc (length (below bytes prefix (cond b ys (y ∷ without_below bytes prefix 1 ys))))
-      go ih true is f = refl
-      go ih false is f = rw is (ih f)
-
-  -- the others stay
-  others_stay : (n : ℕ) (pairs : List A) → not_below bytes prefix (without_below bytes prefix n pairs) ≡ not_below bytes prefix pairs
-  others_stay zero pairs = refl
-  others_stay (suc n) [] = refl
-  others_stay (suc n) (y ∷ ys) = go (others_stay n ys) (others_stay (suc n) ys) (is_front prefix (bytes y)) refl
-    where
-      go : not_below bytes prefix (without_below bytes prefix n ys) ≡ not_below bytes prefix ys →
-          not_below bytes prefix (without_below bytes prefix (suc n) ys) ≡ not_below bytes prefix ys → (b : Bool) → is_front prefix (bytes y) ≡ b →
-          not_below bytes prefix (cond b (without_below bytes prefix n ys) (y ∷ without_below bytes prefix (suc n) ys)) ≡
-          cond (not b) (y ∷ not_below bytes prefix ys) (not_below bytes prefix ys)
-      go one more true e = one
-      go one more false e = rw e (ap (λ zs. y ∷ zs) more)
-
-  none_below : (pairs : List A) → below bytes prefix pairs ≡ [] → not_below bytes prefix pairs ≡ pairs
+  -- where none begins with the prefix all stay
+  pub none_below : (pairs : List A) → below bytes prefix pairs ≡ [] → not_below bytes prefix pairs ≡ pairs
   none_below pairs none =
       filter_all (λ x. not (is_front prefix (bytes x))) pairs
       (Each-weaker (λ x. is_front prefix (bytes x) ≡ false) (λ x. not (is_front prefix (bytes x)) ≡ true) (λ x e. ap not e) pairs
       (none_passes (λ x. is_front prefix (bytes x)) pairs none))
 
-  module _ (n : ℕ) (pairs left : List A) {after : List A} (gone : left ≡ without_below bytes prefix n pairs) (out : after ≡ without_below bytes prefix 1 left) where
-    -- where one more is taken out
-    pub one_out : {x : A} → Some x ≡ first_of (below bytes prefix left) →
-        (after ≡ without_below bytes prefix (n + 1) pairs) × (length (below bytes prefix left) ≡ suc (length (below bytes prefix after)))
-    one_out {x} first =
-        let next : suc n ≡ n + 1 = omega arith in (
-          out ∙ ap (without_below bytes prefix 1) gone ∙ one_more_out n pairs ∙ ap (λ k. without_below bytes prefix k pairs) next,
-          one_less_below left x (sym first) ∙ ap (λ ys. suc (length (below bytes prefix ys))) (sym out),
-        )
-
-    -- where none of them is left, just the others are
-    pub all_out : None ≡ first_of (below bytes prefix left) → (after ≡ not_below bytes prefix pairs) × (below bytes prefix left ≡ [])
-    all_out none =
-        let nothing = none_first (below bytes prefix left) none in
-        (out ∙ nothing_out left none ∙ sym (none_below left nothing) ∙ ap (not_below bytes prefix) gone ∙ others_stay n pairs, nothing)
-
-  -- they are no more than all
-  pub few_below : (pairs : List A) → length (below bytes prefix pairs) ≤ length pairs
-  few_below [] = omega arith
-  few_below (y ∷ ys) = go (few_below ys) (is_front prefix (bytes y))
+  -- each pair begins with the prefix or does not
+  pub both_counted : (pairs : List A) → length (not_below bytes prefix pairs) + length (below bytes prefix pairs) ≡ length pairs
+  both_counted [] = refl
+  both_counted (y ∷ ys) = go (both_counted ys) (is_front prefix (bytes y))
     where
-      go : length (below bytes prefix ys) ≤ length ys → (b : Bool) → length (cond b (y ∷ below bytes prefix ys) (below bytes prefix ys)) ≤ suc (length ys)
+      go : length (not_below bytes prefix ys) + length (below bytes prefix ys) ≡ length ys → (b : Bool) →
+          length (cond (not b) (y ∷ not_below bytes prefix ys) (not_below bytes prefix ys)) + length (cond b (y ∷ below bytes prefix ys) (below bytes prefix ys)) ≡ suc (length ys)
       go ih true = omega arith
       go ih false = omega arith
+
+-- ---- all of them go at once
+
+-- no root holds no pair
+pub none_held : {K V : Type 0} (bytes : K × V → List ℕ) (P : ℕ) {s : Nodes K V} {root : Option OpaqueNodePtr} {len : ℕ} {pairs : List (K × V)} → root ≡ None → HoldsPairs bytes P s root len pairs → pairs ≡ []
+none_held {K} {V} bytes P {s} {root} {len} {pairs} none is = go is.tree (subst (λ r. IsRootOf bytes P s r pairs is.tree) none is.canonical)
+  where
+    go : (tree : Option (Tree OpaqueNodePtr (K × V))) → IsRootOf bytes P s None pairs tree → pairs ≡ []
+    go None h = h
+    go (Some layout) h = absurd h
+
+module _ {K V : Type 0} (bytes : K × V → List ℕ) (P : ℕ) {s : Nodes K V} {name : OpaqueNodePtr} {len : ℕ} {pairs : List (K × V)} (has : HasTreeAt bytes P s name len pairs)
+    (prefix : List ℕ) where
+  -- where none begins with the prefix
+  pub none_begins : below bytes prefix (pairs_of has.layout) ≡ [] → (not_below bytes prefix pairs ≡ pairs) × (0 ≡ length (below bytes prefix pairs))
+  none_begins none =
+      let nothing : below bytes prefix pairs ≡ [] = ap (below bytes prefix) (sym (tree_radix has.by).1) ∙ none in
+      (none_below bytes prefix pairs nothing, ap length (sym nothing))
+
+  module _ {point : SubtreeDeletePoint} (at : HasPrefixBelow bytes prefix has.layout point) {removed : ℕ} (counted : (node : LeadsToNode has.layout point) → removed ≡ length (pairs_of node.node)) where
+    pub removed_is : removed ≡ length (below bytes prefix pairs)
+    removed_is = counted at.at ∙ ap length (at.gone ∙ ap (below bytes prefix) (tree_radix has.by).1)
+
+    pub removed_few : removed ≤ len
+    removed_few = let all = both_counted bytes prefix pairs in let own = removed_is in let long = has.len_is in omega arith
+
+    pub others_hold : {t : Nodes K V} {root : Option OpaqueNodePtr} → ((node : LeadsToNode has.layout point) → IsCanonical bytes P t root (pairs_beside node)) →
+        ForRoot bytes P t root (λ after new. ChangesInPlace bytes s t (Some has.layout) new) → HoldsPairs bytes P t root (len - removed) (not_below bytes prefix pairs)
+    others_hold {t} {root} canonical kept =
+        let (tree, root_of) = with_tree bytes P t root (not_below bytes prefix pairs)
+        (subst (IsCanonical bytes P t root) (at.left ∙ ap (not_below bytes prefix) (tree_radix has.by).1) (canonical at.at)) in
+        record {
+          tree = tree;
+          canonical = root_of;
+          no_other = none_other (kept _ tree root_of).others has.no_other;
+          len_is = let all = both_counted bytes prefix pairs in let own = removed_is in let long = has.len_is in omega arith;
+        }

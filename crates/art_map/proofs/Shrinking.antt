@@ -14,6 +14,7 @@ use Rattle.art_model.specs.Canonical.{IsCanonicalTree}
 use Rattle.art_model.specs.Footprints.{IsIn}
 use Rattle.art_model.specs.Layouts.{slots_of, Holds}
 use Rattle.art_model.specs.Pairs.{of_key}
+use Rattle.art_model.specs.Parts.{below}
 use Rattle.art_model.specs.Paths.{Frame, fill, plug}
 use Rattle.art_model.specs.Promises.{is_covered}
 use Rattle.art_model.specs.Radix.{IsRadix, join, bytes_of, pairs_of}
@@ -28,7 +29,9 @@ use Rattle.art_reading.specs.Paths.{path_of}
 use Rattle.art_writing.specs.Deleted.{LeadsTo, ParentChange, no_parent, shrinks, change_of, parent_change, placed_for_deletion}
 use Rattle.art_writing.specs.declared.delete.DeletePoint.{DeletePoint}
 use Rattle.art_writing.proofs.Ways.{last_step-path_of}
-use Rattle.art_map.specs.MapAnswers.{HasShrinkingParent}
+use Rattle.art_writing.specs.Subtrees.{HasPrefixBelow}
+use Rattle.art_writing.specs.declared.delete.subtree.SubtreeDeletePoint.{SubtreeDeletePoint}
+use Rattle.art_map.specs.MapAnswers.{HasShrinkingParent, HasShrinkingParentBelow}
 
 -- what a change of the parent places
 abbrev placed_of : ParentChange → Promise
@@ -55,40 +58,40 @@ shrinks_at promise Node256 n range off = elim (cases_Bool (leb n 49)) [
 shrinks_at promise Leaf n range off = absurd range
 
 -- how many children a parent has
-abbrev width_of : {A : Type 0} → Frame OpaqueNodePtr A → OpaqueNodePtr → A → ℕ
-width_of f name x = length (bytes_of (join f.left (child f.byte (leaf name x) f.right)))
+abbrev width_of : {A : Type 0} → Frame OpaqueNodePtr A → Tree OpaqueNodePtr A → ℕ
+width_of f node = length (bytes_of (join f.left (child f.byte node f.right)))
 
 module _ {K V : Type 0} (bytes : K → List ℕ) (P : ℕ) {s : Nodes K V} {root : OpaqueNodePtr} {pairs : List (K × V)} {layout : Tree OpaqueNodePtr (K × V)}
-    (by : IsCanonicalTree (of_key bytes) P s root pairs layout) (x : K × V) (name : OpaqueNodePtr) where
-  module _ (f : Frame OpaqueNodePtr (K × V)) (fs : List (Frame OpaqueNodePtr (K × V))) (whole : plug (f ∷ fs) (leaf name x) ≡ layout) where
+    (by : IsCanonicalTree (of_key bytes) P s root pairs layout) where
+  module _ (node : Tree OpaqueNodePtr (K × V)) (f : Frame OpaqueNodePtr (K × V)) (fs : List (Frame OpaqueNodePtr (K × V))) (whole : plug (f ∷ fs) node ≡ layout) where
     -- the parent has as many children in the store, and the kind of their number
-    parent_is : (f.mark.kind ≡ kind_of (width_of f name x)) × (parent_change s (path_of (f ∷ fs)) ≡ change_of f.mark.kind (width_of f name x))
+    parent_is : (f.mark.kind ≡ kind_of (width_of f node)) × (parent_change s (path_of (f ∷ fs)) ≡ change_of f.mark.kind (width_of f node))
     parent_is =
         let holds = subst (Holds (node_at s)) (sym whole) by.stands.0.holds in
-        let (place, path, own) = radix_plug (of_key bytes) P fs (fill f (leaf name x)) (subst (IsRadix (of_key bytes) P []) (sym whole) (tree_radix by).0) in
-        let (off, node, got, head, kids) = inner_at s f.mark f.header (slots_of (join f.left (child f.byte (leaf name x) f.right))) (path_holds (node_at s) fs (fill f (leaf name x)) holds).1.0 in
-        let number : length node.children ≡ (width_of f name x) = ap length kids ∙ length-slots_of (join f.left (child f.byte (leaf name x) f.right)) in
-        let kind : f.mark.kind ≡ kind_of (width_of f name x) = ap (λ h. h.kind) head ∙ ap (λ h. h.kind) own.1 in (
+        let (place, path, own) = radix_plug (of_key bytes) P fs (fill f node) (subst (IsRadix (of_key bytes) P []) (sym whole) (tree_radix by).0) in
+        let (off, i, got, head, kids) = inner_at s f.mark f.header (slots_of (join f.left (child f.byte node f.right))) (path_holds (node_at s) fs (fill f node) holds).1.0 in
+        let number : length i.children ≡ width_of f node = ap length kids ∙ length-slots_of (join f.left (child f.byte node f.right)) in
+        let kind : f.mark.kind ≡ kind_of (width_of f node) = ap (λ h. h.kind) head ∙ ap (λ h. h.kind) own.1 in (
           kind,
           subst (λ (o : Option (InnerPtr × ℕ)). elim o as (λ _. ParentChange) [
             | None ↦ no_parent
             | Some (parent, byte) ↦
                 elim (get s.inners parent) as (λ _. ParentChange) [ None ↦ no_parent | Some z ↦ change_of parent.kind (length z.children) ]
-          ] ≡ change_of f.mark.kind (width_of f name x)) (sym (last_step-path_of (f ∷ fs)))
+          ] ≡ change_of f.mark.kind (width_of f node)) (sym (last_step-path_of (f ∷ fs)))
               (subst (λ (o : Option Inner). elim o as (λ _. ParentChange) [ None ↦ no_parent | Some z ↦ change_of f.mark.kind (length z.children) ] ≡
-              change_of f.mark.kind (width_of f name x)) (sym got) (ap (change_of f.mark.kind) number)),
+              change_of f.mark.kind (width_of f node)) (sym got) (ap (change_of f.mark.kind) number)),
         )
 
-    parent_shrinks : (is_covered (placed_for_deletion s (path_of (f ∷ fs))) s.promise ≡ true → ⊥) → IsIn (width_of f name x) (5 ∷ 17 ∷ 49 ∷ [])
+    parent_shrinks : (is_covered (placed_for_deletion s (path_of (f ∷ fs))) s.promise ≡ true → ⊥) → IsIn (width_of f node) (5 ∷ 17 ∷ 49 ∷ [])
     parent_shrinks off =
         let (kind, change) = parent_is in
-        shrinks_at s.promise f.mark.kind (width_of f name x) (subst (λ k. IsInRange k (width_of f name x)) (sym kind) (range_of_kind (width_of f name x)))
+        shrinks_at s.promise f.mark.kind (width_of f node) (subst (λ k. IsInRange k (width_of f node)) (sym kind) (range_of_kind (width_of f node)))
         (λ covered. off (ap (λ c. is_covered (placed_of c) s.promise) change ∙ covered))
 
   -- so what is refused is such a removal
-  pub refused_shrinks : {point : DeletePoint} → leaf_name point.leaf_node_ptr ≡ name → LeadsTo layout x point → (is_covered (placed_for_deletion s point.path) s.promise ≡ true → ⊥) →
-      HasShrinkingParent (of_key bytes) P pairs x
-  refused_shrinks {point} named leads off =
+  pub refused_shrinks : (x : K × V) (name : OpaqueNodePtr) → {point : DeletePoint} → leaf_name point.leaf_node_ptr ≡ name → LeadsTo layout x point →
+      (is_covered (placed_for_deletion s point.path) s.promise ≡ true → ⊥) → HasShrinkingParent (of_key bytes) P pairs x
+  refused_shrinks x name {point} named leads off =
       go leads.path (subst (λ n. plug leads.path (leaf n x) ≡ layout) named leads.whole) (subst (λ path. is_covered (placed_for_deletion s path) s.promise ≡ true → ⊥) leads.path_is off)
     where
       go : (fs : List (Frame OpaqueNodePtr (K × V))) → plug fs (leaf name x) ≡ layout → (is_covered (placed_for_deletion s (path_of fs)) s.promise ≡ true → ⊥) →
@@ -100,5 +103,23 @@ module _ {K V : Type 0} (bytes : K → List ℕ) (P : ℕ) {s : Nodes K V} {root
         name = name;
         radix = subst (IsRadix (of_key bytes) P []) (sym whole) (tree_radix by).0;
         pairs_are = ap pairs_of whole ∙ (tree_radix by).1;
-        children = parent_shrinks f fs whole off;
+        children = parent_shrinks (leaf name x) f fs whole off;
+      }
+
+  -- and so is one of all pairs below a prefix
+  pub below_shrinks : (prefix : List ℕ) {point : SubtreeDeletePoint} → HasPrefixBelow (of_key bytes) prefix layout point → (is_covered (placed_for_deletion s point.path) s.promise ≡ true → ⊥) →
+      HasShrinkingParentBelow (of_key bytes) P pairs prefix
+  below_shrinks prefix {point} has off = go has.at.path has.at.whole (subst (λ path. is_covered (placed_for_deletion s path) s.promise ≡ true → ⊥) has.at.path_is off)
+    where
+      go : (fs : List (Frame OpaqueNodePtr (K × V))) → plug fs has.at.node ≡ layout → (is_covered (placed_for_deletion s (path_of fs)) s.promise ≡ true → ⊥) →
+          HasShrinkingParentBelow (of_key bytes) P pairs prefix
+      go [] whole off = absurd (off (leb-zero s.promise.leaves))
+      go (f ∷ fs) whole off = record {
+        parent = f;
+        above = fs;
+        node = has.at.node;
+        radix = subst (IsRadix (of_key bytes) P []) (sym whole) (tree_radix by).0;
+        pairs_are = ap pairs_of whole ∙ (tree_radix by).1;
+        gone = has.gone ∙ ap (below (of_key bytes) prefix) (tree_radix by).1;
+        children = parent_shrinks has.at.node f fs whole off;
       }

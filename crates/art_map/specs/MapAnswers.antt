@@ -6,6 +6,7 @@ use Rattle.art_parts.specs.declared.names.OpaqueNodePtr.{OpaqueNodePtr}
 use Rattle.art_model.specs.Footprints.{IsIn}
 use Rattle.art_model.specs.Keys.{are_same}
 use Rattle.art_model.specs.Pairs.{of_key, first_of, last_of, without_first, without_last, with_key, has_key, is_conflict}
+use Rattle.art_model.specs.Parts.{below}
 use Rattle.art_model.specs.Paths.{Frame, fill, plug}
 use Rattle.art_model.specs.Radix.{IsRadix, bytes_of, pairs_of}
 use Rattle.art_model.specs.Trees.{Tree, leaf, inner}
@@ -22,6 +23,10 @@ IsRefusalOf bytes key value pairs (Conflict k v error) =
 IsRefusalOf bytes key value pairs (Memory k v) =
     (k ≡ key) × (v ≡ value) × (has_key (of_key bytes) (bytes key) pairs ≡ false)
 
+-- The same of a pair whose value was made, where no equal key is stored.
+abbrev pub IsRefusalOfMade : {K V : Type 0} → (K → List ℕ) → K → (V → Type 0) → List (K × V) → MapInsertError K V → Type 0
+IsRefusalOfMade {K} {V} bytes key IsMade pairs error = (value : V) × IsMade value × IsRefusalOf bytes key value pairs error
+
 -- how many children the top of a tree has
 abbrev pub child_count : {N A : Type 0} → Tree N A → ℕ
 child_count (leaf n x) = 0
@@ -35,6 +40,16 @@ pub record HasShrinkingParent {A : Type 0} (bytes : A → List ℕ) (P : ℕ) (p
   pub radix : IsRadix bytes P [] (plug (parent ∷ above) (leaf name x))
   pub pairs_are : pairs_of (plug (parent ∷ above) (leaf name x)) ≡ pairs
   pub children : IsIn (child_count (fill parent (leaf name x))) (5 ∷ 17 ∷ 49 ∷ [])
+
+-- The radix tree of the pairs has those whose keys begin with the prefix, and no others, below a node whose parent has 5, 17 or 49 children: when they go, a smaller node has to be placed.
+pub record HasShrinkingParentBelow {A : Type 0} (bytes : A → List ℕ) (P : ℕ) (pairs : List A) (prefix : List ℕ) : Type 0 where
+  pub parent : Frame OpaqueNodePtr A
+  pub above : List (Frame OpaqueNodePtr A)
+  pub node : Tree OpaqueNodePtr A
+  pub radix : IsRadix bytes P [] (plug (parent ∷ above) node)
+  pub pairs_are : pairs_of (plug (parent ∷ above) node) ≡ pairs
+  pub gone : pairs_of node ≡ below bytes prefix pairs
+  pub children : IsIn (child_count (fill parent node)) (5 ∷ 17 ∷ 49 ∷ [])
 
 -- a removal may be refused only of a pair that is there, whose parent shrinks
 abbrev pub MayRefuseRemoval : {A : Type 0} → (A → List ℕ) → ℕ → List A → Option A → Type 0

@@ -1,5 +1,5 @@
 -- What a change leaves of a store, a root and a length that stand for pairs. No public clause cites this module.
-use Rattle.std.specs.Prelude.{◌≡◌, ◌≢◌, ℕ, false, if◌then◌else◌, List, [], ◌∷◌, length, Option, Some, None, Result, Ok, Err}
+use Rattle.std.specs.Prelude.{◌≡◌, ◌≢◌, ℕ, true, false, if◌then◌else◌, List, [], ◌∷◌, length, Option, Some, None, Result, Ok, Err}
 use Rattle.art_nodes.specs.Nodes.{Nodes}
 use Rattle.art_parts.specs.declared.names.OpaqueNodePtr.{OpaqueNodePtr}
 use Rattle.art_parts.specs.Names.{leaf_name}
@@ -8,13 +8,19 @@ use Rattle.art_model.specs.Canonical.{IsCanonicalTree}
 use Rattle.art_model.specs.Clones.{AreClones}
 use Rattle.art_model.specs.Lookups.{HasLeaf}
 use Rattle.art_model.specs.Pairs.{of_key, has_key, is_conflict, put, put_reply, overwrite, related_to}
+use Rattle.art_model.specs.Parts.{below, not_below}
 use Rattle.art_model.specs.Trees.{Tree}
+use Rattle.art_writing.specs.Inserted.{IsPointIn}
+use Rattle.art_writing.specs.Points.{IsRefusedFor}
+use Rattle.art_writing.specs.declared.insert.InsertKind.TheVariants.{Exact}
 use Rattle.art_writing.specs.declared.insert.PrefixInsertResult.{PrefixInsertResult}
 use Rattle.art_writing.specs.declared.insert.Refused.{Refused}
-use Rattle.art_map.specs.MapAnswers.{IsRefusalOf, MayRefuseRemoval}
-use Rattle.art_map.specs.MapPairs.{HoldsPairs}
+use Rattle.art_map.specs.MapAnswers.{HasShrinkingParentBelow, IsRefusalOf, MayRefuseRemoval}
+use Rattle.art_map.specs.MapPairs.{HoldsPairs, pairs_at}
 use Rattle.art_map.specs.declared.map.MapInsertError.{MapInsertError}
 use Rattle.art_map.specs.declared.map.MapRefused.{MapRefused}
+use Rattle.art_map.specs.declared.map.place.Place.{Place}
+use Rattle.art_map.specs.declared.map.place.Place.TheVariants as places
 
 -- how many pairs gave way: one that came back, or those that were freed
 abbrev pub gone_count : {K V : Type 0} → PrefixInsertResult K V → ℕ
@@ -35,6 +41,16 @@ pub record NamesLeafOf {K V : Type 0} (bytes : K → List ℕ) (P : ℕ) (s : No
   pub by : IsCanonicalTree (of_key bytes) P s name pairs layout
   pub has : HasLeaf layout (leaf_name leaf) pair
   pub key_is : bytes pair.0 ≡ key
+
+-- The leaf is that of the key; or the point is, where no key is equal or in conflict; or there is no tree; or a key is in conflict.
+abbrev pub IsPlaceOf : {K V : Type 0} → (K → List ℕ) → ℕ → Nodes K V → Option OpaqueNodePtr → List ℕ → Place → Type 0
+IsPlaceOf bytes P s root key (places.Leaf leaf) = NamesLeafOf bytes P s root key leaf
+IsPlaceOf bytes P s root key (places.Point point) =
+    (root ≡ Some point.root) × IsPointIn (of_key bytes) P s key point × ((leaf : LeafPtr) → point.insert_kind ≢ Exact leaf) ×
+    (is_conflict (of_key bytes) key (pairs_at s root) ≡ false)
+IsPlaceOf bytes P s root key places.Bare = root ≡ None
+IsPlaceOf bytes P s root key (places.Refused error) =
+    IsRefusedFor key error × (is_conflict (of_key bytes) key (pairs_at s root) ≡ true)
 
 -- the pairs with a new one, where its key is not stored yet
 abbrev pub put_new : {K V : Type 0} → (K → List ℕ) → K × V → List (K × V) → List (K × V)
@@ -65,6 +81,11 @@ module _ {K V : Type 0} (bytes : K → List ℕ) (P : ℕ) (pairs : List (K × V
   HasEntered key value (Err error) t root len =
       HoldsPairs (of_key bytes) P t root len pairs × IsRefusalOf bytes key value pairs error
 
+  -- the same with some value, which is a made one where the key was not stored
+  abbrev pub HasMade : K → (V → Type 0) → Result LeafPtr (MapInsertError K V) → Nodes K V → Option OpaqueNodePtr → ℕ → Type 0
+  HasMade key IsMade result t root len =
+      (value : V) × (has_key (of_key bytes) (bytes key) pairs ≡ false → IsMade value) × HasEntered key value result t root len
+
   -- the pair was put in the place of those with related keys, or it is handed back, the pairs are as before, and it was not to take the place of just one
   abbrev pub HasPutOver : K → V → Result ℕ (Refused K V) → Nodes K V → Option OpaqueNodePtr → ℕ → Type 0
   HasPutOver key value (Ok gone) t root len =
@@ -80,6 +101,14 @@ module _ {K V : Type 0} (bytes : K → List ℕ) (P : ℕ) (pairs : List (K × V
   HasTaken pair left (Ok taken) t root len = HoldsPairs (of_key bytes) P t root len left × (taken ≡ pair)
   HasTaken pair left (Err error) t root len =
       HoldsPairs (of_key bytes) P t root len pairs × MayRefuseRemoval (of_key bytes) P pairs pair
+
+  -- the pairs whose keys begin with a prefix were taken out, and so many they were, or the pairs are as before
+  abbrev pub HasTakenBelow : List ℕ → Result ℕ MapRefused → Nodes K V → Option OpaqueNodePtr → ℕ → Type 0
+  HasTakenBelow prefix (Ok removed) t root len =
+      HoldsPairs (of_key bytes) P t root len (not_below (of_key bytes) prefix pairs) ×
+      (removed ≡ length (below (of_key bytes) prefix pairs))
+  HasTakenBelow prefix (Err error) t root len =
+      HoldsPairs (of_key bytes) P t root len pairs × HasShrinkingParentBelow (of_key bytes) P pairs prefix
 
   -- a store, a root and a length stand for clones of the pairs
   abbrev pub HoldsClones : (K → K → Type 0) → (V → V → Type 0) → Nodes K V → Option OpaqueNodePtr → ℕ → Type 0

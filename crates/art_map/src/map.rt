@@ -1,5 +1,5 @@
 //! An ordered map from keys of bytes to values. Its contracts speak of lists of pairs alone.
-ghost use Rattle.std.specs.Prelude.{◌≡◌, ◌≢◌, ◌+◌, ◌^◌, ◌<◌, ◌↔◌, [], length, false, true, IsTrue, IfOk, IfErr, OnOk, OnErr, None, Some, option_copied, IsSome};
+ghost use Rattle.std.specs.Prelude.{◌≡◌, ◌≢◌, ◌+◌, ◌^◌, ◌<◌, ◌↔◌, ℕ, List, [], length, false, true, IsTrue, IfOk, IfErr, OnOk, OnErr, None, Some, option_copied, IsSome};
 ghost use Rattle.std.specs.FinMap as map;
 ghost use Rattle.std.specs.Borrow.{sem};
 ghost use Rattle.std.specs.Option.{option_copied_mut, option_map, unwrap_or};
@@ -13,7 +13,7 @@ ghost use Rattle.art_model.specs.Stores.{pair_of};
 ghost use Rattle.art_writing.specs.Deleted.{IsDeletePoint, IsDeletePointIn, LeadsTo};
 ghost use Rattle.art_map.specs.declared.map.MapInsertError.TheVariants as errors;
 ghost use Rattle.art_map.specs.MapAnswers.{end_of, without_end};
-ghost use Rattle.art_map.specs.MapChanges.{HasEntered, HasPlanted, HasPut, HasPutOver, HasTaken, HoldsClones, gone_count};
+ghost use Rattle.art_map.specs.MapChanges.{HasPlanted, HasPut, HasPutOver, HasTaken, HoldsClones, gone_count};
 ghost use Rattle.art_map.specs.MapItems.{deref_pair, keys_of, values_of};
 ghost use Rattle.art_map.specs.MapPairs.{HoldsPairs, pairs_at};
 
@@ -30,7 +30,7 @@ use art_writing::delete::{
     DeletePoint, find_maximum_to_delete, find_minimum_to_delete, search_for_delete_point,
 };
 use art_writing::insert::{
-    InsertKind, InsertPrefixError, InsertSearchError, PrefixInsertResult, Refused, plant,
+    InsertPrefixError, InsertSearchError, PrefixInsertResult, Refused, plant,
     search_for_insert_point, search_for_prefix_insert_point,
 };
 use std::alloc::{AllocError, Global};
@@ -43,16 +43,21 @@ mod compared;
 mod entry;
 mod extend;
 mod iter;
+mod lend;
 mod owned;
 mod parts;
+mod place;
 mod range;
+mod remove;
 mod retain;
 
 pub use entry::{Entry, EntryOf};
 pub use iter::{Leaves, MapIter, MapIterOf};
 pub use owned::{IntoIter, IntoKeys, IntoValues};
 pub use parts::{Keys, KeysOf, Values, ValuesOf};
+use place::{enter, place_of};
 pub use range::{Range, RangeOf};
+use remove::take_all_below;
 
 /// A pair that was not inserted.
 #[derive(Debug, Drop, Error)]
@@ -76,14 +81,6 @@ pub enum MapInsertError<K, V> {
 #[derive(Clone, Copy, PartialEq, Eq, Debug, Error)]
 #[error("memory allocation failed")]
 pub struct MapRefused;
-
-/// Removals of which the first ones were made and the others were not, for want of memory.
-#[derive(Clone, Copy, PartialEq, Eq, Debug, Error)]
-#[error("memory allocation failed after {removed} pairs were removed")]
-pub struct RemovedInPart {
-    /// How many pairs were removed.
-    pub removed: usize,
-}
 
 /// An end of the pairs.
 #[derive(Clone, Copy)]
@@ -118,7 +115,7 @@ impl<K: AsBytes, V, const P: usize> Model for ByteMap<K, V, P> {
 }
 
 impl<K: AsBytes + Drop, V: Drop, const P: usize> ByteMap<K, V, P> {
-    ghost use Rattle.art_map.specs.MapAnswers.{IsRefusalOf, MayRefuseRemoval, value_at};
+    ghost use Rattle.art_map.specs.MapAnswers.{HasShrinkingParentBelow, IsRefusalOf, MayRefuseRemoval, value_at};
     ghost use Rattle.art_map.specs.MapLends.{lends_put, lends_value};
 
     /// An empty map, which takes no memory.
@@ -156,7 +153,8 @@ impl<K: AsBytes + Drop, V: Drop, const P: usize> ByteMap<K, V, P> {
 
     /// The value of the key with these bytes, by one descent along them.
     pub fn get(&self, key_bytes: &[u8]) -> Option<&V>
-        ensures { option_copied result ≡ value_at K.bytes key_bytes.now self.now }
+        ensures value { option_copied result ≡ value_at K.bytes key_bytes.now self.now }
+        ensures sorted { IsMap (of_key K.bytes) self.now }
     {
         let leaf = search_unchecked(&self.store, self.root?, key_bytes)?;
         Some(pair_at(&self.store, leaf).1)
@@ -309,8 +307,13 @@ impl<K: AsBytes + Drop, V: Drop, const P: usize> ByteMap<K, V, P> {
         ensures pairs { OnOk result (self.new ≡ put (of_key K.bytes) (key, value) self.old) }
         ensures replaced { IfOk result (λ replaced.
             replaced ≡ put_reply (of_key K.bytes) (key, value) self.old) }
+        ensures found { OnOk result
+            (value_at K.bytes (K.bytes key) self.new ≡ Some value) }
+        ensures others { OnOk result ((other : List ℕ) → other ≢ K.bytes key →
+            value_at K.bytes other self.new ≡ value_at K.bytes other self.old) }
         ensures accepted { OnOk result
             (is_conflict (of_key K.bytes) (K.bytes key) self.old ≡ false) }
+        ensures sorted { IsMap (of_key K.bytes) self.new }
 
         ensures refused { IfErr result (IsRefusalOf K.bytes key value self.old) }
         ensures kept { OnErr result (self.new ≡ self.old) }
@@ -330,7 +333,15 @@ impl<K: AsBytes + Drop, V: Drop, const P: usize> ByteMap<K, V, P> {
             (is_conflict (of_key K.bytes) (K.bytes key) self.old ≡ false) }
         ensures refused { IfErr result (IsRefusalOf K.bytes key value self.old) }
     {
-        let leaf = match leaf_for(&mut self.store, &mut self.root, &mut self.len, key, value) {
+        let place = place_of(&self.store, self.root, key.as_bytes());
+        let leaf = match enter(
+            &mut self.store,
+            &mut self.root,
+            &mut self.len,
+            place,
+            key,
+            value,
+        ) {
             Ok(leaf) => leaf,
             Err(error) => return Err(error),
         };
@@ -374,6 +385,9 @@ impl<K: AsBytes + Drop, V: Drop, const P: usize> ByteMap<K, V, P> {
             (self.new ≡ remove_key (of_key K.bytes) key_bytes.now self.old) }
         ensures removed { IfOk result (λ removed.
             removed ≡ remove_reply (of_key K.bytes) key_bytes.now self.old) }
+        ensures gone { OnOk result (value_at K.bytes key_bytes.now self.new ≡ None) }
+        ensures others { OnOk result ((other : List ℕ) → other ≢ key_bytes.now →
+            value_at K.bytes other self.new ≡ value_at K.bytes other self.old) }
         ensures kept { OnErr result (self.new ≡ self.old) }
         ensures refused { OnErr result (MayRefuseRemoval (of_key K.bytes) P self.old
             (remove_reply (of_key K.bytes) key_bytes.now self.old)) }
@@ -417,31 +431,21 @@ impl<K: AsBytes + Drop, V: Drop, const P: usize> ByteMap<K, V, P> {
         take_below(&mut self.store, &mut self.root, &mut self.len, prefix)
     }
 
-    /// Takes out the pairs whose keys begin with these bytes, one after another from the first one
-    /// on, and returns how many.
+    /// Takes out all pairs whose keys begin with these bytes, at once, and returns how many. It goes
+    /// down as `prefix` does, and frees what is below the node that it comes to.
     ///
-    /// Where one of the removals is refused, as `remove` is, the error says how many were made, and
-    /// all other pairs stay: a second call goes on from there.
-    pub fn remove_prefix(&mut self, prefix: &[u8]) -> Result<usize, RemovedInPart>
+    /// It is refused before any change, and only where the parent of that node gives way to a smaller
+    /// one, from 5, 17 or 49 children, and there is no memory for that.
+    pub fn remove_prefix(&mut self, prefix: &[u8]) -> Result<usize, MapRefused>
         ensures pairs { OnOk result
             (self.new ≡ not_below (of_key K.bytes) prefix.now self.old) }
         ensures removed { IfOk result (λ removed.
             removed ≡ length (below (of_key K.bytes) prefix.now self.old)) }
-        ensures kept { IfErr result (λ error.
-            self.new ≡ without_below (of_key K.bytes) prefix.now error.removed self.old) }
-        ensures refused { OnErr result (MayRefuseRemoval (of_key K.bytes) P self.new
-            (first_of (below (of_key K.bytes) prefix.now self.new))) }
+        ensures kept { OnErr result (self.new ≡ self.old) }
+        ensures refused { OnErr result
+            (HasShrinkingParentBelow (of_key K.bytes) P self.old prefix.now) }
     {
-        // `len` says that there are fewer pairs than numbers, so that the count fits.
-        self.len();
-        let mut removed = 0;
-        'pairs: loop {
-            match self.pop_first_below(prefix) {
-                Ok(Some(_)) => removed += 1,
-                Ok(None) => return Ok(removed),
-                Err(_) => return Err(RemovedInPart { removed }),
-            }
-        }
+        take_all_below(&mut self.store, &mut self.root, &mut self.len, prefix)
     }
 
     // Takes out the pair at an end.
@@ -585,54 +589,6 @@ fn put_in<K: AsBytes + Drop, V: Drop, const P: usize>(
                 return Ok(None);
             };
             Ok(Some((leaf.key, leaf.value)))
-        }
-        Err(refused) => Err(without_memory(refused)),
-    }
-}
-
-// The leaf of a key: that of the equal key that is stored, or a new one with the value.
-fn leaf_for<K: AsBytes + Drop, V: Drop, const P: usize>(
-    store: &mut NodeStore<K, V, P>,
-    root: &mut Option<OpaqueNodePtr>,
-    len: &mut usize,
-    key: K,
-    value: V,
-) -> Result<LeafPtr, MapInsertError<K, V>>
-    requires { HoldsPairs (of_key K.bytes) P store.old root.old len.old
-        (pairs_at store.old root.old) }
-    ensures { HasEntered K.bytes P (pairs_at store.old root.old) key value result
-        store.new root.new len.new }
-{
-    let Some(name) = *root else {
-        return match plant(store, key, value) {
-            Ok(leaf) => {
-                *root = Some(leaf.to_opaque());
-                *len = 1;
-                Ok(leaf)
-            }
-            Err(refused) => Err(MapInsertError::Memory {
-                key: refused.key,
-                value: refused.value,
-            }),
-        };
-    };
-    let point = match search_for_insert_point(store, name, key.as_bytes()) {
-        Ok(point) => point,
-        Err(InsertSearchError::Prefix(error)) => {
-            return Err(MapInsertError::Conflict { key, value, error });
-        }
-        Err(InsertSearchError::Memory(_error)) => {
-            return Err(MapInsertError::Memory { key, value });
-        }
-    };
-    if let InsertKind::Exact { leaf_node_ptr } = point.insert_kind {
-        return Ok(leaf_node_ptr);
-    }
-    match point.apply(store, key, value) {
-        Ok(done) => {
-            *root = Some(done.new_root);
-            *len = one_more(store, *len);
-            Ok(done.leaf_node_ptr)
         }
         Err(refused) => Err(without_memory(refused)),
     }

@@ -1,9 +1,14 @@
 -- What a call did to the nodes under names, between the store before it and the store after it.
-use Rattle.std.specs.Prelude.{◌≡◌, ℕ, ◌≤◌, ◌⊎◌, List, [], ◌∷◌, length, None}
+use Rattle.std.specs.Prelude.{◌≡◌, ℕ, ◌≤◌, ◌⊎◌, List, [], ◌∷◌, length, Option, Some, None}
 use Rattle.std.specs.List.{AllByRecursion as Each}
 use Rattle.art_nodes.specs.Nodes.{Nodes}
 use Rattle.art_parts.specs.declared.names.OpaqueNodePtr.{OpaqueNodePtr}
+use Rattle.art_model.specs.Layouts.{names_of}
+use Rattle.art_model.specs.Pairs.{related_to}
+use Rattle.art_model.specs.Paths.{Frame, plug}
+use Rattle.art_model.specs.Radix.{pairs_of}
 use Rattle.art_model.specs.Stores.{held, IsUsed}
+use Rattle.art_model.specs.Trees.{Tree}
 
 -- the element stands in the list
 abbrev pub IsIn : {X : Type 0} → X → List X → Type 0
@@ -29,3 +34,12 @@ abbrev pub PlacesOneFor : {K V : Type 0} → List OpaqueNodePtr → ℕ → Node
 PlacesOneFor freed most_changed old new =
     (placed : OpaqueNodePtr) × (changed : List OpaqueNodePtr) ×
     Footprint old new (placed ∷ []) freed changed × (length changed ≤ most_changed)
+
+-- The tree has a subtree with the pairs whose keys are related to this one, and no others; a leaf was placed for its nodes, which are freed, and at most three others are changed.
+pub record TouchesRelated {K V : Type 0} (bytes : K × V → List ℕ) (key : List ℕ) (s t : Nodes K V)
+    (tree : Option (Tree OpaqueNodePtr (K × V))) : Type 0 where
+  pub path : List (Frame OpaqueNodePtr (K × V))
+  pub node : Tree OpaqueNodePtr (K × V)
+  pub whole : tree ≡ Some (plug path node)
+  pub pairs : pairs_of node ≡ related_to bytes key (pairs_of (plug path node))
+  pub touches : PlacesOneFor (names_of node) 3 s t

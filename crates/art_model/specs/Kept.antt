@@ -43,6 +43,10 @@ pub record KeepsOthers {K V : Type 0} (s t : Nodes K V) (old new : List OpaqueNo
   pub gone : (name : OpaqueNodePtr) → IsIn name old → (IsIn name new → ⊥) → held t name ≡ None
   pub taken : (name : OpaqueNodePtr) → IsIn name new → (IsIn name old → ⊥) → held s name ≡ None
 
+-- the same nodes under the same names
+abbrev pub SameNodes : {K V : Type 0} → Nodes K V → Nodes K V → Type 0
+SameNodes old new = (new.leaves ≡ old.leaves) × (new.inners ≡ old.inners)
+
 -- these names went out of use, and every other name holds what it held
 abbrev pub Frees : {K V : Type 0} → List OpaqueNodePtr → Nodes K V → Nodes K V → Type 0
 Frees names s t = KeepsOthers s t names []

@@ -27,6 +27,7 @@ pub mod Lookups
 pub mod Writes
 pub mod Gains
 pub mod Kept
+pub mod Apart
 pub mod Footprints
 pub mod Promises
 -- what may be wrong with a store

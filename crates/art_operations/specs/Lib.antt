@@ -18,16 +18,19 @@ pub use Rattle.art_reading.specs.Walks
 pub use Rattle.art_reading.specs.Iterators
 -- what every change keeps, touches and takes of a promise
 pub use Rattle.art_model.specs.Kept
+pub use Rattle.art_model.specs.Apart
 pub use Rattle.art_model.specs.Footprints
 pub use Rattle.art_model.specs.Promises
 pub use Rattle.art_writing.specs.Writes
 -- insertion
 pub use Rattle.art_writing.specs.Points
 pub use Rattle.art_writing.specs.Inserted
+pub use Rattle.art_writing.specs.Conflicts
 pub use Rattle.art_writing.specs.Branches
 pub use Rattle.art_writing.specs.Overwritten
 -- deletion, the freeing of trees, and copies
 pub use Rattle.art_writing.specs.Deleted
+pub use Rattle.art_writing.specs.Subtrees
 pub use Rattle.art_writing.specs.Freed
 pub use Rattle.art_writing.specs.Cloned
 -- visitors, and what may be wrong with a store
@@ -45,6 +48,7 @@ pub use Rattle.art_map.specs.SetKeys
 pub use Rattle.art_map.specs.SetAlgebra
 -- keys that are never in conflict, and maps and sets of them
 pub use Rattle.art_keys.specs.Prefixes
+pub use Rattle.art_keys.specs.Decoded
 pub use Rattle.art_keys.specs.Ended
 pub use Rattle.art_keys.specs.Escapes
 pub use Rattle.art_keys.specs.Numbers

@@ -9,6 +9,8 @@ use Rattle.std.proofs.lemmas.Slice.Eq.{starts_is}
 use Rattle.art_inner.specs.Inner.{Inner, child_at}
 use Rattle.art_parts.specs.declared.names.InnerPtr.{InnerPtr}
 use Rattle.art_parts.specs.declared.names.OpaqueNodePtr.{OpaqueNodePtr}
+use Rattle.art_nodes.specs.Nodes.{Nodes}
+use Rattle.art_model.specs.Canonical.{IsCanonicalTree}
 use Rattle.art_model.specs.Keys.{IsFront, is_front}
 use Rattle.art_model.specs.Parts.{below}
 use Rattle.art_model.specs.Paths.{pairs_before, pairs_after}
@@ -20,7 +22,10 @@ use Rattle.art_model.proofs.OnWay.{byte_after}
 use Rattle.art_model.proofs.Paths.{pairs_of-plug}
 use Rattle.art_model.proofs.Shown.{IsShown}
 use Rattle.art_reading.specs.Parts.{IsNotBelow, EndsBelow}
-use Rattle.art_reading.proofs.Descents.{IsDescent, front, front_len, child_there, each_under, down}
+use Rattle.art_reading.specs.Paths.{path_of, step_down}
+use Rattle.art_reading.specs.declared.path.TreePath.{TreePath}
+use Rattle.art_reading.specs.declared.path.TreePath.TheVariants.{Root}
+use Rattle.art_reading.proofs.Descents.{IsDescent, start, front, front_len, child_there, each_under, down}
 
 -- a key that goes on after a front with another byte than the prefix has there does not begin with the prefix
 other_byte : (prefix front x : List ℕ) (c : ℕ) → length front < length prefix → c ≢ get_or prefix (length front) 0 → IsFront (front ++ c ∷ []) x → is_front prefix x ≡ false
@@ -47,30 +52,48 @@ starts_front x prefix false e = go (is_front prefix x) refl
     go false i = refl
     go true i = let f = front_from prefix x i in absurd (false≢true ((starts_is Decides-eqb x prefix false e).1 f.0 f.1))
 
-module _ {A : Type 0} {bytes : A → List ℕ} {P : ℕ} (prefix : List ℕ) {tree : Tree OpaqueNodePtr A} {name : OpaqueNodePtr} {depth : ℕ}
-    (d : IsDescent bytes P (IsNotBelow bytes prefix) (IsNotBelow bytes prefix) tree name depth) where
+-- A way down to a node of a tree between pairs that do not begin with the prefix, by a path.
+pub record IsWayBelow {A : Type 0} (bytes : A → List ℕ) (P : ℕ) (prefix : List ℕ) (tree : Tree OpaqueNodePtr A) (path : TreePath) (name : OpaqueNodePtr) (depth : ℕ) : Type 0 where
+  pub descent : IsDescent bytes P (IsNotBelow bytes prefix) (IsNotBelow bytes prefix) tree name depth
+  pub path_is : path ≡ path_of descent.at.path
+
+-- it begins at the root
+pub way_begins : {K V : Type 0} {s : Nodes K V} {bytes : K × V → List ℕ} {P : ℕ} {root : OpaqueNodePtr} {pairs : List (K × V)} {layout : Tree OpaqueNodePtr (K × V)} (prefix : List ℕ) →
+    IsCanonicalTree bytes P s root pairs layout → {path : TreePath} → path ≡ Root → IsWayBelow bytes P prefix layout path root 0
+way_begins prefix by is = record { descent = start by; path_is = is }
+
+module _ {A : Type 0} {bytes : A → List ℕ} {P : ℕ} (prefix : List ℕ) {tree : Tree OpaqueNodePtr A} {path : TreePath} {name : OpaqueNodePtr} {depth : ℕ}
+    (way : IsWayBelow bytes P prefix tree path name depth) where
+  abbrev d : IsDescent bytes P (IsNotBelow bytes prefix) (IsNotBelow bytes prefix) tree name depth
+  d = way.descent
+
   -- at a leaf the way ends
-  pub at_leaf : (n : OpaqueNodePtr) (x : A) → d.at.node ≡ leaf n x → EndsBelow bytes prefix tree (Some name)
-  at_leaf n x is = record {
-    at = d.at;
-    begin = is_front prefix (bytes x);
-    alike = subst (λ t. Each (λ y. is_front prefix (bytes y) ≡ is_front prefix (bytes x)) (pairs_of t)) (sym is) (refl, tt);
-  }
+  pub at_leaf : (n : OpaqueNodePtr) (x : A) → d.at.node ≡ leaf n x → EndsBelow bytes prefix tree (Some (record { path = path; name = name }))
+  at_leaf n x is = (
+    record {
+      at = d.at;
+      begin = is_front prefix (bytes x);
+      alike = subst (λ t. Each (λ y. is_front prefix (bytes y) ≡ is_front prefix (bytes x)) (pairs_of t)) (sym is) (refl, tt);
+    },
+    way.path_is,
+  )
 
   module _ {p : InnerPtr} {shown : Inner} (at : IsShown d.at.node p shown) {len : ℕ} (len_is : len ≡ shown.prefix.len) where
     long_front : length (front d at) ≡ depth + len
     long_front = let l = front_len d at in omega arith
 
     -- the prefix ends with the node's own, or before
-    pub at_end : length prefix ≤ depth + len → EndsBelow bytes prefix tree (Some name)
+    pub at_end : length prefix ≤ depth + len → EndsBelow bytes prefix tree (Some (record { path = path; name = name }))
     at_end short =
-        let long : length prefix ≤ length (front d at) = let l = long_front in omega arith in
-        record {
-          at = d.at;
-          begin = is_front prefix (front d at);
-          alike = each_under d at (λ x. is_front prefix (bytes x) ≡ is_front prefix (front d at))
-              (λ c i x leads. let (r, e) = front_cut (front d at) (c ∷ []) (bytes x) leads in ap (is_front prefix) e ∙ front_within prefix (front d at) r long);
-        }
+        let long : length prefix ≤ length (front d at) = let l = long_front in omega arith in (
+          record {
+            at = d.at;
+            begin = is_front prefix (front d at);
+            alike = each_under d at (λ x. is_front prefix (bytes x) ≡ is_front prefix (front d at))
+                (λ c i x leads. let (r, e) = front_cut (front d at) (c ∷ []) (bytes x) leads in ap (is_front prefix) e ∙ front_within prefix (front d at) r long);
+          },
+          way.path_is,
+        )
 
     module _ (long : depth + len < length prefix) where
       off : (c : ℕ) → c ≢ get_or prefix (depth + len) 0 → (x : A) → IsFront (front d at ++ c ∷ []) (bytes x) → is_front prefix (bytes x) ≡ false
@@ -89,7 +112,9 @@ module _ {A : Type 0} {bytes : A → List ℕ} {P : ℕ} (prefix : List ℕ) {tr
 
       -- the way goes on below the child
       pub goes_down : {to : OpaqueNodePtr} → child_at shown.children (get_or prefix (depth + len) 0) ≡ Some to →
-          IsDescent bytes P (IsNotBelow bytes prefix) (IsNotBelow bytes prefix) tree to (depth + len + 1)
+          IsWayBelow bytes P prefix tree (step_down path p (get_or prefix (depth + len) 0)) to (depth + len + 1)
       goes_down {to} there =
-          subst (λ n. IsDescent bytes P (IsNotBelow bytes prefix) (IsNotBelow bytes prefix) tree to (depth + n + 1)) (sym len_is)
-          (down d at (get_or prefix (depth + len) 0) there (λ c i less x leads. off c (λ e. omega arith) x leads) (λ c i more x leads. off c (λ e. omega arith) x leads))
+          subst (λ n. IsWayBelow bytes P prefix tree (step_down path p (get_or prefix (depth + len) 0)) to (depth + n + 1)) (sym len_is) (record {
+            descent = down d at (get_or prefix (depth + len) 0) there (λ c i less x leads. off c (λ e. omega arith) x leads) (λ c i more x leads. off c (λ e. omega arith) x leads);
+            path_is = ap (λ z. step_down z p (get_or prefix (depth + len) 0)) way.path_is;
+          })

@@ -28,8 +28,8 @@ use Rattle.art_model.proofs.Segments.{but_last}
 use Rattle.art_model.specs.Pairs.{without_last}
 use Rattle.art_reading.specs.declared.range.Cut.{Cut}
 use Rattle.art_reading.specs.declared.range.Cut.TheVariants.{Before, After}
-use Rattle.art_reading.specs.declared.ways.End.{End}
-use Rattle.art_reading.specs.declared.ways.End.TheVariants.{First, Last}
+use Rattle.art_reading.specs.declared.descent.End.{End}
+use Rattle.art_reading.specs.declared.descent.End.TheVariants.{First, Last}
 use Rattle.art_reading.specs.Parts.{IsLeafAtCut, StandsBeside, is_before_cut}
 use Rattle.art_reading.specs.Walks.{of_two}
 use Rattle.art_reading.proofs.Iterators.{linked_leaf}

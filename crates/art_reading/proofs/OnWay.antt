@@ -20,8 +20,8 @@ use Rattle.art_model.proofs.Places.{place_is}
 use Rattle.art_model.proofs.Fronts.{shared_whole, whole_shared}
 use Rattle.art_model.proofs.OnWay.{none_match, AreAside, aside_others, aside_off, aside_end, aside_pairs, aside_places, pairs_between, places_between, child_under, no_child_under, front_byte}
 use Rattle.art_model.proofs.Shown.{IsShown}
-use Rattle.art_reading.specs.declared.lookup.PrefixMatchBehavior.{PrefixMatchBehavior}
-use Rattle.art_reading.specs.declared.lookup.PrefixMatchBehavior.TheVariants.{Pessimistic}
+use Rattle.art_reading.specs.declared.matching.PrefixMatchBehavior.{PrefixMatchBehavior}
+use Rattle.art_reading.specs.declared.matching.PrefixMatchBehavior.TheVariants.{Pessimistic}
 use Rattle.art_reading.specs.declared.path.TreePath.{TreePath}
 use Rattle.art_reading.specs.Matching.{shared_len}
 use Rattle.art_reading.specs.Paths.{step_down, path_of}

@@ -16,9 +16,9 @@ use Rattle.art_model.specs.Canonical.{IsCanonicalTree}
 use Rattle.art_model.proofs.Stores.{path_holds}
 use Rattle.art_model.proofs.Canonical.{tree_radix}
 use Rattle.art_model.proofs.Shown.{IsShown, IsThere, leaf_shown}
-use Rattle.art_reading.specs.declared.ways.LastLeaf.{LastLeaf}
-use Rattle.art_reading.specs.declared.lookup.PrefixMatchBehavior.{PrefixMatchBehavior}
-use Rattle.art_reading.specs.declared.lookup.PrefixMatchBehavior.TheVariants.{Pessimistic}
+use Rattle.art_reading.specs.declared.descent.LastLeaf.{LastLeaf}
+use Rattle.art_reading.specs.declared.matching.PrefixMatchBehavior.{PrefixMatchBehavior}
+use Rattle.art_reading.specs.declared.matching.PrefixMatchBehavior.TheVariants.{Pessimistic}
 use Rattle.art_reading.specs.declared.path.AttemptOptimisticPrefixMatch.{AttemptOptimisticPrefixMatch}
 use Rattle.art_reading.specs.declared.path.PessimisticMismatch.{PessimisticMismatch}
 use Rattle.art_reading.specs.declared.path.TreePath.{TreePath}

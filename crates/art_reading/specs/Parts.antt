@@ -16,8 +16,10 @@ use Rattle.art_model.specs.Stores.{node_at}
 use Rattle.art_model.specs.Trees.{Tree}
 use Rattle.art_reading.specs.declared.range.Cut.{Cut}
 use Rattle.art_reading.specs.declared.range.Cut.TheVariants.{Before, After}
-use Rattle.art_reading.specs.declared.ways.End.{End}
-use Rattle.art_reading.specs.declared.ways.End.TheVariants.{First, Last}
+use Rattle.art_reading.specs.declared.descent.End.{End}
+use Rattle.art_reading.specs.declared.descent.End.TheVariants.{First, Last}
+use Rattle.art_reading.specs.declared.descent.LastNode.{LastNode}
+use Rattle.art_reading.specs.Paths.{path_of}
 
 module _ {A : Type 0} (Lower Upper : A → Type 0) (layout : Tree OpaqueNodePtr A) (name : OpaqueNodePtr) where
   -- A node of the tree, between pairs of which these hold.
@@ -40,10 +42,10 @@ module _ {A : Type 0} (bytes : A → List ℕ) (prefix : List ℕ) (layout : Tre
     pub begin : Bool
     pub alike : Each (λ x. is_front prefix (bytes x) ≡ begin) (pairs_of at.node)
 
-  -- the way ends at such a node, or no key begins with the prefix
-  abbrev pub EndsBelow : Option OpaqueNodePtr → Type 0
+  -- the way ends at such a node, by the path to it; or no key begins with the prefix
+  abbrev pub EndsBelow : Option LastNode → Type 0
   EndsBelow None = below bytes prefix (pairs_of layout) ≡ []
-  EndsBelow (Some name) = HasAllBelow name
+  EndsBelow (Some end) = (all : HasAllBelow end.name) × (end.path ≡ path_of all.at.path)
 
 -- A node of the tree beside a key: the pairs before the node are before the key, those after the node after it, and all of its own on one side.
 pub record StandsBeside {A : Type 0} (bytes : A → List ℕ) (key : List ℕ) (layout : Tree OpaqueNodePtr A) (name : OpaqueNodePtr) : Type 0 where

@@ -7,7 +7,7 @@ ghost use Rattle.art_parts.specs.declared.names.OpaqueNodePtr.{OpaqueNodePtr};
 ghost use Rattle.art_model.specs.Pairs.{first_of, last_of, without_first, without_last};
 ghost use Rattle.art_reading.specs.Iterators.{GoesOn, IsIteratorOf, TakesEnd, WalksWhole};
 
-use crate::ways::End;
+use crate::descent::End;
 use art_nodes::node::{AsBytes, LeafPtr, OptionalLeafPtr};
 use art_nodes::store::NodeStore;
 use std::marker::Model;

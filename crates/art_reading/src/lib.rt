@@ -1,9 +1,10 @@
 //! What reads a radix tree in a store, and changes nothing.
 #![tactic(auto)]
 
+pub mod descent;
 pub mod iterator;
 pub mod lookup;
+pub mod matching;
 pub mod minmax;
 pub mod path;
 pub mod range;
-pub mod ways;

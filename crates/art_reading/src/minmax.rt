@@ -5,7 +5,7 @@ ghost use Rattle.art_model.specs.Lookups.{HasFirstLeaf, HasLastLeaf};
 ghost use Rattle.art_model.specs.Roots.{IsFullTree};
 ghost use Rattle.art_model.specs.Trees.{Tree};
 
-use crate::ways::{End, walk_to_end};
+use crate::descent::{End, walk_to_end};
 use art_nodes::node::{AsBytes, LeafPtr, NodePtr, OpaqueNodePtr};
 use art_nodes::store::NodeStore;
 

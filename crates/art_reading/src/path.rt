@@ -1,8 +1,8 @@
 //! Ways down a tree: the nodes right above a node, prefixes that go on with a key, and prefixes that
 //! part from it.
 ghost use Rattle.std.specs.Prelude.{◌≡◌};
+ghost use Rattle.art_reading.specs.Paths.{last_step, up};
 
-use crate::ways::last_step;
 use art_nodes::node::{InnerPtr, OptionalLeafPtr};
 
 /// The inner nodes right above a node, and the bytes that lead down from them.
@@ -25,6 +25,42 @@ pub enum TreePath {
         /// The byte under which the parent has the node.
         child_key_byte: u8,
     },
+}
+
+/// The parent at the end of a path, with the byte under which it has the node.
+#[inline(always)]
+pub fn last_step(path: TreePath) -> Option<(InnerPtr, u8)>
+    ensures { result ≡ last_step path }
+{
+    match path {
+        TreePath::Root => None,
+        TreePath::ChildOfRoot {
+            parent,
+            child_key_byte,
+        }
+        | TreePath::Normal {
+            parent,
+            child_key_byte,
+            ..
+        } => Some((parent, child_key_byte)),
+    }
+}
+
+/// The path one step further up: that of the parent at the end of a path.
+pub fn up(path: TreePath) -> TreePath
+    ensures { result ≡ up path }
+{
+    match path {
+        TreePath::Root | TreePath::ChildOfRoot { .. } => TreePath::Root,
+        TreePath::Normal {
+            grandparent,
+            parent_key_byte,
+            ..
+        } => TreePath::ChildOfRoot {
+            parent: grandparent,
+            child_key_byte: parent_key_byte,
+        },
+    }
 }
 
 impl TreePath {

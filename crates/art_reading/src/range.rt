@@ -1,5 +1,5 @@
 //! Parts of a tree: the leaves whose keys begin with a prefix, and those between two bounds.
-ghost use Rattle.std.specs.Prelude.{◌≡◌, ◌≢◌, ◌↔◌, length, not, Some, IsSome, IfSome, IsTrue};
+ghost use Rattle.std.specs.Prelude.{◌≡◌, ◌≢◌, ◌↔◌, length, Some, IsSome, IfSome, IsTrue};
 ghost use Rattle.std.specs.FinMap as map;
 ghost use Rattle.std.specs.Option.{option_map};
 ghost use Rattle.std.specs.Range.Bound.{bound_map};
@@ -14,11 +14,11 @@ ghost use Rattle.art_model.specs.Places.{prefix_of};
 ghost use Rattle.art_model.specs.Roots.{ForTree, IsCanonicalRoot};
 ghost use Rattle.art_model.specs.Trees.{Tree};
 ghost use Rattle.art_reading.specs.Iterators.{IsIteratorOf};
-ghost use Rattle.art_reading.specs.Parts.{EndsBelow, IsLeafAtCut, IsPlaced, StandsBeside, is_before_cut};
+ghost use Rattle.art_reading.specs.Parts.{IsLeafAtCut, IsPlaced, StandsBeside, is_before_cut};
 
+use crate::descent::{End, walk_below};
 use crate::iterator::RawIterator;
 use crate::minmax::{maximum_unchecked, minimum_unchecked};
-use crate::ways::End;
 use art_nodes::node::{AsBytes, InnerPtr, InnerRef, NodePtr, OpaqueNodePtr, OptionalLeafPtr};
 use art_nodes::store::NodeStore;
 use std::ops::Bound;
@@ -37,50 +37,18 @@ pub fn prefix_unchecked<K: AsBytes + Drop, V: Drop, const PREFIX_LEN: usize>(
         IsIteratorOf store.now result
         (leaves_where (λ x. is_front prefix.now (K.bytes x.0)) layout)) }
 {
-    let Some(name) = walk_below(store, root, prefix) else {
+    let Some(end) = walk_below(store, root, prefix) else {
         return RawIterator::empty();
     };
-    let first = minimum_unchecked(store, name);
+    let first = minimum_unchecked(store, end.name);
     let Some(leaf) = store.leaf(first) else {
         unreachable!()
     };
     if !leaf.key.as_bytes().starts_with(prefix) {
         return RawIterator::empty();
     }
-    let last = maximum_unchecked(store, name);
+    let last = maximum_unchecked(store, end.name);
     RawIterator::new(store, first, last)
-}
-
-// Returns the node below which all keys are that begin with a prefix; `None` only where no key
-// does. All keys below the node begin so, or none does: the bytes of prefixes of nodes are passed
-// over, and not compared.
-#[inline(always)]
-fn walk_below<K: AsBytes + Drop, V: Drop, const PREFIX_LEN: usize>(
-    store: &NodeStore<K, V, PREFIX_LEN>,
-    root: OpaqueNodePtr,
-    prefix: &[u8],
-) -> Option<OpaqueNodePtr>
-    requires { IsCanonicalRoot (of_key K.bytes) PREFIX_LEN store.now root }
-    ensures { ForTree (of_key K.bytes) PREFIX_LEN store.now root (λ pairs layout.
-        EndsBelow (of_key K.bytes) prefix.now layout result) }
-{
-    let mut name = root;
-    let mut depth = 0;
-    'down: loop {
-        let NodePtr::Inner(inner) = name.split() else {
-            return Some(name);
-        };
-        let Some(node) = store.inner(inner) else {
-            unreachable!()
-        };
-        let prefix_len = node.prefix_len();
-        if prefix_len >= prefix.len() - depth {
-            return Some(name);
-        }
-        let place = depth + prefix_len;
-        name = node.lookup_child(prefix[place])?;
-        depth = place + 1;
-    }
 }
 
 /// Returns a walk of the leaves whose keys are between two bounds, in order: of none where the

@@ -1,7 +1,8 @@
 -- a chain goes on by one step, and so does a run
 use Rattle.std.proofs.Common.{◌≡◌, ℕ, List, [], ◌∷◌, ◌++◌, subst, refl}
+use Rattle.art_running.specs.Made.{MakesStep}
 use Rattle.art_running.specs.Steps.{State, Step, IsSound}
-use Rattle.art_running.specs.Runs.{Chain, Shown, shown, IsRun, MakesStep}
+use Rattle.art_running.specs.Runs.{Chain, Shown, shown, IsRun}
 use Rattle.art_running.specs.declared.run.Command.{Command}
 use Rattle.art_running.specs.declared.run.Reply.{Reply}
 

@@ -5,7 +5,7 @@ use Rattle.art_nodes.specs.Nodes.{Nodes}
 use Rattle.art_parts.specs.declared.names.OpaqueNodePtr.{OpaqueNodePtr}
 use Rattle.art_model.specs.Canonical.{IsCanonicalTree, IsCanonical}
 use Rattle.art_model.specs.Clones.{AreClones}
-use Rattle.art_model.specs.Kept.{Frees, KeepsOthers}
+use Rattle.art_model.specs.Kept.{Frees, KeepsOthers, SameNodes}
 use Rattle.art_model.specs.Layouts.{names_of}
 use Rattle.art_model.specs.Pairs.{of_key}
 use Rattle.art_model.specs.Promises.{IsLessened, tree_taken}
@@ -14,7 +14,6 @@ use Rattle.art_model.specs.Roots.{ForTree}
 use Rattle.art_model.proofs.Canonical.{tree_radix}
 use Rattle.art_running.specs.Runs.{on, of_side, beside, shown}
 use Rattle.art_running.specs.Steps.{State, Step, opposite}
-use Rattle.art_writing.specs.Writes.{SameNodes}
 use Rattle.art_running.specs.declared.run.Command.TheVariants.{Clone}
 use Rattle.art_running.specs.declared.run.Reply.TheVariants.{Cloned, NoMemory}
 use Rattle.art_running.specs.declared.run.Side.{Side}

@@ -1,6 +1,8 @@
 -- Steps from a tree in a store, whatever the other one holds.
 use Rattle.std.proofs.Common.{◌≡◌, ℕ, List, [], refl, ap, sym, subst, Option, Some, None, Bool}
 use Rattle.std.specs.Option.{option_map}
+use Rattle.art_running.specs.Made.{MakesStep}
+use Rattle.art_model.specs.Kept.{SameNodes}
 use Rattle.art_nodes.specs.Nodes.{Nodes}
 use Rattle.art_parts.specs.declared.names.OpaqueNodePtr.{OpaqueNodePtr}
 use Rattle.art_model.specs.Canonical.{IsCanonicalTree, IsCanonical}
@@ -12,8 +14,7 @@ use Rattle.art_model.specs.Trees.{Tree}
 use Rattle.art_model.proofs.Canonical.{tree_radix}
 use Rattle.art_running.specs.Answers.{Answers}
 use Rattle.art_running.specs.Steps.{State, NothingChanged, IsSound, Step, pairs_in}
-use Rattle.art_writing.specs.Writes.{SameNodes}
-use Rattle.art_running.specs.Runs.{Shown, on, of_side, beside, shown, MakesStep}
+use Rattle.art_running.specs.Runs.{Shown, on, of_side, beside, shown}
 use Rattle.art_running.specs.declared.run.Command.{Command}
 use Rattle.art_running.specs.declared.run.Reply.{Reply}
 use Rattle.art_running.specs.declared.run.Reply.TheVariants.{Deleted, Found, MatchLen}

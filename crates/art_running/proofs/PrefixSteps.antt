@@ -10,7 +10,7 @@ use Rattle.art_parts.specs.declared.names.NodeType.{NodeType}
 use Rattle.art_parts.specs.declared.names.NodeType.TheVariants.{Node4, Node16, Node48, Node256, Leaf}
 use Rattle.art_parts.specs.declared.names.OpaqueNodePtr.{OpaqueNodePtr}
 use Rattle.art_model.specs.Canonical.{IsCanonical, IsCanonicalTree}
-use Rattle.art_model.specs.Footprints.{TouchesAtMost}
+use Rattle.art_model.specs.Footprints.{TouchesAtMost, TouchesRelated}
 use Rattle.art_model.specs.Keys.{are_related, are_same}
 use Rattle.art_model.specs.Kept.{ChangesInPlace}
 use Rattle.art_model.specs.Pairs.{of_key, add_in_order, first_of, went, is_conflict, overwrite, overwrite_reply, related_to, remove_key, remove_related, replace_related, with_key}
@@ -29,7 +29,7 @@ use Rattle.art_model.proofs.PutOver.{free_unrelated, one_went, put_is_overwrite,
 use Rattle.art_model.proofs.Puts.{any_is_first, overwrite-new}
 use Rattle.art_model.proofs.Views.{leaf_or}
 use Rattle.art_running.specs.Needs.{needs, more_of, inner_count}
-use Rattle.art_writing.specs.Overwritten.{IsOverwritePointIn, TouchesForNode, TouchesForPrefix, TouchesRelated, placed_for_overwrite, placed_for_prefix}
+use Rattle.art_writing.specs.Overwritten.{IsOverwritePointIn, TouchesForNode, TouchesForPrefix, placed_for_overwrite, placed_for_prefix}
 use Rattle.art_writing.specs.Points.{AnswersToOverwrite, IsPointFor}
 use Rattle.art_writing.specs.Inserted.{alone}
 use Rattle.art_running.specs.Steps.{TouchesBy}

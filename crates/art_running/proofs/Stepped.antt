@@ -7,7 +7,7 @@ use Rattle.art_parts.specs.declared.names.OpaqueNodePtr.{OpaqueNodePtr}
 use Rattle.art_parts.specs.declared.leaf.LeafNode.{LeafNode}
 use Rattle.art_model.specs.Canonical.{IsCanonicalTree, IsCanonical}
 use Rattle.art_model.specs.Footprints.{TouchesAtMost}
-use Rattle.art_model.specs.Kept.{ChangesInPlace}
+use Rattle.art_model.specs.Kept.{ChangesInPlace, SameNodes}
 use Rattle.art_model.specs.Layouts.{name_of}
 use Rattle.art_model.specs.Pairs.{of_key, is_conflict, has_key, put, put_reply, remove_key}
 use Rattle.art_model.specs.Promises.{is_covered, promise_after}
@@ -21,7 +21,6 @@ use Rattle.art_writing.specs.Inserted.{Touches, alone, is_full, placed_for}
 use Rattle.art_running.specs.Needs.{needs}
 use Rattle.art_writing.specs.Points.{AnswersTo}
 use Rattle.art_running.specs.Steps.{Changes, MayRefuse, Promises, TouchesBy}
-use Rattle.art_writing.specs.Writes.{SameNodes}
 use Rattle.art_writing.specs.declared.delete.DeletePoint.{DeletePoint}
 use Rattle.art_writing.specs.declared.insert.InsertKind.{InsertKind}
 use Rattle.art_writing.specs.declared.insert.InsertKind.TheVariants.{MismatchPrefix, SplitLeaf, Exact, IntoExisting}

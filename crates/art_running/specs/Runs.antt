@@ -1,18 +1,12 @@
 -- Runs of commands.
-use Rattle.std.specs.Prelude.{◌≡◌, ℕ, List, [], ◌∷◌, Option, Some}
+use Rattle.std.specs.Prelude.{◌≡◌, ℕ, List, [], ◌∷◌, Option}
 use Rattle.std.specs.Option.{option_map}
 use Rattle.art_nodes.specs.Nodes.{Nodes}
 use Rattle.art_parts.specs.declared.names.OpaqueNodePtr.{OpaqueNodePtr}
-use Rattle.art_model.specs.Pairs.{of_key, remove_key}
 use Rattle.art_model.specs.Radix.{unmarked}
-use Rattle.art_model.specs.Roots.{ForTree}
-use Rattle.art_running.specs.Answers.{Answers}
-use Rattle.art_writing.specs.Deleted.{LeadsTo}
 use Rattle.art_running.specs.Steps.{State, Step, IsSound, pairs_in, root_in}
-use Rattle.art_writing.specs.declared.delete.DeletePoint.{DeletePoint}
 use Rattle.art_running.specs.declared.run.Command.{Command}
 use Rattle.art_running.specs.declared.run.Reply.{Reply}
-use Rattle.art_running.specs.declared.run.Reply.TheVariants.{Deleted}
 use Rattle.art_running.specs.declared.run.Side.{Side}
 use Rattle.art_running.specs.declared.run.Side.TheVariants.{First, Second}
 
@@ -67,20 +61,3 @@ module _ {K V : Type 0} (bytes : K → List ℕ) (P : ℕ) (IsClone : K × V →
       (one : IsRun from commands replies to) (other : IsRun start others answers end) →
       pairs_in other.end.tree ≡ pairs_in one.end.tree →
       option_map unmarked other.end.tree ≡ option_map unmarked one.end.tree
-
-  -- a step is made, whatever state is shown so
-  abbrev pub MakesStep : Shown K V → Command K V → Reply K V → Shown K V → Type 0
-  MakesStep from command reply to = (old : State K V) → shown old ≡ from → IsSound bytes P old →
-      (new : State K V) × (shown new ≡ to) × Step bytes P IsClone old command reply new
-
-  -- a step is made in one store, whatever side it is on and whatever the other one holds
-  abbrev pub StepsAlone : Nodes K V → Option OpaqueNodePtr → Command K V → Reply K V → Nodes K V →
-      Option OpaqueNodePtr → Type 0
-  StepsAlone s root command reply t after =
-      (side : Side) (other : Nodes K V) → MakesStep (beside side s other root) command reply (beside side t other after)
-
-  -- of all trees of the root: the point leads to a pair that the command takes out
-  abbrev pub IsDeletionAt : Nodes K V → OpaqueNodePtr → DeletePoint → Command K V → Type 0
-  IsDeletionAt s root point command =
-      ForTree (of_key bytes) P s root (λ pairs layout. (x : K × V) × LeadsTo layout x point ×
-      Answers bytes IsClone pairs command (Deleted (Some x)) (remove_key (of_key bytes) (bytes x.0) pairs))

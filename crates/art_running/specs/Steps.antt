@@ -3,8 +3,8 @@ use Rattle.std.specs.Prelude.{◌≡◌, ◌≢◌, ℕ, MatchBool, nat_le, List
 use Rattle.std.specs.Option.{option_map}
 use Rattle.art_nodes.specs.Nodes.{Nodes, Promise, no_promise}
 use Rattle.art_parts.specs.declared.names.OpaqueNodePtr.{OpaqueNodePtr}
-use Rattle.art_model.specs.Footprints.{TouchesAtMost}
-use Rattle.art_model.specs.Kept.{ChangesInPlace, KeepsOthers, names_in}
+use Rattle.art_model.specs.Footprints.{TouchesAtMost, TouchesRelated}
+use Rattle.art_model.specs.Kept.{ChangesInPlace, KeepsOthers, SameNodes, names_in}
 use Rattle.art_model.specs.Layouts.{name_of}
 use Rattle.art_model.specs.Pairs.{of_key, is_conflict, related_to}
 use Rattle.art_model.specs.Promises.{is_covered, promise_after, tree_taken, IsLessened}
@@ -13,8 +13,6 @@ use Rattle.art_model.specs.Roots.{IsRootOf}
 use Rattle.art_model.specs.Trees.{Tree}
 use Rattle.art_running.specs.Answers.{Answers}
 use Rattle.art_running.specs.Needs.{needs}
-use Rattle.art_writing.specs.Overwritten.{TouchesRelated}
-use Rattle.art_writing.specs.Writes.{SameNodes}
 use Rattle.art_running.specs.declared.run.Command.{Command}
 use Rattle.art_running.specs.declared.run.Command.TheVariants.{Insert, InsertPrefix, Clone}
 use Rattle.art_running.specs.declared.run.Reply.{Reply}

@@ -2,6 +2,7 @@
 
 ghost use Rattle.std.specs.Prelude.{◌≡◌, ◌<◌, List, length, map, Some, None, IsOk, IfOk, IfErr, OnOk, OnErr};
 ghost use Rattle.std.specs.Option.{option_to_list};
+ghost use Rattle.art_running.specs.Made.{IsDeletionAt, MakesStep, StepsAlone};
 ghost use Rattle.art_parts.specs.Clones.{IsPairClone};
 ghost use Rattle.art_parts.specs.Names.{leaf_name};
 ghost use Rattle.art_parts.specs.declared.names.LeafPtr.{LeafPtr};
@@ -10,7 +11,7 @@ ghost use Rattle.art_model.specs.Clones.{KeepBytes};
 ghost use Rattle.art_model.specs.Pairs.{match_of, of_key};
 ghost use Rattle.art_model.specs.Roots.{ForTree, IsCanonicalRoot};
 ghost use Rattle.art_writing.specs.Deleted.{IsDeletePointIn};
-ghost use Rattle.art_running.specs.Runs.{IsDeletionAt, IsRun, MakesStep, SamePairsLeaveSameTree, StepsAlone, beside, of_side, on};
+ghost use Rattle.art_running.specs.Runs.{IsRun, SamePairsLeaveSameTree, beside, of_side, on};
 ghost use Rattle.art_running.specs.Steps.{opposite};
 ghost use Rattle.art_writing.specs.Writes.{IsPlanted};
 ghost use Rattle.art_running.specs.declared.run.Command.TheVariants as commands;

@@ -1,2 +1,3 @@
 mod delete;
 mod insert;
+mod two_trees;

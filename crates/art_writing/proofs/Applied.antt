@@ -7,6 +7,7 @@ use Rattle.art_model.specs.Kept.{ChangesInPlace}
 use Rattle.art_model.specs.Pairs.{of_key, overwrite, put, stored_for}
 use Rattle.art_model.specs.Promises.{is_covered, promise_after}
 use Rattle.art_model.specs.Roots.{ForTree}
+use Rattle.art_model.proofs.Apart.{tree_apart}
 use Rattle.art_model.proofs.MapLaws.{stored_again}
 use Rattle.art_model.proofs.PutOver.{put_is_overwrite, put_reply_is, was_free}
 use Rattle.art_model.proofs.StoreLaws.{has_one_map}
@@ -57,6 +58,7 @@ module _ {K V : Type 0} (bytes : K → List ℕ) {P : ℕ} {s t : Nodes K V} {pa
             let is = all ps l b in
             subst (λ z. ChangesInPlace (of_key bytes) s t (Some l) (Some z))
             (sym (has_one_map (of_key bytes) P t done.new_root (put (of_key bytes) pair ps) after is.tree new is.canonical c).1) is.kept;
+        apart = tree_apart (of_key bytes) P s t (Some point.root) (Some done.new_root) pairs (put (of_key bytes) pair pairs) (Some layout) (Some own.tree) by own.canonical own.kept.others;
         touches = own.touches;
         memory = granted promise;
       }
@@ -71,6 +73,7 @@ module _ {K V : Type 0} (bytes : K → List ℕ) {P : ℕ} {s t : Nodes K V} {pa
         leaf = tt;
         replaced = λ ps l b. tt;
         kept = λ ps l b. tt;
+        apart = tt;
         touches = tt;
         memory = handed_back gone leaves inners void;
       }
@@ -86,6 +89,7 @@ module _ {K V : Type 0} (bytes : K → List ℕ) {P : ℕ} {s t : Nodes K V} {pa
         replaced = λ ps l b. tt;
         removed = λ ps l b. tt;
         kept = λ ps l b. tt;
+        apart = tt;
         touches = λ ps l b. tt;
         memory = handed_back gone leaves inners void;
       }
@@ -105,6 +109,7 @@ module _ {K V : Type 0} (bytes : K → List ℕ) {P : ℕ} {s t : Nodes K V} {pa
             ∙ ap (λ z. option_map alone z.0) (sym (put_reply_is (of_key bytes) pair pairs (was_free bytes pair pairs (is.canonical pairs layout by).1.is_map)));
         removed = λ pairs layout by. ap (λ z. z.1) (sym (put_reply_is (of_key bytes) pair pairs (was_free bytes pair pairs (is.canonical pairs layout by).1.is_map)));
         kept = is.kept;
+        apart = is.apart;
         touches = λ pairs layout by. is.touches;
         memory = granted is.memory.promise;
       }
@@ -129,6 +134,7 @@ overwritten {bytes = bytes} {P} {s} {t} {point} {pair} {done = done} (pairs, lay
       kept = λ ps l b after new c.
           let is = all ps l b in
           subst (λ z. ChangesInPlace bytes s t (Some l) (Some z)) (sym (has_one_map bytes P t done.insert_result.new_root (overwrite bytes pair ps) after is.tree new is.canonical c).1) is.kept;
+      apart = tree_apart bytes P s t (Some point.root) (Some done.insert_result.new_root) pairs (overwrite bytes pair pairs) (Some layout) (Some own.tree) by own.canonical own.kept.others;
       touches = λ ps l b. (all ps l b).touches;
       memory = granted promise;
     }

@@ -1,10 +1,11 @@
 -- What is told of a clone, from the copy of a canonical tree.
-use Rattle.std.proofs.Common.{ℕ, List, [], Some, Result, IfOk, sym, subst}
+use Rattle.std.proofs.Common.{ℕ, List, [], Some, None, Result, IfOk, refl, sym, subst}
 use Rattle.std.proofs.lemmas.Result.{IfOk-weaker}
 use Rattle.art_parts.specs.Clones.{IsPairClone}
 use Rattle.art_parts.specs.Names.{leaf_name}
 use Rattle.art_nodes.specs.Nodes.{Nodes}
 use Rattle.art_parts.specs.declared.names.OpaqueNodePtr.{OpaqueNodePtr}
+use Rattle.art_model.specs.Apart.{KeepsApart}
 use Rattle.art_model.specs.Canonical.{IsCanonical, IsCanonicalTree}
 use Rattle.art_model.specs.Clones.{AreClones, KeepBytes}
 use Rattle.art_model.specs.Kept.{KeepsOthers}
@@ -14,6 +15,7 @@ use Rattle.art_model.specs.Pairs.{of_key}
 use Rattle.art_model.specs.Radix.{HaveChildren, pairs_of}
 use Rattle.art_model.specs.Roots.{ForTree, IsCanonicalRoot, IsFullTree}
 use Rattle.art_model.specs.Trees.{Tree}
+use Rattle.art_model.proofs.Apart.{tree_apart}
 use Rattle.art_model.proofs.Copies.{copied_tree}
 use Rattle.art_model.proofs.Gains.{came_others}
 use Rattle.art_model.proofs.LeafEnds.{first_is_there, last_is_there}
@@ -40,6 +42,9 @@ module _ {K V : Type 0} (bytes : K → List _) (P : _) (is_key_clone : K → K �
   cloned_others : ForTree (of_key bytes) P new done.root (λ _ copy. KeepsOthers old new [] (names_of copy))
   cloned_others = of_copy (λ z. KeepsOthers old new [] (names_of z)) (came_others copied.gains.holds copied.gains.added)
 
+  cloned_apart : KeepsApart (of_key bytes) P old new None (Some done.root)
+  cloned_apart = tree_apart (of_key bytes) P old new None (Some done.root) [] (pairs_of copied.copy) None (Some copied.copy) refl cloned_tree.1 (came_others copied.gains.holds copied.gains.added)
+
   full_copy : HaveChildren 1 copied.copy
   full_copy = (has_children (of_key bytes) P new done.root (pairs_of copied.copy) copied.copy cloned_tree.1).1
 
@@ -63,6 +68,9 @@ module _ {K V E : Type 0} (bytes : K → List _) (P : _) (is_key_clone : K → K
     (copied : (tree : Tree OpaqueNodePtr (K × V)) → IsFullTree s root tree → IfOk result (IsCopied (IsPairClone is_key_clone is_value_clone) tree old new)) where
   pub others_kept : IfOk result (λ done. ForTree (of_key bytes) P new done.root (λ _ copy. KeepsOthers old new [] (names_of copy)))
   others_kept = let (pairs, layout, is) = canonical in each_copied result is copied (λ done one. cloned_others bytes P is_key_clone is_value_clone keep is one)
+
+  pub apart_kept : IfOk result (λ done. KeepsApart (of_key bytes) P old new None (Some done.root))
+  apart_kept = let (pairs, layout, is) = canonical in each_copied result is copied (λ done one. cloned_apart bytes P is_key_clone is_value_clone keep is one)
 
   pub first_named : IfOk result (λ done. ForTree (of_key bytes) P new done.root (λ _ copy. HasFirstLeaf copy (leaf_name done.min_leaf)))
   first_named = let (pairs, layout, is) = canonical in each_copied result is copied (λ done one. cloned_first bytes P is_key_clone is_value_clone keep is one)

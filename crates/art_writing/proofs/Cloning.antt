@@ -19,7 +19,7 @@ use Rattle.art_model.specs.Trees.{Tree, leaf, inner, Subtrees, child, no_child, 
 use Rattle.art_model.specs.Radix.{BytesRise, bytes_of, join, HaveChildren, HaveChildrenBelow}
 use Rattle.art_model.specs.Heights.{tree_height, height_below}
 use Rattle.art_model.specs.Layouts.{leaf_node, name_of, shape_of, slots_of, names_of, names_below, leaf_names, leaf_names_below, inner_names, HoldsBelow, AreDistinct, IsLayout, first_or, last_or}
-use Rattle.art_model.specs.Kept.{Frees}
+use Rattle.art_model.specs.Kept.{Frees, SameNodes}
 use Rattle.art_model.specs.Roots.{IsFullTree}
 use Rattle.art_model.specs.Stores.{node_at, pair_of, header_at}
 use Rattle.art_model.specs.Writes.{as_inner, joined, IsThere}
@@ -45,7 +45,6 @@ use Rattle.art_writing.specs.declared.clone.CloneResult.{CloneResult}
 use Rattle.art_writing.specs.declared.clone.LeafEnds.{LeafEnds}
 use Rattle.art_writing.specs.Cloned.{IsCopied}
 use Rattle.art_writing.specs.Freed.{CanGo, going}
-use Rattle.art_writing.specs.Writes.{SameNodes}
 use Rattle.art_writing.proofs.FreedTrees.{all_can, all_go}
 
 module _ {A : Type 0} where

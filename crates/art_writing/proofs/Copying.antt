@@ -11,7 +11,7 @@ use Rattle.art_parts.specs.declared.names.InnerPtr.{InnerPtr}
 use Rattle.art_parts.specs.declared.names.LeafPtr.{LeafPtr}
 use Rattle.art_parts.specs.declared.names.NodeType.TheVariants.{Leaf}
 use Rattle.art_parts.specs.declared.names.OpaqueNodePtr.{OpaqueNodePtr}
-use Rattle.art_model.specs.Kept.{Frees}
+use Rattle.art_model.specs.Kept.{Frees, SameNodes}
 use Rattle.art_model.specs.Layouts.{AreDistinct, HoldsBelow, IsLayout, name_of, names_of, names_below, shape_of, slots_of}
 use Rattle.art_model.specs.Roots.{IsFullTree}
 use Rattle.art_model.specs.Stores.{node_at, shape_at}
@@ -26,7 +26,6 @@ use Rattle.art_writing.specs.declared.clone.CloneResult.{CloneResult}
 use Rattle.art_writing.specs.declared.clone.LeafEnds.{LeafEnds}
 use Rattle.art_writing.specs.Cloned.{IsBegun, IsCopied}
 use Rattle.art_writing.specs.Freed.{CanGo, going}
-use Rattle.art_writing.specs.Writes.{SameNodes}
 use Rattle.art_writing.proofs.Cloning.{IsCloning, NextCloned, cloned_whole, cloning_next, cloning_refused, cloning_start, first_leaf, last_leaf}
 use Rattle.art_writing.proofs.FreedTrees.{all_can, all_go, inner_is_there, leaf_is_there, read, read_at_is}
 

@@ -1,18 +1,21 @@
 -- points at which leaves go
-use Rattle.std.proofs.Common.{◌≡◌, ℕ, List, ap, sym, ◌∙◌, subst, Option, Some}
+use Rattle.std.proofs.Common.{◌≡◌, ℕ, List, [], false, true, not, ap, sym, ◌∙◌, subst, Option, Some}
 use Rattle.std.specs.Option.{option_map}
 use Rattle.art_nodes.specs.Nodes.{Nodes}
 use Rattle.art_parts.specs.Names.{leaf_name}
 use Rattle.art_parts.specs.declared.names.OpaqueNodePtr.{OpaqueNodePtr}
 use Rattle.art_model.specs.Canonical.{IsCanonicalTree}
+use Rattle.art_model.specs.Keys.{are_same}
 use Rattle.art_model.specs.Lookups.{HasLeaf}
-use Rattle.art_model.specs.Pairs.{first_of, last_of}
+use Rattle.art_model.specs.Pairs.{first_of, last_of, remove_key, with_key}
 use Rattle.art_model.specs.Radix.{pairs_of}
 use Rattle.art_model.specs.Stores.{pair_of}
 use Rattle.art_model.specs.Trees.{Tree}
+use Rattle.art_model.proofs.Filters.{filter_all, none_passes}
 use Rattle.art_model.proofs.LeavesFound.{leaf_found}
-use Rattle.art_reading.specs.declared.ways.End.{End}
-use Rattle.art_reading.specs.declared.ways.End.TheVariants.{First, Last}
+use Rattle.art_model.proofs.Lists.{Each-weaker}
+use Rattle.art_reading.specs.declared.descent.End.{End}
+use Rattle.art_reading.specs.declared.descent.End.TheVariants.{First, Last}
 use Rattle.art_reading.specs.Paths.{path_of}
 use Rattle.art_reading.specs.Walks.{LeadsToEnd, of_two}
 use Rattle.art_writing.specs.declared.delete.DeletePoint.{DeletePoint}
@@ -40,3 +43,9 @@ pub point_at_end : {A : Type 0} {tree : Tree OpaqueNodePtr A} {pairs : List A} {
     (x : A) × (of_two end (first_of pairs, last_of pairs) ≡ Some x) × LeadsTo tree x point
 point_at_end First same (is, path_is) = (_, ap first_of same ∙ is.pair_is, leads_to is.has path_is)
 point_at_end Last same (is, path_is) = (_, ap last_of same ∙ is.pair_is, leads_to is.has path_is)
+
+-- where no key is equal nothing goes
+pub nothing_goes : {A : Type 0} (bytes : A → List ℕ) (key : List ℕ) (pairs : List A) → with_key bytes key pairs ≡ [] → remove_key bytes key pairs ≡ pairs
+nothing_goes bytes key pairs e =
+    filter_all (λ y. not (are_same key (bytes y))) pairs (Each-weaker (λ y. are_same key (bytes y) ≡ false) (λ y. not (are_same key (bytes y)) ≡ true) (λ y f. ap not f) pairs
+    (none_passes (λ y. are_same key (bytes y)) pairs e))

@@ -12,13 +12,19 @@ use Rattle.art_parts.specs.declared.names.OpaqueNodePtr.{OpaqueNodePtr}
 use Rattle.art_model.specs.Canonical.{IsCanonicalTree, IsCanonical}
 use Rattle.art_model.specs.Kept.{ChangesInPlace}
 use Rattle.art_model.specs.Layouts.{leaf_node, Node, Holds}
-use Rattle.art_model.specs.Pairs.{remove_key}
+use Rattle.art_model.specs.Keys.{are_same}
+use Rattle.art_model.specs.Pairs.{IsMap, first_of, remove_key, remove_reply, with_key, without_first}
 use Rattle.art_model.specs.Paths.{Frame, plug, HoldsPath}
 use Rattle.art_model.specs.Promises.{is_covered, promise_after}
 use Rattle.art_model.specs.Roots.{IsCanonicalRoot, IsRootOf}
 use Rattle.art_model.specs.Stores.{node_at, pair_of}
 use Rattle.art_model.specs.Trees.{Tree, leaf}
 use Rattle.art_model.specs.Writes.{as_inner, parent_of, without_leaf}
+use Rattle.art_model.proofs.Apart.{tree_apart}
+use Rattle.art_model.proofs.Filters.{filter_passes}
+use Rattle.art_model.proofs.Keys.{same_equal}
+use Rattle.art_model.proofs.MapLaws.{first_is_removed_by_key, last_is_removed_by_key}
+use Rattle.art_model.proofs.Puts.{first_has}
 use Rattle.art_model.proofs.Stores.{path_holds}
 use Rattle.art_model.proofs.StoreLaws.{has_one_map}
 use Rattle.art_model.proofs.Writes.{node_at-leaf, parent_there}
@@ -108,6 +114,17 @@ module _ {K V : Type 0} (bytes : K × V → List ℕ) (P : ℕ) (t : Nodes K V) 
   one_tree rest after (Some name) None new one two = absurd one
   one_tree rest after (Some name) (Some tree) None one two = absurd two
 
+module _ {A : Type 0} (bytes : A → List ℕ) where
+  -- the pair that a removal answers has the key
+  pub reply_key : (key : List ℕ) (pairs : List A) (x : A) → remove_reply bytes key pairs ≡ Some x → bytes x ≡ key
+  reply_key key pairs x e =
+      same_equal key (bytes x) (first_has (λ y. are_same key (bytes y) ≡ true) (with_key bytes key pairs) x (filter_passes (λ y. are_same key (bytes y)) pairs) e)
+
+  -- the first pair of a map goes by its key
+  pub first_goes : (pairs : List A) (x : A) → IsMap bytes pairs → first_of pairs ≡ Some x → remove_key bytes (bytes x) pairs ≡ without_first pairs
+  first_goes [] x is e = absurd cc
+  first_goes (y ∷ ys) x is e = subst (λ z. remove_key bytes (bytes z) (y ∷ ys) ≡ ys) (some_same e) (first_is_removed_by_key bytes y ys is)
+
 -- what is placed, by what becomes of the parent
 abbrev placed_by : ParentChange → Promise
 placed_by change = elim change as (λ _. Promise) [ shrinks kind ↦ record { leaves = 0; inner = Some kind } | _ ↦ record { leaves = 0; inner = None } ]
@@ -119,13 +136,23 @@ module _ {K V : Type 0} {bytes : K × V → List ℕ} {P : ℕ} {s t : Nodes K V
   taken_out {done} (pairs, layout, x, by, leads) own promise =
       let left = canonical_root bytes P t (remove_key bytes (bytes x) pairs) done.new_root own.tree own.canonical in
       let (node, here, pair) = leaf_at by leads in
+      let named : option_map pair_of (get s.leaves point.leaf_node_ptr) ≡ Some (pair_of done.deleted_leaf) =
+      ap (option_map pair_of) here ∙ ap Some (pair ∙ sym (ap pair_of own.deleted)) in
+      let rest : (ps : List (K × V)) (l : Tree OpaqueNodePtr (K × V)) → IsCanonicalTree bytes P s root ps l →
+      IsCanonical bytes P t done.new_root (remove_key bytes (bytes (pair_of done.deleted_leaf)) ps) =
+      λ ps l b. rw own.deleted (rw (has_one_map bytes P s root pairs ps layout l by b).0 left) in
       record {
-        canonical = λ ps l b. rw own.deleted (rw (has_one_map bytes P s root pairs ps layout l by b).0 left);
+        canonical = rest;
+        pair = named;
+        sought = λ ps l b key e. subst (λ k. IsCanonical bytes P t done.new_root (remove_key bytes k ps)) (reply_key bytes key ps (pair_of done.deleted_leaf) (sym e ∙ named)) (rest ps l b);
+        first = λ ps l b e. subst (IsCanonical bytes P t done.new_root) (first_goes bytes ps (pair_of done.deleted_leaf) b.is_map (sym e ∙ named)) (rest ps l b);
+        last = λ ps l b e. subst (IsCanonical bytes P t done.new_root) (last_is_removed_by_key bytes (pair_of done.deleted_leaf) ps b.is_map (sym e ∙ named)) (rest ps l b);
         left = some_root bytes P t done.new_root (remove_key bytes (bytes x) pairs) left;
         deleted = subst (λ o. IfSome o (λ leaf. done.deleted_leaf ≡ alone (pair_of leaf))) (sym here) (own.deleted ∙ ap alone (sym pair));
         root_is = own.root_is;
         kept = λ ps l b after new is. subst (λ old. ChangesInPlace bytes s t (Some old) new) (sym (has_one_map bytes P s root pairs ps layout l by b).1)
             (subst (ChangesInPlace bytes s t (Some layout)) (one_tree bytes P t (remove_key bytes (bytes x) pairs) after done.new_root own.tree new own.canonical is) own.kept);
+        apart = tree_apart bytes P s t (Some root) done.new_root pairs (remove_key bytes (bytes x) pairs) (Some layout) own.tree by own.canonical own.kept.others;
         touches = own.touches;
         promise = promise;
         succeeds = λ covered. refl;
@@ -170,8 +197,13 @@ shrink_refused {s = s} kind (Err e) failed succeeds leaves inners void told = re
   canonical = λ pairs layout by. tt;
   left = tt;
   deleted = tt;
+  pair = tt;
+  sought = λ pairs layout by. tt;
+  first = λ pairs layout by. tt;
+  last = λ pairs layout by. tt;
   root_is = tt;
   kept = λ pairs layout by. tt;
+  apart = tt;
   touches = tt;
   promise = tt;
   succeeds = λ covered. succeeds (subst (λ change. IsTrue (is_covered (placed_by change) s.promise)) told covered);

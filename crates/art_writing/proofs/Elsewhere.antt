@@ -1,7 +1,6 @@
 -- A tree is as it was where the nodes in use hold what they held: writes beside it and reservations don't matter.
 use Rattle.std.proofs.Common.{◌≡◌, ◌≢◌, ℕ, List, ap, sym, subst, ◌∙◌, None, Result, Ok, Err, IfOk, OnErr, inl, inr}
-use Rattle.std.specs.List.{AllByRecursion as Each}
-use Rattle.std.specs.Option.{option_map, option_and_then}
+use Rattle.std.specs.Option.{option_map}
 use Rattle.std.specs.FinMap.{get, insert}
 use Rattle.art_parts.specs.Names.{leaf_name}
 use Rattle.art_nodes.specs.Nodes.{Nodes}
@@ -10,13 +9,9 @@ use Rattle.art_parts.specs.declared.leaf.LeafNode.{LeafNode}
 use Rattle.art_parts.specs.declared.names.OpaqueNodePtr.{OpaqueNodePtr}
 use Rattle.art_nodes.proofs.StoreLaws.{leaf_elsewhere as elsewhere}
 use Rattle.art_model.specs.Canonical.{IsCanonicalTree}
-use Rattle.art_model.specs.Layouts.{names_of, leaf_names}
-use Rattle.art_model.specs.Stores.{held, held_leaf, held_inner, links_at, links_of, node_at, seen}
+use Rattle.art_model.specs.Stores.{held, held_leaf, held_inner}
 use Rattle.art_model.specs.Trees.{Tree}
-use Rattle.art_model.proofs.Links.{linked-frame}
-use Rattle.art_model.proofs.Lists.{Each-weaker}
-use Rattle.art_model.proofs.Names.{IsTaken, all_taken, among, takes_leaves}
-use Rattle.art_model.proofs.Stores.{frame}
+use Rattle.art_model.proofs.Apart.{name_used, tree_kept}
 use Rattle.art_model.proofs.Views.{held_in_inner, leaf_or}
 
 -- a leaf that is placed leaves what is in use
@@ -35,27 +30,7 @@ pub placement_elsewhere : {K V E : Type 0} (s t : Nodes K V) (x : LeafNode K V) 
 placement_elsewhere s t x (Ok n) leaves free inners same k used = leaf_elsewhere s t n x free leaves inners k used
 placement_elsewhere s t x (Err e) leaves free inners same k used = ap (λ m. held m k) same
 
-module _ {K V : Type 0} {bytes : K × V → List ℕ} {P : ℕ} {s t : Nodes K V} {root : OpaqueNodePtr} {pairs : List (K × V)} {layout : Tree OpaqueNodePtr (K × V)} where
-  pub tree_stays : IsCanonicalTree bytes P s root pairs layout → ((k : OpaqueNodePtr) → held s k ≢ None → held t k ≡ held s k) → IsCanonicalTree bytes P t root pairs layout
-  tree_stays by same = record {
-    is_map = by.is_map;
-    tree = by.tree;
-    is_tree = by.is_tree;
-    stands = (
-      record {
-        named = by.stands.0.named;
-        holds = frame (node_at s) (node_at t) layout (Each-weaker (λ k. held t k ≡ held s k) (λ k. node_at t k ≡ node_at s k)
-            (λ k e. ap (option_map (seen k.kind)) e) (names_of layout) all_same) by.stands.0.holds;
-        distinct = by.stands.0.distinct;
-      },
-      by.stands.1,
-    );
-    linked = linked-frame (links_at s) (links_at t) (leaf_names layout) None None
-        (Each-weaker (λ k. held t k ≡ held s k) (λ k. links_at t k ≡ links_at s k) (λ k e. ap (option_and_then links_of) e) (leaf_names layout)
-        (among takes_leaves (λ k. held t k ≡ held s k) layout all_same)) by.linked;
-  }
-    where
-      all_same : Each (λ k. held t k ≡ held s k) (names_of layout)
-      all_same =
-          Each-weaker (IsTaken (node_at s)) (λ k. held t k ≡ held s k) (λ k used. same k (λ e. used (ap (option_map (seen k.kind)) e)))
-          (names_of layout) (all_taken (node_at s) layout by.stands.0.holds)
+-- a canonical root stays one where what is in use holds what it held
+pub tree_stays : {K V : Type 0} {bytes : K × V → List ℕ} {P : ℕ} {s t : Nodes K V} {root : OpaqueNodePtr} {pairs : List (K × V)} {layout : Tree OpaqueNodePtr (K × V)} →
+    IsCanonicalTree bytes P s root pairs layout → ((k : OpaqueNodePtr) → held s k ≢ None → held t k ≡ held s k) → IsCanonicalTree bytes P t root pairs layout
+tree_stays by same = tree_kept by (λ k i. same k (name_used by k i))

@@ -27,6 +27,8 @@ pub mod Answered
 pub mod Replaced
 pub mod Overwrites
 pub mod RelatedPairs
+pub mod Collapses
+pub mod Subtrees
 pub mod Gaps
 pub mod Larger
 pub mod Entered

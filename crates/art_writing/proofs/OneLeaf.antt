@@ -15,6 +15,8 @@ use Rattle.art_model.specs.Pairs.{of_key}
 use Rattle.art_model.specs.Roots.{IsCanonicalRoot}
 use Rattle.art_model.specs.Stores.{held_leaf, seen, links_of}
 use Rattle.art_model.specs.Trees.{leaf}
+use Rattle.art_model.specs.Apart.{KeepsApart}
+use Rattle.art_model.proofs.Apart.{tree_apart}
 use Rattle.art_model.proofs.Canonical.{canonical_from}
 use Rattle.art_model.proofs.InPlace.{others_kept}
 use Rattle.art_model.proofs.Touches.{Touched, touched_none, then_placed, footprint_of}
@@ -59,3 +61,7 @@ module _ {K V : Type 0} (bytes : K → List ℕ) (P : ℕ) {s t : Nodes K V} {n 
     others = others_kept (footprint_of s t leaves_touched inners_touched tt tt tt)
         (record { placed_in = λ k i. i; freed_in = λ k i. i; changed_in = λ k i. i; old_stays = λ k i. absurd i; new_comes = λ k i. inr i });
   }
+
+  -- so what stood stands apart from the new tree
+  pub planted_apart : KeepsApart (of_key bytes) P s t None (Some (leaf_name n))
+  planted_apart = tree_apart (of_key bytes) P s t None (Some (leaf_name n)) [] (x ∷ []) None (Some (leaf (leaf_name n) x)) refl planted in_place.others

@@ -15,8 +15,8 @@ use Rattle.art_parts.specs.declared.names.LeafPtr.{LeafPtr}
 use Rattle.art_parts.specs.declared.names.OpaqueNodePtr.{OpaqueNodePtr}
 use Rattle.art_model.specs.Canonical.{IsCanonicalTree}
 use Rattle.art_model.specs.Keys.{IsFront, are_related}
-use Rattle.art_model.specs.Footprints.{IsIn}
-use Rattle.art_model.specs.Kept.{ChangesInPlace, Frees}
+use Rattle.art_model.specs.Footprints.{IsIn, TouchesRelated}
+use Rattle.art_model.specs.Kept.{ChangesInPlace, Frees, SameNodes}
 use Rattle.art_model.specs.Layouts.{name_of, names_of, leaf_names, slots_of, first_or, last_or, Holds}
 use Rattle.art_model.specs.Pairs.{overwrite, overwrite_reply, went}
 use Rattle.art_model.specs.Paths.{Frame, plug, leaves_before, leaves_after}
@@ -44,11 +44,11 @@ use Rattle.art_model.proofs.Writes.{parent_ready, same_but, with_child_at-elsewh
 use Rattle.art_writing.specs.declared.insert.InsertParentNodeChange.TheVariants.{NoChange}
 use Rattle.art_writing.specs.declared.insert.OverwritePoint.{OverwritePoint}
 use Rattle.art_writing.specs.Inserted.{alone}
-use Rattle.art_writing.specs.Overwritten.{IsOverwritePointIn, TouchesForNode, TouchesRelated, placed_for_overwrite}
+use Rattle.art_writing.specs.Overwritten.{IsOverwritePointIn, TouchesForNode, placed_for_overwrite}
 use Rattle.art_writing.specs.Points.{IsOverwrittenWith}
 use Rattle.art_reading.specs.Paths.{last_step, path_of, root_with}
 use Rattle.art_writing.specs.declared.writes.Side.TheVariants.{Before, After}
-use Rattle.art_writing.specs.Writes.{HasChild, IsBeside, SameNodes}
+use Rattle.art_writing.specs.Writes.{HasChild, IsBeside}
 use Rattle.art_writing.proofs.Left.{IsOverwritten}
 use Rattle.art_writing.proofs.BranchReads.{beside_is}
 use Rattle.art_writing.proofs.Answered.{IsEndLeaf, end_leaf, placed_end}

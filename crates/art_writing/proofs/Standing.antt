@@ -1,5 +1,6 @@
 -- A store with the same nodes under the same names, as it is once memory is reserved.
 use Rattle.std.proofs.Common.{◌≡◌, ℕ, List, refl, ap₂, sym, ◌∙◌, subst}
+use Rattle.art_model.specs.Kept.{SameNodes}
 use Rattle.art_nodes.specs.Nodes.{Nodes}
 use Rattle.art_parts.specs.declared.names.OpaqueNodePtr.{OpaqueNodePtr}
 use Rattle.art_model.specs.Canonical.{IsCanonicalTree}
@@ -10,7 +11,6 @@ use Rattle.art_writing.proofs.Elsewhere as elsewhere
 use Rattle.art_writing.specs.Inserted.{IsPointIn}
 use Rattle.art_writing.specs.Overwritten.{IsOverwritePointIn, IsPrefixPointIn, root_of}
 use Rattle.art_writing.specs.Points.{AnswersTo, AnswersToOverwrite, IsPointFor}
-use Rattle.art_writing.specs.Writes.{SameNodes}
 use Rattle.art_writing.specs.declared.insert.InsertPoint.{InsertPoint}
 use Rattle.art_writing.specs.declared.insert.OverwritePoint.{OverwritePoint}
 use Rattle.art_writing.specs.declared.insert.PrefixInsertPoint.{PrefixInsertPoint}

@@ -2,6 +2,7 @@
 use Rattle.std.specs.Prelude.{◌≡◌, ℕ, List, Some, Result, IsOk, IsTrue, IfOk, IfErr, OnOk, OnErr}
 use Rattle.std.specs.Option.{option_map}
 use Rattle.art_nodes.specs.Nodes.{Nodes, Promise, no_promise}
+use Rattle.art_model.specs.Apart.{KeepsApart}
 use Rattle.art_model.specs.Canonical.{IsCanonical}
 use Rattle.art_model.specs.Kept.{ChangesInPlace}
 use Rattle.art_model.specs.Pairs.{overwrite, overwrite_reply, put, put_reply, stored_for}
@@ -38,6 +39,7 @@ module _ {K V : Type 0} (bytes : K × V → List ℕ) (P : ℕ) (s t : Nodes K V
         done.existing_leaf ≡ option_map alone (put_reply bytes pair pairs)))
     pub kept : ForTree bytes P s point.root (λ pairs old. IfOk result (λ done.
         ForTree bytes P t done.new_root (λ after new. ChangesInPlace bytes s t (Some old) (Some new))))
+    pub apart : IfOk result (λ done. KeepsApart bytes P s t (Some point.root) (Some done.new_root))
     pub touches : OnOk result (Touches point.insert_kind s t)
     pub memory : TakesMemory s t (placed_for s point.insert_kind) pair result
 
@@ -55,6 +57,8 @@ module _ {K V : Type 0} (bytes : K × V → List ℕ) (P : ℕ) (s t : Nodes K V
         done.leafs_removed ≡ (overwrite_reply bytes pair pairs).1))
     pub kept : ForTree bytes P s (root_of point) (λ pairs old. IfOk result (λ done.
         ForTree bytes P t done.insert_result.new_root (λ after new. ChangesInPlace bytes s t (Some old) (Some new))))
+    pub apart : IfOk result (λ done.
+        KeepsApart bytes P s t (Some (root_of point)) (Some done.insert_result.new_root))
     pub touches : ForTree bytes P s (root_of point) (λ pairs layout.
         OnOk result (TouchesForPrefix point bytes (bytes pair) s t layout))
     pub memory : TakesMemory s t (placed_for_prefix s point) pair result

@@ -17,11 +17,14 @@ pub mod Writes
 -- insertion
 pub mod Points
 pub mod Inserted
+pub mod Conflicts
 pub mod Branches
 pub mod Overwritten
 pub mod Applied
 -- deletion, the freeing of trees, and copies
 pub mod Deleted
 pub mod TakenOut
+pub mod Subtrees
+pub mod Collapsed
 pub mod Freed
 pub mod Cloned

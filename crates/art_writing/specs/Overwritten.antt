@@ -1,17 +1,14 @@
 -- What an applied overwrite point places and touches, and what it leaves.
-use Rattle.std.specs.Prelude.{◌≡◌, ℕ, List, Option, Some, None}
+use Rattle.std.specs.Prelude.{◌≡◌, ℕ, List, Some, None}
 use Rattle.art_parts.specs.Names.{leaf_name}
 use Rattle.art_nodes.specs.Nodes.{Nodes, Promise}
 use Rattle.art_parts.specs.declared.names.NodeType.{NodeType}
 use Rattle.art_parts.specs.declared.names.NodeType.TheVariants.{Leaf}
 use Rattle.art_parts.specs.declared.names.OpaqueNodePtr.{OpaqueNodePtr}
 use Rattle.art_model.specs.Canonical.{IsCanonicalTree}
-use Rattle.art_model.specs.Footprints.{TouchesAtMost, PlacesOneFor}
-use Rattle.art_model.specs.Layouts.{names_of}
+use Rattle.art_model.specs.Footprints.{TouchesAtMost, TouchesRelated}
 use Rattle.art_model.specs.Lookups.{HasLeaf}
-use Rattle.art_model.specs.Pairs.{related_to, stored_for}
-use Rattle.art_model.specs.Paths.{Frame, plug}
-use Rattle.art_model.specs.Radix.{pairs_of}
+use Rattle.art_model.specs.Pairs.{stored_for}
 use Rattle.art_model.specs.Trees.{Tree}
 use Rattle.art_writing.specs.declared.insert.InsertParentNodeChange.TheVariants.{NoChange}
 use Rattle.art_writing.specs.declared.insert.InsertResult.{InsertResult}
@@ -20,15 +17,6 @@ use Rattle.art_writing.specs.declared.insert.PrefixInsertPoint.{PrefixInsertPoin
 use Rattle.art_writing.specs.declared.insert.PrefixInsertPoint.TheVariants as points
 use Rattle.art_writing.specs.Inserted.{HasInserted, IsPointIn, Touches, placed_for}
 use Rattle.art_writing.specs.Points.{AnswersToOverwrite}
-
--- The tree has a subtree with the pairs whose keys are related to this one, and no others; a leaf was placed for its nodes, which are freed, and at most three others are changed.
-pub record TouchesRelated {K V : Type 0} (bytes : K × V → List ℕ) (key : List ℕ) (s t : Nodes K V)
-    (tree : Option (Tree OpaqueNodePtr (K × V))) : Type 0 where
-  pub path : List (Frame OpaqueNodePtr (K × V))
-  pub node : Tree OpaqueNodePtr (K × V)
-  pub whole : tree ≡ Some (plug path node)
-  pub pairs : pairs_of node ≡ related_to bytes key (pairs_of (plug path node))
-  pub touches : PlacesOneFor (names_of node) 3 s t
 
 module _ {K V : Type 0} where
   -- the point answers to the store, the root that it names, and the key

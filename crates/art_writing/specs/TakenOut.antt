@@ -3,9 +3,10 @@ use Rattle.std.specs.Prelude.{◌≡◌, ℕ, List, Option, Some, Result, IsOk, 
 use Rattle.std.specs.FinMap as map
 use Rattle.art_nodes.specs.Nodes.{Nodes, no_promise}
 use Rattle.art_parts.specs.declared.names.OpaqueNodePtr.{OpaqueNodePtr}
+use Rattle.art_model.specs.Apart.{KeepsApart}
 use Rattle.art_model.specs.Canonical.{IsCanonical}
 use Rattle.art_model.specs.Kept.{ChangesInPlace}
-use Rattle.art_model.specs.Pairs.{remove_key}
+use Rattle.art_model.specs.Pairs.{first_of, last_of, remove_key, remove_reply, without_first, without_last}
 use Rattle.art_model.specs.Promises.{is_covered, promise_after}
 use Rattle.art_model.specs.Roots.{ForRoot, ForTree, IsCanonicalRoot}
 use Rattle.art_model.specs.Stores.{pair_of}
@@ -13,7 +14,7 @@ use Rattle.art_model.specs.Writes.{without_leaf}
 use Rattle.art_writing.specs.declared.delete.DeletePoint.{DeletePoint}
 use Rattle.art_writing.specs.declared.delete.DeleteRefused.{DeleteRefused}
 use Rattle.art_writing.specs.declared.delete.DeleteResult.{DeleteResult}
-use Rattle.art_writing.specs.Deleted.{IsRootAfter, TouchesFor, parent_change, placed_for_deletion}
+use Rattle.art_writing.specs.Deleted.{IsRootAfter, TouchesFor, pair_at, parent_change, placed_for_deletion}
 use Rattle.art_writing.specs.Inserted.{alone}
 
 -- The point's leaf goes from between those beside it, and is answered alone, with this root; inner nodes and the promise stay.
@@ -34,10 +35,18 @@ pub record IsTakenOut {K V : Type 0} (bytes : K × V → List ℕ) (P : ℕ) (s 
   pub left : IfOk result (λ done. IfSome done.new_root (IsCanonicalRoot bytes P t))
   pub deleted : IfOk result (λ done. IfSome (map.get s.leaves point.leaf_node_ptr) (λ leaf.
       done.deleted_leaf ≡ alone (pair_of leaf)))
+  pub pair : IfOk result (λ done. pair_at s (Some point) ≡ Some (pair_of done.deleted_leaf))
+  pub sought : ForTree bytes P s root (λ pairs _. IfOk result (λ done. (key : List ℕ) →
+      pair_at s (Some point) ≡ remove_reply bytes key pairs → IsCanonical bytes P t done.new_root (remove_key bytes key pairs)))
+  pub first : ForTree bytes P s root (λ pairs _. IfOk result (λ done.
+      pair_at s (Some point) ≡ first_of pairs → IsCanonical bytes P t done.new_root (without_first pairs)))
+  pub last : ForTree bytes P s root (λ pairs _. IfOk result (λ done.
+      pair_at s (Some point) ≡ last_of pairs → IsCanonical bytes P t done.new_root (without_last pairs)))
   pub root_is : IfOk result (λ done.
       IsRootAfter (parent_change s point.path) point.path root done.new_root)
   pub kept : ForTree bytes P s root (λ pairs old. IfOk result (λ done. ForRoot bytes P t done.new_root (λ after new.
       ChangesInPlace bytes s t (Some old) new)))
+  pub apart : IfOk result (λ done. KeepsApart bytes P s t (Some root) done.new_root)
   pub touches : OnOk result (TouchesFor (parent_change s point.path) s t)
   pub promise : OnOk result (t.promise ≡ promise_after (placed_for_deletion s point.path) s.promise)
   pub succeeds : IsTrue (is_covered (placed_for_deletion s point.path) s.promise) → IsOk result

@@ -23,10 +23,6 @@ abbrev pub HasChild : Inners → Option (InnerPtr × ℕ) → Type 0
 HasChild inners None = ⊤
 HasChild inners (Some parent) = IsSomeAnd (map.get inners parent.0) (λ node. IsSome (child_at node.children parent.1))
 
--- the same nodes under the same names
-abbrev pub SameNodes : {K V : Type 0} → Nodes K V → Nodes K V → Type 0
-SameNodes old new = (new.leaves ≡ old.leaves) × (new.inners ≡ old.inners)
-
 -- A leaf with no siblings came into a store.
 pub record IsPlanted {K V : Type 0} (s t : Nodes K V) (name : LeafPtr) (pair : K × V) : Type 0 where
   pub fresh : map.get s.leaves name ≡ None

@@ -12,6 +12,7 @@ ghost use Rattle.art_nodes.specs.Nodes.{change, take_inner, take_leaf};
 ghost use Rattle.art_parts.specs.declared.leaf.LeafNode.{LeafNode};
 ghost use Rattle.art_parts.specs.declared.names.NodeType.TheVariants.{Leaf};
 ghost use Rattle.art_parts.specs.declared.names.OpaqueNodePtr.{OpaqueNodePtr};
+ghost use Rattle.art_model.specs.Apart.{KeepsApart};
 ghost use Rattle.art_model.specs.Canonical.{IsCanonical};
 ghost use Rattle.art_model.specs.Clones.{AreClones, KeepBytes};
 ghost use Rattle.art_model.specs.Kept.{KeepsOthers};
@@ -65,6 +66,8 @@ pub fn clone_unchecked<K: AsBytes + Clone + Drop, V: Clone + Drop, const PREFIX_
     ensures gained { IfOk result (λ done.
         ForTree (of_key K.bytes) PREFIX_LEN into.new done.root (λ _ copy.
         KeepsOthers into.old into.new [] (names_of copy))) }
+    ensures apart { IfOk result (λ done. KeepsApart (of_key K.bytes) PREFIX_LEN
+        into.old into.new None (Some done.root)) }
     ensures first { IfOk result (λ done.
         ForTree (of_key K.bytes) PREFIX_LEN into.new done.root (λ _ copy.
         HasFirstLeaf copy (leaf_name done.min_leaf))) }

@@ -1,13 +1,14 @@
 //! Leaves, inner nodes and whole trees are freed. Nothing here takes memory.
-ghost use Rattle.std.specs.Prelude.{◌≡◌, ◌+◌, ◌<◌, ◌↔◌, ◌++◌, ◌^◌, List, [], ◌∷◌, length, IsTrue, IsSome, IfSome, IfNone};
+ghost use Rattle.std.specs.Prelude.{◌≡◌, ◌+◌, ◌<◌, ◌↔◌, ◌++◌, ◌^◌, List, [], ◌∷◌, length, Some, None, IsTrue, IsSome, IfSome, IfNone};
 ghost use Rattle.std.specs.FinMap as map;
 ghost use Rattle.art_parts.specs.declared.names.InnerPtr.{InnerPtr};
 ghost use Rattle.art_parts.specs.declared.names.NodeType.TheVariants.{Leaf};
 ghost use Rattle.art_parts.specs.declared.names.OpaqueNodePtr.{OpaqueNodePtr};
+ghost use Rattle.art_model.specs.Apart.{KeepsApart};
 ghost use Rattle.art_model.specs.Kept.{Frees};
 ghost use Rattle.art_model.specs.Layouts.{IsLayout, inner_names, leaf_names, names_of};
-ghost use Rattle.art_model.specs.Pairs.{first_of};
-ghost use Rattle.art_model.specs.Roots.{IsFullTree};
+ghost use Rattle.art_model.specs.Pairs.{first_of, of_key};
+ghost use Rattle.art_model.specs.Roots.{IsCanonicalRoot, IsFullTree};
 ghost use Rattle.art_model.specs.Stores.{shape_at};
 ghost use Rattle.art_model.specs.Trees.{Tree};
 ghost use Rattle.art_model.specs.Writes.{as_inner};
@@ -47,6 +48,8 @@ pub fn deallocate_tree_non_leaves<K: AsBytes + Drop, V: Drop, const PREFIX_LEN: 
     requires { (shape : Tree OpaqueNodePtr (Unit {0})) × IsLayout (shape_at store.old) root shape }
     ensures freed { (shape : Tree OpaqueNodePtr (Unit {0})) →
         IsLayout (shape_at store.old) root shape → Frees (inner_names shape) store.old store.new }
+    ensures apart { IsCanonicalRoot (of_key K.bytes) PREFIX_LEN store.old root →
+        KeepsApart (of_key K.bytes) PREFIX_LEN store.old store.new (Some root) None }
     ensures promise { store.new.promise ≡ store.old.promise }
 {
     free_nodes(store, root, false);
@@ -60,6 +63,8 @@ pub fn deallocate_tree<K: AsBytes + Drop, V: Drop, const PREFIX_LEN: usize>(
     requires { (layout : Tree OpaqueNodePtr (K × V)) × IsFullTree store.old root layout }
     ensures freed { (layout : Tree OpaqueNodePtr (K × V)) → IsFullTree store.old root layout →
         Frees (names_of layout) store.old store.new }
+    ensures apart { IsCanonicalRoot (of_key K.bytes) PREFIX_LEN store.old root →
+        KeepsApart (of_key K.bytes) PREFIX_LEN store.old store.new (Some root) None }
     ensures count { (layout : Tree OpaqueNodePtr (K × V)) → IsFullTree store.old root layout →
         result ≡ length (leaf_names layout) }
     ensures promise { store.new.promise ≡ store.old.promise }

@@ -1,18 +1,25 @@
 //! Deletion: the point at which a leaf goes out of a tree.
-ghost use Rattle.std.specs.Prelude.{◌≡◌, ◌+◌, ◌<◌, ◌^◌, length, IsSome, IfSome, Some};
-ghost use Rattle.art_model.specs.Pairs.{first_of, last_of, of_key, remove_reply};
+ghost use Rattle.std.specs.Prelude.{◌≡◌, ◌+◌, ◌<◌, ◌^◌, length, IsSome, IfSome, IfNone, Some};
+ghost use Rattle.art_model.specs.Canonical.{IsCanonical};
+ghost use Rattle.art_model.specs.Pairs.{first_of, last_of, of_key, remove_key, remove_reply};
 ghost use Rattle.art_model.specs.Roots.{ForTree, IsCanonicalRoot};
 ghost use Rattle.art_reading.specs.Walks.{CountsVisits, of_two};
 ghost use Rattle.art_writing.specs.Deleted.{IsDeletePoint, IsDeletePointIn, pair_at};
 
 use art_nodes::node::{AsBytes, LeafNode, LeafPtr, OpaqueNodePtr};
 use art_nodes::store::NodeStore;
+use art_reading::descent::{End, walk_to_end, walk_to_key};
 use art_reading::lookup::Visits;
+use art_reading::matching::Asked;
 use art_reading::path::TreePath;
-use art_reading::ways::{Asked, End, walk_to_end, walk_to_key};
 
 mod apply;
 mod compress;
+mod subtree;
+
+pub use subtree::{
+    SubtreeDeletePoint, SubtreeDeleteRefused, SubtreeDeleteResult, search_for_prefix_delete_point,
+};
 
 /// Where a leaf goes out of a tree.
 #[derive(Clone, Copy, PartialEq, Eq, Debug)]
@@ -50,6 +57,9 @@ pub fn search_for_delete_point<K: AsBytes + Drop, V: Drop, const PREFIX_LEN: usi
         IsDeletePoint layout (remove_reply (of_key K.bytes) key_bytes.now pairs) result) }
     ensures pair { ForTree (of_key K.bytes) PREFIX_LEN store.now root (λ pairs _.
         pair_at store.now result ≡ remove_reply (of_key K.bytes) key_bytes.now pairs) }
+    ensures absent { ForTree (of_key K.bytes) PREFIX_LEN store.now root (λ pairs _.
+        IfNone result (IsCanonical (of_key K.bytes) PREFIX_LEN store.now (Some root)
+        (remove_key (of_key K.bytes) key_bytes.now pairs))) }
     ensures applies { IfSome result (IsDeletePointIn (of_key K.bytes) PREFIX_LEN store.now root) }
 {
     search_for_delete_point_visiting(store, root, key_bytes, &mut Visits::new())
@@ -68,6 +78,9 @@ pub fn search_for_delete_point_visiting<K: AsBytes + Drop, V: Drop, const PREFIX
         IsDeletePoint layout (remove_reply (of_key K.bytes) key_bytes.now pairs) result) }
     ensures pair { ForTree (of_key K.bytes) PREFIX_LEN store.now root (λ pairs _.
         pair_at store.now result ≡ remove_reply (of_key K.bytes) key_bytes.now pairs) }
+    ensures absent { ForTree (of_key K.bytes) PREFIX_LEN store.now root (λ pairs _.
+        IfNone result (IsCanonical (of_key K.bytes) PREFIX_LEN store.now (Some root)
+        (remove_key (of_key K.bytes) key_bytes.now pairs))) }
     ensures applies { IfSome result (IsDeletePointIn (of_key K.bytes) PREFIX_LEN store.now root) }
     ensures visits { CountsVisits (of_key K.bytes) PREFIX_LEN store.now root key_bytes.now
         visits.old visits.new (IsSome result) }

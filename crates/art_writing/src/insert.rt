@@ -17,11 +17,12 @@ use art_nodes::node::{
     AsBytes, InnerPtr, InnerRef, LeafNode, LeafPtr, NodePtr, OpaqueNodePtr, OptionalLeafPtr,
 };
 use art_nodes::store::NodeStore;
+use art_reading::matching::shared_len;
 use art_reading::minmax::minimum_unchecked;
 use art_reading::path::{ExplicitMismatch, PrefixMatch, TreePath};
-use art_reading::ways::shared_len;
 use std::alloc::{AllocError, Global};
 use std::boxed::BoxedSlice;
+use std::fmt;
 use thiserror::Error;
 
 mod apply;
@@ -34,10 +35,47 @@ pub use beginning::plant;
 
 /// A key that can't be inserted: a stored key begins with it, or it begins with a stored key.
 #[derive(PartialEq, Eq, Debug, Drop, Error)]
-#[error("Attempted to insert a key [{byte_repr:?}] which is either a prefix of an existing key or an existing key is a prefix of the new key.")]
 pub struct InsertPrefixError {
     /// The bytes of the key.
     pub byte_repr: BoxedSlice<u8>,
+}
+
+impl fmt::Display for InsertPrefixError {
+    ghost use Rattle.std.specs.Prelude.{Some};
+    ghost use Rattle.std.specs.Box.{boxed_slice_items};
+    ghost use Rattle.art_writing.specs.Conflicts.{conflict_text};
+
+    ghost output = { λ error. Some (conflict_text (boxed_slice_items error.byte_repr)) };
+
+    fn fmt<W: fmt::Write>(&self, f: &mut fmt::Formatter<W>) -> fmt::Result {
+        let key = ListedBytes(&self.byte_repr);
+        write!(
+            f,
+            "Attempted to insert a key [[{key}]] which is either a prefix of an existing key or an existing key is a prefix of the new key."
+        )
+    }
+}
+
+/// Bytes, which are displayed in decimal, parted by commas.
+#[derive(Clone, Copy)]
+struct ListedBytes<'a>(&'a [u8]);
+
+impl fmt::Display for ListedBytes<'_> {
+    ghost use Rattle.std.specs.Prelude.{Some};
+    ghost use Rattle.art_writing.specs.Conflicts.{listed};
+
+    ghost output = { λ bytes. Some (listed bytes.0.now) };
+
+    fn fmt<W: fmt::Write>(&self, f: &mut fmt::Formatter<W>) -> fmt::Result {
+        let Some((first, others)) = self.0.split_first() else {
+            return Ok(());
+        };
+        write!(f, "{first}")?;
+        for byte in others {
+            write!(f, ", {byte}")?;
+        }
+        Ok(())
+    }
 }
 
 impl Clone for InsertPrefixError {
@@ -176,6 +214,7 @@ pub struct Refused<K, V> {
 ///
 /// Only the refusal takes memory. Where a prefix is longer than what its node stores of it, a leaf
 /// below is read for the rest.
+#[inline(always)]
 pub fn search_for_insert_point<K: AsBytes + Drop, V: Drop, const PREFIX_LEN: usize>(
     store: &NodeStore<K, V, PREFIX_LEN>,
     root: OpaqueNodePtr,
@@ -199,6 +238,7 @@ pub fn search_for_insert_point<K: AsBytes + Drop, V: Drop, const PREFIX_LEN: usi
 /// The point of a key that takes the place of all related keys, in the tree of a canonical root.
 ///
 /// It goes the way of `search_for_insert_point`, at the same cost, and takes no memory.
+#[inline(always)]
 pub fn search_for_prefix_insert_point<K: AsBytes + Drop, V: Drop, const PREFIX_LEN: usize>(
     store: &NodeStore<K, V, PREFIX_LEN>,
     root: OpaqueNodePtr,

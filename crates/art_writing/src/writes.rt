@@ -15,8 +15,7 @@ ghost use Rattle.art_reading.specs.Paths.{last_step, root_with};
 use art_nodes::node::{AsBytes, LeafNode, LeafPtr, OpaqueNodePtr, OptionalLeafPtr};
 use art_nodes::store::NodeStore;
 use art_reading::minmax::{maximum_unchecked, minimum_unchecked};
-use art_reading::path::TreePath;
-use art_reading::ways::last_step;
+use art_reading::path::{TreePath, last_step};
 
 /// A side of a leaf, or of the leaves of a tree.
 #[derive(Clone, Copy)]

@@ -1,12 +1,12 @@
 -- Where the code of a line ends, and entries as a map keeps them.
-use Rattle.std.proofs.Common.{◌≡◌, ◌≢◌, ◌≤◌, ℕ, Bool, true, false, not, cond, eqb, ◌&&◌, ◌||◌, List, [], ◌∷◌, ◌++◌, length, map, filter, Option, Some, None, is_some, refl, ap, ap₂, sym, ◌∙◌, subst, arith, ◌⊎◌, inl, inr}
-use Rattle.std.specs.List.{All, AllByRecursion as Each, list_all, list_any}
+use Rattle.std.proofs.Common.{◌≡◌, ◌≢◌, ◌≤◌, ℕ, Bool, true, false, not, cond, eqb, eq-eqb, ◌&&◌, ◌||◌, List, [], ◌∷◌, ◌++◌, length, map, filter, Option, Some, None, is_some, refl, ap, ap₂, sym, ◌∙◌, subst, arith, ◌⊎◌, inl, inr}
+use Rattle.std.specs.List.{AllByRecursion as Each, list_all, list_any}
 use Rattle.std.specs.List.Sorted.{IsPermutation}
 use Rattle.std.specs.Option.{option_map}
 use Rattle.std.specs.Char.{is_ascii_digit}
 use Rattle.std.specs.declared.vec.Vec.{Vec}
 use Rattle.std.proofs.lemmas.Bool.{and_parts, or_cases, or_left, or_right, false≢true}
-use Rattle.std.proofs.lemmas.List.Elements.{All-head, All-tail, All-cons}
+use Rattle.std.proofs.lemmas.List.Elements.{All-cons}
 use Rattle.std.proofs.lemmas.List.Sorted.{IsPermutation-refl, IsPermutation-sym, IsPermutation-cons, IsPermutation-trans, IsPermutation-middle, IsPermutation-map}
 use Rattle.art_model.specs.Keys.{IsFront, Precedes, are_related, are_same, is_before, is_front}
 use Rattle.art_model.specs.Pairs.{IsMap, add_in_order, first_of, has_key, is_conflict, match_of, of_key, put, remove_key, with_key}
@@ -14,24 +14,12 @@ use Rattle.art_model.proofs.Puts.{has_is_stored, put-new}
 use Rattle.art_model.specs.Footprints.{IsIn}
 use Rattle.art_model.proofs.KeyLaws.{fronts_are_decided}
 use Rattle.art_model.proofs.MapLaws.{matches_are_one}
-use Rattle.dial_codes.specs.Entries.{HasLine, code_of, entries_of, is_code, line_of}
-
--- no byte is a space
-abbrev pub HasNoSpace : List ℕ → Type 0
-HasNoSpace = All (λ c. c ≢ 32)
-
-pub has_space : (a b : List ℕ) → HasNoSpace (a ++ 32 ∷ b) → ⊥
-has_space [] b none = All-head (λ c. c ≢ 32) 32 b none refl
-has_space (x ∷ a) b none = has_space a b (All-tail (λ c. c ≢ 32) x (a ++ 32 ∷ b) none)
-
-same_words : (a b c d : List ℕ) → HasNoSpace a → HasNoSpace c → a ++ 32 ∷ b ≡ c ++ 32 ∷ d → (a ≡ c) × (b ≡ d)
-same_words [] b [] d ha hc e = (refl, cc)
-same_words [] b (x ∷ c) d ha hc e = absurd (All-head (λ z. z ≢ 32) x c hc (cc))
-same_words (x ∷ a) b [] d ha hc e = absurd (All-head (λ z. z ≢ 32) x a ha (cc))
-same_words (x ∷ a) b (y ∷ c) d ha hc e =
-    let rest : a ++ 32 ∷ b ≡ c ++ 32 ∷ d = cc in
-    let both = same_words a b c d (All-tail (λ z. z ≢ 32) x a ha) (All-tail (λ z. z ≢ 32) y c hc) rest in
-    (cc, both.1)
+use Rattle.art_model.specs.Parts.{below}
+use Rattle.art_model.proofs.Filters.{none_passes}
+use Rattle.text_lines.proofs.Spaces.{HasNoSpace, same_words}
+use Rattle.dial_codes.specs.declared.table.Named.{Named}
+use Rattle.dial_codes.specs.Entries.{code_of, entries_of, is_code, line_of}
+use Rattle.dial_codes.specs.Rows.{HasLine, has_related, has_related_at, rows_of}
 
 digits_spaceless : (bs : List ℕ) → list_all is_ascii_digit bs ≡ true → HasNoSpace bs
 digits_spaceless [] h = λ k d below. absurd (omega arith)
@@ -57,18 +45,63 @@ any_follows p q f so (x ∷ xs) h = go (or_cases (p x) (list_any p xs) h) (any_f
     go (inl e) ih = or_left _ _ (so x e)
     go (inr e) ih = or_right _ _ (ih e)
 
+-- the first that passes a test passes another that follows from it
+first_follows : {A B : Type 0} (p : A → Bool) (q : B → Bool) (f : A → B) (x : A) → (p x ≡ true → q (f x) ≡ true) → (xs : List A) → first_of (filter p xs) ≡ Some x → list_any q (map f xs) ≡ true
+first_follows p q f x so [] h = absurd cc
+first_follows p q f x so (y ∷ ys) h = go (p y) refl h (first_follows p q f x so ys)
+  where
+    go : (t : Bool) → p y ≡ t → first_of (cond t (y ∷ filter p ys) (filter p ys)) ≡ Some x → (first_of (filter p ys) ≡ Some x → list_any q (map f ys) ≡ true) → (q (f y) || list_any q (map f ys)) ≡ true
+    go true e h ih = let is : y ≡ x = cc in or_left _ _ (subst (λ z. q (f z) ≡ true) (sym is) (so (subst (λ z. p z ≡ true) is e)))
+    go false e h ih = or_right _ _ (ih h)
+
+both_true : (s t : Bool) → s ≡ true → t ≡ true → (s && t) ≡ true
+both_true s t h k = rw (h, k) refl
+
+no_first : {A : Type 0} (xs : List A) → first_of xs ≡ None → xs ≡ []
+no_first [] h = refl
+no_first (x ∷ xs) h = absurd cc
+
 module _ {Z : Type 0} where
-  pub equal_is_related : (code : List ℕ) (pairs : List (Vec ℕ Z × Vec ℕ Z)) → has_key (of_key (λ (v : Vec ℕ Z). v.items)) code pairs ≡ true → list_any (λ e. are_related code (code_of e)) (entries_of pairs) ≡ true
+  -- the row of a pair
+  abbrev row_of : Vec ℕ Z × Named → List ℕ × List ℕ × ℕ
+  row_of x = (x.0.items, x.1.name.items, x.1.line)
+
+  -- the row of the pair whose code is a prefix of this one
+  pub prefix_is_related : (code : List ℕ) (pairs : List (Vec ℕ Z × Named)) (x : Vec ℕ Z × Named) → first_of (match_of (of_key (λ (v : Vec ℕ Z). v.items)) code pairs) ≡ Some x →
+      has_related_at x.1.line code (rows_of pairs) ≡ true
+  prefix_is_related code pairs x h =
+      first_follows (λ y. is_front y.0.items code) (λ row. are_related code row.0 && eqb row.2 x.1.line) row_of x
+      (λ e. both_true _ _ (or_right (is_front code x.0.items) (is_front x.0.items code) e) (eq-eqb x.1.line x.1.line refl)) pairs h
+
+  -- or begins with it
+  pub longer_is_related : (code : List ℕ) (pairs : List (Vec ℕ Z × Named)) (x : Vec ℕ Z × Named) (more : List (Vec ℕ Z × Named)) →
+      below (of_key (λ (v : Vec ℕ Z). v.items)) code pairs ≡ x ∷ more → has_related_at x.1.line code (rows_of pairs) ≡ true
+  longer_is_related code pairs x more h =
+      first_follows (λ y. is_front code y.0.items) (λ row. are_related code row.0 && eqb row.2 x.1.line) row_of x
+      (λ e. both_true _ _ (or_left (is_front code x.0.items) (is_front x.0.items code) e) (eq-eqb x.1.line x.1.line refl)) pairs (ap first_of h)
+
+  none_among : (code : List ℕ) (pairs : List (Vec ℕ Z × Named)) → Each (λ x. is_front x.0.items code ≡ false) pairs → Each (λ x. is_front code x.0.items ≡ false) pairs →
+      has_related code (rows_of pairs) ≡ false
+  none_among code [] h k = refl
+  none_among code (x ∷ xs) h k = rw (h.0, k.0) (none_among code xs h.1 k.1)
+
+  -- there is no other that is related
+  pub none_is_related : (code : List ℕ) (pairs : List (Vec ℕ Z × Named)) → first_of (match_of (of_key (λ (v : Vec ℕ Z). v.items)) code pairs) ≡ None →
+      below (of_key (λ (v : Vec ℕ Z). v.items)) code pairs ≡ [] → has_related code (rows_of pairs) ≡ false
+  none_is_related code pairs h k =
+      none_among code pairs (none_passes (λ x. is_front x.0.items code) pairs (no_first _ h)) (none_passes (λ x. is_front code x.0.items) pairs k)
+
+  pub equal_is_related : (code : List ℕ) (pairs : List (Vec ℕ Z × Named)) → has_key (of_key (λ (v : Vec ℕ Z). v.items)) code pairs ≡ true → has_related code (rows_of pairs) ≡ true
   equal_is_related code pairs h =
-      any_follows (λ x. are_same code x.0.items) (λ e. are_related code (code_of e)) (λ x. (x.0.items, x.1.items))
+      any_follows (λ x. are_same code x.0.items) (λ row. are_related code row.0) row_of
       (λ x e. or_left _ _ (and_parts (is_front code x.0.items) (is_front x.0.items code) e).0) pairs h
 
-  pub conflict_is_related : (code : List ℕ) (pairs : List (Vec ℕ Z × Vec ℕ Z)) → is_conflict (of_key (λ (v : Vec ℕ Z). v.items)) code pairs ≡ true → list_any (λ e. are_related code (code_of e)) (entries_of pairs) ≡ true
+  pub conflict_is_related : (code : List ℕ) (pairs : List (Vec ℕ Z × Named)) → is_conflict (of_key (λ (v : Vec ℕ Z). v.items)) code pairs ≡ true → has_related code (rows_of pairs) ≡ true
   conflict_is_related code pairs h =
-      any_follows (λ x. are_related code x.0.items && not (are_same code x.0.items)) (λ e. are_related code (code_of e)) (λ x. (x.0.items, x.1.items))
+      any_follows (λ x. are_related code x.0.items && not (are_same code x.0.items)) (λ row. are_related code row.0) row_of
       (λ x e. (and_parts (are_related code x.0.items) (not (are_same code x.0.items)) e).0) pairs h
 
-  added : (new : Vec ℕ Z × Vec ℕ Z) (pairs : List (Vec ℕ Z × Vec ℕ Z)) → IsPermutation (new ∷ pairs) (add_in_order (of_key (λ (v : Vec ℕ Z). v.items)) new pairs)
+  added : (new : Vec ℕ Z × Named) (pairs : List (Vec ℕ Z × Named)) → IsPermutation (new ∷ pairs) (add_in_order (of_key (λ (v : Vec ℕ Z). v.items)) new pairs)
   added new [] = IsPermutation-refl (new ∷ [])
   added new (x ∷ xs) = go (is_before new.0.items x.0.items) (added new xs)
     where
@@ -77,7 +110,7 @@ module _ {Z : Type 0} where
       go false ih =
           IsPermutation-trans _ _ _ (IsPermutation-sym _ _ (IsPermutation-middle (x ∷ []) new xs)) (IsPermutation-cons x _ _ ih)
 
-  others_stay : (key : List ℕ) (pairs : List (Vec ℕ Z × Vec ℕ Z)) → has_key (of_key (λ (v : Vec ℕ Z). v.items)) key pairs ≡ false → remove_key (of_key (λ (v : Vec ℕ Z). v.items)) key pairs ≡ pairs
+  others_stay : (key : List ℕ) (pairs : List (Vec ℕ Z × Named)) → has_key (of_key (λ (v : Vec ℕ Z). v.items)) key pairs ≡ false → remove_key (of_key (λ (v : Vec ℕ Z). v.items)) key pairs ≡ pairs
   others_stay key [] h = refl
   others_stay key (x ∷ xs) h = go (are_same key x.0.items) h (others_stay key xs)
     where
@@ -86,48 +119,58 @@ module _ {Z : Type 0} where
       go true e ih = absurd (false≢true (sym e))
       go false e ih = ap (λ ys. x ∷ ys) (ih e)
 
-  none_stored : (new : Vec ℕ Z × Vec ℕ Z) (pairs : List (Vec ℕ Z × Vec ℕ Z)) → has_key (of_key (λ (v : Vec ℕ Z). v.items)) new.0.items pairs ≡ false → first_of (with_key (of_key (λ (v : Vec ℕ Z). v.items)) new.0.items pairs) ≡ None
+  none_stored : (new : Vec ℕ Z × Named) (pairs : List (Vec ℕ Z × Named)) → has_key (of_key (λ (v : Vec ℕ Z). v.items)) new.0.items pairs ≡ false → first_of (with_key (of_key (λ (v : Vec ℕ Z). v.items)) new.0.items pairs) ≡ None
   none_stored new pairs h = go (first_of (with_key (of_key (λ (v : Vec ℕ Z). v.items)) new.0.items pairs)) (sym (has_is_stored (of_key (λ (v : Vec ℕ Z). v.items)) new pairs) ∙ h)
     where
-      go : (o : Option (Vec ℕ Z × Vec ℕ Z)) → is_some o ≡ false → o ≡ None
+      go : (o : Option (Vec ℕ Z × Named)) → is_some o ≡ false → o ≡ None
       go None e = refl
       go (Some x) e = absurd (false≢true (sym e))
 
   -- where no key is equal a pair comes to the others
-  pub pair_comes : (key value : Vec ℕ Z) (pairs : List (Vec ℕ Z × Vec ℕ Z)) → has_key (of_key (λ (v : Vec ℕ Z). v.items)) key.items pairs ≡ false →
-      IsPermutation ((key.items, value.items) ∷ entries_of pairs) (entries_of (put (of_key (λ (v : Vec ℕ Z). v.items)) (key, value) pairs))
+  pub pair_comes : (key : Vec ℕ Z) (value : Named) (pairs : List (Vec ℕ Z × Named)) → has_key (of_key (λ (v : Vec ℕ Z). v.items)) key.items pairs ≡ false →
+      IsPermutation ((key.items, value.name.items, value.line) ∷ rows_of pairs) (rows_of (put (of_key (λ (v : Vec ℕ Z). v.items)) (key, value) pairs))
   pair_comes key value pairs h =
-      IsPermutation-map (λ x. (x.0.items, x.1.items)) _ _
+      IsPermutation-map row_of _ _
       (subst (IsPermutation ((key, value) ∷ pairs)) (sym (put-new (of_key (λ (v : Vec ℕ Z). v.items)) (key, value) pairs (none_stored (key, value) pairs h)
       ∙ ap (add_in_order (of_key (λ (v : Vec ℕ Z). v.items)) (key, value)) (others_stay key.items pairs h))) (added (key, value) pairs))
 
-  pub line_comes : (line code name : List ℕ) (key value : Vec ℕ Z) (pairs : List (Vec ℕ Z × Vec ℕ Z)) → line ≡ line_of (code, name) → is_code code ≡ true → key.items ≡ code → value.items ≡ name →
-      has_key (of_key (λ (v : Vec ℕ Z). v.items)) code pairs ≡ false → HasLine line (entries_of pairs) (entries_of (put (of_key (λ (v : Vec ℕ Z). v.items)) (key, value) pairs))
-  line_comes line code name key value pairs is h k v none = record {
-    entry = (key.items, value.items);
+  -- no key is equal where no row is related
+  pub unrelated_is_new : (code : List ℕ) (pairs : List (Vec ℕ Z × Named)) → has_related code (rows_of pairs) ≡ false → has_key (of_key (λ (v : Vec ℕ Z). v.items)) code pairs ≡ false
+  unrelated_is_new code pairs h = go (has_key (of_key (λ (v : Vec ℕ Z). v.items)) code pairs) refl
+    where
+      go : (t : Bool) → has_key (of_key (λ (v : Vec ℕ Z). v.items)) code pairs ≡ t → t ≡ false
+      go true e = absurd (false≢true (sym h ∙ equal_is_related code pairs e))
+      go false e = refl
+
+  pub line_comes : (line code name : List ℕ) (number : ℕ) (key : Vec ℕ Z) (value : Named) (pairs : List (Vec ℕ Z × Named)) → line ≡ line_of (code, name) → is_code code ≡ true →
+      key.items ≡ code → value.name.items ≡ name → value.line ≡ number → has_related code (rows_of pairs) ≡ false →
+      HasLine line number (rows_of pairs) (rows_of (put (of_key (λ (v : Vec ℕ Z). v.items)) (key, value) pairs))
+  line_comes line code name number key value pairs is h k v n none = record {
+    entry = (key.items, value.name.items);
     code = ap is_code k ∙ h;
     is = is ∙ ap₂ (λ a b. a ++ 32 ∷ b) (sym k) (sym v);
-    came = pair_comes key value pairs (ap (λ bs. has_key (of_key (λ (v : Vec ℕ Z). v.items)) bs pairs) k ∙ none);
+    came = subst (λ l. IsPermutation ((key.items, value.name.items, l) ∷ rows_of pairs) (rows_of (put (of_key (λ (v : Vec ℕ Z). v.items)) (key, value) pairs))) n
+        (pair_comes key value pairs (ap (λ bs. has_key (of_key (λ (v : Vec ℕ Z). v.items)) bs pairs) k ∙ unrelated_is_new code pairs none));
   }
 
   -- the match of the entries is the entry of the match
-  pub match_entry : (number : List ℕ) (pairs : List (Vec ℕ Z × Vec ℕ Z)) →
-      first_of (match_of code_of number (entries_of pairs)) ≡ option_map (λ x. (x.0.items, x.1.items)) (first_of (match_of (of_key (λ (v : Vec ℕ Z). v.items)) number pairs))
+  pub match_entry : (number : List ℕ) (pairs : List (Vec ℕ Z × Named)) →
+      first_of (match_of code_of number (entries_of pairs)) ≡ option_map (λ x. (x.0.items, x.1.name.items)) (first_of (match_of (of_key (λ (v : Vec ℕ Z). v.items)) number pairs))
   match_entry number [] = refl
   match_entry number (x ∷ xs) = go (is_front x.0.items number) (match_entry number xs)
     where
-      go : (t : Bool) → first_of (match_of code_of number (entries_of xs)) ≡ option_map (λ x. (x.0.items, x.1.items)) (first_of (match_of (of_key (λ (v : Vec ℕ Z). v.items)) number xs)) →
-          first_of (cond t ((x.0.items, x.1.items) ∷ match_of code_of number (entries_of xs)) (match_of code_of number (entries_of xs)))
-          ≡ option_map (λ x. (x.0.items, x.1.items)) (first_of (cond t (x ∷ match_of (of_key (λ (v : Vec ℕ Z). v.items)) number xs) (match_of (of_key (λ (v : Vec ℕ Z). v.items)) number xs)))
+      go : (t : Bool) → first_of (match_of code_of number (entries_of xs)) ≡ option_map (λ x. (x.0.items, x.1.name.items)) (first_of (match_of (of_key (λ (v : Vec ℕ Z). v.items)) number xs)) →
+          first_of (cond t ((x.0.items, x.1.name.items) ∷ match_of code_of number (entries_of xs)) (match_of code_of number (entries_of xs)))
+          ≡ option_map (λ x. (x.0.items, x.1.name.items)) (first_of (cond t (x ∷ match_of (of_key (λ (v : Vec ℕ Z). v.items)) number xs) (match_of (of_key (λ (v : Vec ℕ Z). v.items)) number xs)))
       go true ih = refl
       go false ih = ih
 
   -- the entries of a map are apart as its keys are
-  entries_apart : (x : Vec ℕ Z × Vec ℕ Z) (xs : List (Vec ℕ Z × Vec ℕ Z)) → Each (λ y. Precedes x.0.items y.0.items) xs → Each (λ e. Precedes x.0.items (code_of e)) (entries_of xs)
+  entries_apart : (x : Vec ℕ Z × Named) (xs : List (Vec ℕ Z × Named)) → Each (λ y. Precedes x.0.items y.0.items) xs → Each (λ e. Precedes x.0.items (code_of e)) (entries_of xs)
   entries_apart x [] h = tt
   entries_apart x (y ∷ ys) h = (h.0, entries_apart x ys h.1)
 
-  pub entries_are_map : (pairs : List (Vec ℕ Z × Vec ℕ Z)) → IsMap (of_key (λ (v : Vec ℕ Z). v.items)) pairs → IsMap code_of (entries_of pairs)
+  pub entries_are_map : (pairs : List (Vec ℕ Z × Named)) → IsMap (of_key (λ (v : Vec ℕ Z). v.items)) pairs → IsMap code_of (entries_of pairs)
   entries_are_map [] h = tt
   entries_are_map (x ∷ xs) h = (entries_apart x xs h.0, entries_are_map xs h.1)
 

@@ -1,4 +1,3 @@
-mod LineParts
 mod EntryLemmas
 mod TableLemmas
 mod ReplyLemmas

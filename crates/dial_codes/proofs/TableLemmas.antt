@@ -1,93 +1,114 @@
 -- A table that is read line by line.
-use Rattle.std.proofs.Common.{◌≡◌, ℕ, ◌+◌, true, false, List, [], ◌∷◌, ◌++◌, length, map, Option, Some, None, IfSome, refl, ap, sym, ◌∙◌, subst, arith, append_assoc, append-nil, length-append}
+use Rattle.std.proofs.Common.{◌≡◌, ℕ, ◌+◌, true, ◌&&◌, eqb, eqb-true, List, [], ◌∷◌, ◌++◌, length, map, refl, ap, sym, ◌∙◌, subst, arith, ◌⊎◌, inl, inr}
+use Rattle.std.specs.List.{list_any}
 use Rattle.std.specs.List.Sorted.{IsPermutation}
-use Rattle.std.proofs.lemmas.List.{map-append}
-use Rattle.std.proofs.lemmas.List.Sorted.{IsPermutation-refl, IsPermutation-push_more}
+use Rattle.std.specs.declared.vec.Vec.{Vec}
+use Rattle.std.proofs.lemmas.Bool.{and_parts, false≢true, or_cases}
+use Rattle.std.proofs.lemmas.List.{length-map, map-append}
+use Rattle.std.proofs.lemmas.List.Sorted.{IsPermutation-map, IsPermutation-refl, IsPermutation-push_more}
 use Rattle.std.proofs.lemmas.List.Sorted.{list_any-IsPermutation}
 use Rattle.art_model.specs.Keys.{are_related}
 use Rattle.art_model.proofs.Lists.{Each-append}
 use Rattle.dial_codes.specs.declared.table.LineError.{LineError}
 use Rattle.dial_codes.specs.declared.table.LineError.TheVariants.{NoEntry, Related, NoMemory}
-use Rattle.dial_codes.specs.declared.table.TableError.TheVariants.{Line}
-use Rattle.dial_codes.specs.Lines.{IsLineRead, lines}
-use Rattle.dial_codes.specs.Entries.{HasLine, code_of, is_code, line_of}
-use Rattle.dial_codes.specs.Tables.{AreLinesOf, IsFaultOf, IsRefusedFor, IsTableOf}
+use Rattle.dial_codes.specs.declared.table.Named.{Named}
+use Rattle.dial_codes.specs.Entries.{code_of, entries_of, is_code, line_of}
+use Rattle.dial_codes.specs.Rows.{HasLine, IsFaultBeside, numbered, rows_of}
+use Rattle.dial_codes.specs.Tables.{AreLinesOf, IsFaultOf, IsRefusedAt, IsRelatedAt, IsTableOf}
 
--- The lines that were read are those of the entries, and the others are left.
-pub record IsFilledTo (text : List ℕ) (left : Option (List ℕ)) (number : ℕ) (table : List (List ℕ × List ℕ)) : Type 0 where
+-- The lines are those of entries, and the table has these with their numbers.
+pub record IsFilledBy (rows : List (List ℕ × List ℕ × ℕ)) (ls : List (List ℕ)) : Type 0 where
   pub entries : List (List ℕ × List ℕ)
-  pub before : List (List ℕ)
-  pub rest : List ℕ
-  pub left_is : left ≡ Some rest
-  pub lines_are : lines text ≡ before ++ lines rest
-  pub before_are : AreLinesOf before entries
-  pub same : IsPermutation entries table
-  pub number_is : number ≡ length before + 1
+  pub lines_are : AreLinesOf ls entries
+  pub same : IsPermutation (numbered 1 entries) rows
 
-pub filling_begins : (text : Option (List ℕ)) (table : List (List ℕ × List ℕ)) → table ≡ [] → IfSome text (λ bs. IsFilledTo bs text 1 table)
-filling_begins None table e = tt
-filling_begins (Some bs) table e = record {
+pub no_entries : (rows : List (List ℕ × List ℕ × ℕ)) → rows ≡ [] → IsFilledBy rows []
+no_entries rows e = record {
   entries = [];
-  before = [];
-  rest = bs;
-  left_is = refl;
-  lines_are = refl;
-  before_are = record { are = refl; codes = tt };
+  lines_are = record { are = refl; codes = tt };
   same = subst (IsPermutation []) (sym e) (IsPermutation-refl []);
-  number_is = refl;
 }
 
-line_is_read : (old : Option (List ℕ)) (rest : List ℕ) (line : List ℕ) (new : Option (List ℕ)) → old ≡ Some rest → IfSome old (λ bs. IsLineRead true bs line new) → IsLineRead true rest line new
-line_is_read old rest line new e h = subst (λ (o : Option (List ℕ)). IfSome o (λ bs. IsLineRead true bs line new)) e h
+numbered-append : (n : ℕ) (entries : List (List ℕ × List ℕ)) (e : List ℕ × List ℕ) → numbered n (entries ++ e ∷ []) ≡ numbered n entries ++ (e.0, e.1, n + length entries) ∷ []
+numbered-append n [] e = let k : n ≡ n + 0 = omega arith in ap (λ m. (e.0, e.1, m) ∷ []) k
+numbered-append n (x ∷ entries) e =
+    let k : n + 1 + length entries ≡ n + length (x ∷ entries) = omega arith in
+    ap (λ rows. (x.0, x.1, n) ∷ rows) (numbered-append (n + 1) entries e ∙ ap (λ m. numbered (n + 1) entries ++ (e.0, e.1, m) ∷ []) k)
 
-pub filling_goes_on : (text old new : Option (List ℕ)) (number : ℕ) (line seen : List ℕ) (table others : List (List ℕ × List ℕ)) → IfSome text (λ bs. IsFilledTo bs old number table) →
-    IfSome old (λ bs. IsLineRead true bs line new) → seen ≡ line → HasLine seen table others → IfSome text (λ bs. IsFilledTo bs new (number + 1) others)
-filling_goes_on None old new number line seen table others h read e has = tt
-filling_goes_on (Some bs) old new number line seen table others h read e has =
-    let next = line_is_read old h.rest line new h.left_is read in
+-- with the entry of one line more
+pub one_entry_more : (rows others : List (List ℕ × List ℕ × ℕ)) (number : ℕ) (line seen : List ℕ) → seen ≡ line → HasLine seen number rows others →
+    (before : List (List ℕ)) → number ≡ length before + 1 → IsFilledBy rows before → IsFilledBy others (before ++ line ∷ [])
+one_entry_more rows others number line seen e has before n h =
+    let many : length before ≡ length h.entries = ap length h.lines_are.are ∙ length-map h.entries line_of in
+    let last : 1 + length h.entries ≡ number = omega arith in
     record {
       entries = h.entries ++ has.entry ∷ [];
-      before = h.before ++ line ∷ [];
-      rest = next.0;
-      left_is = next.1;
-      lines_are = h.lines_are ∙ ap (λ ls. h.before ++ ls) next.2 ∙ sym (append_assoc h.before (line ∷ []) (lines next.0));
-      before_are = record {
-        are = ap (λ ls. ls ++ line ∷ []) h.before_are.are ∙ ap (λ l. map line_of h.entries ++ l ∷ []) (sym e ∙ has.is) ∙ sym (map-append line_of h.entries (has.entry ∷ []));
-        codes = Each-append (λ entry. is_code (code_of entry) ≡ true) h.entries (has.entry ∷ []) h.before_are.codes (has.code, tt);
+      lines_are = record {
+        are = ap (λ ls. ls ++ line ∷ []) h.lines_are.are ∙ ap (λ l. map line_of h.entries ++ l ∷ []) (sym e ∙ has.is) ∙ sym (map-append line_of h.entries (has.entry ∷ []));
+        codes = Each-append (λ entry. is_code (code_of entry) ≡ true) h.entries (has.entry ∷ []) h.lines_are.codes (has.code, tt);
       };
-      same = IsPermutation-push_more h.entries table others has.entry h.same has.came;
-      number_is = let n = h.number_is in let l = length-append h.before (line ∷ []) in omega arith;
+      same = subst (λ rs. IsPermutation rs others)
+          (sym (numbered-append 1 h.entries has.entry ∙ ap (λ m. numbered 1 h.entries ++ (has.entry.0, has.entry.1, m) ∷ []) last))
+          (IsPermutation-push_more (numbered 1 h.entries) rows others (has.entry.0, has.entry.1, number) h.same has.came);
     }
 
-pub filling_ends : (text old new : Option (List ℕ)) (number : ℕ) (line : List ℕ) (table : List (List ℕ × List ℕ)) → IfSome text (λ bs. IsFilledTo bs old number table) →
-    IfSome old (λ bs. IsLineRead false bs line new) → IfSome text (λ bs. IsTableOf bs table)
-filling_ends None old new number line table h read = tt
-filling_ends (Some bs) old new number line table h read =
-    let none : lines h.rest ≡ [] = subst (λ (o : Option (List ℕ)). IfSome o (λ bs. IsLineRead false bs line new)) h.left_is read in
-    record {
-      entries = h.entries;
-      lines_are = record { are = h.lines_are ∙ ap (λ ls. h.before ++ ls) none ∙ append-nil h.before ∙ h.before_are.are; codes = h.before_are.codes };
-      same = h.same;
-    }
+-- entries, without their numbers again
+unnumbered : (n : ℕ) (entries : List (List ℕ × List ℕ)) → map (λ (row : List ℕ × List ℕ × ℕ). (row.0, row.1)) (numbered n entries) ≡ entries
+unnumbered n [] = refl
+unnumbered n (e ∷ entries) = ap (λ es. e ∷ es) (unnumbered (n + 1) entries)
 
--- a fault beside a table is one beside the entries that it was made of
-same_fault : (line : List ℕ) (entries table : List (List ℕ × List ℕ)) (fault : LineError) → IsPermutation entries table → IsFaultOf line table fault → IsFaultOf line entries fault
-same_fault line entries table NoEntry p h = h
-same_fault line entries table Related p (code, name, is, any) = (code, name, is, list_any-IsPermutation (λ entry. are_related code (code_of entry)) entries table p ∙ any)
-same_fault line entries table NoMemory p h = tt
+unnumbered_rows : {Z : Type 0} (pairs : List (Vec ℕ Z × Named)) → map (λ (row : List ℕ × List ℕ × ℕ). (row.0, row.1)) (rows_of pairs) ≡ entries_of pairs
+unnumbered_rows [] = refl
+unnumbered_rows (x ∷ xs) = ap (λ es. (x.0.items, x.1.name.items) ∷ es) (unnumbered_rows xs)
 
-pub filling_stops : (text old new : Option (List ℕ)) (number : ℕ) (line seen : List ℕ) (table : List (List ℕ × List ℕ)) (fault : LineError) → IfSome text (λ bs. IsFilledTo bs old number table) →
-    IfSome old (λ bs. IsLineRead true bs line new) → seen ≡ line → IsFaultOf seen table fault → IfSome text (λ bs. IsRefusedFor bs (Line number fault))
-filling_stops None old new number line seen table fault h read e is = tt
-filling_stops (Some bs) old new number line seen table fault h read e is =
-    let next = line_is_read old h.rest line new h.left_is read in
-    record {
-      entries = h.entries;
-      before = h.before;
-      line = line;
-      after = lines next.0;
-      lines_are = h.lines_are ∙ ap (λ ls. h.before ++ ls) next.2;
-      before_are = h.before_are;
-      number_is = h.number_is;
-      is = same_fault line h.entries table fault h.same (subst (λ l. IsFaultOf l table fault) e is);
-    }
+pub table_is : {Z : Type 0} (pairs : List (Vec ℕ Z × Named)) (ls : List (List ℕ)) → IsFilledBy (rows_of pairs) ls → IsTableOf ls (entries_of pairs)
+table_is pairs ls h = record {
+  entries = h.entries;
+  lines_are = h.lines_are;
+  same = subst (λ es. IsPermutation es (entries_of pairs)) (unnumbered 1 h.entries)
+      (subst (IsPermutation (map (λ (row : List ℕ × List ℕ × ℕ). (row.0, row.1)) (numbered 1 h.entries))) (unnumbered_rows pairs)
+      (IsPermutation-map (λ (row : List ℕ × List ℕ × ℕ). (row.0, row.1)) _ _ h.same));
+}
+
+-- the entry whose row has this number
+related_from : (code : List ℕ) (n k : ℕ) (entries : List (List ℕ × List ℕ)) → list_any (λ row. are_related code row.0 && eqb row.2 n) (numbered k entries) ≡ true →
+    (before : List (List ℕ × List ℕ)) × (earlier : List ℕ × List ℕ) × (after : List (List ℕ × List ℕ)) × (entries ≡ before ++ earlier ∷ after) × (n ≡ length before + k) ×
+    (are_related code (code_of earlier) ≡ true)
+related_from code n k [] h = absurd (false≢true h)
+related_from code n k (e ∷ entries) h = go (or_cases _ _ h) (related_from code n (k + 1) entries)
+  where
+    go : ((are_related code e.0 && eqb k n) ≡ true) ⊎ (list_any (λ row. are_related code row.0 && eqb row.2 n) (numbered (k + 1) entries) ≡ true) →
+        (list_any (λ row. are_related code row.0 && eqb row.2 n) (numbered (k + 1) entries) ≡ true → (before : List (List ℕ × List ℕ)) × (earlier : List ℕ × List ℕ) ×
+        (after : List (List ℕ × List ℕ)) × (entries ≡ before ++ earlier ∷ after) × (n ≡ length before + (k + 1)) × (are_related code (code_of earlier) ≡ true)) →
+        (before : List (List ℕ × List ℕ)) × (earlier : List ℕ × List ℕ) × (after : List (List ℕ × List ℕ)) × (e ∷ entries ≡ before ++ earlier ∷ after) × (n ≡ length before + k) ×
+        (are_related code (code_of earlier) ≡ true)
+    go (inl both) ih = let parts = and_parts (are_related code e.0) (eqb k n) both in let same = eqb-true k n parts.1 in ([], e, entries, refl, omega arith, parts.0)
+    go (inr more) ih =
+        let (before, earlier, after, are, is, related) = ih more in
+        (e ∷ before, earlier, after, ap (λ es. e ∷ es) are, omega arith, related)
+
+related_at : (code : List ℕ) (n : ℕ) (entries : List (List ℕ × List ℕ)) → list_any (λ row. are_related code row.0 && eqb row.2 n) (numbered 1 entries) ≡ true → IsRelatedAt code n entries
+related_at code n entries h =
+    let (before, earlier, after, are, is, related) = related_from code n 1 entries h in
+    record { before = before; earlier = earlier; after = after; entries_are = are; number_is = is; related = related }
+
+-- a fault beside the rows of a table is one after the lines that it was made of
+fault_is : (line : List ℕ) (entries : List (List ℕ × List ℕ)) (rows : List (List ℕ × List ℕ × ℕ)) (fault : LineError) → IsPermutation (numbered 1 entries) rows →
+    IsFaultBeside line rows fault → IsFaultOf line entries fault
+fault_is line entries rows NoEntry same h = h
+fault_is line entries rows (Related n) same (code, name, is, any) =
+    (code, name, is, related_at code n entries (list_any-IsPermutation (λ row. are_related code row.0 && eqb row.2 n) (numbered 1 entries) rows same ∙ any))
+fault_is line entries rows NoMemory same h = tt
+
+pub refused_at : (rows : List (List ℕ × List ℕ × ℕ)) (number : ℕ) (line seen : List ℕ) (fault : LineError) → seen ≡ line → IsFaultBeside seen rows fault →
+    (before after : List (List ℕ)) → number ≡ length before + 1 → IsFilledBy rows before → IsRefusedAt (before ++ line ∷ after) number fault
+refused_at rows number line seen fault e is before after n h = record {
+  entries = h.entries;
+  before = before;
+  line = line;
+  after = after;
+  lines_are = refl;
+  before_are = h.lines_are;
+  number_is = n;
+  is = fault_is line h.entries rows fault h.same (subst (λ l. IsFaultBeside l rows fault) e is);
+}

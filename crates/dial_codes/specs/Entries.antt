@@ -1,10 +1,10 @@
 -- Entries: codes with names, and how lines write them.
-use Rattle.std.specs.Prelude.{◌≡◌, ℕ, Bool, true, not, ◌&&◌, ◌==◌, List, ◌∷◌, ◌++◌, length, map}
+use Rattle.std.specs.Prelude.{ℕ, Bool, not, ◌&&◌, ◌==◌, List, ◌∷◌, ◌++◌, length, map}
 use Rattle.std.specs.declared.vec.Vec.{Vec}
 use denote.Ref.{Bor}
 use Rattle.std.specs.Char.{is_ascii_digit}
 use Rattle.std.specs.List.{list_all}
-use Rattle.std.specs.List.Sorted.{IsPermutation}
+use Rattle.dial_codes.specs.declared.table.Named.{Named}
 
 -- whether these are one digit or more
 abbrev pub is_code : List ℕ → Bool
@@ -18,17 +18,10 @@ code_of entry = entry.0
 abbrev pub line_of : List ℕ × List ℕ → List ℕ
 line_of entry = entry.0 ++ 32 ∷ entry.1
 
--- the entries of pairs of a code and a name, as bytes
-abbrev pub entries_of : {Z : Type 0} → List (Vec ℕ Z × Vec ℕ Z) → List (List ℕ × List ℕ)
-entries_of pairs = map (λ x. (x.0.items, x.1.items)) pairs
+-- the entries of pairs of a code and its name, as bytes
+abbrev pub entries_of : {Z : Type 0} → List (Vec ℕ Z × Named) → List (List ℕ × List ℕ)
+entries_of pairs = map (λ x. (x.0.items, x.1.name.items)) pairs
 
 -- what borrows of a code and a name point to
 abbrev pub entry_of : Bor (List ℕ) × Bor (List ℕ) → List ℕ × List ℕ
 entry_of lent = (lent.0.now, lent.1.now)
-
--- The line is that of an entry, which came to the others.
-pub record HasLine (line : List ℕ) (old new : List (List ℕ × List ℕ)) : Type 0 where
-  pub entry : List ℕ × List ℕ
-  pub code : is_code (code_of entry) ≡ true
-  pub is : line ≡ line_of entry
-  pub came : IsPermutation (entry ∷ old) new

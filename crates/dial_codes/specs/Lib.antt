@@ -1,4 +1,4 @@
-pub mod Lines
 pub mod Entries
+pub mod Rows
 pub mod Tables
 pub mod Replies

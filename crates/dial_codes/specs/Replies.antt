@@ -3,7 +3,6 @@ use Rattle.std.specs.Prelude.{◌≡◌, ℕ, ◌+◌, true, false, List, ◌∷
 use Rattle.std.specs.List.{AllByRecursion as Each}
 use Rattle.std.specs.Io.KnownBytes.{Appends}
 use Rattle.art_model.specs.Pairs.{first_of, match_of}
-use Rattle.dial_codes.specs.Lines.{lines}
 use Rattle.dial_codes.specs.Entries.{code_of, is_code, line_of}
 
 -- the line of the entry, or none
@@ -21,16 +20,16 @@ pub record HaveReplies (entries : List (List ℕ × List ℕ)) (numbers : List (
   pub written : Appends old new (flat_map (reply_of entries) numbers)
 
 -- The lines before this one are numbers, and were answered, and it is none.
-pub record IsStoppedAt (entries : List (List ℕ × List ℕ)) (text : List ℕ) (number : ℕ) (old new : Option (List ℕ)) : Type 0 where
+pub record IsStoppedAt (entries : List (List ℕ × List ℕ)) (ls : List (List ℕ)) (number : ℕ) (old new : Option (List ℕ)) : Type 0 where
   pub before : List (List ℕ)
   pub line : List ℕ
   pub after : List (List ℕ)
-  pub lines_are : lines text ≡ before ++ line ∷ after
+  pub lines_are : ls ≡ before ++ line ∷ after
   pub number_is : number ≡ length before + 1
   pub none : is_code line ≡ false
   pub replies : HaveReplies entries before old new
 
 -- all lines are numbers, and were answered; or this line is the first that is none
-abbrev pub AreAnswered : List (List ℕ × List ℕ) → List ℕ → Option ℕ → Option (List ℕ) → Option (List ℕ) → Type 0
-AreAnswered entries text None old new = HaveReplies entries (lines text) old new
-AreAnswered entries text (Some number) old new = IsStoppedAt entries text number old new
+abbrev pub AreAnswered : List (List ℕ × List ℕ) → List (List ℕ) → Option ℕ → Option (List ℕ) → Option (List ℕ) → Type 0
+AreAnswered entries ls None old new = HaveReplies entries ls old new
+AreAnswered entries ls (Some number) old new = IsStoppedAt entries ls number old new

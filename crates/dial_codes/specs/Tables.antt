@@ -1,9 +1,8 @@
 -- What a table of entries has of a text, and why there is none.
 use Rattle.std.specs.Prelude.{◌≡◌, ◌≢◌, ℕ, ◌+◌, true, List, ◌∷◌, ◌++◌, length, map, ⊤}
-use Rattle.std.specs.List.{AllByRecursion as Each, list_any}
+use Rattle.std.specs.List.{AllByRecursion as Each}
 use Rattle.std.specs.List.Sorted.{IsPermutation}
 use Rattle.art_model.specs.Keys.{are_related}
-use Rattle.dial_codes.specs.Lines.{lines}
 use Rattle.dial_codes.specs.Entries.{code_of, is_code, line_of}
 use Rattle.dial_codes.specs.declared.table.LineError.{LineError}
 use Rattle.dial_codes.specs.declared.table.LineError.TheVariants.{NoEntry, Related, NoMemory}
@@ -15,31 +14,39 @@ pub record AreLinesOf (ls : List (List ℕ)) (entries : List (List ℕ × List �
   pub are : ls ≡ map line_of entries
   pub codes : Each (λ entry. is_code (code_of entry) ≡ true) entries
 
--- The lines of the text are those of the table's entries, in some order.
-pub record IsTableOf (text : List ℕ) (table : List (List ℕ × List ℕ)) : Type 0 where
+-- The lines are those of the table's entries, in some order.
+pub record IsTableOf (ls : List (List ℕ)) (table : List (List ℕ × List ℕ)) : Type 0 where
   pub entries : List (List ℕ × List ℕ)
-  pub lines_are : AreLinesOf (lines text) entries
+  pub lines_are : AreLinesOf ls entries
   pub same : IsPermutation entries table
 
--- why a line was not added to these entries: it is none of an entry, or its code is related to one of theirs
+-- the entry of the line of this number has a code that is related to this one
+pub record IsRelatedAt (code : List ℕ) (number : ℕ) (entries : List (List ℕ × List ℕ)) : Type 0 where
+  pub before : List (List ℕ × List ℕ)
+  pub earlier : List ℕ × List ℕ
+  pub after : List (List ℕ × List ℕ)
+  pub entries_are : entries ≡ before ++ earlier ∷ after
+  pub number_is : number ≡ length before + 1
+  pub related : are_related code (code_of earlier) ≡ true
+
+-- why a line comes not after the lines of these entries: it is none of an entry, or its code is related to that of this line
 abbrev pub IsFaultOf : List ℕ → List (List ℕ × List ℕ) → LineError → Type 0
 IsFaultOf line entries NoEntry = (code name : List ℕ) → is_code code ≡ true → line ≢ line_of (code, name)
-IsFaultOf line entries Related = (code name : List ℕ) × (line ≡ line_of (code, name)) ×
-    (list_any (λ entry. are_related code (code_of entry)) entries ≡ true)
+IsFaultOf line entries (Related earlier) = (code name : List ℕ) × (line ≡ line_of (code, name)) × IsRelatedAt code earlier entries
 IsFaultOf line entries NoMemory = ⊤
 
--- The first so many lines less one are those of entries, and the next one has this fault beside them.
-pub record IsRefusedAt (text : List ℕ) (number : ℕ) (fault : LineError) : Type 0 where
+-- The lines before this one are those of entries, and it has this fault beside them.
+pub record IsRefusedAt (ls : List (List ℕ)) (number : ℕ) (fault : LineError) : Type 0 where
   pub entries : List (List ℕ × List ℕ)
   pub before : List (List ℕ)
   pub line : List ℕ
   pub after : List (List ℕ)
-  pub lines_are : lines text ≡ before ++ line ∷ after
+  pub lines_are : ls ≡ before ++ line ∷ after
   pub before_are : AreLinesOf before entries
   pub number_is : number ≡ length before + 1
   pub is : IsFaultOf line entries fault
 
 -- a line is at fault, or the input can't be read
-abbrev pub IsRefusedFor : List ℕ → TableError → Type 0
-IsRefusedFor text (Line number fault) = IsRefusedAt text number fault
-IsRefusedFor text (Input error) = ⊤
+abbrev pub IsRefusedFor : List (List ℕ) → TableError → Type 0
+IsRefusedFor ls (Line number fault) = IsRefusedAt ls number fault
+IsRefusedFor ls (Input error) = ⊤

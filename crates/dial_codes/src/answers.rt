@@ -1,26 +1,31 @@
 //! Numbers are answered with the entries whose codes they begin with.
 ghost use Rattle.std.specs.Prelude.{◌≡◌, IfOk, IfSome, OnOk, Some};
+ghost use Rattle.std.specs.Io.Buffered.{reader_remaining};
 ghost use Rattle.std.specs.Io.KnownBytes.{Appends};
+ghost use Rattle.text_lines.specs.Lines.{lines};
 ghost use Rattle.dial_codes.specs.Entries.{entries_of};
 ghost use Rattle.dial_codes.specs.Replies.{AreAnswered, reply_of, reply_with};
 
 use crate::entry::is_code;
-use crate::lines::next_line;
 use crate::table::{Table, find};
 use std::alloc::Global;
 use std::io;
-use std::io::{BufRead, ErrorKind, Write};
+use std::io::{BufReader, ErrorKind, Read, Write};
+use text_lines::lines::{next_line, write_out};
 
 /// Answers each line of the input, which is a number, with the entry whose code it begins with, or with `none`. Where
-/// a line is no number it stops there, and answers which line that is.
-pub fn answer_numbers<R: BufRead, W: Write>(
+/// a line is no number it stops there, and returns which line that is.
+///
+/// Replies are written out before it waits for a line. While the next line has come already they gather in the
+/// output, which has a buffer for that.
+pub fn answer_numbers<R: Read, W: Write>(
     alloc: Global,
     table: &Table,
-    input: &mut R,
+    input: &mut BufReader<R>,
     output: &mut W,
 ) -> io::Result<Option<u64>>
-    ensures { IfOk result (λ refused. IfSome (R.remaining input.old) (λ text.
-        AreAnswered (entries_of table.now) text refused
+    ensures { IfOk result (λ refused. IfSome (reader_remaining R.remaining input.old) (λ text.
+        AreAnswered (entries_of table.now) (lines text) refused
         (W.contents output.old) (W.contents output.new))) }
 {
     let mut line = Vec::new(alloc);
@@ -32,6 +37,7 @@ pub fn answer_numbers<R: BufRead, W: Write>(
             return Ok(Some(number));
         }
         answer_number(table, &line, output)?;
+        write_out(input, output)?;
     }
     Err(io::Error::from(ErrorKind::FileTooLarge))
 }

@@ -1,8 +1,10 @@
 //! The lines of a table.
-ghost use Rattle.std.specs.Prelude.{◌≡◌, ◌≢◌, ◌++◌, ◌∷◌, All, ℕ, List, IfNone, IfSome, true};
+ghost use Rattle.std.specs.Prelude.{◌≡◌, ◌≢◌, ℕ, List, IfNone, IfSome, true};
 ghost use Rattle.std.specs.Char.{is_ascii_digit};
 ghost use Rattle.std.specs.List.{list_all};
 ghost use Rattle.dial_codes.specs.Entries.{is_code, line_of};
+
+use text_lines::words::split_word;
 
 /// Whether these are one digit or more.
 pub fn is_code(bytes: &[u8]) -> bool
@@ -30,15 +32,4 @@ pub fn parse_entry(line: &[u8]) -> Option<(&[u8], &[u8])>
     } else {
         None
     }
-}
-
-// What stands before the first space, and what stands after it.
-fn split_word(words: &[u8]) -> Option<(&[u8], &[u8])>
-    ensures parts { IfSome result (λ parts. words.now ≡ parts.0.now ++ 32 ∷ parts.1.now) }
-    ensures word { IfSome result (λ parts. All (λ c. c ≢ 32) parts.0.now) }
-    ensures none { IfNone result (All (λ c. c ≢ 32) words.now) }
-{
-    let space = words.iter().position(|&character| character == b' ')?;
-    let (word, rest) = words.split_at(space);
-    Some((word, &rest[1..]))
 }

@@ -3,5 +3,4 @@
 
 pub mod answers;
 pub mod entry;
-pub mod lines;
 pub mod table;

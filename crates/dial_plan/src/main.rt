@@ -8,6 +8,14 @@ use std::process::ExitCode;
 use std::rt::{Env, Files};
 use std::{env, fs, io};
 
+// What is printed for `--help`, and where no table is named.
+const USAGE: &str = "usage: dial_plan TABLE";
+
+// What stands in the table and in the input.
+const LINES: &str =
+    "TABLE has lines of a code, a space and a name, as '44 United Kingdom'. For each number, a line of
+standard input, it prints the line whose code the number begins with, or 'none'.";
+
 // The exit status where a line of the table or of the input is refused, or no table is named.
 const REFUSED: u8 = 2;
 
@@ -27,7 +35,7 @@ fn read_table_of(rt: &(impl Files + Eprint + AllocGlobal), path: &str) -> Result
         Err(error) => {
             let _ = eprintln!(rt; "{path}: {error}");
             Err(match error {
-                TableError::Line(_, LineError::NoEntry | LineError::Related) => REFUSED,
+                TableError::Line(_, LineError::NoEntry | LineError::Related(_)) => REFUSED,
                 _ => FAILED,
             })
         }
@@ -53,14 +61,24 @@ fn answer(rt: &(impl Input + Print + AllocGlobal), table: &Table) -> io::Result<
     Ok(refused)
 }
 
+fn print_help(rt: &(impl Print)) -> Result<(), u8> {
+    match println!(rt; "{USAGE}\n{LINES}") {
+        Ok(()) => Ok(()),
+        Err(_) => Err(FAILED),
+    }
+}
+
 fn status_of(rt: &(impl Env + Files + Input + Print + Eprint + AllocGlobal)) -> Result<(), u8> {
     let Ok(path) = table_path(rt) else {
         return Err(FAILED);
     };
     let Some(path) = path else {
-        let _ = eprintln!(rt; "usage: dial_plan TABLE");
+        let _ = eprintln!(rt; "{USAGE}");
         return Err(REFUSED);
     };
+    if path.as_str() == "--help" {
+        return print_help(rt);
+    }
     let table = read_table_of(rt, &path)?;
     match answer(rt, &table) {
         Ok(None) => Ok(()),

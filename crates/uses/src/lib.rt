@@ -4,6 +4,7 @@
 ghost use Rattle.std.specs.Prelude.{◌≡◌, List, length, max, Some, IfSome, IfNone, option_copied};
 ghost use Rattle.std.specs.Option.{option_map};
 ghost use Rattle.art_parts.specs.declared.names.OpaqueNodePtr.{OpaqueNodePtr};
+ghost use Rattle.art_model.specs.Apart.{KeepsApart};
 ghost use Rattle.art_model.specs.Canonical.{IsCanonical};
 ghost use Rattle.art_model.specs.Pairs.{first_of, match_of, of_key, overwrite, put, remove_key, remove_reply, without_first};
 ghost use Rattle.art_model.specs.Layouts.{leaf_names};
@@ -24,9 +25,11 @@ use art_operations::visitor::{Visitor, visit_with};
 
 pub mod counts;
 pub mod given;
+pub mod inventory;
 pub mod keys;
 pub mod months;
 pub mod parts;
+pub mod sessions;
 
 /// Puts a pair in, and answers the root. `None` where the key is related to an unequal stored one, or for
 /// want of memory; then the root stands for what it stood for.
@@ -41,6 +44,8 @@ pub fn put<K: AsBytes + Drop, V: Drop, const P: usize>(
         IsCanonical (of_key K.bytes) P store.new (Some new)
         (put (of_key K.bytes) (key, value) pairs))) }
     ensures root { IfSome result (IsCanonicalRoot (of_key K.bytes) P store.new) }
+    ensures apart { IfSome result (λ new.
+        KeepsApart (of_key K.bytes) P store.old store.new (Some root) (Some new)) }
     ensures leaves { IfNone result (store.new.leaves ≡ store.old.leaves) }
     ensures inners { IfNone result (store.new.inners ≡ store.old.inners) }
 {
@@ -86,11 +91,13 @@ pub fn take<K: AsBytes + Drop, V: Drop, const P: usize>(
     requires { IsCanonicalRoot (of_key K.bytes) P store.old root }
     ensures pairs { ForTree (of_key K.bytes) P store.old root (λ pairs _. IfSome result (λ left.
         IsCanonical (of_key K.bytes) P store.new left.0
-        (remove_key (of_key K.bytes) (K.bytes left.1) pairs))) }
+        (remove_key (of_key K.bytes) key_bytes.now pairs))) }
     ensures taken { ForTree (of_key K.bytes) P store.old root (λ pairs _. IfSome result (λ left.
         remove_reply (of_key K.bytes) key_bytes.now pairs ≡ Some (left.1, left.2))) }
     ensures root { IfSome result (λ left.
         IfSome left.0 (IsCanonicalRoot (of_key K.bytes) P store.new)) }
+    ensures apart { IfSome result (λ left.
+        KeepsApart (of_key K.bytes) P store.old store.new (Some root) left.0) }
     ensures leaves { IfNone result (store.new.leaves ≡ store.old.leaves) }
     ensures inners { IfNone result (store.new.inners ≡ store.old.inners) }
 {

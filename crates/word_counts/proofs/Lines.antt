@@ -1,100 +1,54 @@
--- A text that is read line by line, and lines that are written one after another.
-use Rattle.std.proofs.Common.{◌≡◌, ℕ, List, [], ◌∷◌, ◌++◌, map, flat_map, Option, Some, None, IfSome, OnOk, Result, Ok, Err, refl, ap, sym, ◌∙◌, subst, append_assoc, append-nil}
-use Rattle.std.specs.Io.BufRead.{DropsThrough, take_through, drop_through}
-use Rattle.std.specs.Io.KnownBytes.{Appends, IsAtEnd, Keeps}
-use Rattle.std.proofs.lemmas.List.{map-append}
-use Rattle.std.proofs.lemmas.List.Concat.{flat_map-append}
-use Rattle.std.specs.List.{slice_split}
+-- A text whose words are counted line by line.
+use Rattle.std.proofs.Common.{◌≡◌, ◌≢◌, ℕ, ◌+◌, ◌<◌, true, false, zero, suc, List, [], ◌∷◌, ◌++◌, length, get_or, flat_map, Option, Some, None, IfSome, OnOk, Result, Ok, Err, refl, ap, sym, ◌∙◌, subst, arith, append-nil}
+use Rattle.std.specs.Io.KnownBytes.{Appends, Keeps}
+use Rattle.std.specs.List.{AllByRecursion as Each, slice_split}
 use Rattle.std.specs.List as list
-use Rattle.art_model.specs.Pairs.{IsMap, of_key}
-use Rattle.word_counts.specs.Counts.{AppendsCounts, IsKeptFor, line_of}
-use Rattle.word_counts.specs.Words.{AreWhole, is_filled, is_gap, words}
-use Rattle.word_counts.proofs.Tallies.{count_shown, shown_pair}
-use Rattle.word_counts.proofs.Texts.{whole_words, words_by_line}
+use Rattle.std.proofs.lemmas.Bool.{false≢true}
+use Rattle.std.proofs.lemmas.List.Concat.{flat_map-append}
+use Rattle.art_model.proofs.Lists.{Each-weaker}
+use Rattle.art_operations.specs.Ended.{HasNoZero}
+use Rattle.art_operations.specs.Keys.{is_before}
+use Rattle.art_operations.specs.Pairs.{Pairwise}
+use Rattle.text_lines.proofs.Writing.{appends_kept}
+use Rattle.text_lines.specs.Lines.{lines}
+use Rattle.word_counts.specs.Counts.{AppendsCounts, HasTimes, IsCountOf, line_of}
+use Rattle.word_counts.specs.Words.{is_filled, is_gap, words}
+use Rattle.word_counts.proofs.Texts.{IsWhole, whole_parts, words_of_lines}
 
 -- the words of a text are its parts that are filled
-pub kept_parts : {K : Type 0} (bytes : K → List ℕ) (before : List (List ℕ)) (text : List ℕ) (ps : List (List ℕ)) (pairs : List (K × ℕ)) →
-    ps ≡ slice_split is_gap text → IsKeptFor bytes (before ++ list.filter is_filled ps) pairs → IsKeptFor bytes (before ++ words text) pairs
-kept_parts bytes before text ps pairs e h = subst (λ q. IsKeptFor bytes (before ++ list.filter is_filled q) pairs) e h
+pub counted_parts : (before : List (List ℕ)) (text : List ℕ) (ps : List (List ℕ)) (counts : List (List ℕ × ℕ)) → ps ≡ slice_split is_gap text →
+    HasTimes (before ++ list.filter is_filled ps) counts → HasTimes (before ++ words text) counts
+counted_parts before text ps counts e h = subst (λ q. HasTimes (before ++ list.filter is_filled q) counts) e h
 
-module _ {K : Type 0} (bytes : K → List ℕ) where
-  -- the words of what was read of a text are counted, and those of the rest are left
-  abbrev pub IsReadSoFar : Option (List ℕ) → Option (List ℕ) → List (K × ℕ) → Type 0
-  IsReadSoFar old now pairs = IfSome old (λ text. (before : List (List ℕ)) × (rest : List ℕ) ×
-      (now ≡ Some rest) × (words text ≡ before ++ words rest) × IsKeptFor bytes before pairs)
+each_at : (P : List ℕ → Type 0) (xs : List (List ℕ)) → Each P xs → (k : ℕ) (d : List ℕ) → k < length xs → P (get_or xs k d)
+each_at P [] h k d below = absurd (omega arith)
+each_at P (x ∷ xs) h zero d below = h.0
+each_at P (x ∷ xs) h (suc k) d below = each_at P xs h.1 k d (omega arith)
 
-  pub reading_begins : (old : Option (List ℕ)) (pairs : List (K × ℕ)) → pairs ≡ [] → IsReadSoFar old old pairs
-  reading_begins None pairs e = tt
-  reading_begins (Some text) pairs e = ([], text, refl, refl, subst (IsKeptFor bytes []) (sym e) (record { each = λ key. refl }))
+-- a part of a text has no zero
+pub part_plain : (text word : List ℕ) (k : ℕ) → k < length (slice_split is_gap text) → word ≡ get_or (slice_split is_gap text) k word → HasNoZero word
+part_plain text word k below is =
+    Each-weaker (λ b. is_gap b ≡ false) (λ b. b ≢ 0) (λ b e z. false≢true (sym e ∙ ap is_gap z)) word
+    (subst IsWhole (sym is) (each_at IsWhole (slice_split is_gap text) (whole_parts text) k word below))
 
-  pub reading_goes_on : (old now next : Option (List ℕ)) (empty line seen : List ℕ) (pairs others : List (K × ℕ)) → IsReadSoFar old now pairs → empty ≡ [] → seen ≡ line →
-      IfSome now (λ xs. line ≡ empty ++ take_through 10 xs) → DropsThrough now next 10 →
-      ((before : List (List ℕ)) → IsKeptFor bytes before pairs → IsKeptFor bytes (before ++ words seen) others) → IsReadSoFar old next others
-  reading_goes_on None now next empty line seen pairs others h e same is drops counted = tt
-  reading_goes_on (Some text) now next empty line seen pairs others (before, rest, known, split, kept) e same is drops counted =
-      let line_is : seen ≡ take_through 10 rest = same ∙ subst (λ (o : Option (List ℕ)). IfSome o (λ xs. line ≡ empty ++ take_through 10 xs)) known is ∙ ap (λ bs. bs ++ take_through 10 rest) e in (
-        before ++ words seen,
-        drop_through 10 rest,
-        subst (λ (o : Option (List ℕ)). DropsThrough o next 10) known drops,
-        split ∙ ap (λ ws. before ++ ws) (words_by_line rest ∙ ap (λ bs. words bs ++ words (drop_through 10 rest)) (sym line_is))
-            ∙ sym (append_assoc before (words seen) (words (drop_through 10 rest))),
-        counted before kept,
-      )
+pub no_words : (counts : List (List ℕ × ℕ)) → counts ≡ [] → HasTimes (flat_map words []) counts
+no_words counts e = subst (HasTimes []) (sym e) (record { each = λ word. refl })
 
-  pub reading_ends : (old now : Option (List ℕ)) (pairs : List (K × ℕ)) → IsReadSoFar old now pairs → IsAtEnd now → IfSome old (λ text. IsKeptFor bytes (words text) pairs)
-  reading_ends None now pairs h end = tt
-  reading_ends (Some text) now pairs (before, rest, known, split, kept) end =
-      let none : rest ≡ [] = subst IsAtEnd known end in
-      subst (λ ws. IsKeptFor bytes ws pairs) (sym (split ∙ ap (λ bs. before ++ words bs) none ∙ append-nil before)) kept
+-- with the words of one line more
+pub one_line_more : (counts others : List (List ℕ × ℕ)) (number : ℕ) (line seen : List ℕ) → seen ≡ line →
+    ((ws : List (List ℕ)) → HasTimes ws counts → HasTimes (ws ++ words seen) others) → (before : List (List ℕ)) → number ≡ length before + 1 →
+    HasTimes (flat_map words before) counts → HasTimes (flat_map words (before ++ line ∷ [])) others
+one_line_more counts others number line seen e more before n h =
+    subst (λ ws. HasTimes ws others) (ap (λ l. flat_map words before ++ words l) e ∙ sym (flat_map-append words before (line ∷ []) ∙ ap (λ ws. flat_map words before ++ ws) (append-nil (words line))))
+    (more (flat_map words before) h)
 
-  -- the lines of the pairs that came are written, and these pairs are left
-  pub record AreWritten (pairs left : List (K × ℕ)) (old new : Option (List ℕ)) : Type 0 where
-    pub done : List (K × ℕ)
-    pub are : pairs ≡ done ++ left
-    pub written : Appends old new (flat_map line_of (map (shown_pair bytes) done))
+pub count_is : (text : Option (List ℕ)) (counts : List (List ℕ × ℕ)) → Pairwise (λ x y. is_before x.0 y.0 ≡ true) counts →
+    IfSome text (λ bs. HasTimes (flat_map words (lines bs)) counts) → IfSome text (λ bs. IsCountOf (words bs) counts)
+count_is None counts rising h = tt
+count_is (Some bs) counts rising h = record { rising = rising; numbers = subst (λ ws. HasTimes ws counts) (words_of_lines bs) h }
 
-  appends_none : (old : Option (List ℕ)) → Appends old old []
-  appends_none None = tt
-  appends_none (Some xs) = sym (append-nil xs)
-
-  appends_more : (a b c : Option (List ℕ)) (xs ys : List ℕ) → Appends a b xs → Appends b c ys → Appends a c (xs ++ ys)
-  appends_more None b c xs ys h k = tt
-  appends_more (Some p) None c xs ys h k = absurd h
-  appends_more (Some p) (Some q) None xs ys h k = absurd k
-  appends_more (Some p) (Some q) (Some r) xs ys h k = k ∙ ap (λ bs. bs ++ ys) h ∙ append_assoc p xs ys
-
-  pub writing_begins : (pairs left : List (K × ℕ)) (old : Option (List ℕ)) → left ≡ pairs → AreWritten pairs left old old
-  writing_begins pairs left old e = record { done = []; are = sym e; written = appends_none old }
-
-  pub writing_goes_on : (pairs left others : List (K × ℕ)) (x : K × ℕ) (old now next : Option (List ℕ)) → AreWritten pairs left old now → left ≡ x ∷ others →
-      Appends now next (line_of (shown_pair bytes x)) → AreWritten pairs others old next
-  writing_goes_on pairs left others x old now next h e more = record {
-    done = h.done ++ x ∷ [];
-    are = h.are ∙ ap (λ xs. h.done ++ xs) e ∙ sym (append_assoc h.done (x ∷ []) others);
-    written = subst (Appends old next) (sym (ap (flat_map line_of) (map-append (shown_pair bytes) h.done (x ∷ []))
-        ∙ flat_map-append line_of (map (shown_pair bytes) h.done) (shown_pair bytes x ∷ []) ∙ ap (λ bs. flat_map line_of (map (shown_pair bytes) h.done) ++ bs) (append-nil _)))
-        (appends_more old now next _ _ h.written more);
-  }
-
-  pub writing_ends : (pairs left : List (K × ℕ)) (old now : Option (List ℕ)) → IsMap (of_key bytes) pairs → AreWritten pairs left old now → left ≡ [] →
-      (ws : List (List ℕ)) → AreWhole ws → IsKeptFor bytes ws pairs → AppendsCounts ws old now
-  writing_ends pairs left old now sorted h e ws whole kept =
-      let all : pairs ≡ h.done = h.are ∙ ap (λ xs. h.done ++ xs) e ∙ append-nil h.done in (
-        map (shown_pair bytes) pairs,
-        count_shown bytes ws pairs whole sorted kept,
-        subst (λ xs. Appends old now (flat_map line_of (map (shown_pair bytes) xs))) (sym all) h.written,
-      )
-
--- what was written stays when it is flushed
-pub flushed : (ws : List (List ℕ)) (old now next : Option (List ℕ)) → AppendsCounts ws old now → Keeps now next → AppendsCounts ws old next
-flushed ws None now next h k = (h.0, h.1, tt)
-flushed ws (Some xs) None next h k = absurd h.2
-flushed ws (Some xs) (Some ys) None h k = absurd k
-flushed ws (Some xs) (Some ys) (Some zs) h k = (h.0, h.1, k ∙ h.2)
-
-pub reported : {K E : Type 0} (bytes : K → List ℕ) (pairs : List (K × ℕ)) (text old now next : Option (List ℕ)) (r : Result (Unit {0}) E) →
-    IfSome text (λ bs. IsKeptFor bytes (words bs) pairs) → ((ws : List (List ℕ)) → AreWhole ws → IsKeptFor bytes ws pairs → AppendsCounts ws old now) → Keeps now next →
-    OnOk r (IfSome text (λ bs. AppendsCounts (words bs) old next))
-reported bytes pairs text old now next (Err e) kept writes stays = tt
-reported bytes pairs None old now next (Ok u) kept writes stays = tt
-reported bytes pairs (Some bs) old now next (Ok u) kept writes stays = flushed (words bs) old now next (writes (words bs) (whole_words bs) kept) stays
+pub reported : {E : Type 0} (counts : List (List ℕ × ℕ)) (text old now next : Option (List ℕ)) (r : Result (Unit {0}) E) → IfSome text (λ bs. IsCountOf (words bs) counts) →
+    Appends old now (flat_map line_of counts) → Keeps now next → OnOk r (IfSome text (λ bs. AppendsCounts (words bs) old next))
+reported counts text old now next (Err e) is writes stays = tt
+reported counts None old now next (Ok u) is writes stays = tt
+reported counts (Some bs) old now next (Ok u) is writes stays = (counts, is, appends_kept old now next _ writes stays)

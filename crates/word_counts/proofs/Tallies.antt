@@ -1,24 +1,24 @@
 -- How often words stand in a list, and how a map keeps that.
-use Rattle.std.proofs.Common.{◌≡◌, ℕ, zero, suc, ◌+◌, ◌-◌, ◌^◌, ◌<◌, Bool, true, false, cond, eqb, eqb-true, ne_eqb, inr, take_at, min, List, [], ◌∷◌, ◌++◌, length, filter, map, unwrap_or, Some, refl, ap, sym, ◌∙◌, subst, arith, append_assoc, length-append}
+use Rattle.std.proofs.Common.{◌≡◌, ℕ, ◌+◌, ◌-◌, ◌^◌, ◌<◌, ◌⊎◌, inl, inr, Bool, true, false, cond, eqb, eqb-true, ne_eqb, min, List, [], ◌∷◌, ◌++◌, length, filter, map, unwrap_or, Some, None, refl, ap, ap₂, sym, ◌∙◌, subst, arith, length-append}
 use Rattle.std.specs.List.{AllByRecursion as Each}
 use Rattle.std.specs.Option.{option_map}
 use Rattle.std.specs.Cmp.Lexicographic.{slice_cmp}
-use Rattle.std.specs.Ordering.{nat_cmp, is_lt, ordering_then}
-use Rattle.std.specs.declared.cmp.Ordering.{Ordering}
-use Rattle.std.specs.declared.cmp.Ordering.TheVariants.{Less, Equal, Greater}
+use Rattle.std.specs.Ordering.{is_lt, nat_cmp}
+use Rattle.std.specs.declared.cmp.Ordering.TheVariants.{Less}
 use Rattle.std.proofs.lemmas.Bool.{false≢true}
-use Rattle.std.proofs.lemmas.Bool.Decides.{same_from_decides, Decides-like}
-use Rattle.std.proofs.lemmas.List.{map-append}
+use Rattle.std.proofs.lemmas.List.{append_cancel_right}
 use Rattle.std.proofs.lemmas.List.Elements.{filter-append}
-use Rattle.art_model.specs.Keys.{are_same, is_before, Precedes}
-use Rattle.art_model.specs.Pairs.{IsMap, Pairwise, first_of, of_key, put, stored_for, with_key}
-use Rattle.art_model.proofs.Keys.{before_apart, front_same, same_equal}
-use Rattle.art_model.proofs.KeyLaws.{order_is_decided, sameness_is_decided}
+use Rattle.art_operations.specs.Ended.{ended}
+use Rattle.art_operations.specs.KeyedPairs.{RiseBy}
+use Rattle.art_operations.specs.Keys.{are_same, is_before}
+use Rattle.art_operations.specs.MapAnswers.{value_at, with_value_at}
+use Rattle.art_operations.specs.Pairs.{Pairwise, first_of, of_key, put, stored_for, with_key}
+use Rattle.art_model.proofs.Keys.{before_apart, front_same, not_same, same_equal}
+use Rattle.art_model.proofs.KeyLaws.{order_is_total, order_is_transitive}
+use Rattle.art_model.proofs.Lists.{Each-weaker, filter_none}
 use Rattle.art_model.proofs.MapLaws.{put_is_found}
 use Rattle.art_model.proofs.Puts.{stored_value}
-use Rattle.art_operations.specs.MapAnswers.{value_at, with_value_at}
-use Rattle.word_counts.specs.Counts.{IsCountOf, IsKeptFor, key_of, numbers_for, shown, times}
-use Rattle.word_counts.proofs.Texts.{IsWhole}
+use Rattle.word_counts.specs.Counts.{CountIsOne, HasTimes, numbers_for, times}
 
 -- one word more
 times_more : (key : List ℕ) (ws : List (List ℕ)) (w : List ℕ) → times key (ws ++ w ∷ []) ≡ times key ws + cond (are_same key w) 1 0
@@ -53,27 +53,41 @@ value_is_first bytes key pairs = go (with_key (of_key bytes) key pairs)
     go [] = refl
     go (x ∷ xs) = refl
 
--- a word is counted once more
-pub counted_once_more : {K : Type 0} (bytes : K → List ℕ) (ws : List (List ℕ)) (word : List ℕ) (key : K) (value : ℕ) (pairs : List (K × ℕ)) →
-    bytes key ≡ key_of word → value ≡ min (unwrap_or (value_at bytes (bytes key) pairs) 0 + 1) (2 ^ 64 - 1) → IsKeptFor bytes ws pairs →
-    IsKeptFor bytes (ws ++ word ∷ []) (put (of_key bytes) (key, value) pairs)
-counted_once_more {K} bytes ws word key value pairs is number kept = record { each = each }
+-- ---- words, and their keys
+
+-- strings are the same where they are so with their ends
+same_ended : (a b : List ℕ) → are_same (ended a) (ended b) ≡ are_same a b
+same_ended a b = go (are_same a b) refl
   where
-    each : (k : List ℕ) → map (λ x. x.1) (with_key (of_key bytes) k (put (of_key bytes) (key, value) pairs)) ≡ numbers_for (times k (map key_of (ws ++ word ∷ [])))
-    each k =
-        ap (map (λ x. x.1)) (put_is_found bytes k (key, value) pairs) ∙ go (are_same k (bytes key)) refl
-        ∙ sym (ap numbers_for (ap (times k) (map-append key_of ws (word ∷ [])) ∙ times_more k (map key_of ws) (key_of word)
-        ∙ ap (λ b. times k (map key_of ws) + cond (are_same k b) 1 0) (sym is)))
-      where
-        go : (t : Bool) → are_same k (bytes key) ≡ t →
-            map (λ x. x.1) (cond t (stored_for (of_key bytes) (key, value) pairs ∷ []) (with_key (of_key bytes) k pairs)) ≡ numbers_for (times k (map key_of ws) + cond t 1 0)
-        go true e =
-            let same = same_equal k (bytes key) e in
-            let v : value_at bytes (bytes key) pairs ≡ first_of (numbers_for (times k (map key_of ws))) =
-            ap (λ b. value_at bytes b pairs) same ∙ value_is_first bytes k pairs ∙ ap first_of (kept.each k) in
-            ap (λ n. n ∷ []) (stored_value bytes (key, value) pairs ∙ number ∙ ap (λ o. min (unwrap_or o 0 + 1) (2 ^ 64 - 1)) v)
-            ∙ next_number (times k (map key_of ws))
-        go false e = kept.each k ∙ ap numbers_for (omega arith)
+    go : (t : Bool) → are_same a b ≡ t → are_same (ended a) (ended b) ≡ t
+    go true e = subst (λ c. are_same (ended a) (ended c) ≡ true) (sym (same_equal a b e)) (front_same (ended a))
+    go false e = not_same (ended a) (ended b) (λ h. false≢true (sym e ∙ subst (λ c. are_same a c ≡ true) (append_cancel_right a b (0 ∷ []) h) (front_same a)))
+
+-- the numbers that are found under a word
+abbrev found : List ℕ → List (List ℕ × ℕ) → List ℕ
+found word counts = map (λ x. x.1) (with_key (λ x. x.0) word counts)
+
+-- what is found under a word's key is what is found under the word
+found_ended : (word : List ℕ) (pairs : List (List ℕ × ℕ)) → with_key (of_key ended) (ended word) pairs ≡ with_key (λ x. x.0) word pairs
+found_ended word [] = refl
+found_ended word (x ∷ xs) = rw (same_ended word x.0) (ap (λ r. cond (are_same word x.0) (x ∷ r) r) (found_ended word xs))
+
+value_found : (word : List ℕ) (pairs : List (List ℕ × ℕ)) → value_at ended (ended word) pairs ≡ first_of (found word pairs)
+value_found word pairs = value_is_first ended (ended word) pairs ∙ ap (λ xs. first_of (map (λ x. x.1) xs)) (found_ended word pairs)
+
+-- a new word is counted once
+new_number : (ws : List (List ℕ)) (word : List ℕ) (pairs : List (List ℕ × ℕ)) → value_at ended (ended word) pairs ≡ None → HasTimes ws pairs → (w : List ℕ) →
+    found w (put (of_key ended) (word, 1) pairs) ≡ numbers_for (times w (ws ++ word ∷ []))
+new_number ws word pairs none kept w =
+    ap (map (λ x. x.1)) (sym (found_ended w (put (of_key ended) (word, 1) pairs)) ∙ put_is_found ended (ended w) (word, 1) pairs ∙ rw (same_ended w word) refl)
+    ∙ go (are_same w word) refl ∙ sym (ap numbers_for (times_more w ws word))
+  where
+    go : (t : Bool) → are_same w word ≡ t → map (λ x. x.1) (cond t (stored_for (of_key ended) (word, 1) pairs ∷ []) (with_key (of_key ended) (ended w) pairs)) ≡ numbers_for (times w ws + cond t 1 0)
+    go true e =
+        let same = same_equal w word e in
+        let v : None ≡ first_of (numbers_for (times w ws)) = sym none ∙ ap (λ b. value_at ended (ended b) pairs) same ∙ value_found w pairs ∙ ap first_of (kept.each w) in
+        ap (λ n. n ∷ []) (stored_value ended (word, 1) pairs ∙ ap (λ o. min (unwrap_or o 0 + 1) (2 ^ 64 - 1)) v) ∙ next_number (times w ws)
+    go false e = ap (map (λ x. x.1)) (found_ended w pairs) ∙ kept.each w ∙ ap numbers_for (omega arith)
 
 -- ---- a word that is counted already
 
@@ -115,142 +129,85 @@ only_number value (x ∷ y ∷ xs) n count next all first is = go (eqb n 0) all
     go false e = absurd cc
 
 -- a word that is counted already is counted once more
-pub counted_again : {K : Type 0} (bytes : K → List ℕ) (ws : List (List ℕ)) (word key : List ℕ) (count next : ℕ) (pairs : List (K × ℕ)) →
-    key ≡ key_of word → value_at bytes key pairs ≡ Some count → next ≡ min (count + 1) (2 ^ 64 - 1) → IsKeptFor bytes ws pairs →
-    IsKeptFor bytes (ws ++ word ∷ []) (with_value_at bytes key next pairs)
-counted_again {K} bytes ws word key count next pairs is found number kept = record { each = each }
+next_found : (ws : List (List ℕ)) (word : List ℕ) (count next : ℕ) (pairs : List (List ℕ × ℕ)) → value_at ended (ended word) pairs ≡ Some count →
+    next ≡ min (count + 1) (2 ^ 64 - 1) → HasTimes ws pairs → (w : List ℕ) → found w (with_value_at ended (ended word) next pairs) ≡ numbers_for (times w (ws ++ word ∷ []))
+next_found ws word count next pairs here number kept w =
+    ap (map (λ x. x.1)) (sym (found_ended w (with_value_at ended (ended word) next pairs))) ∙ go (are_same w word) refl ∙ sym (ap numbers_for (times_more w ws word))
   where
-    each : (k : List ℕ) → map (λ x. x.1) (with_key (of_key bytes) k (with_value_at bytes key next pairs)) ≡ numbers_for (times k (map key_of (ws ++ word ∷ [])))
-    each k =
-        go (are_same k key) refl
-        ∙ sym (ap numbers_for (ap (times k) (map-append key_of ws (word ∷ [])) ∙ times_more k (map key_of ws) (key_of word)
-        ∙ ap (λ b. times k (map key_of ws) + cond (are_same k b) 1 0) (sym is)))
+    go : (t : Bool) → are_same w word ≡ t → map (λ x. x.1) (with_key (of_key ended) (ended w) (with_value_at ended (ended word) next pairs)) ≡ numbers_for (times w ws + cond t 1 0)
+    go true e =
+        subst (λ v. map (λ x. x.1) (with_key (of_key ended) (ended v) (with_value_at ended (ended word) next pairs)) ≡ numbers_for (times v ws + 1)) (same_equal w word e)
+        (written_here ended (ended word) next pairs ∙ ap (map (λ x. next)) (found_ended word pairs)
+        ∙ only_number (λ x. x.1) (with_key (λ x. x.0) word pairs) (times word ws) count next (kept.each word) (sym (value_found word pairs) ∙ here) number)
+    go false e =
+        written_elsewhere ended (ended word) next (ended w) pairs (same_ended w word ∙ e) ∙ ap (map (λ x. x.1)) (found_ended w pairs) ∙ kept.each w ∙ ap numbers_for (omega arith)
+
+-- ---- the same, under the key of the word
+
+pub counted_first : (ws : List (List ℕ)) (word key : List ℕ) (pairs : List (List ℕ × ℕ)) → key ≡ word → value_at ended (ended key) pairs ≡ None → HasTimes ws pairs →
+    HasTimes (ws ++ word ∷ []) (put (of_key ended) (key, 1) pairs)
+counted_first ws word key pairs is none kept =
+    subst (λ w. HasTimes (ws ++ w ∷ []) (put (of_key ended) (key, 1) pairs)) is (record { each = new_number ws key pairs none kept })
+
+pub counted_again : (ws : List (List ℕ)) (word key : List ℕ) (count next : ℕ) (pairs : List (List ℕ × ℕ)) → key ≡ word → value_at ended (ended key) pairs ≡ Some count →
+    next ≡ min (count + 1) (2 ^ 64 - 1) → HasTimes ws pairs → HasTimes (ws ++ word ∷ []) (with_value_at ended (ended key) next pairs)
+counted_again ws word key count next pairs is here number kept =
+    subst (λ w. HasTimes (ws ++ w ∷ []) (with_value_at ended (ended key) next pairs)) is (record { each = next_found ws key count next pairs here number kept })
+
+-- ---- the order of words
+
+each_later : (x : List ℕ × ℕ) (xs : List (List ℕ × ℕ)) → Each (λ y. slice_cmp nat_cmp x.0 y.0 ≡ Less) xs → Each (λ y. is_before x.0 y.0 ≡ true) xs
+each_later x xs h = Each-weaker (λ y. slice_cmp nat_cmp x.0 y.0 ≡ Less) (λ y. is_before x.0 y.0 ≡ true) (λ y e. ap is_lt e) xs h
+
+pub words_rise : (counts : List (List ℕ × ℕ)) → RiseBy (slice_cmp nat_cmp) counts → Pairwise (λ x y. is_before x.0 y.0 ≡ true) counts
+words_rise [] h = tt
+words_rise (x ∷ xs) h = (each_later x xs h.0, words_rise xs h.1)
+
+-- ---- a list of words has one count
+
+abbrev Rise : List (List ℕ × ℕ) → Type 0
+Rise = Pairwise (λ x y. is_before x.0 y.0 ≡ true)
+
+earlier_apart : (a b : List ℕ) → is_before a b ≡ true → are_same a b ≡ false
+earlier_apart a b h = not_same a b (λ e. false≢true (sym (before_apart a b h) ∙ subst (λ c. is_before c a ≡ true) e (subst (λ c. is_before a c ≡ true) (sym e) h)))
+
+-- nothing is found under a word that comes before all
+found_later : (word : List ℕ) (xs : List (List ℕ × ℕ)) → Each (λ y. is_before word y.0 ≡ true) xs → found word xs ≡ []
+found_later word xs h =
+    ap (map (λ x. x.1)) (filter_none (λ y. are_same word y.0) xs (Each-weaker (λ y. is_before word y.0 ≡ true) (λ y. are_same word y.0 ≡ false) (λ y e. earlier_apart word y.0 e) xs h))
+
+-- under the first word its number is found
+found_first : (x : List ℕ × ℕ) (xs : List (List ℕ × ℕ)) → Each (λ y. is_before x.0 y.0 ≡ true) xs → found x.0 (x ∷ xs) ≡ x.1 ∷ []
+found_first x xs h = rw (front_same x.0) (ap (λ ns. x.1 ∷ ns) (found_later x.0 xs h))
+
+found_past : (word : List ℕ) (x : List ℕ × ℕ) (xs : List (List ℕ × ℕ)) → are_same word x.0 ≡ false → found word (x ∷ xs) ≡ found word xs
+found_past word x xs e = rw e refl
+
+all_later : (word : List ℕ) (y : List ℕ × ℕ) (ys : List (List ℕ × ℕ)) → is_before word y.0 ≡ true → Each (λ z. is_before y.0 z.0 ≡ true) ys → Each (λ z. is_before word z.0 ≡ true) (y ∷ ys)
+all_later word y ys h k = (h, Each-weaker (λ z. is_before y.0 z.0 ≡ true) (λ z. is_before word z.0 ≡ true) (λ z e. order_is_transitive word y.0 z.0 h e) ys k)
+
+one_list : (xs ys : List (List ℕ × ℕ)) → Rise xs → Rise ys → ((word : List ℕ) → found word xs ≡ found word ys) → ys ≡ xs
+one_list [] [] h k same = refl
+one_list [] (y ∷ ys) h k same = let e = same y.0 ∙ found_first y ys k.0 in absurd cc
+one_list (x ∷ xs) [] h k same = let e = sym (found_first x xs h.0) ∙ same x.0 in absurd cc
+one_list (x ∷ xs) (y ∷ ys) h k same = go (order_is_total x.0 y.0) (one_list xs ys h.1 k.1)
+  where
+    tails : x.0 ≡ y.0 → (word : List ℕ) → found word xs ≡ found word ys
+    tails e word = by (are_same word x.0) refl
       where
-        go : (t : Bool) → are_same k key ≡ t →
-            map (λ x. x.1) (with_key (of_key bytes) k (with_value_at bytes key next pairs)) ≡ numbers_for (times k (map key_of ws) + cond t 1 0)
-        go true e =
-            subst (λ j. map (λ x. x.1) (with_key (of_key bytes) j (with_value_at bytes key next pairs)) ≡ numbers_for (times j (map key_of ws) + 1)) (same_equal k key e)
-            (written_here bytes key next pairs
-            ∙ only_number (λ x. x.1) (with_key (of_key bytes) key pairs) (times key (map key_of ws)) count next (kept.each key) (sym (value_is_first bytes key pairs) ∙ found) number)
-        go false e = written_elsewhere bytes key next k pairs e ∙ kept.each k ∙ ap numbers_for (omega arith)
+        by : (t : Bool) → are_same word x.0 ≡ t → found word xs ≡ found word ys
+        by true s =
+            let is = same_equal word x.0 s in
+            subst (λ w. found w xs ≡ found w ys) is (found_later x.0 xs h.0 ∙ sym (ap (λ w. found w ys) e ∙ found_later y.0 ys k.0))
+        by false s = sym (found_past word x xs s) ∙ same word ∙ found_past word y ys (ap (are_same word) (sym e) ∙ s)
 
--- ---- words and their keys
+    go : (is_before x.0 y.0 ≡ true) ⊎ ((x.0 ≡ y.0) ⊎ (is_before y.0 x.0 ≡ true)) → (((word : List ℕ) → found word xs ≡ found word ys) → ys ≡ xs) → y ∷ ys ≡ x ∷ xs
+    go (inl b) ih = let e = sym (found_first x xs h.0) ∙ same x.0 ∙ found_later x.0 (y ∷ ys) (all_later x.0 y ys b k.0) in absurd cc
+    go (inr (inr b)) ih = let e = sym (found_first y ys k.0) ∙ sym (same y.0) ∙ found_later y.0 (x ∷ xs) (all_later y.0 x xs b h.0) in absurd cc
+    go (inr (inl e)) ih =
+        let n = sym (found_first x xs h.0) ∙ same x.0 ∙ ap (λ w. found w (y ∷ ys)) e ∙ found_first y ys k.0 in
+        let m : x.1 ≡ y.1 = cc in
+        ap₂ (λ a b. a ∷ b) (ap₂ (λ a b. (a, b)) (sym e) (sym m)) (ih (tails e))
 
-key_once : (a b : List ℕ) → key_of a ≡ key_of b → a ≡ b
-key_once [] [] e = refl
-key_once [] (y ∷ []) e = let l = ap length e in absurd (omega arith)
-key_once [] (y ∷ z ∷ b) e = let l = ap length e in absurd (omega arith)
-key_once (x ∷ []) [] e = let l = ap length e in absurd (omega arith)
-key_once (x ∷ z ∷ a) [] e = let l = ap length e in absurd (omega arith)
-key_once (x ∷ a) (y ∷ b) e = let h : x ≡ y = cc in let t : key_of a ≡ key_of b = cc in let r = key_once a b t in cc
-
--- keys are the same where their words are
-pub same_keys : (a b : List ℕ) → are_same (key_of a) (key_of b) ≡ are_same a b
-same_keys a b =
-    same_from_decides _ _ (Decides-like _ (key_once a b) (ap key_of) (sameness_is_decided (key_of a) (key_of b))) (sameness_is_decided a b)
-
-times_keys : (word : List ℕ) (ws : List (List ℕ)) → times (key_of word) (map key_of ws) ≡ times word ws
-times_keys word [] = refl
-times_keys word (w ∷ ws) = rw (same_keys word w) (go (are_same word w) (times_keys word ws))
-  where
-    go : (t : Bool) → times (key_of word) (map key_of ws) ≡ times word ws →
-        length (cond t (key_of w ∷ filter (λ v. are_same (key_of word) v) (map key_of ws)) (filter (λ v. are_same (key_of word) v) (map key_of ws))) ≡ length (cond t (w ∷ filter (λ v. are_same word v) ws) (filter (λ v. are_same word v) ws))
-    go true ih = omega arith
-    go false ih = ih
-
--- a zero is before every other byte
-after_zero : (y : ℕ) (bs : List ℕ) → is_before (0 ∷ []) (suc y ∷ bs) ≡ true
-after_zero y bs = (order_is_decided (0 ∷ []) (suc y ∷ bs)).1 (inr ([], 0, suc y, [], bs, refl, refl, omega arith))
-
--- keys of words without gaps are in the order of the words
-order_kept : (a b : List ℕ) → IsWhole a → IsWhole b → is_before (key_of a) (key_of b) ≡ is_before a b
-order_kept [] [] h k = refl
-order_kept [] (zero ∷ b) h k = absurd (false≢true (sym k.0))
-order_kept [] (suc y ∷ b) h k = after_zero y (key_of b)
-order_kept (zero ∷ a) [] h k = absurd (false≢true (sym h.0))
-order_kept (suc x ∷ a) [] h k = before_apart (0 ∷ []) (suc x ∷ key_of a) (after_zero x (key_of a))
-order_kept (x ∷ a) (y ∷ b) h k = go (nat_cmp x y) (order_kept a b h.1 k.1)
-  where
-    go : (o : Ordering) → is_before (key_of a) (key_of b) ≡ is_before a b →
-        is_lt (ordering_then o (slice_cmp nat_cmp (key_of a) (key_of b))) ≡ is_lt (ordering_then o (slice_cmp nat_cmp a b))
-    go Less ih = refl
-    go Equal ih = ih
-    go Greater ih = refl
-
--- ---- the words of a map
-
--- the pair is that of a word without gaps
-abbrev IsWordPair : {K : Type 0} → (K → List ℕ) → K × ℕ → Type 0
-IsWordPair bytes x = (word : List ℕ) × (bytes x.0 ≡ key_of word) × IsWhole word
-
-some_time : (key : List ℕ) (ws : List (List ℕ)) → 0 < times key (map key_of ws) → Each IsWhole ws → (word : List ℕ) × (key ≡ key_of word) × IsWhole word
-some_time key [] h all = absurd (omega arith)
-some_time key (w ∷ ws) h all = go (are_same key (key_of w)) refl h (λ k. some_time key ws k all.1)
-  where
-    go : (t : Bool) → are_same key (key_of w) ≡ t →
-        0 < length (cond t (key_of w ∷ filter (λ v. are_same key v) (map key_of ws)) (filter (λ v. are_same key v) (map key_of ws))) →
-        (0 < times key (map key_of ws) → (word : List ℕ) × (key ≡ key_of word) × IsWhole word) →
-        (word : List ℕ) × (key ≡ key_of word) × IsWhole word
-    go true e k ih = (w, sym (same_equal key (key_of w) e), all.0)
-    go false e k ih = ih k
-
--- a number that is kept was counted
-number_above : (n : ℕ) → 0 < length (numbers_for n) → 0 < n
-number_above zero h = absurd (omega arith)
-number_above (suc n) h = omega arith
-
-module _ {K : Type 0} (bytes : K → List ℕ) (ws : List (List ℕ)) (whole : Each IsWhole ws) where
-  word_pairs : (before after : List (K × ℕ)) → IsKeptFor bytes ws (before ++ after) → Each (IsWordPair bytes) after
-  word_pairs before [] kept = tt
-  word_pairs before (x ∷ after) kept = (
-    some_time (bytes x.0) ws (number_above _ (here (front_same (bytes x.0)))) whole,
-    word_pairs (before ++ x ∷ []) after (subst (IsKeptFor bytes ws) (sym (append_assoc before (x ∷ []) after)) kept),
-  )
-    where
-      here : are_same (bytes x.0) (bytes x.0) ≡ true → 0 < length (numbers_for (times (bytes x.0) (map key_of ws)))
-      here e =
-          let l = ap length (sym (kept.each (bytes x.0)) ∙ ap (map (λ y. y.1)) (filter-append (λ y. are_same (bytes x.0) (bytes y.0)) before (x ∷ after)
-          ∙ ap (λ t. filter (λ y. are_same (bytes x.0) (bytes y.0)) before ++ cond t (x ∷ filter (λ y. are_same (bytes x.0) (bytes y.0)) after) (filter (λ y. are_same (bytes x.0) (bytes y.0)) after)) e)
-          ∙ map-append (λ y. y.1) (filter (λ y. are_same (bytes x.0) (bytes y.0)) before) (x ∷ filter (λ y. are_same (bytes x.0) (bytes y.0)) after)) in
-          omega (arith, simp length-append at l)
-
--- a key without its end is the word
-shown_is : (word : List ℕ) → shown (key_of word) ≡ word
-shown_is word = take_at word (0 ∷ []) (length (key_of word) - 1) (let l = length-append word (0 ∷ []) in omega arith)
-
-abbrev pub shown_pair : {K : Type 0} → (K → List ℕ) → K × ℕ → List ℕ × ℕ
-shown_pair bytes x = (shown (bytes x.0), x.1)
-
-module _ {K : Type 0} (bytes : K → List ℕ) where
-  below : (x : K × ℕ) (others : List (K × ℕ)) → IsWordPair bytes x → Each (IsWordPair bytes) others →
-      Each (λ y. Precedes (bytes x.0) (bytes y.0)) others → Each (λ y. is_before (shown (bytes x.0)) y.0 ≡ true) (map (shown_pair bytes) others)
-  below x [] is are h = tt
-  below x (y ∷ others) is are h = (first is are.0 h.0.0, below x others is are.1 h.1)
-    where
-      first : IsWordPair bytes x → IsWordPair bytes y → is_before (bytes x.0) (bytes y.0) ≡ true → is_before (shown (bytes x.0)) (shown (bytes y.0)) ≡ true
-      first a b e = rw (a.1, b.1, shown_is a.0, shown_is b.0) (sym (order_kept a.0 b.0 a.2 b.2) ∙ rw (a.1, b.1) at e)
-
-  rise : (pairs : List (K × ℕ)) → Each (IsWordPair bytes) pairs → IsMap (of_key bytes) pairs → Pairwise (λ x y. is_before x.0 y.0 ≡ true) (map (shown_pair bytes) pairs)
-  rise [] are h = tt
-  rise (x ∷ pairs) are h = (below x pairs are.0 are.1 h.0, rise pairs are.1 h.1)
-
-  found : (word : List ℕ) (pairs : List (K × ℕ)) → Each (IsWordPair bytes) pairs →
-      map (λ x. x.1) (with_key (λ x. x.0) word (map (shown_pair bytes) pairs)) ≡ map (λ x. x.1) (with_key (of_key bytes) (key_of word) pairs)
-  found word [] are = refl
-  found word (x ∷ pairs) are = rw (same are.0) (go (are_same (key_of word) (bytes x.0)) (found word pairs are.1))
-    where
-      same : IsWordPair bytes x → are_same word (shown (bytes x.0)) ≡ are_same (key_of word) (bytes x.0)
-      same a = ap (λ b. are_same word (shown b)) a.1 ∙ ap (are_same word) (shown_is a.0) ∙ sym (same_keys word a.0) ∙ ap (are_same (key_of word)) (sym a.1)
-
-      go : (t : Bool) → map (λ x. x.1) (with_key (λ x. x.0) word (map (shown_pair bytes) pairs)) ≡ map (λ x. x.1) (with_key (of_key bytes) (key_of word) pairs) →
-          map (λ x. x.1) (cond t (shown_pair bytes x ∷ with_key (λ x. x.0) word (map (shown_pair bytes) pairs)) (with_key (λ x. x.0) word (map (shown_pair bytes) pairs)))
-          ≡ map (λ x. x.1) (cond t (x ∷ with_key (of_key bytes) (key_of word) pairs) (with_key (of_key bytes) (key_of word) pairs))
-      go true ih = ap (λ ns. x.1 ∷ ns) ih
-      go false ih = ih
-
-  -- what is shown of a map that keeps the counts of words without gaps is their count
-  pub count_shown : (ws : List (List ℕ)) (pairs : List (K × ℕ)) → Each IsWhole ws → IsMap (of_key bytes) pairs → IsKeptFor bytes ws pairs →
-      IsCountOf ws (map (shown_pair bytes) pairs)
-  count_shown ws pairs whole sorted kept =
-      let are = word_pairs bytes ws whole [] pairs kept in
-      record { rising = rise pairs are sorted; each = λ word. found word pairs are ∙ kept.each (key_of word) ∙ ap numbers_for (times_keys word ws) }
+pub count_is_one : CountIsOne
+count_is_one ws counts others h k = one_list counts others h.rising k.rising (λ word. h.numbers.each word ∙ sym (k.numbers.each word))

@@ -1,9 +1,8 @@
 -- The words of a text that is read line by line.
-use Rattle.std.proofs.Common.{◌≡◌, ℕ, Bool, true, false, cond, eqb, eqb-true, List, [], ◌∷◌, ◌++◌, filter, refl, ap, sym, ◌∙◌, ◌⊎◌, inl, inr, append-nil}
+use Rattle.std.proofs.Common.{◌≡◌, ℕ, Bool, true, false, cond, eqb, eqb-true, ne_eqb, List, [], ◌∷◌, ◌++◌, length, filter, flat_map, refl, ap, ap₂, sym, ◌∙◌, subst, arith, append_assoc, append-nil}
 use Rattle.std.specs.List.{AllByRecursion as Each, slice_split, onto_first}
-use Rattle.std.specs.Io.BufRead.{take_through, drop_through}
 use Rattle.std.proofs.lemmas.List.Elements.{filter-append}
-use Rattle.art_model.proofs.Filters.{Each-filter}
+use Rattle.text_lines.specs.Lines.{lines, without_empty_end}
 use Rattle.word_counts.specs.Words.{EndsWord, GapsAreNoWords, IsWord, WordsAreRuns, is_gap, is_filled, words}
 
 abbrev parts : List ℕ → List (List ℕ)
@@ -36,34 +35,52 @@ split_gap (x ∷ xs) g ys e =
 pub words_around : (xs : List ℕ) (g : ℕ) (ys : List ℕ) → is_gap g ≡ true → words (xs ++ g ∷ ys) ≡ words xs ++ words ys
 words_around xs g ys e = ap (filter is_filled) (split_gap xs g ys e) ∙ filter-append is_filled (parts xs) (parts ys)
 
--- what is read of a line is all that there is, or ends with a line feed
-through : (text : List ℕ) → ((take_through 10 text ≡ text) × (drop_through 10 text ≡ [])) ⊎ ((line : List ℕ) × (take_through 10 text ≡ line ++ 10 ∷ []) × (text ≡ line ++ 10 ∷ drop_through 10 text))
-through [] = inl (refl, refl)
-through (x ∷ xs) = go (eqb x 10) refl (through xs)
-  where
-    go : (t : Bool) → eqb x 10 ≡ t → ((take_through 10 xs ≡ xs) × (drop_through 10 xs ≡ [])) ⊎ ((line : List ℕ) × (take_through 10 xs ≡ line ++ 10 ∷ []) × (xs ≡ line ++ 10 ∷ drop_through 10 xs)) →
-        ((cond t (x ∷ []) (x ∷ take_through 10 xs) ≡ x ∷ xs) × (cond t xs (drop_through 10 xs) ≡ [])) ⊎
-        ((line : List ℕ) × (cond t (x ∷ []) (x ∷ take_through 10 xs) ≡ line ++ 10 ∷ []) × (x ∷ xs ≡ line ++ 10 ∷ cond t xs (drop_through 10 xs)))
-    go true e h = let is = eqb-true x 10 e in inr ([], ap (λ b. b ∷ []) is, ap (λ b. b ∷ xs) is)
-    go false e (inl h) = inl (ap (λ bs. x ∷ bs) h.0, h.1)
-    go false e (inr h) = inr (x ∷ h.0, ap (λ bs. x ∷ bs) h.1, ap (λ bs. x ∷ bs) h.2)
+-- the front goes before the first part
+abbrev before_first : List ℕ → List (List ℕ) → List (List ℕ)
+before_first front [] = front ∷ []
+before_first front (p ∷ ps) = (front ++ p) ∷ ps
 
--- the words of a text are those of its first line, and then those of the rest
-pub words_by_line : (text : List ℕ) → words text ≡ words (take_through 10 text) ++ words (drop_through 10 text)
-words_by_line text = go (through text)
+abbrev feeds : List ℕ → List (List ℕ)
+feeds = slice_split (λ b. eqb b 10)
+
+words_between : (front text : List ℕ) → words (front ++ text) ≡ flat_map words (before_first front (feeds text))
+words_between front [] = sym (append-nil (words (front ++ [])))
+words_between front (b ∷ bs) = go (eqb b 10) refl (feeds bs) refl (words_between [] bs) (words_between (front ++ b ∷ []) bs)
   where
-    go : ((take_through 10 text ≡ text) × (drop_through 10 text ≡ [])) ⊎ ((line : List ℕ) × (take_through 10 text ≡ line ++ 10 ∷ []) × (text ≡ line ++ 10 ∷ drop_through 10 text)) →
-        words text ≡ words (take_through 10 text) ++ words (drop_through 10 text)
-    go (inl h) = ap words (sym h.0) ∙ sym (append-nil (words (take_through 10 text))) ∙ ap (λ ys. words (take_through 10 text) ++ words ys) (sym h.1)
-    go (inr h) =
-        ap words h.2 ∙ words_around h.0 10 (drop_through 10 text) refl
-        ∙ ap (λ ws. ws ++ words (drop_through 10 text)) (sym (ap words h.1 ∙ words_around h.0 10 [] refl ∙ append-nil (words h.0)))
+    nothing_before : (ps : List (List ℕ)) → words bs ≡ flat_map words (before_first [] ps) → words bs ≡ flat_map words ps
+    nothing_before [] e = e
+    nothing_before (p ∷ ps) e = e
+
+    moved : (ps : List (List ℕ)) → flat_map words (before_first (front ++ b ∷ []) ps) ≡ flat_map words (before_first front (onto_first b ps))
+    moved [] = refl
+    moved (p ∷ ps) = ap (λ bytes. words bytes ++ flat_map words ps) (append_assoc front (b ∷ []) p)
+
+    go : (t : Bool) → eqb b 10 ≡ t → (ps : List (List ℕ)) → feeds bs ≡ ps → words bs ≡ flat_map words (before_first [] (feeds bs)) →
+        words ((front ++ b ∷ []) ++ bs) ≡ flat_map words (before_first (front ++ b ∷ []) (feeds bs)) → words (front ++ b ∷ bs) ≡ flat_map words (before_first front (cond t ([] ∷ ps) (onto_first b ps)))
+    go true e ps is here more =
+        words_around front b bs (ap is_gap (eqb-true b 10 e))
+        ∙ ap₂ (λ us vs. us ++ vs) (ap words (sym (append-nil front))) (nothing_before ps (subst (λ qs. words bs ≡ flat_map words (before_first [] qs)) is here))
+    go false e ps is here more = ap words (sym (append_assoc front (b ∷ []) bs)) ∙ more ∙ ap (λ qs. flat_map words (before_first (front ++ b ∷ []) qs)) is ∙ moved ps
+
+empty_end : (ps : List (List ℕ)) → flat_map words (without_empty_end ps) ≡ flat_map words ps
+empty_end [] = refl
+empty_end ([] ∷ []) = refl
+empty_end ((b ∷ p) ∷ []) = ap (λ t. flat_map words (cond t [] ((b ∷ p) ∷ []))) (ne_eqb (length (b ∷ p)) 0 (λ z. omega arith))
+empty_end (p ∷ q ∷ ps) = ap (λ ws. words p ++ ws) (empty_end (q ∷ ps))
+
+-- the words of a text are those of its lines
+pub words_of_lines : (text : List ℕ) → flat_map words (lines text) ≡ words text
+words_of_lines text = empty_end (feeds text) ∙ sym (words_between [] text ∙ nothing (feeds text) refl)
+  where
+    nothing : (ps : List (List ℕ)) → feeds text ≡ ps → flat_map words (before_first [] (feeds text)) ≡ flat_map words (feeds text)
+    nothing [] e = rw e refl
+    nothing (p ∷ ps) e = rw e refl
 
 -- no word has a gap
 abbrev pub IsWhole : List ℕ → Type 0
 IsWhole = Each (λ b. is_gap b ≡ false)
 
-whole_parts : (text : List ℕ) → Each IsWhole (parts text)
+pub whole_parts : (text : List ℕ) → Each IsWhole (parts text)
 whole_parts [] = (tt, tt)
 whole_parts (x ∷ xs) = go (is_gap x) refl (parts xs) (whole_parts xs)
   where
@@ -71,9 +88,6 @@ whole_parts (x ∷ xs) = go (is_gap x) refl (parts xs) (whole_parts xs)
     go true e ps h = (tt, h)
     go false e [] h = ((e, tt), tt)
     go false e (p ∷ ps) h = ((e, h.0), h.1)
-
-pub whole_words : (text : List ℕ) → Each IsWhole (words text)
-whole_words text = Each-filter IsWhole is_filled (parts text) (whole_parts text)
 
 -- ---- the words are the longest runs
 

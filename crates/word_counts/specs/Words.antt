@@ -16,10 +16,6 @@ is_filled (byte ∷ bytes) = true
 abbrev pub words : List ℕ → List (List ℕ)
 words text = filter is_filled (slice_split is_gap text)
 
--- no word of the list has a gap
-abbrev pub AreWhole : List (List ℕ) → Type 0
-AreWhole ws = Each (λ w. Each (λ byte. is_gap byte ≡ false) w) ws
-
 -- ---- what decides them
 
 abbrev pub AreGaps : List ℕ → Type 0

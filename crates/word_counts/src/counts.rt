@@ -1,16 +1,19 @@
 //! Words are counted in a map, line by line, and written in the order of bytes.
-ghost use Rattle.std.specs.Prelude.{◌≡◌, ℕ, ◌++◌, ◌∷◌, [], List, IfOk, IfSome, OnOk, OnErr, flat_map, map};
+ghost use Rattle.std.specs.Prelude.{◌≡◌, ℕ, ◌++◌, ◌∷◌, [], List, IfOk, IfSome, OnOk, OnErr, flat_map};
 ghost use Rattle.std.specs.Io.KnownBytes.{Appends};
-ghost use Rattle.word_counts.specs.Counts.{AppendsCounts, IsCountOf, IsKeptFor, line_of, shown};
-ghost use Rattle.word_counts.specs.Words.{AreWhole, is_gap, words};
+ghost use Rattle.art_operations.specs.Ended.{HasNoZero};
+ghost use Rattle.word_counts.specs.Counts.{AppendsCounts, CountIsOne, HasTimes, IsCountOf, line_of};
+ghost use Rattle.word_counts.specs.Words.{is_gap, words};
 
-use art_operations::map::ByteMap;
+use art_operations::keyed::KeyedMap;
+use art_operations::keys::{EndError, Terminated};
 use std::alloc::{AllocError, Global};
-use std::io;
 use std::io::{BufRead, ErrorKind, Write};
+use std::{io, mem};
+use text_lines::lines::next_line;
 
-/// Words with their counts. A zero byte ends each, so that none is a prefix of another.
-pub type Counts = ByteMap<Vec<u8>, u64, 16>;
+/// Words with their counts. Any word may be the beginning of another.
+pub type Counts = KeyedMap<Terminated, u64, 16>;
 
 /// Reads a text to its end, and writes each of its words with how often it stands there, a line each, in the order of
 /// bytes.
@@ -23,7 +26,7 @@ pub fn report<R: BufRead, W: Write>(alloc: Global, input: &mut R, output: &mut W
     output.flush()
 }
 
-/// What is written of a text that is in memory.
+/// Returns what is written of a text that is in memory.
 pub fn report_of(alloc: Global, text: &[u8]) -> io::Result<Vec<u8>>
     ensures { IfOk result (λ lines. (counts : List (List ℕ × ℕ)) ×
         IsCountOf (words text.now) counts × (lines.items ≡ flat_map line_of counts)) }
@@ -37,31 +40,31 @@ pub fn report_of(alloc: Global, text: &[u8]) -> io::Result<Vec<u8>>
 /// Counts the words of a text that is read to its end.
 pub fn count_words<R: BufRead>(alloc: Global, input: &mut R) -> io::Result<Counts>
     ensures { IfOk result (λ counts. IfSome (R.remaining input.old) (λ text.
-        IsKeptFor (λ key. key.items) (words text) counts)) }
+        IsCountOf (words text) counts)) }
 {
-    let mut counts = ByteMap::new(alloc);
+    let mut counts = KeyedMap::new(alloc);
     let mut line = Vec::new(alloc);
-    let mut key = Vec::new(alloc);
-    for _ in 0..u64::MAX {
-        line.clear();
-        if input.read_until(b'\n', &mut line)? == 0 {
+    let mut buffer = Vec::new(alloc);
+    for _number in 1..u64::MAX {
+        if !next_line(input, &mut line)? {
+            // `rises` says that the words rise.
+            counts.rises();
             return Ok(counts);
         }
-        count_line(&mut counts, &mut key, alloc, &line)?;
+        count_line(&mut counts, &mut buffer, alloc, &line)?;
     }
     Err(io::Error::from(ErrorKind::FileTooLarge))
 }
 
-/// Counts each word of a line once more. The buffer is for their keys.
+/// Counts each word of a line once more. The buffer is for their keys. It is refused only for want of memory.
 pub fn count_line(
     counts: &mut Counts,
     buffer: &mut Vec<u8>,
     alloc: Global,
     line: &[u8],
 ) -> Result<(), AllocError>
-    ensures { OnOk result ((before : List (List ℕ)) →
-        IsKeptFor (λ key. key.items) before counts.old →
-        IsKeptFor (λ key. key.items) (before ++ words line.now) counts.new) }
+    ensures { OnOk result ((before : List (List ℕ)) → HasTimes before counts.old →
+        HasTimes (before ++ words line.now) counts.new) }
 {
     for word in line.split(is_gap) {
         if !word.is_empty() {
@@ -71,30 +74,44 @@ pub fn count_line(
     Ok(())
 }
 
-/// Counts a word once more, by one way down the tree where it is stored already. The buffer is for its key, so
-/// that memory is taken for a new word alone. An `Err` changes no count.
-pub fn count_word(
+// Counts a word once more, by one way down the tree where it is stored already. The buffer is for its key, so
+// that memory is taken for a new word alone.
+fn count_word(
     counts: &mut Counts,
     buffer: &mut Vec<u8>,
     alloc: Global,
     word: &[u8],
 ) -> Result<(), AllocError>
-    ensures counted { OnOk result ((before : List (List ℕ)) →
-        IsKeptFor (λ key. key.items) before counts.old →
-        IsKeptFor (λ key. key.items) (before ++ word.now ∷ []) counts.new) }
+    requires { HasNoZero word.now }
+    ensures counted { OnOk result ((before : List (List ℕ)) → HasTimes before counts.old →
+        HasTimes (before ++ word.now ∷ []) counts.new) }
     ensures kept { OnErr result (counts.new ≡ counts.old) }
 {
     buffer.clear();
     buffer.extend_from_slice(word)?;
-    buffer.push(0)?;
-    if let Some(count) = counts.get_mut(buffer) {
+    let key = key_of(mem::replace(buffer, Vec::new(alloc)))?;
+    if let Some(count) = counts.get_mut(&key) {
         *count = count.saturating_add(1);
+        *buffer = key.into_bytes_without_end();
         return Ok(());
     }
-    let key = Vec::from_slice(alloc, buffer)?;
-    match counts.insert(key, 1) {
+    let new_key = key.clone()?;
+    *buffer = key.into_bytes_without_end();
+    match counts.insert(new_key, 1) {
         Ok(_) => Ok(()),
         Err(_) => Err(AllocError),
+    }
+}
+
+// Returns the key of a word.
+fn key_of(word: Vec<u8>) -> Result<Terminated, AllocError>
+    requires { HasNoZero word.items }
+    ensures { IfOk result (λ key. key ≡ word.items) }
+{
+    match Terminated::new(word) {
+        Ok(key) => Ok(key),
+        Err(EndError::InnerZero { .. }) => unreachable!(),
+        Err(EndError::Memory { .. }) => Err(AllocError),
     }
 }
 
@@ -106,22 +123,26 @@ fn is_gap(byte: &u8) -> bool
 
 /// Writes each word with its count, a line each, in the order of bytes.
 pub fn write_counts<W: Write>(output: &mut W, counts: &Counts) -> io::Result<()>
-    ensures { OnOk result ((ws : List (List ℕ)) → AreWhole ws →
-        IsKeptFor (λ key. key.items) ws counts.now →
-        AppendsCounts ws (W.contents output.old) (W.contents output.new)) }
+    ensures { OnOk result (Appends (W.contents output.old) (W.contents output.new)
+        (flat_map line_of counts.now)) }
 {
-    for (key, count) in counts.iter() {
-        write_count(output, key, *count)?;
+    for (word, count) in counts.iter() {
+        write_count(output, word.as_bytes_without_end(), *count)?;
     }
     Ok(())
 }
 
-// Writes a word, which a zero byte ends in the map, with its count.
-fn write_count<W: Write>(output: &mut W, key: &[u8], count: u64) -> io::Result<()>
+// Writes a word with its count.
+fn write_count<W: Write>(output: &mut W, word: &[u8], count: u64) -> io::Result<()>
     ensures { OnOk result (Appends (W.contents output.old) (W.contents output.new)
-        (line_of (shown key.now, count))) }
+        (line_of (word.now, count))) }
 {
     write!(output, "{count} ")?;
-    output.write_all(&key[..key.len().saturating_sub(1)])?;
+    output.write_all(word)?;
     output.write_all(b"\n")
 }
+
+/// A list of words has one count, so what is written of a text is known.
+pub fn a_list_of_words_has_one_count()
+    ensures { CountIsOne }
+{}

@@ -202,6 +202,48 @@ fn words_are_found_by_their_bytes(rt: HostRuntime) -> Result<(), Fail> {
     same(seen, Some(([Some(2), Some(1), None, None, None], 3)))
 }
 
+// How many words begin so, what their removal returns, and which are left.
+fn remove_below(
+    map: &mut KeyedMap<Escaped, u32, 8>,
+    alloc: Global,
+) -> Option<([usize; 2], [bool; 4])> {
+    plant_escaped(map, alloc, [b"cart", b"cat", b"car", b"ca"])?;
+    let prefix = Escaped::encode(alloc, b"car").ok()?;
+    let removed = map.remove_prefix(&prefix).ok()?;
+    let again = map.remove_prefix(&prefix).ok()?;
+    let left = [
+        map.get_bytes(alloc, b"cart").ok()?.is_some(),
+        map.get_bytes(alloc, b"cat").ok()?.is_some(),
+        map.get_bytes(alloc, b"car").ok()?.is_some(),
+        map.get_bytes(alloc, b"ca").ok()?.is_some(),
+    ];
+    Some(([removed, again], left))
+}
+
+#[test]
+fn words_that_begin_with_a_word_go_at_once(rt: HostRuntime) -> Result<(), Fail> {
+    let seen = remove_below(&mut KeyedMap::new(rt.alloc()), rt.alloc());
+    same(seen, Some(([2, 0], [false, true, false, true])))
+}
+
+// What is found of escaped strings by bytes that are not a key yet.
+fn look_up_bytes(map: &mut KeyedMap<Escaped, u32, 8>, alloc: Global) -> Option<[Option<u32>; 5]> {
+    plant_escaped(map, alloc, [b"cart", b"", b"car", b"c\0"])?;
+    Some([
+        map.get_bytes(alloc, b"car").ok()?.copied(),
+        map.get_bytes(alloc, b"").ok()?.copied(),
+        map.get_bytes(alloc, b"ca").ok()?.copied(),
+        map.get_bytes(alloc, b"c\0").ok()?.copied(),
+        map.get_bytes(alloc, b"c\x01").ok()?.copied(),
+    ])
+}
+
+#[test]
+fn escaped_strings_are_found_by_their_bytes(rt: HostRuntime) -> Result<(), Fail> {
+    let seen = look_up_bytes(&mut KeyedMap::new(rt.alloc()), rt.alloc());
+    same(seen, Some([Some(2), Some(1), None, Some(3), None]))
+}
+
 // What writes of values leave, and what a map and its clone have in common.
 fn written(map: &mut KeyedMap<[u8; 2], u32, 8>) -> Option<([Option<u32>; 4], u32, bool)> {
     if map.insert([1, 2], 7).is_err() {

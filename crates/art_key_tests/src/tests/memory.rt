@@ -60,3 +60,23 @@ fn without_memory_a_pair_comes_back(rt: HostRuntime) -> Result<(), Fail> {
     let seen = starve_map(rt.alloc(), &mut KeyedMap::new(rt.alloc()));
     same(seen, Some((true, 0)))
 }
+
+// What is found without memory of escaped strings, by bytes that are plain and by others.
+fn starve_look_ups(map: &KeyedMap<Escaped, u32, 8>, alloc: Global) -> Option<(Option<u32>, bool)> {
+    let held = all_memory(alloc).ok()?;
+    let found = map.get_bytes(alloc, b"car").ok()?.copied();
+    let refused = map.get_bytes(alloc, b"c\0").is_err();
+    drop(held);
+    Some((found, refused))
+}
+
+fn starve_strings(alloc: Global) -> Option<(Option<u32>, bool)> {
+    let mut map = KeyedMap::new(alloc);
+    map.insert(Escaped::encode(alloc, b"car").ok()?, 7).ok()?;
+    starve_look_ups(&map, alloc)
+}
+
+#[test]
+fn without_memory_plain_strings_are_found(rt: HostRuntime) -> Result<(), Fail> {
+    same(starve_strings(rt.alloc()), Some((Some(7), true)))
+}

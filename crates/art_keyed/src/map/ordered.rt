@@ -58,7 +58,7 @@ impl<K: OrderedBytes + Drop, V: Drop, const P: usize> KeyedMap<K, V, P> {
 }
 
 // Returns the bound with the bytes of its key.
-fn bytes_of<'k, K: OrderedBytes>(bound: Bound<&'k K>) -> Bound<&'k [u8]>
+pub(crate) fn bytes_of<'k, K: OrderedBytes>(bound: Bound<&'k K>) -> Bound<&'k [u8]>
     ensures bytes { bound_map (λ b. b.now) result ≡
         bound_map (λ b. K.bytes b.now) bound.entry }
     ensures key { OnBound K.is_key (bound_map (λ b. b.now) bound.entry) }

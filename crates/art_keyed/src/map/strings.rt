@@ -1,17 +1,21 @@
 //! Maps whose keys stand for strings of bytes.
-ghost use Rattle.std.specs.Prelude.{◌≡◌, ◌<◌, ◌^◌, ◌∷◌, ◌++◌, [], length, option_copied};
+ghost use Rattle.std.specs.Prelude.{◌≡◌, ◌<◌, ◌^◌, ◌∷◌, ◌++◌, ℕ, List, [], length, IfOk, OnOk, OnErr, option_copied};
 ghost use Rattle.std.specs.Option.{option_map};
 ghost use Rattle.art_model.specs.Keys.{are_same};
 ghost use Rattle.art_model.specs.Pairs.{IsMap, first_of, of_key, with_key};
-ghost use Rattle.art_map.specs.MapAnswers.{value_at};
+ghost use Rattle.art_map.specs.MapAnswers.{HasShrinkingParentBelow, value_at};
 ghost use Rattle.art_map.specs.MapItems.{deref_pair};
 ghost use Rattle.art_keys.specs.Ended.{ended};
-ghost use Rattle.art_keyed.specs.KeyedPairs.{strings_below};
+ghost use Rattle.art_keys.specs.Escapes.{IsPlain, escape};
+ghost use Rattle.art_keys.specs.Prefixes.{BeginsAs};
+ghost use Rattle.art_keyed.specs.KeyedPairs.{strings_below, strings_not_below};
 
 use super::KeyedMap;
+use art_keys::escaped::Escaped;
 use art_keys::laws::{NoPrefixesBytes, StringBytes};
 use art_keys::terminated::Terminated;
-use art_map::map::{ByteMap, Range};
+use art_map::map::{ByteMap, MapRefused, Range};
+use std::alloc::{AllocError, Global};
 use std::ops::Bound;
 
 impl<K: StringBytes + Drop, V: Drop, const P: usize> KeyedMap<K, V, P> {
@@ -23,6 +27,23 @@ impl<K: StringBytes + Drop, V: Drop, const P: usize> KeyedMap<K, V, P> {
     {
         self.map.prefix(prefix.beginning())
     }
+
+    /// Takes out all pairs whose strings begin with that of a key, at once, and returns how many.
+    ///
+    /// It is refused before any change, and only where a node of 5, 17 or 49 children gives way to a
+    /// smaller one, and there is no memory for that.
+    pub fn remove_prefix(&mut self, prefix: &K) -> Result<usize, MapRefused>
+        ensures pairs { OnOk result
+            (self.new ≡ strings_not_below K.text (K.text prefix.now) self.old) }
+        ensures removed { IfOk result (λ removed.
+            removed ≡ length (strings_below K.text (K.text prefix.now) self.old)) }
+        ensures kept { OnErr result (self.new ≡ self.old) }
+        ensures refused { OnErr result ((beginning : List ℕ) ×
+            BeginsAs K.is_key K.bytes K.text prefix.now beginning ×
+            HasShrinkingParentBelow (of_key K.bytes) P self.old beginning) }
+    {
+        self.map.remove_prefix(prefix.beginning())
+    }
 }
 
 impl<V: Drop, const P: usize> KeyedMap<Terminated, V, P> {
@@ -33,6 +54,25 @@ impl<V: Drop, const P: usize> KeyedMap<Terminated, V, P> {
         match ended_pair(&self.map, string) {
             Some((_, value)) => Some(value),
             None => None,
+        }
+    }
+}
+
+impl<V: Drop, const P: usize> KeyedMap<Escaped, V, P> {
+    /// Returns the value of the key of a string. It takes memory only where a byte 0 or 1 stands in the
+    /// string, and the only error is want of it.
+    pub fn get_bytes(&self, alloc: Global, string: &[u8]) -> Result<Option<&V>, AllocError>
+        ensures value { IfOk result (λ found.
+            option_copied found ≡ value_at escape (escape string.now) self.now) }
+        ensures refused { OnErr result (¬ IsPlain string.now) }
+    {
+        if !Escaped::is_plain(string) {
+            let key = Escaped::encode(alloc, string)?;
+            return Ok(self.get(&key));
+        }
+        match ended_pair(&self.map, string) {
+            Some((_, value)) => Ok(Some(value)),
+            None => Ok(None),
         }
     }
 }

@@ -1,9 +1,10 @@
 //! A map with a key, which may be stored or not.
 ghost use Rattle.std.specs.Prelude.{◌≡◌, false, IfErr, IfOk, OnOk, Some, option_copied};
-ghost use Rattle.std.specs.Borrow.{MutBor, sem};
-ghost use Rattle.std.specs.Option.{unwrap_or};
-ghost use Rattle.art_model.specs.Pairs.{is_conflict, of_key};
-ghost use Rattle.art_map.specs.MapAnswers.{IsRefusalOf, value_at};
+ghost use Rattle.std.specs.Borrow.{Bor, MutBor, sem};
+ghost use Rattle.std.specs.Fn.{FnOnceReturnsAt};
+ghost use Rattle.std.specs.Option.{UnwrapsOrElse, unwrap_or};
+ghost use Rattle.art_model.specs.Pairs.{has_key, is_conflict, of_key};
+ghost use Rattle.art_map.specs.MapAnswers.{IsRefusalOf, IsRefusalOfMade, value_at};
 ghost use Rattle.art_map.specs.MapCalls.{Modifies};
 ghost use Rattle.art_map.specs.MapLends.{lends_put};
 
@@ -66,5 +67,64 @@ impl<'a, K: AsBytes + Drop, V: Drop, const P: usize> EntryOf<'a, K, ByteMap<K, V
     {
         let EntryOf { map, key } = self;
         map.get_or_insert(key, value)
+    }
+
+    /// What `or_insert` returns, with a value that is made of the key. The closure is called where no
+    /// equal key is stored, also where the pair is refused then and comes back.
+    pub fn or_insert_with_key<F: FnOnce(&K) -> V>(
+        self,
+        make: F,
+    ) -> Result<&'a mut V, MapInsertError<K, V>>
+        requires { has_key (of_key K.bytes) (K.bytes self.key) self.map.now ≡ false →
+            (p : Bor K) → p.now ≡ self.key → F.pre make p }
+        ensures* writes_back { sem 𝓛 (lends_put K.row V.row P.row K.AsBytes
+            self.entry.map self.entry.key result) }
+        ensures value { IfOk result (λ lent. UnwrapsOrElse
+            (value_at K.bytes (K.bytes self.entry.key) self.entry.map.now)
+            (FnOnceReturnsAt F.FnOnce make self.entry.key) lent.now) }
+        ensures accepted { OnOk result (is_conflict (of_key K.bytes)
+            (K.bytes self.entry.key) self.entry.map.now ≡ false) }
+        ensures refused { IfErr result (IsRefusalOfMade K.bytes self.entry.key
+            (FnOnceReturnsAt F.FnOnce make self.entry.key) self.entry.map.now) }
+    {
+        let EntryOf { map, key } = self;
+        map.value_or_make(key, make)
+    }
+
+    /// What `or_insert` returns, with a value that is made. The closure is called where no equal key
+    /// is stored, also where the pair is refused then and comes back.
+    pub fn or_insert_with<F: FnOnce() -> V>(
+        self,
+        make: F,
+    ) -> Result<&'a mut V, MapInsertError<K, V>>
+        requires { has_key (of_key K.bytes) (K.bytes self.key) self.map.now ≡ false → F.pre make }
+        ensures* writes_back { sem 𝓛 (lends_put K.row V.row P.row K.AsBytes
+            self.entry.map self.entry.key result) }
+        ensures value { IfOk result (λ lent. UnwrapsOrElse
+            (value_at K.bytes (K.bytes self.entry.key) self.entry.map.now)
+            (F.post make) lent.now) }
+        ensures accepted { OnOk result (is_conflict (of_key K.bytes)
+            (K.bytes self.entry.key) self.entry.map.now ≡ false) }
+        ensures refused { IfErr result (IsRefusalOfMade K.bytes self.entry.key
+            (F.post make) self.entry.map.now) }
+    {
+        self.or_insert_with_key(|_| make())
+    }
+
+    /// What `or_insert` returns, with the value that is the default of its type.
+    pub fn or_default(self) -> Result<&'a mut V, MapInsertError<K, V>>
+    where
+        V: Default,
+        ensures* writes_back { sem 𝓛 (lends_put K.row V.row P.row K.AsBytes
+            self.entry.map self.entry.key result) }
+        ensures value { IfOk result (λ lent. UnwrapsOrElse
+            (value_at K.bytes (K.bytes self.entry.key) self.entry.map.now)
+            V.is_default lent.now) }
+        ensures accepted { OnOk result (is_conflict (of_key K.bytes)
+            (K.bytes self.entry.key) self.entry.map.now ≡ false) }
+        ensures refused { IfErr result (IsRefusalOfMade K.bytes self.entry.key
+            V.is_default self.entry.map.now) }
+    {
+        self.or_insert_with_key(|_| V::default())
     }
 }

@@ -1,12 +1,15 @@
 //! The pairs of a map, in order.
-ghost use Rattle.std.specs.Prelude.{◌≡◌, ◌<◌, ◌^◌, length};
-ghost use Rattle.std.specs.Iterator.{at_most};
+ghost use Rattle.std.specs.Prelude.{◌≡◌, ◌<◌, ◌^◌, length, IfSome, Some, ⊤};
+ghost use Rattle.std.specs.Iterator.{UpTo, at_most};
+ghost use Rattle.std.specs.Iterator.SizeHint.{IsWithinCount};
 ghost use Rattle.art_map.specs.MapItems.{CountsDown, IsRange, IsWalk, TakesFirst, TakesLast, pairs_between};
 
 use super::pair_at;
 use art_nodes::node::AsBytes;
 use art_nodes::store::NodeStore;
 use art_reading::iterator::RawIterator;
+use std::alloc::AllocError;
+use std::iter::FusedIterator;
 use std::marker::Model;
 
 /// Leaves that a walk goes over.
@@ -91,6 +94,21 @@ impl<'a, K, V, S: Leaves<K, V>> MapIterOf<'a, K, V, S> {
     }
 }
 
+impl<'a, K, V, S: Leaves<K, V>> Clone for MapIterOf<'a, K, V, S> {
+    ghost is_clone = { λ iterator copy. copy ≡ iterator };
+
+    ghost is_infallible = { λ iterator. ⊤ };
+
+    fn clone(&self) -> Result<Self, AllocError> {
+        Ok(MapIterOf {
+            store: self.store,
+            walk: self.walk,
+            len: self.len,
+            nothing: None,
+        })
+    }
+}
+
 impl<'a, K, V, S: Leaves<K, V>> Iterator for MapIterOf<'a, K, V, S> {
     type Item = (&'a K, &'a V);
 
@@ -102,7 +120,11 @@ impl<'a, K, V, S: Leaves<K, V>> Iterator for MapIterOf<'a, K, V, S> {
         self.store.step(&mut self.walk, &mut self.len)
     }
 
-    fn size_hint(&self) -> (usize, Option<usize>) {
+    fn size_hint(&self) -> (usize, Option<usize>)
+        ensures lower { IsWithinCount result.0 (at_most (length self.now)) }
+        ensures upper { IfSome result.1 (UpTo (at_most (length self.now))) }
+        ensures exact { result ≡ (length self.now, Some (length self.now)) }
+    {
         (self.len, Some(self.len))
     }
 }
@@ -120,3 +142,5 @@ impl<'a, K, V, S: Leaves<K, V>> DoubleEndedIterator for MapIterOf<'a, K, V, S> {
         self.store.step_back(&mut self.walk, &mut self.len)
     }
 }
+
+impl<'a, K, V, S: Leaves<K, V>> FusedIterator for MapIterOf<'a, K, V, S> {}

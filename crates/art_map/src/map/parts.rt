@@ -1,10 +1,12 @@
 //! The keys of a map, and its values, in order.
-ghost use Rattle.std.specs.Prelude.{◌≡◌, length};
-ghost use Rattle.std.specs.Iterator.{at_most};
+ghost use Rattle.std.specs.Prelude.{◌≡◌, length, IfSome, Some, ⊤};
+ghost use Rattle.std.specs.Iterator.{UpTo, at_most};
+ghost use Rattle.std.specs.Iterator.SizeHint.{IsWithinCount};
 ghost use Rattle.art_map.specs.MapItems.{ShowsFirst, ShowsLast, keys_of, values_of};
 
 use super::iter::{Leaves, MapIterOf};
 use art_nodes::store::NodeStore;
+use std::alloc::AllocError;
 use std::iter::FusedIterator;
 use std::marker::Model;
 
@@ -38,6 +40,18 @@ impl<'a, K, V, S: Leaves<K, V>> KeysOf<'a, K, V, S> {
     }
 }
 
+impl<'a, K, V, S: Leaves<K, V>> Clone for KeysOf<'a, K, V, S> {
+    ghost is_clone = { λ iterator copy. copy ≡ iterator };
+
+    ghost is_infallible = { λ iterator. ⊤ };
+
+    fn clone(&self) -> Result<Self, AllocError> {
+        Ok(KeysOf {
+            pairs: self.pairs.clone()?,
+        })
+    }
+}
+
 impl<'a, K, V, S: Leaves<K, V>> Iterator for KeysOf<'a, K, V, S> {
     type Item = &'a K;
 
@@ -52,7 +66,11 @@ impl<'a, K, V, S: Leaves<K, V>> Iterator for KeysOf<'a, K, V, S> {
         }
     }
 
-    fn size_hint(&self) -> (usize, Option<usize>) {
+    fn size_hint(&self) -> (usize, Option<usize>)
+        ensures lower { IsWithinCount result.0 (at_most (length self.now)) }
+        ensures upper { IfSome result.1 (UpTo (at_most (length self.now))) }
+        ensures exact { result ≡ (length self.now, Some (length self.now)) }
+    {
         let len = self.pairs.len();
         (len, Some(len))
     }
@@ -107,6 +125,18 @@ impl<'a, K, V, S: Leaves<K, V>> ValuesOf<'a, K, V, S> {
     }
 }
 
+impl<'a, K, V, S: Leaves<K, V>> Clone for ValuesOf<'a, K, V, S> {
+    ghost is_clone = { λ iterator copy. copy ≡ iterator };
+
+    ghost is_infallible = { λ iterator. ⊤ };
+
+    fn clone(&self) -> Result<Self, AllocError> {
+        Ok(ValuesOf {
+            pairs: self.pairs.clone()?,
+        })
+    }
+}
+
 impl<'a, K, V, S: Leaves<K, V>> Iterator for ValuesOf<'a, K, V, S> {
     type Item = &'a V;
 
@@ -121,7 +151,11 @@ impl<'a, K, V, S: Leaves<K, V>> Iterator for ValuesOf<'a, K, V, S> {
         }
     }
 
-    fn size_hint(&self) -> (usize, Option<usize>) {
+    fn size_hint(&self) -> (usize, Option<usize>)
+        ensures lower { IsWithinCount result.0 (at_most (length self.now)) }
+        ensures upper { IfSome result.1 (UpTo (at_most (length self.now))) }
+        ensures exact { result ≡ (length self.now, Some (length self.now)) }
+    {
         let len = self.pairs.len();
         (len, Some(len))
     }

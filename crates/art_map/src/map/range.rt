@@ -1,11 +1,14 @@
 //! The pairs of a part of a map, in order.
-ghost use Rattle.std.specs.Prelude.{◌≡◌, ◌<◌, ◌^◌, length};
-ghost use Rattle.std.specs.Iterator.{at_most};
+ghost use Rattle.std.specs.Prelude.{◌≡◌, ◌<◌, ◌^◌, length, IfSome, IsSome, ⊤};
+ghost use Rattle.std.specs.Iterator.{UpTo, at_most};
+ghost use Rattle.std.specs.Iterator.SizeHint.{IsWithinCount};
 ghost use Rattle.art_map.specs.MapItems.{IsRange, TakesFirst, TakesLast, pairs_between};
 
 use super::iter::Leaves;
 use art_nodes::store::NodeStore;
 use art_reading::iterator::RawIterator;
+use std::alloc::AllocError;
+use std::iter::FusedIterator;
 use std::marker::Model;
 
 /// Pairs of a map that stand one after another, by rising keys, seen as the list of those that have
@@ -52,6 +55,21 @@ impl<'a, K, V, S: Leaves<K, V>> RangeOf<'a, K, V, S> {
     }
 }
 
+impl<'a, K, V, S: Leaves<K, V>> Clone for RangeOf<'a, K, V, S> {
+    ghost is_clone = { λ iterator copy. copy ≡ iterator };
+
+    ghost is_infallible = { λ iterator. ⊤ };
+
+    fn clone(&self) -> Result<Self, AllocError> {
+        Ok(RangeOf {
+            store: self.store,
+            walk: self.walk,
+            at_most: self.at_most,
+            nothing: None,
+        })
+    }
+}
+
 impl<'a, K, V, S: Leaves<K, V>> Iterator for RangeOf<'a, K, V, S> {
     type Item = (&'a K, &'a V);
 
@@ -63,7 +81,11 @@ impl<'a, K, V, S: Leaves<K, V>> Iterator for RangeOf<'a, K, V, S> {
         self.store.step(&mut self.walk, &mut self.at_most)
     }
 
-    fn size_hint(&self) -> (usize, Option<usize>) {
+    fn size_hint(&self) -> (usize, Option<usize>)
+        ensures lower { IsWithinCount result.0 (at_most (length self.now)) }
+        ensures upper { IfSome result.1 (UpTo (at_most (length self.now))) }
+        ensures bounded { IsSome result.1 }
+    {
         (0, Some(self.at_most))
     }
 }
@@ -75,3 +97,5 @@ impl<'a, K, V, S: Leaves<K, V>> DoubleEndedIterator for RangeOf<'a, K, V, S> {
         self.store.step_back(&mut self.walk, &mut self.at_most)
     }
 }
+
+impl<'a, K, V, S: Leaves<K, V>> FusedIterator for RangeOf<'a, K, V, S> {}

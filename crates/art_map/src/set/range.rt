@@ -1,6 +1,7 @@
 //! The keys of a part of a set, in order.
-ghost use Rattle.std.specs.Prelude.{◌≡◌, length, option_copied};
-ghost use Rattle.std.specs.Iterator.{at_most};
+ghost use Rattle.std.specs.Prelude.{◌≡◌, length, option_copied, IfSome, IsSome, ⊤};
+ghost use Rattle.std.specs.Iterator.{UpTo, at_most};
+ghost use Rattle.std.specs.Iterator.SizeHint.{IsWithinCount};
 ghost use Rattle.std.specs.Range.Bound.{bound_map};
 ghost use Rattle.std.specs.declared.ops.Bound.TheVariants.{Unbounded};
 ghost use Rattle.art_model.specs.Pairs.{first_of, last_of};
@@ -11,6 +12,7 @@ use super::ByteSet;
 use crate::map::{Leaves, RangeOf};
 use art_nodes::node::AsBytes;
 use art_nodes::store::NodeStore;
+use std::alloc::AllocError;
 use std::iter::FusedIterator;
 use std::marker::Model;
 use std::ops::{Bound, RangeBounds};
@@ -46,6 +48,18 @@ impl<'a, K, S: Leaves<K, ()>> KeyRangeOf<'a, K, S> {
     }
 }
 
+impl<'a, K, S: Leaves<K, ()>> Clone for KeyRangeOf<'a, K, S> {
+    ghost is_clone = { λ iterator copy. copy ≡ iterator };
+
+    ghost is_infallible = { λ iterator. ⊤ };
+
+    fn clone(&self) -> Result<Self, AllocError> {
+        Ok(KeyRangeOf {
+            pairs: self.pairs.clone()?,
+        })
+    }
+}
+
 impl<'a, K, S: Leaves<K, ()>> Iterator for KeyRangeOf<'a, K, S> {
     type Item = &'a K;
 
@@ -60,7 +74,11 @@ impl<'a, K, S: Leaves<K, ()>> Iterator for KeyRangeOf<'a, K, S> {
         }
     }
 
-    fn size_hint(&self) -> (usize, Option<usize>) {
+    fn size_hint(&self) -> (usize, Option<usize>)
+        ensures lower { IsWithinCount result.0 (at_most (length self.now)) }
+        ensures upper { IfSome result.1 (UpTo (at_most (length self.now))) }
+        ensures bounded { IsSome result.1 }
+    {
         self.pairs.size_hint()
     }
 }

@@ -1,7 +1,7 @@
 mod beside_btree;
 mod beside_btree_set;
 mod calls;
-mod deep;
+mod entries;
 mod memory;
 mod owned;
 mod ranges;

@@ -3,3 +3,4 @@ mod freeing;
 mod points;
 mod search;
 mod shrink;
+mod subtree;

@@ -1,15 +1,16 @@
 //! Delete points, applied.
-ghost use Rattle.std.specs.Prelude.{◌≡◌, nat_lt, length, Some, IsOk, IsSome, IsTrue, IfOk, IfErr, IfSome, OnOk, OnErr};
+ghost use Rattle.std.specs.Prelude.{◌≡◌, ℕ, List, nat_lt, length, Some, IsOk, IsSome, IsTrue, IfOk, IfErr, IfSome, OnOk, OnErr};
 ghost use Rattle.std.specs.FinMap as map;
 ghost use Rattle.art_nodes.specs.Nodes.{no_promise};
+ghost use Rattle.art_model.specs.Apart.{KeepsApart};
 ghost use Rattle.art_model.specs.Canonical.{IsCanonical};
 ghost use Rattle.art_model.specs.Kept.{ChangesInPlace};
-ghost use Rattle.art_model.specs.Pairs.{of_key, remove_key};
+ghost use Rattle.art_model.specs.Pairs.{first_of, last_of, of_key, remove_key, remove_reply, without_first, without_last};
 ghost use Rattle.art_model.specs.Promises.{is_covered, promise_after};
 ghost use Rattle.art_model.specs.Roots.{ForRoot, ForTree, IsCanonicalRoot};
 ghost use Rattle.art_model.specs.Stores.{pair_of};
 ghost use Rattle.art_writing.specs.Inserted.{alone};
-ghost use Rattle.art_writing.specs.Deleted.{IsDeletePointIn, IsRootAfter, TouchesFor, parent_change, placed_for_deletion, shrinks};
+ghost use Rattle.art_writing.specs.Deleted.{IsDeletePointIn, IsRootAfter, TouchesFor, pair_at, parent_change, placed_for_deletion, shrinks};
 ghost use Rattle.art_reading.specs.Paths.{last_step};
 ghost use Rattle.art_inner.specs.Views.{ref_kind, ref_view};
 ghost use Rattle.art_parts.specs.Kinds.{kind_least, next_smaller};
@@ -20,7 +21,7 @@ use super::{DeletePoint, DeleteRefused, DeleteResult};
 use crate::writes::{replace_at, take_from_between};
 use art_nodes::node::{AsBytes, InnerPtr, InnerRef, NodeType, OpaqueNodePtr};
 use art_nodes::store::NodeStore;
-use art_reading::ways::{last_step, up};
+use art_reading::path::{last_step, up};
 
 impl DeletePoint {
     /// Takes the leaf of the point out of the tree.
@@ -42,12 +43,29 @@ impl DeletePoint {
         ensures deleted { IfOk result (λ done.
             IfSome (map.get store.old.leaves self.leaf_node_ptr) (λ leaf.
             done.deleted_leaf ≡ alone (pair_of leaf))) }
+        ensures pair { IfOk result (λ done.
+            pair_at store.old (Some self) ≡ Some (pair_of done.deleted_leaf)) }
+        ensures sought { ForTree (of_key K.bytes) PREFIX_LEN store.old root (λ pairs _.
+            IfOk result (λ done. (key : List ℕ) →
+            pair_at store.old (Some self) ≡ remove_reply (of_key K.bytes) key pairs →
+            IsCanonical (of_key K.bytes) PREFIX_LEN store.new done.new_root
+            (remove_key (of_key K.bytes) key pairs))) }
+        ensures first { ForTree (of_key K.bytes) PREFIX_LEN store.old root (λ pairs _.
+            IfOk result (λ done. pair_at store.old (Some self) ≡ first_of pairs →
+            IsCanonical (of_key K.bytes) PREFIX_LEN store.new done.new_root
+            (without_first pairs))) }
+        ensures last { ForTree (of_key K.bytes) PREFIX_LEN store.old root (λ pairs _.
+            IfOk result (λ done. pair_at store.old (Some self) ≡ last_of pairs →
+            IsCanonical (of_key K.bytes) PREFIX_LEN store.new done.new_root
+            (without_last pairs))) }
         ensures root { IfOk result (λ done.
             IsRootAfter (parent_change store.old self.path) self.path root done.new_root) }
         ensures kept { ForTree (of_key K.bytes) PREFIX_LEN store.old root (λ pairs old.
             IfOk result (λ done.
             ForRoot (of_key K.bytes) PREFIX_LEN store.new done.new_root (λ after new.
             ChangesInPlace (of_key K.bytes) store.old store.new (Some old) new))) }
+        ensures apart { IfOk result (λ done. KeepsApart (of_key K.bytes) PREFIX_LEN
+            store.old store.new (Some root) done.new_root) }
         ensures touches { OnOk result
             (TouchesFor (parent_change store.old self.path) store.old store.new) }
         ensures promise { OnOk result (store.new.promise ≡
@@ -146,9 +164,9 @@ impl DeletePoint {
     }
 }
 
-// Whether a node has more children than its kind has at least.
+/// Whether a node has more children than its kind has at least.
 #[inline(always)]
-fn has_spare_child<const P: usize>(node: InnerRef<'_, P>) -> bool
+pub(super) fn has_spare_child<const P: usize>(node: InnerRef<'_, P>) -> bool
     ensures { result ≡
         nat_lt (kind_least (ref_kind node.entry)) (length (ref_view node.entry).children) }
 {

@@ -16,7 +16,7 @@ use super::{DeletePoint, DeleteResult};
 use crate::writes::replace_at;
 use art_nodes::node::{AsBytes, Header, InnerPtr, InnerRef, LeafPtr, OpaqueNodePtr};
 use art_nodes::store::NodeStore;
-use art_reading::ways::up;
+use art_reading::path::up;
 
 impl DeletePoint {
     /// Takes a leaf out with its parent, in whose place the other child comes.

@@ -2,6 +2,7 @@
 ghost use Rattle.std.specs.Prelude.{◌≡◌, IsOk, IsTrue, IfOk, IfErr, OnOk, OnErr, Some};
 ghost use Rattle.std.specs.Option.{option_map};
 ghost use Rattle.art_nodes.specs.Nodes.{no_promise};
+ghost use Rattle.art_model.specs.Apart.{KeepsApart};
 ghost use Rattle.art_model.specs.Canonical.{IsCanonical};
 ghost use Rattle.art_model.specs.Kept.{ChangesInPlace};
 ghost use Rattle.art_model.specs.Pairs.{of_key, overwrite, overwrite_reply, put, put_reply, stored_for};
@@ -25,6 +26,7 @@ impl InsertPoint {
     ///
     /// All memory is taken before the first change, and none where the key is stored. It is a constant
     /// number of writes, and a way down to a leaf beside the new one.
+    #[inline(always)]
     pub fn apply<K: AsBytes + Drop, V: Drop, const PREFIX_LEN: usize>(
         self,
         store: &mut NodeStore<K, V, PREFIX_LEN>,
@@ -49,6 +51,8 @@ impl InsertPoint {
             IfOk result (λ done.
             ForTree (of_key K.bytes) PREFIX_LEN store.new done.new_root (λ after new.
             ChangesInPlace (of_key K.bytes) store.old store.new (Some old) (Some new)))) }
+        ensures apart { IfOk result (λ done. KeepsApart (of_key K.bytes) PREFIX_LEN
+            store.old store.new (Some self.root) (Some done.new_root)) }
         ensures touches { OnOk result (Touches self.insert_kind store.old store.new) }
         ensures promise { OnOk result (store.new.promise ≡
             promise_after (placed_for store.old self.insert_kind) store.old.promise) }
@@ -105,6 +109,7 @@ impl PrefixInsertPoint {
     /// that is equal stays and gets the value; the key that was handed in comes back with the old one.
     ///
     /// All memory is taken before the first change, and none where the pair takes the place of one other.
+    #[inline(always)]
     pub fn apply<K: AsBytes + Drop, V: Drop, const PREFIX_LEN: usize>(
         self,
         store: &mut NodeStore<K, V, PREFIX_LEN>,
@@ -132,6 +137,8 @@ impl PrefixInsertPoint {
             IfOk result (λ done.
             ForTree (of_key K.bytes) PREFIX_LEN store.new done.insert_result.new_root (λ after new.
             ChangesInPlace (of_key K.bytes) store.old store.new (Some old) (Some new)))) }
+        ensures apart { IfOk result (λ done. KeepsApart (of_key K.bytes) PREFIX_LEN
+            store.old store.new (Some (root_of self)) (Some done.insert_result.new_root)) }
         ensures touches { ForTree (of_key K.bytes) PREFIX_LEN store.old (root_of self)
             (λ pairs layout. OnOk result
             (TouchesForPrefix self (of_key K.bytes) (K.bytes key) store.old store.new layout)) }
@@ -206,6 +213,8 @@ impl OverwritePoint {
             IfOk result (λ done.
             ForTree (of_key K.bytes) PREFIX_LEN store.new done.insert_result.new_root (λ after new.
             ChangesInPlace (of_key K.bytes) store.old store.new (Some old) (Some new)))) }
+        ensures apart { IfOk result (λ done. KeepsApart (of_key K.bytes) PREFIX_LEN
+            store.old store.new (Some self.root) (Some done.insert_result.new_root)) }
         ensures touches { ForTree (of_key K.bytes) PREFIX_LEN store.old self.root (λ pairs layout.
             OnOk result (TouchesForNode self.overwrite_point.kind
             (of_key K.bytes) (K.bytes key) store.old store.new layout)) }

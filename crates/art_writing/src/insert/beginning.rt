@@ -1,6 +1,7 @@
 //! How a tree begins.
-ghost use Rattle.std.specs.Prelude.{◌≡◌, ◌<◌, ◌∷◌, [], IfOk, IfErr, IsOk, OnErr};
+ghost use Rattle.std.specs.Prelude.{◌≡◌, ◌<◌, ◌∷◌, [], Some, None, IfOk, IfErr, IsOk, OnErr};
 ghost use Rattle.art_parts.specs.Names.{leaf_name};
+ghost use Rattle.art_model.specs.Apart.{KeepsApart};
 ghost use Rattle.art_model.specs.Canonical.{IsCanonical};
 ghost use Rattle.art_model.specs.Pairs.{of_key};
 ghost use Rattle.art_model.specs.Roots.{IsCanonicalRoot};
@@ -24,6 +25,8 @@ pub fn plant<K: AsBytes + Drop, V: Drop, const PREFIX_LEN: usize>(
         (Some (leaf_name name)) ((key, value) ∷ [])) }
     ensures root { IfOk result (λ name.
         IsCanonicalRoot (of_key K.bytes) PREFIX_LEN store.new (leaf_name name)) }
+    ensures apart { IfOk result (λ name. KeepsApart (of_key K.bytes) PREFIX_LEN
+        store.old store.new None (Some (leaf_name name))) }
     ensures planted { IfOk result (λ name. IsPlanted store.old store.new name (key, value)) }
     ensures handed_back { IfErr result (λ refused.
         (refused.key ≡ key) × (refused.value ≡ value)) }

@@ -39,6 +39,7 @@ struct Branch<const P: usize> {
 
 // What is read before the tree under a name gets a parent with this prefix, and under these bytes it
 // and a new leaf.
+#[inline(always)]
 fn branch_above<K: AsBytes + Drop, V: Drop, const P: usize>(
     store: &NodeStore<K, V, P>,
     name: OpaqueNodePtr,
@@ -65,6 +66,7 @@ fn branch_above<K: AsBytes + Drop, V: Drop, const P: usize>(
 
 impl InsertPoint {
     // Reads what splits a leaf.
+    #[inline(always)]
     fn branch_at_leaf<K: AsBytes + Drop, V: Drop, const P: usize>(
         self,
         store: &NodeStore<K, V, P>,
@@ -87,6 +89,7 @@ impl InsertPoint {
     }
 
     // Reads what splits a prefix.
+    #[inline(always)]
     fn branch_at_prefix<K: AsBytes + Drop, V: Drop, const P: usize>(
         self,
         store: &NodeStore<K, V, P>,
@@ -143,6 +146,7 @@ impl InsertPoint {
     }
 
     // Places the leaf of a pair, and a node above it and the old one in the place of the old one.
+    #[inline(always)]
     fn place_branch<K: AsBytes + Drop, V: Drop, const P: usize>(
         self,
         store: &mut NodeStore<K, V, P>,
@@ -180,6 +184,7 @@ impl InsertPoint {
     }
 
     /// Splits a leaf: it and a leaf of the new pair become the children of a new node.
+    #[inline(always)]
     pub(super) fn split_leaf<K: AsBytes + Drop, V: Drop, const P: usize>(
         self,
         store: &mut NodeStore<K, V, P>,
@@ -201,6 +206,7 @@ impl InsertPoint {
     }
 
     /// Splits a prefix: the node and a leaf of the new pair become the children of a new node.
+    #[inline(always)]
     pub(super) fn split_prefix<K: AsBytes + Drop, V: Drop, const P: usize>(
         self,
         store: &mut NodeStore<K, V, P>,

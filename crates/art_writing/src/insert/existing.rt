@@ -13,6 +13,7 @@ use art_reading::path::TreePath;
 
 impl InsertPoint {
     /// Puts a leaf of a pair below an inner node, which is replaced by a larger one where it is full.
+    #[inline(always)]
     pub(super) fn add_child<K: AsBytes + Drop, V: Drop, const P: usize>(
         self,
         store: &mut NodeStore<K, V, P>,
@@ -49,6 +50,7 @@ impl InsertPoint {
     }
 
     // The leaves beside a new one that comes below an inner node.
+    #[inline(always)]
     fn links_below<K: AsBytes + Drop, V: Drop, const P: usize>(
         self,
         store: &NodeStore<K, V, P>,

@@ -1,6 +1,7 @@
 use Rattle.std.proofs.Common.{IfSome}
 use Rattle.std.specs.Io.Buffered.{reader_remaining}
 use Rattle.art_keeping.specs.KeptTrees.{IsKept}
+use Rattle.text_lines.proofs.Reading.{IsReadTo}
 use Rattle.art_engine.proofs.Serving.{GoesOn}
 use Rattle.art_engine.proofs.engine.answer_lines.Given as goal
 
@@ -8,4 +9,5 @@ use Rattle.art_engine.proofs.engine.answer_lines.Given as goal
 abbrev pub invariant-loop-number : goal.invariant-loop-number
 invariant-loop-number g l =
     IsKept l.tree × IfSome (reader_remaining g.R.Read.remaining l.initial.input) (λ text.
-    GoesOn text (reader_remaining g.R.Read.remaining l.input) l.number-counter l.initial.tree l.tree (g.W.Write.contents l.initial.output) (g.W.Write.contents l.output))
+    IsReadTo (GoesOn l.number-counter l.initial.tree l.tree (g.W.Write.contents l.initial.output) (g.W.Write.contents l.output)) text
+    (reader_remaining g.R.Read.remaining l.input) l.number-counter)

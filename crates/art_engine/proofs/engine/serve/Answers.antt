@@ -1,6 +1,6 @@
 use Rattle.std.specs.Io.Buffered.{reader_remaining, writer_contents}
 use Rattle.art_engine.specs.Served.{AllAsk, OneAsksForNothing}
-use Rattle.art_engine.specs.TextLines.{lines}
+use Rattle.text_lines.specs.Lines.{lines}
 use Rattle.art_engine.proofs.Serving.{ended, refused, unread}
 use Rattle.art_engine.proofs.engine.serve.Goals as goal
 

@@ -1,12 +1,19 @@
-use Rattle.std.proofs.Common.{◌≡◌, ℕ}
+use Rattle.std.proofs.Common.{◌≡◌, ℕ, List}
 use Rattle.std.specs.List.{AllByRecursion as Each}
 use Rattle.std.specs.Vec.{vec_capacity}
 use Rattle.art_parts.specs.declared.names.OpaqueNodePtr.{OpaqueNodePtr}
-use Rattle.art_keeping.specs.Trees.{IsTreeIn}
-use Rattle.art_keeping.specs.Walks.{HasRoom, left_after, names}
+use Rattle.art_model.specs.Canonical.{IsCanonical}
+use Rattle.art_model.specs.Pairs.{of_key}
+use Rattle.art_keeping.specs.Trees.{Key, key_bytes}
+use Rattle.art_keeping.specs.Walks.{HasRoom, left_after}
+use Rattle.art_keeping.proofs.Subtrees.{IsPendingTree}
+use Rattle.art_engine.specs.NodeLines.{nodes_text}
+use Rattle.art_engine.proofs.NodeWalks.{IsWritten}
 use Rattle.art_engine.proofs.nodes.write_nodes.Given as goal
 
--- what is left after so many turns stands for trees, and there is room for what will be
+-- what is left after so many turns stands for trees, there is room for what will be, and the lines of what came are written
 abbrev pub invariant-loop : goal.invariant-loop
 invariant-loop g l =
-    (root : OpaqueNodePtr) × (turns : ℕ) × (names l.pending.items ≡ left_after l.store root turns) × HasRoom l.store root (vec_capacity l.pending) × Each (IsTreeIn l.store) (names l.pending.items)
+    ((root : OpaqueNodePtr) × (turns : ℕ) × (l.pending.items ≡ left_after l.store root turns) × HasRoom l.store root (vec_capacity l.pending) × Each (IsPendingTree l.store) l.pending.items) ×
+    ((pairs : List (Key × ℕ)) → IsCanonical (of_key key_bytes) g.row.P l.store l.fn.root pairs →
+    IsWritten l.store l.pending.items (nodes_text g.row.P pairs) (g.W.Write.contents l.initial.output) (g.W.Write.contents l.output))

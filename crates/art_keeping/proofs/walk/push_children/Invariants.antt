@@ -1,11 +1,11 @@
 use Rattle.std.proofs.Common.{◌≡◌, ◌≤◌, ◌+◌, ◌++◌, length}
 use Rattle.std.specs.Vec.{vec_capacity}
-use Rattle.art_keeping.specs.Walks.{falling, names}
+use Rattle.art_keeping.specs.Walks.{falling}
 use Rattle.art_keeping.proofs.walk.push_children.Given as goal
 
 -- what is put on and the children to come are all, and there is room for these
 abbrev pub invariant-loop-byte : goal.invariant-loop-byte
 invariant-loop-byte l =
-    (names l.pending.items ++ falling l.byte-iterator.iter ≡ names l.fn.pending.items ++ falling l.fn.children)
+    (l.pending.items ++ falling l.fn.depth l.byte-iterator.iter ≡ l.fn.pending.items ++ falling l.fn.depth l.fn.children)
     × (length l.pending.items + length l.byte-iterator.iter ≤ vec_capacity l.pending)
     × (vec_capacity l.pending ≡ vec_capacity l.fn.pending)

@@ -1,10 +1,10 @@
 use Rattle.std.proofs.Common.{◌≡◌, ℕ}
 use Rattle.std.specs.Vec.{vec_capacity}
-use Rattle.art_keeping.specs.Walks.{left_after, names}
+use Rattle.art_keeping.specs.Walks.{left_after}
 use Rattle.art_keeping.proofs.Walks.{HasRoomTo}
 use Rattle.art_keeping.proofs.walk.reserve_walk.Given as goal
 
 -- what is left after so many turns, for which there was room
 abbrev pub invariant-loop : goal.invariant-loop
 invariant-loop g l =
-    (turns : ℕ) × (names l.pending.items ≡ left_after l.store l.fn.root turns) × HasRoomTo l.store l.fn.root turns (vec_capacity l.pending)
+    (turns : ℕ) × (l.pending.items ≡ left_after l.store l.fn.root turns) × HasRoomTo l.store l.fn.root turns (vec_capacity l.pending)

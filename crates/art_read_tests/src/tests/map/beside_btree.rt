@@ -8,13 +8,13 @@ use std::alloc::Global;
 use std::collections::BTreeMap;
 use std::test::Fail;
 
-type Key = [u8; 2];
+pub(super) type Key = [u8; 2];
 
-type Map = ByteMap<Key, u32, 1>;
+pub(super) type Map = ByteMap<Key, u32, 1>;
 
-type Model = BTreeMap<Key, u32>;
+pub(super) type Model = BTreeMap<Key, u32>;
 
-fn drawn_key(numbers: &mut Numbers) -> Key {
+pub(super) fn drawn_key(numbers: &mut Numbers) -> Key {
     [numbers.below(12) as u8, numbers.below(40) as u8]
 }
 
@@ -106,7 +106,7 @@ fn agree_from_back(map: &Map, model: &BTreeMap<Key, u32>) -> bool {
 }
 
 // The same from both ends, and in number.
-fn agree_on_pairs(map: &Map, model: &BTreeMap<Key, u32>) -> bool {
+pub(super) fn agree_on_pairs(map: &Map, model: &BTreeMap<Key, u32>) -> bool {
     agree_from_front(map, model) && agree_from_back(map, model) && map.len() == model.len()
 }
 

@@ -1,6 +1,6 @@
 //! Calls without memory.
 use super::calls::{Map, Removal, fill, remove, value_of};
-use art_operations::map::{ByteMap, MapInsertError, MapRefused, RemovedInPart};
+use art_operations::map::{ByteMap, MapInsertError, MapRefused};
 use art_test_support::expected::{as_expected, same};
 use art_test_support::memory::{all_memory, begin_refusals, end_refusals};
 use std::alloc::Global;
@@ -194,17 +194,17 @@ fn crowd_deep(map: &mut Deep) -> bool {
     false
 }
 
-// Whether an insertion is refused while there is no memory, and then removals that ask for a smaller node; and
-// whether these leave the map as it was.
+// Whether an insertion is refused while there is no memory, and then removals that ask for a smaller node, of a key and
+// of all below a prefix; and whether these leave the map as it was.
 fn starve_deep(alloc: Global, map: &mut Deep) -> Option<[bool; 4]> {
     let held = all_memory(alloc).ok()?;
     let is_full = crowd_deep(map);
     let before = map.len();
     let is_refused = map.remove(&[5, 2, 0, 0, 0]).is_err();
-    let is_part_refused = map.remove_prefix(&[5]) == Err(RemovedInPart { removed: 0 });
+    let is_prefix_refused = map.remove_prefix(&[5]) == Err(MapRefused);
     drop(held);
     let is_kept = map.len() == before && map.get(&[5, 2, 0, 0, 0]).copied() == Some(7);
-    Some([is_full, is_refused, is_part_refused, is_kept])
+    Some([is_full, is_refused, is_prefix_refused, is_kept])
 }
 
 // Whether a deep map was filled, and the same of it.

@@ -1,7 +1,7 @@
 use Rattle.std.proofs.Common.{rules}
 use Rattle.art_model.specs.Pairs.{of_key}
 use Rattle.art_model.proofs.StoreLaws.{has_children}
-use Rattle.art_writing.proofs.Cloned.{cloned_canonical, each_copied, first_named, last_named, others_kept}
+use Rattle.art_writing.proofs.Cloned.{apart_kept, cloned_canonical, each_copied, first_named, last_named, others_kept}
 use Rattle.art_writing.proofs.clone.clone_unchecked.Goals as goal
 
 pub clone_tree-requires : goal.clone_tree-requires
@@ -16,6 +16,9 @@ returns-clause-canonical g c pairs layout is =
 
 pub returns-clause-gained : goal.returns-clause-gained
 returns-clause-gained g c = others_kept g.K.AsBytes.bytes g.row.PREFIX_LEN g.K.Clone.is_clone g.V.Clone.is_clone c.requires.clones _ _ c.clone_tree.result c.requires.root c.clone_tree.ensures.copied
+
+pub returns-clause-apart : goal.returns-clause-apart
+returns-clause-apart g c = apart_kept g.K.AsBytes.bytes g.row.PREFIX_LEN g.K.Clone.is_clone g.V.Clone.is_clone c.requires.clones _ _ c.clone_tree.result c.requires.root c.clone_tree.ensures.copied
 
 pub returns-clause-first : goal.returns-clause-first
 returns-clause-first g c = first_named g.K.AsBytes.bytes g.row.PREFIX_LEN g.K.Clone.is_clone g.V.Clone.is_clone c.requires.clones _ _ c.clone_tree.result c.requires.root c.clone_tree.ensures.copied

@@ -1,5 +1,7 @@
-use Rattle.std.proofs.Common.{rules}
+use Rattle.std.proofs.Common.{rules, [], Some, None, refl}
 use Rattle.art_model.specs.Layouts.{shape_of}
+use Rattle.art_model.specs.Pairs.{of_key}
+use Rattle.art_model.proofs.Apart.{tree_apart}
 use Rattle.art_writing.proofs.FreedTrees.{all_can, all_counted, all_go}
 use Rattle.art_writing.proofs.deallocate.deallocate_tree.Goals as goal
 
@@ -10,6 +12,11 @@ free_nodes-requires g c =
 
 pub returns-clause-freed : goal.returns-clause-freed
 returns-clause-freed g c layout full = all_go layout (c.free_nodes.ensures.freed (shape_of layout) (all_can full.0))
+
+pub returns-clause-apart : goal.returns-clause-apart
+returns-clause-apart g c (pairs, layout, is) =
+    tree_apart (of_key g.K.AsBytes.bytes) g.row.PREFIX_LEN c.args.store.now c.free_nodes.new.store (Some c.args.root) None pairs [] (Some layout) None
+    is refl (all_go layout (c.free_nodes.ensures.freed (shape_of layout) (all_can is.stands.0)))
 
 pub returns-clause-count : goal.returns-clause-count
 returns-clause-count g c layout full = all_counted layout c.free_nodes.result (c.free_nodes.ensures.count (shape_of layout) (all_can full.0))

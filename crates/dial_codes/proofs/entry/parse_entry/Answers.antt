@@ -1,5 +1,6 @@
 use Rattle.std.proofs.Common.{sym, ◌∙◌, subst}
-use Rattle.dial_codes.proofs.EntryLemmas.{HasNoSpace, has_space, no_entry}
+use Rattle.text_lines.proofs.Spaces.{HasNoSpace, has_space}
+use Rattle.dial_codes.proofs.EntryLemmas.{no_entry}
 use Rattle.dial_codes.proofs.entry.parse_entry.Goals as goal
 
 pub returns-in_err-code-clause-none : goal.returns-in_err-code-clause-none

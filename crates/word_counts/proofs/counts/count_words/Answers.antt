@@ -1,16 +1,28 @@
-use Rattle.word_counts.proofs.Lines.{reading_begins, reading_goes_on, reading_ends}
+use Rattle.std.proofs.Common.{true, false, flat_map}
+use Rattle.text_lines.proofs.LineParts.{read_as}
+use Rattle.text_lines.proofs.Reading.{begins, ends, goes_on}
+use Rattle.word_counts.specs.Counts.{HasTimes}
+use Rattle.word_counts.specs.Words.{words}
+use Rattle.word_counts.proofs.Lines.{count_is, no_words, one_line_more}
+use Rattle.word_counts.proofs.Tallies.{words_rise}
 use Rattle.word_counts.proofs.counts.count_words.Goals as goal
 
-pub loop-init : goal.loop-init
-loop-init g c = reading_begins (λ key. key.items) (g.R.Read.remaining c.args.input.now) c.new-counts.result c.new-counts.ensures
+pub loop-number-init : goal.loop-number-init
+loop-number-init g c =
+    begins (λ before. HasTimes (flat_map words before) c.new-counts.result) (g.R.Read.remaining c.args.input.now) (no_words c.new-counts.result c.new-counts.ensures)
 
-pub loop-preserved : goal.loop-preserved
-loop-preserved g c =
-    reading_goes_on (λ key. key.items) (g.R.Read.remaining c.args.input.now) (g.R.Read.remaining c.loop.input) (g.R.Read.remaining c.read_until.new.self)
-    c.clear.new.self.items c.read_until.new.buf.items c.deref.result.now c.loop.counts c.count_line.new.counts c.loop.invariant c.clear.ensures.items c.deref.ensures.value
-    c.in_ok-read_until.ensures.bytes c.in_ok-read_until.ensures.rest c.in_ok-count_line.ensures
+pub loop-number-preserved : goal.loop-number-preserved
+loop-number-preserved g c =
+    goes_on (λ before. HasTimes (flat_map words before) c.loop-number.counts) (λ before. HasTimes (flat_map words before) c.count_line.new.counts)
+    (g.R.Read.remaining c.args.input.now) (g.R.Read.remaining c.loop-number.input) (g.R.Read.remaining c.next_line.new.input) c.loop-number._number
+    c.next_line.new.line.items c.loop-number.invariant (read_as _ _ _ c.in_ok-next_line.field-0 true c.if-not-branch.false c.in_ok-next_line.ensures)
+    (one_line_more c.loop-number.counts c.count_line.new.counts c.loop-number._number c.next_line.new.line.items c.deref.result.now c.deref.ensures.value
+    c.in_ok-count_line.ensures)
 
-pub returns-then-branch-eq0 : goal.returns-then-branch-eq0
-returns-then-branch-eq0 g c =
-    reading_ends (λ key. key.items) (g.R.Read.remaining c.args.input.now) (g.R.Read.remaining c.loop.input) c.loop.counts c.loop.invariant
-    (c.in_ok-read_until.ensures.end c.if-branch-eq0.true)
+pub returns-then-not-branch : goal.returns-then-not-branch
+returns-then-not-branch g c =
+    count_is (g.R.Read.remaining c.args.input.now) c.loop-number.counts (words_rise c.loop-number.counts c.rises.ensures)
+    (ends (λ before. HasTimes (flat_map words before) c.loop-number.counts) (λ ls. HasTimes (flat_map words ls) c.loop-number.counts)
+    (g.R.Read.remaining c.args.input.now) (g.R.Read.remaining c.loop-number.input) (g.R.Read.remaining c.next_line.new.input) c.loop-number._number
+    c.next_line.new.line.items c.loop-number.invariant (read_as _ _ _ c.in_ok-next_line.field-0 false c.if-not-branch.true c.in_ok-next_line.ensures)
+    (λ ls h. h))

@@ -1,5 +1,9 @@
-use Rattle.word_counts.proofs.Lines.{IsReadSoFar}
+use Rattle.std.proofs.Common.{IfSome, flat_map}
+use Rattle.text_lines.proofs.Reading.{IsReadTo}
+use Rattle.word_counts.specs.Counts.{HasTimes}
+use Rattle.word_counts.specs.Words.{words}
 use Rattle.word_counts.proofs.counts.count_words.Given as goal
 
-abbrev pub invariant-loop : goal.invariant-loop
-invariant-loop g l = IsReadSoFar (λ key. key.items) (g.R.Read.remaining l.initial.input) (g.R.Read.remaining l.input) l.counts
+-- the words of the lines that were read are counted
+abbrev pub invariant-loop-number : goal.invariant-loop-number
+invariant-loop-number g l = IfSome (g.R.Read.remaining l.initial.input) (λ text. IsReadTo (λ before. HasTimes (flat_map words before) l.counts) text (g.R.Read.remaining l.input) l._number)

@@ -3,6 +3,6 @@ use Rattle.word_counts.proofs.counts.report.Goals as goal
 
 pub returns : goal.returns
 returns g c =
-    reported (λ key. key.items) c.in_ok-counts.counts (g.R.Read.remaining c.args.input.now) (g.W.Write.contents c.args.output.now)
+    reported c.in_ok-counts.counts (g.R.Read.remaining c.args.input.now) (g.W.Write.contents c.args.output.now)
     (g.W.Write.contents c.write_counts.new.output) (g.W.Write.contents c.flush.new.self) c.flush.result c.in_ok-counts.ensures c.in_ok-write_counts.ensures
     c.flush.ensures.bytes

@@ -3,6 +3,7 @@ use Rattle.std.specs.Option.{option_map}
 use Rattle.art_model.specs.Pairs.{of_key, with_key}
 use Rattle.art_map.proofs.Puts.{canonical_root}
 use Rattle.art_map.proofs.Takings.{found_pair}
+use Rattle.art_map.proofs.Views.{view_sorted}
 use Rattle.art_map.proofs.map.ByteMap.get.Goals as goal
 
 pub search_unchecked-requires : goal.search_unchecked-requires
@@ -11,7 +12,10 @@ search_unchecked-requires g c = (search rules, canonical_root (of_key g.K.AsByte
 pub pair_at-requires : goal.pair_at-requires
 pair_at-requires g c = (search rules, c.in_ok-leaf.ensures.there)
 
-pub returns : goal.returns
-returns g c =
+pub returns-clause-value : goal.returns-clause-value
+returns-clause-value g c =
     ap (option_map (λ x. x.1)) (found_pair g.K.AsBytes.bytes g.row.P _ c.in_ok-self.was c.self.invariant
     (with_key (of_key g.K.AsBytes.bytes) c.args.key_bytes.now) c.in_ok-leaf.ensures.pair c.pair_at.ensures c.self.view_is)
+
+pub returns-clause-sorted : goal.returns-clause-sorted
+returns-clause-sorted g c = view_sorted (of_key g.K.AsBytes.bytes) g.row.P c.self.inside.store c.self.invariant c.self.view_is

@@ -11,7 +11,7 @@ use Rattle.art_map.proofs.Written.{is_there, lends_same, one_value, value_read, 
 use Rattle.art_map.proofs.map.ByteMap.get_or_insert.Goals as goal
 
 pub invariant_of-self : goal.invariant_of-self
-invariant_of-self g c = enters_holds g.K.AsBytes.bytes g.row.P _ c.leaf_for.new.store c.leaf_for.new.root c.leaf_for.new.len _ _ c.leaf_for.result c.leaf_for.ensures
+invariant_of-self g c = enters_holds g.K.AsBytes.bytes g.row.P _ c.enter.new.store c.enter.new.root c.enter.new.len _ _ c.enter.result c.enter.ensures
 
 pub unreachable-requires : goal.unreachable-requires
 unreachable-requires g c =
@@ -20,24 +20,24 @@ unreachable-requires g c =
 
 pub returns-in-Err : goal.returns-in-Err
 returns-in-Err g c =
-    let seen = view_of (of_key g.K.AsBytes.bytes) g.row.P c.leaf_for.new.store c.in-Err.ensures.0 ∙ c.self.view_is in
+    let seen = view_of (of_key g.K.AsBytes.bytes) g.row.P c.enter.new.store c.in-Err.ensures.0 ∙ c.self.view_is in
     (ap (λ s. inr s) seen, record { writes_back = tt; value = tt; accepted = tt; refused = subst (λ pairs. IsRefusalOf g.K.AsBytes.bytes c.args.key c.args.value pairs c.in-Err.error) c.self.view_is c.in-Err.ensures.1 })
 
 pub invariant_of-self-lent : goal.invariant_of-self-lent
 invariant_of-self-lent g c w =
     let bytes = g.K.AsBytes.bytes in
     let (held, named, free) = c.in-Ok.ensures in
-    holds (of_key bytes) g.row.P _ (value_written bytes g.row.P (bytes c.args.key) named (holds (of_key bytes) g.row.P c.leaf_for.new.store held) w)
+    holds (of_key bytes) g.row.P _ (value_written bytes g.row.P (bytes c.args.key) named (holds (of_key bytes) g.row.P c.enter.new.store held) w)
 
 pub returns : goal.returns
 returns g c =
     let bytes = g.K.AsBytes.bytes in
     let key = bytes c.args.key in
     let (held, named, free) = c.in-Ok.ensures in
-    let seen = view_of (of_key bytes) g.row.P c.leaf_for.new.store held in
+    let seen = view_of (of_key bytes) g.row.P c.enter.new.store held in
     let rising = map_held (of_key bytes) g.row.P c.self.inside.store c.self.invariant in
     let left = λ (w : g.row.V.Denot).
-    view_of (of_key bytes) g.row.P _ (value_written bytes g.row.P key named (holds (of_key bytes) g.row.P c.leaf_for.new.store held) w)
+    view_of (of_key bytes) g.row.P _ (value_written bytes g.row.P key named (holds (of_key bytes) g.row.P c.enter.new.store held) w)
     ∙ ap (with_value_at bytes key w) seen ∙ new_written bytes c.args.key _ rising c.args.value w ∙ ap (put (of_key bytes) (c.args.key, w)) c.self.view_is in (
       lends_same left,
       record {

@@ -6,4 +6,4 @@ invariant_of-self g c = put_holds g.K.AsBytes.bytes g.row.P _ c.put_in.new.store
 
 pub returns : goal.returns
 returns g c = let told = tells_put g.K.AsBytes.bytes g.row.P _ c.put_in.new.store c.put_in.new.root c.put_in.new.len _ _ c.self.view_is c.put_in.result c.put_in.ensures in
-    record { pairs = told.pairs; replaced = told.replaced; accepted = told.accepted; refused = told.refused; kept = told.kept }
+    record { pairs = told.pairs; replaced = told.replaced; found = told.found; others = told.others; accepted = told.accepted; sorted = told.sorted; refused = told.refused; kept = told.kept }

@@ -1,4 +1,4 @@
-use Rattle.std.proofs.Common.{◌≡◌, length, subst, arith}
+use Rattle.std.proofs.Common.{◌≡◌, length, subst, arith, ap, sym, Some}
 use Rattle.art_map.proofs.Ranges.{walk_full}
 use Rattle.art_map.proofs.map.iter.MapIterOfIterator.size_hint.Goals as goal
 
@@ -7,3 +7,6 @@ returns-clause-lower g c = let same = subst (λ pairs. length pairs ≡ c.self.i
 
 pub returns-clause-upper : goal.returns-clause-upper
 returns-clause-upper g c = let same = subst (λ pairs. length pairs ≡ c.self.inside.len) c.self.view_is (walk_full c.self.invariant) in omega arith
+
+pub returns-clause-exact : goal.returns-clause-exact
+returns-clause-exact g c = let same = subst (λ pairs. length pairs ≡ c.self.inside.len) c.self.view_is (walk_full c.self.invariant) in ap (λ n. (n, Some n)) (sym same)

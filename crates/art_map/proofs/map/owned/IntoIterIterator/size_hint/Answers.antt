@@ -1,4 +1,4 @@
-use Rattle.std.proofs.Common.{◌≡◌, length, subst, arith}
+use Rattle.std.proofs.Common.{◌≡◌, length, subst, arith, ap, sym, Some}
 use Rattle.art_map.proofs.Items.{left_len}
 use Rattle.art_map.proofs.map.owned.IntoIterIterator.size_hint.Goals as goal
 
@@ -7,3 +7,6 @@ returns-clause-lower g c = let same = subst (λ pairs. length pairs ≡ c.self.i
 
 pub returns-clause-upper : goal.returns-clause-upper
 returns-clause-upper g c = let same = subst (λ pairs. length pairs ≡ c.self.inside.len) c.self.view_is (left_len _ _ _ c.self.invariant) in omega arith
+
+pub returns-clause-exact : goal.returns-clause-exact
+returns-clause-exact g c = let same = subst (λ pairs. length pairs ≡ c.self.inside.len) c.self.view_is (left_len _ _ _ c.self.invariant) in ap (λ n. (n, Some n)) (sym same)

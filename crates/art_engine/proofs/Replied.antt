@@ -1,0 +1,21 @@
+-- What is appended for a request whose command was run.
+use Rattle.std.proofs.Common.{ℕ, List, [], ◌∷◌, ◌++◌, codes, Option, Some, OnOk, Result, Ok, Err, inl, inr}
+use Rattle.std.specs.Io.KnownBytes.{Appends}
+use Rattle.art_lines.specs.declared.line.Request.{Request}
+use Rattle.art_operations.specs.Runs.{IsRun}
+use Rattle.art_operations.specs.declared.run.Command.{Command}
+use Rattle.art_operations.specs.declared.run.Reply.{Reply}
+use Rattle.art_operations.specs.declared.run.Side.{Side}
+use Rattle.art_keeping.specs.Commands.{IsCommandFor}
+use Rattle.art_keeping.specs.KeptTrees.{seen, stood}
+use Rattle.art_keeping.specs.Trees.{Key, key_bytes}
+use Rattle.art_keeping.specs.declared.tree.KeptTree.{KeptTree}
+use Rattle.art_engine.specs.Shown.{IsReplied}
+use Rattle.art_engine.specs.Texts.{reply_text}
+
+module _ {E : Type 0} (IsClone : Key × ℕ → Key × ℕ → Type 0) (request : Request) (tree after : KeptTree) (old new : Option (List ℕ)) where
+  pub run_replied : (command : Command Key ℕ) (reply : Reply Key ℕ) (r : Result (Unit {0}) E) → IsCommandFor request (Some command) →
+      (side : Side) × IsRun key_bytes 4 IsClone (seen tree) (command ∷ []) (reply ∷ []) (stood side after) →
+      OnOk r (Appends old new (reply_text reply ++ codes "\n")) → OnOk r (IsReplied IsClone request tree after old new)
+  run_replied command reply (Err e) asked run written = tt
+  run_replied command reply (Ok u) asked (side, run) written = inr (inl (command, reply, side, asked, run, written))

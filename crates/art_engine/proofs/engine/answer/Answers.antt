@@ -1,0 +1,7 @@
+use Rattle.art_engine.proofs.Replied.{run_replied}
+use Rattle.art_engine.proofs.engine.answer.Goals as goal
+
+pub returns-in-Ok-clause-replied : goal.returns-in-Ok-clause-replied
+returns-in-Ok-clause-replied g c =
+    run_replied _ c.args.request c.args.tree.now c.answer.new.self (g.W.Write.contents c.args.output.now) (g.W.Write.contents c.write_reply.new.output)
+    c.in-Ok-Some.command c.in-Ok.reply c.write_reply.result (rw c.in-Ok-Some.field-0-is at c.in-Ok-Some.ensures) c.in-Ok.ensures.run c.write_reply.ensures

@@ -1,0 +1,61 @@
+//! What two sets have together.
+ghost use Rattle.std.specs.Prelude.{◌≡◌};
+ghost use Rattle.art_map.specs.SetAlgebra.{difference, intersection, is_disjoint, is_subset, symmetric_difference, union};
+
+use super::KeyedSet;
+use art_keys::laws::NoPrefixesBytes;
+use art_map::set::{Difference, Intersection, SymmetricDifference, Union};
+
+impl<K: NoPrefixesBytes + Drop, const P: usize> KeyedSet<K, P> {
+    /// Returns the keys that the other set has too, as they rise. Each key is looked up in it.
+    pub fn intersection<'a>(&'a self, other: &'a KeyedSet<K, P>) -> Intersection<'a, K, P>
+        ensures { result ≡ intersection K.bytes self.now other.now }
+    {
+        self.set.intersection(&other.set)
+    }
+
+    /// Returns the keys that the other set lacks, as they rise. Each key is looked up in it.
+    pub fn difference<'a>(&'a self, other: &'a KeyedSet<K, P>) -> Difference<'a, K, P>
+        ensures { result ≡ difference K.bytes self.now other.now }
+    {
+        self.set.difference(&other.set)
+    }
+
+    /// Returns the keys of both sets as they rise; of two equal keys this set's.
+    pub fn union<'a>(&'a self, other: &'a KeyedSet<K, P>) -> Union<'a, K, P>
+        ensures { result ≡ union K.bytes self.now other.now }
+    {
+        self.set.union(&other.set)
+    }
+
+    /// Returns the keys that just one of the sets has, as they rise.
+    pub fn symmetric_difference<'a>(
+        &'a self,
+        other: &'a KeyedSet<K, P>,
+    ) -> SymmetricDifference<'a, K, P>
+        ensures { result ≡ symmetric_difference K.bytes self.now other.now }
+    {
+        self.set.symmetric_difference(&other.set)
+    }
+
+    /// Returns whether the other set has each key.
+    pub fn is_subset(&self, other: &KeyedSet<K, P>) -> bool
+        ensures { result ≡ is_subset K.bytes self.now other.now }
+    {
+        self.set.is_subset(&other.set)
+    }
+
+    /// Returns whether each key of the other set is in this one.
+    pub fn is_superset(&self, other: &KeyedSet<K, P>) -> bool
+        ensures { result ≡ is_subset K.bytes other.now self.now }
+    {
+        self.set.is_superset(&other.set)
+    }
+
+    /// Returns whether the other set has none of the keys.
+    pub fn is_disjoint(&self, other: &KeyedSet<K, P>) -> bool
+        ensures { result ≡ is_disjoint K.bytes self.now other.now }
+    {
+        self.set.is_disjoint(&other.set)
+    }
+}

@@ -1,0 +1,62 @@
+//! Sets whose keys are in the order of their type, and those whose keys stand for strings of bytes.
+ghost use Rattle.std.specs.Prelude.{◌≡◌, option_copied};
+ghost use Rattle.std.specs.Range.Bound.{bound_map};
+ghost use Rattle.std.specs.declared.ops.Bound.TheVariants.{Unbounded};
+ghost use Rattle.art_model.specs.Pairs.{first_of, last_of};
+ghost use Rattle.art_keyed.specs.KeyedPairs.{KeysRiseBy, set_below, set_between};
+
+use super::KeyedSet;
+use crate::map::bytes_of;
+use art_keys::laws::{OrderedBytes, StringBytes};
+use art_map::set::KeyRange;
+use std::ops::{Bound, RangeBounds};
+
+impl<K: OrderedBytes + Drop, const P: usize> KeyedSet<K, P> {
+    /// Does nothing, and tells that the keys rise in the order of their type.
+    pub fn rises(&self)
+        ensures { KeysRiseBy K.order self.now }
+    {
+        self.set.len();
+    }
+
+    /// Returns the keys in a range, as they rise; none where it runs backwards.
+    pub fn range<R: RangeBounds<K> + Drop>(&self, range: R) -> KeyRange<'_, K, P>
+        ensures { R.has_bounds range → result ≡
+            set_between K.order (R.start_bound range) (R.end_bound range) self.now }
+    {
+        self.between(range.start_bound(), range.end_bound())
+    }
+
+    // Returns the keys between two bounds.
+    fn between(&self, from: Bound<&K>, to: Bound<&K>) -> KeyRange<'_, K, P>
+        ensures { result ≡ set_between K.order (bound_map (λ b. b.now) from.entry)
+            (bound_map (λ b. b.now) to.entry) self.now }
+    {
+        self.set.range((bytes_of(from), bytes_of(to)))
+    }
+
+    /// Returns the first key after a bound, or at it where that is included.
+    pub fn first_from(&self, from: Bound<&K>) -> Option<&K>
+        ensures { option_copied result ≡ first_of (set_between K.order
+            (bound_map (λ b. b.now) from.entry) Unbounded self.now) }
+    {
+        self.set.first_from(bytes_of(from))
+    }
+
+    /// Returns the last key before a bound, or at it where that is included.
+    pub fn last_up_to(&self, to: Bound<&K>) -> Option<&K>
+        ensures { option_copied result ≡ last_of (set_between K.order Unbounded
+            (bound_map (λ b. b.now) to.entry) self.now) }
+    {
+        self.set.last_up_to(bytes_of(to))
+    }
+}
+
+impl<K: StringBytes + Drop, const P: usize> KeyedSet<K, P> {
+    /// Returns the keys whose strings begin with that of a key, as they rise.
+    pub fn prefix(&self, prefix: &K) -> KeyRange<'_, K, P>
+        ensures { result ≡ set_below K.text (K.text prefix.now) self.now }
+    {
+        self.set.prefix(prefix.beginning())
+    }
+}

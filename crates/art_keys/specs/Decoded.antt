@@ -1,0 +1,21 @@
+-- Keys that come back from their bytes.
+use Rattle.std.specs.Prelude.{◌≡◌, ℕ, List, ◌++◌, length}
+
+module _ {K : Type 0} (is_key : K → Type 0) (bytes : K → List ℕ) where
+  -- these are the bytes of a key
+  pub record IsOfKey (these : List ℕ) : Type 0 where
+    pub key : K
+    pub of_key : is_key key
+    pub is : these ≡ bytes key
+
+  -- these bytes begin with those of a key
+  pub record BeginsWithKey (these : List ℕ) : Type 0 where
+    pub key : K
+    pub rest : List ℕ
+    pub of_key : is_key key
+    pub is : these ≡ bytes key ++ rest
+
+  -- a key comes back from its bytes, and their number from them and whatever stands after them
+  abbrev pub ComesBack : (List ℕ → K) → (List ℕ → ℕ) → Type 0
+  ComesBack key_of length_of =
+      (key : K) → is_key key → (key_of (bytes key) ≡ key) × ((rest : List ℕ) → length_of (bytes key ++ rest) ≡ length (bytes key))

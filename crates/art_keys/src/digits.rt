@@ -1,0 +1,135 @@
+//! Numbers are written as their decimal digits.
+
+use super::signed::Signed;
+use super::unsigned::Unsigned;
+use std::fmt;
+
+impl fmt::Display for Unsigned<1> {
+    ghost use Rattle.std.specs.Prelude.{Some};
+    ghost use Rattle.std.specs.Fmt.{decimal, styled_decimal};
+
+    ghost output = { λ n. Some (decimal n) };
+
+    ghost styled_output = { λ n spec. Some (styled_decimal spec n) };
+
+    fn fmt<W: fmt::Write>(&self, f: &mut fmt::Formatter<W>) -> fmt::Result {
+        u8::from(*self).fmt(f)
+    }
+}
+
+impl fmt::Display for Unsigned<2> {
+    ghost use Rattle.std.specs.Prelude.{Some};
+    ghost use Rattle.std.specs.Fmt.{decimal, styled_decimal};
+
+    ghost output = { λ n. Some (decimal n) };
+
+    ghost styled_output = { λ n spec. Some (styled_decimal spec n) };
+
+    fn fmt<W: fmt::Write>(&self, f: &mut fmt::Formatter<W>) -> fmt::Result {
+        u16::from(*self).fmt(f)
+    }
+}
+
+impl fmt::Display for Unsigned<4> {
+    ghost use Rattle.std.specs.Prelude.{Some};
+    ghost use Rattle.std.specs.Fmt.{decimal, styled_decimal};
+
+    ghost output = { λ n. Some (decimal n) };
+
+    ghost styled_output = { λ n spec. Some (styled_decimal spec n) };
+
+    fn fmt<W: fmt::Write>(&self, f: &mut fmt::Formatter<W>) -> fmt::Result {
+        u32::from(*self).fmt(f)
+    }
+}
+
+impl fmt::Display for Unsigned<8> {
+    ghost use Rattle.std.specs.Prelude.{Some};
+    ghost use Rattle.std.specs.Fmt.{decimal, styled_decimal};
+
+    ghost output = { λ n. Some (decimal n) };
+
+    ghost styled_output = { λ n spec. Some (styled_decimal spec n) };
+
+    fn fmt<W: fmt::Write>(&self, f: &mut fmt::Formatter<W>) -> fmt::Result {
+        u64::from(*self).fmt(f)
+    }
+}
+
+impl fmt::Display for Unsigned<16> {
+    ghost use Rattle.std.specs.Prelude.{Some};
+    ghost use Rattle.std.specs.Fmt.{decimal, styled_decimal};
+
+    ghost output = { λ n. Some (decimal n) };
+
+    ghost styled_output = { λ n spec. Some (styled_decimal spec n) };
+
+    fn fmt<W: fmt::Write>(&self, f: &mut fmt::Formatter<W>) -> fmt::Result {
+        u128::from(*self).fmt(f)
+    }
+}
+
+impl fmt::Display for Signed<1> {
+    ghost use Rattle.std.specs.Prelude.{Some};
+    ghost use Rattle.std.specs.Fmt.{signed_decimal, styled_signed_decimal};
+
+    ghost output = { λ n. Some (signed_decimal n) };
+
+    ghost styled_output = { λ n spec. Some (styled_signed_decimal spec n) };
+
+    fn fmt<W: fmt::Write>(&self, f: &mut fmt::Formatter<W>) -> fmt::Result {
+        i8::from(*self).fmt(f)
+    }
+}
+
+impl fmt::Display for Signed<2> {
+    ghost use Rattle.std.specs.Prelude.{Some};
+    ghost use Rattle.std.specs.Fmt.{signed_decimal, styled_signed_decimal};
+
+    ghost output = { λ n. Some (signed_decimal n) };
+
+    ghost styled_output = { λ n spec. Some (styled_signed_decimal spec n) };
+
+    fn fmt<W: fmt::Write>(&self, f: &mut fmt::Formatter<W>) -> fmt::Result {
+        i16::from(*self).fmt(f)
+    }
+}
+
+impl fmt::Display for Signed<4> {
+    ghost use Rattle.std.specs.Prelude.{Some};
+    ghost use Rattle.std.specs.Fmt.{signed_decimal, styled_signed_decimal};
+
+    ghost output = { λ n. Some (signed_decimal n) };
+
+    ghost styled_output = { λ n spec. Some (styled_signed_decimal spec n) };
+
+    fn fmt<W: fmt::Write>(&self, f: &mut fmt::Formatter<W>) -> fmt::Result {
+        i32::from(*self).fmt(f)
+    }
+}
+
+impl fmt::Display for Signed<8> {
+    ghost use Rattle.std.specs.Prelude.{Some};
+    ghost use Rattle.std.specs.Fmt.{signed_decimal, styled_signed_decimal};
+
+    ghost output = { λ n. Some (signed_decimal n) };
+
+    ghost styled_output = { λ n spec. Some (styled_signed_decimal spec n) };
+
+    fn fmt<W: fmt::Write>(&self, f: &mut fmt::Formatter<W>) -> fmt::Result {
+        i64::from(*self).fmt(f)
+    }
+}
+
+impl fmt::Display for Signed<16> {
+    ghost use Rattle.std.specs.Prelude.{Some};
+    ghost use Rattle.std.specs.Fmt.{signed_decimal, styled_signed_decimal};
+
+    ghost output = { λ n. Some (signed_decimal n) };
+
+    ghost styled_output = { λ n spec. Some (styled_signed_decimal spec n) };
+
+    fn fmt<W: fmt::Write>(&self, f: &mut fmt::Formatter<W>) -> fmt::Result {
+        i128::from(*self).fmt(f)
+    }
+}

@@ -1,0 +1,115 @@
+//! Where a key is in a map, or comes in.
+ghost use Rattle.std.specs.Prelude.{◌≡◌, ℕ, false};
+ghost use Rattle.std.specs.Borrow.{Bor};
+ghost use Rattle.std.specs.Fn.{FnOnceReturnsAt};
+ghost use Rattle.art_model.specs.Pairs.{has_key, of_key};
+ghost use Rattle.art_map.specs.MapChanges.{HasEntered, HasMade, IsPlaceOf};
+ghost use Rattle.art_map.specs.MapPairs.{HoldsPairs, pairs_at};
+
+use super::{MapInsertError, one_more, without_memory};
+use art_nodes::node::{AsBytes, LeafPtr, OpaqueNodePtr};
+use art_nodes::store::NodeStore;
+use art_writing::insert::{
+    InsertKind, InsertPoint, InsertSearchError, plant, search_for_insert_point,
+};
+
+// Where a key is in a tree, or comes in.
+#[derive(Drop)]
+pub(super) enum Place {
+    /// The leaf of the key.
+    Leaf(LeafPtr),
+    /// Where its leaf comes in.
+    Point(InsertPoint),
+    /// There is no tree yet.
+    Bare,
+    /// It may not come in.
+    Refused(InsertSearchError),
+}
+
+// Where a key is, or comes in.
+pub(super) fn place_of<K: AsBytes + Drop, V: Drop, const P: usize>(
+    store: &NodeStore<K, V, P>,
+    root: Option<OpaqueNodePtr>,
+    key_bytes: &[u8],
+) -> Place
+    requires { (len : ℕ) × HoldsPairs (of_key K.bytes) P store.now root len
+        (pairs_at store.now root) }
+    ensures { IsPlaceOf K.bytes P store.now root key_bytes.now result }
+{
+    let Some(name) = root else {
+        return Place::Bare;
+    };
+    match search_for_insert_point(store, name, key_bytes) {
+        Ok(point) => match point.insert_kind {
+            InsertKind::Exact { leaf_node_ptr } => Place::Leaf(leaf_node_ptr),
+            _ => Place::Point(point),
+        },
+        Err(error) => Place::Refused(error),
+    }
+}
+
+// The leaf of a key: that which it has, or a new one with the value at its place.
+pub(super) fn enter<K: AsBytes + Drop, V: Drop, const P: usize>(
+    store: &mut NodeStore<K, V, P>,
+    root: &mut Option<OpaqueNodePtr>,
+    len: &mut usize,
+    place: Place,
+    key: K,
+    value: V,
+) -> Result<LeafPtr, MapInsertError<K, V>>
+    requires holds { HoldsPairs (of_key K.bytes) P store.old root.old len.old
+        (pairs_at store.old root.old) }
+    requires place { IsPlaceOf K.bytes P store.old root.old (K.bytes key) place }
+    ensures { HasEntered K.bytes P (pairs_at store.old root.old) key value result
+        store.new root.new len.new }
+{
+    match place {
+        Place::Leaf(leaf) => Ok(leaf),
+        Place::Bare => match plant(store, key, value) {
+            Ok(leaf) => {
+                *root = Some(leaf.to_opaque());
+                *len = 1;
+                Ok(leaf)
+            }
+            Err(refused) => Err(without_memory(refused)),
+        },
+        Place::Point(point) => match point.apply(store, key, value) {
+            Ok(done) => {
+                *root = Some(done.new_root);
+                *len = one_more(store, *len);
+                Ok(done.leaf_node_ptr)
+            }
+            Err(refused) => Err(without_memory(refused)),
+        },
+        Place::Refused(InsertSearchError::Prefix(error)) => {
+            Err(MapInsertError::Conflict { key, value, error })
+        }
+        Place::Refused(InsertSearchError::Memory(_error)) => {
+            Err(MapInsertError::Memory { key, value })
+        }
+    }
+}
+
+// The leaf of a key: that which it has, or a new one with the value that is made of the key.
+pub(super) fn leaf_made<K: AsBytes + Drop, V: Drop, const P: usize, F: FnOnce(&K) -> V>(
+    store: &mut NodeStore<K, V, P>,
+    root: &mut Option<OpaqueNodePtr>,
+    len: &mut usize,
+    place: Place,
+    key: K,
+    make: F,
+) -> Result<LeafPtr, MapInsertError<K, V>>
+    requires holds { HoldsPairs (of_key K.bytes) P store.old root.old len.old
+        (pairs_at store.old root.old) }
+    requires place { IsPlaceOf K.bytes P store.old root.old (K.bytes key) place }
+    requires make { has_key (of_key K.bytes) (K.bytes key) (pairs_at store.old root.old) ≡ false →
+        (p : Bor K) → p.now ≡ key → F.pre make p }
+    ensures { HasMade K.bytes P (pairs_at store.old root.old) key
+        (FnOnceReturnsAt F.FnOnce make key) result store.new root.new len.new }
+{
+    if let Place::Leaf(leaf) = place {
+        return Ok(leaf);
+    }
+    let value = make(&key);
+    enter(store, root, len, place, key, value)
+}

@@ -1,0 +1,16 @@
+use Rattle.std.proofs.Common.{◌-◌, ◌≤◌, length}
+use Rattle.art_model.specs.Pairs.{of_key}
+use Rattle.art_model.specs.Roots.{ForTree}
+use Rattle.art_reading.specs.Paths.{path_after}
+use Rattle.art_reading.proofs.Below.{IsWayBelow}
+use Rattle.art_reading.proofs.descent.walk_below.Given as goal
+
+abbrev pub invariant-down : goal.invariant-down
+invariant-down g l = record {
+  within : l.depth ≤ length l.prefix;
+  way : ForTree (of_key g.K.AsBytes.bytes) g.row.PREFIX_LEN l.store l.fn.root
+      (λ pairs layout. IsWayBelow (of_key g.K.AsBytes.bytes) g.row.PREFIX_LEN l.prefix layout (path_after l.steps) l.name l.depth);
+}
+
+abbrev pub decreases-down : goal.decreases-down
+decreases-down g l = length l.prefix - l.depth

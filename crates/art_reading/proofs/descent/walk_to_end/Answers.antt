@@ -1,0 +1,48 @@
+use Rattle.std.proofs.Common.{rules}
+use Rattle.art_model.proofs.Edges.{edge_inner_there, edge_shown, edge_some}
+use Rattle.art_reading.specs.Paths.{path_after}
+use Rattle.art_reading.proofs.Along.{IsAlong, start, ends, steps}
+use Rattle.art_reading.proofs.descent.walk_to_end.Goals as goal
+
+pub down-init : goal.down-init
+down-init g c layout full = rw c.new-steps.ensures (start c.args.end full)
+
+pub returns-in-Leaf : goal.returns-in-Leaf
+returns-in-Leaf g c layout full = rw c.path.ensures (ends (path_after c.down.steps) c.args.end c.in-Leaf.ensures.name (c.down.invariant layout full))
+
+pub unreachable-requires : goal.unreachable-requires
+unreachable-requires g c =
+    let (layout, full) = c.requires in
+    edge_inner_there (IsAlong c.args.end (path_after c.down.steps)) c.args.store.now layout (c.down.invariant layout full) c.in-Inner.ensures.proper c.in-Inner.ensures.name c.in_default.ensures.view
+
+pub child_at_end-byte-requires : goal.child_at_end-byte-requires
+child_at_end-byte-requires g c =
+    let (layout, full) = c.requires in
+    let d = c.down.invariant layout full in (
+      search rules,
+      (
+        search rules,
+        (
+          search rules,
+          (
+            search rules,
+            edge_some (IsAlong c.args.end (path_after c.down.steps)) c.args.store.now layout d
+                (edge_shown (IsAlong c.args.end (path_after c.down.steps)) c.args.store.now layout d c.in-Inner.ensures.proper c.in-Inner.ensures.name c.in-Some.ensures.view),
+          ),
+        ),
+      ),
+    )
+
+pub down-smaller : goal.down-smaller
+down-smaller g c =
+    let (layout, full) = c.requires in
+    let d = c.down.invariant layout full in
+    (steps (path_after c.down.steps) c.args.end d (edge_shown (IsAlong c.args.end (path_after c.down.steps)) c.args.store.now layout d c.in-Inner.ensures.proper
+    c.in-Inner.ensures.name c.in-Some.ensures.view) c.child_at_end-byte.result c.child_at_end-byte.ensures).1
+
+pub down-preserved : goal.down-preserved
+down-preserved g c layout full =
+    let d = c.down.invariant layout full in
+    rw c.step_down.ensures (steps (path_after c.down.steps) c.args.end d
+    (edge_shown (IsAlong c.args.end (path_after c.down.steps)) c.args.store.now layout d c.in-Inner.ensures.proper c.in-Inner.ensures.name
+    c.in-Some.ensures.view) c.child_at_end-byte.result c.child_at_end-byte.ensures).0

@@ -1,5 +1,0 @@
-use Rattle.art_reading.proofs.Rests.{rests_same}
-use Rattle.art_reading.proofs.lookup.PrefixMatchBehavior.matches_leaf_key.Goals as goal
-
-pub returns : goal.returns
-returns g c = rw (← c.as_bytes-leaf_bytes.ensures) (rests_same _ _ c.compared_from-from.ensures.value c.eq.ensures)

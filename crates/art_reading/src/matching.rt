@@ -1,0 +1,252 @@
+//! How the bytes of keys and prefixes are compared on a way down.
+ghost use Rattle.std.specs.Prelude.{◌≡◌, ◌+◌, ◌<◌, ◌≤◌, ◌↔◌, length, take, drop, is_ok, false, IfSome, IsTrue};
+ghost use Rattle.art_reading.specs.Matching.{shared_len};
+ghost use Rattle.art_reading.specs.declared.matching.PrefixMatchBehavior.TheVariants.{Optimistic, Pessimistic};
+
+use crate::path::{AttemptOptimisticPrefixMatch, PessimisticMismatch};
+use art_nodes::node::{AsBytes, InnerNode, InnerRef, LeafNode, OpaqueNodePtr};
+use std::simd::prelude::*;
+
+/// What a look-up asks of a stored key.
+#[derive(Clone, Copy)]
+pub enum Asked {
+    /// To be the same as the query.
+    Same,
+    /// To be a prefix of the query, or the same.
+    Front,
+}
+
+/// How a look-up compares the bytes of prefixes on its way down.
+///
+/// A node stores the bytes of its prefix only up to a limit. A look-up passes over the others, and
+/// compares the whole key at the leaf instead.
+#[derive(Clone, Copy, PartialEq, Eq, Debug, Default)]
+pub enum PrefixMatchBehavior {
+    /// All bytes so far were compared, so the rest of the key is left to compare.
+    #[default]
+    Pessimistic,
+    /// Bytes were passed over: from now on lengths alone are compared, and at the leaf the whole key.
+    Optimistic,
+}
+
+impl PrefixMatchBehavior {
+    ghost use Rattle.art_reading.specs.Matching.{LeafKeyIsPrefix, MatchesLeafKey, behavior_after, child_below, parts_from, prefix_match};
+    ghost use Rattle.art_inner.specs.Views.{ref_view};
+
+    /// Compares the prefix of an inner node with the rest of the key, from the node's depth on.
+    pub fn match_prefix<N: InnerNode<P>, const P: usize>(
+        &mut self,
+        node: &N,
+        rest_of_key: &[u8],
+    ) -> Result<AttemptOptimisticPrefixMatch, PessimisticMismatch>
+        ensures outcome { result ≡
+            prefix_match self.old (N.view_of node.now).prefix rest_of_key.now }
+        ensures behavior { self.new ≡
+            behavior_after self.old (N.view_of node.now).prefix rest_of_key.now }
+    {
+        let (prefix_len, stored) = (node.prefix_len(), node.read_prefix());
+        if self.goes_on(prefix_len, stored, rest_of_key) {
+            return Ok(AttemptOptimisticPrefixMatch {
+                matched_bytes: prefix_len,
+                any_implicit_bytes: *self == PrefixMatchBehavior::Optimistic,
+            });
+        }
+        if *self == PrefixMatchBehavior::Optimistic {
+            return Err(PessimisticMismatch {
+                matched_bytes: rest_of_key.len(),
+                prefix_byte: None,
+            });
+        }
+        let matched_bytes = shared_len(stored, rest_of_key);
+        Err(PessimisticMismatch {
+            matched_bytes,
+            prefix_byte: stored.get(matched_bytes).copied(),
+        })
+    }
+
+    // Whether the rest of the key goes on with a prefix of this length, as far as it is compared with
+    // the bytes that are stored.
+    #[inline(always)]
+    fn goes_on(&mut self, prefix_len: usize, stored: &[u8], rest_of_key: &[u8]) -> bool
+        ensures outcome { result ≡ is_ok (prefix_match self.old
+            (record { len = prefix_len; stored = stored.now }) rest_of_key.now) }
+        ensures behavior { self.new ≡ behavior_after self.old
+            (record { len = prefix_len; stored = stored.now }) rest_of_key.now }
+        ensures within { IsTrue result → prefix_len ≤ length rest_of_key.now }
+    {
+        if self.parts_from(stored, rest_of_key) {
+            return false;
+        }
+        let is_within = prefix_len <= rest_of_key.len();
+        if stored.len() < prefix_len || !is_within {
+            *self = PrefixMatchBehavior::Optimistic;
+        }
+        is_within
+    }
+
+    // Whether the rest of the key is found to part from the stored bytes of a prefix.
+    #[inline(always)]
+    fn parts_from(self, stored: &[u8], rest_of_key: &[u8]) -> bool
+        ensures compared { self ≡ Pessimistic → result ≡ parts_from rest_of_key.now stored.now }
+        ensures passed_over { self ≡ Optimistic → result ≡ false }
+    {
+        match self {
+            PrefixMatchBehavior::Pessimistic => !rest_of_key.starts_with(stored),
+            PrefixMatchBehavior::Optimistic => false,
+        }
+    }
+
+    // Where the key leads below an inner node: the place of its byte after the prefix, and the child
+    // under that byte. An empty prefix is not compared.
+    #[inline(always)]
+    fn step<N: InnerNode<P>, const P: usize>(
+        &mut self,
+        node: &N,
+        key_bytes: &[u8],
+        depth: usize,
+    ) -> Option<(usize, OpaqueNodePtr)>
+        requires depth { depth ≤ length key_bytes.now }
+        requires stored { length (N.view_of node.now).prefix.stored
+            ≤ (N.view_of node.now).prefix.len }
+        ensures child { result ≡ child_below self.old (N.view_of node.now) key_bytes.now depth }
+        ensures within { IfSome result (λ child.
+            (depth ≤ child.0) × (child.0 < length key_bytes.now)) }
+        ensures behavior { self.new ≡
+            behavior_after self.old (N.view_of node.now).prefix (drop depth key_bytes.now) }
+    {
+        let prefix_len = node.prefix_len();
+        if prefix_len > 0 && !self.goes_on(prefix_len, node.read_prefix(), &key_bytes[depth..]) {
+            return None;
+        }
+        let place = depth + prefix_len;
+        if place >= key_bytes.len() {
+            return None;
+        }
+        Some((place, node.lookup_child(key_bytes[place])?))
+    }
+
+    // The same at a node of any kind. All that a look-up reads of a node stands behind one question
+    // for the kind.
+    #[inline(always)]
+    pub(crate) fn step_at<const P: usize>(
+        &mut self,
+        node: InnerRef<'_, P>,
+        key_bytes: &[u8],
+        depth: usize,
+    ) -> Option<(usize, OpaqueNodePtr)>
+        requires depth { depth ≤ length key_bytes.now }
+        requires stored { length (ref_view node).prefix.stored ≤ (ref_view node).prefix.len }
+        ensures child { result ≡ child_below self.old (ref_view node.entry) key_bytes.now depth }
+        ensures within { IfSome result (λ child.
+            (depth ≤ child.0) × (child.0 < length key_bytes.now)) }
+        ensures behavior { self.new ≡
+            behavior_after self.old (ref_view node.entry).prefix (drop depth key_bytes.now) }
+    {
+        match node {
+            InnerRef::Node4(node) => self.step(node, key_bytes, depth),
+            InnerRef::Node16(node) => self.step(node, key_bytes, depth),
+            InnerRef::Node48(node) => self.step(node, key_bytes, depth),
+            InnerRef::Node256(node) => self.step(node, key_bytes, depth),
+        }
+    }
+
+    /// Whether the key is the leaf's, as far as it is left to compare from a depth on.
+    pub fn matches_leaf_key<K: AsBytes, V>(
+        self,
+        leaf: &LeafNode<K, V>,
+        key_bytes: &[u8],
+        depth: usize,
+    ) -> bool
+        ensures { IsTrue result ↔ MatchesLeafKey self depth (K.bytes leaf.now.key) key_bytes.now }
+    {
+        let leaf_bytes = leaf.key.as_bytes();
+        let from = self.compared_from(leaf_bytes, key_bytes, depth);
+        leaf_bytes[from..] == key_bytes[from..]
+    }
+
+    /// Whether the leaf's key is a prefix of the key, as far as they are left to compare from a depth on.
+    pub fn leaf_key_is_prefix<K: AsBytes, V>(
+        self,
+        leaf: &LeafNode<K, V>,
+        key_bytes: &[u8],
+        depth: usize,
+    ) -> bool
+        ensures { IsTrue result ↔ LeafKeyIsPrefix self depth (K.bytes leaf.now.key) key_bytes.now }
+    {
+        let leaf_bytes = leaf.key.as_bytes();
+        let from = self.compared_from(leaf_bytes, key_bytes, depth);
+        key_bytes[from..].starts_with(&leaf_bytes[from..])
+    }
+
+    ghost use Rattle.art_reading.specs.Walks.{IsAskedFor};
+
+    // Whether the leaf's key is asked for, as far as it is left to compare from a depth on.
+    #[inline(always)]
+    pub(crate) fn finds<K: AsBytes, V>(
+        self,
+        asked: Asked,
+        leaf: &LeafNode<K, V>,
+        key_bytes: &[u8],
+        depth: usize,
+    ) -> bool
+        ensures { IsTrue result ↔ IsAskedFor asked self depth (K.bytes leaf.now.key) key_bytes.now }
+    {
+        match asked {
+            Asked::Same => self.matches_leaf_key(leaf, key_bytes, depth),
+            Asked::Front => self.leaf_key_is_prefix(leaf, key_bytes, depth),
+        }
+    }
+
+    ghost use Rattle.art_reading.specs.Matching.{compared_from};
+
+    // Where the comparison of a leaf's key with the key begins.
+    fn compared_from(self, leaf_bytes: &[u8], key_bytes: &[u8], depth: usize) -> usize
+        ensures value { result ≡ compared_from self depth leaf_bytes.now key_bytes.now }
+        ensures in_leaf { result ≤ length leaf_bytes.now }
+        ensures in_key { result ≤ length key_bytes.now }
+    {
+        match self {
+            PrefixMatchBehavior::Pessimistic => depth.min(leaf_bytes.len()).min(key_bytes.len()),
+            PrefixMatchBehavior::Optimistic => 0,
+        }
+    }
+}
+
+/// How many bytes the two share in front.
+pub fn shared_len(a: &[u8], b: &[u8]) -> usize
+    ensures { result ≡ shared_len a.now b.now }
+{
+    let end = a.len().min(b.len());
+    for i in same_blocks(a, b, end)..end {
+        if a[i] != b[i] {
+            return i;
+        }
+    }
+    end
+}
+
+// How many bytes in front are seen to be the same by comparing eight at a time.
+#[inline(always)]
+fn same_blocks(a: &[u8], b: &[u8], end: usize) -> usize
+    requires in_a { end ≤ length a.now }
+    requires in_b { end ≤ length b.now }
+    ensures within { result ≤ end }
+    ensures same { take result a.now ≡ take result b.now }
+{
+    let mut at = 0;
+    while end - at >= 8 && are_same(a, b, at) {
+        at += 8;
+    }
+    at
+}
+
+// Whether the eight bytes from a place on are the same in both.
+#[inline(always)]
+fn are_same(a: &[u8], b: &[u8], at: usize) -> bool
+    requires in_a { at + 8 ≤ length a.now }
+    requires in_b { at + 8 ≤ length b.now }
+    ensures { IsTrue result → take 8 (drop at a.now) ≡ take 8 (drop at b.now) }
+{
+    let (x, y) = (u8x8::from_slice(&a[at..]), u8x8::from_slice(&b[at..]));
+    x.simd_ne(y).to_bitmask() == 0
+}

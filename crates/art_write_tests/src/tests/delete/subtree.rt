@@ -1,0 +1,342 @@
+//! Deletions of all keys that begin with a prefix.
+ghost use Rattle.std.specs.Prelude.{◌<◌, IfSome};
+ghost use Rattle.art_model.specs.Pairs.{of_key};
+ghost use Rattle.art_model.specs.Roots.{IsCanonicalRoot};
+
+use art_nodes::node::{NodeType, OpaqueNodePtr};
+use art_nodes::store::NodeStore;
+use art_operations::delete::search_for_prefix_delete_point;
+use art_test_support::crowds::place_beside;
+use art_test_support::expected::same;
+use art_test_support::memory::all_memory;
+use art_test_support::nodes::{Seen, count_touched, nodes_seen};
+use art_test_support::side_by_side::kind_if_same;
+use art_test_support::trees::{Key, keys_after, planted_all, planted_keys};
+use std::alloc::{AllocError, Global};
+use std::test::Fail;
+
+// How many names came into use, went out of it, and have another node.
+type Touched = (usize, usize, usize);
+
+// The root that is left, how many leaves went, and what was touched.
+#[derive(Clone, Copy)]
+struct Removal {
+    new_root: Option<OpaqueNodePtr>,
+    removed: usize,
+    touched: Touched,
+}
+
+// Takes all keys out that begin with a prefix. `None` where there is none, or where that is refused.
+fn remove_below<const P: usize>(
+    store: &mut NodeStore<Key, u32, P>,
+    root: OpaqueNodePtr,
+    before: &[Seen],
+    prefix: &[u8],
+) -> Option<Removal>
+    requires { IsCanonicalRoot (of_key (λ key. key.items)) P store.old root }
+{
+    let point = search_for_prefix_delete_point(store, root, prefix)?;
+    let done = point.apply(store, root).ok()?;
+    Some(Removal {
+        new_root: done.new_root,
+        removed: done.leafs_removed,
+        touched: count_touched(store, before),
+    })
+}
+
+// The same in a tree of some keys.
+fn removed_from<const P: usize>(
+    store: &mut NodeStore<Key, u32, P>,
+    slices: &[&[u8]],
+    prefix: &[u8],
+) -> Option<Removal> {
+    let root = planted_all(store, slices).ok()??;
+    let before = nodes_seen(store).ok()?;
+    remove_below(store, root, &before, prefix)
+}
+
+// Keys, of which so many at the front do not begin with the prefix and stand in their order, and what their removal is to
+// touch. The greatest kind of inner node that is left, which is `Node4` where there is none, is told where the tree is that
+// of the keys that stay.
+struct Row {
+    slices: &'static [&'static [u8]],
+    kept: usize,
+    prefix: &'static [u8],
+    touched: Touched,
+    kind: NodeType,
+}
+
+static ROWS: [Row; 9] = [
+    // All keys.
+    Row {
+        slices: &[&[1, 2], &[1, 3], &[2]],
+        kept: 0,
+        prefix: &[],
+        touched: (0, 5, 0),
+        kind: NodeType::Node4,
+    },
+    // All keys, where the prefix ends inside that of the root.
+    Row {
+        slices: &[&[1, 2, 3, 4, 5], &[1, 2, 3, 4, 6]],
+        kept: 0,
+        prefix: &[1, 2, 3],
+        touched: (0, 3, 0),
+        kind: NodeType::Node4,
+    },
+    // Below a child of the root, which keeps its kind: the leaves beside it and the root change.
+    Row {
+        slices: &[&[0], &[2], &[1, 1, 5], &[1, 1, 6], &[1, 9]],
+        kept: 2,
+        prefix: &[1],
+        touched: (0, 5, 3),
+        kind: NodeType::Node4,
+    },
+    // One leaf.
+    Row {
+        slices: &[&[0], &[2], &[3], &[1, 5, 5]],
+        kept: 3,
+        prefix: &[1, 5],
+        touched: (0, 1, 3),
+        kind: NodeType::Node4,
+    },
+    // The root goes with its child, and its other child is the root then.
+    Row {
+        slices: &[&[0, 0, 1], &[0, 0, 2], &[1, 1], &[1, 2]],
+        kept: 2,
+        prefix: &[1],
+        touched: (0, 4, 2),
+        kind: NodeType::Node4,
+    },
+    // A leaf is left of the tree.
+    Row {
+        slices: &[&[3, 3], &[1, 1], &[1, 2]],
+        kept: 1,
+        prefix: &[1],
+        touched: (0, 4, 1),
+        kind: NodeType::Node4,
+    },
+    // The prefix ends inside that of a node below the root's child.
+    Row {
+        slices: &[
+            &[3],
+            &[7, 0, 0],
+            &[7, 9, 9],
+            &[7, 1, 1, 1, 1, 1, 5],
+            &[7, 1, 1, 1, 1, 1, 6],
+        ],
+        kept: 3,
+        prefix: &[7, 1, 1, 1],
+        touched: (0, 3, 3),
+        kind: NodeType::Node4,
+    },
+    // The parent goes, and the grandparent has another child.
+    Row {
+        slices: &[&[3], &[7, 0, 0], &[7, 0, 1], &[7, 1, 1, 5], &[7, 1, 1, 6]],
+        kept: 3,
+        prefix: &[7, 1],
+        touched: (0, 4, 3),
+        kind: NodeType::Node4,
+    },
+    // A smaller node comes in the parent's place, under the name of one that was freed.
+    Row {
+        slices: &[&[0], &[2], &[3], &[4], &[1, 1], &[1, 2]],
+        kept: 4,
+        prefix: &[1],
+        touched: (0, 3, 3),
+        kind: NodeType::Node4,
+    },
+];
+
+// The pairs of keys that were planted first, in their order.
+fn pairs_kept(alloc: Global, slices: &[&[u8]]) -> Result<Vec<(Key, u32)>, AllocError> {
+    let mut pairs = Vec::new(alloc);
+    let mut value = 0u32;
+    for slice in slices {
+        pairs.push((slice.to_vec(alloc)?, value))?;
+        value = value.wrapping_add(1);
+    }
+    Ok(pairs)
+}
+
+// How many leaves went, what was touched, and the greatest kind of node where the tree is that of the keys that stay.
+type Left = (usize, Touched, Option<NodeType>);
+
+// What is left of a row.
+fn left_of<const P: usize>(
+    store: &mut NodeStore<Key, u32, P>,
+    other: &mut NodeStore<Key, u32, P>,
+    row: &Row,
+) -> Option<Left> {
+    let done = removed_from(store, row.slices, row.prefix)?;
+    let kept = row.slices.get(..row.kept)?;
+    let other_root = planted_all(other, kept).ok()?;
+    let pairs = pairs_kept(store.alloc(), kept).ok()?;
+    let kind = kind_if_same((&*store, done.new_root), (&*other, other_root), &pairs);
+    Some((done.removed, done.touched, kind.ok()?))
+}
+
+// The same in stores of its own.
+fn left_with<const P: usize>(alloc: Global, row: &Row) -> Option<Left>
+    requires { P < 256 }
+{
+    left_of::<P>(&mut NodeStore::new(alloc), &mut NodeStore::new(alloc), row)
+}
+
+// Nothing of a prefix is stored, or two, four or sixteen bytes are.
+fn left_with_each(alloc: Global, row: &Row) -> [Option<Left>; 4] {
+    [
+        left_with::<0>(alloc, row),
+        left_with::<2>(alloc, row),
+        left_with::<4>(alloc, row),
+        left_with::<16>(alloc, row),
+    ]
+}
+
+#[test]
+fn leaves_the_tree_of_the_other_keys(rt: HostRuntime) -> Result<(), Fail> {
+    for row in &ROWS {
+        let removed = row.slices.len().saturating_sub(row.kept);
+        let expected = Some((removed, row.touched, Some(row.kind)));
+        same(
+            (row.prefix, left_with_each(rt.alloc(), row)),
+            (row.prefix, [expected; 4]),
+        )?;
+    }
+    Ok(())
+}
+
+// Whether there are points of some prefixes in the tree of some keys.
+fn have_points<const P: usize>(
+    store: &mut NodeStore<Key, u32, P>,
+    prefixes: &[&[u8]],
+) -> Option<usize> {
+    let root = planted_all(store, &[&[1, 1, 1, 5], &[1, 1, 1, 6], &[2]]).ok()??;
+    let mut found = 0usize;
+    for prefix in prefixes {
+        if search_for_prefix_delete_point(store, root, prefix).is_some() {
+            found = found.saturating_add(1);
+        }
+    }
+    Some(found)
+}
+
+static ABSENT: [&[u8]; 6] = [
+    &[3],
+    &[1, 2],
+    &[1, 1, 2],
+    &[1, 1, 1, 7],
+    &[2, 0],
+    &[1, 2, 1, 5],
+];
+
+#[test]
+fn finds_no_point_where_no_key_begins_with_the_prefix(rt: HostRuntime) -> Result<(), Fail> {
+    let found = [
+        have_points::<0>(&mut NodeStore::new(rt.alloc()), &ABSENT),
+        have_points::<2>(&mut NodeStore::new(rt.alloc()), &ABSENT),
+        have_points::<16>(&mut NodeStore::new(rt.alloc()), &ABSENT),
+    ];
+    same(found, [Some(0); 3])
+}
+
+// The tree of so many keys of one byte and two keys that begin with 255.
+fn planted_with_two<const P: usize>(
+    store: &mut NodeStore<Key, u32, P>,
+    count: u16,
+) -> Option<OpaqueNodePtr>
+    ensures { IfSome result (λ root. IsCanonicalRoot (of_key (λ key. key.items)) P store.new root) }
+{
+    let mut all = keys_after(store.alloc(), &[], count).ok()?;
+    for last in 1..=2u8 {
+        all.push([255, last].to_vec(store.alloc()).ok()?).ok()?;
+    }
+    planted_keys(store, all)
+}
+
+// The kind of the root that is left without these two, and what was touched.
+fn shrunk<const P: usize>(
+    store: &mut NodeStore<Key, u32, P>,
+    count: u16,
+) -> Option<(NodeType, Touched)> {
+    let root = planted_with_two(store, count)?;
+    let before = nodes_seen(store).ok()?;
+    let done = remove_below(store, root, &before, &[255])?;
+    Some((done.new_root?.node_type(), done.touched))
+}
+
+// The numbers of other children from which a node comes to be of a smaller kind, with that kind, and what is touched. A
+// node of the kind of the two keys' parent has its name.
+static SHRINKING: [(u16, NodeType, Touched); 3] = [
+    (4, NodeType::Node4, (0, 3, 2)),
+    (16, NodeType::Node16, (1, 4, 1)),
+    (48, NodeType::Node48, (1, 4, 1)),
+];
+
+#[test]
+fn shrinks_a_parent_of_each_kind(rt: HostRuntime) -> Result<(), Fail> {
+    for (count, kind, touched) in &SHRINKING {
+        let seen = shrunk::<4>(&mut NodeStore::new(rt.alloc()), *count);
+        same(seen, Some((*kind, *touched)))?;
+    }
+    Ok(())
+}
+
+// More nodes of one kind than a store has room for before it is asked for.
+const MORE_THAN_FIT: usize = 100_000;
+
+// What a refused removal touches of these nodes, beside nodes of the smaller kind that take all that there is room for.
+// The point has to come back.
+fn refused_in_crowd<const P: usize>(
+    store: &mut NodeStore<Key, u32, P>,
+    root: OpaqueNodePtr,
+    before: &[Seen],
+    kind: NodeType,
+) -> Option<(bool, (usize, usize))>
+    requires { IsCanonicalRoot (of_key (λ key. key.items)) P store.old root }
+{
+    let held = all_memory(store.alloc()).ok()?;
+    place_beside(store, root, kind, MORE_THAN_FIT);
+    let point = search_for_prefix_delete_point(store, root, &[255])?;
+    let refused = point.apply(store, root);
+    drop(held);
+    let (_, freed, changed) = count_touched(store, before);
+    Some((refused.err()?.point == point, (freed, changed)))
+}
+
+// The same in the tree of so many keys of one byte and two that begin with 255.
+fn refused_of_many<const P: usize>(
+    store: &mut NodeStore<Key, u32, P>,
+    count: u16,
+    kind: NodeType,
+) -> Option<(bool, (usize, usize))> {
+    let root = planted_with_two(store, count)?;
+    let before = nodes_seen(store).ok()?;
+    refused_in_crowd(store, root, &before, kind)
+}
+
+#[test]
+fn without_memory_a_shrink_leaves_all_keys(rt: HostRuntime) -> Result<(), Fail> {
+    for (count, kind, _) in &SHRINKING {
+        let touched = refused_of_many::<4>(&mut NodeStore::new(rt.alloc()), *count, *kind);
+        same((*kind, touched), (*kind, Some((true, (0, 0)))))?;
+    }
+    Ok(())
+}
+
+// What a removal below a parent that keeps its kind touches while all memory is held.
+fn removed_without_memory<const P: usize>(
+    store: &mut NodeStore<Key, u32, P>,
+) -> Option<(usize, Touched)> {
+    let root = planted_with_two(store, 3)?;
+    let before = nodes_seen(store).ok()?;
+    let held = all_memory(store.alloc()).ok()?;
+    let done = remove_below(store, root, &before, &[255]);
+    drop(held);
+    Some((done?.removed, done?.touched))
+}
+
+#[test]
+fn without_memory_keys_below_a_kept_parent_go(rt: HostRuntime) -> Result<(), Fail> {
+    let seen = removed_without_memory::<4>(&mut NodeStore::new(rt.alloc()));
+    same(seen, Some((2, (0, 3, 2))))
+}

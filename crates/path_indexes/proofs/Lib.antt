@@ -1,0 +1,4 @@
+mod RequestLines
+mod PathParts
+mod Filling
+mod Replying

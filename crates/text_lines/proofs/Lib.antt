@@ -1,0 +1,4 @@
+pub mod LineParts
+pub mod Reading
+pub mod Writing
+pub mod Spaces

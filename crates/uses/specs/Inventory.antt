@@ -1,0 +1,35 @@
+-- What a stock has of each good, by its code.
+use Rattle.std.specs.Prelude.{◌≡◌, ◌≢◌, ◌<◌, ◌≤◌, ◌+◌, ◌^◌, ℕ, List, sum_by}
+use Rattle.std.specs.Option.{unwrap_or}
+use Rattle.art_operations.specs.MapAnswers.{value_at}
+use Rattle.uses.specs.declared.inventory.AddError.{AddError}
+use Rattle.uses.specs.declared.inventory.AddError.TheVariants as adds
+use Rattle.uses.specs.declared.inventory.TakeError.{TakeError}
+use Rattle.uses.specs.declared.inventory.TakeError.TheVariants as takes
+
+-- the codes of goods and how many there are of each
+abbrev pub Goods : Type 0
+Goods = List (List ℕ × ℕ)
+
+-- how many there are of a good
+abbrev pub quantity : List ℕ → Goods → ℕ
+quantity code stock = unwrap_or (value_at (λ code. code) code stock) 0
+
+-- how many there are together
+abbrev pub total_of : Goods → ℕ
+total_of stock = sum_by (λ good. good.1) stock
+
+-- there are so many of this good now, and of every other as many as before
+abbrev pub ChangesTo : List ℕ → ℕ → Goods → Goods → Type 0
+ChangesTo code count old new =
+    (quantity code new ≡ count) × ((other : List ℕ) → other ≢ code → quantity other new ≡ quantity other old)
+
+-- there would be more than can be counted, or there is none yet
+abbrev pub IsAddRefusal : List ℕ → ℕ → Goods → AddError → Type 0
+IsAddRefusal code count stock adds.TooMany = 2 ^ 32 ≤ quantity code stock + count
+IsAddRefusal code count stock adds.NoMemory = quantity code stock ≡ 0
+
+-- there are only so many, or there was no memory
+abbrev pub IsTakeRefusal : List ℕ → ℕ → Goods → TakeError → Type 0
+IsTakeRefusal code count stock (takes.NotEnough there) = (there ≡ quantity code stock) × (there < count)
+IsTakeRefusal code count stock takes.NoMemory = count ≤ quantity code stock
