@@ -6,6 +6,7 @@ ghost use Rattle.art_lines.specs.Keys.{IsByteWord, IsKeyWord, key_word};
 
 use std::alloc::{AllocError, Global};
 use std::str;
+use text_lines::words::{split_word, strip};
 
 /// A key as a line writes it: `-` for the empty one, or its bytes in decimal joined by dots.
 /// It is judged, and not copied yet.
@@ -122,14 +123,6 @@ impl<'a> Request<'a> {
     }
 }
 
-// What stands after a front.
-fn strip<'a>(line: &'a [u8], front: &[u8]) -> Option<&'a [u8]>
-    ensures rest { IfSome result (λ rest. line.now ≡ front.now ++ rest.now) }
-    ensures none { IfNone result ((rest : List ℕ) → line.now ≢ front.now ++ rest) }
-{
-    line.strip_prefix(front)
-}
-
 // A key and a value, with a space between them.
 fn parse_pair(words: &[u8]) -> Option<(KeyWord<'_>, u32)>
     ensures pair { IfSome result (λ pair. words.now ≡ pair.0.word.now ++ 32 ∷ decimal pair.1) }
@@ -138,17 +131,6 @@ fn parse_pair(words: &[u8]) -> Option<(KeyWord<'_>, u32)>
 {
     let (key, value) = split_word(words)?;
     Some((KeyWord::parse(key)?, parse_number(value)?))
-}
-
-// The first word, and what stands after the space behind it.
-fn split_word(words: &[u8]) -> Option<(&[u8], &[u8])>
-    ensures parts { IfSome result (λ parts. words.now ≡ parts.0.now ++ 32 ∷ parts.1.now) }
-    ensures word { IfSome result (λ parts. All (λ c. c ≢ 32) parts.0.now) }
-    ensures none { IfNone result (All (λ c. c ≢ 32) words.now) }
-{
-    let space = words.iter().position(|&character| character == b' ')?;
-    let (word, rest) = words.split_at(space);
-    Some((word, &rest[1..]))
 }
 
 fn is_key_word(word: &[u8]) -> bool
