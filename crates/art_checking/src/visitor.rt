@@ -17,17 +17,17 @@ use art_nodes::store::NodeStore;
 pub trait Visitor<K, V, const P: usize> {
     type Output;
 
-    /// What `default_output` may answer.
+    /// What `default_output` may return.
     ghost is_default: { Self → Self.Output → Type 0 };
 
-    /// What `combine_output` may answer.
+    /// What `combine_output` may return.
     ghost combines: { Self → Self.Output → Self.Output → Self.Output → Type 0 };
 
-    /// What `visit_inner_node` may answer, by the node's kind and value and by what its children gave,
+    /// What `visit_inner_node` may return, by the node's kind and value and by what its children gave,
     /// and the visitor after it.
     ghost of_inner: { Self → NodeType → Inner → Self.Output → Self.Output → Self → Type 0 };
 
-    /// What `visit_leaf` may answer, and the visitor after it.
+    /// What `visit_leaf` may return, and the visitor after it.
     ghost of_leaf: { Self → LeafNode K V → Self.Output → Self → Type 0 };
 
     /// The output of nothing, where a fold has to begin with one. `visit_with` never asks for it, since an inner node

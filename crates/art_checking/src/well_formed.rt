@@ -138,7 +138,7 @@ impl WellFormedChecker {
     ghost use Rattle.art_checking.specs.Checks.{fault_of};
     ghost use Rattle.art_checking.specs.declared.well_formed.fault.MalformedTreeError.TheVariants.{EmptyTreeWithLen, OutOfMemory};
 
-    /// Checks the tree below a name, of any store and any name. Of several faults it answers the one that is met first:
+    /// Checks the tree below a name, of any store and any name. Of several faults it returns the one that is met first:
     /// at an inner node its prefix, then what is below its children, by rising bytes, then their number; and the links
     /// of the leaves last, in their order.
     pub fn check_tree<K: AsBytes + Drop, V: Drop, const PREFIX_LEN: usize>(

@@ -97,7 +97,7 @@ impl<const P: usize> AnyInner<P> {
         }
     }
 
-    /// Takes out the child under a byte, and answers its name.
+    /// Takes out the child under a byte, and returns its name.
     pub fn remove_child(&mut self, byte: u8) -> Option<OpaqueNodePtr>
         ensures removed { result ≡ child_at (any_view self.old).children byte }
         ensures kind { any_kind self.new ≡ any_kind self.old }

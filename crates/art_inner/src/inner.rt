@@ -52,7 +52,7 @@ pub trait InnerNode<const P: usize>: FromHeader<Header<P>> {
         requires { HasPlace (kind_capacity TYPE) (view_of self.old).children byte }
         ensures { view_of self.new ≡ with_child byte child (view_of self.old) };
 
-    /// Takes out the child under a byte, and answers its name.
+    /// Takes out the child under a byte, and returns its name.
     fn remove_child(&mut self, byte: u8) -> Option<OpaqueNodePtr>
         ensures removed { result ≡ child_at (view_of self.old).children byte }
         ensures rest { view_of self.new ≡ without_child byte (view_of self.old) };

@@ -31,7 +31,7 @@ impl Pending {
     }
 }
 
-/// Makes the walk of the nodes below a root once, and answers an empty list with room for another one.
+/// Makes the walk of the nodes below a root once, and returns an empty list with room for another one.
 pub fn reserve_walk<const P: usize>(
     store: &NodeStore<Vec<u8>, u32, P>,
     root: OpaqueNodePtr,

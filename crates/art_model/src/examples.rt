@@ -84,7 +84,7 @@ pub fn puts_of_equal_keys()
         (Some ((1 ∷ 2 ∷ [], 1), 10), 0) }
 {}
 
-/// Removals by key and at both ends, and the key that is a front of a query.
+/// Removals by key and at both ends, and the key that is a prefix of a query.
 pub fn removals_and_matches_in_a_small_map()
     ensures present { remove_key bytes_of_pair (1 ∷ 3 ∷ []) three_pairs ≡
         (1 ∷ 2 ∷ [], 5) ∷ (2 ∷ [], 7) ∷ [] }

@@ -10,7 +10,7 @@ pub fn a_map_is_what_is_found<A>()
     ensures found { (bytes : A → List ℕ) → MapsAreWhatIsFound bytes }
 {}
 
-/// What the tests of a key among pairs answer.
+/// What the tests of a key among pairs return.
 pub fn tests_of_pairs_are_right<A>()
     ensures keys { (bytes : A → List ℕ) → KeysAreDecided bytes }
     ensures conflicts { (bytes : A → List ℕ) → ConflictsAreDecided bytes }

@@ -2,7 +2,7 @@
 
 ghost use Rattle.art_model.specs.KeyLaws.{FrontsAreDecided, RelationIsDecided, SamenessIsDecided, OrderIsDecided, OrderIsStrict, OrderIsTransitive, OrderIsTotal, CommonFrontIsLongest};
 
-/// What the tests of fronts, of related and of equal keys answer.
+/// What the tests of prefixes, of related and of equal keys return.
 pub fn tests_of_keys_are_right()
     ensures fronts { FrontsAreDecided }
     ensures related { RelationIsDecided }
@@ -10,7 +10,7 @@ pub fn tests_of_keys_are_right()
     ensures common { CommonFrontIsLongest }
 {}
 
-/// Keys are ordered byte by byte, and a proper front comes first.
+/// Keys are ordered byte by byte, and a proper prefix comes first.
 pub fn keys_are_ordered_by_bytes()
     ensures bytes { OrderIsDecided }
     ensures strict { OrderIsStrict }

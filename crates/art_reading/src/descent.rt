@@ -159,7 +159,7 @@ impl End {
     }
 }
 
-/// Goes down to the leaf at an end of the tree that a name stands for, and answers the path to it too.
+/// Goes down to the leaf at an end of the tree that a name stands for, and returns the path to it too.
 #[inline(always)]
 pub fn walk_to_end<K: AsBytes + Drop, V: Drop, const PREFIX_LEN: usize>(
     store: &NodeStore<K, V, PREFIX_LEN>,

@@ -57,7 +57,7 @@ impl RawIterator {
         RawIterator { ends: None }
     }
 
-    /// The first leaf that is left. Its link is read before it is answered, so that it may be freed.
+    /// The first leaf that is left. Its link is read before it is returned, so that it may be freed.
     pub fn next<K: AsBytes + Drop, V: Drop, const PREFIX_LEN: usize>(
         &mut self,
         store: &NodeStore<K, V, PREFIX_LEN>,
@@ -72,7 +72,7 @@ impl RawIterator {
         self.take_end(store, End::First)
     }
 
-    /// The last leaf that is left. Its link is read before it is answered, so that it may be freed.
+    /// The last leaf that is left. Its link is read before it is returned, so that it may be freed.
     pub fn next_back<K: AsBytes + Drop, V: Drop, const PREFIX_LEN: usize>(
         &mut self,
         store: &NodeStore<K, V, PREFIX_LEN>,

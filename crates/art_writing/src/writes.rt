@@ -80,7 +80,7 @@ pub(crate) fn link<K: AsBytes + Drop, V: Drop, const P: usize>(
     set_beside(store, next, Side::Before, previous);
 }
 
-/// Places a leaf of a pair, which is promised, between two others, and answers its name.
+/// Places a leaf of a pair, which is promised, between two others, and returns its name.
 #[inline(always)]
 pub(crate) fn place_between<K: AsBytes + Drop, V: Drop, const P: usize>(
     store: &mut NodeStore<K, V, P>,
@@ -112,7 +112,7 @@ pub(crate) fn place_between<K: AsBytes + Drop, V: Drop, const P: usize>(
     name
 }
 
-/// Takes a leaf from between the two that it names, and answers it alone.
+/// Takes a leaf from between the two that it names, and returns it alone.
 pub(crate) fn take_from_between<K: AsBytes + Drop, V: Drop, const P: usize>(
     store: &mut NodeStore<K, V, P>,
     name: LeafPtr,
@@ -136,7 +136,7 @@ pub(crate) fn take_from_between<K: AsBytes + Drop, V: Drop, const P: usize>(
     LeafNode::with_no_siblings(leaf.key, leaf.value)
 }
 
-/// Puts a node in the place at the end of a path, and answers the root.
+/// Puts a node in the place at the end of a path, and returns the root.
 pub(crate) fn replace_at<K: AsBytes + Drop, V: Drop, const P: usize>(
     store: &mut NodeStore<K, V, P>,
     path: TreePath,

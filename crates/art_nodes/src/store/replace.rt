@@ -162,7 +162,7 @@ impl<K: AsBytes + Drop, V: Drop, const P: usize> NodeStore<K, V, P> {
         self.inners.put_smaller(inner, byte)
     }
 
-    /// Takes an inner node of two children out, and answers its header, and the child that is not
+    /// Takes an inner node of two children out, and returns its header, and the child that is not
     /// under a byte with the byte of that child.
     pub fn take_other(&mut self, inner: InnerPtr, byte: u8) -> (Header<P>, u8, OpaqueNodePtr)
         requires { IsSomeAnd (map.get self.old.inners inner) (λ node.

@@ -128,7 +128,7 @@ fn kind_if_full<K: AsBytes + Drop, V: Drop, const P: usize>(
     }
 }
 
-// Puts a larger node with a child more in the place of one at the end of a path, and answers its name
+// Puts a larger node with a child more in the place of one at the end of a path, and returns its name
 // and the root.
 fn put_larger<K: AsBytes + Drop, V: Drop, const P: usize>(
     store: &mut NodeStore<K, V, P>,
