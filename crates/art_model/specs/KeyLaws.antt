@@ -7,7 +7,7 @@ use Rattle.art_model.specs.Keys.{IsFront, is_front, are_related, are_same, is_be
 abbrev pub IsProperFront : List ℕ → List ℕ → Type 0
 IsProperFront a b = (byte : ℕ) × (rest : List ℕ) × (b ≡ a ++ byte ∷ rest)
 
--- after a common front the first key has the smaller byte
+-- after a common prefix the first key has the smaller byte
 abbrev pub HasSmallerByte : List ℕ → List ℕ → Type 0
 HasSmallerByte a b =
     (front : List ℕ) × (x y : ℕ) × (r s : List ℕ) × (a ≡ front ++ x ∷ r) × (b ≡ front ++ y ∷ s) × (x < y)
@@ -35,7 +35,7 @@ OrderIsTransitive = (a b c : List ℕ) → is_before a b ≡ true → is_before 
 abbrev pub OrderIsTotal : Type 0
 OrderIsTotal = (a b : List ℕ) → (is_before a b ≡ true) ⊎ ((a ≡ b) ⊎ (is_before b a ≡ true))
 
--- the common front is a front of both keys, and every other such front is a front of it
+-- the shared part is a prefix of both keys, and every other such prefix is a prefix of it
 abbrev pub CommonFrontIsLongest : Type 0
 CommonFrontIsLongest =
     (a b : List ℕ) → IsFront (common_front a b) a × IsFront (common_front a b) b ×

@@ -1,4 +1,4 @@
--- Keys are lists of bytes: what a front is, which keys are related, and in what order they stand.
+-- Keys are lists of bytes: what a prefix of one is (called a front, since nodes have prefixes too), which are related, and their order.
 use Rattle.std.specs.Prelude.{◌≡◌, ℕ, Bool, true, false, if◌then◌else◌, ◌==◌, ◌&&◌, ◌||◌, List, [], ◌∷◌, ◌++◌}
 use Rattle.std.specs.Cmp.Lexicographic.{slice_cmp}
 use Rattle.std.specs.Ordering.{nat_cmp, is_lt}
@@ -7,13 +7,13 @@ use Rattle.std.specs.Ordering.{nat_cmp, is_lt}
 abbrev pub IsFront : List ℕ → List ℕ → Type 0
 IsFront front whole = (rest : List ℕ) × (whole ≡ front ++ rest)
 
--- whether the first key is a front of the second
+-- whether the first key is a prefix of the second
 abbrev pub is_front : List ℕ → List ℕ → Bool
 is_front [] whole = true
 is_front (a ∷ front) [] = false
 is_front (a ∷ front) (b ∷ whole) = a == b && is_front front whole
 
--- whether one of the keys is a front of the other, as equal keys are
+-- whether one of the keys is a prefix of the other, as equal keys are
 abbrev pub are_related : List ℕ → List ℕ → Bool
 are_related a b = is_front a b || is_front b a
 
@@ -21,7 +21,7 @@ are_related a b = is_front a b || is_front b a
 abbrev pub are_same : List ℕ → List ℕ → Bool
 are_same a b = is_front a b && is_front b a
 
--- whether the first key comes before the second: byte by byte, and a proper front first
+-- whether the first key comes before the second: byte by byte, and a proper prefix first
 abbrev pub is_before : List ℕ → List ℕ → Bool
 is_before a b = is_lt (slice_cmp nat_cmp a b)
 
@@ -29,7 +29,7 @@ is_before a b = is_lt (slice_cmp nat_cmp a b)
 abbrev pub Precedes : List ℕ → List ℕ → Type 0
 Precedes a b = (is_before a b ≡ true) × (are_related a b ≡ false)
 
--- the longest front of both keys
+-- the longest prefix of both keys
 abbrev pub common_front : List ℕ → List ℕ → List ℕ
 common_front [] other = []
 common_front (a ∷ «as») [] = []

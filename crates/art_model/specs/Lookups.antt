@@ -43,6 +43,6 @@ abbrev pub pair_under : {K V : Type 0} → Nodes K V → Option LeafPtr → Opti
 pair_under s None = None
 pair_under s (Some name) = option_map pair_of (map.get s.leaves name)
 
--- the nodes whose place is a front of the key, each with its place
+-- the nodes whose place is a prefix of the key, each with its place
 abbrev pub nodes_on_way : {N A : Type 0} → (A → List ℕ) → List ℕ → Tree N A → List (List ℕ × N)
 nodes_on_way bytes key tree = match_of (λ node. node.0) key (places bytes 0 tree)

@@ -58,7 +58,7 @@ module _ {A : Type 0} (bytes : A → List ℕ) where
   abbrev pub is_conflict : List ℕ → List A → Bool
   is_conflict key pairs = list_any (λ x. are_related key (bytes x) && not (are_same key (bytes x))) pairs
 
-  -- the pairs whose keys are a front of the query: at most one in a map, the match
+  -- the pairs whose keys are a prefix of the query: at most one in a map, the match
   abbrev pub match_of : List ℕ → List A → List A
   match_of query pairs = filter (λ x. is_front (bytes x) query) pairs
 

@@ -1,4 +1,4 @@
--- The place of a node is the bytes that lead to it, prefixes and children's bytes from the root on. It is a front of every key below the node, so it is read off the least of them.
+-- The place of a node is the bytes that lead to it, prefixes and children's bytes from the root on. It is a prefix of every key below the node, so it is read off the least of them.
 use Rattle.std.specs.Prelude.{◌≡◌, ℕ, ◌+◌, ◌≤◌, List, [], ◌∷◌, ◌++◌, length, take, drop}
 use Rattle.std.specs.List.{AllByRecursion as Each}
 use Rattle.art_parts.specs.declared.names.NodeType.{NodeType}
@@ -53,7 +53,7 @@ module _ {N A : Type 0} (bytes : A → List ℕ) where
     inner_nodes_below d no_child = []
     inner_nodes_below d (child b t cs) = inner_nodes d t ++ inner_nodes_below d cs
 
-  -- The end node of a key, and the path to it: its place is a front of the key, and no node of the tree has a longer such place.
+  -- The end node of a key, and the path to it: its place is a prefix of the key, and no node of the tree has a longer such place.
   pub record IsEndNode (tree : Tree N A) (key : List ℕ) (path : List (Frame N A)) (node : Tree N A) : Type 0 where
     pub whole : plug path node ≡ tree
     pub is_front : IsFront (place_of (depth_of path) node) key

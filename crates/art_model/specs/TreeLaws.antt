@@ -8,7 +8,7 @@ use Rattle.art_model.specs.Radix.{pairs_of, HaveChildren, IsRadix}
 use Rattle.art_model.specs.Layouts.{leaf_names, inner_names}
 
 module _ {A : Type 0} (bytes : A → List ℕ) where
-  -- the shared part is a front of what each key has from depth d on
+  -- the shared part is a prefix of what each key has from depth d on
   abbrev pub PartIsShared : Type 0
   PartIsShared = (d : ℕ) (pairs : List A) → Each (λ x. IsFront (shared_part bytes d pairs) (drop d (bytes x))) pairs
 

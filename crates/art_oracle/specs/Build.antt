@@ -27,7 +27,7 @@ abbrev pub last_from : {A : Type 0} → A → List A → A
 last_from x [] = x
 last_from x (y ∷ ys) = last_from y ys
 
--- a byte comes after the front
+-- a byte comes after the prefix
 abbrev pub GoesOn : List ℕ → List ℕ → Type 0
 GoesOn front key = (b : ℕ) × (rest : List ℕ) × (key ≡ front ++ b ∷ rest)
 
@@ -79,7 +79,7 @@ module _ {K V : Type 0} where
       pub ways : Each (λ x. IsFront way (of_key bytes x)) (pairs_at store leaves)
       pub depth_is : length way ≡ depth
 
-    -- the leaves of a map whose keys all begin with this front and go on
+    -- the leaves of a map whose keys all begin with this prefix and go on
     pub record ReadyBelow (store : finite.FinMap leaf_cmp (LeafNode K V)) (front : List ℕ)
         (leaves : List LeafPtr) (at : ℕ) : Type 0 where
       pub there : All (λ p. IsSome (finite.get store p)) leaves

@@ -65,7 +65,7 @@ abbrev pub MatchesLeafKey : PrefixMatchBehavior → ℕ → List ℕ → List �
 MatchesLeafKey behavior depth leaf query =
     let from = compared_from behavior depth leaf query in drop from leaf ≡ drop from query
 
--- what is compared of a leaf's key is a front of what is compared of the query
+-- what is compared of a leaf's key is a prefix of what is compared of the query
 abbrev pub LeafKeyIsPrefix : PrefixMatchBehavior → ℕ → List ℕ → List ℕ → Type 0
 LeafKeyIsPrefix behavior depth leaf query =
     let from = compared_from behavior depth leaf query in IsFront (drop from leaf) (drop from query)

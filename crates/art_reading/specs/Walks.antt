@@ -55,7 +55,7 @@ pub record CountsVisits {K V : Type 0} (bytes : K × V → List ℕ) (P : ℕ) (
       IsWholeStored P layout → before + length (nodes_on_way bytes key layout) ≡ after)
   pub at_most : after ≤ before + length key + 1
 
--- the pairs that are asked for: those with the key, or with a front of it
+-- the pairs that are asked for: those with the key, or with a prefix of it
 abbrev pub asked_of : {A : Type 0} → Asked → (A → List ℕ) → List ℕ → List A → List A
 asked_of Same bytes key pairs = with_key bytes key pairs
 asked_of Front bytes key pairs = match_of bytes key pairs

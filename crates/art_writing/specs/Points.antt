@@ -139,7 +139,7 @@ module _ {A : Type 0} (bytes : A → List ℕ) (P : ℕ) where
   IsPointFor key pairs layout point =
       (is_conflict bytes key pairs ≡ overwrites point) × AnswersToPrefix layout key point
 
-  -- the spot is a node of the tree at a place that is a front of the key
+  -- the spot is a node of the tree at a place that is a prefix of the key
   pub record IsAt (key : List ℕ) (tree : Tree OpaqueNodePtr A) (spot : Spot) : Type 0 where
     pub frames : List (Frame OpaqueNodePtr A)
     pub place : List ℕ
