@@ -9,6 +9,18 @@ use art_parts::header::{FromHeader, Header};
 use art_parts::names::{NodeType, OpaqueNodePtr};
 use std::alloc::AllocError;
 
+// Runs the same code on a node of whatever kind.
+macro_rules! on_each_kind {
+    ($any:ident, $it:expr, $node:ident => $code:expr) => {
+        match $it {
+            $any::Node4($node) => $code,
+            $any::Node16($node) => $code,
+            $any::Node48($node) => $code,
+            $any::Node256($node) => $code,
+        }
+    };
+}
+
 /// An inner node of any kind.
 #[derive(Drop)]
 pub enum AnyInner<const P: usize> {
@@ -89,12 +101,7 @@ impl<const P: usize> AnyInner<P> {
         ensures kind { any_kind self.new ≡ any_kind self.old }
         ensures view { any_view self.new ≡ with_child byte child (any_view self.old) }
     {
-        match self {
-            AnyInner::Node4(node) => node.write_child(byte, child),
-            AnyInner::Node16(node) => node.write_child(byte, child),
-            AnyInner::Node48(node) => node.write_child(byte, child),
-            AnyInner::Node256(node) => node.write_child(byte, child),
-        }
+        on_each_kind!(AnyInner, self, node => node.write_child(byte, child))
     }
 
     /// Takes out the child under a byte, and returns its name.
@@ -103,12 +110,7 @@ impl<const P: usize> AnyInner<P> {
         ensures kind { any_kind self.new ≡ any_kind self.old }
         ensures rest { any_view self.new ≡ without_child byte (any_view self.old) }
     {
-        match self {
-            AnyInner::Node4(node) => node.remove_child(byte),
-            AnyInner::Node16(node) => node.remove_child(byte),
-            AnyInner::Node48(node) => node.remove_child(byte),
-            AnyInner::Node256(node) => node.remove_child(byte),
-        }
+        on_each_kind!(AnyInner, self, node => node.remove_child(byte))
     }
 
     /// The node of the next larger kind.
@@ -117,12 +119,7 @@ impl<const P: usize> AnyInner<P> {
         ensures kind { any_kind result ≡ larger_kind (any_kind self.entry) }
         ensures view { any_view result ≡ any_view self.entry }
     {
-        match self {
-            AnyInner::Node4(node) => node.grow(),
-            AnyInner::Node16(node) => node.grow(),
-            AnyInner::Node48(node) => node.grow(),
-            AnyInner::Node256(node) => node.grow(),
-        }
+        on_each_kind!(AnyInner, self, node => node.grow())
     }
 
     /// The node of the next smaller kind.
@@ -133,24 +130,14 @@ impl<const P: usize> AnyInner<P> {
         ensures kind { any_kind result ≡ smaller_kind (any_kind self.entry) }
         ensures view { any_view result ≡ any_view self.entry }
     {
-        match self {
-            AnyInner::Node4(node) => node.shrink(),
-            AnyInner::Node16(node) => node.shrink(),
-            AnyInner::Node48(node) => node.shrink(),
-            AnyInner::Node256(node) => node.shrink(),
-        }
+        on_each_kind!(AnyInner, self, node => node.shrink())
     }
 
     pub fn set_header(&mut self, header: Header<P>)
         ensures kind { any_kind self.new ≡ any_kind self.old }
         ensures view { any_view self.new ≡ with_header header.entry (any_view self.old) }
     {
-        match self {
-            AnyInner::Node4(node) => node.set_header(header),
-            AnyInner::Node16(node) => node.set_header(header),
-            AnyInner::Node48(node) => node.set_header(header),
-            AnyInner::Node256(node) => node.set_header(header),
-        }
+        on_each_kind!(AnyInner, self, node => node.set_header(header))
     }
 
     #[inline(always)]
@@ -190,12 +177,7 @@ impl<'a, const P: usize> InnerRef<'a, P> {
     pub fn header(&self) -> Header<P>
         ensures { result ≡ (ref_view self.now).prefix }
     {
-        match self {
-            InnerRef::Node4(node) => node.header(),
-            InnerRef::Node16(node) => node.header(),
-            InnerRef::Node48(node) => node.header(),
-            InnerRef::Node256(node) => node.header(),
-        }
+        on_each_kind!(InnerRef, self, node => node.header())
     }
 
     /// The length of the prefix, which may be more than is stored.
@@ -203,12 +185,7 @@ impl<'a, const P: usize> InnerRef<'a, P> {
     pub fn prefix_len(&self) -> usize
         ensures { result ≡ (ref_view self.now).prefix.len }
     {
-        match self {
-            InnerRef::Node4(node) => node.prefix_len(),
-            InnerRef::Node16(node) => node.prefix_len(),
-            InnerRef::Node48(node) => node.prefix_len(),
-            InnerRef::Node256(node) => node.prefix_len(),
-        }
+        on_each_kind!(InnerRef, self, node => node.prefix_len())
     }
 
     /// The stored bytes of the prefix.
@@ -218,12 +195,7 @@ impl<'a, const P: usize> InnerRef<'a, P> {
         ensures count { length (ref_view self.now).prefix.stored ≡
             min (ref_view self.now).prefix.len P }
     {
-        match self {
-            InnerRef::Node4(node) => node.read_prefix(),
-            InnerRef::Node16(node) => node.read_prefix(),
-            InnerRef::Node48(node) => node.read_prefix(),
-            InnerRef::Node256(node) => node.read_prefix(),
-        }
+        on_each_kind!(InnerRef, self, node => node.read_prefix())
     }
 
     /// The children by rising bytes.
@@ -232,12 +204,7 @@ impl<'a, const P: usize> InnerRef<'a, P> {
         ensures rising { IsRising (ref_view self.now).children }
         ensures bound { length (ref_view self.now).children ≤ kind_capacity (ref_kind self.now) }
     {
-        match *self {
-            InnerRef::Node4(node) => node.table.iter(),
-            InnerRef::Node16(node) => node.table.iter(),
-            InnerRef::Node48(node) => node.table.iter(),
-            InnerRef::Node256(node) => node.table.iter(),
-        }
+        on_each_kind!(InnerRef, *self, node => node.table.iter())
     }
 
     pub fn num_children(&self) -> usize
