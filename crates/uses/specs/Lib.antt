@@ -1,3 +1,3 @@
 pub mod Longest
 pub mod Inventory
-pub mod Sessions
+pub mod Leases

@@ -27,9 +27,9 @@ pub mod counts;
 pub mod given;
 pub mod inventory;
 pub mod keys;
+pub mod leases;
 pub mod months;
 pub mod parts;
-pub mod sessions;
 
 /// Puts a pair in, and answers the root. `None` where the key is related to an unequal stored one, or for
 /// want of memory; then the root stands for what it stood for.

@@ -1,10 +1,10 @@
-//! Sessions by their ids and by the times at which they end: two trees in one store.
+//! Leases by their ids and by the times at which they end: two trees in one store.
 ghost use Rattle.std.specs.Prelude.{◌≡◌, ◌∷◌, [], List, Some, None, IfErr, IfNone, IfOk, IfSome};
 ghost use Rattle.art_model.specs.Apart.{HasBoth, KeepsApart};
 ghost use Rattle.art_model.specs.Canonical.{IsCanonical};
 ghost use Rattle.art_model.specs.Pairs.{of_key, put};
 ghost use Rattle.art_model.specs.Roots.{IsCanonicalRoot};
-ghost use Rattle.uses.specs.Sessions.{AreSessions};
+ghost use Rattle.uses.specs.Leases.{AreLeases};
 
 use art_nodes::node::{AsBytes, OpaqueNodePtr};
 use art_nodes::store::NodeStore;
@@ -15,7 +15,7 @@ use art_operations::minmax::minimum_unchecked;
 /// The roots of two trees in one store; none where a tree has no pair.
 #[derive(Clone, Copy, PartialEq, Eq, Debug)]
 pub struct Roots {
-    /// Of the sessions by their ids.
+    /// Of the leases by their ids.
     pub by_id: Option<OpaqueNodePtr>,
     /// Of the same by the times at which they end, eight bytes each, and then their ids.
     pub by_end: Option<OpaqueNodePtr>,
@@ -62,7 +62,7 @@ fn begin_tree<K: AsBytes + Drop, V: Drop, const P: usize>(
     Some(name.to_opaque())
 }
 
-/// Puts a session in, under its id and under the time at which it ends, and returns the roots. An `Err` is for a key in
+/// Puts a lease in, under its id and under the time at which it ends, and returns the roots. An `Err` is for a key in
 /// conflict or want of memory: then nothing has come under the id.
 pub fn begin<K: AsBytes + Drop, V: Drop, const P: usize>(
     store: &mut NodeStore<K, V, P>,
@@ -70,7 +70,7 @@ pub fn begin<K: AsBytes + Drop, V: Drop, const P: usize>(
     by_id: (K, V),
     by_end: (K, V),
 ) -> Result<Roots, Roots>
-    requires { AreSessions (of_key K.bytes) P store.old roots }
+    requires { AreLeases (of_key K.bytes) P store.old roots }
     ensures begun { (ids ends : List (K × V)) →
         HasBoth (of_key K.bytes) P store.old roots.by_id roots.by_end ids ends →
         IfOk result (λ now. HasBoth (of_key K.bytes) P store.new now.by_id now.by_end
@@ -79,8 +79,8 @@ pub fn begin<K: AsBytes + Drop, V: Drop, const P: usize>(
         HasBoth (of_key K.bytes) P store.old roots.by_id roots.by_end ids ends →
         IfErr result (λ now. (rest : List (K × V)) ×
         HasBoth (of_key K.bytes) P store.new now.by_id now.by_end ids rest) }
-    ensures kept { IfOk result (AreSessions (of_key K.bytes) P store.new) }
-    ensures left { IfErr result (AreSessions (of_key K.bytes) P store.new) }
+    ensures kept { IfOk result (AreLeases (of_key K.bytes) P store.new) }
+    ensures left { IfErr result (AreLeases (of_key K.bytes) P store.new) }
 {
     let (end_key, end_value) = by_end;
     let (id_key, id_value) = by_id;
@@ -97,15 +97,15 @@ pub fn begin<K: AsBytes + Drop, V: Drop, const P: usize>(
     })
 }
 
-/// Takes the session out that ends first, if there is one, and returns the roots and its key. `None` too for
+/// Takes the lease out that ends first, if there is one, and returns the roots and its key. `None` too for
 /// want of memory; then the roots stand for what they stood for.
 pub fn take_first<K: AsBytes + Drop, V: Drop, const P: usize>(
     store: &mut NodeStore<K, V, P>,
     roots: Roots,
 ) -> Option<(Roots, K)>
-    requires { AreSessions (of_key K.bytes) P store.old roots }
-    ensures left { IfSome result (λ left. AreSessions (of_key K.bytes) P store.new left.0) }
-    ensures kept { IfNone result (AreSessions (of_key K.bytes) P store.new roots) }
+    requires { AreLeases (of_key K.bytes) P store.old roots }
+    ensures left { IfSome result (λ left. AreLeases (of_key K.bytes) P store.new left.0) }
+    ensures kept { IfNone result (AreLeases (of_key K.bytes) P store.new roots) }
 {
     let Some(root) = roots.by_end else {
         return None;
@@ -120,15 +120,15 @@ pub fn take_first<K: AsBytes + Drop, V: Drop, const P: usize>(
     }
 }
 
-/// Takes the session of an id out of those by their ids, and returns the roots. Where there is none, or no memory, they
+/// Takes the lease of an id out of those by their ids, and returns the roots. Where there is none, or no memory, they
 /// stand for what they stood for.
 pub fn forget<K: AsBytes + Drop, V: Drop, const P: usize>(
     store: &mut NodeStore<K, V, P>,
     roots: Roots,
     id: &[u8],
 ) -> Roots
-    requires { AreSessions (of_key K.bytes) P store.old roots }
-    ensures { AreSessions (of_key K.bytes) P store.new result }
+    requires { AreLeases (of_key K.bytes) P store.old roots }
+    ensures { AreLeases (of_key K.bytes) P store.new result }
 {
     let Some(root) = roots.by_id else {
         return roots;
@@ -145,15 +145,15 @@ pub fn forget<K: AsBytes + Drop, V: Drop, const P: usize>(
     }
 }
 
-/// Takes the sessions out that end up to a time, eight bytes of it, and returns the roots. It goes from the first one on,
+/// Takes the leases out that end up to a time, eight bytes of it, and returns the roots. It goes from the first one on,
 /// and ends early for want of memory.
 pub fn expire<K: AsBytes + Drop, V: Drop, const P: usize>(
     store: &mut NodeStore<K, V, P>,
     roots: Roots,
     now: &[u8],
 ) -> Roots
-    requires { AreSessions (of_key K.bytes) P store.old roots }
-    ensures { AreSessions (of_key K.bytes) P store.new result }
+    requires { AreLeases (of_key K.bytes) P store.old roots }
+    ensures { AreLeases (of_key K.bytes) P store.new result }
 {
     let mut roots = roots;
     for turn in 0..u64::MAX {
@@ -168,13 +168,13 @@ pub fn expire<K: AsBytes + Drop, V: Drop, const P: usize>(
     roots
 }
 
-// Whether the session that ends first ends up to a time.
+// Whether the lease that ends first ends up to a time.
 fn is_due<K: AsBytes + Drop, V: Drop, const P: usize>(
     store: &NodeStore<K, V, P>,
     roots: Roots,
     now: &[u8],
 ) -> bool
-    requires { AreSessions (of_key K.bytes) P store.now roots }
+    requires { AreLeases (of_key K.bytes) P store.now roots }
 {
     let Some(root) = roots.by_end else {
         return false;

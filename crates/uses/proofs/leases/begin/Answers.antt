@@ -2,7 +2,7 @@ use Rattle.std.proofs.Common.{rules, Some}
 use Rattle.art_model.specs.Pairs.{of_key, put}
 use Rattle.art_operations.proofs.CallerLemmas.{both_changed, both_same}
 use Rattle.uses.proofs.Both.{first_canonical, second_changed}
-use Rattle.uses.proofs.sessions.begin.Goals as goal
+use Rattle.uses.proofs.leases.begin.Goals as goal
 
 pub returns-in_default-clause-refused : goal.returns-in_default-clause-refused
 returns-in_default-clause-refused g c ids ends h =

@@ -1,5 +1,5 @@
 use Rattle.std.proofs.Common.{◌≡◌, []}
-use Rattle.uses.proofs.sessions.put_in.Goals as goal
+use Rattle.uses.proofs.leases.put_in.Goals as goal
 
 pub returns-in-Some-clause-pairs : goal.returns-in-Some-clause-pairs
 returns-in-Some-clause-pairs g c pairs is = let (layout, by) = rw c.in-Some.is at is in c.put.ensures.pairs pairs layout by

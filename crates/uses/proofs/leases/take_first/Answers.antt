@@ -1,7 +1,7 @@
 use Rattle.art_model.specs.Pairs.{of_key, remove_key}
 use Rattle.art_operations.proofs.CallerLemmas.{both_changed, both_same, both_turned}
 use Rattle.uses.proofs.Both.{first_named}
-use Rattle.uses.proofs.sessions.take_first.Goals as goal
+use Rattle.uses.proofs.leases.take_first.Goals as goal
 
 pub returns-in-Ok-clause-left : goal.returns-in-Ok-clause-left
 returns-in-Ok-clause-left g c =

@@ -1,7 +1,7 @@
 use Rattle.std.proofs.Common.{rules}
 use Rattle.art_model.specs.Pairs.{of_key}
 use Rattle.art_operations.proofs.CallerLemmas.{both_turned, has_children, root_of_first}
-use Rattle.uses.proofs.sessions.is_due.Goals as goal
+use Rattle.uses.proofs.leases.is_due.Goals as goal
 
 pub minimum_unchecked-requires : goal.minimum_unchecked-requires
 minimum_unchecked-requires g c =

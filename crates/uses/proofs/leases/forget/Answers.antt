@@ -1,7 +1,7 @@
 use Rattle.art_model.specs.Pairs.{of_key, remove_key}
 use Rattle.art_operations.proofs.CallerLemmas.{both_changed, both_same}
 use Rattle.uses.proofs.Both.{first_named}
-use Rattle.uses.proofs.sessions.forget.Goals as goal
+use Rattle.uses.proofs.leases.forget.Goals as goal
 
 pub returns-in-Ok : goal.returns-in-Ok
 returns-in-Ok g c =

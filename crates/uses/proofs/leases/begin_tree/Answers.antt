@@ -3,7 +3,7 @@ use Rattle.art_parts.specs.declared.names.OpaqueNodePtr.{OpaqueNodePtr}
 use Rattle.art_model.specs.Apart.{KeepsApart}
 use Rattle.art_model.specs.Canonical.{IsCanonical}
 use Rattle.art_model.specs.Pairs.{of_key}
-use Rattle.uses.proofs.sessions.begin_tree.Goals as goal
+use Rattle.uses.proofs.leases.begin_tree.Goals as goal
 
 pub returns-clause-pairs : goal.returns-clause-pairs
 returns-clause-pairs g c =
