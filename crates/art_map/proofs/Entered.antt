@@ -15,8 +15,8 @@ use Rattle.art_model.specs.Keys.{are_same}
 use Rattle.art_model.proofs.Puts.{any_is_first, has_is_stored, put_reply-new, stored_bytes}
 use Rattle.art_writing.specs.Inserted.{HasInserted, IsPointIn, placed_for}
 use Rattle.art_writing.specs.Points.{AnswersTo}
-use Rattle.art_writing.specs.declared.insert.InsertKind.{InsertKind}
-use Rattle.art_writing.specs.declared.insert.InsertKind.TheVariants.{Exact, IntoExisting, MismatchPrefix, SplitLeaf}
+use Rattle.art_reading.specs.declared.end_node.InsertKind.{InsertKind}
+use Rattle.art_reading.specs.declared.end_node.InsertKind.TheVariants.{Exact, IntoExisting, MismatchPrefix, SplitLeaf}
 use Rattle.art_writing.specs.declared.insert.InsertPoint.{InsertPoint}
 use Rattle.art_writing.specs.declared.insert.InsertResult.{InsertResult}
 use Rattle.art_writing.proofs.KeysFound.{conflict_new}

@@ -12,7 +12,7 @@ use Rattle.art_model.specs.Parts.{below, not_below}
 use Rattle.art_model.specs.Trees.{Tree}
 use Rattle.art_writing.specs.Inserted.{IsPointIn}
 use Rattle.art_writing.specs.Points.{IsRefusedFor}
-use Rattle.art_writing.specs.declared.insert.InsertKind.TheVariants.{Exact}
+use Rattle.art_reading.specs.declared.end_node.InsertKind.TheVariants.{Exact}
 use Rattle.art_writing.specs.declared.insert.PrefixInsertResult.{PrefixInsertResult}
 use Rattle.art_writing.specs.declared.insert.Refused.{Refused}
 use Rattle.art_map.specs.MapAnswers.{HasShrinkingParentBelow, IsRefusalOf, MayRefuseRemoval}

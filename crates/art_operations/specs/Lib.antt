@@ -23,6 +23,7 @@ pub use Rattle.art_model.specs.Footprints
 pub use Rattle.art_model.specs.Promises
 pub use Rattle.art_writing.specs.Writes
 -- insertion
+pub use Rattle.art_reading.specs.EndNodes
 pub use Rattle.art_writing.specs.Points
 pub use Rattle.art_writing.specs.Inserted
 pub use Rattle.art_writing.specs.Conflicts

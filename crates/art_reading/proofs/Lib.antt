@@ -13,3 +13,6 @@ pub mod Beside
 pub mod Cuts
 pub mod Spans
 pub mod Bounds
+pub mod Partings
+pub mod Prefixes
+pub mod EndNodes

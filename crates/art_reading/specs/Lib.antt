@@ -5,6 +5,7 @@ pub use Rattle.art_model.specs.Roots
 pub use Rattle.art_model.specs.Lookups
 pub mod Matching
 pub mod Paths
+pub mod EndNodes
 pub mod Stored
 pub mod Walks
 pub mod Iterators

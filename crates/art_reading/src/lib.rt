@@ -2,6 +2,7 @@
 #![tactic(auto)]
 
 pub mod descent;
+pub mod end_node;
 pub mod iterator;
 pub mod lookup;
 pub mod matching;

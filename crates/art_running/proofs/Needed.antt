@@ -47,11 +47,12 @@ use Rattle.art_writing.specs.Inserted.{placed_for, is_full}
 use Rattle.art_writing.specs.Deleted.{LeadsTo, ParentChange, no_parent, keeps, shrinks, change_of, parent_change, placed_for_deletion}
 use Rattle.art_reading.specs.Matching.{shared_len}
 use Rattle.art_running.specs.Needs.{needs, count_of, inner_count_below, more_of, inner_count}
-use Rattle.art_writing.specs.Points.{AnswersTo, IsKindOf}
+use Rattle.art_reading.specs.EndNodes.{IsKindOf}
+use Rattle.art_writing.specs.Points.{AnswersTo}
 use Rattle.art_reading.specs.Paths.{path_of}
 use Rattle.art_writing.specs.declared.delete.DeletePoint.{DeletePoint}
-use Rattle.art_writing.specs.declared.insert.InsertKind.{InsertKind}
-use Rattle.art_writing.specs.declared.insert.InsertKind.TheVariants.{MismatchPrefix, SplitLeaf, Exact, IntoExisting}
+use Rattle.art_reading.specs.declared.end_node.InsertKind.{InsertKind}
+use Rattle.art_reading.specs.declared.end_node.InsertKind.TheVariants.{MismatchPrefix, SplitLeaf, Exact, IntoExisting}
 use Rattle.art_writing.specs.declared.insert.InsertPoint.{InsertPoint}
 use Rattle.art_running.specs.declared.run.Command.{Command}
 use Rattle.art_running.specs.declared.run.Command.TheVariants.{Insert, InsertPrefix, Delete, DeleteMin, DeleteMax, Contains, LongestMatch, Clone}
@@ -307,11 +308,11 @@ module _ {K V : Type 0} (bytes : K → List ℕ) (P : ℕ) (k : K) (v : V) {fs :
   -- at the end node of the key
   pub kind_needs : (s : Nodes K V) (used : ℕ) (kind : InsertKind) → Holds (node_at s) t →
       IsKindOf (of_key bytes) P (bytes k) t (length place) used kind → placed_for s kind ≡ needs bytes P (Insert k v) (pairs_of (plug fs t))
-  kind_needs s used (Exact p) holds (at, (pair, is, (name, same))) = same_needs pair (is ∙ ap (λ n. leaf n pair) (sym (ap name_of is))) same
-  kind_needs s used (SplitLeaf p new) holds (at, (pair, is, (name, off, shared))) = leaf_needs pair (is ∙ ap (λ n. leaf n pair) (sym (ap name_of is))) off
-  kind_needs s used (MismatchPrefix m p) holds (at, (header, cs, is, parts, short)) =
+  kind_needs s used (Exact p) holds (at, (pair, is, same)) = same_needs pair (is ∙ ap (λ n. leaf n pair) (sym (ap name_of is))) same
+  kind_needs s used (SplitLeaf p new) holds (at, (pair, is, (off, shared))) = leaf_needs pair (is ∙ ap (λ n. leaf n pair) (sym (ap name_of is))) off
+  kind_needs s used (MismatchPrefix m p) holds (at, (header, cs, is, (parts, short))) =
       prefix_needs header cs (is ∙ ap (λ n. inner n header cs) (sym (ap name_of is))) m.matched_bytes m.prefix_byte parts.matched parts.byte short
-  kind_needs s used (IntoExisting p) holds (header, cs, is, front, at, short, none) =
+  kind_needs s used (IntoExisting p) holds ((front, at, short), (header, cs, is, none)) =
       into_needs header cs (is ∙ ap (λ n. inner n header cs) (sym (ap name_of is))) used front at short none s p (ap name_of is) holds
 
 -- ---- deletion

@@ -22,8 +22,8 @@ use Rattle.art_running.specs.Needs.{needs}
 use Rattle.art_writing.specs.Points.{AnswersTo}
 use Rattle.art_running.specs.Steps.{Changes, MayRefuse, Promises, TouchesBy}
 use Rattle.art_writing.specs.declared.delete.DeletePoint.{DeletePoint}
-use Rattle.art_writing.specs.declared.insert.InsertKind.{InsertKind}
-use Rattle.art_writing.specs.declared.insert.InsertKind.TheVariants.{MismatchPrefix, SplitLeaf, Exact, IntoExisting}
+use Rattle.art_reading.specs.declared.end_node.InsertKind.{InsertKind}
+use Rattle.art_reading.specs.declared.end_node.InsertKind.TheVariants.{MismatchPrefix, SplitLeaf, Exact, IntoExisting}
 use Rattle.art_writing.specs.declared.insert.InsertPoint.{InsertPoint}
 use Rattle.art_writing.specs.declared.insert.InsertPrefixError.{InsertPrefixError}
 use Rattle.art_running.specs.declared.run.Command.{Command}

@@ -117,23 +117,33 @@ module _ {K V : Type 0} (bytes : K → List ℕ) (P : ℕ) where
   TakesNeeds old command new =
       new.present.promise ≡ promise_after (needs bytes P command (pairs_in old.tree)) old.present.promise
 
-  -- What becomes of the promise: what is placed is taken from it, and a refusal may void it, but not in a conflict. A clone
-  -- leaves its source's, and its nodes are taken from the other store's, of which a refusal leaves no more than there was.
+  -- the promise stays as it was
+  abbrev pub KeepsPromise : State K V → State K V → Type 0
+  KeepsPromise old new = new.present.promise ≡ old.present.promise
+
+  -- a clone leaves its source's promise, and takes its nodes from the other store's
+  abbrev pub CloneTakes : Option (Tree OpaqueNodePtr (K × V)) → State K V → State K V → Type 0
+  CloneTakes None old new = KeepsPromise old new
+  CloneTakes (Some tree) old new =
+      (new.other.promise ≡ old.present.promise) × (new.present.promise ≡ tree_taken tree old.other.promise)
+
+  -- a refusal may void the promise, but not in a conflict; that of a clone leaves no more of the other store's than there was
+  abbrev pub RefusalLeaves : State K V → Command K V → State K V → Type 0
+  RefusalLeaves old (Insert k v) new =
+      MatchBool (is_conflict (of_key bytes) (bytes k) (pairs_in old.tree))
+      (KeepsPromise old new)
+      (MayVoid old.present.promise new.present.promise)
+  RefusalLeaves old Clone new = IsLessened old.other.promise new.other.promise
+  RefusalLeaves old command new = MayVoid old.present.promise new.present.promise
+
+  -- what becomes of the promise: what was placed is taken from it, a refusal leaves what it may, and else it stays
   abbrev pub Promises : State K V → Command K V → Reply K V → State K V → Type 0
   Promises old command (Inserted before) new = TakesNeeds old command new
   Promises old command (Overwrote before count) new = TakesNeeds old command new
   Promises old command (Deleted (Some pair)) new = TakesNeeds old command new
-  Promises old (Insert k v) (NoMemory pair) new =
-      MatchBool (is_conflict (of_key bytes) (bytes k) (pairs_in old.tree))
-      (new.present.promise ≡ old.present.promise)
-      (MayVoid old.present.promise new.present.promise)
-  Promises old Clone Cloned new = elim old.tree [
-    | None ↦ new.present.promise ≡ old.present.promise
-    | Some tree ↦ (new.other.promise ≡ old.present.promise) × (new.present.promise ≡ tree_taken tree old.other.promise)
-  ]
-  Promises old Clone (NoMemory pair) new = IsLessened old.other.promise new.other.promise
-  Promises old command (NoMemory pair) new = MayVoid old.present.promise new.present.promise
-  Promises old command reply new = new.present.promise ≡ old.present.promise
+  Promises old Clone Cloned new = CloneTakes old.tree old new
+  Promises old command (NoMemory pair) new = RefusalLeaves old command new
+  Promises old command reply new = KeepsPromise old new
 
   module _ (IsClone : K × V → K × V → Type 0) where
     -- From one state to the next, by a command and its reply.

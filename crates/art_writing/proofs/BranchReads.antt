@@ -35,10 +35,11 @@ use Rattle.art_writing.specs.declared.insert.branch.Branch.{Branch}
 use Rattle.art_writing.specs.Branches.{IsBranch}
 use Rattle.art_writing.specs.declared.writes.Side.TheVariants.{Before, After}
 use Rattle.art_writing.specs.Writes.{IsBeside, side_of}
-use Rattle.art_writing.specs.declared.insert.InsertKind.TheVariants.{SplitLeaf, MismatchPrefix}
+use Rattle.art_reading.specs.declared.end_node.InsertKind.TheVariants.{SplitLeaf, MismatchPrefix}
 use Rattle.art_reading.specs.declared.path.ExplicitMismatch.{ExplicitMismatch}
 use Rattle.art_reading.specs.Matching.{shared_len}
-use Rattle.art_writing.specs.Points.{AnswersTo, IsKindOf, IsMismatch, IsLeafForPrefix}
+use Rattle.art_reading.specs.EndNodes.{IsKindOf, IsMismatch, IsLeafForPrefix}
+use Rattle.art_writing.specs.Points.{AnswersTo}
 use Rattle.art_writing.proofs.Branches.{end_laid, end_hole, end_depth}
 
 -- ---- the leaves beside
@@ -232,7 +233,7 @@ module _ {K V : Type 0} {bytes : K × V → List ℕ} {P : ℕ} {s : Nodes K V} 
 
       leaf_ways : AreWays place key (least_key bytes at.node) used
       leaf_ways =
-          let (start, (pair, is, (same, apart, shared))) = leaf_kind in
+          let (start, (pair, is, (apart, shared))) = leaf_kind in
           let own : bytes pair ≡ least_key bytes at.node = ap (least_key bytes) (sym is) in
           unrelated_ways place key (least_key bytes at.node) used (end_hole by at).front
           (subst (IsFront place) own (subst (IsRadix bytes P place) is (end_hole by at).radix)) (subst (λ k. are_related key k ≡ false) own apart) (shared ∙ ap (shared_len key) own)
@@ -267,21 +268,21 @@ module _ {K V : Type 0} {bytes : K × V → List ℕ} {P : ℕ} {s : Nodes K V} 
     inner_start = inner_kind.0
 
     pub inner_named : name_of at.node ≡ inner_name p
-    inner_named = let (start, (header, children, is, parts, long)) = inner_kind in ap name_of is
+    inner_named = let (start, (header, children, is, (parts, long))) = inner_kind in ap name_of is
 
     -- the node is the inner node
     pub inner_found : (header : NodeHeader) × (children : Subtrees OpaqueNodePtr (K × V)) × (at.node ≡ inner (inner_name p) header children)
-    inner_found = let (start, (header, children, is, parts, long)) = inner_kind in (header, children, is)
+    inner_found = let (start, (header, children, is, (parts, long))) = inner_kind in (header, children, is)
 
     parts : IsMismatch bytes P key at.node (depth_of at.path) mismatch
-    parts = let (start, (header, children, is, parts, long)) = inner_kind in parts
+    parts = let (start, (header, children, is, (parts, long))) = inner_kind in parts
 
     -- the least leaf below, where the prefix is longer than what is stored
     pub inner_least : IsLeafForPrefix P (prefix_of bytes (depth_of at.path) at.node) at.node mismatch.leaf_ptr
     inner_least = parts.least_leaf
 
     inner_long : depth_of at.path + mismatch.matched_bytes < length key
-    inner_long = let (start, (header, children, is, parts, long)) = inner_kind in long
+    inner_long = let (start, (header, children, is, (parts, long))) = inner_kind in long
 
     -- the keys below go on with the prefix
     pub prefix_way : IsFront (place ++ prefix_of bytes (depth_of at.path) at.node) (least_key bytes at.node)

@@ -51,7 +51,7 @@ use Rattle.art_writing.specs.Points.{AnswersTo}
 use Rattle.art_writing.specs.Writes.{HasChild}
 use Rattle.art_reading.specs.Paths.{last_step, root_with}
 use Rattle.art_writing.proofs.Left.{IsInserted}
-use Rattle.art_writing.proofs.Partings.{unrelated_after}
+use Rattle.art_reading.proofs.Partings.{unrelated_after}
 use Rattle.art_writing.proofs.Ways.{last_step-path_of, root_with-path_of, root_told}
 
 -- ---- the end of a point's path

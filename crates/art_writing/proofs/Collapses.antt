@@ -321,7 +321,8 @@ module _ {K V : Type 0} {bytes : K × V → List ℕ} {P : ℕ} {s : Nodes K V} 
       pub now_laid : IsLaidOut bytes P (node_at t) (links_at t) (root_with fs root (leaf_name n)) (pairs_before fs ++ (x ∷ []) ++ pairs_after fs) (plug fs (leaf (leaf_name n) x))
       now_laid =
           let (holds, distinct) =
-          replace (node_at s) (node_at t) fs node (leaf (leaf_name n) x) old.holds old.distinct now_parent (leaf_regrown (node_at s) (node_at t) node (leaf_name n) x (inl leaf_in) now_there) now_same in
+          replace (node_at s) (node_at t) fs node (leaf (leaf_name n) x) old.holds old.distinct now_parent
+          (leaf_regrown (node_at s) (node_at t) node (leaf_name n) x (inl leaf_in) now_there) now_same in
           record {
             named = name_of-plug fs node (leaf (leaf_name n) x) ∙ ap (λ r. root_with fs r (leaf_name n)) old.named;
             radix = plug_radix bytes P fs hole.0 (leaf (leaf_name n) x) hole.1 leaf_radix;

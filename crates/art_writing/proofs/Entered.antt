@@ -40,19 +40,19 @@ use Rattle.art_model.proofs.Slots.{length-slots_of}
 use Rattle.art_model.proofs.Stores.{IsParent, path_holds, hole_distinct, parent_apart}
 use Rattle.art_model.proofs.TreeLaws.{have_two_children, one_child}
 use Rattle.art_model.proofs.Writes.{inner_at, inner_name_one, parent_ready}
-use Rattle.art_writing.specs.declared.insert.InsertKind.TheVariants.{IntoExisting}
+use Rattle.art_reading.specs.declared.end_node.InsertKind.TheVariants.{IntoExisting}
 use Rattle.art_writing.specs.declared.insert.InsertParentNodeChange.TheVariants.{NewParent}
 use Rattle.art_writing.specs.declared.insert.InsertPoint.{InsertPoint}
 use Rattle.art_writing.specs.declared.insert.InsertResult.{InsertResult}
 use Rattle.art_reading.specs.declared.path.TreePath.{TreePath}
 use Rattle.art_writing.specs.Inserted.{HasInserted, IsChange, IsPointIn, Touches, alone, is_full}
-use Rattle.art_writing.specs.Points.{IsKindOf}
+use Rattle.art_reading.specs.EndNodes.{IsKindOf}
 use Rattle.art_reading.specs.Paths.{last_step, path_of, root_with}
 use Rattle.art_writing.specs.Writes.{HasChild, HasGap}
 use Rattle.art_writing.proofs.Left.{IsInserted}
 use Rattle.art_writing.proofs.Answered.{placed_end}
 use Rattle.art_writing.proofs.Standing.{answers_to}
-use Rattle.art_writing.proofs.Partings.{unrelated_after}
+use Rattle.art_reading.proofs.Partings.{unrelated_after}
 use Rattle.art_writing.proofs.Ways.{last_step-path_of, root_with-path_of, root_told}
 
 -- ---- the point's node
@@ -77,7 +77,7 @@ module _ {K V : Type 0} {bytes : K × V → List ℕ} {P : ℕ} {s : Nodes K V} 
       let a = placed_end by answers_at.is_end in
       let fs = answers_at.path in
       let node = answers_at.node in
-      let (header, children, is, front, used, long, none) = subst (IsKindOf bytes P key node (depth_of fs) point.key_bytes_used) into answers_at.kind_is in
+      let ((front, used, long), (header, children, is, none)) = subst (IsKindOf bytes P key node (depth_of fs) point.key_bytes_used) into answers_at.kind_is in
       let own = subst (IsRadix bytes P a.place) is a.hole.radix in
       let split = split_at children b own.3 (ap (child_at (slots_of children)) byte ∙ none) in
       let here : node ≡ inner (inner_name p) header (join split.left split.right) = is ∙ ap (inner (inner_name p) header) split.whole in

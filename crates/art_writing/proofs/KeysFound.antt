@@ -27,7 +27,7 @@ use Rattle.art_model.proofs.Views.{leaf_there}
 use Rattle.art_writing.specs.Deleted.{LeadsTo, IsDeletePoint}
 use Rattle.art_writing.specs.Inserted.{alone}
 use Rattle.art_writing.specs.declared.delete.DeletePoint.{DeletePoint}
-use Rattle.art_writing.proofs.Partings.{no_conflict}
+use Rattle.art_reading.proofs.Partings.{no_conflict}
 
 nothing_and : (b : Bool) → (b && false) ≡ false
 nothing_and true = refl

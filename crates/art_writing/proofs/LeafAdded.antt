@@ -30,7 +30,7 @@ use Rattle.art_model.proofs.Paths.{leaf_names-plug, leaf_names_below-join}
 use Rattle.art_model.proofs.OutOf.{larger_inner}
 use Rattle.art_model.proofs.Placed.{LeafPlaced}
 use Rattle.art_model.proofs.Slots.{IsInRange, range_of_kind}
-use Rattle.art_writing.specs.declared.insert.InsertKind.TheVariants.{IntoExisting}
+use Rattle.art_reading.specs.declared.end_node.InsertKind.TheVariants.{IntoExisting}
 use Rattle.art_writing.specs.declared.insert.InsertParentNodeChange.TheVariants.{NewParent}
 use Rattle.art_writing.specs.declared.insert.InsertPoint.{InsertPoint}
 use Rattle.art_writing.specs.declared.insert.InsertResult.{InsertResult}

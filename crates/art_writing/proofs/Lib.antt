@@ -3,11 +3,8 @@ pub mod Freed
 pub mod FreedTrees
 pub mod OneTree
 pub mod LeafWrites
-pub mod Partings
 pub mod KeysFound
 pub mod OneLeaf
-pub mod Spots
-pub mod Prefixes
 pub mod Deletions
 pub mod Below
 pub mod Compressions
@@ -26,6 +23,7 @@ pub mod Applied
 pub mod Answered
 pub mod Replaced
 pub mod Overwrites
+pub mod Points
 pub mod RelatedPairs
 pub mod Collapses
 pub mod Subtrees

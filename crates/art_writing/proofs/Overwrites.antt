@@ -45,7 +45,7 @@ use Rattle.art_writing.specs.declared.insert.InsertParentNodeChange.TheVariants.
 use Rattle.art_writing.specs.declared.insert.OverwritePoint.{OverwritePoint}
 use Rattle.art_writing.specs.Inserted.{alone}
 use Rattle.art_writing.specs.Overwritten.{IsOverwritePointIn, TouchesForNode, placed_for_overwrite}
-use Rattle.art_writing.specs.Points.{IsOverwrittenWith}
+use Rattle.art_reading.specs.EndNodes.{IsOverwrittenWith}
 use Rattle.art_reading.specs.Paths.{last_step, path_of, root_with}
 use Rattle.art_writing.specs.declared.writes.Side.TheVariants.{Before, After}
 use Rattle.art_writing.specs.Writes.{HasChild, IsBeside}

@@ -18,11 +18,11 @@ use Rattle.art_model.specs.Writes.{parent_of}
 use Rattle.art_model.proofs.Canonical.{IsLaidOut, laid_out, canonical_from}
 use Rattle.art_model.proofs.IntoLeaf.{IntoLeaf, leaf_inserted, leaf_insertion_kept, leaf_reply, leaf_stored_for, leaf_touches}
 use Rattle.art_model.proofs.Paths.{IsHole}
-use Rattle.art_writing.specs.declared.insert.InsertKind.TheVariants.{Exact}
+use Rattle.art_reading.specs.declared.end_node.InsertKind.TheVariants.{Exact}
 use Rattle.art_writing.specs.declared.insert.InsertParentNodeChange.TheVariants.{NoChange}
 use Rattle.art_writing.specs.declared.insert.InsertPoint.{InsertPoint}
 use Rattle.art_writing.specs.Inserted.{HasInserted, IsChange, IsPointIn, Touches, alone}
-use Rattle.art_writing.specs.Points.{IsKindOf}
+use Rattle.art_reading.specs.EndNodes.{IsKindOf}
 use Rattle.art_writing.proofs.Left.{IsInserted}
 use Rattle.art_writing.proofs.Answered.{IsEndLeaf, end_leaf}
 use Rattle.art_writing.proofs.Standing.{answers_to}
@@ -37,7 +37,7 @@ module _ {K V : Type 0} {bytes : K × V → List ℕ} {P : ℕ} {s : Nodes K V} 
   pub own_leaf : {key : List ℕ} → IsPointIn bytes P s key point → point.insert_kind ≡ Exact p → IsCanonicalTree bytes P s point.root pairs layout → IsOwnLeaf bytes P s p layout key
   own_leaf {key} answers exact by =
       let answers_at = answers_to answers by in
-      let (used, (pair, is, (same, equal))) = subst (IsKindOf bytes P key answers_at.node _ _) exact answers_at.kind_is in
+      let (used, (pair, is, equal)) = subst (IsKindOf bytes P key answers_at.node _ _) exact answers_at.kind_is in
       let (at, own) = end_leaf by answers_at.is_end is in
       record { at = at; same = ap bytes own ∙ equal }
 

@@ -29,8 +29,8 @@ use Rattle.art_model.proofs.Inserted.{BranchInserted}
 use Rattle.art_model.proofs.Places.{prefix_is}
 use Rattle.art_model.proofs.Stores.{IsParent, path_holds, parent_apart}
 use Rattle.art_model.proofs.Touches.{Touched, touched_none}
-use Rattle.art_writing.specs.declared.insert.InsertKind.{InsertKind}
-use Rattle.art_writing.specs.declared.insert.InsertKind.TheVariants.{SplitLeaf, MismatchPrefix}
+use Rattle.art_reading.specs.declared.end_node.InsertKind.{InsertKind}
+use Rattle.art_reading.specs.declared.end_node.InsertKind.TheVariants.{SplitLeaf, MismatchPrefix}
 use Rattle.art_writing.specs.declared.insert.InsertParentNodeChange.{InsertParentNodeChange}
 use Rattle.art_writing.specs.declared.insert.InsertParentNodeChange.TheVariants.{NewParent}
 use Rattle.art_writing.specs.declared.insert.InsertPoint.{InsertPoint}

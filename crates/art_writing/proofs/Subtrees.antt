@@ -104,7 +104,8 @@ module _ {N A : Type 0} (bytes : A → List ℕ) (P : ℕ) where
     whole_key_below : (cs : Subtrees N A) (front : List ℕ) (d : ℕ) → AreRadix bytes P front cs → Each (HasKey (pairs_below cs)) (inner_nodes_below bytes d cs)
     whole_key_below no_child front d h = tt
     whole_key_below (child b t cs) front d h = Each-append (HasKey (pairs_of t ++ pairs_below cs)) (inner_nodes bytes d t) (inner_nodes_below bytes d cs)
-        (Each-weaker (HasKey (pairs_of t)) (HasKey (pairs_of t ++ pairs_below cs)) (λ e k. (k.0, in_left k.0 (pairs_of t) (pairs_below cs) k.1, k.2)) (inner_nodes bytes d t) (whole_key t (front ++ b ∷ []) d h.0))
+        (Each-weaker (HasKey (pairs_of t)) (HasKey (pairs_of t ++ pairs_below cs))
+        (λ e k. (k.0, in_left k.0 (pairs_of t) (pairs_below cs) k.1, k.2)) (inner_nodes bytes d t) (whole_key t (front ++ b ∷ []) d h.0))
         (Each-weaker (HasKey (pairs_below cs)) (HasKey (pairs_of t ++ pairs_below cs))
         (λ e k. (k.0, in_right k.0 (pairs_of t) (pairs_below cs) k.1, k.2)) (inner_nodes_below bytes d cs) (whole_key_below cs front d h.1))
 
@@ -149,7 +150,8 @@ module _ {K V : Type 0} {bytes : K × V → List ℕ} (P : ℕ) {s u v : Nodes K
   inner_in e i = elim (in_either e (nodes_before bytes P fs place path ++ inner_nodes bytes (length place) node) (nodes_after bytes P fs place path)
       (subst (IsIn e) (inner_nodes-plug bytes P fs place node path radix) i)) [
         | inl j ↦ elim (in_either e (nodes_before bytes P fs place path) (inner_nodes bytes (length place) node) j) [
-          | inl h ↦ inl (subst (IsIn e) (sym mid_nodes) (in_left e (nodes_before bytes P fs place path ++ []) (nodes_after bytes P fs place path) (in_left e (nodes_before bytes P fs place path) [] h)))
+          | inl h ↦ inl (subst (IsIn e) (sym mid_nodes)
+              (in_left e (nodes_before bytes P fs place path ++ []) (nodes_after bytes P fs place path) (in_left e (nodes_before bytes P fs place path) [] h)))
           | inr h ↦ inr (each_in (λ (z : Entry OpaqueNodePtr). IsFront place z.1) e (inner_nodes bytes (length place) node) (whole_way bytes P node place radix) h)
         ]
         | inr j ↦ inl (subst (IsIn e) (sym mid_nodes) (in_right e (nodes_before bytes P fs place path ++ []) (nodes_after bytes P fs place path) j))
@@ -159,7 +161,8 @@ module _ {K V : Type 0} {bytes : K × V → List ℕ} (P : ℕ) {s u v : Nodes K
       mid_nodes = inner_nodes-plug bytes P fs place (leaf n x) path (each_in (λ y. IsFront place (bytes y)) x (pairs_of node) (radix_way bytes P node place radix) among)
 
   -- and none that is left is below the node
-  none_below : (new : Option (Tree OpaqueNodePtr (K × V))) → IsRootOf bytes P v root (pairs_before fs ++ pairs_after fs) new → (e : Entry OpaqueNodePtr) → IsIn e (inners_in bytes new) → IsFront place e.1 → ⊥
+  none_below : (new : Option (Tree OpaqueNodePtr (K × V))) → IsRootOf bytes P v root (pairs_before fs ++ pairs_after fs) new →
+      (e : Entry OpaqueNodePtr) → IsIn e (inners_in bytes new) → IsFront place e.1 → ⊥
   none_below None is e i front = i
   none_below (Some tree) is e i front = go root is
     where
@@ -388,7 +391,8 @@ module _ {K V : Type 0} {bytes : K × V → List ℕ} {P : ℕ} {s : Nodes K V} 
       pub rest_there : IsLayout (node_at w) point.node rest
       rest_there = subst (λ z. IsLayout (node_at w) z rest) (ap name_of first.whole ∙ at.named) (collapses.rest_layout at.path first.above among_all w next leaves inners_are)
 
-      module _ {t : Nodes K V} {new : OpaqueNodePtr} {others : ℕ} (freed : Frees (names_of rest) w t) (root_is : new ≡ root_with at.path root (leaf_name n)) (count : others ≡ length (leaf_names rest)) where
+      module _ {t : Nodes K V} {new : OpaqueNodePtr} {others : ℕ} (freed : Frees (names_of rest) w t)
+          (root_is : new ≡ root_with at.path root (leaf_name n)) (count : others ≡ length (leaf_names rest)) where
         name_first : first_of (leaf_names own_node) ≡ Some (leaf_name n)
         name_first = ap (λ z. first_of (leaf_names z)) first.whole ∙ first.name_is
 
@@ -458,7 +462,8 @@ module _ {K V : Type 0} {bytes : K × V → List ℕ} {P : ℕ} {s u : Nodes K V
     others_kept kept after new is =
         let (place, path, radix) = hole by at in
         subst (λ z. ChangesInPlace bytes s v (Some z) new) at.whole
-        (both_in_place P at.path place at.node (leaf_name left.leaf) c.first path radix among new_root new (subst (λ ps. IsRootOf bytes P v new_root ps new) (same_after new_root new after is others_left) is)
+        (both_in_place P at.path place at.node (leaf_name left.leaf) c.first path radix among new_root new
+        (subst (λ ps. IsRootOf bytes P v new_root ps new) (same_after new_root new after is others_left) is)
         c.kept (kept _ _ c.canonical after new is) c.fewer c.stays_or_goes)
       where
         same_after : (r : Option OpaqueNodePtr) (new : Option (Tree OpaqueNodePtr (K × V))) (after : List (K × V)) → IsRootOf bytes P v r after new →
@@ -520,12 +525,14 @@ promise_left s r o placed reserved ok is kept granted = subst (λ p. promise_aft
 
     go : (t : Bool) → covers s.promise 0 o ≡ t → promise_after (record { leaves = 0; inner = o }) r.promise ≡ promise_after (record { leaves = 0; inner = o }) s.promise
     go true e = ap (λ (z : Nodes _ _). promise_after (record { leaves = 0; inner = o }) z.promise) (kept e)
-    go false e = ap (promise_after (record { leaves = 0; inner = o })) (not_refused reserved ok (granted e)) ∙ all_taken o ∙ sym (subst (λ t. cond t (inner_taken o s.promise) no_promise ≡ no_promise) (sym e) refl)
+    go false e = ap (promise_after (record { leaves = 0; inner = o })) (not_refused reserved ok (granted e)) ∙ all_taken o ∙
+        sym (subst (λ t. cond t (inner_taken o s.promise) no_promise ≡ no_promise) (sym e) refl)
 
 -- ---- how many leaves there are
 
 -- one more than those that went is no more than were there
-pub count_fits : {K V : Type 0} (t : Nodes K V) (n : LeafPtr) (y : LeafNode K V) (others all : ℕ) → map.get t.leaves n ≡ Some y → others + map.len t.leaves ≡ all → (0 < others → all < 2 ^ 64) → others + 1 < 2 ^ 64
+pub count_fits : {K V : Type 0} (t : Nodes K V) (n : LeafPtr) (y : LeafNode K V) (others all : ℕ) → map.get t.leaves n ≡ Some y →
+    others + map.len t.leaves ≡ all → (0 < others → all < 2 ^ 64) → others + 1 < 2 ^ 64
 count_fits {K} {V} t n y others all here total few = go others refl
   where
     some : map.len t.leaves ≢ 0

@@ -19,13 +19,15 @@ use Rattle.art_model.specs.Stores.{node_at, pair_of}
 use Rattle.art_model.specs.Trees.{Tree}
 use Rattle.art_model.proofs.Stores.{path_holds}
 use Rattle.art_model.proofs.Writes.{inner_at}
-use Rattle.art_writing.specs.declared.insert.InsertKind.TheVariants.{MismatchPrefix}
+use Rattle.art_reading.specs.declared.end_node.InsertKind.TheVariants.{MismatchPrefix}
 use Rattle.art_writing.specs.declared.insert.InsertPoint.{InsertPoint}
 use Rattle.art_reading.specs.declared.path.ExplicitMismatch.{ExplicitMismatch}
-use Rattle.art_writing.specs.Points.{AnswersTo, IsPart, IsLeafForPrefix}
+use Rattle.art_reading.specs.EndNodes.{IsLeafForPrefix}
+use Rattle.art_reading.specs.Parts.{IsPlaced}
+use Rattle.art_writing.specs.Points.{AnswersTo}
 use Rattle.art_writing.proofs.Branches.{end_laid, end_hole, end_depth}
 use Rattle.art_writing.proofs.BranchReads.{end_full, inner_found, inner_named, inner_start, inner_least, prefix_inside}
-use Rattle.art_writing.proofs.Prefixes as prefixes
+use Rattle.art_reading.proofs.Prefixes as prefixes
 
 module _ {K V : Type 0} {bytes : K × V → List ℕ} {P : ℕ} {s : Nodes K V} {key : List ℕ} {point : InsertPoint} {pairs : List (K × V)}
     {layout : Tree OpaqueNodePtr (K × V)} (by : IsCanonicalTree bytes P s point.root pairs layout) (at : AnswersTo bytes P layout key point) {p : InnerPtr}
@@ -33,7 +35,7 @@ module _ {K V : Type 0} {bytes : K × V → List ℕ} {P : ℕ} {s : Nodes K V} 
   abbrev prefix : List ℕ
   prefix = prefix_of bytes (depth_of at.path) at.node
 
-  part : IsPart bytes P s (inner_name p) (depth_of at.path) at.node
+  part : IsPlaced bytes P s (inner_name p) (depth_of at.path) at.node
   part = record { place = take (depth_of at.path) key; depth_is = sym (end_depth by at); radix = (end_hole by at).radix; layout = (end_full by at (inner_named by at kind)).0 }
 
   proper : p.kind ≢ Leaf

@@ -19,9 +19,10 @@ use Rattle.art_model.proofs.PlaceLaws.{places_at, own_place}
 use Rattle.art_model.proofs.Places.{place_is, deeper}
 use Rattle.art_model.proofs.Rebuild.{radix_way}
 use Rattle.art_writing.specs.Inserted.{placed_for}
-use Rattle.art_writing.specs.Points.{AnswersTo, IsKindOf}
-use Rattle.art_writing.specs.declared.insert.InsertKind.{InsertKind}
-use Rattle.art_writing.specs.declared.insert.InsertKind.TheVariants.{MismatchPrefix, SplitLeaf, Exact, IntoExisting}
+use Rattle.art_reading.specs.EndNodes.{IsKindOf}
+use Rattle.art_writing.specs.Points.{AnswersTo}
+use Rattle.art_reading.specs.declared.end_node.InsertKind.{InsertKind}
+use Rattle.art_reading.specs.declared.end_node.InsertKind.TheVariants.{MismatchPrefix, SplitLeaf, Exact, IntoExisting}
 use Rattle.art_writing.specs.declared.insert.InsertPoint.{InsertPoint}
 use Rattle.art_writing.proofs.Branches.{end_laid, end_hole, end_depth}
 use Rattle.art_model.proofs.Puts.{any_is_first}
@@ -76,8 +77,8 @@ module _ {K V : Type 0} {bytes : K × V → List ℕ} {P : ℕ} {s : Nodes K V} 
     where
       go : (used : ℕ) (kind : InsertKind) → IsKindOf bytes P key at.node (depth_of at.path) used kind → (is_covered (placed_for s kind) s.promise ≡ true → ⊥) → has_key bytes key pairs ≡ false
       go used (Exact p) h off = absurd (off (leb-zero s.promise.leaves))
-      go used (SplitLeaf p n) (e, (pair, is, (name, apart, shared))) off =
+      go used (SplitLeaf p n) (e, (pair, is, (apart, shared))) off =
           let other = same_related key (bytes pair) apart in
           not_stored (ap (λ t. with_key bytes key (pairs_of t)) is ∙ rw other refl)
-      go used (IntoExisting p) (header, cs, is, front, at_end, short, free) off = ends_at_inner _ header cs is
-      go used (MismatchPrefix m p) (e, (header, cs, is, part, short)) off = ends_at_inner _ header cs is
+      go used (IntoExisting p) (goes_on, (header, cs, is, free)) off = ends_at_inner _ header cs is
+      go used (MismatchPrefix m p) (e, (header, cs, is, (part, short))) off = ends_at_inner _ header cs is

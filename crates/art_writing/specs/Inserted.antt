@@ -13,8 +13,8 @@ use Rattle.art_model.specs.Footprints.{TouchesAtMost}
 use Rattle.art_model.specs.Paths.{Frame, plug}
 use Rattle.art_model.specs.Trees.{Tree, leaf}
 use Rattle.art_model.specs.Writes.{parent_of}
-use Rattle.art_writing.specs.declared.insert.InsertKind.{InsertKind}
-use Rattle.art_writing.specs.declared.insert.InsertKind.TheVariants.{MismatchPrefix, SplitLeaf, Exact, IntoExisting}
+use Rattle.art_reading.specs.declared.end_node.InsertKind.{InsertKind}
+use Rattle.art_reading.specs.declared.end_node.InsertKind.TheVariants.{MismatchPrefix, SplitLeaf, Exact, IntoExisting}
 use Rattle.art_writing.specs.declared.insert.InsertParentNodeChange.{InsertParentNodeChange}
 use Rattle.art_writing.specs.declared.insert.InsertParentNodeChange.TheVariants.{NewParent, NoChange}
 use Rattle.art_writing.specs.declared.insert.InsertPoint.{InsertPoint}

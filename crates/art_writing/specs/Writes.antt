@@ -63,11 +63,19 @@ pub record HasGap {K V : Type 0} (s : Nodes K V) (name : InnerPtr) (byte : ℕ)
   pub low : Each (λ c. c < byte) (bytes_of left)
   pub high : Each (λ c. byte < c) (bytes_of right)
 
--- a new leaf that comes between these children has these leaves beside it: it is right before the first leaf on the right, or right after the last one on the left
+-- the first of these children is such a tree
+abbrev pub HasFirstChild : {N A : Type 0} → Subtrees N A → (Tree N A → Type 0) → Type 0
+HasFirstChild {N} {A} children IsSuch =
+    (b : ℕ) × (t : Tree N A) × (others : Subtrees N A) × (children ≡ child b t others) × IsSuch t
+
+-- the last of these children is such a tree
+abbrev pub HasLastChild : {N A : Type 0} → Subtrees N A → (Tree N A → Type 0) → Type 0
+HasLastChild {N} {A} children IsSuch =
+    (others : Subtrees N A) × (b : ℕ) × (t : Tree N A) × (children ≡ join others (child b t no_child)) × IsSuch t
+
+-- a new leaf between these children has these leaves beside it: it comes right before all on the right, or right after all on the left
 abbrev pub ComesBetween : {K V : Type 0} → Nodes K V → Subtrees OpaqueNodePtr (K × V) →
     Subtrees OpaqueNodePtr (K × V) → Option LeafPtr → Option LeafPtr → Type 0
-ComesBetween {K} {V} s left right previous next =
-    ((b : ℕ) × (t : Tree OpaqueNodePtr (K × V)) × (others : Subtrees OpaqueNodePtr (K × V)) ×
-    (right ≡ child b t others) × IsBeside s t Before previous next) ⊎
-    ((others : Subtrees OpaqueNodePtr (K × V)) × (b : ℕ) × (t : Tree OpaqueNodePtr (K × V)) ×
-    (left ≡ join others (child b t no_child)) × IsBeside s t After previous next)
+ComesBetween s left right previous next =
+    HasFirstChild right (λ t. IsBeside s t Before previous next) ⊎
+    HasLastChild left (λ t. IsBeside s t After previous next)

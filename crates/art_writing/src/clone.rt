@@ -3,13 +3,12 @@ ghost use Rattle.std.specs.Prelude.{◌≡◌, ◌≢◌, List, [], Some, None, 
 ghost use Rattle.std.specs.FinMap as map;
 ghost use Rattle.std.specs.Option.{option_map, option_or};
 ghost use Rattle.art_inner.specs.Changes.{with_child};
-ghost use Rattle.art_parts.specs.Clones.{IsLeafClone, IsPairClone};
+ghost use Rattle.art_parts.specs.Clones.{IsPairClone};
 ghost use Rattle.art_inner.specs.Inner.{HasPlace, childless};
 ghost use Rattle.art_inner.specs.Views.{ref_kind, ref_view};
 ghost use Rattle.art_parts.specs.Kinds.{kind_capacity};
 ghost use Rattle.art_parts.specs.Names.{inner_name, leaf_name};
-ghost use Rattle.art_nodes.specs.Nodes.{change, take_inner, take_leaf};
-ghost use Rattle.art_parts.specs.declared.leaf.LeafNode.{LeafNode};
+ghost use Rattle.art_nodes.specs.Nodes.{change, take_inner};
 ghost use Rattle.art_parts.specs.declared.names.NodeType.TheVariants.{Leaf};
 ghost use Rattle.art_parts.specs.declared.names.OpaqueNodePtr.{OpaqueNodePtr};
 ghost use Rattle.art_model.specs.Apart.{KeepsApart};

@@ -2,7 +2,6 @@
 //! another child.
 ghost use Rattle.std.specs.Prelude.{◌≡◌, ◌<◌, None, IsSome, IsSomeAnd};
 ghost use Rattle.std.specs.FinMap as map;
-ghost use Rattle.art_inner.specs.Inner.{child_at};
 ghost use Rattle.art_nodes.specs.Nodes.{take_leaf};
 ghost use Rattle.art_model.specs.Writes.{change_some, joined, with_child_at, with_leaf, without_leaf, IsThere};
 ghost use Rattle.art_parts.specs.declared.names.OpaqueNodePtr.{OpaqueNodePtr};

@@ -1,5 +1,5 @@
 //! All leaves below a node go at once: those whose keys begin with a prefix.
-ghost use Rattle.std.specs.Prelude.{◌≡◌, ◌≢◌, ◌++◌, length, IsOk, IsTrue, IfOk, IfErr, IfSome, OnOk, OnErr, None, Some};
+ghost use Rattle.std.specs.Prelude.{◌≡◌, ◌≢◌, length, IsOk, IsTrue, IfOk, IfErr, IfSome, OnOk, OnErr, None, Some};
 ghost use Rattle.art_nodes.specs.Nodes.{no_promise};
 ghost use Rattle.art_parts.specs.declared.names.NodeType.TheVariants.{Leaf};
 ghost use Rattle.art_model.specs.Apart.{KeepsApart};

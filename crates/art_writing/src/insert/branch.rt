@@ -15,7 +15,7 @@ ghost use Rattle.art_writing.specs.Branches.{ForEnd, IsBranch, IsBranchPlaced};
 ghost use Rattle.art_writing.specs.Inserted.{IsPointIn};
 ghost use Rattle.art_writing.specs.Writes.{HasChild, IsBeside, side_of};
 ghost use Rattle.art_reading.specs.Paths.{last_step};
-ghost use Rattle.art_writing.specs.declared.insert.InsertKind.TheVariants as kinds;
+ghost use Rattle.art_reading.specs.declared.end_node.InsertKind.TheVariants as kinds;
 
 use super::{InsertParentNodeChange, InsertPoint, InsertResult, Refused};
 use crate::writes::{Side, links_beside, place_between, replace_at};

@@ -3,7 +3,7 @@ ghost use Rattle.std.specs.Prelude.{◌≡◌, get_or};
 ghost use Rattle.art_model.specs.Pairs.{of_key};
 ghost use Rattle.art_writing.specs.Applied.{IsApplied};
 ghost use Rattle.art_writing.specs.Inserted.{IsPointIn, placed_for};
-ghost use Rattle.art_writing.specs.declared.insert.InsertKind.TheVariants as kinds;
+ghost use Rattle.art_reading.specs.declared.end_node.InsertKind.TheVariants as kinds;
 
 use super::{InsertParentNodeChange, InsertPoint, InsertResult, Refused};
 use crate::writes::{Side, links_beside, place_between, replace_at};

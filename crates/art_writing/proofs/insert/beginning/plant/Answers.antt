@@ -16,7 +16,8 @@ returns-in-Ok-clause-root g c =
 
 pub returns-in-Ok-clause-apart : goal.returns-in-Ok-clause-apart
 returns-in-Ok-clause-apart g c =
-    planted_apart g.K.AsBytes.bytes g.row.PREFIX_LEN (placed_alone c.args.store.now c.in-Ok.ensures.fresh c.in-Ok.ensures.placed c.in-Ok.ensures.inners c.in-Ok.ensures.promise c.with_no_siblings.ensures)
+    planted_apart g.K.AsBytes.bytes g.row.PREFIX_LEN
+    (placed_alone c.args.store.now c.in-Ok.ensures.fresh c.in-Ok.ensures.placed c.in-Ok.ensures.inners c.in-Ok.ensures.promise c.with_no_siblings.ensures)
 
 pub returns-in-Ok-clause-planted : goal.returns-in-Ok-clause-planted
 returns-in-Ok-clause-planted g c = placed_alone c.args.store.now c.in-Ok.ensures.fresh c.in-Ok.ensures.placed c.in-Ok.ensures.inners c.in-Ok.ensures.promise c.with_no_siblings.ensures

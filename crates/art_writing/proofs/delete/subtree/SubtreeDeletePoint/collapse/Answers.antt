@@ -50,8 +50,13 @@ free_nodes-others-requires g c =
     let next = c.links_beside-next.result in
     let n = c.walk_to_end-path.result.1 in
     let leaves = c.replace_at-new_root.ensures.leaves ∙ c.link.ensures.leaves ∙ ap (λ m. joined m (Some n) next.1 next.1 (Some n)) c.remove_child.ensures.leaves in
-    let inners = c.replace_at-new_root.ensures.inners ∙ ap (with_child_at (last_step c.args.self.path) c.to_opaque.result) (c.link.ensures.inners ∙ c.remove_child.ensures.inners) in
-    (search rules, (shape_of (rest by at first), all_can (rest_there by at first c.replace_at-new_root.new.store next.0 next.1 (c.links_beside-next.ensures at.node full) leaves inners c.to_opaque.ensures)))
+    let inners = c.replace_at-new_root.ensures.inners ∙ ap (with_child_at (last_step c.args.self.path) c.to_opaque.result) (c.link.ensures.inners ∙ c.remove_child.ensures.inners) in (
+      search rules,
+      (
+        shape_of (rest by at first),
+        all_can (rest_there by at first c.replace_at-new_root.new.store next.0 next.1 (c.links_beside-next.ensures at.node full) leaves inners c.to_opaque.ensures),
+      ),
+    )
 
 pub overflow_add-result : goal.overflow_add-result
 overflow_add-result g c =

@@ -15,7 +15,8 @@ unreachable-requires g c =
     let (pairs, layout, by, at) = c.requires.answers in
     let same = same_placed by at (c.collapse-left.ensures.collapsed pairs layout by at) in
     let u = c.collapse-left.new.store in
-    let covered : IsTrue (is_covered (placed_for_deletion u c.args.self.path) u.promise) = subst (λ promise. IsTrue (is_covered (placed_for_deletion u c.args.self.path) promise)) (sym c.collapse-left.ensures.promise)
+    let covered : IsTrue (is_covered (placed_for_deletion u c.args.self.path) u.promise) =
+    subst (λ promise. IsTrue (is_covered (placed_for_deletion u c.args.self.path) promise)) (sym c.collapse-left.ensures.promise)
     (subst (λ placed. IsTrue (is_covered placed c.args.store.now.promise)) (sym same) c.requires.promised) in
     absurd (false≢true (c.in_default.ensures.succeeds covered))
 

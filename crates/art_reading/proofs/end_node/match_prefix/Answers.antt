@@ -1,8 +1,8 @@
 use Rattle.std.proofs.Common.{sym, refl}
 use Rattle.std.proofs.lemmas.Bool.{ltb-false}
 use Rattle.std.proofs.lemmas.Option.{slice_get_read}
-use Rattle.art_writing.proofs.Partings.{all_shared}
-use Rattle.art_writing.proofs.insert.match_prefix.Goals as goal
+use Rattle.art_reading.proofs.Partings.{all_shared}
+use Rattle.art_reading.proofs.end_node.match_prefix.Goals as goal
 
 pub returns-in-None-clause-len : goal.returns-in-None-clause-len
 returns-in-None-clause-len c =

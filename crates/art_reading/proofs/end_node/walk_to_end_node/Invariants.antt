@@ -1,8 +1,8 @@
 use Rattle.std.proofs.Common.{◌-◌, length}
 use Rattle.art_model.specs.Pairs.{of_key}
 use Rattle.art_model.specs.Roots.{ForTree}
-use Rattle.art_writing.specs.Points.{IsAt}
-use Rattle.art_writing.proofs.insert.search_for_prefix_insert_point.Given as goal
+use Rattle.art_reading.specs.EndNodes.{IsAt}
+use Rattle.art_reading.proofs.end_node.walk_to_end_node.Given as goal
 
 abbrev pub invariant-down : goal.invariant-down
 invariant-down g l = ForTree (of_key g.K.AsBytes.bytes) g.row.PREFIX_LEN l.store l.fn.root (λ pairs layout. IsAt (of_key g.K.AsBytes.bytes) g.row.PREFIX_LEN l.key_bytes layout l.spot)

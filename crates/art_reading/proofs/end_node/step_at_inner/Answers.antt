@@ -1,6 +1,6 @@
 use Rattle.std.proofs.Common.{arith}
-use Rattle.art_writing.proofs.Spots.{prefix_fits, mismatch_fits, inner_there, shown_there, prefix_step, mismatch_step}
-use Rattle.art_writing.proofs.insert.step_at_inner.Goals as goal
+use Rattle.art_reading.proofs.EndNodes.{prefix_fits, mismatch_fits, inner_there, shown_there, prefix_step, mismatch_step}
+use Rattle.art_reading.proofs.end_node.step_at_inner.Goals as goal
 
 pub unreachable-requires : goal.unreachable-requires
 unreachable-requires g c =
@@ -23,4 +23,4 @@ pub returns-in-Err : goal.returns-in-Err
 returns-in-Err g c pairs layout by =
     let d = c.requires.spot pairs layout by in
     mismatch_step by d (shown_there by d c.requires.inner c.requires.name c.in-Some.ensures.view) (c.in-Err.ensures c.args.root pairs layout by d)
-    c.point_in_prefix.ensures.ends c.point_in_prefix.ensures.parts
+    c.end_in_prefix.ensures.ends c.end_in_prefix.ensures.parts

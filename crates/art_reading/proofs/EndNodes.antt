@@ -34,20 +34,20 @@ use Rattle.art_model.proofs.OnWay.{AreAside, aside_others, aside_off, aside_end,
 use Rattle.art_model.proofs.Shown.{IsShown, IsThere, leaf_shown, leaf_met, inner_met, shown_met}
 use Rattle.art_model.proofs.Stores.{path_holds}
 use Rattle.art_model.specs.Roots.{ForTree, IsCanonicalRoot}
-use Rattle.art_writing.specs.declared.insert.Spot.{Spot}
-use Rattle.art_writing.specs.declared.insert.SearchStep.{SearchStep}
-use Rattle.art_writing.specs.declared.insert.SearchStep.TheVariants.{Down}
-use Rattle.art_writing.specs.declared.insert.InsertKind.{InsertKind}
-use Rattle.art_writing.specs.declared.insert.InsertKind.TheVariants.{MismatchPrefix, SplitLeaf, Exact, IntoExisting}
+use Rattle.art_reading.specs.declared.end_node.Spot.{Spot}
+use Rattle.art_reading.specs.declared.end_node.SearchStep.{SearchStep}
+use Rattle.art_reading.specs.declared.end_node.SearchStep.TheVariants.{Down}
+use Rattle.art_reading.specs.declared.end_node.InsertKind.{InsertKind}
+use Rattle.art_reading.specs.declared.end_node.InsertKind.TheVariants.{MismatchPrefix, SplitLeaf, Exact, IntoExisting}
 use Rattle.art_reading.specs.declared.path.ExplicitMismatch.{ExplicitMismatch}
 use Rattle.art_reading.specs.declared.path.PrefixMatch.{PrefixMatch}
 use Rattle.art_reading.specs.declared.path.TreePath.{TreePath}
 use Rattle.art_reading.specs.declared.path.TreePath.TheVariants.{Root}
 use Rattle.art_reading.specs.Matching.{shared_len}
-use Rattle.art_writing.specs.Points.{IsAt, AnswersTo, AnswersToOverwrite, IsOverwrittenWith, IsPointFor, IsKindFor, IsKindAtLeaf, IsKindOf, IsCompared, IsMismatch, IsPart, IsStepFrom, used_in_prefix, inserting, overwriting}
+use Rattle.art_reading.specs.EndNodes.{IsAt, ComesTo, HasEndNode, IsOverwrittenWith, IsEndFor, IsKindFor, IsCompared, IsMismatch, IsStepFrom, used_in_prefix, ending}
+use Rattle.art_reading.specs.Parts.{IsPlaced}
 use Rattle.art_reading.specs.Paths.{step_down}
-use Rattle.art_writing.specs.declared.insert.PrefixInsertPoint.TheVariants.{InsertPoint, OverwritePoint}
-use Rattle.art_writing.proofs.Partings.{parted_unrelated, unrelated_after, conflict-related, no_conflict, first_conflict, same_conflict}
+use Rattle.art_reading.proofs.Partings.{parted_unrelated, unrelated_after, conflict-related, no_conflict, first_conflict, same_conflict}
 
 -- as much of the key was used as it has
 module _ {A : Type 0} (bytes : A → List ℕ) (P : ℕ) (key : List ℕ) (node : Tree OpaqueNodePtr A) {depth : ℕ} (short : depth ≤ length key) where
@@ -103,7 +103,7 @@ module _ {K V : Type 0} {s : Nodes K V} {bytes : K × V → List ℕ} {P : ℕ} 
     shown_there = shown_met node_there
 
     -- the part of the tree below
-    pub part_there : {part : OpaqueNodePtr} → part ≡ name → IsPart bytes P s part depth d.node
+    pub part_there : {part : OpaqueNodePtr} → part ≡ name → IsPlaced bytes P s part depth d.node
     part_there is =
         let all : AreDistinct (names_before d.frames ++ names_of d.node ++ names_after d.frames) = subst AreDistinct (ap names_of (sym d.whole) ∙ names_of-plug d.frames d.node) by.stands.0.distinct in
         record {
@@ -133,32 +133,18 @@ module _ {K V : Type 0} {s : Nodes K V} {bytes : K × V → List ℕ} {P : ℕ} 
     ends : Each (λ other. IsFront other.0 key → length other.0 ≤ length d.place) (places bytes (length d.place) d.node) → IsEndNode bytes layout key d.frames d.node
     ends longest = subst (λ t. IsEndNode bytes t key d.frames d.node) d.whole (ends_at bytes P key d.frames d.place d.node d.leads d.radix d.on_way longest)
 
-    -- and the point of an insertion answers to the key
-    answers : (used : ℕ) (kind : InsertKind) → Each (λ other. IsFront other.0 key → length other.0 ≤ length d.place)
-        (places bytes (length d.place) d.node) → IsKindOf bytes P key d.node depth used kind →
-        AnswersTo bytes P layout key (record { path = path; insert_kind = kind; key_bytes_used = used; root = root })
-    answers used kind longest is =
+    -- and the key comes to it
+    comes_to : (used : ℕ) (kind : Option InsertKind) → Each (λ other. IsFront other.0 key → length other.0 ≤ length d.place)
+        (places bytes (length d.place) d.node) → ComesTo bytes P key d.node depth used kind →
+        HasEndNode bytes P layout key (record { path = path; name = name; insert_kind = kind; key_bytes_used = used })
+    comes_to used kind longest is =
         record {
           path = d.frames;
           node = d.node;
           is_end = ends longest;
-          root_is = sym by.stands.0.named;
-          path_is = d.path_is;
-          kind_is = subst (λ n. IsKindOf bytes P key d.node n used kind) (sym deep) is;
-        }
-
-    -- and gives way where the key ends
-    overwritten : (used : ℕ) → Each (λ other. IsFront other.0 key → length other.0 ≤ length d.place) (places bytes (length d.place) d.node) → IsOverwrittenWith bytes key depth used d.node →
-        AnswersToOverwrite bytes layout key (record { path = path; overwrite_point = name; key_bytes_used = used; root = root })
-    overwritten used longest gives =
-        record {
-          path = d.frames;
-          node = d.node;
-          is_end = ends longest;
-          root_is = sym by.stands.0.named;
           path_is = d.path_is;
           name_is = sym d.named;
-          gives_way = subst (λ n. IsOverwrittenWith bytes key n used d.node) (sym deep) gives;
+          kind_is = subst (λ n. ComesTo bytes P key d.node n used kind) (sym deep) is;
         }
 
     -- ---- at a leaf
@@ -175,28 +161,25 @@ module _ {K V : Type 0} {s : Nodes K V} {bytes : K × V → List ℕ} {P : ℕ} 
           subst (λ t. Each (λ other. IsFront other.0 key → length other.0 ≤ length d.place) (places bytes (length d.place) t)) (sym at_leaf)
           ((λ g. rw (place_is bytes P (leaf (leaf_name p) (pair_of shown)) d.place radix) (omega arith)), tt)
 
-      pub leaf_conflict : IsKindFor key p (bytes (pair_of shown)) None →
-          IsPointFor bytes P key pairs layout (OverwritePoint (record { path = path; overwrite_point = name; key_bytes_used = depth; root = root }))
-      leaf_conflict (related, unequal) = (
+      pub leaf_end : (kind : Option InsertKind) → IsKindFor key p (bytes (pair_of shown)) kind →
+          IsEndFor bytes P key pairs layout (record { path = path; name = name; insert_kind = kind; key_bytes_used = depth })
+      leaf_end None (related, unequal) = (
         own_pair ∙ first_conflict bytes key (pair_of shown) [] related unequal,
-        overwritten depth longest_leaf
+        comes_to depth None longest_leaf
             (subst (IsOverwrittenWith bytes key depth depth) (sym at_leaf) (refl, related, unequal)),
       )
-
-      pub leaf_point : (kind : InsertKind) → IsKindAtLeaf key p (bytes (pair_of shown)) kind →
-          IsPointFor bytes P key pairs layout (InsertPoint (record { path = path; insert_kind = kind; key_bytes_used = depth; root = root }))
-      leaf_point (Exact q) (same, equal) = (
+      leaf_end (Some (Exact q)) (same, equal) = (
         own_pair ∙ same_conflict bytes key (pair_of shown) equal,
-        answers depth (Exact q) longest_leaf
-            (refl, (pair_of shown, at_leaf ∙ ap (λ z. leaf (leaf_name z) (pair_of shown)) (sym same), (refl, equal))),
+        comes_to depth (Some (Exact q)) longest_leaf
+            (refl, (pair_of shown, at_leaf ∙ ap (λ z. leaf (leaf_name z) (pair_of shown)) (sym same), equal)),
       )
-      leaf_point (SplitLeaf q used) (same, unrelated, shared) = (
+      leaf_end (Some (SplitLeaf q used)) (same, (unrelated, shared)) = (
         own_pair ∙ no_conflict bytes key (pair_of shown ∷ []) (unrelated, tt),
-        answers depth (SplitLeaf q used) longest_leaf
-            (refl, (pair_of shown, at_leaf ∙ ap (λ z. leaf (leaf_name z) (pair_of shown)) (sym same), (refl, unrelated, shared))),
+        comes_to depth (Some (SplitLeaf q used)) longest_leaf
+            (refl, (pair_of shown, at_leaf ∙ ap (λ z. leaf (leaf_name z) (pair_of shown)) (sym same), (unrelated, shared))),
       )
-      leaf_point (IntoExisting q) h = absurd h
-      leaf_point (MismatchPrefix m q) h = absurd h
+      leaf_end (Some (IntoExisting q)) h = absurd h
+      leaf_end (Some (MismatchPrefix m q)) h = absurd h
 
     -- ---- at an inner node
     module _ {p : InnerPtr} {shown : Inner} (at : IsShown d.node p shown) where
@@ -249,13 +232,13 @@ module _ {K V : Type 0} {s : Nodes K V} {bytes : K × V → List ℕ} {P : ℕ} 
               rw e (first_conflict bytes key x (xs ++ pairs_below cs) (front_related key (bytes x) goes) (λ same. let l = ap length same in omega arith))
 
       -- so the node gives way
-      short_point : (used : ℕ) → IsFront (drop depth key) radix.0 → used ≡ used_in_prefix key depth radix.0 →
-          IsPointFor bytes P key pairs layout (OverwritePoint (record { path = path; overwrite_point = name; key_bytes_used = used; root = root }))
-      short_point used (r, e) is =
+      short_end : (used : ℕ) → IsFront (drop depth key) radix.0 → used ≡ used_in_prefix key depth radix.0 →
+          IsEndFor bytes P key pairs layout (record { path = path; name = name; insert_kind = None; key_bytes_used = used })
+      short_end used (r, e) is =
           let short : IsFront key front = (r, ap (λ l. d.place ++ l) e ∙ sym (append_assoc d.place (drop depth key) r) ∙ ap (λ l. l ++ r) (sym key_is)) in
           let no_longer : length key ≤ length front = let l = ap length short.1 in let k = length-append key r in omega arith in (
             short_conflict short,
-            overwritten used (longest_inner (aside_end front key at.children no_longer))
+            comes_to used None (longest_inner (aside_end front key at.children no_longer))
                 (subst (IsOverwrittenWith bytes key depth used) (sym at.is) (is ∙ ap (used_in_prefix key depth) (sym here_prefix), subst (IsFront (drop depth key)) (sym here_prefix) (r, e))),
           )
 
@@ -269,15 +252,15 @@ module _ {K V : Type 0} {s : Nodes K V} {bytes : K × V → List ℕ} {P : ℕ} 
         used : depth + match.matched_bytes ≡ length front
         used = let l = front_len in let k = c.0 in omega arith
 
-        prefix_conflict : length key ≤ depth + match.matched_bytes →
-            IsPointFor bytes P key pairs layout (OverwritePoint (record { path = path; overwrite_point = name; key_bytes_used = depth + match.matched_bytes - 1; root = root }))
-        prefix_conflict short =
+        ends_with_prefix : length key ≤ depth + match.matched_bytes →
+            IsEndFor bytes P key pairs layout (record { path = path; name = name; insert_kind = None; key_bytes_used = depth + match.matched_bytes - 1 })
+        ends_with_prefix short =
             let same : drop depth key ≡ radix.0 = go c.1 in
             let l : length key ≡ length front + length on_way.0 = ap length on_way.1 ∙ length-append front on_way.0 in
             let u = used in
             let m = front_len in
             let w = ap length whole_prefix in
-            short_point (depth + match.matched_bytes - 1) ([], sym (append-nil (drop depth key) ∙ same)) (ends_with (omega arith) (omega arith))
+            short_end (depth + match.matched_bytes - 1) ([], sym (append-nil (drop depth key) ∙ same)) (ends_with (omega arith) (omega arith))
           where
             go : IsFront (prefix_of bytes depth d.node) (drop depth key) → drop depth key ≡ radix.0
             go ([], e) = e ∙ append-nil (prefix_of bytes depth d.node) ∙ whole_prefix
@@ -299,15 +282,15 @@ module _ {K V : Type 0} {s : Nodes K V} {bytes : K × V → List ℕ} {P : ℕ} 
               (unrelated cs h.1 others.1)
 
           -- no child goes on with the key
-          into_point : None ≡ child_at shown.children (get_or key (depth + match.matched_bytes) 0) →
-              IsPointFor bytes P key pairs layout (InsertPoint (record { path = path; insert_kind = IntoExisting p; key_bytes_used = depth + match.matched_bytes; root = root }))
-          into_point none =
+          ends_after_prefix : None ≡ child_at shown.children (get_or key (depth + match.matched_bytes) 0) →
+              IsEndFor bytes P key pairs layout (record { path = path; name = name; insert_kind = Some (IntoExisting p); key_bytes_used = depth + match.matched_bytes })
+          ends_after_prefix none =
               let gone : child_at (slots_of at.children) (get_or key (depth + match.matched_bytes) 0) ≡ None =
               ap (λ cs. child_at cs (get_or key (depth + match.matched_bytes) 0)) (sym at.slots) ∙ sym none in
               let others = no_child_under at.children (get_or key (length front) 0) (ap (λ n. child_at (slots_of at.children) (get_or key n 0)) (sym used) ∙ gone) in (
                 below ∙ no_conflict bytes key (pairs_below at.children) (unrelated at.children radix.4 others),
-                answers (depth + match.matched_bytes) (IntoExisting p) (longest_inner (aside_others front key at.children others))
-                    (header_at p.kind shown, at.children, at.is, c.1, ap (λ n. depth + n) c.0, long, gone),
+                comes_to (depth + match.matched_bytes) (Some (IntoExisting p)) (longest_inner (aside_others front key at.children others))
+                    ((c.1, ap (λ n. depth + n) c.0, long), (header_at p.kind shown, at.children, at.is, gone)),
               )
 
           -- a child goes on with the key
@@ -343,9 +326,9 @@ module _ {K V : Type 0} {s : Nodes K V} {bytes : K × V → List ℕ} {P : ℕ} 
 
         -- the step past the prefix
         pub prefix_step : {step : SearchStep} →
-            (length key ≤ depth + match.matched_bytes → step ≡ overwriting (record { path = path; name = name; depth = depth }) root (depth + match.matched_bytes - 1)) →
+            (length key ≤ depth + match.matched_bytes → step ≡ ending (record { path = path; name = name; depth = depth }) None (depth + match.matched_bytes - 1)) →
             (depth + match.matched_bytes < length key → child_at shown.children (get_or key (depth + match.matched_bytes) 0) ≡ None →
-            step ≡ inserting (record { path = path; name = name; depth = depth }) root (IntoExisting p) (depth + match.matched_bytes)) →
+            step ≡ ending (record { path = path; name = name; depth = depth }) (Some (IntoExisting p)) (depth + match.matched_bytes)) →
             (depth + match.matched_bytes < length key → (to : OpaqueNodePtr) → child_at shown.children (get_or key (depth + match.matched_bytes) 0) ≡ Some to →
             step ≡ Down (record { path = step_down path p (get_or key (depth + match.matched_bytes) 0); name = to; depth = depth + match.matched_bytes + 1 })) →
             IsStepFrom bytes P key pairs layout depth step
@@ -353,11 +336,11 @@ module _ {K V : Type 0} {s : Nodes K V} {bytes : K × V → List ℕ} {P : ℕ} 
           where
             by_child : depth + match.matched_bytes < length key → (o : Option OpaqueNodePtr) → child_at shown.children (get_or key (depth + match.matched_bytes) 0) ≡ o →
                 IsStepFrom bytes P key pairs layout depth step
-            by_child long None e = subst (IsStepFrom bytes P key pairs layout depth) (sym (into long e)) (into_point long (sym e))
+            by_child long None e = subst (IsStepFrom bytes P key pairs layout depth) (sym (into long e)) (ends_after_prefix long (sym e))
             by_child long (Some to) e = subst (IsStepFrom bytes P key pairs layout depth) (sym (down long to e)) (omega arith, goes_on long (sym e))
 
             by_length : (t : Bool) → leb (length key) (depth + match.matched_bytes) ≡ t → IsStepFrom bytes P key pairs layout depth step
-            by_length true e = let short = leb-true (length key) (depth + match.matched_bytes) e in subst (IsStepFrom bytes P key pairs layout depth) (sym (ends short)) (prefix_conflict short)
+            by_length true e = let short = leb-true (length key) (depth + match.matched_bytes) e in subst (IsStepFrom bytes P key pairs layout depth) (sym (ends short)) (ends_with_prefix short)
             by_length false e = by_child (leb-false (length key) (depth + match.matched_bytes) e) (child_at shown.children (get_or key (depth + match.matched_bytes) 0)) refl
 
       -- the prefix and the key part, or the key ends
@@ -365,14 +348,14 @@ module _ {K V : Type 0} {s : Nodes K V} {bytes : K × V → List ℕ} {P : ℕ} 
         shared_is : m.matched_bytes ≡ shared_len radix.0 (drop depth key)
         shared_is = c.matched ∙ ap (λ l. shared_len l (drop depth key)) whole_prefix
 
-        mismatch_conflict : length key ≤ depth + m.matched_bytes →
-            IsPointFor bytes P key pairs layout (OverwritePoint (record { path = path; overwrite_point = name; key_bytes_used = depth; root = root }))
-        mismatch_conflict short =
+        ends_in_prefix : length key ≤ depth + m.matched_bytes →
+            IsEndFor bytes P key pairs layout (record { path = path; name = name; insert_kind = None; key_bytes_used = depth })
+        ends_in_prefix short =
             let rest : length (drop depth key) ≤ shared_len radix.0 (drop depth key) = let k = ap length key_is in let n = d.depth_is in let q = shared_is in omega (arith, simp length-append at k) in
             let inside = slice_get_within (prefix_of bytes depth d.node) m.matched_bytes m.prefix_byte c.byte in
             let w = ap length whole_prefix in
             let off : length key < depth + length radix.0 = omega arith in
-            short_point depth (front_right radix.0 (drop depth key) rest) (rw (ne_eqb (length key) (depth + length radix.0) (λ e. omega arith)) refl)
+            short_end depth (front_right radix.0 (drop depth key) rest) (rw (ne_eqb (length key) (depth + length radix.0) (λ e. omega arith)) refl)
 
         module _ (long : depth + m.matched_bytes < length key) where
           parts_at : ArePart front key
@@ -405,23 +388,24 @@ module _ {K V : Type 0} {s : Nodes K V} {bytes : K × V → List ℕ} {P : ℕ} 
               (front_trans (a.front ++ a.x ∷ []) front (bytes x) (a.r, a.a_is ∙ sym (append_assoc a.front (a.x ∷ []) a.r)) f) (λ e. a.differ (sym e)))
               (pairs_below at.children) (radix_below bytes P at.children front radix.4)
 
-          mismatch_point : IsPointFor bytes P key pairs layout (InsertPoint (record { path = path; insert_kind = MismatchPrefix m p; key_bytes_used = depth; root = root }))
-          mismatch_point = (
+          parts_from_prefix : IsEndFor bytes P key pairs layout (record { path = path; name = name; insert_kind = Some (MismatchPrefix m p); key_bytes_used = depth })
+          parts_from_prefix = (
             below ∙ no_conflict bytes key (pairs_below at.children) unrelated_below,
-            answers depth (MismatchPrefix m p) (longest_inner
+            comes_to depth (Some (MismatchPrefix m p)) (longest_inner
                 (aside_off front key at.children (λ f. let t = parted_unrelated parts_at in let r = front_related front key f in absurd cc)))
-                (refl, (header_at p.kind shown, at.children, at.is, c, long)),
+                (refl, (header_at p.kind shown, at.children, at.is, (c, long))),
           )
 
         -- the step in the prefix
-        pub mismatch_step : {step : SearchStep} → (length key ≤ depth + m.matched_bytes → step ≡ overwriting (record { path = path; name = name; depth = depth }) root depth) →
-            (depth + m.matched_bytes < length key → step ≡ inserting (record { path = path; name = name; depth = depth }) root (MismatchPrefix m p) depth) →
+        pub mismatch_step : {step : SearchStep} →
+            (length key ≤ depth + m.matched_bytes → step ≡ ending (record { path = path; name = name; depth = depth }) None depth) →
+            (depth + m.matched_bytes < length key → step ≡ ending (record { path = path; name = name; depth = depth }) (Some (MismatchPrefix m p)) depth) →
             IsStepFrom bytes P key pairs layout depth step
         mismatch_step {step} ends parts = by_length (leb (length key) (depth + m.matched_bytes)) refl
           where
             by_length : (t : Bool) → leb (length key) (depth + m.matched_bytes) ≡ t → IsStepFrom bytes P key pairs layout depth step
-            by_length true e = let short = leb-true (length key) (depth + m.matched_bytes) e in subst (IsStepFrom bytes P key pairs layout depth) (sym (ends short)) (mismatch_conflict short)
-            by_length false e = let long = leb-false (length key) (depth + m.matched_bytes) e in subst (IsStepFrom bytes P key pairs layout depth) (sym (parts long)) (mismatch_point long)
+            by_length true e = let short = leb-true (length key) (depth + m.matched_bytes) e in subst (IsStepFrom bytes P key pairs layout depth) (sym (ends short)) (ends_in_prefix short)
+            by_length false e = let long = leb-false (length key) (depth + m.matched_bytes) e in subst (IsStepFrom bytes P key pairs layout depth) (sym (parts long)) (parts_from_prefix long)
 
 -- what was compared of the key at a spot is no more than the key has
 module _ {K V : Type 0} {s : Nodes K V} {bytes : K × V → List ℕ} {P : ℕ} {root : OpaqueNodePtr} {key : List ℕ} {spot : Spot}
@@ -437,7 +421,7 @@ module _ {K V : Type 0} {s : Nodes K V} {bytes : K × V → List ℕ} {P : ℕ} 
 -- the part of the tree at a spot, and the key, which is as long as the way to it
 module _ {K V : Type 0} {s : Nodes K V} {bytes : K × V → List ℕ} {P : ℕ} {key : List ℕ} {spot : Spot}
     (spotted : (root : OpaqueNodePtr) × IsCanonicalRoot bytes P s root × ForTree bytes P s root (λ pairs layout. IsAt bytes P key layout spot)) where
-  pub part_at : {part : OpaqueNodePtr} → part ≡ spot.name → (node : Tree OpaqueNodePtr (K × V)) × IsPart bytes P s part spot.depth node
+  pub part_at : {part : OpaqueNodePtr} → part ≡ spot.name → (node : Tree OpaqueNodePtr (K × V)) × IsPlaced bytes P s part spot.depth node
   part_at is = let (root, (pairs, layout, by), at) = spotted in let d = at pairs layout by in (d.node, part_there by d is)
 
   pub key_reaches : spot.depth ≤ length key

@@ -31,7 +31,8 @@ use Rattle.art_model.proofs.Views as views
 use Rattle.art_reading.specs.declared.path.ExplicitMismatch.{ExplicitMismatch}
 use Rattle.art_reading.specs.declared.path.PrefixMatch.{PrefixMatch}
 use Rattle.art_reading.specs.Matching.{shared_len}
-use Rattle.art_writing.specs.Points.{IsCompared, IsLeafForPrefix, IsPart}
+use Rattle.art_reading.specs.EndNodes.{IsCompared, IsLeafForPrefix}
+use Rattle.art_reading.specs.Parts.{IsPlaced}
 
 module _ {N A : Type 0} (bytes : A → List ℕ) (P : ℕ) (x : A) where
   -- the least key is that of the first pair
@@ -60,7 +61,7 @@ module _ {A : Type 0} (bytes : A → List ℕ) (P : ℕ) (key : List ℕ) (node 
   }
 
 module _ {K V : Type 0} {s : Nodes K V} {bytes : K × V → List ℕ} {P : ℕ} {p : InnerPtr} {depth : ℕ} {node : Tree OpaqueNodePtr (K × V)}
-    (part : IsPart bytes P s (inner_name p) depth node) (proper : p.kind ≢ Leaf) where
+    (part : IsPlaced bytes P s (inner_name p) depth node) (proper : p.kind ≢ Leaf) where
   pub node_there : None ≡ map.get s.inners p → ⊥
   node_there gone = no_inner_gone s p proper node part.layout.named part.layout.holds gone
 

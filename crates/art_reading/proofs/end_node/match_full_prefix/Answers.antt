@@ -1,8 +1,8 @@
 use Rattle.std.proofs.Common.{rules, ◌+◌, ◌≤◌, length, ap, refl, arith}
 use Rattle.std.proofs.lemmas.List.{take_rest}
-use Rattle.art_writing.proofs.Prefixes.{is_full, no_leaf_gone, long_enough, matches_stored, matches_read}
-use Rattle.art_writing.proofs.Spots.{key_reaches, part_at, part_there}
-use Rattle.art_writing.proofs.insert.match_full_prefix.Goals as goal
+use Rattle.art_reading.proofs.Prefixes.{is_full, no_leaf_gone, long_enough, matches_stored, matches_read}
+use Rattle.art_reading.proofs.EndNodes.{key_reaches, part_at, part_there}
+use Rattle.art_reading.proofs.end_node.match_full_prefix.Goals as goal
 
 pub slice_bounds-rest_of_key-count : goal.slice_bounds-rest_of_key-count
 slice_bounds-rest_of_key-count g c = key_reaches c.requires.spot
