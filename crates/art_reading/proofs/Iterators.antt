@@ -1,5 +1,5 @@
 -- The ends of a segment, and what is left when one of them was handed out.
-use Rattle.std.proofs.Common.{◌≡◌, ◌≢◌, List, [], ◌∷◌, Option, Some, None, IsSome, eqb, true, false, refl, ap, sym, ◌∙◌, subst, inl, inr}
+use Rattle.std.proofs.Common.{◌≡◌, ◌≢◌, List, [], ◌∷◌, Option, Some, None, IsSome, is_some, eqb, true, false, refl, ap, sym, ◌∙◌, subst, inl, inr}
 use Rattle.std.specs.Option.{option_map, option_and_then}
 use Rattle.std.specs.FinMap as map
 use Rattle.std.proofs.lemmas.Bool.{eqb-true, eq-eqb, true≢false}
@@ -72,6 +72,10 @@ module _ {K V : Type 0} where
   -- the leaves of a canonical root, from the first to the last
   pub walks_whole : WalksWhole K V
   walks_whole bytes P s root pairs layout first last is begins ends = record { ends = (begins.name_is, ends.name_is); segment = tree_segment layout is.stands.0.distinct is.linked }
+
+-- nothing is no value that is there
+gone : {A : Type 0} {o : Option A} → None ≡ o → IsSome o → ⊥
+gone none there = true≢false (sym there ∙ ap is_some (sym none))
 
 module _ {K V : Type 0} (s : Nodes K V) where
   -- a leaf that is linked is there
@@ -165,19 +169,17 @@ module _ {K V : Type 0} (s : Nodes K V) (a b : LeafPtr) where
     pub only_taken : eqb a.slot b.slot ≡ true → TakesEnd end s names (Some p) None
     only_taken one = subst (λ z. TakesEnd end s names (Some z) None) (sym at) (takes_one end names (same_slot a b one) is)
 
-    pub only_there : eqb a.slot b.slot ≡ true → IsSome (map.get s.leaves p)
-    only_there one = go end (only_taken one)
+    -- it is there
+    pub no_end_gone : None ≡ map.get s.leaves p → ⊥
+    no_end_gone none = go end at
       where
-        go : (e : End) → TakesEnd e s names (Some p) None → IsSome (map.get s.leaves p)
-        go First taken = end_there s names p is taken.0
-        go Last taken = last_there s names p is taken.0
+        go : (e : End) → p ≡ of_two e (a, b) → ⊥
+        go First first = gone none (end_there s names p is (ap (λ q. Some (leaf_name q)) first ∙ sym is.ends.0))
+        go Last last = gone none (last_there s names p is (ap (λ q. Some (leaf_name q)) last ∙ sym is.ends.1))
 
     module _ (other : eqb a.slot b.slot ≡ false) where
       has : HasNext end names
       has = has_next end names (other_slot a b other) is
-
-      pub no_end_gone : None ≡ map.get s.leaves p → ⊥
-      no_end_gone none = let e = has.there in absurd cc
 
       same_next : {o : Option LeafPtr} (leaf : LeafNode K V) → Some leaf ≡ map.get s.leaves p → o ≡ of_two end (leaf.next, leaf.previous) → o ≡ Some has.next
       same_next leaf there read =

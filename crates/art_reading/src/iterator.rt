@@ -8,7 +8,7 @@ ghost use Rattle.art_model.specs.Pairs.{first_of, last_of, without_first, withou
 ghost use Rattle.art_reading.specs.Iterators.{GoesOn, IsIteratorOf, TakesEnd, WalksWhole};
 
 use crate::descent::End;
-use art_nodes::node::{AsBytes, LeafPtr, OptionalLeafPtr};
+use art_nodes::node::{AsBytes, LeafNode, LeafPtr, OptionalLeafPtr};
 use art_nodes::store::NodeStore;
 use std::marker::Model;
 
@@ -69,7 +69,8 @@ impl RawIterator {
         ensures rest { (names : List OpaqueNodePtr) → IsIteratorOf store.now self.old names →
             IsIteratorOf store.now self.new (without_first names) }
     {
-        self.take_end(store, End::First)
+        let (taken, _) = self.take_end(store, End::First)?;
+        Some(taken)
     }
 
     /// The last leaf that is left. Its link is read before it is returned, so that it may be freed.
@@ -84,35 +85,73 @@ impl RawIterator {
         ensures rest { (names : List OpaqueNodePtr) → IsIteratorOf store.now self.old names →
             IsIteratorOf store.now self.new (without_last names) }
     {
+        let (taken, _) = self.take_end(store, End::Last)?;
+        Some(taken)
+    }
+
+    /// Returns the name of the first leaf that is left, as `next` does, and the leaf itself, which is read
+    /// once.
+    #[inline(always)]
+    pub fn next_leaf<'s, K: AsBytes + Drop, V: Drop, const PREFIX_LEN: usize>(
+        &mut self,
+        store: &'s NodeStore<K, V, PREFIX_LEN>,
+    ) -> Option<(LeafPtr, &'s LeafNode<K, V>)>
+        requires { (names : List OpaqueNodePtr) × IsIteratorOf store.now self.old names }
+        ensures name { (names : List OpaqueNodePtr) → IsIteratorOf store.now self.old names →
+            option_map (λ found. leaf_name found.0) result ≡ first_of names }
+        ensures leaf { IfSome result (λ found.
+            map.get store.now.leaves found.0 ≡ Some found.1.now) }
+        ensures rest { (names : List OpaqueNodePtr) → IsIteratorOf store.now self.old names →
+            IsIteratorOf store.now self.new (without_first names) }
+    {
+        self.take_end(store, End::First)
+    }
+
+    /// Returns the name of the last leaf that is left, as `next_back` does, and the leaf itself, which is
+    /// read once.
+    #[inline(always)]
+    pub fn next_back_leaf<'s, K: AsBytes + Drop, V: Drop, const PREFIX_LEN: usize>(
+        &mut self,
+        store: &'s NodeStore<K, V, PREFIX_LEN>,
+    ) -> Option<(LeafPtr, &'s LeafNode<K, V>)>
+        requires { (names : List OpaqueNodePtr) × IsIteratorOf store.now self.old names }
+        ensures name { (names : List OpaqueNodePtr) → IsIteratorOf store.now self.old names →
+            option_map (λ found. leaf_name found.0) result ≡ last_of names }
+        ensures leaf { IfSome result (λ found.
+            map.get store.now.leaves found.0 ≡ Some found.1.now) }
+        ensures rest { (names : List OpaqueNodePtr) → IsIteratorOf store.now self.old names →
+            IsIteratorOf store.now self.new (without_last names) }
+    {
         self.take_end(store, End::Last)
     }
 
-    // Takes the leaf at an end of those that are left.
+    // Takes the leaf at an end of those that are left, and reads it once.
     #[inline(always)]
-    fn take_end<K: AsBytes + Drop, V: Drop, const PREFIX_LEN: usize>(
+    fn take_end<'s, K: AsBytes + Drop, V: Drop, const PREFIX_LEN: usize>(
         &mut self,
-        store: &NodeStore<K, V, PREFIX_LEN>,
+        store: &'s NodeStore<K, V, PREFIX_LEN>,
         end: End,
-    ) -> OptionalLeafPtr
+    ) -> Option<(LeafPtr, &'s LeafNode<K, V>)>
         requires { (names : List OpaqueNodePtr) × IsIteratorOf store.now self.old names }
         ensures taken { (names : List OpaqueNodePtr) → IsIteratorOf store.now self.old names →
-            TakesEnd end store.now names result self.new }
-        ensures there { IfSome result (λ leaf. IsSome (map.get store.now.leaves leaf)) }
+            TakesEnd end store.now names (option_map (λ found. found.0) result) self.new }
+        ensures leaf { IfSome result (λ found.
+            map.get store.now.leaves found.0 ≡ Some found.1.now) }
     {
         let (first, last) = self.ends?;
         let taken = end.of((first, last));
-        if first == last {
-            self.ends = None;
-            return Some(taken);
-        }
         let Some(leaf) = store.leaf(taken) else {
             unreachable!()
         };
+        if first == last {
+            self.ends = None;
+            return Some((taken, leaf));
+        }
         let Some(next) = end.of((leaf.next, leaf.previous)) else {
             unreachable!()
         };
         self.ends = Some(end.of(((next, last), (first, next))));
-        Some(taken)
+        Some((taken, leaf))
     }
 }
 

@@ -4,7 +4,6 @@ ghost use Rattle.std.specs.Iterator.{UpTo, at_most};
 ghost use Rattle.std.specs.Iterator.SizeHint.{IsWithinCount};
 ghost use Rattle.art_map.specs.MapItems.{CountsDown, IsRange, IsWalk, TakesFirst, TakesLast, pairs_between};
 
-use super::pair_at;
 use art_nodes::node::AsBytes;
 use art_nodes::store::NodeStore;
 use art_reading::iterator::RawIterator;
@@ -38,16 +37,18 @@ pub trait Leaves<K, V> {
 impl<K: AsBytes + Drop, V: Drop, const P: usize> Leaves<K, V> for NodeStore<K, V, P> {
     ghost seen = { λ s. s };
 
+    #[inline(always)]
     fn step(&self, walk: &mut RawIterator, at_most: &mut usize) -> Option<(&K, &V)> {
-        let leaf = walk.next(self)?;
+        let (_, leaf) = walk.next_leaf(self)?;
         *at_most -= 1;
-        Some(pair_at(self, leaf))
+        Some((&leaf.key, &leaf.value))
     }
 
+    #[inline(always)]
     fn step_back(&self, walk: &mut RawIterator, at_most: &mut usize) -> Option<(&K, &V)> {
-        let leaf = walk.next_back(self)?;
+        let (_, leaf) = walk.next_back_leaf(self)?;
         *at_most -= 1;
-        Some(pair_at(self, leaf))
+        Some((&leaf.key, &leaf.value))
     }
 }
 

@@ -1,23 +1,17 @@
-use Rattle.std.proofs.Common.{◌≡◌, ◌∙◌, ap, is_some, sym, Some}
-use Rattle.art_reading.proofs.Iterators.{only_taken, only_there, no_end_gone, next_there, next_taken}
+use Rattle.std.proofs.Common.{◌≡◌, ◌∙◌, sym, Some}
+use Rattle.art_reading.proofs.Iterators.{only_taken, no_end_gone, next_there, next_taken}
 use Rattle.art_reading.proofs.iterator.RawIterator.take_end.Goals as goal
-
-pub returns-then-eq-clause-taken : goal.returns-then-eq-clause-taken
-returns-then-eq-clause-taken g c names is =
-    let e : c.args.self.now ≡ Some (c.in_ok-first.first, c.in_ok-first.last) = sym c.self.view_is ∙ c.in_ok-first.was in
-    only_taken c.args.store.now c.in_ok-first.first c.in_ok-first.last c.args.end names c.of-taken.result c.of-taken.ensures (rw e at is) (sym c.eq.ensures ∙ c.if-eq.true)
-
-pub returns-then-eq-clause-there : goal.returns-then-eq-clause-there
-returns-then-eq-clause-there g c =
-    let (names, is) = c.requires in
-    let e : c.args.self.now ≡ Some (c.in_ok-first.first, c.in_ok-first.last) = sym c.self.view_is ∙ c.in_ok-first.was in
-    only_there c.args.store.now c.in_ok-first.first c.in_ok-first.last c.args.end names c.of-taken.result c.of-taken.ensures (rw e at is) (sym c.eq.ensures ∙ c.if-eq.true)
 
 pub unreachable-requires : goal.unreachable-requires
 unreachable-requires g c =
     let (names, is) = c.requires in
     let e : c.args.self.now ≡ Some (c.in_ok-first.first, c.in_ok-first.last) = sym c.self.view_is ∙ c.in_ok-first.was in
-    no_end_gone c.args.store.now c.in_ok-first.first c.in_ok-first.last c.args.end names c.of-taken.result c.of-taken.ensures (rw e at is) (sym c.eq.ensures ∙ c.if-eq.false) c.in_default.ensures
+    no_end_gone c.args.store.now c.in_ok-first.first c.in_ok-first.last c.args.end names c.of-taken.result c.of-taken.ensures (rw e at is) c.in_default.ensures
+
+pub returns-then-eq-clause-taken : goal.returns-then-eq-clause-taken
+returns-then-eq-clause-taken g c names is =
+    let e : c.args.self.now ≡ Some (c.in_ok-first.first, c.in_ok-first.last) = sym c.self.view_is ∙ c.in_ok-first.was in
+    only_taken c.args.store.now c.in_ok-first.first c.in_ok-first.last c.args.end names c.of-taken.result c.of-taken.ensures (rw e at is) (sym c.eq.ensures ∙ c.if-eq.true)
 
 pub unreachable-requires-in_default-of : goal.unreachable-requires-in_default-of
 unreachable-requires-in_default-of g c =
@@ -31,6 +25,3 @@ returns-clause-taken g c names is =
     let e : c.args.self.now ≡ Some (c.in_ok-first.first, c.in_ok-first.last) = sym c.self.view_is ∙ c.in_ok-first.was in
     next_taken c.args.store.now c.in_ok-first.first c.in_ok-first.last c.args.end names c.of-taken.result c.of-taken.ensures (rw e at is) (sym c.eq.ensures ∙ c.if-eq.false)
     c.in-Some.leaf.now c.in-Some-of.next c.in-Some.ensures c.of.ensures c.in-Some-of.is c.of-2.ensures
-
-pub returns-clause-there : goal.returns-clause-there
-returns-clause-there g c = ap is_some (sym c.in-Some.ensures)
