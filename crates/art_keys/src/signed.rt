@@ -51,7 +51,16 @@ impl From<Signed<1>> for i8 {
     ghost from_gives = { λ key n. n ≡ key };
 
     fn from(key: Signed<1>) -> Self {
-        let lifted = u8::from_be_bytes(key.bytes);
+        key.get()
+    }
+}
+
+impl Signed<1> {
+    /// Returns the number.
+    pub fn get(self) -> i8
+        ensures { result ≡ self }
+    {
+        let lifted = u8::from_be_bytes(self.bytes);
         lifted.wrapping_sub(1 << 7).cast_signed()
     }
 }
@@ -71,7 +80,16 @@ impl From<Signed<2>> for i16 {
     ghost from_gives = { λ key n. n ≡ key };
 
     fn from(key: Signed<2>) -> Self {
-        let lifted = u16::from_be_bytes(key.bytes);
+        key.get()
+    }
+}
+
+impl Signed<2> {
+    /// Returns the number.
+    pub fn get(self) -> i16
+        ensures { result ≡ self }
+    {
+        let lifted = u16::from_be_bytes(self.bytes);
         lifted.wrapping_sub(1 << 15).cast_signed()
     }
 }
@@ -91,7 +109,16 @@ impl From<Signed<4>> for i32 {
     ghost from_gives = { λ key n. n ≡ key };
 
     fn from(key: Signed<4>) -> Self {
-        let lifted = u32::from_be_bytes(key.bytes);
+        key.get()
+    }
+}
+
+impl Signed<4> {
+    /// Returns the number.
+    pub fn get(self) -> i32
+        ensures { result ≡ self }
+    {
+        let lifted = u32::from_be_bytes(self.bytes);
         lifted.wrapping_sub(1 << 31).cast_signed()
     }
 }
@@ -111,7 +138,16 @@ impl From<Signed<8>> for i64 {
     ghost from_gives = { λ key n. n ≡ key };
 
     fn from(key: Signed<8>) -> Self {
-        let lifted = u64::from_be_bytes(key.bytes);
+        key.get()
+    }
+}
+
+impl Signed<8> {
+    /// Returns the number.
+    pub fn get(self) -> i64
+        ensures { result ≡ self }
+    {
+        let lifted = u64::from_be_bytes(self.bytes);
         lifted.wrapping_sub(1 << 63).cast_signed()
     }
 }
@@ -131,7 +167,16 @@ impl From<Signed<16>> for i128 {
     ghost from_gives = { λ key n. n ≡ key };
 
     fn from(key: Signed<16>) -> Self {
-        lower(u128::from_be_bytes(key.bytes))
+        key.get()
+    }
+}
+
+impl Signed<16> {
+    /// Returns the number.
+    pub fn get(self) -> i128
+        ensures { result ≡ self }
+    {
+        lower(u128::from_be_bytes(self.bytes))
     }
 }
 

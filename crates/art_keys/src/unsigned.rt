@@ -51,7 +51,16 @@ impl From<Unsigned<1>> for u8 {
     ghost from_gives = { λ key n. n ≡ key };
 
     fn from(key: Unsigned<1>) -> Self {
-        u8::from_be_bytes(key.bytes)
+        key.get()
+    }
+}
+
+impl Unsigned<1> {
+    /// Returns the number.
+    pub fn get(self) -> u8
+        ensures { result ≡ self }
+    {
+        u8::from_be_bytes(self.bytes)
     }
 }
 
@@ -69,7 +78,16 @@ impl From<Unsigned<2>> for u16 {
     ghost from_gives = { λ key n. n ≡ key };
 
     fn from(key: Unsigned<2>) -> Self {
-        u16::from_be_bytes(key.bytes)
+        key.get()
+    }
+}
+
+impl Unsigned<2> {
+    /// Returns the number.
+    pub fn get(self) -> u16
+        ensures { result ≡ self }
+    {
+        u16::from_be_bytes(self.bytes)
     }
 }
 
@@ -87,7 +105,16 @@ impl From<Unsigned<4>> for u32 {
     ghost from_gives = { λ key n. n ≡ key };
 
     fn from(key: Unsigned<4>) -> Self {
-        u32::from_be_bytes(key.bytes)
+        key.get()
+    }
+}
+
+impl Unsigned<4> {
+    /// Returns the number.
+    pub fn get(self) -> u32
+        ensures { result ≡ self }
+    {
+        u32::from_be_bytes(self.bytes)
     }
 }
 
@@ -105,7 +132,16 @@ impl From<Unsigned<8>> for u64 {
     ghost from_gives = { λ key n. n ≡ key };
 
     fn from(key: Unsigned<8>) -> Self {
-        u64::from_be_bytes(key.bytes)
+        key.get()
+    }
+}
+
+impl Unsigned<8> {
+    /// Returns the number.
+    pub fn get(self) -> u64
+        ensures { result ≡ self }
+    {
+        u64::from_be_bytes(self.bytes)
     }
 }
 
@@ -123,7 +159,16 @@ impl From<Unsigned<16>> for u128 {
     ghost from_gives = { λ key n. n ≡ key };
 
     fn from(key: Unsigned<16>) -> Self {
-        u128::from_be_bytes(key.bytes)
+        key.get()
+    }
+}
+
+impl Unsigned<16> {
+    /// Returns the number.
+    pub fn get(self) -> u128
+        ensures { result ≡ self }
+    {
+        u128::from_be_bytes(self.bytes)
     }
 }
 

@@ -286,16 +286,20 @@ impl<K: AsBytes + Drop, V: Drop, const P: usize> ByteMap<K, V, P> {
         Some(pair_at(&self.store, leaf))
     }
 
-    /// The keys as they rise.
+    /// Returns the keys as they rise, from both ends.
     pub fn keys(&self) -> Keys<'_, K, V, P>
-        ensures { result ≡ keys_of self.now }
+        ensures keys { result ≡ keys_of self.now }
+        ensures sorted { IsMap (of_key K.bytes) self.now }
+        ensures fits { length result < 2 ^ 64 }
     {
         KeysOf::new(self.iter())
     }
 
-    /// The values in the order of their keys.
+    /// Returns the values in the order of their keys, from both ends.
     pub fn values(&self) -> Values<'_, K, V, P>
-        ensures { result ≡ values_of self.now }
+        ensures values { result ≡ values_of self.now }
+        ensures sorted { IsMap (of_key K.bytes) self.now }
+        ensures fits { length result < 2 ^ 64 }
     {
         ValuesOf::new(self.iter())
     }

@@ -1,7 +1,7 @@
 //! An ordered set of keys of bytes, on the map. Its contracts speak of lists of keys alone.
 #![tactic(auto, using(crate::proofs::SetLaws::set_laws))]
 
-ghost use Rattle.std.specs.Prelude.{◌≡◌, ◌↔◌, [], length, false, not, IsTrue, IfOk, IfErr, OnOk, OnErr, option_copied};
+ghost use Rattle.std.specs.Prelude.{◌≡◌, ◌↔◌, ◌<◌, ◌^◌, [], length, false, not, IsTrue, IfOk, IfErr, OnOk, OnErr, option_copied};
 ghost use Rattle.art_model.specs.Pairs.{IsMap, first_of, has_key, is_conflict, last_of, of_key, remove_key, remove_reply, with_key, without_first, without_last};
 ghost use Rattle.art_map.specs.MapAnswers.{MayRefuseRemoval};
 ghost use Rattle.art_map.specs.SetKeys.{IsKeyRefusal, add_key, as_pairs, key_error};
@@ -116,9 +116,11 @@ impl<K: AsBytes + Drop, const P: usize> ByteSet<K, P> {
         }
     }
 
-    /// The keys as they rise.
+    /// Returns the keys as they rise, from both ends.
     pub fn iter(&self) -> Keys<'_, K, (), P>
-        ensures { result ≡ self.now }
+        ensures keys { result ≡ self.now }
+        ensures sorted { IsMap K.bytes self.now }
+        ensures fits { length result < 2 ^ 64 }
     {
         self.map.keys()
     }

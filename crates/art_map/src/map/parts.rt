@@ -1,5 +1,5 @@
 //! The keys of a map, and its values, in order.
-ghost use Rattle.std.specs.Prelude.{◌≡◌, length, IfSome, Some, ⊤};
+ghost use Rattle.std.specs.Prelude.{◌≡◌, ◌<◌, ◌^◌, length, IfSome, Some, ⊤};
 ghost use Rattle.std.specs.Iterator.{UpTo, at_most};
 ghost use Rattle.std.specs.Iterator.SizeHint.{IsWithinCount};
 ghost use Rattle.art_map.specs.MapItems.{ShowsFirst, ShowsLast, keys_of, values_of};
@@ -34,7 +34,9 @@ impl<'a, K, V, S: Leaves<K, V>> Model for KeysOf<'a, K, V, S> {
 
 impl<'a, K, V, S: Leaves<K, V>> KeysOf<'a, K, V, S> {
     pub(crate) fn new(pairs: MapIterOf<'a, K, V, S>) -> Self
-        ensures { result ≡ keys_of pairs.entry }
+        requires { length pairs < 2 ^ 64 }
+        ensures keys { result ≡ keys_of pairs.entry }
+        ensures fits { length result < 2 ^ 64 }
     {
         KeysOf { pairs }
     }
@@ -119,7 +121,9 @@ impl<'a, K, V, S: Leaves<K, V>> Model for ValuesOf<'a, K, V, S> {
 
 impl<'a, K, V, S: Leaves<K, V>> ValuesOf<'a, K, V, S> {
     pub(crate) fn new(pairs: MapIterOf<'a, K, V, S>) -> Self
-        ensures { result ≡ values_of pairs.entry }
+        requires { length pairs < 2 ^ 64 }
+        ensures values { result ≡ values_of pairs.entry }
+        ensures fits { length result < 2 ^ 64 }
     {
         ValuesOf { pairs }
     }

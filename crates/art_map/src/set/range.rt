@@ -1,10 +1,10 @@
 //! The keys of a part of a set, in order.
-ghost use Rattle.std.specs.Prelude.{◌≡◌, length, option_copied, IfSome, IsSome, ⊤};
+ghost use Rattle.std.specs.Prelude.{◌≡◌, ◌<◌, ◌^◌, length, option_copied, IfSome, IsSome, ⊤};
 ghost use Rattle.std.specs.Iterator.{UpTo, at_most};
 ghost use Rattle.std.specs.Iterator.SizeHint.{IsWithinCount};
 ghost use Rattle.std.specs.Range.Bound.{bound_map};
 ghost use Rattle.std.specs.declared.ops.Bound.TheVariants.{Unbounded};
-ghost use Rattle.art_model.specs.Pairs.{first_of, last_of};
+ghost use Rattle.art_model.specs.Pairs.{IsMap, first_of, last_of};
 ghost use Rattle.art_model.specs.Parts.{below, between};
 ghost use Rattle.art_map.specs.MapItems.{ShowsFirst, ShowsLast, keys_of};
 
@@ -42,7 +42,9 @@ impl<'a, K, S: Leaves<K, ()>> Model for KeyRangeOf<'a, K, S> {
 
 impl<'a, K, S: Leaves<K, ()>> KeyRangeOf<'a, K, S> {
     fn new(pairs: RangeOf<'a, K, (), S>) -> Self
-        ensures { result ≡ keys_of pairs.entry }
+        requires { length pairs < 2 ^ 64 }
+        ensures keys { result ≡ keys_of pairs.entry }
+        ensures fits { length result < 2 ^ 64 }
     {
         KeyRangeOf { pairs }
     }
@@ -97,18 +99,22 @@ impl<'a, K, S: Leaves<K, ()>> DoubleEndedIterator for KeyRangeOf<'a, K, S> {
 impl<'a, K, S: Leaves<K, ()>> FusedIterator for KeyRangeOf<'a, K, S> {}
 
 impl<K: AsBytes + Drop, const P: usize> ByteSet<K, P> {
-    /// The keys that begin with these bytes, as they rise.
+    /// Returns the keys that begin with these bytes, as they rise.
     pub fn prefix(&self, prefix: &[u8]) -> KeyRange<'_, K, P>
-        ensures { result ≡ below K.bytes prefix.now self.now }
+        ensures keys { result ≡ below K.bytes prefix.now self.now }
+        ensures sorted { IsMap K.bytes self.now }
+        ensures fits { length result < 2 ^ 64 }
     {
         KeyRangeOf::new(self.map.prefix(prefix))
     }
 
-    /// The keys in a range, as they rise; none where it runs backwards.
+    /// Returns the keys in a range, as they rise; none where it runs backwards.
     pub fn range<'k, R: RangeBounds<&'k [u8]> + Drop>(&self, range: R) -> KeyRange<'_, K, P>
-        ensures { R.has_bounds range → result ≡ between K.bytes
+        ensures keys { R.has_bounds range → result ≡ between K.bytes
             (bound_map (λ b. b.now) (R.start_bound range))
             (bound_map (λ b. b.now) (R.end_bound range)) self.now }
+        ensures sorted { IsMap K.bytes self.now }
+        ensures fits { length result < 2 ^ 64 }
     {
         KeyRangeOf::new(self.map.range(range))
     }
