@@ -40,6 +40,7 @@ use std::ops::{Bound, Index, RangeBounds};
 use thiserror::Error;
 
 mod compared;
+mod each;
 mod entry;
 mod extend;
 mod iter;
