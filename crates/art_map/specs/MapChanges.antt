@@ -41,6 +41,10 @@ ChangesLeaf {K} {V} g leaf f s left t =
     (node : LeafNode K V) × (value : V) × (nodes.get s.leaves leaf ≡ Some node) × CalledAtMut g f node.value tt left value ×
     (t ≡ with_leaf_value s leaf value)
 
+-- the leaf of this name is there, with the key of these bytes
+abbrev pub HasKeyAt : {K V : Type 0} → (K → List ℕ) → Nodes K V → LeafPtr → List ℕ → Type 0
+HasKeyAt {K} {V} bytes s leaf key = (node : LeafNode K V) × (nodes.get s.leaves leaf ≡ Some node) × (bytes node.key ≡ key)
+
 -- The root's tree has the leaf of a key under this name.
 pub record NamesLeafOf {K V : Type 0} (bytes : K → List ℕ) (P : ℕ) (s : Nodes K V) (root : Option OpaqueNodePtr)
     (key : List ℕ) (leaf : LeafPtr) : Type 0 where
