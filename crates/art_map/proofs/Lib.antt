@@ -11,6 +11,8 @@ pub mod CallerLaws
 pub mod Shrinking
 pub mod ValueLaws
 pub mod Written
+pub mod LeafOf
+pub mod Changed
 pub mod Entered
 pub mod SetLaws
 pub mod SetOrders

@@ -60,7 +60,7 @@ module _ {K V : Type 0} (s : Nodes K V) (last : LeafPtr) where
 
 module _ {K V : Type 0} (s : Nodes K V) where
   -- so the leaves of a walk are counted
-  walk_counted : (walk : Option (LeafPtr × LeafPtr)) (names : List OpaqueNodePtr) (n : ℕ) → IsIteratorOf s walk names → length names ≤ n → walk_len s walk n ≡ length names
+  pub walk_counted : (walk : Option (LeafPtr × LeafPtr)) (names : List OpaqueNodePtr) (n : ℕ) → IsIteratorOf s walk names → length names ≤ n → walk_len s walk n ≡ length names
   walk_counted None names n is few = ap length (sym is.ends)
   walk_counted (Some ends) names n is few = counts s ends.1 names is.segment.before is.segment.after ends.0 n is.segment.linked is.segment.distinct is.ends.0 is.ends.1 few
 

@@ -1,7 +1,7 @@
 -- What a closure or an iterator that was handed in did with a map.
 use Rattle.std.specs.Prelude.{◌≡◌, ℕ, List, [], ◌∷◌, Option, Some, None, MatchOption}
 use Rattle.std.specs.Borrow.{MutBor}
-use Rattle.std.specs.Fn.{FnOnceReturnsAtMut, Once}
+use Rattle.std.specs.Fn.{CalledAtMut, FnOnceReturnsAtMut, Mut, Once}
 use Rattle.std.specs.Iterator.{YieldsThen}
 use Rattle.art_model.specs.Pairs.{of_key, put}
 use Rattle.art_map.specs.declared.map.MapInsertError.{MapInsertError}
@@ -13,6 +13,18 @@ abbrev pub Modifies : {K V F : Type 0} → Once F (MutBor V × Unit {0}) (Unit {
 Modifies {K} {V} g f bytes key before after =
     MatchOption (value_at bytes key before) (after ≡ before) (λ value.
     (left : V) × FnOnceReturnsAtMut g f value tt left × (after ≡ with_value_at bytes key left before))
+
+module _ {K V F : Type 0} (g : Mut F (MutBor V × Unit {0}) (Unit {0} × (MutBor V × Unit {0}))) where
+  -- f was called at the value of each pair in turn and left another, which the key has now
+  abbrev pub ChangesEach : F → List (K × V) → List (K × V) → F → Type 0
+  ChangesEach f [] after left = (after ≡ []) × (f ≡ left)
+  ChangesEach f (x ∷ xs) after left =
+      (value : V) × (next : F) × (rest : List (K × V)) × CalledAtMut g f x.1 tt next value × ChangesEach next xs rest left ×
+      (after ≡ (x.0, value) ∷ rest)
+
+  -- the same, whatever the closure is then
+  abbrev pub ChangesValues : F → List (K × V) → List (K × V) → Type 0
+  ChangesValues f before after = (left : F) × ChangesEach f before after left
 
 -- the pairs that are left when others are put, one after another
 abbrev pub put_all : {K V : Type 0} → (K → List ℕ) → List (K × V) → List (K × V) → List (K × V)

@@ -1,8 +1,13 @@
 -- What a change leaves of a store, a root and a length that stand for pairs. No public clause cites this module.
 use Rattle.std.specs.Prelude.{◌≡◌, ◌≢◌, ℕ, true, false, if◌then◌else◌, List, [], ◌∷◌, length, Option, Some, None, Result, Ok, Err}
+use Rattle.std.specs.Borrow.{MutBor}
+use Rattle.std.specs.Fn.{CalledAtMut, Mut}
+use Rattle.std.specs.FinMap as nodes
+use Rattle.art_nodes.specs.Lends.{with_leaf_value}
 use Rattle.art_nodes.specs.Nodes.{Nodes}
 use Rattle.art_parts.specs.declared.names.OpaqueNodePtr.{OpaqueNodePtr}
 use Rattle.art_parts.specs.Names.{leaf_name}
+use Rattle.art_parts.specs.declared.leaf.LeafNode.{LeafNode}
 use Rattle.art_parts.specs.declared.names.LeafPtr.{LeafPtr}
 use Rattle.art_model.specs.Canonical.{IsCanonicalTree}
 use Rattle.art_model.specs.Clones.{AreClones}
@@ -29,6 +34,16 @@ gone_count done = elim done.insert_result.existing_leaf [ None ↦ done.leafs_re
 -- the tree has the leaf of the pair that there is, under this name
 abbrev pub NamesPair : {A : Type 0} → Tree OpaqueNodePtr A → Option A → LeafPtr → Type 0
 NamesPair {A} layout pair leaf = (x : A) × (pair ≡ Some x) × HasLeaf layout (leaf_name leaf) x
+
+-- a call of f at the value of this leaf left another, which the leaf has now
+abbrev pub ChangesLeaf : {K V F : Type 0} → Mut F (MutBor V × Unit {0}) (Unit {0} × (MutBor V × Unit {0})) → LeafPtr → F → Nodes K V → F → Nodes K V → Type 0
+ChangesLeaf {K} {V} g leaf f s left t =
+    (node : LeafNode K V) × (value : V) × (nodes.get s.leaves leaf ≡ Some node) × CalledAtMut g f node.value tt left value ×
+    (t ≡ with_leaf_value s leaf value)
+
+-- the leaf of this name is there, with the key of these bytes
+abbrev pub HasKeyAt : {K V : Type 0} → (K → List ℕ) → Nodes K V → LeafPtr → List ℕ → Type 0
+HasKeyAt {K} {V} bytes s leaf key = (node : LeafNode K V) × (nodes.get s.leaves leaf ≡ Some node) × (bytes node.key ≡ key)
 
 -- The root's tree has the leaf of a key under this name.
 pub record NamesLeafOf {K V : Type 0} (bytes : K → List ℕ) (P : ℕ) (s : Nodes K V) (root : Option OpaqueNodePtr)

@@ -40,6 +40,7 @@ use std::ops::{Bound, Index, RangeBounds};
 use thiserror::Error;
 
 mod compared;
+mod each;
 mod entry;
 mod extend;
 mod iter;
@@ -55,7 +56,6 @@ pub use entry::{Entry, EntryOf};
 pub use iter::{Leaves, MapIter, MapIterOf};
 pub use owned::{IntoIter, IntoKeys, IntoValues};
 pub use parts::{Keys, KeysOf, Values, ValuesOf};
-use place::{enter, place_of};
 pub use range::{Range, RangeOf};
 use remove::take_all_below;
 
@@ -337,32 +337,22 @@ impl<K: AsBytes + Drop, V: Drop, const P: usize> ByteMap<K, V, P> {
             (is_conflict (of_key K.bytes) (K.bytes key) self.old ≡ false) }
         ensures refused { IfErr result (IsRefusalOf K.bytes key value self.old) }
     {
-        let place = place_of(&self.store, self.root, key.as_bytes());
-        let leaf = match enter(
-            &mut self.store,
-            &mut self.root,
-            &mut self.len,
-            place,
-            key,
-            value,
-        ) {
-            Ok(leaf) => leaf,
-            Err(error) => return Err(error),
-        };
-        let Some(value) = self.store.value_mut(leaf) else {
-            unreachable!()
-        };
-        Ok(value)
+        self.value_or_insert(key, None, value)
     }
 
     /// The map with a key, to put the key in where it is not stored, and to write its value. This takes no
-    /// step down the tree; each call of the entry that needs the key's leaf takes its own.
+    /// step down the tree; each call of the entry that needs the key's leaf takes its own, but for an `or_`
+    /// call after an `and_modify` that found it.
     pub fn entry(&mut self, key: K) -> Entry<'_, K, V, P>
         ensures same_map { result.map.ghost_name ≡ self.entry.ghost_name }
         ensures pairs { result.map.now ≡ self.old }
         ensures key { result.key ≡ key }
     {
-        EntryOf { map: self, key }
+        EntryOf {
+            map: self,
+            key,
+            leaf: None,
+        }
     }
 
     /// Puts a pair in, in the place of all pairs with related keys, and returns how many gave way.

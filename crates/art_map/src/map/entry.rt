@@ -9,13 +9,15 @@ ghost use Rattle.art_map.specs.MapCalls.{Modifies};
 ghost use Rattle.art_map.specs.MapLends.{lends_put};
 
 use super::{ByteMap, MapInsertError};
-use art_nodes::node::AsBytes;
+use art_nodes::node::{AsBytes, LeafPtr};
 
 /// A map and a key, which may be stored there or not.
 #[derive(Drop)]
 pub struct EntryOf<'a, K, M> {
     pub(crate) map: &'a mut M,
     pub(crate) key: K,
+    // The leaf that had the key when its value was changed.
+    pub(crate) leaf: Option<LeafPtr>,
 }
 
 /// The same, of a map whose keys these are.
@@ -37,7 +39,8 @@ impl<'a, K: AsBytes + Drop, V: Drop, const P: usize> EntryOf<'a, K, ByteMap<K, V
         self.map.get(self.key.as_bytes())
     }
 
-    /// The entry, after a change of the value of the key where it is stored. It takes a descent.
+    /// The entry, after a change of the value of the key where it is stored. It takes a descent, and
+    /// keeps the leaf that it finds: an `or_` call takes none then, but a look at that leaf.
     pub fn and_modify<F: FnOnce(&mut V)>(self, f: F) -> Self
         requires { (value : MutBor V) →
             value_at K.bytes (K.bytes self.key) self.map.now ≡ Some value.now → F.pre f value }
@@ -46,11 +49,9 @@ impl<'a, K: AsBytes + Drop, V: Drop, const P: usize> EntryOf<'a, K, ByteMap<K, V
         ensures pairs { Modifies F.FnOnce f K.bytes (K.bytes self.entry.key)
             self.entry.map.now result.map.now }
     {
-        let EntryOf { map, key } = self;
-        if let Some(value) = map.get_mut(key.as_bytes()) {
-            f(value);
-        }
-        EntryOf { map, key }
+        let EntryOf { map, key, leaf: _ } = self;
+        let leaf = map.modify(key.as_bytes(), f);
+        EntryOf { map, key, leaf }
     }
 
     /// The value of the key, to be written. Where no equal key is stored the pair comes in first, by the
@@ -65,8 +66,8 @@ impl<'a, K: AsBytes + Drop, V: Drop, const P: usize> EntryOf<'a, K, ByteMap<K, V
         ensures refused { IfErr result
             (IsRefusalOf K.bytes self.entry.key value self.entry.map.now) }
     {
-        let EntryOf { map, key } = self;
-        map.get_or_insert(key, value)
+        let EntryOf { map, key, leaf } = self;
+        map.value_or_insert(key, leaf, value)
     }
 
     /// What `or_insert` returns, with a value that is made of the key. The closure is called where no
@@ -87,8 +88,8 @@ impl<'a, K: AsBytes + Drop, V: Drop, const P: usize> EntryOf<'a, K, ByteMap<K, V
         ensures refused { IfErr result (IsRefusalOfMade K.bytes self.entry.key
             (FnOnceReturnsAt F.FnOnce make self.entry.key) self.entry.map.now) }
     {
-        let EntryOf { map, key } = self;
-        map.value_or_make(key, make)
+        let EntryOf { map, key, leaf } = self;
+        map.value_or_make(key, leaf, make)
     }
 
     /// What `or_insert` returns, with a value that is made. The closure is called where no equal key

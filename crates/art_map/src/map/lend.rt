@@ -1,21 +1,71 @@
-//! A value of a map, which is made where its key is new.
-ghost use Rattle.std.specs.Prelude.{◌≡◌, false, IfErr, IfOk, OnOk};
-ghost use Rattle.std.specs.Borrow.{Bor, sem};
+//! A value of a map, which is changed, or made where its key is new.
+ghost use Rattle.std.specs.Prelude.{◌≡◌, false, IfErr, IfOk, OnOk, Some};
+ghost use Rattle.std.specs.Borrow.{Bor, MutBor, sem};
 ghost use Rattle.std.specs.Fn.{FnOnceReturnsAt};
-ghost use Rattle.std.specs.Option.{UnwrapsOrElse};
+ghost use Rattle.std.specs.Option.{UnwrapsOrElse, unwrap_or};
 ghost use Rattle.art_model.specs.Pairs.{has_key, is_conflict, of_key};
-ghost use Rattle.art_map.specs.MapAnswers.{IsRefusalOfMade, value_at};
+ghost use Rattle.art_map.specs.MapAnswers.{IsRefusalOf, IsRefusalOfMade, value_at};
+ghost use Rattle.art_map.specs.MapCalls.{Modifies};
 ghost use Rattle.art_map.specs.MapLends.{lends_put};
 
-use super::place::{leaf_made, place_of};
+use super::place::{enter, leaf_made, place_near};
 use super::{ByteMap, MapInsertError};
-use art_nodes::node::AsBytes;
+use art_nodes::node::{AsBytes, LeafPtr};
+use art_reading::lookup::search_unchecked;
 
 impl<K: AsBytes + Drop, V: Drop, const P: usize> ByteMap<K, V, P> {
-    // What `get_or_insert` returns, with a value that is made where no equal key is stored.
+    // Calls the closure at the value of the key with these bytes, and returns its leaf.
+    pub(super) fn modify<F: FnOnce(&mut V)>(&mut self, key_bytes: &[u8], f: F) -> Option<LeafPtr>
+        requires { (value : MutBor V) →
+            value_at K.bytes key_bytes.now self.old ≡ Some value.now → F.pre f value }
+        ensures { Modifies F.FnOnce f K.bytes key_bytes.now self.old self.new }
+    {
+        let leaf = search_unchecked(&self.store, self.root?, key_bytes)?;
+        let Some(value) = self.store.value_mut(leaf) else {
+            unreachable!()
+        };
+        f(value);
+        Some(leaf)
+    }
+
+    // What `get_or_insert` returns. The leaf is one that had the key, if one is known.
+    pub(super) fn value_or_insert(
+        &mut self,
+        key: K,
+        leaf: Option<LeafPtr>,
+        value: V,
+    ) -> Result<&mut V, MapInsertError<K, V>>
+        ensures* writes_back { sem 𝓛
+            (lends_put K.row V.row P.row K.AsBytes self.entry key result) }
+        ensures value { IfOk result (λ lent.
+            lent.now ≡ unwrap_or (value_at K.bytes (K.bytes key) self.old) value) }
+        ensures accepted { OnOk result
+            (is_conflict (of_key K.bytes) (K.bytes key) self.old ≡ false) }
+        ensures refused { IfErr result (IsRefusalOf K.bytes key value self.old) }
+    {
+        let place = place_near(&self.store, self.root, leaf, key.as_bytes());
+        let leaf = match enter(
+            &mut self.store,
+            &mut self.root,
+            &mut self.len,
+            place,
+            key,
+            value,
+        ) {
+            Ok(leaf) => leaf,
+            Err(error) => return Err(error),
+        };
+        let Some(value) = self.store.value_mut(leaf) else {
+            unreachable!()
+        };
+        Ok(value)
+    }
+
+    // The same with a value that is made where no equal key is stored.
     pub(super) fn value_or_make<F: FnOnce(&K) -> V>(
         &mut self,
         key: K,
+        leaf: Option<LeafPtr>,
         make: F,
     ) -> Result<&mut V, MapInsertError<K, V>>
         requires { has_key (of_key K.bytes) (K.bytes key) self.old ≡ false →
@@ -30,7 +80,7 @@ impl<K: AsBytes + Drop, V: Drop, const P: usize> ByteMap<K, V, P> {
         ensures refused { IfErr result (IsRefusalOfMade K.bytes key
             (FnOnceReturnsAt F.FnOnce make key) self.old) }
     {
-        let place = place_of(&self.store, self.root, key.as_bytes());
+        let place = place_near(&self.store, self.root, leaf, key.as_bytes());
         let leaf = match leaf_made(
             &mut self.store,
             &mut self.root,

@@ -233,7 +233,7 @@ impl<K: AsBytes + Drop, V: Drop, const P: usize> ByteMap<K, V, P> {
 }
 
 // The walk of all leaves of a map.
-fn whole_walk<K: AsBytes + Drop, V: Drop, const P: usize>(
+pub(super) fn whole_walk<K: AsBytes + Drop, V: Drop, const P: usize>(
     store: &NodeStore<K, V, P>,
     root: Option<OpaqueNodePtr>,
     len: usize,

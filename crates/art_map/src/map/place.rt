@@ -1,9 +1,9 @@
 //! Where a key is in a map, or comes in.
-ghost use Rattle.std.specs.Prelude.{◌≡◌, ℕ, false};
+ghost use Rattle.std.specs.Prelude.{◌≡◌, ℕ, IsTrue, false};
 ghost use Rattle.std.specs.Borrow.{Bor};
 ghost use Rattle.std.specs.Fn.{FnOnceReturnsAt};
 ghost use Rattle.art_model.specs.Pairs.{has_key, of_key};
-ghost use Rattle.art_map.specs.MapChanges.{HasEntered, HasMade, IsPlaceOf};
+ghost use Rattle.art_map.specs.MapChanges.{HasEntered, HasKeyAt, HasMade, IsPlaceOf};
 ghost use Rattle.art_map.specs.MapPairs.{HoldsPairs, pairs_at};
 
 use super::{MapInsertError, one_more, without_memory};
@@ -46,6 +46,39 @@ pub(super) fn place_of<K: AsBytes + Drop, V: Drop, const P: usize>(
         },
         Err(error) => Place::Refused(error),
     }
+}
+
+// Where a key is, or comes in. A leaf that had the key is looked at first, since it may have it still.
+pub(super) fn place_near<K: AsBytes + Drop, V: Drop, const P: usize>(
+    store: &NodeStore<K, V, P>,
+    root: Option<OpaqueNodePtr>,
+    leaf: Option<LeafPtr>,
+    key_bytes: &[u8],
+) -> Place
+    requires { (len : ℕ) × HoldsPairs (of_key K.bytes) P store.now root len
+        (pairs_at store.now root) }
+    ensures { IsPlaceOf K.bytes P store.now root key_bytes.now result }
+{
+    if let Some(leaf) = leaf {
+        if has_key_at(store, leaf, key_bytes) {
+            return Place::Leaf(leaf);
+        }
+    }
+    place_of(store, root, key_bytes)
+}
+
+// Whether a leaf is there, with the key of these bytes.
+fn has_key_at<K: AsBytes + Drop, V: Drop, const P: usize>(
+    store: &NodeStore<K, V, P>,
+    leaf: LeafPtr,
+    key_bytes: &[u8],
+) -> bool
+    ensures { IsTrue result → HasKeyAt K.bytes store.now leaf key_bytes.now }
+{
+    let Some(node) = store.leaf(leaf) else {
+        return false;
+    };
+    node.key.as_bytes() == key_bytes
 }
 
 // The leaf of a key: that which it has, or a new one with the value at its place.

@@ -8,7 +8,7 @@ use Rattle.art_map.proofs.Puts.{is_some-map}
 use Rattle.art_map.proofs.ValueLaws.{new_value, new_written}
 use Rattle.art_map.proofs.Views.{holds, map_held, view_of}
 use Rattle.art_map.proofs.Written.{is_there, lends_same, one_value, value_read, value_written}
-use Rattle.art_map.proofs.map.ByteMap.get_or_insert.Goals as goal
+use Rattle.art_map.proofs.map.ByteMap.value_or_insert.Goals as goal
 
 pub invariant_of-self : goal.invariant_of-self
 invariant_of-self g c = enters_holds g.K.AsBytes.bytes g.row.P _ c.enter.new.store c.enter.new.root c.enter.new.len _ _ c.enter.result c.enter.ensures
