@@ -1,5 +1,5 @@
 -- Parts of a map by the order of its keys, and by their strings.
-use Rattle.std.proofs.Common.{◌≡◌, ℕ, List, [], ◌∷◌, Bool, true, false, ◌&&◌, ◌++◌, not, eqb, eqb-true, eq-eqb, length, Result, Ok, Err, IfOk, OnOk, OnErr, refl, ap, ap₂, sym, ◌∙◌}
+use Rattle.std.proofs.Common.{◌≡◌, ℕ, List, [], ◌∷◌, Bool, true, false, ◌&&◌, ◌++◌, not, eqb, eqb-true, eq-eqb, length, if◌then◌else◌, Result, Ok, Err, IfOk, OnOk, OnErr, refl, ap, ap₂, sym, ◌∙◌}
 use Rattle.std.specs.Prelude.{filter}
 use Rattle.std.specs.List.{AllByRecursion as Each}
 use Rattle.std.specs.Ordering.{is_lt}
@@ -11,10 +11,10 @@ use Rattle.art_keys.specs.Joins.{AreKeys, joined}
 use Rattle.art_keys.specs.Prefixes.{BeginsAs, HasNoPrefixes, KeepsOrder}
 use Rattle.art_model.specs.Keys.{IsFront, are_same, is_front}
 use Rattle.art_model.specs.Pairs.{of_key}
-use Rattle.art_model.specs.Parts.{below, between, is_from, is_up_to, not_below}
+use Rattle.art_model.specs.Parts.{below, between, is_from, is_up_to, not_below, without_below}
 use Rattle.art_model.proofs.Filters.{Each-filter}
 use Rattle.art_map.specs.MapAnswers.{HasShrinkingParentBelow}
-use Rattle.art_keyed.specs.KeyedPairs.{HaveKeys, OnBound, is_key_from, is_key_up_to, keys_between, pairs_with_first, set_below, set_between, strings_below, strings_not_below}
+use Rattle.art_keyed.specs.KeyedPairs.{HaveKeys, OnBound, is_key_from, is_key_up_to, keys_between, pairs_with_first, pairs_without_first, set_below, set_between, set_with_first, strings_below, strings_not_below, without_first_with}
 use denote.Ref.{Bor}
 
 -- two tests that agree on each element leave the same
@@ -25,6 +25,15 @@ filter_same P test other same (x ∷ xs) all = go (filter_same P test other same
     go : filter test xs ≡ filter other xs → (t : Bool) → other x ≡ t → filter test (x ∷ xs) ≡ filter other (x ∷ xs)
     go ih true e = rw (same x all.0 ∙ e, e) (ap (λ ys. x ∷ ys) ih)
     go ih false e = rw (same x all.0 ∙ e, e) ih
+
+-- what is left without the first element below a prefix is known as before
+without_keeps : {A : Type 0} (P : A → Type 0) (bytes : A → List ℕ) (prefix : List ℕ) (xs : List A) → Each P xs → Each P (without_below bytes prefix 1 xs)
+without_keeps P bytes prefix [] all = tt
+without_keeps P bytes prefix (x ∷ xs) all = go (without_keeps P bytes prefix xs all.1) (is_front prefix (bytes x)) refl
+  where
+    go : Each P (without_below bytes prefix 1 xs) → (t : Bool) → is_front prefix (bytes x) ≡ t → Each P (without_below bytes prefix 1 (x ∷ xs))
+    go ih true e = rw e all.1
+    go ih false e = rw e (all.0, ih)
 
 module _ {K : Type 0} (is_key : K → Type 0) (bytes : K → List ℕ) {order : K → K → Ordering} (keeps : KeepsOrder is_key bytes order) where
   same_from : (from : Bound K) (key : K) → OnBound is_key from → is_key key → is_from (bound_map bytes from) (bytes key) ≡ is_key_from order from key
@@ -93,6 +102,16 @@ module _ {K : Type 0} (is_key : K → Type 0) (bytes : K → List ℕ) where
     strings_refused P text key beginning begins (Ok n) pairs refused = tt
     strings_refused P text key beginning begins (Err e) pairs refused = (beginning, begins, refused)
 
+    -- the first pair whose string begins so is the first one whose key does
+    pub without_string : (text : K → List ℕ) (key : K) (beginning : List ℕ) → BeginsAs is_key bytes text key beginning → (pairs : List (K × V)) → HaveKeys is_key pairs →
+        without_below (of_key bytes) beginning 1 pairs ≡ without_below (of_key text) (text key) 1 pairs
+    without_string text key beginning begins [] all = refl
+    without_string text key beginning begins (x ∷ pairs) all =
+        λ i. if begins x.0 all.0 i then pairs else x ∷ without_string text key beginning begins pairs all.1 i
+
+    pub first_out_keeps : (beginning : List ℕ) (pairs : List (K × V)) → HaveKeys is_key pairs → HaveKeys is_key (without_below (of_key bytes) beginning 1 pairs)
+    first_out_keeps beginning pairs all = without_keeps (λ x. is_key x.0) (of_key bytes) beginning pairs all
+
     -- what is left of keys is keys
     pub others_keep : (beginning : List ℕ) (pairs : List (K × V)) → HaveKeys is_key pairs → HaveKeys is_key (not_below (of_key bytes) beginning pairs)
     others_keep beginning pairs all = Each-filter (λ x. is_key x.0) _ pairs all
@@ -128,10 +147,24 @@ front_of_joined (c ∷ a) (z ∷ x) y f g = go (front_of_joined a x y) (eqb c z)
         rw (e, eq-eqb z c (sym same)) (ih (tail c z a x same f) (tail z c x a (sym same) g))
     go ih false e = rw e refl
 
-module _ {A B V : Type 0} (is_first : A → Type 0) (first : A → List ℕ) (is_second : B → Type 0) (second : B → List ℕ) where
+module _ {A B : Type 0} (is_first : A → Type 0) (first : A → List ℕ) (is_second : B → Type 0) (second : B → List ℕ) (apart : HasNoPrefixes is_first first) (key : A) (of_key' : is_first key) where
   -- the bytes of a first key begin those of the keys that have it, and no others
-  pub below_first : HasNoPrefixes is_first first → (key : A) → is_first key → (pairs : List ((A × B) × V)) → HaveKeys (AreKeys is_first is_second) pairs →
-      below (of_key (joined first second)) (first key) pairs ≡ pairs_with_first first (first key) pairs
-  below_first apart key of_key' pairs all =
-      filter_same (λ x. AreKeys is_first is_second x.0) _ _
-      (λ x of_x. front_of_joined (first key) (first x.0.0) (second x.0.1) (apart key x.0.0 of_key' of_x.0) (apart x.0.0 key of_x.0 of_key')) pairs all
+  begins_first : (both : A × B) → AreKeys is_first is_second both → is_front (first key) (first both.0 ++ second both.1) ≡ are_same (first key) (first both.0)
+  begins_first both of_both = front_of_joined (first key) (first both.0) (second both.1) (apart key both.0 of_key' of_both.0) (apart both.0 key of_both.0 of_key')
+
+  pub below_first_in_set : (keys : List (A × B)) → Each (AreKeys is_first is_second) keys → below (joined first second) (first key) keys ≡ set_with_first first (first key) keys
+  below_first_in_set keys all = filter_same (AreKeys is_first is_second) _ _ begins_first keys all
+
+  module _ {V : Type 0} where
+    pub below_first : (pairs : List ((A × B) × V)) → HaveKeys (AreKeys is_first is_second) pairs →
+        below (of_key (joined first second)) (first key) pairs ≡ pairs_with_first first (first key) pairs
+    below_first pairs all = filter_same (λ x. AreKeys is_first is_second x.0) _ _ (λ x of_x. begins_first x.0 of_x) pairs all
+
+    pub not_below_first : (pairs : List ((A × B) × V)) → HaveKeys (AreKeys is_first is_second) pairs →
+        not_below (of_key (joined first second)) (first key) pairs ≡ pairs_without_first first (first key) pairs
+    not_below_first pairs all = filter_same (λ x. AreKeys is_first is_second x.0) _ _ (λ x of_x. ap not (begins_first x.0 of_x)) pairs all
+
+    pub first_out : (pairs : List ((A × B) × V)) → HaveKeys (AreKeys is_first is_second) pairs →
+        without_below (of_key (joined first second)) (first key) 1 pairs ≡ without_first_with first (first key) pairs
+    first_out [] all = refl
+    first_out (x ∷ pairs) all = λ i. if begins_first x.0 all.0 i then pairs else x ∷ first_out pairs all.1 i

@@ -1,5 +1,5 @@
 -- Pairs whose keys are never in conflict, the order in which they stand, and their parts.
-use Rattle.std.specs.Prelude.{◌≡◌, ℕ, Bool, true, false, not, ◌&&◌, List, filter, ⊤}
+use Rattle.std.specs.Prelude.{◌≡◌, ℕ, Bool, true, false, not, ◌&&◌, if◌then◌else◌, List, [], ◌∷◌, filter, ⊤}
 use Rattle.std.specs.List.{AllByRecursion as Each}
 use Rattle.std.specs.Ordering.{is_lt}
 use Rattle.std.specs.declared.cmp.Ordering.{Ordering}
@@ -26,9 +26,24 @@ module _ {K V : Type 0} where
   abbrev pub strings_not_below : (K → List ℕ) → List ℕ → List (K × V) → List (K × V)
   strings_not_below text prefix pairs = filter (λ pair. not (is_front prefix (text pair.0))) pairs
 
--- the pairs of two keys and a value whose first key has these bytes
-abbrev pub pairs_with_first : {A B V : Type 0} → (A → List ℕ) → List ℕ → List ((A × B) × V) → List ((A × B) × V)
-pairs_with_first bytes first pairs = filter (λ pair. are_same first (bytes pair.0.0)) pairs
+module _ {A B V : Type 0} where
+  -- the pairs of two keys and a value whose first key has these bytes
+  abbrev pub pairs_with_first : (A → List ℕ) → List ℕ → List ((A × B) × V) → List ((A × B) × V)
+  pairs_with_first bytes first pairs = filter (λ pair. are_same first (bytes pair.0.0)) pairs
+
+  -- the other pairs
+  abbrev pub pairs_without_first : (A → List ℕ) → List ℕ → List ((A × B) × V) → List ((A × B) × V)
+  pairs_without_first bytes first pairs = filter (λ pair. not (are_same first (bytes pair.0.0))) pairs
+
+  -- the pairs without the first one of those whose first key has these bytes
+  abbrev pub without_first_with : (A → List ℕ) → List ℕ → List ((A × B) × V) → List ((A × B) × V)
+  without_first_with bytes first [] = []
+  without_first_with bytes first (pair ∷ pairs) =
+      if are_same first (bytes pair.0.0) then pairs else pair ∷ without_first_with bytes first pairs
+
+-- the keys of a set, each two joined, whose first key has these bytes
+abbrev pub set_with_first : {A B : Type 0} → (A → List ℕ) → List ℕ → List (A × B) → List (A × B)
+set_with_first bytes first keys = filter (λ key. are_same first (bytes key.0)) keys
 
 module _ {K : Type 0} where
   -- the keys of a set rise strictly in this order

@@ -151,14 +151,18 @@ impl<K: NoPrefixesBytes + Drop, V: Drop, const P: usize> KeyedMap<K, V, P> {
 
     /// Returns the keys as they rise.
     pub fn keys(&self) -> Keys<'_, K, V, P>
-        ensures { result ≡ keys_of self.now }
+        ensures keys { result ≡ keys_of self.now }
+        ensures sorted { IsMap (of_key K.bytes) self.now }
+        ensures fits { length result < 2 ^ 64 }
     {
         self.map.keys()
     }
 
     /// Returns the values in the order of their keys.
     pub fn values(&self) -> Values<'_, K, V, P>
-        ensures { result ≡ values_of self.now }
+        ensures values { result ≡ values_of self.now }
+        ensures sorted { IsMap (of_key K.bytes) self.now }
+        ensures fits { length result < 2 ^ 64 }
     {
         self.map.values()
     }

@@ -1,5 +1,5 @@
 //! An ordered set of keys that are never in conflict. Its contracts speak of lists of keys alone.
-ghost use Rattle.std.specs.Prelude.{◌≡◌, ◌↔◌, [], length, false, not, IfOk, IfErr, IsTrue, OnOk, OnErr, option_copied};
+ghost use Rattle.std.specs.Prelude.{◌≡◌, ◌↔◌, ◌<◌, ◌^◌, [], length, false, not, IfOk, IfErr, IsTrue, OnOk, OnErr, option_copied};
 ghost use Rattle.std.specs.List.{AllByRecursion as Each};
 ghost use Rattle.art_model.specs.Pairs.{IsMap, first_of, has_key, last_of, of_key, remove_key, remove_reply, with_key, without_first, without_last};
 ghost use Rattle.art_map.specs.MapAnswers.{MayRefuseRemoval};
@@ -16,6 +16,7 @@ use thiserror::Error;
 mod algebra;
 mod compared;
 mod extend;
+mod joined;
 mod ordered;
 
 /// A key that was not put in, for want of memory.
@@ -109,7 +110,9 @@ impl<K: NoPrefixesBytes + Drop, const P: usize> KeyedSet<K, P> {
 
     /// Returns the keys as they rise.
     pub fn iter(&self) -> Keys<'_, K, (), P>
-        ensures { result ≡ self.now }
+        ensures keys { result ≡ self.now }
+        ensures sorted { IsMap K.bytes self.now }
+        ensures fits { length result < 2 ^ 64 }
     {
         self.set.iter()
     }

@@ -3,7 +3,8 @@ ghost use Rattle.std.specs.Prelude.{◌≡◌, ◌<◌, ◌^◌, ◌∷◌, ◌+
 ghost use Rattle.std.specs.Option.{option_map};
 ghost use Rattle.art_model.specs.Keys.{are_same};
 ghost use Rattle.art_model.specs.Pairs.{IsMap, first_of, of_key, with_key};
-ghost use Rattle.art_map.specs.MapAnswers.{HasShrinkingParentBelow, value_at};
+ghost use Rattle.art_model.specs.Parts.{without_below};
+ghost use Rattle.art_map.specs.MapAnswers.{HasShrinkingParentBelow, MayRefuseRemoval, value_at};
 ghost use Rattle.art_map.specs.MapItems.{deref_pair};
 ghost use Rattle.art_keys.specs.Ended.{ended};
 ghost use Rattle.art_keys.specs.Escapes.{IsPlain, escape};
@@ -43,6 +44,20 @@ impl<K: StringBytes + Drop, V: Drop, const P: usize> KeyedMap<K, V, P> {
             HasShrinkingParentBelow (of_key K.bytes) P self.old beginning) }
     {
         self.map.remove_prefix(prefix.beginning())
+    }
+
+    /// Takes out the first of the pairs whose strings begin with that of a key, and returns it. It is
+    /// refused as `remove` is.
+    pub fn pop_first_below(&mut self, prefix: &K) -> Result<Option<(K, V)>, MapRefused>
+        ensures pairs { OnOk result
+            (self.new ≡ without_below (of_key K.text) (K.text prefix.now) 1 self.old) }
+        ensures removed { IfOk result (λ removed.
+            removed ≡ first_of (strings_below K.text (K.text prefix.now) self.old)) }
+        ensures kept { OnErr result (self.new ≡ self.old) }
+        ensures refused { OnErr result (MayRefuseRemoval (of_key K.bytes) P self.old
+            (first_of (strings_below K.text (K.text prefix.now) self.old))) }
+    {
+        self.map.pop_first_below(prefix.beginning())
     }
 }
 

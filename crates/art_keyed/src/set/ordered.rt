@@ -1,8 +1,8 @@
 //! Sets whose keys are in the order of their type, and those whose keys stand for strings of bytes.
-ghost use Rattle.std.specs.Prelude.{◌≡◌, option_copied};
+ghost use Rattle.std.specs.Prelude.{◌≡◌, ◌<◌, ◌^◌, length, option_copied};
 ghost use Rattle.std.specs.Range.Bound.{bound_map};
 ghost use Rattle.std.specs.declared.ops.Bound.TheVariants.{Unbounded};
-ghost use Rattle.art_model.specs.Pairs.{first_of, last_of};
+ghost use Rattle.art_model.specs.Pairs.{IsMap, first_of, last_of};
 ghost use Rattle.art_keyed.specs.KeyedPairs.{KeysRiseBy, set_below, set_between};
 
 use super::KeyedSet;
@@ -21,16 +21,20 @@ impl<K: OrderedBytes + Drop, const P: usize> KeyedSet<K, P> {
 
     /// Returns the keys in a range, as they rise; none where it runs backwards.
     pub fn range<R: RangeBounds<K> + Drop>(&self, range: R) -> KeyRange<'_, K, P>
-        ensures { R.has_bounds range → result ≡
+        ensures keys { R.has_bounds range → result ≡
             set_between K.order (R.start_bound range) (R.end_bound range) self.now }
+        ensures sorted { IsMap K.bytes self.now }
+        ensures fits { length result < 2 ^ 64 }
     {
         self.between(range.start_bound(), range.end_bound())
     }
 
     // Returns the keys between two bounds.
     fn between(&self, from: Bound<&K>, to: Bound<&K>) -> KeyRange<'_, K, P>
-        ensures { result ≡ set_between K.order (bound_map (λ b. b.now) from.entry)
+        ensures keys { result ≡ set_between K.order (bound_map (λ b. b.now) from.entry)
             (bound_map (λ b. b.now) to.entry) self.now }
+        ensures sorted { IsMap K.bytes self.now }
+        ensures fits { length result < 2 ^ 64 }
     {
         self.set.range((bytes_of(from), bytes_of(to)))
     }
@@ -55,7 +59,9 @@ impl<K: OrderedBytes + Drop, const P: usize> KeyedSet<K, P> {
 impl<K: StringBytes + Drop, const P: usize> KeyedSet<K, P> {
     /// Returns the keys whose strings begin with that of a key, as they rise.
     pub fn prefix(&self, prefix: &K) -> KeyRange<'_, K, P>
-        ensures { result ≡ set_below K.text (K.text prefix.now) self.now }
+        ensures keys { result ≡ set_below K.text (K.text prefix.now) self.now }
+        ensures sorted { IsMap K.bytes self.now }
+        ensures fits { length result < 2 ^ 64 }
     {
         self.set.prefix(prefix.beginning())
     }

@@ -1,5 +1,4 @@
 //! All pairs below a prefix go at once.
-ghost use Rattle.std.specs.Prelude.{◌≡◌};
 ghost use Rattle.art_map.specs.MapChanges.{HasTakenBelow};
 ghost use Rattle.art_map.specs.MapPairs.{HoldsPairs, pairs_at};
 ghost use Rattle.art_model.specs.Pairs.{of_key};

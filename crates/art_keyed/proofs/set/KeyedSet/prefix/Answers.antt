@@ -3,8 +3,8 @@ use Rattle.art_keyed.specs.KeyedPairs.{set_below}
 use Rattle.art_keyed.proofs.Between.{below_in_set}
 use Rattle.art_keyed.proofs.set.KeyedSet.prefix.Goals as goal
 
-pub returns : goal.returns
-returns g c =
+pub returns-clause-keys : goal.returns-clause-keys
+returns-clause-keys g c =
     let text = g.K.StringBytes.text in
-    c.prefix.ensures ∙ below_in_set _ g.K.AsBytes.bytes text c.args.prefix.now c.beginning.result.now c.beginning.ensures c.self.inside.set c.self.invariant
+    c.prefix.ensures.keys ∙ below_in_set _ g.K.AsBytes.bytes text c.args.prefix.now c.beginning.result.now c.beginning.ensures c.self.inside.set c.self.invariant
     ∙ ap (set_below text (text c.args.prefix.now)) c.self.view_is

@@ -1,0 +1,22 @@
+//! Sets whose keys are two keys as one.
+ghost use Rattle.std.specs.Prelude.{◌≡◌, ◌<◌, ◌^◌, length};
+ghost use Rattle.art_model.specs.Pairs.{IsMap};
+ghost use Rattle.art_keys.specs.Joins.{joined};
+ghost use Rattle.art_keyed.specs.KeyedPairs.{set_with_first};
+
+use super::KeyedSet;
+use art_keys::joined::Joined;
+use art_keys::laws::DecodeBytes;
+use art_map::set::KeyRange;
+
+impl<A: DecodeBytes + Drop, B: DecodeBytes + Drop, const P: usize> KeyedSet<Joined<A, B>, P> {
+    /// Returns the keys that have this first key, in the order of the bytes of the second ones.
+    pub fn with_first(&self, first: &A) -> KeyRange<'_, Joined<A, B>, P>
+        ensures keys { result ≡ set_with_first A.bytes (A.bytes first.now) self.now }
+        ensures sorted { IsMap (joined A.bytes B.bytes) self.now }
+        ensures fits { length result < 2 ^ 64 }
+    {
+        first.as_key();
+        self.set.prefix(first.as_bytes())
+    }
+}
