@@ -7,12 +7,12 @@ use Rattle.art_parts.specs.declared.names.NodeType.{NodeType}
 use Rattle.art_parts.specs.declared.names.OpaqueNodePtr.{OpaqueNodePtr}
 use Rattle.art_nodes.specs.Nodes.{Nodes, covers, no_promise}
 use Rattle.art_model.specs.Canonical.{IsCanonical, IsCanonicalTree}
-use Rattle.art_model.specs.Pairs.{IsMap, first_of, has_key, is_conflict, of_key, put, put_reply, stored_for, with_key}
+use Rattle.art_model.specs.Pairs.{IsMap, first_of, has_key, is_conflict, of_key, put, put_reply, replace_key, stored_for, with_key}
 use Rattle.art_model.specs.Promises.{is_covered}
 use Rattle.art_model.specs.Roots.{ForTree}
 use Rattle.art_model.specs.Stores.{pair_of}
 use Rattle.art_model.specs.Keys.{are_same}
-use Rattle.art_model.proofs.Puts.{any_is_first, has_is_stored, put_reply-new, stored_bytes}
+use Rattle.art_model.proofs.Puts.{any_is_first, has_is_stored, put-new, put_reply-new, stored_bytes}
 use Rattle.art_writing.specs.Inserted.{HasInserted, IsPointIn, placed_for}
 use Rattle.art_writing.specs.Points.{AnswersTo}
 use Rattle.art_reading.specs.declared.end_node.InsertKind.{InsertKind}
@@ -103,6 +103,15 @@ module _ {K V : Type 0} (bytes : K → List ℕ) (new : K × V) (pairs : List (K
   -- a pair whose key is not stored is put
   pub new_is_put : put (of_key bytes) new pairs ≡ put_new bytes new pairs
   new_is_put = rw none refl
+
+  -- which is in its own place, and no pair gives way
+  pub new_replaces : (replace_key (of_key bytes) new pairs ≡ put_new bytes new pairs) × (None ≡ first_of (with_key (of_key bytes) (bytes new.0) pairs))
+  new_replaces = go (first_of (with_key (of_key bytes) (bytes new.0) pairs)) refl
+    where
+      go : (o : Option (K × V)) → first_of (with_key (of_key bytes) (bytes new.0) pairs) ≡ o →
+          (replace_key (of_key bytes) new pairs ≡ put_new bytes new pairs) × (None ≡ first_of (with_key (of_key bytes) (bytes new.0) pairs))
+      go None e = (sym (put-new (of_key bytes) new pairs e) ∙ new_is_put, sym e)
+      go (Some x) e = absurd (false≢true (sym none ∙ has_is_stored (of_key bytes) new pairs ∙ ap is_some e))
 
   -- and nothing comes back
   pub none_back : put_reply (of_key bytes) new pairs ≡ None

@@ -2,12 +2,12 @@
 use Rattle.std.proofs.Common.{◌≡◌, ◌≢◌, ℕ, List, length, Option, Some, None, Result, Ok, Err, OnOk, OnErr, IfOk, IfErr, false, refl, ap, ◌∙◌, subst}
 use Rattle.art_nodes.specs.Nodes.{Nodes}
 use Rattle.art_parts.specs.declared.names.OpaqueNodePtr.{OpaqueNodePtr}
-use Rattle.art_model.specs.Pairs.{IsMap, of_key, overwrite, put, related_to, is_conflict, put_reply, remove_key}
+use Rattle.art_model.specs.Pairs.{IsMap, first_of, is_conflict, of_key, overwrite, put, put_reply, related_to, remove_key, replace_key, with_key}
 use Rattle.art_model.specs.Parts.{below, not_below}
 use Rattle.art_model.proofs.Keys.{not_same}
 use Rattle.art_writing.specs.declared.insert.Refused.{Refused}
 use Rattle.art_map.specs.MapAnswers.{HasShrinkingParentBelow, IsRefusalOf, MayRefuseRemoval, value_at}
-use Rattle.art_map.specs.MapChanges.{HasPut, HasPutOver, HasTaken, HasTakenBelow}
+use Rattle.art_map.specs.MapChanges.{HasPut, HasPutOver, HasReplaced, HasTaken, HasTakenBelow}
 use Rattle.art_map.specs.MapPairs.{HoldsPairs, pairs_at}
 use Rattle.art_map.specs.declared.map.MapInsertError.{MapInsertError}
 use Rattle.art_map.specs.declared.map.MapRefused.{MapRefused}
@@ -33,6 +33,14 @@ module _ {K V : Type 0} (bytes : K → List ℕ) where
     pub handed_back : IfErr result (λ refused. (refused.key ≡ key) × (refused.value ≡ value))
     pub kept : OnErr result (after ≡ before)
     pub refused : OnErr result (length (related_to (of_key bytes) (bytes key) before) ≢ 1)
+
+  -- What a caller is told of a pair that is put in the place of the one with an equal key.
+  pub record TellsReplaced (key : K) (value : V) (before after : List (K × V)) (result : Result (Option (K × V)) (MapInsertError K V)) : Type 0 where
+    pub pairs : OnOk result (after ≡ replace_key (of_key bytes) (key, value) before)
+    pub replaced : IfOk result (λ replaced. replaced ≡ first_of (with_key (of_key bytes) (bytes key) before))
+    pub accepted : OnOk result (is_conflict (of_key bytes) (bytes key) before ≡ false)
+    pub refused : IfErr result (IsRefusalOf bytes key value before)
+    pub kept : OnErr result (after ≡ before)
 
   -- What a caller is told of the pairs below a prefix that are taken out.
   pub record TellsBelow (P : ℕ) (prefix : List ℕ) (before after : List (K × V)) (result : Result ℕ MapRefused) : Type 0 where
@@ -82,6 +90,18 @@ module _ {K V : Type 0} (bytes : K → List ℕ) (P : ℕ) (pairs : List (K × V
           refused = h.1;
           kept = view_of (of_key bytes) P t h.0;
         }
+
+    pub replaced_holds : (result : Result (Option (K × V)) (MapInsertError K V)) → HasReplaced bytes P pairs key value result t root len → HoldsPairs (of_key bytes) P t root len (pairs_at t root)
+    replaced_holds (Ok replaced) h = holds (of_key bytes) P t h.0
+    replaced_holds (Err error) h = holds (of_key bytes) P t h.0
+
+    pub tells_replaced : {before : List (K × V)} → pairs ≡ before → (result : Result (Option (K × V)) (MapInsertError K V)) → HasReplaced bytes P pairs key value result t root len →
+        TellsReplaced bytes key value before (pairs_at t root) result
+    tells_replaced same result h = subst (λ xs. TellsReplaced bytes key value xs (pairs_at t root) result) same (go result h)
+      where
+        go : (result : Result (Option (K × V)) (MapInsertError K V)) → HasReplaced bytes P pairs key value result t root len → TellsReplaced bytes key value pairs (pairs_at t root) result
+        go (Ok replaced) h = record { pairs = view_of (of_key bytes) P t h.0; replaced = h.1; accepted = h.2; refused = tt; kept = tt }
+        go (Err error) h = record { pairs = tt; replaced = tt; accepted = tt; refused = h.1; kept = view_of (of_key bytes) P t h.0 }
 
     pub over_holds : (result : Result ℕ (Refused K V)) → HasPutOver bytes P pairs key value result t root len → HoldsPairs (of_key bytes) P t root len (pairs_at t root)
     over_holds (Ok gone) h = holds (of_key bytes) P t h.0

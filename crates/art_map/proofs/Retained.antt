@@ -1,6 +1,6 @@
 -- What is left of a map of which a closure was asked, pair by pair.
-use Rattle.std.proofs.Common.{◌≡◌, ℕ, ◌<◌, List, [], ◌∷◌, ◌++◌, Bool, true, false, cond, filter, length, refl, ap, sym, ◌∙◌, subst, arith, length-append, append_assoc, append-nil, Option, Some, None, Bor}
-use Rattle.std.specs.Fn.{Called, Mut}
+use Rattle.std.proofs.Common.{◌≡◌, ℕ, ◌<◌, List, [], ◌∷◌, ◌++◌, Bool, true, false, cond, filter, length, refl, ap, sym, ◌∙◌, subst, arith, length-append, append_assoc, append-nil, Option, Some, None, Result, Ok, Err, OnOk, OnErr, Bor}
+use Rattle.std.specs.Fn.{Called, CalledAt, Mut}
 use Rattle.std.specs.List.{AllByRecursion as Each}
 use Rattle.std.specs.declared.ops.Bound.TheVariants.{Excluded, Unbounded}
 use Rattle.art_model.specs.Keys.{Precedes, are_same}
@@ -9,7 +9,9 @@ use Rattle.art_model.specs.Parts.{is_between}
 use Rattle.art_model.proofs.Keys.{front_same, precedes_apart, related_sym, same_related}
 use Rattle.art_model.proofs.MapLaws.{first_is_removed_by_key}
 use Rattle.art_map.specs.MapAnswers.{HasShrinkingParent}
+use Rattle.art_map.specs.MapItems.{keys_of}
 use Rattle.art_map.specs.MapRetain.{AsksPair, Retains, RetainsAll, RetainsUntil, StopsAt, pairs_after}
+use Rattle.art_map.specs.SetKeys.{AsksKey}
 
 -- a call at a pair that returned b
 pub asked_at : {F K V : Type 0} (g : Mut F (Bor K × (Bor V × Unit {0})) Bool) {f left : F} {key : Bor K} {value : Bor V} {r b : Bool} → Called g f (key, (value, tt)) r left → r ≡ b →
@@ -160,3 +162,47 @@ module _ {F A : Type 0} (asks : F → A → Bool → F → Type 0) where
               let less = ap length left_is in
               let more = ap length stops.parts ∙ length-append stops.seen (x ∷ stops.rest) in
               omega arith
+
+-- ---- a closure that hands on to another one, whose state it holds
+
+module _ {C F A : Type 0} (asks : C → A → Bool → C → Type 0) (other : F → A → Bool → F → Type 0) (inside : C → F)
+    (one : (s : C) (x : A) (b : Bool) (t : C) → asks s x b t → other (inside s) x b (inside t)) where
+  retains_inside : (s : C) (before kept : List A) (t : C) → Retains asks s before kept t → Retains other (inside s) before kept (inside t)
+  retains_inside s [] kept t h = (h.0, ap inside h.1)
+  retains_inside s (x ∷ xs) kept t (b, next, rest, asked, h, is) = (b, inside next, rest, one s x b next asked, retains_inside next xs rest t h, is)
+
+  pub all_inside : {E : Type 0} (r : Result (Unit {0}) E) (s : C) (before after : List A) → OnOk r (RetainsAll asks s before after) → OnOk r (RetainsAll other (inside s) before after)
+  all_inside (Ok done) s before after (left, h) = (inside left, retains_inside s before after left h)
+  all_inside (Err error) s before after h = tt
+
+  pub until_inside : {E : Type 0} (r : Result (Unit {0}) E) (bytes : A → List ℕ) (P : ℕ) (s : C) (before after : List A) → OnErr r (RetainsUntil asks bytes P s before after) →
+      OnErr r (RetainsUntil other bytes P (inside s) before after)
+  until_inside (Ok done) bytes P s before after h = tt
+  until_inside (Err error) bytes P s before after h = record {
+    seen = h.seen;
+    kept = h.kept;
+    refused = h.refused;
+    rest = h.rest;
+    next = inside h.next;
+    left = inside h.left;
+    before_is = h.before_is;
+    after_is = h.after_is;
+    retains = retains_inside s h.seen h.kept h.next h.retains;
+    asked = one h.next h.refused false h.left h.asked;
+    shrinks = h.shrinks;
+  }
+
+module _ {F K : Type 0} (g : Mut F (Bor K × Unit {0}) Bool) where
+  keys_retained : (f : F) (pairs kept : List (K × Unit {0})) (left : F) → Retains (AsksKey g) f pairs kept left → Retains (CalledAt g) f (keys_of pairs) (keys_of kept) left
+  keys_retained f [] kept left h = (ap keys_of h.0, h.1)
+  keys_retained f (x ∷ xs) kept left (b, next, rest, asked, h, is) = (b, next, keys_of rest, asked, keys_retained next xs rest left h, ap keys_of is ∙ go b)
+    where
+      go : (b : Bool) → keys_of (cond b (x ∷ rest) rest) ≡ cond b (x.0 ∷ keys_of rest) (keys_of rest)
+      go true = refl
+      go false = refl
+
+  -- which keys stay of a set, by its pairs
+  pub keys_retained_all : {E : Type 0} (r : Result (Unit {0}) E) (f : F) (pairs kept : List (K × Unit {0})) → OnOk r (RetainsAll (AsksKey g) f pairs kept) →
+      OnOk r (RetainsAll (CalledAt g) f (keys_of pairs) (keys_of kept))
+  keys_retained_all (Ok done) f pairs kept (left, h) = (left, keys_retained f pairs kept left h)
+  keys_retained_all (Err error) f pairs kept h = tt

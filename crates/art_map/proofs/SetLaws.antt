@@ -5,7 +5,7 @@ use Rattle.std.specs.List.{AllByRecursion as Each}
 use Rattle.std.specs.Option.{option_map}
 use Rattle.std.specs.declared.ops.Bound.{Bound}
 use Rattle.art_model.specs.Keys.{Precedes, are_related, are_same, is_before}
-use Rattle.art_model.specs.Pairs.{IsMap, add_in_order, first_of, has_key, is_conflict, last_of, of_key, put, put_reply, remove_key, remove_reply, with_key, without_first, without_last}
+use Rattle.art_model.specs.Pairs.{IsMap, add_in_order, first_of, has_key, is_conflict, last_of, of_key, put, put_reply, remove_key, remove_reply, replace_key, with_key, without_first, without_last}
 use Rattle.art_model.specs.Parts.{below, between}
 use Rattle.art_model.proofs.Puts.{any_is_first, has_is_stored, put-new}
 use Rattle.art_map.specs.declared.map.MapInsertError.{MapInsertError}
@@ -111,6 +111,10 @@ module _ {K V : Type 0} (bytes : K → List ℕ) where
           keys_of (add_in_order (of_key bytes) new (x ∷ xs)) ≡ add_in_order bytes new.0 (keys_of (x ∷ xs))
       go ih true e = rw e refl
       go ih false e = rw e (ap (λ ks. x.0 ∷ ks) ih)
+
+  -- a key takes the place of an equal one
+  pub keys_replaced : (key : K) (value : V) (pairs : List (K × V)) → keys_of (replace_key (of_key bytes) (key, value) pairs) ≡ replace_key bytes key (keys_of pairs)
+  keys_replaced key value pairs = keys_added (key, value) (remove_key (of_key bytes) (bytes key) pairs) ∙ ap (add_in_order bytes key) (keys_removed (bytes key) pairs)
 
   keys_written : (key : List ℕ) (value : V) (pairs : List (K × V)) → keys_of (with_value_at bytes key value pairs) ≡ keys_of pairs
   keys_written key value [] = refl

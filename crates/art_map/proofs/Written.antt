@@ -1,5 +1,5 @@
 -- A value that is written in the leaf of a key.
-use Rattle.std.proofs.Common.{◌≡◌, ◌⊎◌, ℕ, List, [], ◌∷◌, Option, Some, None, IsSome, is_some, refl, ap, sym, ◌∙◌, subst, inl, true}
+use Rattle.std.proofs.Common.{◌≡◌, ◌⊎◌, ℕ, List, [], ◌∷◌, Option, Some, None, IfSome, IsSome, is_some, refl, ap, sym, ◌∙◌, subst, inl, true, ◌++◌, length, length-append, ◌+◌}
 use Rattle.std.specs.FinMap.{get}
 use Rattle.std.specs.Option.{option_map}
 use Rattle.std.proofs.lemmas.Bool.{false≢true}
@@ -8,25 +8,25 @@ use Rattle.art_parts.specs.Names.{leaf_name}
 use Rattle.art_parts.specs.declared.leaf.LeafNode.{LeafNode}
 use Rattle.art_parts.specs.declared.names.LeafPtr.{LeafPtr}
 use Rattle.art_parts.specs.declared.names.OpaqueNodePtr.{OpaqueNodePtr}
-use Rattle.art_nodes.specs.LeafChanges.{with_value}
+use Rattle.art_nodes.specs.LeafChanges.{with_pair, with_value}
 use Rattle.art_nodes.specs.Lends.{with_leaf_value}
-use Rattle.art_nodes.specs.Nodes.{Nodes}
+use Rattle.art_nodes.specs.Nodes.{Nodes, change}
 use Rattle.art_model.specs.Kept.{ChangesInPlace}
 use Rattle.art_model.specs.Keys.{are_same}
 use Rattle.art_model.specs.Lookups.{FindsLeaf}
-use Rattle.art_model.specs.Pairs.{first_of, has_key, of_key, with_key}
-use Rattle.art_model.specs.Paths.{plug}
+use Rattle.art_model.specs.Pairs.{first_of, has_key, of_key, replace_key, with_key}
+use Rattle.art_model.specs.Paths.{pairs_after, pairs_before, plug}
 use Rattle.art_model.specs.Radix.{pairs_of}
 use Rattle.art_model.specs.Roots.{ForTree}
 use Rattle.art_model.specs.Stores.{links_at, node_at, pair_of}
 use Rattle.art_model.specs.Trees.{leaf}
-use Rattle.art_model.proofs.Between.{IsLocal}
+use Rattle.art_model.proofs.Between.{IsLocal, replace_key-between}
 use Rattle.art_model.proofs.Canonical.{IsLaidOut, canonical_from, laid_out}
 use Rattle.art_model.proofs.InHole.{with_key-hole}
 use Rattle.art_model.proofs.IntoLeaf.{IntoLeaf, leaf_changed, leaf_kept}
 use Rattle.art_model.proofs.Keys.{front_same, same_equal}
 use Rattle.art_model.proofs.LeavesFound.{leaf_found}
-use Rattle.art_model.proofs.Paths.{IsHole, hole_of}
+use Rattle.art_model.proofs.Paths.{IsHole, hole_of, pairs_of-plug}
 use Rattle.art_model.proofs.Puts.{any_is_first}
 use Rattle.art_map.specs.MapAnswers.{value_at, with_value_at}
 use Rattle.art_map.specs.MapChanges.{NamesLeafOf}
@@ -40,6 +40,11 @@ use Rattle.art_map.proofs.Views.{none_other, view_is}
 pub some_of : {A : Type 0} (o : Option A) → IsSome o → (x : A) × (o ≡ Some x)
 some_of None none = absurd (false≢true none)
 some_of (Some x) some = (x, refl)
+
+-- a list is as long with another element
+same_length : {A : Type 0} (before after : List A) (x y : A) → length (before ++ (x ∷ []) ++ after) ≡ length (before ++ (y ∷ []) ++ after)
+same_length before after x y =
+    length-append (before ++ x ∷ []) after ∙ ap (λ n. n + length after) (length-append before (x ∷ []) ∙ sym (length-append before (y ∷ []))) ∙ sym (length-append (before ++ y ∷ []) after)
 
 -- in the same there is the same
 pub one_value : {A : Type 0} {x y : A} → Some x ≡ Some y → x ≡ y
@@ -131,3 +136,32 @@ module _ {K V : Type 0} (bytes : K → List ℕ) (P : ℕ) {s : Nodes K V} {p : 
         no_other = none_other kept.others no_other;
         len_is = counted ∙ sym (length-map n.pairs _);
       })
+
+  -- the leaf gets another pair with the key, which takes the place of the old one
+  pub pair_written : {len : ℕ} {t : Nodes K V} (new : K × V) → bytes new.0 ≡ key → HoldsPairs (of_key bytes) P s root len (pairs_at s root) → t.leaves ≡ change s.leaves p (with_pair new.0 new.1) →
+      t.inners ≡ s.inners → HoldsPairs (of_key bytes) P t root len (replace_key (of_key bytes) new (pairs_at s root))
+  pair_written {len} {t} new same is leaves inners =
+      let at_name = subst (λ r. HoldsPairs (of_key bytes) P s r len (pairs_at s root)) n.root_is is in
+      let (no_other, counted) = for_tree bytes P n.by at_name in
+      let alike : bytes new.0 ≡ bytes node.key = same ∙ sym own in
+      let into : IntoLeaf (of_key bytes) P s t n.has.path hole.0 p node new =
+      record { hole = subst (IsHole (of_key bytes) P n.has.path hole.0 (leaf (leaf_name p) (pair_of node))) (sym alike) hole.1; here = there; write = with_pair new.0 new.1; written = refl; leaves = leaves; inners = inners } in
+      let F = replace_key (of_key bytes) new in
+      let its_own : F (pair_of node ∷ []) ≡ new ∷ [] = rw (ap (are_same (bytes new.0)) (sym alike), front_same (bytes new.0)) refl in
+      let tree = plug n.has.path (leaf (leaf_name p) new) in
+      let kept = subst (λ z. ChangesInPlace (of_key bytes) s t (Some z) (Some tree)) whole (leaf_kept old into F (replace_key-between (of_key bytes) new) its_own) in
+      let laid = leaf_changed old into F (replace_key-between (of_key bytes) new) its_own in
+      let many = ap length (sym old.pairs_are ∙ pairs_of-plug n.has.path (leaf (leaf_name p) (pair_of node))) in
+      let still = ap length (sym (pairs_of-plug n.has.path (leaf (leaf_name p) new)) ∙ laid.pairs_are) in
+      rw (pairs_are, n.root_is) (record {
+        tree = Some tree;
+        canonical = canonical_from laid;
+        no_other = none_other kept.others no_other;
+        len_is = counted ∙ many ∙ same_length (pairs_before n.has.path) (pairs_after n.has.path) (pair_of node) new ∙ still;
+      })
+
+  -- and that is the pair under the key
+  pub pair_swapped : {r : K × V} → IfSome (get s.leaves p) (λ other. r ≡ pair_of other) → Some r ≡ first_of (with_key (of_key bytes) key (pairs_at s root))
+  pair_swapped {r} told =
+      let same : r ≡ pair_of node = rw there at told in
+      ap Some same ∙ sym (ap (λ xs. first_of (with_key (of_key bytes) key xs)) pairs_are ∙ ap first_of its_pair)

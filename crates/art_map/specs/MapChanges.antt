@@ -12,7 +12,7 @@ use Rattle.art_parts.specs.declared.names.LeafPtr.{LeafPtr}
 use Rattle.art_model.specs.Canonical.{IsCanonicalTree}
 use Rattle.art_model.specs.Clones.{AreClones}
 use Rattle.art_model.specs.Lookups.{HasLeaf}
-use Rattle.art_model.specs.Pairs.{of_key, has_key, is_conflict, put, put_reply, overwrite, related_to}
+use Rattle.art_model.specs.Pairs.{first_of, has_key, is_conflict, of_key, overwrite, put, put_reply, related_to, replace_key, with_key}
 use Rattle.art_model.specs.Parts.{below, not_below}
 use Rattle.art_model.specs.Trees.{Tree}
 use Rattle.art_writing.specs.Inserted.{IsPointIn}
@@ -86,6 +86,14 @@ module _ {K V : Type 0} (bytes : K → List ℕ) (P : ℕ) (pairs : List (K × V
       HoldsPairs (of_key bytes) P t root len (put (of_key bytes) (key, value) pairs) ×
       (replaced ≡ put_reply (of_key bytes) (key, value) pairs) × (is_conflict (of_key bytes) (bytes key) pairs ≡ false)
   HasPut key value (Err error) t root len =
+      HoldsPairs (of_key bytes) P t root len pairs × IsRefusalOf bytes key value pairs error
+
+  -- the pair was put in the place of the one with an equal key, or it is handed back and the pairs are as before
+  abbrev pub HasReplaced : K → V → Result (Option (K × V)) (MapInsertError K V) → Nodes K V → Option OpaqueNodePtr → ℕ → Type 0
+  HasReplaced key value (Ok replaced) t root len =
+      HoldsPairs (of_key bytes) P t root len (replace_key (of_key bytes) (key, value) pairs) ×
+      (replaced ≡ first_of (with_key (of_key bytes) (bytes key) pairs)) × (is_conflict (of_key bytes) (bytes key) pairs ≡ false)
+  HasReplaced key value (Err error) t root len =
       HoldsPairs (of_key bytes) P t root len pairs × IsRefusalOf bytes key value pairs error
 
   -- the pair was put where its key was not stored, and the leaf of the key is told, or the pair is handed back and the pairs are as before

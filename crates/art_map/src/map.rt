@@ -50,6 +50,7 @@ mod parts;
 mod place;
 mod range;
 mod remove;
+mod replace;
 mod retain;
 
 pub use entry::{Entry, EntryOf};

@@ -2,7 +2,7 @@
 #![tactic(auto, using(crate::proofs::SetLaws::set_laws))]
 
 ghost use Rattle.std.specs.Prelude.{◌≡◌, ◌↔◌, ◌<◌, ◌^◌, [], length, false, not, IsTrue, IfOk, IfErr, OnOk, OnErr, option_copied};
-ghost use Rattle.art_model.specs.Pairs.{IsMap, first_of, has_key, is_conflict, last_of, of_key, remove_key, remove_reply, with_key, without_first, without_last};
+ghost use Rattle.art_model.specs.Pairs.{IsMap, first_of, has_key, is_conflict, last_of, of_key, remove_key, remove_reply, replace_key, with_key, without_first, without_last};
 ghost use Rattle.art_map.specs.MapAnswers.{MayRefuseRemoval};
 ghost use Rattle.art_map.specs.SetKeys.{IsKeyRefusal, add_key, as_pairs, key_error};
 
@@ -18,6 +18,7 @@ mod algebra;
 mod compared;
 mod extend;
 mod range;
+mod retain;
 
 pub use algebra::{
     Difference, HasKey, Intersection, MergedOf, SelectedOf, SymmetricDifference, Union,
@@ -143,6 +144,24 @@ impl<K: AsBytes + Drop, const P: usize> ByteSet<K, P> {
             Err(error) => return Err(without_value(error)),
         };
         Ok(replaced.is_none())
+    }
+
+    /// Puts a key in, in the place of the equal one that is stored, which comes back. Both have the same
+    /// bytes. It is refused as `insert` is.
+    pub fn replace(&mut self, key: K) -> Result<Option<K>, SetInsertError<K>>
+        ensures keys { OnOk result (self.new ≡ replace_key K.bytes key self.old) }
+        ensures replaced { IfOk result (λ replaced.
+            replaced ≡ first_of (with_key K.bytes (K.bytes key) self.old)) }
+        ensures accepted { OnOk result (is_conflict K.bytes (K.bytes key) self.old ≡ false) }
+
+        ensures refused { IfErr result (IsKeyRefusal K.bytes key self.old) }
+        ensures kept { OnErr result (self.new ≡ self.old) }
+    {
+        match self.map.replace(key, ()) {
+            Ok(Some((replaced, _))) => Ok(Some(replaced)),
+            Ok(None) => Ok(None),
+            Err(error) => Err(without_value(error)),
+        }
     }
 
     /// Takes out the key with these bytes, and returns whether it was there.

@@ -1,0 +1,54 @@
+//! A pair in the place of the one with an equal key.
+ghost use Rattle.std.specs.Prelude.{◌≡◌, false, IfErr, IfOk, OnErr, OnOk};
+ghost use Rattle.art_model.specs.Pairs.{first_of, is_conflict, of_key, replace_key, with_key};
+ghost use Rattle.art_map.specs.MapAnswers.{IsRefusalOf};
+ghost use Rattle.art_map.specs.MapChanges.{HasReplaced};
+ghost use Rattle.art_map.specs.MapPairs.{HoldsPairs, pairs_at};
+
+use super::place::{Place, enter, place_of};
+use super::{ByteMap, MapInsertError};
+use art_nodes::node::{AsBytes, OpaqueNodePtr};
+use art_nodes::store::NodeStore;
+
+impl<K: AsBytes + Drop, V: Drop, const P: usize> ByteMap<K, V, P> {
+    // Puts a pair in, in the place of the one with an equal key, which comes back.
+    pub(crate) fn replace(
+        &mut self,
+        key: K,
+        value: V,
+    ) -> Result<Option<(K, V)>, MapInsertError<K, V>>
+        ensures pairs { OnOk result
+            (self.new ≡ replace_key (of_key K.bytes) (key, value) self.old) }
+        ensures replaced { IfOk result (λ replaced.
+            replaced ≡ first_of (with_key (of_key K.bytes) (K.bytes key) self.old)) }
+        ensures accepted { OnOk result
+            (is_conflict (of_key K.bytes) (K.bytes key) self.old ≡ false) }
+        ensures refused { IfErr result (IsRefusalOf K.bytes key value self.old) }
+        ensures kept { OnErr result (self.new ≡ self.old) }
+    {
+        replace_in(&mut self.store, &mut self.root, &mut self.len, key, value)
+    }
+}
+
+// Puts a pair into the tree, in the place of the one with an equal key.
+fn replace_in<K: AsBytes + Drop, V: Drop, const P: usize>(
+    store: &mut NodeStore<K, V, P>,
+    root: &mut Option<OpaqueNodePtr>,
+    len: &mut usize,
+    key: K,
+    value: V,
+) -> Result<Option<(K, V)>, MapInsertError<K, V>>
+    requires { HoldsPairs (of_key K.bytes) P store.old root.old len.old
+        (pairs_at store.old root.old) }
+    ensures { HasReplaced K.bytes P (pairs_at store.old root.old) key value result
+        store.new root.new len.new }
+{
+    let place = place_of(store, *root, key.as_bytes());
+    if let Place::Leaf(leaf) = place {
+        return Ok(Some(store.swap_pair(leaf, key, value)));
+    }
+    match enter(store, root, len, place, key, value) {
+        Ok(_) => Ok(None),
+        Err(error) => Err(error),
+    }
+}
