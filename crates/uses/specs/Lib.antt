@@ -1,3 +1,4 @@
 pub mod Longest
 pub mod Inventory
 pub mod Sessions
+pub mod Events
