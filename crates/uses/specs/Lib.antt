@@ -1,3 +1,4 @@
 pub mod Longest
 pub mod Inventory
 pub mod Leases
+pub mod Events
