@@ -7,7 +7,7 @@ use Rattle.art_keys.specs.Prefixes.{HasNoPrefixes, IsKept, KeepsOrder}
 use Rattle.art_model.specs.Clones.{AreClones}
 use Rattle.art_keyed.specs.KeyedPairs.{HaveKeys, RiseBy, KeysRiseBy, IsNeverInConflict}
 use Rattle.art_model.specs.Keys.{IsFront, Precedes, are_related, are_same}
-use Rattle.art_model.specs.Pairs.{IsMap, first_of, has_key, is_conflict, with_key, of_key, put, stored_for, remove_key, without_first, without_last}
+use Rattle.art_model.specs.Pairs.{IsMap, first_of, has_key, is_conflict, with_key, of_key, put, stored_for, remove_key, replace_key, without_first, without_last}
 use Rattle.art_map.specs.SetKeys.{add_key}
 use Rattle.std.proofs.lemmas.Bool.{true≢false}
 use Rattle.art_map.specs.MapAnswers.{IsRefusalOf, with_value_at}
@@ -122,6 +122,9 @@ module _ {K : Type 0} (V : Type 0) (is_key : K → Type 0) (bytes : K → List �
       go : (t : Bool) → has_key bytes (bytes key) keys ≡ t → Each is_key (add_key bytes key keys)
       go true e = rw e all
       go false e = rw e (Each-add bytes is_key key keys of_key' all)
+
+  pub key_replace_keeps : (key : K) (keys : List K) → is_key key → Each is_key keys → Each is_key (replace_key bytes key keys)
+  key_replace_keeps key keys of_key' all = Each-add bytes is_key key (remove_key bytes (bytes key) keys) of_key' (Each-filter is_key _ keys all)
 
   pub key_remove_keeps : (key : List ℕ) (keys : List K) → Each is_key keys → Each is_key (remove_key bytes key keys)
   key_remove_keeps key keys all = Each-filter is_key _ keys all

@@ -17,6 +17,7 @@ use std::ops::Index;
 use thiserror::Error;
 
 mod compared;
+mod each;
 mod entry;
 mod extend;
 mod joined;

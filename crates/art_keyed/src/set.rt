@@ -1,7 +1,7 @@
 //! An ordered set of keys that are never in conflict. Its contracts speak of lists of keys alone.
 ghost use Rattle.std.specs.Prelude.{◌≡◌, ◌↔◌, ◌<◌, ◌^◌, [], length, false, not, IfOk, IfErr, IsTrue, OnOk, OnErr, option_copied};
 ghost use Rattle.std.specs.List.{AllByRecursion as Each};
-ghost use Rattle.art_model.specs.Pairs.{IsMap, first_of, has_key, last_of, of_key, remove_key, remove_reply, with_key, without_first, without_last};
+ghost use Rattle.art_model.specs.Pairs.{IsMap, first_of, has_key, last_of, of_key, remove_key, remove_reply, replace_key, with_key, without_first, without_last};
 ghost use Rattle.art_map.specs.MapAnswers.{MayRefuseRemoval};
 ghost use Rattle.art_map.specs.SetKeys.{add_key, as_pairs};
 
@@ -18,6 +18,7 @@ mod compared;
 mod extend;
 mod joined;
 mod ordered;
+mod retain;
 
 /// A key that was not put in, for want of memory.
 #[derive(Debug, Drop, Error)]
@@ -132,6 +133,25 @@ impl<K: NoPrefixesBytes + Drop, const P: usize> KeyedSet<K, P> {
         key.as_key();
         match self.set.insert(key) {
             Ok(added) => Ok(added),
+            Err(SetInsertError::Conflict { .. }) => unreachable!(),
+            Err(SetInsertError::Memory { key }) => Err(KeyRefused { key }),
+        }
+    }
+
+    /// Puts a key in, in the place of the equal one that is stored, which it returns. Both have the same
+    /// bytes. It is refused as `insert` is.
+    pub fn replace(&mut self, key: K) -> Result<Option<K>, KeyRefused<K>>
+        ensures keys { OnOk result (self.new ≡ replace_key K.bytes key self.old) }
+        ensures replaced { IfOk result (λ replaced.
+            replaced ≡ first_of (with_key K.bytes (K.bytes key) self.old)) }
+
+        ensures handed_back { IfErr result (λ refused. refused.key ≡ key) }
+        ensures refused { OnErr result (has_key K.bytes (K.bytes key) self.old ≡ false) }
+        ensures kept { OnErr result (self.new ≡ self.old) }
+    {
+        key.as_key();
+        match self.set.replace(key) {
+            Ok(replaced) => Ok(replaced),
             Err(SetInsertError::Conflict { .. }) => unreachable!(),
             Err(SetInsertError::Memory { key }) => Err(KeyRefused { key }),
         }

@@ -1,4 +1,4 @@
-use Rattle.std.proofs.Common.{refl, rules, sym, subst, ◌∙◌}
+use Rattle.std.proofs.Common.{refl, rules, sym, subst}
 use Rattle.art_model.specs.Pairs.{of_key}
 use Rattle.art_map.specs.MapPairs.{HoldsPairs, pairs_at}
 use Rattle.art_map.proofs.Entered.{new_replaces, place_new, stored_free}

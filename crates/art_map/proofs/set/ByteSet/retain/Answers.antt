@@ -1,9 +1,9 @@
 use Rattle.std.proofs.Common.{ap, of_calls, rules, subst, sym, ◌∙◌}
 use Rattle.std.specs.Fn.{CalledAt, always_mut}
-use Rattle.std.specs.Prelude.{OnErr, OnOk}
+use Rattle.std.specs.Prelude.{OnOk}
 use Rattle.art_model.specs.Pairs.{of_key}
 use Rattle.art_map.specs.MapItems.{keys_of}
-use Rattle.art_map.specs.MapRetain.{RetainsAll, RetainsUntil}
+use Rattle.art_map.specs.MapRetain.{RetainsAll}
 use Rattle.art_map.specs.SetKeys.{AsksKey, as_pairs}
 use Rattle.art_map.proofs.Retained.{all_inside, keys_retained_all, until_inside}
 use Rattle.art_map.proofs.SetLaws.{no_values}
