@@ -1,5 +1,5 @@
 //! Inner nodes of any kind.
-ghost use Rattle.std.specs.Prelude.{◌≡◌, ◌≢◌, ℕ, ◌-◌, min, ◌<◌, ◌≤◌, length, Some, All, slice_get, IsTrue, ◌↔◌, ⊤};
+ghost use Rattle.std.specs.Prelude.{◌≡◌, ◌≢◌, ◌-◌, min, ◌<◌, ◌≤◌, length, Some, All, slice_get, IsTrue, ◌↔◌, ⊤};
 
 use crate::children::Children;
 use crate::inner::{InnerNode, InnerNode4, InnerNode16, InnerNode48, InnerNodeDirect};

@@ -1,5 +1,5 @@
 //! Inner nodes of each kind.
-ghost use Rattle.std.specs.Prelude.{◌≡◌, ℕ, ◌-◌, ◌<◌, ◌≤◌, min, length, slice_get, Some, All, IsTrue, ◌↔◌};
+ghost use Rattle.std.specs.Prelude.{◌≡◌, ◌-◌, ◌<◌, ◌≤◌, min, length, slice_get, Some, All, IsTrue, ◌↔◌};
 
 use crate::any::AnyInner;
 use crate::children::Children;

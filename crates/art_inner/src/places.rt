@@ -1,5 +1,5 @@
 //! Tables with a place for each byte, and cursors over them.
-ghost use Rattle.std.specs.Prelude.{◌≡◌, ℕ, ◌+◌, ◌<◌, ◌≤◌, length, [], IfNone};
+ghost use Rattle.std.specs.Prelude.{◌≡◌, ◌+◌, ◌<◌, ◌≤◌, length, [], IfNone};
 ghost use Rattle.std.specs.List.{cons_option};
 ghost use Rattle.art_inner.specs.Inner.{IsRising};
 ghost use Rattle.art_inner.specs.Tables.{part_of};
@@ -46,7 +46,7 @@ pub(crate) fn next_in<T: Places>(table: &T, span: &mut Span) -> Option<(u8, Opaq
     None
 }
 
-ghost use Rattle.std.specs.Prelude.{◌++◌, List, Option, Some, None, ◌∷◌};
+ghost use Rattle.std.specs.Prelude.{◌++◌, Option, Some, None};
 
 pub(crate) fn next_back_in<T: Places>(table: &T, span: &mut Span) -> Option<(u8, OpaqueNodePtr)>
     requires rising { IsRising (T.children_of table.now) }

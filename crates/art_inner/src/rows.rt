@@ -1,5 +1,5 @@
 //! Names under rising bytes, lent: bytes, kinds and slots in slices of their own.
-ghost use Rattle.std.specs.Prelude.{◌≡◌, ◌≢◌, ℕ, ◌-◌, ◌<◌, ◌≤◌, List, [], ◌++◌, length, take, drop, None, IfSome, IfNone, IfOk, IfErr, IsSome, IsTrue, ◌↔◌, slice_get, slice_index_or, Some};
+ghost use Rattle.std.specs.Prelude.{◌≡◌, ◌≢◌, ℕ, ◌-◌, ◌<◌, ◌≤◌, [], ◌++◌, length, take, drop, None, IfSome, IfNone, IfOk, IfErr, IsSome, IsTrue, ◌↔◌, slice_get, slice_index_or, Some};
 ghost use Rattle.std.specs.List.{cons_option};
 
 use art_parts::names::{NodeType, OpaqueNodePtr};

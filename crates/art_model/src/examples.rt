@@ -1,10 +1,10 @@
 //! What the definitions give for small maps.
 
-ghost use Rattle.std.specs.Prelude.{◌≡◌, ℕ, List, [], ◌∷◌, take, Option, Some, None, true, false};
+ghost use Rattle.std.specs.Prelude.{◌≡◌, [], ◌∷◌, take, Some, None, true, false};
 ghost use Rattle.std.specs.declared.cmp.Ordering.TheVariants.{Equal, Greater};
 ghost use Rattle.art_parts.specs.declared.names.NodeType.TheVariants.{Node4, Node16, Node48, Node256};
 ghost use Rattle.art_model.specs.Pairs.{first_of, last_of, without_first, without_last, put, put_reply, overwrite, overwrite_reply, remove_key, remove_reply, match_of, is_conflict};
-ghost use Rattle.art_model.specs.Trees.{Tree, leaf};
+ghost use Rattle.art_model.specs.Trees.{leaf};
 ghost use Rattle.art_model.specs.Footprints.{TouchesAtMost};
 ghost use Rattle.art_model.specs.Kept.{ChangesInPlace};
 ghost use Rattle.art_model.specs.Radix.{unmarked};
@@ -13,7 +13,7 @@ ghost use Rattle.art_model.specs.Layouts.{IsLayout, AreLinked, leaf_names};
 ghost use Rattle.art_model.specs.Places.{places, inner_nodes};
 ghost use Rattle.art_model.specs.FaultExamples.{looped, shared, self_linked, linked_to_nothing, misplaced, unreadable, misstored};
 ghost use Rattle.art_model.specs.Faults.{IsTrueOf, dead_name, leaf_sibling_wrong_order, loop_found, prefix_mismatch, stored_prefix_mismatch, unreadable_prefix, wrong_children_count, wrong_sibling_links};
-ghost use Rattle.art_model.specs.Examples.{Key, bytes_of_pair, tree_of_keys, over_two, one_byte_keys, fan, zero_keys, zero_tree, three_pairs, interact, interest, kit, bytes_of_tagged, tagged_pair, node4, leaf_at, pictured, pictured_at, pictured_links};
+ghost use Rattle.art_model.specs.Examples.{bytes_of_pair, tree_of_keys, over_two, one_byte_keys, fan, zero_keys, zero_tree, three_pairs, interact, interest, kit, bytes_of_tagged, tagged_pair, node4, leaf_at, pictured, pictured_at, pictured_links};
 
 /// No key, one key, a prefix longer than the two bytes that can be stored, and a node below a node.
 pub fn trees_of_few_keys()

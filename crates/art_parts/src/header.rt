@@ -1,5 +1,5 @@
 //! Compressed prefixes.
-ghost use Rattle.std.specs.Prelude.{◌≡◌, ℕ, ◌+◌, ◌-◌, ◌^◌, ◌<◌, ◌≤◌, [], ◌++◌, length, take, drop, replicate, min};
+ghost use Rattle.std.specs.Prelude.{◌≡◌, ◌+◌, ◌-◌, ◌^◌, ◌<◌, ◌≤◌, [], ◌++◌, length, take, drop, replicate, min};
 
 use std::marker::Model;
 use std::mem;
@@ -12,7 +12,7 @@ pub struct Header<const P: usize> {
 }
 
 impl<const P: usize> Model for Header<P> {
-    ghost use Rattle.std.specs.Prelude.{◌≡◌, ℕ, ◌+◌, ◌-◌, ◌<◌, ◌≤◌, min, List, length, take, drop, replicate, ◌++◌};
+    ghost use Rattle.std.specs.Prelude.{◌≡◌, ◌+◌, ◌-◌, ◌<◌, ◌≤◌, min, length, take, drop, replicate, ◌++◌};
     ghost use Rattle.art_parts.specs.Headers.{Prefix};
 
     ghost Value = { Prefix };
