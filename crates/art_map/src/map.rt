@@ -691,6 +691,7 @@ fn copy_tree<K: AsBytes + Clone + Drop, V: Clone + Drop, const P: usize>(
         HoldsClones K.bytes P (pairs_at store.now (Some root)) K.is_clone V.is_clone
         into.new (Some copy) len) }
 {
+    into.reserve(len, None)?;
     let copy = clone_unchecked(store, root, into)?;
     Ok(copy.root)
 }

@@ -27,7 +27,7 @@ ghost use Rattle.art_writing.specs.Cloned.{IsBegun, IsCloned};
 use crate::deallocate::free_nodes;
 use crate::writes::link;
 use art_nodes::node::{
-    AnyInner, AsBytes, Children, InnerPtr, InnerRef, LeafPtr, NodePtr, OpaqueNodePtr,
+    AsBytes, Children, FromHeader, InnerNode, InnerPtr, InnerRef, LeafPtr, NodePtr, OpaqueNodePtr,
 };
 use art_nodes::store::NodeStore;
 use std::alloc::AllocError;
@@ -233,8 +233,7 @@ fn clone_leaf<K: AsBytes + Clone + Drop, V: Clone + Drop, const P: usize>(
 }
 
 // Places an inner node of the kind and with the header of another one, without a child.
-// A node is large: it stands on the stack while it is placed, and not in the frame of the loop.
-#[inline(never)]
+#[inline(always)]
 fn place_like<K: AsBytes + Drop, V: Drop, const P: usize>(
     node: InnerRef<'_, P>,
     into: &mut NodeStore<K, V, P>,
@@ -249,8 +248,32 @@ fn place_like<K: AsBytes + Drop, V: Drop, const P: usize>(
     ensures lessened { IsLessened into.old.promise into.new.promise }
     ensures refused { OnErr result (into.new ≡ into.old) }
 {
-    let copy = AnyInner::from_header(node.node_type(), node.header());
-    let Ok(name) = into.place_inner(copy) else {
+    match node {
+        InnerRef::Node4(node) => place_one_like(node, into),
+        InnerRef::Node16(node) => place_one_like(node, into),
+        InnerRef::Node48(node) => place_one_like(node, into),
+        InnerRef::Node256(node) => place_one_like(node, into),
+    }
+}
+
+// The same of one kind. A node is large: it stands on the stack while it is placed, with room for its own kind
+// alone, and not in the frame of the loop.
+#[inline(never)]
+fn place_one_like<N: InnerNode<P>, K: AsBytes + Drop, V: Drop, const P: usize>(
+    node: &N,
+    into: &mut NodeStore<K, V, P>,
+) -> Result<InnerPtr, AllocError>
+    ensures placed { IfOk result (λ copy. into.new.inners ≡
+        map.insert into.old.inners copy (childless (N.view_of node.now).prefix)) }
+    ensures kind { IfOk result (λ copy. copy.kind ≡ N.TYPE) }
+    ensures fresh { IfOk result (λ copy. map.get into.old.inners copy ≡ None) }
+    ensures leaves { into.new.leaves ≡ into.old.leaves }
+    ensures promise { OnOk result (into.new.promise ≡ take_inner N.TYPE into.old.promise) }
+    ensures lessened { IsLessened into.old.promise into.new.promise }
+    ensures refused { OnErr result (into.new ≡ into.old) }
+{
+    let copy = N::from_header(node.header());
+    let Ok(name) = into.place_inner(copy.into_any()) else {
         return Err(AllocError);
     };
     Ok(name)

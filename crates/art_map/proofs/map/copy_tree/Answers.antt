@@ -15,7 +15,7 @@ pub returns : goal.returns
 returns g c =
     let has = at_root (of_key g.K.AsBytes.bytes) g.row.P c.requires.holds in
     let (copies, are, canonical) = c.in_ok-copy.ensures.canonical _ has.layout has.by in
-    let empty = none_held c.args.into.now c.requires.no_leaves c.requires.no_inners in (
+    let empty = none_held c.reserve.new.self (c.in_ok-reserve.ensures.leaves ∙ c.requires.no_leaves) (c.in_ok-reserve.ensures.inners ∙ c.requires.no_inners) in (
       copies,
       are,
       record {

@@ -1,21 +1,21 @@
 use Rattle.std.proofs.Common.{ap, ◌∙◌}
 use Rattle.std.specs.FinMap as map
 use Rattle.art_inner.specs.Inner.{childless}
-use Rattle.art_inner.specs.Views.{any_kind}
 use Rattle.art_nodes.specs.Nodes.{take_inner}
 use Rattle.art_model.proofs.Lessened.{lessened_inner, lessened_same}
-use Rattle.art_writing.proofs.clone.place_like.Goals as goal
+use Rattle.art_writing.proofs.clone.place_one_like.Goals as goal
 
 pub returns : goal.returns
 returns g c =
-    let kind = c.from_header-copy.ensures.kind ∙ c.node_type.ensures.kind in
+    let copied = c.into_any.ensures.view ∙ g.met.N.InnerNode.starts_childless _ _ c.from_header-copy.ensures ∙ ap childless c.header.ensures in
+    let kind = c.into_any.ensures.kind in
     record {
-      placed = c.in-Ok.ensures.placed ∙ ap (map.insert c.args.into.now.inners c.in-Ok.name) (c.from_header-copy.ensures.view ∙ ap childless c.header.ensures);
+      placed = c.in-Ok.ensures.placed ∙ ap (map.insert c.args.into.now.inners c.in-Ok.name) copied;
       kind = c.in-Ok.ensures.kind ∙ kind;
       fresh = c.in-Ok.ensures.fresh;
       leaves = c.in-Ok.ensures.leaves;
       promise = c.in-Ok.ensures.promise ∙ ap (λ k. take_inner k c.args.into.now.promise) kind;
-      lessened = rw c.in-Ok.ensures.promise (lessened_inner (any_kind c.from_header-copy.result) c.args.into.now.promise);
+      lessened = rw c.in-Ok.ensures.promise (lessened_inner _ c.args.into.now.promise);
       refused = tt;
     }
 
