@@ -1,4 +1,5 @@
 mod drawn;
+mod drawn_set;
 mod joined;
 mod keys;
 mod map;

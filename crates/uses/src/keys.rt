@@ -70,7 +70,8 @@ pub fn coldest(alloc: Global) -> Option<Option<(Signed<4>, u32)>>
     Some(first)
 }
 
-/// What users did, by the number of the user and the time: the events of one user stand together, in the order of their times.
+/// What users did, by the number of the user and the time. The events of one user stand together, in the
+/// order of their times.
 pub type Events = KeyedMap<Joined<Unsigned<4>, Unsigned<8>>, u32, 4>;
 
 /// Puts an event in. The only error is want of memory.
@@ -126,8 +127,8 @@ pub fn first_event(
     Ok(Some((time.get(), *event)))
 }
 
-/// Puts four events of two users in, and returns how many the second user has from time 10 up to time 30,
-/// and the first of them all. `None` for want of memory.
+/// Puts four events of two users in, and returns how many the user 2 has from time 10 up to time 30, and the
+/// first event of that user, with its time. `None` for want of memory.
 pub fn count_events(alloc: Global) -> Option<(usize, Option<(u64, u32)>)>
     ensures { IfSome result (λ told. told ≡ (2, Some (5, 101))) }
 {

@@ -44,6 +44,35 @@ fn agree_on_removal(
     Some(removed.map(|pair| pair.1) == model.remove(&bytes))
 }
 
+// The value of the first string that begins with this one.
+fn first_below(model: &Model, string: &[u8]) -> Option<u32> {
+    for (other, value) in model.iter() {
+        if other.starts_with(string) {
+            return Some(*value);
+        }
+    }
+    None
+}
+
+// The first string that begins with this one goes from both, and whether they return the same value.
+fn agree_on_the_first_below(
+    map: &mut Map,
+    model: &mut Model,
+    alloc: Global,
+    string: Short,
+) -> Option<bool> {
+    let prefix = Escaped::encode(alloc, string.as_slice()).ok()?;
+    let first = first_below(model, string.as_slice());
+    let Ok(popped) = map.pop_first_below(&prefix) else {
+        return None;
+    };
+    let Some((key, value)) = popped else {
+        return Some(first.is_none());
+    };
+    let bytes = key.decode(alloc).ok()?;
+    Some(first == Some(value) && model.remove(&bytes) == Some(value))
+}
+
 // Whether both find the same, and as many strings that begin with this one, or come from it on.
 fn agree_on_questions(map: &Map, model: &Model, alloc: Global, string: Short) -> Option<bool> {
     let key = Escaped::encode(alloc, string.as_slice()).ok()?;
@@ -81,7 +110,8 @@ fn agree_on_call(
     let string = Short::new(numbers.below(COUNT));
     match numbers.below(8) {
         0..=3 => agree_on_insertion(map, model, alloc, string, numbers.value()),
-        4..=6 => agree_on_removal(map, model, alloc, string),
+        4..=5 => agree_on_removal(map, model, alloc, string),
+        6 => agree_on_the_first_below(map, model, alloc, string),
         _ => agree_on_questions(map, model, alloc, string),
     }
 }

@@ -172,6 +172,31 @@ fn numbers_of_all_widths_come_back() -> Result<(), Fail> {
     )
 }
 
+#[test]
+fn numbers_are_turned_back_at_their_ends() -> Result<(), Fail> {
+    let greatest = (
+        Unsigned::from(u8::MAX).get(),
+        Unsigned::from(u16::MAX).get(),
+        Unsigned::from(u32::MAX).get(),
+        Unsigned::from(u64::MAX).get(),
+        Unsigned::from(u128::MAX).get(),
+    );
+    let least = (
+        Signed::from(i8::MIN).get(),
+        Signed::from(i16::MIN).get(),
+        Signed::from(i32::MIN).get(),
+        Signed::from(i64::MIN).get(),
+        Signed::from(i128::MIN).get(),
+    );
+    same(
+        (greatest, least),
+        (
+            (u8::MAX, u16::MAX, u32::MAX, u64::MAX, u128::MAX),
+            (i8::MIN, i16::MIN, i32::MIN, i64::MIN, i128::MIN),
+        ),
+    )
+}
+
 // Whether a number of 16 bytes has these first and these other bytes, and comes back.
 fn is_wide(number: i128, first: u8, others: u8) -> bool {
     let key = Signed::from(number);

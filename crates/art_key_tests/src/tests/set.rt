@@ -1,7 +1,10 @@
 //! Sets of such keys.
 use art_keyed::set::KeyedSet;
+use art_keys::joined::Joined;
 use art_keys::signed::Signed;
+use art_keys::unsigned::Unsigned;
 use art_node_support::expected::same;
+use std::alloc::Global;
 use std::test::Fail;
 
 // Which of four numbers, of which one comes twice, are new, and whether two of them are there.
@@ -45,4 +48,27 @@ fn a_set_has_each_number_once(rt: HostRuntime) -> Result<(), Fail> {
             Some(([i16::MIN, 3, i16::MIN, 3], [true, false], 0)),
         ),
     )
+}
+
+// How many times each of four users has.
+fn count_times(
+    times: &mut KeyedSet<Joined<Unsigned<1>, Signed<2>>, 2>,
+    alloc: Global,
+) -> Option<[usize; 4]> {
+    for (user, time) in [(1u8, -1i16), (3, 7), (1, 0), (3, i16::MIN), (1, i16::MAX)] {
+        let key = Joined::join(alloc, &Unsigned::from(user), &Signed::from(time)).ok()?;
+        times.insert(key).ok()?;
+    }
+    Some([
+        times.with_first(&Unsigned::from(0u8)).count(),
+        times.with_first(&Unsigned::from(1u8)).count(),
+        times.with_first(&Unsigned::from(2u8)).count(),
+        times.with_first(&Unsigned::from(3u8)).count(),
+    ])
+}
+
+#[test]
+fn keys_with_a_first_key_are_a_part(rt: HostRuntime) -> Result<(), Fail> {
+    let seen = count_times(&mut KeyedSet::new(rt.alloc()), rt.alloc());
+    same(seen, Some([0, 3, 0, 2]))
 }

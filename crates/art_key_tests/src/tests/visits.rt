@@ -82,6 +82,45 @@ fn agree_on_a_user(map: &Visits, model: &Model, alloc: Global, visit: Visit) -> 
     Some(counts == (all, later))
 }
 
+// The time and the value of the first visit of a user.
+fn first_of(model: &Model, user: u8) -> Option<(i16, u32)> {
+    for ((other, time), value) in model.iter() {
+        if *other == user {
+            return Some((*time, *value));
+        }
+    }
+    None
+}
+
+// A removal of the first visit of a user from both, and whether they return the same.
+fn agree_on_the_first(
+    map: &mut Visits,
+    model: &mut Model,
+    alloc: Global,
+    user: u8,
+) -> Option<bool> {
+    let first = first_of(model, user);
+    let Ok(popped) = map.pop_first_with(&Unsigned::from(user)) else {
+        return None;
+    };
+    let Some((key, value)) = popped else {
+        return Some(first.is_none());
+    };
+    let time = key.second(alloc).ok()?.get();
+    model.remove(&(user, time));
+    Some(first == Some((time, value)))
+}
+
+// A removal of all visits of a user from both, and whether as many go.
+fn agree_on_all_of_a_user(map: &mut Visits, model: &mut Model, user: u8) -> Option<bool> {
+    let before = model.len();
+    model.retain(|key, _| key.0 != user);
+    let Ok(removed) = map.remove_with_first(&Unsigned::from(user)) else {
+        return None;
+    };
+    Some(model.len().checked_add(removed) == Some(before) && map.len() == model.len())
+}
+
 // Both keep the visits at even times.
 fn keep_even(map: &mut Visits, model: &mut Model, alloc: Global) -> Option<bool> {
     let kept = map.retain(|key, _| match key.split(alloc) {
@@ -115,8 +154,10 @@ fn agree_on_call(
     let visit = Visit::draw(numbers);
     match numbers.below(100) {
         0..=59 => agree_on_insertion(map, model, alloc, visit, numbers.value()),
-        60..=79 => agree_on_removal(map, model, alloc, visit),
-        80..=98 => agree_on_a_user(map, model, alloc, visit),
+        60..=69 => agree_on_removal(map, model, alloc, visit),
+        70..=79 => agree_on_the_first(map, model, alloc, visit.user),
+        80..=97 => agree_on_a_user(map, model, alloc, visit),
+        98 => agree_on_all_of_a_user(map, model, visit.user),
         _ => keep_even(map, model, alloc),
     }
 }

@@ -1,0 +1,100 @@
+//! Drawn calls of a set of strings beside the same ones of a `BTreeSet`. Most strings begin others.
+use super::short::{COUNT, Short};
+use art_keyed::set::KeyedSet;
+use art_keys::escaped::Escaped;
+use art_node_support::expected::as_expected;
+use art_node_support::numbers::Numbers;
+use std::alloc::Global;
+use std::collections::BTreeSet;
+use std::test::Fail;
+
+type Set = KeyedSet<Escaped, 2>;
+
+type Model = BTreeSet<Vec<u8>>;
+
+// An insertion into both or a removal from both, and whether they return the same.
+fn agree_on_change(
+    set: &mut Set,
+    model: &mut Model,
+    alloc: Global,
+    string: Short,
+    inserts: bool,
+) -> Option<bool> {
+    let key = Escaped::encode(alloc, string.as_slice()).ok()?;
+    let bytes = string.as_slice().to_vec(alloc).ok()?;
+    if inserts {
+        let Ok(added) = set.insert(key) else {
+            return None;
+        };
+        return Some(added == model.insert(bytes).ok()?);
+    }
+    Some(set.remove(&key).ok()? == model.remove(&bytes))
+}
+
+// Whether both have the key, and as many strings that begin with this one, or come before it, or are there.
+fn agree_on_questions(set: &Set, model: &Model, alloc: Global, string: Short) -> Option<bool> {
+    let key = Escaped::encode(alloc, string.as_slice()).ok()?;
+    let bytes = string.as_slice().to_vec(alloc).ok()?;
+    let (mut begin, mut before) = (0usize, 0usize);
+    for other in model.iter() {
+        begin = begin.saturating_add(other.starts_with(&bytes) as usize);
+        before = before.saturating_add((other < &bytes) as usize);
+    }
+    let found = set.contains(&key) == model.contains(&bytes);
+    let counts = (
+        set.prefix(&key).count(),
+        set.range(..key).count(),
+        set.iter().count(),
+    );
+    Some(found && counts == (begin, before, model.len()))
+}
+
+// Whether both have the same strings in the same order.
+fn agree_on_keys(set: &Set, model: &Model, alloc: Global) -> Option<bool> {
+    let mut own = set.iter();
+    for bytes in model.iter() {
+        let string = own.next()?.decode(alloc).ok()?;
+        if string.as_slice() != bytes.as_slice() {
+            return Some(false);
+        }
+    }
+    Some(own.next().is_none())
+}
+
+// A call of both, and whether they return the same.
+fn agree_on_call(
+    set: &mut Set,
+    model: &mut Model,
+    alloc: Global,
+    numbers: &mut Numbers,
+) -> Option<bool> {
+    let string = Short::new(numbers.below(COUNT));
+    match numbers.below(8) {
+        0..=3 => agree_on_change(set, model, alloc, string, true),
+        4..=6 => agree_on_change(set, model, alloc, string, false),
+        _ => agree_on_questions(set, model, alloc, string),
+    }
+}
+
+// The number of the first call after which they differ, if they do.
+fn differ_at(set: &mut Set, model: &mut Model, alloc: Global, calls: usize) -> Option<usize> {
+    let mut numbers = Numbers::new(7);
+    for call in 0..calls {
+        if agree_on_call(set, model, alloc, &mut numbers) != Some(true) {
+            return Some(call);
+        }
+        if call % 100 == 0 && agree_on_keys(set, model, alloc) != Some(true) {
+            return Some(call);
+        }
+    }
+    None
+}
+
+#[test]
+fn drawn_calls_return_what_those_of_a_btree_set_do(rt: HostRuntime) -> Result<(), Fail> {
+    let alloc = rt.alloc();
+    let (mut set, mut model) = (KeyedSet::new(alloc), BTreeSet::new(alloc));
+    let differ = differ_at(&mut set, &mut model, alloc, 3_000);
+    let same = agree_on_keys(&set, &model, alloc);
+    as_expected(Some(((differ, same), (None, Some(true)))))
+}
