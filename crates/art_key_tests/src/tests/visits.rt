@@ -82,13 +82,17 @@ fn agree_on_a_user(map: &Visits, model: &Model, alloc: Global, visit: Visit) -> 
     Some(counts == (all, later))
 }
 
-// Both keep the visits at even times.
+// Both keep the visits at even times, and count one more of each.
 fn keep_even(map: &mut Visits, model: &mut Model, alloc: Global) -> Option<bool> {
     let kept = map.retain(|key, _| match key.split(alloc) {
         Ok((_, time)) => i16::from(time) % 2 == 0,
         Err(_) => true,
     });
     model.retain(|key, _| key.1 % 2 == 0);
+    map.for_each_value(|value| *value = value.wrapping_add(1));
+    for value in model.values_mut() {
+        *value = value.wrapping_add(1);
+    }
     Some(kept.is_ok() && map.len() == model.len())
 }
 
