@@ -72,3 +72,20 @@ fn keys_with_a_first_key_are_a_part(rt: HostRuntime) -> Result<(), Fail> {
     let seen = count_times(&mut KeyedSet::new(rt.alloc()), rt.alloc());
     same(seen, Some([0, 3, 0, 2]))
 }
+
+// Whether a number that is there is replaced, and one that is not; and how many odd ones stay, and the first.
+fn keep_odd(set: &mut KeyedSet<Signed<2>, 2>) -> Option<([bool; 2], usize, i16)> {
+    let replaced = [
+        set.replace(Signed::from(3i16)).ok()?.is_some(),
+        set.replace(Signed::from(2i16)).ok()?.is_some(),
+    ];
+    set.retain(|number| i16::from(*number) % 2 != 0).ok()?;
+    Some((replaced, set.len(), i16::from(*set.first()?)))
+}
+
+#[test]
+fn odd_numbers_of_a_set_stay(rt: HostRuntime) -> Result<(), Fail> {
+    let mut set = KeyedSet::new(rt.alloc());
+    let seen = (put_in(&mut set).is_some(), keep_odd(&mut set));
+    same(seen, (true, Some(([true, false], 2, -1))))
+}

@@ -121,13 +121,17 @@ fn agree_on_all_of_a_user(map: &mut Visits, model: &mut Model, user: u8) -> Opti
     Some(model.len().checked_add(removed) == Some(before) && map.len() == model.len())
 }
 
-// Both keep the visits at even times.
+// Both keep the visits at even times, and count one more of each.
 fn keep_even(map: &mut Visits, model: &mut Model, alloc: Global) -> Option<bool> {
     let kept = map.retain(|key, _| match key.split(alloc) {
         Ok((_, time)) => i16::from(time) % 2 == 0,
         Err(_) => true,
     });
     model.retain(|key, _| key.1 % 2 == 0);
+    map.for_each_value(|value| *value = value.wrapping_add(1));
+    for value in model.values_mut() {
+        *value = value.wrapping_add(1);
+    }
     Some(kept.is_ok() && map.len() == model.len())
 }
 
