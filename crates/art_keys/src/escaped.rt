@@ -224,7 +224,7 @@ impl Clone for Escaped {
 }
 
 impl CloneBytes for Escaped {
-    ghost use Rattle.std.proofs.Common.{ap, subst, sym};
+    ghost use Rattle.std.proofs.Common.{ap};
     ghost use Rattle.art_keys.specs.Escapes.{escape};
 
     ghost keeps_bytes = { λ x y e. ap escape e };

@@ -1,5 +1,5 @@
 //! A map whose values are written where they are. What is written is seen in the pairs.
-ghost use Rattle.std.specs.Prelude.{◌≡◌, ◌+◌, ◌<◌, ◌^◌, ◌∷◌, [], Some, IfSome, IsTrue, IsFalse};
+ghost use Rattle.std.specs.Prelude.{◌≡◌, ◌+◌, ◌∷◌, [], Some, IfSome, IsTrue, IsFalse};
 ghost use Rattle.art_model.specs.Pairs.{of_key, put};
 ghost use Rattle.art_operations.specs.MapAnswers.{with_value_at};
 
