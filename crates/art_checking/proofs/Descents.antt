@@ -15,8 +15,8 @@ use Rattle.art_model.specs.Layouts.{Node, leaf_node, inner_node, AreDistinct}
 use Rattle.art_model.specs.Stores.{node_at, header_at, held_leaf, held_inner, seen, pair_of}
 use Rattle.art_model.specs.Trails.{bottom_of, HasLeast, IsDescent}
 use Rattle.art_model.specs.Trees.{NodeHeader}
-use Rattle.art_model.proofs.Lists.{each_in}
-use Rattle.art_model.proofs.Views.{held_in_inner, leaf_name_is}
+use Rattle.art_model.proofs.lists.Lists.{each_in}
+use Rattle.art_model.proofs.stores.Views.{held_in_inner, leaf_name_is}
 use Rattle.art_checking.specs.Checked.{IsLeastLeaf}
 
 -- ---- what is seen under a name

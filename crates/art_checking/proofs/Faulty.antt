@@ -14,8 +14,8 @@ use Rattle.art_parts.specs.declared.names.OpaqueNodePtr.{OpaqueNodePtr}
 use Rattle.art_model.specs.Faults.{Fault, IsTrueOf, Reaches, out_of_memory, wrong_children_count}
 use Rattle.art_model.specs.Roots.{IsCanonicalRoot}
 use Rattle.art_model.specs.Stores.{header_at}
-use Rattle.art_model.proofs.Canonical.{laid_out}
-use Rattle.art_model.proofs.Faultless.{no_fault}
+use Rattle.art_model.proofs.stores.Canonical.{laid_out}
+use Rattle.art_model.proofs.stores.Faultless.{no_fault}
 use Rattle.art_checking.specs.Checked.{IsTrueAt, Says}
 use Rattle.art_checking.specs.Checks.{fault_of}
 use Rattle.art_checking.proofs.Descents.{inner_at}

@@ -17,14 +17,14 @@ use Rattle.art_model.specs.Layouts.{name_of, slots_of, names_of, names_below, Ar
 use Rattle.art_model.specs.Stores.{held, held_leaf, held_inner, node_at, header_at}
 use Rattle.art_model.specs.Heights.{height, tree_height}
 use Rattle.art_model.specs.Roots.{IsFullTree}
-use Rattle.art_model.proofs.Edges.{children_right, height_join}
-use Rattle.art_model.proofs.Heights.{height_is, enough_steps}
-use Rattle.art_model.proofs.Pairwises.{Pairwise-left, Pairwise-right}
-use Rattle.art_model.proofs.Paths.{names_below-join}
-use Rattle.art_model.proofs.PlaceLaws.{join_none}
-use Rattle.art_model.proofs.Shown.{no_inner_gone, inner_shown, no_leaf_gone, leaf_shown}
-use Rattle.art_model.proofs.Stores.{HoldsBelow-right}
-use Rattle.art_model.proofs.Views.{held_in_inner}
+use Rattle.art_model.proofs.places.Edges.{children_right, height_join}
+use Rattle.art_model.proofs.stores.Heights.{height_is, enough_steps}
+use Rattle.art_model.proofs.lists.Pairwises.{Pairwise-left, Pairwise-right}
+use Rattle.art_model.proofs.places.Paths.{names_below-join}
+use Rattle.art_model.proofs.places.PlaceLaws.{join_none}
+use Rattle.art_model.proofs.stores.Shown.{no_inner_gone, inner_shown, no_leaf_gone, leaf_shown}
+use Rattle.art_model.proofs.stores.Stores.{HoldsBelow-right}
+use Rattle.art_model.proofs.stores.Views.{held_in_inner}
 use Rattle.art_checking.specs.Folds.{Folds, JoinsAll, Joins}
 
 module _ {N A : Type 0} where

@@ -15,8 +15,8 @@ use Rattle.art_parts.specs.contracts.names.OpaqueNodePtrOrd.TheImpl as derived
 use Rattle.art_parts.specs.contracts.names.InnerPtrOrd.TheImpl as derived_inner
 use Rattle.art_parts.specs.declared.names.InnerPtr.{InnerPtr}
 use Rattle.art_model.specs.Footprints.{IsIn}
-use Rattle.art_model.proofs.Lists.{Each-append, each_in, each_from, in_left, in_right}
-use Rattle.art_model.proofs.Pairwises.{Pairwise-append}
+use Rattle.art_model.proofs.lists.Lists.{Each-append, each_in, each_from, in_left, in_right}
+use Rattle.art_model.proofs.lists.Pairwises.{Pairwise-append}
 use Rattle.art_checking.specs.Meetings.{same_name, Places, IsMet, Meets}
 
 -- ---- the order of names tells them apart

@@ -21,15 +21,15 @@ use Rattle.art_model.specs.Layouts.{leaf_node, inner_node, name_of, slots_of, na
 use Rattle.art_model.specs.Radix.{join, pairs_of, bytes_of, BytesRise, AreRadix}
 use Rattle.art_model.specs.Stores.{node_at, header_at, held_inner, held_leaf, Held, IsUsed, links_at}
 use Rattle.art_model.specs.Trees.{Tree, leaf, inner, Subtrees, child, no_child, NodeHeader, canonical_header, kind_of}
-use Rattle.art_model.proofs.Canonical.{canonical_from}
-use Rattle.art_model.proofs.Lists.{Each-append}
-use Rattle.art_model.proofs.OutOf.{two_of_spare}
-use Rattle.art_model.proofs.Paths.{slots_of-join, names_below-join, leaf_names_below-join, length-leaf_names}
-use Rattle.art_model.proofs.Radix.{AreRadix-join}
-use Rattle.art_model.proofs.Slots.{IsInRange, kind_of-range, length-slots_of}
-use Rattle.art_model.proofs.Stores.{HoldsBelow-join}
-use Rattle.art_model.proofs.TreeLaws.{has_few_inner_nodes, have_two_children}
-use Rattle.art_model.proofs.Views.{held_in_inner, leaf_there}
+use Rattle.art_model.proofs.stores.Canonical.{canonical_from}
+use Rattle.art_model.proofs.lists.Lists.{Each-append}
+use Rattle.art_model.proofs.changes.OutOf.{two_of_spare}
+use Rattle.art_model.proofs.places.Paths.{slots_of-join, names_below-join, leaf_names_below-join, length-leaf_names}
+use Rattle.art_model.proofs.radix.Radix.{AreRadix-join}
+use Rattle.art_model.proofs.stores.Slots.{IsInRange, kind_of-range, length-slots_of}
+use Rattle.art_model.proofs.stores.Stores.{HoldsBelow-join}
+use Rattle.art_model.proofs.radix.TreeLaws.{has_few_inner_nodes, have_two_children}
+use Rattle.art_model.proofs.stores.Views.{held_in_inner, leaf_there}
 use Rattle.art_checking.specs.Checked.{names_of_leaves, IsFirstMet, IsLeafAt, IsChecked, IsMetTree, IsPassed}
 use Rattle.art_checking.specs.Checks.{IsWellFormed}
 use Rattle.art_checking.specs.Meetings.{Meets, IsMet, Places, count_met, leaves_with, place_in}

@@ -17,8 +17,8 @@ use Rattle.art_model.specs.Layouts.{Node, inner_node}
 use Rattle.art_model.specs.Stores.{node_at, header_at}
 use Rattle.art_model.specs.Trails.{end_of, HasChild, IsTrail, HasPrefix, IsReadAs}
 use Rattle.art_model.specs.Trees.{NodeHeader}
-use Rattle.art_model.proofs.Lists.{front_cut}
-use Rattle.art_model.proofs.Places.{one_way}
+use Rattle.art_model.proofs.lists.Lists.{front_cut}
+use Rattle.art_model.proofs.places.Places.{one_way}
 use Rattle.art_checking.specs.Checked.{IsFirstLeast, IsLeastLeaf, IsRead, IsWalked, NoneBelow, NoneFrom}
 use Rattle.art_checking.specs.Meetings.{Places, IsMet, same_name}
 use Rattle.art_checking.proofs.Descents.{inner_at, least_below}

@@ -15,8 +15,8 @@ use Rattle.art_model.specs.Pairs.{last_of, of_key}
 use Rattle.art_model.specs.Radix.{all_unmarked, bytes_of, unmarked}
 use Rattle.art_model.specs.Stores.{header_at, held_inner, node_at, seen}
 use Rattle.art_model.specs.Trees.{NodeHeader, Subtrees, Tree, child, inner, leaf, no_child}
-use Rattle.art_model.proofs.Pairwises.{Pairwise-left, Pairwise-right}
-use Rattle.art_model.proofs.Views.{held_in_inner}
+use Rattle.art_model.proofs.lists.Pairwises.{Pairwise-left, Pairwise-right}
+use Rattle.art_model.proofs.stores.Views.{held_in_inner}
 use Rattle.art_keeping.specs.Trees.{Key, key_bytes}
 use Rattle.art_keeping.specs.Walks.{children_of, falling, one_deeper, pending_root, turned}
 use Rattle.art_keeping.specs.declared.walk.Pending.{Pending}

@@ -13,11 +13,11 @@ use Rattle.art_model.specs.Trees.{leaf, inner, Subtrees, child, no_child}
 use Rattle.art_model.specs.Layouts.{name_of, slots_of, names_of, names_below, HoldsBelow, AreDistinct, IsLayout}
 use Rattle.art_model.specs.Pairs.{last_of, of_key}
 use Rattle.art_model.specs.Stores.{node_at}
-use Rattle.art_model.proofs.Filters.{last_each}
-use Rattle.art_model.proofs.Lists.{Each-append}
-use Rattle.art_model.proofs.Views.{leaf_there, leaf_name_is, inner_there, inner_name_is}
-use Rattle.art_model.proofs.Pairwises.{Pairwise-left, Pairwise-right}
-use Rattle.art_model.proofs.StoreLaws.{has_children}
+use Rattle.art_model.proofs.lists.Filters.{last_each}
+use Rattle.art_model.proofs.lists.Lists.{Each-append}
+use Rattle.art_model.proofs.stores.Views.{leaf_there, leaf_name_is, inner_there, inner_name_is}
+use Rattle.art_model.proofs.lists.Pairwises.{Pairwise-left, Pairwise-right}
+use Rattle.art_model.proofs.stores.StoreLaws.{has_children}
 use Rattle.art_keeping.specs.Trees.{IsTreeIn, IsLinkedTreeIn, Key, HasCanonicalTree, key_bytes}
 use Rattle.art_keeping.specs.Walks.{children_of, falling, one_deeper, turned}
 use Rattle.art_keeping.specs.declared.walk.Pending.{Pending}

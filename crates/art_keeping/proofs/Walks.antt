@@ -13,7 +13,7 @@ use Rattle.art_parts.specs.declared.names.InnerPtr.{InnerPtr}
 use Rattle.art_parts.specs.declared.names.OpaqueNodePtr.{OpaqueNodePtr}
 use Rattle.art_model.specs.Pairs.{last_of}
 use Rattle.art_model.specs.Stores.{held_leaf, held_inner, node_at, seen}
-use Rattle.art_model.proofs.Views.{held_in_inner}
+use Rattle.art_model.proofs.stores.Views.{held_in_inner}
 use Rattle.art_keeping.specs.Walks.{HasRoom, below, children_of, falling, left_after, turned}
 use Rattle.art_keeping.specs.declared.walk.Pending.{Pending}
 

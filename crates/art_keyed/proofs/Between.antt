@@ -12,7 +12,7 @@ use Rattle.art_keys.specs.Prefixes.{BeginsAs, HasNoPrefixes, KeepsOrder}
 use Rattle.art_model.specs.Keys.{IsFront, are_same, is_front}
 use Rattle.art_model.specs.Pairs.{of_key}
 use Rattle.art_model.specs.Parts.{below, between, is_from, is_up_to, not_below, without_below}
-use Rattle.art_model.proofs.Filters.{Each-filter}
+use Rattle.art_model.proofs.lists.Filters.{Each-filter}
 use Rattle.art_map.specs.MapAnswers.{HasShrinkingParentBelow}
 use Rattle.art_keyed.specs.KeyedPairs.{HaveKeys, OnBound, is_key_from, is_key_up_to, keys_between, pairs_with_first, pairs_without_first, set_below, set_between, set_with_first, strings_below, strings_not_below, without_first_with}
 use denote.Ref.{Bor}

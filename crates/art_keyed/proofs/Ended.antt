@@ -8,7 +8,7 @@ use Rattle.std.specs.declared.ops.Bound.TheVariants.{Included, Unbounded}
 use Rattle.art_model.specs.Keys.{Precedes, are_related, are_same, is_before}
 use Rattle.art_model.specs.Pairs.{IsMap, first_of, with_key}
 use Rattle.art_model.specs.Parts.{between}
-use Rattle.art_model.proofs.Keys.{first_less, front_same, not_same}
+use Rattle.art_model.proofs.keys.Keys.{first_less, front_same, not_same}
 use Rattle.art_keys.specs.EscapeLaws.{snoc_same}
 
 none_before : (a : List ℕ) → is_before a [] ≡ false

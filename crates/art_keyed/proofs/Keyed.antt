@@ -15,10 +15,10 @@ use Rattle.art_map.specs.declared.map.MapInsertError.{MapInsertError}
 use Rattle.art_map.specs.declared.map.MapInsertError.TheVariants.{Conflict, Memory}
 use Rattle.art_keyed.specs.KeyedRefusals.{IsHandedBack}
 use Rattle.art_keyed.specs.declared.map.PairRefused.{PairRefused}
-use Rattle.art_model.proofs.Keys.{front_same}
-use Rattle.art_model.proofs.KeyLaws.{relation_is_decided, before_less}
-use Rattle.art_model.proofs.Filters.{Each-filter, Each-add, Each-without_last}
-use Rattle.art_model.proofs.Puts.{first_has}
+use Rattle.art_model.proofs.keys.Keys.{front_same}
+use Rattle.art_model.proofs.keys.KeyLaws.{relation_is_decided, before_less}
+use Rattle.art_model.proofs.lists.Filters.{Each-filter, Each-add, Each-without_last}
+use Rattle.art_model.proofs.pairs.Puts.{first_has}
 
 module _ {K : Type 0} (V : Type 0) (is_key : K → Type 0) (bytes : K → List ℕ) where
   -- ---- conflicts

@@ -4,7 +4,7 @@ use Rattle.std.specs.Borrow.{MutBor}
 use Rattle.std.specs.Fn.{CalledAt, Mut}
 use Rattle.std.specs.List.{AllByRecursion as Each}
 use Rattle.std.proofs.Common.{ℕ}
-use Rattle.art_model.proofs.Lists.{Each-append, Each-left, Each-right, each_map, each_unmap}
+use Rattle.art_model.proofs.lists.Lists.{Each-append, Each-left, Each-right, each_map, each_unmap}
 use Rattle.art_map.specs.MapCalls.{ChangesEach}
 use Rattle.art_map.specs.MapRetain.{Retains, RetainsAll, RetainsUntil}
 use Rattle.art_map.specs.SetKeys.{AsksKey, as_pairs}

@@ -4,9 +4,9 @@ use Rattle.std.proofs.lemmas.Bool.{false≢true}
 use Rattle.std.specs.Option.{option_map}
 use Rattle.art_model.specs.Keys.{are_same}
 use Rattle.art_model.specs.Pairs.{first_of, of_key, put, remove_key, stored_for, with_key}
-use Rattle.art_model.proofs.Keys.{front_same, same_equal}
-use Rattle.art_model.proofs.MapLaws.{put_is_found, removed_is_gone}
-use Rattle.art_model.proofs.Puts.{stored_value}
+use Rattle.art_model.proofs.keys.Keys.{front_same, same_equal}
+use Rattle.art_model.proofs.pairs.MapLaws.{put_is_found, removed_is_gone}
+use Rattle.art_model.proofs.pairs.Puts.{stored_value}
 use Rattle.art_map.specs.MapAnswers.{value_at, with_value_at}
 
 module _ {K V : Type 0} (bytes : K → List ℕ) where

@@ -16,11 +16,11 @@ use Rattle.art_parts.specs.declared.names.OpaqueNodePtr.{OpaqueNodePtr}
 use Rattle.art_model.specs.Layouts.{AreDistinct, AreLinked}
 use Rattle.art_model.specs.Pairs.{IsMap, first_of, of_key, without_first}
 use Rattle.art_model.specs.Stores.{links_at, pair_of}
-use Rattle.art_model.proofs.Chains.{links_inner, links_leaf}
-use Rattle.art_model.proofs.Keys.{front_same}
-use Rattle.art_model.proofs.Leaves.{same_leaf}
-use Rattle.art_model.proofs.Pairwises.{Pairwise-after, Pairwise-before}
-use Rattle.art_model.proofs.Views.{leaf_or}
+use Rattle.art_model.proofs.leaves.Chains.{links_inner, links_leaf}
+use Rattle.art_model.proofs.keys.Keys.{front_same}
+use Rattle.art_model.proofs.leaves.Leaves.{same_leaf}
+use Rattle.art_model.proofs.lists.Pairwises.{Pairwise-after, Pairwise-before}
+use Rattle.art_model.proofs.stores.Views.{leaf_or}
 use Rattle.art_reading.specs.Iterators.{IsIteratorOf}
 use Rattle.art_reading.proofs.Iterators as iterators
 use Rattle.art_map.specs.MapAnswers.{with_value_at}

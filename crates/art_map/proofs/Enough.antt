@@ -17,11 +17,11 @@ use Rattle.art_model.specs.Canonical.{IsCanonicalTree}
 use Rattle.art_model.specs.Layouts.{leaf_node, leaf_names, leaf_names_below, Holds, HoldsBelow, AreDistinct}
 use Rattle.art_model.specs.Stores.{held_leaf, held_inner, held_in, seen, node_at}
 use Rattle.art_model.specs.Trees.{Tree, leaf, inner, Subtrees, child, no_child}
-use Rattle.art_model.proofs.Canonical.{tree_radix}
-use Rattle.art_model.proofs.Heights.{one_less}
-use Rattle.art_model.proofs.Lists.{Each-append}
-use Rattle.art_model.proofs.Names.{taken_distinct, takes_leaves}
-use Rattle.art_model.proofs.Paths.{length-leaf_names}
+use Rattle.art_model.proofs.stores.Canonical.{tree_radix}
+use Rattle.art_model.proofs.stores.Heights.{one_less}
+use Rattle.art_model.proofs.lists.Lists.{Each-append}
+use Rattle.art_model.proofs.stores.Names.{taken_distinct, takes_leaves}
+use Rattle.art_model.proofs.places.Paths.{length-leaf_names}
 
 abbrev pub as_leaf : OpaqueNodePtr → LeafPtr
 as_leaf n = record { slot = n.slot }

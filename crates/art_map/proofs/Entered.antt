@@ -12,7 +12,7 @@ use Rattle.art_model.specs.Promises.{is_covered}
 use Rattle.art_model.specs.Roots.{ForTree}
 use Rattle.art_model.specs.Stores.{pair_of}
 use Rattle.art_model.specs.Keys.{are_same}
-use Rattle.art_model.proofs.Puts.{any_is_first, has_is_stored, put-new, put_reply-new, stored_bytes}
+use Rattle.art_model.proofs.pairs.Puts.{any_is_first, has_is_stored, put-new, put_reply-new, stored_bytes}
 use Rattle.art_writing.specs.Inserted.{HasInserted, IsPointIn, placed_for}
 use Rattle.art_writing.specs.Points.{AnswersTo}
 use Rattle.art_reading.specs.declared.end_node.InsertKind.{InsertKind}

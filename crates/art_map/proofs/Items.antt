@@ -15,10 +15,10 @@ use Rattle.art_model.specs.Radix.{pairs_of, pairs_below}
 use Rattle.art_model.specs.Roots.{IsRootOf}
 use Rattle.art_model.specs.Stores.{links_at, node_at, pair_of}
 use Rattle.art_model.specs.Trees.{Tree, leaf, inner, Subtrees, child, no_child}
-use Rattle.art_model.proofs.Canonical.{tree_radix}
-use Rattle.art_model.proofs.Paths.{length-leaf_names}
-use Rattle.art_model.proofs.Segments.{but_last, tree_segment}
-use Rattle.art_model.proofs.Views.{leaf_there}
+use Rattle.art_model.proofs.stores.Canonical.{tree_radix}
+use Rattle.art_model.proofs.places.Paths.{length-leaf_names}
+use Rattle.art_model.proofs.leaves.Segments.{but_last, tree_segment}
+use Rattle.art_model.proofs.stores.Views.{leaf_there}
 use Rattle.art_reading.specs.Iterators.{IsIteratorOf}
 use Rattle.art_reading.proofs.Iterators.{empty_iterator, linked_leaf}
 use Rattle.art_map.specs.MapItems.{pairs_from, pairs_left, IsWalk}

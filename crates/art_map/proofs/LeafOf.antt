@@ -18,10 +18,10 @@ use Rattle.art_model.specs.Radix.{join}
 use Rattle.art_model.specs.Roots.{IsRootOf}
 use Rattle.art_model.specs.Stores.{held, held_leaf, node_at}
 use Rattle.art_model.specs.Trees.{NodeHeader, Tree, leaf, inner, Subtrees, child, no_child}
-use Rattle.art_model.proofs.Leaves.{same_leaf}
-use Rattle.art_model.proofs.LeavesFound.{leaf_found}
-use Rattle.art_model.proofs.Lists.{in_either}
-use Rattle.art_model.proofs.Views.{leaf_name_is, leaf_or}
+use Rattle.art_model.proofs.leaves.Leaves.{same_leaf}
+use Rattle.art_model.proofs.leaves.LeavesFound.{leaf_found}
+use Rattle.art_model.proofs.lists.Lists.{in_either}
+use Rattle.art_model.proofs.stores.Views.{leaf_name_is, leaf_or}
 use Rattle.art_map.specs.MapChanges.{NamesLeafOf}
 use Rattle.art_map.specs.MapPairs.{HoldsPairs}
 use Rattle.art_map.proofs.Enough.{as_leaf}

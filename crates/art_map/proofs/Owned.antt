@@ -12,9 +12,9 @@ use Rattle.art_model.specs.Footprints.{IsIn}
 use Rattle.art_model.specs.Layouts.{AreDistinct, AreLinked, first_or}
 use Rattle.art_model.specs.Pairs.{first_of, last_of, without_first, without_last}
 use Rattle.art_model.specs.Stores.{links_at, links_of, pair_of}
-use Rattle.art_model.proofs.Lists.{each_in}
-use Rattle.art_model.proofs.Names.{apart_in}
-use Rattle.art_model.proofs.Segments.{but_last}
+use Rattle.art_model.proofs.lists.Lists.{each_in}
+use Rattle.art_model.proofs.stores.Names.{apart_in}
+use Rattle.art_model.proofs.leaves.Segments.{but_last}
 use Rattle.art_reading.specs.Iterators.{IsIteratorOf}
 use Rattle.art_reading.proofs.Iterators.{goes_on, linked_leaf}
 use Rattle.art_writing.proofs.Freed.{leaf_freed}

@@ -12,11 +12,11 @@ use Rattle.art_model.specs.Parts.{below, not_below, without_below}
 use Rattle.art_model.specs.Radix.{pairs_of}
 use Rattle.art_model.specs.Roots.{ForRoot, IsRootOf}
 use Rattle.art_model.specs.Trees.{Tree}
-use Rattle.art_model.proofs.Canonical.{tree_radix}
-use Rattle.art_model.proofs.Filters.{filter_all, filter_passes, none_passes}
-use Rattle.art_model.proofs.Keys.{front_same, same_equal}
-use Rattle.art_model.proofs.Lists.{Each-weaker}
-use Rattle.art_model.proofs.MapLaws.{first_is_removed_by_key}
+use Rattle.art_model.proofs.stores.Canonical.{tree_radix}
+use Rattle.art_model.proofs.lists.Filters.{filter_all, filter_passes, none_passes}
+use Rattle.art_model.proofs.keys.Keys.{front_same, same_equal}
+use Rattle.art_model.proofs.lists.Lists.{Each-weaker}
+use Rattle.art_model.proofs.pairs.MapLaws.{first_is_removed_by_key}
 use Rattle.art_writing.specs.Subtrees.{HasPrefixBelow, LeadsToNode, pairs_beside}
 use Rattle.art_writing.specs.declared.delete.subtree.SubtreeDeletePoint.{SubtreeDeletePoint}
 use Rattle.art_map.specs.MapPairs.{HoldsPairs}

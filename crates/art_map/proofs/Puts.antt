@@ -20,8 +20,8 @@ use Rattle.art_model.specs.Pairs.{IsMap, first_of, of_key, has_key, overwrite, o
 use Rattle.art_model.specs.Roots.{IsCanonicalRoot, IsRootOf, ForTree}
 use Rattle.art_model.specs.Stores.{held, pair_of}
 use Rattle.art_model.specs.Trees.{Tree, leaf}
-use Rattle.art_model.proofs.MapLaws.{overwrite_counts, overwrite_of_key_is_put, overwrite_tells, put_counts, put_tells}
-use Rattle.art_model.proofs.Puts.{has_is_stored}
+use Rattle.art_model.proofs.pairs.MapLaws.{overwrite_counts, overwrite_of_key_is_put, overwrite_tells, put_counts, put_tells}
+use Rattle.art_model.proofs.pairs.Puts.{has_is_stored}
 use Rattle.art_writing.specs.Inserted.{alone}
 use Rattle.art_writing.specs.Writes.{IsPlanted}
 use Rattle.art_writing.specs.declared.insert.PrefixInsertResult.{PrefixInsertResult}

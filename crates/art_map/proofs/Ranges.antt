@@ -15,11 +15,11 @@ use Rattle.art_model.specs.Pairs.{first_of, last_of, without_first, without_last
 use Rattle.art_model.specs.Parts.{leaves_where}
 use Rattle.art_model.specs.Stores.{links_at, node_at, pair_of}
 use Rattle.art_model.specs.Trees.{Tree, leaf, inner, Subtrees, child, no_child}
-use Rattle.art_model.proofs.Canonical.{tree_radix}
-use Rattle.art_model.proofs.Lists.{Each-append, each_in}
-use Rattle.art_model.proofs.Paths.{pairs_of-leaves}
-use Rattle.art_model.proofs.Segments.{empty_segment, last_of_in}
-use Rattle.art_model.proofs.Views.{leaf_there}
+use Rattle.art_model.proofs.stores.Canonical.{tree_radix}
+use Rattle.art_model.proofs.lists.Lists.{Each-append, each_in}
+use Rattle.art_model.proofs.places.Paths.{pairs_of-leaves}
+use Rattle.art_model.proofs.leaves.Segments.{empty_segment, last_of_in}
+use Rattle.art_model.proofs.stores.Views.{leaf_there}
 use Rattle.art_reading.specs.Iterators.{IsIteratorOf}
 use Rattle.art_reading.proofs.Iterators.{linked_leaf}
 use Rattle.art_map.specs.MapItems.{leaves_to, pairs_between, pairs_left, walk_len, deref_pair, CountsDown, IsRange, IsWalk, TakesFirst, TakesLast}

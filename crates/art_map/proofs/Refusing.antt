@@ -6,7 +6,7 @@ use Rattle.art_model.specs.Canonical.{IsCanonicalTree}
 use Rattle.art_model.specs.Pairs.{IsMap, of_key, remove_key, remove_reply}
 use Rattle.art_model.specs.Roots.{ForTree}
 use Rattle.art_model.specs.Trees.{Tree}
-use Rattle.art_model.proofs.StoreLaws.{has_one_map}
+use Rattle.art_model.proofs.stores.StoreLaws.{has_one_map}
 use Rattle.art_writing.specs.Deleted.{IsDeletePoint, IsDeletePointIn, LeadsTo}
 use Rattle.art_writing.specs.declared.delete.DeletePoint.{DeletePoint}
 use Rattle.art_writing.proofs.KeysFound.{point_some}

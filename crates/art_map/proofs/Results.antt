@@ -4,7 +4,7 @@ use Rattle.art_nodes.specs.Nodes.{Nodes}
 use Rattle.art_parts.specs.declared.names.OpaqueNodePtr.{OpaqueNodePtr}
 use Rattle.art_model.specs.Pairs.{IsMap, first_of, is_conflict, of_key, overwrite, put, put_reply, related_to, remove_key, replace_key, with_key}
 use Rattle.art_model.specs.Parts.{below, not_below}
-use Rattle.art_model.proofs.Keys.{not_same}
+use Rattle.art_model.proofs.keys.Keys.{not_same}
 use Rattle.art_writing.specs.declared.insert.Refused.{Refused}
 use Rattle.art_map.specs.MapAnswers.{HasShrinkingParentBelow, IsRefusalOf, MayRefuseRemoval, value_at}
 use Rattle.art_map.specs.MapChanges.{HasPut, HasPutOver, HasReplaced, HasTaken, HasTakenBelow}

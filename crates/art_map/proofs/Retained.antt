@@ -6,8 +6,8 @@ use Rattle.std.specs.declared.ops.Bound.TheVariants.{Excluded, Unbounded}
 use Rattle.art_model.specs.Keys.{Precedes, are_same}
 use Rattle.art_model.specs.Pairs.{IsMap, first_of, remove_key, with_key}
 use Rattle.art_model.specs.Parts.{is_between}
-use Rattle.art_model.proofs.Keys.{front_same, precedes_apart, related_sym, same_related}
-use Rattle.art_model.proofs.MapLaws.{first_is_removed_by_key}
+use Rattle.art_model.proofs.keys.Keys.{front_same, precedes_apart, related_sym, same_related}
+use Rattle.art_model.proofs.pairs.MapLaws.{first_is_removed_by_key}
 use Rattle.art_map.specs.MapAnswers.{HasShrinkingParent}
 use Rattle.art_map.specs.MapItems.{keys_of}
 use Rattle.art_map.specs.MapRetain.{AsksPair, Retains, RetainsAll, RetainsUntil, StopsAt, pairs_after}

@@ -7,7 +7,7 @@ use Rattle.std.specs.declared.ops.Bound.{Bound}
 use Rattle.art_model.specs.Keys.{Precedes, are_related, are_same, is_before}
 use Rattle.art_model.specs.Pairs.{IsMap, add_in_order, first_of, has_key, is_conflict, last_of, of_key, put, put_reply, remove_key, remove_reply, replace_key, with_key, without_first, without_last}
 use Rattle.art_model.specs.Parts.{below, between}
-use Rattle.art_model.proofs.Puts.{any_is_first, has_is_stored, put-new}
+use Rattle.art_model.proofs.pairs.Puts.{any_is_first, has_is_stored, put-new}
 use Rattle.art_map.specs.declared.map.MapInsertError.{MapInsertError}
 use Rattle.art_map.specs.declared.map.MapInsertError.TheVariants.{Conflict, Memory}
 use Rattle.art_map.specs.MapAnswers.{IsRefusalOf, with_value_at}

@@ -20,11 +20,11 @@ use Rattle.art_model.specs.Promises.{is_covered}
 use Rattle.art_model.specs.Radix.{IsRadix, join, bytes_of, pairs_of}
 use Rattle.art_model.specs.Stores.{node_at}
 use Rattle.art_model.specs.Trees.{Tree, leaf, child, kind_of}
-use Rattle.art_model.proofs.Canonical.{tree_radix}
-use Rattle.art_model.proofs.Paths.{radix_plug}
-use Rattle.art_model.proofs.Slots.{IsInRange, range_of_kind, length-slots_of}
-use Rattle.art_model.proofs.Stores.{path_holds}
-use Rattle.art_model.proofs.Writes.{inner_at}
+use Rattle.art_model.proofs.stores.Canonical.{tree_radix}
+use Rattle.art_model.proofs.places.Paths.{radix_plug}
+use Rattle.art_model.proofs.stores.Slots.{IsInRange, range_of_kind, length-slots_of}
+use Rattle.art_model.proofs.stores.Stores.{path_holds}
+use Rattle.art_model.proofs.stores.Writes.{inner_at}
 use Rattle.art_reading.specs.Paths.{path_of}
 use Rattle.art_writing.specs.Deleted.{LeadsTo, ParentChange, no_parent, shrinks, change_of, parent_change, placed_for_deletion}
 use Rattle.art_writing.specs.declared.delete.DeletePoint.{DeletePoint}

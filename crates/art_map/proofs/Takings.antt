@@ -19,13 +19,13 @@ use Rattle.art_model.specs.Radix.{pairs_of}
 use Rattle.art_model.specs.Roots.{ForRoot, ForTree}
 use Rattle.art_model.specs.Stores.{held, pair_of}
 use Rattle.art_model.specs.Trees.{Tree, leaf}
-use Rattle.art_model.proofs.Canonical.{tree_radix}
-use Rattle.art_model.proofs.Keys.{front_same}
-use Rattle.art_model.proofs.LeavesFound.{leaf_found}
-use Rattle.art_model.proofs.MapLaws.{keys_are_once, removal_counts, first_is_removed_by_key, last_is_removed_by_key}
-use Rattle.art_model.proofs.Paths.{pairs_of-plug}
-use Rattle.art_model.proofs.Puts.{any_is_first}
-use Rattle.art_model.proofs.StoreLaws.{has_one_map}
+use Rattle.art_model.proofs.stores.Canonical.{tree_radix}
+use Rattle.art_model.proofs.keys.Keys.{front_same}
+use Rattle.art_model.proofs.leaves.LeavesFound.{leaf_found}
+use Rattle.art_model.proofs.pairs.MapLaws.{keys_are_once, removal_counts, first_is_removed_by_key, last_is_removed_by_key}
+use Rattle.art_model.proofs.places.Paths.{pairs_of-plug}
+use Rattle.art_model.proofs.pairs.Puts.{any_is_first}
+use Rattle.art_model.proofs.stores.StoreLaws.{has_one_map}
 use Rattle.art_map.specs.declared.map.End.{End}
 use Rattle.art_map.specs.declared.map.End.TheVariants.{First, Last}
 use Rattle.art_writing.specs.Deleted.{LeadsTo}

@@ -6,10 +6,10 @@ use Rattle.std.specs.List.{AllByRecursion as Each}
 use Rattle.std.specs.Option.{unwrap_or}
 use Rattle.art_model.specs.Keys.{Precedes, are_same, is_before}
 use Rattle.art_model.specs.Pairs.{IsMap, add_in_order, first_of, of_key, put, remove_key, replace_key, with_key}
-use Rattle.art_model.proofs.Between.{IsLocal, add_in_order_first}
-use Rattle.art_model.proofs.Filters.{Each-filter, filter_passes}
-use Rattle.art_model.proofs.Keys.{front_same, precedes_apart, related_sym, same_equal, same_related}
-use Rattle.art_model.proofs.Puts.{has_is_stored, put-new, put-old}
+use Rattle.art_model.proofs.pairs.Between.{IsLocal, add_in_order_first}
+use Rattle.art_model.proofs.lists.Filters.{Each-filter, filter_passes}
+use Rattle.art_model.proofs.keys.Keys.{front_same, precedes_apart, related_sym, same_equal, same_related}
+use Rattle.art_model.proofs.pairs.Puts.{has_is_stored, put-new, put-old}
 use Rattle.art_map.specs.MapAnswers.{value_at, with_value_at}
 use Rattle.art_map.specs.MapChanges.{put_new}
 use Rattle.art_map.proofs.CallerLaws.{value_here}

@@ -17,8 +17,8 @@ use Rattle.art_model.specs.Radix.{pairs_of, pairs_below}
 use Rattle.art_model.specs.Roots.{IsRootOf}
 use Rattle.art_model.specs.Stores.{Held, held_leaf, held_inner, held, held_in, node_at}
 use Rattle.art_model.specs.Trees.{Tree, leaf, inner, Subtrees, child, no_child}
-use Rattle.art_model.proofs.Canonical.{tree_radix}
-use Rattle.art_model.proofs.Heights.{enough_steps}
+use Rattle.art_model.proofs.stores.Canonical.{tree_radix}
+use Rattle.art_model.proofs.stores.Heights.{enough_steps}
 use Rattle.art_map.specs.MapPairs.{all_below, pairs_within, pairs_at, HoldsPairs}
 
 module _ {N A : Type 0} (at : N → Option (Node N A)) where

@@ -20,14 +20,14 @@ use Rattle.art_model.specs.Radix.{pairs_of}
 use Rattle.art_model.specs.Roots.{ForTree}
 use Rattle.art_model.specs.Stores.{links_at, node_at, pair_of}
 use Rattle.art_model.specs.Trees.{leaf}
-use Rattle.art_model.proofs.Between.{IsLocal, replace_key-between}
-use Rattle.art_model.proofs.Canonical.{IsLaidOut, canonical_from, laid_out}
-use Rattle.art_model.proofs.InHole.{with_key-hole}
-use Rattle.art_model.proofs.IntoLeaf.{IntoLeaf, leaf_changed, leaf_kept}
-use Rattle.art_model.proofs.Keys.{front_same, same_equal}
-use Rattle.art_model.proofs.LeavesFound.{leaf_found}
-use Rattle.art_model.proofs.Paths.{IsHole, hole_of, pairs_of-plug}
-use Rattle.art_model.proofs.Puts.{any_is_first}
+use Rattle.art_model.proofs.pairs.Between.{IsLocal, replace_key-between}
+use Rattle.art_model.proofs.stores.Canonical.{IsLaidOut, canonical_from, laid_out}
+use Rattle.art_model.proofs.places.InHole.{with_key-hole}
+use Rattle.art_model.proofs.changes.IntoLeaf.{IntoLeaf, leaf_changed, leaf_kept}
+use Rattle.art_model.proofs.keys.Keys.{front_same, same_equal}
+use Rattle.art_model.proofs.leaves.LeavesFound.{leaf_found}
+use Rattle.art_model.proofs.places.Paths.{IsHole, hole_of, pairs_of-plug}
+use Rattle.art_model.proofs.pairs.Puts.{any_is_first}
 use Rattle.art_map.specs.MapAnswers.{value_at, with_value_at}
 use Rattle.art_map.specs.MapChanges.{NamesLeafOf}
 use Rattle.art_map.specs.MapPairs.{HoldsPairs, pairs_at}

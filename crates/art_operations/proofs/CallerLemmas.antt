@@ -4,9 +4,9 @@ use Rattle.std.specs.List.{AllByRecursion as Each}
 use Rattle.art_keys.specs.FixedLaws.{fixed_no_prefixes}
 use Rattle.art_keyed.proofs.Keyed.{never_in_conflict}
 use Rattle.art_model.specs.Pairs.{is_conflict, of_key}
-pub use Rattle.art_model.proofs.Canonical.{tree_radix}
-pub use Rattle.art_model.proofs.StoreLaws.{has_children}
-pub use Rattle.art_model.proofs.Apart.{apart_of_none, apart_turned, both_beside, both_changed, both_same, both_turned, others_apart, root_of_first, same_apart, same_tree, tree_kept}
+pub use Rattle.art_model.proofs.stores.Canonical.{tree_radix}
+pub use Rattle.art_model.proofs.stores.StoreLaws.{has_children}
+pub use Rattle.art_model.proofs.stores.Apart.{apart_of_none, apart_turned, both_beside, both_changed, both_same, both_turned, others_apart, root_of_first, same_apart, same_tree, tree_kept}
 pub use Rattle.art_reading.proofs.Iterators.{walks_whole}
 pub use Rattle.art_checking.proofs.Folding.{folds_to}
 pub use Rattle.art_writing.proofs.Freed.{first_freed}

@@ -8,7 +8,7 @@ use Rattle.art_parts.specs.declared.names.LeafPtr.{LeafPtr}
 use Rattle.art_parts.specs.declared.leaf.LeafNode.{LeafNode}
 use Rattle.art_model.specs.Pairs.{of_key}
 use Rattle.art_model.specs.Trees.{byte_at, groups, add_to_groups}
-use Rattle.art_model.proofs.Build.{IsSortedAt, sorted_at}
+use Rattle.art_model.proofs.radix.Build.{IsSortedAt, sorted_at}
 use Rattle.art_oracle.specs.Build.{pairs_at, leaf_pair, leaf_key, ReadyBelow, count_groups}
 
 module _ {A : Type 0} where

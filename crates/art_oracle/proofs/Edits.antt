@@ -8,11 +8,11 @@ use Rattle.std.proofs.lemmas.List.Elements.{filter-append}
 use Rattle.std.proofs.lemmas.Option.{slice_get_within}
 use Rattle.art_model.specs.Keys.{is_before, is_front, are_related, are_same, Precedes}
 use Rattle.art_model.specs.Pairs.{IsMap, first_of, with_key, put, put_reply, remove_key, replace_key, of_key, is_conflict, has_key}
-use Rattle.art_model.proofs.Keys.{same_related, related_sym, front_same}
-use Rattle.art_model.proofs.Lists.{Each-weaker, Each-append, filter_none}
-use Rattle.art_model.proofs.Pairwises.{Pairwise-before, Pairwise-after, Pairwise-without, Pairwise-with}
-use Rattle.art_model.proofs.Between.{replace_key-between, remove_key-between}
-use Rattle.art_model.proofs.Puts.{put-new, put-old, put_reply-old}
+use Rattle.art_model.proofs.keys.Keys.{same_related, related_sym, front_same}
+use Rattle.art_model.proofs.lists.Lists.{Each-weaker, Each-append, filter_none}
+use Rattle.art_model.proofs.lists.Pairwises.{Pairwise-before, Pairwise-after, Pairwise-without, Pairwise-with}
+use Rattle.art_model.proofs.pairs.Between.{replace_key-between, remove_key-between}
+use Rattle.art_model.proofs.pairs.Puts.{put-new, put-old, put_reply-old}
 use Rattle.art_oracle.specs.SortedPairs.{IsPairOf, IsGapFor, AllBefore, AllAfter}
 use Rattle.art_oracle.proofs.Order.{later_no_front}
 use Rattle.art_oracle.proofs.Neighbours.{other_after, other_before, conflict_split}

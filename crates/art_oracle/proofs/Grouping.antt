@@ -19,12 +19,12 @@ use Rattle.art_model.specs.Trees.{child, no_child, byte_at, groups, add_to_group
 use Rattle.art_model.specs.Layouts.{slots_of, names_of, inner_names, inner_names_below}
 use Rattle.art_model.specs.Stores.{node_at, held, IsUsed}
 use Rattle.art_model.specs.Footprints.{IsIn}
-use Rattle.art_model.proofs.Lists.{Each-append, Each-left, Each-right, Each-weaker, each_map}
-use Rattle.art_model.proofs.Keys.{IsMap-left, IsMap-right}
-use Rattle.art_model.proofs.Groups.{groups-block, StartsApart}
-use Rattle.art_model.proofs.Build.{IsSortedAt, with_byte, sorted_at}
-use Rattle.art_model.proofs.Lists.{in_left, in_right}
-use Rattle.art_model.proofs.Pairwises.{Pairwise-append}
+use Rattle.art_model.proofs.lists.Lists.{Each-append, Each-left, Each-right, Each-weaker, each_map}
+use Rattle.art_model.proofs.keys.Keys.{IsMap-left, IsMap-right}
+use Rattle.art_model.proofs.radix.Groups.{groups-block, StartsApart}
+use Rattle.art_model.proofs.radix.Build.{IsSortedAt, with_byte, sorted_at}
+use Rattle.art_model.proofs.lists.Lists.{in_left, in_right}
+use Rattle.art_model.proofs.lists.Pairwises.{Pairwise-append}
 use Rattle.art_oracle.specs.Build.{pairs_at, leaf_pair, leaf_key, Ready, ReadyBelow, Built, BuiltBelow, IsGroup, AreBelow, GoesOn, count_groups, KeepsAllBut}
 use Rattle.art_oracle.specs.Built.{KeepsNodes}
 use Rattle.art_oracle.proofs.Kept.{node_used, was_free, inner_used, names_each}

@@ -15,8 +15,8 @@ use Rattle.art_model.specs.Trees.{Tree, leaf, inner, Subtrees, child, no_child}
 use Rattle.art_model.specs.Layouts.{Node, names_of, names_below, leaf_names, leaf_names_below, inner_names, inner_names_below, Holds, HoldsBelow}
 use Rattle.art_model.specs.Stores.{node_at, seen, Held, held, held_inner, held_leaf, IsUsed}
 use Rattle.art_model.specs.Writes.{as_inner}
-use Rattle.art_model.proofs.Lists.{Each-append, Each-left, Each-right}
-use Rattle.art_model.proofs.Views.{held_in_inner, leaf_or}
+use Rattle.art_model.proofs.lists.Lists.{Each-append, Each-left, Each-right}
+use Rattle.art_model.proofs.stores.Views.{held_in_inner, leaf_or}
 use Rattle.art_oracle.specs.Built.{KeepsNodes}
 
 module _ {K V : Type 0} where

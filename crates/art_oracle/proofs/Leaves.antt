@@ -18,11 +18,11 @@ use Rattle.art_nodes.proofs.StoreLaws.{leaf_here, leaf_elsewhere, leaf_changed_a
 use Rattle.art_model.specs.Layouts.{Links, AreDistinct, AreLinked, first_or, last_or}
 use Rattle.art_model.specs.Stores.{links_at, links_of, held_leaf, pair_of}
 use Rattle.art_model.specs.Footprints.{IsIn}
-use Rattle.art_model.proofs.Leaves.{same_leaf}
-use Rattle.art_model.proofs.Lists.{Each-append, Each-weaker, each_map}
-use Rattle.art_model.proofs.Links.{linked-append, linked-frame, last_or-push}
-use Rattle.art_model.proofs.Pairwises.{Pairwise-append, Pairwise-before}
-use Rattle.art_model.proofs.Lists.{in_left, in_right, each_in}
+use Rattle.art_model.proofs.leaves.Leaves.{same_leaf}
+use Rattle.art_model.proofs.lists.Lists.{Each-append, Each-weaker, each_map}
+use Rattle.art_model.proofs.leaves.Links.{linked-append, linked-frame, last_or-push}
+use Rattle.art_model.proofs.lists.Pairwises.{Pairwise-append, Pairwise-before}
+use Rattle.art_model.proofs.lists.Lists.{in_left, in_right, each_in}
 use Rattle.art_oracle.specs.Build.{pairs_at, leaf_pair, IsPlaced, KeepsPairs}
 use Rattle.art_oracle.proofs.Grouping.{pairs_at-append, map-append}
 use Rattle.art_oracle.proofs.Kept.{both}

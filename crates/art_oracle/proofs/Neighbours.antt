@@ -7,7 +7,7 @@ use Rattle.std.proofs.lemmas.List.{take-append-drop}
 use Rattle.std.proofs.lemmas.List.Folds.{list_any-append}
 use Rattle.art_model.specs.Keys.{is_before, is_front, are_related, are_same, Precedes}
 use Rattle.art_model.specs.Pairs.{IsMap, of_key, is_conflict}
-use Rattle.art_model.proofs.Keys.{precedes_apart, before_apart, IsMap-left, IsMap-right}
+use Rattle.art_model.proofs.keys.Keys.{precedes_apart, before_apart, IsMap-left, IsMap-right}
 use Rattle.art_oracle.specs.SortedPairs.{AllBefore, AllAfter}
 use Rattle.art_oracle.proofs.Order.{between, later_no_front}
 

@@ -24,17 +24,17 @@ use Rattle.art_model.specs.Radix.{bytes_of}
 use Rattle.art_model.specs.Layouts.{inner_node, slots_of, inner_names_below}
 use Rattle.art_model.specs.Stores.{node_at, seen, inner_seen, held, held_leaf, held_inner, IsUsed}
 use Rattle.art_model.specs.Footprints.{IsIn}
-use Rattle.art_model.proofs.Lists.{Each-weaker, after_front}
-use Rattle.art_model.proofs.Keys.{precedes_rest, precedes_apart, before_apart, cmp-append}
-use Rattle.art_model.proofs.Build.{go_on, at_byte}
-use Rattle.art_model.proofs.Views.{held_in_inner}
+use Rattle.art_model.proofs.lists.Lists.{Each-weaker, after_front}
+use Rattle.art_model.proofs.keys.Keys.{precedes_rest, precedes_apart, before_apart, cmp-append}
+use Rattle.art_model.proofs.radix.Build.{go_on, at_byte}
+use Rattle.art_model.proofs.stores.Views.{held_in_inner}
 use Rattle.art_oracle.specs.Build.{pairs_at, leaf_pair, leaf_key, Ready, ReadyBelow, Built, GoesOn, started, last_from, Starts, count_groups, KeepsAllBut, BuiltUnder, ReadyBelow, AreBelow}
 use Rattle.art_oracle.specs.Built.{KeepsNodes}
 use Rattle.art_oracle.proofs.Kept.{name_cases, others_held, was_free}
 use Rattle.art_oracle.proofs.Written.{inner_is_used}
 use Rattle.art_oracle.proofs.Counting.{length_added}
 use Rattle.art_oracle.proofs.SharedParts.{common_between, common_fits}
-use Rattle.art_model.proofs.Fronts.{ArePart, unrelated_part}
+use Rattle.art_model.proofs.keys.Fronts.{ArePart, unrelated_part}
 
 before-append : (p a b : List ℕ) → is_before (p ++ a) (p ++ b) ≡ is_before a b
 before-append p a b = ap is_lt (cmp-append p a b)

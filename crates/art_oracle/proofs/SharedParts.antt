@@ -3,7 +3,7 @@ use Rattle.std.proofs.Common.{◌≡◌, ℕ, ◌+◌, ◌<◌, ◌≤◌, List,
 use Rattle.std.proofs.lemmas.Bool.{le-ltb, lt-ltb, true≢false, cases_order, cases_lt}
 use Rattle.std.proofs.lemmas.List.{drop_all, length-append}
 use Rattle.art_model.specs.Keys.{IsFront, is_before, common_front}
-use Rattle.art_model.proofs.Lists.{common_front_left}
+use Rattle.art_model.proofs.lists.Lists.{common_front_left}
 
 pub common_end_right : (a : List ℕ) → length (common_front a []) ≡ 0
 common_end_right [] = refl

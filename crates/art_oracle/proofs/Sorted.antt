@@ -10,7 +10,7 @@ use Rattle.std.proofs.lemmas.List.Sorted.{searchable_from_sorted}
 use Rattle.std.proofs.lemmas.Map.Lookups.{exact_bytes}
 use Rattle.art_model.specs.Keys.{is_before}
 use Rattle.art_model.specs.Pairs.{IsMap, of_key}
-use Rattle.art_model.proofs.Keys.{precedes_apart}
+use Rattle.art_model.proofs.keys.Keys.{precedes_apart}
 use Rattle.art_oracle.specs.SortedPairs.{IsPairOf, IsGapFor}
 use Rattle.art_oracle.proofs.Order.{before_from_less, after_from_greater}
 

@@ -17,13 +17,13 @@ use Rattle.art_model.specs.Layouts.{names_of, names_below, leaf_names, leaf_name
 use Rattle.art_model.specs.Stores.{node_at, links_at, held, held_in, held_leaf, held_inner, links_of, IsUsed}
 use Rattle.art_model.specs.Canonical.{IsCanonicalTree}
 use Rattle.art_model.specs.Footprints.{IsIn}
-use Rattle.art_model.proofs.Lists.{Each-left, Each-right, Each-weaker, each_map}
-use Rattle.art_model.proofs.Names.{taken_in, takes_inners, takes_leaves}
-use Rattle.art_model.proofs.Pairwises.{Pairwise-across, Pairwise-left, Pairwise-right, Pairwise-append}
-use Rattle.art_model.proofs.Lists.{each_in}
-use Rattle.art_model.proofs.Links.{linked-frame}
-use Rattle.art_model.proofs.Canonical.{canonical_from}
-use Rattle.art_model.proofs.StoreLaws.{has_one_layout}
+use Rattle.art_model.proofs.lists.Lists.{Each-left, Each-right, Each-weaker, each_map}
+use Rattle.art_model.proofs.stores.Names.{taken_in, takes_inners, takes_leaves}
+use Rattle.art_model.proofs.lists.Pairwises.{Pairwise-across, Pairwise-left, Pairwise-right, Pairwise-append}
+use Rattle.art_model.proofs.lists.Lists.{each_in}
+use Rattle.art_model.proofs.leaves.Links.{linked-frame}
+use Rattle.art_model.proofs.stores.Canonical.{canonical_from}
+use Rattle.art_model.proofs.stores.StoreLaws.{has_one_layout}
 use Rattle.art_oracle.specs.Build.{pairs_at, Ready, Built, IsPlaced, KeepsPairs}
 use Rattle.art_oracle.specs.Built.{KeepsNodes, AddsTree, IsInTree}
 use Rattle.art_oracle.proofs.Kept.{keeps-trans, was_free, both, names_each, names_each_below}

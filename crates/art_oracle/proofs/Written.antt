@@ -13,10 +13,10 @@ use Rattle.art_nodes.proofs.StoreLaws.{inner_changed_here, inner_changed_elsewhe
 use Rattle.art_model.specs.Trees.{Tree}
 use Rattle.art_model.specs.Layouts.{names_of, Holds}
 use Rattle.art_model.specs.Stores.{node_at, seen, Held, held, held_inner, IsUsed}
-use Rattle.art_model.proofs.Lists.{Each-weaker}
-use Rattle.art_model.proofs.Stores.{frame}
-use Rattle.art_model.proofs.Names.{all_taken}
-use Rattle.art_model.proofs.Views.{held_in_inner}
+use Rattle.art_model.proofs.lists.Lists.{Each-weaker}
+use Rattle.art_model.proofs.stores.Stores.{frame}
+use Rattle.art_model.proofs.stores.Names.{all_taken}
+use Rattle.art_model.proofs.stores.Views.{held_in_inner}
 use Rattle.art_oracle.specs.Build.{KeepsAllBut}
 use Rattle.art_oracle.specs.Built.{KeepsNodes}
 use Rattle.art_oracle.proofs.Kept.{both, name_cases, others_held}

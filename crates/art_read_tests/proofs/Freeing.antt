@@ -12,11 +12,11 @@ use Rattle.art_model.specs.Layouts.{AreLinked, Holds, HoldsBelow, IsLayout, firs
 use Rattle.art_model.specs.Stores.{held, links_at, links_of, shape_at}
 use Rattle.art_model.specs.Trees.{Tree, leaf, inner, Subtrees, child, no_child}
 use Rattle.art_model.specs.Writes.{as_inner}
-use Rattle.art_model.proofs.Chains.{links_inner}
-use Rattle.art_model.proofs.Lists.{each_from, in_either}
-use Rattle.art_model.proofs.Segments.{segment-frame}
-use Rattle.art_model.proofs.Stores.{frame}
-use Rattle.art_model.proofs.Views.{held_in_inner, leaf_or, same_inner_held}
+use Rattle.art_model.proofs.leaves.Chains.{links_inner}
+use Rattle.art_model.proofs.lists.Lists.{each_from, in_either}
+use Rattle.art_model.proofs.leaves.Segments.{segment-frame}
+use Rattle.art_model.proofs.stores.Stores.{frame}
+use Rattle.art_model.proofs.stores.Views.{held_in_inner, leaf_or, same_inner_held}
 use Rattle.art_operations.specs.Iterators.{IsIteratorOf}
 use Rattle.art_operations.proofs.FreedTrees.{shape_at-inner, shape_there}
 

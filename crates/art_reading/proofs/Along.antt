@@ -12,8 +12,8 @@ use Rattle.art_model.specs.Stores.{node_at}
 use Rattle.art_model.specs.Heights.{height}
 use Rattle.art_model.specs.Paths.{Frame}
 use Rattle.art_model.specs.Roots.{IsFullTree}
-use Rattle.art_model.proofs.Edges.{AreFirst, AreLast, IsAtEdge, edge_start, edge_down, first_child, last_child, first_leaf, last_leaf}
-use Rattle.art_model.proofs.Shown.{IsShown}
+use Rattle.art_model.proofs.places.Edges.{AreFirst, AreLast, IsAtEdge, edge_start, edge_down, first_child, last_child, first_leaf, last_leaf}
+use Rattle.art_model.proofs.stores.Shown.{IsShown}
 use Rattle.art_reading.specs.declared.descent.End.{End}
 use Rattle.art_reading.specs.declared.descent.End.TheVariants.{First, Last}
 use Rattle.art_reading.specs.declared.path.TreePath.{TreePath}

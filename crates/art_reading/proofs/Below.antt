@@ -16,11 +16,11 @@ use Rattle.art_model.specs.Parts.{below}
 use Rattle.art_model.specs.Paths.{pairs_before, pairs_after}
 use Rattle.art_model.specs.Radix.{pairs_of}
 use Rattle.art_model.specs.Trees.{Tree, leaf}
-use Rattle.art_model.proofs.Keys.{front_from, front_is}
-use Rattle.art_model.proofs.Lists.{filter_none, front_cut}
-use Rattle.art_model.proofs.OnWay.{byte_after}
-use Rattle.art_model.proofs.Paths.{pairs_of-plug}
-use Rattle.art_model.proofs.Shown.{IsShown}
+use Rattle.art_model.proofs.keys.Keys.{front_from, front_is}
+use Rattle.art_model.proofs.lists.Lists.{filter_none, front_cut}
+use Rattle.art_model.proofs.places.OnWay.{byte_after}
+use Rattle.art_model.proofs.places.Paths.{pairs_of-plug}
+use Rattle.art_model.proofs.stores.Shown.{IsShown}
 use Rattle.art_reading.specs.Parts.{IsNotBelow, EndsBelow}
 use Rattle.art_reading.specs.Paths.{path_of, step_down}
 use Rattle.art_reading.specs.declared.path.TreePath.{TreePath}

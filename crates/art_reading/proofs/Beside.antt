@@ -25,13 +25,13 @@ use Rattle.art_model.specs.Roots.{IsFullTree}
 use Rattle.art_model.specs.Stores.{header_at, pair_of}
 use Rattle.art_model.specs.Layouts.{slots_of}
 use Rattle.art_model.specs.Trees.{Tree, leaf, inner, Subtrees, child, no_child}
-use Rattle.art_model.proofs.Lists.{Each-weaker, after_front, front_cut}
-use Rattle.art_model.proofs.OnWay.{byte_after, front_byte}
-use Rattle.art_model.proofs.Places.{prefix_is}
-use Rattle.art_model.proofs.Radix.{parts}
-use Rattle.art_model.proofs.Rebuild.{radix_below, radix_way}
-use Rattle.art_model.proofs.Shown.{IsShown, inner_shown}
-use Rattle.art_model.proofs.TreeLaws.{have_two_children, one_child}
+use Rattle.art_model.proofs.lists.Lists.{Each-weaker, after_front, front_cut}
+use Rattle.art_model.proofs.places.OnWay.{byte_after, front_byte}
+use Rattle.art_model.proofs.places.Places.{prefix_is}
+use Rattle.art_model.proofs.radix.Radix.{parts}
+use Rattle.art_model.proofs.radix.Rebuild.{radix_below, radix_way}
+use Rattle.art_model.proofs.stores.Shown.{IsShown, inner_shown}
+use Rattle.art_model.proofs.radix.TreeLaws.{have_two_children, one_child}
 use Rattle.art_reading.specs.Parts.{IsPlaced, StandsBeside}
 use Rattle.art_reading.proofs.Below.{front_within, starts_front}
 use Rattle.art_reading.proofs.Descents.{IsDescent, start, shown_radix, front, front_len, part_len, child_there, each_under, down}

@@ -22,13 +22,13 @@ use Rattle.art_model.specs.Segments.{IsSegment}
 use Rattle.art_model.specs.Stores.{links_at, node_at, pair_of}
 use Rattle.art_model.specs.Trees.{Subtrees, Tree, child, inner, leaf, no_child}
 use Rattle.art_model.specs.Radix.{pairs_of}
-use Rattle.art_model.proofs.Canonical.{tree_radix}
-use Rattle.art_model.proofs.KeyLaws.{order_is_transitive}
-use Rattle.art_model.proofs.Lists.{Each-append, each_in, in_map, out_map}
-use Rattle.art_model.proofs.Parts.{where_all}
-use Rattle.art_model.proofs.Paths.{leaf_names-leaves, pairs_of-leaves}
-use Rattle.art_model.proofs.Segments.{last_of_in, segment_front, segment_rest, tree_segment}
-use Rattle.art_model.proofs.Views as views
+use Rattle.art_model.proofs.stores.Canonical.{tree_radix}
+use Rattle.art_model.proofs.keys.KeyLaws.{order_is_transitive}
+use Rattle.art_model.proofs.lists.Lists.{Each-append, each_in, in_map, out_map}
+use Rattle.art_model.proofs.radix.Parts.{where_all}
+use Rattle.art_model.proofs.places.Paths.{leaf_names-leaves, pairs_of-leaves}
+use Rattle.art_model.proofs.leaves.Segments.{last_of_in, segment_front, segment_rest, tree_segment}
+use Rattle.art_model.proofs.stores.Views as views
 use Rattle.art_reading.specs.Iterators.{IsIteratorOf}
 use Rattle.art_reading.proofs.Iterators.{empty_iterator, there_in}
 use Rattle.art_reading.proofs.Spans.{not_not, not_true, pairwise_unmap, pairwise_weaker, span_in, span_last, span_none, span_off, span_on}

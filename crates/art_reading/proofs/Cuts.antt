@@ -18,13 +18,13 @@ use Rattle.art_model.specs.Paths.{leaves_after, leaves_before, pairs_after, pair
 use Rattle.art_model.specs.Radix.{pairs_of}
 use Rattle.art_model.specs.Stores.{links_at}
 use Rattle.art_model.specs.Trees.{Tree}
-use Rattle.art_model.proofs.Keys.{precedes_apart}
-use Rattle.art_model.proofs.LeafEnds.{first_or_of, last_or_of}
-use Rattle.art_model.proofs.Links.{link_of}
-use Rattle.art_model.proofs.Lists.{Each-weaker}
-use Rattle.art_model.proofs.Parts.{where_after, where_all, where_before, where_none}
-use Rattle.art_model.proofs.Paths.{leaf_names-plug}
-use Rattle.art_model.proofs.Segments.{but_last}
+use Rattle.art_model.proofs.keys.Keys.{precedes_apart}
+use Rattle.art_model.proofs.leaves.LeafEnds.{first_or_of, last_or_of}
+use Rattle.art_model.proofs.leaves.Links.{link_of}
+use Rattle.art_model.proofs.lists.Lists.{Each-weaker}
+use Rattle.art_model.proofs.radix.Parts.{where_after, where_all, where_before, where_none}
+use Rattle.art_model.proofs.places.Paths.{leaf_names-plug}
+use Rattle.art_model.proofs.leaves.Segments.{but_last}
 use Rattle.art_model.specs.Pairs.{without_last}
 use Rattle.art_reading.specs.declared.range.Cut.{Cut}
 use Rattle.art_reading.specs.declared.range.Cut.TheVariants.{Before, After}

@@ -14,14 +14,14 @@ use Rattle.art_model.specs.Paths.{plug, pairs_before, pairs_after}
 use Rattle.art_model.specs.Radix.{IsRadix, AreRadix, BytesRise, bytes_of, pairs_of, pairs_below}
 use Rattle.art_model.specs.Stores.{header_at, node_at}
 use Rattle.art_model.specs.Trees.{Tree, inner, child}
-use Rattle.art_model.proofs.Canonical.{tree_radix}
-use Rattle.art_model.proofs.Lists.{Each-append, each_from, each_in, in_left, in_right}
-use Rattle.art_model.proofs.OnWay.{child_under, no_child_under}
-use Rattle.art_model.proofs.Pairwises.{Pairwise-before, Pairwise-right}
-use Rattle.art_model.proofs.Parts.{each_below}
-use Rattle.art_model.proofs.Radix.{AreRadix-left, AreRadix-right, bytes_of-join}
-use Rattle.art_model.proofs.Shown.{IsShown, IsThere}
-use Rattle.art_model.proofs.Stores.{path_holds}
+use Rattle.art_model.proofs.stores.Canonical.{tree_radix}
+use Rattle.art_model.proofs.lists.Lists.{Each-append, each_from, each_in, in_left, in_right}
+use Rattle.art_model.proofs.places.OnWay.{child_under, no_child_under}
+use Rattle.art_model.proofs.lists.Pairwises.{Pairwise-before, Pairwise-right}
+use Rattle.art_model.proofs.radix.Parts.{each_below}
+use Rattle.art_model.proofs.radix.Radix.{AreRadix-left, AreRadix-right, bytes_of-join}
+use Rattle.art_model.proofs.stores.Shown.{IsShown, IsThere}
+use Rattle.art_model.proofs.stores.Stores.{path_holds}
 use Rattle.art_reading.specs.Parts.{StandsBetween}
 
 -- A node of a radix tree at a place of so many bytes, between pairs of which these hold.

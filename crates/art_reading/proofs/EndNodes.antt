@@ -21,18 +21,18 @@ use Rattle.art_model.specs.Stores.{node_at, header_at, pair_of}
 use Rattle.art_model.specs.Paths.{Frame, plug, fill, names_before, names_after}
 use Rattle.art_model.specs.Places.{places, depth_of, prefix_of, IsEndNode}
 use Rattle.art_model.specs.Canonical.{IsCanonicalTree}
-use Rattle.art_model.proofs.Fronts.{ArePart, front_right, part_where}
-use Rattle.art_model.proofs.Lists.{Each-append, Each-weaker, common_front_right, front_trans, after_front, common_front-append}
-use Rattle.art_model.proofs.Keys.{front_related}
-use Rattle.art_model.proofs.Canonical.{tree_radix}
-use Rattle.art_model.proofs.Pairwises.{Pairwise-left, Pairwise-right}
-use Rattle.art_model.proofs.Paths.{path_down, names_of-plug, related_at}
-use Rattle.art_model.proofs.Places.{place_is, prefix_is, beside, deeper}
-use Rattle.art_model.proofs.PlaceLaws.{depth_is, ends_at}
-use Rattle.art_model.proofs.Rebuild.{radix_way, radix_below, radix_some}
-use Rattle.art_model.proofs.OnWay.{AreAside, aside_others, aside_off, aside_end, child_under, no_child_under, front_byte}
-use Rattle.art_model.proofs.Shown.{IsShown, IsThere, leaf_shown, leaf_met, inner_met, shown_met}
-use Rattle.art_model.proofs.Stores.{path_holds}
+use Rattle.art_model.proofs.keys.Fronts.{ArePart, front_right, part_where}
+use Rattle.art_model.proofs.lists.Lists.{Each-append, Each-weaker, common_front_right, front_trans, after_front, common_front-append}
+use Rattle.art_model.proofs.keys.Keys.{front_related}
+use Rattle.art_model.proofs.stores.Canonical.{tree_radix}
+use Rattle.art_model.proofs.lists.Pairwises.{Pairwise-left, Pairwise-right}
+use Rattle.art_model.proofs.places.Paths.{path_down, names_of-plug, related_at}
+use Rattle.art_model.proofs.places.Places.{place_is, prefix_is, beside, deeper}
+use Rattle.art_model.proofs.places.PlaceLaws.{depth_is, ends_at}
+use Rattle.art_model.proofs.radix.Rebuild.{radix_way, radix_below, radix_some}
+use Rattle.art_model.proofs.places.OnWay.{AreAside, aside_others, aside_off, aside_end, child_under, no_child_under, front_byte}
+use Rattle.art_model.proofs.stores.Shown.{IsShown, IsThere, leaf_shown, leaf_met, inner_met, shown_met}
+use Rattle.art_model.proofs.stores.Stores.{path_holds}
 use Rattle.art_model.specs.Roots.{ForTree, IsCanonicalRoot}
 use Rattle.art_reading.specs.declared.end_node.Spot.{Spot}
 use Rattle.art_reading.specs.declared.end_node.SearchStep.{SearchStep}

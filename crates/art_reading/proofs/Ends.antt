@@ -8,8 +8,8 @@ use Rattle.art_model.specs.Lookups.{nodes_on_way}
 use Rattle.art_model.specs.Roots.{ForTree}
 use Rattle.art_model.specs.Stores.{pair_of}
 use Rattle.art_model.specs.Trees.{Tree}
-use Rattle.art_model.proofs.Lists.{after_front, front_trans}
-use Rattle.art_model.proofs.Keys.{front_from, front_is, front_same, same_equal}
+use Rattle.art_model.proofs.lists.Lists.{after_front, front_trans}
+use Rattle.art_model.proofs.keys.Keys.{front_from, front_is, front_same, same_equal}
 use Rattle.art_nodes.specs.Nodes.{Nodes}
 use Rattle.art_parts.specs.declared.names.OpaqueNodePtr.{OpaqueNodePtr}
 use Rattle.art_reading.specs.declared.matching.Asked.{Asked}

@@ -13,9 +13,9 @@ use Rattle.art_model.specs.Footprints.{IsIn}
 use Rattle.art_model.specs.Segments.{IsSegment}
 use Rattle.art_model.specs.Pairs.{first_of, last_of, without_last}
 use Rattle.art_model.specs.Stores.{held_leaf, links_of, links_at}
-use Rattle.art_model.proofs.Links.{link_of}
-use Rattle.art_model.proofs.Lists.{each_from, each_in}
-use Rattle.art_model.proofs.Segments.{but_last, last_of_in, empty_segment, segment-frame, segment_rest, segment_front, tree_segment}
+use Rattle.art_model.proofs.leaves.Links.{link_of}
+use Rattle.art_model.proofs.lists.Lists.{each_from, each_in}
+use Rattle.art_model.proofs.leaves.Segments.{but_last, last_of_in, empty_segment, segment-frame, segment_rest, segment_front, tree_segment}
 use Rattle.art_reading.specs.declared.descent.End.{End}
 use Rattle.art_reading.specs.declared.descent.End.TheVariants.{First, Last}
 use Rattle.art_reading.specs.Iterators.{GoesOn, IsIteratorOf, TakesEnd, WalksWhole}

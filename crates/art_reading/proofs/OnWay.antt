@@ -13,13 +13,13 @@ use Rattle.art_model.specs.Layouts.{name_of}
 use Rattle.art_model.specs.Stores.{header_at}
 use Rattle.art_model.specs.Paths.{Frame, plug}
 use Rattle.art_model.specs.Places.{places, places_below, place_of}
-use Rattle.art_model.proofs.Lists.{front_cut, after_front}
-use Rattle.art_model.proofs.Keys.{front_is}
-use Rattle.art_model.proofs.Radix.{AreRadix-right}
-use Rattle.art_model.proofs.Places.{place_is}
-use Rattle.art_model.proofs.Fronts.{shared_whole, whole_shared}
-use Rattle.art_model.proofs.OnWay.{none_match, AreAside, aside_others, aside_off, aside_end, aside_pairs, aside_places, pairs_between, places_between, child_under, no_child_under, front_byte}
-use Rattle.art_model.proofs.Shown.{IsShown}
+use Rattle.art_model.proofs.lists.Lists.{front_cut, after_front}
+use Rattle.art_model.proofs.keys.Keys.{front_is}
+use Rattle.art_model.proofs.radix.Radix.{AreRadix-right}
+use Rattle.art_model.proofs.places.Places.{place_is}
+use Rattle.art_model.proofs.keys.Fronts.{shared_whole, whole_shared}
+use Rattle.art_model.proofs.places.OnWay.{none_match, AreAside, aside_others, aside_off, aside_end, aside_pairs, aside_places, pairs_between, places_between, child_under, no_child_under, front_byte}
+use Rattle.art_model.proofs.stores.Shown.{IsShown}
 use Rattle.art_reading.specs.declared.matching.PrefixMatchBehavior.{PrefixMatchBehavior}
 use Rattle.art_reading.specs.declared.matching.PrefixMatchBehavior.TheVariants.{Pessimistic}
 use Rattle.art_reading.specs.declared.path.TreePath.{TreePath}

@@ -4,9 +4,9 @@ use Rattle.std.specs.List.{AllByRecursion as Each}
 use Rattle.std.proofs.lemmas.Bool.{cases_order}
 use Rattle.art_model.specs.Keys.{IsFront, are_related, are_same}
 use Rattle.art_model.specs.Pairs.{is_conflict, related_to}
-use Rattle.art_model.proofs.Lists.{common_front_left}
-use Rattle.art_model.proofs.Keys.{related_sym, front_related, front_same, not_same, precedes_at}
-use Rattle.art_model.proofs.Fronts.{ArePart, front_right, part_where, shared_whole}
+use Rattle.art_model.proofs.lists.Lists.{common_front_left}
+use Rattle.art_model.proofs.keys.Keys.{related_sym, front_related, front_same, not_same, precedes_at}
+use Rattle.art_model.proofs.keys.Fronts.{ArePart, front_right, part_where, shared_whole}
 use Rattle.art_reading.specs.Matching.{shared_len}
 
 -- keys that go on after a front with different bytes are not related

@@ -18,15 +18,15 @@ use Rattle.art_model.specs.Roots.{IsFullTree}
 use Rattle.art_model.specs.Segments.{IsSegment}
 use Rattle.art_model.specs.Stores.{links_at, node_at, pair_of}
 use Rattle.art_model.specs.Trees.{Tree, leaf}
-use Rattle.art_model.proofs.Canonical.{tree_radix}
-use Rattle.art_model.proofs.Filters.{none_passes}
-use Rattle.art_model.proofs.Parts.{where_in_hole, where_all, where_none}
-use Rattle.art_model.proofs.Paths.{leaf_names-plug, radix_plug}
-use Rattle.art_model.proofs.Puts.{first_has}
-use Rattle.art_model.proofs.Segments.{segment_front, segment_rest, tree_segment}
-use Rattle.art_model.proofs.Stores.{hole_distinct, path_holds}
-use Rattle.art_model.proofs.TreeLaws.{have_two_children, one_child}
-use Rattle.art_model.proofs.Views as views
+use Rattle.art_model.proofs.stores.Canonical.{tree_radix}
+use Rattle.art_model.proofs.lists.Filters.{none_passes}
+use Rattle.art_model.proofs.radix.Parts.{where_in_hole, where_all, where_none}
+use Rattle.art_model.proofs.places.Paths.{leaf_names-plug, radix_plug}
+use Rattle.art_model.proofs.pairs.Puts.{first_has}
+use Rattle.art_model.proofs.leaves.Segments.{segment_front, segment_rest, tree_segment}
+use Rattle.art_model.proofs.stores.Stores.{hole_distinct, path_holds}
+use Rattle.art_model.proofs.radix.TreeLaws.{have_two_children, one_child}
+use Rattle.art_model.proofs.stores.Views as views
 use Rattle.art_reading.specs.Iterators.{IsIteratorOf}
 use Rattle.art_reading.specs.Parts.{HasAllBelow, StandsBetween}
 use Rattle.art_reading.proofs.Iterators.{empty_iterator}

@@ -22,12 +22,12 @@ use Rattle.art_model.specs.Radix.{IsRadix, AreRadix, bytes_of, pairs_of, pairs_b
 use Rattle.art_model.specs.Layouts.{Holds, IsLayout}
 use Rattle.art_model.specs.Stores.{node_at, header_at, pair_of}
 use Rattle.art_model.specs.Places.{least_key, least_below, prefix_of}
-use Rattle.art_model.proofs.Places.{least_way_below, prefix_is}
-use Rattle.art_model.proofs.Rebuild.{radix_some}
-use Rattle.art_model.proofs.Shown.{IsShown, no_inner_gone, inner_shown}
-use Rattle.art_model.proofs.Stores.{path_holds}
-use Rattle.art_model.proofs.TreeLaws.{have_two_children, one_child}
-use Rattle.art_model.proofs.Views as views
+use Rattle.art_model.proofs.places.Places.{least_way_below, prefix_is}
+use Rattle.art_model.proofs.radix.Rebuild.{radix_some}
+use Rattle.art_model.proofs.stores.Shown.{IsShown, no_inner_gone, inner_shown}
+use Rattle.art_model.proofs.stores.Stores.{path_holds}
+use Rattle.art_model.proofs.radix.TreeLaws.{have_two_children, one_child}
+use Rattle.art_model.proofs.stores.Views as views
 use Rattle.art_reading.specs.declared.path.ExplicitMismatch.{ExplicitMismatch}
 use Rattle.art_reading.specs.declared.path.PrefixMatch.{PrefixMatch}
 use Rattle.art_reading.specs.Matching.{shared_len}

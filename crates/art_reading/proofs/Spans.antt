@@ -4,8 +4,8 @@ use Rattle.std.proofs.lemmas.Bool.{true≢false}
 use Rattle.std.proofs.lemmas.List.{map-append}
 use Rattle.std.proofs.lemmas.List.Elements.{filter-append}
 use Rattle.art_model.specs.Pairs.{Pairwise, last_of}
-use Rattle.art_model.proofs.Filters.{Pairwise-filter, filter_all}
-use Rattle.art_model.proofs.Lists.{Each-weaker, each_unmap, filter_none}
+use Rattle.art_model.proofs.lists.Filters.{Pairwise-filter, filter_all}
+use Rattle.art_model.proofs.lists.Lists.{Each-weaker, each_unmap, filter_none}
 
 pub not_true : (b : Bool) → (b ≡ true → ⊥) → b ≡ false
 not_true true h = absurd (h refl)

@@ -8,7 +8,7 @@ use Rattle.art_model.specs.Pairs.{of_key}
 use Rattle.art_model.specs.Paths.{Frame, plug, fill}
 use Rattle.art_model.specs.Radix.{IsRadix, join, pairs_of, unmarked, all_unmarked}
 use Rattle.art_model.specs.Trees.{Tree, leaf, inner, Subtrees, child, no_child}
-use Rattle.art_model.proofs.Rebuild.{rebuild_root}
+use Rattle.art_model.proofs.radix.Rebuild.{rebuild_root}
 use Rattle.art_running.specs.Needs.{count_of, inner_count_below, more_of, inner_count}
 
 -- one where the kinds are the same

@@ -11,7 +11,7 @@ use Rattle.art_model.specs.Pairs.{of_key}
 use Rattle.art_model.specs.Promises.{IsLessened, tree_taken}
 use Rattle.art_model.specs.Radix.{pairs_of}
 use Rattle.art_model.specs.Roots.{ForTree}
-use Rattle.art_model.proofs.Canonical.{tree_radix}
+use Rattle.art_model.proofs.stores.Canonical.{tree_radix}
 use Rattle.art_running.specs.Runs.{on, of_side, beside, shown}
 use Rattle.art_running.specs.Steps.{State, Step, opposite}
 use Rattle.art_running.specs.declared.run.Command.TheVariants.{Clone}

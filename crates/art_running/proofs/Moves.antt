@@ -11,7 +11,7 @@ use Rattle.art_model.specs.Pairs.{of_key}
 use Rattle.art_model.specs.Radix.{pairs_of}
 use Rattle.art_model.specs.Roots.{IsCanonicalRoot, IsRootOf}
 use Rattle.art_model.specs.Trees.{Tree}
-use Rattle.art_model.proofs.Canonical.{tree_radix}
+use Rattle.art_model.proofs.stores.Canonical.{tree_radix}
 use Rattle.art_running.specs.Answers.{Answers}
 use Rattle.art_running.specs.Steps.{State, NothingChanged, IsSound, Step, pairs_in}
 use Rattle.art_running.specs.Runs.{Shown, on, of_side, beside, shown}

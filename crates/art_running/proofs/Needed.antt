@@ -23,25 +23,25 @@ use Rattle.art_model.specs.Places.{least_key, prefix_of}
 use Rattle.art_model.specs.Radix.{IsRadix, AreRadix, BytesRise, join, bytes_of, pairs_of, pairs_below}
 use Rattle.art_model.specs.Stores.{node_at}
 use Rattle.art_model.specs.Trees.{Tree, leaf, inner, Subtrees, child, no_child, NodeHeader, canonical_header, kind_of}
-use Rattle.art_model.proofs.AddedChild.{IsSplit, kind_of-larger, split_at}
-use Rattle.art_model.proofs.Between.{remove_key-between, replace_key-between}
-use Rattle.art_model.proofs.Canonical.{tree_radix}
-use Rattle.art_model.proofs.Changes.{two_children, branch, trimmed, with_child, exact, alone, raised, merged, child_removed, child_left}
-use Rattle.art_model.proofs.Fronts.{ArePart, part_where, related_after, unrelated_part}
-use Rattle.art_model.proofs.InHole.{with_key-hole}
-use Rattle.art_model.proofs.Keys.{front_same, related_sym}
-use Rattle.art_model.proofs.Lists.{after_front, front_cut}
-use Rattle.art_model.proofs.MapLaws.{replacement_counts}
-use Rattle.art_model.proofs.OutOf.{kind_of-smaller}
-use Rattle.art_model.proofs.Paths.{IsHole, radix_plug, changed_at, pairs_of-plug}
-use Rattle.art_model.proofs.PlaceLaws.{depth_is}
-use Rattle.art_model.proofs.Places.{place_is, prefix_is}
-use Rattle.art_model.proofs.Puts.{any_is_first, put-new, put-old}
-use Rattle.art_model.proofs.Radix.{only_child, pairs_below-join, bytes_of-join, AreRadix-right}
-use Rattle.art_model.proofs.Slots.{IsInRange, range_of_kind, kind_of-range, kind_of-room, kind_of-full, kind_of-spare, kind_of-least, length-slots_of}
-use Rattle.art_model.proofs.Stores.{path_holds}
+use Rattle.art_model.proofs.changes.AddedChild.{IsSplit, kind_of-larger, split_at}
+use Rattle.art_model.proofs.pairs.Between.{remove_key-between, replace_key-between}
+use Rattle.art_model.proofs.stores.Canonical.{tree_radix}
+use Rattle.art_model.proofs.changes.Changes.{two_children, branch, trimmed, with_child, exact, alone, raised, merged, child_removed, child_left}
+use Rattle.art_model.proofs.keys.Fronts.{ArePart, part_where, related_after, unrelated_part}
+use Rattle.art_model.proofs.places.InHole.{with_key-hole}
+use Rattle.art_model.proofs.keys.Keys.{front_same, related_sym}
+use Rattle.art_model.proofs.lists.Lists.{after_front, front_cut}
+use Rattle.art_model.proofs.pairs.MapLaws.{replacement_counts}
+use Rattle.art_model.proofs.changes.OutOf.{kind_of-smaller}
+use Rattle.art_model.proofs.places.Paths.{IsHole, radix_plug, changed_at, pairs_of-plug}
+use Rattle.art_model.proofs.places.PlaceLaws.{depth_is}
+use Rattle.art_model.proofs.places.Places.{place_is, prefix_is}
+use Rattle.art_model.proofs.pairs.Puts.{any_is_first, put-new, put-old}
+use Rattle.art_model.proofs.radix.Radix.{only_child, pairs_below-join, bytes_of-join, AreRadix-right}
+use Rattle.art_model.proofs.stores.Slots.{IsInRange, range_of_kind, kind_of-range, kind_of-room, kind_of-full, kind_of-spare, kind_of-least, length-slots_of}
+use Rattle.art_model.proofs.stores.Stores.{path_holds}
 use Rattle.art_model.specs.Writes.{as_inner}
-use Rattle.art_model.proofs.Writes.{inner_at}
+use Rattle.art_model.proofs.stores.Writes.{inner_at}
 use Rattle.art_running.specs.Answers.{Answers}
 use Rattle.art_writing.specs.Inserted.{placed_for, is_full}
 use Rattle.art_writing.specs.Deleted.{LeadsTo, ParentChange, no_parent, keeps, shrinks, change_of, parent_change, placed_for_deletion}

@@ -19,15 +19,15 @@ use Rattle.art_model.specs.Promises.{is_covered, promise_after}
 use Rattle.art_model.specs.Radix.{IsRadix, pairs_of}
 use Rattle.art_model.specs.Stores.{pair_of}
 use Rattle.art_model.specs.Trees.{leaf}
-use Rattle.art_model.proofs.Between.{replace_related-between}
-use Rattle.art_model.proofs.Canonical.{tree_radix}
-use Rattle.art_model.proofs.InHole.{with_key-hole}
-use Rattle.art_model.proofs.Keys.{not_same}
-use Rattle.art_model.proofs.Lists.{filter_none, Each-weaker}
-use Rattle.art_model.proofs.Paths.{IsHole, changed_at}
-use Rattle.art_model.proofs.PutOver.{free_unrelated, one_went, put_is_overwrite, same_rest}
-use Rattle.art_model.proofs.Puts.{any_is_first, overwrite-new}
-use Rattle.art_model.proofs.Views.{leaf_or}
+use Rattle.art_model.proofs.pairs.Between.{replace_related-between}
+use Rattle.art_model.proofs.stores.Canonical.{tree_radix}
+use Rattle.art_model.proofs.places.InHole.{with_key-hole}
+use Rattle.art_model.proofs.keys.Keys.{not_same}
+use Rattle.art_model.proofs.lists.Lists.{filter_none, Each-weaker}
+use Rattle.art_model.proofs.places.Paths.{IsHole, changed_at}
+use Rattle.art_model.proofs.pairs.PutOver.{free_unrelated, one_went, put_is_overwrite, same_rest}
+use Rattle.art_model.proofs.pairs.Puts.{any_is_first, overwrite-new}
+use Rattle.art_model.proofs.stores.Views.{leaf_or}
 use Rattle.art_running.specs.Needs.{needs, more_of, inner_count}
 use Rattle.art_writing.specs.Overwritten.{IsOverwritePointIn, TouchesForNode, TouchesForPrefix, placed_for_overwrite, placed_for_prefix}
 use Rattle.art_writing.specs.Points.{AnswersToOverwrite, IsPointFor}

@@ -9,7 +9,7 @@ use Rattle.art_model.specs.Pairs.{of_key}
 use Rattle.art_model.specs.Radix.{pairs_of, unmarked}
 use Rattle.art_model.specs.Roots.{IsRootOf}
 use Rattle.art_model.specs.Trees.{Tree, tree_of}
-use Rattle.art_model.proofs.StoreLaws.{have_same_tree}
+use Rattle.art_model.proofs.stores.StoreLaws.{have_same_tree}
 use Rattle.art_running.specs.Steps.{pairs_in}
 
 module _ {K V : Type 0} (bytes : K → List ℕ) (P : ℕ) (s z : Nodes K V) where

@@ -14,7 +14,7 @@ use Rattle.art_model.specs.Promises.{is_covered, promise_after}
 use Rattle.art_model.specs.Radix.{pairs_of}
 use Rattle.art_model.specs.Roots.{ForRoot}
 use Rattle.art_model.specs.Stores.{pair_of}
-use Rattle.art_model.proofs.Canonical.{tree_radix}
+use Rattle.art_model.proofs.stores.Canonical.{tree_radix}
 use Rattle.art_running.specs.Answers.{Answers}
 use Rattle.art_writing.specs.Deleted.{TouchesFor, ParentChange, no_parent, keeps, shrinks, is_compressed, parent_change, LeadsTo, placed_for_deletion}
 use Rattle.art_writing.specs.Inserted.{Touches, alone, is_full, placed_for}

@@ -8,7 +8,7 @@ use Rattle.art_parts.specs.declared.names.InnerPtr.{InnerPtr}
 use Rattle.art_parts.specs.declared.names.OpaqueNodePtr.{OpaqueNodePtr}
 use Rattle.art_nodes.proofs.StoreLaws.{inner_elsewhere as elsewhere}
 use Rattle.art_model.specs.Stores.{held, held_leaf, held_inner}
-use Rattle.art_model.proofs.Views.{held_in_inner, leaf_or}
+use Rattle.art_model.proofs.stores.Views.{held_in_inner, leaf_or}
 
 -- an inner node that is placed leaves what is in use, and so does one that is refused
 pub inner_elsewhere : {K V E : Type 0} (s t : Nodes K V) (x : Inner) (result : Result InnerPtr E) →

@@ -14,12 +14,12 @@ use Rattle.art_model.specs.Places.{depth_of, place_of, IsEndNode}
 use Rattle.art_model.specs.Radix.{IsRadix}
 use Rattle.art_model.specs.Stores.{node_at, pair_of}
 use Rattle.art_model.specs.Trees.{Tree, leaf}
-use Rattle.art_model.proofs.Canonical.{tree_radix}
-use Rattle.art_model.proofs.Paths.{IsHole, radix_plug}
-use Rattle.art_model.proofs.PlaceLaws.{depth_is}
-use Rattle.art_model.proofs.Places.{place_is}
-use Rattle.art_model.proofs.Stores.{path_holds}
-use Rattle.art_model.proofs.Views as views
+use Rattle.art_model.proofs.stores.Canonical.{tree_radix}
+use Rattle.art_model.proofs.places.Paths.{IsHole, radix_plug}
+use Rattle.art_model.proofs.places.PlaceLaws.{depth_is}
+use Rattle.art_model.proofs.places.Places.{place_is}
+use Rattle.art_model.proofs.stores.Stores.{path_holds}
+use Rattle.art_model.proofs.stores.Views as views
 
 -- the node is in the hole of the path, at a place that is as long as the path is deep
 pub record IsPlacedEnd {A : Type 0} (bytes : A → List ℕ) (P : ℕ) (path : List (Frame OpaqueNodePtr A)) (node : Tree OpaqueNodePtr A) (key : List ℕ) : Type 0 where

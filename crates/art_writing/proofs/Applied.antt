@@ -7,10 +7,10 @@ use Rattle.art_model.specs.Kept.{ChangesInPlace}
 use Rattle.art_model.specs.Pairs.{of_key, overwrite, put, stored_for}
 use Rattle.art_model.specs.Promises.{is_covered, promise_after}
 use Rattle.art_model.specs.Roots.{ForTree}
-use Rattle.art_model.proofs.Apart.{tree_apart}
-use Rattle.art_model.proofs.MapLaws.{stored_again}
-use Rattle.art_model.proofs.PutOver.{put_is_overwrite, put_reply_is, was_free}
-use Rattle.art_model.proofs.StoreLaws.{has_one_map}
+use Rattle.art_model.proofs.stores.Apart.{tree_apart}
+use Rattle.art_model.proofs.pairs.MapLaws.{stored_again}
+use Rattle.art_model.proofs.pairs.PutOver.{put_is_overwrite, put_reply_is, was_free}
+use Rattle.art_model.proofs.stores.StoreLaws.{has_one_map}
 use Rattle.art_writing.specs.declared.insert.InsertPoint.{InsertPoint}
 use Rattle.art_writing.specs.declared.insert.InsertResult.{InsertResult}
 use Rattle.art_writing.specs.declared.insert.OverwritePoint.{OverwritePoint}

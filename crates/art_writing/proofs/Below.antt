@@ -23,12 +23,12 @@ use Rattle.art_model.specs.Roots.{IsRootOf}
 use Rattle.art_model.specs.Stores.{node_at, links_at, pair_of}
 use Rattle.art_model.specs.Trees.{Tree, leaf, child}
 use Rattle.art_model.specs.Writes.{Inners, as_inner, parent_of, with_child_at, without_leaf}
-use Rattle.art_model.proofs.Canonical.{IsLaidOut, laid_out, canonical_from}
-use Rattle.art_model.proofs.OutOf.{HasLeafBelow, ParentStays, ParentShrinks, with_leaf_in, links_there, parent_is, one_more, slots_left, room_in_smaller, above_same, above_holds, hole, left_out, stays_laid_out, stays_in_place, stays_touches, shrunk, shrinks_laid_out, shrinks_in_place, shrinks_touches}
-use Rattle.art_model.proofs.Paths.{root_with as root_of}
-use Rattle.art_model.proofs.Slots.{length-slots_of}
-use Rattle.art_model.proofs.Stores.{IsParent}
-use Rattle.art_model.proofs.Writes.{parent_ready}
+use Rattle.art_model.proofs.stores.Canonical.{IsLaidOut, laid_out, canonical_from}
+use Rattle.art_model.proofs.changes.OutOf.{HasLeafBelow, ParentStays, ParentShrinks, with_leaf_in, links_there, parent_is, one_more, slots_left, room_in_smaller, above_same, above_holds, hole, left_out, stays_laid_out, stays_in_place, stays_touches, shrunk, shrinks_laid_out, shrinks_in_place, shrinks_touches}
+use Rattle.art_model.proofs.places.Paths.{root_with as root_of}
+use Rattle.art_model.proofs.stores.Slots.{length-slots_of}
+use Rattle.art_model.proofs.stores.Stores.{IsParent}
+use Rattle.art_model.proofs.stores.Writes.{parent_ready}
 use Rattle.art_writing.specs.declared.delete.DeletePoint.{DeletePoint}
 use Rattle.art_writing.specs.declared.delete.DeleteResult.{DeleteResult}
 use Rattle.art_writing.specs.Deleted.{IsRootAfter, LeadsTo, TouchesFor, ParentChange, change_of, parent_change, no_parent, keeps, shrinks, is_compressed}

@@ -11,9 +11,9 @@ use Rattle.art_model.specs.Layouts.{AreLinked, Links, first_or, last_or, leaf_na
 use Rattle.art_model.specs.Pairs.{first_of, last_of}
 use Rattle.art_model.specs.Stores.{links_at}
 use Rattle.art_model.specs.Trees.{Subtrees, child, no_child}
-use Rattle.art_model.proofs.Chains.{links_leaf}
-use Rattle.art_model.proofs.Links.{link_of, last_or-push}
-use Rattle.art_model.proofs.Paths.{leaf_names_below-join}
+use Rattle.art_model.proofs.leaves.Chains.{links_leaf}
+use Rattle.art_model.proofs.leaves.Links.{link_of, last_or-push}
+use Rattle.art_model.proofs.places.Paths.{leaf_names_below-join}
 use Rattle.art_writing.specs.Writes.{ComesBetween}
 
 -- a list is its first element and a rest, or its last one after others

@@ -21,15 +21,15 @@ use Rattle.art_model.specs.Roots.{IsFullTree}
 use Rattle.art_model.specs.Radix.{IsRadix}
 use Rattle.art_model.specs.Stores.{links_at, links_of, held_leaf, node_at, pair_of}
 use Rattle.art_model.specs.Trees.{Tree, leaf, inner, Subtrees, NodeHeader}
-use Rattle.art_model.proofs.Fronts.{part_where, unrelated_part}
-use Rattle.art_model.proofs.Links.{link_of, last_or-append}
-use Rattle.art_model.proofs.KeyLaws.{common_front_is_longest}
-use Rattle.art_model.proofs.Lists.{after_front}
-use Rattle.art_model.proofs.Paths.{leaf_names-plug}
-use Rattle.art_model.proofs.Places.{prefix_is, least_way_below}
-use Rattle.art_model.proofs.Shown.{no_leaf_gone, leaf_shown}
-use Rattle.art_model.proofs.Stores.{path_holds, hole_distinct}
-use Rattle.art_model.proofs.TreeLaws.{one_child, have_two_children}
+use Rattle.art_model.proofs.keys.Fronts.{part_where, unrelated_part}
+use Rattle.art_model.proofs.leaves.Links.{link_of, last_or-append}
+use Rattle.art_model.proofs.keys.KeyLaws.{common_front_is_longest}
+use Rattle.art_model.proofs.lists.Lists.{after_front}
+use Rattle.art_model.proofs.places.Paths.{leaf_names-plug}
+use Rattle.art_model.proofs.places.Places.{prefix_is, least_way_below}
+use Rattle.art_model.proofs.stores.Shown.{no_leaf_gone, leaf_shown}
+use Rattle.art_model.proofs.stores.Stores.{path_holds, hole_distinct}
+use Rattle.art_model.proofs.radix.TreeLaws.{one_child, have_two_children}
 use Rattle.art_writing.specs.declared.insert.InsertPoint.{InsertPoint}
 use Rattle.art_writing.specs.declared.insert.branch.Branch.{Branch}
 use Rattle.art_writing.specs.Branches.{IsBranch}

@@ -23,23 +23,23 @@ use Rattle.art_model.specs.Radix.{pairs_of}
 use Rattle.art_model.specs.Stores.{node_at, links_at}
 use Rattle.art_model.specs.Trees.{Tree, leaf, inner, child, no_child, canonical_header}
 use Rattle.art_model.specs.Writes.{IsThere, with_child_at, with_leaf, parent_of}
-use Rattle.art_model.proofs.Branches.{BranchStored, branch_in_place}
-use Rattle.art_model.proofs.Canonical.{IsLaidOut, laid_out, canonical_from}
-use Rattle.art_model.proofs.Chains.{AreThere, are_there, previous_there, next_there}
-use Rattle.art_model.proofs.Changes.{two_children}
-use Rattle.art_model.proofs.Filters.{filter_filter}
-use Rattle.art_model.proofs.Inserted.{BranchInserted, branch_inserted}
-use Rattle.art_model.proofs.Keys.{front_related, same_equal}
-use Rattle.art_model.proofs.Lists.{Each-weaker, each_in, filter_none}
-use Rattle.art_model.proofs.Paths as paths
-use Rattle.art_model.proofs.Paths.{IsHole, radix_plug, leaf_names-plug, same_pairs_of, related_at}
-use Rattle.art_model.proofs.PlaceLaws.{depth_is}
-use Rattle.art_model.proofs.Places.{place_is, taken}
-use Rattle.art_model.proofs.Puts.{put-new, put_reply-new, stored_for-new}
-use Rattle.art_model.proofs.Rebuild.{radix_way}
-use Rattle.art_model.proofs.Stores.{path_holds}
-use Rattle.art_model.proofs.Touches.{Touched, IsInner}
-use Rattle.art_model.proofs.Writes.{parent_ready}
+use Rattle.art_model.proofs.changes.Branches.{BranchStored, branch_in_place}
+use Rattle.art_model.proofs.stores.Canonical.{IsLaidOut, laid_out, canonical_from}
+use Rattle.art_model.proofs.leaves.Chains.{AreThere, are_there, previous_there, next_there}
+use Rattle.art_model.proofs.changes.Changes.{two_children}
+use Rattle.art_model.proofs.lists.Filters.{filter_filter}
+use Rattle.art_model.proofs.changes.Inserted.{BranchInserted, branch_inserted}
+use Rattle.art_model.proofs.keys.Keys.{front_related, same_equal}
+use Rattle.art_model.proofs.lists.Lists.{Each-weaker, each_in, filter_none}
+use Rattle.art_model.proofs.places.Paths as paths
+use Rattle.art_model.proofs.places.Paths.{IsHole, radix_plug, leaf_names-plug, same_pairs_of, related_at}
+use Rattle.art_model.proofs.places.PlaceLaws.{depth_is}
+use Rattle.art_model.proofs.places.Places.{place_is, taken}
+use Rattle.art_model.proofs.pairs.Puts.{put-new, put_reply-new, stored_for-new}
+use Rattle.art_model.proofs.radix.Rebuild.{radix_way}
+use Rattle.art_model.proofs.stores.Stores.{path_holds}
+use Rattle.art_model.proofs.stores.Touches.{Touched, IsInner}
+use Rattle.art_model.proofs.stores.Writes.{parent_ready}
 use Rattle.art_writing.specs.declared.insert.InsertParentNodeChange.{InsertParentNodeChange}
 use Rattle.art_writing.specs.declared.insert.InsertParentNodeChange.TheVariants.{NewParent}
 use Rattle.art_writing.specs.declared.insert.InsertPoint.{InsertPoint}

@@ -15,11 +15,11 @@ use Rattle.art_model.specs.Pairs.{of_key}
 use Rattle.art_model.specs.Radix.{HaveChildren, pairs_of}
 use Rattle.art_model.specs.Roots.{ForTree, IsCanonicalRoot, IsFullTree}
 use Rattle.art_model.specs.Trees.{Tree}
-use Rattle.art_model.proofs.Apart.{tree_apart}
-use Rattle.art_model.proofs.Copies.{copied_tree}
-use Rattle.art_model.proofs.Gains.{came_others}
-use Rattle.art_model.proofs.LeafEnds.{first_is_there, last_is_there}
-use Rattle.art_model.proofs.StoreLaws.{has_children, has_one_map}
+use Rattle.art_model.proofs.stores.Apart.{tree_apart}
+use Rattle.art_model.proofs.radix.Copies.{copied_tree}
+use Rattle.art_model.proofs.stores.Gains.{came_others}
+use Rattle.art_model.proofs.leaves.LeafEnds.{first_is_there, last_is_there}
+use Rattle.art_model.proofs.stores.StoreLaws.{has_children, has_one_map}
 use Rattle.art_writing.specs.declared.clone.CloneResult.{CloneResult}
 use Rattle.art_writing.specs.Cloned.{IsCopied}
 

@@ -26,21 +26,21 @@ use Rattle.art_model.specs.Writes.{as_inner, joined, IsThere}
 use Rattle.art_model.specs.Clones.{IsCopy, AreCopies}
 use Rattle.art_model.specs.Promises.{tree_taken, children_taken}
 use Rattle.art_model.specs.Gains.{as_leaf, without, Loses, Gains}
-use Rattle.art_model.proofs.Chains.{are_there}
-use Rattle.art_model.proofs.Copies.{copied_bytes, copies_joined}
-use Rattle.art_model.proofs.Gains.{GainsChild, frees_lost, gained_child, gained_leaf, gained_inner, child_seen}
-use Rattle.art_model.proofs.Links.{first_or-append, last_or-append, last_in, first_in}
-use Rattle.art_model.proofs.Lists.{each_in, each_from}
-use Rattle.art_model.proofs.Names.{IsTaken, all_taken, taken_in, takes_leaves}
-use Rattle.art_model.proofs.Pairwises.{Pairwise-before, Pairwise-left, Pairwise-right}
-use Rattle.art_model.proofs.Paths.{leaf_names_below-join}
-use Rattle.art_model.proofs.PlaceLaws.{join_assoc, join_none}
-use Rattle.art_model.proofs.Radix.{bytes_of-join}
-use Rattle.art_model.proofs.Shown.{leaf_shown, inner_shown}
-use Rattle.art_model.proofs.Slots.{length-slots_of}
-use Rattle.art_model.proofs.Stores.{frame}
-use Rattle.art_model.proofs.Views.{leaf_or}
-use Rattle.art_model.proofs.Writes.{inner_at, node_at-leaf, same_inner}
+use Rattle.art_model.proofs.leaves.Chains.{are_there}
+use Rattle.art_model.proofs.radix.Copies.{copied_bytes, copies_joined}
+use Rattle.art_model.proofs.stores.Gains.{GainsChild, frees_lost, gained_child, gained_leaf, gained_inner, child_seen}
+use Rattle.art_model.proofs.leaves.Links.{first_or-append, last_or-append, last_in, first_in}
+use Rattle.art_model.proofs.lists.Lists.{each_in, each_from}
+use Rattle.art_model.proofs.stores.Names.{IsTaken, all_taken, taken_in, takes_leaves}
+use Rattle.art_model.proofs.lists.Pairwises.{Pairwise-before, Pairwise-left, Pairwise-right}
+use Rattle.art_model.proofs.places.Paths.{leaf_names_below-join}
+use Rattle.art_model.proofs.places.PlaceLaws.{join_assoc, join_none}
+use Rattle.art_model.proofs.radix.Radix.{bytes_of-join}
+use Rattle.art_model.proofs.stores.Shown.{leaf_shown, inner_shown}
+use Rattle.art_model.proofs.stores.Slots.{length-slots_of}
+use Rattle.art_model.proofs.stores.Stores.{frame}
+use Rattle.art_model.proofs.stores.Views.{leaf_or}
+use Rattle.art_model.proofs.stores.Writes.{inner_at, node_at-leaf, same_inner}
 use Rattle.art_writing.specs.declared.clone.CloneResult.{CloneResult}
 use Rattle.art_writing.specs.declared.clone.LeafEnds.{LeafEnds}
 use Rattle.art_writing.specs.Cloned.{IsCopied}

@@ -21,22 +21,22 @@ use Rattle.art_model.specs.Radix.{IsRadix, join, pairs_of}
 use Rattle.art_model.specs.Stores.{held, held_leaf, held_inner, node_at, links_at, pair_of, seen}
 use Rattle.art_model.specs.Trees.{Tree, leaf, inner, Subtrees, child, no_child}
 use Rattle.art_model.specs.Writes.{as_inner, parent_of, joined, with_child_at}
-use Rattle.art_model.proofs.Canonical.{IsLaidOut}
-use Rattle.art_model.proofs.Chains.{AreBeside, relinked_beside}
-use Rattle.art_model.proofs.Kept.{kept_leaves, kept_leaves_fewer}
-use Rattle.art_model.proofs.Leaves.{joined_elsewhere, joined_pair}
-use Rattle.art_model.proofs.Links.{relink, last_or-push, first_in}
-use Rattle.art_model.proofs.Lists.{Each-left, each_from, each_in, in_around, in_either, in_left, in_right}
-use Rattle.art_model.proofs.Names.{among_below, apart_in, taken_distinct, takes_leaves}
-use Rattle.art_model.proofs.OutOf.{HasLeafBelow, parent_is, slots_left}
-use Rattle.art_model.proofs.Pairwises.{Pairwise-across, Pairwise-append, Pairwise-left, Pairwise-right}
-use Rattle.art_model.proofs.Paths.{entries_before, entries_after, entries_of-plug, leaf_names-plug, leaf_names_below-join, length-leaf_names, name_of-plug, names_below-join, names_of-plug, pairs_of-plug, plug_radix, radix_plug, root_with}
-use Rattle.art_model.proofs.Rebuild.{radix_way}
-use Rattle.art_model.proofs.Regrown.{children_regrown, leaf_regrown}
-use Rattle.art_model.proofs.Stores.{IsParent, ParentHas, SameBut, after_apart, before_apart, frame, hole_distinct, parent_apart, parent_before, path_holds, replace}
-use Rattle.art_model.proofs.Views.{held_in_inner, leaf_or, same_inner_held, same_leaf}
-use Rattle.art_model.proofs.Wholes.{kept}
-use Rattle.art_model.proofs.Writes.{inner_name_one, node_at-inner, node_at-leaf, parent_stays, parent_there, parent_written, same_but, same_inner, shown, with_child_at-elsewhere}
+use Rattle.art_model.proofs.stores.Canonical.{IsLaidOut}
+use Rattle.art_model.proofs.leaves.Chains.{AreBeside, relinked_beside}
+use Rattle.art_model.proofs.changes.Kept.{kept_leaves, kept_leaves_fewer}
+use Rattle.art_model.proofs.leaves.Leaves.{joined_elsewhere, joined_pair}
+use Rattle.art_model.proofs.leaves.Links.{relink, last_or-push, first_in}
+use Rattle.art_model.proofs.lists.Lists.{Each-left, each_from, each_in, in_around, in_either, in_left, in_right}
+use Rattle.art_model.proofs.stores.Names.{among_below, apart_in, taken_distinct, takes_leaves}
+use Rattle.art_model.proofs.changes.OutOf.{HasLeafBelow, parent_is, slots_left}
+use Rattle.art_model.proofs.lists.Pairwises.{Pairwise-across, Pairwise-append, Pairwise-left, Pairwise-right}
+use Rattle.art_model.proofs.places.Paths.{entries_before, entries_after, entries_of-plug, leaf_names-plug, leaf_names_below-join, length-leaf_names, name_of-plug, names_below-join, names_of-plug, pairs_of-plug, plug_radix, radix_plug, root_with}
+use Rattle.art_model.proofs.radix.Rebuild.{radix_way}
+use Rattle.art_model.proofs.changes.Regrown.{children_regrown, leaf_regrown}
+use Rattle.art_model.proofs.stores.Stores.{IsParent, ParentHas, SameBut, after_apart, before_apart, frame, hole_distinct, parent_apart, parent_before, path_holds, replace}
+use Rattle.art_model.proofs.stores.Views.{held_in_inner, leaf_or, same_inner_held, same_leaf}
+use Rattle.art_model.proofs.places.Wholes.{kept}
+use Rattle.art_model.proofs.stores.Writes.{inner_name_one, node_at-inner, node_at-leaf, parent_stays, parent_there, parent_written, same_but, same_inner, shown, with_child_at-elsewhere}
 
 -- ---- paths, one behind the other, and the leaves beside a hole
 

@@ -17,10 +17,10 @@ use Rattle.art_model.specs.Roots.{IsFullTree}
 use Rattle.art_model.specs.Stores.{node_at, shape_at}
 use Rattle.art_model.specs.Trees.{Tree, leaf, inner, Subtrees, child, no_child}
 use Rattle.art_model.specs.Writes.{joined}
-use Rattle.art_model.proofs.Gains.{frees_lost}
-use Rattle.art_model.proofs.Pairwises.{Pairwise-left, Pairwise-right}
-use Rattle.art_model.proofs.Paths.{names_below-join}
-use Rattle.art_model.proofs.Shapes.{has_shape, names_of-shape}
+use Rattle.art_model.proofs.stores.Gains.{frees_lost}
+use Rattle.art_model.proofs.lists.Pairwises.{Pairwise-left, Pairwise-right}
+use Rattle.art_model.proofs.places.Paths.{names_below-join}
+use Rattle.art_model.proofs.radix.Shapes.{has_shape, names_of-shape}
 use Rattle.art_writing.specs.declared.clone.Above.{Above}
 use Rattle.art_writing.specs.declared.clone.CloneResult.{CloneResult}
 use Rattle.art_writing.specs.declared.clone.LeafEnds.{LeafEnds}

@@ -11,9 +11,9 @@ use Rattle.art_model.specs.Pairs.{first_of, last_of, remove_key, with_key}
 use Rattle.art_model.specs.Radix.{pairs_of}
 use Rattle.art_model.specs.Stores.{pair_of}
 use Rattle.art_model.specs.Trees.{Tree}
-use Rattle.art_model.proofs.Filters.{filter_all, none_passes}
-use Rattle.art_model.proofs.LeavesFound.{leaf_found}
-use Rattle.art_model.proofs.Lists.{Each-weaker}
+use Rattle.art_model.proofs.lists.Filters.{filter_all, none_passes}
+use Rattle.art_model.proofs.leaves.LeavesFound.{leaf_found}
+use Rattle.art_model.proofs.lists.Lists.{Each-weaker}
 use Rattle.art_reading.specs.declared.descent.End.{End}
 use Rattle.art_reading.specs.declared.descent.End.TheVariants.{First, Last}
 use Rattle.art_reading.specs.Paths.{path_of}

@@ -20,14 +20,14 @@ use Rattle.art_model.specs.Roots.{IsCanonicalRoot, IsRootOf}
 use Rattle.art_model.specs.Stores.{node_at, pair_of}
 use Rattle.art_model.specs.Trees.{Tree, leaf}
 use Rattle.art_model.specs.Writes.{as_inner, parent_of, without_leaf}
-use Rattle.art_model.proofs.Apart.{tree_apart}
-use Rattle.art_model.proofs.Filters.{filter_passes}
-use Rattle.art_model.proofs.Keys.{same_equal}
-use Rattle.art_model.proofs.MapLaws.{first_is_removed_by_key, last_is_removed_by_key}
-use Rattle.art_model.proofs.Puts.{first_has}
-use Rattle.art_model.proofs.Stores.{path_holds}
-use Rattle.art_model.proofs.StoreLaws.{has_one_map}
-use Rattle.art_model.proofs.Writes.{node_at-leaf, parent_there}
+use Rattle.art_model.proofs.stores.Apart.{tree_apart}
+use Rattle.art_model.proofs.lists.Filters.{filter_passes}
+use Rattle.art_model.proofs.keys.Keys.{same_equal}
+use Rattle.art_model.proofs.pairs.MapLaws.{first_is_removed_by_key, last_is_removed_by_key}
+use Rattle.art_model.proofs.pairs.Puts.{first_has}
+use Rattle.art_model.proofs.stores.Stores.{path_holds}
+use Rattle.art_model.proofs.stores.StoreLaws.{has_one_map}
+use Rattle.art_model.proofs.stores.Writes.{node_at-leaf, parent_there}
 use Rattle.art_writing.specs.declared.delete.DeletePoint.{DeletePoint}
 use Rattle.art_writing.specs.declared.delete.DeleteResult.{DeleteResult}
 use Rattle.art_writing.specs.Deleted.{IsDeletePointIn, IsRootAfter, LeadsTo, ParentChange, TouchesFor, parent_change, placed_for_deletion, no_parent, keeps, shrinks, is_compressed}

@@ -11,8 +11,8 @@ use Rattle.art_nodes.proofs.StoreLaws.{leaf_elsewhere as elsewhere}
 use Rattle.art_model.specs.Canonical.{IsCanonicalTree}
 use Rattle.art_model.specs.Stores.{held, held_leaf, held_inner}
 use Rattle.art_model.specs.Trees.{Tree}
-use Rattle.art_model.proofs.Apart.{name_used, tree_kept}
-use Rattle.art_model.proofs.Views.{held_in_inner, leaf_or}
+use Rattle.art_model.proofs.stores.Apart.{name_used, tree_kept}
+use Rattle.art_model.proofs.stores.Views.{held_in_inner, leaf_or}
 
 -- a leaf that is placed leaves what is in use
 pub leaf_elsewhere : {K V : Type 0} (s t : Nodes K V) (n : LeafPtr) (x : LeafNode K V) → get s.leaves n ≡ None → t.leaves ≡ insert s.leaves n x →

@@ -23,23 +23,23 @@ use Rattle.art_model.specs.Radix.{IsRadix, AreRadix, bytes_of, join, pairs_of, p
 use Rattle.art_model.specs.Stores.{node_at, links_at}
 use Rattle.art_model.specs.Trees.{Tree, leaf, inner, Subtrees, child, no_child, NodeHeader, kind_of}
 use Rattle.art_model.specs.Writes.{as_inner, parent_of}
-use Rattle.art_model.proofs.AddedChild.{ChildAdded, split_at}
-use Rattle.art_model.proofs.Canonical.{IsLaidOut, laid_out, canonical_from}
-use Rattle.art_model.proofs.InHole.{with_key-hole}
-use Rattle.art_model.proofs.Inserted.{IsGap}
-use Rattle.art_model.proofs.Keys.{same_related}
-use Rattle.art_model.proofs.Lists.{Each-append, Each-weaker, after_front, filter_none}
-use Rattle.art_model.proofs.OnWay.{front_byte}
-use Rattle.art_model.proofs.Paths as paths
-use Rattle.art_model.proofs.Paths.{IsHole}
-use Rattle.art_model.proofs.Places.{prefix_is}
-use Rattle.art_model.proofs.Puts.{put-new, put_reply-new, stored_for-new}
-use Rattle.art_model.proofs.Radix.{bytes_of-join}
-use Rattle.art_model.proofs.Rebuild.{radix_way}
-use Rattle.art_model.proofs.Slots.{length-slots_of}
-use Rattle.art_model.proofs.Stores.{IsParent, path_holds, hole_distinct, parent_apart}
-use Rattle.art_model.proofs.TreeLaws.{have_two_children, one_child}
-use Rattle.art_model.proofs.Writes.{inner_at, inner_name_one, parent_ready}
+use Rattle.art_model.proofs.changes.AddedChild.{ChildAdded, split_at}
+use Rattle.art_model.proofs.stores.Canonical.{IsLaidOut, laid_out, canonical_from}
+use Rattle.art_model.proofs.places.InHole.{with_key-hole}
+use Rattle.art_model.proofs.changes.Inserted.{IsGap}
+use Rattle.art_model.proofs.keys.Keys.{same_related}
+use Rattle.art_model.proofs.lists.Lists.{Each-append, Each-weaker, after_front, filter_none}
+use Rattle.art_model.proofs.places.OnWay.{front_byte}
+use Rattle.art_model.proofs.places.Paths as paths
+use Rattle.art_model.proofs.places.Paths.{IsHole}
+use Rattle.art_model.proofs.places.Places.{prefix_is}
+use Rattle.art_model.proofs.pairs.Puts.{put-new, put_reply-new, stored_for-new}
+use Rattle.art_model.proofs.radix.Radix.{bytes_of-join}
+use Rattle.art_model.proofs.radix.Rebuild.{radix_way}
+use Rattle.art_model.proofs.stores.Slots.{length-slots_of}
+use Rattle.art_model.proofs.stores.Stores.{IsParent, path_holds, hole_distinct, parent_apart}
+use Rattle.art_model.proofs.radix.TreeLaws.{have_two_children, one_child}
+use Rattle.art_model.proofs.stores.Writes.{inner_at, inner_name_one, parent_ready}
 use Rattle.art_reading.specs.declared.end_node.InsertKind.TheVariants.{IntoExisting}
 use Rattle.art_writing.specs.declared.insert.InsertParentNodeChange.TheVariants.{NewParent}
 use Rattle.art_writing.specs.declared.insert.InsertPoint.{InsertPoint}

@@ -16,10 +16,10 @@ use Rattle.art_model.specs.Kept.{Frees}
 use Rattle.art_model.specs.Layouts.{AreDistinct}
 use Rattle.art_model.specs.Pairs.{first_of, without_first}
 use Rattle.art_model.specs.Stores.{held, held_leaf, held_inner, links_of}
-use Rattle.art_model.proofs.Lists.{in_left, in_right, in_either}
-use Rattle.art_model.proofs.Names.{apart_in}
-use Rattle.art_model.proofs.Pairwises.{Pairwise-right}
-use Rattle.art_model.proofs.Views.{held_in_inner, leaf_or}
+use Rattle.art_model.proofs.lists.Lists.{in_left, in_right, in_either}
+use Rattle.art_model.proofs.stores.Names.{apart_in}
+use Rattle.art_model.proofs.lists.Pairwises.{Pairwise-right}
+use Rattle.art_model.proofs.stores.Views.{held_in_inner, leaf_or}
 use Rattle.art_reading.specs.Iterators.{IsIteratorOf}
 use Rattle.art_reading.proofs.Iterators.{goes_on}
 

@@ -20,11 +20,11 @@ use Rattle.art_model.specs.Layouts.{Node, name_of, leaf_node, inner_node, slots_
 use Rattle.art_model.specs.Stores.{held, held_leaf, held_inner, IsUsed, header_at, inner_seen, node_at, seen, shape_in, shape_at}
 use Rattle.art_model.specs.Trees.{Tree, leaf, inner, Subtrees, child, no_child, NodeHeader}
 use Rattle.art_model.specs.Writes.{as_inner}
-use Rattle.art_model.proofs.Heights.{height_long, enough_inners}
-use Rattle.art_model.proofs.Lists.{Each-append, Each-weaker, in_left, in_right, in_either, each_in, each_from}
-use Rattle.art_model.proofs.Names.{IsTaken as IsInUse, all_taken, among, among_below, taken_distinct, takes_inners, takes_leaves}
-use Rattle.art_model.proofs.Shapes.{has_shape, leaf_names-shape, names_of-shape}
-use Rattle.art_model.proofs.Views.{held_in_inner, leaf_or, same_inner_held}
+use Rattle.art_model.proofs.stores.Heights.{height_long, enough_inners}
+use Rattle.art_model.proofs.lists.Lists.{Each-append, Each-weaker, in_left, in_right, in_either, each_in, each_from}
+use Rattle.art_model.proofs.stores.Names.{IsTaken as IsInUse, all_taken, among, among_below, taken_distinct, takes_inners, takes_leaves}
+use Rattle.art_model.proofs.radix.Shapes.{has_shape, leaf_names-shape, names_of-shape}
+use Rattle.art_model.proofs.stores.Views.{held_in_inner, leaf_or, same_inner_held}
 use Rattle.art_writing.specs.Freed.{CanGo, IsEnd, going, going_below, leaves_going}
 use Rattle.art_writing.proofs.Freed.{leaf_freed, frees_none}
 

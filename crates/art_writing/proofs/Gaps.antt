@@ -17,13 +17,13 @@ use Rattle.art_model.specs.Radix.{BytesRise, bytes_of, join}
 use Rattle.art_model.specs.Roots.{IsFullTree}
 use Rattle.art_model.specs.Stores.{node_at}
 use Rattle.art_model.specs.Trees.{Tree, inner, Subtrees, child, no_child, NodeHeader}
-use Rattle.art_model.proofs.Edges.{children_right}
-use Rattle.art_model.proofs.Pairwises.{Pairwise-left, Pairwise-right}
-use Rattle.art_model.proofs.Paths.{names_below-join}
-use Rattle.art_model.proofs.PlaceLaws.{join_assoc}
-use Rattle.art_model.proofs.Slots.{length-slots_of}
-use Rattle.art_model.proofs.Stores.{HoldsBelow-right}
-use Rattle.art_model.proofs.Views as views
+use Rattle.art_model.proofs.places.Edges.{children_right}
+use Rattle.art_model.proofs.lists.Pairwises.{Pairwise-left, Pairwise-right}
+use Rattle.art_model.proofs.places.Paths.{names_below-join}
+use Rattle.art_model.proofs.places.PlaceLaws.{join_assoc}
+use Rattle.art_model.proofs.stores.Slots.{length-slots_of}
+use Rattle.art_model.proofs.stores.Stores.{HoldsBelow-right}
+use Rattle.art_model.proofs.stores.Views as views
 use Rattle.art_writing.specs.declared.writes.Side.{Side}
 use Rattle.art_writing.specs.declared.writes.Side.TheVariants.{Before, After}
 use Rattle.art_writing.specs.Writes.{ComesBetween, HasGap, IsBeside, side_of}

@@ -17,13 +17,13 @@ use Rattle.art_model.specs.Pairs.{first_of, IsMap, with_key, has_key, is_conflic
 use Rattle.art_model.specs.Roots.{IsRootOf}
 use Rattle.art_model.specs.Stores.{node_at, pair_of}
 use Rattle.art_model.specs.Trees.{Tree, leaf}
-use Rattle.art_model.proofs.Filters.{none_passes, filter_all, filter_passes}
-use Rattle.art_model.proofs.Keys.{related_sym, same_equal}
-use Rattle.art_model.proofs.LeavesFound.{leaf_found}
-use Rattle.art_model.proofs.Lists.{Each-weaker}
-use Rattle.art_model.proofs.Puts.{any_is_first, first_none}
-use Rattle.art_model.proofs.Stores.{path_holds}
-use Rattle.art_model.proofs.Views.{leaf_there}
+use Rattle.art_model.proofs.lists.Filters.{none_passes, filter_all, filter_passes}
+use Rattle.art_model.proofs.keys.Keys.{related_sym, same_equal}
+use Rattle.art_model.proofs.leaves.LeavesFound.{leaf_found}
+use Rattle.art_model.proofs.lists.Lists.{Each-weaker}
+use Rattle.art_model.proofs.pairs.Puts.{any_is_first, first_none}
+use Rattle.art_model.proofs.stores.Stores.{path_holds}
+use Rattle.art_model.proofs.stores.Views.{leaf_there}
 use Rattle.art_writing.specs.Deleted.{LeadsTo, IsDeletePoint}
 use Rattle.art_writing.specs.Inserted.{alone}
 use Rattle.art_writing.specs.declared.delete.DeletePoint.{DeletePoint}

@@ -22,14 +22,14 @@ use Rattle.art_model.specs.Radix.{bytes_of, join}
 use Rattle.art_model.specs.Stores.{links_at}
 use Rattle.art_model.specs.Trees.{Tree, inner, kind_of}
 use Rattle.art_model.specs.Writes.{Inners, IsThere, with_child_at, with_leaf}
-use Rattle.art_model.proofs.Chains.{AreThere, are_there, previous_there, next_there}
-use Rattle.art_model.proofs.InHole.{root_stays}
-use Rattle.art_model.proofs.IntoFull.{IntoFull, full_added, full_touches}
-use Rattle.art_model.proofs.IntoRoom.{IntoRoom, room_added, room_touches}
-use Rattle.art_model.proofs.Paths.{leaf_names-plug, leaf_names_below-join}
-use Rattle.art_model.proofs.OutOf.{larger_inner}
-use Rattle.art_model.proofs.Placed.{LeafPlaced}
-use Rattle.art_model.proofs.Slots.{IsInRange, range_of_kind}
+use Rattle.art_model.proofs.leaves.Chains.{AreThere, are_there, previous_there, next_there}
+use Rattle.art_model.proofs.places.InHole.{root_stays}
+use Rattle.art_model.proofs.changes.IntoFull.{IntoFull, full_added, full_touches}
+use Rattle.art_model.proofs.changes.IntoRoom.{IntoRoom, room_added, room_touches}
+use Rattle.art_model.proofs.places.Paths.{leaf_names-plug, leaf_names_below-join}
+use Rattle.art_model.proofs.changes.OutOf.{larger_inner}
+use Rattle.art_model.proofs.leaves.Placed.{LeafPlaced}
+use Rattle.art_model.proofs.stores.Slots.{IsInRange, range_of_kind}
 use Rattle.art_reading.specs.declared.end_node.InsertKind.TheVariants.{IntoExisting}
 use Rattle.art_writing.specs.declared.insert.InsertParentNodeChange.TheVariants.{NewParent}
 use Rattle.art_writing.specs.declared.insert.InsertPoint.{InsertPoint}

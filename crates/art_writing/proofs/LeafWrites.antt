@@ -14,10 +14,10 @@ use Rattle.art_model.specs.Lookups.{HasLeaf}
 use Rattle.art_model.specs.Stores.{node_at, pair_of}
 use Rattle.art_model.specs.Trees.{Tree, leaf}
 use Rattle.art_model.specs.Writes.{Leaves, IsThere, joined}
-use Rattle.art_model.proofs.Touches.{still_placed}
-use Rattle.art_model.proofs.Leaves.{joined_pair}
-use Rattle.art_model.proofs.Shown.{no_leaf_gone}
-use Rattle.art_model.proofs.Stores.{path_holds}
+use Rattle.art_model.proofs.stores.Touches.{still_placed}
+use Rattle.art_model.proofs.leaves.Leaves.{joined_pair}
+use Rattle.art_model.proofs.stores.Shown.{no_leaf_gone}
+use Rattle.art_model.proofs.stores.Stores.{path_holds}
 
 -- a name is there, or it isn't
 pub some_there : {X : Type 0} (o : Option X) → o ≢ None → IsSome o

@@ -16,10 +16,10 @@ use Rattle.art_model.specs.Roots.{IsCanonicalRoot}
 use Rattle.art_model.specs.Stores.{held_leaf, seen, links_of}
 use Rattle.art_model.specs.Trees.{leaf}
 use Rattle.art_model.specs.Apart.{KeepsApart}
-use Rattle.art_model.proofs.Apart.{tree_apart}
-use Rattle.art_model.proofs.Canonical.{canonical_from}
-use Rattle.art_model.proofs.InPlace.{others_kept}
-use Rattle.art_model.proofs.Touches.{Touched, touched_none, then_placed, footprint_of}
+use Rattle.art_model.proofs.stores.Apart.{tree_apart}
+use Rattle.art_model.proofs.stores.Canonical.{canonical_from}
+use Rattle.art_model.proofs.changes.InPlace.{others_kept}
+use Rattle.art_model.proofs.stores.Touches.{Touched, touched_none, then_placed, footprint_of}
 use Rattle.art_writing.specs.Inserted.{alone}
 use Rattle.art_writing.specs.Writes.{IsPlanted}
 

@@ -18,13 +18,13 @@ use Rattle.art_model.specs.Radix.{join}
 use Rattle.art_model.specs.Stores.{IsUsed, held, header_at, shape_at}
 use Rattle.art_model.specs.Trees.{Tree, leaf, inner, Subtrees, child, no_child, NodeHeader}
 use Rattle.art_model.specs.Writes.{as_inner}
-use Rattle.art_model.proofs.Lists.{Each-append, Each-left, Each-right, each_from, each_in, in_left, in_right, in_either}
-use Rattle.art_model.proofs.Names.{apart_in, takes_leaves, taken_in}
-use Rattle.art_model.proofs.Pairwises.{Pairwise-append, Pairwise-left, Pairwise-right}
-use Rattle.art_model.proofs.Paths.{leaf_names_below-join, names_below-join, slots_of-join}
-use Rattle.art_model.proofs.Slots.{put_child-there}
-use Rattle.art_model.proofs.Stores.{HoldsBelow-left, HoldsBelow-right, frame, frame_below}
-use Rattle.art_model.proofs.Writes.{inner_name_one, shown}
+use Rattle.art_model.proofs.lists.Lists.{Each-append, Each-left, Each-right, each_from, each_in, in_left, in_right, in_either}
+use Rattle.art_model.proofs.stores.Names.{apart_in, takes_leaves, taken_in}
+use Rattle.art_model.proofs.lists.Pairwises.{Pairwise-append, Pairwise-left, Pairwise-right}
+use Rattle.art_model.proofs.places.Paths.{leaf_names_below-join, names_below-join, slots_of-join}
+use Rattle.art_model.proofs.stores.Slots.{put_child-there}
+use Rattle.art_model.proofs.stores.Stores.{HoldsBelow-left, HoldsBelow-right, frame, frame_below}
+use Rattle.art_model.proofs.stores.Writes.{inner_name_one, shown}
 use Rattle.art_writing.specs.Freed.{AreJoined, CanBothGo, CanGo, IsEnd, children_seen, going, going_below, leaves_going}
 use Rattle.art_writing.proofs.FreedTrees.{Shape, Shapes, both_counts, count_at, count_at_is, shape_there, shape_at-inner, shape_same, going_in, written_elsewhere, inner_freed, leaf_below_in}
 

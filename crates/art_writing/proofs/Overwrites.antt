@@ -26,21 +26,21 @@ use Rattle.art_model.specs.Roots.{ForTree, IsFullTree}
 use Rattle.art_model.specs.Stores.{node_at, links_at, pair_of}
 use Rattle.art_model.specs.Trees.{Tree, leaf, inner, Subtrees, child, no_child}
 use Rattle.art_model.specs.Writes.{as_inner, parent_of, with_child_at, with_leaf, IsThere}
-use Rattle.art_model.proofs.Canonical.{IsLaidOut, laid_out, canonical_from}
-use Rattle.art_model.proofs.Chains.{AreThere, are_there, previous_there, next_there}
-use Rattle.art_model.proofs.IntoHole.{IntoHole, hole_kept, hole_overwritten, hole_related, hole_reply, hole_touches}
-use Rattle.art_model.proofs.IntoLeaf.{IntoLeaf, leaf_overwritten, leaf_overwrite_kept, leaf_overwrite_reply, leaf_touches}
-use Rattle.art_model.proofs.Paths.{IsHole, leaf_names-plug, length-leaf_names, radix_plug}
-use Rattle.art_model.proofs.Paths as paths
-use Rattle.art_model.proofs.Keys.{front_related}
-use Rattle.art_model.proofs.Leaves.{with_leaf_pair}
-use Rattle.art_model.proofs.Lists.{each_from, in_around, Each-append, Each-weaker, after_front, front_cut, front_trans}
-use Rattle.art_model.proofs.Places.{prefix_is}
-use Rattle.art_model.proofs.Rebuild.{radix_way, radix_some}
-use Rattle.art_model.proofs.Stores.{frame, hole_distinct, path_holds, stays}
-use Rattle.art_model.proofs.TreeLaws.{one_child, have_two_children}
-use Rattle.art_model.proofs.Views as views
-use Rattle.art_model.proofs.Writes.{parent_ready, same_but, with_child_at-elsewhere}
+use Rattle.art_model.proofs.stores.Canonical.{IsLaidOut, laid_out, canonical_from}
+use Rattle.art_model.proofs.leaves.Chains.{AreThere, are_there, previous_there, next_there}
+use Rattle.art_model.proofs.changes.IntoHole.{IntoHole, hole_kept, hole_overwritten, hole_related, hole_reply, hole_touches}
+use Rattle.art_model.proofs.changes.IntoLeaf.{IntoLeaf, leaf_overwritten, leaf_overwrite_kept, leaf_overwrite_reply, leaf_touches}
+use Rattle.art_model.proofs.places.Paths.{IsHole, leaf_names-plug, length-leaf_names, radix_plug}
+use Rattle.art_model.proofs.places.Paths as paths
+use Rattle.art_model.proofs.keys.Keys.{front_related}
+use Rattle.art_model.proofs.leaves.Leaves.{with_leaf_pair}
+use Rattle.art_model.proofs.lists.Lists.{each_from, in_around, Each-append, Each-weaker, after_front, front_cut, front_trans}
+use Rattle.art_model.proofs.places.Places.{prefix_is}
+use Rattle.art_model.proofs.radix.Rebuild.{radix_way, radix_some}
+use Rattle.art_model.proofs.stores.Stores.{frame, hole_distinct, path_holds, stays}
+use Rattle.art_model.proofs.radix.TreeLaws.{one_child, have_two_children}
+use Rattle.art_model.proofs.stores.Views as views
+use Rattle.art_model.proofs.stores.Writes.{parent_ready, same_but, with_child_at-elsewhere}
 use Rattle.art_writing.specs.declared.insert.InsertParentNodeChange.TheVariants.{NoChange}
 use Rattle.art_writing.specs.declared.insert.OverwritePoint.{OverwritePoint}
 use Rattle.art_writing.specs.Inserted.{alone}

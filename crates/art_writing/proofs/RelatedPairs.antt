@@ -14,12 +14,12 @@ use Rattle.art_model.specs.Promises.{is_covered}
 use Rattle.art_model.specs.Radix.{pairs_of}
 use Rattle.art_model.specs.Stores.{pair_of}
 use Rattle.art_model.specs.Trees.{Tree, leaf}
-use Rattle.art_model.proofs.Canonical.{laid_out}
-use Rattle.art_model.proofs.Filters.{filter_all}
-use Rattle.art_model.proofs.Paths.{related_at}
-use Rattle.art_model.proofs.PutOver.{free_unrelated, same_rest}
-use Rattle.art_model.proofs.Puts.{any_is_first}
-use Rattle.art_model.proofs.Views.{leaf_or}
+use Rattle.art_model.proofs.stores.Canonical.{laid_out}
+use Rattle.art_model.proofs.lists.Filters.{filter_all}
+use Rattle.art_model.proofs.places.Paths.{related_at}
+use Rattle.art_model.proofs.pairs.PutOver.{free_unrelated, same_rest}
+use Rattle.art_model.proofs.pairs.Puts.{any_is_first}
+use Rattle.art_model.proofs.stores.Views.{leaf_or}
 use Rattle.art_writing.specs.Inserted.{placed_for}
 use Rattle.art_writing.specs.Overwritten.{IsOverwritePointIn, placed_for_overwrite, placed_for_prefix}
 use Rattle.art_writing.specs.Points.{AnswersTo, AnswersToOverwrite, IsPointFor}

@@ -30,24 +30,24 @@ use Rattle.art_model.specs.Roots.{IsRootOf}
 use Rattle.art_model.specs.Stores.{node_at, links_at, pair_of}
 use Rattle.art_model.specs.Trees.{Tree, leaf, inner, Subtrees, child, no_child}
 use Rattle.art_model.specs.Writes.{Inners, as_inner, parent_of, without_leaf, with_child_at}
-use Rattle.art_model.proofs.Canonical.{IsLaidOut, laid_out}
-use Rattle.art_model.proofs.Changes.{child_left}
-use Rattle.art_model.proofs.Changes as changes
-use Rattle.art_model.proofs.Compressed.{Compressed, with_prefix, prefix_written, prefix_at, compressed, compressed_touches, compressed_in_place, above_same, off_node, v_held}
-use Rattle.art_model.proofs.Names.{own_name}
-use Rattle.art_model.proofs.Emptied.{emptied_touches, emptied_in_place}
-use Rattle.art_model.proofs.Lists.{each_in}
-use Rattle.art_model.proofs.Links.{last_or-append}
-use Rattle.art_model.proofs.Leaves.{named_leaf}
-use Rattle.art_model.proofs.OutOf.{with_leaf_in, hole, high, leaf_among, low, one_more, parent_is, slots_left}
-use Rattle.art_model.proofs.Paths.{IsHole}
-use Rattle.art_model.proofs.Placed.{LeafTaken}
-use Rattle.art_model.proofs.Radix.{only_child}
-use Rattle.art_model.proofs.Rebuild.{radix_below}
-use Rattle.art_model.proofs.Stores.{IsParent, path_holds}
-use Rattle.art_model.proofs.Taken.{LeafAmong, previous_is, next_is, before_there, after_there, leaf_at, some_leaf_name, last_of_some}
-use Rattle.art_model.proofs.Views.{leaf_there, leaf_or, inner_name_is}
-use Rattle.art_model.proofs.Writes.{inner_at, parent_ready, inner_name_one}
+use Rattle.art_model.proofs.stores.Canonical.{IsLaidOut, laid_out}
+use Rattle.art_model.proofs.changes.Changes.{child_left}
+use Rattle.art_model.proofs.changes.Changes as changes
+use Rattle.art_model.proofs.changes.Compressed.{Compressed, with_prefix, prefix_written, prefix_at, compressed, compressed_touches, compressed_in_place, above_same, off_node, v_held}
+use Rattle.art_model.proofs.stores.Names.{own_name}
+use Rattle.art_model.proofs.changes.Emptied.{emptied_touches, emptied_in_place}
+use Rattle.art_model.proofs.lists.Lists.{each_in}
+use Rattle.art_model.proofs.leaves.Links.{last_or-append}
+use Rattle.art_model.proofs.leaves.Leaves.{named_leaf}
+use Rattle.art_model.proofs.changes.OutOf.{with_leaf_in, hole, high, leaf_among, low, one_more, parent_is, slots_left}
+use Rattle.art_model.proofs.places.Paths.{IsHole}
+use Rattle.art_model.proofs.leaves.Placed.{LeafTaken}
+use Rattle.art_model.proofs.radix.Radix.{only_child}
+use Rattle.art_model.proofs.radix.Rebuild.{radix_below}
+use Rattle.art_model.proofs.stores.Stores.{IsParent, path_holds}
+use Rattle.art_model.proofs.leaves.Taken.{LeafAmong, previous_is, next_is, before_there, after_there, leaf_at, some_leaf_name, last_of_some}
+use Rattle.art_model.proofs.stores.Views.{leaf_there, leaf_or, inner_name_is}
+use Rattle.art_model.proofs.stores.Writes.{inner_at, parent_ready, inner_name_one}
 use Rattle.art_writing.specs.Deleted.{LeadsTo, TouchesFor, parent_change, no_parent, is_compressed}
 use Rattle.art_writing.specs.Inserted.{alone}
 use Rattle.art_reading.specs.Paths.{last_step, path_of, up, root_with}

@@ -23,12 +23,12 @@ use Rattle.art_model.specs.Radix.{bytes_of}
 use Rattle.art_model.specs.Stores.{node_at, links_at, pair_of}
 use Rattle.art_model.specs.Trees.{Tree, leaf, inner, Subtrees, NodeHeader, canonical_header}
 use Rattle.art_model.specs.Writes.{Inners, as_inner, parent_of}
-use Rattle.art_model.proofs.Branches.{BranchStored, leaf_branched, prefix_branched, header_touches, branch_touches}
-use Rattle.art_model.proofs.Canonical.{IsLaidOut}
-use Rattle.art_model.proofs.Inserted.{BranchInserted}
-use Rattle.art_model.proofs.Places.{prefix_is}
-use Rattle.art_model.proofs.Stores.{IsParent, path_holds, parent_apart}
-use Rattle.art_model.proofs.Touches.{Touched, touched_none}
+use Rattle.art_model.proofs.changes.Branches.{BranchStored, leaf_branched, prefix_branched, header_touches, branch_touches}
+use Rattle.art_model.proofs.stores.Canonical.{IsLaidOut}
+use Rattle.art_model.proofs.changes.Inserted.{BranchInserted}
+use Rattle.art_model.proofs.places.Places.{prefix_is}
+use Rattle.art_model.proofs.stores.Stores.{IsParent, path_holds, parent_apart}
+use Rattle.art_model.proofs.stores.Touches.{Touched, touched_none}
 use Rattle.art_reading.specs.declared.end_node.InsertKind.{InsertKind}
 use Rattle.art_reading.specs.declared.end_node.InsertKind.TheVariants.{SplitLeaf, MismatchPrefix}
 use Rattle.art_writing.specs.declared.insert.InsertParentNodeChange.{InsertParentNodeChange}
@@ -36,7 +36,7 @@ use Rattle.art_writing.specs.declared.insert.InsertParentNodeChange.TheVariants.
 use Rattle.art_writing.specs.declared.insert.InsertPoint.{InsertPoint}
 use Rattle.art_writing.specs.declared.insert.InsertResult.{InsertResult}
 use Rattle.art_writing.specs.declared.insert.branch.Branch.{Branch}
-use Rattle.art_model.proofs.Writes.{inner_at, inner_name_one}
+use Rattle.art_model.proofs.stores.Writes.{inner_at, inner_name_one}
 use Rattle.art_reading.specs.declared.path.ExplicitMismatch.{ExplicitMismatch}
 use Rattle.art_writing.specs.Branches.{IsBranch, IsBranchPlaced}
 use Rattle.art_writing.specs.Inserted.{IsChange, Touches}

@@ -6,7 +6,7 @@ use Rattle.art_parts.specs.declared.names.OpaqueNodePtr.{OpaqueNodePtr}
 use Rattle.art_model.specs.Canonical.{IsCanonicalTree}
 use Rattle.art_model.specs.Stores.{held}
 use Rattle.art_model.specs.Trees.{Tree}
-use Rattle.art_model.proofs.StoreLaws.{has_one_map}
+use Rattle.art_model.proofs.stores.StoreLaws.{has_one_map}
 use Rattle.art_writing.proofs.Elsewhere as elsewhere
 use Rattle.art_writing.specs.Inserted.{IsPointIn}
 use Rattle.art_writing.specs.Overwritten.{IsOverwritePointIn, IsPrefixPointIn, root_of}

@@ -32,24 +32,24 @@ use Rattle.art_model.specs.Roots.{ForRoot, ForTree, IsCanonicalRoot, IsFullTree,
 use Rattle.art_model.specs.Stores.{held, node_at, links_at, pair_of}
 use Rattle.art_model.specs.Trees.{Tree, leaf, inner, Subtrees, child, no_child}
 use Rattle.art_model.specs.Writes.{Inners, IsThere, as_inner, joined, parent_of, with_child_at}
-use Rattle.art_model.proofs.Between.{remove_key-between}
-use Rattle.art_model.proofs.Canonical.{IsLaidOut, canonical_from, laid_out, tree_radix}
-use Rattle.art_model.proofs.Chains.{are_there}
-use Rattle.art_model.proofs.Changes as changes
-use Rattle.art_model.proofs.Filters.{filter_all}
-use Rattle.art_model.proofs.Keys.{front_related}
-use Rattle.art_model.proofs.Kept.{kept_leaf, kept_leaves}
-use Rattle.art_model.proofs.Links.{first_in}
-use Rattle.art_model.proofs.Lists.{Each-append, Each-weaker, each_in, filter_none, front_trans, in_around, in_either, in_left, in_map, in_right, out_map}
-use Rattle.art_model.proofs.OutOf.{HasLeafBelow, parent_is, with_leaf_in}
-use Rattle.art_model.proofs.Paths.{leaf_names-plug, pairs_of-leaves, pairs_of-plug, path_after, path_before, radix_plug, root_with}
-use Rattle.art_model.proofs.Rebuild.{radix_way}
-use Rattle.art_model.proofs.StoreLaws.{has_one_map}
-use Rattle.art_model.proofs.Stores.{IsParent, hole_distinct, parent_apart, path_holds}
-use Rattle.art_model.proofs.TreeLaws.{have_two_children, one_child}
-use Rattle.art_model.proofs.Views.{leaf_there}
-use Rattle.art_model.proofs.Wholes.{Entry, inner_nodes-plug, kept, nodes_before, nodes_after, whole_way}
-use Rattle.art_model.proofs.Writes.{inner_at, inner_name_one, parent_ready}
+use Rattle.art_model.proofs.pairs.Between.{remove_key-between}
+use Rattle.art_model.proofs.stores.Canonical.{IsLaidOut, canonical_from, laid_out, tree_radix}
+use Rattle.art_model.proofs.leaves.Chains.{are_there}
+use Rattle.art_model.proofs.changes.Changes as changes
+use Rattle.art_model.proofs.lists.Filters.{filter_all}
+use Rattle.art_model.proofs.keys.Keys.{front_related}
+use Rattle.art_model.proofs.changes.Kept.{kept_leaf, kept_leaves}
+use Rattle.art_model.proofs.leaves.Links.{first_in}
+use Rattle.art_model.proofs.lists.Lists.{Each-append, Each-weaker, each_in, filter_none, front_trans, in_around, in_either, in_left, in_map, in_right, out_map}
+use Rattle.art_model.proofs.changes.OutOf.{HasLeafBelow, parent_is, with_leaf_in}
+use Rattle.art_model.proofs.places.Paths.{leaf_names-plug, pairs_of-leaves, pairs_of-plug, path_after, path_before, radix_plug, root_with}
+use Rattle.art_model.proofs.radix.Rebuild.{radix_way}
+use Rattle.art_model.proofs.stores.StoreLaws.{has_one_map}
+use Rattle.art_model.proofs.stores.Stores.{IsParent, hole_distinct, parent_apart, path_holds}
+use Rattle.art_model.proofs.radix.TreeLaws.{have_two_children, one_child}
+use Rattle.art_model.proofs.stores.Views.{leaf_there}
+use Rattle.art_model.proofs.places.Wholes.{Entry, inner_nodes-plug, kept, nodes_before, nodes_after, whole_way}
+use Rattle.art_model.proofs.stores.Writes.{inner_at, inner_name_one, parent_ready}
 use Rattle.art_reading.specs.Parts.{HasAllBelow}
 use Rattle.art_reading.specs.Paths.{last_step, path_of}
 use Rattle.art_reading.specs.Walks.{LeadsToEnd}

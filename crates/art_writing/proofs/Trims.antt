@@ -17,8 +17,8 @@ use Rattle.art_model.specs.Lookups.{HasFirstLeaf}
 use Rattle.art_model.specs.Places.{depth_of, prefix_of}
 use Rattle.art_model.specs.Stores.{node_at, pair_of}
 use Rattle.art_model.specs.Trees.{Tree}
-use Rattle.art_model.proofs.Stores.{path_holds}
-use Rattle.art_model.proofs.Writes.{inner_at}
+use Rattle.art_model.proofs.stores.Stores.{path_holds}
+use Rattle.art_model.proofs.stores.Writes.{inner_at}
 use Rattle.art_reading.specs.declared.end_node.InsertKind.TheVariants.{MismatchPrefix}
 use Rattle.art_writing.specs.declared.insert.InsertPoint.{InsertPoint}
 use Rattle.art_reading.specs.declared.path.ExplicitMismatch.{ExplicitMismatch}

@@ -12,12 +12,12 @@ use Rattle.art_model.specs.Places.{depth_of, place_of, places, places_below}
 use Rattle.art_model.specs.Promises.{is_covered}
 use Rattle.art_model.specs.Radix.{IsRadix, AreRadix, pairs_of, pairs_below}
 use Rattle.art_model.specs.Trees.{Tree, inner, Subtrees, child, no_child, NodeHeader}
-use Rattle.art_model.proofs.InHole.{with_key-hole}
-use Rattle.art_model.proofs.Keys.{same_related}
-use Rattle.art_model.proofs.Lists.{Each-append, Each-left, Each-right, Each-weaker, filter_none}
-use Rattle.art_model.proofs.PlaceLaws.{places_at, own_place}
-use Rattle.art_model.proofs.Places.{place_is, deeper}
-use Rattle.art_model.proofs.Rebuild.{radix_way}
+use Rattle.art_model.proofs.places.InHole.{with_key-hole}
+use Rattle.art_model.proofs.keys.Keys.{same_related}
+use Rattle.art_model.proofs.lists.Lists.{Each-append, Each-left, Each-right, Each-weaker, filter_none}
+use Rattle.art_model.proofs.places.PlaceLaws.{places_at, own_place}
+use Rattle.art_model.proofs.places.Places.{place_is, deeper}
+use Rattle.art_model.proofs.radix.Rebuild.{radix_way}
 use Rattle.art_writing.specs.Inserted.{placed_for}
 use Rattle.art_reading.specs.EndNodes.{IsKindOf}
 use Rattle.art_writing.specs.Points.{AnswersTo}
@@ -25,8 +25,8 @@ use Rattle.art_reading.specs.declared.end_node.InsertKind.{InsertKind}
 use Rattle.art_reading.specs.declared.end_node.InsertKind.TheVariants.{MismatchPrefix, SplitLeaf, Exact, IntoExisting}
 use Rattle.art_writing.specs.declared.insert.InsertPoint.{InsertPoint}
 use Rattle.art_writing.proofs.Branches.{end_laid, end_hole, end_depth}
-use Rattle.art_model.proofs.Puts.{any_is_first}
-use Rattle.art_model.proofs.Keys.{not_same}
+use Rattle.art_model.proofs.pairs.Puts.{any_is_first}
+use Rattle.art_model.proofs.keys.Keys.{not_same}
 
 module _ {N A : Type 0} (bytes : A → List ℕ) (P : ℕ) (key : List ℕ) (end : ℕ) where
   -- a place that is a front of the key is no longer than this

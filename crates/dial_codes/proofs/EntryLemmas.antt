@@ -10,12 +10,12 @@ use Rattle.std.proofs.lemmas.List.Elements.{All-cons}
 use Rattle.std.proofs.lemmas.List.Sorted.{IsPermutation-refl, IsPermutation-sym, IsPermutation-cons, IsPermutation-trans, IsPermutation-middle, IsPermutation-map}
 use Rattle.art_model.specs.Keys.{IsFront, Precedes, are_related, are_same, is_before, is_front}
 use Rattle.art_model.specs.Pairs.{IsMap, add_in_order, first_of, has_key, is_conflict, match_of, of_key, put, remove_key, with_key}
-use Rattle.art_model.proofs.Puts.{has_is_stored, put-new}
+use Rattle.art_model.proofs.pairs.Puts.{has_is_stored, put-new}
 use Rattle.art_model.specs.Footprints.{IsIn}
-use Rattle.art_model.proofs.KeyLaws.{fronts_are_decided}
-use Rattle.art_model.proofs.MapLaws.{matches_are_one}
+use Rattle.art_model.proofs.keys.KeyLaws.{fronts_are_decided}
+use Rattle.art_model.proofs.pairs.MapLaws.{matches_are_one}
 use Rattle.art_model.specs.Parts.{below}
-use Rattle.art_model.proofs.Filters.{none_passes}
+use Rattle.art_model.proofs.lists.Filters.{none_passes}
 use Rattle.text_lines.proofs.Spaces.{HasNoSpace, same_words}
 use Rattle.dial_codes.specs.declared.table.Named.{Named}
 use Rattle.dial_codes.specs.Entries.{code_of, entries_of, is_code, line_of}

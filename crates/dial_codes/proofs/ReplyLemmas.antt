@@ -2,7 +2,7 @@
 use Rattle.std.proofs.Common.{◌≡◌, ℕ, ◌+◌, true, false, List, [], ◌∷◌, ◌++◌, length, flat_map, Option, refl, ap, sym, ◌∙◌, subst, append-nil}
 use Rattle.std.specs.Io.KnownBytes.{Appends, Keeps}
 use Rattle.std.proofs.lemmas.List.Concat.{flat_map-append}
-use Rattle.art_model.proofs.Lists.{Each-append}
+use Rattle.art_model.proofs.lists.Lists.{Each-append}
 use Rattle.text_lines.proofs.Writing.{appends_kept, appends_more, appends_none}
 use Rattle.dial_codes.specs.Entries.{is_code}
 use Rattle.dial_codes.specs.Replies.{HaveReplies, IsStoppedAt, reply_of}

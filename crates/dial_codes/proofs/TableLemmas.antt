@@ -8,7 +8,7 @@ use Rattle.std.proofs.lemmas.List.{length-map, map-append}
 use Rattle.std.proofs.lemmas.List.Sorted.{IsPermutation-map, IsPermutation-refl, IsPermutation-push_more}
 use Rattle.std.proofs.lemmas.List.Sorted.{list_any-IsPermutation}
 use Rattle.art_model.specs.Keys.{are_related}
-use Rattle.art_model.proofs.Lists.{Each-append}
+use Rattle.art_model.proofs.lists.Lists.{Each-append}
 use Rattle.dial_codes.specs.declared.table.LineError.{LineError}
 use Rattle.dial_codes.specs.declared.table.LineError.TheVariants.{NoEntry, Related, NoMemory}
 use Rattle.dial_codes.specs.declared.table.Named.{Named}

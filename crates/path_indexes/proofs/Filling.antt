@@ -1,7 +1,7 @@
 -- An index that is read line by line.
 use Rattle.std.proofs.Common.{◌≡◌, ℕ, ◌+◌, Bool, true, false, ◌||◌, List, [], ◌∷◌, ◌++◌, length, refl, ap, sym, ◌∙◌, subst}
 use Rattle.std.specs.List.{AllByRecursion as Each}
-use Rattle.art_model.proofs.Lists.{Each-append}
+use Rattle.art_model.proofs.lists.Lists.{Each-append}
 use Rattle.art_operations.specs.Ended.{HasNoZero}
 use Rattle.art_operations.specs.Keys.{are_same, is_before}
 use Rattle.art_operations.specs.Pairs.{Pairwise}

@@ -10,8 +10,8 @@ use Rattle.std.specs.declared.cmp.Ordering.TheVariants.{Less, Equal, Greater}
 use Rattle.std.proofs.lemmas.Bool.{false≢true, lt-ltb, ne_eqb}
 use Rattle.std.proofs.lemmas.List.{append_cancel_right, length-map}
 use denote.Ref.{Bor}
-use Rattle.art_model.proofs.Keys.{front_same, not_same, same_equal}
-use Rattle.art_model.proofs.MapLaws.{put_is_found}
+use Rattle.art_model.proofs.keys.Keys.{front_same, not_same, same_equal}
+use Rattle.art_model.proofs.pairs.MapLaws.{put_is_found}
 use Rattle.art_operations.specs.Ended.{HasNoZero, ended}
 use Rattle.art_operations.specs.KeyedPairs.{RiseBy}
 use Rattle.art_operations.specs.Keys.{are_same, is_before, is_front}

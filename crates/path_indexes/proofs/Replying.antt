@@ -3,7 +3,7 @@ use Rattle.std.proofs.Common.{◌≡◌, ◌≢◌, ℕ, ◌+◌, List, [], ◌�
 use Rattle.std.specs.Io.KnownBytes.{Appends, Keeps}
 use Rattle.std.proofs.lemmas.List.{map-append}
 use Rattle.std.proofs.lemmas.List.Concat.{flat_map-append}
-use Rattle.art_model.proofs.Lists.{Each-append}
+use Rattle.art_model.proofs.lists.Lists.{Each-append}
 use Rattle.art_operations.specs.MapItems.{keys_of}
 use Rattle.text_lines.proofs.Writing.{appends_kept, appends_more, appends_none}
 use Rattle.path_indexes.specs.declared.request.Request.{Request}

@@ -3,7 +3,7 @@ use Rattle.std.proofs.Common.{◌≡◌, ◌≢◌, ℕ, Bool, true, false, ◌|
 use Rattle.std.specs.Bool.{OnFalse, OnTrue}
 use Rattle.std.specs.List.{list_any}
 use Rattle.std.proofs.lemmas.Bool.{true≢false, false≢true}
-use Rattle.art_model.proofs.Lists.{Each-append, Each-left, Each-right}
+use Rattle.art_model.proofs.lists.Lists.{Each-append, Each-left, Each-right}
 use Rattle.art_operations.specs.Ended.{HasNoZero}
 use Rattle.text_lines.proofs.Spaces.{has_space}
 use Rattle.path_indexes.specs.Requests.{HasNoSpace, IsRequest, line_of}

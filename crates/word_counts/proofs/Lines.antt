@@ -5,7 +5,7 @@ use Rattle.std.specs.List.{AllByRecursion as Each, slice_split}
 use Rattle.std.specs.List as list
 use Rattle.std.proofs.lemmas.Bool.{false≢true}
 use Rattle.std.proofs.lemmas.List.Concat.{flat_map-append}
-use Rattle.art_model.proofs.Lists.{Each-weaker}
+use Rattle.art_model.proofs.lists.Lists.{Each-weaker}
 use Rattle.art_operations.specs.Ended.{HasNoZero}
 use Rattle.art_operations.specs.Keys.{is_before}
 use Rattle.art_operations.specs.Pairs.{Pairwise}

@@ -13,11 +13,11 @@ use Rattle.art_operations.specs.KeyedPairs.{RiseBy}
 use Rattle.art_operations.specs.Keys.{are_same, is_before}
 use Rattle.art_operations.specs.MapAnswers.{value_at, with_value_at}
 use Rattle.art_operations.specs.Pairs.{Pairwise, first_of, of_key, put, stored_for, with_key}
-use Rattle.art_model.proofs.Keys.{before_apart, front_same, not_same, same_equal}
-use Rattle.art_model.proofs.KeyLaws.{order_is_total, order_is_transitive}
-use Rattle.art_model.proofs.Lists.{Each-weaker, filter_none}
-use Rattle.art_model.proofs.MapLaws.{put_is_found}
-use Rattle.art_model.proofs.Puts.{stored_value}
+use Rattle.art_model.proofs.keys.Keys.{before_apart, front_same, not_same, same_equal}
+use Rattle.art_model.proofs.keys.KeyLaws.{order_is_total, order_is_transitive}
+use Rattle.art_model.proofs.lists.Lists.{Each-weaker, filter_none}
+use Rattle.art_model.proofs.pairs.MapLaws.{put_is_found}
+use Rattle.art_model.proofs.pairs.Puts.{stored_value}
 use Rattle.word_counts.specs.Counts.{CountIsOne, HasTimes, numbers_for, times}
 
 -- one word more

@@ -1,6 +1,6 @@
 use Rattle.std.proofs.Common.{rules}
 use Rattle.art_model.specs.Pairs.{of_key}
-use Rattle.art_model.proofs.StoreLaws.{has_children}
+use Rattle.art_model.proofs.stores.StoreLaws.{has_children}
 use Rattle.art_checking.proofs.visitor.visit_with.Goals as goal
 
 pub visit-requires : goal.visit-requires

@@ -9,7 +9,7 @@ use Rattle.art_model.specs.Lookups.{HasFirstLeaf, HasLastLeaf}
 use Rattle.art_model.specs.Roots.{IsFullTree}
 use Rattle.art_model.specs.Stores.{pair_of}
 use Rattle.art_model.specs.Trees.{Tree}
-use Rattle.art_model.proofs.Segments.{tree_segment}
+use Rattle.art_model.proofs.leaves.Segments.{tree_segment}
 use Rattle.art_reading.specs.Iterators.{IsIteratorOf}
 use Rattle.art_keeping.specs.Trees.{IsLinkedTreeIn}
 use Rattle.art_engine.proofs.Rows.{row_goes_on, rows_begin, rows_end}

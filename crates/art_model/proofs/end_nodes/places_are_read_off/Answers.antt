@@ -1,4 +1,4 @@
-use Rattle.art_model.proofs.PlaceLaws.{places_are_read_off, prefixes_are_read_off}
+use Rattle.art_model.proofs.places.PlaceLaws.{places_are_read_off, prefixes_are_read_off}
 use Rattle.art_model.proofs.end_nodes.places_are_read_off.Goals as goal
 
 pub returns : goal.returns

@@ -1,4 +1,4 @@
-use Rattle.art_model.proofs.StoreLaws.{others_stay_free, others_were_free}
+use Rattle.art_model.proofs.stores.StoreLaws.{others_stay_free, others_were_free}
 use Rattle.art_model.proofs.footprints.a_footprint_leaves_no_name_out.Goals as goal
 
 pub returns : goal.returns

@@ -1,4 +1,4 @@
-use Rattle.art_model.proofs.StoreLaws.{cases_have_layout, layouts_have_cases}
+use Rattle.art_model.proofs.stores.StoreLaws.{cases_have_layout, layouts_have_cases}
 use Rattle.art_model.proofs.layouts.both_forms_say_the_same.Goals as goal
 
 pub returns : goal.returns

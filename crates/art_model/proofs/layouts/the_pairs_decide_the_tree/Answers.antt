@@ -1,4 +1,4 @@
-use Rattle.art_model.proofs.StoreLaws.{has_radix_layout, have_same_tree}
+use Rattle.art_model.proofs.stores.StoreLaws.{has_radix_layout, have_same_tree}
 use Rattle.art_model.proofs.layouts.the_pairs_decide_the_tree.Goals as goal
 
 pub returns : goal.returns

@@ -1,4 +1,4 @@
-use Rattle.art_model.proofs.MapLaws.{put_counts, overwrite_counts, removal_counts}
+use Rattle.art_model.proofs.pairs.MapLaws.{put_counts, overwrite_counts, removal_counts}
 use Rattle.art_model.proofs.maps.changes_count.Goals as goal
 
 pub returns : goal.returns

@@ -1,4 +1,4 @@
-use Rattle.art_model.proofs.MapLaws.{put_tells, overwrite_tells, removal_tells}
+use Rattle.art_model.proofs.pairs.MapLaws.{put_tells, overwrite_tells, removal_tells}
 use Rattle.art_model.proofs.maps.replies_tell_what_went.Goals as goal
 
 pub returns : goal.returns

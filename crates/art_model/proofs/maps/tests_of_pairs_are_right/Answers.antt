@@ -1,4 +1,4 @@
-use Rattle.art_model.proofs.MapLaws.{keys_are_decided, conflicts_are_decided}
+use Rattle.art_model.proofs.pairs.MapLaws.{keys_are_decided, conflicts_are_decided}
 use Rattle.art_model.proofs.maps.tests_of_pairs_are_right.Goals as goal
 
 pub returns : goal.returns

@@ -1,4 +1,4 @@
-use Rattle.art_model.proofs.KeyLaws.{fronts_are_decided, relation_is_decided, sameness_is_decided, common_front_is_longest}
+use Rattle.art_model.proofs.keys.KeyLaws.{fronts_are_decided, relation_is_decided, sameness_is_decided, common_front_is_longest}
 use Rattle.art_model.proofs.order.tests_of_keys_are_right.Goals as goal
 
 pub returns : goal.returns

@@ -1,5 +1,5 @@
 use Rattle.std.proofs.Common.{arith, rules}
-use Rattle.art_model.proofs.Shown.{leaf_met, inner_met, shown_met}
+use Rattle.art_model.proofs.stores.Shown.{leaf_met, inner_met, shown_met}
 use Rattle.art_reading.proofs.Steps.{start, node_there, last_leaf, stops, steps}
 use Rattle.art_reading.proofs.OnWay.{stored_short}
 use Rattle.art_reading.proofs.descent.walk.Goals as goal

@@ -1,5 +1,5 @@
 use Rattle.std.proofs.Common.{arith, sym, ◌∙◌}
-use Rattle.art_model.proofs.Shown.{inner_met, leaf_named, shown_met}
+use Rattle.art_model.proofs.stores.Shown.{inner_met, leaf_named, shown_met}
 use Rattle.art_reading.proofs.Below.{at_end, at_gap, at_leaf, goes_down, way_begins}
 use Rattle.art_reading.proofs.Descents.{stands_there}
 use Rattle.art_reading.proofs.descent.walk_below.Goals as goal

@@ -3,7 +3,7 @@ use Rattle.std.specs.declared.ops.Bound.{Bound}
 use Rattle.std.specs.Range.Bound.{bound_map}
 use Rattle.art_model.specs.Pairs.{last_of}
 use Rattle.art_model.specs.Parts.{is_up_to, leaves_where}
-use Rattle.art_model.proofs.StoreLaws.{has_children}
+use Rattle.art_model.proofs.stores.StoreLaws.{has_children}
 use Rattle.art_reading.proofs.Bounds.{last_there, where_any}
 use Rattle.art_reading.proofs.Parts.{leaf_is_there}
 use Rattle.art_reading.proofs.range.last_up_to_unchecked.Goals as goal

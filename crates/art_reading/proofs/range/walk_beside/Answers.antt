@@ -1,6 +1,6 @@
 use Rattle.std.proofs.Common.{rules, ◌≡◌, ℕ, ◌+◌, ◌-◌, length, take, drop, length-take, length-drop, arith, refl, sym, ◌∙◌}
 use Rattle.std.proofs.lemmas.Bool.{false≢true}
-use Rattle.art_model.proofs.Shown.{inner_met, leaf_named, shown_met}
+use Rattle.art_model.proofs.stores.Shown.{inner_met, leaf_named, shown_met}
 use Rattle.art_reading.proofs.Beside.{beside_end, beside_gap, beside_leaf, beside_off, goes_same, has_child, on_key_start, onto_child, placed_on, same_goes}
 use Rattle.art_reading.proofs.Descents.{stands_there}
 use Rattle.art_reading.proofs.range.walk_beside.Goals as goal

@@ -2,7 +2,7 @@ use Rattle.std.proofs.Common.{◌∙◌, ◌++◌, [], ◌∷◌, reverse, Ok, N
 use Rattle.std.specs.FinMap as map
 use Rattle.std.specs.declared.alloc.AllocError.{AllocError}
 use Rattle.art_parts.specs.Clones.{IsPairClone}
-use Rattle.art_model.proofs.Lessened.{lessened_twice}
+use Rattle.art_model.proofs.stores.Lessened.{lessened_twice}
 use Rattle.art_writing.specs.declared.clone.Above.{Above}
 use Rattle.art_writing.specs.Cloned.{IsBegun, IsCloned}
 use Rattle.art_writing.proofs.Cloning.{has_ends}

@@ -1,5 +1,5 @@
 use Rattle.std.proofs.Common.{sym}
-use Rattle.art_model.proofs.Lessened.{lessened_leaf}
+use Rattle.art_model.proofs.stores.Lessened.{lessened_leaf}
 use Rattle.art_writing.proofs.Cloning.{copied_leaf}
 use Rattle.art_writing.proofs.clone.clone_leaf.Goals as goal
 

@@ -2,9 +2,9 @@ use Rattle.std.proofs.Common.{rules, [], None, Some, subst}
 use Rattle.art_model.specs.Footprints.{IsIn}
 use Rattle.art_model.specs.Layouts.{inner_names, shape_of}
 use Rattle.art_model.specs.Pairs.{of_key}
-use Rattle.art_model.proofs.Apart.{others_apart}
-use Rattle.art_model.proofs.Names.{taken_in, takes_inners}
-use Rattle.art_model.proofs.Shapes.{has_shape}
+use Rattle.art_model.proofs.stores.Apart.{others_apart}
+use Rattle.art_model.proofs.stores.Names.{taken_in, takes_inners}
+use Rattle.art_model.proofs.radix.Shapes.{has_shape}
 use Rattle.art_writing.proofs.deallocate.deallocate_tree_non_leaves.Goals as goal
 
 pub free_nodes-requires : goal.free_nodes-requires

@@ -1,6 +1,6 @@
 use Rattle.std.proofs.Common.{rules, sym, ◌∙◌}
-use Rattle.art_model.proofs.Canonical.{tree_radix}
-use Rattle.art_model.proofs.StoreLaws.{has_children}
+use Rattle.art_model.proofs.stores.Canonical.{tree_radix}
+use Rattle.art_model.proofs.stores.StoreLaws.{has_children}
 use Rattle.art_writing.proofs.DeletePoints.{pair_named, point_at_end, point_there}
 use Rattle.art_writing.proofs.delete.find_end_to_delete.Goals as goal
 

@@ -1,7 +1,7 @@
 use Rattle.std.proofs.Common.{◌≡◌, ◌+◌, ℕ, List, Option, Some, None, is_some, refl, ap, sym, ◌∙◌, false}
 use Rattle.std.specs.Option.{option_map, unwrap_or}
 use Rattle.art_model.specs.Pairs.{first_of, has_key, of_key, with_key}
-use Rattle.art_model.proofs.Puts.{has_is_stored}
+use Rattle.art_model.proofs.pairs.Puts.{has_is_stored}
 use Rattle.uses.specs.Inventory.{Goods, quantity}
 use Rattle.uses.proofs.inventory.add.Goals as goal
 

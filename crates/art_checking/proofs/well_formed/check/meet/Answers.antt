@@ -1,7 +1,7 @@
 use Rattle.std.proofs.Common.{sym, ◌∙◌, ap, ◌≡◌, Some}
 use Rattle.art_model.specs.Pairs.{of_key}
 use Rattle.art_model.specs.Stores.{node_at}
-use Rattle.art_model.proofs.Trails.{other_way}
+use Rattle.art_model.proofs.places.Trails.{other_way}
 use Rattle.art_checking.specs.Meetings.{place_in}
 use Rattle.art_checking.proofs.Faulty.{said}
 use Rattle.art_checking.proofs.well_formed.check.meet.Goals as goal

@@ -1,7 +1,7 @@
 use Rattle.std.proofs.Common.{rules, ap, sym, ◌∙◌, subst}
 use Rattle.art_model.specs.Layouts.{leaf_names}
 use Rattle.art_model.specs.Pairs.{of_key}
-use Rattle.art_model.proofs.StoreLaws.{has_children}
+use Rattle.art_model.proofs.stores.StoreLaws.{has_children}
 use Rattle.art_reading.specs.Iterators.{IsIteratorOf}
 use Rattle.art_map.specs.MapItems.{pairs_between}
 use Rattle.art_map.proofs.Items.{no_pairs, whole_walk, whole_len, whole_pairs}

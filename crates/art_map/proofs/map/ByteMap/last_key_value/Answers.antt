@@ -1,6 +1,6 @@
 use Rattle.std.proofs.Common.{rules}
 use Rattle.art_model.specs.Pairs.{last_of, of_key}
-use Rattle.art_model.proofs.StoreLaws.{has_children}
+use Rattle.art_model.proofs.stores.StoreLaws.{has_children}
 use Rattle.art_map.proofs.Puts.{at_some}
 use Rattle.art_map.proofs.Takings.{last_named, named_there, named_pair}
 use Rattle.art_map.proofs.map.ByteMap.last_key_value.Goals as goal

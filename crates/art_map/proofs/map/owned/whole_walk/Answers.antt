@@ -1,7 +1,7 @@
 use Rattle.std.proofs.Common.{rules, ap, sym, ◌∙◌, subst, length, None}
 use Rattle.art_model.specs.Layouts.{leaf_names}
 use Rattle.art_model.specs.Pairs.{of_key}
-use Rattle.art_model.proofs.StoreLaws.{has_children}
+use Rattle.art_model.proofs.stores.StoreLaws.{has_children}
 use Rattle.art_reading.specs.Iterators.{IsIteratorOf}
 use Rattle.art_map.specs.MapItems.{pairs_left}
 use Rattle.art_map.proofs.Items.{none_left, no_pairs, whole_len, whole_pairs}

@@ -1,6 +1,6 @@
 use Rattle.std.proofs.Common.{rules}
 use Rattle.art_model.specs.Layouts.{shape_of}
-use Rattle.art_model.proofs.StoreLaws.{has_children}
+use Rattle.art_model.proofs.stores.StoreLaws.{has_children}
 use Rattle.art_operations.proofs.FreedTrees.{all_can}
 use Rattle.art_read_tests.proofs.Freeing.{inners_stay, leaves_stay}
 use Rattle.art_read_tests.proofs.tests.iterator.free_apart.Goals as goal

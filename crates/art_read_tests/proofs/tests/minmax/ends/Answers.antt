@@ -1,5 +1,5 @@
 use Rattle.std.proofs.Common.{rules}
-use Rattle.art_model.proofs.StoreLaws.{has_children}
+use Rattle.art_model.proofs.stores.StoreLaws.{has_children}
 use Rattle.art_read_tests.proofs.tests.minmax.ends.Goals as goal
 
 pub minimum_unchecked-requires : goal.minimum_unchecked-requires

@@ -1,5 +1,5 @@
 use Rattle.std.proofs.Common.{rules}
-use Rattle.art_model.proofs.StoreLaws.{has_children}
+use Rattle.art_model.proofs.stores.StoreLaws.{has_children}
 use Rattle.art_write_tests.proofs.tests.delete.freeing.free_all.Goals as goal
 
 pub deallocate_tree-count-requires : goal.deallocate_tree-count-requires

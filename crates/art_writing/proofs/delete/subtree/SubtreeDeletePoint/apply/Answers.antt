@@ -1,7 +1,7 @@
 use Rattle.std.proofs.Common.{rules, refl, ap, sym, ◌∙◌, subst, IsTrue}
 use Rattle.art_model.specs.Promises.{is_covered, promise_after}
 use Rattle.art_model.specs.Pairs.{of_key}
-use Rattle.art_model.proofs.Apart.{root_apart}
+use Rattle.art_model.proofs.stores.Apart.{root_apart}
 use Rattle.art_writing.specs.Deleted.{placed_for_deletion}
 use Rattle.art_writing.specs.Subtrees.{pairs_beside}
 use Rattle.art_writing.proofs.Reserved.{not_refused}

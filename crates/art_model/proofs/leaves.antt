@@ -1,0 +1,10 @@
+-- Lemmas of leaves in their order, and the links between them.
+pub mod Links
+pub mod Segments
+pub mod LeavesFound
+pub mod LeafEnds
+pub mod LeafChild
+pub mod Leaves
+pub mod Chains
+pub mod Taken
+pub mod Placed

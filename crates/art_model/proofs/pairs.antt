@@ -1,0 +1,5 @@
+-- Lemmas of maps as sorted lists of pairs.
+pub mod MapLaws
+pub mod Between
+pub mod PutOver
+pub mod Puts

@@ -1,0 +1,10 @@
+-- Lemmas of places in a tree, and the ways to them.
+pub mod Paths
+pub mod Places
+pub mod PlaceLaws
+pub mod Wholes
+pub mod OnWay
+pub mod Edges
+pub mod Trails
+pub mod InHole
+pub mod Subtrees
