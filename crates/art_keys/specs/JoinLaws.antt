@@ -73,6 +73,10 @@ module _ {A B : Type 0} (is_first : A → Type 0) (first : A → List ℕ) (is_s
 
         lengths : (rest : List ℕ) → joined_length first_length second_length (joined first second pair ++ rest) ≡ length (joined first second pair)
         lengths rest =
-            rw (append_assoc (first pair.0) (second pair.1) rest, (back_first pair.0 of_pair.0).1 (second pair.1 ++ rest),
-                drop-append_seam (first pair.0) (second pair.1 ++ rest), (back_second pair.1 of_pair.1).1 rest)
+            rw (
+              append_assoc (first pair.0) (second pair.1) rest,
+              (back_first pair.0 of_pair.0).1 (second pair.1 ++ rest),
+              drop-append_seam (first pair.0) (second pair.1 ++ rest),
+              (back_second pair.1 of_pair.1).1 rest,
+            )
             (sym (length-append (first pair.0) (second pair.1)))
