@@ -262,6 +262,21 @@ fn agree_on_retained(map: &mut Map, model: &mut Model, rest: u32) -> bool {
     retained.is_ok() && agree_on_pairs(map, model)
 }
 
+// Whether they are the same once each value was changed by the sum of those before it.
+fn agree_on_each_value(map: &mut Map, model: &mut Model) -> bool {
+    let mut sum = 0u32;
+    map.for_each_value(|value| {
+        sum = sum.wrapping_add(*value);
+        *value = sum;
+    });
+    let mut sum = 0u32;
+    for value in model.values_mut() {
+        sum = sum.wrapping_add(*value);
+        *value = sum;
+    }
+    agree_on_pairs(map, model)
+}
+
 // Whether they are the same when each has taken the pairs of another one.
 fn agree_on_extended(map: &mut Map, more: Map, model: &mut Model, others: &mut Model) -> bool {
     let mut pairs = more.into_iter();
@@ -282,6 +297,7 @@ fn differ_in_round(
         let agree = fill_both(&mut more, &mut others, numbers)
             && agree_on_order(map, &more, model, &others)
             && agree_on_extended(map, more, model, &mut others)
+            && agree_on_each_value(map, model)
             && agree_on_retained(map, model, numbers.below(5) as u32);
         if !agree {
             return Some(round);

@@ -24,6 +24,10 @@ fn agree_on_change(set: &mut Set, model: &mut Model, key: Key, call: usize) -> b
         1 => set.take(&key).ok() == Some(model.take(&key)),
         2 => set.pop_first().ok() == Some(model.pop_first()),
         3 => set.pop_last().ok() == Some(model.pop_last()),
+        4 => match (set.replace(key), model.replace(key)) {
+            (Ok(own), Ok(other)) => own == other,
+            _ => false,
+        },
         _ => match (set.insert(key), model.insert(key)) {
             (Ok(own), Ok(other)) => own == other,
             _ => false,
@@ -83,6 +87,13 @@ fn agree_on_order(set: &Set, other: &Set, model: &Model, beside: &Model) -> bool
         && set.partial_cmp(other) == model.partial_cmp(beside)
 }
 
+// Whether the same keys stay of both, of which one in five goes.
+fn agree_on_retained(set: &mut Set, model: &mut Model, rest: u8) -> bool {
+    let retained = set.retain(|key| key[1] % 5 != rest);
+    model.retain(|key| key[1] % 5 != rest);
+    retained.is_ok() && agree_on_keys(set, model)
+}
+
 // The number of the first change after which they differ, if they do.
 fn differ_at(
     sets: (&mut Set, &mut Set),
@@ -94,13 +105,16 @@ fn differ_at(
     let (left_model, right_model) = models;
     for change in 0..changes {
         let key = drawn_key(&mut numbers);
-        let call = numbers.below(if (change / 100) % 2 == 0 { 12 } else { 5 });
+        let call = numbers.below(if (change / 100) % 2 == 0 { 12 } else { 6 });
         let agree = if numbers.is_heads() {
             agree_on_change(left, left_model, key, call)
         } else {
             agree_on_change(right, right_model, key, call)
         };
         if !agree || !agree_on_questions(left, left_model, key) {
+            return Some(change);
+        }
+        if change % 50 == 49 && !agree_on_retained(right, right_model, key[0]) {
             return Some(change);
         }
         if !agree_on_keys(left, left_model) || !agree_on_parts(right, right_model, key) {

@@ -1,6 +1,7 @@
 //! A set of keys of one byte.
 use art_operations::set::ByteSet;
-use art_test_support::expected::as_expected;
+use art_test_support::expected::{as_expected, same};
+use art_test_support::tagged::Tagged;
 use std::alloc::Global;
 use std::test::Fail;
 
@@ -64,4 +65,24 @@ fn ends_of_a_set_are_taken(rt: HostRuntime) -> Result<(), Fail> {
         (seen, set.pop_first().ok().flatten(), set.is_empty()),
         ((Some([1]), Some([3]), 1), None, true),
     )))
+}
+
+// A key of one byte, which is the same for each tag.
+fn tagged(alloc: Global, tag: u32) -> Option<Tagged> {
+    let bytes = [7u8].to_vec(alloc).ok()?;
+    Some(Tagged { bytes, tag })
+}
+
+// Whether a first key replaces none, the tag of the one that a second replaces, and that of the stored one.
+fn replaced_in(set: &mut ByteSet<Tagged, 4>, alloc: Global) -> Option<(bool, u32, u32)> {
+    let first = set.replace(tagged(alloc, 1)?).ok()?;
+    let second = set.replace(tagged(alloc, 2)?).ok()??;
+    Some((first.is_none(), second.tag, set.first()?.tag))
+}
+
+#[test]
+fn a_key_replaces_an_equal_one(rt: HostRuntime) -> Result<(), Fail> {
+    let alloc = rt.alloc();
+    let mut set = ByteSet::new(alloc);
+    same(replaced_in(&mut set, alloc), Some((true, 1, 2)))
 }
