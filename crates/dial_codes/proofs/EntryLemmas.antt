@@ -50,7 +50,8 @@ first_follows : {A B : Type 0} (p : A → Bool) (q : B → Bool) (f : A → B) (
 first_follows p q f x so [] h = absurd cc
 first_follows p q f x so (y ∷ ys) h = go (p y) refl h (first_follows p q f x so ys)
   where
-    go : (t : Bool) → p y ≡ t → first_of (cond t (y ∷ filter p ys) (filter p ys)) ≡ Some x → (first_of (filter p ys) ≡ Some x → list_any q (map f ys) ≡ true) → (q (f y) || list_any q (map f ys)) ≡ true
+    go : (t : Bool) → p y ≡ t → first_of (cond t (y ∷ filter p ys) (filter p ys)) ≡ Some x → (first_of (filter p ys) ≡ Some x → list_any q (map f ys) ≡ true) →
+        (q (f y) || list_any q (map f ys)) ≡ true
     go true e h ih = let is : y ≡ x = cc in or_left _ _ (subst (λ z. q (f z) ≡ true) (sym is) (so (subst (λ z. p z ≡ true) is e)))
     go false e h ih = or_right _ _ (ih h)
 
@@ -119,7 +120,8 @@ module _ {Z : Type 0} where
       go true e ih = absurd (false≢true (sym e))
       go false e ih = ap (λ ys. x ∷ ys) (ih e)
 
-  none_stored : (new : Vec ℕ Z × Named) (pairs : List (Vec ℕ Z × Named)) → has_key (of_key (λ (v : Vec ℕ Z). v.items)) new.0.items pairs ≡ false → first_of (with_key (of_key (λ (v : Vec ℕ Z). v.items)) new.0.items pairs) ≡ None
+  none_stored : (new : Vec ℕ Z × Named) (pairs : List (Vec ℕ Z × Named)) → has_key (of_key (λ (v : Vec ℕ Z). v.items)) new.0.items pairs ≡ false →
+      first_of (with_key (of_key (λ (v : Vec ℕ Z). v.items)) new.0.items pairs) ≡ None
   none_stored new pairs h = go (first_of (with_key (of_key (λ (v : Vec ℕ Z). v.items)) new.0.items pairs)) (sym (has_is_stored (of_key (λ (v : Vec ℕ Z). v.items)) new pairs) ∙ h)
     where
       go : (o : Option (Vec ℕ Z × Named)) → is_some o ≡ false → o ≡ None

@@ -43,5 +43,6 @@ returns-in_default-clause-served g c =
     (reader_remaining g.R.Read.remaining c.args.input.now) (reader_remaining g.R.Read.remaining c.loop-number.input)
     (reader_remaining g.R.Read.remaining c.next_line.new.input) c.loop-number.number-counter c.next_line.new.line.items c.loop-number.invariant.1
     (read_as _ _ _ c.in_ok-next_line.field-0 true c.if-not-branch.false c.in_ok-next_line.ensures)
-    (refused_here c.loop-number.number-counter c.args.tree.now c.loop-number.tree (g.W.Write.contents c.args.output.now) (g.W.Write.contents c.loop-number.output) c.next_line.new.line.items (g.W.Write.contents c.writeln.new.self)
+    (refused_here c.loop-number.number-counter c.args.tree.now c.loop-number.tree (g.W.Write.contents c.args.output.now) (g.W.Write.contents c.loop-number.output)
+    c.next_line.new.line.items (g.W.Write.contents c.writeln.new.self)
     (subst AsksForNothing c.deref.ensures.value c.in_default.ensures.none) c.in_ok-writeln.ensures.bytes)

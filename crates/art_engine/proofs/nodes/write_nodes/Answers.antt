@@ -11,7 +11,8 @@ push_reserved-requires g c = omega (arith, c.in-Ok.pending.ok.0, ap length c.in-
 
 pub loop-init : goal.loop-init
 loop-init g c =
-    let is : c.push_reserved.new.self.items ≡ pending_root c.in-Some.root ∷ [] = c.push_reserved.ensures.items ∙ ap (λ items. items ++ c.root.result ∷ []) c.in-Ok.ensures.empty ∙ ap (λ first. first ∷ []) c.root.ensures in (
+    let is : c.push_reserved.new.self.items ≡ pending_root c.in-Some.root ∷ [] =
+    c.push_reserved.ensures.items ∙ ap (λ items. items ++ c.root.result ∷ []) c.in-Ok.ensures.empty ∙ ap (λ first. first ∷ []) c.root.ensures in (
       (
         c.in-Some.root,
         0,
