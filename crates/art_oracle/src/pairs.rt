@@ -1,6 +1,6 @@
 //! A map as a sorted list of pairs.
 
-ghost use Rattle.std.specs.Prelude.{◌≡◌, ℕ, List, [], Some, false, is_ok, IfOk, IfErr, OnOk, OnErr};
+ghost use Rattle.std.specs.Prelude.{◌≡◌, [], Some, false, is_ok, IfOk, IfErr, OnOk, OnErr};
 ghost use Rattle.std.specs.Option.{option_to_list};
 ghost use Rattle.art_model.specs.Keys.{is_front};
 ghost use Rattle.art_model.specs.Pairs.{IsMap, put, put_reply, remove_key, with_key, of_key, is_conflict, has_key};

@@ -93,7 +93,8 @@ module _ {V : Type 0} where
       or_false true = refl
       or_false false = refl
 
-      go : (t : Bool) → is_some (option_map (λ y. y.1) (first_of (cond t (stored_for (of_key ended) (path, value) pairs ∷ []) (with_key (of_key ended) (ended other) pairs)))) ≡ (is_stored other (keys_of pairs) || t)
+      go : (t : Bool) →
+          is_some (option_map (λ y. y.1) (first_of (cond t (stored_for (of_key ended) (path, value) pairs ∷ []) (with_key (of_key ended) (ended other) pairs)))) ≡ (is_stored other (keys_of pairs) || t)
       go true = or_true (is_stored other (keys_of pairs))
       go false = found_is_stored other pairs ∙ or_false (is_stored other (keys_of pairs))
 

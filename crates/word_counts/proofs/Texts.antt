@@ -56,7 +56,8 @@ words_between front (b ∷ bs) = go (eqb b 10) refl (feeds bs) refl (words_betwe
     moved (p ∷ ps) = ap (λ bytes. words bytes ++ flat_map words ps) (append_assoc front (b ∷ []) p)
 
     go : (t : Bool) → eqb b 10 ≡ t → (ps : List (List ℕ)) → feeds bs ≡ ps → words bs ≡ flat_map words (before_first [] (feeds bs)) →
-        words ((front ++ b ∷ []) ++ bs) ≡ flat_map words (before_first (front ++ b ∷ []) (feeds bs)) → words (front ++ b ∷ bs) ≡ flat_map words (before_first front (cond t ([] ∷ ps) (onto_first b ps)))
+        words ((front ++ b ∷ []) ++ bs) ≡ flat_map words (before_first (front ++ b ∷ []) (feeds bs)) →
+        words (front ++ b ∷ bs) ≡ flat_map words (before_first front (cond t ([] ∷ ps) (onto_first b ps)))
     go true e ps is here more =
         words_around front b bs (ap is_gap (eqb-true b 10 e))
         ∙ ap₂ (λ us vs. us ++ vs) (ap words (sym (append-nil front))) (nothing_before ps (subst (λ qs. words bs ≡ flat_map words (before_first [] qs)) is here))
