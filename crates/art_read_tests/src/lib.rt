@@ -1,4 +1,4 @@
-//! Tests of look-ups, of walks, of clones, of runs and of the map, by public calls. There is nothing here but tests.
+//! Tests of look-ups, of walks, of clones and of runs, by public calls. There is nothing here but tests.
 #![tactic(auto)]
 
 #[cfg(test)]
