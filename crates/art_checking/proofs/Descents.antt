@@ -12,7 +12,7 @@ use Rattle.art_parts.specs.declared.names.NodeType.TheVariants.{Leaf}
 use Rattle.art_parts.specs.declared.names.OpaqueNodePtr.{OpaqueNodePtr}
 use Rattle.art_model.specs.Footprints.{IsIn}
 use Rattle.art_model.specs.Layouts.{Node, leaf_node, inner_node, AreDistinct}
-use Rattle.art_model.specs.Stores.{node_at, header_at, held_leaf, held_inner, seen, pair_of}
+use Rattle.art_model.specs.Stores.{node_at, header_at, held_leaf, held_inner, tree_node, pair_of}
 use Rattle.art_model.specs.Trails.{bottom_of, HasLeast, IsDescent}
 use Rattle.art_model.specs.Trees.{NodeHeader}
 use Rattle.art_model.proofs.lists.Lists.{each_in}
@@ -22,16 +22,16 @@ use Rattle.art_checking.specs.Checked.{IsLeastLeaf}
 -- ---- what is seen under a name
 module _ {K V : Type 0} (s : Nodes K V) where
   pub inner_at : (p : InnerPtr) (node : Inner) → p.kind ≢ Leaf → map.get s.inners p ≡ Some node → node_at s (inner_name p) ≡ Some (inner_node (header_at p.kind node) node.children)
-  inner_at p node proper there = ap (option_map (seen p.kind)) (held_in_inner s p.kind p.slot proper ∙ ap (option_map held_inner) there)
+  inner_at p node proper there = ap (option_map (tree_node p.kind)) (held_in_inner s p.kind p.slot proper ∙ ap (option_map held_inner) there)
 
   pub none_at_inner : (p : InnerPtr) → p.kind ≢ Leaf → map.get s.inners p ≡ None → node_at s (inner_name p) ≡ None
-  none_at_inner p proper gone = ap (option_map (seen p.kind)) (held_in_inner s p.kind p.slot proper ∙ ap (option_map held_inner) gone)
+  none_at_inner p proper gone = ap (option_map (tree_node p.kind)) (held_in_inner s p.kind p.slot proper ∙ ap (option_map held_inner) gone)
 
   pub leaf_at : (p : LeafPtr) (node : LeafNode K V) → map.get s.leaves p ≡ Some node → node_at s (leaf_name p) ≡ Some (leaf_node (pair_of node))
-  leaf_at p node there = ap (λ o. option_map (seen Leaf) (option_map held_leaf o)) there
+  leaf_at p node there = ap (λ o. option_map (tree_node Leaf) (option_map held_leaf o)) there
 
   pub none_at_leaf : (p : LeafPtr) → map.get s.leaves p ≡ None → node_at s (leaf_name p) ≡ None
-  none_at_leaf p gone = ap (λ o. option_map (seen Leaf) (option_map held_leaf o)) gone
+  none_at_leaf p gone = ap (λ o. option_map (tree_node Leaf) (option_map held_leaf o)) gone
 
 -- ---- one step more
 bottom_more : (name : OpaqueNodePtr) (ns : List OpaqueNodePtr) (c : OpaqueNodePtr) → bottom_of name (ns ++ c ∷ []) ≡ c

@@ -14,7 +14,7 @@ use Rattle.art_parts.specs.declared.names.OpaqueNodePtr.{OpaqueNodePtr}
 use Rattle.art_model.specs.Trees.{Tree, inner, Subtrees, child, no_child, NodeHeader}
 use Rattle.art_model.specs.Radix.{join, bytes_of, HaveChildren}
 use Rattle.art_model.specs.Layouts.{name_of, slots_of, names_of, names_below, AreDistinct}
-use Rattle.art_model.specs.Stores.{held, held_leaf, held_inner, node_at, header_at}
+use Rattle.art_model.specs.Stores.{content_at, held_leaf, held_inner, node_at, header_at}
 use Rattle.art_model.specs.Heights.{height, tree_height}
 use Rattle.art_model.specs.Roots.{IsFullTree}
 use Rattle.art_model.proofs.places.Edges.{children_right, height_join}
@@ -35,10 +35,10 @@ module _ {N A : Type 0} where
 -- ---- a child's tree
 module _ {K V : Type 0} (s : Nodes K V) where
   -- what is held under a leaf's name, and under an inner node's
-  held_at_leaf : (p : LeafPtr) (shown : LeafNode K V) → Some shown ≡ map.get s.leaves p → held s (leaf_name p) ≡ Some (held_leaf shown)
+  held_at_leaf : (p : LeafPtr) (shown : LeafNode K V) → Some shown ≡ map.get s.leaves p → content_at s (leaf_name p) ≡ Some (held_leaf shown)
   held_at_leaf p shown there = ap (option_map held_leaf) (sym there)
 
-  held_at_inner : (p : InnerPtr) → p.kind ≢ Leaf → (shown : Inner) → Some shown ≡ map.get s.inners p → held s (inner_name p) ≡ Some (held_inner shown)
+  held_at_inner : (p : InnerPtr) → p.kind ≢ Leaf → (shown : Inner) → Some shown ≡ map.get s.inners p → content_at s (inner_name p) ≡ Some (held_inner shown)
   held_at_inner p proper shown there = held_in_inner s p.kind p.slot proper ∙ ap (option_map held_inner) (sym there)
 
   -- a child of a full tree has one too, a lower one
@@ -158,7 +158,7 @@ module _ {K V T Out : Type 0} (OfLeaf : T → LeafNode K V → Out → T → Typ
 
   -- at the end the node goes to its hook
   pub ended : {layout : Tree OpaqueNodePtr (K × V)} {name : OpaqueNodePtr} {kind : NodeType} {shown : Inner} (old now new : T) (joined out : Out) →
-      HasJoined layout name kind shown [] old joined now → held s name ≡ Some (held_inner shown) → OfInner now kind shown joined out new → FoldsIt layout old out new
+      HasJoined layout name kind shown [] old joined now → content_at s name ≡ Some (held_inner shown) → OfInner now kind shown joined out new → FoldsIt layout old out new
   ended {layout} {name} {kind} {shown} old now new joined out has there answers = go has.rest has.slots has.is
     where
       go : (rest : Subtrees OpaqueNodePtr (K × V)) → slots_of rest ≡ [] → layout ≡ inner name (header_at kind shown) (join has.done rest) → FoldsIt layout old out new
@@ -189,8 +189,8 @@ module _ {K V : Type 0} (s : Nodes K V) {name : OpaqueNodePtr} {layout : Tree Op
         let at = inner_shown s p proper layout (full.0.named ∙ sym is) full.0.holds shown there in
         (at.children, at.is ∙ ap₂ (λ n k. inner n (header_at k shown) at.children) is (sym same), at.slots)
 
-    pub full_held : held s name ≡ Some (held_inner shown)
-    full_held = ap (held s) (sym is) ∙ held_at_inner s p proper shown there
+    pub full_held : content_at s name ≡ Some (held_inner shown)
+    full_held = ap (content_at s) (sym is) ∙ held_at_inner s p proper shown there
 
     -- and has a child
     pub full_some : shown.children ≡ [] → ⊥

@@ -8,7 +8,7 @@ use Rattle.art_parts.specs.declared.names.NodeType.{NodeType}
 use Rattle.art_parts.specs.declared.names.OpaqueNodePtr.{OpaqueNodePtr}
 use Rattle.art_model.specs.Layouts.{Node, leaf_node, Holds, HoldsBelow}
 use Rattle.art_model.specs.Radix.{pairs_of, pairs_below}
-use Rattle.art_model.specs.Stores.{node_at, pair_of, seen}
+use Rattle.art_model.specs.Stores.{node_at, pair_of, tree_node}
 use Rattle.art_model.specs.Trees.{Tree, leaf, inner, Subtrees, child, no_child}
 use Rattle.art_checking.specs.Folds.{Folds, JoinsAll, Joins}
 
@@ -21,7 +21,7 @@ module _ {K V T Out : Type 0} (OfLeaf : T → LeafNode K V → Out → T → Typ
     -- of a tree
     pub folds_to : (t : Tree OpaqueNodePtr (K × V)) (old new : T) (out : Out) → Holds (node_at s) t → Folds OfLeaf OfInner Combines s t old out new → IsOf (pairs_of t) out
     folds_to (leaf n x) old new out holds (node, there, answers) =
-        let same : ◌≡◌ {A = Option (Node OpaqueNodePtr (K × V))} (Some (leaf_node (pair_of node))) (Some (leaf_node x)) = sym (ap (option_map (seen n.kind)) there) ∙ holds in
+        let same : ◌≡◌ {A = Option (Node OpaqueNodePtr (K × V))} (Some (leaf_node (pair_of node))) (Some (leaf_node x)) = sym (ap (option_map (tree_node n.kind)) there) ∙ holds in
         let is : pair_of node ≡ x = cc in
         subst (λ y. IsOf (y ∷ []) out) is (in_leaf old new node out answers)
     folds_to (inner n h cs) old new out holds (node, mid, joined, there, joins, answers) =

@@ -5,7 +5,7 @@ use Rattle.art_nodes.specs.Nodes.{Nodes}
 use Rattle.art_parts.specs.declared.leaf.LeafNode.{LeafNode}
 use Rattle.art_parts.specs.declared.names.NodeType.{NodeType}
 use Rattle.art_parts.specs.declared.names.OpaqueNodePtr.{OpaqueNodePtr}
-use Rattle.art_model.specs.Stores.{held, held_leaf, held_inner}
+use Rattle.art_model.specs.Stores.{content_at, held_leaf, held_inner}
 use Rattle.art_model.specs.Trees.{Tree, leaf, inner, Subtrees, child, no_child}
 
 -- T is the visitor and Out its output. Of each hook it is said what it may answer, and which state it may leave.
@@ -15,9 +15,9 @@ module _ {K V T Out : Type 0} (OfLeaf : T → LeafNode K V → Out → T → Typ
   abbrev mutual
     -- A leaf goes to its hook. An inner node's children are joined, and the node goes to its hook with what they gave.
     pub Folds : Tree OpaqueNodePtr (K × V) → T → Out → T → Type 0
-    Folds (leaf n x) old out new = (node : LeafNode K V) × (held s n ≡ Some (held_leaf node)) × OfLeaf old node out new
+    Folds (leaf n x) old out new = (node : LeafNode K V) × (content_at s n ≡ Some (held_leaf node)) × OfLeaf old node out new
     Folds (inner n h cs) old out new =
-        (node : Inner) × (mid : T) × (joined : Out) × (held s n ≡ Some (held_inner node)) ×
+        (node : Inner) × (mid : T) × (joined : Out) × (content_at s n ≡ Some (held_inner node)) ×
         JoinsAll cs old joined mid × OfInner mid h.kind node joined out new
 
     -- the first child's output, and then the others

@@ -13,12 +13,12 @@ use Rattle.art_model.specs.Canonical.{IsCanonical}
 use Rattle.art_model.specs.Layouts.{Node, AreDistinct, HoldsBelow, IsLayout, inner_node, leaf_node, name_of, names_below, names_of, slots_of}
 use Rattle.art_model.specs.Pairs.{last_of, of_key}
 use Rattle.art_model.specs.Radix.{all_unmarked, bytes_of, unmarked}
-use Rattle.art_model.specs.Stores.{header_at, held_inner, node_at, seen}
+use Rattle.art_model.specs.Stores.{header_at, held_inner, node_at, tree_node}
 use Rattle.art_model.specs.Trees.{NodeHeader, Subtrees, Tree, child, inner, leaf, no_child}
 use Rattle.art_model.proofs.lists.Pairwises.{Pairwise-left, Pairwise-right}
 use Rattle.art_model.proofs.stores.Views.{held_in_inner}
 use Rattle.art_keeping.specs.Trees.{Key, key_bytes}
-use Rattle.art_keeping.specs.Walks.{children_of, falling, one_deeper, pending_root, turned}
+use Rattle.art_keeping.specs.Walks.{children_of, reversed_children, one_deeper, pending_root, after_turn}
 use Rattle.art_keeping.specs.declared.walk.Pending.{Pending}
 use Rattle.art_engine.specs.NodeLines.{children_text, indent, inner_text, line_at, lines_of, node_text, nodes_text, tree_text}
 use Rattle.art_engine.specs.Shown.{AppendsUnlessNoMemory}
@@ -36,7 +36,7 @@ indent_more n = let e : suc n ≡ n + 1 = omega arith in indent_next n ∙ ap in
 pub inner_seen_at : {K V : Type 0} (s : Nodes K V) (p : InnerPtr) (name : OpaqueNodePtr) (node : Inner) → inner_name p ≡ name → p.kind ≢ Leaf → Some node ≡ map.get s.inners p →
     node_at s name ≡ Some (inner_node (header_at p.kind node) node.children)
 inner_seen_at s p name node is proper there =
-    ap (node_at s) (sym is) ∙ ap (option_map (seen p.kind)) (held_in_inner s p.kind p.slot proper ∙ ap (option_map held_inner) (sym there))
+    ap (node_at s) (sym is) ∙ ap (option_map (tree_node p.kind)) (held_in_inner s p.kind p.slot proper ∙ ap (option_map held_inner) (sym there))
 
 -- what is written of a node that is there
 pub line_written : {E : Type 0} (s : Nodes Key ℕ) (name : OpaqueNodePtr) (there : Node OpaqueNodePtr (Key × ℕ)) (depth : ℕ) (byte : Option ℕ) (old new : Option (List ℕ)) (text : List ℕ)
@@ -90,12 +90,12 @@ module _ (s : Nodes Key ℕ) where
 
   -- the children of a node
   comes_falling : (depth : ℕ) (cs : Subtrees OpaqueNodePtr (Key × ℕ)) → HoldsBelow (node_at s) cs → AreDistinct (names_below cs) →
-      ComesTo (falling depth (slots_of cs)) (children_text depth cs)
+      ComesTo (reversed_children depth (slots_of cs)) (children_text depth cs)
   comes_falling depth no_child holds distinct = refl
   comes_falling depth (child b t cs) holds distinct =
       let is : IsLayout (node_at s) (name_of t) t = record { named = refl; holds = holds.0; distinct = Pairwise-left ◌≢◌ (names_of t) (names_below cs) distinct } in
       let others = comes_falling depth cs holds.1 (Pairwise-right ◌≢◌ (names_of t) (names_below cs) distinct) in
-      comes_append (falling depth (slots_of cs)) (record { depth = depth; byte = Some b; name = name_of t } ∷ []) (children_text depth cs)
+      comes_append (reversed_children depth (slots_of cs)) (record { depth = depth; byte = Some b; name = name_of t } ∷ []) (children_text depth cs)
       (tree_text depth (Some b) t) others (t, [], is, refl, refl)
 
   -- A node's line is written, and then what is left comes to the rest.
@@ -128,12 +128,12 @@ module _ (s : Nodes Key ℕ) where
         text_is = ap (λ count. line_at next.depth next.byte (inner_text head count) ++ children_text (one_deeper next.depth) cs) (sym (length-slots cs));
       }
 
-  pub comes_turned : (pending : List Pending) (next : Pending) (text : List ℕ) → last_of pending ≡ Some next → ComesTo pending text → IsTurned next (turned s pending) text
+  pub comes_turned : (pending : List Pending) (next : Pending) (text : List ℕ) → last_of pending ≡ Some next → ComesTo pending text → IsTurned next (after_turn s pending) text
   comes_turned [] next text last comes = absurd cc
   comes_turned (only ∷ []) next text last (layout, before, is, none, text_is) =
       let same : only ≡ next = cc in
       let whole : text ≡ tree_text only.depth only.byte layout = text_is ∙ ap (λ bs. bs ++ tree_text only.depth only.byte layout) none in
-      subst (λ p. IsTurned p (turned s (only ∷ [])) text) same (subst (IsTurned only (turned s (only ∷ []))) (sym whole) (root_turned only layout is))
+      subst (λ p. IsTurned p (after_turn s (only ∷ [])) text) same (subst (IsTurned only (after_turn s (only ∷ []))) (sym whole) (root_turned only layout is))
   comes_turned (first ∷ second ∷ pending) next text last (layout, before, is, others, text_is) =
       let turn = comes_turned (second ∷ pending) next before last others in
       let own = tree_text first.depth first.byte layout in
@@ -154,7 +154,7 @@ module _ (s : Nodes Key ℕ) where
     pub text : Appends old now written
 
   module _ (whole : List ℕ) (old now next : Option (List ℕ)) where
-    pub goes_on : (pending left : List Pending) (node : Pending) → Some node ≡ last_of pending → left ≡ turned s pending → IsWritten pending whole old now →
+    pub goes_on : (pending left : List Pending) (node : Pending) → Some node ≡ last_of pending → left ≡ after_turn s pending → IsWritten pending whole old now →
         IfSome (node_at s node.name) (λ there. Appends now next (line_at node.depth node.byte (node_text there))) → IsWritten left whole old next
     goes_on pending left node last is h line =
         let turn = comes_turned pending node h.rest (sym last) h.comes in

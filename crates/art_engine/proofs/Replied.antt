@@ -7,7 +7,7 @@ use Rattle.art_operations.specs.declared.run.Command.{Command}
 use Rattle.art_operations.specs.declared.run.Reply.{Reply}
 use Rattle.art_operations.specs.declared.run.Side.{Side}
 use Rattle.art_keeping.specs.Commands.{IsCommandFor}
-use Rattle.art_keeping.specs.KeptTrees.{seen, stood}
+use Rattle.art_keeping.specs.KeptTrees.{state_of, state_before}
 use Rattle.art_keeping.specs.Trees.{Key, key_bytes}
 use Rattle.art_keeping.specs.declared.tree.KeptTree.{KeptTree}
 use Rattle.art_engine.specs.Shown.{IsReplied}
@@ -15,7 +15,7 @@ use Rattle.art_engine.specs.Texts.{reply_text}
 
 module _ {E : Type 0} (IsClone : Key × ℕ → Key × ℕ → Type 0) (request : Request) (tree after : KeptTree) (old new : Option (List ℕ)) where
   pub run_replied : (command : Command Key ℕ) (reply : Reply Key ℕ) (r : Result (Unit {0}) E) → IsCommandFor request (Some command) →
-      (side : Side) × IsRun key_bytes 4 IsClone (seen tree) (command ∷ []) (reply ∷ []) (stood side after) →
+      (side : Side) × IsRun key_bytes 4 IsClone (state_of tree) (command ∷ []) (reply ∷ []) (state_before side after) →
       OnOk r (Appends old new (reply_text reply ++ codes "\n")) → OnOk r (IsReplied IsClone request tree after old new)
   run_replied command reply (Err e) asked run written = tt
   run_replied command reply (Ok u) asked (side, run) written = inr (inl (command, reply, side, asked, run, written))

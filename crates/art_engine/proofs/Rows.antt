@@ -24,7 +24,7 @@ use Rattle.art_map.proofs.Items.{first_ended, first_step, first_walk, last_ended
 use Rattle.art_keeping.specs.Trees.{Key, key_bytes}
 use Rattle.art_engine.specs.declared.pairs.Order.{Order}
 use Rattle.art_engine.specs.declared.pairs.Order.TheVariants.{Rising, Falling}
-use Rattle.art_engine.specs.Texts.{end_of, gap_after, in_order, pairs_text, row_text, shown}
+use Rattle.art_engine.specs.Texts.{end_of, gap_after, in_order, pairs_text, row_text, entry_text}
 
 -- ---- bytes that are appended
 
@@ -41,11 +41,11 @@ appends_more (Some p) (Some q) (Some r) xs ys h k = k ∙ ap (λ bs. bs ++ ys) h
 -- ---- rows
 
 -- a row goes on with a gap and a pair
-row_more : (done : List (Key × ℕ)) (pair : Key × ℕ) → row_text (done ++ pair ∷ []) ≡ row_text done ++ (gap_after (length done) ++ shown pair)
-row_more [] pair = append-nil (shown pair)
+row_more : (done : List (Key × ℕ)) (pair : Key × ℕ) → row_text (done ++ pair ∷ []) ≡ row_text done ++ (gap_after (length done) ++ entry_text pair)
+row_more [] pair = append-nil (entry_text pair)
 row_more (d ∷ ds) pair =
-    ap (λ bs. shown d ++ bs) (flat_map-append (λ p. codes " " ++ shown p) ds (pair ∷ []) ∙ ap (λ bs. flat_map (λ p. codes " " ++ shown p) ds ++ bs) (append-nil (codes " " ++ shown pair)))
-    ∙ sym (append_assoc (shown d) (flat_map (λ p. codes " " ++ shown p) ds) (codes " " ++ shown pair))
+    ap (λ bs. entry_text d ++ bs) (flat_map-append (λ p. codes " " ++ entry_text p) ds (pair ∷ []) ∙ ap (λ bs. flat_map (λ p. codes " " ++ entry_text p) ds ++ bs) (append-nil (codes " " ++ entry_text pair)))
+    ∙ sym (append_assoc (entry_text d) (flat_map (λ p. codes " " ++ entry_text p) ds) (codes " " ++ entry_text pair))
 
 row_is : (pairs : List (Key × ℕ)) → pairs ≢ [] → pairs_text pairs ≡ row_text pairs
 row_is [] h = absurd (h refl)
@@ -88,16 +88,16 @@ module _ {bytes : Key × ℕ → List ℕ} {P : ℕ} {s : Nodes Key ℕ} {root :
 
 module _ (s : Nodes Key ℕ) (walk left : Option (LeafPtr × LeafPtr)) (pairs : List (Key × ℕ)) (written : ℕ) (old now next : Option (List ℕ)) where
   grown : (done : List (Key × ℕ)) (pair : Key × ℕ) → written ≡ length done → Appends old now (row_text done) →
-      Appends now next (gap_after written ++ shown pair) → Appends old next (row_text (done ++ pair ∷ []))
+      Appends now next (gap_after written ++ entry_text pair) → Appends old next (row_text (done ++ pair ∷ []))
   grown done pair count text more =
-      subst (Appends old next) (ap (λ n. row_text done ++ (gap_after n ++ shown pair)) count ∙ sym (row_more done pair)) (appends_more old now next _ _ text more)
+      subst (Appends old next) (ap (λ n. row_text done ++ (gap_after n ++ entry_text pair)) count ∙ sym (row_more done pair)) (appends_more old now next _ _ text more)
 
   counted : (done : List (Key × ℕ)) (pair : Key × ℕ) → written ≡ length done → written + 1 ≡ length (done ++ pair ∷ [])
   counted done pair count = ap (λ n. n + 1) count ∙ sym (length-append done (pair ∷ []))
 
   pub row_goes_on : (order : Order) (p : LeafPtr) (pair : Key × ℕ) → IsRow s order walk pairs written old now →
       ((names : List OpaqueNodePtr) → IsIteratorOf s walk names → TakesEnd (end_of order) s names (Some p) left) →
-      option_map pair_of (map.get s.leaves p) ≡ Some pair → Appends now next (gap_after written ++ shown pair) → IsRow s order left pairs (written + 1) old next
+      option_map pair_of (map.get s.leaves p) ≡ Some pair → Appends now next (gap_after written ++ entry_text pair) → IsRow s order left pairs (written + 1) old next
   row_goes_on Rising p pair h taken read more =
       let step = first_step h.walk_is (λ names is. (taken names is).1) (λ names is. (taken names is).0) read in
       record {

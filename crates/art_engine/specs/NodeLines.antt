@@ -10,7 +10,7 @@ use Rattle.art_model.specs.Radix.{bytes_of}
 use Rattle.art_model.specs.Trees.{NodeHeader, Subtrees, Tree, child, inner, leaf, no_child, tree_of}
 use Rattle.art_keeping.specs.Trees.{Key, key_bytes}
 use Rattle.art_keeping.specs.Walks.{one_deeper}
-use Rattle.art_engine.specs.Texts.{shown}
+use Rattle.art_engine.specs.Texts.{entry_text}
 
 -- two spaces for each inner node above
 abbrev pub indent : ℕ → List ℕ
@@ -24,7 +24,7 @@ place_text depth (Some byte) = indent depth ++ (decimal byte ++ codes ": ")
 
 -- a leaf has its pair
 abbrev pub leaf_text : Key × ℕ → List ℕ
-leaf_text pair = codes "Leaf " ++ shown pair
+leaf_text pair = codes "Leaf " ++ entry_text pair
 
 -- an inner node has its kind, the length of its prefix, the bytes that are stored of it, and so many children
 abbrev pub inner_text : NodeHeader → ℕ → List ℕ

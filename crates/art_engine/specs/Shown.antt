@@ -15,7 +15,7 @@ use Rattle.art_operations.specs.declared.well_formed.MalformedTreeError.{Malform
 use Rattle.art_operations.specs.declared.well_formed.WellFormedTreeStats.{WellFormedTreeStats}
 use Rattle.art_keeping.specs.declared.tree.KeptTree.{KeptTree}
 use Rattle.art_keeping.specs.Commands.{IsCommandFor}
-use Rattle.art_keeping.specs.KeptTrees.{seen, stood}
+use Rattle.art_keeping.specs.KeptTrees.{state_of, state_before}
 use Rattle.art_keeping.specs.Trees.{Key, key_bytes}
 use Rattle.art_engine.specs.NodeLines.{nodes_text}
 use Rattle.art_engine.specs.Texts.{check_text, pairs_text, reply_text}
@@ -27,20 +27,20 @@ AppendsUnlessNoMemory old new text = Appends old new (codes "no memory\n") ⊎ A
 -- the line of the tree's pairs, in this order
 abbrev pub ShowsPairs : (List (Key × ℕ) → List (Key × ℕ)) → KeptTree → Option (List ℕ) → Option (List ℕ) → Type 0
 ShowsPairs order tree old new =
-    (pairs : List (Key × ℕ)) → IsCanonical (of_key key_bytes) 4 (seen tree).first (seen tree).root pairs →
+    (pairs : List (Key × ℕ)) → IsCanonical (of_key key_bytes) 4 (state_of tree).first (state_of tree).root pairs →
     Appends old new (pairs_text (order pairs) ++ codes "\n")
 
 -- the lines of the nodes of the tree of its pairs
 abbrev pub ShowsNodes : KeptTree → Option (List ℕ) → Option (List ℕ) → Type 0
 ShowsNodes tree old new =
-    (pairs : List (Key × ℕ)) → IsCanonical (of_key key_bytes) 4 (seen tree).first (seen tree).root pairs →
+    (pairs : List (Key × ℕ)) → IsCanonical (of_key key_bytes) 4 (state_of tree).first (state_of tree).root pairs →
     AppendsUnlessNoMemory old new (nodes_text 4 pairs)
 
 -- what a check of the tree may answer: the numbers of its nodes, or that there was no memory
 abbrev pub IsCheckOf : KeptTree → Result WellFormedTreeStats MalformedTreeError → Type 0
 IsCheckOf tree checked =
-    ((seen tree).root ≡ None → IsOkAnd checked (λ stats. (stats.num_leaf ≡ 0) × (stats.num_inner ≡ 0))) ×
-    IfSome (seen tree).root (λ name. IfOk checked (IsWellFormed (of_key key_bytes) 4 (seen tree).first name)) ×
+    ((state_of tree).root ≡ None → IsOkAnd checked (λ stats. (stats.num_leaf ≡ 0) × (stats.num_inner ≡ 0))) ×
+    IfSome (state_of tree).root (λ name. IfOk checked (IsWellFormed (of_key key_bytes) 4 (state_of tree).first name)) ×
     IfErr checked (λ error. fault_of error ≡ out_of_memory)
 
 -- the line of such an answer
@@ -61,8 +61,8 @@ IsShown request tree old new = ⊥
 -- one command that is asked for; or what is asked to be seen of the tree, which is as before.
 abbrev pub IsReplied : (Key × ℕ → Key × ℕ → Type 0) → Request → KeptTree → KeptTree → Option (List ℕ) → Option (List ℕ) → Type 0
 IsReplied IsClone request tree after old new =
-    ((seen after ≡ seen tree) × Appends old new (codes "no memory\n")) ⊎
+    ((state_of after ≡ state_of tree) × Appends old new (codes "no memory\n")) ⊎
     (((command : Command Key ℕ) × (reply : Reply Key ℕ) × (side : Side) × IsCommandFor request (Some command) ×
-    IsRun key_bytes 4 IsClone (seen tree) (command ∷ []) (reply ∷ []) (stood side after) ×
+    IsRun key_bytes 4 IsClone (state_of tree) (command ∷ []) (reply ∷ []) (state_before side after) ×
     Appends old new (reply_text reply ++ codes "\n")) ⊎
-    ((seen after ≡ seen tree) × IsShown request tree old new))
+    ((state_of after ≡ state_of tree) × IsShown request tree old new))

@@ -57,8 +57,8 @@ check_text (Err OutOfMemory) = Some (codes "no memory")
 check_text (Err fault) = None
 
 -- a pair
-abbrev pub shown : Key × ℕ → List ℕ
-shown pair = key_word pair.0.items ++ codes "=" ++ decimal pair.1
+abbrev pub entry_text : Key × ℕ → List ℕ
+entry_text pair = key_word pair.0.items ++ codes "=" ++ decimal pair.1
 
 -- what parts a pair from so many before it
 abbrev pub gap_after : ℕ → List ℕ
@@ -68,7 +68,7 @@ gap_after (suc n) = codes " "
 -- pairs, parted by spaces
 abbrev pub row_text : List (Key × ℕ) → List ℕ
 row_text [] = []
-row_text (pair ∷ pairs) = shown pair ++ flat_map (λ p. codes " " ++ shown p) pairs
+row_text (pair ∷ pairs) = entry_text pair ++ flat_map (λ p. codes " " ++ entry_text p) pairs
 
 -- the same, where there may be none
 abbrev pub pairs_text : List (Key × ℕ) → List ℕ

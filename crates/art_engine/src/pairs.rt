@@ -8,7 +8,7 @@ ghost use Rattle.art_model.specs.Pairs.{of_key};
 ghost use Rattle.art_model.specs.Stores.{pair_of};
 ghost use Rattle.art_reading.specs.Iterators.{IsIteratorOf, TakesEnd};
 ghost use Rattle.art_keeping.specs.Trees.{IsLinkedTreeIn, Key, key_bytes};
-ghost use Rattle.art_engine.specs.Texts.{end_of, gap_after, pairs_text, in_order, shown};
+ghost use Rattle.art_engine.specs.Texts.{end_of, gap_after, pairs_text, in_order, entry_text};
 
 use crate::key::ShownKey;
 use art_nodes::node::{LeafNode, LeafPtr, OpaqueNodePtr};
@@ -81,7 +81,7 @@ fn write_leaf<W: Write>(
     leaf: &LeafNode<Vec<u8>, u32>,
 ) -> io::Result<()>
     ensures { OnOk result (Appends (W.contents output.old) (W.contents output.new)
-        (gap_after written ++ shown (pair_of leaf.now))) }
+        (gap_after written ++ entry_text (pair_of leaf.now))) }
 {
     let gap = if written == 0 { "" } else { " " };
     write!(output, "{gap}{}={}", ShownKey(&leaf.key), leaf.value)

@@ -3,7 +3,7 @@ use Rattle.std.proofs.Common.{◌≡◌, ◌≢◌, ◌⊎◌, ℕ, zero, suc, �
 use Rattle.std.proofs.lemmas.Bool.{eq-eqb, ne_eqb}
 use Rattle.art_inner.specs.Beside.{IsNextTo}
 use Rattle.art_inner.specs.Inner.{Children, IsAbove, IsRising, child_at, count_below}
-use Rattle.art_inner.specs.Tables.{listed}
+use Rattle.art_inner.specs.Tables.{names_by_byte}
 use Rattle.art_parts.specs.declared.names.OpaqueNodePtr.{OpaqueNodePtr}
 use Rattle.art_inner.proofs.ChildrenLaws.{at_here, at_later, length-put_child_new}
 use Rattle.art_inner.proofs.Extent.{greatest_of, listed_bound, listed_put, nothing_below}
@@ -83,10 +83,10 @@ some_other (c ∷ cs) b above some none =
     not_both X x e = cc
 
 -- there are fewer children than bytes
-pub listed_few : (at : ℕ → Option OpaqueNodePtr) (b : ℕ) (n : OpaqueNodePtr) → b < 256 → child_at (listed at) b ≡ None → length (listed at) < 256
+pub listed_few : (at : ℕ → Option OpaqueNodePtr) (b : ℕ) (n : OpaqueNodePtr) → b < 256 → child_at (names_by_byte at) b ≡ None → length (names_by_byte at) < 256
 listed_few at b n within none =
     let put = listed_put at more b within others n (ap (λ t. cond t (Some n) (at b)) (eq-eqb b b refl)) in
-    omega (arith, listed_bound more, ap length put, length-put_child_new (listed at) b n none)
+    omega (arith, listed_bound more, ap length put, length-put_child_new (names_by_byte at) b n none)
   where
     more : ℕ → Option OpaqueNodePtr
     more k = cond (eqb k b) (Some n) (at k)

@@ -5,7 +5,7 @@ use Rattle.std.proofs.lemmas.Bool.{le-leb, lt-leb, lt-ltb, le-ltb, cases_eq}
 use Rattle.std.specs.Option.{option_map}
 use Rattle.std.specs.List.{cons_option}
 use Rattle.art_inner.specs.Inner.{Children, IsAbove, IsBelow, IsRising, child_at, children_between, put_child, remove_child}
-use Rattle.art_inner.specs.Tables.{part_of, names_from, listed}
+use Rattle.art_inner.specs.Tables.{part_of, names_from, names_by_byte}
 use Rattle.art_parts.specs.declared.names.OpaqueNodePtr.{OpaqueNodePtr}
 use Rattle.art_inner.proofs.TableLemmas.{Entry, none_is_not, IsRising-put_child}
 use Rattle.art_parts.proofs.Comparisons.{by_order}
@@ -262,30 +262,30 @@ module _ (at : ℕ → Option OpaqueNodePtr) where
   names_bound b zero = omega arith
   names_bound b (suc n) = bound_step b (at b) (names_from at (suc b) n) n (names_bound (suc b) n)
 
-  pub listed_bound : length (listed at) ≤ 256
-  unfolding listed
+  pub listed_bound : length (names_by_byte at) ≤ 256
+  unfolding names_by_byte
   listed_bound = names_bound 0 256
 
-  pub listed_rising : IsRising (listed at)
-  unfolding listed
+  pub listed_rising : IsRising (names_by_byte at)
+  unfolding names_by_byte
   listed_rising = names_rising 0 256
 
-  pub listed_above : IsAbove 256 (listed at)
-  unfolding listed
+  pub listed_above : IsAbove 256 (names_by_byte at)
+  unfolding names_by_byte
   listed_above = names_above 256 0 256 (omega arith)
 
-  pub listed_at : (k : ℕ) → k < 256 → child_at (listed at) k ≡ at k
-  unfolding listed
+  pub listed_at : (k : ℕ) → k < 256 → child_at (names_by_byte at) k ≡ at k
+  unfolding names_by_byte
   listed_at k h = names_at 0 256 k (omega arith) (omega (arith, h))
 
 -- two functions that differ under one byte
 module _ (at new : ℕ → Option OpaqueNodePtr) (b : ℕ) (within : b < 256) (others : (k : ℕ) → k < 256 → k ≢ b → new k ≡ at k) where
-  past_all : (at : ℕ → Option OpaqueNodePtr) (k : ℕ) → 256 ≤ k → child_at (listed at) k ≡ None
-  past_all at k h = nothing_above 256 (listed at) k (listed_above at) h
+  past_all : (at : ℕ → Option OpaqueNodePtr) (k : ℕ) → 256 ≤ k → child_at (names_by_byte at) k ≡ None
+  past_all at k h = nothing_above 256 (names_by_byte at) k (listed_above at) h
 
-  by_byte : (cs : Children) → IsRising cs → child_at cs b ≡ new b → ((k : ℕ) → k ≢ b → child_at cs k ≡ child_at (listed at) k) → listed new ≡ cs
-  by_byte cs rising at_b rest = same_children (listed new) cs (listed_rising new) rising (λ k. elim (cases_eq k b) [
-    | inl e ↦ ap (child_at (listed new)) e ∙ listed_at new b within ∙ sym at_b ∙ sym (ap (child_at cs) e)
+  by_byte : (cs : Children) → IsRising cs → child_at cs b ≡ new b → ((k : ℕ) → k ≢ b → child_at cs k ≡ child_at (names_by_byte at) k) → names_by_byte new ≡ cs
+  by_byte cs rising at_b rest = same_children (names_by_byte new) cs (listed_rising new) rising (λ k. elim (cases_eq k b) [
+    | inl e ↦ ap (child_at (names_by_byte new)) e ∙ listed_at new b within ∙ sym at_b ∙ sym (ap (child_at cs) e)
     | inr d ↦ elim (by_order k 256) [
       | inl l ↦ listed_at new k l ∙ others k l d ∙ sym (listed_at at k l) ∙ sym (rest k d)
       | inr g ↦
@@ -294,17 +294,17 @@ module _ (at new : ℕ → Option OpaqueNodePtr) (b : ℕ) (within : b < 256) (o
     ]
   ])
 
-  pub listed_put : (n : OpaqueNodePtr) → new b ≡ Some n → listed new ≡ put_child (listed at) b n
-  listed_put n is = by_byte (put_child (listed at) b n) (IsRising-put_child (listed at) b n (listed_rising at)) (child_here (listed at) b n ∙ sym is) (λ k d. child_elsewhere (listed at) b k n d)
+  pub listed_put : (n : OpaqueNodePtr) → new b ≡ Some n → names_by_byte new ≡ put_child (names_by_byte at) b n
+  listed_put n is = by_byte (put_child (names_by_byte at) b n) (IsRising-put_child (names_by_byte at) b n (listed_rising at)) (child_here (names_by_byte at) b n ∙ sym is) (λ k d. child_elsewhere (names_by_byte at) b k n d)
 
-  pub listed_remove : new b ≡ None → listed new ≡ remove_child (listed at) b
-  listed_remove is = by_byte (remove_child (listed at) b) (IsRising-remove_child (listed at) b (listed_rising at)) (child_gone (listed at) b ∙ sym is) (λ k d. child_kept (listed at) b k d)
+  pub listed_remove : new b ≡ None → names_by_byte new ≡ remove_child (names_by_byte at) b
+  listed_remove is = by_byte (remove_child (names_by_byte at) b) (IsRising-remove_child (names_by_byte at) b (listed_rising at)) (child_gone (names_by_byte at) b ∙ sym is) (λ k d. child_kept (names_by_byte at) b k d)
 
 -- a function that gives nothing
-pub listed_none : (at : ℕ → Option OpaqueNodePtr) → ((k : ℕ) → k < 256 → at k ≡ None) → listed at ≡ []
-listed_none at none = same_children (listed at) [] (listed_rising at) tt (λ k. elim (by_order k 256) [
+pub listed_none : (at : ℕ → Option OpaqueNodePtr) → ((k : ℕ) → k < 256 → at k ≡ None) → names_by_byte at ≡ []
+listed_none at none = same_children (names_by_byte at) [] (listed_rising at) tt (λ k. elim (by_order k 256) [
   | inl l ↦ listed_at at k l ∙ none k l
-  | inr g ↦ nothing_above 256 (listed at) k (listed_above at) (elim g [ inl e ↦ omega (arith, e) | inr l ↦ omega (arith, l) ])
+  | inr g ↦ nothing_above 256 (names_by_byte at) k (listed_above at) (elim g [ inl e ↦ omega (arith, e) | inr l ↦ omega (arith, l) ])
 ])
 
 not_between : (first last : ℕ) (ds : Children) (b : ℕ) → (b < first) ⊎ (last < b) → child_at (children_between first last ds) b ≡ None

@@ -2,8 +2,8 @@
 use Rattle.std.proofs.Common.{◌≡◌, ◌≢◌, ◌⊎◌, ℕ, zero, suc, ◌+◌, ◌-◌, ◌<◌, ◌≤◌, cond, List, [], length, get_or, set, replicate, Some, refl, sym, ap, ◌∙◌, inl, inr, arith, get_or-set_same, get_or-set_other}
 use Rattle.std.proofs.lemmas.Bool.{cases_eq, eq-eqb, ne_eqb}
 use Rattle.art_inner.specs.Inner.{put_child, remove_child}
-use Rattle.art_inner.specs.Tables.{listed}
-use Rattle.art_inner.specs.Indexed.{numbered, indexed_at, IsIndex, moved}
+use Rattle.art_inner.specs.Tables.{names_by_byte}
+use Rattle.art_inner.specs.Indexed.{numbered, indexed_at, IsIndex, number_after_move}
 use Rattle.art_parts.specs.declared.names.NodeType.{NodeType}
 use Rattle.art_parts.specs.declared.names.NodeType.TheVariants.{Node4}
 use Rattle.art_parts.specs.declared.names.OpaqueNodePtr.{OpaqueNodePtr}
@@ -18,7 +18,7 @@ module _ (index : List ℕ) (is : index ≡ replicate 256 0) where
   none_numbered : (k : ℕ) → get_or index k 0 ≡ 0
   none_numbered k = ap (λ (ns : List ℕ). get_or ns k 0) is ∙ same_place 0 256 k refl
 
-  pub all_zero : (slots : List ℕ) (kinds : List NodeType) → listed (indexed_at slots kinds index) ≡ []
+  pub all_zero : (slots : List ℕ) (kinds : List NodeType) → names_by_byte (indexed_at slots kinds index) ≡ []
   all_zero slots kinds = listed_none (indexed_at slots kinds index) (λ k h. ap (numbered slots kinds) (none_numbered k))
 
   pub IsIndex-zero : IsIndex index 0
@@ -51,14 +51,14 @@ module _ (slots : List ℕ) (kinds : List NodeType) (at : ℕ) (child : OpaqueNo
       λ i. Some (record { kind = get_or-set_other kinds at place child.kind Node4 other i; slot = get_or-set_other slots at place child.slot 0 other i })
 
   module _ (index : List ℕ) (len b : ℕ) (within : b < 256) (sound : IsIndex index len) where
-    pub indexed_replaced : get_or index b 0 ≡ at + 1 → listed (indexed_at (set slots at child.slot) (set kinds at child.kind) index) ≡ put_child (listed (indexed_at slots kinds index)) b child
+    pub indexed_replaced : get_or index b 0 ≡ at + 1 → names_by_byte (indexed_at (set slots at child.slot) (set kinds at child.kind) index) ≡ put_child (names_by_byte (indexed_at slots kinds index)) b child
     indexed_replaced here = listed_put (indexed_at slots kinds index) (indexed_at (set slots at child.slot) (set kinds at child.kind) index) b within
         (λ k h d. written_other (get_or index k 0) (λ e. d (sound.1 k b (e ∙ sym here) (λ z. omega (arith, z, e)))))
         child
         (written_here (get_or index b 0) here)
 
     pub indexed_added : at ≡ len → length index ≡ 256 →
-        listed (indexed_at (set slots at child.slot) (set kinds at child.kind) (set index b (at + 1))) ≡ put_child (listed (indexed_at slots kinds index)) b child
+        names_by_byte (indexed_at (set slots at child.slot) (set kinds at child.kind) (set index b (at + 1))) ≡ put_child (names_by_byte (indexed_at slots kinds index)) b child
     indexed_added last as_many = listed_put (indexed_at slots kinds index) (indexed_at (set slots at child.slot) (set kinds at child.kind) (set index b (at + 1))) b within
         (λ k h d. ap (numbered (set slots at child.slot) (set kinds at child.kind)) (get_or-set_other index b k (at + 1) 0 d)
         ∙ written_other (get_or index k 0) (λ e. absurd (omega (arith, e, last, sound.0 k))))
@@ -82,15 +82,15 @@ IsIndex-added index len b within sound = (λ k. bound k (cases_eq k b), λ j k e
     apart j k e n (inr x) (inl y) = absurd (omega (arith, e, new_here k y, get_or-set_other index b j (len + 1) 0 x, sound.0 j))
     apart j k e n (inr x) (inr y) = sound.1 j k (sym (get_or-set_other index b j (len + 1) 0 x) ∙ e ∙ get_or-set_other index b k (len + 1) 0 y) (λ z. n (get_or-set_other index b j (len + 1) 0 x ∙ z))
 
-pub moved_last : (last to number : ℕ) → number ≡ last → moved last to number ≡ to
+pub moved_last : (last to number : ℕ) → number ≡ last → number_after_move last to number ≡ to
 moved_last last to number e = ap (λ b. cond b to number) (eq-eqb number last e)
 
-pub moved_other : (last to number : ℕ) → number ≢ last → moved last to number ≡ number
+pub moved_other : (last to number : ℕ) → number ≢ last → number_after_move last to number ≡ number
 moved_other last to number n = ap (λ b. cond b to number) (ne_eqb number last n)
 
 -- the place of a byte is let go, and the last place moves there
 module _ (slots : List ℕ) (kinds : List NodeType) (index new : List ℕ) (len b place : ℕ) (within : b < 256) (sound : IsIndex index len) (here : get_or index b 0 ≡ place) (there : place ≢ 0)
-    (slots_fit : len ≤ length slots) (kinds_fit : len ≤ length kinds) (gone : get_or new b 0 ≡ 0) (others : (k : ℕ) → k ≢ b → get_or new k 0 ≡ moved len place (get_or index k 0)) where
+    (slots_fit : len ≤ length slots) (kinds_fit : len ≤ length kinds) (gone : get_or new b 0 ≡ 0) (others : (k : ℕ) → k ≢ b → get_or new k 0 ≡ number_after_move len place (get_or index k 0)) where
   place_fits : place ≤ len
   place_fits = omega (arith, sound.0 b, here)
 
@@ -101,7 +101,7 @@ module _ (slots : List ℕ) (kinds : List NodeType) (index new : List ℕ) (len 
   another k d n e = d (sound.1 k b (e ∙ sym here) n)
 
   kept : (k : ℕ) → k ≢ b → (number : ℕ) → number ≡ get_or index k 0 → (number ≡ len) ⊎ (number ≡ len → ⊥) →
-      numbered (set slots (place - 1) (get_or slots (len - 1) 0)) (set kinds (place - 1) (get_or kinds (len - 1) Node4)) (moved len place number) ≡ numbered slots kinds number
+      numbered (set slots (place - 1) (get_or slots (len - 1) 0)) (set kinds (place - 1) (get_or kinds (len - 1) Node4)) (number_after_move len place number) ≡ numbered slots kinds number
   kept k d number is (inl e) =
       let at : place ≡ place - 1 + 1 = omega (arith, there) in
       ap (numbered (set slots (place - 1) (get_or slots (len - 1) 0)) (set kinds (place - 1) (get_or kinds (len - 1) Node4))) (moved_last len place number e)
@@ -118,8 +118,8 @@ module _ (slots : List ℕ) (kinds : List NodeType) (index new : List ℕ) (len 
       by_number (inr z) = written_other slots kinds (place - 1) (record { kind = get_or kinds (len - 1) Node4; slot = get_or slots (len - 1) 0 })
           (omega (arith, there, place_fits, slots_fit)) (omega (arith, there, place_fits, kinds_fit)) number (λ e. another k d (λ y. z (is ∙ y)) (omega (arith, sym is ∙ e, there)))
 
-  pub indexed_removed : listed (indexed_at (set slots (place - 1) (get_or slots (len - 1) 0)) (set kinds (place - 1) (get_or kinds (len - 1) Node4)) new) ≡ remove_child
-      (listed (indexed_at slots kinds index)) b
+  pub indexed_removed : names_by_byte (indexed_at (set slots (place - 1) (get_or slots (len - 1) 0)) (set kinds (place - 1) (get_or kinds (len - 1) Node4)) new) ≡ remove_child
+      (names_by_byte (indexed_at slots kinds index)) b
   indexed_removed = listed_remove (indexed_at slots kinds index) (indexed_at (set slots (place - 1) (get_or slots (len - 1) 0)) (set kinds (place - 1) (get_or kinds (len - 1) Node4)) new) b within
       (λ k h d. ap (numbered (set slots (place - 1) (get_or slots (len - 1) 0)) (set kinds (place - 1) (get_or kinds (len - 1) Node4))) (others k d)
       ∙ kept k d (get_or index k 0) refl (cases_eq (get_or index k 0) len))

@@ -20,5 +20,5 @@ IsIndex index len =
     × ((a b : ℕ) → slice_index_or index a 0 ≡ slice_index_or index b 0 → slice_index_or index a 0 ≢ 0 → a ≡ b)
 
 -- the number of a place once the last one has moved to another
-abbrev pub moved : ℕ → ℕ → ℕ → ℕ
-moved last to number = if number == last then to else number
+abbrev pub number_after_move : ℕ → ℕ → ℕ → ℕ
+number_after_move last to number = if number == last then to else number

@@ -17,5 +17,5 @@ names_from at b zero = []
 names_from at b (suc n) = cons_option (option_map (λ name. (b, name)) (at b)) (names_from at (suc b) n)
 
 -- the names under all bytes
-unfoldable pub listed : (ℕ → Option OpaqueNodePtr) → Children
-listed at = names_from at 0 256
+unfoldable pub names_by_byte : (ℕ → Option OpaqueNodePtr) → Children
+names_by_byte at = names_from at 0 256

@@ -83,6 +83,7 @@ impl<const P: usize> AnyInner<P> {
         }
     }
 
+    /// The kind of the node.
     pub fn node_type(&self) -> NodeType
         ensures kind { result ≡ any_kind self.now }
         ensures inner { any_kind self.now ≢ Leaf }
@@ -133,6 +134,7 @@ impl<const P: usize> AnyInner<P> {
         on_each_kind!(AnyInner, self, node => node.shrink())
     }
 
+    /// Puts another header in the place of the node's. Its children stay.
     pub fn set_header(&mut self, header: Header<P>)
         ensures kind { any_kind self.new ≡ any_kind self.old }
         ensures view { any_view self.new ≡ with_header header.entry (any_view self.old) }
@@ -140,6 +142,7 @@ impl<const P: usize> AnyInner<P> {
         on_each_kind!(AnyInner, self, node => node.set_header(header))
     }
 
+    /// The node borrowed, told apart by its kind.
     #[inline(always)]
     pub fn as_ref(&self) -> InnerRef<'_, P>
         ensures kind { ref_kind result ≡ any_kind self.now }
@@ -160,6 +163,7 @@ impl<'a, const P: usize> InnerRef<'a, P> {
     ghost use Rattle.art_parts.specs.Kinds.{kind_capacity};
     ghost use Rattle.art_parts.specs.declared.names.NodeType.TheVariants.{Leaf};
 
+    /// The kind of the node.
     #[inline(always)]
     pub fn node_type(&self) -> NodeType
         ensures kind { result ≡ ref_kind self.now }
@@ -207,6 +211,7 @@ impl<'a, const P: usize> InnerRef<'a, P> {
         on_each_kind!(InnerRef, *self, node => node.table.iter())
     }
 
+    /// The number of children.
     pub fn num_children(&self) -> usize
         ensures value { result ≡ length (ref_view self.now).children }
         ensures bound { length (ref_view self.now).children ≤ kind_capacity (ref_kind self.now) }
@@ -214,6 +219,7 @@ impl<'a, const P: usize> InnerRef<'a, P> {
         self.iter().len()
     }
 
+    /// Whether there are as many children as the kind has room for.
     pub fn is_full(&self) -> bool
         ensures { IsTrue result ↔
             (kind_capacity (ref_kind self.now) ≤ length (ref_view self.now).children) }

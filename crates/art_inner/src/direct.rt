@@ -29,14 +29,14 @@ pub(crate) struct Direct {
 impl Model for Direct {
     ghost use Rattle.std.specs.Prelude.{◌≡◌, length};
     ghost use Rattle.art_inner.specs.Inner.{Children};
-    ghost use Rattle.art_inner.specs.Tables.{listed};
+    ghost use Rattle.art_inner.specs.Tables.{names_by_byte};
     ghost use Rattle.art_inner.specs.Direct.{direct_at};
 
     ghost Value = { Children };
 
-    ghost view = { λ t. listed (direct_at t.slots t.places) };
+    ghost view = { λ t. names_by_byte (direct_at t.slots t.places) };
 
-    ghost invariant = { λ t. t.len ≡ length (listed (direct_at t.slots t.places)) };
+    ghost invariant = { λ t. t.len ≡ length (names_by_byte (direct_at t.slots t.places)) };
 }
 
 impl Direct {

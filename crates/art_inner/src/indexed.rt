@@ -20,15 +20,15 @@ pub(crate) struct Indexed {
 impl Model for Indexed {
     ghost use Rattle.std.specs.Prelude.{◌≡◌, ◌≤◌, length};
     ghost use Rattle.art_inner.specs.Inner.{Children};
-    ghost use Rattle.art_inner.specs.Tables.{listed};
+    ghost use Rattle.art_inner.specs.Tables.{names_by_byte};
     ghost use Rattle.art_inner.specs.Indexed.{indexed_at, IsIndex};
 
     ghost Value = { Children };
 
-    ghost view = { λ t. listed (indexed_at t.slots t.kinds t.index) };
+    ghost view = { λ t. names_by_byte (indexed_at t.slots t.kinds t.index) };
 
     ghost invariant = { λ t.
-        (t.len ≡ length (listed (indexed_at t.slots t.kinds t.index)))
+        (t.len ≡ length (names_by_byte (indexed_at t.slots t.kinds t.index)))
         × (t.len ≤ 48)
         × IsIndex t.index t.len };
 }
@@ -143,13 +143,13 @@ fn no_places() -> [u8; 256]
     [0; 256]
 }
 
-ghost use Rattle.art_inner.specs.Indexed.{moved};
+ghost use Rattle.art_inner.specs.Indexed.{number_after_move};
 
 // Writes another number for each that is the last one's.
 fn renumber(index: &mut [u8], last: u8, to: u8)
     requires { last ≢ 0 }
     ensures { (k : ℕ) →
-        slice_index_or index.new k 0 ≡ moved last to (slice_index_or index.old k 0) }
+        slice_index_or index.new k 0 ≡ number_after_move last to (slice_index_or index.old k 0) }
 {
     for number in index.iter_mut() {
         if *number == last {

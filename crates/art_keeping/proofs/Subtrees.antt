@@ -19,7 +19,7 @@ use Rattle.art_model.proofs.stores.Views.{leaf_there, leaf_name_is, inner_there,
 use Rattle.art_model.proofs.lists.Pairwises.{Pairwise-left, Pairwise-right}
 use Rattle.art_model.proofs.stores.StoreLaws.{has_children}
 use Rattle.art_keeping.specs.Trees.{IsTreeIn, IsLinkedTreeIn, Key, HasCanonicalTree, key_bytes}
-use Rattle.art_keeping.specs.Walks.{children_of, falling, one_deeper, turned}
+use Rattle.art_keeping.specs.Walks.{children_of, reversed_children, one_deeper, after_turn}
 use Rattle.art_keeping.specs.declared.walk.Pending.{Pending}
 
 module _ {K V : Type 0} (s : Nodes K V) where
@@ -38,12 +38,12 @@ module _ {K V : Type 0} (s : Nodes K V) where
   IsPendingTree next = IsTreeIn s next.name
 
   -- children that are held stand for trees
-  trees_held : (depth : ℕ) (cs : Subtrees OpaqueNodePtr (K × V)) → HoldsBelow (node_at s) cs → AreDistinct (names_below cs) → Each IsPendingTree (falling depth (slots_of cs))
+  trees_held : (depth : ℕ) (cs : Subtrees OpaqueNodePtr (K × V)) → HoldsBelow (node_at s) cs → AreDistinct (names_below cs) → Each IsPendingTree (reversed_children depth (slots_of cs))
   trees_held depth no_child holds distinct = tt
   trees_held depth (child b t cs) holds distinct =
       let is : IsLayout (node_at s) (name_of t) t = record { named = refl; holds = holds.0; distinct = Pairwise-left ◌≢◌ (names_of t) (names_below cs) distinct } in
       let others = trees_held depth cs holds.1 (Pairwise-right ◌≢◌ (names_of t) (names_below cs) distinct) in
-      Each-append IsPendingTree (falling depth (slots_of cs)) (record { depth = depth; byte = Some b; name = name_of t } ∷ []) others ((t, is), tt)
+      Each-append IsPendingTree (reversed_children depth (slots_of cs)) (record { depth = depth; byte = Some b; name = name_of t } ∷ []) others ((t, is), tt)
 
   -- the children of a tree's root stand for trees
   trees_under : (depth : ℕ) (name : OpaqueNodePtr) → IsTreeIn s name → Each IsPendingTree (children_of depth (node_at s name))
@@ -52,7 +52,7 @@ module _ {K V : Type 0} (s : Nodes K V) where
       subst (λ o. Each IsPendingTree (children_of depth o)) (sym (ap (node_at s) (sym h.named) ∙ h.holds.0)) (trees_held depth cs h.holds.1 (Pairwise-right ◌≢◌ (n ∷ []) (names_below cs) h.distinct))
 
   -- a turn leaves trees
-  pub trees_turned : (pending : List Pending) → Each IsPendingTree pending → Each IsPendingTree (turned s pending)
+  pub trees_turned : (pending : List Pending) → Each IsPendingTree pending → Each IsPendingTree (after_turn s pending)
   trees_turned [] trees = tt
   trees_turned (next ∷ []) trees = trees_under (one_deeper next.depth) next.name trees.0
   trees_turned (first ∷ next ∷ rest) trees = (trees.0, trees_turned (next ∷ rest) trees.1)

@@ -12,9 +12,9 @@ use Rattle.art_parts.specs.declared.names.LeafPtr.{LeafPtr}
 use Rattle.art_parts.specs.declared.names.InnerPtr.{InnerPtr}
 use Rattle.art_parts.specs.declared.names.OpaqueNodePtr.{OpaqueNodePtr}
 use Rattle.art_model.specs.Pairs.{last_of}
-use Rattle.art_model.specs.Stores.{held_leaf, held_inner, node_at, seen}
+use Rattle.art_model.specs.Stores.{held_leaf, held_inner, node_at, tree_node}
 use Rattle.art_model.proofs.stores.Views.{held_in_inner}
-use Rattle.art_keeping.specs.Walks.{HasRoom, below, children_of, falling, left_after, turned}
+use Rattle.art_keeping.specs.Walks.{HasRoom, below, children_of, reversed_children, left_after, after_turn}
 use Rattle.art_keeping.specs.declared.walk.Pending.{Pending}
 
 -- the last of a list that ends with it
@@ -42,26 +42,26 @@ module _ (depth : ℕ) where
   pending_child slot = record { depth = depth; byte = Some slot.0; name = slot.1 }
 
   -- children with one more at the end
-  pub falling-push : (slots : Children) (slot : ℕ × OpaqueNodePtr) → falling depth (slots ++ slot ∷ []) ≡ pending_child slot ∷ falling depth slots
-  falling-push [] slot = refl
-  falling-push (other ∷ slots) slot = ap (λ below. below ++ pending_child other ∷ []) (falling-push slots slot)
+  pub reversed_children-push : (slots : Children) (slot : ℕ × OpaqueNodePtr) → reversed_children depth (slots ++ slot ∷ []) ≡ pending_child slot ∷ reversed_children depth slots
+  reversed_children-push [] slot = refl
+  reversed_children-push (other ∷ slots) slot = ap (λ below. below ++ pending_child other ∷ []) (reversed_children-push slots slot)
 
   -- there are as many nodes as children
-  pub length-falling : (slots : Children) → length (falling depth slots) ≡ length slots
-  length-falling [] = refl
-  length-falling (slot ∷ slots) = let few = length-falling slots in let all = length-append (falling depth slots) (pending_child slot ∷ []) in omega arith
+  pub length-reversed_children : (slots : Children) → length (reversed_children depth slots) ≡ length slots
+  length-reversed_children [] = refl
+  length-reversed_children (slot ∷ slots) = let few = length-reversed_children slots in let all = length-append (reversed_children depth slots) (pending_child slot ∷ []) in omega arith
 
   -- room for what stands below is room for the children
-  pub room_for : (pending : List Pending) (slots : Children) (under : List Pending) (capacity : ℕ) → under ≡ falling depth slots →
+  pub room_for : (pending : List Pending) (slots : Children) (under : List Pending) (capacity : ℕ) → under ≡ reversed_children depth slots →
       length (pending ++ under) ≤ capacity → length pending + length slots ≤ capacity
-  room_for pending slots under capacity is room = omega (arith, room, ap length is, length-append pending under, length-falling slots)
+  room_for pending slots under capacity is room = omega (arith, room, ap length is, length-append pending under, length-reversed_children slots)
 
   -- the last of the children to come is put on
   pub pushed : (pending : List Pending) (slot : ℕ × OpaqueNodePtr) (old rest : Children) (all : List Pending) →
-      old ≡ rest ++ slot ∷ [] → pending ++ falling depth old ≡ all → (pending ++ pending_child slot ∷ []) ++ falling depth rest ≡ all
+      old ≡ rest ++ slot ∷ [] → pending ++ reversed_children depth old ≡ all → (pending ++ pending_child slot ∷ []) ++ reversed_children depth rest ≡ all
   pushed pending slot old rest all is so_far =
-      append_assoc pending (pending_child slot ∷ []) (falling depth rest)
-      ∙ sym (ap (λ l. pending ++ l) (ap (falling depth) is ∙ falling-push rest slot)) ∙ so_far
+      append_assoc pending (pending_child slot ∷ []) (reversed_children depth rest)
+      ∙ sym (ap (λ l. pending ++ l) (ap (reversed_children depth) is ∙ reversed_children-push rest slot)) ∙ so_far
 
 module _ {K V : Type 0} (s : Nodes K V) where
   module _ (depth : ℕ) where
@@ -69,28 +69,28 @@ module _ {K V : Type 0} (s : Nodes K V) where
     pub children-leaf : (p : LeafPtr) → children_of depth (node_at s (leaf_name p)) ≡ []
     children-leaf p = go (map.get s.leaves p)
       where
-        go : (o : Option (LeafNode K V)) → children_of depth (option_map (seen {K = K} {V = V} Leaf) (option_map held_leaf o)) ≡ []
+        go : (o : Option (LeafNode K V)) → children_of depth (option_map (tree_node {K = K} {V = V} Leaf) (option_map held_leaf o)) ≡ []
         go None = refl
         go (Some node) = refl
 
     -- an inner node has its own
-    pub children-inner : (p : InnerPtr) → p.kind ≢ Leaf → (node : Inner) → Some node ≡ map.get s.inners p → children_of depth (node_at s (inner_name p)) ≡ falling depth node.children
+    pub children-inner : (p : InnerPtr) → p.kind ≢ Leaf → (node : Inner) → Some node ≡ map.get s.inners p → children_of depth (node_at s (inner_name p)) ≡ reversed_children depth node.children
     children-inner p proper node there =
-        ap (λ o. children_of depth (option_map (seen p.kind) o)) (held_in_inner s p.kind p.slot proper ∙ ap (option_map held_inner) (sym there))
+        ap (λ o. children_of depth (option_map (tree_node p.kind) o)) (held_in_inner s p.kind p.slot proper ∙ ap (option_map held_inner) (sym there))
 
     -- and there are none where there is no node
     pub children-none : (p : InnerPtr) → p.kind ≢ Leaf → None ≡ map.get s.inners p → children_of depth (node_at s (inner_name p)) ≡ []
-    children-none p proper there = ap (λ o. children_of depth (option_map (seen p.kind) o)) (held_in_inner s p.kind p.slot proper ∙ ap (option_map held_inner) (sym there))
+    children-none p proper there = ap (λ o. children_of depth (option_map (tree_node p.kind) o)) (held_in_inner s p.kind p.slot proper ∙ ap (option_map held_inner) (sym there))
 
   -- a turn of a list with its last node
-  turned-push : (pending : List Pending) (next : Pending) → turned s (pending ++ next ∷ []) ≡ pending ++ below s next
-  turned-push [] next = refl
-  turned-push (first ∷ []) next = refl
-  turned-push (first ∷ second ∷ pending) next = ap (λ rest. first ∷ rest) (turned-push (second ∷ pending) next)
+  after_turn-push : (pending : List Pending) (next : Pending) → after_turn s (pending ++ next ∷ []) ≡ pending ++ below s next
+  after_turn-push [] next = refl
+  after_turn-push (first ∷ []) next = refl
+  after_turn-push (first ∷ second ∷ pending) next = ap (λ rest. first ∷ rest) (after_turn-push (second ∷ pending) next)
 
   -- and of one that ends with it
-  pub turned-last : (old pending : List Pending) (next : Pending) → old ≡ pending ++ next ∷ [] → turned s old ≡ pending ++ below s next
-  turned-last old pending next is = ap (turned s) is ∙ turned-push pending next
+  pub after_turn-last : (old pending : List Pending) (next : Pending) → old ≡ pending ++ next ∷ [] → after_turn s old ≡ pending ++ below s next
+  after_turn-last old pending next is = ap (after_turn s) is ∙ after_turn-push pending next
 
   module _ (root : OpaqueNodePtr) where
     -- there is room for what is left after so many turns, and after fewer
@@ -114,7 +114,7 @@ module _ {K V : Type 0} (s : Nodes K V) where
     left_none : (turns further n : ℕ) → n ≡ further + turns → left_after s root turns ≡ [] → left_after s root n ≡ []
     left_none turns zero n is none = let same : n ≡ turns = omega arith in ap (left_after s root) same ∙ none
     left_none turns (suc further) zero is none = absurd (omega arith)
-    left_none turns (suc further) (suc n) is none = ap (turned s) (left_none turns further n (omega arith) none)
+    left_none turns (suc further) (suc n) is none = ap (after_turn s) (left_none turns further n (omega arith) none)
 
     -- so that there is room for all
     pub room_whole : (turns capacity : ℕ) → HasRoomTo turns capacity → left_after s root turns ≡ [] → HasRoom s root capacity

@@ -6,7 +6,7 @@ use Rattle.art_operations.specs.declared.run.Command.TheVariants as commands
 use Rattle.art_operations.specs.declared.run.Reply.{Reply}
 use Rattle.art_operations.specs.declared.run.Side.{Side}
 use Rattle.art_lines.specs.Keys.{key_word}
-use Rattle.art_keeping.specs.KeptTrees.{seen, stood}
+use Rattle.art_keeping.specs.KeptTrees.{state_of, state_before}
 use Rattle.art_keeping.specs.Trees.{Key, key_bytes}
 use Rattle.art_lines.specs.declared.line.Request.{Request}
 use Rattle.art_lines.specs.declared.line.Request.TheVariants.{Insert, Prefix, Delete, First, Last, Clone, Find, Longest, Walk, Back, Nodes, Check}
@@ -31,6 +31,6 @@ IsCommandFor request command = ⊥
 -- the tree is as before, or after a run of the one command that is asked for
 abbrev pub IsAnswered : (Key × ℕ → Key × ℕ → Type 0) → Request → KeptTree → KeptTree → Type 0
 IsAnswered IsClone request old new =
-    (seen new ≡ seen old) ⊎
+    (state_of new ≡ state_of old) ⊎
     ((command : Command Key ℕ) × (reply : Reply Key ℕ) × (side : Side) × IsCommandFor request (Some command) ×
-    IsRun key_bytes 4 IsClone (seen old) (command ∷ []) (reply ∷ []) (stood side new))
+    IsRun key_bytes 4 IsClone (state_of old) (command ∷ []) (reply ∷ []) (state_before side new))

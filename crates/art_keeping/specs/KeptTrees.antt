@@ -7,13 +7,13 @@ use Rattle.art_keeping.specs.Trees.{Key, HasCanonicalTree}
 use Rattle.art_keeping.specs.declared.tree.KeptTree.{KeptTree}
 
 -- the stores and the root
-abbrev pub seen : KeptTree → Shown Key ℕ
-seen kept = on First kept.first kept.second kept.root
+abbrev pub state_of : KeptTree → Shown Key ℕ
+state_of kept = on First kept.first kept.second kept.root
 
 -- the root is canonical in the first store
 abbrev pub IsKept : KeptTree → Type 0
 IsKept kept = HasCanonicalTree kept.first kept.root
 
 -- the stores as they stood before, of which the one that then has the tree is now the first
-abbrev pub stood : Side → KeptTree → Shown Key ℕ
-stood side kept = beside side kept.first kept.second kept.root
+abbrev pub state_before : Side → KeptTree → Shown Key ℕ
+state_before side kept = beside side kept.first kept.second kept.root

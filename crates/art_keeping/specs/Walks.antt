@@ -16,15 +16,15 @@ abbrev pub one_deeper : ℕ → ℕ
 one_deeper depth = min (depth + 1) (2 ^ 64 - 1)
 
 -- children at a depth with the bytes that lead to them, from the last to the first
-abbrev pub falling : ℕ → Children → List Pending
-falling depth [] = []
-falling depth ((byte, name) ∷ slots) = falling depth slots ++ record { depth = depth; byte = Some byte; name = name } ∷ []
+abbrev pub reversed_children : ℕ → Children → List Pending
+reversed_children depth [] = []
+reversed_children depth ((byte, name) ∷ slots) = reversed_children depth slots ++ record { depth = depth; byte = Some byte; name = name } ∷ []
 
 -- the children of a node, at a depth, from the last to the first
 abbrev pub children_of : {A : Type 0} → ℕ → Option (Node OpaqueNodePtr A) → List Pending
 children_of depth None = []
 children_of depth (Some (leaf_node x)) = []
-children_of depth (Some (inner_node h slots)) = falling depth slots
+children_of depth (Some (inner_node h slots)) = reversed_children depth slots
 
 module _ {K V : Type 0} (s : Nodes K V) where
   -- what stands right below a node, from the last to the first
@@ -32,15 +32,15 @@ module _ {K V : Type 0} (s : Nodes K V) where
   below next = children_of (one_deeper next.depth) (node_at s next.name)
 
   -- what is left after a turn: children in the place of the node that came
-  abbrev pub turned : List Pending → List Pending
-  turned [] = []
-  turned (next ∷ []) = below next
-  turned (first ∷ next ∷ rest) = first ∷ turned (next ∷ rest)
+  abbrev pub after_turn : List Pending → List Pending
+  after_turn [] = []
+  after_turn (next ∷ []) = below next
+  after_turn (first ∷ next ∷ rest) = first ∷ after_turn (next ∷ rest)
 
   -- what is left of the walk after so many turns
   abbrev pub left_after : OpaqueNodePtr → ℕ → List Pending
   left_after root zero = pending_root root ∷ []
-  left_after root (suc turns) = turned (left_after root turns)
+  left_after root (suc turns) = after_turn (left_after root turns)
 
   -- there is room for what is left, after any number of turns
   abbrev pub HasRoom : OpaqueNodePtr → ℕ → Type 0

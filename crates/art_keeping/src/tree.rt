@@ -27,12 +27,12 @@ pub struct KeptTree {
 }
 
 impl KeptTree {
-    ghost use Rattle.art_keeping.specs.KeptTrees.{IsKept, seen, stood};
+    ghost use Rattle.art_keeping.specs.KeptTrees.{IsKept, state_of, state_before};
 
     /// No tree.
     pub fn new(alloc: Global) -> Self
         ensures kept { IsKept result }
-        ensures root { (seen result).root ≡ None }
+        ensures root { (state_of result).root ≡ None }
     {
         KeptTree {
             first: NodeStore::new(alloc),
@@ -44,8 +44,8 @@ impl KeptTree {
     /// The store that the tree lives in, and its root.
     pub fn tree(&self) -> (&NodeStore<Vec<u8>, u32, PREFIX_LEN>, Option<OpaqueNodePtr>)
         requires { IsKept self.now }
-        ensures store { result.0.now ≡ (seen self.now).first }
-        ensures root { result.1 ≡ (seen self.now).root }
+        ensures store { result.0.now ≡ (state_of self.now).first }
+        ensures root { result.1 ≡ (state_of self.now).root }
         ensures nodes { IfSome result.1 (IsTreeIn result.0.now) }
         ensures linked { IfSome result.1 (IsLinkedTreeIn result.0.now) }
     {
@@ -55,10 +55,10 @@ impl KeptTree {
     /// Counts the leaves and the inner nodes of the tree, which has no fault.
     pub fn check(&self) -> Result<WellFormedTreeStats, MalformedTreeError>
         requires { IsKept self.now }
-        ensures empty { (seen self.now).root ≡ None → IsOkAnd result (λ stats.
+        ensures empty { (state_of self.now).root ≡ None → IsOkAnd result (λ stats.
             (stats.num_leaf ≡ 0) × (stats.num_inner ≡ 0)) }
-        ensures counts { IfSome (seen self.now).root (λ name. IfOk result
-            (IsWellFormed (of_key key_bytes) 4 (seen self.now).first name)) }
+        ensures counts { IfSome (state_of self.now).root (λ name. IfOk result
+            (IsWellFormed (of_key key_bytes) 4 (state_of self.now).first name)) }
         ensures fault { IfErr result (λ error. fault_of error ≡ out_of_memory) }
     {
         WellFormedChecker::check(&self.first, self.root, 0)
@@ -73,8 +73,8 @@ impl KeptTree {
         ensures kept { IsKept self.new }
         ensures run { IfOk result (λ reply. (side : Side) ×
             IsRun key_bytes 4 (IsPairClone ⟦<Vec<u8> as Clone>⟧.is_clone ⟦<u32 as Clone>⟧.is_clone)
-            (seen self.old) (command ∷ []) (reply ∷ []) (stood side self.new)) }
-        ensures refused { OnErr result (seen self.new ≡ seen self.old) }
+            (state_of self.old) (command ∷ []) (reply ∷ []) (state_before side self.new)) }
+        ensures refused { OnErr result (state_of self.new ≡ state_of self.old) }
     {
         let mut commands = Vec::with_capacity(self.first.alloc(), 1)?;
         commands.push_reserved(command);

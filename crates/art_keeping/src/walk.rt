@@ -3,7 +3,7 @@
 ghost use Rattle.std.specs.Prelude.{◌≡◌, ◌≤◌, ◌+◌, ◌++◌, [], length, IfOk};
 ghost use Rattle.std.specs.Vec.{vec_capacity};
 ghost use Rattle.art_model.specs.Pairs.{last_of};
-ghost use Rattle.art_keeping.specs.Walks.{HasRoom, below, falling, pending_root, turned};
+ghost use Rattle.art_keeping.specs.Walks.{HasRoom, below, reversed_children, pending_root, after_turn};
 
 use art_nodes::node::{Children, NodePtr, OpaqueNodePtr};
 use art_nodes::store::NodeStore;
@@ -56,8 +56,8 @@ pub fn turn<const P: usize>(
     pending: &mut Vec<Pending>,
     store: &NodeStore<Vec<u8>, u32, P>,
 ) -> Option<Pending>
-    requires { length (turned store.now pending.old.items) ≤ vec_capacity pending.old }
-    ensures left { pending.new.items ≡ turned store.now pending.old.items }
+    requires { length (after_turn store.now pending.old.items) ≤ vec_capacity pending.old }
+    ensures left { pending.new.items ≡ after_turn store.now pending.old.items }
     ensures next { result ≡ last_of pending.old.items }
     ensures capacity { vec_capacity pending.new ≡ vec_capacity pending.old }
 {
@@ -101,7 +101,7 @@ fn push_below<const P: usize>(
 // Puts children on, the last one first.
 fn push_children(pending: &mut Vec<Pending>, children: Children<'_>, depth: usize)
     requires { length pending.old.items + length children ≤ vec_capacity pending.old }
-    ensures items { pending.new.items ≡ pending.old.items ++ falling depth children.entry }
+    ensures items { pending.new.items ≡ pending.old.items ++ reversed_children depth children.entry }
     ensures capacity { vec_capacity pending.new ≡ vec_capacity pending.old }
 {
     for (byte, name) in children.rev() {

@@ -7,7 +7,7 @@ use Rattle.std.specs.Range.Bound.{bound_map}
 use Rattle.std.specs.declared.cmp.Ordering.{Ordering}
 use Rattle.std.specs.declared.ops.Bound.{Bound}
 use Rattle.std.specs.declared.ops.Bound.TheVariants.{Included, Excluded, Unbounded}
-use Rattle.art_keys.specs.Joins.{AreKeys, joined}
+use Rattle.art_keys.specs.Joins.{AreKeys, joined_bytes}
 use Rattle.art_keys.specs.Prefixes.{BeginsAs, HasNoPrefixes, KeepsOrder}
 use Rattle.art_model.specs.Keys.{IsFront, are_same, is_front}
 use Rattle.art_model.specs.Pairs.{of_key}
@@ -152,19 +152,19 @@ module _ {A B : Type 0} (is_first : A → Type 0) (first : A → List ℕ) (is_s
   begins_first : (both : A × B) → AreKeys is_first is_second both → is_front (first key) (first both.0 ++ second both.1) ≡ are_same (first key) (first both.0)
   begins_first both of_both = front_of_joined (first key) (first both.0) (second both.1) (apart key both.0 of_key' of_both.0) (apart both.0 key of_both.0 of_key')
 
-  pub below_first_in_set : (keys : List (A × B)) → Each (AreKeys is_first is_second) keys → below (joined first second) (first key) keys ≡ set_with_first first (first key) keys
+  pub below_first_in_set : (keys : List (A × B)) → Each (AreKeys is_first is_second) keys → below (joined_bytes first second) (first key) keys ≡ set_with_first first (first key) keys
   below_first_in_set keys all = filter_same (AreKeys is_first is_second) _ _ begins_first keys all
 
   module _ {V : Type 0} where
     pub below_first : (pairs : List ((A × B) × V)) → HaveKeys (AreKeys is_first is_second) pairs →
-        below (of_key (joined first second)) (first key) pairs ≡ pairs_with_first first (first key) pairs
+        below (of_key (joined_bytes first second)) (first key) pairs ≡ pairs_with_first first (first key) pairs
     below_first pairs all = filter_same (λ x. AreKeys is_first is_second x.0) _ _ (λ x of_x. begins_first x.0 of_x) pairs all
 
     pub not_below_first : (pairs : List ((A × B) × V)) → HaveKeys (AreKeys is_first is_second) pairs →
-        not_below (of_key (joined first second)) (first key) pairs ≡ pairs_without_first first (first key) pairs
+        not_below (of_key (joined_bytes first second)) (first key) pairs ≡ pairs_without_first first (first key) pairs
     not_below_first pairs all = filter_same (λ x. AreKeys is_first is_second x.0) _ _ (λ x of_x. ap not (begins_first x.0 of_x)) pairs all
 
     pub first_out : (pairs : List ((A × B) × V)) → HaveKeys (AreKeys is_first is_second) pairs →
-        without_below (of_key (joined first second)) (first key) 1 pairs ≡ without_first_with first (first key) pairs
+        without_below (of_key (joined_bytes first second)) (first key) 1 pairs ≡ without_first_with first (first key) pairs
     first_out [] all = refl
     first_out (x ∷ pairs) all = λ i. if begins_first x.0 all.0 i then pairs else x ∷ first_out pairs all.1 i

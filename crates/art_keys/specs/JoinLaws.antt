@@ -6,7 +6,7 @@ use Rattle.std.specs.Ordering.{nat_cmp, ordering_then}
 use Rattle.std.specs.declared.cmp.Ordering.{Ordering}
 use Rattle.std.proofs.Math.Seq.{take-append_seam, drop-append_seam}
 use Rattle.art_keys.specs.Decoded.{ComesBack}
-use Rattle.art_keys.specs.Joins.{AreKeys, joined, joined_length, pair_cmp, parted}
+use Rattle.art_keys.specs.Joins.{AreKeys, joined_bytes, joined_length, pair_cmp, parted}
 use Rattle.art_keys.specs.Prefixes.{HasNoPrefixes, KeepsOrder}
 use Rattle.art_model.specs.Keys.{IsFront}
 
@@ -47,13 +47,13 @@ parts_cmp (z ∷ x) (w ∷ y) b d f g = go (parts_cmp x y b d) (cases_order z w)
     go ih (inr (inr h)) = rw (le-ltb z w (omega arith), ne_eqb z w (λ e. omega arith)) refl
 
 module _ {A B : Type 0} (is_first : A → Type 0) (first : A → List ℕ) (is_second : B → Type 0) (second : B → List ℕ) where
-  pub joins_no_prefixes : HasNoPrefixes is_first first → HasNoPrefixes is_second second → HasNoPrefixes (AreKeys is_first is_second) (joined first second)
+  pub joins_no_prefixes : HasNoPrefixes is_first first → HasNoPrefixes is_second second → HasNoPrefixes (AreKeys is_first is_second) (joined_bytes first second)
   joins_no_prefixes apart_first apart_second x y of_x of_y front =
       let (same, rest) = parts_front (first x.0) (first y.0) (second x.1) (second y.1) (apart_first x.0 y.0 of_x.0 of_y.0) (apart_first y.0 x.0 of_y.0 of_x.0) front in
       ap₂ (λ s t. s ++ t) same (apart_second x.1 y.1 of_x.1 of_y.1 rest)
 
   pub joins_keep_order : {by_first : A → A → Ordering} {by_second : B → B → Ordering} → HasNoPrefixes is_first first → KeepsOrder is_first first by_first → KeepsOrder is_second second by_second →
-      KeepsOrder (AreKeys is_first is_second) (joined first second) (pair_cmp by_first by_second)
+      KeepsOrder (AreKeys is_first is_second) (joined_bytes first second) (pair_cmp by_first by_second)
   joins_keep_order apart_first keeps_first keeps_second x y of_x of_y =
       parts_cmp (first x.0) (first y.0) (second x.1) (second y.1) (apart_first x.0 y.0 of_x.0 of_y.0) (apart_first y.0 x.0 of_y.0 of_x.0)
       ∙ ap₂ (λ s t. ordering_then s t) (keeps_first x.0 y.0 of_x.0 of_y.0) (keeps_second x.1 y.1 of_x.1 of_y.1)
@@ -61,17 +61,17 @@ module _ {A B : Type 0} (is_first : A → Type 0) (first : A → List ℕ) (is_s
   module _ (first_of : List ℕ → A) (first_length : List ℕ → ℕ) (second_of : List ℕ → B) (second_length : List ℕ → ℕ)
       (back_first : ComesBack is_first first first_of first_length) (back_second : ComesBack is_second second second_of second_length) where
     -- two keys come back, each from its own bytes
-    pub joins_come_back : ComesBack (AreKeys is_first is_second) (joined first second) (parted first_of first_length second_of) (joined_length first_length second_length)
+    pub joins_come_back : ComesBack (AreKeys is_first is_second) (joined_bytes first second) (parted first_of first_length second_of) (joined_length first_length second_length)
     joins_come_back pair of_pair = (keys, λ rest. lengths rest)
       where
-        long : first_length (joined first second pair) ≡ length (first pair.0)
+        long : first_length (joined_bytes first second pair) ≡ length (first pair.0)
         long = (back_first pair.0 of_pair.0).1 (second pair.1)
 
-        keys : parted first_of first_length second_of (joined first second pair) ≡ pair
+        keys : parted first_of first_length second_of (joined_bytes first second pair) ≡ pair
         keys =
             rw (long, take-append_seam (first pair.0) (second pair.1), drop-append_seam (first pair.0) (second pair.1), (back_first pair.0 of_pair.0).0, (back_second pair.1 of_pair.1).0) refl
 
-        lengths : (rest : List ℕ) → joined_length first_length second_length (joined first second pair ++ rest) ≡ length (joined first second pair)
+        lengths : (rest : List ℕ) → joined_length first_length second_length (joined_bytes first second pair ++ rest) ≡ length (joined_bytes first second pair)
         lengths rest =
             rw (
               append_assoc (first pair.0) (second pair.1) rest,

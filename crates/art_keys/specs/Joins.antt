@@ -9,8 +9,8 @@ module _ {A B : Type 0} where
   AreKeys is_first is_second pair = is_first pair.0 × is_second pair.1
 
   -- the bytes of two keys, one after the other
-  abbrev pub joined : (A → List ℕ) → (B → List ℕ) → A × B → List ℕ
-  joined first second pair = first pair.0 ++ second pair.1
+  abbrev pub joined_bytes : (A → List ℕ) → (B → List ℕ) → A × B → List ℕ
+  joined_bytes first second pair = first pair.0 ++ second pair.1
 
   -- the order of the first keys, and then of the second ones
   abbrev pub pair_cmp : (A → A → Ordering) → (B → B → Ordering) → A × B → A × B → Ordering

@@ -1,6 +1,6 @@
 //! Two keys as one.
 ghost use Rattle.std.specs.Prelude.{◌≡◌, IfOk};
-ghost use Rattle.art_keys.specs.Joins.{AreKeys, joined, pair_cmp};
+ghost use Rattle.art_keys.specs.Joins.{AreKeys, joined_bytes, pair_cmp};
 ghost use Rattle.art_keys.specs.Prefixes.{KeepsOrder};
 
 use super::laws::{CloneBytes, DecodeBytes, NoPrefixesBytes, OrderedBytes};
@@ -26,12 +26,12 @@ impl<A: DecodeBytes, B: DecodeBytes> Model for Joined<A, B> {
     ghost coded = { coded× A.code B.code };
 
     ghost use Rattle.art_keys.specs.Decoded.{IsOfKey};
-    ghost use Rattle.art_keys.specs.Joins.{AreKeys, joined, parted};
+    ghost use Rattle.art_keys.specs.Joins.{AreKeys, joined_bytes, parted};
 
     ghost view = { λ j. parted A.key_of A.length_of B.key_of j.bytes.items };
 
     ghost invariant = { λ j.
-        IsOfKey (AreKeys A.is_key B.is_key) (joined A.bytes B.bytes) j.bytes.items };
+        IsOfKey (AreKeys A.is_key B.is_key) (joined_bytes A.bytes B.bytes) j.bytes.items };
 }
 
 impl<A: DecodeBytes + Drop, B: DecodeBytes + Drop> Joined<A, B> {
@@ -87,9 +87,9 @@ impl<A: DecodeBytes, B: DecodeBytes> fmt::Debug for Joined<A, B> {
 }
 
 impl<A: DecodeBytes, B: DecodeBytes> AsBytes for Joined<A, B> {
-    ghost use Rattle.art_keys.specs.Joins.{joined};
+    ghost use Rattle.art_keys.specs.Joins.{joined_bytes};
 
-    ghost bytes = { joined A.bytes B.bytes };
+    ghost bytes = { joined_bytes A.bytes B.bytes };
 
     fn as_bytes(&self) -> &[u8] {
         &self.bytes
@@ -156,9 +156,9 @@ impl<A: DecodeBytes, B: DecodeBytes> Clone for Joined<A, B> {
 
 impl<A: DecodeBytes, B: DecodeBytes> CloneBytes for Joined<A, B> {
     ghost use Rattle.std.proofs.Common.{ap, subst, sym};
-    ghost use Rattle.art_keys.specs.Joins.{AreKeys, joined};
+    ghost use Rattle.art_keys.specs.Joins.{AreKeys, joined_bytes};
 
-    ghost keeps_bytes = { λ key copy is. ap (joined A.bytes B.bytes) is };
+    ghost keeps_bytes = { λ key copy is. ap (joined_bytes A.bytes B.bytes) is };
 
     ghost keeps_key = { λ key copy is of_key.
         subst (AreKeys A.is_key B.is_key) (sym is) of_key };
@@ -166,7 +166,7 @@ impl<A: DecodeBytes, B: DecodeBytes> CloneBytes for Joined<A, B> {
 
 /// The bytes of two keys are in the order of the first keys, and then of the second ones.
 pub fn joined_keys_keep_order<A: OrderedBytes, B: OrderedBytes>()
-    ensures { KeepsOrder (AreKeys A.is_key B.is_key) (joined A.bytes B.bytes)
+    ensures { KeepsOrder (AreKeys A.is_key B.is_key) (joined_bytes A.bytes B.bytes)
         (pair_cmp A.order B.order) }
 {}
 
@@ -174,10 +174,10 @@ impl<A: DecodeBytes, B: DecodeBytes> PartialEq for Joined<A, B> {
     ghost use Rattle.std.proofs.Common.{rules};
     ghost use Rattle.std.specs.Cmp.Rules.{comparing};
     ghost use Rattle.std.specs.Cmp.Lexicographic.{slice_cmp};
-    ghost use Rattle.art_keys.specs.Joins.{joined};
+    ghost use Rattle.art_keys.specs.Joins.{joined_bytes};
     ghost use Rattle.std.specs.Ordering.{eq_by_cmp, nat_cmp, on};
 
-    ghost eq = { eq_by_cmp (on (joined A.bytes B.bytes) (slice_cmp nat_cmp)) };
+    ghost eq = { eq_by_cmp (on (joined_bytes A.bytes B.bytes) (slice_cmp nat_cmp)) };
 
     ghost laws = { Prim.search (comparing, rules) };
 
@@ -197,10 +197,10 @@ impl<A: DecodeBytes, B: DecodeBytes> PartialOrd for Joined<A, B> {
     ghost use Rattle.std.proofs.Common.{rules};
     ghost use Rattle.std.specs.Cmp.Rules.{comparing};
     ghost use Rattle.std.specs.Cmp.Lexicographic.{slice_cmp};
-    ghost use Rattle.art_keys.specs.Joins.{joined};
+    ghost use Rattle.art_keys.specs.Joins.{joined_bytes};
     ghost use Rattle.std.specs.Ordering.{as_partial_cmp, nat_cmp, on};
 
-    ghost partial_cmp = { as_partial_cmp (on (joined A.bytes B.bytes) (slice_cmp nat_cmp)) };
+    ghost partial_cmp = { as_partial_cmp (on (joined_bytes A.bytes B.bytes) (slice_cmp nat_cmp)) };
 
     ghost laws = { Prim.search (comparing, rules) };
 
@@ -214,10 +214,10 @@ impl<A: DecodeBytes, B: DecodeBytes> Ord for Joined<A, B> {
     ghost use Rattle.std.proofs.Common.{rules};
     ghost use Rattle.std.specs.Cmp.Rules.{comparing};
     ghost use Rattle.std.specs.Cmp.Lexicographic.{slice_cmp};
-    ghost use Rattle.art_keys.specs.Joins.{joined};
+    ghost use Rattle.art_keys.specs.Joins.{joined_bytes};
     ghost use Rattle.std.specs.Ordering.{nat_cmp, on};
 
-    ghost cmp = { on (joined A.bytes B.bytes) (slice_cmp nat_cmp) };
+    ghost cmp = { on (joined_bytes A.bytes B.bytes) (slice_cmp nat_cmp) };
 
     ghost total = { Prim.search (comparing, rules) };
 
@@ -232,12 +232,12 @@ impl<A: DecodeBytes, B: DecodeBytes> Ord for Joined<A, B> {
 
 impl<A: DecodeBytes, B: DecodeBytes> Hash for Joined<A, B> {
     ghost use Rattle.std.specs.Hash as fed;
-    ghost use Rattle.art_keys.specs.Joins.{joined};
+    ghost use Rattle.art_keys.specs.Joins.{joined_bytes};
     ghost use Rattle.art_keys.specs.HashLaws.{bytes_hash};
 
-    ghost hash_input = { λ key. fed.slice fed.u8 (joined A.bytes B.bytes key) };
+    ghost hash_input = { λ key. fed.slice fed.u8 (joined_bytes A.bytes B.bytes key) };
 
-    ghost respects_eq = { bytes_hash (joined A.bytes B.bytes) };
+    ghost respects_eq = { bytes_hash (joined_bytes A.bytes B.bytes) };
 
     fn hash<H: Hasher>(&self, state: &mut H) {
         self.as_bytes().hash(state);

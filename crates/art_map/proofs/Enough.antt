@@ -15,7 +15,7 @@ use Rattle.art_parts.proofs.NameLemmas.{leaf_cmp_total, leaf_cmp-IsAntisymmetric
 use Rattle.art_nodes.proofs.StoreLaws.{gone_elsewhere}
 use Rattle.art_model.specs.Canonical.{IsCanonicalTree}
 use Rattle.art_model.specs.Layouts.{leaf_node, leaf_names, leaf_names_below, Holds, HoldsBelow, AreDistinct}
-use Rattle.art_model.specs.Stores.{held_leaf, held_inner, held_in, seen, node_at}
+use Rattle.art_model.specs.Stores.{held_leaf, held_inner, content_in, tree_node, node_at}
 use Rattle.art_model.specs.Trees.{Tree, leaf, inner, Subtrees, child, no_child}
 use Rattle.art_model.proofs.stores.Canonical.{tree_radix}
 use Rattle.art_model.proofs.stores.Heights.{one_less}
@@ -47,16 +47,16 @@ module _ {K V : Type 0} where
       go (k ∷ ks) o is =
           ((is.0.0, ap is_some (gone_elsewhere leaf_cmp_total leaf_cmp-IsAntisymmetric m (as_leaf n) (as_leaf k) (λ e. o.0 (same_name n k h.0.0 is.0.0 (sym e)))) ∙ is.0.1), go ks o.1 is.1)
 
-no_inner : {K V : Type 0} (kind : NodeType) (o : Option Inner) (x : K × V) → option_map (seen {K = K} {V = V} kind) (option_map held_inner o) ≡ Some (leaf_node x) → ⊥
+no_inner : {K V : Type 0} (kind : NodeType) (o : Option Inner) (x : K × V) → option_map (tree_node {K = K} {V = V} kind) (option_map held_inner o) ≡ Some (leaf_node x) → ⊥
 no_inner kind None x e = absurd cc
 no_inner kind (Some n) x e = absurd cc
 
 module _ {K V : Type 0} (s : Nodes K V) where
-  pub leaf_used : (kind : NodeType) (slot : ℕ) (x : K × V) → option_map (seen kind) (held_in s kind slot) ≡ Some (leaf_node x) →
+  pub leaf_used : (kind : NodeType) (slot : ℕ) (x : K × V) → option_map (tree_node kind) (content_in s kind slot) ≡ Some (leaf_node x) →
       (kind ≡ Leaf) × (is_some (map.get s.leaves (record { slot = slot })) ≡ true)
   leaf_used Leaf slot x e = (refl, go (map.get s.leaves (record { slot = slot })) e)
     where
-      go : (o : Option (LeafNode K V)) → option_map (seen Leaf) (option_map held_leaf o) ≡ Some (leaf_node x) → is_some o ≡ true
+      go : (o : Option (LeafNode K V)) → option_map (tree_node Leaf) (option_map held_leaf o) ≡ Some (leaf_node x) → is_some o ≡ true
       go None e = absurd cc
       go (Some l) e = refl
   leaf_used Node4 slot x e = absurd (no_inner Node4 (map.get s.inners (record { kind = Node4; slot = slot })) x e)

@@ -16,7 +16,7 @@ use Rattle.art_model.specs.Pairs.{of_key}
 use Rattle.art_model.specs.Paths.{Frame, plug}
 use Rattle.art_model.specs.Radix.{join}
 use Rattle.art_model.specs.Roots.{IsRootOf}
-use Rattle.art_model.specs.Stores.{held, held_leaf, node_at}
+use Rattle.art_model.specs.Stores.{content_at, held_leaf, node_at}
 use Rattle.art_model.specs.Trees.{NodeHeader, Tree, leaf, inner, Subtrees, child, no_child}
 use Rattle.art_model.proofs.leaves.Leaves.{same_leaf}
 use Rattle.art_model.proofs.leaves.LeavesFound.{leaf_found}
@@ -69,11 +69,11 @@ module _ {K V : Type 0} (bytes : K → List ℕ) (P : ℕ) {s : Nodes K V} {p : 
   pub leaf_of_map : {root : Option OpaqueNodePtr} {len : ℕ} {pairs : List (K × V)} → HoldsPairs (of_key bytes) P s root len pairs → NamesLeafOf bytes P s root (bytes node.key) p
   leaf_of_map {root} {len} {pairs} is = go root is.tree is.canonical is.no_other
     where
-      in_use : held s (leaf_name p) ≡ None → ⊥
+      in_use : content_at s (leaf_name p) ≡ None → ⊥
       in_use none = let used = ap (option_map held_leaf) there in absurd cc
 
       go : (root : Option OpaqueNodePtr) (tree : Option (Tree OpaqueNodePtr (K × V))) → IsRootOf (of_key bytes) P s root pairs tree →
-          ((name : OpaqueNodePtr) → (IsIn name (names_in tree) → ⊥) → held s name ≡ None) → NamesLeafOf bytes P s root (bytes node.key) p
+          ((name : OpaqueNodePtr) → (IsIn name (names_in tree) → ⊥) → content_at s name ≡ None) → NamesLeafOf bytes P s root (bytes node.key) p
       go None None none other = absurd (in_use (other (leaf_name p) (λ i. i)))
       go None (Some layout) is other = absurd is
       go (Some name) None is other = absurd is

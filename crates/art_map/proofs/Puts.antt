@@ -18,11 +18,11 @@ use Rattle.art_model.specs.Layouts.{names_of}
 use Rattle.art_model.specs.MapLaws.{Tells}
 use Rattle.art_model.specs.Pairs.{IsMap, first_of, of_key, has_key, overwrite, overwrite_reply, put, put_reply, related_to, with_key, is_conflict}
 use Rattle.art_model.specs.Roots.{IsCanonicalRoot, IsRootOf, ForTree}
-use Rattle.art_model.specs.Stores.{held, pair_of}
+use Rattle.art_model.specs.Stores.{content_at, pair_of}
 use Rattle.art_model.specs.Trees.{Tree, leaf}
 use Rattle.art_model.proofs.pairs.MapLaws.{overwrite_counts, overwrite_of_key_is_put, overwrite_tells, put_counts, put_tells}
 use Rattle.art_model.proofs.pairs.Puts.{has_is_stored}
-use Rattle.art_writing.specs.Inserted.{alone}
+use Rattle.art_writing.specs.Inserted.{unlinked_leaf}
 use Rattle.art_writing.specs.Writes.{IsPlanted}
 use Rattle.art_writing.specs.declared.insert.PrefixInsertResult.{PrefixInsertResult}
 use Rattle.art_writing.proofs.OneLeaf as one_leaf
@@ -36,14 +36,14 @@ module _ {K V : Type 0} (bytes : K × V → List ℕ) (P : ℕ) where
   pub record HasTreeAt (s : Nodes K V) (root : OpaqueNodePtr) (len : ℕ) (pairs : List (K × V)) : Type 0 where
     pub layout : Tree OpaqueNodePtr (K × V)
     pub by : IsCanonicalTree bytes P s root pairs layout
-    pub no_other : (name : OpaqueNodePtr) → (IsIn name (names_of layout) → ⊥) → held s name ≡ None
+    pub no_other : (name : OpaqueNodePtr) → (IsIn name (names_of layout) → ⊥) → content_at s name ≡ None
     pub len_is : len ≡ length pairs
 
   -- of a root that is there
   pub at_root : {s : Nodes K V} {name : OpaqueNodePtr} {len : ℕ} {pairs : List (K × V)} → HoldsPairs bytes P s (Some name) len pairs → HasTreeAt s name len pairs
   at_root {s} {name} {len} {pairs} is = go is.tree is.canonical is.no_other
     where
-      go : (tree : Option (Tree OpaqueNodePtr (K × V))) → IsRootOf bytes P s (Some name) pairs tree → ((k : OpaqueNodePtr) → (IsIn k (names_in tree) → ⊥) → held s k ≡ None) →
+      go : (tree : Option (Tree OpaqueNodePtr (K × V))) → IsRootOf bytes P s (Some name) pairs tree → ((k : OpaqueNodePtr) → (IsIn k (names_in tree) → ⊥) → content_at s k ≡ None) →
           HasTreeAt s name len pairs
       go None h other = absurd h
       go (Some layout) h other = record { layout = layout; by = h; no_other = other; len_is = is.len_is }
@@ -59,8 +59,8 @@ module _ {K V : Type 0} (bytes : K × V → List ℕ) (P : ℕ) where
   canonical_root {pairs = pairs} e is = let has = at_some e is in (pairs, has.layout, has.by)
 
   module _ (s t : Nodes K V) (same_leaves : t.leaves ≡ s.leaves) (same_inners : t.inners ≡ s.inners) where
-    same_held : (k : OpaqueNodePtr) → held t k ≡ held s k
-    same_held k = ap₂ (λ leaves inners. held (record t { leaves = leaves; inners = inners }) k) same_leaves same_inners
+    same_held : (k : OpaqueNodePtr) → content_at t k ≡ content_at s k
+    same_held k = ap₂ (λ leaves inners. content_at (record t { leaves = leaves; inners = inners }) k) same_leaves same_inners
 
     -- the same nodes stand for the same pairs
     pub stays : {root : Option OpaqueNodePtr} {len : ℕ} {pairs : List (K × V)} → HoldsPairs bytes P s root len pairs → HoldsPairs bytes P t root len pairs
@@ -130,7 +130,7 @@ module _ {K V : Type 0} (bytes : K → List ℕ) (new : K × V) (pairs : List (K
       double false = refl
 
   -- what an overwrite tells is how many pairs have related keys
-  pub told_gone : (done : PrefixInsertResult K V) → done.insert_result.existing_leaf ≡ option_map alone (overwrite_reply (of_key bytes) new pairs).0 →
+  pub told_gone : (done : PrefixInsertResult K V) → done.insert_result.existing_leaf ≡ option_map unlinked_leaf (overwrite_reply (of_key bytes) new pairs).0 →
       done.leafs_removed ≡ (overwrite_reply (of_key bytes) new pairs).1 → gone_count done ≡ length Related
   told_gone done existing removed = go (has_key (of_key bytes) (bytes new.0) pairs) refl
     where
@@ -140,7 +140,7 @@ module _ {K V : Type 0} (bytes : K → List ℕ) (new : K × V) (pairs : List (K
       told : gone_count done ≡ count (overwrite_reply (of_key bytes) new pairs)
       told = ap₂ (λ (o : Option (LeafNode K V)) (n : ℕ). let r : ℕ = elim o [ None ↦ n | Some x ↦ 1 ] in r) existing removed ∙ alike (overwrite_reply (of_key bytes) new pairs)
         where
-          alike : (reply : Option (K × V) × ℕ) → (let r : ℕ = elim (option_map alone reply.0) [ None ↦ reply.1 | Some x ↦ 1 ] in r) ≡ count reply
+          alike : (reply : Option (K × V) × ℕ) → (let r : ℕ = elim (option_map unlinked_leaf reply.0) [ None ↦ reply.1 | Some x ↦ 1 ] in r) ≡ count reply
           alike (None, n) = refl
           alike (Some x, n) = refl
 
@@ -164,13 +164,13 @@ module _ {K V : Type 0} (bytes : K → List ℕ) (new : K × V) (pairs : List (K
       go true e = told ∙ ap count (overwrite_of_key_is_put bytes new pairs e).1 ∙ stored (put_reply (of_key bytes) new pairs) refl e
 
 -- the pair of a leaf alone
-pub none_back : {K V : Type 0} (reply : Option (K × V)) → option_map alone reply ≡ None → reply ≡ None
+pub none_back : {K V : Type 0} (reply : Option (K × V)) → option_map unlinked_leaf reply ≡ None → reply ≡ None
 none_back None e = refl
 none_back (Some x) e = absurd cc
 
-pub some_back : {K V : Type 0} (reply : Option (K × V)) (node : LeafNode K V) → option_map alone reply ≡ Some node → reply ≡ Some (pair_of node)
+pub some_back : {K V : Type 0} (reply : Option (K × V)) (node : LeafNode K V) → option_map unlinked_leaf reply ≡ Some node → reply ≡ Some (pair_of node)
 some_back None node e = absurd cc
-some_back (Some x) node e = let same : alone x ≡ node = cc in ap (λ l. Some (pair_of l)) same
+some_back (Some x) node e = let same : unlinked_leaf x ≡ node = cc in ap (λ l. Some (pair_of l)) same
 
 -- How many pairs gave way to a new one, and how many there are with it.
 pub record CountsOver {K V : Type 0} (bytes : K → List ℕ) (new : K × V) (pairs : List (K × V)) (gone len : ℕ) : Type 0 where
@@ -180,7 +180,7 @@ pub record CountsOver {K V : Type 0} (bytes : K → List ℕ) (new : K × V) (pa
 
 module _ {K V : Type 0} (bytes : K → List ℕ) (P : ℕ) {s : Nodes K V} {name : OpaqueNodePtr} {len : ℕ} {pairs : List (K × V)} (new : K × V)
     (has : HasTreeAt (of_key bytes) P s name len pairs) where
-  module _ {existing : Option (LeafNode K V)} (told : ForTree (of_key bytes) P s name (λ pairs layout. existing ≡ option_map alone (put_reply (of_key bytes) new pairs))) where
+  module _ {existing : Option (LeafNode K V)} (told : ForTree (of_key bytes) P s name (λ pairs layout. existing ≡ option_map unlinked_leaf (put_reply (of_key bytes) new pairs))) where
     -- where no leaf comes back there is a pair more than the length said
     pub pair_more : existing ≡ None → (put_reply (of_key bytes) new pairs ≡ None) × (length (put (of_key bytes) new pairs) ≡ len + 1)
     pair_more none =
@@ -201,7 +201,7 @@ module _ {K V : Type 0} (bytes : K → List ℕ) (P : ℕ) {s : Nodes K V} {name
 
   -- what an overwrite tells of the pairs that gave way
   pub over_counted : (done : PrefixInsertResult K V) →
-      ForTree (of_key bytes) P s name (λ pairs layout. done.insert_result.existing_leaf ≡ option_map alone (overwrite_reply (of_key bytes) new pairs).0) →
+      ForTree (of_key bytes) P s name (λ pairs layout. done.insert_result.existing_leaf ≡ option_map unlinked_leaf (overwrite_reply (of_key bytes) new pairs).0) →
       ForTree (of_key bytes) P s name (λ pairs layout. done.leafs_removed ≡ (overwrite_reply (of_key bytes) new pairs).1) → CountsOver bytes new pairs (gone_count done) len
   over_counted done existing removed =
       let told = told_gone bytes new pairs has.by.is_map done (existing pairs has.layout has.by) (removed pairs has.layout has.by) in
@@ -216,7 +216,7 @@ module _ {K V : Type 0} (bytes : K → List ℕ) (P : ℕ) {s t : Nodes K V} whe
       HoldsPairs (of_key bytes) P t (Some (leaf_name n)) 1 ((k, v) ∷ [])
   planted {len} {pairs} {n} {k} {v} is at = go is.tree is.canonical is.no_other
     where
-      go : (tree : Option (Tree OpaqueNodePtr (K × V))) → IsRootOf (of_key bytes) P s None pairs tree → ((name : OpaqueNodePtr) → (IsIn name (names_in tree) → ⊥) → held s name ≡ None) →
+      go : (tree : Option (Tree OpaqueNodePtr (K × V))) → IsRootOf (of_key bytes) P s None pairs tree → ((name : OpaqueNodePtr) → (IsIn name (names_in tree) → ⊥) → content_at s name ≡ None) →
           HoldsPairs (of_key bytes) P t (Some (leaf_name n)) 1 ((k, v) ∷ [])
       go (Some l) none other = absurd none
       go None none other = record {

@@ -17,7 +17,7 @@ use Rattle.art_model.specs.Pairs.{IsMap, first_of, last_of, without_first, of_ke
 use Rattle.art_model.specs.Paths.{pairs_before, pairs_after}
 use Rattle.art_model.specs.Radix.{pairs_of}
 use Rattle.art_model.specs.Roots.{ForRoot, ForTree}
-use Rattle.art_model.specs.Stores.{held, pair_of}
+use Rattle.art_model.specs.Stores.{content_at, pair_of}
 use Rattle.art_model.specs.Trees.{Tree, leaf}
 use Rattle.art_model.proofs.stores.Canonical.{tree_radix}
 use Rattle.art_model.proofs.keys.Keys.{front_same}
@@ -29,7 +29,7 @@ use Rattle.art_model.proofs.stores.StoreLaws.{has_one_map}
 use Rattle.art_map.specs.declared.map.End.{End}
 use Rattle.art_map.specs.declared.map.End.TheVariants.{First, Last}
 use Rattle.art_writing.specs.Deleted.{LeadsTo}
-use Rattle.art_writing.specs.Inserted.{alone}
+use Rattle.art_writing.specs.Inserted.{unlinked_leaf}
 use Rattle.art_writing.specs.declared.delete.DeletePoint.{DeletePoint}
 use Rattle.art_writing.proofs.KeysFound.{deleted_pair}
 use Rattle.art_map.specs.MapAnswers.{end_of, value_at, without_end}
@@ -62,16 +62,16 @@ module _ {K V : Type 0} (bytes : K → List ℕ) (P : ℕ) {s : Nodes K V} {name
     (by : IsCanonicalTree (of_key bytes) P s name pairs layout) where
   -- what holds pairs holds those of each tree of its root
   pub for_tree : {len : ℕ} {others : List (K × V)} → HoldsPairs (of_key bytes) P s (Some name) len others →
-      ((k : OpaqueNodePtr) → (IsIn k (names_of layout) → ⊥) → held s k ≡ None) × (len ≡ length pairs)
+      ((k : OpaqueNodePtr) → (IsIn k (names_of layout) → ⊥) → content_at s k ≡ None) × (len ≡ length pairs)
   for_tree {len} is =
       let has = at_root (of_key bytes) P is in
       let same = has_one_map (of_key bytes) P s name pairs _ layout has.layout by has.by in
-      (subst (λ l. (k : OpaqueNodePtr) → (IsIn k (names_of l) → ⊥) → held s k ≡ None) same.1 has.no_other, has.len_is ∙ ap length same.0)
+      (subst (λ l. (k : OpaqueNodePtr) → (IsIn k (names_of l) → ⊥) → content_at s k ≡ None) same.1 has.no_other, has.len_is ∙ ap length same.0)
 
   -- what an applied delete point leaves
   pub taken : {t : Nodes K V} {root : Option OpaqueNodePtr} {len : ℕ} {others : List (K × V)} {x : K × V} {point : DeletePoint} (gone : LeafNode K V) →
       HoldsPairs (of_key bytes) P s (Some name) len others → LeadsTo layout x point →
-      IfSome (get s.leaves point.leaf_node_ptr) (λ node. gone ≡ alone (pair_of node)) → IsCanonical (of_key bytes) P t root (remove_key (of_key bytes) (bytes gone.key) pairs) →
+      IfSome (get s.leaves point.leaf_node_ptr) (λ node. gone ≡ unlinked_leaf (pair_of node)) → IsCanonical (of_key bytes) P t root (remove_key (of_key bytes) (bytes gone.key) pairs) →
       ForRoot (of_key bytes) P t root (λ after new. ChangesInPlace (of_key bytes) s t (Some layout) new) →
       HoldsPairs (of_key bytes) P t root (len - 1) (remove_key (of_key bytes) (bytes x.0) pairs) × (Some (gone.key, gone.value) ≡ Some x)
   taken {t} {root} {len} {others} {x} {point} gone is leads told canonical kept =

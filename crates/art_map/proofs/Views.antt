@@ -15,7 +15,7 @@ use Rattle.art_model.specs.Layouts.{Node, name_of, slots_of, Holds, HoldsBelow}
 use Rattle.art_model.specs.Pairs.{IsMap}
 use Rattle.art_model.specs.Radix.{pairs_of, pairs_below}
 use Rattle.art_model.specs.Roots.{IsRootOf}
-use Rattle.art_model.specs.Stores.{Held, held_leaf, held_inner, held, held_in, node_at}
+use Rattle.art_model.specs.Stores.{Held, held_leaf, held_inner, content_at, content_in, node_at}
 use Rattle.art_model.specs.Trees.{Tree, leaf, inner, Subtrees, child, no_child}
 use Rattle.art_model.proofs.stores.Canonical.{tree_radix}
 use Rattle.art_model.proofs.stores.Heights.{enough_steps}
@@ -76,11 +76,11 @@ module _ {K V : Type 0} (bytes : K × V → List ℕ) (P : ℕ) (s : Nodes K V) 
   view_of {root} is = view_is root is.tree is.canonical
 
 -- no name is beside the new tree, where none was beside the old one.
-pub none_other : {K V : Type 0} {s t : Nodes K V} {old new : List OpaqueNodePtr} → KeepsOthers s t old new → ((name : OpaqueNodePtr) → (IsIn name old → ⊥) → held s name ≡ None) →
-    (name : OpaqueNodePtr) → (IsIn name new → ⊥) → held t name ≡ None
-none_other {K} {V} {s} {t} {old} {new} keeps none name out = go (held t name) refl
+pub none_other : {K V : Type 0} {s t : Nodes K V} {old new : List OpaqueNodePtr} → KeepsOthers s t old new → ((name : OpaqueNodePtr) → (IsIn name old → ⊥) → content_at s name ≡ None) →
+    (name : OpaqueNodePtr) → (IsIn name new → ⊥) → content_at t name ≡ None
+none_other {K} {V} {s} {t} {old} {new} keeps none name out = go (content_at t name) refl
   where
-    go : (found : Option (Held K V)) → held t name ≡ found → held t name ≡ None
+    go : (found : Option (Held K V)) → content_at t name ≡ found → content_at t name ≡ None
     go None e = e
     go (Some x) e =
         let beside : IsIn name old → ⊥ = λ was. let free = keeps.gone name was out in absurd cc in
@@ -88,7 +88,7 @@ none_other {K} {V} {s} {t} {old} {new} keeps none name out = go (held t name) re
 
 -- nothing is held in an empty store
 module _ {K V : Type 0} (s : Nodes K V) (leaves : s.leaves ≡ map.empty) (inners : s.inners ≡ map.empty) where
-  free_in : (kind : NodeType) (slot : ℕ) → held_in s kind slot ≡ None
+  free_in : (kind : NodeType) (slot : ℕ) → content_in s kind slot ≡ None
   free_in Leaf slot = ap (λ m. option_map held_leaf (map.get m (record { slot = slot }))) leaves ∙ ap (option_map held_leaf) (map.get-empty leaf_cmp (record { slot = slot }))
   free_in Node4 slot =
       ap (λ m. option_map held_inner (map.get m (record { kind = Node4; slot = slot }))) inners ∙ ap (option_map held_inner) (map.get-empty inner_cmp (record { kind = Node4; slot = slot }))
@@ -99,7 +99,7 @@ module _ {K V : Type 0} (s : Nodes K V) (leaves : s.leaves ≡ map.empty) (inner
   free_in Node256 slot =
       ap (λ m. option_map held_inner (map.get m (record { kind = Node256; slot = slot }))) inners ∙ ap (option_map held_inner) (map.get-empty inner_cmp (record { kind = Node256; slot = slot }))
 
-  pub none_held : (name : OpaqueNodePtr) → held s name ≡ None
+  pub none_held : (name : OpaqueNodePtr) → content_at s name ≡ None
   none_held name = free_in name.kind name.slot
 
   pub new_holds : (bytes : K × V → List ℕ) (P : ℕ) → HoldsPairs bytes P s None 0 []

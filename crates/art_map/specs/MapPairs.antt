@@ -7,7 +7,7 @@ use Rattle.art_model.specs.Footprints.{IsIn}
 use Rattle.art_model.specs.Kept.{names_in}
 use Rattle.art_model.specs.Layouts.{Node, leaf_node, inner_node}
 use Rattle.art_model.specs.Roots.{IsRootOf}
-use Rattle.art_model.specs.Stores.{held, node_at}
+use Rattle.art_model.specs.Stores.{content_at, node_at}
 use Rattle.art_model.specs.Trees.{Tree}
 
 -- what each name of a list of children has, one after another
@@ -38,5 +38,5 @@ pub record HoldsPairs {K V : Type 0} (bytes : K × V → List ℕ) (P : ℕ) (s 
     (root : Option OpaqueNodePtr) (len : ℕ) (pairs : List (K × V)) : Type 0 where
   pub tree : Option (Tree OpaqueNodePtr (K × V))
   pub canonical : IsRootOf bytes P s root pairs tree
-  pub no_other : (name : OpaqueNodePtr) → (IsIn name (names_in tree) → ⊥) → held s name ≡ None
+  pub no_other : (name : OpaqueNodePtr) → (IsIn name (names_in tree) → ⊥) → content_at s name ≡ None
   pub len_is : len ≡ length pairs

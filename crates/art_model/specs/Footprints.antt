@@ -7,7 +7,7 @@ use Rattle.art_model.specs.Layouts.{names_of}
 use Rattle.art_model.specs.Pairs.{related_to}
 use Rattle.art_model.specs.Paths.{Frame, plug}
 use Rattle.art_model.specs.Radix.{pairs_of}
-use Rattle.art_model.specs.Stores.{held, IsUsed}
+use Rattle.art_model.specs.Stores.{content_at, IsUsed}
 use Rattle.art_model.specs.Trees.{Tree}
 
 -- the element stands in the list
@@ -17,11 +17,11 @@ IsIn x (y ∷ ys) = (y ≡ x) ⊎ IsIn x ys
 
 -- The placed names are in use in the new store alone, the freed ones in the old store alone, and all names that hold another node are among the changed ones.
 pub record Footprint {K V : Type 0} (old new : Nodes K V) (placed freed changed : List OpaqueNodePtr) : Type 0 where
-  pub are_placed : Each (λ name. (held old name ≡ None) × IsUsed new name) placed
-  pub are_freed : Each (λ name. IsUsed old name × (held new name ≡ None)) freed
+  pub are_placed : Each (λ name. (content_at old name ≡ None) × IsUsed new name) placed
+  pub are_freed : Each (λ name. IsUsed old name × (content_at new name ≡ None)) freed
   pub are_changed : Each (λ name. IsUsed old name × IsUsed new name) changed
   pub others : (name : OpaqueNodePtr) → (IsIn name placed → ⊥) → (IsIn name freed → ⊥) →
-      (IsIn name changed → ⊥) → held new name ≡ held old name
+      (IsIn name changed → ⊥) → content_at new name ≡ content_at old name
 
 -- at most so many names are placed, freed and changed
 abbrev pub TouchesAtMost : {K V : Type 0} → ℕ → ℕ → ℕ → Nodes K V → Nodes K V → Type 0

@@ -6,7 +6,7 @@ use Rattle.art_parts.specs.declared.names.OpaqueNodePtr.{OpaqueNodePtr}
 use Rattle.art_model.specs.Trees.{Tree}
 use Rattle.art_model.specs.Layouts.{names_of, entries_of}
 use Rattle.art_model.specs.Places.{inner_nodes}
-use Rattle.art_model.specs.Stores.{held}
+use Rattle.art_model.specs.Stores.{content_at}
 use Rattle.art_model.specs.Footprints.{IsIn}
 
 module _ {N A : Type 0} where
@@ -39,9 +39,9 @@ module _ {N A : Type 0} where
 
 -- A name of neither tree holds what it held; one of the old tree alone is free, and one of the new tree alone was.
 pub record KeepsOthers {K V : Type 0} (s t : Nodes K V) (old new : List OpaqueNodePtr) : Type 0 where
-  pub beside : (name : OpaqueNodePtr) → (IsIn name old → ⊥) → (IsIn name new → ⊥) → held t name ≡ held s name
-  pub gone : (name : OpaqueNodePtr) → IsIn name old → (IsIn name new → ⊥) → held t name ≡ None
-  pub taken : (name : OpaqueNodePtr) → IsIn name new → (IsIn name old → ⊥) → held s name ≡ None
+  pub beside : (name : OpaqueNodePtr) → (IsIn name old → ⊥) → (IsIn name new → ⊥) → content_at t name ≡ content_at s name
+  pub gone : (name : OpaqueNodePtr) → IsIn name old → (IsIn name new → ⊥) → content_at t name ≡ None
+  pub taken : (name : OpaqueNodePtr) → IsIn name new → (IsIn name old → ⊥) → content_at s name ≡ None
 
 -- the same nodes under the same names
 abbrev pub SameNodes : {K V : Type 0} → Nodes K V → Nodes K V → Type 0

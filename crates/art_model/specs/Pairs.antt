@@ -32,10 +32,10 @@ without_last (x ∷ []) = []
 without_last (x ∷ y ∷ xs) = x ∷ without_last (y ∷ xs)
 
 -- what is answered of pairs that went: none, the only one, or how many
-abbrev pub went : {X : Type 0} → List X → Option X × ℕ
-went [] = (None, 0)
-went (x ∷ []) = (Some x, 0)
-went (x ∷ y ∷ xs) = (None, length (x ∷ y ∷ xs))
+abbrev pub only_or_count : {X : Type 0} → List X → Option X × ℕ
+only_or_count [] = (None, 0)
+only_or_count (x ∷ []) = (Some x, 0)
+only_or_count (x ∷ y ∷ xs) = (None, length (x ∷ y ∷ xs))
 
 module _ {A : Type 0} (bytes : A → List ℕ) where
   -- the keys rise strictly, and no two are related
@@ -107,7 +107,7 @@ module _ {K V : Type 0} (bytes : K × V → List ℕ) where
   -- what an overwrite answers: what the put does; or of the pairs with related keys the only one, or how many
   abbrev pub overwrite_reply : K × V → List (K × V) → Option (K × V) × ℕ
   overwrite_reply new pairs =
-      if has_key bytes (bytes new) pairs then (put_reply new pairs, 0) else went (related_to bytes (bytes new) pairs)
+      if has_key bytes (bytes new) pairs then (put_reply new pairs, 0) else only_or_count (related_to bytes (bytes new) pairs)
 
 module _ {K V : Type 0} (bytes : K → List ℕ) where
   -- the bytes of the key of a pair of key and value

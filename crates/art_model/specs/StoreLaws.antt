@@ -6,7 +6,7 @@ use Rattle.art_model.specs.Trees.{Tree}
 use Rattle.art_model.specs.Radix.{unmarked, pairs_of, HaveChildren, IsRadix}
 use Rattle.art_model.specs.Layouts.{Node, names_of, leaf_names, inner_names, shape_of, IsLayout, StandsFor}
 use Rattle.art_model.specs.ByCases.{Stands}
-use Rattle.art_model.specs.Stores.{held, node_at, shape_at}
+use Rattle.art_model.specs.Stores.{content_at, node_at, shape_at}
 use Rattle.art_model.specs.Canonical.{IsCanonicalTree}
 use Rattle.art_model.specs.Footprints.{IsIn, Footprint}
 
@@ -73,11 +73,11 @@ module _ (K V : Type 0) where
   OthersStayFree =
       (old new : Nodes K V) (placed freed changed : List OpaqueNodePtr) →
       Footprint old new placed freed changed → (name : OpaqueNodePtr) →
-      held old name ≡ None → (IsIn name placed → ⊥) → held new name ≡ None
+      content_at old name ≡ None → (IsIn name placed → ⊥) → content_at new name ≡ None
 
   -- a name that is free afterwards, and is not freed, was free
   abbrev pub OthersWereFree : Type 0
   OthersWereFree =
       (old new : Nodes K V) (placed freed changed : List OpaqueNodePtr) →
       Footprint old new placed freed changed → (name : OpaqueNodePtr) →
-      held new name ≡ None → (IsIn name freed → ⊥) → held old name ≡ None
+      content_at new name ≡ None → (IsIn name freed → ⊥) → content_at old name ≡ None

@@ -27,30 +27,30 @@ inner_seen kind node = inner_node (header_at kind node) node.children
 
 module _ {K V : Type 0} where
   -- what is held under a kind and a slot
-  abbrev pub held_in : Nodes K V → NodeType → ℕ → Option (Held K V)
-  held_in s Leaf slot = option_map held_leaf (map.get s.leaves (record { slot = slot }))
-  held_in s kind slot = option_map held_inner (map.get s.inners (record { kind = kind; slot = slot }))
+  abbrev pub content_in : Nodes K V → NodeType → ℕ → Option (Held K V)
+  content_in s Leaf slot = option_map held_leaf (map.get s.leaves (record { slot = slot }))
+  content_in s kind slot = option_map held_inner (map.get s.inners (record { kind = kind; slot = slot }))
 
   -- what is held under a name
-  abbrev pub held : Nodes K V → OpaqueNodePtr → Option (Held K V)
-  held s name = held_in s name.kind name.slot
+  abbrev pub content_at : Nodes K V → OpaqueNodePtr → Option (Held K V)
+  content_at s name = content_in s name.kind name.slot
 
   -- the name is in use
   abbrev pub IsUsed : Nodes K V → OpaqueNodePtr → Type 0
-  IsUsed s name = held s name ≢ None
+  IsUsed s name = content_at s name ≢ None
 
   -- the pair of a leaf
   abbrev pub pair_of : LeafNode K V → K × V
   pair_of leaf = (leaf.key, leaf.value)
 
   -- what a tree sees of a node: not the links of a leaf
-  abbrev pub seen : NodeType → Held K V → Node OpaqueNodePtr (K × V)
-  seen kind (held_leaf leaf) = leaf_node (pair_of leaf)
-  seen kind (held_inner node) = inner_seen kind node
+  abbrev pub tree_node : NodeType → Held K V → Node OpaqueNodePtr (K × V)
+  tree_node kind (held_leaf leaf) = leaf_node (pair_of leaf)
+  tree_node kind (held_inner node) = inner_seen kind node
 
   -- the node that a tree sees under a name
   abbrev pub node_at : Nodes K V → OpaqueNodePtr → Option (Node OpaqueNodePtr (K × V))
-  node_at s name = option_map (seen name.kind) (held s name)
+  node_at s name = option_map (tree_node name.kind) (content_at s name)
 
   -- the links of a leaf
   abbrev pub links_of : Held K V → Option (Links OpaqueNodePtr)
@@ -60,7 +60,7 @@ module _ {K V : Type 0} where
 
   -- the links of the leaf under a name
   abbrev pub links_at : Nodes K V → OpaqueNodePtr → Option (Links OpaqueNodePtr)
-  links_at s name = option_and_then links_of (held s name)
+  links_at s name = option_and_then links_of (content_at s name)
 
   -- by kind and slot, where leaves are not looked up
   abbrev pub shape_in : Nodes K V → NodeType → ℕ → Option (Node OpaqueNodePtr (Unit {0}))

@@ -34,17 +34,17 @@ module _ {K V : Type 0} where
   change_some leaves (Some name) f = change leaves name f
 
   -- the leaf before a place has this next one, and the leaf after it this previous one
-  abbrev pub joined : Leaves K V → Option LeafPtr → Option LeafPtr → Option LeafPtr → Option LeafPtr → Leaves K V
-  joined leaves before after next previous =
+  abbrev pub with_links_around : Leaves K V → Option LeafPtr → Option LeafPtr → Option LeafPtr → Option LeafPtr → Leaves K V
+  with_links_around leaves before after next previous =
       change_some (change_some leaves before (with_next next)) after (with_previous previous)
 
   -- a new leaf, which the leaves beside it know
   unfoldable pub with_leaf : Leaves K V → LeafPtr → LeafNode K V → Leaves K V
-  with_leaf leaves name leaf = joined (map.insert leaves name leaf) leaf.previous leaf.next (Some name) (Some name)
+  with_leaf leaves name leaf = with_links_around (map.insert leaves name leaf) leaf.previous leaf.next (Some name) (Some name)
 
   -- a leaf is gone, and the leaves beside it know one another
   unfoldable pub without_leaf : Leaves K V → LeafPtr → LeafNode K V → Leaves K V
-  without_leaf leaves name leaf = map.remove (joined leaves leaf.previous leaf.next leaf.next leaf.previous) name
+  without_leaf leaves name leaf = map.remove (with_links_around leaves leaf.previous leaf.next leaf.next leaf.previous) name
 
 -- inner nodes under their names
 abbrev pub Inners : Type 0

@@ -17,7 +17,7 @@ use Rattle.art_parts.specs.declared.names.OpaqueNodePtr.{OpaqueNodePtr}
 use Rattle.art_model.specs.Pairs.{IsMap, of_key}
 use Rattle.art_model.specs.Trees.{child, no_child, byte_at, groups, add_to_groups}
 use Rattle.art_model.specs.Layouts.{slots_of, names_of, inner_names, inner_names_below}
-use Rattle.art_model.specs.Stores.{node_at, held, IsUsed}
+use Rattle.art_model.specs.Stores.{node_at, content_at, IsUsed}
 use Rattle.art_model.specs.Footprints.{IsIn}
 use Rattle.art_model.proofs.lists.Lists.{Each-append, Each-left, Each-right, Each-weaker, each_map}
 use Rattle.art_model.proofs.keys.Keys.{IsMap-left, IsMap-right}
@@ -254,24 +254,24 @@ module _ {K V : Type 0} {bytes : K → List ℕ} (P : ℕ) (old mid written new 
         leaves_are = ap₂ (λ (p q : List OpaqueNodePtr). p ++ q) t.leaves_are cs.leaves_are ∙ sym (map-append leaf_name group others) ∙ ap (map leaf_name) (take-append-drop n leaves);
         holds = (held_still old mid written parent (with_child b name) from inner_kind there kept leaves_written change_is new kept' t.tree t.holds (apart t), cs.holds);
         come = record {
-          fresh = Each-append (λ n. held old n ≡ None) (inner_names t.tree) (inner_names_below cs.children) t.come.fresh
-              (Each-weaker (λ n. held written n ≡ None) (λ n. held old n ≡ None) (λ n free. was_free old mid kept n (now_free n free)) (inner_names_below cs.children) cs.come.fresh);
+          fresh = Each-append (λ n. content_at old n ≡ None) (inner_names t.tree) (inner_names_below cs.children) t.come.fresh
+              (Each-weaker (λ n. content_at written n ≡ None) (λ n. content_at old n ≡ None) (λ n free. was_free old mid kept n (now_free n free)) (inner_names_below cs.children) cs.come.fresh);
           added = λ n used. from_rest n (cs.come.added n used);
           distinct = Pairwise-append ◌≢◌ (inner_names t.tree) (inner_names_below cs.children) t.come.distinct cs.come.distinct
               (Each-weaker (λ n. IsUsed mid n) (λ n. Each (λ k. n ≢ k) (inner_names_below cs.children))
-              (λ n used. Each-weaker (λ k. held written k ≡ None) (λ k. n ≢ k) (λ k free e. used (ap (held mid) e ∙ now_free k free))
+              (λ n used. Each-weaker (λ k. content_at written k ≡ None) (λ k. n ≢ k) (λ k free e. used (ap (content_at mid) e ∙ now_free k free))
               (inner_names_below cs.children) cs.come.fresh) (inner_names t.tree) (inner_used (node_at mid) (IsUsed mid) (node_used mid) t.tree t.holds));
         };
       }
     where
-      now_free : (k : OpaqueNodePtr) → held written k ≡ None → held mid k ≡ None
+      now_free : (k : OpaqueNodePtr) → content_at written k ≡ None → content_at mid k ≡ None
       now_free = free_written old mid written parent (with_child b name) from inner_kind there kept leaves_written change_is
 
       apart : (t : Built bytes P (front ++ b ∷ []) (take n leaves) old mid name) → Each (λ k. k ≢ inner_name parent) (names_of t.tree)
       apart t = names_each (λ k. k ≢ inner_name parent) t.tree
           (subst (Each (λ k. k ≢ inner_name parent)) (sym t.leaves_are) (each_map leaf_name (λ k. k ≢ inner_name parent) (take n leaves) (no_leaf (take n leaves))))
-          (Each-weaker (λ k. held old k ≡ None) (λ k. k ≢ inner_name parent)
-          (λ k free e. inner_is_used old parent from inner_kind there (ap (held old) (sym e) ∙ free)) (inner_names t.tree) t.come.fresh)
+          (Each-weaker (λ k. content_at old k ≡ None) (λ k. k ≢ inner_name parent)
+          (λ k free e. inner_is_used old parent from inner_kind there (ap (content_at old) (sym e) ∙ free)) (inner_names t.tree) t.come.fresh)
         where
           no_leaf : (ps : List LeafPtr) → Each (λ p. leaf_name p ≢ inner_name parent) ps
           no_leaf [] = tt

@@ -13,7 +13,7 @@ use Rattle.art_parts.specs.declared.names.InnerPtr.{InnerPtr}
 use Rattle.art_parts.specs.declared.names.OpaqueNodePtr.{OpaqueNodePtr}
 use Rattle.art_model.specs.Trees.{Tree, leaf, inner, Subtrees, child, no_child}
 use Rattle.art_model.specs.Layouts.{Node, names_of, names_below, leaf_names, leaf_names_below, inner_names, inner_names_below, Holds, HoldsBelow}
-use Rattle.art_model.specs.Stores.{node_at, seen, Held, held, held_inner, held_leaf, IsUsed}
+use Rattle.art_model.specs.Stores.{node_at, tree_node, Held, content_at, held_inner, held_leaf, IsUsed}
 use Rattle.art_model.specs.Writes.{as_inner}
 use Rattle.art_model.proofs.lists.Lists.{Each-append, Each-left, Each-right}
 use Rattle.art_model.proofs.stores.Views.{held_in_inner, leaf_or}
@@ -22,24 +22,24 @@ use Rattle.art_oracle.specs.Built.{KeepsNodes}
 module _ {K V : Type 0} where
   -- a name that stands for a node is in use
   pub node_used : (s : Nodes K V) (name : OpaqueNodePtr) (x : Node OpaqueNodePtr (K × V)) → node_at s name ≡ Some x → IsUsed s name
-  node_used s name x e none = let f = sym (ap (option_map (seen name.kind)) none) ∙ e in absurd cc
+  node_used s name x e none = let f = sym (ap (option_map (tree_node name.kind)) none) ∙ e in absurd cc
 
   pub keeps-trans : (old mid new : Nodes K V) → KeepsNodes old mid → KeepsNodes mid new → KeepsNodes old new
   keeps-trans old mid new h k name used = let e = h name used in k name (λ none. used (sym e ∙ none)) ∙ e
 
   -- what is free was free
-  pub was_free : (old new : Nodes K V) → KeepsNodes old new → (name : OpaqueNodePtr) → held new name ≡ None → held old name ≡ None
-  was_free old new kept name free = go (held old name) refl
+  pub was_free : (old new : Nodes K V) → KeepsNodes old new → (name : OpaqueNodePtr) → content_at new name ≡ None → content_at old name ≡ None
+  was_free old new kept name free = go (content_at old name) refl
     where
-      go : (o : Option (Held K V)) → held old name ≡ o → held old name ≡ None
+      go : (o : Option (Held K V)) → content_at old name ≡ o → content_at old name ≡ None
       go None e = e
       go (Some x) e = let k = kept name (λ none. absurd cc) in absurd cc
 
   -- where one inner node alone is written, all other names hold what they held
   pub others_held : (old new : Nodes K V) (p : InnerPtr) → new.leaves ≡ old.leaves →
-      ((q : InnerPtr) → q ≢ p → finite.get new.inners q ≡ finite.get old.inners q) → (name : OpaqueNodePtr) → name ≢ inner_name p → held new name ≡ held old name
+      ((q : InnerPtr) → q ≢ p → finite.get new.inners q ≡ finite.get old.inners q) → (name : OpaqueNodePtr) → name ≢ inner_name p → content_at new name ≡ content_at old name
   others_held old new p leaves inners name off = elim (leaf_or name) [
-    | inl (q, e) ↦ subst (λ z. held new z ≡ held old z) (sym e) (ap (λ m. option_map held_leaf (finite.get m q)) leaves)
+    | inl (q, e) ↦ subst (λ z. content_at new z ≡ content_at old z) (sym e) (ap (λ m. option_map held_leaf (finite.get m q)) leaves)
     | inr kind ↦ held_in_inner new name.kind name.slot kind ∙ ap (option_map held_inner) (inners (as_inner name) (λ e. off (ap inner_name e))) ∙ sym (held_in_inner old name.kind name.slot kind)
   ]
 

@@ -22,7 +22,7 @@ use Rattle.art_model.specs.Pairs.{IsMap, of_key}
 use Rattle.art_model.specs.Trees.{leaf, inner, kind_of, canonical_header, byte_at, groups}
 use Rattle.art_model.specs.Radix.{bytes_of}
 use Rattle.art_model.specs.Layouts.{inner_node, slots_of, inner_names_below}
-use Rattle.art_model.specs.Stores.{node_at, seen, inner_seen, held, held_leaf, held_inner, IsUsed}
+use Rattle.art_model.specs.Stores.{node_at, tree_node, inner_seen, content_at, held_leaf, held_inner, IsUsed}
 use Rattle.art_model.specs.Footprints.{IsIn}
 use Rattle.art_model.proofs.lists.Lists.{Each-weaker, after_front}
 use Rattle.art_model.proofs.keys.Keys.{precedes_rest, precedes_apart, before_apart, cmp-append}
@@ -157,7 +157,7 @@ kind_not_leaf n = go (leb n 4) (leb n 16) (leb n 48)
     go false false false = λ e. absurd cc
 
 module _ {K V : Type 0} where
-  pub placed_free : (s : Nodes K V) (p : InnerPtr) → p.kind ≢ Leaf → finite.get s.inners p ≡ None → held s (inner_name p) ≡ None
+  pub placed_free : (s : Nodes K V) (p : InnerPtr) → p.kind ≢ Leaf → finite.get s.inners p ≡ None → content_at s (inner_name p) ≡ None
   placed_free s p n free = held_in_inner s p.kind p.slot n ∙ ap (option_map held_inner) free
 
   -- a node placed under a free name
@@ -165,11 +165,11 @@ module _ {K V : Type 0} where
     placed_elsewhere : (q : InnerPtr) → q ≢ p → finite.get new.inners q ≡ finite.get old.inners q
     placed_elsewhere q n = ap (λ m. finite.get m q) placed ∙ inner_elsewhere old.inners p q node n
 
-    placed_others : (name : OpaqueNodePtr) → name ≢ inner_name p → held new name ≡ held old name
+    placed_others : (name : OpaqueNodePtr) → name ≢ inner_name p → content_at new name ≡ content_at old name
     placed_others = others_held old new p same placed_elsewhere
 
     pub placed_kept : p.kind ≢ Leaf → KeepsNodes old new
-    placed_kept n name used = placed_others name (λ e. used (ap (held old) e ∙ placed_free old p n free))
+    placed_kept n name used = placed_others name (λ e. used (ap (content_at old) e ∙ placed_free old p n free))
 
 module _ {K V : Type 0} (bytes : K → List ℕ) (P : ℕ) where
   pub leaf_built : (old : Nodes K V) (way : List ℕ) (leaves : List LeafPtr) (depth : ℕ) (d : LeafPtr) (name : OpaqueNodePtr) →
@@ -189,7 +189,7 @@ module _ {K V : Type 0} (bytes : K → List ℕ) (P : ℕ) where
             radix = w'.0;
             its = ap (λ o. leaf_pair o ++ []) (sym i);
             leaves_are = refl;
-            holds = ap (λ o. option_map (seen Leaf) (option_map held_leaf o)) i;
+            holds = ap (λ o. option_map (tree_node Leaf) (option_map held_leaf o)) i;
             come = record { fresh = tt; added = λ n used. inl used; distinct = tt };
           }
 
@@ -219,10 +219,10 @@ module _ {K V : Type 0} (bytes : K → List ℕ) (P : ℕ) where
     pub node_kept : KeepsNodes old new
     node_kept name used =
         let mid_is = mid_kept name used in
-        kept name (λ e. used (ap (held old) e ∙ placed_free old p inner_kind free)) (λ none. used (sym mid_is ∙ none)) ∙ mid_is
+        kept name (λ e. used (ap (content_at old) e ∙ placed_free old p inner_kind free)) (λ none. used (sym mid_is ∙ none)) ∙ mid_is
 
     here : node_at new (inner_name p) ≡ Some (inner_node (canonical_header P part count) (slots_of under.below.children))
-    here = ap (option_map (seen p.kind)) (held_in_inner new p.kind p.slot inner_kind) ∙ ap (λ o. option_map (seen p.kind) (option_map held_inner o)) under.there
+    here = ap (option_map (tree_node p.kind)) (held_in_inner new p.kind p.slot inner_kind) ∙ ap (λ o. option_map (tree_node p.kind) (option_map held_inner o)) under.there
         ∙ ap₂ (λ (k : NodeType) (i : Inner). Some (inner_seen k i)) is
         (ap₂ (λ f (l : List (ℕ × OpaqueNodePtr)). let i : Inner = record { prefix = f; children = l } in i) under.below.prefix under.below.slots)
 
@@ -237,11 +237,11 @@ module _ {K V : Type 0} (bytes : K → List ℕ) (P : ℕ) where
       come = record {
         fresh = (
           placed_free old p inner_kind free,
-          Each-weaker (λ n. held mid n ≡ None) (λ n. held old n ≡ None) (was_free old mid mid_kept) (inner_names_below under.below.children) under.below.come.fresh,
+          Each-weaker (λ n. content_at mid n ≡ None) (λ n. content_at old n ≡ None) (was_free old mid mid_kept) (inner_names_below under.below.children) under.below.come.fresh,
         );
         added = λ n used. from_below n (under.below.come.added n used);
         distinct = (
-          Each-weaker (λ n. held mid n ≡ None) (λ n. inner_name p ≢ n) (λ n none e. p_used (ap (held mid) e ∙ none))
+          Each-weaker (λ n. content_at mid n ≡ None) (λ n. inner_name p ≢ n) (λ n none e. p_used (ap (content_at mid) e ∙ none))
               (inner_names_below under.below.children) under.below.come.fresh,
           under.below.come.distinct,
         );

@@ -14,7 +14,7 @@ use Rattle.art_model.specs.Keys.{IsFront}
 use Rattle.art_model.specs.Pairs.{IsMap, of_key}
 use Rattle.art_model.specs.Trees.{Tree, leaf, inner, Subtrees, child, no_child}
 use Rattle.art_model.specs.Layouts.{names_of, names_below, leaf_names, leaf_names_below, inner_names, inner_names_below, AreDistinct, AreLinked}
-use Rattle.art_model.specs.Stores.{node_at, links_at, held, held_in, held_leaf, held_inner, links_of, IsUsed}
+use Rattle.art_model.specs.Stores.{node_at, links_at, content_at, content_in, held_leaf, held_inner, links_of, IsUsed}
 use Rattle.art_model.specs.Canonical.{IsCanonicalTree}
 use Rattle.art_model.specs.Footprints.{IsIn}
 use Rattle.art_model.proofs.lists.Lists.{Each-left, Each-right, Each-weaker, each_map}
@@ -101,9 +101,9 @@ module _ {K V : Type 0} {old new : Nodes K V} {names : List LeafPtr} {pairs : Li
       used None h = absurd cc
       used (Some l) h = λ e. absurd cc
 
-  names_free : Each (λ n. held old n ≡ None) (map leaf_name names)
+  names_free : Each (λ n. content_at old n ≡ None) (map leaf_name names)
   names_free =
-      each_map leaf_name (λ n. held old n ≡ None) names (Each-weaker (λ p. finite.get old.leaves p ≡ None) (λ p. held old (leaf_name p) ≡ None)
+      each_map leaf_name (λ n. content_at old n ≡ None) names (Each-weaker (λ p. finite.get old.leaves p ≡ None) (λ p. content_at old (leaf_name p) ≡ None)
       (λ p free. ap (option_map held_leaf) free) names H.placed.fresh)
 
   names_distinct : AreDistinct (map leaf_name names)
@@ -123,11 +123,11 @@ module _ {K V : Type 0} {old new : Nodes K V} {names : List LeafPtr} {pairs : Li
   name_in p (q ∷ qs) (inr i) = inr (name_in p qs i)
 
   -- a name is a placed leaf's, or holds what it held
-  leaves_others : (kind : NodeType) (slot : ℕ) → IsIn (record { kind = kind; slot = slot }) (map leaf_name names) ⊎ (held_in new kind slot ≡ held_in old kind slot)
+  leaves_others : (kind : NodeType) (slot : ℕ) → IsIn (record { kind = kind; slot = slot }) (map leaf_name names) ⊎ (content_in new kind slot ≡ content_in old kind slot)
   leaves_others Leaf slot = go (H.placed.others (record { slot = slot }))
     where
       go : IsIn (record { slot = slot }) names ⊎ (finite.get new.leaves (record { slot = slot }) ≡ finite.get old.leaves (record { slot = slot })) →
-          IsIn (record { kind = Leaf; slot = slot }) (map leaf_name names) ⊎ (held_in new Leaf slot ≡ held_in old Leaf slot)
+          IsIn (record { kind = Leaf; slot = slot }) (map leaf_name names) ⊎ (content_in new Leaf slot ≡ content_in old Leaf slot)
       go (inl i) = inl (name_in (record { slot = slot }) names i)
       go (inr e) = inr (ap (option_map held_leaf) e)
   leaves_others Node4 slot = inr (ap (λ m. option_map held_inner (finite.get m (record { kind = Node4; slot = slot }))) H.inners)
@@ -138,14 +138,14 @@ module _ {K V : Type 0} {old new : Nodes K V} {names : List LeafPtr} {pairs : Li
   pub leaves_kept : KeepsNodes old new
   leaves_kept name used = go (leaves_others name.kind name.slot)
     where
-      go : IsIn name (map leaf_name names) ⊎ (held new name ≡ held old name) → held new name ≡ held old name
-      go (inl i) = absurd (used (each_in (λ n. held old n ≡ None) name (map leaf_name names) names_free i))
+      go : IsIn name (map leaf_name names) ⊎ (content_at new name ≡ content_at old name) → content_at new name ≡ content_at old name
+      go (inl i) = absurd (used (each_in (λ n. content_at old n ≡ None) name (map leaf_name names) names_free i))
       go (inr e) = e
 
   pub leaves_added : (name : OpaqueNodePtr) → IsUsed new name → IsUsed old name ⊎ IsIn name (map leaf_name names)
   leaves_added name used = go (leaves_others name.kind name.slot)
     where
-      go : IsIn name (map leaf_name names) ⊎ (held new name ≡ held old name) → IsUsed old name ⊎ IsIn name (map leaf_name names)
+      go : IsIn name (map leaf_name names) ⊎ (content_at new name ≡ content_at old name) → IsUsed old name ⊎ IsIn name (map leaf_name names)
       go (inl i) = inr i
       go (inr e) = inl (λ none. used (e ∙ none))
 
@@ -156,7 +156,7 @@ whole_kept {old = old} {mid = mid} H new kept = keeps-trans old mid new (leaves_
 module _ {K V : Type 0} {bytes : K → List ℕ} {P : ℕ} {old mid new : Nodes K V} {names : List LeafPtr} {pairs : List (K × V)} {root : OpaqueNodePtr}
     (H : HasLeaves old mid names pairs) (b : Built bytes P [] names mid new root) (same : new.leaves ≡ mid.leaves) where
   distinct : AreDistinct (names_of b.tree)
-  distinct = all_distinct (IsUsed mid) (λ n. held mid n ≡ None) (λ x y used free e. used (ap (held mid) e ∙ free)) b.tree
+  distinct = all_distinct (IsUsed mid) (λ n. content_at mid n ≡ None) (λ x y used free e. used (ap (content_at mid) e ∙ free)) b.tree
       (subst AreDistinct (sym b.leaves_are) (names_distinct H)) b.come.distinct (subst (Each (IsUsed mid)) (sym b.leaves_are) (names_used H)) b.come.fresh
 
   linked : AreLinked (links_at new) None (leaf_names b.tree) None
@@ -181,10 +181,10 @@ module _ {K V : Type 0} {bytes : K → List ℕ} {P : ℕ} {old mid new : Nodes 
       from_mid (inl u) = in_leaves (leaves_added H name u)
       from_mid (inr i) = inr (b.tree, whole_tree, taken_in takes_inners b.tree name i)
 
-  pub whole_fresh : (name : OpaqueNodePtr) → IsInTree (of_key bytes) P new (Some root) pairs name → held old name ≡ None
+  pub whole_fresh : (name : OpaqueNodePtr) → IsInTree (of_key bytes) P new (Some root) pairs name → content_at old name ≡ None
   whole_fresh name (layout, is, i) =
-      each_in (λ n. held old n ≡ None) name (names_of b.tree) free (subst (λ t. IsIn name (names_of t)) (has_one_layout (node_at new) root b.tree layout whole_tree.stands.0 is.stands.0) i)
+      each_in (λ n. content_at old n ≡ None) name (names_of b.tree) free (subst (λ t. IsIn name (names_of t)) (has_one_layout (node_at new) root b.tree layout whole_tree.stands.0 is.stands.0) i)
     where
-      free : Each (λ n. held old n ≡ None) (names_of b.tree)
-      free = names_each (λ n. held old n ≡ None) b.tree (subst (Each (λ n. held old n ≡ None)) (sym b.leaves_are) (names_free H))
-          (Each-weaker (λ n. held mid n ≡ None) (λ n. held old n ≡ None) (was_free old mid (leaves_kept H)) (inner_names b.tree) b.come.fresh)
+      free : Each (λ n. content_at old n ≡ None) (names_of b.tree)
+      free = names_each (λ n. content_at old n ≡ None) b.tree (subst (Each (λ n. content_at old n ≡ None)) (sym b.leaves_are) (names_free H))
+          (Each-weaker (λ n. content_at mid n ≡ None) (λ n. content_at old n ≡ None) (was_free old mid (leaves_kept H)) (inner_names b.tree) b.come.fresh)

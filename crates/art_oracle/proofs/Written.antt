@@ -12,7 +12,7 @@ use Rattle.art_parts.specs.declared.names.OpaqueNodePtr.{OpaqueNodePtr}
 use Rattle.art_nodes.proofs.StoreLaws.{inner_changed_here, inner_changed_elsewhere}
 use Rattle.art_model.specs.Trees.{Tree}
 use Rattle.art_model.specs.Layouts.{names_of, Holds}
-use Rattle.art_model.specs.Stores.{node_at, seen, Held, held, held_inner, IsUsed}
+use Rattle.art_model.specs.Stores.{node_at, tree_node, Held, content_at, held_inner, IsUsed}
 use Rattle.art_model.proofs.lists.Lists.{Each-weaker}
 use Rattle.art_model.proofs.stores.Stores.{frame}
 use Rattle.art_model.proofs.stores.Names.{all_taken}
@@ -43,14 +43,14 @@ module _ {K V : Type 0} where
     elsewhere : (q : InnerPtr) → q ≢ parent → finite.get written.inners q ≡ finite.get mid.inners q
     elsewhere q n = ap (λ m. finite.get m q) change_is ∙ inner_changed_elsewhere mid.inners parent q f n
 
-    written_others : (name : OpaqueNodePtr) → name ≢ inner_name parent → held written name ≡ held mid name
+    written_others : (name : OpaqueNodePtr) → name ≢ inner_name parent → content_at written name ≡ content_at mid name
     written_others = others_held mid written parent same elsewhere
 
-    pub free_written : (n : OpaqueNodePtr) → held written n ≡ None → held mid n ≡ None
+    pub free_written : (n : OpaqueNodePtr) → content_at written n ≡ None → content_at mid n ≡ None
     free_written n free = go (name_cases n (inner_name parent))
       where
-        go : (n ≡ inner_name parent) ⊎ (n ≢ inner_name parent) → held mid n ≡ None
-        go (inl e) = absurd (inner_is_used written parent (f from) inner_kind parent_written (ap (held written) (sym e) ∙ free))
+        go : (n ≡ inner_name parent) ⊎ (n ≢ inner_name parent) → content_at mid n ≡ None
+        go (inl e) = absurd (inner_is_used written parent (f from) inner_kind parent_written (ap (content_at written) (sym e) ∙ free))
         go (inr e) = sym (written_others n e) ∙ free
 
     pub mid_used : (n : OpaqueNodePtr) → IsUsed mid n → IsUsed written n
@@ -60,7 +60,7 @@ module _ {K V : Type 0} where
     used_written n u none = go (name_cases n (inner_name parent))
       where
         go : (n ≡ inner_name parent) ⊎ (n ≢ inner_name parent) → ⊥
-        go (inl e) = inner_is_used mid parent from inner_kind (inner_kept old mid parent from inner_kind kept there) (ap (held mid) (sym e) ∙ none)
+        go (inl e) = inner_is_used mid parent from inner_kind (inner_kept old mid parent from inner_kind kept there) (ap (content_at mid) (sym e) ∙ none)
         go (inr e) = u (written_others n e ∙ none)
 
     module _ (new : Nodes K V) (kept' : KeepsAllBut written new parent) where
@@ -78,5 +78,5 @@ module _ {K V : Type 0} where
         where
           one : (n : OpaqueNodePtr) → (n ≢ inner_name parent) × (node_at mid n ≡ None → ⊥) → node_at new n ≡ node_at mid n
           one n h =
-              let in_mid : IsUsed mid n = λ none. h.1 (ap (option_map (seen n.kind)) none) in
-              ap (option_map (seen n.kind)) (kept' n h.0 (mid_used n in_mid) ∙ written_others n h.0)
+              let in_mid : IsUsed mid n = λ none. h.1 (ap (option_map (tree_node n.kind)) none) in
+              ap (option_map (tree_node n.kind)) (kept' n h.0 (mid_used n in_mid) ∙ written_others n h.0)

@@ -15,7 +15,7 @@ use Rattle.art_model.specs.Pairs.{IsMap, of_key}
 use Rattle.art_model.specs.Trees.{Tree, Subtrees, byte_at, groups}
 use Rattle.art_model.specs.Radix.{pairs_of, pairs_below, IsRadix, AreRadix, BytesRise, bytes_of}
 use Rattle.art_model.specs.Layouts.{name_of, slots_of, leaf_names, leaf_names_below, inner_names, inner_names_below, Holds, HoldsBelow, AreDistinct}
-use Rattle.art_model.specs.Stores.{node_at, held, IsUsed, pair_of}
+use Rattle.art_model.specs.Stores.{node_at, content_at, IsUsed, pair_of}
 use Rattle.art_model.specs.Footprints.{IsIn}
 
 -- a node with no child, and what of its prefix is stored
@@ -48,11 +48,11 @@ module _ {K V : Type 0} where
   -- every node of the first store but this inner one is in the second as it was
   abbrev pub KeepsAllBut : Nodes K V → Nodes K V → InnerPtr → Type 0
   KeepsAllBut old new parent =
-      (name : OpaqueNodePtr) → name ≢ inner_name parent → IsUsed old name → held new name ≡ held old name
+      (name : OpaqueNodePtr) → name ≢ inner_name parent → IsUsed old name → content_at new name ≡ content_at old name
 
   -- the names were free, have come into use, and no others have
   pub record HaveCome (old new : Nodes K V) (names : List OpaqueNodePtr) : Type 0 where
-    pub fresh : Each (λ n. held old n ≡ None) names
+    pub fresh : Each (λ n. content_at old n ≡ None) names
     pub added : (n : OpaqueNodePtr) → IsUsed new n → IsUsed old n ⊎ IsIn n names
     pub distinct : AreDistinct names
 

@@ -4,14 +4,14 @@ use Rattle.art_nodes.specs.Nodes.{Nodes}
 use Rattle.art_parts.specs.declared.names.OpaqueNodePtr.{OpaqueNodePtr}
 use Rattle.art_model.specs.Trees.{Tree}
 use Rattle.art_model.specs.Layouts.{names_of}
-use Rattle.art_model.specs.Stores.{held, IsUsed}
+use Rattle.art_model.specs.Stores.{content_at, IsUsed}
 use Rattle.art_model.specs.Canonical.{IsCanonicalTree}
 use Rattle.art_model.specs.Footprints.{IsIn}
 
 module _ {K V : Type 0} where
   -- each node that the store held is as it was
   abbrev pub KeepsNodes : Nodes K V → Nodes K V → Type 0
-  KeepsNodes old new = (name : OpaqueNodePtr) → IsUsed old name → held new name ≡ held old name
+  KeepsNodes old new = (name : OpaqueNodePtr) → IsUsed old name → content_at new name ≡ content_at old name
 
   -- the name is that of a node of the root's canonical tree
   abbrev pub IsInTree : (K × V → List ℕ) → ℕ → Nodes K V → Option OpaqueNodePtr → List (K × V) → OpaqueNodePtr → Type 0

@@ -13,7 +13,7 @@ ghost use Rattle.art_model.specs.Keys.{common_front};
 ghost use Rattle.art_model.specs.Pairs.{IsMap, of_key};
 ghost use Rattle.art_model.specs.Trees.{kind_of};
 ghost use Rattle.art_model.specs.Layouts.{AreDistinct, AreLinked};
-ghost use Rattle.art_model.specs.Stores.{held, links_at};
+ghost use Rattle.art_model.specs.Stores.{content_at, links_at};
 ghost use Rattle.art_model.specs.Canonical.{IsCanonical};
 ghost use Rattle.art_oracle.specs.Build.{Ready, ReadyBelow, IsGroup, count_groups, leaf_key, AreBelow, Starts, Built, BuiltUnder, KeepsAllBut, IsPlaced, KeepsPairs};
 ghost use Rattle.art_oracle.specs.Built.{KeepsNodes, AddsTree, IsInTree};
@@ -279,7 +279,7 @@ pub fn build<K: AsBytes + Drop, V: Drop, const P: usize>(
     ensures names { IfOk result (λ root.
         AddsTree (of_key K.bytes) P store.old store.new root pairs.items) }
     ensures fresh { IfOk result (λ root. (name : OpaqueNodePtr) →
-        IsInTree (of_key K.bytes) P store.new root pairs.items name → held store.old name ≡ None) }
+        IsInTree (of_key K.bytes) P store.new root pairs.items name → content_at store.old name ≡ None) }
 {
     let names = place_leaves(store, pairs)?;
     if names.is_empty() {

@@ -41,6 +41,7 @@ impl<const P: usize> Header<P> {
         Header { bytes: stored, len }
     }
 
+    /// The length of the whole prefix, of which at most `P` bytes are stored.
     #[inline(always)]
     pub fn prefix_len(&self) -> usize
         ensures { result ≡ self.now.len }

@@ -28,6 +28,7 @@ impl<K, V> LeafNode<K, V> {
         }
     }
 
+    /// The key.
     #[inline(always)]
     pub fn key_ref(&self) -> &K
         ensures { result.now ≡ self.now.key }
@@ -35,6 +36,7 @@ impl<K, V> LeafNode<K, V> {
         &self.key
     }
 
+    /// The value.
     #[inline(always)]
     pub fn value_ref(&self) -> &V
         ensures { result.now ≡ self.now.value }

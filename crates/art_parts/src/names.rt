@@ -128,6 +128,7 @@ impl LeafPtr {
         LeafPtr { slot }
     }
 
+    /// The name as one of any node.
     #[inline(always)]
     pub fn to_opaque(self) -> OpaqueNodePtr
         ensures { result ≡ leaf_name self }
@@ -153,6 +154,7 @@ impl InnerPtr {
         }
     }
 
+    /// The name as one of any node.
     #[inline(always)]
     pub fn to_opaque(self) -> OpaqueNodePtr
         ensures { result ≡ inner_name self }
@@ -175,6 +177,7 @@ impl OpaqueNodePtr {
         OpaqueNodePtr { kind, slot }
     }
 
+    /// The kind of the node.
     #[inline(always)]
     pub fn node_type(self) -> NodeType
         ensures { result ≡ self.kind }
@@ -182,6 +185,7 @@ impl OpaqueNodePtr {
         self.kind
     }
 
+    /// The slot in which the node stands, among those of its kind.
     #[inline(always)]
     pub fn slot(self) -> usize
         ensures { result ≡ self.slot }

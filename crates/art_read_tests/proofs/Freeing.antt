@@ -9,7 +9,7 @@ use Rattle.art_parts.specs.declared.names.OpaqueNodePtr.{OpaqueNodePtr}
 use Rattle.art_model.specs.Footprints.{IsIn}
 use Rattle.art_model.specs.Kept.{Frees}
 use Rattle.art_model.specs.Layouts.{AreLinked, Holds, HoldsBelow, IsLayout, first_or, inner_names, inner_names_below, names_of, slots_of}
-use Rattle.art_model.specs.Stores.{held, links_at, links_of, shape_at}
+use Rattle.art_model.specs.Stores.{content_at, links_at, links_of, shape_at}
 use Rattle.art_model.specs.Trees.{Tree, leaf, inner, Subtrees, child, no_child}
 use Rattle.art_model.specs.Writes.{as_inner}
 use Rattle.art_model.proofs.leaves.Chains.{links_inner}
@@ -46,7 +46,7 @@ module _ {K V : Type 0} (s : Nodes K V) where
 
 module _ {K V : Type 0} where
   -- a name is seen as it was if it is a leaf's, or holds what it held
-  same_shape : (s t : Nodes K V) (k : OpaqueNodePtr) → (k.kind ≢ Leaf → held t k ≡ held s k) → shape_at t k ≡ shape_at s k
+  same_shape : (s t : Nodes K V) (k : OpaqueNodePtr) → (k.kind ≢ Leaf → content_at t k ≡ content_at s k) → shape_at t k ≡ shape_at s k
   same_shape s t k stays = elim (leaf_or k) [
     | inl (p, is) ↦ subst (λ z. shape_at t z ≡ shape_at s z) (sym is) refl
     | inr off ↦

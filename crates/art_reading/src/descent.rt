@@ -39,6 +39,7 @@ impl Visits {
         Visits { count: 0 }
     }
 
+    /// How many nodes have been read.
     pub fn count(&self) -> usize
         ensures { result ≡ self.now }
     {

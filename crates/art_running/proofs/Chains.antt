@@ -2,7 +2,7 @@
 use Rattle.std.proofs.Common.{◌≡◌, ℕ, List, [], ◌∷◌, ◌++◌, subst, refl}
 use Rattle.art_running.specs.Made.{MakesStep}
 use Rattle.art_running.specs.Steps.{State, Step, IsSound}
-use Rattle.art_running.specs.Runs.{Chain, Shown, shown, IsRun}
+use Rattle.art_running.specs.Runs.{Chain, Shown, shown_state, IsRun}
 use Rattle.art_running.specs.declared.run.Command.{Command}
 use Rattle.art_running.specs.declared.run.Reply.{Reply}
 
@@ -15,7 +15,7 @@ module _ {S C R : Type 0} (Step : S → C → R → S → Type 0) where
 
 module _ {K V : Type 0} {bytes : K → List ℕ} {P : ℕ} {IsClone : K × V → K × V → Type 0} where
   -- a run of no commands
-  pub run_none : {from : Shown K V} (old : State K V) → shown old ≡ from → IsSound bytes P old → IsRun bytes P IsClone from [] [] from
+  pub run_none : {from : Shown K V} (old : State K V) → shown_state old ≡ from → IsSound bytes P old → IsRun bytes P IsClone from [] [] from
   run_none old shows sound = record { start = old; end = old; starts = shows; ends = shows; start_sound = sound; end_sound = sound; steps = refl }
 
   -- a run, and a step more

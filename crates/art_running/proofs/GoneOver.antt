@@ -12,7 +12,7 @@ use Rattle.art_model.specs.Promises.{IsLessened, tree_taken}
 use Rattle.art_model.specs.Radix.{pairs_of}
 use Rattle.art_model.specs.Roots.{ForTree}
 use Rattle.art_model.proofs.stores.Canonical.{tree_radix}
-use Rattle.art_running.specs.Runs.{on, of_side, beside, shown}
+use Rattle.art_running.specs.Runs.{on, of_side, beside, shown_state}
 use Rattle.art_running.specs.Steps.{State, Step, opposite}
 use Rattle.art_running.specs.declared.run.Command.TheVariants.{Clone}
 use Rattle.art_running.specs.declared.run.Reply.TheVariants.{Cloned, NoMemory}
@@ -44,7 +44,7 @@ module _ {K V : Type 0} (bytes : K → List ℕ) (P : ℕ) (is_key_clone : K →
 
   module _ {s : Nodes K V} {root : OpaqueNodePtr} {layout : Layout K V} (by : IsCanonicalTree (of_key bytes) P s root (pairs_of layout) layout) where
     pub over_step : {t z w : Nodes K V} {after : OpaqueNodePtr} (now : Side) → now ≡ opposite side → HasGone bytes P is_key_clone is_value_clone s t z w layout after →
-        (new : State K V) × (shown new ≡ on now (of_side side t w) (of_side side w t) (Some after)) ×
+        (new : State K V) × (shown_state new ≡ on now (of_side side t w) (of_side side w t) (Some after)) ×
         Step bytes P (IsPairClone is_key_clone is_value_clone) (in_store side s z (Some layout)) Clone Cloned new
     over_step {t} {z} {w} {after} now over is =
         let (copies, clones, (copy, by_copy)) = is.canonical in (
@@ -61,7 +61,7 @@ module _ {K V : Type 0} (bytes : K → List ℕ) (P : ℕ) (is_key_clone : K →
 
     -- or there is no memory for it
     pub uncloned_step : (z w : Nodes K V) → SameNodes z w → IsLessened z.promise w.promise →
-        (new : State K V) × (shown new ≡ beside side s w (Some root)) × Step bytes P (IsPairClone is_key_clone is_value_clone) (in_store side s z (Some layout)) Clone (NoMemory None) new
+        (new : State K V) × (shown_state new ≡ beside side s w (Some root)) × Step bytes P (IsPairClone is_key_clone is_value_clone) (in_store side s z (Some layout)) Clone (NoMemory None) new
     uncloned_step z w same lessened = (
       in_store side s w (Some layout),
       ap (λ n. beside side s w (Some n)) by.stands.0.named,

@@ -14,7 +14,7 @@ use Rattle.art_model.specs.Trees.{Tree}
 use Rattle.art_model.proofs.stores.Canonical.{tree_radix}
 use Rattle.art_running.specs.Answers.{Answers}
 use Rattle.art_running.specs.Steps.{State, NothingChanged, IsSound, Step, pairs_in}
-use Rattle.art_running.specs.Runs.{Shown, on, of_side, beside, shown}
+use Rattle.art_running.specs.Runs.{Shown, on, of_side, beside, shown_state}
 use Rattle.art_running.specs.declared.run.Command.{Command}
 use Rattle.art_running.specs.declared.run.Reply.{Reply}
 use Rattle.art_running.specs.declared.run.Reply.TheVariants.{Deleted, Found, MatchLen}
@@ -29,7 +29,7 @@ module _ {K V : Type 0} where
   abbrev pub in_store : Side → Nodes K V → Nodes K V → Option (Layout K V) → State K V
   in_store side present other tree = record { present = present; other = other; side = side; tree = tree }
 
-  state_is : (old : State K V) (side : Side) (s z : Nodes K V) (root : Option OpaqueNodePtr) → shown old ≡ beside side s z root →
+  state_is : (old : State K V) (side : Side) (s z : Nodes K V) (root : Option OpaqueNodePtr) → shown_state old ≡ beside side s z root →
       (old ≡ in_store side s z old.tree) × (option_map name_of old.tree ≡ root)
   state_is old side s z root is = go old.side side old.present old.other is
     where
@@ -56,7 +56,7 @@ module _ {K V : Type 0} (bytes : K → List ℕ) (P : ℕ) where
   canonical_root s root is (pairs, canonical) = let (layout, by) = subst (λ r. IsCanonical (of_key bytes) P s r pairs) is canonical in (pairs, layout, by)
 
   -- a root is canonical for the pairs of a state that shows it
-  pub sound_canonical : (old : State K V) (side : Side) (s z : Nodes K V) (root : Option OpaqueNodePtr) → shown old ≡ beside side s z root →
+  pub sound_canonical : (old : State K V) (side : Side) (s z : Nodes K V) (root : Option OpaqueNodePtr) → shown_state old ≡ beside side s z root →
       IsSound bytes P old → (pairs : List (K × V)) × IsCanonical (of_key bytes) P s root pairs
   sound_canonical old side s z root is sound =
       let (same, named) = state_is old side s z root is in
@@ -67,20 +67,20 @@ module _ {K V : Type 0} (bytes : K → List ℕ) (P : ℕ) where
       go (Some layout) e h = subst (λ r. (pairs : List (K × V)) × IsCanonical (of_key bytes) P s r pairs) e (pairs_of layout, (layout, h))
 
   -- the same of both stores as they stand
-  pub on_canonical : (side : Side) (s z : Nodes K V) (root : Option OpaqueNodePtr) (old : State K V) → shown old ≡ on side s z root →
+  pub on_canonical : (side : Side) (s z : Nodes K V) (root : Option OpaqueNodePtr) (old : State K V) → shown_state old ≡ on side s z root →
       IsSound bytes P old → (pairs : List (K × V)) × IsCanonical (of_key bytes) P (of_side side s z) root pairs
   on_canonical First s z root old is sound = sound_canonical old First s z root is sound
   on_canonical Second s z root old is sound = sound_canonical old Second z s root is sound
 
   -- some state shows a canonical root, and is sound
   pub canonical_sound : (side : Side) (s z : Nodes K V) (root : Option OpaqueNodePtr) (pairs : List (K × V)) →
-      IsCanonical (of_key bytes) P s root pairs → (old : State K V) × (shown old ≡ beside side s z root) × IsSound bytes P old
+      IsCanonical (of_key bytes) P s root pairs → (old : State K V) × (shown_state old ≡ beside side s z root) × IsSound bytes P old
   canonical_sound side s z None pairs h = (in_store side s z None, refl, refl)
   canonical_sound side s z (Some name) pairs (layout, by) = (in_store side s z (Some layout), ap (λ n. beside side s z (Some n)) by.stands.0.named, own_pairs by)
 
   -- the same of both stores as they stand
   pub on_sound : (side : Side) (s z : Nodes K V) (root : Option OpaqueNodePtr) (pairs : List (K × V)) →
-      IsCanonical (of_key bytes) P (of_side side s z) root pairs → (old : State K V) × (shown old ≡ on side s z root) × IsSound bytes P old
+      IsCanonical (of_key bytes) P (of_side side s z) root pairs → (old : State K V) × (shown_state old ≡ on side s z root) × IsSound bytes P old
   on_sound First s z root pairs h = canonical_sound First s z root pairs h
   on_sound Second s z root pairs h = canonical_sound Second z s root pairs h
 
@@ -105,7 +105,7 @@ module _ {K V : Type 0} {IsClone : K × V → K × V → Type 0} (bytes : K → 
   -- a step to any state
   module _ (side : Side) {s z : Nodes K V} {c : Command K V} {r : Reply K V} (to : Shown K V) where
     pub makes_any : {root : Option OpaqueNodePtr} → ((tree : Option (Layout K V)) → option_map name_of tree ≡ root →
-        IsSound bytes P (in_store side s z tree) → (new : State K V) × (shown new ≡ to) × Step bytes P IsClone (in_store side s z tree) c r new) →
+        IsSound bytes P (in_store side s z tree) → (new : State K V) × (shown_state new ≡ to) × Step bytes P IsClone (in_store side s z tree) c r new) →
         MakesStep bytes P IsClone (beside side s z root) c r to
     makes_any {root} step old is sound =
         let (same, named) = state_is old side s z root is in
@@ -114,11 +114,11 @@ module _ {K V : Type 0} {IsClone : K × V → K × V → Type 0} (bytes : K → 
 
     -- from the tree of a canonical root
     pub any_from_root : {name : OpaqueNodePtr} → ((layout : Layout K V) → IsCanonicalTree (of_key bytes) P s name (pairs_of layout) layout → (new : State K V) ×
-        (shown new ≡ to) × Step bytes P IsClone (in_store side s z (Some layout)) c r new) → MakesStep bytes P IsClone (beside side s z (Some name)) c r to
+        (shown_state new ≡ to) × Step bytes P IsClone (in_store side s z (Some layout)) c r new) → MakesStep bytes P IsClone (beside side s z (Some name)) c r to
     any_from_root {name} step = makes_any go
       where
         go : (tree : Option (Layout K V)) → option_map name_of tree ≡ Some name → IsSound bytes P (in_store side s z tree) → (new : State K V) ×
-            (shown new ≡ to) × Step bytes P IsClone (in_store side s z tree) c r new
+            (shown_state new ≡ to) × Step bytes P IsClone (in_store side s z tree) c r new
         go None e h = absurd cc
         go (Some layout) e h =
             let n : name_of layout ≡ name = cc in

@@ -13,7 +13,7 @@ use Rattle.art_model.specs.Canonical.{IsCanonical, IsCanonicalTree}
 use Rattle.art_model.specs.Footprints.{TouchesAtMost, TouchesRelated}
 use Rattle.art_model.specs.Keys.{are_related, are_same}
 use Rattle.art_model.specs.Kept.{ChangesInPlace}
-use Rattle.art_model.specs.Pairs.{of_key, add_in_order, first_of, went, is_conflict, overwrite, overwrite_reply, related_to, remove_key, remove_related, replace_related, with_key}
+use Rattle.art_model.specs.Pairs.{of_key, add_in_order, first_of, only_or_count, is_conflict, overwrite, overwrite_reply, related_to, remove_key, remove_related, replace_related, with_key}
 use Rattle.art_model.specs.Paths.{Frame, plug}
 use Rattle.art_model.specs.Promises.{is_covered, promise_after}
 use Rattle.art_model.specs.Radix.{IsRadix, pairs_of}
@@ -31,7 +31,7 @@ use Rattle.art_model.proofs.stores.Views.{leaf_or}
 use Rattle.art_running.specs.Needs.{needs, more_of, inner_count}
 use Rattle.art_writing.specs.Overwritten.{IsOverwritePointIn, TouchesForNode, TouchesForPrefix, placed_for_overwrite, placed_for_prefix}
 use Rattle.art_writing.specs.Points.{AnswersToOverwrite, IsPointFor}
-use Rattle.art_writing.specs.Inserted.{alone}
+use Rattle.art_writing.specs.Inserted.{unlinked_leaf}
 use Rattle.art_running.specs.Steps.{TouchesBy}
 use Rattle.art_writing.specs.declared.insert.OverwritePoint.{OverwritePoint}
 use Rattle.art_writing.specs.declared.insert.PrefixInsertPoint.{PrefixInsertPoint}
@@ -130,12 +130,12 @@ module _ {K V : Type 0} (bytes : K → List ℕ) (P : ℕ) {s : Nodes K V} {root
 
 -- ---- points of either kind
 
-one_leaf : {A : Type 0} (xs : List A) → went xs ≡ (first_of xs, 0) → ◌≡◌ {A = ℕ} (cond (is_some (first_of xs)) 0 1) (cond (eqb (length xs) 1) 0 1)
+one_leaf : {A : Type 0} (xs : List A) → only_or_count xs ≡ (first_of xs, 0) → ◌≡◌ {A = ℕ} (cond (is_some (first_of xs)) 0 1) (cond (eqb (length xs) 1) 0 1)
 one_leaf [] e = refl
 one_leaf (x ∷ []) e = refl
 one_leaf (x ∷ y ∷ xs) e = absurd (let f = ap (λ z. z.0) e in cc)
 
-one_at_most : {A : Type 0} (xs : List A) → went xs ≡ (first_of xs, 0) → leb (length xs) 1 ≡ true
+one_at_most : {A : Type 0} (xs : List A) → only_or_count xs ≡ (first_of xs, 0) → leb (length xs) 1 ≡ true
 one_at_most [] e = refl
 one_at_most (x ∷ []) e = refl
 one_at_most (x ∷ y ∷ xs) e = absurd (let f = ap (λ z. z.0) e in cc)
@@ -146,7 +146,7 @@ module _ {K V : Type 0} (bytes : K → List ℕ) (P : ℕ) {s : Nodes K V} {root
         (related_to (of_key bytes) (bytes k) (pairs_of layout) ≡ with_key (of_key bytes) (bytes k) (pairs_of layout))
     same_parts = same_rest (of_key bytes) (k, v) (bytes k) (pairs_of layout) (free_unrelated (of_key bytes) (k, v) (bytes k) (pairs_of layout) free)
 
-    one_has : went (with_key (of_key bytes) (bytes k) (pairs_of layout)) ≡ (first_of (with_key (of_key bytes) (bytes k) (pairs_of layout)), 0)
+    one_has : only_or_count (with_key (of_key bytes) (bytes k) (pairs_of layout)) ≡ (first_of (with_key (of_key bytes) (bytes k) (pairs_of layout)), 0)
     one_has = one_went (of_key bytes) (k, v) (bytes k) (pairs_of layout) by.is_map
 
     -- where no unequal key is related an overwrite needs what a put does
@@ -174,7 +174,7 @@ module _ {K V : Type 0} (bytes : K → List ℕ) (P : ℕ) {s : Nodes K V} {root
 pub record HasAppliedPrefix {K V : Type 0} (bytes : K → List ℕ) (P : ℕ) (s t : Nodes K V) (layout : Layout K V) (pair : K × V)
     (point : PrefixInsertPoint) (after : OpaqueNodePtr) (existing : Option (LeafNode K V)) (count : ℕ) : Type 0 where
   pub canonical : IsCanonical (of_key bytes) P t (Some after) (overwrite (of_key bytes) pair (pairs_of layout))
-  pub replaced : existing ≡ option_map alone (overwrite_reply (of_key bytes) pair (pairs_of layout)).0
+  pub replaced : existing ≡ option_map unlinked_leaf (overwrite_reply (of_key bytes) pair (pairs_of layout)).0
   pub removed : count ≡ (overwrite_reply (of_key bytes) pair (pairs_of layout)).1
   pub kept : (pairs : List (K × V)) (new : Layout K V) → IsCanonicalTree (of_key bytes) P t after pairs new → ChangesInPlace (of_key bytes) s t (Some layout) (Some new)
   pub touches : TouchesForPrefix point (of_key bytes) (bytes pair.0) s t layout

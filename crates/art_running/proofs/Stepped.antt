@@ -17,7 +17,7 @@ use Rattle.art_model.specs.Stores.{pair_of}
 use Rattle.art_model.proofs.stores.Canonical.{tree_radix}
 use Rattle.art_running.specs.Answers.{Answers}
 use Rattle.art_writing.specs.Deleted.{TouchesFor, ParentChange, no_parent, keeps, shrinks, is_compressed, parent_change, LeadsTo, placed_for_deletion}
-use Rattle.art_writing.specs.Inserted.{Touches, alone, is_full, placed_for}
+use Rattle.art_writing.specs.Inserted.{Touches, unlinked_leaf, is_full, placed_for}
 use Rattle.art_running.specs.Needs.{needs}
 use Rattle.art_writing.specs.Points.{AnswersTo}
 use Rattle.art_running.specs.Steps.{Changes, MayRefuse, Promises, TouchesBy}
@@ -58,7 +58,7 @@ module _ {K V : Type 0} {s t : Nodes K V} where
   deletion_touches is_compressed h = touches_more 0 2 4 2 2 4 (omega arith) (omega arith) (omega arith) h
 
 -- the pair of a leaf alone is the pair
-pub pairs_back : {K V : Type 0} (reply : Option (K × V)) → option_map pair_of (option_map alone reply) ≡ reply
+pub pairs_back : {K V : Type 0} (reply : Option (K × V)) → option_map pair_of (option_map unlinked_leaf reply) ≡ reply
 pairs_back None = refl
 pairs_back (Some x) = refl
 
@@ -71,7 +71,7 @@ at_root bytes P {s} {root} {name} {layout} by is = subst (λ n. IsCanonicalTree 
 pub record HasApplied {K V : Type 0} (bytes : K → List ℕ) (P : ℕ) (s t : Nodes K V) (layout : Layout K V) (pair : K × V) (point : InsertPoint)
     (after : OpaqueNodePtr) (existing : Option (LeafNode K V)) : Type 0 where
   pub canonical : IsCanonical (of_key bytes) P t (Some after) (put (of_key bytes) pair (pairs_of layout))
-  pub replaced : existing ≡ option_map alone (put_reply (of_key bytes) pair (pairs_of layout))
+  pub replaced : existing ≡ option_map unlinked_leaf (put_reply (of_key bytes) pair (pairs_of layout))
   pub kept : (pairs : List (K × V)) (new : Layout K V) → IsCanonicalTree (of_key bytes) P t after pairs new → ChangesInPlace (of_key bytes) s t (Some layout) (Some new)
   pub touches : Touches point.insert_kind s t
   pub promise : t.promise ≡ promise_after (placed_for s point.insert_kind) s.promise

@@ -7,7 +7,7 @@ use Rattle.art_model.specs.Roots.{ForTree}
 use Rattle.art_writing.specs.Deleted.{LeadsTo}
 use Rattle.art_writing.specs.declared.delete.DeletePoint.{DeletePoint}
 use Rattle.art_running.specs.Answers.{Answers}
-use Rattle.art_running.specs.Runs.{Shown, beside, shown}
+use Rattle.art_running.specs.Runs.{Shown, beside, shown_state}
 use Rattle.art_running.specs.Steps.{State, Step, IsSound}
 use Rattle.art_running.specs.declared.run.Command.{Command}
 use Rattle.art_running.specs.declared.run.Reply.{Reply}
@@ -17,8 +17,8 @@ use Rattle.art_running.specs.declared.run.Side.{Side}
 module _ {K V : Type 0} (bytes : K → List ℕ) (P : ℕ) (IsClone : K × V → K × V → Type 0) where
   -- a step is made, whatever state is shown so
   abbrev pub MakesStep : Shown K V → Command K V → Reply K V → Shown K V → Type 0
-  MakesStep from command reply to = (old : State K V) → shown old ≡ from → IsSound bytes P old →
-      (new : State K V) × (shown new ≡ to) × Step bytes P IsClone old command reply new
+  MakesStep from command reply to = (old : State K V) → shown_state old ≡ from → IsSound bytes P old →
+      (new : State K V) × (shown_state new ≡ to) × Step bytes P IsClone old command reply new
 
   -- a step is made in one store, whatever side it is on and whatever the other one holds
   abbrev pub StepsAlone : Nodes K V → Option OpaqueNodePtr → Command K V → Reply K V → Nodes K V →

@@ -38,8 +38,8 @@ abbrev pub beside : {K V : Type 0} → Side → Nodes K V → Nodes K V → Opti
 beside side present other root = on side (of_side side present other) (of_side side other present) root
 
 -- what is shown of a state
-abbrev pub shown : {K V : Type 0} → State K V → Shown K V
-shown state = beside state.side state.present state.other (root_in state)
+abbrev pub shown_state : {K V : Type 0} → State K V → Shown K V
+shown_state state = beside state.side state.present state.other (root_in state)
 
 module _ {K V : Type 0} (bytes : K → List ℕ) (P : ℕ) (IsClone : K × V → K × V → Type 0) where
   -- The commands get these replies, a step each, on the way from a state with a canonical root to the last one.
@@ -47,8 +47,8 @@ module _ {K V : Type 0} (bytes : K → List ℕ) (P : ℕ) (IsClone : K × V →
       (to : Shown K V) : Type 0 where
     pub start : State K V
     pub end : State K V
-    pub starts : shown start ≡ from
-    pub ends : shown end ≡ to
+    pub starts : shown_state start ≡ from
+    pub ends : shown_state end ≡ to
     pub start_sound : IsSound bytes P start
     pub end_sound : IsSound bytes P end
     pub steps : Chain (Step bytes P IsClone) start commands replies end

@@ -7,16 +7,16 @@ use Rattle.art_nodes.specs.Nodes.{Nodes}
 use Rattle.art_parts.specs.declared.names.InnerPtr.{InnerPtr}
 use Rattle.art_parts.specs.declared.names.OpaqueNodePtr.{OpaqueNodePtr}
 use Rattle.art_nodes.proofs.StoreLaws.{inner_elsewhere as elsewhere}
-use Rattle.art_model.specs.Stores.{held, held_leaf, held_inner}
+use Rattle.art_model.specs.Stores.{content_at, held_leaf, held_inner}
 use Rattle.art_model.proofs.stores.Views.{held_in_inner, leaf_or}
 
 -- an inner node that is placed leaves what is in use, and so does one that is refused
 pub inner_elsewhere : {K V E : Type 0} (s t : Nodes K V) (x : Inner) (result : Result InnerPtr E) →
     IfOk result (λ n. t.inners ≡ insert s.inners n x) → IfOk result (λ n. get s.inners n ≡ None) → t.leaves ≡ s.leaves → OnErr result (t ≡ s) →
-    (k : OpaqueNodePtr) → held s k ≢ None → held t k ≡ held s k
-inner_elsewhere s t x (Err e) inners free leaves same k used = ap (λ m. held m k) same
+    (k : OpaqueNodePtr) → content_at s k ≢ None → content_at t k ≡ content_at s k
+inner_elsewhere s t x (Err e) inners free leaves same k used = ap (λ m. content_at m k) same
 inner_elsewhere s t x (Ok n) inners free leaves same k used = elim (leaf_or k) [
-  | inl (p, e) ↦ subst (λ (z : OpaqueNodePtr). held t z ≡ held s z) (sym e) (ap (λ m. option_map held_leaf (get m p)) leaves)
+  | inl (p, e) ↦ subst (λ (z : OpaqueNodePtr). content_at t z ≡ content_at s z) (sym e) (ap (λ m. option_map held_leaf (get m p)) leaves)
   | inr off ↦ held_in_inner t k.kind k.slot off
       ∙ ap (λ m. option_map held_inner (get m (name k))) inners
       ∙ ap (option_map held_inner) (elsewhere s.inners n (name k) x (λ f.

@@ -18,7 +18,7 @@ use Rattle.art_writing.specs.declared.insert.PrefixInsertPoint.TheVariants as po
 use Rattle.art_writing.specs.declared.insert.PrefixInsertResult.{PrefixInsertResult}
 use Rattle.art_writing.specs.declared.insert.Refused.{Refused}
 use Rattle.art_writing.specs.Applied.{IsApplied, IsPrefixApplied, TakesMemory}
-use Rattle.art_writing.specs.Inserted.{HasInserted, IsPointIn, alone, placed_for}
+use Rattle.art_writing.specs.Inserted.{HasInserted, IsPointIn, unlinked_leaf, placed_for}
 use Rattle.art_writing.specs.Overwritten.{HasOverwritten, IsOverwritePointIn, placed_for_overwrite}
 use Rattle.art_writing.proofs.Left.{IsInserted, IsOverwritten}
 
@@ -106,7 +106,7 @@ module _ {K V : Type 0} (bytes : K → List ℕ) {P : ℕ} {s t : Nodes K V} {pa
         leaf = is.leaf;
         replaced = λ pairs layout by.
             is.replaced pairs layout by
-            ∙ ap (λ z. option_map alone z.0) (sym (put_reply_is (of_key bytes) pair pairs (was_free bytes pair pairs (is.canonical pairs layout by).1.is_map)));
+            ∙ ap (λ z. option_map unlinked_leaf z.0) (sym (put_reply_is (of_key bytes) pair pairs (was_free bytes pair pairs (is.canonical pairs layout by).1.is_map)));
         removed = λ pairs layout by. ap (λ z. z.1) (sym (put_reply_is (of_key bytes) pair pairs (was_free bytes pair pairs (is.canonical pairs layout by).1.is_map)));
         kept = is.kept;
         apart = is.apart;

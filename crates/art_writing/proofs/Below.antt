@@ -33,7 +33,7 @@ use Rattle.art_writing.specs.declared.delete.DeletePoint.{DeletePoint}
 use Rattle.art_writing.specs.declared.delete.DeleteResult.{DeleteResult}
 use Rattle.art_writing.specs.Deleted.{IsRootAfter, LeadsTo, TouchesFor, ParentChange, change_of, parent_change, no_parent, keeps, shrinks, is_compressed}
 use Rattle.art_reading.specs.declared.path.TreePath.{TreePath}
-use Rattle.art_writing.specs.Inserted.{alone}
+use Rattle.art_writing.specs.Inserted.{unlinked_leaf}
 use Rattle.art_reading.specs.Paths.{last_step, path_of, up, root_with}
 use Rattle.art_writing.specs.TakenOut.{IsLeafTaken}
 use Rattle.art_writing.specs.Writes.{HasChild, LinksAreThere}
@@ -209,7 +209,7 @@ module _ {K V : Type 0} {bytes : K × V → List ℕ} {P : ℕ} {s : Nodes K V} 
             tree = Some tree;
             canonical = subst (λ r. IsRootOf bytes P t r (remove_key bytes (bytes x) pairs) (Some tree)) (sym answered)
                 (canonical_from (subst (λ y. IsLaidOut bytes P (node_at t) (links_at t) (root_of at.above root name) (remove_key bytes (bytes y) pairs) tree) at.pair laid));
-            deleted = (taken_since s leaves at.here taken).1 ∙ ap alone at.pair;
+            deleted = (taken_since s leaves at.here taken).1 ∙ ap unlinked_leaf at.pair;
             root_is = subst (λ r. IsRootAfter (parent_change s point.path) point.path root r) (sym answered)
                 (subst (λ path. IsRootAfter (parent_change s point.path) path root (Some (root_of at.above root name))) (sym at.path_is)
                 (subst (λ change. IsRootAfter change (path_of (at.frame ∷ at.above)) root (Some (root_of at.above root name))) (sym is) root_is));

@@ -46,7 +46,7 @@ use Rattle.art_writing.specs.declared.insert.InsertPoint.{InsertPoint}
 use Rattle.art_writing.specs.declared.insert.InsertResult.{InsertResult}
 use Rattle.art_writing.specs.declared.insert.branch.Branch.{Branch}
 use Rattle.art_writing.specs.Branches.{ForEnd, IsBranch, IsBranchPlaced}
-use Rattle.art_writing.specs.Inserted.{HasInserted, IsChange, Touches, alone, root_after}
+use Rattle.art_writing.specs.Inserted.{HasInserted, IsChange, Touches, unlinked_leaf, root_after}
 use Rattle.art_writing.specs.Points.{AnswersTo}
 use Rattle.art_writing.specs.Writes.{HasChild}
 use Rattle.art_reading.specs.Paths.{last_step, root_with}
@@ -199,7 +199,7 @@ module _ {K V : Type 0} {bytes : K × V → List ℕ} {P : ℕ} {s : Nodes K V} 
         change = branches (placed.node, branch.new_byte) done.parent_node_change placed.change;
         root = placed.root ∙ root_told point point.path placed.node branch.new_byte ∙ ap (root_after point) (sym placed.change);
       });
-      replaced = placed.existing ∙ sym (ap (option_map alone) (put_reply-new bytes pair pairs none_stored));
+      replaced = placed.existing ∙ sym (ap (option_map unlinked_leaf) (put_reply-new bytes pair pairs none_stored));
       kept = subst (λ tree. ChangesInPlace bytes s t (Some tree) (Some (plug at.path grown))) at.is_end.whole (branch_in_place (end_laid by at) stored new);
       touches = few;
     }

@@ -22,7 +22,7 @@ use Rattle.art_model.specs.Layouts.{leaf_node, name_of, shape_of, slots_of, name
 use Rattle.art_model.specs.Kept.{Frees, SameNodes}
 use Rattle.art_model.specs.Roots.{IsFullTree}
 use Rattle.art_model.specs.Stores.{node_at, pair_of, header_at}
-use Rattle.art_model.specs.Writes.{as_inner, joined, IsThere}
+use Rattle.art_model.specs.Writes.{as_inner, with_links_around, IsThere}
 use Rattle.art_model.specs.Clones.{IsCopy, AreCopies}
 use Rattle.art_model.specs.Promises.{tree_taken, children_taken}
 use Rattle.art_model.specs.Gains.{as_leaf, without, Loses, Gains}
@@ -44,7 +44,7 @@ use Rattle.art_model.proofs.stores.Writes.{inner_at, node_at-leaf, same_inner}
 use Rattle.art_writing.specs.declared.clone.CloneResult.{CloneResult}
 use Rattle.art_writing.specs.declared.clone.LeafEnds.{LeafEnds}
 use Rattle.art_writing.specs.Cloned.{IsCopied}
-use Rattle.art_writing.specs.Freed.{CanGo, going}
+use Rattle.art_writing.specs.Freed.{CanGo, names_to_free}
 use Rattle.art_writing.proofs.FreedTrees.{all_can, all_go}
 
 module _ {A : Type 0} where
@@ -125,7 +125,7 @@ module _ {K V : Type 0} (is_key_clone : K → K → Type 0) (is_value_clone : V 
 -- a store in which a copy is put below a node
 abbrev put_below : {K V : Type 0} → InnerPtr → ℕ → Option LeafPtr → Nodes K V → CloneResult → Nodes K V
 put_below parent b max next done =
-    record { leaves = joined next.leaves max (Some done.min_leaf) (Some done.min_leaf) max; inners = change next.inners parent (with_child b done.root); promise = next.promise }
+    record { leaves = with_links_around next.leaves max (Some done.min_leaf) (Some done.min_leaf) max; inners = change next.inners parent (with_child b done.root); promise = next.promise }
 
 all_names : {N A : Type 0} (cs : Subtrees N A) (b : ℕ) (u : Tree N A) → leaf_names_below (join cs (child b u no_child)) ≡ leaf_names_below cs ++ leaf_names u
 all_names cs b u = leaf_names_below-join cs (child b u no_child) ∙ ap (λ z. leaf_names_below cs ++ z) (append-nil (leaf_names u))
@@ -147,7 +147,7 @@ pub record NextCloned {K V : Type 0} (IsClone : K × V → K × V → Type 0) (s
   pub first_there : (next : Nodes K V) (done : CloneResult) → IsCopied IsClone below now next done → IsThere next.leaves (Some done.min_leaf)
   pub place : (next : Nodes K V) (done : CloneResult) → IsCopied IsClone below now next done → IsSomeAnd (get next.inners parent) (λ node. HasPlace (kind_capacity parent.kind) node.children b)
   pub then : (next new : Nodes K V) (done : CloneResult) → IsCopied IsClone below now next done →
-      new.leaves ≡ joined next.leaves max (Some done.min_leaf) (Some done.min_leaf) max → new.inners ≡ change next.inners parent (with_child b done.root) → new.promise ≡ next.promise →
+      new.leaves ≡ with_links_around next.leaves max (Some done.min_leaf) (Some done.min_leaf) max → new.inners ≡ change next.inners parent (with_child b done.root) → new.promise ≡ next.promise →
       IsCloning IsClone s tree old new parent rest (option_or min (Some done.min_leaf)) (Some done.max_leaf)
 
 module _ {K V : Type 0} {IsClone : K × V → K × V → Type 0} where
@@ -201,7 +201,7 @@ module _ {K V : Type 0} {IsClone : K × V → K × V → Type 0} where
     -- the step of the stores, whatever the last one is
     child_gained : (f : IsCloning IsClone s tree old now parent ((b, name) ∷ rest) min max) (u : Tree OpaqueNodePtr (K × V)) (c : ℕ)
         (others : Subtrees OpaqueNodePtr (K × V)) → f.left ≡ child c u others → c ≡ b → (next new : Nodes K V) (done : CloneResult) (copied : IsCopied IsClone u now next done) →
-        new.leaves ≡ joined next.leaves max (Some done.min_leaf) (Some done.min_leaf) max →
+        new.leaves ≡ with_links_around next.leaves max (Some done.min_leaf) (Some done.min_leaf) max →
         new.inners ≡ change next.inners parent (with_child b done.root) → GainsChild old now next new (inner_name parent) f.header f.copies b copied.copy max done.min_leaf
     child_gained f u c others is same next new done copied leaves inners = record {
       so_far = f.gains;
@@ -315,7 +315,7 @@ module _ {K V : Type 0} {IsClone : K × V → K × V → Type 0} where
     pub refused_can_go : (shape : Tree OpaqueNodePtr (Unit {0})) × CanGo next true name shape
     refused_can_go = (shape_of refused.tree, all_can refused.is_layout)
 
-    pub refused_undone : {freed : Nodes K V} → ((shape : Tree OpaqueNodePtr (Unit {0})) → CanGo next true name shape → Frees (going true shape) next freed) →
+    pub refused_undone : {freed : Nodes K V} → ((shape : Tree OpaqueNodePtr (Unit {0})) → CanGo next true name shape → Frees (names_to_free true shape) next freed) →
         ((q : InnerPtr) → q.kind ≡ Leaf → get freed.inners q ≡ get next.inners q) → SameNodes old freed
     unfolding refused refused_can_go
     refused_undone {freed} went improper =

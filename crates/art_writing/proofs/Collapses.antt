@@ -18,9 +18,9 @@ use Rattle.art_model.specs.Layouts.{leaf_node, inner_node, name_of, names_of, na
 use Rattle.art_model.specs.Pairs.{first_of}
 use Rattle.art_model.specs.Paths.{Frame, plug, IsPath, HoldsPath, pairs_before, pairs_after, leaves_before, leaves_after, names_before, names_after}
 use Rattle.art_model.specs.Radix.{IsRadix, join, pairs_of}
-use Rattle.art_model.specs.Stores.{held, held_leaf, held_inner, node_at, links_at, pair_of, seen}
+use Rattle.art_model.specs.Stores.{content_at, held_leaf, held_inner, node_at, links_at, pair_of, tree_node}
 use Rattle.art_model.specs.Trees.{Tree, leaf, inner, Subtrees, child, no_child}
-use Rattle.art_model.specs.Writes.{as_inner, parent_of, joined, with_child_at}
+use Rattle.art_model.specs.Writes.{as_inner, parent_of, with_links_around, with_child_at}
 use Rattle.art_model.proofs.stores.Canonical.{IsLaidOut}
 use Rattle.art_model.proofs.leaves.Chains.{AreBeside, relinked_beside}
 use Rattle.art_model.proofs.changes.Kept.{kept_leaves, kept_leaves_fewer}
@@ -197,7 +197,7 @@ module _ {K V : Type 0} {bytes : K × V → List ℕ} {P : ℕ} {s : Nodes K V} 
 
   -- ---- it is linked with the leaf after the subtree, and the node above names it
 
-  module _ (w : Nodes K V) (next : Option LeafPtr) (leaves : w.leaves ≡ joined s.leaves (Some n) next next (Some n))
+  module _ (w : Nodes K V) (next : Option LeafPtr) (leaves : w.leaves ≡ with_links_around s.leaves (Some n) next next (Some n))
       (inners : w.inners ≡ with_child_at (parent_of fs) (leaf_name n) (change s.inners (as_inner f.mark) (without_child f.byte))) where
     still : (k : OpaqueNodePtr) → IsIn k (names_of node) → node_at w k ≡ node_at mid k
     still k i = elim (leaf_or k) [
@@ -216,9 +216,9 @@ module _ {K V : Type 0} {bytes : K × V → List ℕ} {P : ℕ} {s : Nodes K V} 
     }
 
     -- what is in use beside the subtree is as it was, but for links and the parent
-    other_held : (k : OpaqueNodePtr) → (IsIn k (names_of node) → ⊥) → (IsParent fs k → ⊥) → ((p : LeafPtr) → next ≡ Some p → k ≢ leaf_name p) → held w k ≡ held s k
+    other_held : (k : OpaqueNodePtr) → (IsIn k (names_of node) → ⊥) → (IsParent fs k → ⊥) → ((p : LeafPtr) → next ≡ Some p → k ≢ leaf_name p) → content_at w k ≡ content_at s k
     other_held k off up not_next = elim (leaf_or k) [
-      | inl (p, e) ↦ subst (λ z. held w z ≡ held s z) (sym e) (ap (option_map held_leaf) (ap (λ m. get m p) leaves
+      | inl (p, e) ↦ subst (λ z. content_at w z ≡ content_at s z) (sym e) (ap (option_map held_leaf) (ap (λ m. get m p) leaves
           ∙ joined_elsewhere s.leaves (Some n) next next (Some n) p (λ g. off (subst (λ z. IsIn z (names_of node)) (sym (e ∙ ap leaf_name (sym (some_one g)))) leaf_in)) (λ g. not_next p g e)))
       | inr kind ↦ held_in_inner w k.kind k.slot kind ∙ ap (option_map held_inner) (ap (λ m. get m (as_inner k)) inners ∙ with_child_at-elsewhere fs (leaf_name n) mid.inners k up
           ∙ other_inner k (λ e. off (subst (λ z. IsIn z (names_of node)) (sym e) mark_in))) ∙ sym (held_in_inner s k.kind k.slot kind)
@@ -245,7 +245,7 @@ module _ {K V : Type 0} {bytes : K × V → List ℕ} {P : ℕ} {s : Nodes K V} 
           same_inner_held K V (get t.inners (as_inner k)) (get w.inners (as_inner k)) (sym (held_in_inner t k.kind k.slot kind) ∙ freed.beside k off (λ z. z) ∙ held_in_inner w k.kind k.slot kind)
 
       kept_node_at : (k : OpaqueNodePtr) → (IsIn k (names_of rest) → ⊥) → node_at t k ≡ node_at w k
-      kept_node_at k off = ap (option_map (seen k.kind)) (freed.beside k off (λ z. z))
+      kept_node_at k off = ap (option_map (tree_node k.kind)) (freed.beside k off (λ z. z))
 
       beside_apart : (k : OpaqueNodePtr) → IsIn k before ⊎ IsIn k after → IsIn k (names_of node) → ⊥
       beside_apart k (inl h) j = before_apart (node_at s) (node_at s) fs node old.holds old.distinct k (leaves_before_in fs k h) j

@@ -16,7 +16,7 @@ use Rattle.art_model.specs.Layouts.{AreDistinct, HoldsBelow, IsLayout, name_of, 
 use Rattle.art_model.specs.Roots.{IsFullTree}
 use Rattle.art_model.specs.Stores.{node_at, shape_at}
 use Rattle.art_model.specs.Trees.{Tree, leaf, inner, Subtrees, child, no_child}
-use Rattle.art_model.specs.Writes.{joined}
+use Rattle.art_model.specs.Writes.{with_links_around}
 use Rattle.art_model.proofs.stores.Gains.{frees_lost}
 use Rattle.art_model.proofs.lists.Pairwises.{Pairwise-left, Pairwise-right}
 use Rattle.art_model.proofs.places.Paths.{names_below-join}
@@ -25,7 +25,7 @@ use Rattle.art_writing.specs.declared.clone.Above.{Above}
 use Rattle.art_writing.specs.declared.clone.CloneResult.{CloneResult}
 use Rattle.art_writing.specs.declared.clone.LeafEnds.{LeafEnds}
 use Rattle.art_writing.specs.Cloned.{IsBegun, IsCopied}
-use Rattle.art_writing.specs.Freed.{CanGo, going}
+use Rattle.art_writing.specs.Freed.{CanGo, names_to_free}
 use Rattle.art_writing.proofs.Cloning.{IsCloning, NextCloned, cloned_whole, cloning_next, cloning_refused, cloning_start, first_leaf, last_leaf}
 use Rattle.art_writing.proofs.FreedTrees.{all_can, all_go, inner_is_there, leaf_is_there, read, read_at_is}
 
@@ -140,7 +140,7 @@ module _ {K V : Type 0} {IsClone : K × V → K × V → Type 0} {s : Nodes K V}
     -- it is copied
     pub child_copied : {mid new : Nodes K V} {done : CloneResult} → IsCopied IsClone next_of.below now mid done → {after : LeafEnds} →
         Some after.first ≡ option_or (first_leaf ends) (Some done.min_leaf) → after.last ≡ done.max_leaf →
-        new.leaves ≡ joined mid.leaves (last_leaf ends) (Some done.min_leaf) (Some done.min_leaf) (last_leaf ends) → new.inners ≡ change mid.inners copy (with_child byte done.root) →
+        new.leaves ≡ with_links_around mid.leaves (last_leaf ends) (Some done.min_leaf) (Some done.min_leaf) (last_leaf ends) → new.inners ≡ change mid.inners copy (with_child byte done.root) →
         new.promise ≡ mid.promise → IsCopying IsClone s start whole above new copy left (first_leaf (Some after)) (last_leaf (Some after))
     child_copied {mid} {new} {done} copied first last leaves inners promise = record {
       old = is.old;
@@ -214,7 +214,7 @@ module _ {K V : Type 0} {IsClone : K × V → K × V → Type 0} {s : Nodes K V}
       its_copied = subst (λ t. IsCopied IsClone t is.old now done) (sym outer_of.turn) node_copied
 
       pub outer_goes_on : {new : Nodes K V} {after : LeafEnds} → Some after.first ≡ option_or (first_leaf f.ends) (Some done.min_leaf) → after.last ≡ done.max_leaf →
-          new.leaves ≡ joined now.leaves (last_leaf f.ends) (Some done.min_leaf) (Some done.min_leaf) (last_leaf f.ends) → new.inners ≡ change now.inners f.copy (with_child f.byte done.root) →
+          new.leaves ≡ with_links_around now.leaves (last_leaf f.ends) (Some done.min_leaf) (Some done.min_leaf) (last_leaf f.ends) → new.inners ≡ change now.inners f.copy (with_child f.byte done.root) →
           new.promise ≡ now.promise → IsCopying IsClone s start whole fs new f.copy f.children (first_leaf (Some after)) (last_leaf (Some after))
       outer_goes_on {new} a b leaves inners promise = record {
         old = outer_of.old;
@@ -232,7 +232,7 @@ module _ {K V : Type 0} {IsClone : K × V → K × V → Type 0} {s : Nodes K V}
     copy_can_go = let refused = cloning_refused {next = into} is.copying.cloning is.leaves is.inners named in (shape_of refused.tree, all_can refused.is_layout)
 
     -- and then the store has the nodes of before
-    pub copy_undone : {freed : Nodes K V} → ((shape : Tree OpaqueNodePtr (Unit {0})) → CanGo into true name shape → Frees (going true shape) into freed) →
+    pub copy_undone : {freed : Nodes K V} → ((shape : Tree OpaqueNodePtr (Unit {0})) → CanGo into true name shape → Frees (names_to_free true shape) into freed) →
         ((q : InnerPtr) → q.kind ≡ Leaf → map.get freed.inners q ≡ map.get into.inners q) → SameNodes is.copying.old freed
     unfolding copy_can_go
     copy_undone {freed} went improper =

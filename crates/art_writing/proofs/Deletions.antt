@@ -31,7 +31,7 @@ use Rattle.art_model.proofs.stores.Writes.{node_at-leaf, parent_there}
 use Rattle.art_writing.specs.declared.delete.DeletePoint.{DeletePoint}
 use Rattle.art_writing.specs.declared.delete.DeleteResult.{DeleteResult}
 use Rattle.art_writing.specs.Deleted.{IsDeletePointIn, IsRootAfter, LeadsTo, ParentChange, TouchesFor, parent_change, placed_for_deletion, no_parent, keeps, shrinks, is_compressed}
-use Rattle.art_writing.specs.Inserted.{alone}
+use Rattle.art_writing.specs.Inserted.{unlinked_leaf}
 use Rattle.art_writing.specs.TakenOut.{IsLeafTaken, IsTakenOut}
 use Rattle.art_reading.specs.Paths.{last_step}
 use Rattle.art_writing.proofs.Reserved.{not_refused, nothing_after}
@@ -80,12 +80,12 @@ some_root bytes P s (Some root) pairs (layout, by) = (pairs, layout, by)
 -- the leaf that was taken, as it was before writes that change no leaf
 pub taken_since : {K V : Type 0} (s : Nodes K V) {w t : Nodes K V} {point : DeletePoint} {root : Option OpaqueNodePtr} {done : DeleteResult K V} {node : LeafNode K V} →
     w.leaves ≡ s.leaves → get s.leaves point.leaf_node_ptr ≡ Some node → IsLeafTaken w t point root done →
-    (t.leaves ≡ without_leaf s.leaves point.leaf_node_ptr node) × (done.deleted_leaf ≡ alone (pair_of node))
+    (t.leaves ≡ without_leaf s.leaves point.leaf_node_ptr node) × (done.deleted_leaf ≡ unlinked_leaf (pair_of node))
 taken_since s {t = t} {point} {done = done} leaves here taken = (
   subst (λ o. IsSomeAnd o (λ leaf. t.leaves ≡ without_leaf s.leaves point.leaf_node_ptr leaf)) here
       (subst (λ m. IsSomeAnd (get m point.leaf_node_ptr) (λ leaf. t.leaves ≡ without_leaf m point.leaf_node_ptr leaf)) leaves taken.leaves),
-  subst (λ o. IsSomeAnd o (λ leaf. done.deleted_leaf ≡ alone (pair_of leaf))) here
-      (subst (λ m. IsSomeAnd (get m point.leaf_node_ptr) (λ leaf. done.deleted_leaf ≡ alone (pair_of leaf))) leaves taken.leaf),
+  subst (λ o. IsSomeAnd o (λ leaf. done.deleted_leaf ≡ unlinked_leaf (pair_of leaf))) here
+      (subst (λ m. IsSomeAnd (get m point.leaf_node_ptr) (λ leaf. done.deleted_leaf ≡ unlinked_leaf (pair_of leaf))) leaves taken.leaf),
 )
 
 -- The root is canonical for the pairs without the one of the point; its pair is answered as a leaf alone; the rest stays.
@@ -93,7 +93,7 @@ pub record IsDeleted {K V : Type 0} (bytes : K × V → List ℕ) (P : ℕ) (s t
     (pairs : List (K × V)) (layout : Tree OpaqueNodePtr (K × V)) (done : DeleteResult K V) : Type 0 where
   pub tree : Option (Tree OpaqueNodePtr (K × V))
   pub canonical : IsRootOf bytes P t done.new_root (remove_key bytes (bytes x) pairs) tree
-  pub deleted : done.deleted_leaf ≡ alone x
+  pub deleted : done.deleted_leaf ≡ unlinked_leaf x
   pub root_is : IsRootAfter (parent_change s point.path) point.path root done.new_root
   pub kept : ChangesInPlace bytes s t (Some layout) tree
   pub touches : TouchesFor (parent_change s point.path) s t
@@ -148,7 +148,7 @@ module _ {K V : Type 0} {bytes : K × V → List ℕ} {P : ℕ} {s t : Nodes K V
         first = λ ps l b e. subst (IsCanonical bytes P t done.new_root) (first_goes bytes ps (pair_of done.deleted_leaf) b.is_map (sym e ∙ named)) (rest ps l b);
         last = λ ps l b e. subst (IsCanonical bytes P t done.new_root) (last_is_removed_by_key bytes (pair_of done.deleted_leaf) ps b.is_map (sym e ∙ named)) (rest ps l b);
         left = some_root bytes P t done.new_root (remove_key bytes (bytes x) pairs) left;
-        deleted = subst (λ o. IfSome o (λ leaf. done.deleted_leaf ≡ alone (pair_of leaf))) (sym here) (own.deleted ∙ ap alone (sym pair));
+        deleted = subst (λ o. IfSome o (λ leaf. done.deleted_leaf ≡ unlinked_leaf (pair_of leaf))) (sym here) (own.deleted ∙ ap unlinked_leaf (sym pair));
         root_is = own.root_is;
         kept = λ ps l b after new is. subst (λ old. ChangesInPlace bytes s t (Some old) new) (sym (has_one_map bytes P s root pairs ps layout l by b).1)
             (subst (ChangesInPlace bytes s t (Some layout)) (one_tree bytes P t (remove_key bytes (bytes x) pairs) after done.new_root own.tree new own.canonical is) own.kept);

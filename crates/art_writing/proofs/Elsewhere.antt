@@ -9,28 +9,28 @@ use Rattle.art_parts.specs.declared.leaf.LeafNode.{LeafNode}
 use Rattle.art_parts.specs.declared.names.OpaqueNodePtr.{OpaqueNodePtr}
 use Rattle.art_nodes.proofs.StoreLaws.{leaf_elsewhere as elsewhere}
 use Rattle.art_model.specs.Canonical.{IsCanonicalTree}
-use Rattle.art_model.specs.Stores.{held, held_leaf, held_inner}
+use Rattle.art_model.specs.Stores.{content_at, held_leaf, held_inner}
 use Rattle.art_model.specs.Trees.{Tree}
 use Rattle.art_model.proofs.stores.Apart.{name_used, tree_kept}
 use Rattle.art_model.proofs.stores.Views.{held_in_inner, leaf_or}
 
 -- a leaf that is placed leaves what is in use
 pub leaf_elsewhere : {K V : Type 0} (s t : Nodes K V) (n : LeafPtr) (x : LeafNode K V) → get s.leaves n ≡ None → t.leaves ≡ insert s.leaves n x →
-    t.inners ≡ s.inners → (k : OpaqueNodePtr) → held s k ≢ None → held t k ≡ held s k
+    t.inners ≡ s.inners → (k : OpaqueNodePtr) → content_at s k ≢ None → content_at t k ≡ content_at s k
 leaf_elsewhere s t n x free leaves inners k used = elim (leaf_or k) [
-  | inl (p, e) ↦ subst (λ (z : OpaqueNodePtr). held t z ≡ held s z) (sym e)
-      (ap (option_map held_leaf) (ap (λ m. get m p) leaves ∙ elsewhere s.leaves n p x (λ f. used (ap (held s) e ∙ ap (λ q. held s (leaf_name q)) f ∙ ap (option_map held_leaf) free))))
+  | inl (p, e) ↦ subst (λ (z : OpaqueNodePtr). content_at t z ≡ content_at s z) (sym e)
+      (ap (option_map held_leaf) (ap (λ m. get m p) leaves ∙ elsewhere s.leaves n p x (λ f. used (ap (content_at s) e ∙ ap (λ q. content_at s (leaf_name q)) f ∙ ap (option_map held_leaf) free))))
   | inr off ↦ held_in_inner t k.kind k.slot off ∙ ap (λ m. option_map held_inner (get m (record { kind = k.kind; slot = k.slot }))) inners ∙ sym (held_in_inner s k.kind k.slot off)
 ]
 
 -- and so does one that is refused
 pub placement_elsewhere : {K V E : Type 0} (s t : Nodes K V) (x : LeafNode K V) (result : Result LeafPtr E) →
     IfOk result (λ n. t.leaves ≡ insert s.leaves n x) → IfOk result (λ n. get s.leaves n ≡ None) → t.inners ≡ s.inners → OnErr result (t ≡ s) →
-    (k : OpaqueNodePtr) → held s k ≢ None → held t k ≡ held s k
+    (k : OpaqueNodePtr) → content_at s k ≢ None → content_at t k ≡ content_at s k
 placement_elsewhere s t x (Ok n) leaves free inners same k used = leaf_elsewhere s t n x free leaves inners k used
-placement_elsewhere s t x (Err e) leaves free inners same k used = ap (λ m. held m k) same
+placement_elsewhere s t x (Err e) leaves free inners same k used = ap (λ m. content_at m k) same
 
 -- a canonical root stays one where what is in use holds what it held
 pub tree_stays : {K V : Type 0} {bytes : K × V → List ℕ} {P : ℕ} {s t : Nodes K V} {root : OpaqueNodePtr} {pairs : List (K × V)} {layout : Tree OpaqueNodePtr (K × V)} →
-    IsCanonicalTree bytes P s root pairs layout → ((k : OpaqueNodePtr) → held s k ≢ None → held t k ≡ held s k) → IsCanonicalTree bytes P t root pairs layout
+    IsCanonicalTree bytes P s root pairs layout → ((k : OpaqueNodePtr) → content_at s k ≢ None → content_at t k ≡ content_at s k) → IsCanonicalTree bytes P t root pairs layout
 tree_stays by same = tree_kept by (λ k i. same k (name_used by k i))

@@ -45,7 +45,7 @@ use Rattle.art_writing.specs.declared.insert.InsertParentNodeChange.TheVariants.
 use Rattle.art_writing.specs.declared.insert.InsertPoint.{InsertPoint}
 use Rattle.art_writing.specs.declared.insert.InsertResult.{InsertResult}
 use Rattle.art_reading.specs.declared.path.TreePath.{TreePath}
-use Rattle.art_writing.specs.Inserted.{HasInserted, IsChange, IsPointIn, Touches, alone, is_full}
+use Rattle.art_writing.specs.Inserted.{HasInserted, IsChange, IsPointIn, Touches, unlinked_leaf, is_full}
 use Rattle.art_reading.specs.EndNodes.{IsKindOf}
 use Rattle.art_reading.specs.Paths.{last_step, path_of, root_with}
 use Rattle.art_writing.specs.Writes.{HasChild, HasGap}
@@ -227,7 +227,7 @@ module _ {K V : Type 0} {bytes : K × V → List ℕ} {P : ℕ} {s t : Nodes K V
               root = root_is ∙ sym (ap (λ path. root_with path point.root (inner_name k)) e.path_is ∙
                   root_with-path_of e.frames point.root (inner_name k)) ∙ root_told point point.path k b;
             });
-        replaced = ap (option_map alone) (sym (put_reply-new bytes new pairs (entry_reply by e)));
+        replaced = ap (option_map unlinked_leaf) (sym (put_reply-new bytes new pairs (entry_reply by e)));
         kept = subst (λ z. ChangesInPlace bytes s t (Some z) (Some tree)) e.whole added.kept;
         touches = few;
       })

@@ -15,7 +15,7 @@ use Rattle.art_model.specs.Footprints.{IsIn}
 use Rattle.art_model.specs.Kept.{Frees}
 use Rattle.art_model.specs.Layouts.{AreDistinct}
 use Rattle.art_model.specs.Pairs.{first_of, without_first}
-use Rattle.art_model.specs.Stores.{held, held_leaf, held_inner, links_of}
+use Rattle.art_model.specs.Stores.{content_at, held_leaf, held_inner, links_of}
 use Rattle.art_model.proofs.lists.Lists.{in_left, in_right, in_either}
 use Rattle.art_model.proofs.stores.Names.{apart_in}
 use Rattle.art_model.proofs.lists.Pairwises.{Pairwise-right}
@@ -43,11 +43,11 @@ module _ {K V : Type 0} where
     pub leaf_freed : (p : LeafPtr) → t.leaves ≡ map.remove s.leaves p → t.inners ≡ s.inners → Frees (leaf_name p ∷ []) s t
     leaf_freed p leaves inners = record {
       beside = λ k off none. elim (leaf_or k) [
-        | inl (q, e) ↦ subst (λ z. held t z ≡ held s z) (sym e) (ap (option_map held_leaf)
+        | inl (q, e) ↦ subst (λ z. content_at t z ≡ content_at s z) (sym e) (ap (option_map held_leaf)
             (ap (λ m. map.get m q) leaves ∙ leaf_gone_elsewhere s.leaves p q (λ f. off (inl (sym (e ∙ ap leaf_name f))))))
         | inr kind ↦ held_in_inner t k.kind k.slot kind ∙ ap (λ m. option_map held_inner (map.get m (record { kind = k.kind; slot = k.slot }))) inners ∙ sym (held_in_inner s k.kind k.slot kind)
       ];
-      gone = λ k i none. elim i [ inl e ↦ subst (λ z. held t z ≡ None) e (ap (option_map held_leaf) (ap (λ m. map.get m p) leaves ∙ leaf_gone s.leaves p)) | inr j ↦ absurd j ];
+      gone = λ k i none. elim i [ inl e ↦ subst (λ z. content_at t z ≡ None) e (ap (option_map held_leaf) (ap (λ m. map.get m p) leaves ∙ leaf_gone s.leaves p)) | inr j ↦ absurd j ];
       taken = λ k i none. absurd i;
     }
 

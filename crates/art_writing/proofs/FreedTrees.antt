@@ -17,7 +17,7 @@ use Rattle.art_model.specs.Footprints.{IsIn}
 use Rattle.art_model.specs.Heights.{tree_height, height_below}
 use Rattle.art_model.specs.Kept.{Frees}
 use Rattle.art_model.specs.Layouts.{Node, name_of, leaf_node, inner_node, slots_of, names_of, names_below, leaf_names, leaf_names_below, inner_names, inner_names_below, shape_of, Holds, HoldsBelow, IsLayout}
-use Rattle.art_model.specs.Stores.{held, held_leaf, held_inner, IsUsed, header_at, inner_seen, node_at, seen, shape_in, shape_at}
+use Rattle.art_model.specs.Stores.{content_at, held_leaf, held_inner, IsUsed, header_at, inner_seen, node_at, tree_node, shape_in, shape_at}
 use Rattle.art_model.specs.Trees.{Tree, leaf, inner, Subtrees, child, no_child, NodeHeader}
 use Rattle.art_model.specs.Writes.{as_inner}
 use Rattle.art_model.proofs.stores.Heights.{height_long, enough_inners}
@@ -25,7 +25,7 @@ use Rattle.art_model.proofs.lists.Lists.{Each-append, Each-weaker, in_left, in_r
 use Rattle.art_model.proofs.stores.Names.{IsTaken as IsInUse, all_taken, among, among_below, taken_distinct, takes_inners, takes_leaves}
 use Rattle.art_model.proofs.radix.Shapes.{has_shape, leaf_names-shape, names_of-shape}
 use Rattle.art_model.proofs.stores.Views.{held_in_inner, leaf_or, same_inner_held}
-use Rattle.art_writing.specs.Freed.{CanGo, IsEnd, going, going_below, leaves_going}
+use Rattle.art_writing.specs.Freed.{CanGo, IsEnd, names_to_free, names_to_free_below, leaves_to_free}
 use Rattle.art_writing.proofs.Freed.{leaf_freed, frees_none}
 
 abbrev pub Shape : Type 0
@@ -129,7 +129,7 @@ module _ {K V : Type 0} (s : Nodes K V) where
   count_at_is t root is = ap (λ z. length (names_of z)) (read_at_is t root is)
 
 -- a name that holds what it held is seen as it was
-pub shape_same : {K V : Type 0} (s t : Nodes K V) (k : OpaqueNodePtr) → held t k ≡ held s k → shape_at t k ≡ shape_at s k
+pub shape_same : {K V : Type 0} (s t : Nodes K V) (k : OpaqueNodePtr) → content_at t k ≡ content_at s k → shape_at t k ≡ shape_at s k
 shape_same {K} {V} s t k e = elim (leaf_or k) [
   | inl (p, is) ↦ subst (λ z. shape_at t z ≡ shape_at s z) (sym is) refl
   | inr off ↦
@@ -145,33 +145,33 @@ if_too false xs k i = absurd i
 
 module _ {N A : Type 0} (too : Bool) where
   mutual
-    pub going_in : (t : Tree N A) (k : N) → IsIn k (going too t) → IsIn k (names_of t)
+    pub going_in : (t : Tree N A) (k : N) → IsIn k (names_to_free too t) → IsIn k (names_of t)
     going_in (leaf n x) k i = if_too too (n ∷ []) k i
     going_in (inner n h cs) k (inl e) = inl e
     going_in (inner n h cs) k (inr i) = inr (going_in_below cs k i)
 
-    pub going_in_below : (cs : Subtrees N A) (k : N) → IsIn k (going_below too cs) → IsIn k (names_below cs)
+    pub going_in_below : (cs : Subtrees N A) (k : N) → IsIn k (names_to_free_below too cs) → IsIn k (names_below cs)
     going_in_below no_child k i = i
-    going_in_below (child b t cs) k i = elim (in_either k (going too t) (going_below too cs) i) [
+    going_in_below (child b t cs) k i = elim (in_either k (names_to_free too t) (names_to_free_below too cs) i) [
       | inl j ↦ in_left k (names_of t) (names_below cs) (going_in t k j)
       | inr j ↦ in_right k (names_of t) (names_below cs) (going_in_below cs k j)
     ]
 
 module _ {N A : Type 0} where
   mutual
-    all_going : (t : Tree N A) → going true t ≡ names_of t
+    all_going : (t : Tree N A) → names_to_free true t ≡ names_of t
     all_going (leaf n x) = refl
     all_going (inner n h cs) = ap (λ z. n ∷ z) (all_going_below cs)
 
-    all_going_below : (cs : Subtrees N A) → going_below true cs ≡ names_below cs
+    all_going_below : (cs : Subtrees N A) → names_to_free_below true cs ≡ names_below cs
     all_going_below no_child = refl
     all_going_below (child b t cs) = ap₂ (λ (x y : List N). x ++ y) (all_going t) (all_going_below cs)
 
 -- a write to an inner node leaves what other names hold
 pub written_elsewhere : {K V : Type 0} (t u : Nodes K V) (p : InnerPtr) (f : Inner → Inner) → u.inners ≡ change t.inners p f → u.leaves ≡ t.leaves →
-    (k : OpaqueNodePtr) → k ≢ inner_name p → held u k ≡ held t k
+    (k : OpaqueNodePtr) → k ≢ inner_name p → content_at u k ≡ content_at t k
 written_elsewhere t u p f inners leaves k other = elim (leaf_or k) [
-  | inl (q, e) ↦ subst (λ z. held u z ≡ held t z) (sym e) (ap (λ m. option_map held_leaf (map.get m q)) leaves)
+  | inl (q, e) ↦ subst (λ z. content_at u z ≡ content_at t z) (sym e) (ap (λ m. option_map held_leaf (map.get m q)) leaves)
   | inr off ↦ held_in_inner u k.kind k.slot off ∙ ap (option_map held_inner)
       (ap (λ m. map.get m (as_inner k)) inners ∙ inner_changed_elsewhere t.inners p (as_inner k) f (λ e. other (ap inner_name e))) ∙ sym (held_in_inner t k.kind k.slot off)
 ]
@@ -180,12 +180,12 @@ written_elsewhere t u p f inners leaves k other = elim (leaf_or k) [
 pub inner_freed : {K V : Type 0} (t u : Nodes K V) (p : InnerPtr) → p.kind ≢ Leaf → u.inners ≡ map.remove t.inners p → u.leaves ≡ t.leaves → Frees (inner_name p ∷ []) t u
 inner_freed t u p off inners leaves = record {
   beside = λ k out none. elim (leaf_or k) [
-    | inl (q, e) ↦ subst (λ z. held u z ≡ held t z) (sym e) (ap (λ m. option_map held_leaf (map.get m q)) leaves)
+    | inl (q, e) ↦ subst (λ z. content_at u z ≡ content_at t z) (sym e) (ap (λ m. option_map held_leaf (map.get m q)) leaves)
     | inr kind ↦ held_in_inner u k.kind k.slot kind ∙ ap (option_map held_inner)
         (ap (λ m. map.get m (as_inner k)) inners ∙ inner_gone_elsewhere t.inners p (as_inner k) (λ e. out (inl (sym (ap inner_name e))))) ∙ sym (held_in_inner t k.kind k.slot kind)
   ];
   gone = λ k i none. elim i [
-    | inl e ↦ subst (λ z. held u z ≡ None) e
+    | inl e ↦ subst (λ z. content_at u z ≡ None) e
         (held_in_inner u p.kind p.slot off ∙ ap (option_map held_inner) (ap (λ m. map.get m p) inners ∙ inner_gone t.inners p))
     | inr z ↦ absurd z
   ];
@@ -208,10 +208,10 @@ module _ {K V : Type 0} {s : Nodes K V} {too : Bool} {root : OpaqueNodePtr} {p :
   at_leaf : (shape : Shape) → CanGo s too root shape → (x : Unit {0}) × (shape ≡ leaf (leaf_name p) x)
   at_leaf (leaf n x) can = (x, ap (λ z. leaf z x) (can.layout.named ∙ sym named))
   at_leaf (inner n h cs) can =
-      let seen : shape_at s (leaf_name p) ≡ Some (inner_node h (slots_of cs)) = subst (λ z. shape_at s z ≡ Some (inner_node h (slots_of cs))) (can.layout.named ∙ sym named) can.layout.holds.0 in
+      let shape : shape_at s (leaf_name p) ≡ Some (inner_node h (slots_of cs)) = subst (λ z. shape_at s z ≡ Some (inner_node h (slots_of cs))) (can.layout.named ∙ sym named) can.layout.holds.0 in
       absurd cc
 
-  pub leaf_stays : too ≡ false → (shape : Shape) → CanGo s too root shape → Frees (going too shape) s s × (0 ≡ leaves_going too shape)
+  pub leaf_stays : too ≡ false → (shape : Shape) → CanGo s too root shape → Frees (names_to_free too shape) s s × (0 ≡ leaves_to_free too shape)
   leaf_stays off shape can =
       let (x, is) = at_leaf shape can in
       rw (is, off) (frees_none s, refl)
@@ -226,7 +226,7 @@ module _ {K V : Type 0} {s : Nodes K V} {too : Bool} {root : OpaqueNodePtr} {p :
       go (Some x) h = refl
 
   pub leaf_goes : too ≡ true → {t : Nodes K V} → t.leaves ≡ map.remove s.leaves p → t.inners ≡ s.inners → (shape : Shape) → CanGo s too root shape →
-      Frees (going too shape) s t × (1 ≡ leaves_going too shape)
+      Frees (names_to_free too shape) s t × (1 ≡ leaves_to_free too shape)
   leaf_goes on leaves inners shape can =
       let (x, is) = at_leaf shape can in
       rw (is, on) (leaf_freed p leaves inners, refl)
@@ -237,9 +237,9 @@ module _ {K V : Type 0} {s : Nodes K V} {too : Bool} {root : OpaqueNodePtr} {p :
   -- an inner node's name stands for no leaf
   off_leaf : (n : OpaqueNodePtr) (x : Unit {0}) → CanGo s too root (leaf n x) → ⊥
   off_leaf n x can =
-      let seen = shape_at-inner s (inner_name p) off (map.get s.inners p) refl in
+      let shape = shape_at-inner s (inner_name p) off (map.get s.inners p) refl in
       let held_there : shape_at s (inner_name p) ≡ Some (leaf_node x) = subst (λ z. shape_at s z ≡ Some (leaf_node x)) (can.layout.named ∙ sym named) can.layout.holds in
-      go (map.get s.inners p) (sym seen ∙ held_there)
+      go (map.get s.inners p) (sym shape ∙ held_there)
     where
       go : (o : Option Inner) → option_map (inner_seen {A = Unit {0}} p.kind) o ≡ Some (leaf_node x) → ⊥
       go None e = absurd cc
@@ -253,7 +253,7 @@ module _ {K V : Type 0} {s : Nodes K V} {too : Bool} {root : OpaqueNodePtr} {p :
       subst IsSome (sym there.got ∙ ap (map.get s.inners) own) refl
 
   pub inner_goes : {t : Nodes K V} → t.inners ≡ map.remove s.inners p → t.leaves ≡ s.leaves → (shape : Shape) → IsEnd shape → CanGo s too root shape →
-      Frees (going too shape) s t × (0 ≡ leaves_going too shape)
+      Frees (names_to_free too shape) s t × (0 ≡ leaves_to_free too shape)
   inner_goes {t} inners leaves (leaf n x) ends can = absurd (off_leaf n x can)
   inner_goes {t} inners leaves (inner n h no_child) ends can =
       (subst (λ z. Frees (z ∷ []) s t) (named ∙ sym can.layout.named) (inner_freed s t p off inners leaves), sym (none too))
@@ -271,14 +271,14 @@ module _ {K V : Type 0} {s : Nodes K V} {root : OpaqueNodePtr} {layout : Tree Op
   all_can is = record {
     layout = (has_shape s root layout is).0;
     leaves = λ every. subst (Each (IsUsed s)) (sym (leaf_names-shape layout))
-        (among takes_leaves (IsUsed s) layout (Each-weaker (IsInUse (node_at s)) (IsUsed s) (λ k used e. used (ap (option_map (seen k.kind)) e))
+        (among takes_leaves (IsUsed s) layout (Each-weaker (IsInUse (node_at s)) (IsUsed s) (λ k used e. used (ap (option_map (tree_node k.kind)) e))
         (names_of layout) (all_taken (node_at s) layout is.holds)));
   }
 
 -- so all of its names go
-pub all_go : {K V : Type 0} {s t : Nodes K V} (layout : Tree OpaqueNodePtr (K × V)) → Frees (going true (shape_of layout)) s t → Frees (names_of layout) s t
+pub all_go : {K V : Type 0} {s t : Nodes K V} (layout : Tree OpaqueNodePtr (K × V)) → Frees (names_to_free true (shape_of layout)) s t → Frees (names_of layout) s t
 all_go {K} {V} {s} {t} layout freed = subst (λ z. Frees z s t) (all_going (shape_of layout) ∙ names_of-shape layout) freed
 
 -- and as many leaves as it has
-pub all_counted : {A : Type 0} (layout : Tree OpaqueNodePtr A) (count : ℕ) → count ≡ leaves_going true (shape_of layout) → count ≡ length (leaf_names layout)
+pub all_counted : {A : Type 0} (layout : Tree OpaqueNodePtr A) (count : ℕ) → count ≡ leaves_to_free true (shape_of layout) → count ≡ length (leaf_names layout)
 all_counted layout count is = is ∙ ap length (leaf_names-shape layout)

@@ -25,7 +25,7 @@ use Rattle.art_model.proofs.pairs.Puts.{any_is_first, first_none}
 use Rattle.art_model.proofs.stores.Stores.{path_holds}
 use Rattle.art_model.proofs.stores.Views.{leaf_there}
 use Rattle.art_writing.specs.Deleted.{LeadsTo, IsDeletePoint}
-use Rattle.art_writing.specs.Inserted.{alone}
+use Rattle.art_writing.specs.Inserted.{unlinked_leaf}
 use Rattle.art_writing.specs.declared.delete.DeletePoint.{DeletePoint}
 use Rattle.art_reading.proofs.Partings.{no_conflict}
 
@@ -119,11 +119,11 @@ module _ {K V : Type 0} (bytes : K → List ℕ) where
 -- the leaf of a delete point has the pair that the point leads to
 pub deleted_pair : {K V : Type 0} (bytes : K → List ℕ) (P : ℕ) {s : Nodes K V} {root : OpaqueNodePtr} {pairs : List (K × V)} {layout : Tree OpaqueNodePtr (K × V)}
     {x : K × V} {point : DeletePoint} (deleted : LeafNode K V) → IsCanonicalTree (of_key bytes) P s root pairs layout → LeadsTo layout x point →
-    IfSome (get s.leaves point.leaf_node_ptr) (λ node. deleted ≡ alone (pair_of node)) → (deleted.key, deleted.value) ≡ x
+    IfSome (get s.leaves point.leaf_node_ptr) (λ node. deleted ≡ unlinked_leaf (pair_of node)) → (deleted.key, deleted.value) ≡ x
 deleted_pair bytes P {s} {root} {pairs} {layout} {x} {point} deleted by leads told =
     let held = (path_holds (node_at s) leads.path (leaf (leaf_name point.leaf_node_ptr) x) (subst (Holds (node_at s)) (sym leads.whole) by.stands.0.holds)).1 in
     let (node, got, its) = leaf_there s point.leaf_node_ptr x held in
-    let same : deleted ≡ alone (pair_of node) = rw got at told in
+    let same : deleted ≡ unlinked_leaf (pair_of node) = rw got at told in
     ap pair_of same ∙ its
 
 -- what is not false is true

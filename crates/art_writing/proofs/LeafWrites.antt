@@ -13,7 +13,7 @@ use Rattle.art_model.specs.Layouts.{Holds}
 use Rattle.art_model.specs.Lookups.{HasLeaf}
 use Rattle.art_model.specs.Stores.{node_at, pair_of}
 use Rattle.art_model.specs.Trees.{Tree, leaf}
-use Rattle.art_model.specs.Writes.{Leaves, IsThere, joined}
+use Rattle.art_model.specs.Writes.{Leaves, IsThere, with_links_around}
 use Rattle.art_model.proofs.stores.Touches.{still_placed}
 use Rattle.art_model.proofs.leaves.Leaves.{joined_pair}
 use Rattle.art_model.proofs.stores.Shown.{no_leaf_gone}
@@ -35,10 +35,10 @@ module _ {K V : Type 0} (m : Leaves K V) where
 
   -- a leaf is there, with its pair, when those beside a place are linked otherwise
   module _ (before after next previous : Option LeafPtr) (q : LeafPtr) (x : LeafNode K V) (is : get m q ≡ Some x) where
-    pub joined_there : get (joined m before after next previous) q ≢ None
+    pub joined_there : get (with_links_around m before after next previous) q ≢ None
     joined_there gone = let pairs = sym (ap (option_map pair_of) is) ∙ sym (joined_pair m before after next previous q) ∙ ap (option_map pair_of) gone in absurd cc
 
-    pub joined_keeps : (y : LeafNode K V) → get (joined m before after next previous) q ≡ Some y → pair_of y ≡ pair_of x
+    pub joined_keeps : (y : LeafNode K V) → get (with_links_around m before after next previous) q ≡ Some y → pair_of y ≡ pair_of x
     joined_keeps y e = let pairs = sym (ap (option_map pair_of) e) ∙ joined_pair m before after next previous q ∙ ap (option_map pair_of) is in cc
 
 -- a leaf of a tree that the store holds is there

@@ -7,7 +7,7 @@ use Rattle.art_model.specs.Canonical.{IsCanonicalTree}
 use Rattle.art_model.specs.Kept.{ChangesInPlace}
 use Rattle.art_model.specs.Pairs.{overwrite, overwrite_reply, put, put_reply, stored_for}
 use Rattle.art_model.specs.Trees.{Tree}
-use Rattle.art_writing.specs.Inserted.{HasInserted, Touches, alone}
+use Rattle.art_writing.specs.Inserted.{HasInserted, Touches, unlinked_leaf}
 use Rattle.art_writing.specs.Overwritten.{HasOverwritten, TouchesForNode}
 use Rattle.art_writing.specs.declared.insert.InsertPoint.{InsertPoint}
 use Rattle.art_writing.specs.declared.insert.InsertResult.{InsertResult}
@@ -21,7 +21,7 @@ pub record IsInserted {K V : Type 0} (bytes : K × V → List ℕ) (P : ℕ) (s 
   pub tree : Tree OpaqueNodePtr (K × V)
   pub canonical : IsCanonicalTree bytes P t done.new_root (put bytes pair pairs) tree
   pub inserted : HasInserted tree point (stored_for bytes pair pairs) done
-  pub replaced : done.existing_leaf ≡ option_map alone (put_reply bytes pair pairs)
+  pub replaced : done.existing_leaf ≡ option_map unlinked_leaf (put_reply bytes pair pairs)
   pub kept : ChangesInPlace bytes s t (Some layout) (Some tree)
   pub touches : Touches point.insert_kind s t
 
@@ -32,7 +32,7 @@ pub record IsOverwritten {K V : Type 0} (bytes : K × V → List ℕ) (P : ℕ) 
   pub tree : Tree OpaqueNodePtr (K × V)
   pub canonical : IsCanonicalTree bytes P t done.insert_result.new_root (overwrite bytes pair pairs) tree
   pub leaf : HasOverwritten tree point pair done.insert_result
-  pub existing : done.insert_result.existing_leaf ≡ option_map alone (overwrite_reply bytes pair pairs).0
+  pub existing : done.insert_result.existing_leaf ≡ option_map unlinked_leaf (overwrite_reply bytes pair pairs).0
   pub removed : done.leafs_removed ≡ (overwrite_reply bytes pair pairs).1
   pub kept : ChangesInPlace bytes s t (Some layout) (Some tree)
   pub touches : TouchesForNode point.overwrite_point.kind bytes (bytes pair) s t layout

@@ -13,24 +13,24 @@ use Rattle.art_model.specs.Canonical.{IsCanonicalTree}
 use Rattle.art_model.specs.Kept.{ChangesInPlace}
 use Rattle.art_model.specs.Pairs.{of_key}
 use Rattle.art_model.specs.Roots.{IsCanonicalRoot}
-use Rattle.art_model.specs.Stores.{held_leaf, seen, links_of}
+use Rattle.art_model.specs.Stores.{held_leaf, tree_node, links_of}
 use Rattle.art_model.specs.Trees.{leaf}
 use Rattle.art_model.specs.Apart.{KeepsApart}
 use Rattle.art_model.proofs.stores.Apart.{tree_apart}
 use Rattle.art_model.proofs.stores.Canonical.{canonical_from}
 use Rattle.art_model.proofs.changes.InPlace.{others_kept}
 use Rattle.art_model.proofs.stores.Touches.{Touched, touched_none, then_placed, footprint_of}
-use Rattle.art_writing.specs.Inserted.{alone}
+use Rattle.art_writing.specs.Inserted.{unlinked_leaf}
 use Rattle.art_writing.specs.Writes.{IsPlanted}
 
 -- a leaf without siblings that is placed is planted
 pub placed_alone : {K V : Type 0} (s : Nodes K V) {t : Nodes K V} {n : LeafPtr} {x : K × V} {made : LeafNode K V} → get s.leaves n ≡ None → t.leaves ≡ insert s.leaves n made →
-    t.inners ≡ s.inners → t.promise ≡ take_leaf s.promise → made ≡ alone x → IsPlanted s t n x
+    t.inners ≡ s.inners → t.promise ≡ take_leaf s.promise → made ≡ unlinked_leaf x → IsPlanted s t n x
 placed_alone s {n = n} fresh placed inners promise is = record { fresh = fresh; leaves = placed ∙ ap (insert s.leaves n) is; inners = inners; promise = promise }
 
 module _ {K V : Type 0} (bytes : K → List ℕ) (P : ℕ) {s t : Nodes K V} {n : LeafPtr} {x : K × V} (is : IsPlanted s t n x) where
-  there : get t.leaves n ≡ Some (alone x)
-  there = ap (λ m. get m n) is.leaves ∙ leaf_here s.leaves n (alone x)
+  there : get t.leaves n ≡ Some (unlinked_leaf x)
+  there = ap (λ m. get m n) is.leaves ∙ leaf_here s.leaves n (unlinked_leaf x)
 
   -- the leaf is the canonical tree of its pair
   pub planted : IsCanonicalTree (of_key bytes) P t (leaf_name n) (x ∷ []) (leaf (leaf_name n) x)
@@ -38,7 +38,7 @@ module _ {K V : Type 0} (bytes : K → List ℕ) (P : ℕ) {s t : Nodes K V} {n 
     named = refl;
     radix = (bytes x.0, refl);
     pairs_are = refl;
-    holds = ap (λ o. option_map (seen Leaf) (option_map held_leaf o)) there;
+    holds = ap (λ o. option_map (tree_node Leaf) (option_map held_leaf o)) there;
     distinct = (tt, tt);
     linked = (ap (λ o. option_and_then links_of (option_map held_leaf o)) there, tt);
   })
@@ -48,7 +48,7 @@ module _ {K V : Type 0} (bytes : K → List ℕ) (P : ℕ) {s t : Nodes K V} {n 
 
   -- one leaf came, and nothing else
   pub leaves_touched : Touched s.leaves t.leaves (n ∷ []) [] []
-  leaves_touched = subst (λ m. Touched s.leaves m (n ∷ []) [] []) (sym is.leaves) (then_placed leaf_cmp_total leaf_cmp-IsAntisymmetric (touched_none s.leaves) n (alone x) is.fresh (λ i. i))
+  leaves_touched = subst (λ m. Touched s.leaves m (n ∷ []) [] []) (sym is.leaves) (then_placed leaf_cmp_total leaf_cmp-IsAntisymmetric (touched_none s.leaves) n (unlinked_leaf x) is.fresh (λ i. i))
 
   pub inners_touched : Touched s.inners t.inners [] [] []
   inners_touched = subst (λ m. Touched s.inners m [] [] []) (sym is.inners) (touched_none s.inners)

@@ -15,7 +15,7 @@ use Rattle.art_model.specs.Kept.{KeepsOthers, Frees}
 use Rattle.art_model.specs.Layouts.{AreDistinct, Holds, HoldsBelow, IsLayout, Node, inner_node, leaf_node, leaf_names, leaf_names_below, name_of, names_of, names_below, slots_of}
 use Rattle.art_model.specs.Pairs.{first_of}
 use Rattle.art_model.specs.Radix.{join}
-use Rattle.art_model.specs.Stores.{IsUsed, held, header_at, shape_at}
+use Rattle.art_model.specs.Stores.{IsUsed, content_at, header_at, shape_at}
 use Rattle.art_model.specs.Trees.{Tree, leaf, inner, Subtrees, child, no_child, NodeHeader}
 use Rattle.art_model.specs.Writes.{as_inner}
 use Rattle.art_model.proofs.lists.Lists.{Each-append, Each-left, Each-right, each_from, each_in, in_left, in_right, in_either}
@@ -25,7 +25,7 @@ use Rattle.art_model.proofs.places.Paths.{leaf_names_below-join, names_below-joi
 use Rattle.art_model.proofs.stores.Slots.{put_child-there}
 use Rattle.art_model.proofs.stores.Stores.{HoldsBelow-left, HoldsBelow-right, frame, frame_below}
 use Rattle.art_model.proofs.stores.Writes.{inner_name_one, shown}
-use Rattle.art_writing.specs.Freed.{AreJoined, CanBothGo, CanGo, IsEnd, children_seen, going, going_below, leaves_going}
+use Rattle.art_writing.specs.Freed.{AreJoined, CanBothGo, CanGo, IsEnd, children_seen, names_to_free, names_to_free_below, leaves_to_free}
 use Rattle.art_writing.proofs.FreedTrees.{Shape, Shapes, both_counts, count_at, count_at_is, shape_there, shape_at-inner, shape_same, going_in, written_elsewhere, inner_freed, leaf_below_in}
 
 -- ---- lists of the same names
@@ -140,18 +140,18 @@ module _ {K V : Type 0} {s : Nodes K V} {too : Bool} where
   seen_above : {n : OpaqueNodePtr} {h : NodeHeader} {cs : Shapes} → shape_at s n ≡ Some (inner_node h (slots_of cs)) → AreSeen s too cs → IsSeen s too (inner n h cs)
   seen_above there seen = record { holds = (there, seen.holds); leaves = seen.leaves }
 
-still_used : {K V : Type 0} (s t : Nodes K V) (ns : List OpaqueNodePtr) → ((k : OpaqueNodePtr) → IsIn k ns → held t k ≡ held s k) → Each (IsUsed s) ns → Each (IsUsed t) ns
+still_used : {K V : Type 0} (s t : Nodes K V) (ns : List OpaqueNodePtr) → ((k : OpaqueNodePtr) → IsIn k ns → content_at t k ≡ content_at s k) → Each (IsUsed s) ns → Each (IsUsed t) ns
 still_used s t ns same used = each_from (IsUsed t) ns (λ k i none. each_in (IsUsed s) k ns used i (sym (same k i) ∙ none))
 
 module _ {K V : Type 0} {s t : Nodes K V} {too : Bool} where
   -- what is seen is seen in another store that has the same under its names
-  seen_still : (a : Shape) → ((k : OpaqueNodePtr) → IsIn k (names_of a) → held t k ≡ held s k) → IsSeen s too a → IsSeen t too a
+  seen_still : (a : Shape) → ((k : OpaqueNodePtr) → IsIn k (names_of a) → content_at t k ≡ content_at s k) → IsSeen s too a → IsSeen t too a
   seen_still a same seen = record {
     holds = frame (shape_at s) (shape_at t) a (each_from (λ k. shape_at t k ≡ shape_at s k) (names_of a) (λ k i. shape_same s t k (same k i))) seen.holds;
     leaves = λ every. still_used s t (leaf_names a) (λ k i. same k (taken_in takes_leaves a k i)) (seen.leaves every);
   }
 
-  below_still : (cs : Shapes) → ((k : OpaqueNodePtr) → IsIn k (names_below cs) → held t k ≡ held s k) → AreSeen s too cs → AreSeen t too cs
+  below_still : (cs : Shapes) → ((k : OpaqueNodePtr) → IsIn k (names_below cs) → content_at t k ≡ content_at s k) → AreSeen s too cs → AreSeen t too cs
   below_still cs same seen = record {
     holds = frame_below (shape_at s) (shape_at t) cs (each_from (λ k. shape_at t k ≡ shape_at s k) (names_below cs) (λ k i. shape_same s t k (same k i))) seen.holds;
     leaves = λ every. still_used s t (leaf_names_below cs) (λ k i. same k (leaf_below_in cs k i)) (seen.leaves every);
@@ -160,9 +160,9 @@ module _ {K V : Type 0} {s t : Nodes K V} {too : Bool} where
 -- ---- joined children
 
 module _ {N A : Type 0} (too : Bool) where
-  going_below-join : (cs ds : Subtrees N A) → going_below too (join cs ds) ≡ going_below too cs ++ going_below too ds
-  going_below-join no_child ds = refl
-  going_below-join (child b t cs) ds = ap (λ l. going too t ++ l) (going_below-join cs ds) ∙ sym (append_assoc (going too t) (going_below too cs) (going_below too ds))
+  names_to_free_below-join : (cs ds : Subtrees N A) → names_to_free_below too (join cs ds) ≡ names_to_free_below too cs ++ names_to_free_below too ds
+  names_to_free_below-join no_child ds = refl
+  names_to_free_below-join (child b t cs) ds = ap (λ l. names_to_free too t ++ l) (names_to_free_below-join cs ds) ∙ sym (append_assoc (names_to_free too t) (names_to_free_below too cs) (names_to_free_below too ds))
 
 module _ {K V : Type 0} {s : Nodes K V} {too : Bool} (cs ds : Shapes) (seen : AreSeen s too (join cs ds)) where
   left_seen : AreSeen s too cs
@@ -257,15 +257,15 @@ has_first (inner n h (child b a cs)) byte name e =
 pub record IsLeft {K V : Type 0} (s t : Nodes K V) (too : Bool) (now : OpaqueNodePtr) (shape : Shape) (count : ℕ) : Type 0 where
   pub left : Shape
   pub can : CanGo t too now left
-  pub kept : KeepsOthers s t (going too shape) (going too left)
-  pub counted : leaves_going too shape ≡ count + leaves_going too left
+  pub kept : KeepsOthers s t (names_to_free too shape) (names_to_free too left)
+  pub counted : leaves_to_free too shape ≡ count + leaves_to_free too left
 
 -- From one store to the next something of what is left has gone, and the rest is one tree again; so many leaves are freed.
 pub record IsTurn {K V : Type 0} (t u : Nodes K V) (too : Bool) (left : Shape) (next : OpaqueNodePtr) (freed : ℕ) : Type 0 where
   pub after : Shape
   pub can : CanGo u too next after
-  pub kept : KeepsOthers t u (going too left) (going too after)
-  pub counted : leaves_going too left ≡ freed + leaves_going too after
+  pub kept : KeepsOthers t u (names_to_free too left) (names_to_free too after)
+  pub counted : leaves_to_free too left ≡ freed + leaves_to_free too after
   pub fewer : length (names_of after) < length (names_of left)
 
 module _ {K V : Type 0} {s : Nodes K V} {too : Bool} where
@@ -284,7 +284,7 @@ module _ {K V : Type 0} {s : Nodes K V} {too : Bool} where
   less_is_left {shape = shape} is turn = record {
     left = turn.after;
     can = turn.can;
-    kept = keeps_on (going too shape) (going too is.left) (going too turn.after) is.kept turn.kept;
+    kept = keeps_on (names_to_free too shape) (names_to_free too is.left) (names_to_free too turn.after) is.kept turn.kept;
     counted = let a = is.counted in let b = turn.counted in omega (arith, a, b);
   }
 
@@ -293,9 +293,9 @@ module _ {K V : Type 0} {s : Nodes K V} {too : Bool} where
   still_left {u = u} {next = next} {shape = shape} {count = count} is turn = subst (IsLeft s u too next shape) (let e : count + 0 ≡ count = omega arith in e) (less_is_left is turn)
 
   -- all has gone
-  pub none_is_left : {t u : Nodes K V} {now : OpaqueNodePtr} {shape : Shape} {count : ℕ} (is : IsLeft s t too now shape count) → Frees (going too is.left) t u →
-      Frees (going too shape) s u
-  none_is_left {shape = shape} is freed = keeps_on (going too shape) (going too is.left) [] is.kept freed
+  pub none_is_left : {t u : Nodes K V} {now : OpaqueNodePtr} {shape : Shape} {count : ℕ} (is : IsLeft s t too now shape count) → Frees (names_to_free too is.left) t u →
+      Frees (names_to_free too shape) s u
+  none_is_left {shape = shape} is freed = keeps_on (names_to_free too shape) (names_to_free too is.left) [] is.kept freed
 
 -- fewer names are left in the store
 pub fewer_left : {K V : Type 0} {t u : Nodes K V} {too : Bool} {now next : OpaqueNodePtr} {left : Shape} {freed : ℕ} → CanGo t too now left → IsTurn t u too left next freed →
@@ -309,7 +309,7 @@ fewer_left {K} {V} {t} {u} {too} {now} {next} {left} can turn =
 -- ---- an inner node is written
 
 module _ {K V : Type 0} (t u : Nodes K V) (n : OpaqueNodePtr) (f : Inner → Inner) (inners : u.inners ≡ change t.inners (as_inner n) f) (leaves : u.leaves ≡ t.leaves) where
-  written_off : (k : OpaqueNodePtr) → n ≢ k → held u k ≡ held t k
+  written_off : (k : OpaqueNodePtr) → n ≢ k → content_at u k ≡ content_at t k
   written_off k other = written_elsewhere t u (as_inner n) f inners leaves k (λ e. other (sym e))
 
   -- it is seen with other children
@@ -330,7 +330,7 @@ module _ {K V : Type 0} {t u : Nodes K V} {too : Bool} where
       let names = names_of only in
       let there = shape_there t mark head ((byte, name_of only) ∷ []) can.layout.holds.0 in
       let freed : Frees (mark ∷ []) t u = inner_freed t u (as_inner mark) there.off (inners ∙ ap (λ z. map.remove t.inners (as_inner z)) (sym can.layout.named)) leaves in
-      let other : (k : OpaqueNodePtr) → mark ≢ k → held u k ≡ held t k = λ k off. freed.beside k (λ j. elim j [ inl e ↦ off e | inr z ↦ z ]) (λ z. z) in
+      let other : (k : OpaqueNodePtr) → mark ≢ k → content_at u k ≡ content_at t k = λ k off. freed.beside k (λ j. elim j [ inl e ↦ off e | inr z ↦ z ]) (λ z. z) in
       let nothing = append-nil (leaf_names only) in
       record {
         after = only;
@@ -340,11 +340,11 @@ module _ {K V : Type 0} {t u : Nodes K V} {too : Bool} where
           beside = λ k off out. other k (λ e. off (inl e));
           gone = λ k i out. elim i [
             | inl e ↦ freed.gone k (inl e) (λ z. z)
-            | inr j ↦ elim (in_either k (going too only) [] j) [ inl g ↦ absurd (out g) | inr z ↦ absurd z ]
+            | inr j ↦ elim (in_either k (names_to_free too only) [] j) [ inl g ↦ absurd (out g) | inr z ↦ absurd z ]
           ];
-          taken = λ k i off. absurd (off (inr (in_left k (going too only) [] i)));
+          taken = λ k i off. absurd (off (inr (in_left k (names_to_free too only) [] i)));
         };
-        counted = let e : leaves_going too (inner mark head (child byte only no_child)) ≡ leaves_going too only = ap (λ l. cond too (length l) 0) nothing in omega (arith, e);
+        counted = let e : leaves_to_free too (inner mark head (child byte only no_child)) ≡ leaves_to_free too only = ap (λ l. cond too (length l) 0) nothing in omega (arith, e);
         fewer = let l = length-append names [] in omega (arith, l);
       }
 
@@ -377,8 +377,8 @@ pub record IsCut {K V : Type 0} (t v : Nodes K V) (too : Bool) (left : Shape) (n
   pub upper : Shape
   pub cut : Shape
   pub can : CanBothGo v too now lower upper cut
-  pub kept : KeepsOthers t v (going too left) (going too upper ++ going too cut)
-  pub counted : leaves_going too left ≡ leaves_going too upper + leaves_going too cut
+  pub kept : KeepsOthers t v (names_to_free too left) (names_to_free too upper ++ names_to_free too cut)
+  pub counted : leaves_to_free too left ≡ leaves_to_free too upper + leaves_to_free too cut
   pub names : length (names_of left) ≡ length (names_of upper) + length (names_of cut)
 
 module _ {K V : Type 0} {t v : Nodes K V} {too : Bool} where
@@ -390,13 +390,13 @@ module _ {K V : Type 0} {t v : Nodes K V} {too : Bool} where
       let c = names_of last in
       let cs = join others (child byte last no_child) in
       let all : names_below cs ≡ o ++ c = names_below-join others (child byte last no_child) ∙ ap (λ l. o ++ l) (append-nil c) in
-      let goes : going_below too cs ≡ going_below too others ++ going too last = going_below-join too others (child byte last no_child) ∙ ap (λ l. going_below too others ++ l) (append-nil (going too last)) in
+      let goes : names_to_free_below too cs ≡ names_to_free_below too others ++ names_to_free too last = names_to_free_below-join too others (child byte last no_child) ∙ ap (λ l. names_to_free_below too others ++ l) (append-nil (names_to_free too last)) in
       let ends : leaf_names_below cs ≡ leaf_names_below others ++ leaf_names last = leaf_names_below-join others (child byte last no_child) ∙ ap (λ l. leaf_names_below others ++ l) (append-nil (leaf_names last)) in
       let slots : slots_of cs ≡ slots_of others ++ (byte, name_of last) ∷ [] = slots_of-join others (child byte last no_child) in
       let distinct : AreDistinct (mark ∷ (o ++ c)) = subst (λ l. AreDistinct (mark ∷ l)) all can.layout.distinct in
       let written : v.inners ≡ change t.inners (as_inner mark) (without_child byte) = inners ∙ ap (λ z. change t.inners (as_inner z) (without_child byte)) (sym can.layout.named) in
       let off = written_off t v mark (without_child byte) written leaves in
-      let same : (k : OpaqueNodePtr) → IsIn k (o ++ c) → held v k ≡ held t k = λ k i. off k (each_in (λ z. mark ≢ z) k (o ++ c) distinct.0 i) in
+      let same : (k : OpaqueNodePtr) → IsIn k (o ++ c) → content_at v k ≡ content_at t k = λ k i. off k (each_in (λ z. mark ≢ z) k (o ++ c) distinct.0 i) in
       let below = below_seen (seen_of can) in
       let seen = seen_above {n = mark} {h = head} {cs = others}
       (written_seen t v mark (without_child byte) written leaves {h = head} {slots = slots_of cs} {new = slots_of others} (λ node. refl)
@@ -410,7 +410,7 @@ module _ {K V : Type 0} {t v : Nodes K V} {too : Bool} where
           below = can_go named (seen_still last (λ k i. same k (in_right k o c i)) (first_seen (right_seen others (child byte last no_child) below))) (Pairwise-right ◌≢◌ o c distinct.1);
           apart = distinct;
         };
-        kept = subst (λ l. KeepsOthers t v (mark ∷ l) (mark ∷ (going_below too others ++ going too last))) (sym goes) (record {
+        kept = subst (λ l. KeepsOthers t v (mark ∷ l) (mark ∷ (names_to_free_below too others ++ names_to_free too last))) (sym goes) (record {
           beside = λ k out in_new. off k (λ e. out (inl e));
           gone = λ k i out. absurd (out i);
           taken = λ k i out. absurd (out i);
@@ -433,7 +433,7 @@ pub root_hangs : {K V : Type 0} {t v u : Nodes K V} {too : Bool} {left : Shape} 
 root_hangs {too = too} {left = left} cut joined = record {
   after = joined.both;
   can = joined.can;
-  kept = keeps_on (going too left) (going too cut.upper ++ going too cut.cut) (going too joined.both) cut.kept joined.kept;
+  kept = keeps_on (names_to_free too left) (names_to_free too cut.upper ++ names_to_free too cut.cut) (names_to_free too joined.both) cut.kept joined.kept;
   counted = let a = cut.counted in let b = joined.counted in omega (arith, a, b);
   fewer = let a = cut.names in let b = joined.fewer in omega (arith, a, b);
 }
@@ -449,8 +449,8 @@ pub record AreMoved {K V : Type 0} (s t : Nodes K V) (too : Bool) (upper lower :
   pub above : Shape
   pub below : Shape
   pub can : CanBothGo t too left child above below
-  pub kept : KeepsOthers s t (going too upper ++ going too lower) (going too above ++ going too below)
-  pub counted : leaves_going too upper + leaves_going too lower ≡ leaves_going too above + leaves_going too below
+  pub kept : KeepsOthers s t (names_to_free too upper ++ names_to_free too lower) (names_to_free too above ++ names_to_free too below)
+  pub counted : leaves_to_free too upper + leaves_to_free too lower ≡ leaves_to_free too above + leaves_to_free too below
   pub names : length (names_of upper) + length (names_of lower) ≡ length (names_of above) + length (names_of below)
 
 -- and the lower one has fewer
@@ -480,22 +480,22 @@ module _ {K V : Type 0} {s : Nodes K V} {too : Bool} where
     above = step.moved.above;
     below = step.moved.below;
     can = step.moved.can;
-    kept = keeps_on (going too upper ++ going too lower) (going too is.above ++ going too is.below) (going too step.moved.above ++ going too step.moved.below) is.kept step.moved.kept;
+    kept = keeps_on (names_to_free too upper ++ names_to_free too lower) (names_to_free too is.above ++ names_to_free too is.below) (names_to_free too step.moved.above ++ names_to_free too step.moved.below) is.kept step.moved.kept;
     counted = is.counted ∙ step.moved.counted;
     names = is.names ∙ step.moved.names;
   }
 
   -- the lower one is an end, which goes
   pub end_gone : {t u : Nodes K V} {upper lower : Shape} {left child : OpaqueNodePtr} {freed : ℕ} (is : AreMoved s t too upper lower left child) →
-      Frees (going too is.below) t u → freed ≡ leaves_going too is.below → AreJoined s u too upper lower left freed
+      Frees (names_to_free too is.below) t u → freed ≡ leaves_to_free too is.below → AreJoined s u too upper lower left freed
   end_gone {t} {u} {upper} {lower} {left} {child} {freed} is goes counted =
-      let a = going too is.above in
-      let b = going too is.below in
+      let a = names_to_free too is.above in
+      let b = names_to_free too is.below in
       record {
         both = is.above;
         can = can_go is.can.above.layout.named (seen_still is.above
             (λ k i. goes.beside k (λ j. apart_in (names_of is.above) (names_of is.below) k is.can.apart i (going_in too is.below k j)) (λ z. z)) (seen_of is.can.above)) is.can.above.layout.distinct;
-        kept = keeps_on (going too upper ++ going too lower) (a ++ b) a is.kept (record {
+        kept = keeps_on (names_to_free too upper ++ names_to_free too lower) (a ++ b) a is.kept (record {
           beside = λ k off out. goes.beside k (λ i. off (in_right k a b i)) (λ z. z);
           gone = λ k i out. elim (in_either k a b i) [ inl j ↦ absurd (out j) | inr j ↦ goes.gone k j (λ z. z) ];
           taken = λ k i off. absurd (off (in_left k a b i));
@@ -513,13 +513,13 @@ module _ {K V : Type 0} {t u : Nodes K V} {too : Bool} where
       let f = names_of first in
       let m = names_below more in
       let names = changed_places mark a f m in
-      let goes = changed_places mark (going too upper) (going too first) (going_below too more) in
+      let goes = changed_places mark (names_to_free too upper) (names_to_free too first) (names_to_free_below too more) in
       let after = inner mark head (child byte upper more) in
       let distinct : AreDistinct (names_of after ++ f) = names.distinct can.apart in
       let written : u.inners ≡ change t.inners (as_inner mark) (with_child byte (name_of upper)) =
       inners ∙ ap (λ z. change t.inners (as_inner z) (with_child byte left)) (sym can.below.layout.named) ∙ ap (λ z. change t.inners (as_inner mark) (with_child byte z)) (sym can.above.layout.named) in
       let off = written_off t u mark (with_child byte (name_of upper)) written leaves in
-      let same : (k : OpaqueNodePtr) → IsIn k ((a ++ m) ++ f) → held u k ≡ held t k = λ k i. off k (each_in (λ z. mark ≢ z) k ((a ++ m) ++ f) distinct.0 i) in
+      let same : (k : OpaqueNodePtr) → IsIn k ((a ++ m) ++ f) → content_at u k ≡ content_at t k = λ k i. off k (each_in (λ z. mark ≢ z) k ((a ++ m) ++ f) distinct.0 i) in
       let below = below_seen (seen_of can.below) in
       let seen = seen_above {n = mark} {h = head} {cs = child byte upper more}
       (written_seen t u mark (with_child byte (name_of upper)) written leaves {h = head} {slots = slots_of (child byte first more)} {new = slots_of (child byte upper more)} (λ node. refl)

@@ -18,7 +18,7 @@ use Rattle.art_model.specs.Keys.{IsFront, are_related}
 use Rattle.art_model.specs.Footprints.{IsIn, TouchesRelated}
 use Rattle.art_model.specs.Kept.{ChangesInPlace, Frees, SameNodes}
 use Rattle.art_model.specs.Layouts.{name_of, names_of, leaf_names, slots_of, first_or, last_or, Holds}
-use Rattle.art_model.specs.Pairs.{overwrite, overwrite_reply, went}
+use Rattle.art_model.specs.Pairs.{overwrite, overwrite_reply, only_or_count}
 use Rattle.art_model.specs.Paths.{Frame, plug, leaves_before, leaves_after}
 use Rattle.art_model.specs.Places.{depth_of, prefix_of, IsEndNode}
 use Rattle.art_model.specs.Radix.{AreRadix, bytes_of, pairs_of, pairs_below}
@@ -43,7 +43,7 @@ use Rattle.art_model.proofs.stores.Views as views
 use Rattle.art_model.proofs.stores.Writes.{parent_ready, same_but, with_child_at-elsewhere}
 use Rattle.art_writing.specs.declared.insert.InsertParentNodeChange.TheVariants.{NoChange}
 use Rattle.art_writing.specs.declared.insert.OverwritePoint.{OverwritePoint}
-use Rattle.art_writing.specs.Inserted.{alone}
+use Rattle.art_writing.specs.Inserted.{unlinked_leaf}
 use Rattle.art_writing.specs.Overwritten.{IsOverwritePointIn, TouchesForNode, placed_for_overwrite}
 use Rattle.art_reading.specs.EndNodes.{IsOverwrittenWith}
 use Rattle.art_reading.specs.Paths.{last_step, path_of, root_with}
@@ -88,7 +88,7 @@ module _ {K V : Type 0} {bytes : K × V → List ℕ} {P : ℕ} {s : Nodes K V} 
 
   module _ (t : Nodes K V) (leaves : t.leaves ≡ change s.leaves p (with_pair new.0 new.1)) (inners : t.inners ≡ s.inners) where
     -- the pair is in, and the old one is answered
-    pub leaf_pair_overwritten : (swapped : K × V) (existing : LeafNode K V) → IfSome (map.get s.leaves p) (λ leaf. swapped ≡ (leaf.key, leaf.value)) → existing ≡ alone swapped →
+    pub leaf_pair_overwritten : (swapped : K × V) (existing : LeafNode K V) → IfSome (map.get s.leaves p) (λ leaf. swapped ≡ (leaf.key, leaf.value)) → existing ≡ unlinked_leaf swapped →
         ForTree bytes P s point.root (λ pairs layout. IsOverwritten bytes P s t point new pairs layout
         (record { insert_result = record { leaf_node_ptr = p; existing_leaf = Some existing; new_root = point.root; parent_node_change = NoChange }; leafs_removed = 0 }))
     leaf_pair_overwritten swapped existing pair is pairs layout by =
@@ -96,13 +96,13 @@ module _ {K V : Type 0} {bytes : K × V → List ℕ} {P : ℕ} {s : Nodes K V} 
         let into : IntoLeaf bytes P s t l.at.path l.at.place p l.at.shown new =
         record { hole = l.at.hole; here = l.at.there; write = with_pair new.0 new.1; written = refl; leaves = leaves; inners = inners } in
         let old = subst (IsLaidOut bytes P (node_at s) (links_at s) point.root pairs) (sym l.at.whole) (laid_out by) in
-        let went : swapped ≡ pair_of l.at.shown = subst (λ o. IfSome o (λ leaf. swapped ≡ (leaf.key, leaf.value))) l.at.there pair in
+        let swapped_is : swapped ≡ pair_of l.at.shown = subst (λ o. IfSome o (λ leaf. swapped ≡ (leaf.key, leaf.value))) l.at.there pair in
         let reply = leaf_overwrite_reply old into l.related l.unequal in
         record {
           tree = plug l.at.path (leaf (leaf_name p) new);
           canonical = canonical_from (leaf_overwritten old into l.related l.unequal);
           leaf = record { has = record { path = l.at.path; whole = refl }; kept = λ kind. named; change = refl };
-          existing = ap Some (is ∙ ap alone went) ∙ ap (λ z. option_map alone z.0) (sym reply);
+          existing = ap Some (is ∙ ap unlinked_leaf swapped_is) ∙ ap (λ z. option_map unlinked_leaf z.0) (sym reply);
           removed = ap (λ z. z.1) (sym reply);
           kept = subst (λ z. ChangesInPlace bytes s t (Some z) (Some (plug l.at.path (leaf (leaf_name p) new)))) l.at.whole (leaf_overwrite_kept old into l.related l.unequal);
           touches = subst (λ kind. TouchesForNode kind bytes (bytes new) s t layout) (ap (λ z. z.kind) named) (leaf_touches old into);
@@ -198,7 +198,7 @@ module _ {K V : Type 0} {bytes : K × V → List ℕ} {P : ℕ} {s : Nodes K V} 
               rw (e, f) (let l = length-append xs (y ∷ (ys ++ pairs_below cs)) in omega arith)
 
 -- more than one went
-went_many : {X : Type 0} (xs : List X) → 2 ≤ length xs → went xs ≡ (None, length xs)
+went_many : {X : Type 0} (xs : List X) → 2 ≤ length xs → only_or_count xs ≡ (None, length xs)
 went_many [] two = absurd (omega arith)
 went_many (x ∷ []) two = absurd (omega arith)
 went_many (x ∷ y ∷ xs) two = refl
@@ -331,7 +331,7 @@ module _ {K V : Type 0} {bytes : K × V → List ℕ} {P : ℕ} {s : Nodes K V} 
                 subst (λ z. IsCanonicalTree bytes P t z (overwrite bytes (pair_of x) pairs) (plug at.path (leaf (leaf_name n) (pair_of x))))
                 (sym root) (canonical_from (hole_overwritten old_laid into));
             leaf = record { has = record { path = at.path; whole = refl }; kept = λ kind. absurd (off kind); change = refl };
-            existing = ap (λ z. option_map alone z.0) (sym reply);
+            existing = ap (λ z. option_map unlinked_leaf z.0) (sym reply);
             removed = count_is ∙ length-leaf_names at.node ∙ ap (λ z. z.1) (sym reply);
             kept = subst (λ z. ChangesInPlace bytes s t (Some z) (Some (plug at.path (leaf (leaf_name n) (pair_of x))))) at.whole (hole_kept old_laid into);
             touches = for_inner point.overwrite_point.kind off (record {

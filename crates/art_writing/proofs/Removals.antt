@@ -49,7 +49,7 @@ use Rattle.art_model.proofs.leaves.Taken.{LeafAmong, previous_is, next_is, befor
 use Rattle.art_model.proofs.stores.Views.{leaf_there, leaf_or, inner_name_is}
 use Rattle.art_model.proofs.stores.Writes.{inner_at, parent_ready, inner_name_one}
 use Rattle.art_writing.specs.Deleted.{LeadsTo, TouchesFor, parent_change, no_parent, is_compressed}
-use Rattle.art_writing.specs.Inserted.{alone}
+use Rattle.art_writing.specs.Inserted.{unlinked_leaf}
 use Rattle.art_reading.specs.Paths.{last_step, path_of, up, root_with}
 use Rattle.art_writing.specs.TakenOut.{IsLeafTaken}
 use Rattle.art_writing.specs.Writes.{HasChild, LinksAreThere}
@@ -102,7 +102,7 @@ module _ {K V : Type 0} {bytes : K × V → List ℕ} {P : ℕ} {s : Nodes K V} 
         tree = None;
         canonical = subst (λ r. IsRootOf bytes P t r (remove_key bytes (bytes x) pairs) None) (sym taken.root_is)
             (ap (remove_key bytes (bytes x)) (sym at.laid.pairs_are ∙ ap (λ y. y ∷ []) at.pair) ∙ changes.alone bytes x);
-        deleted = (taken_since s refl at.here taken).1 ∙ ap alone at.pair;
+        deleted = (taken_since s refl at.here taken).1 ∙ ap unlinked_leaf at.pair;
         root_is = rw at.path_is taken.root_is;
         kept = subst (λ tree. ChangesInPlace bytes s t (Some tree) None) at.whole (emptied_in_place at.laid goes taken.inners);
         touches = subst (λ told. TouchesFor told s t) (sym told) (emptied_touches at.laid goes taken.inners);

@@ -21,7 +21,7 @@ use Rattle.art_model.proofs.places.Paths.{IsHole}
 use Rattle.art_reading.specs.declared.end_node.InsertKind.TheVariants.{Exact}
 use Rattle.art_writing.specs.declared.insert.InsertParentNodeChange.TheVariants.{NoChange}
 use Rattle.art_writing.specs.declared.insert.InsertPoint.{InsertPoint}
-use Rattle.art_writing.specs.Inserted.{HasInserted, IsChange, IsPointIn, Touches, alone}
+use Rattle.art_writing.specs.Inserted.{HasInserted, IsChange, IsPointIn, Touches, unlinked_leaf}
 use Rattle.art_reading.specs.EndNodes.{IsKindOf}
 use Rattle.art_writing.proofs.Left.{IsInserted}
 use Rattle.art_writing.proofs.Answered.{IsEndLeaf, end_leaf}
@@ -64,7 +64,7 @@ module _ {K V : Type 0} {bytes : K × V → List ℕ} {P : ℕ} {s : Nodes K V} 
     }
 
     -- the value is in, and the old one is answered with the key that was handed in
-    pub value_replaced : (swapped : V) (existing : LeafNode K V) → IfSome (map.get s.leaves p) (λ leaf. swapped ≡ leaf.value) → existing ≡ alone (new.0, swapped) →
+    pub value_replaced : (swapped : V) (existing : LeafNode K V) → IfSome (map.get s.leaves p) (λ leaf. swapped ≡ leaf.value) → existing ≡ unlinked_leaf (new.0, swapped) →
         ForTree bytes P s point.root (λ pairs layout. IsInserted bytes P s t point new pairs layout
         (record { leaf_node_ptr = p; existing_leaf = Some existing; new_root = point.root; parent_node_change = NoChange }))
     value_replaced swapped existing value is pairs layout by =
@@ -79,7 +79,7 @@ module _ {K V : Type 0} {bytes : K × V → List ℕ} {P : ℕ} {s : Nodes K V} 
           inserted = subst (λ x. HasInserted tree point x (record { leaf_node_ptr = p; existing_leaf = Some existing; new_root = point.root; parent_node_change = NoChange }))
               (sym (leaf_stored_for old into new l.same (alike l) refl))
               (record { path = l.at.path; whole = refl; change = subst (λ kind. IsChange kind (parent_of l.at.path) NoChange) (sym exact) refl; root = refl });
-          replaced = ap Some (is ∙ ap (λ v. alone (new.0, v)) went) ∙ ap (option_map alone) (sym (leaf_reply old into new l.same (alike l) refl));
+          replaced = ap Some (is ∙ ap (λ v. unlinked_leaf (new.0, v)) went) ∙ ap (option_map unlinked_leaf) (sym (leaf_reply old into new l.same (alike l) refl));
           kept = subst (λ z. ChangesInPlace bytes s t (Some z) (Some tree)) l.at.whole (leaf_insertion_kept old into new l.same (alike l) refl);
           touches = subst (λ kind. Touches kind s t) (sym exact) (leaf_touches old into);
         }

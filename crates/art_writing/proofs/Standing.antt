@@ -4,7 +4,7 @@ use Rattle.art_model.specs.Kept.{SameNodes}
 use Rattle.art_nodes.specs.Nodes.{Nodes}
 use Rattle.art_parts.specs.declared.names.OpaqueNodePtr.{OpaqueNodePtr}
 use Rattle.art_model.specs.Canonical.{IsCanonicalTree}
-use Rattle.art_model.specs.Stores.{held}
+use Rattle.art_model.specs.Stores.{content_at}
 use Rattle.art_model.specs.Trees.{Tree}
 use Rattle.art_model.proofs.stores.StoreLaws.{has_one_map}
 use Rattle.art_writing.proofs.Elsewhere as elsewhere
@@ -20,7 +20,7 @@ module _ {K V : Type 0} {bytes : K × V → List ℕ} {P : ℕ} {s : Nodes K V} 
   -- a canonical root stays one
   pub tree_stays : {mid : Nodes K V} {root : OpaqueNodePtr} {pairs : List (K × V)} {layout : Tree OpaqueNodePtr (K × V)} → SameNodes s mid →
       IsCanonicalTree bytes P s root pairs layout → IsCanonicalTree bytes P mid root pairs layout
-  tree_stays {mid} same by = elsewhere.tree_stays by (λ k used. ap₂ (λ leaves inners. held (record mid { leaves = leaves; inners = inners }) k) same.0 same.1)
+  tree_stays {mid} same by = elsewhere.tree_stays by (λ k used. ap₂ (λ leaves inners. content_at (record mid { leaves = leaves; inners = inners }) k) same.0 same.1)
 
   -- the point answers to each layout of its root
   pub answers_to : {key : List ℕ} {point : InsertPoint} {pairs : List (K × V)} {layout : Tree OpaqueNodePtr (K × V)} → IsPointIn bytes P s key point →

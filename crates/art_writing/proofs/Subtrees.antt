@@ -29,9 +29,9 @@ use Rattle.art_model.specs.Places.{inner_nodes, inner_nodes_below, least_key, le
 use Rattle.art_model.specs.Promises.{inner_taken, promise_after}
 use Rattle.art_model.specs.Radix.{AreRadix, IsRadix, bytes_of, pairs_of, pairs_below}
 use Rattle.art_model.specs.Roots.{ForRoot, ForTree, IsCanonicalRoot, IsFullTree, IsRootOf}
-use Rattle.art_model.specs.Stores.{held, node_at, links_at, pair_of}
+use Rattle.art_model.specs.Stores.{content_at, node_at, links_at, pair_of}
 use Rattle.art_model.specs.Trees.{Tree, leaf, inner, Subtrees, child, no_child}
-use Rattle.art_model.specs.Writes.{Inners, IsThere, as_inner, joined, parent_of, with_child_at}
+use Rattle.art_model.specs.Writes.{Inners, IsThere, as_inner, with_links_around, parent_of, with_child_at}
 use Rattle.art_model.proofs.pairs.Between.{remove_key-between}
 use Rattle.art_model.proofs.stores.Canonical.{IsLaidOut, canonical_from, laid_out, tree_radix}
 use Rattle.art_model.proofs.leaves.Chains.{are_there}
@@ -58,7 +58,7 @@ use Rattle.art_reading.specs.declared.descent.End.TheVariants.{First}
 use Rattle.art_reading.specs.declared.descent.LastNode.{LastNode}
 use Rattle.art_writing.specs.Collapsed.{IsCollapsed, IsSubtreeTaken}
 use Rattle.art_writing.specs.Deleted.{IsDeletePointIn, LeadsTo, ParentChange, change_of, no_parent, parent_change, placed_for_deletion, shrinks}
-use Rattle.art_writing.specs.Inserted.{alone}
+use Rattle.art_writing.specs.Inserted.{unlinked_leaf}
 use Rattle.art_writing.specs.Subtrees.{HasPrefixBelow, IsPrefixPoint, IsSubtreePointIn, LeadsToNode, pairs_beside}
 use Rattle.art_writing.specs.Writes.{HasChild, IsBeside}
 use Rattle.art_writing.specs.declared.delete.DeletePoint.{DeletePoint}
@@ -380,7 +380,7 @@ module _ {K V : Type 0} {bytes : K × V → List ℕ} {P : ℕ} {s : Nodes K V} 
         parent_apart (node_at s) (node_at s) at.path own_node old.holds old.distinct k up
         (subst (λ z. IsIn z (names_of own_node)) (sym (inner_name_one k first.frame.mark (e ∙ sym first.parent_is))) (collapses.mark_in at.path first.above among_all)))
 
-    module _ (w : Nodes K V) {name : OpaqueNodePtr} (last next : Option LeafPtr) (beside : IsBeside s at.node After last next) (leaves : w.leaves ≡ joined s.leaves (Some n) next next (Some n))
+    module _ (w : Nodes K V) {name : OpaqueNodePtr} (last next : Option LeafPtr) (beside : IsBeside s at.node After last next) (leaves : w.leaves ≡ with_links_around s.leaves (Some n) next next (Some n))
         (inners : w.inners ≡ with_child_at (last_step point.path) name (change s.inners parent (without_child byte))) (name_is : name ≡ leaf_name n) where
       inners_are : w.inners ≡ with_child_at (parent_of at.path) (leaf_name n) (change s.inners (as_inner first.frame.mark) (without_child first.frame.byte))
       inners_are = inners ∙ ap (λ o. with_child_at o name (change s.inners parent (without_child byte))) (ap last_step at.path_is ∙ last_step-path_of at.path)
@@ -447,13 +447,13 @@ module _ {K V : Type 0} {bytes : K × V → List ℕ} {P : ℕ} {s u : Nodes K V
       (path_before bytes P at.path place (bytes c.first) path front) (path_after bytes P at.path place (bytes c.first) path front)
       ∙ ap (λ z. pairs_before at.path ++ z ++ pairs_after at.path) (changes.alone bytes c.first) ∙ ap (λ z. z ++ pairs_after at.path) (append-nil (pairs_before at.path))
 
-  module _ (v : Nodes K V) (new_root : Option OpaqueNodePtr) (gone : LeafNode K V) (told : IfSome (map.get u.leaves left.leaf) (λ leaf. gone ≡ alone (pair_of leaf)))
+  module _ (v : Nodes K V) (new_root : Option OpaqueNodePtr) (gone : LeafNode K V) (told : IfSome (map.get u.leaves left.leaf) (λ leaf. gone ≡ unlinked_leaf (pair_of leaf)))
       (canonical : ForTree bytes P u left.root (λ pairs layout. IsCanonical bytes P v new_root (remove_key bytes (bytes (pair_of gone)) pairs))) where
     -- the pairs beside the node are left
     pub others_left : IsCanonical bytes P v new_root (pairs_beside at)
     others_left =
         let (node, here, pair) = leaf_at c.canonical leads_to_one in
-        let same : gone ≡ alone (pair_of node) = subst (λ o. IfSome o (λ leaf. gone ≡ alone (pair_of leaf))) here told in
+        let same : gone ≡ unlinked_leaf (pair_of node) = subst (λ o. IfSome o (λ leaf. gone ≡ unlinked_leaf (pair_of leaf))) here told in
         let own : pair_of gone ≡ c.first = ap pair_of same ∙ pair in
         subst (IsCanonical bytes P v new_root) (ap (λ z. remove_key bytes (bytes z) (pairs_before at.path ++ (c.first ∷ []) ++ pairs_after at.path)) own ∙ first_goes) (canonical _ _ c.canonical)
 
@@ -477,7 +477,7 @@ module _ {K V : Type 0} {bytes : K × V → List ℕ} {P : ℕ} {s u v : Nodes K
   -- so the node is out of the tree
   pub subtree_taken : IsSubtreePointIn bytes P s root point →
       ForTree bytes P s root (λ pairs layout. (at : LeadsToNode layout point) → IsCollapsed bytes P s u root at.path at.node left) →
-      IfSome (map.get u.leaves left.leaf) (λ leaf. done.deleted_leaf ≡ alone (pair_of leaf)) →
+      IfSome (map.get u.leaves left.leaf) (λ leaf. done.deleted_leaf ≡ unlinked_leaf (pair_of leaf)) →
       ForTree bytes P u left.root (λ pairs layout. IsCanonical bytes P v done.new_root (remove_key bytes (bytes (pair_of done.deleted_leaf)) pairs)) →
       IfSome done.new_root (IsCanonicalRoot bytes P v) →
       ForTree bytes P u left.root (λ pairs old. ForRoot bytes P v done.new_root (λ after new. ChangesInPlace bytes u v (Some old) new)) →
@@ -510,8 +510,8 @@ module _ {K V : Type 0} {bytes : K × V → List ℕ} {P : ℕ} {s r v : Nodes K
         };
   }
     where
-      held_same : (n : OpaqueNodePtr) → held r n ≡ held s n
-      held_same n = ap₂ (λ leaves inners. held (record s { leaves = leaves; inners = inners }) n) same.0 same.1
+      held_same : (n : OpaqueNodePtr) → content_at r n ≡ content_at s n
+      held_same n = ap₂ (λ leaves inners. content_at (record s { leaves = leaves; inners = inners }) n) same.0 same.1
 
 -- the promise that is left, where what is placed was reserved before
 pub promise_left : {K V Y E : Type 0} (s r : Nodes K V) (o : Option NodeType) (placed : Promise) (reserved : Result Y E) → is_err reserved ≡ false → placed ≡ record { leaves = 0; inner = o } →

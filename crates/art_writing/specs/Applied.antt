@@ -13,7 +13,7 @@ use Rattle.art_writing.specs.declared.insert.InsertResult.{InsertResult}
 use Rattle.art_writing.specs.declared.insert.PrefixInsertPoint.{PrefixInsertPoint}
 use Rattle.art_writing.specs.declared.insert.PrefixInsertResult.{PrefixInsertResult}
 use Rattle.art_writing.specs.declared.insert.Refused.{Refused}
-use Rattle.art_writing.specs.Inserted.{HasInserted, Touches, alone, placed_for}
+use Rattle.art_writing.specs.Inserted.{HasInserted, Touches, unlinked_leaf, placed_for}
 use Rattle.art_writing.specs.Overwritten.{HasCome, TouchesForPrefix, placed_for_prefix, root_of}
 
 -- The nodes are placed, from the promise where it covers them; or the pair is handed back, with the nodes as they were and nothing promised.
@@ -36,7 +36,7 @@ module _ {K V : Type 0} (bytes : K × V → List ℕ) (P : ℕ) (s t : Nodes K V
     pub leaf : IfOk result (λ done. ForTree bytes P t done.new_root (λ pairs layout.
         HasInserted layout point (stored_for bytes pair pairs) done))
     pub replaced : ForTree bytes P s point.root (λ pairs layout. IfOk result (λ done.
-        done.existing_leaf ≡ option_map alone (put_reply bytes pair pairs)))
+        done.existing_leaf ≡ option_map unlinked_leaf (put_reply bytes pair pairs)))
     pub kept : ForTree bytes P s point.root (λ pairs old. IfOk result (λ done.
         ForTree bytes P t done.new_root (λ after new. ChangesInPlace bytes s t (Some old) (Some new))))
     pub apart : IfOk result (λ done. KeepsApart bytes P s t (Some point.root) (Some done.new_root))
@@ -52,7 +52,7 @@ module _ {K V : Type 0} (bytes : K × V → List ℕ) (P : ℕ) (s t : Nodes K V
     pub leaf : IfOk result (λ done. ForTree bytes P t done.insert_result.new_root (λ pairs layout.
         HasCome bytes pairs layout point pair done.insert_result))
     pub replaced : ForTree bytes P s (root_of point) (λ pairs layout. IfOk result (λ done.
-        done.insert_result.existing_leaf ≡ option_map alone (overwrite_reply bytes pair pairs).0))
+        done.insert_result.existing_leaf ≡ option_map unlinked_leaf (overwrite_reply bytes pair pairs).0))
     pub removed : ForTree bytes P s (root_of point) (λ pairs layout. IfOk result (λ done.
         done.leafs_removed ≡ (overwrite_reply bytes pair pairs).1))
     pub kept : ForTree bytes P s (root_of point) (λ pairs old. IfOk result (λ done.

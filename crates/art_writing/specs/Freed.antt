@@ -24,17 +24,17 @@ IsEnd (inner n h (child b t cs)) = ⊥
 module _ {N A : Type 0} (leaves_too : Bool) where
   -- the names that go
   abbrev mutual
-    pub going : Tree N A → List N
-    going (leaf n x) = if leaves_too then n ∷ [] else []
-    going (inner n h cs) = n ∷ going_below cs
+    pub names_to_free : Tree N A → List N
+    names_to_free (leaf n x) = if leaves_too then n ∷ [] else []
+    names_to_free (inner n h cs) = n ∷ names_to_free_below cs
 
-    pub going_below : Subtrees N A → List N
-    going_below no_child = []
-    going_below (child b t cs) = going t ++ going_below cs
+    pub names_to_free_below : Subtrees N A → List N
+    names_to_free_below no_child = []
+    names_to_free_below (child b t cs) = names_to_free t ++ names_to_free_below cs
 
   -- how many of them are leaves
-  abbrev pub leaves_going : Tree N A → ℕ
-  leaves_going t = if leaves_too then length (leaf_names t) else 0
+  abbrev pub leaves_to_free : Tree N A → ℕ
+  leaves_to_free t = if leaves_too then length (leaf_names t) else 0
 
 -- The name stands for a tree without leaves, and the leaves are there where they are to go too.
 pub record CanGo {K V : Type 0} (s : Nodes K V) (leaves_too : Bool) (root : OpaqueNodePtr)
@@ -55,7 +55,7 @@ pub record AreJoined {K V : Type 0} (s t : Nodes K V) (leaves_too : Bool)
     (upper lower : Tree OpaqueNodePtr (Unit {0})) (root : OpaqueNodePtr) (freed : ℕ) : Type 0 where
   pub both : Tree OpaqueNodePtr (Unit {0})
   pub can : CanGo t leaves_too root both
-  pub kept : KeepsOthers s t (going leaves_too upper ++ going leaves_too lower) (going leaves_too both)
-  pub counted : leaves_going leaves_too upper + leaves_going leaves_too lower
-      ≡ freed + leaves_going leaves_too both
+  pub kept : KeepsOthers s t (names_to_free leaves_too upper ++ names_to_free leaves_too lower) (names_to_free leaves_too both)
+  pub counted : leaves_to_free leaves_too upper + leaves_to_free leaves_too lower
+      ≡ freed + leaves_to_free leaves_too both
   pub fewer : length (names_of both) < length (names_of upper) + length (names_of lower)

@@ -29,8 +29,8 @@ IsPointIn {K} {V} bytes P s key point =
     IsCanonicalTree bytes P s point.root pairs layout × AnswersTo bytes P layout key point
 
 -- a leaf with no leaves beside it
-abbrev pub alone : {K V : Type 0} → K × V → LeafNode K V
-alone pair = record { key = pair.0; value = pair.1; previous = None; next = None }
+abbrev pub unlinked_leaf : {K V : Type 0} → K × V → LeafNode K V
+unlinked_leaf pair = record { key = pair.0; value = pair.1; previous = None; next = None }
 
 module _ {K V : Type 0} where
   -- whether a node has as many children as its kind has room for

@@ -15,12 +15,12 @@ use Rattle.art_writing.specs.declared.delete.DeletePoint.{DeletePoint}
 use Rattle.art_writing.specs.declared.delete.DeleteRefused.{DeleteRefused}
 use Rattle.art_writing.specs.declared.delete.DeleteResult.{DeleteResult}
 use Rattle.art_writing.specs.Deleted.{IsRootAfter, TouchesFor, pair_at, parent_change, placed_for_deletion}
-use Rattle.art_writing.specs.Inserted.{alone}
+use Rattle.art_writing.specs.Inserted.{unlinked_leaf}
 
 -- The point's leaf goes from between those beside it, and is answered alone, with this root; inner nodes and the promise stay.
 pub record IsLeafTaken {K V : Type 0} (s t : Nodes K V) (point : DeletePoint) (root : Option OpaqueNodePtr)
     (done : DeleteResult K V) : Type 0 where
-  pub leaf : IsSomeAnd (map.get s.leaves point.leaf_node_ptr) (λ leaf. done.deleted_leaf ≡ alone (pair_of leaf))
+  pub leaf : IsSomeAnd (map.get s.leaves point.leaf_node_ptr) (λ leaf. done.deleted_leaf ≡ unlinked_leaf (pair_of leaf))
   pub leaves : IsSomeAnd (map.get s.leaves point.leaf_node_ptr) (λ leaf.
       t.leaves ≡ without_leaf s.leaves point.leaf_node_ptr leaf)
   pub inners : t.inners ≡ s.inners
@@ -34,7 +34,7 @@ pub record IsTakenOut {K V : Type 0} (bytes : K × V → List ℕ) (P : ℕ) (s 
       IsCanonical bytes P t done.new_root (remove_key bytes (bytes (pair_of done.deleted_leaf)) pairs)))
   pub left : IfOk result (λ done. IfSome done.new_root (IsCanonicalRoot bytes P t))
   pub deleted : IfOk result (λ done. IfSome (map.get s.leaves point.leaf_node_ptr) (λ leaf.
-      done.deleted_leaf ≡ alone (pair_of leaf)))
+      done.deleted_leaf ≡ unlinked_leaf (pair_of leaf)))
   pub pair : IfOk result (λ done. pair_at s (Some point) ≡ Some (pair_of done.deleted_leaf))
   pub sought : ForTree bytes P s root (λ pairs _. IfOk result (λ done. (key : List ℕ) →
       pair_at s (Some point) ≡ remove_reply bytes key pairs → IsCanonical bytes P t done.new_root (remove_key bytes key pairs)))

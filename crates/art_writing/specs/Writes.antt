@@ -14,7 +14,7 @@ use Rattle.art_model.specs.Radix.{BytesRise, bytes_of, join}
 use Rattle.art_model.specs.Roots.{IsFullTree}
 use Rattle.art_model.specs.Trees.{Tree, inner, Subtrees, child, no_child, NodeHeader}
 use Rattle.art_model.specs.Writes.{Leaves, Inners, IsThere, with_next, with_previous}
-use Rattle.art_writing.specs.Inserted.{alone}
+use Rattle.art_writing.specs.Inserted.{unlinked_leaf}
 use Rattle.art_writing.specs.declared.writes.Side.{Side}
 use Rattle.art_writing.specs.declared.writes.Side.TheVariants.{Before, After}
 
@@ -26,7 +26,7 @@ HasChild inners (Some parent) = IsSomeAnd (map.get inners parent.0) (λ node. Is
 -- A leaf with no siblings came into a store.
 pub record IsPlanted {K V : Type 0} (s t : Nodes K V) (name : LeafPtr) (pair : K × V) : Type 0 where
   pub fresh : map.get s.leaves name ≡ None
-  pub leaves : t.leaves ≡ map.insert s.leaves name (alone pair)
+  pub leaves : t.leaves ≡ map.insert s.leaves name (unlinked_leaf pair)
   pub inners : t.inners ≡ s.inners
   pub promise : t.promise ≡ take_leaf s.promise
 

@@ -21,7 +21,7 @@ ghost use Rattle.art_model.specs.Pairs.{of_key};
 ghost use Rattle.art_model.specs.Promises.{IsLessened, tree_taken};
 ghost use Rattle.art_model.specs.Roots.{ForTree, IsCanonicalRoot, IsFullTree};
 ghost use Rattle.art_model.specs.Trees.{Tree};
-ghost use Rattle.art_model.specs.Writes.{IsThere, joined};
+ghost use Rattle.art_model.specs.Writes.{IsThere, with_links_around};
 ghost use Rattle.art_writing.specs.Cloned.{IsBegun, IsCloned};
 
 use crate::deallocate::free_nodes;
@@ -295,7 +295,7 @@ fn add_copy<K: AsBytes + Drop, V: Drop, const P: usize>(
         option_or (option_map (λ ends. ends.first) ends) (Some copy.min_leaf) }
     ensures last { result.last ≡ copy.max_leaf }
     ensures leaves { into.new.leaves ≡
-        joined into.old.leaves (option_map (λ ends. ends.last) ends) (Some copy.min_leaf)
+        with_links_around into.old.leaves (option_map (λ ends. ends.last) ends) (Some copy.min_leaf)
         (Some copy.min_leaf) (option_map (λ ends. ends.last) ends) }
     ensures inners { into.new.inners ≡
         change into.old.inners parent (with_child byte copy.root) }

@@ -13,7 +13,7 @@ ghost use Rattle.art_model.specs.Stores.{shape_at};
 ghost use Rattle.art_model.specs.Trees.{Tree};
 ghost use Rattle.art_model.specs.Writes.{as_inner};
 ghost use Rattle.art_inner.specs.Inner.{Children, IsRising};
-ghost use Rattle.art_writing.specs.Freed.{AreJoined, CanBothGo, CanGo, IsEnd, children_seen, going, leaves_going};
+ghost use Rattle.art_writing.specs.Freed.{AreJoined, CanBothGo, CanGo, IsEnd, children_seen, names_to_free, leaves_to_free};
 ghost use Rattle.art_reading.specs.Iterators.{IsIteratorOf};
 
 use art_nodes::node::{AsBytes, InnerPtr, NodePtr, OpaqueNodePtr};
@@ -85,10 +85,10 @@ pub(crate) fn free_nodes<K: AsBytes + Drop, V: Drop, const P: usize>(
     requires { (shape : Tree OpaqueNodePtr (Unit {0})) × CanGo store.old leaves_too root shape }
     ensures freed { (shape : Tree OpaqueNodePtr (Unit {0})) →
         CanGo store.old leaves_too root shape →
-        Frees (going leaves_too shape) store.old store.new }
+        Frees (names_to_free leaves_too shape) store.old store.new }
     ensures count { (shape : Tree OpaqueNodePtr (Unit {0})) →
         CanGo store.old leaves_too root shape →
-        result ≡ leaves_going leaves_too shape }
+        result ≡ leaves_to_free leaves_too shape }
     ensures promise { store.new.promise ≡ store.old.promise }
     ensures improper { (name : InnerPtr) → name.kind ≡ Leaf →
         map.get store.new.inners name ≡ map.get store.old.inners name }
@@ -205,10 +205,10 @@ fn free_end<K: AsBytes + Drop, V: Drop, const P: usize>(
         CanGo store.old leaves_too name shape }
     ensures freed { (shape : Tree OpaqueNodePtr (Unit {0})) → IsEnd shape →
         CanGo store.old leaves_too name shape →
-        Frees (going leaves_too shape) store.old store.new }
+        Frees (names_to_free leaves_too shape) store.old store.new }
     ensures count { (shape : Tree OpaqueNodePtr (Unit {0})) → IsEnd shape →
         CanGo store.old leaves_too name shape →
-        result ≡ leaves_going leaves_too shape }
+        result ≡ leaves_to_free leaves_too shape }
     ensures promise { store.new.promise ≡ store.old.promise }
     ensures improper { (name : InnerPtr) → name.kind ≡ Leaf →
         map.get store.new.inners name ≡ map.get store.old.inners name }

@@ -53,9 +53,9 @@ struct ListedBytes<'a>(&'a [u8]);
 
 impl fmt::Display for ListedBytes<'_> {
     ghost use Rattle.std.specs.Prelude.{Some};
-    ghost use Rattle.art_writing.specs.Conflicts.{listed};
+    ghost use Rattle.art_writing.specs.Conflicts.{bytes_text};
 
-    ghost output = { λ bytes. Some (listed bytes.0.now) };
+    ghost output = { λ bytes. Some (bytes_text bytes.0.now) };
 
     fn fmt<W: fmt::Write>(&self, f: &mut fmt::Formatter<W>) -> fmt::Result {
         let Some((first, others)) = self.0.split_first() else {

@@ -3,11 +3,11 @@
 ghost use Rattle.std.specs.Prelude.{◌≡◌, ◌<◌, None, IsSome, IsSomeAnd};
 ghost use Rattle.std.specs.FinMap as map;
 ghost use Rattle.art_nodes.specs.Nodes.{take_leaf};
-ghost use Rattle.art_model.specs.Writes.{change_some, joined, with_child_at, with_leaf, without_leaf, IsThere};
+ghost use Rattle.art_model.specs.Writes.{change_some, with_links_around, with_child_at, with_leaf, without_leaf, IsThere};
 ghost use Rattle.art_parts.specs.declared.names.OpaqueNodePtr.{OpaqueNodePtr};
 ghost use Rattle.art_model.specs.Roots.{IsFullTree};
 ghost use Rattle.art_model.specs.Trees.{Tree};
-ghost use Rattle.art_writing.specs.Inserted.{alone};
+ghost use Rattle.art_writing.specs.Inserted.{unlinked_leaf};
 ghost use Rattle.art_writing.specs.Writes.{HasChild, IsBeside, LinksAreThere, side_of, with_beside};
 ghost use Rattle.art_reading.specs.Paths.{last_step, root_with};
 
@@ -71,7 +71,7 @@ pub(crate) fn link<K: AsBytes + Drop, V: Drop, const P: usize>(
 )
     requires previous { IsThere store.old.leaves previous }
     requires next { IsThere store.old.leaves next }
-    ensures leaves { store.new.leaves ≡ joined store.old.leaves previous next next previous }
+    ensures leaves { store.new.leaves ≡ with_links_around store.old.leaves previous next next previous }
     ensures inners { store.new.inners ≡ store.old.inners }
     ensures promise { store.new.promise ≡ store.old.promise }
 {
@@ -119,7 +119,7 @@ pub(crate) fn take_from_between<K: AsBytes + Drop, V: Drop, const P: usize>(
     requires leaf { IsSome (map.get store.old.leaves name) }
     requires beside { LinksAreThere store.old.leaves name }
     ensures leaf { IsSomeAnd (map.get store.old.leaves name) (λ leaf.
-        result ≡ alone (leaf.key, leaf.value)) }
+        result ≡ unlinked_leaf (leaf.key, leaf.value)) }
     ensures leaves { IsSomeAnd (map.get store.old.leaves name) (λ leaf.
         store.new.leaves ≡ without_leaf store.old.leaves name leaf) }
     ensures inners { store.new.inners ≡ store.old.inners }

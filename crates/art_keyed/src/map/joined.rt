@@ -2,7 +2,7 @@
 ghost use Rattle.std.specs.Prelude.{◌≡◌, ◌<◌, ◌^◌, length, IfOk, OnOk, OnErr};
 ghost use Rattle.art_model.specs.Pairs.{IsMap, first_of, of_key};
 ghost use Rattle.art_map.specs.MapAnswers.{HasShrinkingParentBelow, MayRefuseRemoval};
-ghost use Rattle.art_keys.specs.Joins.{joined};
+ghost use Rattle.art_keys.specs.Joins.{joined_bytes};
 ghost use Rattle.art_keyed.specs.KeyedPairs.{pairs_with_first, pairs_without_first, without_first_with};
 
 use super::KeyedMap;
@@ -18,7 +18,7 @@ impl<A: DecodeBytes + Drop, B: DecodeBytes + Drop, V: Drop, const P: usize> Keye
     /// Returns the pairs whose keys have this first key, in the order of the bytes of the second ones.
     pub fn with_first(&self, first: &A) -> Range<'_, Joined<A, B>, V, P>
         ensures pairs { result ≡ pairs_with_first A.bytes (A.bytes first.now) self.now }
-        ensures sorted { IsMap (of_key (joined A.bytes B.bytes)) self.now }
+        ensures sorted { IsMap (of_key (joined_bytes A.bytes B.bytes)) self.now }
         ensures fits { length result < 2 ^ 64 }
     {
         first.as_key();
@@ -36,7 +36,7 @@ impl<A: DecodeBytes + Drop, B: DecodeBytes + Drop, V: Drop, const P: usize> Keye
             removed ≡ length (pairs_with_first A.bytes (A.bytes first.now) self.old)) }
         ensures kept { OnErr result (self.new ≡ self.old) }
         ensures refused { OnErr result (HasShrinkingParentBelow
-            (of_key (joined A.bytes B.bytes)) P self.old (A.bytes first.now)) }
+            (of_key (joined_bytes A.bytes B.bytes)) P self.old (A.bytes first.now)) }
     {
         first.as_key();
         self.map.remove_prefix(first.as_bytes())
@@ -50,7 +50,7 @@ impl<A: DecodeBytes + Drop, B: DecodeBytes + Drop, V: Drop, const P: usize> Keye
         ensures removed { IfOk result (λ removed.
             removed ≡ first_of (pairs_with_first A.bytes (A.bytes first.now) self.old)) }
         ensures kept { OnErr result (self.new ≡ self.old) }
-        ensures refused { OnErr result (MayRefuseRemoval (of_key (joined A.bytes B.bytes)) P self.old
+        ensures refused { OnErr result (MayRefuseRemoval (of_key (joined_bytes A.bytes B.bytes)) P self.old
             (first_of (pairs_with_first A.bytes (A.bytes first.now) self.old))) }
     {
         first.as_key();

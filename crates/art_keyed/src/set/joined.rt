@@ -1,7 +1,7 @@
 //! Sets whose keys are two keys as one.
 ghost use Rattle.std.specs.Prelude.{◌≡◌, ◌<◌, ◌^◌, length};
 ghost use Rattle.art_model.specs.Pairs.{IsMap};
-ghost use Rattle.art_keys.specs.Joins.{joined};
+ghost use Rattle.art_keys.specs.Joins.{joined_bytes};
 ghost use Rattle.art_keyed.specs.KeyedPairs.{set_with_first};
 
 use super::KeyedSet;
@@ -13,7 +13,7 @@ impl<A: DecodeBytes + Drop, B: DecodeBytes + Drop, const P: usize> KeyedSet<Join
     /// Returns the keys that have this first key, in the order of the bytes of the second ones.
     pub fn with_first(&self, first: &A) -> KeyRange<'_, Joined<A, B>, P>
         ensures keys { result ≡ set_with_first A.bytes (A.bytes first.now) self.now }
-        ensures sorted { IsMap (joined A.bytes B.bytes) self.now }
+        ensures sorted { IsMap (joined_bytes A.bytes B.bytes) self.now }
         ensures fits { length result < 2 ^ 64 }
     {
         first.as_key();

@@ -3,7 +3,7 @@ use Rattle.std.proofs.Common.{◌≡◌, ℕ, List, [], refl, sym, Option, None,
 use Rattle.art_nodes.specs.Nodes.{Nodes}
 use Rattle.art_parts.specs.declared.names.OpaqueNodePtr.{OpaqueNodePtr}
 use Rattle.art_model.specs.Trees.{Tree}
-use Rattle.art_model.specs.Stores.{held, IsUsed}
+use Rattle.art_model.specs.Stores.{content_at, IsUsed}
 use Rattle.art_model.specs.Footprints.{IsIn, Footprint}
 use Rattle.art_model.specs.Kept.{names_in, leaves_in, inners_in, KeepsOthers, ChangesInPlace}
 use Rattle.art_model.proofs.lists.Lists.{each_in}
@@ -29,11 +29,11 @@ module _ {K V : Type 0} {s t : Nodes K V} {placed freed changed : List OpaqueNod
     beside = λ n not_old not_new. print.others n (λ i. not_new (names.placed_in n i)) (λ i. not_old (names.freed_in n i)) (λ i. not_old (names.changed_in n i));
     gone = λ n is_old not_new. elim (names.old_stays n is_old) [
       | inl i ↦ absurd (not_new i)
-      | inr i ↦ (each_in (λ k. IsUsed s k × (held t k ≡ None)) n freed print.are_freed i).1
+      | inr i ↦ (each_in (λ k. IsUsed s k × (content_at t k ≡ None)) n freed print.are_freed i).1
     ];
     taken = λ n is_new not_old. elim (names.new_comes n is_new) [
       | inl i ↦ absurd (not_old i)
-      | inr i ↦ (each_in (λ k. (held s k ≡ None) × IsUsed t k) n placed print.are_placed i).0
+      | inr i ↦ (each_in (λ k. (content_at s k ≡ None) × IsUsed t k) n placed print.are_placed i).0
     ];
   }
 

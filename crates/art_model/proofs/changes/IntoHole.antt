@@ -13,12 +13,12 @@ use Rattle.art_parts.specs.declared.names.InnerPtr.{InnerPtr}
 use Rattle.art_parts.specs.declared.leaf.LeafNode.{LeafNode}
 use Rattle.art_parts.specs.declared.names.OpaqueNodePtr.{OpaqueNodePtr}
 use Rattle.art_model.specs.Keys.{are_related, are_same}
-use Rattle.art_model.specs.Pairs.{first_of, went, with_key, related_to, overwrite, overwrite_reply, replace_related, add_in_order}
+use Rattle.art_model.specs.Pairs.{first_of, only_or_count, with_key, related_to, overwrite, overwrite_reply, replace_related, add_in_order}
 use Rattle.art_model.specs.Trees.{Tree, leaf, Subtrees}
 use Rattle.art_model.specs.Radix.{pairs_of}
 use Rattle.art_model.specs.Paths.{Frame, plug, leaves_before, leaves_after, names_before, names_after, HoldsPath}
 use Rattle.art_model.specs.Layouts.{leaf_node, names_of, names_below, leaf_names, leaf_names_below, entries_of, name_of, first_or, last_or, AreDistinct, AreLinked, Holds}
-use Rattle.art_model.specs.Stores.{Held, held, held_leaf, held_inner, node_at, seen, links_at, pair_of, IsUsed}
+use Rattle.art_model.specs.Stores.{Held, content_at, held_leaf, held_inner, node_at, tree_node, links_at, pair_of, IsUsed}
 use Rattle.art_model.specs.Writes.{as_inner, parent_of, with_child_at, with_leaf, IsThere}
 use Rattle.art_model.specs.Footprints.{IsIn, Footprint, PlacesOneFor}
 use Rattle.art_model.specs.Kept.{ChangesInPlace, Frees}
@@ -84,10 +84,10 @@ module _ {K V : Type 0} {s u t : Nodes K V} {placed changed : List OpaqueNodePtr
   pub then_freed : (freed : List OpaqueNodePtr) → Footprint s u placed [] changed → Frees freed u t → Each (IsUsed s) freed →
       ((k : OpaqueNodePtr) → IsIn k freed → IsIn k changed → ⊥) → Footprint s t placed freed changed
   then_freed freed print frees used apart = record {
-    are_placed = each_from (λ k. (held s k ≡ None) × IsUsed t k) placed (λ k i.
-        let was = each_in (λ k. (held s k ≡ None) × IsUsed u k) k placed print.are_placed i in
+    are_placed = each_from (λ k. (content_at s k ≡ None) × IsUsed t k) placed (λ k i.
+        let was = each_in (λ k. (content_at s k ≡ None) × IsUsed u k) k placed print.are_placed i in
         (was.0, λ none. was.1 (sym (frees.beside k (λ j. each_in (IsUsed s) k freed used j was.0) (λ z. z)) ∙ none)));
-    are_freed = each_from (λ k. IsUsed s k × (held t k ≡ None)) freed (λ k i. (each_in (IsUsed s) k freed used i, frees.gone k i (λ z. z)));
+    are_freed = each_from (λ k. IsUsed s k × (content_at t k ≡ None)) freed (λ k i. (each_in (IsUsed s) k freed used i, frees.gone k i (λ z. z)));
     are_changed = each_from (λ k. IsUsed s k × IsUsed t k) changed (λ k i.
         let was = each_in (λ k. IsUsed s k × IsUsed u k) k changed print.are_changed i in
         (was.0, λ none. was.1 (sym (frees.beside k (λ j. apart k j i) (λ z. z)) ∙ none)));
@@ -192,7 +192,7 @@ module _ {K V : Type 0} {bytes : K × V → List ℕ} {P : ℕ} {s u t : Nodes K
         (kept_leaf_at n new_apart ∙ ap (λ z. get z n) into.leaves ∙ with_leaf_here s.leaves n x (λ e. hole_previous n e into.fresh) (λ e. hole_next n e into.fresh));
     parent = parent_written bytes P s t s.inners fs place (name_of node) (leaf_name n) into.hole.path above (λ k up. refl)
         (λ k up. kept_inner_at k (parent_there bytes P s fs (name_of node) above k up).0 (up_apart k up) ∙ ap (λ z. get z (as_inner k)) into.inners);
-    same = λ k up off used. ap (option_map (seen k.kind)) (into.freed.beside k off (λ z. z)) ∙ placed_same k up (λ z. z) used;
+    same = λ k up off used. ap (option_map (tree_node k.kind)) (into.freed.beside k off (λ z. z)) ∙ placed_same k up (λ z. z) used;
     linked = hole_linked;
   }
 
@@ -217,8 +217,8 @@ module _ {K V : Type 0} {bytes : K × V → List ℕ} {P : ℕ} {s u t : Nodes K
       (Each-weaker (λ y. bytes y ≢ bytes new) (λ y. are_same (bytes new) (bytes y) ≡ false) (λ y off. not_same (bytes new) (bytes y) (λ e. off (sym e))) (pairs_of node) into.unequal))
 
   -- so those in the hole are what goes
-  pub hole_reply : overwrite_reply bytes new pairs ≡ went (pairs_of node)
-  hole_reply = overwrite_reply-new bytes new pairs none_stored ∙ ap (λ xs. went (related_to bytes (bytes new) xs)) (sym old.pairs_are) ∙ ap went hole_related
+  pub hole_reply : overwrite_reply bytes new pairs ≡ only_or_count (pairs_of node)
+  hole_reply = overwrite_reply-new bytes new pairs none_stored ∙ ap (λ xs. only_or_count (related_to bytes (bytes new) xs)) (sym old.pairs_are) ∙ ap only_or_count hole_related
 
   -- the root is canonical for the pairs with the new one in their place
   pub hole_overwritten : IsLaidOut bytes P (node_at t) (links_at t) (root_with fs root (leaf_name n)) (overwrite bytes new pairs) (plug fs (leaf (leaf_name n) new))
@@ -259,7 +259,7 @@ module _ {K V : Type 0} {bytes : K × V → List ℕ} {P : ℕ} {s u t : Nodes K
       (each_from (λ p. IsIn (inner_name p) (names_of node) → ⊥) (parents fs ++ []) (λ p h l. let (q, up, e) = parents_up p h in up_apart q up (subst (λ z. IsIn z (names_of node)) e l))))) j i
 
   hole_used : Each (IsUsed s) (names_of node)
-  hole_used = Each-weaker (IsTaken (node_at s)) (IsUsed s) (λ k used e. used (ap (option_map (seen k.kind)) e)) (names_of node) (all_taken (node_at s) node hole_held)
+  hole_used = Each-weaker (IsTaken (node_at s)) (IsUsed s) (λ k used e. used (ap (option_map (tree_node k.kind)) e)) (names_of node) (all_taken (node_at s) node hole_held)
 
   -- the leaf is placed, the names of the hole are freed
   pub hole_print : Footprint s t (leaf_name n ∷ []) (names_of node) (both_names beside (parents fs ++ []))

@@ -11,7 +11,7 @@ use Rattle.art_parts.specs.declared.names.OpaqueNodePtr.{OpaqueNodePtr}
 use Rattle.art_parts.proofs.NameLemmas.{leaf_cmp_total, leaf_cmp-IsAntisymmetric}
 use Rattle.art_nodes.proofs.StoreLaws.{leaf_changed_at, leaf_changed_elsewhere}
 use Rattle.art_model.specs.Keys.{IsFront, are_related, are_same}
-use Rattle.art_model.specs.Pairs.{first_of, went, related_to, with_key, overwrite, overwrite_reply, put, put_reply, replace_key, replace_related, stored_for}
+use Rattle.art_model.specs.Pairs.{first_of, only_or_count, related_to, with_key, overwrite, overwrite_reply, put, put_reply, replace_key, replace_related, stored_for}
 use Rattle.art_model.specs.Trees.{leaf}
 use Rattle.art_model.specs.Paths.{Frame, plug, HoldsPath}
 use Rattle.art_model.specs.Layouts.{leaf_node}
@@ -159,5 +159,5 @@ module _ {K V : Type 0} {bytes : K × V → List ℕ} {P : ℕ} {s t : Nodes K V
 
     -- the old pair is the only one whose key is related
     pub leaf_overwrite_reply : overwrite_reply bytes new pairs ≡ (Some (pair_of x), 0)
-    leaf_overwrite_reply = overwrite_reply-new bytes new pairs none_stored ∙ ap (λ xs. went (related_to bytes (bytes new) xs)) (sym old.pairs_are)
-        ∙ ap went (related_at bytes P fs place (bytes new) (leaf (leaf_name p) (pair_of x)) into.hole.path into.hole.front) ∙ rw related refl
+    leaf_overwrite_reply = overwrite_reply-new bytes new pairs none_stored ∙ ap (λ xs. only_or_count (related_to bytes (bytes new) xs)) (sym old.pairs_are)
+        ∙ ap only_or_count (related_at bytes P fs place (bytes new) (leaf (leaf_name p) (pair_of x)) into.hole.path into.hole.front) ∙ rw related refl

@@ -11,7 +11,7 @@ use Rattle.art_parts.specs.declared.names.OpaqueNodePtr.{OpaqueNodePtr}
 use Rattle.art_parts.specs.declared.leaf.LeafNode.{LeafNode}
 use Rattle.art_model.specs.Layouts.{leaf_node, leaf_names, Holds, Links, AreLinked, AreDistinct, first_or, last_or}
 use Rattle.art_model.specs.Stores.{node_at, pair_of, held_leaf, held_inner, links_at, links_of}
-use Rattle.art_model.specs.Writes.{IsThere, with_next, with_previous, joined, with_leaf, without_leaf}
+use Rattle.art_model.specs.Writes.{IsThere, with_next, with_previous, with_links_around, with_leaf, without_leaf}
 use Rattle.art_model.specs.Footprints.{IsIn}
 use Rattle.art_model.proofs.lists.Lists.{each_in, in_left, in_right, in_either}
 use Rattle.art_model.proofs.lists.Pairwises.{Pairwise-without, Pairwise-before}
@@ -53,7 +53,7 @@ pub record AreBeside {K V : Type 0} (s t : Nodes K V) (xs ns zs : List OpaqueNod
   pub next_is : option_map leaf_name next ≡ first_or ns (first_or zs None)
   pub previous_is : option_map leaf_name previous ≡ last_or ns (last_or xs None)
   pub inside : AreLinked (links_at t) (last_or xs None) ns (first_or zs None)
-  pub leaves : (p : LeafPtr) → IsIn (leaf_name p) (xs ++ zs) → get t.leaves p ≡ get (joined s.leaves before after next previous) p
+  pub leaves : (p : LeafPtr) → IsIn (leaf_name p) (xs ++ zs) → get t.leaves p ≡ get (with_links_around s.leaves before after next previous) p
 
 module _ {K V : Type 0} {s t : Nodes K V} {xs ns zs : List OpaqueNodePtr} {before after next previous : Option LeafPtr} (is : AreBeside s t xs ns zs before after next previous) where
   -- then the chain knows it

@@ -10,7 +10,7 @@ use Rattle.art_parts.specs.declared.leaf.LeafNode.{LeafNode}
 use Rattle.art_parts.proofs.NameLemmas.{leaf_cmp_total, leaf_cmp-IsAntisymmetric}
 use Rattle.art_nodes.proofs.StoreLaws.{leaf_here, leaf_elsewhere, leaf_gone_elsewhere, leaf_changed_at, leaf_changed_elsewhere}
 use Rattle.art_model.specs.Stores.{pair_of}
-use Rattle.art_model.specs.Writes.{IsThere, Leaves, with_next, with_previous, change_some, joined, with_leaf, without_leaf}
+use Rattle.art_model.specs.Writes.{IsThere, Leaves, with_next, with_previous, change_some, with_links_around, with_leaf, without_leaf}
 use Rattle.art_model.specs.Footprints.{IsIn}
 use Rattle.art_model.proofs.lists.Lists.{in_either}
 use Rattle.art_model.proofs.stores.Touches.{Touched, touched_none, then_placed, then_changed, then_freed, still_placed, still_changed}
@@ -63,25 +63,25 @@ module _ {K V : Type 0} where
 
   module _ (m : Leaves K V) (before after next previous : Option LeafPtr) where
     -- the leaf before the place
-    pub joined_before : (q : LeafPtr) → before ≡ Some q → (after ≡ Some q → ⊥) → get (joined m before after next previous) q ≡ option_map (with_next next) (get m q)
+    pub joined_before : (q : LeafPtr) → before ≡ Some q → (after ≡ Some q → ⊥) → get (with_links_around m before after next previous) q ≡ option_map (with_next next) (get m q)
     joined_before q e off = change_some_elsewhere (change_some m before (with_next next)) after (with_previous previous) q off ∙ change_some_at m before (with_next next) q e
 
     -- the leaf after it
-    pub joined_after : (q : LeafPtr) → after ≡ Some q → (before ≡ Some q → ⊥) → get (joined m before after next previous) q ≡ option_map (with_previous previous) (get m q)
+    pub joined_after : (q : LeafPtr) → after ≡ Some q → (before ≡ Some q → ⊥) → get (with_links_around m before after next previous) q ≡ option_map (with_previous previous) (get m q)
     joined_after q e off =
         change_some_at (change_some m before (with_next next)) after (with_previous previous) q e ∙ ap (option_map (with_previous previous)) (change_some_elsewhere m before (with_next next) q off)
 
     -- all other leaves
-    pub joined_elsewhere : (q : LeafPtr) → (before ≡ Some q → ⊥) → (after ≡ Some q → ⊥) → get (joined m before after next previous) q ≡ get m q
+    pub joined_elsewhere : (q : LeafPtr) → (before ≡ Some q → ⊥) → (after ≡ Some q → ⊥) → get (with_links_around m before after next previous) q ≡ get m q
     joined_elsewhere q off non = change_some_elsewhere (change_some m before (with_next next)) after (with_previous previous) q non ∙ change_some_elsewhere m before (with_next next) q off
 
     -- what comes of a name depends on what was there
-    pub joined-cong : (other : Leaves K V) (q : LeafPtr) → get other q ≡ get m q → get (joined other before after next previous) q ≡ get (joined m before after next previous) q
-    joined-cong other q e =
+    pub with_links_around-cong : (other : Leaves K V) (q : LeafPtr) → get other q ≡ get m q → get (with_links_around other before after next previous) q ≡ get (with_links_around m before after next previous) q
+    with_links_around-cong other q e =
         change_some-cong (change_some other before (with_next next)) (change_some m before (with_next next)) after (with_previous previous) q (change_some-cong other m before (with_next next) q e)
 
     -- the pairs are what they were
-    pub joined_pair : (q : LeafPtr) → option_map pair_of (get (joined m before after next previous) q) ≡ option_map pair_of (get m q)
+    pub joined_pair : (q : LeafPtr) → option_map pair_of (get (with_links_around m before after next previous) q) ≡ option_map pair_of (get m q)
     joined_pair q = change_some_pair (change_some m before (with_next next)) after (with_previous previous) q (λ _. refl) ∙ change_some_pair m before (with_next next) q (λ _. refl)
 
   -- ---- a leaf that comes, and a leaf that goes
@@ -93,9 +93,9 @@ module _ {K V : Type 0} where
     with_leaf_here p q = joined_elsewhere (insert m n x) x.previous x.next (Some n) (Some n) n p q ∙ leaf_here m n x
 
     -- leaves beside the new one and elsewhere
-    pub with_leaf_elsewhere : (q : LeafPtr) → q ≢ n → get (with_leaf m n x) q ≡ get (joined m x.previous x.next (Some n) (Some n)) q
+    pub with_leaf_elsewhere : (q : LeafPtr) → q ≢ n → get (with_leaf m n x) q ≡ get (with_links_around m x.previous x.next (Some n) (Some n)) q
     unfolding with_leaf
-    with_leaf_elsewhere q off = joined-cong m x.previous x.next (Some n) (Some n) (insert m n x) q (leaf_elsewhere m n q x off)
+    with_leaf_elsewhere q off = with_links_around-cong m x.previous x.next (Some n) (Some n) (insert m n x) q (leaf_elsewhere m n q x off)
 
     -- pairs of other leaves
     pub with_leaf_pair : (q : LeafPtr) → q ≢ n → option_map pair_of (get (with_leaf m n x) q) ≡ option_map pair_of (get m q)
@@ -103,14 +103,14 @@ module _ {K V : Type 0} where
     with_leaf_pair q off = joined_pair (insert m n x) x.previous x.next (Some n) (Some n) q ∙ ap (option_map pair_of) (leaf_elsewhere m n q x off)
 
     -- leaves beside it and elsewhere
-    pub without_leaf_elsewhere : (q : LeafPtr) → q ≢ n → get (without_leaf m n x) q ≡ get (joined m x.previous x.next x.next x.previous) q
+    pub without_leaf_elsewhere : (q : LeafPtr) → q ≢ n → get (without_leaf m n x) q ≡ get (with_links_around m x.previous x.next x.next x.previous) q
     unfolding without_leaf
-    without_leaf_elsewhere q off = leaf_gone_elsewhere (joined m x.previous x.next x.next x.previous) n q off
+    without_leaf_elsewhere q off = leaf_gone_elsewhere (with_links_around m x.previous x.next x.next x.previous) n q off
 
     -- pairs of other leaves
     pub without_leaf_pair : (q : LeafPtr) → q ≢ n → option_map pair_of (get (without_leaf m n x) q) ≡ option_map pair_of (get m q)
     unfolding without_leaf
-    without_leaf_pair q off = ap (option_map pair_of) (leaf_gone_elsewhere (joined m x.previous x.next x.next x.previous) n q off) ∙ joined_pair m x.previous x.next x.next x.previous q
+    without_leaf_pair q off = ap (option_map pair_of) (leaf_gone_elsewhere (with_links_around m x.previous x.next x.next x.previous) n q off) ∙ joined_pair m x.previous x.next x.next x.previous q
 
 -- ---- what is touched
 
@@ -144,7 +144,7 @@ module _ {K V : Type 0} where
   -- the leaves beside a place change
   pub then_joined : {old new : Leaves K V} {placed freed changed : List LeafPtr} → Touched old new placed freed changed →
       (before after next previous : Option LeafPtr) → IsThere old before → IsThere old after → IsThere new before → IsThere new after →
-      Touched old (joined new before after next previous) placed freed (listed after ++ (listed before ++ changed))
+      Touched old (with_links_around new before after next previous) placed freed (listed after ++ (listed before ++ changed))
   then_joined {new = new} so_far before after next previous was_b was_a is_b is_a =
       then_change_some (then_change_some so_far before (with_next next) was_b is_b) after (with_previous previous) was_a (there_changed new before after (with_next next) is_a)
 

@@ -6,7 +6,7 @@ use Rattle.std.specs.Option.{option_map}
 use Rattle.std.proofs.lemmas.Bool.{true≢false, false≢true}
 use Rattle.std.proofs.lemmas.List.Filters.{length-filter_both}
 use Rattle.art_model.specs.Keys.{IsFront, is_front, are_related, are_same, is_before, Precedes}
-use Rattle.art_model.specs.Pairs.{first_of, went, IsMap, with_key, related_to, is_conflict, stored_for, put, overwrite, overwrite_reply, replace_key, replace_related, remove_key, remove_related, add_in_order, of_key}
+use Rattle.art_model.specs.Pairs.{first_of, only_or_count, IsMap, with_key, related_to, is_conflict, stored_for, put, overwrite, overwrite_reply, replace_key, replace_related, remove_key, remove_related, add_in_order, of_key}
 use Rattle.art_model.specs.Changes.{Change, put_pair, overwrite_with, remove_at, remove_first, remove_last, changed}
 use Rattle.art_model.specs.MapLaws.{Tells, KeysAreOnce, MatchesAreOne, MapsAreWhatIsFound, KeysAreDecided, ConflictsAreDecided, MapsStayMaps, PutIsFound, OverwriteIsFound, RemovedIsGone, FirstIsRemovedByKey, LastIsRemovedByKey, PutIsUndone, StoredKeyStays, NewKeyComes, PutKeepsKeys, OverwriteOfKeyIsPut, PutTells, OverwriteTells, RemovalTells, PutCounts, OverwriteCounts, RemovalCounts}
 use Rattle.art_model.proofs.pairs.Between.{add_in_order_first}
@@ -272,7 +272,7 @@ module _ {A : Type 0} (bytes : A → List ℕ) where
   pub removal_tells : RemovalTells bytes
   removal_tells key pairs map = as_reply (with_key bytes key pairs) (keys_are_once key pairs map)
 
-  went_tells : (gone : List A) → Tells (went gone) gone
+  went_tells : (gone : List A) → Tells (only_or_count gone) gone
   went_tells [] = refl
   went_tells (x ∷ []) = refl
   went_tells (x ∷ y ∷ gone) = (refl, omega arith)

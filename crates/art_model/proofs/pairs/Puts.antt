@@ -3,7 +3,7 @@ use Rattle.std.proofs.Common.{◌≡◌, ℕ, List, [], ◌∷◌, filter, Optio
 use Rattle.std.specs.List.{AllByRecursion as Each, list_any}
 use Rattle.std.specs.Option.{option_map}
 use Rattle.art_model.specs.Keys.{are_same}
-use Rattle.art_model.specs.Pairs.{first_of, went, with_key, has_key, related_to, replace_key, replace_related, stored_for, put, put_reply, overwrite, overwrite_reply, of_key}
+use Rattle.art_model.specs.Pairs.{first_of, only_or_count, with_key, has_key, related_to, replace_key, replace_related, stored_for, put, put_reply, overwrite, overwrite_reply, of_key}
 use Rattle.art_model.proofs.lists.Filters.{filter_passes}
 use Rattle.art_model.proofs.keys.Keys.{same_equal}
 
@@ -51,8 +51,8 @@ module _ {K V : Type 0} (bytes : K × V → List ℕ) (new : K × V) (pairs : Li
     pub overwrite-new : overwrite bytes new pairs ≡ replace_related bytes new pairs
     overwrite-new = ap (λ b. cond b (put bytes new pairs) (replace_related bytes new pairs)) has_key-new
 
-    pub overwrite_reply-new : overwrite_reply bytes new pairs ≡ went (related_to bytes (bytes new) pairs)
-    overwrite_reply-new = ap (λ b. cond b (put_reply bytes new pairs, 0) (went (related_to bytes (bytes new) pairs))) has_key-new
+    pub overwrite_reply-new : overwrite_reply bytes new pairs ≡ only_or_count (related_to bytes (bytes new) pairs)
+    overwrite_reply-new = ap (λ b. cond b (put_reply bytes new pairs, 0) (only_or_count (related_to bytes (bytes new) pairs))) has_key-new
 
   -- ---- where one is
   module _ (old : K × V) (some : Stored ≡ Some old) where
@@ -71,7 +71,7 @@ module _ {K V : Type 0} (bytes : K × V → List ℕ) (new : K × V) (pairs : Li
     overwrite-put = ap (λ b. cond b (put bytes new pairs) (replace_related bytes new pairs)) has
 
     pub overwrite_reply-put : overwrite_reply bytes new pairs ≡ (put_reply bytes new pairs, 0)
-    overwrite_reply-put = ap (λ b. cond b (put_reply bytes new pairs, 0) (went (related_to bytes (bytes new) pairs))) has
+    overwrite_reply-put = ap (λ b. cond b (put_reply bytes new pairs, 0) (only_or_count (related_to bytes (bytes new) pairs))) has
 
 module _ {K V : Type 0} (bytes : K → List ℕ) where
   all_equal : (key : List ℕ) (xs : List (K × V)) → Each (λ x. are_same key (bytes x.0) ≡ true) xs → Each (λ x. bytes x.0 ≡ key) xs

@@ -9,7 +9,7 @@ use Rattle.art_parts.specs.declared.names.NodeType.TheVariants.{Node4, Node16, N
 use Rattle.art_parts.specs.declared.names.OpaqueNodePtr.{OpaqueNodePtr}
 use Rattle.art_model.specs.Trees.{Tree, leaf, inner, Subtrees, child, no_child, NodeHeader}
 use Rattle.art_model.specs.Layouts.{leaf_node, inner_node, name_of, slots_of, names_of, names_below, leaf_names, leaf_names_below, inner_names, inner_names_below, shape_of, shape_below, Holds, HoldsBelow, AreDistinct}
-use Rattle.art_model.specs.Stores.{held_inner, held_in, seen, inner_seen, header_at, node_at, shape_in, shape_at}
+use Rattle.art_model.specs.Stores.{held_inner, content_in, tree_node, inner_seen, header_at, node_at, shape_in, shape_at}
 use Rattle.art_model.specs.StoreLaws.{HasShape}
 use Rattle.art_model.proofs.stores.Views.{seen_no_leaf, seen_no_inner}
 
@@ -51,7 +51,7 @@ module _ {N A : Type 0} where
 
 module _ {K V : Type 0} where
   same_inner : (kind : NodeType) (o : Option Inner) (h : NodeHeader) (slots : List (ℕ × OpaqueNodePtr)) →
-      option_map (seen {K = K} {V = V} kind) (option_map held_inner o) ≡ Some (inner_node h slots) → option_map (inner_seen {A = Unit {0}} kind) o ≡ Some (inner_node h slots)
+      option_map (tree_node {K = K} {V = V} kind) (option_map held_inner o) ≡ Some (inner_node h slots) → option_map (inner_seen {A = Unit {0}} kind) o ≡ Some (inner_node h slots)
   same_inner kind None h slots e = absurd cc
   same_inner kind (Some node) h slots e =
       let head : header_at kind node ≡ h = cc in
@@ -60,7 +60,7 @@ module _ {K V : Type 0} where
 
   module _ (s : Nodes K V) where
     -- where a tree sees a leaf, the shape has an end
-    end_seen : (kind : NodeType) (slot : ℕ) (x : K × V) → option_map (seen kind) (held_in s kind slot) ≡ Some (leaf_node x) → shape_in s kind slot ≡ Some (leaf_node tt)
+    end_seen : (kind : NodeType) (slot : ℕ) (x : K × V) → option_map (tree_node kind) (content_in s kind slot) ≡ Some (leaf_node x) → shape_in s kind slot ≡ Some (leaf_node tt)
     end_seen Leaf slot x e = refl
     end_seen Node4 slot x e = absurd (seen_no_leaf Node4 (map.get s.inners (record { kind = Node4; slot = slot })) x e)
     end_seen Node16 slot x e = absurd (seen_no_leaf Node16 (map.get s.inners (record { kind = Node16; slot = slot })) x e)
@@ -69,7 +69,7 @@ module _ {K V : Type 0} where
 
     -- where a tree sees an inner node, so does the shape
     inner_is_seen : (kind : NodeType) (slot : ℕ) (h : NodeHeader) (slots : List (ℕ × OpaqueNodePtr)) →
-        option_map (seen kind) (held_in s kind slot) ≡ Some (inner_node h slots) → shape_in s kind slot ≡ Some (inner_node h slots)
+        option_map (tree_node kind) (content_in s kind slot) ≡ Some (inner_node h slots) → shape_in s kind slot ≡ Some (inner_node h slots)
     inner_is_seen Leaf slot h slots e = absurd (seen_no_inner (map.get s.leaves (record { slot = slot })) h slots e)
     inner_is_seen Node4 slot h slots e = same_inner Node4 (map.get s.inners (record { kind = Node4; slot = slot })) h slots e
     inner_is_seen Node16 slot h slots e = same_inner Node16 (map.get s.inners (record { kind = Node16; slot = slot })) h slots e

@@ -10,7 +10,7 @@ use Rattle.art_model.specs.Footprints.{IsIn}
 use Rattle.art_model.specs.Kept.{ChangesInPlace, KeepsOthers, names_in}
 use Rattle.art_model.specs.Layouts.{leaf_names, names_of}
 use Rattle.art_model.specs.Roots.{ForRoot, ForTree, IsCanonicalRoot, IsRootOf}
-use Rattle.art_model.specs.Stores.{held, links_at, links_of, node_at, seen}
+use Rattle.art_model.specs.Stores.{content_at, links_at, links_of, node_at, tree_node}
 use Rattle.art_model.specs.Trees.{Tree}
 use Rattle.art_model.proofs.leaves.Links.{linked-frame}
 use Rattle.art_model.proofs.lists.Lists.{Each-weaker, each_from, each_in}
@@ -21,7 +21,7 @@ use Rattle.art_model.proofs.stores.Stores.{frame}
 module _ {K V : Type 0} {bytes : K × V → List ℕ} {P : ℕ} {s : Nodes K V} {root : OpaqueNodePtr} {pairs : List (K × V)} {layout : Tree OpaqueNodePtr (K × V)}
     (by : IsCanonicalTree bytes P s root pairs layout) where
   -- a canonical root stays one where the nodes of its own tree hold what they held
-  pub tree_kept : {t : Nodes K V} → ((k : OpaqueNodePtr) → IsIn k (names_of layout) → held t k ≡ held s k) → IsCanonicalTree bytes P t root pairs layout
+  pub tree_kept : {t : Nodes K V} → ((k : OpaqueNodePtr) → IsIn k (names_of layout) → content_at t k ≡ content_at s k) → IsCanonicalTree bytes P t root pairs layout
   tree_kept {t} same = record {
     is_map = by.is_map;
     tree = by.tree;
@@ -29,24 +29,24 @@ module _ {K V : Type 0} {bytes : K × V → List ℕ} {P : ℕ} {s : Nodes K V} 
     stands = (
       record {
         named = by.stands.0.named;
-        holds = frame (node_at s) (node_at t) layout (Each-weaker (λ k. held t k ≡ held s k) (λ k. node_at t k ≡ node_at s k)
-            (λ k e. ap (option_map (seen k.kind)) e) (names_of layout) all_same) by.stands.0.holds;
+        holds = frame (node_at s) (node_at t) layout (Each-weaker (λ k. content_at t k ≡ content_at s k) (λ k. node_at t k ≡ node_at s k)
+            (λ k e. ap (option_map (tree_node k.kind)) e) (names_of layout) all_same) by.stands.0.holds;
         distinct = by.stands.0.distinct;
       },
       by.stands.1,
     );
     linked = linked-frame (links_at s) (links_at t) (leaf_names layout) None None
-        (Each-weaker (λ k. held t k ≡ held s k) (λ k. links_at t k ≡ links_at s k) (λ k e. ap (option_and_then links_of) e) (leaf_names layout)
-        (among takes_leaves (λ k. held t k ≡ held s k) layout all_same)) by.linked;
+        (Each-weaker (λ k. content_at t k ≡ content_at s k) (λ k. links_at t k ≡ links_at s k) (λ k e. ap (option_and_then links_of) e) (leaf_names layout)
+        (among takes_leaves (λ k. content_at t k ≡ content_at s k) layout all_same)) by.linked;
   }
     where
-      all_same : Each (λ k. held t k ≡ held s k) (names_of layout)
-      all_same = each_from (λ k. held t k ≡ held s k) (names_of layout) same
+      all_same : Each (λ k. content_at t k ≡ content_at s k) (names_of layout)
+      all_same = each_from (λ k. content_at t k ≡ content_at s k) (names_of layout) same
 
   -- a name of a canonical tree is in use
-  pub name_used : (k : OpaqueNodePtr) → IsIn k (names_of layout) → held s k ≡ None → ⊥
+  pub name_used : (k : OpaqueNodePtr) → IsIn k (names_of layout) → content_at s k ≡ None → ⊥
   name_used k there free =
-      each_in (IsTaken (node_at s)) k (names_of layout) (all_taken (node_at s) layout by.stands.0.holds) there (ap (option_map (seen k.kind)) free)
+      each_in (IsTaken (node_at s)) k (names_of layout) (all_taken (node_at s) layout by.stands.0.holds) there (ap (option_map (tree_node k.kind)) free)
 
   -- a node of the root is one of its layout
   pub node_in : (k : OpaqueNodePtr) → IsNodeOf bytes P s (Some root) k → IsIn k (names_of layout)
@@ -137,8 +137,8 @@ root_of_first {bytes = bytes} {P} {s} {pairs = pairs} h e =
     (pairs, layout, is)
 
 module _ {K V : Type 0} (bytes : K × V → List ℕ) (P : ℕ) (s t : Nodes K V) (leaves : t.leaves ≡ s.leaves) (inners : t.inners ≡ s.inners) where
-  same_held : (k : OpaqueNodePtr) → held t k ≡ held s k
-  same_held k = ap₂ (λ l i. held (record t { leaves = l; inners = i }) k) leaves inners
+  same_held : (k : OpaqueNodePtr) → content_at t k ≡ content_at s k
+  same_held k = ap₂ (λ l i. content_at (record t { leaves = l; inners = i }) k) leaves inners
 
   -- the same nodes, with another promise, are the same tree
   pub same_tree : {root : OpaqueNodePtr} {pairs : List (K × V)} {layout : Tree OpaqueNodePtr (K × V)} → IsCanonicalTree bytes P s root pairs layout → IsCanonicalTree bytes P t root pairs layout

@@ -19,8 +19,8 @@ use Rattle.art_nodes.proofs.StoreLaws.{leaf_here, inner_here, inner_changed_here
 use Rattle.art_model.specs.Trees.{Tree, leaf, inner, Subtrees, child, no_child, NodeHeader}
 use Rattle.art_model.specs.Radix.{join, bytes_of}
 use Rattle.art_model.specs.Layouts.{leaf_node, inner_node, name_of, slots_of, names_of, names_below, leaf_names, leaf_names_below, inner_names, inner_names_below, Holds, HoldsBelow, AreDistinct, AreLinked, first_or, last_or}
-use Rattle.art_model.specs.Stores.{held, held_leaf, held_inner, seen, node_at, links_at, links_of, pair_of, header_at}
-use Rattle.art_model.specs.Writes.{Leaves, as_inner, joined, change_some, with_next, with_previous}
+use Rattle.art_model.specs.Stores.{content_at, held_leaf, held_inner, tree_node, node_at, links_at, links_of, pair_of, header_at}
+use Rattle.art_model.specs.Writes.{Leaves, as_inner, with_links_around, change_some, with_next, with_previous}
 use Rattle.art_model.specs.Footprints.{IsIn}
 use Rattle.art_model.specs.Kept.{KeepsOthers, Frees}
 use Rattle.art_model.specs.Gains.{as_leaf, without, Loses, Gains}
@@ -94,9 +94,9 @@ module _ {K V : Type 0} (s : Nodes K V) where
 
 module _ {K V : Type 0} {s t : Nodes K V} {tree : Tree OpaqueNodePtr (K × V)} (holds : Holds (node_at s) tree) (lost : Loses s t tree) where
   -- nothing under a name of the tree
-  pub lost_in : (k : OpaqueNodePtr) → IsIn k (names_of tree) → held t k ≡ None
+  pub lost_in : (k : OpaqueNodePtr) → IsIn k (names_of tree) → content_at t k ≡ None
   lost_in k i = elim (leaf_or k) [
-    | inl (p, e) ↦ subst (λ z. held t z ≡ None) (sym e) (ap (option_map held_leaf) (ap (λ z. get z p) lost.leaves
+    | inl (p, e) ↦ subst (λ z. content_at t z ≡ None) (sym e) (ap (option_map held_leaf) (ap (λ z. get z p) lost.leaves
         ∙ without_in leaf_cmp_total leaf_cmp-IsAntisymmetric s.leaves (map as_leaf (leaf_names tree)) p
         (in_map as_leaf (leaf_name p) (leaf_names tree) (leaf_among s tree holds p (subst (λ z. IsIn z (names_of tree)) e i)))))
     | inr off ↦ held_in_inner t k.kind k.slot off ∙ ap (option_map held_inner) (ap (λ z. get z (as_inner k)) lost.inners
@@ -118,9 +118,9 @@ module _ {K V : Type 0} {s t : Nodes K V} {tree : Tree OpaqueNodePtr (K × V)} (
       off (taken_in takes_inners tree k (subst (λ z. IsIn z (inner_names tree)) (inner_name_one m k e) j)))
 
   -- under another name is what was there
-  pub lost_off : (k : OpaqueNodePtr) → (IsIn k (names_of tree) → ⊥) → held t k ≡ held s k
+  pub lost_off : (k : OpaqueNodePtr) → (IsIn k (names_of tree) → ⊥) → content_at t k ≡ content_at s k
   lost_off k off = elim (leaf_or k) [
-    | inl (p, e) ↦ subst (λ z. held t z ≡ held s z) (sym e) (ap (option_map held_leaf) (leaf_off p (λ i. off (subst (λ z. IsIn z (names_of tree)) (sym e) i))))
+    | inl (p, e) ↦ subst (λ z. content_at t z ≡ content_at s z) (sym e) (ap (option_map held_leaf) (leaf_off p (λ i. off (subst (λ z. IsIn z (names_of tree)) (sym e) i))))
     | inr kind ↦ held_in_inner t k.kind k.slot kind ∙ ap (option_map held_inner) (inner_off k off) ∙ sym (held_in_inner s k.kind k.slot kind)
   ]
 
@@ -132,7 +132,7 @@ module _ {K V : Type 0} {s t : Nodes K V} {tree : Tree OpaqueNodePtr (K × V)} (
   pub came_others : KeepsOthers t s [] (names_of tree)
   came_others = record { beside = λ k _ off. sym (lost_off k off); gone = λ k i _. absurd i; taken = λ k i _. lost_in k i }
 
-inner_now : {K V : Type 0} (t : Nodes K V) (q : InnerPtr) → q.kind ≢ Leaf → (o : Option Inner) → held t (inner_name q) ≡ option_map held_inner o → get t.inners q ≡ o
+inner_now : {K V : Type 0} (t : Nodes K V) (q : InnerPtr) → q.kind ≢ Leaf → (o : Option Inner) → content_at t (inner_name q) ≡ option_map held_inner o → get t.inners q ≡ o
 inner_now {K} {V} t q off o e = same_inner_held K V (get t.inners q) o (sym (held_in_inner t q.kind q.slot off) ∙ e)
 
 -- where exactly a tree's names went, the maps are those without them
@@ -206,7 +206,7 @@ pub record GainsChild {K V : Type 0} (old mid next new : Nodes K V) (name : Opaq
   pub low : Each (λ c. c < b) (bytes_of cs)
   pub last_is : option_map leaf_name last ≡ last_or (leaf_names_below cs) None
   pub first_is : Some (leaf_name first) ≡ first_or (leaf_names u) None
-  pub leaves : new.leaves ≡ joined next.leaves last (Some first) (Some first) last
+  pub leaves : new.leaves ≡ with_links_around next.leaves last (Some first) (Some first) last
   pub inners : new.inners ≡ change next.inners (as_inner name) (with_child b (name_of u))
 
 module _ {K V : Type 0} {old mid next new : Nodes K V} {name : OpaqueNodePtr} {header : NodeHeader} {cs : Subtrees OpaqueNodePtr (K × V)} {b : ℕ}
@@ -218,14 +218,14 @@ module _ {K V : Type 0} {old mid next new : Nodes K V} {name : OpaqueNodePtr} {h
   child_apart : (k : OpaqueNodePtr) → IsIn k (name ∷ names_below cs) → IsIn k (names_of u) → ⊥
   child_apart k i j =
       each_in (IsTaken (node_at mid)) k (name ∷ names_below cs) (all_taken (node_at mid) (inner name header cs) is.so_far.holds) i
-      (ap (option_map (seen k.kind)) (lost_in is.more.holds is.more.added k j))
+      (ap (option_map (tree_node k.kind)) (lost_in is.more.holds is.more.added k j))
 
   -- the node's tree is there as it was
-  child_held : (k : OpaqueNodePtr) → IsIn k (name ∷ names_below cs) → held next k ≡ held mid k
+  child_held : (k : OpaqueNodePtr) → IsIn k (name ∷ names_below cs) → content_at next k ≡ content_at mid k
   child_held k i = sym (lost_off is.more.holds is.more.added k (child_apart k i))
 
   pub child_seen : (k : OpaqueNodePtr) → IsIn k (name ∷ names_below cs) → node_at next k ≡ node_at mid k
-  child_seen k i = ap (option_map (seen k.kind)) (child_held k i)
+  child_seen k i = ap (option_map (tree_node k.kind)) (child_held k i)
 
   -- and all but the node are seen as they were once the child is put in
   child_put : (k : OpaqueNodePtr) → k ≢ name → node_at new k ≡ node_at next k

@@ -4,7 +4,7 @@ use Rattle.art_model.specs.Trees.{Tree, leaf, inner, Subtrees, child, no_child}
 use Rattle.art_model.specs.Radix.{pairs_of}
 use Rattle.art_model.specs.Layouts.{Node, inner_node, name_of, slots_of, names_of, leaf_names, Holds, HoldsBelow, AreDistinct}
 use Rattle.art_model.specs.ByCases.{Stands}
-use Rattle.art_model.specs.Stores.{held, node_at, IsUsed}
+use Rattle.art_model.specs.Stores.{content_at, node_at, IsUsed}
 use Rattle.art_model.specs.StoreLaws.{CasesHaveLayout, LayoutsHaveCases, HasOneLayout, HasRadixLayout, HaveSameTree, HasChildren, HasOneMap, OthersStayFree, OthersWereFree}
 use Rattle.art_model.proofs.stores.ByCases.{layout_of, stands_from}
 use Rattle.art_model.proofs.stores.Canonical.{tree_radix}
@@ -64,14 +64,14 @@ module _ {K V : Type 0} where
   pub others_stay_free : OthersStayFree K V
   others_stay_free old new placed freed changed f name free not_placed =
       f.others name not_placed
-      (λ i. (each_in (λ n. IsUsed old n × (held new n ≡ None)) name freed f.are_freed i).0 free)
+      (λ i. (each_in (λ n. IsUsed old n × (content_at new n ≡ None)) name freed f.are_freed i).0 free)
       (λ i. (each_in (λ n. IsUsed old n × IsUsed new n) name changed f.are_changed i).0 free)
       ∙ free
 
   pub others_were_free : OthersWereFree K V
   others_were_free old new placed freed changed f name free not_freed =
       sym (f.others name
-      (λ i. (each_in (λ n. (held old n ≡ None) × IsUsed new n) name placed f.are_placed i).1 free)
+      (λ i. (each_in (λ n. (content_at old n ≡ None) × IsUsed new n) name placed f.are_placed i).1 free)
       not_freed
       (λ i. (each_in (λ n. IsUsed old n × IsUsed new n) name changed f.are_changed i).1 free))
       ∙ free

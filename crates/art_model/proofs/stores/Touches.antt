@@ -16,7 +16,7 @@ use Rattle.art_parts.specs.declared.names.LeafPtr.{LeafPtr}
 use Rattle.art_parts.specs.declared.names.InnerPtr.{InnerPtr}
 use Rattle.art_parts.specs.declared.names.OpaqueNodePtr.{OpaqueNodePtr}
 use Rattle.art_nodes.proofs.StoreLaws.{elsewhere, here, gone, gone_elsewhere, changed_from, changed_elsewhere}
-use Rattle.art_model.specs.Stores.{Held, held_leaf, held_inner, held}
+use Rattle.art_model.specs.Stores.{Held, held_leaf, held_inner, content_at}
 use Rattle.art_model.specs.Footprints.{IsIn, Footprint, TouchesAtMost}
 use Rattle.art_model.proofs.lists.Lists.{Each-append, Each-weaker, each_in, each_from, in_left, in_right, in_map, each_map}
 use Rattle.art_model.proofs.stores.Views.{held_in_inner, leaf_or}
@@ -140,7 +140,7 @@ module _ {K V : Type 0} (s t : Nodes K V) where
   module _ (P Q : (X : Type 0) → Option X → Type 0) (p_held : (X : Type 0) (f : X → Held K V) (o : Option X) → P X o → P (Held K V) (option_map f o))
       (q_held : (X : Type 0) (f : X → Held K V) (o : Option X) → Q X o → Q (Held K V) (option_map f o)) where
     abbrev Listed : OpaqueNodePtr → Type 0
-    Listed n = P (Held K V) (held s n) × Q (Held K V) (held t n)
+    Listed n = P (Held K V) (content_at s n) × Q (Held K V) (content_at t n)
 
     both_held : (leaves : List LeafPtr) (inners : List InnerPtr) →
         Each (λ n. P (LeafNode K V) (get s.leaves n) × Q (LeafNode K V) (get t.leaves n)) leaves →
@@ -165,7 +165,7 @@ module _ {K V : Type 0} (s t : Nodes K V) where
     are_freed = both_held (λ X o. o ≢ None) (λ X o. o ≡ None) held_some held_none lf if_ l.are_freed i.are_freed kf;
     are_changed = both_held (λ X o. o ≢ None) (λ X o. o ≢ None) held_some held_some lc ic l.are_changed i.are_changed kc;
     others = λ k p f c. elim (leaf_or k) [
-      | inl (q, e) ↦ subst (λ z. held t z ≡ held s z) (sym e) (ap (option_map held_leaf) (l.others q
+      | inl (q, e) ↦ subst (λ z. content_at t z ≡ content_at s z) (sym e) (ap (option_map held_leaf) (l.others q
           (λ j. p (subst (λ z. IsIn z (both_names lp ip)) (sym e) (in_left (leaf_name q) (map leaf_name lp) (map inner_name ip) (in_map leaf_name q lp j))))
           (λ j. f (subst (λ z. IsIn z (both_names lf if_)) (sym e) (in_left (leaf_name q) (map leaf_name lf) (map inner_name if_) (in_map leaf_name q lf j))))
           (λ j. c (subst (λ z. IsIn z (both_names lc ic)) (sym e) (in_left (leaf_name q) (map leaf_name lc) (map inner_name ic) (in_map leaf_name q lc j))))))

@@ -13,21 +13,21 @@ use Rattle.art_parts.specs.declared.names.OpaqueNodePtr.{OpaqueNodePtr}
 use Rattle.art_parts.specs.declared.leaf.LeafNode.{LeafNode}
 use Rattle.art_model.specs.Trees.{NodeHeader}
 use Rattle.art_model.specs.Layouts.{Node, leaf_node, inner_node}
-use Rattle.art_model.specs.Stores.{Held, held_leaf, held_inner, held_in, seen, node_at, header_at, pair_of}
+use Rattle.art_model.specs.Stores.{Held, held_leaf, held_inner, content_in, tree_node, node_at, header_at, pair_of}
 
 module _ {K V : Type 0} where
-  seen_leaf : (o : Option (LeafNode K V)) (x : K × V) → option_map (seen Leaf) (option_map held_leaf o) ≡ Some (leaf_node x) → (leaf : LeafNode K V) × (o ≡ Some leaf) × (pair_of leaf ≡ x)
+  seen_leaf : (o : Option (LeafNode K V)) (x : K × V) → option_map (tree_node Leaf) (option_map held_leaf o) ≡ Some (leaf_node x) → (leaf : LeafNode K V) × (o ≡ Some leaf) × (pair_of leaf ≡ x)
   seen_leaf None x e = absurd cc
   seen_leaf (Some leaf) x e = (leaf, refl, cc)
 
   -- a leaf is seen as no inner node
-  pub seen_no_inner : (o : Option (LeafNode K V)) (h : NodeHeader) (slots : List (ℕ × OpaqueNodePtr)) → option_map (seen Leaf) (option_map held_leaf o) ≡ Some (inner_node h slots) → ⊥
+  pub seen_no_inner : (o : Option (LeafNode K V)) (h : NodeHeader) (slots : List (ℕ × OpaqueNodePtr)) → option_map (tree_node Leaf) (option_map held_leaf o) ≡ Some (inner_node h slots) → ⊥
   seen_no_inner None h slots e = cc
   seen_no_inner (Some leaf) h slots e = cc
 
   -- what a tree sees of an inner node
   abbrev pub seen_of : NodeType → Option Inner → Option (Node OpaqueNodePtr (K × V))
-  seen_of kind o = option_map (seen kind) (option_map held_inner o)
+  seen_of kind o = option_map (tree_node kind) (option_map held_inner o)
 
   -- what is seen as an inner node is one
   pub seen_inner : (kind : NodeType) (o : Option Inner) (h : NodeHeader) (slots : List (ℕ × OpaqueNodePtr)) → seen_of kind o ≡ Some (inner_node h slots) →
@@ -55,7 +55,7 @@ same_inner_held K V (Some a) (Some b) e = ap Some cc
 
 module _ {K V : Type 0} (s : Nodes K V) where
   -- what is held under an inner kind
-  pub held_in_inner : (kind : NodeType) (slot : ℕ) → kind ≢ Leaf → held_in s kind slot ≡ option_map held_inner (map.get s.inners (record { kind = kind; slot = slot }))
+  pub held_in_inner : (kind : NodeType) (slot : ℕ) → kind ≢ Leaf → content_in s kind slot ≡ option_map held_inner (map.get s.inners (record { kind = kind; slot = slot }))
   held_in_inner Leaf slot n = absurd (n refl)
   held_in_inner Node4 slot n = refl
   held_in_inner Node16 slot n = refl
@@ -73,14 +73,14 @@ module _ {K V : Type 0} (s : Nodes K V) where
   -- an inner node's name that stands for an inner node
   pub inner_there : (p : InnerPtr) (h : NodeHeader) (slots : List (ℕ × OpaqueNodePtr)) → p.kind ≢ Leaf →
       node_at s (inner_name p) ≡ Some (inner_node h slots) → (node : Inner) × (map.get s.inners p ≡ Some node) × (header_at p.kind node ≡ h) × (node.children ≡ slots)
-  inner_there p h slots n e = seen_inner p.kind (map.get s.inners p) h slots (ap (option_map (seen p.kind)) (sym (held_in_inner p.kind p.slot n)) ∙ e)
+  inner_there p h slots n e = seen_inner p.kind (map.get s.inners p) h slots (ap (option_map (tree_node p.kind)) (sym (held_in_inner p.kind p.slot n)) ∙ e)
 
   -- an inner node's name stands for no leaf
   pub inner_name_is : (p : InnerPtr) (x : K × V) → p.kind ≢ Leaf → node_at s (inner_name p) ≡ Some (leaf_node x) → ⊥
-  inner_name_is p x n e = seen_no_leaf p.kind (map.get s.inners p) x (ap (option_map (seen p.kind)) (sym (held_in_inner p.kind p.slot n)) ∙ e)
+  inner_name_is p x n e = seen_no_leaf p.kind (map.get s.inners p) x (ap (option_map (tree_node p.kind)) (sym (held_in_inner p.kind p.slot n)) ∙ e)
 
   inner_used : (kind : NodeType) (slot : ℕ) (h : NodeHeader) (slots : List (ℕ × OpaqueNodePtr)) →
-      option_map (seen kind) (held_in s kind slot) ≡ Some (inner_node h slots) → is_some (map.get s.inners (record { kind = kind; slot = slot })) ≡ true
+      option_map (tree_node kind) (content_in s kind slot) ≡ Some (inner_node h slots) → is_some (map.get s.inners (record { kind = kind; slot = slot })) ≡ true
   inner_used Leaf slot h slots e = absurd (seen_no_inner (map.get s.leaves (record { slot = slot })) h slots e)
   inner_used Node4 slot h slots e = rw (seen_inner Node4 (map.get s.inners (record { kind = Node4; slot = slot })) h slots e).1 refl
   inner_used Node16 slot h slots e = rw (seen_inner Node16 (map.get s.inners (record { kind = Node16; slot = slot })) h slots e).1 refl

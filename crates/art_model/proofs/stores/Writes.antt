@@ -18,7 +18,7 @@ use Rattle.art_model.specs.Trees.{NodeHeader, canonical_header, kind_of}
 use Rattle.art_model.specs.Radix.{bytes_of}
 use Rattle.art_model.specs.Paths.{Frame, IsPath, HoldsPath}
 use Rattle.art_model.specs.Layouts.{Node, leaf_node, inner_node, slots_of}
-use Rattle.art_model.specs.Stores.{held_leaf, held_inner, seen, header_at, node_at, pair_of}
+use Rattle.art_model.specs.Stores.{held_leaf, held_inner, tree_node, header_at, node_at, pair_of}
 use Rattle.art_model.specs.Writes.{Inners, as_inner, parent_of, with_child_at}
 use Rattle.art_model.specs.Footprints.{IsIn}
 use Rattle.art_model.proofs.lists.Pairwises.{Pairwise-before}
@@ -36,13 +36,13 @@ module _ {K V : Type 0} (s : Nodes K V) where
   pub node_at-leaf : (p : LeafPtr) → node_at s (leaf_name p) ≡ option_map leaf_node (option_map pair_of (get s.leaves p))
   node_at-leaf p = go (get s.leaves p)
     where
-      go : (o : Option (LeafNode K V)) → option_map (seen Leaf) (option_map held_leaf o) ≡ option_map leaf_node (option_map pair_of o)
+      go : (o : Option (LeafNode K V)) → option_map (tree_node Leaf) (option_map held_leaf o) ≡ option_map leaf_node (option_map pair_of o)
       go None = refl
       go (Some leaf) = refl
 
   -- the node under a name of an inner kind
-  pub node_at-inner : (k : OpaqueNodePtr) → k.kind ≢ Leaf → (o : Option Inner) → get s.inners (as_inner k) ≡ o → node_at s k ≡ option_map (seen k.kind) (option_map held_inner o)
-  node_at-inner k off o e = ap (option_map (seen k.kind)) (held_in_inner s k.kind k.slot off ∙ ap (option_map held_inner) e)
+  pub node_at-inner : (k : OpaqueNodePtr) → k.kind ≢ Leaf → (o : Option Inner) → get s.inners (as_inner k) ≡ o → node_at s k ≡ option_map (tree_node k.kind) (option_map held_inner o)
+  node_at-inner k off o e = ap (option_map (tree_node k.kind)) (held_in_inner s k.kind k.slot off ∙ ap (option_map held_inner) e)
 
   -- the inner node of the store where a tree sees one
   pub inner_at : (k : OpaqueNodePtr) (h : NodeHeader) (slots : List (ℕ × OpaqueNodePtr)) → node_at s k ≡ Some (inner_node h slots) → (k.kind ≢ Leaf) ×

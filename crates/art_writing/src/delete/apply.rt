@@ -9,7 +9,7 @@ ghost use Rattle.art_model.specs.Pairs.{first_of, last_of, of_key, remove_key, r
 ghost use Rattle.art_model.specs.Promises.{is_covered, promise_after};
 ghost use Rattle.art_model.specs.Roots.{ForRoot, ForTree, IsCanonicalRoot};
 ghost use Rattle.art_model.specs.Stores.{pair_of};
-ghost use Rattle.art_writing.specs.Inserted.{alone};
+ghost use Rattle.art_writing.specs.Inserted.{unlinked_leaf};
 ghost use Rattle.art_writing.specs.Deleted.{IsDeletePointIn, IsRootAfter, TouchesFor, pair_at, parent_change, placed_for_deletion, shrinks};
 ghost use Rattle.art_reading.specs.Paths.{last_step};
 ghost use Rattle.art_inner.specs.Views.{ref_kind, ref_view};
@@ -42,7 +42,7 @@ impl DeletePoint {
             IfSome done.new_root (IsCanonicalRoot (of_key K.bytes) PREFIX_LEN store.new)) }
         ensures deleted { IfOk result (λ done.
             IfSome (map.get store.old.leaves self.leaf_node_ptr) (λ leaf.
-            done.deleted_leaf ≡ alone (pair_of leaf))) }
+            done.deleted_leaf ≡ unlinked_leaf (pair_of leaf))) }
         ensures pair { IfOk result (λ done.
             pair_at store.old (Some self) ≡ Some (pair_of done.deleted_leaf)) }
         ensures sought { ForTree (of_key K.bytes) PREFIX_LEN store.old root (λ pairs _.

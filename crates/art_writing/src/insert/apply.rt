@@ -9,7 +9,7 @@ ghost use Rattle.art_model.specs.Pairs.{of_key, overwrite, overwrite_reply, put,
 ghost use Rattle.art_model.specs.Promises.{is_covered, promise_after};
 ghost use Rattle.art_model.specs.Roots.{ForTree, IsCanonicalRoot};
 ghost use Rattle.art_writing.specs.Applied.{IsApplied, IsPrefixApplied};
-ghost use Rattle.art_writing.specs.Inserted.{HasInserted, IsPointIn, Touches, alone, placed_for};
+ghost use Rattle.art_writing.specs.Inserted.{HasInserted, IsPointIn, Touches, unlinked_leaf, placed_for};
 ghost use Rattle.art_writing.specs.Overwritten.{HasCome, HasOverwritten, IsOverwritePointIn, IsPrefixPointIn, TouchesForNode, TouchesForPrefix, placed_for_overwrite, placed_for_prefix, root_of};
 ghost use Rattle.art_writing.specs.declared.insert.PrefixInsertPoint.TheVariants as points;
 
@@ -46,7 +46,7 @@ impl InsertPoint {
         ensures replaced { ForTree (of_key K.bytes) PREFIX_LEN store.old self.root (λ pairs layout.
             IfOk result (λ done.
             done.existing_leaf ≡
-            option_map alone (put_reply (of_key K.bytes) (key, value) pairs))) }
+            option_map unlinked_leaf (put_reply (of_key K.bytes) (key, value) pairs))) }
         ensures kept { ForTree (of_key K.bytes) PREFIX_LEN store.old self.root (λ pairs old.
             IfOk result (λ done.
             ForTree (of_key K.bytes) PREFIX_LEN store.new done.new_root (λ after new.
@@ -129,7 +129,7 @@ impl PrefixInsertPoint {
         ensures replaced { ForTree (of_key K.bytes) PREFIX_LEN store.old (root_of self)
             (λ pairs layout. IfOk result (λ done.
             done.insert_result.existing_leaf ≡
-            option_map alone (overwrite_reply (of_key K.bytes) (key, value) pairs).0)) }
+            option_map unlinked_leaf (overwrite_reply (of_key K.bytes) (key, value) pairs).0)) }
         ensures removed { ForTree (of_key K.bytes) PREFIX_LEN store.old (root_of self)
             (λ pairs layout. IfOk result (λ done.
             done.leafs_removed ≡ (overwrite_reply (of_key K.bytes) (key, value) pairs).1)) }
@@ -205,7 +205,7 @@ impl OverwritePoint {
         ensures replaced { ForTree (of_key K.bytes) PREFIX_LEN store.old self.root (λ pairs layout.
             IfOk result (λ done.
             done.insert_result.existing_leaf ≡
-            option_map alone (overwrite_reply (of_key K.bytes) (key, value) pairs).0)) }
+            option_map unlinked_leaf (overwrite_reply (of_key K.bytes) (key, value) pairs).0)) }
         ensures removed { ForTree (of_key K.bytes) PREFIX_LEN store.old self.root (λ pairs layout.
             IfOk result (λ done.
             done.leafs_removed ≡ (overwrite_reply (of_key K.bytes) (key, value) pairs).1)) }

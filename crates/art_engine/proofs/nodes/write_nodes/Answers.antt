@@ -1,6 +1,6 @@
 use Rattle.std.proofs.Common.{◌≡◌, rules, suc, [], ◌∷◌, ◌++◌, length, ap, sym, ◌∙◌, arith, subst, inr}
 use Rattle.std.specs.List.{AllByRecursion as Each}
-use Rattle.art_keeping.specs.Walks.{HasRoom, pending_root, turned}
+use Rattle.art_keeping.specs.Walks.{HasRoom, pending_root, after_turn}
 use Rattle.art_keeping.proofs.Subtrees.{IsPendingTree, tree_taken, trees_turned}
 use Rattle.art_engine.specs.NodeLines.{nodes_text}
 use Rattle.art_engine.proofs.NodeWalks.{begins, ends, goes_on}
@@ -26,7 +26,7 @@ loop-init g c =
 pub turn-requires : goal.turn-requires
 turn-requires g c =
     let (root, turns, left, room, trees) = c.loop.invariant.0 in
-    (search rules, omega (arith, ap (λ l. length (turned c.args.store.now l)) left, room (suc turns)))
+    (search rules, omega (arith, ap (λ l. length (after_turn c.args.store.now l)) left, room (suc turns)))
 
 pub returns-in_default-turn : goal.returns-in_default-turn
 returns-in_default-turn g c = λ pairs by. inr (
@@ -45,7 +45,7 @@ loop-preserved g c =
       (
         root,
         suc turns,
-        c.turn.ensures.left ∙ ap (turned c.args.store.now) left,
+        c.turn.ensures.left ∙ ap (after_turn c.args.store.now) left,
         subst (HasRoom c.args.store.now root) (sym c.turn.ensures.capacity) room,
         subst (Each (IsPendingTree c.args.store.now)) (sym c.turn.ensures.left) (trees_turned c.args.store.now c.loop.pending.items trees),
       ),

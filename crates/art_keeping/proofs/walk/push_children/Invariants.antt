@@ -1,11 +1,11 @@
 use Rattle.std.proofs.Common.{◌≡◌, ◌≤◌, ◌+◌, ◌++◌, length}
 use Rattle.std.specs.Vec.{vec_capacity}
-use Rattle.art_keeping.specs.Walks.{falling}
+use Rattle.art_keeping.specs.Walks.{reversed_children}
 use Rattle.art_keeping.proofs.walk.push_children.Given as goal
 
 -- what is put on and the children to come are all, and there is room for these
 abbrev pub invariant-loop-byte : goal.invariant-loop-byte
 invariant-loop-byte l =
-    (l.pending.items ++ falling l.fn.depth l.byte-iterator.iter ≡ l.fn.pending.items ++ falling l.fn.depth l.fn.children)
+    (l.pending.items ++ reversed_children l.fn.depth l.byte-iterator.iter ≡ l.fn.pending.items ++ reversed_children l.fn.depth l.fn.children)
     × (length l.pending.items + length l.byte-iterator.iter ≤ vec_capacity l.pending)
     × (vec_capacity l.pending ≡ vec_capacity l.fn.pending)

@@ -1,7 +1,7 @@
 use Rattle.std.proofs.Common.{◌≡◌, ◌+◌, ◌++◌, suc, length, length-append, ap, sym, ◌∙◌, arith, subst}
 use Rattle.std.specs.Vec.{vec_capacity}
-use Rattle.art_keeping.specs.Walks.{HasRoom, below, left_after, turned}
-use Rattle.art_keeping.proofs.Walks.{none_left, room_next, room_whole, turned-last}
+use Rattle.art_keeping.specs.Walks.{HasRoom, below, left_after, after_turn}
+use Rattle.art_keeping.proofs.Walks.{none_left, room_next, room_whole, after_turn-last}
 use Rattle.art_keeping.proofs.walk.reserve_walk.Goals as goal
 
 pub returns-in_default-clause-room : goal.returns-in_default-clause-room
@@ -21,9 +21,9 @@ loop-preserved g c =
     let s = c.args.store.now in
     let (turns, left, room) = c.loop.invariant in
     let under = below s c.in-Some.next in
-    let is = turned-last s c.loop.pending.items c.pop.new.self.items c.in-Some.next c.in-Some.ensures.items in
+    let is = after_turn-last s c.loop.pending.items c.pop.new.self.items c.in-Some.next c.in-Some.ensures.items in
     let now : c.push_below.new.pending.items ≡ left_after s c.args.root (suc turns) =
-    c.push_below.ensures.items ∙ ap (λ l. l ++ under) c.reserve.ensures.items ∙ sym is ∙ ap (turned s) left in
+    c.push_below.ensures.items ∙ ap (λ l. l ++ under) c.reserve.ensures.items ∙ sym is ∙ ap (after_turn s) left in
     let long : length c.push_below.new.pending.items ≡ length c.reserve.new.self.items + length under =
     omega (arith, ap length c.push_below.ensures.items, length-append c.reserve.new.self.items under) in (
       suc turns,

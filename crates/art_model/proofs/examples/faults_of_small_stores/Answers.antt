@@ -16,15 +16,15 @@ use Rattle.art_model.specs.FaultExamples.{store_of, leaf_in, leaf_between, node4
 use Rattle.art_model.specs.Faults.{Reaches}
 use Rattle.art_model.specs.Keys.{IsFront}
 use Rattle.art_model.specs.Layouts.{inner_node, leaf_node, Links, IsLayout}
-use Rattle.art_model.specs.Stores.{held_leaf, held_inner, seen, links_of, node_at, links_at}
+use Rattle.art_model.specs.Stores.{held_leaf, held_inner, tree_node, links_of, node_at, links_at}
 use Rattle.art_model.specs.Trees.{leaf}
 use Rattle.art_model.proofs.examples.faults_of_small_stores.Goals as goal
 
 module _ (leaves : List (LeafPtr × LeafNode Key ℕ)) (inners : List (InnerPtr × Inner)) where
   -- what is seen of a leaf
   shown_leaf : (slot : ℕ) → T (map.is_sorted leaf_cmp leaves) →
-      node_at (store_of leaves inners) (leaf_at slot) ≡ option_map (seen Leaf) (option_map held_leaf (map.find leaf_cmp (leaf_in slot) leaves))
-  shown_leaf slot sorted = ap (λ o. option_map (seen Leaf) (option_map held_leaf o)) (map.get-from_sorted leaf_cmp leaves (leaf_in slot) sorted)
+      node_at (store_of leaves inners) (leaf_at slot) ≡ option_map (tree_node Leaf) (option_map held_leaf (map.find leaf_cmp (leaf_in slot) leaves))
+  shown_leaf slot sorted = ap (λ o. option_map (tree_node Leaf) (option_map held_leaf o)) (map.get-from_sorted leaf_cmp leaves (leaf_in slot) sorted)
 
   -- its links
   shown_links : (slot : ℕ) → T (map.is_sorted leaf_cmp leaves) →
@@ -33,8 +33,8 @@ module _ (leaves : List (LeafPtr × LeafNode Key ℕ)) (inners : List (InnerPtr 
 
   -- what is seen of an inner node
   shown_node : (slot : ℕ) → T (map.is_sorted inner_cmp inners) →
-      node_at (store_of leaves inners) (node4 slot) ≡ option_map (seen Node4) (option_map held_inner (map.find inner_cmp (record { kind = Node4; slot = slot }) inners))
-  shown_node slot sorted = ap (λ o. option_map (seen Node4) (option_map held_inner o)) (map.get-from_sorted inner_cmp inners (record { kind = Node4; slot = slot }) sorted)
+      node_at (store_of leaves inners) (node4 slot) ≡ option_map (tree_node Node4) (option_map held_inner (map.find inner_cmp (record { kind = Node4; slot = slot }) inners))
+  shown_node slot sorted = ap (λ o. option_map (tree_node Node4) (option_map held_inner o)) (map.get-from_sorted inner_cmp inners (record { kind = Node4; slot = slot }) sorted)
 
 -- the root is reached on no step, at no bytes
 abbrev at_root : (s : Nodes Key ℕ) (root : OpaqueNodePtr) → Reaches bytes_of_pair 2 s root [] root

@@ -18,7 +18,7 @@ use Rattle.art_model.specs.Footprints.{IsIn, Footprint}
 use Rattle.art_model.specs.Kept.{KeepsLeaves, KeepsInners}
 use Rattle.art_model.specs.Layouts.{names_of}
 use Rattle.art_model.specs.NameExamples.{two_keys, tree_of_two, three_keys, tree_of_three}
-use Rattle.art_model.specs.Stores.{Held, held_leaf, held_inner, held}
+use Rattle.art_model.specs.Stores.{Held, held_leaf, held_inner, content_at}
 use Rattle.art_model.proofs.examples.stored_nodes_with_new_names.Goals as goal
 
 -- the leaves and the inner node of each store
@@ -52,7 +52,7 @@ three_inners first node = node4_over node 0 [] ((1, leaf_at first) ∷ (2, leaf_
 module _ (leaves : List (LeafPtr × LeafNode Key ℕ)) (inners : List (InnerPtr × Inner)) where
   -- the leaf in a slot
   leaf_held : (slot : ℕ) → T (map.is_sorted leaf_cmp leaves) →
-      held (store_of leaves inners) (leaf_at slot) ≡ option_map held_leaf (map.find leaf_cmp (leaf_in slot) leaves)
+      content_at (store_of leaves inners) (leaf_at slot) ≡ option_map held_leaf (map.find leaf_cmp (leaf_in slot) leaves)
   leaf_held slot sorted = ap (option_map held_leaf) (map.get-from_sorted leaf_cmp leaves (leaf_in slot) sorted)
 
   -- the inner node of a kind in a slot
@@ -85,23 +85,23 @@ no_node4 slot a slots apart =
     past inner_cmp (record { kind = Node4; slot = slot }) (node4_over a 0 [] slots) [] (λ same. apart (map.nat_cmp-IsAntisymmetric slot a same))
 
 -- no leaf of two keys and of three keys is in another slot
-no_leaf_of_two : (slot : ℕ) → (slot ≡ 1 → ⊥) → (slot ≡ 2 → ⊥) → held two_keys (leaf_at slot) ≡ None
+no_leaf_of_two : (slot : ℕ) → (slot ≡ 1 → ⊥) → (slot ≡ 2 → ⊥) → content_at two_keys (leaf_at slot) ≡ None
 no_leaf_of_two slot a b =
     leaf_held two_leaves two_inners slot tt ∙ ap (λ o. option_map held_leaf o) (past_leaf slot (least 1) (last ∷ []) a ∙ past_leaf slot last [] b)
 
 no_leaf_of_three : (first node : ℕ) → T (map.is_sorted leaf_cmp (three_leaves first)) → (slot : ℕ) →
-    (slot ≡ first → ⊥) → (slot ≡ 2 → ⊥) → (slot ≡ 3 → ⊥) → held (three_keys first node) (leaf_at slot) ≡ None
+    (slot ≡ first → ⊥) → (slot ≡ 2 → ⊥) → (slot ≡ 3 → ⊥) → content_at (three_keys first node) (leaf_at slot) ≡ None
 no_leaf_of_three first node sorted slot a b c =
     leaf_held (three_leaves first) (three_inners first node) slot sorted
     ∙ ap (λ o. option_map held_leaf o)
     (past_leaf slot (least first) (middle first ∷ new ∷ []) a ∙ past_leaf slot (middle first) (new ∷ []) b ∙ past_leaf slot new [] c)
 
 -- the same of their inner nodes
-no_node_of_two : (slot : ℕ) → (slot ≡ 0 → ⊥) → held two_keys (node4 slot) ≡ None
+no_node_of_two : (slot : ℕ) → (slot ≡ 0 → ⊥) → content_at two_keys (node4 slot) ≡ None
 no_node_of_two slot a =
     inner_held two_leaves two_inners Node4 slot tt ∙ ap (λ o. option_map held_inner o) (no_node4 slot 0 ((1, leaf_at 1) ∷ (2, leaf_at 2) ∷ []) a)
 
-no_node_of_three : (first node slot : ℕ) → (slot ≡ node → ⊥) → held (three_keys first node) (node4 slot) ≡ None
+no_node_of_three : (first node slot : ℕ) → (slot ≡ node → ⊥) → content_at (three_keys first node) (node4 slot) ≡ None
 no_node_of_three first node slot a =
     inner_held (three_leaves first) (three_inners first node) Node4 slot tt
     ∙ ap (λ o. option_map held_inner o) (no_node4 slot node ((1, leaf_at first) ∷ (2, leaf_at 2) ∷ (3, leaf_at 3) ∷ []) a)
@@ -111,7 +111,7 @@ others_leaf : (kind : NodeType) (slot : ℕ) →
     (IsIn (record { kind = kind; slot = slot }) (leaf_at 0 ∷ leaf_at 3 ∷ []) → ⊥) →
     (IsIn (record { kind = kind; slot = slot }) (leaf_at 1 ∷ []) → ⊥) →
     (IsIn (record { kind = kind; slot = slot }) (leaf_at 2 ∷ node4 0 ∷ []) → ⊥) →
-    held (three_keys 0 0) (record { kind = kind; slot = slot }) ≡ held two_keys (record { kind = kind; slot = slot })
+    content_at (three_keys 0 0) (record { kind = kind; slot = slot }) ≡ content_at two_keys (record { kind = kind; slot = slot })
 others_leaf Leaf slot p f c =
     no_leaf_of_three 0 0 tt slot (λ e. p (inl (ap leaf_at (sym e)))) (λ e. c (inl (ap leaf_at (sym e)))) (λ e. p (inr (inl (ap leaf_at (sym e)))))
     ∙ sym (no_leaf_of_two slot (λ e. f (inl (ap leaf_at (sym e)))) (λ e. c (inl (ap leaf_at (sym e)))))
@@ -133,7 +133,7 @@ others_inner : (kind : NodeType) (slot : ℕ) →
     (IsIn (record { kind = kind; slot = slot }) (leaf_at 3 ∷ node4 1 ∷ []) → ⊥) →
     (IsIn (record { kind = kind; slot = slot }) (node4 0 ∷ []) → ⊥) →
     (IsIn (record { kind = kind; slot = slot }) (leaf_at 2 ∷ []) → ⊥) →
-    held (three_keys 1 1) (record { kind = kind; slot = slot }) ≡ held two_keys (record { kind = kind; slot = slot })
+    content_at (three_keys 1 1) (record { kind = kind; slot = slot }) ≡ content_at two_keys (record { kind = kind; slot = slot })
 others_inner Leaf slot p f c =
     leaf_held (three_leaves 1) (three_inners 1 1) slot tt
     ∙ ap (λ o. option_map held_leaf o) (beside_first slot (λ e. c (inl (ap leaf_at (sym e)))) (λ e. p (inl (ap leaf_at (sym e)))))
@@ -226,7 +226,7 @@ still_in name (inr (inr (inr none))) = elim none [ ]
 others_stay : (kind : NodeType) (slot : ℕ) →
     (IsIn (record { kind = kind; slot = slot }) (names_of tree_of_two) → ⊥) →
     (IsIn (record { kind = kind; slot = slot }) (names_of (tree_of_three 1 0)) → ⊥) →
-    held (three_keys 1 0) (record { kind = kind; slot = slot }) ≡ held two_keys (record { kind = kind; slot = slot })
+    content_at (three_keys 1 0) (record { kind = kind; slot = slot }) ≡ content_at two_keys (record { kind = kind; slot = slot })
 others_stay Leaf slot o n =
     no_leaf_of_three 1 0 tt slot (λ e. n (inr (inl (ap leaf_at (sym e))))) (λ e. n (inr (inr (inl (ap leaf_at (sym e))))))
     (λ e. n (inr (inr (inr (inl (ap leaf_at (sym e)))))))
@@ -237,11 +237,11 @@ others_stay Node16 slot o n = inner_held (three_leaves 1) (three_inners 1 0) Nod
 others_stay Node48 slot o n = inner_held (three_leaves 1) (three_inners 1 0) Node48 slot tt ∙ sym (inner_held two_leaves two_inners Node48 slot tt)
 others_stay Node256 slot o n = inner_held (three_leaves 1) (three_inners 1 0) Node256 slot tt ∙ sym (inner_held two_leaves two_inners Node256 slot tt)
 
-comes_in : (name : OpaqueNodePtr) → IsIn name (names_of (tree_of_three 1 0)) → (IsIn name (names_of tree_of_two) → ⊥) → held two_keys name ≡ None
+comes_in : (name : OpaqueNodePtr) → IsIn name (names_of (tree_of_three 1 0)) → (IsIn name (names_of tree_of_two) → ⊥) → content_at two_keys name ≡ None
 comes_in name (inl p) o = absurd (o (inl p))
 comes_in name (inr (inl p)) o = absurd (o (inr (inl p)))
 comes_in name (inr (inr (inl p))) o = absurd (o (inr (inr (inl p))))
-comes_in name (inr (inr (inr (inl p)))) o = subst (λ z. held two_keys z ≡ None) p (leaf_held two_leaves two_inners 3 tt)
+comes_in name (inr (inr (inr (inl p)))) o = subst (λ z. content_at two_keys z ≡ None) p (leaf_held two_leaves two_inners 3 tt)
 comes_in name (inr (inr (inr (inr none)))) o = elim none [ ]
 
 pub returns-clause-all_names_stay : goal.returns-clause-all_names_stay

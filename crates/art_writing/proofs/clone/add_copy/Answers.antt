@@ -1,6 +1,6 @@
 use Rattle.std.proofs.Common.{◌≡◌, ◌∙◌, ap, sym, Some}
 use Rattle.std.specs.Option.{option_map}
-use Rattle.art_model.specs.Writes.{joined}
+use Rattle.art_model.specs.Writes.{with_links_around}
 use Rattle.art_writing.specs.declared.clone.LeafEnds.{LeafEnds}
 use Rattle.art_writing.proofs.clone.add_copy.Goals.{in-Some, in-None}
 use Rattle.art_writing.proofs.clone.add_copy.Goals as goal
@@ -14,4 +14,4 @@ returns-clause-leaves g c =
     ] in
     c.write_child.ensures.leaves
     ∙ c.link.ensures.leaves
-    ∙ ap (λ o. joined c.args.into.now.leaves o (Some c.args.copy.min_leaf) (Some c.args.copy.min_leaf) o) last
+    ∙ ap (λ o. with_links_around c.args.into.now.leaves o (Some c.args.copy.min_leaf) (Some c.args.copy.min_leaf) o) last

@@ -2,7 +2,7 @@ use Rattle.std.proofs.Common.{◌≡◌, IsSomeAnd, ap, sym, ◌∙◌, subst, r
 use Rattle.std.specs.Prelude.{option_copied}
 use Rattle.std.specs.FinMap.{get, remove}
 use Rattle.art_model.specs.Writes.{without_leaf}
-use Rattle.art_writing.specs.Inserted.{alone}
+use Rattle.art_writing.specs.Inserted.{unlinked_leaf}
 use Rattle.art_writing.proofs.LeafWrites.{some_there, joined_there, joined_keeps}
 use Rattle.art_writing.proofs.writes.take_from_between.Goals as goal
 
@@ -23,7 +23,7 @@ returns-clause-leaf g c =
     let there = sym c.leaf.ensures ∙ ap option_copied c.in-Some.is in
     let all = c.link.ensures.leaves in
     let same = joined_keeps m x.previous x.next x.next x.previous c.args.name x there c.free_leaf-leaf.result (sym (ap (λ z. get z c.args.name) all) ∙ c.free_leaf-leaf.ensures.node) in
-    subst (λ o. IsSomeAnd o (λ leaf. c.with_no_siblings.result ≡ alone (leaf.key, leaf.value))) (sym there) (c.with_no_siblings.ensures ∙ ap alone same)
+    subst (λ o. IsSomeAnd o (λ leaf. c.with_no_siblings.result ≡ unlinked_leaf (leaf.key, leaf.value))) (sym there) (c.with_no_siblings.ensures ∙ ap unlinked_leaf same)
 
 pub returns-clause-leaves : goal.returns-clause-leaves
 unfolding without_leaf

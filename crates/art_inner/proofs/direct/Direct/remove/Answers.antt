@@ -1,6 +1,6 @@
 use Rattle.std.proofs.Common.{sym, ap, ◌∙◌, length, is_some, arith}
 use Rattle.art_inner.specs.Inner.{child_at, remove_child}
-use Rattle.art_inner.specs.Tables.{listed}
+use Rattle.art_inner.specs.Tables.{names_by_byte}
 use Rattle.art_inner.specs.Direct.{direct_at}
 use Rattle.art_inner.proofs.ChildrenLaws.{length-remove_child, remove_child-absent}
 use Rattle.art_inner.proofs.Extent.{listed_rising}
@@ -14,7 +14,7 @@ pub invariant_of-self : goal.invariant_of-self
 invariant_of-self c =
     let at = direct_at c.self.inside.slots c.self.inside.places in
     let there = ap (λ cs. is_some (child_at cs c.args.byte)) c.self.view_is ∙ ap is_some (sym c.get.ensures ∙ c.in_ok-child.was) in
-    let shorter = length-remove_child (listed at) c.args.byte (listed_rising at) there in
+    let shorter = length-remove_child (names_by_byte at) c.args.byte (listed_rising at) there in
     let removed = ap length (direct_removed c.self.inside.slots c.self.inside.places c.args.byte c.ranges.byte.fits (omega (arith, c.self.told)) (omega (arith, c.self.told))) in
     omega (arith, c.self.invariant, shorter, removed)
 

@@ -1,6 +1,6 @@
 use Rattle.std.proofs.Common.{sym, ap, ◌∙◌, length, is_some, arith}
 use Rattle.art_inner.specs.Inner.{child_at, put_child}
-use Rattle.art_inner.specs.Tables.{listed}
+use Rattle.art_inner.specs.Tables.{names_by_byte}
 use Rattle.art_inner.specs.Direct.{direct_at}
 use Rattle.art_inner.proofs.ChildrenLaws.{length-put_child_new, length-put_child_old}
 use Rattle.art_inner.proofs.Extent.{listed_bound, listed_rising}
@@ -23,6 +23,6 @@ invariant_of-self c =
     (omega (arith, c.self.told)) c.place_of.result c.args.child c.place_of.ensures) in
     let there = ap (λ cs. child_at cs c.args.byte) c.self.view_is ∙ sym c.get.ensures in
     elim c.match-get.branch [
-      | in-Some w ↦ omega (arith, c.self.invariant, w.len-is, made, length-put_child_old (listed at) c.args.byte c.args.child (listed_rising at) (ap is_some (there ∙ w.in-Some.is)))
-      | in-None w ↦ omega (arith, c.self.invariant, w.len-is, made, length-put_child_new (listed at) c.args.byte c.args.child (there ∙ w.in-None.is))
+      | in-Some w ↦ omega (arith, c.self.invariant, w.len-is, made, length-put_child_old (names_by_byte at) c.args.byte c.args.child (listed_rising at) (ap is_some (there ∙ w.in-Some.is)))
+      | in-None w ↦ omega (arith, c.self.invariant, w.len-is, made, length-put_child_new (names_by_byte at) c.args.byte c.args.child (there ∙ w.in-None.is))
     ]

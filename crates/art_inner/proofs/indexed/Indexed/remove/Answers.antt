@@ -1,6 +1,6 @@
 use Rattle.std.proofs.Common.{length, get_or, set, get_or-set_same, get_or-set_other, is_some, refl, sym, ap, ◌∙◌, arith}
 use Rattle.art_inner.specs.Inner.{child_at, remove_child}
-use Rattle.art_inner.specs.Tables.{listed}
+use Rattle.art_inner.specs.Tables.{names_by_byte}
 use Rattle.art_inner.specs.Indexed.{indexed_at}
 use Rattle.art_inner.proofs.ChildrenLaws.{length-remove_child, remove_child-absent}
 use Rattle.art_inner.proofs.Extent.{listed_at, listed_rising}
@@ -41,7 +41,7 @@ invariant_of-self c =
     (omega (arith, c.self.invariant.1, c.self.told)) (get_or-set_same c.renumber.new.index c.args.byte 0 0 (omega (arith, c.ranges.byte.fits, c.self.told, c.renumber.auto.index)))
     (λ k d. get_or-set_other c.renumber.new.index c.args.byte k 0 0 d ∙ c.renumber.ensures k)) in
     let there = ap (λ cs. is_some (child_at cs c.args.byte)) c.self.view_is ∙ ap is_some (sym c.get.ensures ∙ c.in_ok-child.was) in
-    let shorter = length-remove_child (listed (indexed_at c.self.inside.slots c.self.inside.kinds c.self.inside.index)) c.args.byte
+    let shorter = length-remove_child (names_by_byte (indexed_at c.self.inside.slots c.self.inside.kinds c.self.inside.index)) c.args.byte
     (listed_rising (indexed_at c.self.inside.slots c.self.inside.kinds c.self.inside.index)) there in (
       omega (arith, c.self.invariant.0, removed, shorter),
       omega (arith, c.self.invariant.1),

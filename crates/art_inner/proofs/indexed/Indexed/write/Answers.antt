@@ -1,6 +1,6 @@
 use Rattle.std.proofs.Common.{◌≡◌, ◌<◌, ◌+◌, ◌-◌, ℕ, length, get_or, is_some, None, refl, sym, ap, ◌∙◌, inl, inr, arith}
 use Rattle.art_inner.specs.Inner.{Children, HasPlace, child_at, put_child}
-use Rattle.art_inner.specs.Tables.{listed}
+use Rattle.art_inner.specs.Tables.{names_by_byte}
 use Rattle.art_inner.specs.Indexed.{indexed_at, numbered}
 use Rattle.art_inner.proofs.TableLemmas.{none_is_not}
 use Rattle.art_inner.proofs.ChildrenLaws.{length-put_child_new, length-put_child_old}
@@ -14,13 +14,13 @@ room_for len cs ds b is count none (inr there) = absurd (none_is_not (ap is_some
 
 pub bounds-self-inside-last : goal.bounds-self-inside-last
 bounds-self-inside-last c =
-    room_for c.self.inside.len c.args.self.now (listed (indexed_at c.self.inside.slots c.self.inside.kinds c.self.inside.index)) c.args.byte c.self.view_is c.self.invariant.0
+    room_for c.self.inside.len c.args.self.now (names_by_byte (indexed_at c.self.inside.slots c.self.inside.kinds c.self.inside.index)) c.args.byte c.self.view_is c.self.invariant.0
     (listed_at (indexed_at c.self.inside.slots c.self.inside.kinds c.self.inside.index) c.args.byte c.ranges.byte.fits
     ∙ ap (numbered c.self.inside.slots c.self.inside.kinds) c.if-place-eq0.true) c.requires
 
 pub bounds-self-inside-last-then-place-eq0 : goal.bounds-self-inside-last-then-place-eq0
 bounds-self-inside-last-then-place-eq0 c =
-    room_for c.self.inside.len c.args.self.now (listed (indexed_at c.self.inside.slots c.self.inside.kinds c.self.inside.index)) c.args.byte c.self.view_is c.self.invariant.0
+    room_for c.self.inside.len c.args.self.now (names_by_byte (indexed_at c.self.inside.slots c.self.inside.kinds c.self.inside.index)) c.args.byte c.self.view_is c.self.invariant.0
     (listed_at (indexed_at c.self.inside.slots c.self.inside.kinds c.self.inside.index) c.args.byte c.ranges.byte.fits
     ∙ ap (numbered c.self.inside.slots c.self.inside.kinds) c.if-place-eq0.true) c.requires
 
@@ -29,7 +29,7 @@ returns-then-place-eq0 c =
     let none = listed_at (indexed_at c.self.inside.slots c.self.inside.kinds c.self.inside.index) c.args.byte c.ranges.byte.fits
     ∙ ap (numbered c.self.inside.slots c.self.inside.kinds) c.if-place-eq0.true in
     let room = room_for c.self.inside.len c.args.self.now
-    (listed (indexed_at c.self.inside.slots c.self.inside.kinds c.self.inside.index)) c.args.byte c.self.view_is c.self.invariant.0 none c.requires in
+    (names_by_byte (indexed_at c.self.inside.slots c.self.inside.kinds c.self.inside.index)) c.args.byte c.self.view_is c.self.invariant.0 none c.requires in
     indexed_added c.self.inside.slots c.self.inside.kinds c.self.inside.len c.args.child (omega (arith, room, c.self.told))
     (omega (arith, room, c.self.told)) c.self.inside.index c.self.inside.len c.args.byte c.ranges.byte.fits c.self.invariant.2 refl (omega (arith, c.self.told))
     ∙ ap (λ cs. put_child cs c.args.byte c.args.child) c.self.view_is
@@ -39,10 +39,10 @@ invariant_of-self c =
     let none = listed_at (indexed_at c.self.inside.slots c.self.inside.kinds c.self.inside.index) c.args.byte c.ranges.byte.fits
     ∙ ap (numbered c.self.inside.slots c.self.inside.kinds) c.if-place-eq0.true in
     let room = room_for c.self.inside.len c.args.self.now
-    (listed (indexed_at c.self.inside.slots c.self.inside.kinds c.self.inside.index)) c.args.byte c.self.view_is c.self.invariant.0 none c.requires in
+    (names_by_byte (indexed_at c.self.inside.slots c.self.inside.kinds c.self.inside.index)) c.args.byte c.self.view_is c.self.invariant.0 none c.requires in
     let made = ap length (indexed_added c.self.inside.slots c.self.inside.kinds c.self.inside.len c.args.child (omega (arith, room, c.self.told))
     (omega (arith, room, c.self.told)) c.self.inside.index c.self.inside.len c.args.byte c.ranges.byte.fits c.self.invariant.2 refl (omega (arith, c.self.told))) in
-    let longer = length-put_child_new (listed (indexed_at c.self.inside.slots c.self.inside.kinds c.self.inside.index)) c.args.byte c.args.child none in (
+    let longer = length-put_child_new (names_by_byte (indexed_at c.self.inside.slots c.self.inside.kinds c.self.inside.index)) c.args.byte c.args.child none in (
       omega (arith, c.self.invariant.0, made, longer),
       omega (arith, room),
       IsIndex-added c.self.inside.index c.self.inside.len c.args.byte (omega (arith, c.ranges.byte.fits, c.self.told)) c.self.invariant.2,
@@ -66,6 +66,6 @@ invariant_of-self-else-place-eq0 c =
     (omega (arith, fits, c.self.invariant.1, c.if-place-eq0.false, c.self.told)) c.self.inside.index c.self.inside.len c.args.byte c.ranges.byte.fits c.self.invariant.2 here) in
     let there = ap is_some (listed_at (indexed_at c.self.inside.slots c.self.inside.kinds c.self.inside.index) c.args.byte c.ranges.byte.fits
     ∙ numbered_some c.self.inside.slots c.self.inside.kinds (get_or c.self.inside.index c.args.byte 0) c.if-place-eq0.false) in
-    let same = length-put_child_old (listed (indexed_at c.self.inside.slots c.self.inside.kinds c.self.inside.index)) c.args.byte c.args.child
+    let same = length-put_child_old (names_by_byte (indexed_at c.self.inside.slots c.self.inside.kinds c.self.inside.index)) c.args.byte c.args.child
     (listed_rising (indexed_at c.self.inside.slots c.self.inside.kinds c.self.inside.index)) there in
     (omega (arith, c.self.invariant.0, made, same), c.self.invariant.1, c.self.invariant.2)

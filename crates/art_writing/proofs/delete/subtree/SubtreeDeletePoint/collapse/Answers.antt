@@ -1,7 +1,7 @@
 use Rattle.std.proofs.Common.{rules, ap, sym, ◌∙◌, Some, arith}
 use Rattle.art_parts.specs.Names.{leaf_name}
 use Rattle.art_model.specs.Layouts.{shape_of}
-use Rattle.art_model.specs.Writes.{joined, with_child_at}
+use Rattle.art_model.specs.Writes.{with_links_around, with_child_at}
 use Rattle.art_reading.specs.Paths.{last_step, root_with}
 use Rattle.art_writing.proofs.Deletions.{leaf_at}
 use Rattle.art_writing.proofs.FreedTrees.{all_can, all_counted, all_go}
@@ -49,7 +49,7 @@ free_nodes-others-requires g c =
     let first = first_below c.args.store.now full.0.holds (c.walk_to_end-path.ensures at.node full) (sym c.last_step.ensures ∙ c.in-Some.is) in
     let next = c.links_beside-next.result in
     let n = c.walk_to_end-path.result.1 in
-    let leaves = c.replace_at-new_root.ensures.leaves ∙ c.link.ensures.leaves ∙ ap (λ m. joined m (Some n) next.1 next.1 (Some n)) c.remove_child.ensures.leaves in
+    let leaves = c.replace_at-new_root.ensures.leaves ∙ c.link.ensures.leaves ∙ ap (λ m. with_links_around m (Some n) next.1 next.1 (Some n)) c.remove_child.ensures.leaves in
     let inners = c.replace_at-new_root.ensures.inners ∙ ap (with_child_at (last_step c.args.self.path) c.to_opaque.result) (c.link.ensures.inners ∙ c.remove_child.ensures.inners) in (
       search rules,
       (
@@ -67,7 +67,7 @@ overflow_add-result g c =
     let n = c.walk_to_end-path.result.1 in
     let w = c.replace_at-new_root.new.store in
     let beside = c.links_beside-next.ensures at.node full in
-    let leaves = c.replace_at-new_root.ensures.leaves ∙ c.link.ensures.leaves ∙ ap (λ m. joined m (Some n) next.1 next.1 (Some n)) c.remove_child.ensures.leaves in
+    let leaves = c.replace_at-new_root.ensures.leaves ∙ c.link.ensures.leaves ∙ ap (λ m. with_links_around m (Some n) next.1 next.1 (Some n)) c.remove_child.ensures.leaves in
     let inners = c.replace_at-new_root.ensures.inners ∙ ap (with_child_at (last_step c.args.self.path) c.to_opaque.result) (c.link.ensures.inners ∙ c.remove_child.ensures.inners) in
     let left = rest by at first in
     let can = all_can (rest_there by at first w next.0 next.1 beside leaves inners c.to_opaque.ensures) in
@@ -87,7 +87,7 @@ returns-clause-collapsed g c pairs layout by at =
     let n = c.walk_to_end-path.result.1 in
     let w = c.replace_at-new_root.new.store in
     let beside = c.links_beside-next.ensures at.node full in
-    let leaves = c.replace_at-new_root.ensures.leaves ∙ c.link.ensures.leaves ∙ ap (λ m. joined m (Some n) next.1 next.1 (Some n)) c.remove_child.ensures.leaves in
+    let leaves = c.replace_at-new_root.ensures.leaves ∙ c.link.ensures.leaves ∙ ap (λ m. with_links_around m (Some n) next.1 next.1 (Some n)) c.remove_child.ensures.leaves in
     let inners = c.replace_at-new_root.ensures.inners ∙ ap (with_child_at (last_step c.args.self.path) c.to_opaque.result) (c.link.ensures.inners ∙ c.remove_child.ensures.inners) in
     let left = rest by at first in
     let can = all_can (rest_there by at first w next.0 next.1 beside leaves inners c.to_opaque.ensures) in
