@@ -2,7 +2,7 @@
 use Rattle.std.proofs.Common.{◌≡◌, ℕ, List, [], ◌∷◌, ◌++◌, codes, flat_map, map, refl, ap, append-nil}
 use Rattle.std.specs.List.{join_with_byte}
 use Rattle.std.specs.Fmt.{decimal}
-use Rattle.art_lines.specs.Keys.{key_word}
+use Rattle.art_lines.specs.KeyTexts.{key_word}
 
 -- a byte after a dot
 abbrev pub dotted : ℕ → List ℕ

@@ -17,8 +17,8 @@ use Rattle.art_model.specs.Stores.{header_at, held_inner, node_at, tree_node}
 use Rattle.art_model.specs.Trees.{NodeHeader, Subtrees, Tree, child, inner, leaf, no_child}
 use Rattle.art_model.proofs.lists.Pairwises.{Pairwise-left, Pairwise-right}
 use Rattle.art_model.proofs.stores.Views.{held_in_inner}
-use Rattle.art_keeping.specs.Trees.{Key, key_bytes}
-use Rattle.art_keeping.specs.Walks.{children_of, reversed_children, one_deeper, pending_root, after_turn}
+use Rattle.art_keeping.specs.KeptKeys.{Key, key_bytes}
+use Rattle.art_keeping.specs.NodeWalks.{children_of, reversed_children, one_deeper, pending_root, after_turn}
 use Rattle.art_keeping.specs.declared.walk.Pending.{Pending}
 use Rattle.art_engine.specs.NodeLines.{children_text, indent, inner_text, line_at, lines_of, node_text, nodes_text, tree_text}
 use Rattle.art_engine.specs.Shown.{AppendsUnlessNoMemory}

@@ -8,7 +8,7 @@ use Rattle.art_operations.specs.declared.run.Reply.{Reply}
 use Rattle.art_operations.specs.declared.run.Side.{Side}
 use Rattle.art_keeping.specs.Commands.{IsCommandFor}
 use Rattle.art_keeping.specs.KeptTrees.{state_of, state_before}
-use Rattle.art_keeping.specs.Trees.{Key, key_bytes}
+use Rattle.art_keeping.specs.KeptKeys.{Key, key_bytes}
 use Rattle.art_keeping.specs.declared.tree.KeptTree.{KeptTree}
 use Rattle.art_engine.specs.Shown.{IsReplied}
 use Rattle.art_engine.specs.Texts.{reply_text}

@@ -5,8 +5,8 @@ use Rattle.std.specs.Io.KnownBytes.{Appends, Keeps, prepend_known}
 use Rattle.std.specs.Io.Buffered.{reader_remaining, reader_inner, reader_buffer, reader_capacity}
 use Rattle.std.specs.declared.io.buffered.BufReader.{BufReader}
 use Rattle.art_lines.specs.declared.line.Request.{Request}
-use Rattle.art_keeping.specs.declared.status.End.{End}
-use Rattle.art_keeping.specs.declared.status.End.TheVariants.{Input, BadLine}
+use Rattle.art_keeping.specs.declared.status.Ending.{Ending}
+use Rattle.art_keeping.specs.declared.status.Ending.TheVariants.{Input, BadLine}
 use Rattle.art_keeping.specs.declared.tree.KeptTree.{KeptTree}
 use Rattle.text_lines.proofs.Writing.{keeps_itself}
 use Rattle.text_lines.specs.Lines.{lines}
@@ -16,7 +16,7 @@ use Rattle.art_engine.specs.Served.{AllAsk, AreServed, AsksFor, AsksForNothing, 
 -- Whatever the lines that are left come to from here, all lines come to from the start.
 abbrev pub GoesOn : ℕ → KeptTree → KeptTree → Option (List ℕ) → Option (List ℕ) → List (List ℕ) → Type 0
 GoesOn number first tree old now before =
-    (rest : List (List ℕ)) (why : End) (new : Option (List ℕ)) → AreServed rest number tree now why new → AreServed (before ++ rest) 1 first old why new
+    (rest : List (List ℕ)) (why : Ending) (new : Option (List ℕ)) → AreServed rest number tree now why new → AreServed (before ++ rest) 1 first old why new
 
 pub none_served : (tree : KeptTree) (old : Option (List ℕ)) → GoesOn 1 tree tree old old []
 none_served tree old rest why new served = served
@@ -67,7 +67,7 @@ unread remaining reader inner Holds size none is h =
 
 module _ (text : Option (List ℕ)) (tree : KeptTree) (old new : Option (List ℕ)) where
   -- what is known of the lines where they were served to this end
-  abbrev pub Served : End → Type 0
+  abbrev pub Served : Ending → Type 0
   Served why = IfSome text (λ bs. AreServed (lines bs) 1 tree old why new)
 
   served_whole : (text : Option (List ℕ)) → IfSome text (λ bs. AreServed (lines bs) 1 tree old Input new) → IfSome text (λ bs. AllAsk (lines bs))
@@ -78,14 +78,14 @@ module _ (text : Option (List ℕ)) (tree : KeptTree) (old new : Option (List �
   served_in_part None h = tt
   served_in_part (Some bs) h = one_asks_for_nothing (lines bs) 1 tree old new h
 
-  pub ended : {E F : Type 0} (end : Result End E) (written : Result (Unit {0}) F) (status : ℕ) → IfOk end Served →
+  pub ended : {E F : Type 0} (end : Result Ending E) (written : Result (Unit {0}) F) (status : ℕ) → IfOk end Served →
       (IsOkAnd end (λ why. why ≡ BadLine) → IsOk written → status ≡ 2) → (¬ (IsOk end × IsOk written) → status ≡ 1) → status ≡ 0 → IfSome text (λ bs. AllAsk (lines bs))
   ended (Ok Input) (Ok u) status served bad failed zero = served_whole text served
   ended (Ok BadLine) (Ok u) status served bad failed zero = absurd (omega (arith, bad refl refl))
   ended (Ok why) (Err e) status served bad failed zero = absurd (omega (arith, failed (λ both. false≢true both.1)))
   ended (Err e) written status served bad failed zero = absurd (omega (arith, failed (λ both. false≢true both.0)))
 
-  pub refused : {E F : Type 0} (end : Result End E) (written : Result (Unit {0}) F) (status : ℕ) → IfOk end Served →
+  pub refused : {E F : Type 0} (end : Result Ending E) (written : Result (Unit {0}) F) (status : ℕ) → IfOk end Served →
       (IsOkAnd end (λ why. why ≡ Input) → IsOk written → status ≡ 0) → (¬ (IsOk end × IsOk written) → status ≡ 1) → status ≡ 2 → IfSome text (λ bs. OneAsksForNothing (lines bs))
   refused (Ok BadLine) (Ok u) status served whole failed two = served_in_part text served
   refused (Ok Input) (Ok u) status served whole failed two = absurd (omega (arith, whole refl refl))

@@ -3,13 +3,13 @@ use Rattle.std.specs.Prelude.{◌≡◌, ◌≢◌, ℕ, ◌+◌, ◌⊎◌, Lis
 use Rattle.std.specs.Fmt.{decimal}
 use Rattle.std.specs.List.{AllByRecursion as Each, AllZip}
 use Rattle.std.specs.Io.KnownBytes.{Appends, Keeps}
-use Rattle.art_parts.specs.Clones.{IsPairClone}
-use Rattle.art_lines.specs.Lines.{HasSmallValue, line_of}
+use Rattle.art_parts.specs.LeafClones.{IsPairClone}
+use Rattle.art_lines.specs.CommandLines.{HasSmallValue, line_of}
 use Rattle.art_lines.specs.declared.line.Request.{Request}
-use Rattle.art_keeping.specs.declared.status.End.{End}
-use Rattle.art_keeping.specs.declared.status.End.TheVariants.{Input, BadLine}
+use Rattle.art_keeping.specs.declared.status.Ending.{Ending}
+use Rattle.art_keeping.specs.declared.status.Ending.TheVariants.{Input, BadLine}
 use Rattle.art_keeping.specs.declared.tree.KeptTree.{KeptTree}
-use Rattle.art_keeping.specs.Trees.{Key}
+use Rattle.art_keeping.specs.KeptKeys.{Key}
 use Rattle.art_engine.specs.Shown.{IsReplied}
 
 -- the line is how the request is written, and its value is one that a request can have
@@ -44,7 +44,7 @@ IsClone = IsPairClone (λ old new. AllZip (λ b c. c ≡ b) old.items new.items 
 
 -- Each line is answered in its turn, and leaves the tree that the next one finds; the first that asks for nothing that
 -- there is gets a refusal with its number, and no further one is answered.
-abbrev pub AreServed : List (List ℕ) → ℕ → KeptTree → Option (List ℕ) → End → Option (List ℕ) → Type 0
+abbrev pub AreServed : List (List ℕ) → ℕ → KeptTree → Option (List ℕ) → Ending → Option (List ℕ) → Type 0
 AreServed [] number tree old why new = (why ≡ Input) × Keeps old new
 AreServed (line ∷ lines) number tree old why new =
     (AsksForNothing line × (why ≡ BadLine) × Appends old new (refusal number)) ⊎

@@ -16,7 +16,7 @@ use Rattle.art_operations.specs.declared.well_formed.WellFormedTreeStats.{WellFo
 use Rattle.art_keeping.specs.declared.tree.KeptTree.{KeptTree}
 use Rattle.art_keeping.specs.Commands.{IsCommandFor}
 use Rattle.art_keeping.specs.KeptTrees.{state_of, state_before}
-use Rattle.art_keeping.specs.Trees.{Key, key_bytes}
+use Rattle.art_keeping.specs.KeptKeys.{Key, key_bytes}
 use Rattle.art_engine.specs.NodeLines.{nodes_text}
 use Rattle.art_engine.specs.Texts.{check_text, pairs_text, reply_text}
 

@@ -1,7 +1,7 @@
 //! Lines in, replies out.
 ghost use Rattle.std.specs.Prelude.{◌≡◌, ◌≤◌, None, IfOk, IfSome, OnOk};
 ghost use Rattle.std.specs.Io.Buffered.{reader_remaining};
-ghost use Rattle.art_parts.specs.Clones.{IsPairClone};
+ghost use Rattle.art_parts.specs.LeafClones.{IsPairClone};
 ghost use Rattle.art_keeping.specs.Commands.{IsAnswered, IsCommandFor};
 ghost use Rattle.art_keeping.specs.KeptTrees.{IsKept};
 ghost use Rattle.art_engine.specs.Served.{AllAsk, AreServed, OneAsksForNothing};
@@ -13,7 +13,7 @@ use crate::nodes::write_nodes;
 use crate::pairs::{Order, write_pairs};
 use crate::replies::{write_no_memory, write_reply};
 use art_keeping::commands::command_of;
-use art_keeping::status::{End, status_of};
+use art_keeping::status::{Ending, status_of};
 use art_keeping::tree::KeptTree;
 use art_lines::line::Request;
 use std::alloc::{AllocError, Global};
@@ -55,7 +55,7 @@ pub fn answer_lines<R: Read, W: Write>(
     tree: &mut KeptTree,
     input: &mut BufReader<R>,
     output: &mut W,
-) -> io::Result<End>
+) -> io::Result<Ending>
     requires { IsKept tree.old }
     ensures kept { IsKept tree.new }
     ensures served { IfOk result (λ why. IfSome (reader_remaining R.remaining input.old) (λ text.
@@ -64,11 +64,11 @@ pub fn answer_lines<R: Read, W: Write>(
     let mut line = Vec::new(alloc);
     for number in 1..u64::MAX {
         if !next_line(input, &mut line)? {
-            return Ok(End::Input);
+            return Ok(Ending::Input);
         }
         let Some(request) = Request::parse(&line) else {
             writeln!(output, "line {number}: refused")?;
-            return Ok(End::BadLine);
+            return Ok(Ending::BadLine);
         };
         answer(alloc, tree, request, output)?;
         write_out(input, output)?;

@@ -4,7 +4,7 @@ ghost use Rattle.std.specs.Io.KnownBytes.{Appends};
 ghost use Rattle.art_model.specs.Canonical.{IsCanonical};
 ghost use Rattle.art_model.specs.Pairs.{of_key};
 ghost use Rattle.art_model.specs.Stores.{node_at};
-ghost use Rattle.art_keeping.specs.Trees.{IsTreeIn, Key, key_bytes};
+ghost use Rattle.art_keeping.specs.KeptKeys.{IsTreeIn, Key, key_bytes};
 ghost use Rattle.art_engine.specs.NodeLines.{line_at, node_text, nodes_text};
 ghost use Rattle.art_engine.specs.Shown.{AppendsUnlessNoMemory};
 

@@ -62,7 +62,7 @@ pub type InnerRef<'a, const P: usize> = InnerRefOf<
 
 impl<const P: usize> AnyInner<P> {
     ghost use Rattle.art_inner.specs.Inner.{HasPlace, child_at, childless};
-    ghost use Rattle.art_inner.specs.Changes.{with_child, with_header, without_child};
+    ghost use Rattle.art_inner.specs.InnerChanges.{with_child, with_header, without_child};
     ghost use Rattle.art_inner.specs.Views.{any_kind, any_view, ref_kind, ref_view};
     ghost use Rattle.art_parts.specs.Kinds.{kind_capacity, larger_kind, smaller_kind};
     ghost use Rattle.art_parts.specs.declared.names.NodeType.TheVariants.{Leaf};

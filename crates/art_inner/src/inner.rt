@@ -14,7 +14,7 @@ use std::marker::Model;
 
 /// An inner node of one kind.
 pub trait InnerNode<const P: usize>: FromHeader<Header<P>> {
-    ghost use Rattle.art_inner.specs.Changes.{with_child, without_child};
+    ghost use Rattle.art_inner.specs.InnerChanges.{with_child, without_child};
     ghost use Rattle.art_inner.specs.Inner.{HasPlace, Inner, IsRising, child_at, childless, children_between};
     ghost use Rattle.art_parts.specs.Headers.{Prefix};
     ghost use Rattle.art_inner.specs.Views.{any_kind, any_view};
@@ -148,7 +148,7 @@ impl<const P: usize> FromHeader<Header<P>> for InnerNode4<P> {
 }
 
 impl<const P: usize> InnerNode4<P> {
-    ghost use Rattle.art_inner.specs.Changes.{with_header};
+    ghost use Rattle.art_inner.specs.InnerChanges.{with_header};
     ghost use Rattle.art_inner.specs.Inner.{childless};
 
     /// Returns a node with this header and no child.
@@ -252,7 +252,7 @@ impl<const P: usize> FromHeader<Header<P>> for InnerNode16<P> {
 }
 
 impl<const P: usize> InnerNode16<P> {
-    ghost use Rattle.art_inner.specs.Changes.{with_header};
+    ghost use Rattle.art_inner.specs.InnerChanges.{with_header};
     ghost use Rattle.art_inner.specs.Inner.{childless};
 
     /// Returns a node with this header and no child.
@@ -356,7 +356,7 @@ impl<const P: usize> FromHeader<Header<P>> for InnerNode48<P> {
 }
 
 impl<const P: usize> InnerNode48<P> {
-    ghost use Rattle.art_inner.specs.Changes.{with_header};
+    ghost use Rattle.art_inner.specs.InnerChanges.{with_header};
     ghost use Rattle.art_inner.specs.Inner.{childless};
 
     /// Returns a node with this header and no child.
@@ -460,7 +460,7 @@ impl<const P: usize> FromHeader<Header<P>> for InnerNodeDirect<P> {
 }
 
 impl<const P: usize> InnerNodeDirect<P> {
-    ghost use Rattle.art_inner.specs.Changes.{with_header};
+    ghost use Rattle.art_inner.specs.InnerChanges.{with_header};
     ghost use Rattle.art_inner.specs.Inner.{childless};
 
     /// Returns a node with this header and no child.

@@ -18,8 +18,8 @@ use Rattle.art_model.proofs.lists.Lists.{Each-append}
 use Rattle.art_model.proofs.stores.Views.{leaf_there, leaf_name_is, inner_there, inner_name_is}
 use Rattle.art_model.proofs.lists.Pairwises.{Pairwise-left, Pairwise-right}
 use Rattle.art_model.proofs.stores.StoreLaws.{has_children}
-use Rattle.art_keeping.specs.Trees.{IsTreeIn, IsLinkedTreeIn, Key, HasCanonicalTree, key_bytes}
-use Rattle.art_keeping.specs.Walks.{children_of, reversed_children, one_deeper, after_turn}
+use Rattle.art_keeping.specs.KeptKeys.{IsTreeIn, IsLinkedTreeIn, Key, HasCanonicalTree, key_bytes}
+use Rattle.art_keeping.specs.NodeWalks.{children_of, reversed_children, one_deeper, after_turn}
 use Rattle.art_keeping.specs.declared.walk.Pending.{Pending}
 
 module _ {K V : Type 0} (s : Nodes K V) where

@@ -14,7 +14,7 @@ use Rattle.art_parts.specs.declared.names.OpaqueNodePtr.{OpaqueNodePtr}
 use Rattle.art_model.specs.Pairs.{last_of}
 use Rattle.art_model.specs.Stores.{held_leaf, held_inner, node_at, tree_node}
 use Rattle.art_model.proofs.stores.Views.{held_in_inner}
-use Rattle.art_keeping.specs.Walks.{HasRoom, below, children_of, reversed_children, left_after, after_turn}
+use Rattle.art_keeping.specs.NodeWalks.{HasRoom, below, children_of, reversed_children, left_after, after_turn}
 use Rattle.art_keeping.specs.declared.walk.Pending.{Pending}
 
 -- the last of a list that ends with it

@@ -5,9 +5,9 @@ use Rattle.art_operations.specs.declared.run.Command.{Command}
 use Rattle.art_operations.specs.declared.run.Command.TheVariants as commands
 use Rattle.art_operations.specs.declared.run.Reply.{Reply}
 use Rattle.art_operations.specs.declared.run.Side.{Side}
-use Rattle.art_lines.specs.Keys.{key_word}
+use Rattle.art_lines.specs.KeyTexts.{key_word}
 use Rattle.art_keeping.specs.KeptTrees.{state_of, state_before}
-use Rattle.art_keeping.specs.Trees.{Key, key_bytes}
+use Rattle.art_keeping.specs.KeptKeys.{Key, key_bytes}
 use Rattle.art_lines.specs.declared.line.Request.{Request}
 use Rattle.art_lines.specs.declared.line.Request.TheVariants.{Insert, Prefix, Delete, First, Last, Clone, Find, Longest, Walk, Back, Nodes, Check}
 use Rattle.art_keeping.specs.declared.tree.KeptTree.{KeptTree}

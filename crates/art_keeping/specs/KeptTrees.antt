@@ -1,9 +1,9 @@
 -- What is seen of the tree that the program keeps.
 use Rattle.std.specs.Prelude.{ℕ}
-use Rattle.art_operations.specs.Runs.{Shown, on, beside}
+use Rattle.art_operations.specs.Runs.{Shown, on, from_side}
 use Rattle.art_operations.specs.declared.run.Side.{Side}
 use Rattle.art_operations.specs.declared.run.Side.TheVariants.{First}
-use Rattle.art_keeping.specs.Trees.{Key, HasCanonicalTree}
+use Rattle.art_keeping.specs.KeptKeys.{Key, HasCanonicalTree}
 use Rattle.art_keeping.specs.declared.tree.KeptTree.{KeptTree}
 
 -- the stores and the root
@@ -16,4 +16,4 @@ IsKept kept = HasCanonicalTree kept.first kept.root
 
 -- the stores as they stood before, of which the one that then has the tree is now the first
 abbrev pub state_before : Side → KeptTree → Shown Key ℕ
-state_before side kept = beside side kept.first kept.second kept.root
+state_before side kept = from_side side kept.first kept.second kept.root

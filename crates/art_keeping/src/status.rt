@@ -1,27 +1,27 @@
 //! The status that the program ends with.
 ghost use Rattle.std.specs.Prelude.{◌≡◌, ◌≤◌, IsOk, IsOkAnd};
-ghost use Rattle.art_keeping.specs.declared.status.End.TheVariants.{Input, BadLine};
+ghost use Rattle.art_keeping.specs.declared.status.Ending.TheVariants.{Input, BadLine};
 
 use std::io;
 
 /// Why no further line is read.
 #[derive(Drop)]
-pub enum End {
+pub enum Ending {
     Input,
     BadLine,
 }
 
 /// The exit status that an end of reading, and the last writing, come to: 0 at the end of the input, 2 after a line that
 /// asks for nothing that there is, and 1 where reading or writing failed.
-pub fn status_of(end: io::Result<End>, written: io::Result<()>) -> u8
+pub fn status_of(end: io::Result<Ending>, written: io::Result<()>) -> u8
     ensures input { IsOkAnd end (λ why. why ≡ Input) → IsOk written → result ≡ 0 }
     ensures bad_line { IsOkAnd end (λ why. why ≡ BadLine) → IsOk written → result ≡ 2 }
     ensures failed { ¬ (IsOk end × IsOk written) → result ≡ 1 }
     ensures few { result ≤ 2 }
 {
     match (end, written) {
-        (Ok(End::Input), Ok(())) => 0,
-        (Ok(End::BadLine), Ok(())) => 2,
+        (Ok(Ending::Input), Ok(())) => 0,
+        (Ok(Ending::BadLine), Ok(())) => 2,
         _ => 1,
     }
 }

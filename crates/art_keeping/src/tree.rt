@@ -1,12 +1,12 @@
 //! The tree that the lines so far have left, and the stores that it lives in.
 ghost use Rattle.std.specs.Prelude.{◌≡◌, ◌∷◌, [], None, IfOk, IfErr, IfSome, IsOkAnd, OnErr};
-ghost use Rattle.art_parts.specs.Clones.{IsPairClone};
+ghost use Rattle.art_parts.specs.LeafClones.{IsPairClone};
 ghost use Rattle.art_model.specs.Faults.{out_of_memory};
 ghost use Rattle.art_model.specs.Pairs.{of_key};
 ghost use Rattle.art_operations.specs.Checks.{IsWellFormed, fault_of};
 ghost use Rattle.art_operations.specs.Runs.{IsRun};
 ghost use Rattle.art_operations.specs.declared.run.Side.{Side};
-ghost use Rattle.art_keeping.specs.Trees.{IsLinkedTreeIn, IsTreeIn, key_bytes};
+ghost use Rattle.art_keeping.specs.KeptKeys.{IsLinkedTreeIn, IsTreeIn, key_bytes};
 
 use art_nodes::node::OpaqueNodePtr;
 use art_nodes::store::NodeStore;

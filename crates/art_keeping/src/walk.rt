@@ -3,7 +3,7 @@
 ghost use Rattle.std.specs.Prelude.{◌≡◌, ◌≤◌, ◌+◌, ◌++◌, [], length, IfOk};
 ghost use Rattle.std.specs.Vec.{vec_capacity};
 ghost use Rattle.art_model.specs.Pairs.{last_of};
-ghost use Rattle.art_keeping.specs.Walks.{HasRoom, below, reversed_children, pending_root, after_turn};
+ghost use Rattle.art_keeping.specs.NodeWalks.{HasRoom, below, reversed_children, pending_root, after_turn};
 
 use art_nodes::node::{Children, NodePtr, OpaqueNodePtr};
 use art_nodes::store::NodeStore;

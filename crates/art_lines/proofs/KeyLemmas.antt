@@ -4,7 +4,7 @@ use Rattle.std.specs.List.{All, slice_split, join_with_byte}
 use Rattle.std.specs.Fmt.{decimal}
 use Rattle.std.proofs.lemmas.List.Elements.{All-head, All-tail, All-cons, All-map, All-weaker}
 use Rattle.std.proofs.lemmas.List.Splits.{slice_split_none, slice_split_at, length-slice_split, join_with_byte-slice_split}
-use Rattle.art_lines.specs.Keys.{IsByteWord, AreBytes, IsKeyWord, key_word}
+use Rattle.art_lines.specs.KeyTexts.{IsByteWord, AreBytes, IsKeyWord, key_word}
 use Rattle.art_lines.proofs.Numbers.{decimal_undotted}
 
 abbrev is_dot : ℕ → Bool

@@ -2,8 +2,8 @@
 use Rattle.std.proofs.Common.{◌≡◌, ◌≢◌, ℕ, ◌<◌, ◌^◌, List, ◌∷◌, ◌++◌, drop, get_or, ap, sym, ◌∙◌, subst, arith, codes}
 use Rattle.std.proofs.Math.Logic.{∥∥₁_elim}
 use Rattle.std.specs.Fmt.{decimal}
-use Rattle.art_lines.specs.Keys.{IsKeyWord}
-use Rattle.art_lines.specs.Lines.{line_of, HasSmallValue}
+use Rattle.art_lines.specs.KeyTexts.{IsKeyWord}
+use Rattle.art_lines.specs.CommandLines.{line_of, HasSmallValue}
 use Rattle.art_lines.specs.declared.line.KeyWord.{KeyWord}
 use Rattle.art_lines.specs.declared.line.Request.{Request}
 use Rattle.art_lines.specs.declared.line.Request.TheVariants.{Insert, Prefix, Delete, First, Last, Clone, Find, Longest, Walk, Back, Nodes, Check}

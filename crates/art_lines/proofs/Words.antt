@@ -3,7 +3,7 @@ use Rattle.std.proofs.Common.{◌≢◌, ℕ, ◌<◌, ◌^◌, List, [], ◌∷
 use Rattle.std.specs.List.{join_with_byte}
 use Rattle.std.specs.Fmt.{decimal}
 use Rattle.std.proofs.lemmas.List.Elements.{All-head, All-tail, All-cons, All-append}
-use Rattle.art_lines.specs.Keys.{AreBytes, IsKeyWord}
+use Rattle.art_lines.specs.KeyTexts.{AreBytes, IsKeyWord}
 use Rattle.text_lines.proofs.Spaces.{HasNoSpace}
 use Rattle.art_lines.proofs.Numbers.{decimal_without}
 

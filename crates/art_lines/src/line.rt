@@ -2,7 +2,7 @@
 ghost use Rattle.std.specs.Prelude.{◌≡◌, ◌≢◌, ◌==◌, ◌++◌, ◌∷◌, List, All, ◌↔◌, ◌<◌, ◌^◌, ℕ, IsTrue, IfSome, IfNone, IfOk, codes, map};
 ghost use Rattle.std.specs.Fmt.{decimal};
 ghost use Rattle.std.specs.List.{slice_split};
-ghost use Rattle.art_lines.specs.Keys.{IsByteWord, IsKeyWord, key_word};
+ghost use Rattle.art_lines.specs.KeyTexts.{IsByteWord, IsKeyWord, key_word};
 
 use std::alloc::{AllocError, Global};
 use std::str;
@@ -58,7 +58,7 @@ impl<'a> KeyWord<'a> {
 }
 
 impl<'a> Request<'a> {
-    ghost use Rattle.art_lines.specs.Lines.{line_of, HasSmallValue};
+    ghost use Rattle.art_lines.specs.CommandLines.{line_of, HasSmallValue};
     ghost use Rattle.art_lines.specs.declared.line.Request.{Request};
 
     /// What a line without its line feed asks for, or None where there is nothing that it asks for.

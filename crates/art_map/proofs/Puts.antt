@@ -23,7 +23,7 @@ use Rattle.art_model.specs.Trees.{Tree, leaf}
 use Rattle.art_model.proofs.pairs.MapLaws.{overwrite_counts, overwrite_of_key_is_put, overwrite_tells, put_counts, put_tells}
 use Rattle.art_model.proofs.pairs.Puts.{has_is_stored}
 use Rattle.art_writing.specs.Inserted.{unlinked_leaf}
-use Rattle.art_writing.specs.Writes.{IsPlanted}
+use Rattle.art_writing.specs.ParentWrites.{IsPlanted}
 use Rattle.art_writing.specs.declared.insert.PrefixInsertResult.{PrefixInsertResult}
 use Rattle.art_writing.proofs.OneLeaf as one_leaf
 use Rattle.art_writing.proofs.Standing.{tree_stays}

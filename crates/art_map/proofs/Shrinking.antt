@@ -25,7 +25,7 @@ use Rattle.art_model.proofs.places.Paths.{radix_plug}
 use Rattle.art_model.proofs.stores.Slots.{IsInRange, range_of_kind, length-slots_of}
 use Rattle.art_model.proofs.stores.Stores.{path_holds}
 use Rattle.art_model.proofs.stores.Writes.{inner_at}
-use Rattle.art_reading.specs.Paths.{path_of}
+use Rattle.art_reading.specs.PathSteps.{path_of}
 use Rattle.art_writing.specs.Deleted.{LeadsTo, ParentChange, no_parent, shrinks, change_of, parent_change, placed_for_deletion}
 use Rattle.art_writing.specs.declared.delete.DeletePoint.{DeletePoint}
 use Rattle.art_writing.proofs.Ways.{last_step-path_of}

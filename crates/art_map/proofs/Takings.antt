@@ -26,8 +26,8 @@ use Rattle.art_model.proofs.pairs.MapLaws.{keys_are_once, removal_counts, first_
 use Rattle.art_model.proofs.places.Paths.{pairs_of-plug}
 use Rattle.art_model.proofs.pairs.Puts.{any_is_first}
 use Rattle.art_model.proofs.stores.StoreLaws.{has_one_map}
-use Rattle.art_map.specs.declared.map.End.{End}
-use Rattle.art_map.specs.declared.map.End.TheVariants.{First, Last}
+use Rattle.art_reading.specs.declared.descent.End.{End}
+use Rattle.art_reading.specs.declared.descent.End.TheVariants.{First, Last}
 use Rattle.art_writing.specs.Deleted.{LeadsTo}
 use Rattle.art_writing.specs.Inserted.{unlinked_leaf}
 use Rattle.art_writing.specs.declared.delete.DeletePoint.{DeletePoint}

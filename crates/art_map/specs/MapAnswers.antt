@@ -10,8 +10,8 @@ use Rattle.art_model.specs.Parts.{below}
 use Rattle.art_model.specs.Paths.{Frame, fill, plug}
 use Rattle.art_model.specs.Radix.{IsRadix, bytes_of, pairs_of}
 use Rattle.art_model.specs.Trees.{Tree, leaf, inner}
-use Rattle.art_map.specs.declared.map.End.{End}
-use Rattle.art_map.specs.declared.map.End.TheVariants.{First, Last}
+use Rattle.art_reading.specs.declared.descent.End.{End}
+use Rattle.art_reading.specs.declared.descent.End.TheVariants.{First, Last}
 use Rattle.art_map.specs.declared.map.MapInsertError.{MapInsertError}
 use Rattle.art_map.specs.declared.map.MapInsertError.TheVariants.{Conflict, Memory}
 

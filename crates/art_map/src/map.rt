@@ -19,6 +19,7 @@ ghost use Rattle.art_map.specs.MapPairs.{HoldsPairs, pairs_at};
 
 use art_nodes::node::{AsBytes, LeafPtr, OpaqueNodePtr};
 use art_nodes::store::NodeStore;
+use art_reading::descent::End;
 use art_reading::iterator::RawIterator;
 use art_reading::lookup::{prefix_search_unchecked, search_unchecked};
 use art_reading::minmax::{maximum_unchecked, minimum_unchecked};
@@ -82,13 +83,6 @@ pub enum MapInsertError<K, V> {
 #[derive(Clone, Copy, PartialEq, Eq, Debug, Error)]
 #[error("memory allocation failed")]
 pub struct MapRefused;
-
-/// An end of the pairs.
-#[derive(Clone, Copy)]
-enum End {
-    First,
-    Last,
-}
 
 /// A map whose keys are in the order of their bytes, and none of which is a prefix of another.
 #[derive(Drop)]

@@ -1,7 +1,7 @@
 -- Clones of pairs and of trees.
 use Rattle.std.specs.Prelude.{◌≡◌, ℕ, List, ⊤}
 use Rattle.std.specs.List.{AllZip}
-use Rattle.art_parts.specs.Clones.{IsPairClone}
+use Rattle.art_parts.specs.LeafClones.{IsPairClone}
 use Rattle.art_model.specs.Trees.{Tree, leaf, inner, Subtrees, child, no_child}
 
 -- a clone of a key has the same bytes

@@ -2,7 +2,7 @@
 use Rattle.std.specs.Prelude.{◌≡◌, ◌≢◌, ℕ, List, [], ◌∷◌, Option, Some, None}
 use Rattle.std.specs.FinMap as map
 use Rattle.art_inner.specs.Inner.{Inner}
-use Rattle.art_inner.specs.Changes.{with_child}
+use Rattle.art_inner.specs.InnerChanges.{with_child}
 use Rattle.art_nodes.specs.Nodes.{change}
 use Rattle.art_parts.specs.Names.{leaf_cmp, inner_cmp}
 use Rattle.art_parts.specs.declared.names.LeafPtr.{LeafPtr}

@@ -12,16 +12,16 @@ pub use Rattle.art_model.specs.Roots
 -- look-ups and walks
 pub use Rattle.art_model.specs.Lookups
 pub use Rattle.art_reading.specs.Matching
-pub use Rattle.art_reading.specs.Paths
+pub use Rattle.art_reading.specs.PathSteps
 pub use Rattle.art_reading.specs.Stored
-pub use Rattle.art_reading.specs.Walks
+pub use Rattle.art_reading.specs.Descents
 pub use Rattle.art_reading.specs.Iterators
 -- what every change keeps, touches and takes of a promise
 pub use Rattle.art_model.specs.Kept
 pub use Rattle.art_model.specs.Apart
 pub use Rattle.art_model.specs.Footprints
 pub use Rattle.art_model.specs.Promises
-pub use Rattle.art_writing.specs.Writes
+pub use Rattle.art_writing.specs.ParentWrites
 -- insertion
 pub use Rattle.art_reading.specs.EndNodes
 pub use Rattle.art_writing.specs.Points

@@ -6,7 +6,7 @@ use Rattle.std.proofs.lemmas.Bool.{lt-ltb, ne_eqb}
 use Rattle.std.proofs.lemmas.List.{take-append-drop, length-append}
 use Rattle.std.proofs.lemmas.List.Elements.{All-take, All-drop}
 use Rattle.art_inner.specs.Inner.{Inner, put_child}
-use Rattle.art_inner.specs.Changes.{with_child}
+use Rattle.art_inner.specs.InnerChanges.{with_child}
 use Rattle.art_parts.specs.Names.{leaf_name, inner_name, leaf_cmp}
 use Rattle.art_nodes.specs.Nodes.{Nodes, change}
 use Rattle.art_parts.specs.declared.names.InnerPtr.{InnerPtr}

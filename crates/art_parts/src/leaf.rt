@@ -1,6 +1,6 @@
 //! Leaves.
 ghost use Rattle.std.specs.Prelude.{◌≡◌, None, IsTrue, IsOk, IfOk, ◌↔◌};
-ghost use Rattle.art_parts.specs.Clones.{IsLeafClone};
+ghost use Rattle.art_parts.specs.LeafClones.{IsLeafClone};
 
 use crate::bytes::AsBytes;
 use crate::names::OptionalLeafPtr;

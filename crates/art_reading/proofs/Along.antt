@@ -18,8 +18,8 @@ use Rattle.art_reading.specs.declared.descent.End.{End}
 use Rattle.art_reading.specs.declared.descent.End.TheVariants.{First, Last}
 use Rattle.art_reading.specs.declared.path.TreePath.{TreePath}
 use Rattle.art_reading.specs.declared.path.TreePath.TheVariants.{Root}
-use Rattle.art_reading.specs.Paths.{step_down, path_of}
-use Rattle.art_reading.specs.Walks.{IsEndChild, LeadsToEnd}
+use Rattle.art_reading.specs.PathSteps.{step_down, path_of}
+use Rattle.art_reading.specs.Descents.{IsEndChild, LeadsToEnd}
 
 -- the frames keep to an end, and the path has the last of them
 abbrev pub IsAlong : {A : Type 0} → End → TreePath → List (Frame OpaqueNodePtr A) → Type 0

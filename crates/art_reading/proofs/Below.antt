@@ -21,8 +21,8 @@ use Rattle.art_model.proofs.lists.Lists.{filter_none, front_cut}
 use Rattle.art_model.proofs.places.OnWay.{byte_after}
 use Rattle.art_model.proofs.places.Paths.{pairs_of-plug}
 use Rattle.art_model.proofs.stores.Shown.{IsShown}
-use Rattle.art_reading.specs.Parts.{IsNotBelow, EndsBelow}
-use Rattle.art_reading.specs.Paths.{path_of, step_down}
+use Rattle.art_reading.specs.PartEnds.{IsNotBelow, EndsBelow}
+use Rattle.art_reading.specs.PathSteps.{path_of, step_down}
 use Rattle.art_reading.specs.declared.path.TreePath.{TreePath}
 use Rattle.art_reading.specs.declared.path.TreePath.TheVariants.{Root}
 use Rattle.art_reading.proofs.Descents.{IsDescent, start, front, front_len, child_there, each_under, down}

@@ -32,7 +32,7 @@ use Rattle.art_model.proofs.radix.Radix.{parts}
 use Rattle.art_model.proofs.radix.Rebuild.{radix_below, radix_way}
 use Rattle.art_model.proofs.stores.Shown.{IsShown, inner_shown}
 use Rattle.art_model.proofs.radix.TreeLaws.{have_two_children, one_child}
-use Rattle.art_reading.specs.Parts.{IsPlaced, StandsBeside}
+use Rattle.art_reading.specs.PartEnds.{IsPlaced, StandsBeside}
 use Rattle.art_reading.proofs.Below.{front_within, starts_front}
 use Rattle.art_reading.proofs.Descents.{IsDescent, start, shown_radix, front, front_len, part_len, child_there, each_under, down}
 use Rattle.art_reading.proofs.Parts.{least_is, node_full}

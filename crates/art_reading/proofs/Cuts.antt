@@ -30,8 +30,8 @@ use Rattle.art_reading.specs.declared.range.Cut.{Cut}
 use Rattle.art_reading.specs.declared.range.Cut.TheVariants.{Before, After}
 use Rattle.art_reading.specs.declared.descent.End.{End}
 use Rattle.art_reading.specs.declared.descent.End.TheVariants.{First, Last}
-use Rattle.art_reading.specs.Parts.{IsLeafAtCut, StandsBeside, is_before_cut}
-use Rattle.art_reading.specs.Walks.{of_two}
+use Rattle.art_reading.specs.PartEnds.{IsLeafAtCut, StandsBeside, is_before_cut}
+use Rattle.art_reading.specs.Descents.{of_two}
 use Rattle.art_reading.proofs.Iterators.{linked_leaf}
 
 module _ {X : Type 0} (k : X) where

@@ -22,7 +22,7 @@ use Rattle.art_model.proofs.radix.Parts.{each_below}
 use Rattle.art_model.proofs.radix.Radix.{AreRadix-left, AreRadix-right, bytes_of-join}
 use Rattle.art_model.proofs.stores.Shown.{IsShown, IsThere}
 use Rattle.art_model.proofs.stores.Stores.{path_holds}
-use Rattle.art_reading.specs.Parts.{StandsBetween}
+use Rattle.art_reading.specs.PartEnds.{StandsBetween}
 
 -- A node of a radix tree at a place of so many bytes, between pairs of which these hold.
 pub record IsDescent {A : Type 0} (bytes : A → List ℕ) (P : ℕ) (Lower Upper : A → Type 0) (tree : Tree OpaqueNodePtr A) (name : OpaqueNodePtr) (depth : ℕ) : Type 0 where

@@ -45,8 +45,8 @@ use Rattle.art_reading.specs.declared.path.TreePath.{TreePath}
 use Rattle.art_reading.specs.declared.path.TreePath.TheVariants.{Root}
 use Rattle.art_reading.specs.Matching.{shared_len}
 use Rattle.art_reading.specs.EndNodes.{IsAt, ComesTo, HasEndNode, IsOverwrittenWith, IsEndFor, IsKindFor, IsCompared, IsMismatch, IsStepFrom, used_in_prefix, ending}
-use Rattle.art_reading.specs.Parts.{IsPlaced}
-use Rattle.art_reading.specs.Paths.{step_down}
+use Rattle.art_reading.specs.PartEnds.{IsPlaced}
+use Rattle.art_reading.specs.PathSteps.{step_down}
 use Rattle.art_reading.proofs.Partings.{parted_unrelated, unrelated_after, conflict-related, no_conflict, first_conflict, same_conflict}
 
 -- as much of the key was used as it has

@@ -19,7 +19,7 @@ use Rattle.art_reading.specs.declared.matching.PrefixMatchBehavior.{PrefixMatchB
 use Rattle.art_reading.specs.declared.matching.PrefixMatchBehavior.TheVariants.{Pessimistic, Optimistic}
 use Rattle.art_reading.specs.Matching.{compared_from, MatchesLeafKey, LeafKeyIsPrefix}
 use Rattle.art_reading.specs.Stored.{IsWholeStored}
-use Rattle.art_reading.specs.Walks.{CountsVisits, IsAskedFor, IsLastLeaf, IsOnlyLeaf, WalkEnds, asked_of}
+use Rattle.art_reading.specs.Descents.{CountsVisits, IsAskedFor, IsLastLeaf, IsOnlyLeaf, WalkEnds, asked_of}
 
 -- both keys have the same bytes before those that are compared
 record IsShared (leaf query : List ℕ) (n : ℕ) : Type 0 where

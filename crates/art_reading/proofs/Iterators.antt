@@ -19,7 +19,7 @@ use Rattle.art_model.proofs.leaves.Segments.{but_last, last_of_in, empty_segment
 use Rattle.art_reading.specs.declared.descent.End.{End}
 use Rattle.art_reading.specs.declared.descent.End.TheVariants.{First, Last}
 use Rattle.art_reading.specs.Iterators.{GoesOn, IsIteratorOf, TakesEnd, WalksWhole}
-use Rattle.art_reading.specs.Walks.{of_two}
+use Rattle.art_reading.specs.Descents.{of_two}
 
 module _ {K V : Type 0} where
   -- a leaf with links is there, and names these leaves

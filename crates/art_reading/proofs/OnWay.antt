@@ -24,7 +24,7 @@ use Rattle.art_reading.specs.declared.matching.PrefixMatchBehavior.{PrefixMatchB
 use Rattle.art_reading.specs.declared.matching.PrefixMatchBehavior.TheVariants.{Pessimistic}
 use Rattle.art_reading.specs.declared.path.TreePath.{TreePath}
 use Rattle.art_reading.specs.Matching.{shared_len}
-use Rattle.art_reading.specs.Paths.{step_down, path_of}
+use Rattle.art_reading.specs.PathSteps.{step_down, path_of}
 use Rattle.art_reading.specs.Stored.{IsWholeStored, AreWholeStored}
 
 -- how many of these nodes are on the key's way

@@ -28,7 +28,7 @@ use Rattle.art_model.proofs.stores.Stores.{hole_distinct, path_holds}
 use Rattle.art_model.proofs.radix.TreeLaws.{have_two_children, one_child}
 use Rattle.art_model.proofs.stores.Views as views
 use Rattle.art_reading.specs.Iterators.{IsIteratorOf}
-use Rattle.art_reading.specs.Parts.{HasAllBelow, StandsBetween}
+use Rattle.art_reading.specs.PartEnds.{HasAllBelow, StandsBetween}
 use Rattle.art_reading.proofs.Iterators.{empty_iterator}
 
 -- a leaf of a tree that stands in a store is there

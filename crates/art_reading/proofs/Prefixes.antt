@@ -32,7 +32,7 @@ use Rattle.art_reading.specs.declared.path.ExplicitMismatch.{ExplicitMismatch}
 use Rattle.art_reading.specs.declared.path.PrefixMatch.{PrefixMatch}
 use Rattle.art_reading.specs.Matching.{shared_len}
 use Rattle.art_reading.specs.EndNodes.{IsCompared, IsLeafForPrefix}
-use Rattle.art_reading.specs.Parts.{IsPlaced}
+use Rattle.art_reading.specs.PartEnds.{IsPlaced}
 
 module _ {N A : Type 0} (bytes : A → List ℕ) (P : ℕ) (x : A) where
   -- the least key is that of the first pair

@@ -24,9 +24,9 @@ use Rattle.art_reading.specs.declared.path.PessimisticMismatch.{PessimisticMisma
 use Rattle.art_reading.specs.declared.path.TreePath.{TreePath}
 use Rattle.art_reading.specs.declared.path.TreePath.TheVariants.{Root}
 use Rattle.art_reading.specs.Matching.{child_below, prefix_match, behavior_after}
-use Rattle.art_reading.specs.Paths.{step_down}
+use Rattle.art_reading.specs.PathSteps.{step_down}
 use Rattle.art_reading.specs.Stored.{IsWholeStored}
-use Rattle.art_reading.specs.Walks.{IsLastLeaf}
+use Rattle.art_reading.specs.Descents.{IsLastLeaf}
 use Rattle.art_reading.proofs.Outcomes.{Why, err_why, ok_compared, ok_sure}
 use Rattle.art_reading.proofs.OnWay.{IsOnWay, leaf_leads, leaf_whole, leaf_only, leaf_least, leaf_exactly, IsEnd, ends_short, ends_off, ends_childless, still_compared, goes_on}
 

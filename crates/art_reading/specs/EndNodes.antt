@@ -22,7 +22,7 @@ use Rattle.art_reading.specs.declared.end_node.Spot.{Spot}
 use Rattle.art_reading.specs.declared.path.ExplicitMismatch.{ExplicitMismatch}
 use Rattle.art_reading.specs.declared.path.PrefixMatch.{PrefixMatch}
 use Rattle.art_reading.specs.Matching.{shared_len}
-use Rattle.art_reading.specs.Paths.{path_of}
+use Rattle.art_reading.specs.PathSteps.{path_of}
 
 -- a key and a leaf's key part after so many bytes, each with a byte of its own
 abbrev pub PartAfter : ℕ → List ℕ → List ℕ → Type 0

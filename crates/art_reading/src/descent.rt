@@ -6,8 +6,8 @@ ghost use Rattle.art_parts.specs.declared.names.OpaqueNodePtr.{OpaqueNodePtr};
 ghost use Rattle.art_model.specs.Pairs.{of_key};
 ghost use Rattle.art_model.specs.Roots.{ForTree, IsCanonicalRoot, IsFullTree};
 ghost use Rattle.art_model.specs.Trees.{Tree};
-ghost use Rattle.art_reading.specs.Parts.{EndsBelow};
-ghost use Rattle.art_reading.specs.Walks.{CountsVisits, IsEndChild, IsKeysLeaf, LeadsToEnd, WalkEnds, asked_of};
+ghost use Rattle.art_reading.specs.PartEnds.{EndsBelow};
+ghost use Rattle.art_reading.specs.Descents.{CountsVisits, IsEndChild, IsKeysLeaf, LeadsToEnd, WalkEnds, asked_of};
 
 use crate::matching::{Asked, PrefixMatchBehavior};
 use crate::path::{LastSteps, TreePath};
@@ -146,7 +146,7 @@ pub enum End {
 }
 
 impl End {
-    ghost use Rattle.art_reading.specs.Walks.{of_two};
+    ghost use Rattle.art_reading.specs.Descents.{of_two};
 
     // The first of two, or the last.
     #[inline(always)]

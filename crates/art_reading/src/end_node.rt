@@ -95,7 +95,7 @@ struct Spot {
 impl Spot {
     ghost use Rattle.std.specs.Prelude.{◌+◌, ◌-◌, ◌<◌, get_or};
     ghost use Rattle.art_inner.specs.Inner.{child_at};
-    ghost use Rattle.art_reading.specs.Paths.{step_down};
+    ghost use Rattle.art_reading.specs.PathSteps.{step_down};
     ghost use Rattle.art_reading.specs.EndNodes.{ending};
     ghost use Rattle.art_reading.specs.declared.end_node.InsertKind.TheVariants as kinds;
     ghost use Rattle.art_reading.specs.declared.end_node.SearchStep.TheVariants as steps;

@@ -4,7 +4,7 @@ ghost use Rattle.std.specs.FinMap as map;
 ghost use Rattle.art_model.specs.Lookups.{FindsLeaf, pair_under};
 ghost use Rattle.art_model.specs.Pairs.{first_of, match_of, of_key, with_key};
 ghost use Rattle.art_model.specs.Roots.{ForTree, IsCanonicalRoot};
-ghost use Rattle.art_reading.specs.Walks.{CountsVisits, asked_of};
+ghost use Rattle.art_reading.specs.Descents.{CountsVisits, asked_of};
 ghost use Rattle.art_reading.specs.declared.matching.PrefixMatchBehavior.TheVariants.{Pessimistic};
 
 pub use crate::descent::Visits;

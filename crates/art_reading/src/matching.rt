@@ -178,7 +178,7 @@ impl PrefixMatchBehavior {
         key_bytes[from..].starts_with(&leaf_bytes[from..])
     }
 
-    ghost use Rattle.art_reading.specs.Walks.{IsAskedFor};
+    ghost use Rattle.art_reading.specs.Descents.{IsAskedFor};
 
     // Whether the leaf's key is asked for, as far as it is left to compare from a depth on.
     #[inline(always)]

@@ -1,7 +1,7 @@
 //! Ways down a tree: the nodes right above a node, prefixes that go on with a key, and prefixes that
 //! part from it.
 ghost use Rattle.std.specs.Prelude.{◌≡◌};
-ghost use Rattle.art_reading.specs.Paths.{last_step, up};
+ghost use Rattle.art_reading.specs.PathSteps.{last_step, up};
 
 use art_nodes::node::{InnerPtr, OptionalLeafPtr};
 
@@ -64,7 +64,7 @@ pub fn up(path: TreePath) -> TreePath
 }
 
 impl TreePath {
-    ghost use Rattle.art_reading.specs.Paths.{step_down};
+    ghost use Rattle.art_reading.specs.PathSteps.{step_down};
 
     /// The path one step further down: from this path's node to the child that it has under a byte.
     #[inline(always)]
@@ -97,7 +97,7 @@ pub(crate) struct LastSteps {
 }
 
 impl LastSteps {
-    ghost use Rattle.art_reading.specs.Paths.{path_after, step_down};
+    ghost use Rattle.art_reading.specs.PathSteps.{path_after, step_down};
     ghost use Rattle.art_reading.specs.declared.path.TreePath.TheVariants.{Root};
 
     // At the root.

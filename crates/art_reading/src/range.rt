@@ -14,7 +14,7 @@ ghost use Rattle.art_model.specs.Places.{prefix_of};
 ghost use Rattle.art_model.specs.Roots.{ForTree, IsCanonicalRoot};
 ghost use Rattle.art_model.specs.Trees.{Tree};
 ghost use Rattle.art_reading.specs.Iterators.{IsIteratorOf};
-ghost use Rattle.art_reading.specs.Parts.{IsLeafAtCut, IsPlaced, StandsBeside, is_before_cut};
+ghost use Rattle.art_reading.specs.PartEnds.{IsLeafAtCut, IsPlaced, StandsBeside, is_before_cut};
 
 use crate::descent::{End, walk_below};
 use crate::iterator::RawIterator;

@@ -1,6 +1,6 @@
 -- The steps of a clone: to the other store, or refused.
 use Rattle.std.proofs.Common.{◌≡◌, ℕ, List, [], refl, ap, sym, ◌∙◌, subst, Option, Some, None}
-use Rattle.art_parts.specs.Clones.{IsPairClone}
+use Rattle.art_parts.specs.LeafClones.{IsPairClone}
 use Rattle.art_nodes.specs.Nodes.{Nodes}
 use Rattle.art_parts.specs.declared.names.OpaqueNodePtr.{OpaqueNodePtr}
 use Rattle.art_model.specs.Canonical.{IsCanonicalTree, IsCanonical}
@@ -12,7 +12,7 @@ use Rattle.art_model.specs.Promises.{IsLessened, tree_taken}
 use Rattle.art_model.specs.Radix.{pairs_of}
 use Rattle.art_model.specs.Roots.{ForTree}
 use Rattle.art_model.proofs.stores.Canonical.{tree_radix}
-use Rattle.art_running.specs.Runs.{on, of_side, beside, shown_state}
+use Rattle.art_running.specs.Runs.{on, of_side, from_side, shown_state}
 use Rattle.art_running.specs.Steps.{State, Step, opposite}
 use Rattle.art_running.specs.declared.run.Command.TheVariants.{Clone}
 use Rattle.art_running.specs.declared.run.Reply.TheVariants.{Cloned, NoMemory}
@@ -35,10 +35,10 @@ module _ {K V : Type 0} (bytes : K → List ℕ) (P : ℕ) (is_key_clone : K →
   nothing_cloned {s} {z} = record { answers = tt; refuses = tt; sound = refl; changes = nothing z None (refl, refl); promises = refl }
 
   -- what is shown when the sides are changed
-  shown_over : (t w : Nodes K V) (root : Option OpaqueNodePtr) → beside (opposite side) w t root ≡ on (opposite side) (of_side side t w) (of_side side w t) root
+  shown_over : (t w : Nodes K V) (root : Option OpaqueNodePtr) → from_side (opposite side) w t root ≡ on (opposite side) (of_side side t w) (of_side side w t) root
   shown_over t w root = go side
     where
-      go : (d : Side) → beside (opposite d) w t root ≡ on (opposite d) (of_side d t w) (of_side d w t) root
+      go : (d : Side) → from_side (opposite d) w t root ≡ on (opposite d) (of_side d t w) (of_side d w t) root
       go First = refl
       go Second = refl
 
@@ -49,7 +49,7 @@ module _ {K V : Type 0} (bytes : K → List ℕ) (P : ℕ) (is_key_clone : K →
     over_step {t} {z} {w} {after} now over is =
         let (copies, clones, (copy, by_copy)) = is.canonical in (
           in_store (opposite side) w t (Some copy),
-          ap (λ n. beside (opposite side) w t (Some n)) by_copy.stands.0.named ∙ shown_over t w (Some after) ∙ ap (λ d. on d (of_side side t w) (of_side side w t) (Some after)) (sym over),
+          ap (λ n. from_side (opposite side) w t (Some n)) by_copy.stands.0.named ∙ shown_over t w (Some after) ∙ ap (λ d. on d (of_side side t w) (of_side side w t) (Some after)) (sym over),
           record {
             answers = subst (AreClones is_key_clone is_value_clone (pairs_of layout)) (sym (tree_radix by_copy).1) clones;
             refuses = tt;
@@ -61,10 +61,10 @@ module _ {K V : Type 0} (bytes : K → List ℕ) (P : ℕ) (is_key_clone : K →
 
     -- or there is no memory for it
     pub uncloned_step : (z w : Nodes K V) → SameNodes z w → IsLessened z.promise w.promise →
-        (new : State K V) × (shown_state new ≡ beside side s w (Some root)) × Step bytes P (IsPairClone is_key_clone is_value_clone) (in_store side s z (Some layout)) Clone (NoMemory None) new
+        (new : State K V) × (shown_state new ≡ from_side side s w (Some root)) × Step bytes P (IsPairClone is_key_clone is_value_clone) (in_store side s z (Some layout)) Clone (NoMemory None) new
     uncloned_step z w same lessened = (
       in_store side s w (Some layout),
-      ap (λ n. beside side s w (Some n)) by.stands.0.named,
+      ap (λ n. from_side side s w (Some n)) by.stands.0.named,
       record {
         answers = (refl, refl);
         refuses = λ e. absurd cc;

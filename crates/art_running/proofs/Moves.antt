@@ -14,7 +14,7 @@ use Rattle.art_model.specs.Trees.{Tree}
 use Rattle.art_model.proofs.stores.Canonical.{tree_radix}
 use Rattle.art_running.specs.Answers.{Answers}
 use Rattle.art_running.specs.Steps.{State, NothingChanged, IsSound, Step, pairs_in}
-use Rattle.art_running.specs.Runs.{Shown, on, of_side, beside, shown_state}
+use Rattle.art_running.specs.Runs.{Shown, on, of_side, from_side, shown_state}
 use Rattle.art_running.specs.declared.run.Command.{Command}
 use Rattle.art_running.specs.declared.run.Reply.{Reply}
 use Rattle.art_running.specs.declared.run.Reply.TheVariants.{Deleted, Found, MatchLen}
@@ -29,11 +29,11 @@ module _ {K V : Type 0} where
   abbrev pub in_store : Side → Nodes K V → Nodes K V → Option (Layout K V) → State K V
   in_store side present other tree = record { present = present; other = other; side = side; tree = tree }
 
-  state_is : (old : State K V) (side : Side) (s z : Nodes K V) (root : Option OpaqueNodePtr) → shown_state old ≡ beside side s z root →
+  state_is : (old : State K V) (side : Side) (s z : Nodes K V) (root : Option OpaqueNodePtr) → shown_state old ≡ from_side side s z root →
       (old ≡ in_store side s z old.tree) × (option_map name_of old.tree ≡ root)
   state_is old side s z root is = go old.side side old.present old.other is
     where
-      go : (a b : Side) (t w : Nodes K V) → beside a t w (option_map name_of old.tree) ≡ beside b s z root → (in_store a t w old.tree ≡ in_store b s z old.tree) × (option_map name_of old.tree ≡ root)
+      go : (a b : Side) (t w : Nodes K V) → from_side a t w (option_map name_of old.tree) ≡ from_side b s z root → (in_store a t w old.tree ≡ in_store b s z old.tree) × (option_map name_of old.tree ≡ root)
       go First First t w e = ((λ i. record { present = (e i).first; other = (e i).second; side = First; tree = old.tree }), ap (λ q. q.root) e)
       go Second Second t w e = ((λ i. record { present = (e i).second; other = (e i).first; side = Second; tree = old.tree }), ap (λ q. q.root) e)
       go First Second t w e = let side = ap (λ q. q.side) e in absurd cc
@@ -56,7 +56,7 @@ module _ {K V : Type 0} (bytes : K → List ℕ) (P : ℕ) where
   canonical_root s root is (pairs, canonical) = let (layout, by) = subst (λ r. IsCanonical (of_key bytes) P s r pairs) is canonical in (pairs, layout, by)
 
   -- a root is canonical for the pairs of a state that shows it
-  pub sound_canonical : (old : State K V) (side : Side) (s z : Nodes K V) (root : Option OpaqueNodePtr) → shown_state old ≡ beside side s z root →
+  pub sound_canonical : (old : State K V) (side : Side) (s z : Nodes K V) (root : Option OpaqueNodePtr) → shown_state old ≡ from_side side s z root →
       IsSound bytes P old → (pairs : List (K × V)) × IsCanonical (of_key bytes) P s root pairs
   sound_canonical old side s z root is sound =
       let (same, named) = state_is old side s z root is in
@@ -74,9 +74,9 @@ module _ {K V : Type 0} (bytes : K → List ℕ) (P : ℕ) where
 
   -- some state shows a canonical root, and is sound
   pub canonical_sound : (side : Side) (s z : Nodes K V) (root : Option OpaqueNodePtr) (pairs : List (K × V)) →
-      IsCanonical (of_key bytes) P s root pairs → (old : State K V) × (shown_state old ≡ beside side s z root) × IsSound bytes P old
+      IsCanonical (of_key bytes) P s root pairs → (old : State K V) × (shown_state old ≡ from_side side s z root) × IsSound bytes P old
   canonical_sound side s z None pairs h = (in_store side s z None, refl, refl)
-  canonical_sound side s z (Some name) pairs (layout, by) = (in_store side s z (Some layout), ap (λ n. beside side s z (Some n)) by.stands.0.named, own_pairs by)
+  canonical_sound side s z (Some name) pairs (layout, by) = (in_store side s z (Some layout), ap (λ n. from_side side s z (Some n)) by.stands.0.named, own_pairs by)
 
   -- the same of both stores as they stand
   pub on_sound : (side : Side) (s z : Nodes K V) (root : Option OpaqueNodePtr) (pairs : List (K × V)) →
@@ -106,7 +106,7 @@ module _ {K V : Type 0} {IsClone : K × V → K × V → Type 0} (bytes : K → 
   module _ (side : Side) {s z : Nodes K V} {c : Command K V} {r : Reply K V} (to : Shown K V) where
     pub makes_any : {root : Option OpaqueNodePtr} → ((tree : Option (Layout K V)) → option_map name_of tree ≡ root →
         IsSound bytes P (in_store side s z tree) → (new : State K V) × (shown_state new ≡ to) × Step bytes P IsClone (in_store side s z tree) c r new) →
-        MakesStep bytes P IsClone (beside side s z root) c r to
+        MakesStep bytes P IsClone (from_side side s z root) c r to
     makes_any {root} step old is sound =
         let (same, named) = state_is old side s z root is in
         let (new, shows, made) = step old.tree named (subst (IsSound bytes P) same sound) in
@@ -114,7 +114,7 @@ module _ {K V : Type 0} {IsClone : K × V → K × V → Type 0} (bytes : K → 
 
     -- from the tree of a canonical root
     pub any_from_root : {name : OpaqueNodePtr} → ((layout : Layout K V) → IsCanonicalTree (of_key bytes) P s name (pairs_of layout) layout → (new : State K V) ×
-        (shown_state new ≡ to) × Step bytes P IsClone (in_store side s z (Some layout)) c r new) → MakesStep bytes P IsClone (beside side s z (Some name)) c r to
+        (shown_state new ≡ to) × Step bytes P IsClone (in_store side s z (Some layout)) c r new) → MakesStep bytes P IsClone (from_side side s z (Some name)) c r to
     any_from_root {name} step = makes_any go
       where
         go : (tree : Option (Layout K V)) → option_map name_of tree ≡ Some name → IsSound bytes P (in_store side s z tree) → (new : State K V) ×
@@ -127,15 +127,15 @@ module _ {K V : Type 0} {IsClone : K × V → K × V → Type 0} (bytes : K → 
   module _ (side : Side) {s t : Nodes K V} {c : Command K V} {r : Reply K V} (z : Nodes K V) where
     pub makes_step : {root after : Option OpaqueNodePtr} →
         ((tree : Option (Layout K V)) → option_map name_of tree ≡ root → IsSound bytes P (in_store side s z tree) →
-        StepFrom bytes P IsClone side s t z tree c r after) → MakesStep bytes P IsClone (beside side s z root) c r (beside side t z after)
+        StepFrom bytes P IsClone side s t z tree c r after) → MakesStep bytes P IsClone (from_side side s z root) c r (from_side side t z after)
     makes_step {root} {after} step old is sound =
         let (same, named) = state_is old side s z root is in
         let (new, shows, made) = step old.tree named (subst (IsSound bytes P) same sound) in
-        (in_store side t z new, ap (beside side t z) shows, subst (λ q. Step bytes P IsClone q c r (in_store side t z new)) (sym same) made)
+        (in_store side t z new, ap (from_side side t z) shows, subst (λ q. Step bytes P IsClone q c r (in_store side t z new)) (sym same) made)
 
     -- a step from no tree
     pub from_none : {after : Option OpaqueNodePtr} → StepFrom bytes P IsClone side s t z None c r after →
-        MakesStep bytes P IsClone (beside side s z None) c r (beside side t z after)
+        MakesStep bytes P IsClone (from_side side s z None) c r (from_side side t z after)
     from_none {after} step = makes_step (λ tree named sound. go tree named)
       where
         go : (tree : Option (Layout K V)) → option_map name_of tree ≡ None → StepFrom bytes P IsClone side s t z tree c r after
@@ -145,7 +145,7 @@ module _ {K V : Type 0} {IsClone : K × V → K × V → Type 0} (bytes : K → 
     -- a step from the tree of a canonical root
     pub from_root : {after : Option OpaqueNodePtr} {name : OpaqueNodePtr} →
         ((layout : Layout K V) → IsCanonicalTree (of_key bytes) P s name (pairs_of layout) layout →
-        StepFrom bytes P IsClone side s t z (Some layout) c r after) → MakesStep bytes P IsClone (beside side s z (Some name)) c r (beside side t z after)
+        StepFrom bytes P IsClone side s t z (Some layout) c r after) → MakesStep bytes P IsClone (from_side side s z (Some name)) c r (from_side side t z after)
     from_root {after} {name} step = makes_step go
       where
         go : (tree : Option (Layout K V)) → option_map name_of tree ≡ Some name → IsSound bytes P (in_store side s z tree) → StepFrom bytes P IsClone side s t z tree c r after
@@ -160,7 +160,7 @@ module _ {K V : Type 0} {IsClone : K × V → K × V → Type 0} (bytes : K → 
     -- what is asked of the tree of a root is answered by a step
     pub asked : {r : Reply K V} {name : OpaqueNodePtr} → ((layout : Layout K V) → IsCanonicalTree (of_key bytes) P s name (pairs_of layout) layout →
         IsSound bytes P (in_store side s z (Some layout)) → Step bytes P IsClone (in_store side s z (Some layout)) c r (in_store side s z (Some layout))) →
-        MakesStep bytes P IsClone (beside side s z (Some name)) c r (beside side s z (Some name))
+        MakesStep bytes P IsClone (from_side side s z (Some name)) c r (from_side side s z (Some name))
     asked step = from_root side z (λ layout by. (Some layout, ap Some by.stands.0.named, step layout by (own_pairs bytes P by)))
 
     module _ (tree : Option (Layout K V)) where

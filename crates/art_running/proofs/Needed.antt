@@ -49,7 +49,7 @@ use Rattle.art_reading.specs.Matching.{shared_len}
 use Rattle.art_running.specs.Needs.{needs, count_of, inner_count_below, more_of, inner_count}
 use Rattle.art_reading.specs.EndNodes.{IsKindOf}
 use Rattle.art_writing.specs.Points.{AnswersTo}
-use Rattle.art_reading.specs.Paths.{path_of}
+use Rattle.art_reading.specs.PathSteps.{path_of}
 use Rattle.art_writing.specs.declared.delete.DeletePoint.{DeletePoint}
 use Rattle.art_reading.specs.declared.end_node.InsertKind.{InsertKind}
 use Rattle.art_reading.specs.declared.end_node.InsertKind.TheVariants.{MismatchPrefix, SplitLeaf, Exact, IntoExisting}

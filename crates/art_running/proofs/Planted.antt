@@ -9,7 +9,7 @@ use Rattle.art_model.specs.Footprints.{TouchesAtMost}
 use Rattle.art_model.specs.Promises.{promise_after}
 use Rattle.art_model.specs.Trees.{leaf}
 use Rattle.art_model.proofs.stores.Touches.{touches_at_most}
-use Rattle.art_writing.specs.Writes.{IsPlanted}
+use Rattle.art_writing.specs.ParentWrites.{IsPlanted}
 use Rattle.art_running.specs.declared.run.Side.{Side}
 use Rattle.art_running.specs.declared.run.Command.TheVariants.{Insert, InsertPrefix}
 use Rattle.art_running.specs.declared.run.Reply.TheVariants.{Inserted, Overwrote, NoMemory}

@@ -7,7 +7,7 @@ use Rattle.art_model.specs.Roots.{ForTree}
 use Rattle.art_writing.specs.Deleted.{LeadsTo}
 use Rattle.art_writing.specs.declared.delete.DeletePoint.{DeletePoint}
 use Rattle.art_running.specs.Answers.{Answers}
-use Rattle.art_running.specs.Runs.{Shown, beside, shown_state}
+use Rattle.art_running.specs.Runs.{Shown, from_side, shown_state}
 use Rattle.art_running.specs.Steps.{State, Step, IsSound}
 use Rattle.art_running.specs.declared.run.Command.{Command}
 use Rattle.art_running.specs.declared.run.Reply.{Reply}
@@ -24,7 +24,7 @@ module _ {K V : Type 0} (bytes : K → List ℕ) (P : ℕ) (IsClone : K × V →
   abbrev pub StepsAlone : Nodes K V → Option OpaqueNodePtr → Command K V → Reply K V → Nodes K V →
       Option OpaqueNodePtr → Type 0
   StepsAlone s root command reply t after =
-      (side : Side) (other : Nodes K V) → MakesStep (beside side s other root) command reply (beside side t other after)
+      (side : Side) (other : Nodes K V) → MakesStep (from_side side s other root) command reply (from_side side t other after)
 
   -- of all trees of the root: the point leads to a pair that the command takes out
   abbrev pub IsDeletionAt : Nodes K V → OpaqueNodePtr → DeletePoint → Command K V → Type 0

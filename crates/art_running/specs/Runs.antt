@@ -34,12 +34,12 @@ of_side First x y = x
 of_side Second x y = y
 
 -- a root in the store of a side, and the other store
-abbrev pub beside : {K V : Type 0} → Side → Nodes K V → Nodes K V → Option OpaqueNodePtr → Shown K V
-beside side present other root = on side (of_side side present other) (of_side side other present) root
+abbrev pub from_side : {K V : Type 0} → Side → Nodes K V → Nodes K V → Option OpaqueNodePtr → Shown K V
+from_side side present other root = on side (of_side side present other) (of_side side other present) root
 
 -- what is shown of a state
 abbrev pub shown_state : {K V : Type 0} → State K V → Shown K V
-shown_state state = beside state.side state.present state.other (root_in state)
+shown_state state = from_side state.side state.present state.other (root_in state)
 
 module _ {K V : Type 0} (bytes : K → List ℕ) (P : ℕ) (IsClone : K × V → K × V → Type 0) where
   -- The commands get these replies, a step each, on the way from a state with a canonical root to the last one.

@@ -3,7 +3,7 @@
 ghost use Rattle.std.specs.Prelude.{◌≡◌, ◌<◌, List, length, map, Some, None, IsOk, IfOk, IfErr, OnOk, OnErr};
 ghost use Rattle.std.specs.Option.{option_to_list};
 ghost use Rattle.art_running.specs.Made.{IsDeletionAt, MakesStep, StepsAlone};
-ghost use Rattle.art_parts.specs.Clones.{IsPairClone};
+ghost use Rattle.art_parts.specs.LeafClones.{IsPairClone};
 ghost use Rattle.art_parts.specs.Names.{leaf_name};
 ghost use Rattle.art_parts.specs.declared.names.LeafPtr.{LeafPtr};
 ghost use Rattle.art_model.specs.Canonical.{IsCanonical};
@@ -11,9 +11,9 @@ ghost use Rattle.art_model.specs.Clones.{KeepBytes};
 ghost use Rattle.art_model.specs.Pairs.{match_of, of_key};
 ghost use Rattle.art_model.specs.Roots.{ForTree, IsCanonicalRoot};
 ghost use Rattle.art_writing.specs.Deleted.{IsDeletePointIn};
-ghost use Rattle.art_running.specs.Runs.{IsRun, SamePairsLeaveSameTree, beside, of_side, on};
+ghost use Rattle.art_running.specs.Runs.{IsRun, SamePairsLeaveSameTree, from_side, of_side, on};
 ghost use Rattle.art_running.specs.Steps.{opposite};
-ghost use Rattle.art_writing.specs.Writes.{IsPlanted};
+ghost use Rattle.art_writing.specs.ParentWrites.{IsPlanted};
 ghost use Rattle.art_running.specs.declared.run.Command.TheVariants as commands;
 ghost use Rattle.art_running.specs.declared.run.Command.{Command};
 ghost use Rattle.art_running.specs.declared.run.Side.TheVariants.{First};
@@ -190,8 +190,8 @@ fn answer<K: AsBytes + Clone + Drop, V: Clone + Drop, const P: usize>(
         IsCanonical (of_key K.bytes) P present.old root.old pairs }
     requires clones { KeepBytes K.bytes K.is_clone }
     ensures { MakesStep K.bytes P (IsPairClone K.is_clone V.is_clone)
-        (beside side.old present.old other.old root.old) command
-        result (record (beside side.old present.new other.new root.new) { side = side.new }) }
+        (from_side side.old present.old other.old root.old) command
+        result (record (from_side side.old present.new other.new root.new) { side = side.new }) }
 {
     let Some(name) = *root else {
         return answer_without_tree(present, root, command);
@@ -356,8 +356,8 @@ fn clone_over<K: AsBytes + Clone + Drop, V: Clone + Drop, const P: usize>(
     requires root { root.old ≡ Some name }
     requires clones { KeepBytes K.bytes K.is_clone }
     ensures { MakesStep K.bytes P (IsPairClone K.is_clone V.is_clone)
-        (beside side.old present.old other.old (Some name)) commands.Clone
-        result (record (beside side.old present.new other.new root.new) { side = side.new }) }
+        (from_side side.old present.old other.old (Some name)) commands.Clone
+        result (record (from_side side.old present.new other.new root.new) { side = side.new }) }
 {
     match clone_unchecked(present, name, other) {
         Ok(copy) => {

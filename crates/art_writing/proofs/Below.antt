@@ -2,7 +2,7 @@
 use Rattle.std.proofs.Common.{◌≡◌, ◌≢◌, ℕ, suc, ◌<◌, ◌≤◌, List, [], ◌∷◌, length, Bool, true, false, cond, leb, refl, ap, sym, ◌∙◌, subst, arith, Option, Some, None, IsSome, is_some, IfSome, IsSomeAnd}
 use Rattle.std.specs.FinMap.{get, insert, remove}
 use Rattle.std.proofs.lemmas.Bool.{leb-true, leb-false, lt-leb}
-use Rattle.art_inner.specs.Changes.{without_child}
+use Rattle.art_inner.specs.InnerChanges.{without_child}
 use Rattle.art_inner.specs.Inner.{Inner, child_at, remove_child}
 use Rattle.art_parts.specs.Kinds.{kind_capacity, kind_least, next_smaller, smaller_kind}
 use Rattle.art_parts.specs.Names.{leaf_name, inner_name}
@@ -34,9 +34,9 @@ use Rattle.art_writing.specs.declared.delete.DeleteResult.{DeleteResult}
 use Rattle.art_writing.specs.Deleted.{IsRootAfter, LeadsTo, TouchesFor, ParentChange, change_of, parent_change, no_parent, keeps, shrinks, is_compressed}
 use Rattle.art_reading.specs.declared.path.TreePath.{TreePath}
 use Rattle.art_writing.specs.Inserted.{unlinked_leaf}
-use Rattle.art_reading.specs.Paths.{last_step, path_of, up, root_with}
+use Rattle.art_reading.specs.PathSteps.{last_step, path_of, up, root_with}
 use Rattle.art_writing.specs.TakenOut.{IsLeafTaken}
-use Rattle.art_writing.specs.Writes.{HasChild, LinksAreThere}
+use Rattle.art_writing.specs.ParentWrites.{HasChild, LinksAreThere}
 use Rattle.art_writing.proofs.Deletions.{IsDeleted, leaf_at, some_same, taken_since}
 use Rattle.art_writing.proofs.Ways.{last_step-path_of, last_step-up, root_with-up, root_after_at, root_kept_at}
 

@@ -14,7 +14,7 @@ use Rattle.art_model.specs.Trees.{Subtrees, child, no_child}
 use Rattle.art_model.proofs.leaves.Chains.{links_leaf}
 use Rattle.art_model.proofs.leaves.Links.{link_of, last_or-push}
 use Rattle.art_model.proofs.places.Paths.{leaf_names_below-join}
-use Rattle.art_writing.specs.Writes.{ComesBetween}
+use Rattle.art_writing.specs.ParentWrites.{ComesBetween}
 
 -- a list is its first element and a rest, or its last one after others
 module _ {X : Type 0} (k : X) where

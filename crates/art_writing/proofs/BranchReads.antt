@@ -34,7 +34,7 @@ use Rattle.art_writing.specs.declared.insert.InsertPoint.{InsertPoint}
 use Rattle.art_writing.specs.declared.insert.branch.Branch.{Branch}
 use Rattle.art_writing.specs.Branches.{IsBranch}
 use Rattle.art_writing.specs.declared.writes.Side.TheVariants.{Before, After}
-use Rattle.art_writing.specs.Writes.{IsBeside, side_of}
+use Rattle.art_writing.specs.ParentWrites.{IsBeside, side_of}
 use Rattle.art_reading.specs.declared.end_node.InsertKind.TheVariants.{SplitLeaf, MismatchPrefix}
 use Rattle.art_reading.specs.declared.path.ExplicitMismatch.{ExplicitMismatch}
 use Rattle.art_reading.specs.Matching.{shared_len}

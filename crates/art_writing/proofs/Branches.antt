@@ -3,7 +3,7 @@ use Rattle.std.proofs.Common.{◌≡◌, ◌≢◌, ℕ, List, [], ◌∷◌, �
 use Rattle.std.specs.List.{AllByRecursion as Each}
 use Rattle.std.specs.Option.{option_map}
 use Rattle.std.specs.FinMap.{get, insert}
-use Rattle.art_inner.specs.Changes.{with_child}
+use Rattle.art_inner.specs.InnerChanges.{with_child}
 use Rattle.art_inner.specs.Inner.{Inner, childless, child_at}
 use Rattle.art_parts.specs.Headers.{Prefix}
 use Rattle.art_parts.specs.Names.{leaf_name, inner_name}
@@ -48,8 +48,8 @@ use Rattle.art_writing.specs.declared.insert.branch.Branch.{Branch}
 use Rattle.art_writing.specs.Branches.{ForEnd, IsBranch, IsBranchPlaced}
 use Rattle.art_writing.specs.Inserted.{HasInserted, IsChange, Touches, unlinked_leaf, root_after}
 use Rattle.art_writing.specs.Points.{AnswersTo}
-use Rattle.art_writing.specs.Writes.{HasChild}
-use Rattle.art_reading.specs.Paths.{last_step, root_with}
+use Rattle.art_writing.specs.ParentWrites.{HasChild}
+use Rattle.art_reading.specs.PathSteps.{last_step, root_with}
 use Rattle.art_writing.proofs.Left.{IsInserted}
 use Rattle.art_reading.proofs.Partings.{unrelated_after}
 use Rattle.art_writing.proofs.Ways.{last_step-path_of, root_with-path_of, root_told}

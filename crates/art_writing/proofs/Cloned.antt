@@ -1,7 +1,7 @@
 -- What is told of a clone, from the copy of a canonical tree.
 use Rattle.std.proofs.Common.{ℕ, List, [], Some, None, Result, IfOk, refl, sym, subst}
 use Rattle.std.proofs.lemmas.Result.{IfOk-weaker}
-use Rattle.art_parts.specs.Clones.{IsPairClone}
+use Rattle.art_parts.specs.LeafClones.{IsPairClone}
 use Rattle.art_parts.specs.Names.{leaf_name}
 use Rattle.art_nodes.specs.Nodes.{Nodes}
 use Rattle.art_parts.specs.declared.names.OpaqueNodePtr.{OpaqueNodePtr}

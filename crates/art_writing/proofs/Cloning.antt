@@ -4,8 +4,8 @@ use Rattle.std.specs.List.{AllByRecursion as Each}
 use Rattle.std.specs.Option.{option_map, option_or}
 use Rattle.std.specs.FinMap.{get, insert}
 use Rattle.std.proofs.lemmas.List.{length-append}
-use Rattle.art_inner.specs.Changes.{with_child}
-use Rattle.art_parts.specs.Clones.{IsLeafClone, IsPairClone}
+use Rattle.art_inner.specs.InnerChanges.{with_child}
+use Rattle.art_parts.specs.LeafClones.{IsLeafClone, IsPairClone}
 use Rattle.art_inner.specs.Inner.{Inner, HasPlace, IsBelow, childless, IsRising as AreRising}
 use Rattle.art_parts.specs.Kinds.{kind_capacity}
 use Rattle.art_parts.specs.Names.{leaf_name, inner_name}

@@ -3,7 +3,7 @@ use Rattle.std.proofs.Common.{◌≡◌, ◌≢◌, ℕ, ◌+◌, List, [], ◌�
 use Rattle.std.specs.List.{AllByRecursion as Each}
 use Rattle.std.specs.Option.{option_map}
 use Rattle.std.specs.FinMap.{get}
-use Rattle.art_inner.specs.Changes.{without_child}
+use Rattle.art_inner.specs.InnerChanges.{without_child}
 use Rattle.art_parts.specs.Names.{leaf_name}
 use Rattle.art_parts.specs.declared.leaf.LeafNode.{LeafNode}
 use Rattle.art_parts.specs.declared.names.LeafPtr.{LeafPtr}

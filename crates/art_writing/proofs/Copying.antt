@@ -3,7 +3,7 @@ use Rattle.std.proofs.Common.{◌≡◌, ◌≢◌, ℕ, suc, ◌+◌, ◌*◌, 
 use Rattle.std.proofs.lemmas.List.{reverse-append}
 use Rattle.std.specs.Option.{option_or}
 use Rattle.std.specs.FinMap as map
-use Rattle.art_inner.specs.Changes.{with_child}
+use Rattle.art_inner.specs.InnerChanges.{with_child}
 use Rattle.art_inner.specs.Inner.{Inner, Children}
 use Rattle.art_parts.specs.Names.{inner_name, leaf_name}
 use Rattle.art_nodes.specs.Nodes.{Nodes, change}

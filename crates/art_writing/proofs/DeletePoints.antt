@@ -16,8 +16,8 @@ use Rattle.art_model.proofs.leaves.LeavesFound.{leaf_found}
 use Rattle.art_model.proofs.lists.Lists.{Each-weaker}
 use Rattle.art_reading.specs.declared.descent.End.{End}
 use Rattle.art_reading.specs.declared.descent.End.TheVariants.{First, Last}
-use Rattle.art_reading.specs.Paths.{path_of}
-use Rattle.art_reading.specs.Walks.{LeadsToEnd, of_two}
+use Rattle.art_reading.specs.PathSteps.{path_of}
+use Rattle.art_reading.specs.Descents.{LeadsToEnd, of_two}
 use Rattle.art_writing.specs.declared.delete.DeletePoint.{DeletePoint}
 use Rattle.art_writing.specs.Deleted.{IsDeletePoint, LeadsTo, pair_at}
 

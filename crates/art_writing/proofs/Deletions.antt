@@ -33,7 +33,7 @@ use Rattle.art_writing.specs.declared.delete.DeleteResult.{DeleteResult}
 use Rattle.art_writing.specs.Deleted.{IsDeletePointIn, IsRootAfter, LeadsTo, ParentChange, TouchesFor, parent_change, placed_for_deletion, no_parent, keeps, shrinks, is_compressed}
 use Rattle.art_writing.specs.Inserted.{unlinked_leaf}
 use Rattle.art_writing.specs.TakenOut.{IsLeafTaken, IsTakenOut}
-use Rattle.art_reading.specs.Paths.{last_step}
+use Rattle.art_reading.specs.PathSteps.{last_step}
 use Rattle.art_writing.proofs.Reserved.{not_refused, nothing_after}
 use Rattle.art_writing.proofs.Ways.{last_step-path_of}
 

@@ -47,8 +47,8 @@ use Rattle.art_writing.specs.declared.insert.InsertResult.{InsertResult}
 use Rattle.art_reading.specs.declared.path.TreePath.{TreePath}
 use Rattle.art_writing.specs.Inserted.{HasInserted, IsChange, IsPointIn, Touches, unlinked_leaf, is_full}
 use Rattle.art_reading.specs.EndNodes.{IsKindOf}
-use Rattle.art_reading.specs.Paths.{last_step, path_of, root_with}
-use Rattle.art_writing.specs.Writes.{HasChild, HasGap}
+use Rattle.art_reading.specs.PathSteps.{last_step, path_of, root_with}
+use Rattle.art_writing.specs.ParentWrites.{HasChild, HasGap}
 use Rattle.art_writing.proofs.Left.{IsInserted}
 use Rattle.art_writing.proofs.Answered.{placed_end}
 use Rattle.art_writing.proofs.Standing.{answers_to}

@@ -26,7 +26,7 @@ use Rattle.art_model.proofs.stores.Stores.{HoldsBelow-right}
 use Rattle.art_model.proofs.stores.Views as views
 use Rattle.art_writing.specs.declared.writes.Side.{Side}
 use Rattle.art_writing.specs.declared.writes.Side.TheVariants.{Before, After}
-use Rattle.art_writing.specs.Writes.{ComesBetween, HasGap, IsBeside, side_of}
+use Rattle.art_writing.specs.ParentWrites.{ComesBetween, HasGap, IsBeside, side_of}
 
 -- a child of a full tree is one
 full_child : {K V : Type 0} (s : Nodes K V) {name m to : OpaqueNodePtr} {h : NodeHeader} (l r : Subtrees OpaqueNodePtr (K × V)) (c : ℕ)

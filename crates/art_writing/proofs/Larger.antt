@@ -5,7 +5,7 @@ use Rattle.art_inner.specs.Inner.{Inner, child_at}
 use Rattle.art_parts.specs.declared.names.InnerPtr.{InnerPtr}
 use Rattle.art_nodes.proofs.StoreLaws.{inner_elsewhere, inner_gone_elsewhere}
 use Rattle.art_model.specs.Writes.{Inners}
-use Rattle.art_writing.specs.Writes.{HasChild}
+use Rattle.art_writing.specs.ParentWrites.{HasChild}
 
 -- a node that is placed leaves the parent
 pub child_stays : (inners : Inners) (name : InnerPtr) (node : Inner) (step : Option (InnerPtr × ℕ)) → map.get inners name ≡ None → HasChild inners step → HasChild (map.insert inners name node) step

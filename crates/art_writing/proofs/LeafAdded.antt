@@ -3,7 +3,7 @@ use Rattle.std.proofs.Common.{◌≡◌, ◌≢◌, ℕ, ◌<◌, ◌≤◌, Lis
 use Rattle.std.proofs.lemmas.Bool.{leb-true, leb-false}
 use Rattle.std.specs.FinMap as map
 use Rattle.std.specs.Option.{option_map}
-use Rattle.art_inner.specs.Changes.{with_child}
+use Rattle.art_inner.specs.InnerChanges.{with_child}
 use Rattle.art_inner.specs.Inner.{Inner, HasPlace}
 use Rattle.art_parts.specs.Kinds.{kind_capacity, larger_kind, next_larger}
 use Rattle.art_parts.specs.Names.{leaf_name, inner_name}
@@ -35,8 +35,8 @@ use Rattle.art_writing.specs.declared.insert.InsertParentNodeChange.TheVariants.
 use Rattle.art_writing.specs.declared.insert.InsertPoint.{InsertPoint}
 use Rattle.art_writing.specs.declared.insert.InsertResult.{InsertResult}
 use Rattle.art_writing.specs.Inserted.{Touches, is_full}
-use Rattle.art_writing.specs.Writes.{ComesBetween}
-use Rattle.art_reading.specs.Paths.{last_step, root_with}
+use Rattle.art_writing.specs.ParentWrites.{ComesBetween}
+use Rattle.art_reading.specs.PathSteps.{last_step, root_with}
 use Rattle.art_writing.proofs.Left.{IsInserted}
 use Rattle.art_writing.proofs.Beside.{between_links}
 use Rattle.art_writing.proofs.Entered.{IsEntry, entry_laid, entry_kind, entry_full, entry_inner, entry_count, entered_inserted}

@@ -21,7 +21,7 @@ use Rattle.art_model.proofs.stores.Canonical.{canonical_from}
 use Rattle.art_model.proofs.changes.InPlace.{others_kept}
 use Rattle.art_model.proofs.stores.Touches.{Touched, touched_none, then_placed, footprint_of}
 use Rattle.art_writing.specs.Inserted.{unlinked_leaf}
-use Rattle.art_writing.specs.Writes.{IsPlanted}
+use Rattle.art_writing.specs.ParentWrites.{IsPlanted}
 
 -- a leaf without siblings that is placed is planted
 pub placed_alone : {K V : Type 0} (s : Nodes K V) {t : Nodes K V} {n : LeafPtr} {x : K × V} {made : LeafNode K V} → get s.leaves n ≡ None → t.leaves ≡ insert s.leaves n made →

@@ -4,7 +4,7 @@ use Rattle.std.specs.List.{AllByRecursion as Each}
 use Rattle.std.specs.FinMap as map
 use Rattle.std.proofs.lemmas.Bool.{eq-eqb, ne_eqb}
 use Rattle.art_inner.specs.Inner.{Inner, Children, IsBelow, IsRising, HasPlace, child_at, put_child, remove_child}
-use Rattle.art_inner.specs.Changes.{with_child, without_child}
+use Rattle.art_inner.specs.InnerChanges.{with_child, without_child}
 use Rattle.art_nodes.specs.Nodes.{Nodes, change}
 use Rattle.art_nodes.proofs.StoreLaws.{inner_changed_here}
 use Rattle.art_parts.specs.declared.names.NodeType.TheVariants.{Leaf}

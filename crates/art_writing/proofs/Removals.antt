@@ -4,7 +4,7 @@ use Rattle.std.specs.List.{AllByRecursion as Each}
 use Rattle.std.specs.Option.{option_map}
 use Rattle.std.specs.FinMap.{get, remove}
 use Rattle.std.proofs.lemmas.Bool.{lt-ltb, le-ltb}
-use Rattle.art_inner.specs.Changes.{with_child, with_header, without_child}
+use Rattle.art_inner.specs.InnerChanges.{with_child, with_header, without_child}
 use Rattle.art_inner.specs.Inner.{Inner, remove_child}
 use Rattle.art_parts.specs.Headers.{Prefix}
 use Rattle.art_inner.specs.Inner as nodes
@@ -50,9 +50,9 @@ use Rattle.art_model.proofs.stores.Views.{leaf_there, leaf_or, inner_name_is}
 use Rattle.art_model.proofs.stores.Writes.{inner_at, parent_ready, inner_name_one}
 use Rattle.art_writing.specs.Deleted.{LeadsTo, TouchesFor, parent_change, no_parent, is_compressed}
 use Rattle.art_writing.specs.Inserted.{unlinked_leaf}
-use Rattle.art_reading.specs.Paths.{last_step, path_of, up, root_with}
+use Rattle.art_reading.specs.PathSteps.{last_step, path_of, up, root_with}
 use Rattle.art_writing.specs.TakenOut.{IsLeafTaken}
-use Rattle.art_writing.specs.Writes.{HasChild, LinksAreThere}
+use Rattle.art_writing.specs.ParentWrites.{HasChild, LinksAreThere}
 use Rattle.art_writing.proofs.Below.{IsBelow, is_below, change_is, compressed_most, deleted_below, has_child}
 use Rattle.art_writing.proofs.Deletions.{IsDeleted, some_same, taken_since}
 use Rattle.art_writing.proofs.Ways.{last_step-path_of, last_step-up, root_with-up, root_after_at}

@@ -3,7 +3,7 @@ use Rattle.std.proofs.Common.{◌≡◌, ℕ, ◌+◌, ◌<◌, List, [], ◌∷
 use Rattle.std.proofs.lemmas.List.{take-append-drop, take-append-le, append_cancel_left}
 use Rattle.std.specs.FinMap.{get}
 use Rattle.art_model.specs.Kept.{SameNodes}
-use Rattle.art_inner.specs.Changes.{with_header}
+use Rattle.art_inner.specs.InnerChanges.{with_header}
 use Rattle.art_inner.specs.Inner.{child_at}
 use Rattle.art_parts.specs.Headers.{Prefix, header_of as whole_header}
 use Rattle.art_parts.specs.Names.{leaf_name, inner_name}
@@ -41,8 +41,8 @@ use Rattle.art_reading.specs.declared.path.ExplicitMismatch.{ExplicitMismatch}
 use Rattle.art_writing.specs.Branches.{IsBranch, IsBranchPlaced}
 use Rattle.art_writing.specs.Inserted.{IsChange, Touches}
 use Rattle.art_writing.specs.Points.{AnswersTo}
-use Rattle.art_writing.specs.Writes.{HasChild}
-use Rattle.art_reading.specs.Paths.{last_step}
+use Rattle.art_writing.specs.ParentWrites.{HasChild}
+use Rattle.art_reading.specs.PathSteps.{last_step}
 use Rattle.art_writing.proofs.Left.{IsInserted}
 use Rattle.art_writing.proofs.Ways.{last_step-path_of}
 use Rattle.art_writing.proofs.Branches.{end_laid, end_depth, end_parent, branch_stored, branch_done}

@@ -5,7 +5,7 @@ use Rattle.std.specs.Option.{option_map}
 use Rattle.std.specs.FinMap as map
 use Rattle.std.proofs.lemmas.Bool.{true≢false, le-leb}
 use Rattle.std.proofs.lemmas.List.Elements.{filter-append}
-use Rattle.art_inner.specs.Changes.{without_child}
+use Rattle.art_inner.specs.InnerChanges.{without_child}
 use Rattle.art_inner.specs.Inner.{Inner, child_at}
 use Rattle.art_parts.specs.declared.leaf.LeafNode.{LeafNode}
 use Rattle.art_parts.specs.declared.names.InnerPtr.{InnerPtr}
@@ -50,9 +50,9 @@ use Rattle.art_model.proofs.radix.TreeLaws.{have_two_children, one_child}
 use Rattle.art_model.proofs.stores.Views.{leaf_there}
 use Rattle.art_model.proofs.places.Wholes.{Entry, inner_nodes-plug, kept, nodes_before, nodes_after, whole_way}
 use Rattle.art_model.proofs.stores.Writes.{inner_at, inner_name_one, parent_ready}
-use Rattle.art_reading.specs.Parts.{HasAllBelow}
-use Rattle.art_reading.specs.Paths.{last_step, path_of}
-use Rattle.art_reading.specs.Walks.{LeadsToEnd}
+use Rattle.art_reading.specs.PartEnds.{HasAllBelow}
+use Rattle.art_reading.specs.PathSteps.{last_step, path_of}
+use Rattle.art_reading.specs.Descents.{LeadsToEnd}
 use Rattle.art_reading.specs.declared.path.TreePath.{TreePath}
 use Rattle.art_reading.specs.declared.descent.End.TheVariants.{First}
 use Rattle.art_reading.specs.declared.descent.LastNode.{LastNode}
@@ -60,7 +60,7 @@ use Rattle.art_writing.specs.Collapsed.{IsCollapsed, IsSubtreeTaken}
 use Rattle.art_writing.specs.Deleted.{IsDeletePointIn, LeadsTo, ParentChange, change_of, no_parent, parent_change, placed_for_deletion, shrinks}
 use Rattle.art_writing.specs.Inserted.{unlinked_leaf}
 use Rattle.art_writing.specs.Subtrees.{HasPrefixBelow, IsPrefixPoint, IsSubtreePointIn, LeadsToNode, pairs_beside}
-use Rattle.art_writing.specs.Writes.{HasChild, IsBeside}
+use Rattle.art_writing.specs.ParentWrites.{HasChild, IsBeside}
 use Rattle.art_writing.specs.declared.delete.DeletePoint.{DeletePoint}
 use Rattle.art_writing.specs.declared.delete.DeleteResult.{DeleteResult}
 use Rattle.art_writing.specs.declared.delete.subtree.SubtreeDeleteResult.{SubtreeDeleteResult}

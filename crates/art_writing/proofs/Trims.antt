@@ -23,7 +23,7 @@ use Rattle.art_reading.specs.declared.end_node.InsertKind.TheVariants.{MismatchP
 use Rattle.art_writing.specs.declared.insert.InsertPoint.{InsertPoint}
 use Rattle.art_reading.specs.declared.path.ExplicitMismatch.{ExplicitMismatch}
 use Rattle.art_reading.specs.EndNodes.{IsLeafForPrefix}
-use Rattle.art_reading.specs.Parts.{IsPlaced}
+use Rattle.art_reading.specs.PartEnds.{IsPlaced}
 use Rattle.art_writing.specs.Points.{AnswersTo}
 use Rattle.art_writing.proofs.Branches.{end_laid, end_hole, end_depth}
 use Rattle.art_writing.proofs.BranchReads.{end_full, inner_found, inner_named, inner_start, inner_least, prefix_inside}

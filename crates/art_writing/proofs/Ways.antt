@@ -8,7 +8,7 @@ use Rattle.art_model.specs.Writes.{as_inner, parent_of}
 use Rattle.art_model.proofs.places.Paths as paths
 use Rattle.art_writing.specs.Deleted.{IsRootAfter, IsTopAfter, ParentChange, no_parent, keeps, shrinks, is_compressed}
 use Rattle.art_writing.specs.Inserted.{root_after}
-use Rattle.art_reading.specs.Paths.{last_step, path_of, step_down, up, root_with}
+use Rattle.art_reading.specs.PathSteps.{last_step, path_of, step_down, up, root_with}
 use Rattle.art_writing.specs.declared.insert.InsertParentNodeChange.TheVariants.{NewParent}
 use Rattle.art_writing.specs.declared.insert.InsertPoint.{InsertPoint}
 use Rattle.art_reading.specs.declared.path.TreePath.{TreePath}

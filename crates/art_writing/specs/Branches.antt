@@ -2,7 +2,7 @@
 use Rattle.std.specs.Prelude.{◌≡◌, ◌≢◌, ℕ, if◌then◌else◌, nat_lt, List, [], ◌∷◌, ◌++◌, take, None}
 use Rattle.std.specs.Option.{option_map}
 use Rattle.std.specs.FinMap as map
-use Rattle.art_inner.specs.Changes.{with_child}
+use Rattle.art_inner.specs.InnerChanges.{with_child}
 use Rattle.art_inner.specs.Inner.{childless}
 use Rattle.art_parts.specs.Headers.{header_of}
 use Rattle.art_parts.specs.Names.{leaf_name, inner_name}
@@ -22,7 +22,7 @@ use Rattle.art_writing.specs.declared.insert.InsertPoint.{InsertPoint}
 use Rattle.art_writing.specs.declared.insert.InsertResult.{InsertResult}
 use Rattle.art_writing.specs.declared.insert.branch.Branch.{Branch}
 use Rattle.art_writing.specs.Points.{AnswersTo}
-use Rattle.art_reading.specs.Paths.{last_step, root_with}
+use Rattle.art_reading.specs.PathSteps.{last_step, root_with}
 
 -- this holds of the path and the node that the point answers to, in each layout of its root
 abbrev pub ForEnd : {K V : Type 0} → (K × V → List ℕ) → ℕ → Nodes K V → List ℕ → InsertPoint →

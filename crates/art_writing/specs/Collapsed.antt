@@ -12,7 +12,7 @@ use Rattle.art_model.specs.Paths.{Frame, plug, pairs_before, pairs_after}
 use Rattle.art_model.specs.Radix.{pairs_of}
 use Rattle.art_model.specs.Roots.{ForRoot, ForTree, IsCanonicalRoot}
 use Rattle.art_model.specs.Trees.{Tree, leaf}
-use Rattle.art_reading.specs.Paths.{path_of}
+use Rattle.art_reading.specs.PathSteps.{path_of}
 use Rattle.art_writing.specs.Deleted.{parent_change}
 use Rattle.art_writing.specs.Subtrees.{LeadsToNode, pairs_beside}
 use Rattle.art_writing.specs.declared.delete.subtree.Collapsed.{Collapsed}

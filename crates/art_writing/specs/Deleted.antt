@@ -16,7 +16,7 @@ use Rattle.art_model.specs.Trees.{Tree, leaf}
 use Rattle.art_writing.specs.declared.delete.DeletePoint.{DeletePoint}
 use Rattle.art_reading.specs.declared.path.TreePath.{TreePath}
 use Rattle.art_reading.specs.declared.path.TreePath.TheVariants.{Root, ChildOfRoot, Normal}
-use Rattle.art_reading.specs.Paths.{last_step, path_of}
+use Rattle.art_reading.specs.PathSteps.{last_step, path_of}
 
 -- the point names the leaf of this pair, with the parent and the grandparent of that and the bytes that lead down
 pub record LeadsTo {A : Type 0} (tree : Tree OpaqueNodePtr A) (x : A) (point : DeletePoint) : Type 0 where

@@ -11,7 +11,7 @@ pub use Rattle.art_model.specs.Kept
 pub use Rattle.art_model.specs.Footprints
 pub use Rattle.art_model.specs.Promises
 pub use Rattle.art_reading.specs.Matching
-pub use Rattle.art_reading.specs.Paths
+pub use Rattle.art_reading.specs.PathSteps
 pub use Rattle.art_reading.specs.EndNodes
 -- the parent that a path ends with, and the leaves beside one
 pub mod Writes

@@ -14,7 +14,7 @@ use Rattle.art_writing.specs.declared.insert.OverwritePoint.{OverwritePoint}
 use Rattle.art_writing.specs.declared.insert.PrefixInsertPoint.{PrefixInsertPoint}
 use Rattle.art_writing.specs.declared.insert.PrefixInsertPoint.TheVariants as points
 use Rattle.art_reading.specs.EndNodes.{IsKindOf, IsOverwrittenWith}
-use Rattle.art_reading.specs.Paths.{path_of}
+use Rattle.art_reading.specs.PathSteps.{path_of}
 
 -- whether the point is one to overwrite
 abbrev pub overwrites : PrefixInsertPoint → Bool

@@ -8,7 +8,7 @@ use Rattle.art_model.specs.Parts.{below, not_below}
 use Rattle.art_model.specs.Paths.{Frame, plug, pairs_before, pairs_after}
 use Rattle.art_model.specs.Radix.{pairs_of}
 use Rattle.art_model.specs.Trees.{Tree}
-use Rattle.art_reading.specs.Paths.{path_of}
+use Rattle.art_reading.specs.PathSteps.{path_of}
 use Rattle.art_writing.specs.declared.delete.subtree.SubtreeDeletePoint.{SubtreeDeletePoint}
 
 -- The point names a node of the tree, with the parent and the grandparent of that and the bytes that lead down.

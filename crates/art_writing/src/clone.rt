@@ -2,8 +2,8 @@
 ghost use Rattle.std.specs.Prelude.{◌≡◌, ◌≢◌, List, [], Some, None, IsSome, IsSomeAnd, IfOk, IfSome, OnOk, OnErr};
 ghost use Rattle.std.specs.FinMap as map;
 ghost use Rattle.std.specs.Option.{option_map, option_or};
-ghost use Rattle.art_inner.specs.Changes.{with_child};
-ghost use Rattle.art_parts.specs.Clones.{IsPairClone};
+ghost use Rattle.art_inner.specs.InnerChanges.{with_child};
+ghost use Rattle.art_parts.specs.LeafClones.{IsPairClone};
 ghost use Rattle.art_inner.specs.Inner.{HasPlace, childless};
 ghost use Rattle.art_inner.specs.Views.{ref_kind, ref_view};
 ghost use Rattle.art_parts.specs.Kinds.{kind_capacity};

@@ -8,8 +8,8 @@ ghost use Rattle.art_parts.specs.declared.names.OpaqueNodePtr.{OpaqueNodePtr};
 ghost use Rattle.art_model.specs.Roots.{IsFullTree};
 ghost use Rattle.art_model.specs.Trees.{Tree};
 ghost use Rattle.art_writing.specs.Inserted.{unlinked_leaf};
-ghost use Rattle.art_writing.specs.Writes.{HasChild, IsBeside, LinksAreThere, side_of, with_beside};
-ghost use Rattle.art_reading.specs.Paths.{last_step, root_with};
+ghost use Rattle.art_writing.specs.ParentWrites.{HasChild, IsBeside, LinksAreThere, side_of, with_beside};
+ghost use Rattle.art_reading.specs.PathSteps.{last_step, root_with};
 
 use art_nodes::node::{AsBytes, LeafNode, LeafPtr, OpaqueNodePtr, OptionalLeafPtr};
 use art_nodes::store::NodeStore;

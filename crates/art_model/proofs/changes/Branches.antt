@@ -5,7 +5,7 @@ use Rattle.std.specs.Option.{option_map}
 use Rattle.std.specs.FinMap.{get, insert}
 use Rattle.art_inner.specs.Inner.{Inner, childless, put_child}
 use Rattle.art_parts.specs.Headers.{Prefix}
-use Rattle.art_inner.specs.Changes.{with_header, with_child as child_put}
+use Rattle.art_inner.specs.InnerChanges.{with_header, with_child as child_put}
 use Rattle.art_parts.specs.Names.{leaf_name, inner_name}
 use Rattle.art_nodes.specs.Nodes.{Nodes, change}
 use Rattle.art_parts.specs.declared.names.NodeType.{NodeType}

@@ -4,7 +4,7 @@ use Rattle.std.specs.List.{AllByRecursion as Each}
 use Rattle.std.specs.FinMap.{get, insert, remove}
 use Rattle.art_inner.specs.Inner.{Inner, put_child}
 use Rattle.art_parts.specs.Kinds.{kind_capacity, larger_kind}
-use Rattle.art_inner.specs.Changes.{with_child}
+use Rattle.art_inner.specs.InnerChanges.{with_child}
 use Rattle.art_parts.specs.Names.{leaf_name}
 use Rattle.art_nodes.specs.Nodes.{Nodes}
 use Rattle.art_parts.specs.declared.names.NodeType.TheVariants.{Node256, Leaf}

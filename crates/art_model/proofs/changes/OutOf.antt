@@ -6,7 +6,7 @@ use Rattle.std.specs.FinMap.{get, insert, remove}
 use Rattle.std.proofs.lemmas.Bool.{ne_eqb}
 use Rattle.art_inner.specs.Inner.{Inner, remove_child}
 use Rattle.art_parts.specs.Kinds.{kind_capacity, kind_least, larger_kind, smaller_kind}
-use Rattle.art_inner.specs.Changes.{without_child}
+use Rattle.art_inner.specs.InnerChanges.{without_child}
 use Rattle.art_parts.specs.Names.{leaf_name, inner_name}
 use Rattle.art_nodes.specs.Nodes.{Nodes, change}
 use Rattle.art_parts.specs.declared.names.NodeType.{NodeType}

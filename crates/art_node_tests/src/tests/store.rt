@@ -1,6 +1,6 @@
 ghost use Rattle.std.specs.Prelude.{◌≡◌, ◌≢◌, Some, None, IsSome, IfSome, IfOk};
 ghost use Rattle.std.specs.FinMap as map;
-ghost use Rattle.art_inner.specs.Changes.{with_child};
+ghost use Rattle.art_inner.specs.InnerChanges.{with_child};
 ghost use Rattle.art_nodes.specs.LeafChanges.{with_links};
 ghost use Rattle.art_inner.specs.Inner.{child_at, childless};
 

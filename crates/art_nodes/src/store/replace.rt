@@ -4,7 +4,7 @@ ghost use Rattle.std.specs.Prelude.{Option, Some, None, length};
 ghost use Rattle.slab.specs.Slab as slab;
 ghost use Rattle.slab.specs.Slab.{ContainsKey, HasRoomFor, Updates};
 ghost use Rattle.art_parts.specs.Kinds.{kind_capacity};
-ghost use Rattle.art_inner.specs.Changes.{with_child, without_child};
+ghost use Rattle.art_inner.specs.InnerChanges.{with_child, without_child};
 ghost use Rattle.art_inner.specs.Inner.{HasPlace, remove_child};
 ghost use Rattle.art_inner.specs.Views.{ref_view};
 ghost use Rattle.art_nodes.specs.Replacing.{IsMadeOf};

@@ -11,11 +11,11 @@ ghost use Rattle.art_model.specs.Roots.{ForRoot, ForTree, IsCanonicalRoot};
 ghost use Rattle.art_model.specs.Stores.{pair_of};
 ghost use Rattle.art_writing.specs.Inserted.{unlinked_leaf};
 ghost use Rattle.art_writing.specs.Deleted.{IsDeletePointIn, IsRootAfter, TouchesFor, pair_at, parent_change, placed_for_deletion, shrinks};
-ghost use Rattle.art_reading.specs.Paths.{last_step};
+ghost use Rattle.art_reading.specs.PathSteps.{last_step};
 ghost use Rattle.art_inner.specs.Views.{ref_kind, ref_view};
 ghost use Rattle.art_parts.specs.Kinds.{kind_least, next_smaller};
 ghost use Rattle.art_writing.specs.TakenOut.{IsLeafTaken, IsTakenOut};
-ghost use Rattle.art_writing.specs.Writes.{LinksAreThere};
+ghost use Rattle.art_writing.specs.ParentWrites.{LinksAreThere};
 
 use super::{DeletePoint, DeleteRefused, DeleteResult};
 use crate::writes::{replace_at, take_from_between};

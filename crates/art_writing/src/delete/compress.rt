@@ -1,7 +1,7 @@
 //! One of the two children of a node goes, a leaf, and the other takes that node's place.
 ghost use Rattle.std.specs.Prelude.{◌≡◌, ◌≢◌, ◌+◌, ◌≤◌, ℕ, List, ◌∷◌, ◌++◌, length, IsSome, IsSomeAnd, IfSome, Some, Ok, cond};
 ghost use Rattle.std.specs.FinMap as map;
-ghost use Rattle.art_inner.specs.Changes.{with_header};
+ghost use Rattle.art_inner.specs.InnerChanges.{with_header};
 ghost use Rattle.art_inner.specs.Views.{ref_view};
 ghost use Rattle.art_parts.specs.Headers.{header_of};
 ghost use Rattle.art_nodes.specs.Nodes.{change};
@@ -10,7 +10,7 @@ ghost use Rattle.art_model.specs.Writes.{as_inner};
 ghost use Rattle.art_parts.specs.declared.names.NodeType.TheVariants.{Leaf};
 ghost use Rattle.art_writing.specs.Deleted.{IsDeletePointIn, is_compressed, parent_change};
 ghost use Rattle.art_writing.specs.TakenOut.{IsTakenOut};
-ghost use Rattle.art_reading.specs.Paths.{last_step};
+ghost use Rattle.art_reading.specs.PathSteps.{last_step};
 
 use super::{DeletePoint, DeleteResult};
 use crate::writes::replace_at;

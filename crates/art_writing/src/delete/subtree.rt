@@ -9,11 +9,11 @@ ghost use Rattle.art_model.specs.Pairs.{of_key};
 ghost use Rattle.art_model.specs.Promises.{is_covered, promise_after};
 ghost use Rattle.art_model.specs.Radix.{pairs_of};
 ghost use Rattle.art_model.specs.Roots.{ForRoot, ForTree, IsCanonicalRoot};
-ghost use Rattle.art_reading.specs.Paths.{last_step};
+ghost use Rattle.art_reading.specs.PathSteps.{last_step};
 ghost use Rattle.art_writing.specs.Deleted.{placed_for_deletion};
 ghost use Rattle.art_writing.specs.Subtrees.{IsPrefixPoint, IsSubtreePointIn, LeadsToNode, pairs_beside};
 ghost use Rattle.art_writing.specs.Collapsed.{IsCollapsed, IsSubtreeTaken};
-ghost use Rattle.art_writing.specs.Writes.{HasChild};
+ghost use Rattle.art_writing.specs.ParentWrites.{HasChild};
 
 use super::DeletePoint;
 use super::apply::has_spare_child;

@@ -5,7 +5,7 @@ ghost use Rattle.art_model.specs.Apart.{KeepsApart};
 ghost use Rattle.art_model.specs.Canonical.{IsCanonical};
 ghost use Rattle.art_model.specs.Pairs.{of_key};
 ghost use Rattle.art_model.specs.Roots.{IsCanonicalRoot};
-ghost use Rattle.art_writing.specs.Writes.{IsPlanted};
+ghost use Rattle.art_writing.specs.ParentWrites.{IsPlanted};
 
 use super::Refused;
 use art_nodes::node::{AsBytes, LeafNode, LeafPtr};

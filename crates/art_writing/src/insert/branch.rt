@@ -13,8 +13,8 @@ ghost use Rattle.art_model.specs.Writes.{IsThere};
 ghost use Rattle.art_writing.specs.Applied.{IsApplied};
 ghost use Rattle.art_writing.specs.Branches.{ForEnd, IsBranch, IsBranchPlaced};
 ghost use Rattle.art_writing.specs.Inserted.{IsPointIn};
-ghost use Rattle.art_writing.specs.Writes.{HasChild, IsBeside, side_of};
-ghost use Rattle.art_reading.specs.Paths.{last_step};
+ghost use Rattle.art_writing.specs.ParentWrites.{HasChild, IsBeside, side_of};
+ghost use Rattle.art_reading.specs.PathSteps.{last_step};
 ghost use Rattle.art_reading.specs.declared.end_node.InsertKind.TheVariants as kinds;
 
 use super::{InsertParentNodeChange, InsertPoint, InsertResult, Refused};

@@ -77,7 +77,7 @@ impl InsertPoint {
 
 ghost use Rattle.std.specs.Prelude.{◌≢◌, ◌<◌, IsSomeAnd, IsTrue, IfSome, None, length};
 ghost use Rattle.std.specs.FinMap as map;
-ghost use Rattle.art_inner.specs.Changes.{with_child};
+ghost use Rattle.art_inner.specs.InnerChanges.{with_child};
 ghost use Rattle.art_inner.specs.Inner.{HasPlace};
 ghost use Rattle.art_parts.specs.Kinds.{kind_capacity, larger_kind};
 ghost use Rattle.art_parts.specs.Names.{inner_name};
@@ -87,8 +87,8 @@ ghost use Rattle.art_parts.specs.declared.names.OpaqueNodePtr.{OpaqueNodePtr};
 ghost use Rattle.art_model.specs.Trees.{Subtrees};
 ghost use Rattle.art_model.specs.Writes.{with_child_at};
 ghost use Rattle.art_writing.specs.declared.insert.InsertParentNodeChange.TheVariants.{NewParent};
-ghost use Rattle.art_writing.specs.Writes.{ComesBetween, HasChild, HasGap};
-ghost use Rattle.art_reading.specs.Paths.{last_step, root_with};
+ghost use Rattle.art_writing.specs.ParentWrites.{ComesBetween, HasChild, HasGap};
+ghost use Rattle.art_reading.specs.PathSteps.{last_step, root_with};
 
 // What an insertion did that put a leaf below a node.
 fn new_child<K, V>(

@@ -7,7 +7,7 @@ ghost use Rattle.art_model.specs.Pairs.{of_key};
 ghost use Rattle.art_model.specs.Roots.{IsFullTree};
 ghost use Rattle.art_model.specs.Trees.{Tree};
 ghost use Rattle.art_writing.specs.Applied.{IsPrefixApplied};
-ghost use Rattle.art_writing.specs.Writes.{IsBeside};
+ghost use Rattle.art_writing.specs.ParentWrites.{IsBeside};
 ghost use Rattle.art_writing.specs.declared.writes.Side.TheVariants.{Before, After};
 ghost use Rattle.art_writing.specs.Overwritten.{IsOverwritePointIn};
 ghost use Rattle.art_writing.specs.declared.insert.PrefixInsertPoint.TheVariants as points;

@@ -4,8 +4,8 @@ use Rattle.std.specs.Vec.{vec_capacity}
 use Rattle.art_parts.specs.declared.names.OpaqueNodePtr.{OpaqueNodePtr}
 use Rattle.art_model.specs.Canonical.{IsCanonical}
 use Rattle.art_model.specs.Pairs.{of_key}
-use Rattle.art_keeping.specs.Trees.{Key, key_bytes}
-use Rattle.art_keeping.specs.Walks.{HasRoom, left_after}
+use Rattle.art_keeping.specs.KeptKeys.{Key, key_bytes}
+use Rattle.art_keeping.specs.NodeWalks.{HasRoom, left_after}
 use Rattle.art_keeping.proofs.Subtrees.{IsPendingTree}
 use Rattle.art_engine.specs.NodeLines.{nodes_text}
 use Rattle.art_engine.proofs.NodeWalks.{IsWritten}

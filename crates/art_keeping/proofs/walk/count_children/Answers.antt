@@ -1,7 +1,7 @@
 use Rattle.std.proofs.Common.{length, ap, sym, ◌∙◌}
 use Rattle.art_inner.specs.Views.{ref_view}
 use Rattle.art_model.specs.Stores.{node_at}
-use Rattle.art_keeping.specs.Walks.{children_of, one_deeper}
+use Rattle.art_keeping.specs.NodeWalks.{children_of, one_deeper}
 use Rattle.art_keeping.proofs.Walks.{children-inner, length-reversed_children}
 use Rattle.art_keeping.proofs.walk.count_children.Goals as goal
 

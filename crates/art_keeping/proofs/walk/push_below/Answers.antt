@@ -2,7 +2,7 @@ use Rattle.std.proofs.Common.{ap, sym, ◌∙◌}
 use Rattle.std.specs.Vec.{vec_capacity}
 use Rattle.art_inner.specs.Views.{ref_view}
 use Rattle.art_model.specs.Stores.{node_at}
-use Rattle.art_keeping.specs.Walks.{below, children_of, reversed_children, one_deeper}
+use Rattle.art_keeping.specs.NodeWalks.{below, children_of, reversed_children, one_deeper}
 use Rattle.art_keeping.proofs.Walks.{children-inner, room_for}
 use Rattle.art_keeping.proofs.walk.push_below.Goals as goal
 

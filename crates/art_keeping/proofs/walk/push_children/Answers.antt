@@ -1,5 +1,5 @@
 use Rattle.std.proofs.Common.{ap, ◌∙◌, arith, length, length-append, ◌++◌}
-use Rattle.art_keeping.specs.Walks.{reversed_children}
+use Rattle.art_keeping.specs.NodeWalks.{reversed_children}
 use Rattle.art_keeping.proofs.Walks.{pushed}
 use Rattle.art_keeping.proofs.walk.push_children.Goals as goal
 

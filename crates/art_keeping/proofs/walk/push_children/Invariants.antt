@@ -1,6 +1,6 @@
 use Rattle.std.proofs.Common.{◌≡◌, ◌≤◌, ◌+◌, ◌++◌, length}
 use Rattle.std.specs.Vec.{vec_capacity}
-use Rattle.art_keeping.specs.Walks.{reversed_children}
+use Rattle.art_keeping.specs.NodeWalks.{reversed_children}
 use Rattle.art_keeping.proofs.walk.push_children.Given as goal
 
 -- what is put on and the children to come are all, and there is room for these

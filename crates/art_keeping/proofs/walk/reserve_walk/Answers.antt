@@ -1,6 +1,6 @@
 use Rattle.std.proofs.Common.{◌≡◌, ◌+◌, ◌++◌, suc, length, length-append, ap, sym, ◌∙◌, arith, subst}
 use Rattle.std.specs.Vec.{vec_capacity}
-use Rattle.art_keeping.specs.Walks.{HasRoom, below, left_after, after_turn}
+use Rattle.art_keeping.specs.NodeWalks.{HasRoom, below, left_after, after_turn}
 use Rattle.art_keeping.proofs.Walks.{none_left, room_next, room_whole, after_turn-last}
 use Rattle.art_keeping.proofs.walk.reserve_walk.Goals as goal
 

@@ -1,6 +1,6 @@
 use Rattle.std.proofs.Common.{◌≡◌, ℕ}
 use Rattle.std.specs.Vec.{vec_capacity}
-use Rattle.art_keeping.specs.Walks.{left_after}
+use Rattle.art_keeping.specs.NodeWalks.{left_after}
 use Rattle.art_keeping.proofs.Walks.{HasRoomTo}
 use Rattle.art_keeping.proofs.walk.reserve_walk.Given as goal
 

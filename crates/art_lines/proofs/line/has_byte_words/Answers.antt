@@ -4,7 +4,7 @@ use Rattle.std.specs.List.{All, AllWithin, HoldsAt}
 use Rattle.std.specs.Prelude.{◌↔◌}
 use Rattle.std.proofs.lemmas.Iterator.{cases_from_all}
 use Rattle.std.proofs.lemmas.Iterator.Splits.{YieldsList-from_slice_split}
-use Rattle.art_lines.specs.Keys.{IsByteWord}
+use Rattle.art_lines.specs.KeyTexts.{IsByteWord}
 use Rattle.art_lines.proofs.line.has_byte_words.Goals as goal
 
 decided : (P : List ℕ → Type 0) (xs : List (List ℕ)) (r : Bool) → MatchBool r (AllWithin P xs 0 (length xs)) ((k : ℕ) × (k < length xs) × HoldsAt (λ x. P x → ⊥) xs k) → IsTrue r ↔ All P xs

@@ -1,6 +1,6 @@
 use Rattle.std.proofs.Common.{sym, subst, ◌∙◌}
 use Rattle.std.specs.Fmt.{decimal}
-use Rattle.art_lines.specs.Keys.{IsKeyWord}
+use Rattle.art_lines.specs.KeyTexts.{IsKeyWord}
 use Rattle.text_lines.proofs.Spaces.{HasNoSpace, has_space, same_words}
 use Rattle.art_lines.proofs.Words.{key_spaceless}
 use Rattle.art_lines.proofs.line.parse_pair.Goals as goal

@@ -1,6 +1,6 @@
 use Rattle.std.proofs.Common.{rules, ◌∙◌, Some}
 use Rattle.std.proofs.lemmas.List.Elements.{length_all_zip}
-use Rattle.art_parts.specs.Clones.{IsPairClone}
+use Rattle.art_parts.specs.LeafClones.{IsPairClone}
 use Rattle.art_model.specs.Pairs.{of_key}
 use Rattle.art_map.proofs.Puts.{at_root}
 use Rattle.art_map.proofs.Views.{none_held, none_other}

@@ -1,6 +1,6 @@
 use Rattle.std.proofs.Common.{rules, ◌≡◌, ◌≤◌, ◌<◌, ◌+◌, ◌∷◌, [], ◌++◌, length, take, drop, arith, sym, ap, ◌∙◌, subst, inl}
 use Rattle.std.proofs.lemmas.Grind.{common_steps}
-use Rattle.art_inner.specs.Changes.{with_child}
+use Rattle.art_inner.specs.InnerChanges.{with_child}
 use Rattle.art_oracle.specs.Build.{Ready, ReadyBelow, AreBelow, Built, BuiltUnder, count_groups}
 use Rattle.art_oracle.proofs.Counting.{count_few}
 use Rattle.art_oracle.proofs.Grouping.{grouped, group_ready, others_ready, compose, empty_below, below_others, length-drafted, count_split, one_in_group}

@@ -1,7 +1,7 @@
 use Rattle.std.proofs.Common.{◌-◌, ◌≤◌, length}
 use Rattle.art_model.specs.Pairs.{of_key}
 use Rattle.art_model.specs.Roots.{ForTree}
-use Rattle.art_reading.specs.Paths.{path_after}
+use Rattle.art_reading.specs.PathSteps.{path_after}
 use Rattle.art_reading.proofs.Below.{IsWayBelow}
 use Rattle.art_reading.proofs.descent.walk_below.Given as goal
 

@@ -1,6 +1,6 @@
 use Rattle.std.proofs.Common.{rules}
 use Rattle.art_model.proofs.places.Edges.{edge_inner_there, edge_shown, edge_some}
-use Rattle.art_reading.specs.Paths.{path_after}
+use Rattle.art_reading.specs.PathSteps.{path_after}
 use Rattle.art_reading.proofs.Along.{IsAlong, start, ends, steps}
 use Rattle.art_reading.proofs.descent.walk_to_end.Goals as goal
 

@@ -5,7 +5,7 @@ use Rattle.art_model.specs.Stores.{node_at}
 use Rattle.art_model.specs.Heights.{height}
 use Rattle.art_model.specs.Roots.{IsFullTree}
 use Rattle.art_model.proofs.places.Edges.{IsAtEdge}
-use Rattle.art_reading.specs.Paths.{path_after}
+use Rattle.art_reading.specs.PathSteps.{path_after}
 use Rattle.art_reading.proofs.Along.{IsAlong}
 use Rattle.art_reading.proofs.descent.walk_to_end.Given as goal
 

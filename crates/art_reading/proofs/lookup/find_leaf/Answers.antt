@@ -2,7 +2,7 @@ use Rattle.std.proofs.Common.{None, Some}
 use Rattle.art_model.specs.Pairs.{of_key}
 use Rattle.art_model.specs.Stores.{pair_of}
 use Rattle.art_model.proofs.leaves.LeavesFound.{found_is_there, pair_found}
-use Rattle.art_reading.specs.Walks.{asked_of}
+use Rattle.art_reading.specs.Descents.{asked_of}
 use Rattle.art_reading.proofs.lookup.find_leaf.Goals as goal
 
 pub returns-in_err-last-clause-leaf : goal.returns-in_err-last-clause-leaf

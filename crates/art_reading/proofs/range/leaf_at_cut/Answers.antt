@@ -1,5 +1,5 @@
 use Rattle.std.proofs.Common.{rules, ◌≡◌, ap, sym, ◌∙◌}
-use Rattle.art_reading.specs.Parts.{is_before_cut}
+use Rattle.art_reading.specs.PartEnds.{is_before_cut}
 use Rattle.art_reading.proofs.Cuts.{all_on_side, from_first, from_last, side}
 use Rattle.art_reading.proofs.Parts.{first_is, first_not_gone, leaf_not_gone, node_full, node_holds}
 use Rattle.art_reading.proofs.range.leaf_at_cut.Goals as goal

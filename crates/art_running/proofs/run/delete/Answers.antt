@@ -1,7 +1,7 @@
 use Rattle.std.proofs.Common.{sym, subst, Some}
 use Rattle.std.proofs.lemmas.Bool.{false≢true}
 use Rattle.art_model.specs.Canonical.{IsCanonical}
-use Rattle.art_parts.specs.Clones.{IsPairClone}
+use Rattle.art_parts.specs.LeafClones.{IsPairClone}
 use Rattle.art_model.specs.Pairs.{of_key, remove_key}
 use Rattle.art_model.specs.Radix.{pairs_of}
 use Rattle.art_running.specs.declared.run.Reply.TheVariants.{Deleted}

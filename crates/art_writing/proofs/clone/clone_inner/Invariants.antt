@@ -1,5 +1,5 @@
 use Rattle.std.proofs.Common.{◌+◌, ◌*◌, length, reverse}
-use Rattle.art_parts.specs.Clones.{IsPairClone}
+use Rattle.art_parts.specs.LeafClones.{IsPairClone}
 use Rattle.art_parts.specs.Names.{inner_name}
 use Rattle.art_parts.specs.declared.names.OpaqueNodePtr.{OpaqueNodePtr}
 use Rattle.art_model.specs.Promises.{IsLessened}

@@ -1,6 +1,6 @@
 use Rattle.std.proofs.Common.{◌∙◌, sym, refl, ap, rules, arith}
 use Rattle.std.specs.FinMap as map
-use Rattle.art_inner.specs.Changes.{without_child}
+use Rattle.art_inner.specs.InnerChanges.{without_child}
 use Rattle.art_nodes.specs.Nodes.{change}
 use Rattle.art_nodes.proofs.StoreLaws.{inner_changed_elsewhere, inner_gone_elsewhere}
 use Rattle.art_model.specs.Pairs.{first_of}

@@ -1,6 +1,6 @@
 use Rattle.std.proofs.Common.{◌∙◌, sym, refl, ap, rules}
 use Rattle.std.specs.FinMap as map
-use Rattle.art_inner.specs.Changes.{with_child}
+use Rattle.art_inner.specs.InnerChanges.{with_child}
 use Rattle.art_nodes.specs.Nodes.{change}
 use Rattle.art_parts.specs.Kinds.{kind_capacity}
 use Rattle.art_nodes.proofs.StoreLaws.{inner_changed_elsewhere}

@@ -1,7 +1,7 @@
 use Rattle.std.proofs.Common.{◌≡◌, ap, sym, ◌∙◌}
 use Rattle.std.specs.Prelude.{option_copied}
 use Rattle.art_model.specs.Writes.{change_some}
-use Rattle.art_writing.specs.Writes.{with_beside}
+use Rattle.art_writing.specs.ParentWrites.{with_beside}
 use Rattle.art_writing.proofs.LeafWrites.{change_as}
 use Rattle.art_writing.proofs.writes.set_beside.Goals.{in-Before, in-After}
 use Rattle.art_writing.proofs.writes.set_beside.Goals as goal

@@ -1,4 +1,4 @@
-use Rattle.art_keeping.specs.Trees.{key_bytes}
+use Rattle.art_keeping.specs.KeptKeys.{key_bytes}
 use Rattle.art_keeping.proofs.Replies.{only_reply}
 use Rattle.art_keeping.proofs.tree.KeptTree.answer.Goals as goal
 use Rattle.art_keeping.proofs.tree.KeptTree.answer.Goals.{in-First, in-Second}

@@ -1,4 +1,4 @@
-use Rattle.art_inner.specs.Changes.{without_child}
+use Rattle.art_inner.specs.InnerChanges.{without_child}
 use Rattle.art_nodes.proofs.StoreLemmas.{gives_way, only4, only16, only48, only256}
 use Rattle.art_nodes.proofs.store.InnerSlabs.put_smaller.Goals as goal
 

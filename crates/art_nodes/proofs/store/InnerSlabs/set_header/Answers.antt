@@ -1,5 +1,5 @@
 use Rattle.std.proofs.Common.{refl}
-use Rattle.art_inner.specs.Changes.{with_header}
+use Rattle.art_inner.specs.InnerChanges.{with_header}
 use Rattle.art_parts.specs.declared.names.NodeType.TheVariants.{Node4, Node16, Node48, Node256}
 use Rattle.art_nodes.proofs.StoreLemmas.{written_of, in_slot, rooms_written, only4, only16, only48, only256}
 use Rattle.art_nodes.proofs.store.InnerSlabs.set_header.Goals as goal

@@ -1,6 +1,6 @@
 use Rattle.std.proofs.Common.{refl, rules}
 use Rattle.art_parts.specs.declared.names.NodeType.TheVariants.{Node4, Node16, Node48, Node256}
-use Rattle.art_inner.specs.Changes.{with_child}
+use Rattle.art_inner.specs.InnerChanges.{with_child}
 use Rattle.art_nodes.proofs.StoreLemmas.{written_of, place_of, is_there, known_of, rooms_written, only4, only16, only48, only256}
 use Rattle.art_nodes.proofs.store.InnerSlabs.write_child.Goals as goal
 

@@ -1,6 +1,6 @@
 use Rattle.std.proofs.Common.{ap, ap₂, ◌∙◌}
 use Rattle.std.specs.FinMap.{insert}
-use Rattle.art_inner.specs.Changes.{with_child}
+use Rattle.art_inner.specs.InnerChanges.{with_child}
 use Rattle.art_nodes.proofs.store.NodeStore.place_two.Goals as goal
 
 pub returns-clause-placed : goal.returns-clause-placed

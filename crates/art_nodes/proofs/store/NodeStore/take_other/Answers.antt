@@ -1,7 +1,7 @@
 use Rattle.std.proofs.Common.{◌≡◌, Some, ap, sym, subst, ◌∙◌}
 use Rattle.std.specs.FinMap as map
 use Rattle.std.specs.Option.{option_map, IfSome}
-use Rattle.art_inner.specs.Changes.{with_child, without_child}
+use Rattle.art_inner.specs.InnerChanges.{with_child, without_child}
 use Rattle.art_inner.specs.Inner.{childless}
 use Rattle.art_inner.specs.Views.{ref_view}
 use Rattle.art_nodes.proofs.store.NodeStore.take_other.Goals as goal

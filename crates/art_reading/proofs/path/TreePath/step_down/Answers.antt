@@ -2,7 +2,7 @@ use Rattle.std.proofs.Common.{◌≡◌, ℕ, Some, None, ap, refl, sym, ◌∙�
 use Rattle.art_parts.specs.declared.names.InnerPtr.{InnerPtr}
 use Rattle.art_reading.specs.declared.path.TreePath.{TreePath}
 use Rattle.art_reading.specs.declared.path.TreePath.TheVariants.{Root, ChildOfRoot, Normal}
-use Rattle.art_reading.specs.Paths.{last_step, step_down}
+use Rattle.art_reading.specs.PathSteps.{last_step, step_down}
 use Rattle.art_reading.proofs.path.TreePath.step_down.Goals as goal
 
 -- one step down from the root, and from a node below a parent

@@ -1,7 +1,7 @@
 use Rattle.std.proofs.Common.{rules, ap, sym, ◌∙◌, subst, IsTrue}
 use Rattle.art_nodes.specs.Nodes.{promises, take_inner}
 use Rattle.art_model.specs.Writes.{with_child_at}
-use Rattle.art_reading.specs.Paths.{last_step, up, root_with}
+use Rattle.art_reading.specs.PathSteps.{last_step, up, root_with}
 use Rattle.art_writing.proofs.Below.{IsSmaller, is_below, leaf_ready, shrinks_fit, smaller_is, above_ready, parent_deleted}
 use Rattle.art_writing.proofs.Deletions.{shrink_refused, taken_out_with}
 use Rattle.art_writing.proofs.Reserved.{covered_inner, not_refused}

@@ -1,6 +1,6 @@
 use Rattle.std.proofs.Common.{refl, ◌≡◌, IfSome, ap, ap₂, sym, ◌∙◌, subst}
 use Rattle.std.specs.FinMap as map
-use Rattle.art_inner.specs.Changes.{with_header}
+use Rattle.art_inner.specs.InnerChanges.{with_header}
 use Rattle.art_parts.specs.Headers.{header_of}
 use Rattle.art_inner.specs.Views.{ref_view}
 use Rattle.art_nodes.specs.Nodes.{change}

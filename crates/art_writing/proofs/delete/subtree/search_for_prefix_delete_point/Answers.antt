@@ -1,7 +1,7 @@
 use Rattle.std.proofs.Common.{rules, ◌≡◌, ap, sym, ◌∙◌, subst}
 use Rattle.art_model.specs.Keys.{is_front}
 use Rattle.art_model.specs.Pairs.{of_key}
-use Rattle.art_reading.specs.Parts.{EndsBelow}
+use Rattle.art_reading.specs.PartEnds.{EndsBelow}
 use Rattle.art_reading.proofs.Below.{starts_front}
 use Rattle.art_reading.proofs.Parts.{first_is, first_not_gone, node_full}
 use Rattle.art_writing.proofs.Subtrees.{none_go, these_go}

@@ -5,8 +5,8 @@ use Rattle.art_nodes.specs.Nodes.{covers, promises, take_leaf}
 use Rattle.art_model.specs.Promises.{inner_taken, is_covered}
 use Rattle.art_model.specs.Writes.{IsThere}
 use Rattle.art_writing.specs.Inserted.{placed_for}
-use Rattle.art_writing.specs.Writes.{HasChild}
-use Rattle.art_reading.specs.Paths.{last_step}
+use Rattle.art_writing.specs.ParentWrites.{HasChild}
+use Rattle.art_reading.specs.PathSteps.{last_step}
 use Rattle.art_writing.proofs.Applied.{applied, refused}
 use Rattle.art_writing.proofs.Entered.{entry, entry_gap, entry_parent}
 use Rattle.art_writing.proofs.LeafAdded.{previous_is_there, next_is_there, room_inserted, full_inserted, has_room, larger_has_room, asked_full, asked_room}

@@ -1,10 +1,10 @@
 use Rattle.std.proofs.Common.{rules, refl, ap, ap₂, sym, ◌∙◌, subst}
 use Rattle.std.specs.FinMap as map
-use Rattle.art_inner.specs.Changes.{with_child}
+use Rattle.art_inner.specs.InnerChanges.{with_child}
 use Rattle.art_inner.specs.Inner.{childless}
 use Rattle.art_model.specs.Writes.{with_child_at}
-use Rattle.art_writing.specs.Writes.{HasChild}
-use Rattle.art_reading.specs.Paths.{last_step, root_with}
+use Rattle.art_writing.specs.ParentWrites.{HasChild}
+use Rattle.art_reading.specs.PathSteps.{last_step, root_with}
 use Rattle.art_writing.proofs.Larger.{child_stays}
 use Rattle.art_writing.proofs.insert.InsertPoint.place_branch.Goals as goal
 

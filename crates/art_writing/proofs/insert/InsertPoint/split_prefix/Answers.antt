@@ -1,6 +1,6 @@
 use Rattle.std.proofs.Common.{rules, ap, sym, ◌∙◌, subst, Some, IsTrue}
 use Rattle.art_model.specs.Kept.{SameNodes}
-use Rattle.art_inner.specs.Changes.{with_header}
+use Rattle.art_inner.specs.InnerChanges.{with_header}
 use Rattle.art_nodes.specs.Nodes.{change, take_inner, take_leaf}
 use Rattle.art_parts.specs.declared.names.NodeType.TheVariants.{Node4}
 use Rattle.art_model.specs.Writes.{IsThere}

@@ -2,7 +2,7 @@ use Rattle.std.proofs.Common.{◌∙◌, ap, refl, rules, sym, subst, IsTrue, No
 use Rattle.art_model.specs.Kept.{SameNodes}
 use Rattle.art_parts.specs.declared.leaf.LeafNode.{LeafNode}
 use Rattle.art_model.specs.Promises.{is_covered}
-use Rattle.art_reading.specs.Paths.{root_with}
+use Rattle.art_reading.specs.PathSteps.{root_with}
 use Rattle.art_writing.proofs.Applied.{overwritten, refused_overwrite}
 use Rattle.art_writing.proofs.Reserved.{after_reserve, leaf_promised, not_granted, not_refused, was_refused}
 use Rattle.art_writing.proofs.Overwrites.{end_parent, end_still, ends_there, placed_for_inner, put_at, read_next, read_previous, subtree_at, subtree_overwritten, subtree_still}

@@ -19,7 +19,7 @@ use Rattle.art_reading.specs.declared.range.Cut.TheVariants.{Before, After}
 use Rattle.art_reading.specs.declared.descent.End.{End}
 use Rattle.art_reading.specs.declared.descent.End.TheVariants.{First, Last}
 use Rattle.art_reading.specs.declared.descent.LastNode.{LastNode}
-use Rattle.art_reading.specs.Paths.{path_of}
+use Rattle.art_reading.specs.PathSteps.{path_of}
 
 module _ {A : Type 0} (Lower Upper : A → Type 0) (layout : Tree OpaqueNodePtr A) (name : OpaqueNodePtr) where
   -- A node of the tree, between pairs of which these hold.

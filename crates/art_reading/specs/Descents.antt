@@ -19,7 +19,7 @@ use Rattle.art_reading.specs.Matching.{MatchesLeafKey, LeafKeyIsPrefix}
 use Rattle.art_reading.specs.declared.descent.End.{End}
 use Rattle.art_reading.specs.declared.descent.End.TheVariants.{First, Last}
 use Rattle.art_reading.specs.declared.path.TreePath.{TreePath}
-use Rattle.art_reading.specs.Paths.{path_of}
+use Rattle.art_reading.specs.PathSteps.{path_of}
 use Rattle.art_reading.specs.Stored.{IsWholeStored}
 
 module _ {K V : Type 0} (bytes : K × V → List ℕ) (P : ℕ) (key : List ℕ) (pairs : List (K × V))
