@@ -5,7 +5,7 @@ pub use Rattle.art_parts.specs.Headers
 pub mod Inner
 pub mod Views
 pub mod Beside
-pub mod Changes
+pub mod InnerChanges
 -- their tables
 pub mod Tables
 pub mod Rows

@@ -1,4 +1,4 @@
-pub mod Trees
+pub mod KeptKeys
 pub mod KeptTrees
 pub mod Commands
-pub mod Walks
+pub mod NodeWalks

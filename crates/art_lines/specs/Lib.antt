@@ -1,2 +1,2 @@
-pub mod Keys
-pub mod Lines
+pub mod KeyTexts
+pub mod CommandLines

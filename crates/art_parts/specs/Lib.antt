@@ -3,4 +3,4 @@ pub mod Names
 pub mod Headers
 pub mod HeaderBack
 pub mod Codes
-pub mod Clones
+pub mod LeafClones

@@ -4,9 +4,9 @@ pub use Rattle.art_model.specs.Trees
 pub use Rattle.art_model.specs.Roots
 pub use Rattle.art_model.specs.Lookups
 pub mod Matching
-pub mod Paths
+pub mod PathSteps
 pub mod EndNodes
 pub mod Stored
-pub mod Walks
+pub mod Descents
 pub mod Iterators
-pub mod Parts
+pub mod PartEnds

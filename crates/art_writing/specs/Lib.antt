@@ -14,7 +14,7 @@ pub use Rattle.art_reading.specs.Matching
 pub use Rattle.art_reading.specs.PathSteps
 pub use Rattle.art_reading.specs.EndNodes
 -- the parent that a path ends with, and the leaves beside one
-pub mod Writes
+pub mod ParentWrites
 -- insertion
 pub mod Points
 pub mod Inserted
