@@ -44,7 +44,8 @@ appends_more (Some p) (Some q) (Some r) xs ys h k = k ∙ ap (λ bs. bs ++ ys) h
 row_more : (done : List (Key × ℕ)) (pair : Key × ℕ) → row_text (done ++ pair ∷ []) ≡ row_text done ++ (gap_after (length done) ++ entry_text pair)
 row_more [] pair = append-nil (entry_text pair)
 row_more (d ∷ ds) pair =
-    ap (λ bs. entry_text d ++ bs) (flat_map-append (λ p. codes " " ++ entry_text p) ds (pair ∷ []) ∙ ap (λ bs. flat_map (λ p. codes " " ++ entry_text p) ds ++ bs) (append-nil (codes " " ++ entry_text pair)))
+    ap (λ bs. entry_text d ++ bs)
+        (flat_map-append (λ p. codes " " ++ entry_text p) ds (pair ∷ []) ∙ ap (λ bs. flat_map (λ p. codes " " ++ entry_text p) ds ++ bs) (append-nil (codes " " ++ entry_text pair)))
     ∙ sym (append_assoc (entry_text d) (flat_map (λ p. codes " " ++ entry_text p) ds) (codes " " ++ entry_text pair))
 
 row_is : (pairs : List (Key × ℕ)) → pairs ≢ [] → pairs_text pairs ≡ row_text pairs

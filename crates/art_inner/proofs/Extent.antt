@@ -295,10 +295,12 @@ module _ (at new : ℕ → Option OpaqueNodePtr) (b : ℕ) (within : b < 256) (o
   ])
 
   pub listed_put : (n : OpaqueNodePtr) → new b ≡ Some n → names_by_byte new ≡ put_child (names_by_byte at) b n
-  listed_put n is = by_byte (put_child (names_by_byte at) b n) (IsRising-put_child (names_by_byte at) b n (listed_rising at)) (child_here (names_by_byte at) b n ∙ sym is) (λ k d. child_elsewhere (names_by_byte at) b k n d)
+  listed_put n is = by_byte (put_child (names_by_byte at) b n) (IsRising-put_child (names_by_byte at) b n (listed_rising at))
+      (child_here (names_by_byte at) b n ∙ sym is) (λ k d. child_elsewhere (names_by_byte at) b k n d)
 
   pub listed_remove : new b ≡ None → names_by_byte new ≡ remove_child (names_by_byte at) b
-  listed_remove is = by_byte (remove_child (names_by_byte at) b) (IsRising-remove_child (names_by_byte at) b (listed_rising at)) (child_gone (names_by_byte at) b ∙ sym is) (λ k d. child_kept (names_by_byte at) b k d)
+  listed_remove is = by_byte (remove_child (names_by_byte at) b) (IsRising-remove_child (names_by_byte at) b (listed_rising at))
+      (child_gone (names_by_byte at) b ∙ sym is) (λ k d. child_kept (names_by_byte at) b k d)
 
 -- a function that gives nothing
 pub listed_none : (at : ℕ → Option OpaqueNodePtr) → ((k : ℕ) → k < 256 → at k ≡ None) → names_by_byte at ≡ []

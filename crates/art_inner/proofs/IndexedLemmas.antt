@@ -51,7 +51,8 @@ module _ (slots : List ℕ) (kinds : List NodeType) (at : ℕ) (child : OpaqueNo
       λ i. Some (record { kind = get_or-set_other kinds at place child.kind Node4 other i; slot = get_or-set_other slots at place child.slot 0 other i })
 
   module _ (index : List ℕ) (len b : ℕ) (within : b < 256) (sound : IsIndex index len) where
-    pub indexed_replaced : get_or index b 0 ≡ at + 1 → names_by_byte (indexed_at (set slots at child.slot) (set kinds at child.kind) index) ≡ put_child (names_by_byte (indexed_at slots kinds index)) b child
+    pub indexed_replaced : get_or index b 0 ≡ at + 1 →
+        names_by_byte (indexed_at (set slots at child.slot) (set kinds at child.kind) index) ≡ put_child (names_by_byte (indexed_at slots kinds index)) b child
     indexed_replaced here = listed_put (indexed_at slots kinds index) (indexed_at (set slots at child.slot) (set kinds at child.kind) index) b within
         (λ k h d. written_other (get_or index k 0) (λ e. d (sound.1 k b (e ∙ sym here) (λ z. omega (arith, z, e)))))
         child

@@ -33,7 +33,8 @@ module _ {K V : Type 0} where
       (old ≡ in_store side s z old.tree) × (option_map name_of old.tree ≡ root)
   state_is old side s z root is = go old.side side old.present old.other is
     where
-      go : (a b : Side) (t w : Nodes K V) → from_side a t w (option_map name_of old.tree) ≡ from_side b s z root → (in_store a t w old.tree ≡ in_store b s z old.tree) × (option_map name_of old.tree ≡ root)
+      go : (a b : Side) (t w : Nodes K V) → from_side a t w (option_map name_of old.tree) ≡ from_side b s z root →
+          (in_store a t w old.tree ≡ in_store b s z old.tree) × (option_map name_of old.tree ≡ root)
       go First First t w e = ((λ i. record { present = (e i).first; other = (e i).second; side = First; tree = old.tree }), ap (λ q. q.root) e)
       go Second Second t w e = ((λ i. record { present = (e i).second; other = (e i).first; side = Second; tree = old.tree }), ap (λ q. q.root) e)
       go First Second t w e = let side = ap (λ q. q.side) e in absurd cc

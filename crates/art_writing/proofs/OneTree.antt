@@ -162,7 +162,8 @@ module _ {K V : Type 0} {s t : Nodes K V} {too : Bool} where
 module _ {N A : Type 0} (too : Bool) where
   names_to_free_below-join : (cs ds : Subtrees N A) → names_to_free_below too (join cs ds) ≡ names_to_free_below too cs ++ names_to_free_below too ds
   names_to_free_below-join no_child ds = refl
-  names_to_free_below-join (child b t cs) ds = ap (λ l. names_to_free too t ++ l) (names_to_free_below-join cs ds) ∙ sym (append_assoc (names_to_free too t) (names_to_free_below too cs) (names_to_free_below too ds))
+  names_to_free_below-join (child b t cs) ds = ap (λ l. names_to_free too t ++ l) (names_to_free_below-join cs ds)
+      ∙ sym (append_assoc (names_to_free too t) (names_to_free_below too cs) (names_to_free_below too ds))
 
 module _ {K V : Type 0} {s : Nodes K V} {too : Bool} (cs ds : Shapes) (seen : AreSeen s too (join cs ds)) where
   left_seen : AreSeen s too cs
@@ -390,7 +391,8 @@ module _ {K V : Type 0} {t v : Nodes K V} {too : Bool} where
       let c = names_of last in
       let cs = join others (child byte last no_child) in
       let all : names_below cs ≡ o ++ c = names_below-join others (child byte last no_child) ∙ ap (λ l. o ++ l) (append-nil c) in
-      let goes : names_to_free_below too cs ≡ names_to_free_below too others ++ names_to_free too last = names_to_free_below-join too others (child byte last no_child) ∙ ap (λ l. names_to_free_below too others ++ l) (append-nil (names_to_free too last)) in
+      let goes : names_to_free_below too cs ≡ names_to_free_below too others ++ names_to_free too last =
+          names_to_free_below-join too others (child byte last no_child) ∙ ap (λ l. names_to_free_below too others ++ l) (append-nil (names_to_free too last)) in
       let ends : leaf_names_below cs ≡ leaf_names_below others ++ leaf_names last = leaf_names_below-join others (child byte last no_child) ∙ ap (λ l. leaf_names_below others ++ l) (append-nil (leaf_names last)) in
       let slots : slots_of cs ≡ slots_of others ++ (byte, name_of last) ∷ [] = slots_of-join others (child byte last no_child) in
       let distinct : AreDistinct (mark ∷ (o ++ c)) = subst (λ l. AreDistinct (mark ∷ l)) all can.layout.distinct in
@@ -480,7 +482,8 @@ module _ {K V : Type 0} {s : Nodes K V} {too : Bool} where
     above = step.moved.above;
     below = step.moved.below;
     can = step.moved.can;
-    kept = keeps_on (names_to_free too upper ++ names_to_free too lower) (names_to_free too is.above ++ names_to_free too is.below) (names_to_free too step.moved.above ++ names_to_free too step.moved.below) is.kept step.moved.kept;
+    kept = keeps_on (names_to_free too upper ++ names_to_free too lower)
+          (names_to_free too is.above ++ names_to_free too is.below) (names_to_free too step.moved.above ++ names_to_free too step.moved.below) is.kept step.moved.kept;
     counted = is.counted ∙ step.moved.counted;
     names = is.names ∙ step.moved.names;
   }

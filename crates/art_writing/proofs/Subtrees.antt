@@ -380,7 +380,8 @@ module _ {K V : Type 0} {bytes : K × V → List ℕ} {P : ℕ} {s : Nodes K V} 
         parent_apart (node_at s) (node_at s) at.path own_node old.holds old.distinct k up
         (subst (λ z. IsIn z (names_of own_node)) (sym (inner_name_one k first.frame.mark (e ∙ sym first.parent_is))) (collapses.mark_in at.path first.above among_all)))
 
-    module _ (w : Nodes K V) {name : OpaqueNodePtr} (last next : Option LeafPtr) (beside : IsBeside s at.node After last next) (leaves : w.leaves ≡ with_links_around s.leaves (Some n) next next (Some n))
+    module _ (w : Nodes K V) {name : OpaqueNodePtr} (last next : Option LeafPtr) (beside : IsBeside s at.node After last next)
+        (leaves : w.leaves ≡ with_links_around s.leaves (Some n) next next (Some n))
         (inners : w.inners ≡ with_child_at (last_step point.path) name (change s.inners parent (without_child byte))) (name_is : name ≡ leaf_name n) where
       inners_are : w.inners ≡ with_child_at (parent_of at.path) (leaf_name n) (change s.inners (as_inner first.frame.mark) (without_child first.frame.byte))
       inners_are = inners ∙ ap (λ o. with_child_at o name (change s.inners parent (without_child byte))) (ap last_step at.path_is ∙ last_step-path_of at.path)

@@ -76,7 +76,8 @@ module _ {K V : Type 0} where
     joined_elsewhere q off non = change_some_elsewhere (change_some m before (with_next next)) after (with_previous previous) q non ∙ change_some_elsewhere m before (with_next next) q off
 
     -- what comes of a name depends on what was there
-    pub with_links_around-cong : (other : Leaves K V) (q : LeafPtr) → get other q ≡ get m q → get (with_links_around other before after next previous) q ≡ get (with_links_around m before after next previous) q
+    pub with_links_around-cong : (other : Leaves K V) (q : LeafPtr) → get other q ≡ get m q →
+        get (with_links_around other before after next previous) q ≡ get (with_links_around m before after next previous) q
     with_links_around-cong other q e =
         change_some-cong (change_some other before (with_next next)) (change_some m before (with_next next)) after (with_previous previous) q (change_some-cong other m before (with_next next) q e)
 

@@ -4,7 +4,8 @@ use Rattle.std.proofs.lemmas.Bool.{true≢false, false≢true}
 use Rattle.std.specs.List.{AllByRecursion as Each}
 use Rattle.art_model.specs.Footprints.{IsIn}
 use Rattle.art_model.specs.Keys.{Precedes, are_related, are_same, is_before}
-use Rattle.art_model.specs.Pairs.{IsMap, add_in_order, first_of, only_or_count, with_key, has_key, related_to, remove_key, remove_related, is_conflict, stored_for, put, put_reply, overwrite, overwrite_reply, of_key}
+use Rattle.art_model.specs.Pairs.{IsMap, add_in_order, first_of, only_or_count, with_key, has_key, related_to, remove_key}
+use Rattle.art_model.specs.Pairs.{remove_related, is_conflict, stored_for, put, put_reply, overwrite, overwrite_reply, of_key}
 use Rattle.art_model.proofs.keys.Keys.{related_sym, same_equal, same_related}
 use Rattle.art_model.proofs.lists.Lists.{each_in, filter_none, Each-weaker}
 use Rattle.art_model.proofs.pairs.Puts.{first_none, has_is_stored, overwrite-new, overwrite-put, overwrite_reply-new, overwrite_reply-put, put-new, put_reply-new, stored_bytes}
@@ -130,7 +131,8 @@ module _ {K V : Type 0} (bytes : K × V → List ℕ) (new : K × V) (pairs : Li
       where
         go : (o : Option (K × V)) → first_of (with_key bytes (bytes new) pairs) ≡ o → overwrite_reply bytes new pairs ≡ (put_reply bytes new pairs, 0)
         go None e =
-            overwrite_reply-new bytes new pairs e ∙ ap only_or_count (parts.1 ∙ first_none (with_key bytes (bytes new) pairs) e) ∙ ap (λ (o : Option (K × V)). (o, zero)) (sym (put_reply-new bytes new pairs e))
+            overwrite_reply-new bytes new pairs e ∙ ap only_or_count (parts.1 ∙ first_none (with_key bytes (bytes new) pairs) e)
+            ∙ ap (λ (o : Option (K × V)). (o, zero)) (sym (put_reply-new bytes new pairs e))
         go (Some old) e = overwrite_reply-put bytes new pairs (has_is_stored bytes new pairs ∙ ap is_some e)
 
 -- and so it is where the put left a map
