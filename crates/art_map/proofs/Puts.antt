@@ -48,16 +48,18 @@ module _ {K V : Type 0} (bytes : K × V → List ℕ) (P : ℕ) where
       go None h other = absurd h
       go (Some layout) h other = record { layout = layout; by = h; no_other = other; len_is = is.len_is }
 
+module _ {K V : Type 0} {bytes : K × V → List ℕ} {P : ℕ} where
   -- of a root that is known to be there
   pub at_some : {s : Nodes K V} {root : Option OpaqueNodePtr} {name : OpaqueNodePtr} {len : ℕ} {pairs : List (K × V)} → root ≡ Some name → HoldsPairs bytes P s root len pairs →
-      HasTreeAt s name len pairs
-  at_some {s} {len = len} {pairs = pairs} e is = at_root (subst (λ r. HoldsPairs bytes P s r len pairs) e is)
+      HasTreeAt bytes P s name len pairs
+  at_some {s} {len = len} {pairs = pairs} e is = at_root bytes P (subst (λ r. HoldsPairs bytes P s r len pairs) e is)
 
   -- the name of a root that is there is canonical
   pub canonical_root : {s : Nodes K V} {root : Option OpaqueNodePtr} {name : OpaqueNodePtr} {len : ℕ} {pairs : List (K × V)} → root ≡ Some name → HoldsPairs bytes P s root len pairs →
       IsCanonicalRoot bytes P s name
   canonical_root {pairs = pairs} e is = let has = at_some e is in (pairs, has.layout, has.by)
 
+module _ {K V : Type 0} (bytes : K × V → List ℕ) (P : ℕ) where
   module _ (s t : Nodes K V) (same_leaves : t.leaves ≡ s.leaves) (same_inners : t.inners ≡ s.inners) where
     same_held : (k : OpaqueNodePtr) → content_at t k ≡ content_at s k
     same_held k = ap₂ (λ leaves inners. content_at (record t { leaves = leaves; inners = inners }) k) same_leaves same_inners

@@ -119,7 +119,7 @@ module _ {K V : Type 0} (bytes : K → List ℕ) (P : ℕ) {s : Nodes K V} {name
       -- the leaf of a pair that is wanted is there
       pub named_there : IsSome (get s.leaves p)
       named_there =
-          let has = at_some (of_key bytes) P e is in
+          let has = at_some e is in
           let (x, some, has_leaf) = named (pairs_at s root) has.layout has.by in
           let (node, there, its) = leaf_found (of_key bytes) P has.by has_leaf in
           rw there refl
@@ -127,7 +127,7 @@ module _ {K V : Type 0} (bytes : K → List ℕ) (P : ℕ) {s : Nodes K V} {name
       -- and has the pair
       pub named_pair : {y : K × V} {before : List (K × V)} → option_map pair_of (get s.leaves p) ≡ Some y → pairs_at s root ≡ before → Some y ≡ wanted before
       named_pair read view =
-          let has = at_some (of_key bytes) P e is in
+          let has = at_some e is in
           let (x, some, has_leaf) = named (pairs_at s root) has.layout has.by in
           let (node, there, its) = leaf_found (of_key bytes) P has.by has_leaf in
           sym read ∙ ap (option_map pair_of) there ∙ ap Some its ∙ sym some ∙ ap wanted view
@@ -137,7 +137,7 @@ module _ {K V : Type 0} (bytes : K → List ℕ) (P : ℕ) {s : Nodes K V} {name
       (sought : List (K × V) → List (K × V)) → ForTree (of_key bytes) P s name (λ pairs _. pair_under s (Some p) ≡ first_of (sought pairs)) →
       {y : K × V} {before : List (K × V)} → option_map pair_of (get s.leaves p) ≡ Some y → pairs_at s root ≡ before → Some y ≡ first_of (sought before)
   found_pair {root} p e is sought found read view =
-      let has = at_some (of_key bytes) P e is in sym read ∙ found (pairs_at s root) has.layout has.by ∙ ap (λ xs. first_of (sought xs)) view
+      let has = at_some e is in sym read ∙ found (pairs_at s root) has.layout has.by ∙ ap (λ xs. first_of (sought xs)) view
 
 -- a value is found exactly where the key is stored
 pub value_stored : {K V : Type 0} (bytes : K → List ℕ) (key : List ℕ) (pairs : List (K × V)) → is_some (value_at bytes key pairs) ≡ has_key (of_key bytes) key pairs

@@ -59,7 +59,7 @@ module _ {K V : Type 0} (bytes : K → List ℕ) (P : ℕ) {s : Nodes K V} {p : 
   pub leaf_named : {name : OpaqueNodePtr} {len : ℕ} → root ≡ Some name → HoldsPairs (of_key bytes) P s root len (pairs_at s root) →
       ForTree (of_key bytes) P s name (λ pairs layout. FindsLeaf layout (with_key (of_key bytes) key pairs) (Some p)) → V → NamesLeafOf bytes P s root key p
   leaf_named {name} e is found any =
-      let has = at_some (of_key bytes) P e is in
+      let has = at_some e is in
       let (x, only, leaf_is) = found (pairs_at s root) has.layout has.by in
       record {
         name = name;

@@ -28,7 +28,7 @@ returns-in-Err g c =
     rw (no_pairs (of_key g.K.AsBytes.bytes) g.row.P c.args.store.now c.in_default.is c.requires, c.without_memory.ensures) (refused.0, (refused.1, refused.2, refl))
 
 pub search_for_insert_point-requires : goal.search_for_insert_point-requires
-search_for_insert_point-requires g c = (search rules, canonical_root (of_key g.K.AsBytes.bytes) g.row.P c.in-Some.is c.requires)
+search_for_insert_point-requires g c = (search rules, canonical_root c.in-Some.is c.requires)
 
 pub apply-requires : goal.apply-requires
 apply-requires g c = (search rules, rw c.as_bytes.ensures at c.in-Ok-search_for_insert_point.ensures.applies)
@@ -37,7 +37,7 @@ pub returns-in-Err-Prefix : goal.returns-in-Err-Prefix
 returns-in-Err-Prefix g c =
     let bytes = of_key g.K.AsBytes.bytes in
     let pairs = pairs_at c.args.store.now c.args.root.now in
-    let has = at_some bytes g.row.P c.in-Some.is c.requires in
+    let has = at_some c.in-Some.is c.requires in
     let accepted = c.in-Err-Prefix.ensures.accepted pairs has.layout has.by in
     let spelled = (rw c.in-Err-Prefix.field-0-is at c.in-Err-Prefix.ensures.refused) ∙ c.as_bytes.ensures in
     (c.requires, (refl, refl, spelled, conflicts bytes pairs accepted.1 c.as_bytes.ensures))
@@ -46,13 +46,13 @@ pub returns-in-Err-Memory : goal.returns-in-Err-Memory
 returns-in-Err-Memory g c =
     let bytes = of_key g.K.AsBytes.bytes in
     let pairs = pairs_at c.args.store.now c.args.root.now in
-    let has = at_some bytes g.row.P c.in-Some.is c.requires in
+    let has = at_some c.in-Some.is c.requires in
     let accepted = c.in-Err-Memory.ensures.accepted pairs has.layout has.by in
     (c.requires, (refl, refl, conflict_new bytes (g.K.AsBytes.bytes c.args.key) pairs has.by.is_map (conflicts bytes pairs accepted.1 c.as_bytes.ensures)))
 
 pub one_more-requires : goal.one_more-requires
 one_more-requires g c =
-    let has = at_some (of_key g.K.AsBytes.bytes) g.row.P (c.in-Some.is ∙ ap Some (sym c.in-Ok-search_for_insert_point.ensures.root)) c.requires in
+    let has = at_some (c.in-Some.is ∙ ap Some (sym c.in-Ok-search_for_insert_point.ensures.root)) c.requires in
     let more = pair_more g.K.AsBytes.bytes g.row.P (c.args.key, c.args.value) has c.in-Ok-apply.ensures.replaced c.in_default-existing_leaf.is in
     let counted = more.1 in
     let most = enough (c.in-Ok-apply.ensures.canonical _ has.layout has.by).1 in
@@ -60,7 +60,7 @@ one_more-requires g c =
 
 pub returns-in_default-existing_leaf : goal.returns-in_default-existing_leaf
 returns-in_default-existing_leaf g c =
-    let has = at_some (of_key g.K.AsBytes.bytes) g.row.P (c.in-Some.is ∙ ap Some (sym c.in-Ok-search_for_insert_point.ensures.root)) c.requires in
+    let has = at_some (c.in-Some.is ∙ ap Some (sym c.in-Ok-search_for_insert_point.ensures.root)) c.requires in
     let more = pair_more g.K.AsBytes.bytes g.row.P (c.args.key, c.args.value) has c.in-Ok-apply.ensures.replaced c.in_default-existing_leaf.is in (
       left_holds (of_key g.K.AsBytes.bytes) g.row.P has (c.in-Ok-apply.ensures.canonical _ has.layout has.by) (c.in-Ok-apply.ensures.kept _ has.layout has.by) (c.one_more.ensures ∙ sym more.1),
       sym more.0,
@@ -70,7 +70,7 @@ returns-in_default-existing_leaf g c =
 
 pub returns-in-Some-existing_leaf : goal.returns-in-Some-existing_leaf
 returns-in-Some-existing_leaf g c =
-    let has = at_some (of_key g.K.AsBytes.bytes) g.row.P (c.in-Some.is ∙ ap Some (sym c.in-Ok-search_for_insert_point.ensures.root)) c.requires in
+    let has = at_some (c.in-Some.is ∙ ap Some (sym c.in-Ok-search_for_insert_point.ensures.root)) c.requires in
     let many = same_many g.K.AsBytes.bytes g.row.P (c.args.key, c.args.value) has c.in-Ok-apply.ensures.replaced c.in-Some-existing_leaf.is in
     rw c.in-Some-existing_leaf.is (
       left_holds (of_key g.K.AsBytes.bytes) g.row.P has (c.in-Ok-apply.ensures.canonical _ has.layout has.by) (c.in-Ok-apply.ensures.kept _ has.layout has.by) (sym many.1),
@@ -83,7 +83,7 @@ pub returns-in-Err-apply : goal.returns-in-Err-apply
 returns-in-Err-apply g c =
     let bytes = of_key g.K.AsBytes.bytes in
     let pairs = pairs_at c.args.store.now c.args.root.now in
-    let has = at_some bytes g.row.P c.in-Some.is c.requires in
+    let has = at_some c.in-Some.is c.requires in
     let here = subst (λ n. IsCanonicalTree bytes g.row.P c.args.store.now n pairs has.layout) (sym c.in-Ok-search_for_insert_point.ensures.root) has.by in
     let at = subst (λ key. AnswersTo bytes g.row.P has.layout key c.in-Ok-search_for_insert_point.point) c.as_bytes.ensures (c.in-Ok-search_for_insert_point.ensures.point pairs has.layout has.by) in
     rw c.without_memory-in-Err-apply.ensures (

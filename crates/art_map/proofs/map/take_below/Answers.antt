@@ -12,18 +12,18 @@ use Rattle.art_map.proofs.Ranges.{first_pair, no_first_pair}
 use Rattle.art_map.proofs.map.take_below.Goals as goal
 
 pub prefix_unchecked-requires : goal.prefix_unchecked-requires
-prefix_unchecked-requires g c = (search rules, canonical_root (of_key g.K.AsBytes.bytes) g.row.P c.in-Some.is c.requires)
+prefix_unchecked-requires g c = (search rules, canonical_root c.in-Some.is c.requires)
 
 pub next-requires : goal.next-requires
 next-requires g c =
-    let has = at_some (of_key g.K.AsBytes.bytes) g.row.P c.in-Some.is c.requires in
+    let has = at_some c.in-Some.is c.requires in
     (search rules, (_, c.prefix_unchecked.ensures _ has.layout has.by))
 
 pub returns-in_default-next : goal.returns-in_default-next
 returns-in_default-next g c =
     let B = of_key g.K.AsBytes.bytes in
     let pairs = pairs_at c.args.store.now c.args.root.now in
-    let has = at_some B g.row.P c.in-Some.is c.requires in
+    let has = at_some c.in-Some.is c.requires in
     let none = no_first_pair has.by (λ x. is_front c.args.prefix.now (g.K.AsBytes.bytes x.0)) (c.in_default-next.ensures.leaf _ (c.prefix_unchecked.ensures _ has.layout has.by)) in
     (subst (HoldsPairs B g.row.P c.args.store.now c.args.root.now c.args.len.now) (sym (nothing_out B c.args.prefix.now pairs none)) c.requires, none)
 
@@ -31,13 +31,13 @@ pub pair_at-requires : goal.pair_at-requires
 pair_at-requires g c = (search rules, c.in-Some-next.ensures.there)
 
 pub search_for_delete_point-requires : goal.search_for_delete_point-requires
-search_for_delete_point-requires g c = (search rules, canonical_root (of_key g.K.AsBytes.bytes) g.row.P c.in-Some.is c.requires)
+search_for_delete_point-requires g c = (search rules, canonical_root c.in-Some.is c.requires)
 
 pub unreachable-requires : goal.unreachable-requires
 unreachable-requires g c =
     let B = of_key g.K.AsBytes.bytes in
     let pairs = pairs_at c.args.store.now c.args.root.now in
-    let has = at_some B g.row.P c.in-Some.is c.requires in
+    let has = at_some c.in-Some.is c.requires in
     let first = first_pair has.by (λ x. is_front c.args.prefix.now (g.K.AsBytes.bytes x.0)) (c.in-Some-next.ensures.leaf _ (c.prefix_unchecked.ensures _ has.layout has.by)) c.pair_at.ensures in
     point_not_none B c.args.prefix.now pairs (deref_pair c.pair_at.result) c.as_bytes-key_bytes.result.now has.by.is_map first c.as_bytes-key_bytes.ensures
     (point_none has.layout (remove_reply B c.as_bytes-key_bytes.result.now pairs) (c.in_default-search_for_delete_point.ensures.point pairs has.layout has.by))
@@ -46,7 +46,7 @@ pub returns : goal.returns
 returns g c =
     let B = of_key g.K.AsBytes.bytes in
     let pairs = pairs_at c.args.store.now c.args.root.now in
-    let has = at_some B g.row.P c.in-Some.is c.requires in
+    let has = at_some c.in-Some.is c.requires in
     let first = first_pair has.by (λ x. is_front c.args.prefix.now (g.K.AsBytes.bytes x.0)) (c.in-Some-next.ensures.leaf _ (c.prefix_unchecked.ensures _ has.layout has.by)) c.pair_at.ensures in
     let (x, e, leads) =
     point_some has.layout c.in-Some-search_for_delete_point.point (remove_reply B c.as_bytes-key_bytes.result.now pairs)

@@ -9,13 +9,13 @@ use Rattle.art_map.proofs.Takings.{end_goes}
 use Rattle.art_map.proofs.map.take_end.Goals as goal
 
 pub find_end_to_delete-point-requires : goal.find_end_to_delete-point-requires
-find_end_to_delete-point-requires g c = (search rules, canonical_root (of_key g.K.AsBytes.bytes) g.row.P c.in-Some.is c.requires)
+find_end_to_delete-point-requires g c = (search rules, canonical_root c.in-Some.is c.requires)
 
 pub returns : goal.returns
 returns g c =
     let B = of_key g.K.AsBytes.bytes in
     let pairs = pairs_at c.args.store.now c.args.root.now in
-    let has = at_some B g.row.P c.in-Some.is c.requires in
+    let has = at_some c.in-Some.is c.requires in
     let (x, e, leads) = point_some has.layout c.find_end_to_delete-point.result (end_of c.args.end pairs) (c.find_end_to_delete-point.ensures.point pairs has.layout has.by) in
     let Taken = HasTaken g.K.AsBytes.bytes g.row.P pairs in
     subst (λ reply. Taken reply (without_end c.args.end pairs) c.take_out.result c.take_out.new.store c.take_out.new.root c.take_out.new.len) (sym e)

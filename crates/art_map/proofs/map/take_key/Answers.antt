@@ -7,13 +7,13 @@ use Rattle.art_map.proofs.Puts.{at_some, canonical_root}
 use Rattle.art_map.proofs.map.take_key.Goals as goal
 
 pub search_for_delete_point-requires : goal.search_for_delete_point-requires
-search_for_delete_point-requires g c = (search rules, canonical_root (of_key g.K.AsBytes.bytes) g.row.P c.in-Some.is c.requires)
+search_for_delete_point-requires g c = (search rules, canonical_root c.in-Some.is c.requires)
 
 pub returns-in_default-search_for_delete_point : goal.returns-in_default-search_for_delete_point
 returns-in_default-search_for_delete_point g c =
     let B = of_key g.K.AsBytes.bytes in
     let pairs = pairs_at c.args.store.now c.args.root.now in
-    let has = at_some B g.row.P c.in-Some.is c.requires in
+    let has = at_some c.in-Some.is c.requires in
     let none = point_none has.layout (remove_reply B c.args.key_bytes.now pairs) (c.in_default-search_for_delete_point.ensures.point pairs has.layout has.by) in
     (subst (HoldsPairs B g.row.P c.args.store.now c.args.root.now c.args.len.now) (sym (removes_none B c.args.key_bytes.now pairs none)) c.requires, sym none)
 
@@ -21,7 +21,7 @@ pub returns : goal.returns
 returns g c =
     let B = of_key g.K.AsBytes.bytes in
     let pairs = pairs_at c.args.store.now c.args.root.now in
-    let has = at_some B g.row.P c.in-Some.is c.requires in
+    let has = at_some c.in-Some.is c.requires in
     let (x, e, leads) =
     point_some has.layout c.in-Some-search_for_delete_point.point (remove_reply B c.args.key_bytes.now pairs) (c.in-Some-search_for_delete_point.ensures.point pairs has.layout has.by) in
     let Taken = HasTaken g.K.AsBytes.bytes g.row.P pairs in

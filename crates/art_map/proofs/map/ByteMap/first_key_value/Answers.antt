@@ -7,7 +7,7 @@ use Rattle.art_map.proofs.map.ByteMap.first_key_value.Goals as goal
 
 pub minimum_unchecked-leaf-requires : goal.minimum_unchecked-leaf-requires
 minimum_unchecked-leaf-requires g c =
-    let has = at_some (of_key g.K.AsBytes.bytes) g.row.P c.in_ok-self.was c.self.invariant in
+    let has = at_some c.in_ok-self.was c.self.invariant in
     (search rules, (has.layout, has_children _ _ _ _ _ has.layout has.by))
 
 pub pair_at-requires : goal.pair_at-requires

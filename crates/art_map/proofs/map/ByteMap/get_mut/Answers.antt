@@ -7,7 +7,7 @@ use Rattle.art_map.proofs.Written.{leaf_named, lends_same, some_of, value_read, 
 use Rattle.art_map.proofs.map.ByteMap.get_mut.Goals as goal
 
 pub search_unchecked-requires : goal.search_unchecked-requires
-search_unchecked-requires g c = (search rules, canonical_root (of_key g.K.AsBytes.bytes) g.row.P c.in_ok-self.was c.self.invariant)
+search_unchecked-requires g c = (search rules, canonical_root c.in_ok-self.was c.self.invariant)
 
 pub invariant_of-self-lent : goal.invariant_of-self-lent
 invariant_of-self-lent g c lent =

@@ -18,23 +18,23 @@ returns-in_default-clause-pairs g c =
 
 pub minimum_unchecked-first-requires : goal.minimum_unchecked-first-requires
 minimum_unchecked-first-requires g c =
-    let has = at_some (of_key g.K.AsBytes.bytes) g.row.P c.in-Some.is c.self.invariant in
+    let has = at_some c.in-Some.is c.self.invariant in
     (search rules, (has.layout, has_children _ _ _ _ _ has.layout has.by))
 
 pub maximum_unchecked-last-requires : goal.maximum_unchecked-last-requires
 maximum_unchecked-last-requires g c =
-    let has = at_some (of_key g.K.AsBytes.bytes) g.row.P c.in-Some.is c.self.invariant in
+    let has = at_some c.in-Some.is c.self.invariant in
     (search rules, (has.layout, has_children _ _ _ _ _ has.layout has.by))
 
 pub new-walk-requires : goal.new-walk-requires
 new-walk-requires g c =
-    let has = at_some (of_key g.K.AsBytes.bytes) g.row.P c.in-Some.is c.self.invariant in
+    let has = at_some c.in-Some.is c.self.invariant in
     let full = has_children _ _ _ _ _ has.layout has.by in
     (search rules, (leaf_names has.layout, whole_walk has.by (c.minimum_unchecked-first.ensures has.layout full) (c.maximum_unchecked-last.ensures has.layout full)))
 
 pub new-requires-2 : goal.new-requires-2
 new-requires-2 g c =
-    let has = at_some (of_key g.K.AsBytes.bytes) g.row.P c.in-Some.is c.self.invariant in
+    let has = at_some c.in-Some.is c.self.invariant in
     let full = has_children _ _ _ _ _ has.layout has.by in
     let walks = whole_walk has.by (c.minimum_unchecked-first.ensures has.layout full) (c.maximum_unchecked-last.ensures has.layout full) in
     record {
@@ -45,7 +45,7 @@ new-requires-2 g c =
 
 pub returns-clause-pairs : goal.returns-clause-pairs
 returns-clause-pairs g c =
-    let has = at_some (of_key g.K.AsBytes.bytes) g.row.P c.in-Some.is c.self.invariant in
+    let has = at_some c.in-Some.is c.self.invariant in
     let full = has_children _ _ _ _ _ has.layout has.by in
     let walks = whole_walk has.by (c.minimum_unchecked-first.ensures has.layout full) (c.maximum_unchecked-last.ensures has.layout full) in
     c.new-2.ensures.pairs ∙ ap (λ walk. pairs_between c.self.inside.store walk c.self.inside.len) c.new-walk.ensures

@@ -5,7 +5,7 @@ use Rattle.art_map.proofs.Takings.{found_pair}
 use Rattle.art_map.proofs.map.ByteMap.longest_match.Goals as goal
 
 pub prefix_search_unchecked-requires : goal.prefix_search_unchecked-requires
-prefix_search_unchecked-requires g c = (search rules, canonical_root (of_key g.K.AsBytes.bytes) g.row.P c.in_ok-self.was c.self.invariant)
+prefix_search_unchecked-requires g c = (search rules, canonical_root c.in_ok-self.was c.self.invariant)
 
 pub pair_at-requires : goal.pair_at-requires
 pair_at-requires g c = (search rules, c.in_ok-leaf.ensures.there)

@@ -8,7 +8,7 @@ use Rattle.art_map.proofs.Written.{leaf_named, value_read, value_written}
 use Rattle.art_map.proofs.map.ByteMap.modify.Goals as goal
 
 pub search_unchecked-requires : goal.search_unchecked-requires
-search_unchecked-requires g c = (search rules, canonical_root (of_key g.K.AsBytes.bytes) g.row.P c.in_ok-self.was c.self.invariant)
+search_unchecked-requires g c = (search rules, canonical_root c.in_ok-self.was c.self.invariant)
 
 pub unreachable-requires : goal.unreachable-requires
 unreachable-requires g c = false≢true (ap is_some c.in_default.ensures.value ∙ is_some-map (λ node. node.value) _ ∙ c.in_ok-leaf.ensures.there)

@@ -17,23 +17,23 @@ returns-in_default-clause-pairs g c =
 
 pub minimum_unchecked-first-requires : goal.minimum_unchecked-first-requires
 minimum_unchecked-first-requires g c =
-    let has = at_some (of_key g.K.AsBytes.bytes) g.row.P c.in-Some.is c.requires in
+    let has = at_some c.in-Some.is c.requires in
     (search rules, (has.layout, has_children _ _ _ _ _ has.layout has.by))
 
 pub maximum_unchecked-last-requires : goal.maximum_unchecked-last-requires
 maximum_unchecked-last-requires g c =
-    let has = at_some (of_key g.K.AsBytes.bytes) g.row.P c.in-Some.is c.requires in
+    let has = at_some c.in-Some.is c.requires in
     (search rules, (has.layout, has_children _ _ _ _ _ has.layout has.by))
 
 pub new-requires : goal.new-requires
 new-requires g c =
-    let has = at_some (of_key g.K.AsBytes.bytes) g.row.P c.in-Some.is c.requires in
+    let has = at_some c.in-Some.is c.requires in
     let full = has_children _ _ _ _ _ has.layout has.by in
     (search rules, (leaf_names has.layout, items.whole_walk has.by (c.minimum_unchecked-first.ensures has.layout full) (c.maximum_unchecked-last.ensures has.layout full)))
 
 pub returns-clause-walk : goal.returns-clause-walk
 returns-clause-walk g c =
-    let has = at_some (of_key g.K.AsBytes.bytes) g.row.P c.in-Some.is c.requires in
+    let has = at_some c.in-Some.is c.requires in
     let full = has_children _ _ _ _ _ has.layout has.by in
     let walks = items.whole_walk has.by (c.minimum_unchecked-first.ensures has.layout full) (c.maximum_unchecked-last.ensures has.layout full) in
     record {
@@ -44,7 +44,7 @@ returns-clause-walk g c =
 
 pub returns-clause-pairs : goal.returns-clause-pairs
 returns-clause-pairs g c =
-    let has = at_some (of_key g.K.AsBytes.bytes) g.row.P c.in-Some.is c.requires in
+    let has = at_some c.in-Some.is c.requires in
     let full = has_children _ _ _ _ _ has.layout has.by in
     ap (λ walk. pairs_left c.args.store.now walk c.args.len) c.new.ensures
     ∙ whole_pairs has.by (c.minimum_unchecked-first.ensures has.layout full) (c.maximum_unchecked-last.ensures has.layout full) has.len_is

@@ -5,7 +5,7 @@ use Rattle.art_map.proofs.Puts.{canonical_root}
 use Rattle.art_map.proofs.map.place.place_of.Goals as goal
 
 pub search_for_insert_point-requires : goal.search_for_insert_point-requires
-search_for_insert_point-requires g c = (search rules, canonical_root (of_key g.K.AsBytes.bytes) g.row.P c.in-Some.is c.requires.1)
+search_for_insert_point-requires g c = (search rules, canonical_root c.in-Some.is c.requires.1)
 
 pub returns-in-Exact : goal.returns-in-Exact
 returns-in-Exact g c =

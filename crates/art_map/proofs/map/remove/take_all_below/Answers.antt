@@ -15,24 +15,24 @@ returns-in_default g c =
     (subst (HoldsPairs B g.row.P c.args.store.now c.args.root.now c.args.len.now) (none ∙ ap (not_below B c.args.prefix.now) (sym none)) c.requires, ap (λ xs. length (below B c.args.prefix.now xs)) (sym none))
 
 pub search_for_prefix_delete_point-requires : goal.search_for_prefix_delete_point-requires
-search_for_prefix_delete_point-requires g c = (search rules, canonical_root (of_key g.K.AsBytes.bytes) g.row.P c.in-Some.is c.requires)
+search_for_prefix_delete_point-requires g c = (search rules, canonical_root c.in-Some.is c.requires)
 
 pub returns-in_default-search_for_prefix_delete_point : goal.returns-in_default-search_for_prefix_delete_point
 returns-in_default-search_for_prefix_delete_point g c =
     let B = of_key g.K.AsBytes.bytes in
-    let has = at_some B g.row.P c.in-Some.is c.requires in
+    let has = at_some c.in-Some.is c.requires in
     let (left, count) = none_begins B g.row.P has c.args.prefix.now (c.in_default-search_for_prefix_delete_point.ensures.point _ has.layout has.by) in
     (subst (HoldsPairs B g.row.P c.args.store.now c.args.root.now c.args.len.now) (sym left) c.requires, count)
 
 pub overflow_sub-len : goal.overflow_sub-len
 overflow_sub-len g c =
-    let has = at_some (of_key g.K.AsBytes.bytes) g.row.P c.in-Some.is c.requires in
+    let has = at_some c.in-Some.is c.requires in
     removed_few (of_key g.K.AsBytes.bytes) g.row.P has c.args.prefix.now (c.in-Some-search_for_prefix_delete_point.ensures.point _ has.layout has.by) (c.in-Ok.ensures.removed _ has.layout has.by)
 
 pub returns-in-Ok : goal.returns-in-Ok
 returns-in-Ok g c =
     let B = of_key g.K.AsBytes.bytes in
-    let has = at_some B g.row.P c.in-Some.is c.requires in
+    let has = at_some c.in-Some.is c.requires in
     let at = c.in-Some-search_for_prefix_delete_point.ensures.point _ has.layout has.by in (
       others_hold B g.row.P has c.args.prefix.now at (c.in-Ok.ensures.removed _ has.layout has.by) (c.in-Ok.ensures.canonical _ has.layout has.by) (c.in-Ok.ensures.kept _ has.layout has.by),
       removed_is B g.row.P has c.args.prefix.now at (c.in-Ok.ensures.removed _ has.layout has.by),
@@ -41,7 +41,7 @@ returns-in-Ok g c =
 pub returns-in-Err : goal.returns-in-Err
 returns-in-Err g c =
     let B = of_key g.K.AsBytes.bytes in
-    let has = at_some B g.row.P c.in-Some.is c.requires in (
+    let has = at_some c.in-Some.is c.requires in (
       stays B g.row.P c.args.store.now c.apply.new.store c.in-Err.ensures.leaves c.in-Err.ensures.inners c.requires,
       below_shrinks g.K.AsBytes.bytes g.row.P has.by c.args.prefix.now (c.in-Some-search_for_prefix_delete_point.ensures.point _ has.layout has.by)
           (λ covered. absurd (false≢true (c.in-Err.ensures.succeeds covered))),

@@ -21,7 +21,7 @@ returns-clause-taken g c =
     let bytes = g.K.AsBytes.bytes in
     let B = of_key bytes in
     let pairs = pairs_at c.args.store.now c.args.root.now in
-    let has = at_some B g.row.P c.in-Some.is c.requires.holds in
+    let has = at_some c.in-Some.is c.requires.holds in
     let (x, stops, leads, applies) = c.in-Some-find_refused.ensures.found in
     let stopped = subst (λ all. StopsAt (AsksPair g.F.FnMut) c.args.f.now (pairs_after B c.args.last.now all) x c.find_refused.new.f) (ap (pairs_at c.args.store.now) (sym c.in-Some.is)) stops in
     refused_taken (AsksPair g.F.FnMut) bytes g.row.P c.args.last.now c.args.f.now c.find_refused.new.f pairs c.take_out.new.store c.take_out.new.root c.take_out.new.len stopped c.take_out.result
