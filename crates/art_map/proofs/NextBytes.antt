@@ -1,4 +1,4 @@
--- The pairs below a node of a radix tree, by their keys: which they are, and which bytes follow the node's place.
+-- The pairs below a node of a radix tree, told by their keys, and the bytes that follow there: those of the node's children.
 use Rattle.std.proofs.Common.{◌≡◌, ℕ, ◌<◌, List, [], ◌∷◌, ◌++◌, Bool, true, false, length, map, refl, ap, sym, ◌∙◌, subst, cond, eqb, eq-eqb, append-nil, arith, ◌⊎◌, inl, inr}
 use Rattle.std.specs.List.{AllByRecursion as Each, dedup, dedup_from}
 use Rattle.std.proofs.lemmas.Bool.{ne_eqb, true≢false}
@@ -30,10 +30,11 @@ unrelated_off prefix key apart = go (is_front prefix key) refl
     go false e = e
     go true e = absurd (never apart e)
 
+-- one that has it in front does
 begins_with : (prefix key : List ℕ) → IsFront prefix key → is_front prefix key ≡ true
 begins_with prefix key (rest, e) = ap (is_front prefix) e ∙ front_is prefix rest
 
--- what is left of numbers whose neighbours differ begins with the first of them
+-- without repeats numbers still begin with the first of them
 first_kept : (b : ℕ) (bs : List ℕ) → (cs : List ℕ) × (dedup_from eqb b bs ≡ b ∷ cs)
 first_kept b [] = ([], refl)
 first_kept b (c ∷ bs) = go (eqb c b) (first_kept b bs)
@@ -42,7 +43,7 @@ first_kept b (c ∷ bs) = go (eqb c b) (first_kept b bs)
     go true ih = ih
     go false ih = (dedup_from eqb c bs, refl)
 
--- a number below all that are left of others comes before them
+-- a number below all others stays in front of what is left of them
 kept_below : (b : ℕ) (bs cs : List ℕ) → dedup eqb bs ≡ cs → Each (λ c. b < c) cs → dedup_from eqb b bs ≡ b ∷ cs
 kept_below b [] cs e up = ap (λ z. b ∷ z) e
 kept_below b (c ∷ bs) cs e up =
@@ -51,13 +52,13 @@ kept_below b (c ∷ bs) cs e up =
     rw (ne_eqb c b (λ same. omega arith)) (ap (λ z. b ∷ z) e)
 
 module _ {A : Type 0} (byte : A → ℕ) where
-  -- elements with the byte of the one before are passed over
+  -- elements with the byte that came last are passed over
   passed_over : (b : ℕ) (xs : List A) (bs : List ℕ) → Each (λ x. byte x ≡ b) xs → dedup_from eqb b (map byte xs ++ bs) ≡ dedup_from eqb b bs
   passed_over b [] bs all = refl
   passed_over b (x ∷ xs) bs all = rw (eq-eqb (byte x) b all.0) (passed_over b xs bs all.1)
 
 module _ {N A : Type 0} (bytes : A → List ℕ) (P : ℕ) where
-  -- the bytes of children are those that follow the node's place in the keys below
+  -- the bytes that follow in the keys below a node are those of its children
   bytes_follow : (cs : Subtrees N A) (place : List ℕ) → AreRadix bytes P place cs → BytesRise (bytes_of cs) →
       dedup eqb (map (byte_at bytes (length place)) (pairs_below cs)) ≡ bytes_of cs
   bytes_follow no_child place radix up = refl
@@ -72,7 +73,7 @@ module _ {N A : Type 0} (bytes : A → List ℕ) (P : ℕ) where
       ∙ passed_over byte b xs (map byte (pairs_below cs)) same.1
       ∙ kept_below b (map byte (pairs_below cs)) (bytes_of cs) (bytes_follow cs place radix.1 up.1) up.0
 
-  -- the pairs whose keys begin with a prefix are those of a subtree where the way to it is a part of the prefix and they all begin so
+  -- the pairs below a prefix are those in a hole, where the hole's place begins the prefix and their keys all begin with it
   below_hole : (fs : List (Frame N A)) (place prefix : List ℕ) (t : Tree N A) → IsPath bytes P place fs → IsFront place prefix →
       Each (λ x. IsFront prefix (bytes x)) (pairs_of t) → below bytes prefix (pairs_of (plug fs t)) ≡ pairs_of t
   below_hole fs place prefix t path front all =
@@ -85,7 +86,7 @@ module _ {N A : Type 0} (bytes : A → List ℕ) (P : ℕ) where
       ap (below bytes prefix) (pairs_of-plug fs t) ∙ simp (filter-append, before, own, after, append-nil) refl
 
   module _ (f : Frame N A) (fs : List (Frame N A)) (t : Tree N A) (radix : IsRadix bytes P [] (plug (f ∷ fs) t)) where
-    -- so the pairs of a child of a node with as few children as its kind can have go only with the node
+    -- so the pairs below a child shrink the node where it has 5, 17 or 49 children
     pub child_shrinks : IsIn (length (bytes_of (join f.left (child f.byte t f.right)))) (5 ∷ 17 ∷ 49 ∷ []) → ShrinksNode bytes (pairs_of (plug (f ∷ fs) t)) (pairs_of t)
     child_shrinks few =
         let children = join f.left (child f.byte t f.right) in

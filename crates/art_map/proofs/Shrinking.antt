@@ -89,7 +89,7 @@ module _ {K V : Type 0} (bytes : K → List ℕ) (P : ℕ) {s : Nodes K V} {root
         shrinks_at s.promise f.mark.kind (width_of f node) (subst (λ k. IsInRange k (width_of f node)) (sym kind) (range_of_kind (width_of f node)))
         (λ covered. off (ap (λ c. is_covered (placed_of c) s.promise) change ∙ covered))
 
-    -- and the pairs below it are of one of so many bytes
+    -- and the pairs that go shrink it
     node_shrinks : (is_covered (placed_for_deletion s (path_of (f ∷ fs))) s.promise ≡ true → ⊥) → ShrinksNode (of_key bytes) pairs (pairs_of node)
     node_shrinks off =
         let radix = subst (IsRadix (of_key bytes) P []) (sym whole) (tree_radix by).0 in

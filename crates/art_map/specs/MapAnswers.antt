@@ -30,7 +30,7 @@ module _ {A : Type 0} (bytes : A → List ℕ) where
   abbrev pub next_bytes : List ℕ → List A → List ℕ
   next_bytes place pairs = dedup ◌==◌ (map (byte_at bytes (length place)) (below bytes place pairs))
 
-  -- The pairs that go are those whose keys begin with a place and then one of the 5, 17 or 49 bytes that follow it: when they go, a node gives way to a smaller one.
+  -- The pairs that go are those whose keys begin with some bytes, the place, and then one of the 5, 17 or 49 that follow there: when they go, a node gives way to a smaller one.
   pub record ShrinksNode (pairs gone : List A) : Type 0 where
     pub place : List ℕ
     pub byte : ℕ
