@@ -1,5 +1,5 @@
 -- Parts of a map by the order of its keys, and by their strings.
-use Rattle.std.proofs.Common.{◌≡◌, ℕ, List, [], ◌∷◌, Bool, true, false, ◌&&◌, ◌++◌, not, eqb, eqb-true, eq-eqb, length, if◌then◌else◌, Result, Ok, Err, IfOk, OnOk, OnErr, refl, ap, ap₂, sym, ◌∙◌}
+use Rattle.std.proofs.Common.{◌≡◌, ℕ, List, [], ◌∷◌, Bool, true, false, ◌&&◌, ◌++◌, not, eqb, eqb-true, eq-eqb, length, if◌then◌else◌, Result, Ok, Err, IfOk, OnOk, OnErr, refl, ap, ap₂, sym, subst, ◌∙◌}
 use Rattle.std.specs.Prelude.{filter}
 use Rattle.std.specs.List.{AllByRecursion as Each}
 use Rattle.std.specs.Ordering.{is_lt}
@@ -13,7 +13,7 @@ use Rattle.art_model.specs.Keys.{IsFront, are_same, is_front}
 use Rattle.art_model.specs.Pairs.{of_key}
 use Rattle.art_model.specs.Parts.{below, between, is_from, is_up_to, not_below, without_below}
 use Rattle.art_model.proofs.lists.Filters.{Each-filter}
-use Rattle.art_map.specs.MapAnswers.{HasShrinkingParentBelow}
+use Rattle.art_map.specs.MapAnswers.{ShrinksNode}
 use Rattle.art_keyed.specs.KeyedPairs.{HaveKeys, OnBound, is_key_from, is_key_up_to, keys_between, pairs_with_first, pairs_without_first, set_below, set_between, set_with_first, strings_below, strings_not_below, without_first_with}
 use denote.Ref.{Bor}
 
@@ -96,11 +96,10 @@ module _ {K : Type 0} (is_key : K → Type 0) (bytes : K → List ℕ) where
     strings_counted text key beginning begins (Ok n) pairs all is = is ∙ ap length (below_strings text key beginning begins pairs all)
     strings_counted text key beginning begins (Err e) pairs all is = tt
 
-    pub strings_refused : {E : Type 0} (P : ℕ) (text : K → List ℕ) (key : K) (beginning : List ℕ) → BeginsAs is_key bytes text key beginning → (r : Result ℕ E) (pairs : List (K × V)) →
-        OnErr r (HasShrinkingParentBelow (of_key bytes) P pairs beginning) →
-        OnErr r ((start : List ℕ) × BeginsAs is_key bytes text key start × HasShrinkingParentBelow (of_key bytes) P pairs start)
-    strings_refused P text key beginning begins (Ok n) pairs refused = tt
-    strings_refused P text key beginning begins (Err e) pairs refused = (beginning, begins, refused)
+    pub strings_refused : {E : Type 0} (text : K → List ℕ) (key : K) (beginning : List ℕ) → BeginsAs is_key bytes text key beginning → (r : Result ℕ E) (pairs : List (K × V)) →
+        HaveKeys is_key pairs → OnErr r (ShrinksNode (of_key bytes) pairs (below (of_key bytes) beginning pairs)) → OnErr r (ShrinksNode (of_key bytes) pairs (strings_below text (text key) pairs))
+    strings_refused text key beginning begins (Ok n) pairs all refused = tt
+    strings_refused text key beginning begins (Err e) pairs all refused = subst (ShrinksNode (of_key bytes) pairs) (below_strings text key beginning begins pairs all) refused
 
     -- the first pair whose string begins so is the first one whose key does
     pub without_string : (text : K → List ℕ) (key : K) (beginning : List ℕ) → BeginsAs is_key bytes text key beginning → (pairs : List (K × V)) → HaveKeys is_key pairs →

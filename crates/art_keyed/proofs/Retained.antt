@@ -19,10 +19,10 @@ module _ {F A : Type 0} (asks : F → A → Bool → F → Type 0) (Known : A �
       go false is known = rw is known
 
   -- so it is after `retain`, be it an Ok or an Err
-  pub retained_keep : {E : Type 0} (bytes : A → List ℕ) (P : ℕ) (r : Result (Unit {0}) E) (f : F) (old new : List A) →
-      OnOk r (RetainsAll asks f old new) → OnErr r (RetainsUntil asks bytes P f old new) → Each Known old → Each Known new
-  retained_keep bytes P (Ok done) f old new ok err all = retains_keep f old new ok.0 ok.1 all
-  retained_keep bytes P (Err error) f old new ok err all =
+  pub retained_keep : {E : Type 0} (bytes : A → List ℕ) (r : Result (Unit {0}) E) (f : F) (old new : List A) →
+      OnOk r (RetainsAll asks f old new) → OnErr r (RetainsUntil asks bytes f old new) → Each Known old → Each Known new
+  retained_keep bytes (Ok done) f old new ok err all = retains_keep f old new ok.0 ok.1 all
+  retained_keep bytes (Err error) f old new ok err all =
       let parts = subst (Each Known) err.before_is all in
       rw err.after_is
       (Each-append Known err.kept (err.refused ∷ err.rest) (retains_keep f err.seen err.kept err.next err.retains (Each-left Known err.seen (err.refused ∷ err.rest) parts))
@@ -35,9 +35,9 @@ changes_keep g is_key f [] after left h all = rw h.0 tt
 changes_keep g is_key f (x ∷ xs) after left (value, next, rest, called, h, is) all = rw is (all.0, changes_keep g is_key next xs rest left h all.1)
 
 -- and so is what is known of the keys of a set
-pub keys_retained_keep : {F K E : Type 0} (g : Mut F (Bor K × Unit {0}) Bool) (is_key : K → Type 0) (bytes : K × Unit {0} → List ℕ) (P : ℕ) (r : Result (Unit {0}) E) (f : F) (old new : List K) →
-    OnOk r (RetainsAll (CalledAt g) f old new) → OnErr r (RetainsUntil (AsksKey g) bytes P f (as_pairs old) (as_pairs new)) → Each is_key old → Each is_key new
-keys_retained_keep g is_key bytes P (Ok done) f old new ok err all = retains_keep (CalledAt g) is_key f old new ok.0 ok.1 all
-keys_retained_keep g is_key bytes P (Err error) f old new ok err all =
+pub keys_retained_keep : {F K E : Type 0} (g : Mut F (Bor K × Unit {0}) Bool) (is_key : K → Type 0) (bytes : K × Unit {0} → List ℕ) (r : Result (Unit {0}) E) (f : F) (old new : List K) →
+    OnOk r (RetainsAll (CalledAt g) f old new) → OnErr r (RetainsUntil (AsksKey g) bytes f (as_pairs old) (as_pairs new)) → Each is_key old → Each is_key new
+keys_retained_keep g is_key bytes (Ok done) f old new ok err all = retains_keep (CalledAt g) is_key f old new ok.0 ok.1 all
+keys_retained_keep g is_key bytes (Err error) f old new ok err all =
     each_unmap (λ k. (k, tt)) (λ x. is_key x.0) new
-    (retained_keep (AsksKey g) (λ x. is_key x.0) bytes P (Err error) f (as_pairs old) (as_pairs new) tt err (each_map (λ k. (k, tt)) (λ x. is_key x.0) old all))
+    (retained_keep (AsksKey g) (λ x. is_key x.0) bytes (Err error) f (as_pairs old) (as_pairs new) tt err (each_map (λ k. (k, tt)) (λ x. is_key x.0) old all))

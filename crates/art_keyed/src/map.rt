@@ -258,7 +258,7 @@ impl<K: NoPrefixesBytes + Drop, V: Drop, const P: usize> KeyedMap<K, V, P> {
         ensures others { OnOk result ((other : List ℕ) → other ≢ K.bytes key.now →
             value_at K.bytes other self.new ≡ value_at K.bytes other self.old) }
         ensures kept { OnErr result (self.new ≡ self.old) }
-        ensures refused { OnErr result (MayRefuseRemoval (of_key K.bytes) P self.old
+        ensures refused { OnErr result (MayRefuseRemoval (of_key K.bytes) self.old
             (remove_reply (of_key K.bytes) (K.bytes key.now) self.old)) }
     {
         self.map.remove(key.as_bytes())
@@ -269,7 +269,7 @@ impl<K: NoPrefixesBytes + Drop, V: Drop, const P: usize> KeyedMap<K, V, P> {
         ensures pairs { OnOk result (self.new ≡ without_first self.old) }
         ensures removed { IfOk result (λ removed. removed ≡ first_of self.old) }
         ensures kept { OnErr result (self.new ≡ self.old) }
-        ensures refused { OnErr result (MayRefuseRemoval (of_key K.bytes) P self.old
+        ensures refused { OnErr result (MayRefuseRemoval (of_key K.bytes) self.old
             (first_of self.old)) }
     {
         self.map.pop_first()
@@ -280,7 +280,7 @@ impl<K: NoPrefixesBytes + Drop, V: Drop, const P: usize> KeyedMap<K, V, P> {
         ensures pairs { OnOk result (self.new ≡ without_last self.old) }
         ensures removed { IfOk result (λ removed. removed ≡ last_of self.old) }
         ensures kept { OnErr result (self.new ≡ self.old) }
-        ensures refused { OnErr result (MayRefuseRemoval (of_key K.bytes) P self.old
+        ensures refused { OnErr result (MayRefuseRemoval (of_key K.bytes) self.old
             (last_of self.old)) }
     {
         self.map.pop_last()

@@ -163,7 +163,7 @@ impl<K: NoPrefixesBytes + Drop, const P: usize> KeyedSet<K, P> {
         ensures removed { IfOk result (λ removed.
             removed ≡ has_key K.bytes (K.bytes key.now) self.old) }
         ensures kept { OnErr result (self.new ≡ self.old) }
-        ensures refused { OnErr result (MayRefuseRemoval (of_key K.bytes) P (as_pairs self.old)
+        ensures refused { OnErr result (MayRefuseRemoval (of_key K.bytes) (as_pairs self.old)
             (remove_reply (of_key K.bytes) (K.bytes key.now) (as_pairs self.old))) }
     {
         self.set.remove(key.as_bytes())
@@ -175,7 +175,7 @@ impl<K: NoPrefixesBytes + Drop, const P: usize> KeyedSet<K, P> {
         ensures removed { IfOk result (λ removed.
             removed ≡ remove_reply K.bytes (K.bytes key.now) self.old) }
         ensures kept { OnErr result (self.new ≡ self.old) }
-        ensures refused { OnErr result (MayRefuseRemoval (of_key K.bytes) P (as_pairs self.old)
+        ensures refused { OnErr result (MayRefuseRemoval (of_key K.bytes) (as_pairs self.old)
             (remove_reply (of_key K.bytes) (K.bytes key.now) (as_pairs self.old))) }
     {
         self.set.take(key.as_bytes())
@@ -186,7 +186,7 @@ impl<K: NoPrefixesBytes + Drop, const P: usize> KeyedSet<K, P> {
         ensures keys { OnOk result (self.new ≡ without_first self.old) }
         ensures removed { IfOk result (λ removed. removed ≡ first_of self.old) }
         ensures kept { OnErr result (self.new ≡ self.old) }
-        ensures refused { OnErr result (MayRefuseRemoval (of_key K.bytes) P (as_pairs self.old)
+        ensures refused { OnErr result (MayRefuseRemoval (of_key K.bytes) (as_pairs self.old)
             (first_of (as_pairs self.old))) }
     {
         self.set.pop_first()
@@ -197,7 +197,7 @@ impl<K: NoPrefixesBytes + Drop, const P: usize> KeyedSet<K, P> {
         ensures keys { OnOk result (self.new ≡ without_last self.old) }
         ensures removed { IfOk result (λ removed. removed ≡ last_of self.old) }
         ensures kept { OnErr result (self.new ≡ self.old) }
-        ensures refused { OnErr result (MayRefuseRemoval (of_key K.bytes) P (as_pairs self.old)
+        ensures refused { OnErr result (MayRefuseRemoval (of_key K.bytes) (as_pairs self.old)
             (last_of (as_pairs self.old))) }
     {
         self.set.pop_last()

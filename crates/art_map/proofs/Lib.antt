@@ -8,6 +8,7 @@ pub mod Ranges
 pub mod PartsOut
 pub mod Owned
 pub mod CallerLaws
+pub mod NextBytes
 pub mod Shrinking
 pub mod ValueLaws
 pub mod Written

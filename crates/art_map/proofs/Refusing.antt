@@ -59,6 +59,6 @@ module _ {F K V : Type 0} (asks : F → K × V → Bool → F → Type 0) (bytes
       refused_holds = holds (of_key bytes) P t h.1
 
       -- by the pairs that are read off
-      pub refused_told : {before : List (K × V)} → pairs ≡ before → TakesRefused asks bytes P last f before result left (pairs_at t root)
+      pub refused_told : {before : List (K × V)} → pairs ≡ before → TakesRefused asks bytes last f before result left (pairs_at t root)
       refused_told same =
-          subst (λ after. TakesRefused asks bytes P last f _ result left after) (sym (view_of (of_key bytes) P t h.1)) (subst (λ xs. TakesRefused asks bytes P last f xs result left h.0) same h.2)
+          subst (λ after. TakesRefused asks bytes last f _ result left after) (sym (view_of (of_key bytes) P t h.1)) (subst (λ xs. TakesRefused asks bytes last f xs result left h.0) same h.2)

@@ -6,7 +6,7 @@ use Rattle.art_model.specs.Pairs.{IsMap, first_of, is_conflict, of_key, overwrit
 use Rattle.art_model.specs.Parts.{below, not_below}
 use Rattle.art_model.proofs.keys.Keys.{not_same}
 use Rattle.art_writing.specs.declared.insert.Refused.{Refused}
-use Rattle.art_map.specs.MapAnswers.{HasShrinkingParentBelow, IsRefusalOf, MayRefuseRemoval, value_at}
+use Rattle.art_map.specs.MapAnswers.{IsRefusalOf, MayRefuseRemoval, ShrinksNode, value_at}
 use Rattle.art_map.specs.MapChanges.{HasPut, HasPutOver, HasReplaced, HasTaken, HasTakenBelow}
 use Rattle.art_map.specs.MapPairs.{HoldsPairs, pairs_at}
 use Rattle.art_map.specs.declared.map.MapInsertError.{MapInsertError}
@@ -43,19 +43,19 @@ module _ {K V : Type 0} (bytes : K → List ℕ) where
     pub kept : OnErr result (after ≡ before)
 
   -- What a caller is told of the pairs below a prefix that are taken out.
-  pub record TellsBelow (P : ℕ) (prefix : List ℕ) (before after : List (K × V)) (result : Result ℕ MapRefused) : Type 0 where
+  pub record TellsBelow (prefix : List ℕ) (before after : List (K × V)) (result : Result ℕ MapRefused) : Type 0 where
     pub pairs : OnOk result (after ≡ not_below (of_key bytes) prefix before)
     pub removed : IfOk result (λ removed. removed ≡ length (below (of_key bytes) prefix before))
     pub kept : OnErr result (after ≡ before)
-    pub refused : OnErr result (HasShrinkingParentBelow (of_key bytes) P before prefix)
+    pub refused : OnErr result (ShrinksNode (of_key bytes) before (below (of_key bytes) prefix before))
 
   -- What a caller is told of a pair that is taken out.
-  pub record TellsTaken (P : ℕ) (pair : List (K × V) → Option (K × V)) (left : List (K × V) → List (K × V)) (before after : List (K × V)) (result : Result (Option (K × V)) MapRefused)
+  pub record TellsTaken (pair : List (K × V) → Option (K × V)) (left : List (K × V) → List (K × V)) (before after : List (K × V)) (result : Result (Option (K × V)) MapRefused)
       : Type 0 where
     pub pairs : OnOk result (after ≡ left before)
     pub removed : IfOk result (λ removed. removed ≡ pair before)
     pub kept : OnErr result (after ≡ before)
-    pub refused : OnErr result (MayRefuseRemoval (of_key bytes) P before (pair before))
+    pub refused : OnErr result (MayRefuseRemoval (of_key bytes) before (pair before))
 
 module _ {K V : Type 0} (bytes : K → List ℕ) (P : ℕ) (pairs : List (K × V)) (t : Nodes K V) (root : Option OpaqueNodePtr) (len : ℕ) where
   module _ (key : K) (value : V) where
@@ -122,10 +122,10 @@ module _ {K V : Type 0} (bytes : K → List ℕ) (P : ℕ) (pairs : List (K × V
     below_holds (Err error) h = holds (of_key bytes) P t h.0
 
     pub tells_below : {before : List (K × V)} → pairs ≡ before → (result : Result ℕ MapRefused) → HasTakenBelow bytes P pairs prefix result t root len →
-        TellsBelow bytes P prefix before (pairs_at t root) result
-    tells_below same result h = subst (λ xs. TellsBelow bytes P prefix xs (pairs_at t root) result) same (go result h)
+        TellsBelow bytes prefix before (pairs_at t root) result
+    tells_below same result h = subst (λ xs. TellsBelow bytes prefix xs (pairs_at t root) result) same (go result h)
       where
-        go : (result : Result ℕ MapRefused) → HasTakenBelow bytes P pairs prefix result t root len → TellsBelow bytes P prefix pairs (pairs_at t root) result
+        go : (result : Result ℕ MapRefused) → HasTakenBelow bytes P pairs prefix result t root len → TellsBelow bytes prefix pairs (pairs_at t root) result
         go (Ok removed) h = record { pairs = view_of (of_key bytes) P t h.0; removed = h.1; kept = tt; refused = tt }
         go (Err error) h = record { pairs = tt; removed = tt; kept = view_of (of_key bytes) P t h.0; refused = h.1 }
 
@@ -135,10 +135,10 @@ module _ {K V : Type 0} (bytes : K → List ℕ) (P : ℕ) (pairs : List (K × V
     taken_holds (Err error) h = holds (of_key bytes) P t h.0
 
     pub tells_taken : {before : List (K × V)} → pairs ≡ before → (result : Result (Option (K × V)) MapRefused) → HasTaken bytes P pairs (pair pairs) (left pairs) result t root len →
-        TellsTaken bytes P pair left before (pairs_at t root) result
-    tells_taken same result h = subst (λ xs. TellsTaken bytes P pair left xs (pairs_at t root) result) same (go result h)
+        TellsTaken bytes pair left before (pairs_at t root) result
+    tells_taken same result h = subst (λ xs. TellsTaken bytes pair left xs (pairs_at t root) result) same (go result h)
       where
-        go : (result : Result (Option (K × V)) MapRefused) → HasTaken bytes P pairs (pair pairs) (left pairs) result t root len → TellsTaken bytes P pair left pairs (pairs_at t root) result
+        go : (result : Result (Option (K × V)) MapRefused) → HasTaken bytes P pairs (pair pairs) (left pairs) result t root len → TellsTaken bytes pair left pairs (pairs_at t root) result
         go (Ok taken) h = record { pairs = view_of (of_key bytes) P t h.0; removed = h.1; kept = tt; refused = tt }
         go (Err error) h = record { pairs = tt; removed = tt; kept = view_of (of_key bytes) P t h.0; refused = h.1 }
 

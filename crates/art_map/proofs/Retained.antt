@@ -8,7 +8,7 @@ use Rattle.art_model.specs.Pairs.{IsMap, first_of, remove_key, with_key}
 use Rattle.art_model.specs.Parts.{is_between}
 use Rattle.art_model.proofs.keys.Keys.{front_same, precedes_apart, related_sym, same_related}
 use Rattle.art_model.proofs.pairs.MapLaws.{first_is_removed_by_key}
-use Rattle.art_map.specs.MapAnswers.{HasShrinkingParent}
+use Rattle.art_map.specs.MapAnswers.{ShrinksNode}
 use Rattle.art_map.specs.MapItems.{keys_of}
 use Rattle.art_map.specs.MapRetain.{AsksPair, Retains, RetainsAll, RetainsUntil, StopsAt, pairs_after}
 use Rattle.art_map.specs.SetKeys.{AsksKey}
@@ -84,7 +84,7 @@ module _ {F A : Type 0} (asks : F → A → Bool → F → Type 0) where
   pub keeps_one : (xs : List A) (x : A) (f next left : F) → Retains asks f xs xs next → asks next x true left → Retains asks f (xs ++ x ∷ []) (xs ++ x ∷ []) left
   keeps_one xs x f next left h k = retains_more xs (x ∷ []) xs (x ∷ []) f next left h (true, left, [], k, (refl, refl), refl)
 
-  module _ (bytes : A → List ℕ) (P : ℕ) (began : F) (before : List A) where
+  module _ (bytes : A → List ℕ) (began : F) (before : List A) where
     -- What is known before each step: f was asked of those pairs that are not after the last one that went.
     pub record Retaining (f : F) (pairs : List A) (last : Option A) : Type 0 where
       pub seen : List A
@@ -119,7 +119,7 @@ module _ {F A : Type 0} (asks : F → A → Bool → F → Type 0) where
         asked = retains_more now.seen stops.seen now.kept stops.seen began f stops.next now.retains stops.kept
 
         -- the pair may not be taken out
-        pub stays : HasShrinkingParent bytes P pairs x → RetainsUntil asks bytes P began before pairs
+        pub stays : ShrinksNode bytes pairs (x ∷ []) → RetainsUntil asks bytes began before pairs
         stays shrinks = record {
           seen = now.seen ++ stops.seen;
           kept = now.kept ++ stops.seen;
@@ -175,10 +175,10 @@ module _ {C F A : Type 0} (asks : C → A → Bool → C → Type 0) (other : F 
   all_inside (Ok done) s before after (left, h) = (inside left, retains_inside s before after left h)
   all_inside (Err error) s before after h = tt
 
-  pub until_inside : {E : Type 0} (r : Result (Unit {0}) E) (bytes : A → List ℕ) (P : ℕ) (s : C) (before after : List A) → OnErr r (RetainsUntil asks bytes P s before after) →
-      OnErr r (RetainsUntil other bytes P (inside s) before after)
-  until_inside (Ok done) bytes P s before after h = tt
-  until_inside (Err error) bytes P s before after h = record {
+  pub until_inside : {E : Type 0} (r : Result (Unit {0}) E) (bytes : A → List ℕ) (s : C) (before after : List A) → OnErr r (RetainsUntil asks bytes s before after) →
+      OnErr r (RetainsUntil other bytes (inside s) before after)
+  until_inside (Ok done) bytes s before after h = tt
+  until_inside (Err error) bytes s before after h = record {
     seen = h.seen;
     kept = h.kept;
     refused = h.refused;

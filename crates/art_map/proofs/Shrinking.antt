@@ -31,7 +31,8 @@ use Rattle.art_writing.specs.declared.delete.DeletePoint.{DeletePoint}
 use Rattle.art_writing.proofs.Ways.{last_step-path_of}
 use Rattle.art_writing.specs.Subtrees.{HasPrefixBelow}
 use Rattle.art_writing.specs.declared.delete.subtree.SubtreeDeletePoint.{SubtreeDeletePoint}
-use Rattle.art_map.specs.MapAnswers.{HasShrinkingParent, HasShrinkingParentBelow}
+use Rattle.art_map.specs.MapAnswers.{ShrinksNode}
+use Rattle.art_map.proofs.NextBytes.{child_shrinks}
 
 -- what a change of the parent places
 abbrev placed_of : ParentChange → Promise
@@ -88,38 +89,29 @@ module _ {K V : Type 0} (bytes : K → List ℕ) (P : ℕ) {s : Nodes K V} {root
         shrinks_at s.promise f.mark.kind (width_of f node) (subst (λ k. IsInRange k (width_of f node)) (sym kind) (range_of_kind (width_of f node)))
         (λ covered. off (ap (λ c. is_covered (placed_of c) s.promise) change ∙ covered))
 
+    -- and the pairs that go shrink it
+    node_shrinks : (is_covered (placed_for_deletion s (path_of (f ∷ fs))) s.promise ≡ true → ⊥) → ShrinksNode (of_key bytes) pairs (pairs_of node)
+    node_shrinks off =
+        let radix = subst (IsRadix (of_key bytes) P []) (sym whole) (tree_radix by).0 in
+        subst (λ all. ShrinksNode (of_key bytes) all (pairs_of node)) (ap pairs_of whole ∙ (tree_radix by).1) (child_shrinks (of_key bytes) P f fs node radix (parent_shrinks off))
+
   -- so what is refused is such a removal
   pub refused_shrinks : (x : K × V) (name : OpaqueNodePtr) → {point : DeletePoint} → leaf_name point.leaf_node_ptr ≡ name → LeadsTo layout x point →
-      (is_covered (placed_for_deletion s point.path) s.promise ≡ true → ⊥) → HasShrinkingParent (of_key bytes) P pairs x
+      (is_covered (placed_for_deletion s point.path) s.promise ≡ true → ⊥) → ShrinksNode (of_key bytes) pairs (x ∷ [])
   refused_shrinks x name {point} named leads off =
       go leads.path (subst (λ n. plug leads.path (leaf n x) ≡ layout) named leads.whole) (subst (λ path. is_covered (placed_for_deletion s path) s.promise ≡ true → ⊥) leads.path_is off)
     where
       go : (fs : List (Frame OpaqueNodePtr (K × V))) → plug fs (leaf name x) ≡ layout → (is_covered (placed_for_deletion s (path_of fs)) s.promise ≡ true → ⊥) →
-          HasShrinkingParent (of_key bytes) P pairs x
+          ShrinksNode (of_key bytes) pairs (x ∷ [])
       go [] whole off = absurd (off (leb-zero s.promise.leaves))
-      go (f ∷ fs) whole off = record {
-        parent = f;
-        above = fs;
-        name = name;
-        radix = subst (IsRadix (of_key bytes) P []) (sym whole) (tree_radix by).0;
-        pairs_are = ap pairs_of whole ∙ (tree_radix by).1;
-        children = parent_shrinks (leaf name x) f fs whole off;
-      }
+      go (f ∷ fs) whole off = node_shrinks (leaf name x) f fs whole off
 
   -- and so is one of all pairs below a prefix
   pub below_shrinks : (prefix : List ℕ) {point : SubtreeDeletePoint} → HasPrefixBelow (of_key bytes) prefix layout point → (is_covered (placed_for_deletion s point.path) s.promise ≡ true → ⊥) →
-      HasShrinkingParentBelow (of_key bytes) P pairs prefix
+      ShrinksNode (of_key bytes) pairs (below (of_key bytes) prefix pairs)
   below_shrinks prefix {point} has off = go has.at.path has.at.whole (subst (λ path. is_covered (placed_for_deletion s path) s.promise ≡ true → ⊥) has.at.path_is off)
     where
       go : (fs : List (Frame OpaqueNodePtr (K × V))) → plug fs has.at.node ≡ layout → (is_covered (placed_for_deletion s (path_of fs)) s.promise ≡ true → ⊥) →
-          HasShrinkingParentBelow (of_key bytes) P pairs prefix
+          ShrinksNode (of_key bytes) pairs (below (of_key bytes) prefix pairs)
       go [] whole off = absurd (off (leb-zero s.promise.leaves))
-      go (f ∷ fs) whole off = record {
-        parent = f;
-        above = fs;
-        node = has.at.node;
-        radix = subst (IsRadix (of_key bytes) P []) (sym whole) (tree_radix by).0;
-        pairs_are = ap pairs_of whole ∙ (tree_radix by).1;
-        gone = has.gone ∙ ap (below (of_key bytes) prefix) (tree_radix by).1;
-        children = parent_shrinks has.at.node f fs whole off;
-      }
+      go (f ∷ fs) whole off = subst (ShrinksNode (of_key bytes) pairs) (has.gone ∙ ap (below (of_key bytes) prefix) (tree_radix by).1) (node_shrinks has.at.node f fs whole off)

@@ -1,15 +1,13 @@
 -- What the calls of a map answer, by its pairs.
-use Rattle.std.specs.Prelude.{◌≡◌, ℕ, true, false, if◌then◌else◌, List, [], ◌∷◌, length, map, Option, Some, None}
+use Rattle.std.specs.Prelude.{◌≡◌, ℕ, ◌==◌, true, false, if◌then◌else◌, List, [], ◌∷◌, ◌++◌, length, map, Option, Some, None}
 use Rattle.std.specs.Box.{boxed_slice_items}
+use Rattle.std.specs.List.{dedup}
 use Rattle.std.specs.Option.{option_map}
-use Rattle.art_parts.specs.declared.names.OpaqueNodePtr.{OpaqueNodePtr}
 use Rattle.art_model.specs.Footprints.{IsIn}
 use Rattle.art_model.specs.Keys.{are_same}
 use Rattle.art_model.specs.Pairs.{of_key, first_of, last_of, without_first, without_last, with_key, has_key, is_conflict}
 use Rattle.art_model.specs.Parts.{below}
-use Rattle.art_model.specs.Paths.{Frame, fill, plug}
-use Rattle.art_model.specs.Radix.{IsRadix, bytes_of, pairs_of}
-use Rattle.art_model.specs.Trees.{Tree, leaf, inner}
+use Rattle.art_model.specs.Trees.{byte_at}
 use Rattle.art_reading.specs.declared.descent.End.{End}
 use Rattle.art_reading.specs.declared.descent.End.TheVariants.{First, Last}
 use Rattle.art_map.specs.declared.map.MapInsertError.{MapInsertError}
@@ -27,34 +25,23 @@ IsRefusalOf bytes key value pairs (Memory k v) =
 abbrev pub IsRefusalOfMade : {K V : Type 0} → (K → List ℕ) → K → (V → Type 0) → List (K × V) → MapInsertError K V → Type 0
 IsRefusalOfMade {K} {V} bytes key IsMade pairs error = (value : V) × IsMade value × IsRefusalOf bytes key value pairs error
 
--- how many children the top of a tree has
-abbrev pub child_count : {N A : Type 0} → Tree N A → ℕ
-child_count (leaf n x) = 0
-child_count (inner n h cs) = length (bytes_of cs)
+module _ {A : Type 0} (bytes : A → List ℕ) where
+  -- the different bytes that follow a place in the keys that begin with it, in rising order
+  abbrev pub next_bytes : List ℕ → List A → List ℕ
+  next_bytes place pairs = dedup ◌==◌ (map (byte_at bytes (length place)) (below bytes place pairs))
 
--- The radix tree of the pairs has the leaf of this one below a node with 5, 17 or 49 children: when the leaf goes, a smaller node has to be placed.
-pub record HasShrinkingParent {A : Type 0} (bytes : A → List ℕ) (P : ℕ) (pairs : List A) (x : A) : Type 0 where
-  pub parent : Frame OpaqueNodePtr A
-  pub above : List (Frame OpaqueNodePtr A)
-  pub name : OpaqueNodePtr
-  pub radix : IsRadix bytes P [] (plug (parent ∷ above) (leaf name x))
-  pub pairs_are : pairs_of (plug (parent ∷ above) (leaf name x)) ≡ pairs
-  pub children : IsIn (child_count (fill parent (leaf name x))) (5 ∷ 17 ∷ 49 ∷ [])
+  -- The pairs that go are those whose keys begin with some bytes, the place, and then one of the 5, 17 or 49 that follow there: when they go, a node gives way to a smaller one.
+  pub record ShrinksNode (pairs gone : List A) : Type 0 where
+    pub place : List ℕ
+    pub byte : ℕ
+    pub follows : IsIn byte (next_bytes place pairs)
+    pub gone_are : below bytes (place ++ byte ∷ []) pairs ≡ gone
+    pub count : IsIn (length (next_bytes place pairs)) (5 ∷ 17 ∷ 49 ∷ [])
 
--- The radix tree of the pairs has those whose keys begin with the prefix, and no others, below a node whose parent has 5, 17 or 49 children: when they go, a smaller node has to be placed.
-pub record HasShrinkingParentBelow {A : Type 0} (bytes : A → List ℕ) (P : ℕ) (pairs : List A) (prefix : List ℕ) : Type 0 where
-  pub parent : Frame OpaqueNodePtr A
-  pub above : List (Frame OpaqueNodePtr A)
-  pub node : Tree OpaqueNodePtr A
-  pub radix : IsRadix bytes P [] (plug (parent ∷ above) node)
-  pub pairs_are : pairs_of (plug (parent ∷ above) node) ≡ pairs
-  pub gone : pairs_of node ≡ below bytes prefix pairs
-  pub children : IsIn (child_count (fill parent node)) (5 ∷ 17 ∷ 49 ∷ [])
-
--- a removal may be refused only of a pair that is there, whose parent shrinks
-abbrev pub MayRefuseRemoval : {A : Type 0} → (A → List ℕ) → ℕ → List A → Option A → Type 0
-MayRefuseRemoval bytes P pairs None = ⊥
-MayRefuseRemoval bytes P pairs (Some x) = HasShrinkingParent bytes P pairs x
+  -- a removal may be refused only of a pair that is there, and only where a node shrinks when that goes
+  abbrev pub MayRefuseRemoval : List A → Option A → Type 0
+  MayRefuseRemoval pairs None = ⊥
+  MayRefuseRemoval pairs (Some x) = ShrinksNode pairs (x ∷ [])
 
 -- the pair at an end of a list
 abbrev pub end_of : {A : Type 0} → End → List A → Option A

@@ -20,7 +20,7 @@ use Rattle.art_writing.specs.Points.{IsRefusedFor}
 use Rattle.art_reading.specs.declared.end_node.InsertKind.TheVariants.{Exact}
 use Rattle.art_writing.specs.declared.insert.PrefixInsertResult.{PrefixInsertResult}
 use Rattle.art_writing.specs.declared.insert.Refused.{Refused}
-use Rattle.art_map.specs.MapAnswers.{HasShrinkingParentBelow, IsRefusalOf, MayRefuseRemoval}
+use Rattle.art_map.specs.MapAnswers.{IsRefusalOf, MayRefuseRemoval, ShrinksNode}
 use Rattle.art_map.specs.MapPairs.{HoldsPairs, pairs_at}
 use Rattle.art_map.specs.declared.map.MapInsertError.{MapInsertError}
 use Rattle.art_map.specs.declared.map.MapRefused.{MapRefused}
@@ -123,7 +123,7 @@ module _ {K V : Type 0} (bytes : K → List ℕ) (P : ℕ) (pairs : List (K × V
       Option OpaqueNodePtr → ℕ → Type 0
   HasTaken pair left (Ok taken) t root len = HoldsPairs (of_key bytes) P t root len left × (taken ≡ pair)
   HasTaken pair left (Err error) t root len =
-      HoldsPairs (of_key bytes) P t root len pairs × MayRefuseRemoval (of_key bytes) P pairs pair
+      HoldsPairs (of_key bytes) P t root len pairs × MayRefuseRemoval (of_key bytes) pairs pair
 
   -- the pairs whose keys begin with a prefix were taken out, and so many they were, or the pairs are as before
   abbrev pub HasTakenBelow : List ℕ → Result ℕ MapRefused → Nodes K V → Option OpaqueNodePtr → ℕ → Type 0
@@ -131,7 +131,7 @@ module _ {K V : Type 0} (bytes : K → List ℕ) (P : ℕ) (pairs : List (K × V
       HoldsPairs (of_key bytes) P t root len (not_below (of_key bytes) prefix pairs) ×
       (removed ≡ length (below (of_key bytes) prefix pairs))
   HasTakenBelow prefix (Err error) t root len =
-      HoldsPairs (of_key bytes) P t root len pairs × HasShrinkingParentBelow (of_key bytes) P pairs prefix
+      HoldsPairs (of_key bytes) P t root len pairs × ShrinksNode (of_key bytes) pairs (below (of_key bytes) prefix pairs)
 
   -- a store, a root and a length stand for clones of the pairs
   abbrev pub HoldsClones : (K → K → Type 0) → (V → V → Type 0) → Nodes K V → Option OpaqueNodePtr → ℕ → Type 0

@@ -10,7 +10,7 @@ use Rattle.art_nodes.specs.Nodes.{Nodes}
 use Rattle.art_parts.specs.declared.names.OpaqueNodePtr.{OpaqueNodePtr}
 use Rattle.art_writing.specs.Deleted.{LeadsTo, IsDeletePointIn}
 use Rattle.art_writing.specs.declared.delete.DeletePoint.{DeletePoint}
-use Rattle.art_map.specs.MapAnswers.{HasShrinkingParent}
+use Rattle.art_map.specs.MapAnswers.{ShrinksNode}
 use Rattle.art_map.specs.MapItems.{deref_pair}
 use Rattle.art_map.specs.MapPairs.{HoldsPairs}
 use Rattle.art_map.specs.declared.map.MapRefused.{MapRefused}
@@ -44,7 +44,7 @@ module _ {F A : Type 0} (asks : F → A → Bool → F → Type 0) where
     pub refused : asks next x false left
 
   -- f was asked of each pair up to one of which it said false and that may not be taken out for want of memory: it stays, with all after it
-  pub record RetainsUntil (bytes : A → List ℕ) (P : ℕ) (f : F) (before after : List A) : Type 0 where
+  pub record RetainsUntil (bytes : A → List ℕ) (f : F) (before after : List A) : Type 0 where
     pub seen : List A
     pub kept : List A
     pub refused : A
@@ -55,7 +55,7 @@ module _ {F A : Type 0} (asks : F → A → Bool → F → Type 0) where
     pub after_is : after ≡ kept ++ refused ∷ rest
     pub retains : Retains f seen kept next
     pub asked : asks next refused false left
-    pub shrinks : HasShrinkingParent bytes P after refused
+    pub shrinks : ShrinksNode bytes after (refused ∷ [])
 
 -- ---- one step of it. No public clause cites what follows.
 
@@ -68,14 +68,7 @@ after_pair bytes (Some x) = Excluded (bytes x)
 abbrev pub pairs_after : {A : Type 0} → (A → List ℕ) → Option A → List A → List A
 pairs_after bytes last pairs = between bytes (after_pair bytes last) Unbounded pairs
 
-module _ {F K V : Type 0} (asks : F → K × V → Bool → F → Type 0) (bytes : K → List ℕ) (P : ℕ) where
-  -- f said true of all these pairs, or the point is that of the first one of which it said false
-  abbrev pub FindsRefused : Nodes K V → OpaqueNodePtr → F → List (K × V) → Option DeletePoint → F → Type 0
-  FindsRefused s root f pairs None left = Retains asks f pairs pairs left
-  FindsRefused s root f pairs (Some point) left =
-      (x : K × V) × StopsAt asks f pairs x left × ForTree (of_key bytes) P s root (λ all layout. LeadsTo layout x point) ×
-      IsDeletePointIn (of_key bytes) P s root point
-
+module _ {F K V : Type 0} (asks : F → K × V → Bool → F → Type 0) (bytes : K → List ℕ) where
   -- the first pair after this one of which f said false was taken out, or f said true of all, or it may not be taken out
   abbrev pub TakesRefused : Option (K × V) → F → List (K × V) → Result (Option (K × V)) MapRefused → F → List (K × V) → Type 0
   TakesRefused last f before (Ok None) left after =
@@ -83,9 +76,17 @@ module _ {F K V : Type 0} (asks : F → K × V → Bool → F → Type 0) (bytes
   TakesRefused last f before (Ok (Some x)) left after =
       (after ≡ remove_key (of_key bytes) (bytes x.0) before) × StopsAt asks f (pairs_after (of_key bytes) last before) x left
   TakesRefused last f before (Err error) left after =
-      (x : K × V) × (after ≡ before) × StopsAt asks f (pairs_after (of_key bytes) last before) x left × HasShrinkingParent (of_key bytes) P before x
+      (x : K × V) × (after ≡ before) × StopsAt asks f (pairs_after (of_key bytes) last before) x left × ShrinksNode (of_key bytes) before (x ∷ [])
 
+module _ {F K V : Type 0} (asks : F → K × V → Bool → F → Type 0) (bytes : K → List ℕ) (P : ℕ) where
   -- the same of what a store, a root and a length stand for
   abbrev pub HasTakenRefused : Option (K × V) → F → List (K × V) → Result (Option (K × V)) MapRefused → F → Nodes K V → Option OpaqueNodePtr → ℕ → Type 0
   HasTakenRefused last f before result left t root len =
-      (after : List (K × V)) × HoldsPairs (of_key bytes) P t root len after × TakesRefused last f before result left after
+      (after : List (K × V)) × HoldsPairs (of_key bytes) P t root len after × TakesRefused asks bytes last f before result left after
+
+  -- f said true of all these pairs, or the point is that of the first one of which it said false
+  abbrev pub FindsRefused : Nodes K V → OpaqueNodePtr → F → List (K × V) → Option DeletePoint → F → Type 0
+  FindsRefused s root f pairs None left = Retains asks f pairs pairs left
+  FindsRefused s root f pairs (Some point) left =
+      (x : K × V) × StopsAt asks f pairs x left × ForTree (of_key bytes) P s root (λ all layout. LeadsTo layout x point) ×
+      IsDeletePointIn (of_key bytes) P s root point

@@ -110,7 +110,7 @@ impl<K: AsBytes, V, const P: usize> Model for ByteMap<K, V, P> {
 }
 
 impl<K: AsBytes + Drop, V: Drop, const P: usize> ByteMap<K, V, P> {
-    ghost use Rattle.art_map.specs.MapAnswers.{HasShrinkingParentBelow, IsRefusalOf, MayRefuseRemoval, value_at};
+    ghost use Rattle.art_map.specs.MapAnswers.{IsRefusalOf, MayRefuseRemoval, ShrinksNode, value_at};
     ghost use Rattle.art_map.specs.MapLends.{lends_put, lends_value};
 
     /// An empty map, which takes no memory.
@@ -378,7 +378,7 @@ impl<K: AsBytes + Drop, V: Drop, const P: usize> ByteMap<K, V, P> {
         ensures others { OnOk result ((other : List ℕ) → other ≢ key_bytes.now →
             value_at K.bytes other self.new ≡ value_at K.bytes other self.old) }
         ensures kept { OnErr result (self.new ≡ self.old) }
-        ensures refused { OnErr result (MayRefuseRemoval (of_key K.bytes) P self.old
+        ensures refused { OnErr result (MayRefuseRemoval (of_key K.bytes) self.old
             (remove_reply (of_key K.bytes) key_bytes.now self.old)) }
     {
         take_key(&mut self.store, &mut self.root, &mut self.len, key_bytes)
@@ -389,7 +389,7 @@ impl<K: AsBytes + Drop, V: Drop, const P: usize> ByteMap<K, V, P> {
         ensures pairs { OnOk result (self.new ≡ without_first self.old) }
         ensures removed { IfOk result (λ removed. removed ≡ first_of self.old) }
         ensures kept { OnErr result (self.new ≡ self.old) }
-        ensures refused { OnErr result (MayRefuseRemoval (of_key K.bytes) P self.old
+        ensures refused { OnErr result (MayRefuseRemoval (of_key K.bytes) self.old
             (first_of self.old)) }
     {
         self.pop_end(End::First)
@@ -400,7 +400,7 @@ impl<K: AsBytes + Drop, V: Drop, const P: usize> ByteMap<K, V, P> {
         ensures pairs { OnOk result (self.new ≡ without_last self.old) }
         ensures removed { IfOk result (λ removed. removed ≡ last_of self.old) }
         ensures kept { OnErr result (self.new ≡ self.old) }
-        ensures refused { OnErr result (MayRefuseRemoval (of_key K.bytes) P self.old
+        ensures refused { OnErr result (MayRefuseRemoval (of_key K.bytes) self.old
             (last_of self.old)) }
     {
         self.pop_end(End::Last)
@@ -414,7 +414,7 @@ impl<K: AsBytes + Drop, V: Drop, const P: usize> ByteMap<K, V, P> {
         ensures removed { IfOk result (λ removed.
             removed ≡ first_of (below (of_key K.bytes) prefix.now self.old)) }
         ensures kept { OnErr result (self.new ≡ self.old) }
-        ensures refused { OnErr result (MayRefuseRemoval (of_key K.bytes) P self.old
+        ensures refused { OnErr result (MayRefuseRemoval (of_key K.bytes) self.old
             (first_of (below (of_key K.bytes) prefix.now self.old))) }
     {
         take_below(&mut self.store, &mut self.root, &mut self.len, prefix)
@@ -431,8 +431,8 @@ impl<K: AsBytes + Drop, V: Drop, const P: usize> ByteMap<K, V, P> {
         ensures removed { IfOk result (λ removed.
             removed ≡ length (below (of_key K.bytes) prefix.now self.old)) }
         ensures kept { OnErr result (self.new ≡ self.old) }
-        ensures refused { OnErr result
-            (HasShrinkingParentBelow (of_key K.bytes) P self.old prefix.now) }
+        ensures refused { OnErr result (ShrinksNode (of_key K.bytes) self.old
+            (below (of_key K.bytes) prefix.now self.old)) }
     {
         take_all_below(&mut self.store, &mut self.root, &mut self.len, prefix)
     }
@@ -442,7 +442,7 @@ impl<K: AsBytes + Drop, V: Drop, const P: usize> ByteMap<K, V, P> {
         ensures pairs { OnOk result (self.new ≡ without_end end self.old) }
         ensures removed { IfOk result (λ removed. removed ≡ end_of end self.old) }
         ensures kept { OnErr result (self.new ≡ self.old) }
-        ensures refused { OnErr result (MayRefuseRemoval (of_key K.bytes) P self.old
+        ensures refused { OnErr result (MayRefuseRemoval (of_key K.bytes) self.old
             (end_of end self.old)) }
     {
         take_end(&mut self.store, &mut self.root, &mut self.len, end)

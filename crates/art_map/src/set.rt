@@ -170,7 +170,7 @@ impl<K: AsBytes + Drop, const P: usize> ByteSet<K, P> {
         ensures removed { IfOk result (λ removed.
             removed ≡ has_key K.bytes key_bytes.now self.old) }
         ensures kept { OnErr result (self.new ≡ self.old) }
-        ensures refused { OnErr result (MayRefuseRemoval (of_key K.bytes) P (as_pairs self.old)
+        ensures refused { OnErr result (MayRefuseRemoval (of_key K.bytes) (as_pairs self.old)
             (remove_reply (of_key K.bytes) key_bytes.now (as_pairs self.old))) }
     {
         let removed = match self.map.remove(key_bytes) {
@@ -186,7 +186,7 @@ impl<K: AsBytes + Drop, const P: usize> ByteSet<K, P> {
         ensures removed { IfOk result (λ removed.
             removed ≡ remove_reply K.bytes key_bytes.now self.old) }
         ensures kept { OnErr result (self.new ≡ self.old) }
-        ensures refused { OnErr result (MayRefuseRemoval (of_key K.bytes) P (as_pairs self.old)
+        ensures refused { OnErr result (MayRefuseRemoval (of_key K.bytes) (as_pairs self.old)
             (remove_reply (of_key K.bytes) key_bytes.now (as_pairs self.old))) }
     {
         let removed = match self.map.remove(key_bytes) {
@@ -204,7 +204,7 @@ impl<K: AsBytes + Drop, const P: usize> ByteSet<K, P> {
         ensures keys { OnOk result (self.new ≡ without_first self.old) }
         ensures removed { IfOk result (λ removed. removed ≡ first_of self.old) }
         ensures kept { OnErr result (self.new ≡ self.old) }
-        ensures refused { OnErr result (MayRefuseRemoval (of_key K.bytes) P (as_pairs self.old)
+        ensures refused { OnErr result (MayRefuseRemoval (of_key K.bytes) (as_pairs self.old)
             (first_of (as_pairs self.old))) }
     {
         match self.map.pop_first() {
@@ -219,7 +219,7 @@ impl<K: AsBytes + Drop, const P: usize> ByteSet<K, P> {
         ensures keys { OnOk result (self.new ≡ without_last self.old) }
         ensures removed { IfOk result (λ removed. removed ≡ last_of self.old) }
         ensures kept { OnErr result (self.new ≡ self.old) }
-        ensures refused { OnErr result (MayRefuseRemoval (of_key K.bytes) P (as_pairs self.old)
+        ensures refused { OnErr result (MayRefuseRemoval (of_key K.bytes) (as_pairs self.old)
             (last_of (as_pairs self.old))) }
     {
         match self.map.pop_last() {

@@ -1,7 +1,7 @@
 //! Maps whose keys are two keys as one.
 ghost use Rattle.std.specs.Prelude.{◌≡◌, ◌<◌, ◌^◌, length, IfOk, OnOk, OnErr};
 ghost use Rattle.art_model.specs.Pairs.{IsMap, first_of, of_key};
-ghost use Rattle.art_map.specs.MapAnswers.{HasShrinkingParentBelow, MayRefuseRemoval};
+ghost use Rattle.art_map.specs.MapAnswers.{MayRefuseRemoval, ShrinksNode};
 ghost use Rattle.art_keys.specs.Joins.{joined_bytes};
 ghost use Rattle.art_keyed.specs.KeyedPairs.{pairs_with_first, pairs_without_first, without_first_with};
 
@@ -35,8 +35,8 @@ impl<A: DecodeBytes + Drop, B: DecodeBytes + Drop, V: Drop, const P: usize> Keye
         ensures removed { IfOk result (λ removed.
             removed ≡ length (pairs_with_first A.bytes (A.bytes first.now) self.old)) }
         ensures kept { OnErr result (self.new ≡ self.old) }
-        ensures refused { OnErr result (HasShrinkingParentBelow
-            (of_key (joined_bytes A.bytes B.bytes)) P self.old (A.bytes first.now)) }
+        ensures refused { OnErr result (ShrinksNode (of_key (joined_bytes A.bytes B.bytes))
+            self.old (pairs_with_first A.bytes (A.bytes first.now) self.old)) }
     {
         first.as_key();
         self.map.remove_prefix(first.as_bytes())
@@ -50,8 +50,8 @@ impl<A: DecodeBytes + Drop, B: DecodeBytes + Drop, V: Drop, const P: usize> Keye
         ensures removed { IfOk result (λ removed.
             removed ≡ first_of (pairs_with_first A.bytes (A.bytes first.now) self.old)) }
         ensures kept { OnErr result (self.new ≡ self.old) }
-        ensures refused { OnErr result (MayRefuseRemoval (of_key (joined_bytes A.bytes B.bytes)) P self.old
-            (first_of (pairs_with_first A.bytes (A.bytes first.now) self.old))) }
+        ensures refused { OnErr result (MayRefuseRemoval (of_key (joined_bytes A.bytes B.bytes))
+            self.old (first_of (pairs_with_first A.bytes (A.bytes first.now) self.old))) }
     {
         first.as_key();
         self.map.pop_first_below(first.as_bytes())

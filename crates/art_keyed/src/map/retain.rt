@@ -15,7 +15,7 @@ impl<K: NoPrefixesBytes + Drop, V: Drop, const P: usize> KeyedMap<K, V, P> {
         requires { F.IsAlwaysCallable f }
         ensures pairs { OnOk result (RetainsAll (AsksPair F.FnMut) f self.old self.new) }
         ensures refused { OnErr result
-            (RetainsUntil (AsksPair F.FnMut) (of_key K.bytes) P f self.old self.new) }
+            (RetainsUntil (AsksPair F.FnMut) (of_key K.bytes) f self.old self.new) }
     {
         self.map.retain(f)
     }

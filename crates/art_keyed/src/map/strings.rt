@@ -1,14 +1,13 @@
 //! Maps whose keys stand for strings of bytes.
-ghost use Rattle.std.specs.Prelude.{◌≡◌, ◌<◌, ◌^◌, ◌∷◌, ◌++◌, ℕ, List, [], length, IfOk, OnOk, OnErr, option_copied};
+ghost use Rattle.std.specs.Prelude.{◌≡◌, ◌<◌, ◌^◌, ◌∷◌, ◌++◌, [], length, IfOk, OnOk, OnErr, option_copied};
 ghost use Rattle.std.specs.Option.{option_map};
 ghost use Rattle.art_model.specs.Keys.{are_same};
 ghost use Rattle.art_model.specs.Pairs.{IsMap, first_of, of_key, with_key};
 ghost use Rattle.art_model.specs.Parts.{without_below};
-ghost use Rattle.art_map.specs.MapAnswers.{HasShrinkingParentBelow, MayRefuseRemoval, value_at};
+ghost use Rattle.art_map.specs.MapAnswers.{MayRefuseRemoval, ShrinksNode, value_at};
 ghost use Rattle.art_map.specs.MapItems.{deref_pair};
 ghost use Rattle.art_keys.specs.Ended.{ended};
 ghost use Rattle.art_keys.specs.Escapes.{IsPlain, escape};
-ghost use Rattle.art_keys.specs.Prefixes.{BeginsAs};
 ghost use Rattle.art_keyed.specs.KeyedPairs.{strings_below, strings_not_below};
 
 use super::KeyedMap;
@@ -39,9 +38,8 @@ impl<K: StringBytes + Drop, V: Drop, const P: usize> KeyedMap<K, V, P> {
         ensures removed { IfOk result (λ removed.
             removed ≡ length (strings_below K.text (K.text prefix.now) self.old)) }
         ensures kept { OnErr result (self.new ≡ self.old) }
-        ensures refused { OnErr result ((beginning : List ℕ) ×
-            BeginsAs K.is_key K.bytes K.text prefix.now beginning ×
-            HasShrinkingParentBelow (of_key K.bytes) P self.old beginning) }
+        ensures refused { OnErr result (ShrinksNode (of_key K.bytes) self.old
+            (strings_below K.text (K.text prefix.now) self.old)) }
     {
         self.map.remove_prefix(prefix.beginning())
     }
@@ -54,7 +52,7 @@ impl<K: StringBytes + Drop, V: Drop, const P: usize> KeyedMap<K, V, P> {
         ensures removed { IfOk result (λ removed.
             removed ≡ first_of (strings_below K.text (K.text prefix.now) self.old)) }
         ensures kept { OnErr result (self.new ≡ self.old) }
-        ensures refused { OnErr result (MayRefuseRemoval (of_key K.bytes) P self.old
+        ensures refused { OnErr result (MayRefuseRemoval (of_key K.bytes) self.old
             (first_of (strings_below K.text (K.text prefix.now) self.old))) }
     {
         self.map.pop_first_below(prefix.beginning())

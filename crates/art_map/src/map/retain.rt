@@ -22,7 +22,7 @@ impl<K: AsBytes + Drop, V: Drop, const P: usize> ByteMap<K, V, P> {
         requires { F.IsAlwaysCallable f }
         ensures pairs { OnOk result (RetainsAll (AsksPair F.FnMut) f self.old self.new) }
         ensures refused { OnErr result
-            (RetainsUntil (AsksPair F.FnMut) (of_key K.bytes) P f self.old self.new) }
+            (RetainsUntil (AsksPair F.FnMut) (of_key K.bytes) f self.old self.new) }
     {
         let mut last = None;
         loop {
@@ -44,7 +44,7 @@ impl<K: AsBytes + Drop, V: Drop, const P: usize> ByteMap<K, V, P> {
     ) -> Result<Option<(K, V)>, MapRefused>
         requires { F.IsAlwaysCallable f.old }
         ensures callable { F.IsAlwaysCallable f.new }
-        ensures taken { TakesRefused (AsksPair F.FnMut) K.bytes P last.now f.old self.old result
+        ensures taken { TakesRefused (AsksPair F.FnMut) K.bytes last.now f.old self.old result
             f.new self.new }
     {
         take_refused(&mut self.store, &mut self.root, &mut self.len, last, f)

@@ -16,7 +16,7 @@ impl<K: AsBytes + Drop, const P: usize> ByteSet<K, P> {
     pub fn retain<F: FnMut(&K) -> bool>(&mut self, mut f: F) -> Result<(), MapRefused>
         requires { F.IsAlwaysCallable f }
         ensures keys { OnOk result (RetainsAll (CalledAt F.FnMut) f self.old self.new) }
-        ensures refused { OnErr result (RetainsUntil (AsksKey F.FnMut) (of_key K.bytes) P f
+        ensures refused { OnErr result (RetainsUntil (AsksKey F.FnMut) (of_key K.bytes) f
             (as_pairs self.old) (as_pairs self.new)) }
     {
         self.map.retain(

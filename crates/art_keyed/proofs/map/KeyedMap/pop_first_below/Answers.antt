@@ -24,5 +24,5 @@ returns-clause-removed g c =
 
 pub returns-clause-refused : goal.returns-clause-refused
 returns-clause-refused g c =
-    rw (← c.self.view_is) (subst (λ below. OnErr c.pop_first_below.result (MayRefuseRemoval (of_key g.K.AsBytes.bytes) g.row.P c.self.inside.map (first_of below)))
+    rw (← c.self.view_is) (subst (λ below. OnErr c.pop_first_below.result (MayRefuseRemoval (of_key g.K.AsBytes.bytes) c.self.inside.map (first_of below)))
     (below_strings _ g.K.AsBytes.bytes g.K.StringBytes.text c.args.prefix.now c.beginning.result.now c.beginning.ensures c.self.inside.map c.self.invariant) c.pop_first_below.ensures.refused)

@@ -21,5 +21,5 @@ returns-clause-removed g c =
 
 pub returns-clause-refused : goal.returns-clause-refused
 returns-clause-refused g c =
-    rw (← c.self.view_is) (strings_refused _ g.K.AsBytes.bytes g.row.P g.K.StringBytes.text c.args.prefix.now c.beginning.result.now c.beginning.ensures c.remove_prefix.result c.self.inside.map
-    c.remove_prefix.ensures.refused)
+    rw (← c.self.view_is) (strings_refused _ g.K.AsBytes.bytes g.K.StringBytes.text c.args.prefix.now c.beginning.result.now c.beginning.ensures c.remove_prefix.result c.self.inside.map
+    c.self.invariant c.remove_prefix.ensures.refused)

@@ -23,6 +23,6 @@ returns-clause-keys g c =
 pub returns-clause-refused : goal.returns-clause-refused
 returns-clause-refused g c =
     let asked = until_inside _ (AsksKey g.F.FnMut) (λ s. s.0.now) (λ s x b t a. let called = a.called in record { shown = a.key; shows = ap (λ z. z.0) a.shows; called = search rules })
-    c.retain.result (of_key g.K.AsBytes.bytes) g.row.P _ c.self.inside.map c.retain.new.self c.retain.ensures.refused in
+    c.retain.result (of_key g.K.AsBytes.bytes) _ c.self.inside.map c.retain.new.self c.retain.ensures.refused in
     let before = ap as_pairs (sym c.self.view_is) ∙ no_values c.self.inside.map in
     rw (before, no_values c.retain.new.self) asked

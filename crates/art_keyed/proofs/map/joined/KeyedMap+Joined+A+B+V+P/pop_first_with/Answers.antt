@@ -35,7 +35,7 @@ pub returns-clause-refused : goal.returns-clause-refused
 returns-clause-refused g c =
     let first = g.A.AsBytes.bytes in
     let second = g.B.AsBytes.bytes in
-    rw (← c.self.view_is) (subst (λ pairs. OnErr c.pop_first_below.result (MayRefuseRemoval (of_key (joined_bytes first second)) g.row.P c.self.inside.map (first_of pairs)))
+    rw (← c.self.view_is) (subst (λ pairs. OnErr c.pop_first_below.result (MayRefuseRemoval (of_key (joined_bytes first second)) c.self.inside.map (first_of pairs)))
     (ap (λ prefix. below (of_key (joined_bytes first second)) prefix c.self.inside.map) c.as_bytes.ensures
     ∙ below_first g.A.NoPrefixesBytes.is_key first g.B.NoPrefixesBytes.is_key second g.met.A.NoPrefixesBytes.no_prefixes c.args.first.now c.as_key.ensures c.self.inside.map c.self.invariant)
     c.pop_first_below.ensures.refused)

@@ -1,6 +1,7 @@
-use Rattle.std.proofs.Common.{◌≡◌, IfOk, OnOk, ap, length, subst, ◌∙◌}
+use Rattle.std.proofs.Common.{◌≡◌, IfOk, OnErr, OnOk, ap, length, subst, ◌∙◌}
 use Rattle.art_model.specs.Pairs.{of_key}
 use Rattle.art_model.specs.Parts.{below, not_below}
+use Rattle.art_map.specs.MapAnswers.{ShrinksNode}
 use Rattle.art_keys.specs.Joins.{joined_bytes}
 use Rattle.art_keyed.proofs.Between.{below_first, not_below_first, others_keep}
 use Rattle.art_keyed.proofs.Keyed.{left_keeps}
@@ -31,4 +32,10 @@ returns-clause-removed g c =
     c.remove_prefix.ensures.removed)
 
 pub returns-clause-refused : goal.returns-clause-refused
-returns-clause-refused g c = rw (← c.as_bytes.ensures, ← c.self.view_is) c.remove_prefix.ensures.refused
+returns-clause-refused g c =
+    let first = g.A.AsBytes.bytes in
+    let second = g.B.AsBytes.bytes in
+    rw (← c.self.view_is) (subst (λ pairs. OnErr c.remove_prefix.result (ShrinksNode (of_key (joined_bytes first second)) c.self.inside.map pairs))
+    (ap (λ prefix. below (of_key (joined_bytes first second)) prefix c.self.inside.map) c.as_bytes.ensures
+    ∙ below_first g.A.NoPrefixesBytes.is_key first g.B.NoPrefixesBytes.is_key second g.met.A.NoPrefixesBytes.no_prefixes c.args.first.now c.as_key.ensures c.self.inside.map c.self.invariant)
+    c.remove_prefix.ensures.refused)
