@@ -14,6 +14,28 @@ use art_nodes::node::{AsBytes, LeafPtr};
 use art_reading::lookup::search_unchecked;
 
 impl<K: AsBytes + Drop, V: Drop, const P: usize> ByteMap<K, V, P> {
+    /// What `get_or_insert` returns, with a value that is made of the key. The closure is called where no
+    /// equal key is stored, also where the pair is refused then and comes back.
+    pub fn get_or_insert_with<F: FnOnce(&K) -> V>(
+        &mut self,
+        key: K,
+        make: F,
+    ) -> Result<&mut V, MapInsertError<K, V>>
+        requires { has_key (of_key K.bytes) (K.bytes key) self.old ≡ false →
+            (p : Bor K) → p.now ≡ key → F.pre make p }
+        ensures* writes_back { sem 𝓛
+            (lends_put K.row V.row P.row K.AsBytes self.entry key result) }
+        ensures value { IfOk result (λ lent. UnwrapsOrElse
+            (value_at K.bytes (K.bytes key) self.old)
+            (FnOnceReturnsAt F.FnOnce make key) lent.now) }
+        ensures accepted { OnOk result
+            (is_conflict (of_key K.bytes) (K.bytes key) self.old ≡ false) }
+        ensures refused { IfErr result (IsRefusalOfMade K.bytes key
+            (FnOnceReturnsAt F.FnOnce make key) self.old) }
+    {
+        self.value_or_make(key, None, make)
+    }
+
     // Calls the closure at the value of the key with these bytes, and returns its leaf.
     pub(super) fn modify<F: FnOnce(&mut V)>(&mut self, key_bytes: &[u8], f: F) -> Option<LeafPtr>
         requires { (value : MutBor V) →
