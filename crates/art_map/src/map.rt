@@ -79,6 +79,17 @@ pub enum MapInsertError<K, V> {
     },
 }
 
+/// A value of an entry that was not made, or whose pair was not inserted.
+#[derive(Debug, Drop, Error)]
+pub enum MapMakeError<K, V, E> {
+    /// The closure failed. No equal key is stored, and the key that was handed in is dropped.
+    #[error("the value was not made")]
+    Make(E),
+    /// The value was made, and comes back with its key.
+    #[error("{0}")]
+    Insert(MapInsertError<K, V>),
+}
+
 /// A removal that was not made, for want of memory.
 #[derive(Clone, Copy, PartialEq, Eq, Debug, Error)]
 #[error("memory allocation failed")]
