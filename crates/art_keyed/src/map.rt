@@ -1,7 +1,8 @@
 //! An ordered map whose keys are never in conflict. Its contracts speak of lists of pairs alone.
 ghost use Rattle.std.specs.Prelude.{◌≡◌, ◌≢◌, ◌↔◌, ◌<◌, ◌^◌, ℕ, List, [], length, false, IfOk, IfErr, IsSome, IsTrue, OnOk, OnErr, Some, None, option_copied};
-ghost use Rattle.std.specs.Borrow.{sem};
-ghost use Rattle.std.specs.Option.{option_copied_mut, option_map, unwrap_or};
+ghost use Rattle.std.specs.Borrow.{Bor, sem};
+ghost use Rattle.std.specs.Fn.{FnOnceReturnsAt};
+ghost use Rattle.std.specs.Option.{UnwrapsOrElse, option_copied_mut, option_map, unwrap_or};
 ghost use Rattle.art_map.specs.MapAnswers.{MayRefuseRemoval, value_at};
 ghost use Rattle.art_map.specs.MapItems.{deref_pair, keys_of, values_of};
 ghost use Rattle.art_keyed.specs.KeyedPairs.{IsNeverInConflict};
@@ -237,6 +238,29 @@ impl<K: NoPrefixesBytes + Drop, V: Drop, const P: usize> KeyedMap<K, V, P> {
     {
         key.as_key();
         Ok(self.map.get_or_insert(key, value)?)
+    }
+
+    /// Returns what `get_or_insert` returns, with a value that is made of the key. The closure is called where
+    /// no equal key is stored, also where the pair is refused then and handed back.
+    pub fn get_or_insert_with<F: FnOnce(&K) -> V>(
+        &mut self,
+        key: K,
+        make: F,
+    ) -> Result<&mut V, PairRefused<K, V>>
+        requires { has_key (of_key K.bytes) (K.bytes key) self.old ≡ false →
+            (p : Bor K) → p.now ≡ key → F.pre make p }
+        ensures* writes_back { sem 𝓛 (lends_put K.row V.row P.row K.NoPrefixesBytes
+            self.entry key result) }
+        ensures value { IfOk result (λ lent. UnwrapsOrElse
+            (value_at K.bytes (K.bytes key) self.old)
+            (FnOnceReturnsAt F.FnOnce make key) lent.now) }
+        ensures handed_back { IfErr result (λ refused. (refused.key ≡ key) ×
+            FnOnceReturnsAt F.FnOnce make key refused.value) }
+        ensures refused { OnErr result
+            (has_key (of_key K.bytes) (K.bytes key) self.old ≡ false) }
+    {
+        key.as_key();
+        Ok(self.map.get_or_insert_with(key, make)?)
     }
 
     /// Returns the map with a key, to put the key in where it is not stored, and to write its value.

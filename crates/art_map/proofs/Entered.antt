@@ -24,10 +24,11 @@ use Rattle.art_writing.proofs.Replaced.{own_leaf}
 use Rattle.art_writing.proofs.Standing.{tree_stays}
 use Rattle.art_writing.proofs.Unstored.{refused_new}
 use Rattle.art_map.specs.MapAnswers.{IsRefusalOf, value_at}
-use Rattle.art_map.specs.MapChanges.{HasEntered, HasMade, IsPlaceOf, NamesLeafOf, put_new}
+use Rattle.art_map.specs.MapChanges.{HasEntered, HasMade, HasTried, IsPlaceOf, NamesLeafOf, put_new}
 use Rattle.art_map.specs.MapPairs.{HoldsPairs, pairs_at}
 use Rattle.art_map.specs.declared.map.MapInsertError.{MapInsertError}
 use Rattle.art_map.specs.declared.map.MapInsertError.TheVariants as errors
+use Rattle.art_map.specs.declared.map.MapMakeError.{MapMakeError}
 use Rattle.art_map.specs.declared.map.place.Place.{Place}
 use Rattle.art_map.specs.declared.map.place.Place.TheVariants as places
 use Rattle.art_map.proofs.Items.{no_pairs}
@@ -149,3 +150,8 @@ module _ {K V : Type 0} (bytes : K → List ℕ) (P : ℕ) (pairs : List (K × V
 pub made_holds : {K V : Type 0} (bytes : K → List ℕ) (P : ℕ) (pairs : List (K × V)) (t : Nodes K V) (root : Option OpaqueNodePtr) (len : ℕ) (key : K) (IsMade : V → Type 0)
     (result : Result LeafPtr (MapInsertError K V)) → HasMade bytes P pairs key IsMade result t root len → HoldsPairs (of_key bytes) P t root len (pairs_at t root)
 made_holds bytes P pairs t root len key IsMade result (value, made, entered) = enters_holds bytes P pairs t root len key value result entered
+
+pub tried_holds : {K V E : Type 0} (bytes : K → List ℕ) (P : ℕ) (pairs : List (K × V)) (t : Nodes K V) (root : Option OpaqueNodePtr) (len : ℕ) (key : K) (IsMade : Result V E → Type 0)
+    (result : Result LeafPtr (MapMakeError K V E)) → HasTried bytes P pairs key IsMade result t root len → HoldsPairs (of_key bytes) P t root len (pairs_at t root)
+tried_holds bytes P pairs t root len key IsMade (Ok leaf) (value, made, entered) = holds (of_key bytes) P t entered.0
+tried_holds bytes P pairs t root len key IsMade (Err error) h = holds (of_key bytes) P t h.0

@@ -1,10 +1,12 @@
 -- What a closure or an iterator that was handed in did with a map.
-use Rattle.std.specs.Prelude.{◌≡◌, ℕ, List, [], ◌∷◌, Option, Some, None, MatchOption}
+use Rattle.std.specs.Prelude.{◌≡◌, ℕ, false, List, [], ◌∷◌, Option, Some, None, MatchOption, Result, Ok, Err}
 use Rattle.std.specs.Borrow.{MutBor}
 use Rattle.std.specs.Fn.{CalledAtMut, FnOnceReturnsAtMut, Mut, Once}
 use Rattle.std.specs.Iterator.{YieldsThen}
-use Rattle.art_model.specs.Pairs.{of_key, put}
+use Rattle.art_model.specs.Pairs.{has_key, of_key, put}
 use Rattle.art_map.specs.declared.map.MapInsertError.{MapInsertError}
+use Rattle.art_map.specs.declared.map.MapMakeError.{MapMakeError}
+use Rattle.art_map.specs.declared.map.MapMakeError.TheVariants.{Insert, Make}
 use Rattle.art_map.specs.MapAnswers.{IsRefusalOf, value_at, with_value_at}
 
 -- the pairs are as before where the key is not stored; else a call of f at its value left another, which the key has now
@@ -25,6 +27,11 @@ module _ {K V F : Type 0} (g : Mut F (MutBor V × Unit {0}) (Unit {0} × (MutBor
   -- the same, whatever the closure is then
   abbrev pub ChangesValues : F → List (K × V) → List (K × V) → Type 0
   ChangesValues f before after = (left : F) × ChangesEach f before after left
+
+-- the closure failed where no equal key is stored, or the pair with the value that it made is handed back
+abbrev pub IsMakeRefusal : {K V E : Type 0} → (K → List ℕ) → K → (Result V E → Type 0) → List (K × V) → MapMakeError K V E → Type 0
+IsMakeRefusal bytes key IsMade pairs (Make error) = IsMade (Err error) × (has_key (of_key bytes) (bytes key) pairs ≡ false)
+IsMakeRefusal {K} {V} bytes key IsMade pairs (Insert error) = (value : V) × IsMade (Ok value) × IsRefusalOf bytes key value pairs error
 
 -- the pairs that are left when others are put, one after another
 abbrev pub put_all : {K V : Type 0} → (K → List ℕ) → List (K × V) → List (K × V) → List (K × V)

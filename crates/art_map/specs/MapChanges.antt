@@ -23,6 +23,8 @@ use Rattle.art_writing.specs.declared.insert.Refused.{Refused}
 use Rattle.art_map.specs.MapAnswers.{IsRefusalOf, MayRefuseRemoval, ShrinksNode}
 use Rattle.art_map.specs.MapPairs.{HoldsPairs, pairs_at}
 use Rattle.art_map.specs.declared.map.MapInsertError.{MapInsertError}
+use Rattle.art_map.specs.MapCalls.{IsMakeRefusal}
+use Rattle.art_map.specs.declared.map.MapMakeError.{MapMakeError}
 use Rattle.art_map.specs.declared.map.MapRefused.{MapRefused}
 use Rattle.art_map.specs.declared.map.place.Place.{Place}
 use Rattle.art_map.specs.declared.map.place.Place.TheVariants as places
@@ -108,6 +110,12 @@ module _ {K V : Type 0} (bytes : K → List ℕ) (P : ℕ) (pairs : List (K × V
   abbrev pub HasMade : K → (V → Type 0) → Result LeafPtr (MapInsertError K V) → Nodes K V → Option OpaqueNodePtr → ℕ → Type 0
   HasMade key IsMade result t root len =
       (value : V) × (has_key (of_key bytes) (bytes key) pairs ≡ false → IsMade value) × HasEntered key value result t root len
+
+  -- the same where the closure may have failed, and then the pairs are as before
+  abbrev pub HasTried : {E : Type 0} → K → (Result V E → Type 0) → Result LeafPtr (MapMakeError K V E) → Nodes K V → Option OpaqueNodePtr → ℕ → Type 0
+  HasTried key IsMade (Ok leaf) t root len = HasMade key (λ value. IsMade (Ok value)) (Ok leaf) t root len
+  HasTried key IsMade (Err error) t root len =
+      HoldsPairs (of_key bytes) P t root len pairs × IsMakeRefusal bytes key IsMade pairs error
 
   -- the pair was put in the place of those with related keys, or it is handed back, the pairs are as before, and it was not to take the place of just one
   abbrev pub HasPutOver : K → V → Result ℕ (Refused K V) → Nodes K V → Option OpaqueNodePtr → ℕ → Type 0

@@ -79,6 +79,17 @@ pub enum MapInsertError<K, V> {
     },
 }
 
+/// A value of an entry that was not made, or whose pair was not inserted.
+#[derive(Debug, Drop, Error)]
+pub enum MapMakeError<K, V, E> {
+    /// The closure failed. No equal key is stored, and the key that was handed in is dropped.
+    #[error("the value was not made")]
+    Make(E),
+    /// The value was made, and comes back with its key.
+    #[error("{0}")]
+    Insert(MapInsertError<K, V>),
+}
+
 /// A removal that was not made, for want of memory.
 #[derive(Clone, Copy, PartialEq, Eq, Debug, Error)]
 #[error("memory allocation failed")]
@@ -176,8 +187,9 @@ impl<K: AsBytes + Drop, V: Drop, const P: usize> ByteMap<K, V, P> {
 
     /// The pair whose key is a prefix of the query, by one descent along it. There is at most one.
     pub fn longest_match(&self, query: &[u8]) -> Option<(&K, &V)>
-        ensures { option_map deref_pair result ≡
+        ensures pair { option_map deref_pair result ≡
             first_of (match_of (of_key K.bytes) query.now self.now) }
+        ensures sorted { IsMap (of_key K.bytes) self.now }
     {
         let leaf = prefix_search_unchecked(&self.store, self.root?, query)?;
         Some(pair_at(&self.store, leaf))
@@ -264,8 +276,9 @@ impl<K: AsBytes + Drop, V: Drop, const P: usize> ByteMap<K, V, P> {
     /// It takes no memory, and goes down the tree once with the bound's bytes, and from there to
     /// two leaves.
     pub fn first_from(&self, from: Bound<&[u8]>) -> Option<(&K, &V)>
-        ensures { option_map deref_pair result ≡ first_of (between (of_key K.bytes)
+        ensures pair { option_map deref_pair result ≡ first_of (between (of_key K.bytes)
             (bound_map (λ b. b.now) from.entry) Unbounded self.now) }
+        ensures sorted { IsMap (of_key K.bytes) self.now }
     {
         let leaf = first_from_unchecked(&self.store, self.root?, from)?;
         Some(pair_at(&self.store, leaf))
@@ -312,6 +325,7 @@ impl<K: AsBytes + Drop, V: Drop, const P: usize> ByteMap<K, V, P> {
             value_at K.bytes other self.new ≡ value_at K.bytes other self.old) }
         ensures accepted { OnOk result
             (is_conflict (of_key K.bytes) (K.bytes key) self.old ≡ false) }
+        ensures was_sorted { IsMap (of_key K.bytes) self.old }
         ensures sorted { IsMap (of_key K.bytes) self.new }
 
         ensures refused { IfErr result (IsRefusalOf K.bytes key value self.old) }

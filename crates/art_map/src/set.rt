@@ -137,8 +137,6 @@ impl<K: AsBytes + Drop, const P: usize> ByteSet<K, P> {
         ensures refused { IfErr result (IsKeyRefusal K.bytes key self.old) }
         ensures kept { OnErr result (self.new ≡ self.old) }
     {
-        // `len` says that the keys rise.
-        self.map.len();
         let replaced = match self.map.insert(key, ()) {
             Ok(replaced) => replaced,
             Err(error) => return Err(without_value(error)),

@@ -60,11 +60,7 @@ pub fn read_table<R: BufRead>(alloc: Global, input: &mut R) -> Result<Table, Tab
     for number in 1..u64::MAX {
         match next_line(input, &mut line) {
             Ok(true) => {}
-            Ok(false) => {
-                // `len` says that the table is a map.
-                table.len();
-                return Ok(table);
-            }
+            Ok(false) => return Ok(table),
             Err(error) => return Err(TableError::Input(error)),
         }
         match add_line(&mut table, alloc, &line, number) {
@@ -78,6 +74,7 @@ pub fn read_table<R: BufRead>(alloc: Global, input: &mut R) -> Result<Table, Tab
 /// Adds the entry of the line of a number.
 pub fn add_line(table: &mut Table, alloc: Global, line: &[u8], number: u64) -> Result<(), LineError>
     ensures added { OnOk result (HasLine line.now number (rows_of table.old) (rows_of table.new)) }
+    ensures apart { OnOk result (IsMap code_of (entries_of table.new)) }
     ensures fault { IfErr result (IsFaultBeside line.now (rows_of table.old)) }
     ensures kept { OnErr result (table.new ≡ table.old) }
 {
@@ -123,8 +120,6 @@ pub fn find<'a>(table: &'a Table, number: &[u8]) -> Option<(&'a [u8], &'a [u8])>
     ensures first { option_map entry_of result ≡
         first_of (match_of code_of number.now (entries_of table.now)) }
 {
-    // `len` says that the table is a map.
-    table.len();
     match table.longest_match(number) {
         Some((code, named)) => Some((code.as_slice(), named.name.as_slice())),
         None => None,

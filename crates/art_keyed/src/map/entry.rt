@@ -1,7 +1,8 @@
 //! A map with a key, which may be stored or not.
 ghost use Rattle.std.specs.Prelude.{◌≡◌, false, IfErr, IfOk, OnErr, Some, option_copied};
-ghost use Rattle.std.specs.Borrow.{MutBor, sem};
-ghost use Rattle.std.specs.Option.{unwrap_or};
+ghost use Rattle.std.specs.Borrow.{Bor, MutBor, sem};
+ghost use Rattle.std.specs.Fn.{FnOnceReturnsAt};
+ghost use Rattle.std.specs.Option.{UnwrapsOrElse, unwrap_or};
 ghost use Rattle.art_model.specs.Pairs.{has_key, of_key};
 ghost use Rattle.art_map.specs.MapAnswers.{value_at};
 ghost use Rattle.art_map.specs.MapCalls.{Modifies};
@@ -70,5 +71,61 @@ impl<'a, K: NoPrefixesBytes + Drop, V: Drop, const P: usize> KeyedEntryOf<
     {
         let KeyedEntryOf { map, key } = self;
         map.get_or_insert(key, value)
+    }
+
+    /// Returns what `or_insert` returns, with a value that is made of the key. The closure is called where no
+    /// equal key is stored, also where the pair is refused then and handed back.
+    pub fn or_insert_with_key<F: FnOnce(&K) -> V>(
+        self,
+        make: F,
+    ) -> Result<&'a mut V, PairRefused<K, V>>
+        requires { has_key (of_key K.bytes) (K.bytes self.key) self.map.now ≡ false →
+            (p : Bor K) → p.now ≡ self.key → F.pre make p }
+        ensures* writes_back { sem 𝓛 (lends_put K.row V.row P.row K.NoPrefixesBytes
+            self.entry.map self.entry.key result) }
+        ensures value { IfOk result (λ lent. UnwrapsOrElse
+            (value_at K.bytes (K.bytes self.entry.key) self.entry.map.now)
+            (FnOnceReturnsAt F.FnOnce make self.entry.key) lent.now) }
+        ensures handed_back { IfErr result (λ refused. (refused.key ≡ self.entry.key) ×
+            FnOnceReturnsAt F.FnOnce make self.entry.key refused.value) }
+        ensures refused { OnErr result (has_key (of_key K.bytes)
+            (K.bytes self.entry.key) self.entry.map.now ≡ false) }
+    {
+        let KeyedEntryOf { map, key } = self;
+        map.get_or_insert_with(key, make)
+    }
+
+    /// Returns what `or_insert` returns, with a value that is made. The closure is called where no equal key
+    /// is stored, also where the pair is refused then and handed back.
+    pub fn or_insert_with<F: FnOnce() -> V>(self, make: F) -> Result<&'a mut V, PairRefused<K, V>>
+        requires { has_key (of_key K.bytes) (K.bytes self.key) self.map.now ≡ false → F.pre make }
+        ensures* writes_back { sem 𝓛 (lends_put K.row V.row P.row K.NoPrefixesBytes
+            self.entry.map self.entry.key result) }
+        ensures value { IfOk result (λ lent. UnwrapsOrElse
+            (value_at K.bytes (K.bytes self.entry.key) self.entry.map.now)
+            (F.post make) lent.now) }
+        ensures handed_back { IfErr result (λ refused. (refused.key ≡ self.entry.key) ×
+            F.post make refused.value) }
+        ensures refused { OnErr result (has_key (of_key K.bytes)
+            (K.bytes self.entry.key) self.entry.map.now ≡ false) }
+    {
+        self.or_insert_with_key(|_| make())
+    }
+
+    /// Returns what `or_insert` returns, with the value that is the default of its type.
+    pub fn or_default(self) -> Result<&'a mut V, PairRefused<K, V>>
+    where
+        V: Default,
+        ensures* writes_back { sem 𝓛 (lends_put K.row V.row P.row K.NoPrefixesBytes
+            self.entry.map self.entry.key result) }
+        ensures value { IfOk result (λ lent. UnwrapsOrElse
+            (value_at K.bytes (K.bytes self.entry.key) self.entry.map.now)
+            V.is_default lent.now) }
+        ensures handed_back { IfErr result (λ refused. (refused.key ≡ self.entry.key) ×
+            V.is_default refused.value) }
+        ensures refused { OnErr result (has_key (of_key K.bytes)
+            (K.bytes self.entry.key) self.entry.map.now ≡ false) }
+    {
+        self.or_insert_with_key(|_| V::default())
     }
 }

@@ -98,8 +98,6 @@ fn ended_pair<'a, K: NoPrefixesBytes + Drop, V: Drop, const P: usize>(
     ensures { option_map deref_pair result ≡
         first_of (with_key (of_key K.bytes) (string.now ++ 0 ∷ []) map.now) }
 {
-    // `len` says that the keys rise.
-    map.len();
     let (key, value) = map.first_from(Bound::Included(string))?;
     if is_ended(key.as_bytes(), string) {
         return Some((key, value));

@@ -1,14 +1,14 @@
 //! A map with a key, which may be stored or not.
-ghost use Rattle.std.specs.Prelude.{◌≡◌, false, IfErr, IfOk, OnOk, Some, option_copied};
+ghost use Rattle.std.specs.Prelude.{◌≡◌, false, IfErr, IfOk, Ok, OnOk, Some, option_copied};
 ghost use Rattle.std.specs.Borrow.{Bor, MutBor, sem};
 ghost use Rattle.std.specs.Fn.{FnOnceReturnsAt};
 ghost use Rattle.std.specs.Option.{UnwrapsOrElse, unwrap_or};
 ghost use Rattle.art_model.specs.Pairs.{has_key, is_conflict, of_key};
 ghost use Rattle.art_map.specs.MapAnswers.{IsRefusalOf, IsRefusalOfMade, value_at};
-ghost use Rattle.art_map.specs.MapCalls.{Modifies};
+ghost use Rattle.art_map.specs.MapCalls.{IsMakeRefusal, Modifies};
 ghost use Rattle.art_map.specs.MapLends.{lends_put};
 
-use super::{ByteMap, MapInsertError};
+use super::{ByteMap, MapInsertError, MapMakeError};
 use art_nodes::node::{AsBytes, LeafPtr};
 
 /// A map and a key, which may be stored there or not.
@@ -110,6 +110,27 @@ impl<'a, K: AsBytes + Drop, V: Drop, const P: usize> EntryOf<'a, K, ByteMap<K, V
             (F.post make) self.entry.map.now) }
     {
         self.or_insert_with_key(|_| make())
+    }
+
+    /// What `or_insert_with` returns, of a closure that may fail. Its error is returned where it does, and the
+    /// map is as before.
+    pub fn or_try_insert_with<E: Drop, F: FnOnce() -> Result<V, E>>(
+        self,
+        make: F,
+    ) -> Result<&'a mut V, MapMakeError<K, V, E>>
+        requires { has_key (of_key K.bytes) (K.bytes self.key) self.map.now ≡ false → F.pre make }
+        ensures* writes_back { sem 𝓛 (lends_put K.row V.row P.row K.AsBytes
+            self.entry.map self.entry.key result) }
+        ensures value { IfOk result (λ lent. UnwrapsOrElse
+            (value_at K.bytes (K.bytes self.entry.key) self.entry.map.now)
+            (λ value. F.post make (Ok value)) lent.now) }
+        ensures accepted { OnOk result (is_conflict (of_key K.bytes)
+            (K.bytes self.entry.key) self.entry.map.now ≡ false) }
+        ensures refused { IfErr result (IsMakeRefusal K.bytes self.entry.key
+            (F.post make) self.entry.map.now) }
+    {
+        let EntryOf { map, key, leaf } = self;
+        map.value_or_try(key, leaf, make)
     }
 
     /// What `or_insert` returns, with the value that is the default of its type.

@@ -1,19 +1,41 @@
 //! A value of a map, which is changed, or made where its key is new.
-ghost use Rattle.std.specs.Prelude.{◌≡◌, false, IfErr, IfOk, OnOk, Some};
+ghost use Rattle.std.specs.Prelude.{◌≡◌, false, IfErr, IfOk, Ok, OnOk, Some};
 ghost use Rattle.std.specs.Borrow.{Bor, MutBor, sem};
 ghost use Rattle.std.specs.Fn.{FnOnceReturnsAt};
 ghost use Rattle.std.specs.Option.{UnwrapsOrElse, unwrap_or};
 ghost use Rattle.art_model.specs.Pairs.{has_key, is_conflict, of_key};
 ghost use Rattle.art_map.specs.MapAnswers.{IsRefusalOf, IsRefusalOfMade, value_at};
-ghost use Rattle.art_map.specs.MapCalls.{Modifies};
+ghost use Rattle.art_map.specs.MapCalls.{IsMakeRefusal, Modifies};
 ghost use Rattle.art_map.specs.MapLends.{lends_put};
 
-use super::place::{enter, leaf_made, place_near};
-use super::{ByteMap, MapInsertError};
+use super::place::{enter, leaf_made, leaf_tried, place_near};
+use super::{ByteMap, MapInsertError, MapMakeError};
 use art_nodes::node::{AsBytes, LeafPtr};
 use art_reading::lookup::search_unchecked;
 
 impl<K: AsBytes + Drop, V: Drop, const P: usize> ByteMap<K, V, P> {
+    /// What `get_or_insert` returns, with a value that is made of the key. The closure is called where no
+    /// equal key is stored, also where the pair is refused then and comes back.
+    pub fn get_or_insert_with<F: FnOnce(&K) -> V>(
+        &mut self,
+        key: K,
+        make: F,
+    ) -> Result<&mut V, MapInsertError<K, V>>
+        requires { has_key (of_key K.bytes) (K.bytes key) self.old ≡ false →
+            (p : Bor K) → p.now ≡ key → F.pre make p }
+        ensures* writes_back { sem 𝓛
+            (lends_put K.row V.row P.row K.AsBytes self.entry key result) }
+        ensures value { IfOk result (λ lent. UnwrapsOrElse
+            (value_at K.bytes (K.bytes key) self.old)
+            (FnOnceReturnsAt F.FnOnce make key) lent.now) }
+        ensures accepted { OnOk result
+            (is_conflict (of_key K.bytes) (K.bytes key) self.old ≡ false) }
+        ensures refused { IfErr result (IsRefusalOfMade K.bytes key
+            (FnOnceReturnsAt F.FnOnce make key) self.old) }
+    {
+        self.value_or_make(key, None, make)
+    }
+
     // Calls the closure at the value of the key with these bytes, and returns its leaf.
     pub(super) fn modify<F: FnOnce(&mut V)>(&mut self, key_bytes: &[u8], f: F) -> Option<LeafPtr>
         requires { (value : MutBor V) →
@@ -82,6 +104,41 @@ impl<K: AsBytes + Drop, V: Drop, const P: usize> ByteMap<K, V, P> {
     {
         let place = place_near(&self.store, self.root, leaf, key.as_bytes());
         let leaf = match leaf_made(
+            &mut self.store,
+            &mut self.root,
+            &mut self.len,
+            place,
+            key,
+            make,
+        ) {
+            Ok(leaf) => leaf,
+            Err(error) => return Err(error),
+        };
+        let Some(value) = self.store.value_mut(leaf) else {
+            unreachable!()
+        };
+        Ok(value)
+    }
+
+    // The same with a closure that may fail to make the value.
+    pub(super) fn value_or_try<E: Drop, F: FnOnce() -> Result<V, E>>(
+        &mut self,
+        key: K,
+        leaf: Option<LeafPtr>,
+        make: F,
+    ) -> Result<&mut V, MapMakeError<K, V, E>>
+        requires { has_key (of_key K.bytes) (K.bytes key) self.old ≡ false → F.pre make }
+        ensures* writes_back { sem 𝓛
+            (lends_put K.row V.row P.row K.AsBytes self.entry key result) }
+        ensures value { IfOk result (λ lent. UnwrapsOrElse
+            (value_at K.bytes (K.bytes key) self.old)
+            (λ value. F.post make (Ok value)) lent.now) }
+        ensures accepted { OnOk result
+            (is_conflict (of_key K.bytes) (K.bytes key) self.old ≡ false) }
+        ensures refused { IfErr result (IsMakeRefusal K.bytes key (F.post make) self.old) }
+    {
+        let place = place_near(&self.store, self.root, leaf, key.as_bytes());
+        let leaf = match leaf_tried(
             &mut self.store,
             &mut self.root,
             &mut self.len,

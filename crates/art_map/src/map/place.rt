@@ -3,10 +3,10 @@ ghost use Rattle.std.specs.Prelude.{◌≡◌, ℕ, IsTrue, false};
 ghost use Rattle.std.specs.Borrow.{Bor};
 ghost use Rattle.std.specs.Fn.{FnOnceReturnsAt};
 ghost use Rattle.art_model.specs.Pairs.{has_key, of_key};
-ghost use Rattle.art_map.specs.MapChanges.{HasEntered, HasKeyAt, HasMade, IsPlaceOf};
+ghost use Rattle.art_map.specs.MapChanges.{HasEntered, HasKeyAt, HasMade, HasTried, IsPlaceOf};
 ghost use Rattle.art_map.specs.MapPairs.{HoldsPairs, pairs_at};
 
-use super::{MapInsertError, one_more, without_memory};
+use super::{MapInsertError, MapMakeError, one_more, without_memory};
 use art_nodes::node::{AsBytes, LeafPtr, OpaqueNodePtr};
 use art_nodes::store::NodeStore;
 use art_writing::insert::{
@@ -145,4 +145,39 @@ pub(super) fn leaf_made<K: AsBytes + Drop, V: Drop, const P: usize, F: FnOnce(&K
     }
     let value = make(&key);
     enter(store, root, len, place, key, value)
+}
+
+// The same with a closure that may fail to make the value.
+pub(super) fn leaf_tried<
+    K: AsBytes + Drop,
+    V: Drop,
+    E: Drop,
+    const P: usize,
+    F: FnOnce() -> Result<V, E>,
+>(
+    store: &mut NodeStore<K, V, P>,
+    root: &mut Option<OpaqueNodePtr>,
+    len: &mut usize,
+    place: Place,
+    key: K,
+    make: F,
+) -> Result<LeafPtr, MapMakeError<K, V, E>>
+    requires holds { HoldsPairs (of_key K.bytes) P store.old root.old len.old
+        (pairs_at store.old root.old) }
+    requires place { IsPlaceOf K.bytes P store.old root.old (K.bytes key) place }
+    requires make { has_key (of_key K.bytes) (K.bytes key) (pairs_at store.old root.old) ≡ false →
+        F.pre make }
+    ensures { HasTried K.bytes P (pairs_at store.old root.old) key (F.post make) result
+        store.new root.new len.new }
+{
+    if let Place::Leaf(leaf) = place {
+        return Ok(leaf);
+    }
+    match make() {
+        Ok(value) => match enter(store, root, len, place, key, value) {
+            Ok(leaf) => Ok(leaf),
+            Err(error) => Err(MapMakeError::Insert(error)),
+        },
+        Err(error) => Err(MapMakeError::Make(error)),
+    }
 }

@@ -1,7 +1,7 @@
 //! The pairs of a map that a closure picks stay.
 ghost use Rattle.std.specs.Prelude.{◌≡◌, OnErr, OnOk, Some};
 ghost use Rattle.std.specs.Range.Bound.{bound_map};
-ghost use Rattle.art_model.specs.Pairs.{of_key};
+ghost use Rattle.art_model.specs.Pairs.{IsMap, of_key};
 ghost use Rattle.art_map.specs.MapPairs.{HoldsPairs, pairs_at};
 ghost use Rattle.art_map.specs.MapRetain.{AsksPair, FindsRefused, HasTakenRefused, RetainsAll, RetainsUntil, TakesRefused, after_pair, pairs_after};
 
@@ -26,8 +26,6 @@ impl<K: AsBytes + Drop, V: Drop, const P: usize> ByteMap<K, V, P> {
     {
         let mut last = None;
         loop {
-            // `len` says that the keys rise.
-            self.len();
             match self.take_refused(&last, &mut f) {
                 Ok(Some(pair)) => last = Some(pair),
                 Ok(None) => return Ok(()),
@@ -46,6 +44,7 @@ impl<K: AsBytes + Drop, V: Drop, const P: usize> ByteMap<K, V, P> {
         ensures callable { F.IsAlwaysCallable f.new }
         ensures taken { TakesRefused (AsksPair F.FnMut) K.bytes last.now f.old self.old result
             f.new self.new }
+        ensures sorted { IsMap (of_key K.bytes) self.old }
     {
         take_refused(&mut self.store, &mut self.root, &mut self.len, last, f)
     }

@@ -8,19 +8,23 @@ use Rattle.art_map.specs.MapItems.{deref_pair}
 use Rattle.art_map.specs.MapPairs.{pairs_at}
 use Rattle.art_map.proofs.Puts.{at_some}
 use Rattle.art_map.proofs.Ranges.{also_true, first_pair, no_first_pair}
+use Rattle.art_map.proofs.Views.{view_sorted}
 use Rattle.art_map.proofs.map.ByteMap.first_from.Goals as goal
 
-pub returns-in_err-leaf : goal.returns-in_err-leaf
-returns-in_err-leaf g c =
+pub returns-in_err-leaf-clause-pair : goal.returns-in_err-leaf-clause-pair
+returns-in_err-leaf-clause-pair g c =
     let has = at_some c.in_ok-self.was c.self.invariant in
     ap (option_map deref_pair) c.from_residual-in_err-leaf.ensures
     ∙ no_first_pair has.by (λ x. is_from (bound_map (λ b. b.now) c.args.from) (g.K.AsBytes.bytes x.0)) (c.in_err-leaf.ensures.leaf _ has.layout has.by)
     ∙ ap (λ test. first_of (filter test (pairs_at c.self.inside.store c.self.inside.root))) (λ i x. also_true (is_from (bound_map (λ b. b.now) c.args.from) (g.K.AsBytes.bytes x.0)) i)
     ∙ ap (λ pairs. first_of (between (of_key g.K.AsBytes.bytes) (bound_map (λ b. b.now) c.args.from) Unbounded pairs)) c.self.view_is
 
-pub returns : goal.returns
-returns g c =
+pub returns-clause-pair : goal.returns-clause-pair
+returns-clause-pair g c =
     let has = at_some c.in_ok-self.was c.self.invariant in
     first_pair has.by (λ x. is_from (bound_map (λ b. b.now) c.args.from) (g.K.AsBytes.bytes x.0)) (c.in_ok-leaf.ensures.leaf _ has.layout has.by) c.pair_at.ensures
     ∙ ap (λ test. first_of (filter test (pairs_at c.self.inside.store c.self.inside.root))) (λ i x. also_true (is_from (bound_map (λ b. b.now) c.args.from) (g.K.AsBytes.bytes x.0)) i)
     ∙ ap (λ pairs. first_of (between (of_key g.K.AsBytes.bytes) (bound_map (λ b. b.now) c.args.from) Unbounded pairs)) c.self.view_is
+
+pub returns-clause-sorted : goal.returns-clause-sorted
+returns-clause-sorted g c = view_sorted (of_key g.K.AsBytes.bytes) g.row.P c.self.inside.store c.self.invariant c.self.view_is

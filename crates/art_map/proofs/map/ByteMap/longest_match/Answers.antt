@@ -2,6 +2,7 @@ use Rattle.std.proofs.Common.{rules}
 use Rattle.art_model.specs.Pairs.{match_of, of_key}
 use Rattle.art_map.proofs.Puts.{canonical_root}
 use Rattle.art_map.proofs.Takings.{found_pair}
+use Rattle.art_map.proofs.Views.{view_sorted}
 use Rattle.art_map.proofs.map.ByteMap.longest_match.Goals as goal
 
 pub prefix_search_unchecked-requires : goal.prefix_search_unchecked-requires
@@ -10,7 +11,10 @@ prefix_search_unchecked-requires g c = (search rules, canonical_root c.in_ok-sel
 pub pair_at-requires : goal.pair_at-requires
 pair_at-requires g c = (search rules, c.in_ok-leaf.ensures.there)
 
-pub returns : goal.returns
-returns g c =
+pub returns-clause-pair : goal.returns-clause-pair
+returns-clause-pair g c =
     found_pair g.K.AsBytes.bytes g.row.P _ c.in_ok-self.was c.self.invariant (match_of (of_key g.K.AsBytes.bytes) c.args.query.now)
     c.in_ok-leaf.ensures.pair c.pair_at.ensures c.self.view_is
+
+pub returns-clause-sorted : goal.returns-clause-sorted
+returns-clause-sorted g c = view_sorted (of_key g.K.AsBytes.bytes) g.row.P c.self.inside.store c.self.invariant c.self.view_is

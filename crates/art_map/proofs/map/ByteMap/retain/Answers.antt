@@ -14,7 +14,7 @@ loop-pair-smaller g c =
     let (left, stops) = subst (λ r. TakesRefused (AsksPair g.F.FnMut) g.K.AsBytes.bytes c.loop-pair.last c.loop-pair.f c.loop-pair.self r c.take_refused.new.f c.take_refused.new.self) is
     c.take_refused.ensures.taken in
     subst (λ pairs. length (pairs_after B (Some c.in-Ok-Some.pair) pairs) < length (pairs_after B c.loop-pair.last c.loop-pair.self)) (sym left)
-    (fewer (AsksPair g.F.FnMut) B c.args.f c.args.self.now c.loop-pair.invariant.0 stops c.len.ensures.sorted)
+    (fewer (AsksPair g.F.FnMut) B c.args.f c.args.self.now c.loop-pair.invariant.0 stops c.take_refused.ensures.sorted)
 
 pub loop-pair-preserved : goal.loop-pair-preserved
 loop-pair-preserved g c =
@@ -23,7 +23,7 @@ loop-pair-preserved g c =
     let (left, stops) = subst (λ r. TakesRefused (AsksPair g.F.FnMut) g.K.AsBytes.bytes c.loop-pair.last c.loop-pair.f c.loop-pair.self r c.take_refused.new.f c.take_refused.new.self) is
     c.take_refused.ensures.taken in (
       subst (λ pairs. Retaining (AsksPair g.F.FnMut) B c.args.f c.args.self.now c.take_refused.new.f pairs (Some c.in-Ok-Some.pair)) (sym left)
-          (goes_on (AsksPair g.F.FnMut) B c.args.f c.args.self.now c.loop-pair.invariant.0 stops c.len.ensures.sorted),
+          (goes_on (AsksPair g.F.FnMut) B c.args.f c.args.self.now c.loop-pair.invariant.0 stops c.take_refused.ensures.sorted),
       c.take_refused.ensures.callable,
     )
 

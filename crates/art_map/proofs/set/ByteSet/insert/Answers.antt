@@ -8,7 +8,7 @@ use Rattle.art_map.proofs.set.ByteSet.insert.Goals as goal
 pub returns-clause-keys : goal.returns-clause-keys
 returns-clause-keys g c =
     let B = g.K.AsBytes.bytes in
-    ap keys_of c.in-Ok.ensures.pairs ∙ keys_put B c.args.key tt c.self.inside.map c.len.ensures.sorted ∙ ap (add_key B c.args.key) c.self.view_is
+    ap keys_of c.in-Ok.ensures.pairs ∙ keys_put B c.args.key tt c.self.inside.map c.in-Ok.ensures.was_sorted ∙ ap (add_key B c.args.key) c.self.view_is
 
 pub returns-clause-added : goal.returns-clause-added
 returns-clause-added g c =
