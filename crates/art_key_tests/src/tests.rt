@@ -1,5 +1,6 @@
 mod drawn;
 mod drawn_set;
+mod entries;
 mod joined;
 mod keys;
 mod map;

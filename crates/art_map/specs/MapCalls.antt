@@ -28,9 +28,9 @@ module _ {K V F : Type 0} (g : Mut F (MutBor V × Unit {0}) (Unit {0} × (MutBor
   abbrev pub ChangesValues : F → List (K × V) → List (K × V) → Type 0
   ChangesValues f before after = (left : F) × ChangesEach f before after left
 
--- the closure failed where no equal key is stored, or the pair with the value that it made is handed back
+-- the closure failed where no equal key is stored, and the key is handed back; or the pair with the value that it made is
 abbrev pub IsMakeRefusal : {K V E : Type 0} → (K → List ℕ) → K → (Result V E → Type 0) → List (K × V) → MapMakeError K V E → Type 0
-IsMakeRefusal bytes key IsMade pairs (Make error) = IsMade (Err error) × (has_key (of_key bytes) (bytes key) pairs ≡ false)
+IsMakeRefusal bytes key IsMade pairs (Make k error) = (k ≡ key) × IsMade (Err error) × (has_key (of_key bytes) (bytes key) pairs ≡ false)
 IsMakeRefusal {K} {V} bytes key IsMade pairs (Insert error) = (value : V) × IsMade (Ok value) × IsRefusalOf bytes key value pairs error
 
 -- the pairs that are left when others are put, one after another

@@ -82,9 +82,9 @@ pub enum MapInsertError<K, V> {
 /// A value of an entry that was not made, or whose pair was not inserted.
 #[derive(Debug, Drop, Error)]
 pub enum MapMakeError<K, V, E> {
-    /// The closure failed. No equal key is stored, and the key that was handed in is dropped.
+    /// The closure failed, where no equal key is stored. The key that was handed in comes back.
     #[error("the value was not made")]
-    Make(E),
+    Make { key: K, error: E },
     /// The value was made, and comes back with its key.
     #[error("{0}")]
     Insert(MapInsertError<K, V>),

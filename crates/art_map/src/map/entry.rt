@@ -112,8 +112,8 @@ impl<'a, K: AsBytes + Drop, V: Drop, const P: usize> EntryOf<'a, K, ByteMap<K, V
         self.or_insert_with_key(|_| make())
     }
 
-    /// What `or_insert_with` returns, of a closure that may fail. Its error is returned where it does, and the
-    /// map is as before.
+    /// What `or_insert_with` returns, of a closure that may fail. Where it does, its error is returned with the
+    /// key, and the map is as before.
     pub fn or_try_insert_with<E: Drop, F: FnOnce() -> Result<V, E>>(
         self,
         make: F,

@@ -178,6 +178,6 @@ pub(super) fn leaf_tried<
             Ok(leaf) => Ok(leaf),
             Err(error) => Err(MapMakeError::Insert(error)),
         },
-        Err(error) => Err(MapMakeError::Make(error)),
+        Err(error) => Err(MapMakeError::Make { key, error }),
     }
 }

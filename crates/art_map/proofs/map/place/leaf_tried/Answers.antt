@@ -1,4 +1,4 @@
-use Rattle.std.proofs.Common.{sym, ◌∙◌}
+use Rattle.std.proofs.Common.{refl, sym, ◌∙◌}
 use Rattle.std.proofs.lemmas.Bool.{false≢true}
 use Rattle.art_model.specs.Pairs.{of_key}
 use Rattle.art_map.specs.MapPairs.{pairs_at}
@@ -21,4 +21,4 @@ make-requires g c = c.requires.make (place_new g.K.AsBytes.bytes g.row.P (g.K.As
 pub returns-in-Err : goal.returns-in-Err
 returns-in-Err g c =
     let new = place_new g.K.AsBytes.bytes g.row.P (g.K.AsBytes.bytes c.args.key) c.requires.holds c.args.place c.requires.place c.in_default.not-Leaf in
-    (c.requires.holds, (c.in-Err.ensures, new))
+    (c.requires.holds, (refl, (c.in-Err.ensures, new)))
