@@ -1,7 +1,7 @@
 //! Drawn calls of a map's entries beside those of a `BTreeMap`.
 use super::beside_btree::{Key, Map, Model, agree_on_pairs, drawn_key};
-use art_operations::map::ByteMap;
-use art_test_support::expected::as_expected;
+use art_operations::map::{ByteMap, MapMakeError};
+use art_test_support::expected::{as_expected, same};
 use art_test_support::numbers::Numbers;
 use std::collections::BTreeMap;
 use std::test::Fail;
@@ -110,4 +110,39 @@ fn drawn_entries_answer_as_those_of_a_btree_map(rt: HostRuntime) -> Result<(), F
     let (mut map, mut model) = (ByteMap::new(alloc), BTreeMap::new(alloc));
     let differ = differ_at_call(&mut map, &mut model, 4_000);
     as_expected(Some(((differ, agree_on_pairs(&map, &model)), (None, true))))
+}
+
+// What comes back of a closure that fails: nothing where the key is stored.
+fn failed(map: &mut Map, key: Key, why: u32) -> Option<(Key, u32)> {
+    let refused = map.entry(key).or_try_insert_with(|| Err(why)).err();
+    let Some(MapMakeError::Make { key, error }) = refused else {
+        return None;
+    };
+    Some((key, error))
+}
+
+// The value of a key after a closure that doesn't.
+fn tried(map: &mut Map, key: Key, value: u32) -> Option<u32> {
+    let made: Result<u32, u32> = Ok(value);
+    let Ok(stored) = map.entry(key).or_try_insert_with(|| made) else {
+        return None;
+    };
+    Some(*stored)
+}
+
+// Both at a key that is new, and at one that is stored; and how many pairs there are after the first and the last.
+fn tried_twice(map: &mut Map) -> ([Option<(Key, u32)>; 2], [Option<u32>; 2], [usize; 2]) {
+    let (new, none) = (failed(map, [1, 1], 9), map.len());
+    let (made, stored) = (tried(map, [1, 1], 5), tried(map, [1, 1], 6));
+    let not_called = failed(map, [1, 1], 9);
+    ([new, not_called], [made, stored], [none, map.len()])
+}
+
+#[test]
+fn a_failed_closure_hands_the_key_back(rt: HostRuntime) -> Result<(), Fail> {
+    let seen = tried_twice(&mut ByteMap::new(rt.alloc()));
+    same(
+        seen,
+        ([Some(([1, 1], 9)), None], [Some(5), Some(5)], [0, 1]),
+    )
 }
