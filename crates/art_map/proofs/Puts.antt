@@ -48,18 +48,6 @@ module _ {K V : Type 0} (bytes : K × V → List ℕ) (P : ℕ) where
       go None h other = absurd h
       go (Some layout) h other = record { layout = layout; by = h; no_other = other; len_is = is.len_is }
 
-module _ {K V : Type 0} {bytes : K × V → List ℕ} {P : ℕ} where
-  -- of a root that is known to be there
-  pub at_some : {s : Nodes K V} {root : Option OpaqueNodePtr} {name : OpaqueNodePtr} {len : ℕ} {pairs : List (K × V)} → root ≡ Some name → HoldsPairs bytes P s root len pairs →
-      HasTreeAt bytes P s name len pairs
-  at_some {s} {len = len} {pairs = pairs} e is = at_root bytes P (subst (λ r. HoldsPairs bytes P s r len pairs) e is)
-
-  -- the name of a root that is there is canonical
-  pub canonical_root : {s : Nodes K V} {root : Option OpaqueNodePtr} {name : OpaqueNodePtr} {len : ℕ} {pairs : List (K × V)} → root ≡ Some name → HoldsPairs bytes P s root len pairs →
-      IsCanonicalRoot bytes P s name
-  canonical_root {pairs = pairs} e is = let has = at_some e is in (pairs, has.layout, has.by)
-
-module _ {K V : Type 0} (bytes : K × V → List ℕ) (P : ℕ) where
   module _ (s t : Nodes K V) (same_leaves : t.leaves ≡ s.leaves) (same_inners : t.inners ≡ s.inners) where
     same_held : (k : OpaqueNodePtr) → content_at t k ≡ content_at s k
     same_held k = ap₂ (λ leaves inners. content_at (record t { leaves = leaves; inners = inners }) k) same_leaves same_inners
@@ -88,6 +76,17 @@ module _ {K V : Type 0} (bytes : K × V → List ℕ) (P : ℕ) where
   -- nothing is left of a tree that was freed
   pub emptied : {s t : Nodes K V} {name : OpaqueNodePtr} {len : ℕ} {pairs : List (K × V)} (has : HasTreeAt s name len pairs) → KeepsOthers s t (names_of has.layout) [] → HoldsPairs bytes P t None 0 []
   emptied has freed = record { tree = None; canonical = refl; no_other = none_other freed has.no_other; len_is = refl }
+
+module _ {K V : Type 0} {bytes : K × V → List ℕ} {P : ℕ} where
+  -- of a root that is known to be there
+  pub at_some : {s : Nodes K V} {root : Option OpaqueNodePtr} {name : OpaqueNodePtr} {len : ℕ} {pairs : List (K × V)} → root ≡ Some name → HoldsPairs bytes P s root len pairs →
+      HasTreeAt bytes P s name len pairs
+  at_some {s} {len = len} {pairs = pairs} e is = at_root bytes P (subst (λ r. HoldsPairs bytes P s r len pairs) e is)
+
+  -- the name of a root that is there is canonical
+  pub canonical_root : {s : Nodes K V} {root : Option OpaqueNodePtr} {name : OpaqueNodePtr} {len : ℕ} {pairs : List (K × V)} → root ≡ Some name → HoldsPairs bytes P s root len pairs →
+      IsCanonicalRoot bytes P s name
+  canonical_root {pairs = pairs} e is = let has = at_some e is in (pairs, has.layout, has.by)
 
 module _ {K V : Type 0} (bytes : K → List ℕ) (new : K × V) (pairs : List (K × V)) (rising : IsMap (of_key bytes) pairs) where
   -- as many pairs have the key as come back

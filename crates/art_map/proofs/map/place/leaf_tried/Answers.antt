@@ -21,4 +21,4 @@ make-requires g c = c.requires.make (place_new g.K.AsBytes.bytes g.row.P (g.K.As
 pub returns-in-Err : goal.returns-in-Err
 returns-in-Err g c =
     let new = place_new g.K.AsBytes.bytes g.row.P (g.K.AsBytes.bytes c.args.key) c.requires.holds c.args.place c.requires.place c.in_default.not-Leaf in
-    (c.requires.holds, (refl, (c.in-Err.ensures, new)))
+    (c.requires.holds, (refl, c.in-Err.ensures, new))
