@@ -32,7 +32,7 @@ impl<'a, K: NoPrefixesBytes + Drop, V: Drop, const P: usize> KeyedEntryOf<
         &self.key
     }
 
-    /// Returns the value of the key, where it is stored.
+    /// Returns the value of the key, where it is stored, by one way down the tree.
     pub fn get(&self) -> Option<&V>
         ensures { option_copied result ≡
             value_at K.bytes (K.bytes self.now.key) self.now.map.now }
@@ -40,7 +40,7 @@ impl<'a, K: NoPrefixesBytes + Drop, V: Drop, const P: usize> KeyedEntryOf<
         self.map.get(&self.key)
     }
 
-    /// Returns the same, after a change of the value of the key, where it is stored.
+    /// Returns the entry, after a call of the closure at the key's value, where it is stored.
     pub fn and_modify<F: FnOnce(&mut V)>(self, f: F) -> Self
         requires { (value : MutBor V) →
             value_at K.bytes (K.bytes self.key) self.map.now ≡ Some value.now → F.pre f value }
@@ -56,8 +56,8 @@ impl<'a, K: NoPrefixesBytes + Drop, V: Drop, const P: usize> KeyedEntryOf<
         KeyedEntryOf { map, key }
     }
 
-    /// Returns the value of the key, to be written. Where no equal key is stored the pair comes in first,
-    /// by the same way down the tree.
+    /// Returns the value of the key, to be written. Where no equal key is stored the pair is put in
+    /// first, by the same way down the tree. It is refused as `insert` of the map is.
     pub fn or_insert(self, value: V) -> Result<&'a mut V, PairRefused<K, V>>
         ensures* writes_back { sem 𝓛 (lends_put K.row V.row P.row K.NoPrefixesBytes
             self.entry.map self.entry.key result) }
