@@ -25,7 +25,7 @@ pub struct KeyPrefix {
 }
 
 impl KeyPrefix {
-    /// Returns a prefix of no bytes. It takes no memory.
+    /// Returns a prefix of no bytes, and takes no memory.
     pub fn new(alloc: Global) -> Self
         ensures { prefix_bytes result ≡ [] }
     {

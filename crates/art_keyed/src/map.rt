@@ -288,8 +288,7 @@ impl<K: NoPrefixesBytes + Drop, V: Drop, const P: usize> KeyedMap<K, V, P> {
         self.map.pop_last()
     }
 
-    /// Takes out all pairs, as `clear` of a `ByteMap` does: it takes no memory, and the store keeps the room of the
-    /// nodes.
+    /// Takes out all pairs, and takes no memory, as `clear` of a `ByteMap` does. The store keeps the room of the nodes.
     pub fn clear(&mut self)
         ensures { self.new ≡ [] }
     {

@@ -205,8 +205,8 @@ impl<K: NoPrefixesBytes + Drop, const P: usize> KeyedSet<K, P> {
         self.set.pop_last()
     }
 
-    /// Takes out all keys, as `clear` of a `ByteMap` does: it takes no memory, and the store keeps the
-    /// room of the nodes.
+    /// Takes out all keys, and takes no memory, as `clear` of a `ByteMap` does. The store keeps the room
+    /// of the nodes.
     pub fn clear(&mut self)
         ensures { self.new ≡ [] }
     {

@@ -232,7 +232,7 @@ impl CloneBytes for Escaped {
     ghost keeps_key = { λ x y e of_x. of_x };
 }
 
-/// What was escaped comes back. Escapes are in the order of the originals, and none is a prefix of
+/// What was escaped comes back; escapes are in the order of the originals, and none is a prefix of
 /// another one.
 pub fn escapes_come_back_in_order()
     ensures back { (text : List ℕ) → unescape (escape text) ≡ text }

@@ -113,7 +113,7 @@ impl<K: AsBytes + Drop, V: Drop, const P: usize> ByteMap<K, V, P> {
     ghost use Rattle.art_map.specs.MapAnswers.{HasShrinkingParentBelow, IsRefusalOf, MayRefuseRemoval, value_at};
     ghost use Rattle.art_map.specs.MapLends.{lends_put, lends_value};
 
-    /// Returns an empty map. It takes no memory.
+    /// Returns an empty map, and takes no memory.
     pub fn new(alloc: Global) -> Self
         ensures { result ≡ [] }
     {
@@ -452,8 +452,8 @@ impl<K: AsBytes + Drop, V: Drop, const P: usize> ByteMap<K, V, P> {
         take_end(&mut self.store, &mut self.root, &mut self.len, end)
     }
 
-    /// Takes out all pairs. It takes no memory and goes over the slabs, down no tree. The store keeps the
-    /// room of the nodes for later ones.
+    /// Takes out all pairs, and takes no memory. It goes over the slabs, down no tree. The store keeps
+    /// the room of the nodes for later ones.
     pub fn clear(&mut self)
         ensures { self.new ≡ [] }
     {

@@ -56,7 +56,7 @@ impl<K: AsBytes, const P: usize> Model for ByteSet<K, P> {
 }
 
 impl<K: AsBytes + Drop, const P: usize> ByteSet<K, P> {
-    /// Returns an empty set. It takes no memory.
+    /// Returns an empty set, and takes no memory.
     pub fn new(alloc: Global) -> Self
         ensures { result ≡ [] }
     {
@@ -232,7 +232,7 @@ impl<K: AsBytes + Drop, const P: usize> ByteSet<K, P> {
         }
     }
 
-    /// Takes out all keys. It takes no memory and goes over the slabs, down no tree. The store keeps the
+    /// Takes out all keys, and takes no memory. It goes over the slabs, down no tree. The store keeps the
     /// room of the nodes for later ones.
     pub fn clear(&mut self)
         ensures { self.new ≡ [] }
