@@ -1,4 +1,4 @@
-/// What a function answers with each number of stored bytes that trees are tried with.
+/// What a function returns with each number of stored bytes that trees are tried with.
 macro_rules! with_each {
     ($function:ident, $alloc:expr) => {
         [

@@ -12,8 +12,8 @@ ghost use Rattle.art_checking.specs.Folds.{Folds};
 use art_nodes::node::{AsBytes, InnerRef, LeafNode, NodePtr, OpaqueNodePtr};
 use art_nodes::store::NodeStore;
 
-/// What a tree is folded with: a hook for leaves, one for inner nodes, and how the outputs of
-/// children are joined. Each hook may be called at any time.
+/// What a tree is folded with: a hook for leaves, one for inner nodes, and how the outputs of children are joined.
+/// Hooks require nothing: each may be called in any state.
 pub trait Visitor<K, V, const P: usize> {
     type Output;
 
@@ -30,21 +30,21 @@ pub trait Visitor<K, V, const P: usize> {
     /// What `visit_leaf` may return, and the visitor after it.
     ghost of_leaf: { Self → LeafNode K V → Self.Output → Self → Type 0 };
 
-    /// The output of nothing, where a fold has to begin with one. `visit_with` never asks for it, since an inner node
-    /// of a canonical tree has two children at least and the join begins with the first one's output.
+    /// Returns the output of nothing, where a fold has to begin with one. `visit_with` never asks for it, since an
+    /// inner node of a canonical tree has two children at least and the join begins with the first one's output.
     fn default_output(&self) -> Self::Output
         ensures { is_default self.now result };
 
-    /// Joins what came so far with the output of one child more.
+    /// Returns what came so far, combined with the output of one child more.
     fn combine_output(&self, o1: Self::Output, o2: Self::Output) -> Self::Output
         ensures { combines self.now o1 o2 result };
 
-    /// Called with an inner node and what its children gave, after these were visited.
+    /// Returns the output of an inner node. It is called after the node's children were visited, with what they gave.
     fn visit_inner_node(&mut self, node: InnerRef<'_, P>, children: Self::Output) -> Self::Output
         ensures { of_inner self.old (ref_kind node.entry) (ref_view node.entry)
             children result self.new };
 
-    /// Called with each leaf once, by rising keys.
+    /// Returns the output of a leaf. It is called with each leaf once, by rising keys.
     fn visit_leaf(&mut self, leaf: &LeafNode<K, V>) -> Self::Output
         ensures { of_leaf self.old leaf.now result self.new };
 }

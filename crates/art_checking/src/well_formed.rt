@@ -25,7 +25,7 @@ pub struct KeyPrefix {
 }
 
 impl KeyPrefix {
-    /// No bytes, which takes no memory.
+    /// Returns a prefix of no bytes, and takes no memory.
     pub fn new(alloc: Global) -> Self
         ensures { prefix_bytes result ≡ [] }
     {
@@ -34,7 +34,7 @@ impl KeyPrefix {
         }
     }
 
-    /// A copy of these bytes.
+    /// Returns a copy of these bytes. The only error is want of memory.
     pub fn from_slice(alloc: Global, bytes: &[u8]) -> Result<Self, AllocError>
         ensures { IfOk result (λ prefix. prefix_bytes prefix ≡ bytes.now) }
     {
@@ -42,7 +42,7 @@ impl KeyPrefix {
         Ok(KeyPrefix { bytes })
     }
 
-    /// The bytes themselves, from the root on: of an inner node, those that end before its prefix.
+    /// Returns the bytes themselves, from the root on: of an inner node, those that end before its prefix.
     pub fn as_slice(&self) -> &[u8]
         ensures { result.now ≡ prefix_bytes self.now }
     {
@@ -87,7 +87,7 @@ pub fn stats_start_at_zero()
 {}
 
 impl WellFormedTreeStats {
-    /// The number of all nodes, leaves and inner ones.
+    /// Returns the number of all nodes, leaves and inner ones.
     pub fn total_nodes(self) -> usize
         requires { self.num_leaf + self.num_inner < 2 ^ 64 }
         ensures { result ≡ self.num_leaf + self.num_inner }
@@ -138,9 +138,10 @@ impl WellFormedChecker {
     ghost use Rattle.art_checking.specs.Checks.{fault_of};
     ghost use Rattle.art_checking.specs.declared.well_formed.fault.MalformedTreeError.TheVariants.{EmptyTreeWithLen, OutOfMemory};
 
-    /// Checks the tree below a name, of any store and any name. Of several faults it returns the one that is met first:
-    /// at an inner node its prefix, then what is below its children, by rising bytes, then their number; and the links
-    /// of the leaves last, in their order.
+    /// Returns how many nodes the tree of a canonical root has, and else what is wrong; it takes any store and any
+    /// name. Of several faults it returns the one that is met first: at an inner node its prefix, then what is below
+    /// its children, by rising bytes, then their number; and the links of the leaves last, in their order.
+    /// `OutOfMemory` says nothing of the tree.
     pub fn check_tree<K: AsBytes + Drop, V: Drop, const PREFIX_LEN: usize>(
         store: &NodeStore<K, V, PREFIX_LEN>,
         root: OpaqueNodePtr,
@@ -162,8 +163,8 @@ impl WellFormedChecker {
         })
     }
 
-    /// The same where there may be no tree: then the length has to be 0. Where there is a root the length is not
-    /// compared.
+    /// Returns what `check_tree` does of the root, if there is one; the length is not compared then. Without a root it
+    /// returns zeros where the length is 0, and else `EmptyTreeWithLen`.
     pub fn check<K: AsBytes + Drop, V: Drop, const PREFIX_LEN: usize>(
         store: &NodeStore<K, V, PREFIX_LEN>,
         root: Option<OpaqueNodePtr>,

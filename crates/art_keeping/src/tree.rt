@@ -64,7 +64,8 @@ impl KeptTree {
         WellFormedChecker::check(&self.first, self.root, 0)
     }
 
-    /// Answers one more command, by a run of it alone. An `Err` leaves the tree as it is.
+    /// Carries one more command out, by a run of it alone, and returns the reply. An `Err` leaves the
+    /// tree as it is.
     pub fn answer(
         &mut self,
         command: Command<Vec<u8>, u32>,

@@ -37,7 +37,7 @@ pub struct PairRefused<K, V> {
     pub value: V,
 }
 
-/// The same of the error of a map of any keys.
+/// The pair that a `ByteMap` hands back. Keys of this kind are never in conflict, so no conflict is lost.
 impl<K, V> From<MapInsertError<K, V>> for PairRefused<K, V> {
     ghost use Rattle.art_keyed.specs.KeyedRefusals.{IsHandedBack};
 
@@ -87,7 +87,7 @@ impl<K: NoPrefixesBytes + Drop, V: Drop, const P: usize> KeyedMap<K, V, P> {
         }
     }
 
-    /// Returns the map without what is known of its keys, for all that only reads.
+    /// Returns the map as a `ByteMap`, for those of its calls that only read, such as `longest_match`.
     pub fn as_byte_map(&self) -> &ByteMap<K, V, P>
         ensures pairs { result.now ≡ self.now }
         ensures keys { HaveKeys K.is_key self.now }
@@ -110,14 +110,14 @@ impl<K: NoPrefixesBytes + Drop, V: Drop, const P: usize> KeyedMap<K, V, P> {
         self.map.is_empty()
     }
 
-    /// Returns whether a key is stored.
+    /// Returns whether a key is stored, by one way down the tree along its bytes.
     pub fn contains_key(&self, key: &K) -> bool
         ensures { result ≡ has_key (of_key K.bytes) (K.bytes key.now) self.now }
     {
         self.map.contains_key(key.as_bytes())
     }
 
-    /// Returns the value of a key.
+    /// Returns the value of a key, or `None` where it is not stored, by one way down the tree along its bytes.
     pub fn get(&self, key: &K) -> Option<&V>
         ensures value { option_copied result ≡ value_at K.bytes (K.bytes key.now) self.now }
         ensures sorted { IsMap (of_key K.bytes) self.now }
@@ -125,7 +125,7 @@ impl<K: NoPrefixesBytes + Drop, V: Drop, const P: usize> KeyedMap<K, V, P> {
         self.map.get(key.as_bytes())
     }
 
-    /// Returns the pair of a key.
+    /// Returns the pair of a key, or `None` where it is not stored. It costs what `get` does.
     pub fn get_key_value(&self, key: &K) -> Option<(&K, &V)>
         ensures { option_map deref_pair result ≡
             first_of (with_key (of_key K.bytes) (K.bytes key.now) self.now) }
@@ -133,7 +133,7 @@ impl<K: NoPrefixesBytes + Drop, V: Drop, const P: usize> KeyedMap<K, V, P> {
         self.map.get_key_value(key.as_bytes())
     }
 
-    /// Returns the value of a key, to be written.
+    /// Returns the value of a key, to be written, or `None` where it is not stored. It costs what `get` does.
     pub fn get_mut(&mut self, key: &K) -> Option<&mut V>
         ensures* writes_back { sem 𝓛 (lends_value K.row V.row P.row K.NoPrefixesBytes
             self.entry (K.bytes key.now) result) }
@@ -142,7 +142,7 @@ impl<K: NoPrefixesBytes + Drop, V: Drop, const P: usize> KeyedMap<K, V, P> {
         self.map.get_mut(key.as_bytes())
     }
 
-    /// Returns the pairs in the order of the bytes of their keys.
+    /// Returns the pairs in the order of the bytes of their keys, from both ends. A step of the walk goes down no tree.
     pub fn iter(&self) -> MapIter<'_, K, V, P>
         ensures pairs { result ≡ self.now }
         ensures sorted { IsMap (of_key K.bytes) self.now }
@@ -151,7 +151,7 @@ impl<K: NoPrefixesBytes + Drop, V: Drop, const P: usize> KeyedMap<K, V, P> {
         self.map.iter()
     }
 
-    /// Returns the keys as they rise.
+    /// Returns the keys as they rise, from both ends.
     pub fn keys(&self) -> Keys<'_, K, V, P>
         ensures keys { result ≡ keys_of self.now }
         ensures sorted { IsMap (of_key K.bytes) self.now }
@@ -160,7 +160,7 @@ impl<K: NoPrefixesBytes + Drop, V: Drop, const P: usize> KeyedMap<K, V, P> {
         self.map.keys()
     }
 
-    /// Returns the values in the order of their keys.
+    /// Returns the values in the order of their keys, from both ends.
     pub fn values(&self) -> Values<'_, K, V, P>
         ensures values { result ≡ values_of self.now }
         ensures sorted { IsMap (of_key K.bytes) self.now }
@@ -169,28 +169,28 @@ impl<K: NoPrefixesBytes + Drop, V: Drop, const P: usize> KeyedMap<K, V, P> {
         self.map.values()
     }
 
-    /// Returns the keys as they rise, by value.
+    /// Returns the keys as they rise, by value, from both ends.
     pub fn into_keys(self) -> IntoKeys<K, V, P>
         ensures { result ≡ keys_of self }
     {
         self.map.into_keys()
     }
 
-    /// Returns the values in the order of their keys, by value.
+    /// Returns the values in the order of their keys, by value, from both ends.
     pub fn into_values(self) -> IntoValues<K, V, P>
         ensures { result ≡ values_of self }
     {
         self.map.into_values()
     }
 
-    /// Returns the first pair.
+    /// Returns the first pair, or `None`. It reads one inner node for each level.
     pub fn first_key_value(&self) -> Option<(&K, &V)>
         ensures { option_map deref_pair result ≡ first_of self.now }
     {
         self.map.first_key_value()
     }
 
-    /// Returns the last pair.
+    /// Returns the last pair, or `None`. It reads one inner node for each level.
     pub fn last_key_value(&self) -> Option<(&K, &V)>
         ensures { option_map deref_pair result ≡ last_of self.now }
     {
@@ -224,8 +224,8 @@ impl<K: NoPrefixesBytes + Drop, V: Drop, const P: usize> KeyedMap<K, V, P> {
         }
     }
 
-    /// Returns the value of a key, to be written. Where no equal key is stored the pair comes in first; a key
-    /// that is stored stays, with its value. It is refused as `insert` is.
+    /// Returns the value of a key, to be written. Where no equal key is stored the pair is put in first; a key that is
+    /// stored stays, with its value. It is refused as `insert` is.
     pub fn get_or_insert(&mut self, key: K, value: V) -> Result<&mut V, PairRefused<K, V>>
         ensures* writes_back { sem 𝓛 (lends_put K.row V.row P.row K.NoPrefixesBytes
             self.entry key result) }
@@ -240,7 +240,7 @@ impl<K: NoPrefixesBytes + Drop, V: Drop, const P: usize> KeyedMap<K, V, P> {
         Ok(self.map.get_or_insert(key, value)?)
     }
 
-    /// Returns what `get_or_insert` returns, with a value that is made of the key. The closure is called where
+    /// Returns what `get_or_insert` does, with a value that is made of the key. The closure is called where
     /// no equal key is stored, also where the pair is refused then and handed back.
     pub fn get_or_insert_with<F: FnOnce(&K) -> V>(
         &mut self,
@@ -263,7 +263,8 @@ impl<K: NoPrefixesBytes + Drop, V: Drop, const P: usize> KeyedMap<K, V, P> {
         Ok(self.map.get_or_insert_with(key, make)?)
     }
 
-    /// Returns the map with a key, to put the key in where it is not stored, and to write its value.
+    /// Returns an entry, which is the map with a key: it reads or changes the value of the key, or puts the key in.
+    /// This reads no node.
     pub fn entry(&mut self, key: K) -> KeyedEntry<'_, K, V, P>
         ensures same_map { result.map.ghost_name ≡ self.entry.ghost_name }
         ensures pairs { result.map.now ≡ self.old }
@@ -272,7 +273,8 @@ impl<K: NoPrefixesBytes + Drop, V: Drop, const P: usize> KeyedMap<K, V, P> {
         KeyedEntryOf { map: self, key }
     }
 
-    /// Takes out the pair of a key, and returns it.
+    /// Takes out the pair of a key, and returns it. It is refused only where a node of 5, 17 or 49 children gives way
+    /// to a smaller one, and there is no memory for that.
     pub fn remove(&mut self, key: &K) -> Result<Option<(K, V)>, MapRefused>
         ensures pairs { OnOk result
             (self.new ≡ remove_key (of_key K.bytes) (K.bytes key.now) self.old) }
@@ -288,7 +290,7 @@ impl<K: NoPrefixesBytes + Drop, V: Drop, const P: usize> KeyedMap<K, V, P> {
         self.map.remove(key.as_bytes())
     }
 
-    /// Takes out the first pair, and returns it.
+    /// Takes out the first pair, and returns it. It is refused as `remove` is.
     pub fn pop_first(&mut self) -> Result<Option<(K, V)>, MapRefused>
         ensures pairs { OnOk result (self.new ≡ without_first self.old) }
         ensures removed { IfOk result (λ removed. removed ≡ first_of self.old) }
@@ -299,7 +301,7 @@ impl<K: NoPrefixesBytes + Drop, V: Drop, const P: usize> KeyedMap<K, V, P> {
         self.map.pop_first()
     }
 
-    /// Takes out the last pair, and returns it.
+    /// Takes out the last pair, and returns it. It is refused as `remove` is.
     pub fn pop_last(&mut self) -> Result<Option<(K, V)>, MapRefused>
         ensures pairs { OnOk result (self.new ≡ without_last self.old) }
         ensures removed { IfOk result (λ removed. removed ≡ last_of self.old) }
@@ -310,7 +312,7 @@ impl<K: NoPrefixesBytes + Drop, V: Drop, const P: usize> KeyedMap<K, V, P> {
         self.map.pop_last()
     }
 
-    /// Takes out all pairs, and takes no memory. The room of their nodes stays for others.
+    /// Takes out all pairs, and takes no memory, as `clear` of a `ByteMap` does. The store keeps the room of the nodes.
     pub fn clear(&mut self)
         ensures { self.new ≡ [] }
     {
@@ -356,6 +358,7 @@ impl<K: NoPrefixesBytes + Drop, V: Drop, const P: usize> IntoIterator for KeyedM
     }
 }
 
+/// The value of a key, which has to be stored: that is a condition of the index, and no check at run time.
 impl<'b, K: NoPrefixesBytes + Drop, V: Drop, const P: usize> Index<&'b K> for KeyedMap<K, V, P> {
     type Output = V;
 
@@ -377,7 +380,7 @@ impl<K: NoPrefixesBytes + fmt::Debug + Drop, V: fmt::Debug + Drop, const P: usiz
     }
 }
 
-/// A key of the type is in conflict with no others.
+/// No key of the type is in conflict with a map of keys of the type.
 pub fn keys_are_never_in_conflict<K: NoPrefixesBytes, V>()
     ensures { IsNeverInConflict V K.is_key K.bytes }
 {}

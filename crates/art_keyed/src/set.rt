@@ -58,7 +58,7 @@ impl<K: NoPrefixesBytes + Drop, const P: usize> KeyedSet<K, P> {
         }
     }
 
-    /// Returns the set without what is known of its keys, for all that only reads.
+    /// Returns the set as a `ByteSet`, for those of its calls that only read.
     pub fn as_byte_set(&self) -> &ByteSet<K, P>
         ensures keys { result.now ≡ self.now }
         ensures known { Each K.is_key self.now }
@@ -81,35 +81,36 @@ impl<K: NoPrefixesBytes + Drop, const P: usize> KeyedSet<K, P> {
         self.set.is_empty()
     }
 
-    /// Returns whether a key is stored.
+    /// Returns whether a key is stored, by one way down the tree along its bytes.
     pub fn contains(&self, key: &K) -> bool
         ensures { result ≡ has_key K.bytes (K.bytes key.now) self.now }
     {
         self.set.contains(key.as_bytes())
     }
 
-    /// Returns the stored key that is equal to a key.
+    /// Returns the stored key that is equal to a key, or `None`, by one way down the tree along its
+    /// bytes.
     pub fn get(&self, key: &K) -> Option<&K>
         ensures { option_copied result ≡ first_of (with_key K.bytes (K.bytes key.now) self.now) }
     {
         self.set.get(key.as_bytes())
     }
 
-    /// Returns the first key.
+    /// Returns the first key, or `None`. It reads one inner node for each level.
     pub fn first(&self) -> Option<&K>
         ensures { option_copied result ≡ first_of self.now }
     {
         self.set.first()
     }
 
-    /// Returns the last key.
+    /// Returns the last key, or `None`. It reads one inner node for each level.
     pub fn last(&self) -> Option<&K>
         ensures { option_copied result ≡ last_of self.now }
     {
         self.set.last()
     }
 
-    /// Returns the keys as they rise.
+    /// Returns the keys as they rise, from both ends. A step of the walk goes down no tree.
     pub fn iter(&self) -> Keys<'_, K, (), P>
         ensures keys { result ≡ self.now }
         ensures sorted { IsMap K.bytes self.now }
@@ -157,7 +158,8 @@ impl<K: NoPrefixesBytes + Drop, const P: usize> KeyedSet<K, P> {
         }
     }
 
-    /// Takes out a key, and returns whether it was there.
+    /// Takes out a key, and returns whether it was there. It is refused only where a node of 5, 17 or 49
+    /// children gives way to a smaller one, and there is no memory for that.
     pub fn remove(&mut self, key: &K) -> Result<bool, MapRefused>
         ensures keys { OnOk result (self.new ≡ remove_key K.bytes (K.bytes key.now) self.old) }
         ensures removed { IfOk result (λ removed.
@@ -169,7 +171,7 @@ impl<K: NoPrefixesBytes + Drop, const P: usize> KeyedSet<K, P> {
         self.set.remove(key.as_bytes())
     }
 
-    /// Takes out the stored key that is equal to a key, and returns it.
+    /// Takes out the stored key that is equal to a key, and returns it. It is refused as `remove` is.
     pub fn take(&mut self, key: &K) -> Result<Option<K>, MapRefused>
         ensures keys { OnOk result (self.new ≡ remove_key K.bytes (K.bytes key.now) self.old) }
         ensures removed { IfOk result (λ removed.
@@ -181,7 +183,7 @@ impl<K: NoPrefixesBytes + Drop, const P: usize> KeyedSet<K, P> {
         self.set.take(key.as_bytes())
     }
 
-    /// Takes out the first key, and returns it.
+    /// Takes out the first key, and returns it. It is refused as `remove` is.
     pub fn pop_first(&mut self) -> Result<Option<K>, MapRefused>
         ensures keys { OnOk result (self.new ≡ without_first self.old) }
         ensures removed { IfOk result (λ removed. removed ≡ first_of self.old) }
@@ -192,7 +194,7 @@ impl<K: NoPrefixesBytes + Drop, const P: usize> KeyedSet<K, P> {
         self.set.pop_first()
     }
 
-    /// Takes out the last key, and returns it.
+    /// Takes out the last key, and returns it. It is refused as `remove` is.
     pub fn pop_last(&mut self) -> Result<Option<K>, MapRefused>
         ensures keys { OnOk result (self.new ≡ without_last self.old) }
         ensures removed { IfOk result (λ removed. removed ≡ last_of self.old) }
@@ -203,7 +205,8 @@ impl<K: NoPrefixesBytes + Drop, const P: usize> KeyedSet<K, P> {
         self.set.pop_last()
     }
 
-    /// Takes out all keys, and takes no memory. The room of their nodes stays for others.
+    /// Takes out all keys, and takes no memory, as `clear` of a `ByteMap` does. The store keeps the room
+    /// of the nodes.
     pub fn clear(&mut self)
         ensures { self.new ≡ [] }
     {

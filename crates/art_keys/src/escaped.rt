@@ -91,7 +91,7 @@ impl fmt::Debug for Escaped {
     }
 }
 
-/// Its text, with U+FFFD in the place of bytes that are none.
+/// The string as UTF-8 text, with U+FFFD in the place of bytes that are none.
 impl fmt::Display for Escaped {
     fn fmt<W: fmt::Write>(&self, f: &mut fmt::Formatter<W>) -> fmt::Result {
         let mut rest = self.beginning();
@@ -232,7 +232,8 @@ impl CloneBytes for Escaped {
     ghost keeps_key = { λ x y e of_x. of_x };
 }
 
-/// What was escaped comes back, and is in the order of the originals; none is a prefix of another's.
+/// What was escaped comes back; escapes are in the order of the originals, and none is a prefix of
+/// another one.
 pub fn escapes_come_back_in_order()
     ensures back { (text : List ℕ) → unescape (escape text) ≡ text }
     ensures order { (a b : List ℕ) →

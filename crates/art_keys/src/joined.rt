@@ -51,7 +51,7 @@ impl<A: DecodeBytes + Drop, B: DecodeBytes + Drop> Joined<A, B> {
         })
     }
 
-    /// Returns the first key. The only error is want of memory.
+    /// Returns the first key. The only error is want of memory; numbers and arrays take none.
     pub fn first(&self, alloc: Global) -> Result<A, AllocError>
         ensures { IfOk result (λ key. key ≡ self.now.0) }
     {
@@ -59,7 +59,7 @@ impl<A: DecodeBytes + Drop, B: DecodeBytes + Drop> Joined<A, B> {
         A::from_key_bytes(alloc, &self.bytes[..middle])
     }
 
-    /// Returns the second key. The only error is want of memory.
+    /// Returns the second key. The only error is want of memory; numbers and arrays take none.
     pub fn second(&self, alloc: Global) -> Result<B, AllocError>
         ensures { IfOk result (λ key. key ≡ self.now.1) }
     {
@@ -67,7 +67,7 @@ impl<A: DecodeBytes + Drop, B: DecodeBytes + Drop> Joined<A, B> {
         B::from_key_bytes(alloc, &self.bytes[middle..])
     }
 
-    /// Returns the two keys. The only error is want of memory.
+    /// Returns the two keys. The only error is want of memory; numbers and arrays take none.
     pub fn split(&self, alloc: Global) -> Result<(A, B), AllocError>
         ensures { IfOk result (λ keys. keys ≡ self.now) }
     {

@@ -13,7 +13,7 @@ pub trait NoPrefixesBytes: AsBytes {
     /// What is known of each value of the type.
     ghost is_key: { Self → Type 0 };
 
-    /// Does nothing, and tells what is known of a value.
+    /// Does nothing, but its contract says what is known of the value.
     fn as_key(&self)
         ensures { is_key self.now };
 

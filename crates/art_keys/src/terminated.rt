@@ -100,7 +100,7 @@ impl Terminated {
         &self.bytes[..self.bytes.len() - 1]
     }
 
-    /// Returns the bytes without their end.
+    /// Returns the bytes without their end, in the memory that they stand in.
     pub fn into_bytes_without_end(self) -> Vec<u8>
         ensures { result.items ≡ self }
     {
@@ -117,7 +117,7 @@ impl fmt::Debug for Terminated {
     }
 }
 
-/// Its text, with U+FFFD in the place of bytes that are none.
+/// The string as UTF-8 text, with U+FFFD in the place of bytes that are none.
 impl fmt::Display for Terminated {
     ghost use Rattle.std.specs.Prelude.{Some};
     ghost use Rattle.std.specs.Str.Lossy.{utf8_lossy};

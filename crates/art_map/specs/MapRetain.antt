@@ -24,7 +24,7 @@ pub record AsksPair {F K V : Type 0} (g : Mut F (Bor K × (Bor V × Unit {0})) B
   pub called : Called g f (key, (value, tt)) b left
 
 module _ {F A : Type 0} (asks : F → A → Bool → F → Type 0) where
-  -- f was asked of each pair in turn, and these are left: those of which it said true
+  -- f was asked of each pair in turn, and these are left: those of which it returned true
   abbrev pub Retains : F → List A → List A → F → Type 0
   Retains f [] kept left = (kept ≡ []) × (f ≡ left)
   Retains f (x ∷ xs) kept left =
@@ -34,7 +34,7 @@ module _ {F A : Type 0} (asks : F → A → Bool → F → Type 0) where
   abbrev pub RetainsAll : F → List A → List A → Type 0
   RetainsAll f before after = (left : F) × Retains f before after left
 
-  -- f said true of each pair up to one of which it said false
+  -- f returned true of each pair up to one of which it returned false
   pub record StopsAt (f : F) (pairs : List A) (x : A) (left : F) : Type 0 where
     pub seen : List A
     pub rest : List A
@@ -43,7 +43,7 @@ module _ {F A : Type 0} (asks : F → A → Bool → F → Type 0) where
     pub kept : Retains f seen seen next
     pub refused : asks next x false left
 
-  -- f was asked of each pair up to one of which it said false and that may not be taken out for want of memory: it stays, with all after it
+  -- f was asked of each pair up to one of which it returned false and that may not be taken out for want of memory: it stays, with all after it
   pub record RetainsUntil (bytes : A → List ℕ) (f : F) (before after : List A) : Type 0 where
     pub seen : List A
     pub kept : List A
@@ -69,7 +69,7 @@ abbrev pub pairs_after : {A : Type 0} → (A → List ℕ) → Option A → List
 pairs_after bytes last pairs = between bytes (after_pair bytes last) Unbounded pairs
 
 module _ {F K V : Type 0} (asks : F → K × V → Bool → F → Type 0) (bytes : K → List ℕ) where
-  -- the first pair after this one of which f said false was taken out, or f said true of all, or it may not be taken out
+  -- the first pair after this one of which f returned false was taken out, or f returned true of all, or it may not be taken out
   abbrev pub TakesRefused : Option (K × V) → F → List (K × V) → Result (Option (K × V)) MapRefused → F → List (K × V) → Type 0
   TakesRefused last f before (Ok None) left after =
       (after ≡ before) × Retains asks f (pairs_after (of_key bytes) last before) (pairs_after (of_key bytes) last before) left
@@ -84,7 +84,7 @@ module _ {F K V : Type 0} (asks : F → K × V → Bool → F → Type 0) (bytes
   HasTakenRefused last f before result left t root len =
       (after : List (K × V)) × HoldsPairs (of_key bytes) P t root len after × TakesRefused asks bytes last f before result left after
 
-  -- f said true of all these pairs, or the point is that of the first one of which it said false
+  -- f returned true of all these pairs, or the point is that of the first one of which it returned false
   abbrev pub FindsRefused : Nodes K V → OpaqueNodePtr → F → List (K × V) → Option DeletePoint → F → Type 0
   FindsRefused s root f pairs None left = Retains asks f pairs pairs left
   FindsRefused s root f pairs (Some point) left =

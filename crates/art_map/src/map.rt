@@ -124,7 +124,7 @@ impl<K: AsBytes + Drop, V: Drop, const P: usize> ByteMap<K, V, P> {
     ghost use Rattle.art_map.specs.MapAnswers.{IsRefusalOf, MayRefuseRemoval, ShrinksNode, value_at};
     ghost use Rattle.art_map.specs.MapLends.{lends_put, lends_value};
 
-    /// An empty map, which takes no memory.
+    /// Returns an empty map, and takes no memory.
     pub fn new(alloc: Global) -> Self
         ensures { result ≡ [] }
     {
@@ -135,7 +135,7 @@ impl<K: AsBytes + Drop, V: Drop, const P: usize> ByteMap<K, V, P> {
         }
     }
 
-    /// The number of pairs.
+    /// Returns the number of pairs.
     pub fn len(&self) -> usize
         ensures len { result ≡ length self.now }
         ensures sorted { IsMap (of_key K.bytes) self.now }
@@ -143,21 +143,21 @@ impl<K: AsBytes + Drop, V: Drop, const P: usize> ByteMap<K, V, P> {
         self.len
     }
 
-    /// Whether there is no pair.
+    /// Returns whether there is no pair.
     pub fn is_empty(&self) -> bool
         ensures { IsTrue result ↔ (self.now ≡ []) }
     {
         self.len == 0
     }
 
-    /// Whether a key with these bytes is stored, by one descent along them.
+    /// Returns whether a key with these bytes is stored, by one descent along them.
     pub fn contains_key(&self, key_bytes: &[u8]) -> bool
         ensures { result ≡ has_key (of_key K.bytes) key_bytes.now self.now }
     {
         self.get(key_bytes).is_some()
     }
 
-    /// The value of the key with these bytes, by one descent along them.
+    /// Returns the value of the key with these bytes, or `None`, by one descent along them.
     pub fn get(&self, key_bytes: &[u8]) -> Option<&V>
         ensures value { option_copied result ≡ value_at K.bytes key_bytes.now self.now }
         ensures sorted { IsMap (of_key K.bytes) self.now }
@@ -166,7 +166,7 @@ impl<K: AsBytes + Drop, V: Drop, const P: usize> ByteMap<K, V, P> {
         Some(pair_at(&self.store, leaf).1)
     }
 
-    /// The pair of the key with these bytes.
+    /// Returns the pair of the key with these bytes, or `None`. It costs what `get` does.
     pub fn get_key_value(&self, key_bytes: &[u8]) -> Option<(&K, &V)>
         ensures { option_map deref_pair result ≡
             first_of (with_key (of_key K.bytes) key_bytes.now self.now) }
@@ -175,7 +175,7 @@ impl<K: AsBytes + Drop, V: Drop, const P: usize> ByteMap<K, V, P> {
         Some(pair_at(&self.store, leaf))
     }
 
-    /// The value of the key with these bytes, to be written. It costs what `get` does.
+    /// Returns the value of the key with these bytes, to be written, or `None`. It costs what `get` does.
     pub fn get_mut(&mut self, key_bytes: &[u8]) -> Option<&mut V>
         ensures* writes_back { sem 𝓛
             (lends_value K.row V.row P.row K.AsBytes self.entry key_bytes.now result) }
@@ -185,7 +185,8 @@ impl<K: AsBytes + Drop, V: Drop, const P: usize> ByteMap<K, V, P> {
         self.store.value_mut(leaf)
     }
 
-    /// The pair whose key is a prefix of the query, by one descent along it. There is at most one.
+    /// Returns the pair whose key is a prefix of the query, or `None`, by one descent along the query.
+    /// There is at most one such pair.
     pub fn longest_match(&self, query: &[u8]) -> Option<(&K, &V)>
         ensures pair { option_map deref_pair result ≡
             first_of (match_of (of_key K.bytes) query.now self.now) }
@@ -195,7 +196,7 @@ impl<K: AsBytes + Drop, V: Drop, const P: usize> ByteMap<K, V, P> {
         Some(pair_at(&self.store, leaf))
     }
 
-    /// The first pair.
+    /// Returns the first pair, or `None`. It reads one inner node for each level.
     pub fn first_key_value(&self) -> Option<(&K, &V)>
         ensures { option_map deref_pair result ≡ first_of self.now }
     {
@@ -203,7 +204,7 @@ impl<K: AsBytes + Drop, V: Drop, const P: usize> ByteMap<K, V, P> {
         Some(pair_at(&self.store, leaf))
     }
 
-    /// The last pair.
+    /// Returns the last pair, or `None`. It reads one inner node for each level.
     pub fn last_key_value(&self) -> Option<(&K, &V)>
         ensures { option_map deref_pair result ≡ last_of self.now }
     {
@@ -211,7 +212,8 @@ impl<K: AsBytes + Drop, V: Drop, const P: usize> ByteMap<K, V, P> {
         Some(pair_at(&self.store, leaf))
     }
 
-    /// The pairs in the order of their keys, from both ends. A step of the walk takes no descent.
+    /// Returns the pairs in the order of their keys, from both ends. A step of the walk takes no descent,
+    /// and no memory.
     pub fn iter(&self) -> MapIter<'_, K, V, P>
         ensures pairs { result ≡ self.now }
         ensures sorted { IsMap (of_key K.bytes) self.now }
@@ -273,8 +275,9 @@ impl<K: AsBytes + Drop, V: Drop, const P: usize> ByteMap<K, V, P> {
 
     /// Returns the first pair whose key is after a bound, or at it where that is included.
     ///
-    /// It takes no memory, and goes down the tree once with the bound's bytes, and from there to
-    /// two leaves.
+    /// It takes no memory. It goes down the tree once with the bound's bytes, and from there to two
+    /// leaves; where a prefix is longer than what its node stores of it, it also goes down to a leaf
+    /// below that node.
     pub fn first_from(&self, from: Bound<&[u8]>) -> Option<(&K, &V)>
         ensures pair { option_map deref_pair result ≡ first_of (between (of_key K.bytes)
             (bound_map (λ b. b.now) from.entry) Unbounded self.now) }
@@ -314,7 +317,8 @@ impl<K: AsBytes + Drop, V: Drop, const P: usize> ByteMap<K, V, P> {
 
     /// Puts a pair in, by one descent. Where an equal key is stored, that key stays and gets the value, and
     /// the key that was handed in comes back with the old value. An error hands the pair back: `Conflict`
-    /// where an unequal stored key is related to the key, `Memory` where there was none for a new key.
+    /// where an unequal stored key is related to the key, `Memory` where there was none for a new key, or
+    /// for the bytes of a key in conflict. There is no error where an equal key is stored.
     pub fn insert(&mut self, key: K, value: V) -> Result<Option<(K, V)>, MapInsertError<K, V>>
         ensures pairs { OnOk result (self.new ≡ put (of_key K.bytes) (key, value) self.old) }
         ensures replaced { IfOk result (λ replaced.
@@ -334,9 +338,9 @@ impl<K: AsBytes + Drop, V: Drop, const P: usize> ByteMap<K, V, P> {
         put_in(&mut self.store, &mut self.root, &mut self.len, key, value)
     }
 
-    /// The value of a key, to be written, by one descent. Where no equal key is stored the pair comes in
-    /// first; a key that is stored stays, with its value. The errors are those of `insert`. For keys that
-    /// mostly are stored, `get_mut` and then `insert` is cheaper.
+    /// Returns the value of a key, to be written, by one descent. Where no equal key is stored the pair
+    /// is put in first; a key that is stored stays, with its value. The errors are those of `insert`. For
+    /// keys that mostly are stored, `get_mut` and then `insert` is cheaper.
     pub fn get_or_insert(&mut self, key: K, value: V) -> Result<&mut V, MapInsertError<K, V>>
         ensures* writes_back { sem 𝓛
             (lends_put K.row V.row P.row K.AsBytes self.entry key result) }
@@ -349,9 +353,9 @@ impl<K: AsBytes + Drop, V: Drop, const P: usize> ByteMap<K, V, P> {
         self.value_or_insert(key, None, value)
     }
 
-    /// The map with a key, to put the key in where it is not stored, and to write its value. This takes no
-    /// step down the tree; each call of the entry that needs the key's leaf takes its own, but for an `or_`
-    /// call after an `and_modify` that found it.
+    /// Returns an entry, which is the map with a key: it reads or changes the key's value, or puts the
+    /// key in. This reads no node. Each call of the entry that needs the key's leaf goes down the tree
+    /// once; an `or_` call after an `and_modify` that found the leaf does not.
     pub fn entry(&mut self, key: K) -> Entry<'_, K, V, P>
         ensures same_map { result.map.ghost_name ≡ self.entry.ghost_name }
         ensures pairs { result.map.now ≡ self.old }
@@ -364,9 +368,9 @@ impl<K: AsBytes + Drop, V: Drop, const P: usize> ByteMap<K, V, P> {
         }
     }
 
-    /// Puts a pair in, in the place of all pairs with related keys, and returns how many gave way.
-    /// A stored key that is equal stays and gets the value. It is refused only for want of memory,
-    /// and takes none where just one pair gives way.
+    /// Puts a pair in, in the place of all pairs whose keys are prefixes of its key or begin with it, and
+    /// returns how many gave way. A stored key that is equal stays and gets the value. It is refused only
+    /// for want of memory, and takes none where just one pair gives way.
     pub fn insert_over(&mut self, key: K, value: V) -> Result<usize, Refused<K, V>>
         ensures pairs { OnOk result (self.new ≡ overwrite (of_key K.bytes) (key, value) self.old) }
         ensures gone { IfOk result (λ gone.
@@ -462,7 +466,8 @@ impl<K: AsBytes + Drop, V: Drop, const P: usize> ByteMap<K, V, P> {
         take_end(&mut self.store, &mut self.root, &mut self.len, end)
     }
 
-    /// Takes out all pairs, and takes no memory. The room of their nodes stays for others.
+    /// Takes out all pairs, and takes no memory. It goes over the slabs, down no tree. The store keeps
+    /// the room of the nodes for later ones.
     pub fn clear(&mut self)
         ensures { self.new ≡ [] }
     {
@@ -473,8 +478,8 @@ impl<K: AsBytes + Drop, V: Drop, const P: usize> ByteMap<K, V, P> {
 impl<K: AsBytes + Clone + Drop, V: Clone + Drop, const P: usize> ByteMap<K, V, P> {
     ghost use Rattle.art_model.specs.Clones.{AreClones, KeepBytes};
 
-    /// A map of clones of all pairs, with a store of its own. An `Err` is for want of memory, for a
-    /// node or for the clone of a key or a value.
+    /// Returns a map of clones of all pairs, with a store of its own. An `Err` is for want of memory, for
+    /// a node or for the clone of a key or a value.
     pub fn clone(&self) -> Result<Self, AllocError>
         requires { KeepBytes K.bytes K.is_clone }
         ensures { IfOk result (AreClones K.is_clone V.is_clone self.now) }
@@ -508,6 +513,8 @@ impl<'a, K: AsBytes + Drop, V: Drop, const P: usize> IntoIterator for &'a ByteMa
     }
 }
 
+/// The value of the key with these bytes, which has to be stored: that is a condition of the index, and
+/// no check at run time.
 impl<'b, K: AsBytes + Drop, V: Drop, const P: usize> Index<&'b [u8]> for ByteMap<K, V, P> {
     type Output = V;
 

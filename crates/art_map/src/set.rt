@@ -56,7 +56,7 @@ impl<K: AsBytes, const P: usize> Model for ByteSet<K, P> {
 }
 
 impl<K: AsBytes + Drop, const P: usize> ByteSet<K, P> {
-    /// An empty set, which takes no memory.
+    /// Returns an empty set, and takes no memory.
     pub fn new(alloc: Global) -> Self
         ensures { result ≡ [] }
     {
@@ -65,7 +65,7 @@ impl<K: AsBytes + Drop, const P: usize> ByteSet<K, P> {
         }
     }
 
-    /// The number of keys.
+    /// Returns the number of keys.
     pub fn len(&self) -> usize
         ensures len { result ≡ length self.now }
         ensures sorted { IsMap K.bytes self.now }
@@ -73,21 +73,21 @@ impl<K: AsBytes + Drop, const P: usize> ByteSet<K, P> {
         self.map.len()
     }
 
-    /// Whether there is no key.
+    /// Returns whether there is no key.
     pub fn is_empty(&self) -> bool
         ensures { IsTrue result ↔ (self.now ≡ []) }
     {
         self.len() == 0
     }
 
-    /// Whether a key with these bytes is stored.
+    /// Returns whether a key with these bytes is stored, by one descent along them.
     pub fn contains(&self, key_bytes: &[u8]) -> bool
         ensures { result ≡ has_key K.bytes key_bytes.now self.now }
     {
         self.map.contains_key(key_bytes)
     }
 
-    /// The stored key with these bytes.
+    /// Returns the stored key with these bytes, or `None`, by one descent along them.
     pub fn get(&self, key_bytes: &[u8]) -> Option<&K>
         ensures { option_copied result ≡ first_of (with_key K.bytes key_bytes.now self.now) }
     {
@@ -97,7 +97,7 @@ impl<K: AsBytes + Drop, const P: usize> ByteSet<K, P> {
         }
     }
 
-    /// The first key.
+    /// Returns the first key, or `None`. It reads one inner node for each level.
     pub fn first(&self) -> Option<&K>
         ensures { option_copied result ≡ first_of self.now }
     {
@@ -107,7 +107,7 @@ impl<K: AsBytes + Drop, const P: usize> ByteSet<K, P> {
         }
     }
 
-    /// The last key.
+    /// Returns the last key, or `None`. It reads one inner node for each level.
     pub fn last(&self) -> Option<&K>
         ensures { option_copied result ≡ last_of self.now }
     {
@@ -127,7 +127,9 @@ impl<K: AsBytes + Drop, const P: usize> ByteSet<K, P> {
     }
 
     /// Puts a key in, and returns whether it was new. Where an equal key is stored, that key stays and
-    /// the one that was handed in is dropped.
+    /// the one that was handed in is dropped. An error hands the key back: `Conflict` where an unequal
+    /// stored key is related to it, `Memory` for want of memory. There is no error where an equal key is
+    /// stored.
     pub fn insert(&mut self, key: K) -> Result<bool, SetInsertError<K>>
         ensures keys { OnOk result (self.new ≡ add_key K.bytes key self.old) }
         ensures added { IfOk result (λ added.
@@ -162,7 +164,8 @@ impl<K: AsBytes + Drop, const P: usize> ByteSet<K, P> {
         }
     }
 
-    /// Takes out the key with these bytes, and returns whether it was there.
+    /// Takes out the key with these bytes, and returns whether it was there. It is refused only where a
+    /// node of 5, 17 or 49 children gives way to a smaller one, and there is no memory for that.
     pub fn remove(&mut self, key_bytes: &[u8]) -> Result<bool, MapRefused>
         ensures keys { OnOk result (self.new ≡ remove_key K.bytes key_bytes.now self.old) }
         ensures removed { IfOk result (λ removed.
@@ -178,7 +181,7 @@ impl<K: AsBytes + Drop, const P: usize> ByteSet<K, P> {
         Ok(removed.is_some())
     }
 
-    /// Takes out the key with these bytes, and returns it.
+    /// Takes out the key with these bytes, and returns it. It is refused as `remove` is.
     pub fn take(&mut self, key_bytes: &[u8]) -> Result<Option<K>, MapRefused>
         ensures keys { OnOk result (self.new ≡ remove_key K.bytes key_bytes.now self.old) }
         ensures removed { IfOk result (λ removed.
@@ -197,7 +200,7 @@ impl<K: AsBytes + Drop, const P: usize> ByteSet<K, P> {
         }
     }
 
-    /// Takes out the first key.
+    /// Takes out the first key, and returns it. It is refused as `remove` is.
     pub fn pop_first(&mut self) -> Result<Option<K>, MapRefused>
         ensures keys { OnOk result (self.new ≡ without_first self.old) }
         ensures removed { IfOk result (λ removed. removed ≡ first_of self.old) }
@@ -212,7 +215,7 @@ impl<K: AsBytes + Drop, const P: usize> ByteSet<K, P> {
         }
     }
 
-    /// Takes out the last key.
+    /// Takes out the last key, and returns it. It is refused as `remove` is.
     pub fn pop_last(&mut self) -> Result<Option<K>, MapRefused>
         ensures keys { OnOk result (self.new ≡ without_last self.old) }
         ensures removed { IfOk result (λ removed. removed ≡ last_of self.old) }
@@ -227,7 +230,8 @@ impl<K: AsBytes + Drop, const P: usize> ByteSet<K, P> {
         }
     }
 
-    /// Takes out all keys, and takes no memory. The room of their nodes stays for others.
+    /// Takes out all keys, and takes no memory. It goes over the slabs, down no tree. The store keeps the
+    /// room of the nodes for later ones.
     pub fn clear(&mut self)
         ensures { self.new ≡ [] }
     {

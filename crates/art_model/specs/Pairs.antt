@@ -31,7 +31,7 @@ without_last [] = []
 without_last (x ∷ []) = []
 without_last (x ∷ y ∷ xs) = x ∷ without_last (y ∷ xs)
 
--- what is answered of pairs that went: none, the only one, or how many
+-- what is returned of pairs that went: none, the only one, or how many
 abbrev pub only_or_count : {X : Type 0} → List X → Option X × ℕ
 only_or_count [] = (None, 0)
 only_or_count (x ∷ []) = (Some x, 0)
@@ -70,7 +70,7 @@ module _ {A : Type 0} (bytes : A → List ℕ) where
   abbrev pub remove_related : List ℕ → List A → List A
   remove_related key pairs = filter (λ x. not (are_related key (bytes x))) pairs
 
-  -- a pair comes in front of the first one whose key is after its own
+  -- a pair comes before the first one whose key is after its own
   abbrev pub add_in_order : A → List A → List A
   add_in_order new [] = new ∷ []
   add_in_order new (x ∷ xs) = if is_before (bytes new) (bytes x) then new ∷ x ∷ xs else x ∷ add_in_order new xs
@@ -83,7 +83,7 @@ module _ {A : Type 0} (bytes : A → List ℕ) where
   abbrev pub replace_related : A → List A → List A
   replace_related new pairs = add_in_order new (remove_related (bytes new) pairs)
 
-  -- what a removal by key answers: the pair that went, if there was one
+  -- what a removal by key returns: the pair that went, if there was one
   abbrev pub remove_reply : List ℕ → List A → Option A
   remove_reply key pairs = first_of (with_key key pairs)
 
@@ -96,7 +96,7 @@ module _ {K V : Type 0} (bytes : K × V → List ℕ) where
   abbrev pub put : K × V → List (K × V) → List (K × V)
   put new pairs = replace_key bytes (stored_for new pairs) pairs
 
-  -- what a put answers where an equal key is stored: the key that was handed in, with the old value
+  -- what a put returns where an equal key is stored: the key that was handed in, with the old value
   abbrev pub put_reply : K × V → List (K × V) → Option (K × V)
   put_reply new pairs = option_map (λ old. (new.0, old.1)) (first_of (with_key bytes (bytes new) pairs))
 
@@ -104,7 +104,7 @@ module _ {K V : Type 0} (bytes : K × V → List ℕ) where
   abbrev pub overwrite : K × V → List (K × V) → List (K × V)
   overwrite new pairs = if has_key bytes (bytes new) pairs then put new pairs else replace_related bytes new pairs
 
-  -- what an overwrite answers: what the put does; or of the pairs with related keys the only one, or how many
+  -- what an overwrite returns: what the put does; or of the pairs with related keys the only one, or how many
   abbrev pub overwrite_reply : K × V → List (K × V) → Option (K × V) × ℕ
   overwrite_reply new pairs =
       if has_key bytes (bytes new) pairs then (put_reply new pairs, 0) else only_or_count (related_to bytes (bytes new) pairs)

@@ -42,7 +42,7 @@ pub fn kinds_by_number_of_children()
     ensures all_bytes { tree_of_keys (one_byte_keys 256 0) 16 ≡ Some (fan Node256 256) }
 {}
 
-/// Keys between others, equal keys, and keys that are fronts of others.
+/// Keys between others, equal keys, and keys that are prefixes of others.
 pub fn puts_into_a_small_map()
     ensures between { put bytes_of_pair (1 ∷ 2 ∷ 9 ∷ [], 8) ((1 ∷ 3 ∷ [], 6) ∷ (2 ∷ [], 7) ∷ []) ≡
         (1 ∷ 2 ∷ 9 ∷ [], 8) ∷ (1 ∷ 3 ∷ [], 6) ∷ (2 ∷ [], 7) ∷ [] }

@@ -1,10 +1,10 @@
 //! Want of memory.
 use std::alloc::{AllocError, Global};
 
-/// Takes all memory that there is: until the answer is dropped, every request for memory is refused.
+/// Takes all memory that there is: until the result is dropped, every request for memory is refused.
 ///
 /// It reserves addresses and touches next to none of them, in some thousands of requests. An assertion that
-/// prints needs memory, so drop the answer first.
+/// prints needs memory, so drop the result first.
 pub fn all_memory(alloc: Global) -> Result<Vec<Vec<u8>>, AllocError> {
     let mut held = Vec::with_capacity(alloc, 200_000)?;
     let mut size = 1usize << 46;

@@ -23,7 +23,7 @@ pub enum Plain<'a> {
     Inner {
         kind: NodeType,
         prefix_len: usize,
-        /// The prefix, or the front of it that is stored.
+        /// The prefix, or as much of it as is stored.
         prefix: &'a [u8],
         children: &'a [(u8, usize)],
     },
@@ -68,7 +68,7 @@ pub fn has_place<K: AsBytes + Drop, V: Drop, const P: usize>(
     }
 }
 
-/// Places these nodes, writes their children and links, and answers their names in the same order. `None` where a node
+/// Places these nodes, writes their children and links, and returns their names in the same order. `None` where a node
 /// has no room for its children, or names a node that is not in the list.
 pub fn placed_all<const P: usize>(
     store: &mut NodeStore<Key, u32, P>,
@@ -84,7 +84,7 @@ pub fn placed_all<const P: usize>(
     Ok(Some(names))
 }
 
-/// Places these nodes without their children and links, and lists their names. Answers whether all have one.
+/// Places these nodes without their children and links, and lists their names. Returns whether all have one.
 fn place_each<const P: usize>(
     store: &mut NodeStore<Key, u32, P>,
     nodes: &[Plain<'_>],
@@ -99,7 +99,7 @@ fn place_each<const P: usize>(
     Ok(true)
 }
 
-/// Gives these nodes, which are placed under these names, their children and links. Answers whether there was room.
+/// Gives these nodes, which are placed under these names, their children and links. Returns whether there was room.
 fn join_each<const P: usize>(
     store: &mut NodeStore<Key, u32, P>,
     nodes: &[Plain<'_>],

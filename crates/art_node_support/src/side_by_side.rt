@@ -31,7 +31,7 @@ impl Walk {
         }
     }
 
-    // Looks at all nodes of two trees. Answers the greatest kind, where the trees are the same and of these pairs.
+    // Looks at all nodes of two trees. Returns the greatest kind, where the trees are the same and of these pairs.
     fn compare<K: AsBytes + PartialEq + Drop, const P: usize>(
         &mut self,
         (store, root): (&NodeStore<K, u32, P>, Option<OpaqueNodePtr>),
@@ -59,7 +59,7 @@ impl Walk {
             && count_nodes(store, MOST_NODES) == (pairs.len(), self.inner)
     }
 
-    // Looks at all nodes under the names that are open. Answers whether they are the same.
+    // Looks at all nodes under the names that are open. Returns whether they are the same.
     fn go<K: AsBytes + Drop, const P: usize>(
         &mut self,
         store: &NodeStore<K, u32, P>,
@@ -87,7 +87,7 @@ impl Walk {
         Ok(false)
     }
 
-    // Looks at two inner nodes. Answers whether they are the same but for their children's names.
+    // Looks at two inner nodes. Returns whether they are the same but for their children's names.
     fn meet_inner<K: AsBytes + Drop, const P: usize>(
         &mut self,
         (store, name): (&NodeStore<K, u32, P>, InnerPtr),

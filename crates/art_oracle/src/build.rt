@@ -24,7 +24,7 @@ use art_nodes::node::{
 use art_nodes::store::NodeStore;
 use std::alloc::AllocError;
 
-/// How many bytes two keys have in common in front.
+/// The length of the longest prefix that both keys have.
 fn common_len(a: &[u8], b: &[u8]) -> usize
     ensures { result ≡ length (common_front a.now b.now) }
 {
@@ -65,7 +65,7 @@ fn byte_of<K: AsBytes + Drop, V: Drop, const P: usize>(
     key_of(store, leaf)[at]
 }
 
-/// How many leaves in front have this byte at a depth.
+/// How many leaves, from the first on, have this byte at a depth.
 fn group_end<K: AsBytes + Drop, V: Drop, const P: usize>(
     store: &NodeStore<K, V, P>,
     leaves: &[LeafPtr],
@@ -142,8 +142,8 @@ fn start_node<K: AsBytes + Drop, V: Drop, const P: usize>(
     (at, AnyInner::from_header(kind, Header::new(first, len)))
 }
 
-/// Places the node for the groups of some leaves, still without children, and answers its name and the
-/// depth after the part that the keys share.
+/// Places the node for the groups of some leaves, still without children, and returns its name and the depth after the
+/// part that the keys share.
 // A node is large: it stands on the stack while it is placed, and not through the recursion.
 #[inline(never)]
 fn place_node<K: AsBytes + Drop, V: Drop, const P: usize>(
@@ -264,7 +264,7 @@ fn link_leaves<K: AsBytes + Drop, V: Drop, const P: usize>(
     }
 }
 
-/// Builds the canonical tree of a map in a store, and answers its root: none where there are no pairs.
+/// Builds the canonical tree of a map in a store, and returns its root: none where there are no pairs.
 ///
 /// An `Err` leaves the nodes that were placed so far in the store. The time is that of reading each key
 /// once for each inner node on the way to its leaf.

@@ -265,7 +265,7 @@ fn way_below(alloc: Global, place: &[u8], prefix: &[u8], byte: u8) -> Result<Vec
     Ok(way)
 }
 
-/// So many bytes in front, or all.
+/// The first bytes, so many or all.
 fn front(bytes: &[u8], len: usize) -> &[u8] {
     match bytes.get(..len) {
         Some(part) => part,

@@ -4,7 +4,7 @@ ghost use Rattle.std.specs.Prelude.{◌≡◌, ◌+◌, ◌-◌, ◌^◌, ◌<�
 use std::marker::Model;
 use std::mem;
 
-/// A compressed prefix: its length, and as many of its bytes in front as fit into `P`.
+/// A compressed prefix: its length, and its first bytes, at most `P` of them.
 #[derive(Clone, Copy)]
 pub struct Header<const P: usize> {
     bytes: [u8; P],
@@ -30,7 +30,7 @@ impl<const P: usize> Model for Header<P> {
 }
 
 impl<const P: usize> Header<P> {
-    /// A prefix of this length, with its stored bytes from the front of these.
+    /// Returns a prefix of this length, whose stored bytes are the first of these.
     pub fn new(bytes: &[u8], len: usize) -> Self
         requires { min len P ≤ length bytes.now }
         ensures { result ≡ record { len = len; stored = take (min len P) bytes.now } }
@@ -41,7 +41,7 @@ impl<const P: usize> Header<P> {
         Header { bytes: stored, len }
     }
 
-    /// The length of the whole prefix, of which at most `P` bytes are stored.
+    /// Returns the length of the whole prefix, of which at most `P` bytes are stored.
     #[inline(always)]
     pub fn prefix_len(&self) -> usize
         ensures { result ≡ self.now.len }
@@ -49,7 +49,7 @@ impl<const P: usize> Header<P> {
         self.len
     }
 
-    /// The stored bytes.
+    /// Returns the stored bytes.
     #[inline(always)]
     pub fn read_prefix(&self) -> &[u8]
         ensures stored { result.now ≡ self.now.stored }
@@ -58,7 +58,7 @@ impl<const P: usize> Header<P> {
         &self.bytes[..self.len.min(P)]
     }
 
-    /// Drops bytes in front of a prefix that is stored whole.
+    /// Drops the first `n` bytes of a prefix that is stored whole.
     pub fn ltrim_by(&mut self, n: usize)
         requires within { n ≤ self.old.len }
         requires whole { self.old.len ≤ P }
@@ -69,8 +69,8 @@ impl<const P: usize> Header<P> {
         *self = Header::new(&bytes[n..], self.len - n);
     }
 
-    /// Drops bytes in front of a prefix. What is stored then is read from the bytes of a key that has
-    /// the prefix at a depth.
+    /// Drops the first `n` bytes of a prefix. What is stored then is read from the bytes of a key that
+    /// has the prefix at a depth.
     pub fn ltrim_by_with_leaf(&mut self, n: usize, depth: usize, leaf_bytes: &[u8])
         requires within { n ≤ self.old.len }
         requires given { depth + self.old.len ≤ length leaf_bytes.now }
@@ -81,7 +81,7 @@ impl<const P: usize> Header<P> {
         *self = Header::new(&leaf_bytes[depth + n..], self.len - n);
     }
 
-    /// Appends a prefix of this length, of which the bytes in front are given.
+    /// Appends a prefix of this length, of which the first bytes are given.
     pub fn push_prefix(&mut self, bytes: &[u8], len: usize)
         requires given { min len P ≤ length bytes.now }
         requires fits { self.old.len + len < 2 ^ 64 }
@@ -95,8 +95,8 @@ impl<const P: usize> Header<P> {
         stored[start..end].copy_from_slice(&bytes[..end - start]);
     }
 
-    /// Empties the prefix. Answers its bytes with zeros after those that were stored, its length, and
-    /// how many bytes were stored.
+    /// Empties the prefix. Returns its bytes with zeros after those that were stored, its length, and how
+    /// many bytes were stored.
     pub fn clear_prefix(&mut self) -> ([u8; P], usize, usize)
         ensures bytes { result.0 ≡ self.old.stored ++ replicate (P - min self.old.len P) 0 }
         ensures len { result.1 ≡ self.old.len }

@@ -10,7 +10,7 @@ use Rattle.art_reading.specs.declared.matching.PrefixMatchBehavior.TheVariants.{
 use Rattle.art_reading.specs.declared.path.AttemptOptimisticPrefixMatch.{AttemptOptimisticPrefixMatch}
 use Rattle.art_reading.specs.declared.path.PessimisticMismatch.{PessimisticMismatch}
 
--- how many bytes two keys share in front
+-- the length of the longest prefix that two keys have in common
 abbrev pub shared_len : List ℕ → List ℕ → ℕ
 shared_len a b = length (common_front a b)
 
@@ -26,7 +26,7 @@ match_by_length len rest implicit =
 abbrev pub parts_from : List ℕ → List ℕ → Bool
 parts_from rest stored = nat_lt (shared_len stored rest) (length stored)
 
--- what the comparison of a prefix with the rest of the query answers
+-- what the comparison of a prefix with the rest of the query returns
 abbrev pub prefix_match : PrefixMatchBehavior → Prefix → List ℕ →
     Result AttemptOptimisticPrefixMatch PessimisticMismatch
 prefix_match Optimistic prefix rest = match_by_length prefix.len rest true
@@ -55,7 +55,7 @@ child_below behavior node key depth =
     option_map (λ child. (place, child)) (child_at node.children (get_or key place 0))
     else None
 
--- how many bytes in front of a leaf's key and of the query are not compared: none once bytes were passed over
+-- how many bytes at the beginning of a leaf's key and of the query are not compared: none once bytes were passed over
 abbrev pub compared_from : PrefixMatchBehavior → ℕ → List ℕ → List ℕ → ℕ
 compared_from Optimistic depth leaf query = 0
 compared_from Pessimistic depth leaf query = min depth (min (length leaf) (length query))

@@ -32,14 +32,14 @@ impl Model for Visits {
 }
 
 impl Visits {
-    /// No node has been read.
+    /// Returns a counter that stands at 0.
     pub fn new() -> Self
         ensures { result ≡ 0 }
     {
         Visits { count: 0 }
     }
 
-    /// How many nodes have been read.
+    /// Returns how many nodes have been read.
     pub fn count(&self) -> usize
         ensures { result ≡ self.now }
     {

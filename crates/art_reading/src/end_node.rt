@@ -43,7 +43,7 @@ pub enum InsertKind {
     /// The key parts from a leaf's key, and the leaf gets a new parent.
     SplitLeaf {
         leaf_node_ptr: LeafPtr,
-        /// How many bytes the two keys share in front.
+        /// The length of the longest prefix that both keys have.
         new_key_bytes_used: usize,
     },
     /// The leaf of the key itself: its value is replaced.

@@ -35,7 +35,7 @@ impl Model for RawIterator {
 }
 
 impl RawIterator {
-    /// The leaves from `start` to `end`.
+    /// Returns a walk of the leaves from `start` to `end`, which are linked one to the next.
     pub fn new<K: AsBytes + Drop, V: Drop, const PREFIX_LEN: usize>(
         _store: &NodeStore<K, V, PREFIX_LEN>,
         start: LeafPtr,
@@ -50,14 +50,15 @@ impl RawIterator {
         }
     }
 
-    /// No leaf.
+    /// Returns a walk of no leaf.
     pub fn empty() -> Self
         ensures { result ≡ None }
     {
         RawIterator { ends: None }
     }
 
-    /// The first leaf that is left. Its link is read before it is returned, so that it may be freed.
+    /// Returns the name of the first leaf that is left, or `None`. Its link is read before, so that the
+    /// leaf may be freed at once.
     pub fn next<K: AsBytes + Drop, V: Drop, const PREFIX_LEN: usize>(
         &mut self,
         store: &NodeStore<K, V, PREFIX_LEN>,
@@ -73,7 +74,8 @@ impl RawIterator {
         Some(taken)
     }
 
-    /// The last leaf that is left. Its link is read before it is returned, so that it may be freed.
+    /// Returns the name of the last leaf that is left, or `None`. Its link is read before, so that the
+    /// leaf may be freed at once.
     pub fn next_back<K: AsBytes + Drop, V: Drop, const PREFIX_LEN: usize>(
         &mut self,
         store: &NodeStore<K, V, PREFIX_LEN>,

@@ -21,7 +21,7 @@ pub fn look_ups_start_by_default()
     ensures visits { (visits : Visits) → ⟦<Visits as Default>⟧.is_default visits → visits ≡ 0 }
 {}
 
-/// The leaf of a key, or `None` where no stored key is equal to it.
+/// Returns the leaf of a key, or `None` where no stored key is equal to it.
 ///
 /// Its cost is a way down: at most one node more than the key has bytes. Where the bytes of a prefix
 /// are not all stored it passes over the others, and compares the whole key at the leaf.
@@ -41,7 +41,8 @@ pub fn search_unchecked<K: AsBytes + Drop, V: Drop, const PREFIX_LEN: usize>(
     search_visiting(store, root, key_bytes, &mut Visits::new())
 }
 
-/// The same as `search_unchecked`; each reading of a node is counted.
+/// Returns what `search_unchecked` does, and adds one to the counter for each node that it reads: at most
+/// one more than the key has bytes.
 #[inline(always)]
 pub fn search_visiting<K: AsBytes + Drop, V: Drop, const PREFIX_LEN: usize>(
     store: &NodeStore<K, V, PREFIX_LEN>,
@@ -62,7 +63,7 @@ pub fn search_visiting<K: AsBytes + Drop, V: Drop, const PREFIX_LEN: usize>(
     find_leaf(store, root, key_bytes, Asked::Same, visits)
 }
 
-/// The leaf whose key is a prefix of these bytes or equal to them, or `None` where there is none.
+/// Returns the leaf whose key is a prefix of these bytes or equal to them, or `None` where there is none.
 ///
 /// It goes the way of `search_unchecked`, at the same cost.
 #[inline(always)]
@@ -81,7 +82,7 @@ pub fn prefix_search_unchecked<K: AsBytes + Drop, V: Drop, const PREFIX_LEN: usi
     prefix_search_visiting(store, root, key_bytes, &mut Visits::new())
 }
 
-/// The same as `prefix_search_unchecked`; each reading of a node is counted.
+/// Returns what `prefix_search_unchecked` does, and counts as `search_visiting` does.
 #[inline(always)]
 pub fn prefix_search_visiting<K: AsBytes + Drop, V: Drop, const PREFIX_LEN: usize>(
     store: &NodeStore<K, V, PREFIX_LEN>,

@@ -33,7 +33,9 @@ impl PrefixMatchBehavior {
     ghost use Rattle.art_reading.specs.Matching.{LeafKeyIsPrefix, MatchesLeafKey, behavior_after, child_below, parts_from, prefix_match};
     ghost use Rattle.art_inner.specs.Views.{ref_view};
 
-    /// Compares the prefix of an inner node with the rest of the key, from the node's depth on.
+    /// Compares the prefix of an inner node with the rest of the key, from the node's depth on. Returns
+    /// the prefix's length where the key goes on with it, as far as its bytes were compared, and else
+    /// where the two part. Once bytes were passed over the behavior is `Optimistic`.
     pub fn match_prefix<N: InnerNode<P>, const P: usize>(
         &mut self,
         node: &N,
@@ -150,7 +152,7 @@ impl PrefixMatchBehavior {
         }
     }
 
-    /// Whether the key is the leaf's, as far as it is left to compare from a depth on.
+    /// Returns whether the key is the leaf's, as far as it is left to compare from a depth on.
     pub fn matches_leaf_key<K: AsBytes, V>(
         self,
         leaf: &LeafNode<K, V>,
@@ -164,7 +166,8 @@ impl PrefixMatchBehavior {
         leaf_bytes[from..] == key_bytes[from..]
     }
 
-    /// Whether the leaf's key is a prefix of the key, as far as they are left to compare from a depth on.
+    /// Returns whether the leaf's key is a prefix of the key, as far as they are left to compare from a
+    /// depth on.
     pub fn leaf_key_is_prefix<K: AsBytes, V>(
         self,
         leaf: &LeafNode<K, V>,
@@ -212,7 +215,7 @@ impl PrefixMatchBehavior {
     }
 }
 
-/// How many bytes the two share in front.
+/// Returns the length of the longest prefix that both have.
 pub fn shared_len(a: &[u8], b: &[u8]) -> usize
     ensures { result ≡ shared_len a.now b.now }
 {
@@ -225,7 +228,7 @@ pub fn shared_len(a: &[u8], b: &[u8]) -> usize
     end
 }
 
-// How many bytes in front are seen to be the same by comparing eight at a time.
+// How many bytes at the beginning are seen to be the same by comparing eight at a time.
 #[inline(always)]
 fn same_blocks(a: &[u8], b: &[u8], end: usize) -> usize
     requires in_a { end ≤ length a.now }

@@ -9,7 +9,7 @@ use crate::descent::{End, walk_to_end};
 use art_nodes::node::{AsBytes, LeafPtr, NodePtr, OpaqueNodePtr};
 use art_nodes::store::NodeStore;
 
-/// The first leaf of the tree that a name stands for. It reads one inner node for each level.
+/// Returns the first leaf of the tree that a name stands for. It reads one inner node for each level.
 #[inline(always)]
 pub fn minimum_unchecked<K: AsBytes + Drop, V: Drop, const PREFIX_LEN: usize>(
     store: &NodeStore<K, V, PREFIX_LEN>,
@@ -25,7 +25,7 @@ pub fn minimum_unchecked<K: AsBytes + Drop, V: Drop, const PREFIX_LEN: usize>(
     }
 }
 
-/// The last leaf of the tree that a name stands for. It reads one inner node for each level.
+/// Returns the last leaf of the tree that a name stands for. It reads one inner node for each level.
 #[inline(always)]
 pub fn maximum_unchecked<K: AsBytes + Drop, V: Drop, const PREFIX_LEN: usize>(
     store: &NodeStore<K, V, PREFIX_LEN>,

@@ -27,7 +27,8 @@ pub enum TreePath {
     },
 }
 
-/// The parent at the end of a path, with the byte under which it has the node.
+/// Returns the parent at the end of a path, with the byte under which it has the node; `None` where the
+/// node is the root.
 #[inline(always)]
 pub fn last_step(path: TreePath) -> Option<(InnerPtr, u8)>
     ensures { result ≡ last_step path }
@@ -46,7 +47,7 @@ pub fn last_step(path: TreePath) -> Option<(InnerPtr, u8)>
     }
 }
 
-/// The path one step further up: that of the parent at the end of a path.
+/// Returns the path one step further up: that of the parent at the end of a path.
 pub fn up(path: TreePath) -> TreePath
     ensures { result ≡ up path }
 {
@@ -66,7 +67,8 @@ pub fn up(path: TreePath) -> TreePath
 impl TreePath {
     ghost use Rattle.art_reading.specs.PathSteps.{step_down};
 
-    /// The path one step further down: from this path's node to the child that it has under a byte.
+    /// Returns the path one step further down: from this path's node to the child that it has under a
+    /// byte.
     #[inline(always)]
     pub fn step_down(self, node: InnerPtr, byte: u8) -> TreePath
         ensures { result ≡ step_down self node byte }
@@ -155,7 +157,7 @@ pub struct PrefixMatch {
 /// A prefix, compared whole, that the key parts from or ends in.
 #[derive(Clone, Copy, PartialEq, Eq, Debug)]
 pub struct ExplicitMismatch {
-    /// How many bytes in front are the same.
+    /// How many bytes are the same before the two part.
     pub matched_bytes: usize,
     /// The byte of the prefix after these.
     pub prefix_byte: u8,
@@ -175,7 +177,7 @@ pub struct AttemptOptimisticPrefixMatch {
 /// A prefix that the key doesn't go on with.
 #[derive(Clone, Copy, PartialEq, Eq, Debug)]
 pub struct PessimisticMismatch {
-    /// How many bytes in front are the same as those that are stored; once bytes were passed over, the
+    /// How many of the stored bytes are the same before the two part; once bytes were passed over, the
     /// length of the rest of the key.
     pub matched_bytes: usize,
     /// The stored byte after these, or `None` where there is none: the key ends before the prefix does.

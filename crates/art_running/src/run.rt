@@ -1,4 +1,4 @@
-//! Commands that are answered in order, each by a change of the tree in place.
+//! Commands that are carried out in order, each by a change of the tree in place.
 
 ghost use Rattle.std.specs.Prelude.{◌≡◌, ◌<◌, List, length, map, Some, None, IsOk, IfOk, IfErr, OnOk, OnErr};
 ghost use Rattle.std.specs.Option.{option_to_list};
@@ -94,11 +94,11 @@ pub struct RunResult<K, V> {
     pub replies: Vec<Reply<K, V>>,
 }
 
-/// Answers commands in order, each by a change of the tree in place, from no tree or from that of a
-/// canonical root in `first`.
+/// Carries commands out in order, each by a change of the tree in place, from no tree or from that of a canonical root
+/// in `first`. Returns the root, the store that it is in, and a reply for each command.
 ///
-/// An `Err` is for want of memory for the replies, before the first command. After that memory is
-/// refused command by command: such a command is answered with `NoMemory`, and counts as not made.
+/// An `Err` is for want of memory for the replies, before the first command. After that memory is refused command by
+/// command: such a command's reply is `NoMemory`, and it counts as not made.
 pub fn run<K: AsBytes + Clone + Drop, V: Clone + Drop, const PREFIX_LEN: usize>(
     first: &mut NodeStore<K, V, PREFIX_LEN>,
     second: &mut NodeStore<K, V, PREFIX_LEN>,
@@ -157,7 +157,7 @@ impl Side {
     }
 }
 
-// Answers a command on the tree of a side, and leaves the side and the root of the tree.
+// Carries a command out on the tree of a side, and leaves the side and the root of the tree.
 fn answer_next<K: AsBytes + Clone + Drop, V: Clone + Drop, const P: usize>(
     first: &mut NodeStore<K, V, P>,
     second: &mut NodeStore<K, V, P>,
@@ -178,7 +178,7 @@ fn answer_next<K: AsBytes + Clone + Drop, V: Clone + Drop, const P: usize>(
     }
 }
 
-// Answers a command in the store that the tree is in, whichever of both it is.
+// Carries a command out in the store that the tree is in, whichever of both it is.
 fn answer<K: AsBytes + Clone + Drop, V: Clone + Drop, const P: usize>(
     present: &mut NodeStore<K, V, P>,
     other: &mut NodeStore<K, V, P>,
@@ -217,7 +217,7 @@ fn answer<K: AsBytes + Clone + Drop, V: Clone + Drop, const P: usize>(
     }
 }
 
-// Answers a command where there is no tree.
+// Carries a command out where there is no tree.
 fn answer_without_tree<K: AsBytes + Clone + Drop, V: Clone + Drop, const P: usize>(
     store: &mut NodeStore<K, V, P>,
     root: &mut Option<OpaqueNodePtr>,
@@ -321,7 +321,7 @@ fn insert_prefix<K: AsBytes + Clone + Drop, V: Clone + Drop, const P: usize>(
     }
 }
 
-// Takes out the pair of a point, for any command that is answered with it.
+// Takes out the pair of a point, for any command whose reply it is.
 fn delete<K: AsBytes + Clone + Drop, V: Clone + Drop, const P: usize>(
     store: &mut NodeStore<K, V, P>,
     root: &mut Option<OpaqueNodePtr>,

@@ -146,7 +146,7 @@ fn left_by(done: &RunResult<Key, u32>, rows: &[Row<'_>]) -> Left
     }
 }
 
-/// Asks the commands of these rows. Answers what is left, and the root.
+/// Asks the commands of these rows. Returns what is left, and the root.
 pub fn ran_from<const P: usize>(
     first: &mut NodeStore<Key, u32, P>,
     second: &mut NodeStore<Key, u32, P>,

@@ -21,7 +21,8 @@ pub static KINDS: [NodeType; 5] = [
     NodeType::Leaf,
 ];
 
-// Places a node of a kind: a leaf of the empty key, or an inner node without children. Answers whether there was memory.
+// Places a node of a kind: a leaf of the empty key, or an inner node without children. Returns whether there was
+// memory.
 fn place_one<const P: usize>(
     store: &mut NodeStore<Key, u32, P>,
     root: OpaqueNodePtr,
@@ -38,7 +39,7 @@ fn place_one<const P: usize>(
     store.place_inner(node).is_ok()
 }
 
-/// Places so many nodes of a kind beside a tree. Answers whether there was memory for all of them.
+/// Places so many nodes of a kind beside a tree. Returns whether there was memory for all of them.
 pub fn place_beside<const P: usize>(
     store: &mut NodeStore<Key, u32, P>,
     root: OpaqueNodePtr,
@@ -56,7 +57,7 @@ pub fn place_beside<const P: usize>(
     true
 }
 
-/// Places nodes of every kind beside a tree, until there is room for no more of any. Answers whether there was memory
+/// Places nodes of every kind beside a tree, until there is room for no more of any. Returns whether there was memory
 /// for all of them.
 pub fn fill<const P: usize>(store: &mut NodeStore<Key, u32, P>, root: OpaqueNodePtr) -> bool
     requires { IsCanonicalRoot (of_key (λ key. key.items)) P store.old root }

@@ -32,7 +32,7 @@ use art_nodes::node::{
 use art_nodes::store::NodeStore;
 use std::alloc::AllocError;
 
-/// The names of a clone.
+/// The root of a clone, and its first and its last leaf.
 #[derive(Debug, Drop)]
 pub struct CloneResult {
     pub root: OpaqueNodePtr,

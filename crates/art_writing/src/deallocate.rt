@@ -40,7 +40,7 @@ pub fn deallocate_leaves<K: AsBytes + Drop, V: Drop, const PREFIX_LEN: usize>(
 }
 
 /// Frees the inner nodes of the tree that a name stands for. It reads no leaf: the leaves may be freed
-/// before or after.
+/// before or after. Its cost is as that of `deallocate_tree`.
 pub fn deallocate_tree_non_leaves<K: AsBytes + Drop, V: Drop, const PREFIX_LEN: usize>(
     root: OpaqueNodePtr,
     store: &mut NodeStore<K, V, PREFIX_LEN>,
@@ -55,7 +55,8 @@ pub fn deallocate_tree_non_leaves<K: AsBytes + Drop, V: Drop, const PREFIX_LEN: 
     free_nodes(store, root, false);
 }
 
-/// Frees all nodes of the tree that a name stands for, and returns how many leaves it had.
+/// Frees all nodes of the tree that a name stands for, and returns how many leaves it had. It takes no memory, and no
+/// stack that grows with the tree. It costs a step for each node.
 pub fn deallocate_tree<K: AsBytes + Drop, V: Drop, const PREFIX_LEN: usize>(
     root: OpaqueNodePtr,
     store: &mut NodeStore<K, V, PREFIX_LEN>,

@@ -44,7 +44,7 @@ pub struct DeleteRefused {
     pub point: DeletePoint,
 }
 
-/// The point of a key, or `None` where no stored key is equal to it.
+/// Returns the point of a key, or `None` where no stored key is equal to it.
 ///
 /// It goes the way of `search_unchecked`, at the same cost.
 pub fn search_for_delete_point<K: AsBytes + Drop, V: Drop, const PREFIX_LEN: usize>(
@@ -65,7 +65,8 @@ pub fn search_for_delete_point<K: AsBytes + Drop, V: Drop, const PREFIX_LEN: usi
     search_for_delete_point_visiting(store, root, key_bytes, &mut Visits::new())
 }
 
-/// The same as `search_for_delete_point`; each reading of a node is counted.
+/// Returns what `search_for_delete_point` does, and adds one to the counter for each node that it reads:
+/// at most one more than the key has bytes.
 pub fn search_for_delete_point_visiting<K: AsBytes + Drop, V: Drop, const PREFIX_LEN: usize>(
     store: &NodeStore<K, V, PREFIX_LEN>,
     root: OpaqueNodePtr,
@@ -92,7 +93,7 @@ pub fn search_for_delete_point_visiting<K: AsBytes + Drop, V: Drop, const PREFIX
     })
 }
 
-/// The point of the first leaf. It reads one inner node for each level.
+/// Returns the point of the first leaf. It reads one inner node for each level.
 pub fn find_minimum_to_delete<K: AsBytes + Drop, V: Drop, const PREFIX_LEN: usize>(
     store: &NodeStore<K, V, PREFIX_LEN>,
     root: OpaqueNodePtr,
@@ -107,7 +108,7 @@ pub fn find_minimum_to_delete<K: AsBytes + Drop, V: Drop, const PREFIX_LEN: usiz
     find_end_to_delete(store, root, End::First)
 }
 
-/// The point of the last leaf. It reads one inner node for each level.
+/// Returns the point of the last leaf. It reads one inner node for each level.
 pub fn find_maximum_to_delete<K: AsBytes + Drop, V: Drop, const PREFIX_LEN: usize>(
     store: &NodeStore<K, V, PREFIX_LEN>,
     root: OpaqueNodePtr,

@@ -147,11 +147,12 @@ pub struct PrefixInsertResult<K, V> {
 pub struct InsertResult<K, V> {
     /// The leaf of the key.
     pub leaf_node_ptr: LeafPtr,
-    /// If an equal key was stored, the key that was handed in and the old value, as a leaf with no siblings.
+    /// If an equal key was stored, the key that was handed in and the old value, as a leaf with no siblings. After a
+    /// prefix insertion, the only pair that gave way, if it was one.
     pub existing_leaf: Option<LeafNode<K, V>>,
     /// The root of the tree.
     pub new_root: OpaqueNodePtr,
-    /// The parent of the leaf.
+    /// What became of the leaf's parent.
     pub parent_node_change: InsertParentNodeChange,
 }
 
@@ -176,11 +177,11 @@ pub struct Refused<K, V> {
     pub value: V,
 }
 
-/// The point of a key in the tree of a canonical root. There is none where an unequal stored key is
-/// related to the key: one of the two is a prefix of the other.
+/// Returns the point of a key in the tree of a canonical root. It is an error where an unequal stored key is related to
+/// the key: one of the two is a prefix of the other. The error has the key's bytes, or is for want of memory for them.
 ///
-/// Only the refusal takes memory. Where a prefix is longer than what its node stores of it, a leaf
-/// below is read for the rest.
+/// Nothing else takes memory. Where a prefix is longer than what its node stores of it, a leaf below is read for the
+/// rest.
 #[inline(always)]
 pub fn search_for_insert_point<K: AsBytes + Drop, V: Drop, const PREFIX_LEN: usize>(
     store: &NodeStore<K, V, PREFIX_LEN>,
@@ -202,7 +203,7 @@ pub fn search_for_insert_point<K: AsBytes + Drop, V: Drop, const PREFIX_LEN: usi
     }
 }
 
-/// The point of a key that takes the place of all related keys, in the tree of a canonical root.
+/// Returns the point of a key that takes the place of all related keys, in the tree of a canonical root.
 ///
 /// It goes the way of `search_for_insert_point`, at the same cost, and takes no memory.
 #[inline(always)]

@@ -10,7 +10,7 @@ abbrev pub reply_with : Option (List ℕ × List ℕ) → List ℕ
 reply_with None = codes "none\n"
 reply_with (Some entry) = line_of entry ++ codes "\n"
 
--- the line of the first entry whose code is a front of the number
+-- the line of the first entry whose code is a prefix of the number
 abbrev pub reply_of : List (List ℕ × List ℕ) → List ℕ → List ℕ
 reply_of entries number = reply_with (first_of (match_of code_of number entries))
 

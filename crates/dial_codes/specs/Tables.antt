@@ -29,7 +29,7 @@ pub record IsRelatedAt (code : List ℕ) (number : ℕ) (entries : List (List �
   pub number_is : number ≡ length before + 1
   pub related : are_related code (code_of earlier) ≡ true
 
--- why a line comes not after the lines of these entries: it is none of an entry, or its code is related to that of this line
+-- why a line can't follow the lines of these entries: it is none of an entry, or its code is related to that of this line
 abbrev pub IsFaultOf : List ℕ → List (List ℕ × List ℕ) → LineError → Type 0
 IsFaultOf line entries NoEntry = (code name : List ℕ) → is_code code ≡ true → line ≢ line_of (code, name)
 IsFaultOf line entries (Related earlier) = (code name : List ℕ) × (line ≡ line_of (code, name)) × IsRelatedAt code earlier entries

@@ -1,7 +1,7 @@
 //! A line is taken apart.
 ghost use Rattle.std.specs.Prelude.{◌≡◌, ◌≢◌, ◌++◌, ◌∷◌, All, List, IfNone, IfSome, ℕ};
 
-/// Returns what stands after a front, or `None` where the line doesn't begin so.
+/// Returns what stands after a prefix, or `None` where the line doesn't begin with it.
 pub fn strip<'a>(line: &'a [u8], front: &[u8]) -> Option<&'a [u8]>
     ensures rest { IfSome result (λ rest. line.now ≡ front.now ++ rest.now) }
     ensures none { IfNone result ((rest : List ℕ) → line.now ≢ front.now ++ rest) }

@@ -31,7 +31,7 @@ pub mod leases;
 pub mod months;
 pub mod parts;
 
-/// Puts a pair in, and answers the root. `None` where the key is related to an unequal stored one, or for
+/// Puts a pair in, and returns the root. `None` where the key is related to an unequal stored one, or for
 /// want of memory; then the root stands for what it stood for.
 pub fn put<K: AsBytes + Drop, V: Drop, const P: usize>(
     store: &mut NodeStore<K, V, P>,
@@ -58,7 +58,7 @@ pub fn put<K: AsBytes + Drop, V: Drop, const P: usize>(
     }
 }
 
-/// Puts a pair in, in the place of all with related keys, and answers the root and how many leaves are gone.
+/// Puts a pair in, in the place of all with related keys, and returns the root and how many leaves are gone.
 /// `None` for want of memory; then the root stands for what it stood for.
 pub fn put_over<K: AsBytes + Drop, V: Drop, const P: usize>(
     store: &mut NodeStore<K, V, P>,
@@ -81,7 +81,7 @@ pub fn put_over<K: AsBytes + Drop, V: Drop, const P: usize>(
     }
 }
 
-/// Takes the pair of a key out, and answers it with the root that is left, if any. `None` where the key isn't
+/// Takes the pair of a key out, and returns it with the root that is left, if any. `None` where the key isn't
 /// stored, or for want of memory; then the root stands for what it stood for.
 pub fn take<K: AsBytes + Drop, V: Drop, const P: usize>(
     store: &mut NodeStore<K, V, P>,
@@ -111,7 +111,7 @@ pub fn take<K: AsBytes + Drop, V: Drop, const P: usize>(
     }
 }
 
-/// The value of a key, if it is stored.
+/// Returns the value of a key, if it is stored.
 pub fn get<'a, K: AsBytes + Drop, V: Drop, const P: usize>(
     store: &'a NodeStore<K, V, P>,
     root: OpaqueNodePtr,
@@ -128,7 +128,7 @@ pub fn get<'a, K: AsBytes + Drop, V: Drop, const P: usize>(
     Some(&node.value)
 }
 
-/// The pair whose key is a prefix of the query or equal to it. There is at most one.
+/// Returns the pair whose key is a prefix of the query or equal to it. There is at most one.
 pub fn longest_match<'a, K: AsBytes + Drop, V: Drop, const P: usize>(
     store: &'a NodeStore<K, V, P>,
     root: OpaqueNodePtr,
@@ -145,7 +145,7 @@ pub fn longest_match<'a, K: AsBytes + Drop, V: Drop, const P: usize>(
     Some((&node.key, &node.value))
 }
 
-/// All leaves of a tree, in order.
+/// Returns a walk of all leaves of a tree, in order.
 pub fn walk<K: AsBytes + Drop, V: Drop, const P: usize>(
     store: &NodeStore<K, V, P>,
     root: OpaqueNodePtr,
@@ -159,7 +159,7 @@ pub fn walk<K: AsBytes + Drop, V: Drop, const P: usize>(
     RawIterator::new(store, first, last)
 }
 
-/// Takes the next leaf of a walk out of its store, and answers its pair. The walk goes on with the others. `None` where
+/// Takes the next leaf of a walk out of its store, and returns its pair. The walk goes on with the others. `None` where
 /// there is no further leaf.
 pub fn take_next<K: AsBytes + Drop, V: Drop, const P: usize>(
     store: &mut NodeStore<K, V, P>,

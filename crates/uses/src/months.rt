@@ -1,4 +1,4 @@
-//! A map as a user has it. Its contracts speak of lists of pairs, so each answer is known.
+//! A map as a user has it. Its contracts speak of lists of pairs, so each result is known.
 ghost use Rattle.std.specs.Prelude.{◌≡◌, ◌∷◌, [], Some, IfSome};
 ghost use Rattle.std.specs.Option.{option_map};
 ghost use Rattle.art_model.specs.Pairs.{first_of};

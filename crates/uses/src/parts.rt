@@ -1,4 +1,4 @@
-//! Parts of a map, as a user asks for them. Each answer is known.
+//! Parts of a map, as a user asks for them. Each result is known.
 ghost use Rattle.std.specs.Prelude.{◌≡◌, ◌≤◌, ◌∷◌, [], length, Some, IfSome};
 ghost use Rattle.std.specs.Option.{option_map};
 ghost use Rattle.art_model.specs.Pairs.{first_of, last_of, of_key};

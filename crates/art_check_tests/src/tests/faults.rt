@@ -13,7 +13,7 @@ use std::alloc::Global;
 use std::cmp::Ordering;
 use std::test::Fail;
 
-/// Nodes, the place of the root among them, and what the check answers.
+/// Nodes, the place of the root among them, and what the check returns.
 #[derive(Clone, Copy)]
 struct Case<'a> {
     nodes: &'a [Plain<'a>],
@@ -52,8 +52,8 @@ macro_rules! inner {
     };
 }
 
-/// Whether the check of a case whose nodes have these names answers as it should, where names have their places in the list
-/// as slots, and a clone of a fault equals it.
+/// Whether the check of a case whose nodes have these names returns what it should, where names have their places in
+/// the list as slots, and a clone of a fault equals it.
 fn is_told_under<const P: usize>(
     store: &NodeStore<Key, u32, P>,
     names: &[OpaqueNodePtr],
@@ -85,7 +85,7 @@ fn is_told<const P: usize>(alloc: Global, case: Case<'_>) -> bool
     is_told_in::<P>(&mut NodeStore::new(alloc), case)
 }
 
-/// The first case in which the check does not answer as it should, with so many stored bytes.
+/// The first case in which the check does not return what it should, with so many stored bytes.
 fn first_wrong<const P: usize>(alloc: Global, cases: &[Case<'_>]) -> Option<usize>
     requires { P < 256 }
 {

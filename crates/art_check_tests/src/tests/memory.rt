@@ -141,7 +141,7 @@ fn check_of_many<const P: usize>(store: &mut NodeStore<Key, u32, P>) -> Option<O
     Some(what_comes(store, root, all_nodes(store)))
 }
 
-/// The check of two long keys, whose common front is read from a leaf.
+/// The check of two long keys, whose common prefix is read from a leaf.
 fn check_of_long_keys<const P: usize>(store: &mut NodeStore<Key, u32, P>) -> Option<Outcome> {
     let slices: [&[u8]; 2] = [&[7, 7, 7, 7, 7, 1], &[7, 7, 7, 7, 7, 2]];
     let root = planted_all(store, &slices).ok()??;

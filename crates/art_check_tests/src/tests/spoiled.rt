@@ -12,7 +12,7 @@ use art_test_support::trees::{Key, try_planted_keys};
 use std::alloc::{AllocError, Global};
 use std::test::Fail;
 
-/// What a verdict says. One that is unknown says what no check answers here.
+/// What a verdict says. One that is unknown says what no check returns here.
 fn told_by_verdict(verdict: &Verdict) -> Told<'_> {
     match verdict {
         Verdict::Tree(leaves, inners) => Told::Whole(*leaves, *inners),
@@ -78,7 +78,7 @@ fn is_counted<const P: usize>(
     check_tree_says(store, root, told)
 }
 
-/// Checks a tree of nodes with these names, and checks it again once it is spoiled. Answers the number of what is told
+/// Checks a tree of nodes with these names, and checks it again once it is spoiled. Returns the number of what is told
 /// then. None where one of the checks is wrong.
 fn spoil_and_check<const P: usize>(
     store: &mut NodeStore<Key, u32, P>,

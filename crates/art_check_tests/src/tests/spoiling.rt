@@ -23,7 +23,7 @@ pub fn draw_keys(alloc: Global, numbers: &mut Numbers) -> Result<Vec<Key>, Alloc
     Ok(keys)
 }
 
-// A key of such a shape: of one byte, of few bytes, or with a common front of 5 or 18 bytes in each half.
+// A key of such a shape: of one byte, of few bytes, or with a common prefix of 5 or 18 bytes in each half.
 fn draw_key(alloc: Global, numbers: &mut Numbers, shape: usize) -> Result<Key, AllocError> {
     match shape {
         0 => [numbers.byte()].to_vec(alloc),
@@ -85,8 +85,8 @@ pub fn names_below<const P: usize>(
     Ok(names)
 }
 
-/// Spoils one place of a tree whose nodes have these names, or leaves it as it is. Answers the root's name, which may be
-/// another then.
+/// Spoils one place of a tree whose nodes have these names, or leaves it as it is. Returns the root's name, which may
+/// be another then.
 pub fn spoil<const P: usize>(
     store: &mut NodeStore<Key, u32, P>,
     names: &[OpaqueNodePtr],

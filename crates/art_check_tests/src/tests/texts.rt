@@ -28,7 +28,7 @@ fn is_right(alloc: Global, told: Told<'_>, text: &str) -> bool {
     }
 }
 
-/// Whether each fault has its text. Answers the first that has not.
+/// Whether each fault has its text. Returns the first that has not.
 fn first_other(alloc: Global, rows: &[(Told<'_>, &str)]) -> Option<usize> {
     for (number, (told, text)) in rows.iter().enumerate() {
         if !is_right(alloc, *told, text) {

@@ -1,4 +1,4 @@
-//! What a check answers, as plain values.
+//! What a check returns, as plain values.
 
 use art_nodes::node::{LeafPtr, NodeType, OpaqueNodePtr, OptionalLeafPtr};
 use art_nodes::store::NodeStore;

@@ -190,7 +190,7 @@ fn prefixes_seen(alloc: Global) -> Option<[[bool; 4]; 2]> {
     Some([with_bytes, prefix_seen(alloc, &[]).ok()?])
 }
 
-/// Whether a front is before the whole, in two cases, and a lesser byte decides, one way and the other.
+/// Whether a prefix is before the whole, in two cases, and a lesser byte decides, one way and the other.
 fn orders_seen(alloc: Global) -> Option<[bool; 4]> {
     let of_none = is_before(alloc, &[], &[0]).ok()?;
     let of_front = is_before(alloc, &[1, 2], &[1, 2, 0]).ok()?;

@@ -37,7 +37,7 @@ fn plant_escaped(
     Some(())
 }
 
-// What a map of escaped keys answers.
+// What a map of escaped keys returns.
 fn escaped(
     map: &mut KeyedMap<Escaped, u32, 8>,
     alloc: Global,
@@ -57,7 +57,7 @@ fn strings_that_go_on_after_others_are_stored_in_order(rt: HostRuntime) -> Resul
     )
 }
 
-// What a map of numbers answers.
+// What a map of numbers returns.
 fn numbers(map: &mut KeyedMap<Signed<4>, u32, 8>) -> Option<([Option<u32>; 4], bool, usize)> {
     for (i, n) in [5i32, -1, 0, i32::MIN].iter().enumerate() {
         if map.insert(Signed::from(*n), i as u32).is_err() {
@@ -78,7 +78,7 @@ fn negative_numbers_come_first(rt: HostRuntime) -> Result<(), Fail> {
     same(seen, Some(([Some(3), Some(1), Some(2), Some(0)], true, 3)))
 }
 
-// Puts a word in as a key with an end, and answers the value that it had.
+// Puts a word in as a key with an end, and returns the value that it had.
 fn word(
     map: &mut KeyedMap<Terminated, u32, 8>,
     alloc: Global,
@@ -92,7 +92,7 @@ fn word(
     }
 }
 
-// What insertions of words answer, and what is left after both ends have gone.
+// What insertions of words return, and what is left after both ends have gone.
 fn words(
     map: &mut KeyedMap<Terminated, u32, 8>,
     alloc: Global,

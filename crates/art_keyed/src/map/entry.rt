@@ -33,7 +33,7 @@ impl<'a, K: NoPrefixesBytes + Drop, V: Drop, const P: usize> KeyedEntryOf<
         &self.key
     }
 
-    /// Returns the value of the key, where it is stored.
+    /// Returns the value of the key, where it is stored, by one way down the tree.
     pub fn get(&self) -> Option<&V>
         ensures { option_copied result ≡
             value_at K.bytes (K.bytes self.now.key) self.now.map.now }
@@ -41,7 +41,7 @@ impl<'a, K: NoPrefixesBytes + Drop, V: Drop, const P: usize> KeyedEntryOf<
         self.map.get(&self.key)
     }
 
-    /// Returns the same, after a change of the value of the key, where it is stored.
+    /// Returns the entry, after a call of the closure at the key's value, where it is stored.
     pub fn and_modify<F: FnOnce(&mut V)>(self, f: F) -> Self
         requires { (value : MutBor V) →
             value_at K.bytes (K.bytes self.key) self.map.now ≡ Some value.now → F.pre f value }
@@ -57,8 +57,8 @@ impl<'a, K: NoPrefixesBytes + Drop, V: Drop, const P: usize> KeyedEntryOf<
         KeyedEntryOf { map, key }
     }
 
-    /// Returns the value of the key, to be written. Where no equal key is stored the pair comes in first,
-    /// by the same way down the tree.
+    /// Returns the value of the key, to be written. Where no equal key is stored the pair is put in
+    /// first, by the same way down the tree. It is refused as `insert` of the map is.
     pub fn or_insert(self, value: V) -> Result<&'a mut V, PairRefused<K, V>>
         ensures* writes_back { sem 𝓛 (lends_put K.row V.row P.row K.NoPrefixesBytes
             self.entry.map self.entry.key result) }
@@ -73,7 +73,7 @@ impl<'a, K: NoPrefixesBytes + Drop, V: Drop, const P: usize> KeyedEntryOf<
         map.get_or_insert(key, value)
     }
 
-    /// Returns what `or_insert` returns, with a value that is made of the key. The closure is called where no
+    /// Returns what `or_insert` does, with a value that is made of the key. The closure is called where no
     /// equal key is stored, also where the pair is refused then and handed back.
     pub fn or_insert_with_key<F: FnOnce(&K) -> V>(
         self,
@@ -95,7 +95,7 @@ impl<'a, K: NoPrefixesBytes + Drop, V: Drop, const P: usize> KeyedEntryOf<
         map.get_or_insert_with(key, make)
     }
 
-    /// Returns what `or_insert` returns, with a value that is made. The closure is called where no equal key
+    /// Returns what `or_insert` does, with a value that is made. The closure is called where no equal key
     /// is stored, also where the pair is refused then and handed back.
     pub fn or_insert_with<F: FnOnce() -> V>(self, make: F) -> Result<&'a mut V, PairRefused<K, V>>
         requires { has_key (of_key K.bytes) (K.bytes self.key) self.map.now ≡ false → F.pre make }
@@ -112,7 +112,7 @@ impl<'a, K: NoPrefixesBytes + Drop, V: Drop, const P: usize> KeyedEntryOf<
         self.or_insert_with_key(|_| make())
     }
 
-    /// Returns what `or_insert` returns, with the value that is the default of its type.
+    /// Returns what `or_insert` does, with the value that is the default of its type.
     pub fn or_default(self) -> Result<&'a mut V, PairRefused<K, V>>
     where
         V: Default,

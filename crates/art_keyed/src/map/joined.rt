@@ -15,7 +15,8 @@ impl<A: DecodeBytes + Drop, B: DecodeBytes + Drop, V: Drop, const P: usize> Keye
     V,
     P,
 > {
-    /// Returns the pairs whose keys have this first key, in the order of the bytes of the second ones.
+    /// Returns the pairs whose keys have this first key, in the order of the bytes of the second ones. It
+    /// costs what `prefix` of a `ByteMap` does, and takes no memory.
     pub fn with_first(&self, first: &A) -> Range<'_, Joined<A, B>, V, P>
         ensures pairs { result ≡ pairs_with_first A.bytes (A.bytes first.now) self.now }
         ensures sorted { IsMap (of_key (joined_bytes A.bytes B.bytes)) self.now }

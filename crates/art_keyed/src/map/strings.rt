@@ -19,7 +19,8 @@ use std::alloc::{AllocError, Global};
 use std::ops::Bound;
 
 impl<K: StringBytes + Drop, V: Drop, const P: usize> KeyedMap<K, V, P> {
-    /// Returns the pairs whose strings begin with that of a key, in the order of their keys.
+    /// Returns the pairs whose strings begin with that of a key, in the order of their keys. It costs what `prefix` of
+    /// a `ByteMap` does, and takes no memory.
     pub fn prefix(&self, prefix: &K) -> Range<'_, K, V, P>
         ensures pairs { result ≡ strings_below K.text (K.text prefix.now) self.now }
         ensures sorted { IsMap (of_key K.bytes) self.now }

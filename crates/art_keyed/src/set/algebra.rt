@@ -21,14 +21,16 @@ impl<K: NoPrefixesBytes + Drop, const P: usize> KeyedSet<K, P> {
         self.set.difference(&other.set)
     }
 
-    /// Returns the keys of both sets as they rise; of two equal keys this set's.
+    /// Returns the keys of both sets as they rise; of two equal keys this set's. It is two walks, and
+    /// looks no key up.
     pub fn union<'a>(&'a self, other: &'a KeyedSet<K, P>) -> Union<'a, K, P>
         ensures { result ≡ union K.bytes self.now other.now }
     {
         self.set.union(&other.set)
     }
 
-    /// Returns the keys that just one of the sets has, as they rise.
+    /// Returns the keys that just one of the sets has, as they rise. It is two walks, and looks no key
+    /// up.
     pub fn symmetric_difference<'a>(
         &'a self,
         other: &'a KeyedSet<K, P>,
@@ -38,21 +40,22 @@ impl<K: NoPrefixesBytes + Drop, const P: usize> KeyedSet<K, P> {
         self.set.symmetric_difference(&other.set)
     }
 
-    /// Returns whether the other set has each key.
+    /// Returns whether the other set has each key. Keys are looked up in it until one decides.
     pub fn is_subset(&self, other: &KeyedSet<K, P>) -> bool
         ensures { result ≡ is_subset K.bytes self.now other.now }
     {
         self.set.is_subset(&other.set)
     }
 
-    /// Returns whether each key of the other set is in this one.
+    /// Returns whether each key of the other set is in this one. Keys of the other set are looked up in
+    /// this one until one decides.
     pub fn is_superset(&self, other: &KeyedSet<K, P>) -> bool
         ensures { result ≡ is_subset K.bytes other.now self.now }
     {
         self.set.is_superset(&other.set)
     }
 
-    /// Returns whether the other set has none of the keys.
+    /// Returns whether the other set has none of the keys. Keys are looked up in it until one decides.
     pub fn is_disjoint(&self, other: &KeyedSet<K, P>) -> bool
         ensures { result ≡ is_disjoint K.bytes self.now other.now }
     {

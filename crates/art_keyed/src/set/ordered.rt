@@ -12,14 +12,15 @@ use art_map::set::KeyRange;
 use std::ops::{Bound, RangeBounds};
 
 impl<K: OrderedBytes + Drop, const P: usize> KeyedSet<K, P> {
-    /// Does nothing, and tells that the keys rise in the order of their type.
+    /// Does nothing, but its contract says that the keys rise in the order of their type.
     pub fn rises(&self)
         ensures { KeysRiseBy K.order self.now }
     {
         self.set.len();
     }
 
-    /// Returns the keys in a range, as they rise; none where it runs backwards.
+    /// Returns the keys in a range, as they rise; none where it runs backwards. It costs what `range` of
+    /// the map does.
     pub fn range<R: RangeBounds<K> + Drop>(&self, range: R) -> KeyRange<'_, K, P>
         ensures keys { R.has_bounds range → result ≡
             set_between K.order (R.start_bound range) (R.end_bound range) self.now }
@@ -39,7 +40,8 @@ impl<K: OrderedBytes + Drop, const P: usize> KeyedSet<K, P> {
         self.set.range((bytes_of(from), bytes_of(to)))
     }
 
-    /// Returns the first key after a bound, or at it where that is included.
+    /// Returns the first key after a bound, or at it where that is included. It costs what `first_from`
+    /// of the map does.
     pub fn first_from(&self, from: Bound<&K>) -> Option<&K>
         ensures { option_copied result ≡ first_of (set_between K.order
             (bound_map (λ b. b.now) from.entry) Unbounded self.now) }
@@ -47,7 +49,8 @@ impl<K: OrderedBytes + Drop, const P: usize> KeyedSet<K, P> {
         self.set.first_from(bytes_of(from))
     }
 
-    /// Returns the last key before a bound, or at it where that is included.
+    /// Returns the last key before a bound, or at it where that is included. It costs what `first_from`
+    /// does.
     pub fn last_up_to(&self, to: Bound<&K>) -> Option<&K>
         ensures { option_copied result ≡ last_of (set_between K.order Unbounded
             (bound_map (λ b. b.now) to.entry) self.now) }
@@ -57,7 +60,8 @@ impl<K: OrderedBytes + Drop, const P: usize> KeyedSet<K, P> {
 }
 
 impl<K: StringBytes + Drop, const P: usize> KeyedSet<K, P> {
-    /// Returns the keys whose strings begin with that of a key, as they rise.
+    /// Returns the keys whose strings begin with that of a key, as they rise. It costs what `prefix` of
+    /// the map does.
     pub fn prefix(&self, prefix: &K) -> KeyRange<'_, K, P>
         ensures keys { result ≡ set_below K.text (K.text prefix.now) self.now }
         ensures sorted { IsMap K.bytes self.now }

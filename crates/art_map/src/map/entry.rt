@@ -24,14 +24,14 @@ pub struct EntryOf<'a, K, M> {
 pub type Entry<'a, K, V, const P: usize> = EntryOf<'a, K, ByteMap<K, V, P>>;
 
 impl<'a, K: AsBytes + Drop, V: Drop, const P: usize> EntryOf<'a, K, ByteMap<K, V, P>> {
-    /// The key.
+    /// Returns the key.
     pub fn key(&self) -> &K
         ensures { result.now ≡ self.now.key }
     {
         &self.key
     }
 
-    /// The value of the key, where it is stored.
+    /// Returns the value of the key, where it is stored, by one way down the tree.
     pub fn get(&self) -> Option<&V>
         ensures { option_copied result ≡
             value_at K.bytes (K.bytes self.now.key) self.now.map.now }
@@ -39,8 +39,8 @@ impl<'a, K: AsBytes + Drop, V: Drop, const P: usize> EntryOf<'a, K, ByteMap<K, V
         self.map.get(self.key.as_bytes())
     }
 
-    /// The entry, after a change of the value of the key where it is stored. It takes a descent, and
-    /// keeps the leaf that it finds: an `or_` call takes none then, but a look at that leaf.
+    /// Returns the entry, after a call of the closure at the key's value, where it is stored. It takes a
+    /// descent, and keeps the leaf that it finds: an `or_` call takes none then, but a look at that leaf.
     pub fn and_modify<F: FnOnce(&mut V)>(self, f: F) -> Self
         requires { (value : MutBor V) →
             value_at K.bytes (K.bytes self.key) self.map.now ≡ Some value.now → F.pre f value }
@@ -54,8 +54,8 @@ impl<'a, K: AsBytes + Drop, V: Drop, const P: usize> EntryOf<'a, K, ByteMap<K, V
         EntryOf { map, key, leaf }
     }
 
-    /// The value of the key, to be written. Where no equal key is stored the pair comes in first, by the
-    /// same descent. The errors are those of `insert`.
+    /// Returns the value of the key, to be written. Where no equal key is stored the pair is put in
+    /// first, by the same descent. The errors are those of `insert`.
     pub fn or_insert(self, value: V) -> Result<&'a mut V, MapInsertError<K, V>>
         ensures* writes_back { sem 𝓛 (lends_put K.row V.row P.row K.AsBytes
             self.entry.map self.entry.key result) }
@@ -70,8 +70,8 @@ impl<'a, K: AsBytes + Drop, V: Drop, const P: usize> EntryOf<'a, K, ByteMap<K, V
         map.value_or_insert(key, leaf, value)
     }
 
-    /// What `or_insert` returns, with a value that is made of the key. The closure is called where no
-    /// equal key is stored, also where the pair is refused then and comes back.
+    /// Returns what `or_insert` does, with a value that is made of the key. The closure is called where
+    /// no equal key is stored, also where the pair is refused then and comes back.
     pub fn or_insert_with_key<F: FnOnce(&K) -> V>(
         self,
         make: F,
@@ -92,7 +92,7 @@ impl<'a, K: AsBytes + Drop, V: Drop, const P: usize> EntryOf<'a, K, ByteMap<K, V
         map.value_or_make(key, leaf, make)
     }
 
-    /// What `or_insert` returns, with a value that is made. The closure is called where no equal key
+    /// Returns what `or_insert` does, with a value that is made. The closure is called where no equal key
     /// is stored, also where the pair is refused then and comes back.
     pub fn or_insert_with<F: FnOnce() -> V>(
         self,
@@ -112,7 +112,7 @@ impl<'a, K: AsBytes + Drop, V: Drop, const P: usize> EntryOf<'a, K, ByteMap<K, V
         self.or_insert_with_key(|_| make())
     }
 
-    /// What `or_insert_with` returns, of a closure that may fail. Where it does, its error is returned with the
+    /// Returns what `or_insert_with` does, of a closure that may fail. Where it does, its error is returned with the
     /// key, and the map is as before.
     pub fn or_try_insert_with<E: Drop, F: FnOnce() -> Result<V, E>>(
         self,
@@ -133,7 +133,7 @@ impl<'a, K: AsBytes + Drop, V: Drop, const P: usize> EntryOf<'a, K, ByteMap<K, V
         map.value_or_try(key, leaf, make)
     }
 
-    /// What `or_insert` returns, with the value that is the default of its type.
+    /// Returns what `or_insert` does, with the value that is the default of its type.
     pub fn or_default(self) -> Result<&'a mut V, MapInsertError<K, V>>
     where
         V: Default,

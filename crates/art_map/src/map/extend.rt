@@ -9,7 +9,7 @@ use art_nodes::node::AsBytes;
 impl<K: AsBytes + Drop, V: Drop, const P: usize> ByteMap<K, V, P> {
     /// Puts in the pairs that come, one after another, as `insert` does. It stops at the first one that is
     /// refused, which the error hands back: those before it stay in the map, and the others stay in the
-    /// iterator.
+    /// iterator. The errors are those of `insert`.
     pub fn extend<I: Iterator<Item = (K, V)>>(
         &mut self,
         pairs: &mut I,

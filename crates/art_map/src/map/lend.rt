@@ -14,7 +14,7 @@ use art_nodes::node::{AsBytes, LeafPtr};
 use art_reading::lookup::search_unchecked;
 
 impl<K: AsBytes + Drop, V: Drop, const P: usize> ByteMap<K, V, P> {
-    /// What `get_or_insert` returns, with a value that is made of the key. The closure is called where no
+    /// Returns what `get_or_insert` does, with a value that is made of the key. The closure is called where no
     /// equal key is stored, also where the pair is refused then and comes back.
     pub fn get_or_insert_with<F: FnOnce(&K) -> V>(
         &mut self,

@@ -213,7 +213,7 @@ impl<K: AsBytes + Drop, V: Drop, const P: usize> DoubleEndedIterator for IntoVal
 impl<K: AsBytes + Drop, V: Drop, const P: usize> FusedIterator for IntoValues<K, V, P> {}
 
 impl<K: AsBytes + Drop, V: Drop, const P: usize> ByteMap<K, V, P> {
-    /// The keys as they rise, by value.
+    /// Returns the keys as they rise, by value.
     pub fn into_keys(self) -> IntoKeys<K, V, P>
         ensures { result ≡ keys_of self }
     {
@@ -222,7 +222,7 @@ impl<K: AsBytes + Drop, V: Drop, const P: usize> ByteMap<K, V, P> {
         }
     }
 
-    /// The values in the order of their keys, by value.
+    /// Returns the values in the order of their keys, by value.
     pub fn into_values(self) -> IntoValues<K, V, P>
         ensures { result ≡ values_of self }
     {

@@ -11,8 +11,8 @@ use std::alloc::AllocError;
 use std::iter::FusedIterator;
 use std::marker::Model;
 
-/// Pairs of a map that stand one after another, by rising keys, seen as the list of those that have
-/// not come yet. How many they are is not known before they came; `size_hint` has an upper bound.
+/// Pairs of a map that stand one after another, by rising keys, seen as the list of those that have not
+/// come yet. Their number is not known before they have come: `size_hint` has only an upper bound.
 #[derive(Drop)]
 pub struct RangeOf<'a, K, V, S: Leaves<K, V>> {
     store: &'a S,

@@ -15,8 +15,8 @@ use std::iter::FusedIterator;
 use std::marker::Model;
 
 impl<K: AsBytes + Drop, const P: usize> ByteSet<K, P> {
-    /// The keys that the other set has too, as they rise. Each key is looked up in it, so it costs least
-    /// on the smaller set.
+    /// Returns the keys that the other set has too, as they rise. Each key is looked up in it, so it
+    /// costs least on the smaller set.
     pub fn intersection<'a>(&'a self, other: &'a ByteSet<K, P>) -> Intersection<'a, K, P>
         ensures { result ≡ intersection K.bytes self.now other.now }
     {
@@ -27,7 +27,7 @@ impl<K: AsBytes + Drop, const P: usize> ByteSet<K, P> {
         }
     }
 
-    /// The keys that the other set lacks, as they rise. Each key is looked up in it.
+    /// Returns the keys that the other set lacks, as they rise. Each key is looked up in it.
     pub fn difference<'a>(&'a self, other: &'a ByteSet<K, P>) -> Difference<'a, K, P>
         ensures { result ≡ difference K.bytes self.now other.now }
     {
@@ -38,7 +38,8 @@ impl<K: AsBytes + Drop, const P: usize> ByteSet<K, P> {
         }
     }
 
-    /// The keys of both sets as they rise; of two equal keys this set's.
+    /// Returns the keys of both sets as they rise; of two equal keys this set's. It is two walks, and
+    /// looks no key up.
     pub fn union<'a>(&'a self, other: &'a ByteSet<K, P>) -> Union<'a, K, P>
         ensures { result ≡ union K.bytes self.now other.now }
     {
@@ -49,7 +50,8 @@ impl<K: AsBytes + Drop, const P: usize> ByteSet<K, P> {
         }
     }
 
-    /// The keys that just one of the sets has, as they rise.
+    /// Returns the keys that just one of the sets has, as they rise. It is two walks, and looks no key
+    /// up.
     pub fn symmetric_difference<'a>(
         &'a self,
         other: &'a ByteSet<K, P>,
@@ -63,7 +65,7 @@ impl<K: AsBytes + Drop, const P: usize> ByteSet<K, P> {
         }
     }
 
-    /// Whether the other set has each key.
+    /// Returns whether the other set has each key. Keys are looked up in it until one decides.
     pub fn is_subset(&self, other: &ByteSet<K, P>) -> bool
         ensures { result ≡ is_subset K.bytes self.now other.now }
     {
@@ -71,14 +73,15 @@ impl<K: AsBytes + Drop, const P: usize> ByteSet<K, P> {
         lacking.next().is_none()
     }
 
-    /// Whether each key of the other set is in this one.
+    /// Returns whether each key of the other set is in this one. Keys of the other set are looked up in
+    /// this one until one decides.
     pub fn is_superset(&self, other: &ByteSet<K, P>) -> bool
         ensures { result ≡ is_subset K.bytes other.now self.now }
     {
         other.is_subset(self)
     }
 
-    /// Whether the other set has none of the keys.
+    /// Returns whether the other set has none of the keys. Keys are looked up in it until one decides.
     pub fn is_disjoint(&self, other: &ByteSet<K, P>) -> bool
         ensures { result ≡ is_disjoint K.bytes self.now other.now }
     {
@@ -93,7 +96,7 @@ pub trait HasKey<K> {
 
     ghost has: { Self → K → Bool };
 
-    /// Whether a key with the bytes of this one is there.
+    /// Returns whether a key with the bytes of this one is there.
     fn has(&self, key: &K) -> bool
         ensures { result ≡ has self.now key.now };
 }

@@ -9,7 +9,7 @@ use art_nodes::node::AsBytes;
 impl<K: AsBytes + Drop, const P: usize> ByteSet<K, P> {
     /// Puts in the keys that come, one after another, as `insert` does. It stops at the first one that is
     /// refused, which the error hands back: those before it stay in the set, and the others stay in the
-    /// iterator.
+    /// iterator. The errors are those of `insert`.
     pub fn extend<I: Iterator<Item = K>>(&mut self, keys: &mut I) -> Result<(), SetInsertError<K>>
         requires can { I.can_next keys.old }
         requires ends { IsFinite (I.remaining keys.old) }

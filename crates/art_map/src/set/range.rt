@@ -17,8 +17,8 @@ use std::iter::FusedIterator;
 use std::marker::Model;
 use std::ops::{Bound, RangeBounds};
 
-/// Keys of a set that stand one after another, as they rise, seen as the list of those that have not
-/// come yet. Their number is not known until they came; an upper bound of it is.
+/// Keys of a set that stand one after another, as they rise, seen as the list of those that have not come
+/// yet. Their number is not known before they have come: `size_hint` has only an upper bound.
 #[derive(Drop)]
 pub struct KeyRangeOf<'a, K, S: Leaves<K, ()>> {
     pairs: RangeOf<'a, K, (), S>,
@@ -99,7 +99,8 @@ impl<'a, K, S: Leaves<K, ()>> DoubleEndedIterator for KeyRangeOf<'a, K, S> {
 impl<'a, K, S: Leaves<K, ()>> FusedIterator for KeyRangeOf<'a, K, S> {}
 
 impl<K: AsBytes + Drop, const P: usize> ByteSet<K, P> {
-    /// Returns the keys that begin with these bytes, as they rise.
+    /// Returns the keys that begin with these bytes, as they rise. It costs what `prefix` of the map
+    /// does.
     pub fn prefix(&self, prefix: &[u8]) -> KeyRange<'_, K, P>
         ensures keys { result ≡ below K.bytes prefix.now self.now }
         ensures sorted { IsMap K.bytes self.now }
@@ -108,7 +109,8 @@ impl<K: AsBytes + Drop, const P: usize> ByteSet<K, P> {
         KeyRangeOf::new(self.map.prefix(prefix))
     }
 
-    /// Returns the keys in a range, as they rise; none where it runs backwards.
+    /// Returns the keys in a range, as they rise; none where it runs backwards. It costs what `range` of
+    /// the map does.
     pub fn range<'k, R: RangeBounds<&'k [u8]> + Drop>(&self, range: R) -> KeyRange<'_, K, P>
         ensures keys { R.has_bounds range → result ≡ between K.bytes
             (bound_map (λ b. b.now) (R.start_bound range))
@@ -119,7 +121,8 @@ impl<K: AsBytes + Drop, const P: usize> ByteSet<K, P> {
         KeyRangeOf::new(self.map.range(range))
     }
 
-    /// The first key after a bound, or at it where that is included.
+    /// Returns the first key after a bound, or at it where that is included. It costs what `first_from`
+    /// of the map does.
     pub fn first_from(&self, from: Bound<&[u8]>) -> Option<&K>
         ensures { option_copied result ≡ first_of (between K.bytes
             (bound_map (λ b. b.now) from.entry) Unbounded self.now) }
@@ -130,7 +133,8 @@ impl<K: AsBytes + Drop, const P: usize> ByteSet<K, P> {
         }
     }
 
-    /// The last key before a bound, or at it where that is included.
+    /// Returns the last key before a bound, or at it where that is included. It costs what `first_from`
+    /// does.
     pub fn last_up_to(&self, to: Bound<&[u8]>) -> Option<&K>
         ensures { option_copied result ≡ last_of (between K.bytes Unbounded
             (bound_map (λ b. b.now) to.entry) self.now) }

@@ -23,7 +23,7 @@ fn copied(pair: Option<(&Key, &u32)>) -> Option<(Key, u32)> {
     Some((*key, *value))
 }
 
-// A question to both, and whether they answer the same.
+// A question to both, and whether they return the same.
 fn agree_on_question(map: &Map, model: &BTreeMap<Key, u32>, key: Key, question: usize) -> bool {
     match question {
         0 => map.get(&key).copied() == model.get(&key).copied(),
@@ -33,7 +33,7 @@ fn agree_on_question(map: &Map, model: &BTreeMap<Key, u32>, key: Key, question: 
     }
 }
 
-// Whether a removal answered this pair.
+// Whether a removal returned this pair.
 fn is_answered(answer: Result<Option<(Key, u32)>, MapRefused>, pair: Option<(Key, u32)>) -> bool {
     match answer {
         Ok(own) => own == pair,
@@ -41,7 +41,7 @@ fn is_answered(answer: Result<Option<(Key, u32)>, MapRefused>, pair: Option<(Key
     }
 }
 
-// A removal from both, and whether they answer the same.
+// A removal from both, and whether they return the same.
 fn agree_on_removal(map: &mut Map, model: &mut BTreeMap<Key, u32>, removal: Removal<Key>) -> bool {
     match removal {
         Removal::Key(key) => {
@@ -63,7 +63,7 @@ fn agree_on_insertion(map: &mut Map, model: &mut BTreeMap<Key, u32>, key: Key, v
     }
 }
 
-// A call of both, and whether they answer the same.
+// A call of both, and whether they return the same.
 fn agree_on_call(
     map: &mut Map,
     model: &mut BTreeMap<Key, u32>,

@@ -37,7 +37,7 @@ pub fn remove(
     }
 }
 
-// Whether a map was filled, the pair that a removal answers then, and how many are left.
+// Whether a map was filled, the pair that a removal returns then, and how many are left.
 fn removed(map: &mut Map, removal: Removal<[u8; 1]>) -> (bool, Option<([u8; 1], u32)>, usize) {
     let filled = fill(map);
     let pair = remove(map, removal).ok().flatten();
@@ -110,7 +110,7 @@ fn pairs_come_from_both_ends(rt: HostRuntime) -> Result<(), Fail> {
     as_expected(Some((seen, (true, came))))
 }
 
-// What the calls that only read answer: whether there is no pair, and whether two keys are there; the values of both,
+// What the calls that only read return: whether there is no pair, and whether two keys are there; the values of both,
 // and the first and the last one.
 type Asked = ([bool; 3], [Option<u32>; 4]);
 
@@ -130,7 +130,7 @@ fn asked(map: &Map) -> Asked {
     )
 }
 
-// Whether a map was filled, what is answered of it then and once it is cleared, and whether it was filled again.
+// Whether a map was filled, what is returned of it then and once it is cleared, and whether it was filled again.
 fn cleared(map: &mut Map) -> (bool, Asked, Asked, bool) {
     let is_filled = fill(map);
     let before = asked(map);

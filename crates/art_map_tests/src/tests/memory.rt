@@ -75,7 +75,7 @@ fn is_right(map: &mut Map, removal: Removal<[u8; 1]>, byte: u8) -> bool {
     }
 }
 
-// What calls that ask for no memory answer in a map of five pairs, of which the third gets its value again.
+// What calls that ask for no memory return in a map of five pairs, of which the third gets its value again.
 fn answers(map: &mut Map) -> ([Option<u32>; 3], bool) {
     let values = [
         map.get(&[3]).copied(),
@@ -144,7 +144,7 @@ fn without_memory_a_longer_key_gives_way(rt: HostRuntime) -> Result<(), Fail> {
 
 type Deep = ByteMap<[u8; 5], u32, 4>;
 
-// Puts these keys in. Answers whether none is refused.
+// Puts these keys in. Returns whether none is refused.
 fn insert_each(map: &mut Deep, keys: &[[u8; 5]]) -> bool {
     for key in keys {
         if map.insert(*key, 0).is_err() {
@@ -176,7 +176,7 @@ fn fill_deep(map: &mut Deep) -> bool {
     map.len() == 21
 }
 
-// Puts in keys for which no inner node is placed, until one is refused. Answers whether one was.
+// Puts in keys for which no inner node is placed, until one is refused. Returns whether one was.
 fn crowd_deep(map: &mut Deep) -> bool {
     for first in 1..=4u8 {
         for byte in 3..=4u8 {

@@ -336,7 +336,7 @@ fn agree_on_removal_below(map: &mut Map, model: &mut BTreeMap<Key, u32>, prefix:
     map.remove_prefix(prefix) == Ok(before.saturating_sub(model.len()))
 }
 
-// A change of both, and whether they answer the same.
+// A change of both, and whether they return the same.
 fn agree_on_change(
     map: &mut Map,
     model: &mut BTreeMap<Key, u32>,

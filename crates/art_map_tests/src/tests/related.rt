@@ -14,7 +14,7 @@ fn bytes_of(key: &[u8]) -> Bytes {
     [key.get(0).copied(), key.get(1).copied()]
 }
 
-/// What an insertion answered.
+/// What an insertion returned.
 #[derive(Clone, Copy, PartialEq, Debug)]
 enum Told {
     New,
@@ -41,7 +41,7 @@ fn put(map: &mut Map, alloc: Global, key: &[u8], value: u32) -> Told {
     }
 }
 
-// The pair that a removal answered.
+// The pair that a removal returned.
 fn pair_of<E: Drop>(answer: Result<Option<(Vec<u8>, u32)>, E>) -> Option<(Bytes, u32)> {
     match answer {
         Ok(Some((key, value))) => Some((bytes_of(&key), value)),
@@ -87,7 +87,7 @@ const TWO: Bytes = [Some(2), None];
 
 const BOTH: Bytes = [Some(1), Some(1)];
 
-// What the insertions of three pairs answer.
+// What the insertions of three pairs return.
 fn put_three(map: &mut Map, alloc: Global, pairs: [(&[u8], u32); 3]) -> [Told; 3] {
     let [first, second, third] = pairs;
     [
@@ -123,7 +123,7 @@ fn popped(map: &mut Map) -> Popped {
     (pairs, map.len())
 }
 
-// What the insertions of two keys answer, of which one is put in twice; how many pairs there are then, and that key's
+// What the insertions of two keys return, of which one is put in twice; how many pairs there are then, and that key's
 // value; and what comes off the ends.
 fn replaced(map: &mut Map, alloc: Global) -> ([Told; 3], (usize, Option<u32>), Popped) {
     let told = put_three(map, alloc, [(&[2], 1), (&[1], 2), (&[2], 5)]);
@@ -160,7 +160,7 @@ fn all_related_keys_give_way(rt: HostRuntime) -> Result<(), Fail> {
     as_expected(Some((seen, (gone, left))))
 }
 
-// What the insertions of two keys answer, and the matches of five queries then.
+// What the insertions of two keys return, and the matches of five queries then.
 fn queried(map: &mut Map, alloc: Global) -> ([Told; 2], [Option<(usize, u32)>; 5]) {
     let told = [put(map, alloc, &[1], 7), put(map, alloc, &[2, 2], 8)];
     let found = [

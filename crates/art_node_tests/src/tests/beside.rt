@@ -35,7 +35,7 @@ fn beside_each(kind: NodeType) -> [Option<(u8, OpaqueNodePtr)>; 4] {
     [0, 15, 22, 255].map(|byte| beside(any.as_ref(), byte))
 }
 
-// A node that keeps its children in order answers the next one above, or else the last; one with a
+// A node that keeps its children in order returns the next one above, or else the last; one with a
 // place for each byte the nearest, and the lower of two as near.
 #[test]
 fn finds_the_child_beside_a_byte(rt: HostRuntime) -> Result<(), Fail> {

@@ -144,7 +144,7 @@ enum LeafChange {
 }
 
 /// A store, and beside it a list of the names that it gave out with what is to be under them. Each call
-/// answers whether the store did as the list says, or None where it needs a listed name and there is none.
+/// returns whether the store did as the list says, or None where it needs a listed name and there is none.
 #[derive(Drop)]
 struct Trial {
     store: Store,
@@ -340,7 +340,7 @@ impl Trial {
         count_nodes(&self.store, LAST_SLOT) == (self.leaves.len(), self.inners.len())
     }
 
-    /// Makes the calls, and answers the number of the first one after which something is wrong.
+    /// Makes the calls, and returns the number of the first one after which something is wrong.
     fn first_wrong_call(&mut self) -> Result<Option<usize>, AllocError> {
         for step in 0..STEPS {
             let is_right = self.step(step / 1_000 % 2 == 0)?;
@@ -351,7 +351,7 @@ impl Trial {
         Ok(None)
     }
 
-    /// Frees all nodes, and answers whether each was right, whether none is left in the store and on the
+    /// Frees all nodes, and returns whether each was right, whether none is left in the store and on the
     /// lists.
     fn free_all(&mut self) -> [bool; 3] {
         let mut all_right = true;
@@ -363,7 +363,7 @@ impl Trial {
         [all_right, self.is_as_listed(), is_empty]
     }
 
-    /// Makes the calls and then frees all nodes, and answers what both say.
+    /// Makes the calls and then frees all nodes, and returns what both say.
     fn outcome(&mut self) -> Result<(Option<usize>, [bool; 3]), AllocError> {
         let wrong = self.first_wrong_call()?;
         Ok((wrong, self.free_all()))

@@ -300,7 +300,7 @@ fn read_empty<N: InnerNode<4>>(node: &N) -> (usize, [bool; 2], [bool; 2]) {
     )
 }
 
-// Puts a child under each byte from a last one down to 0; answers whether the node was full too early.
+// Puts a child under each byte from a last one down to 0; returns whether the node was full too early.
 fn fill<N: InnerNode<4>>(node: &mut N, last: u8) -> bool {
     for byte in (0..=last).rev() {
         if node.is_full() {
@@ -336,7 +336,7 @@ fn read_full<N: InnerNode<4>>(node: &N, last: u8) -> FullNode {
     }
 }
 
-// Puts another child under 0, and answers what is then there and how many there are.
+// Puts another child under 0, and returns what is then there and how many there are.
 fn replace<N: InnerNode<4>>(
     node: &mut N,
     other: OpaqueNodePtr,
@@ -346,7 +346,7 @@ fn replace<N: InnerNode<4>>(
     Some((node.lookup_child(0), node.num_children()))
 }
 
-// Takes the child under 2 out twice, and answers what each time tells, how many there are and whether
+// Takes the child under 2 out twice, and returns what each time tells, how many there are and whether
 // the range about it is right.
 fn take_out<N: InnerNode<4>>(node: &mut N) -> ([Option<OpaqueNodePtr>; 2], usize, bool) {
     let removed = [node.remove_child(2), node.remove_child(2)];
@@ -521,7 +521,7 @@ fn put_three(any: &mut AnyInner<4>) -> bool {
     true
 }
 
-// Makes a node of a kind, and answers its kind, whether there was room for three, and what is read then.
+// Makes a node of a kind, and returns its kind, whether there was room for three, and what is read then.
 fn made(kind: NodeType) -> Option<(NodeType, bool, Reading)> {
     if kind == NodeType::Leaf {
         return None;
@@ -589,7 +589,7 @@ fn is_of_count(any: &AnyInner<4>, count: usize) -> bool {
     seen == (kind, [true; 2], count) && count_up(node.iter())
 }
 
-// Puts a child under each byte from 0 on, and answers the node and how often it was as it is to be.
+// Puts a child under each byte from 0 on, and returns the node and how often it was as it is to be.
 fn grown() -> (AnyInner<4>, usize) {
     let mut any: AnyInner<4> = AnyInner::from_header(NodeType::Node4, Header::new(&[9], 1));
     let mut right = 0usize;
@@ -606,7 +606,7 @@ fn grown() -> (AnyInner<4>, usize) {
     (any, right)
 }
 
-// Takes the children out from the last one on, each once and then once more; answers how often the
+// Takes the children out from the last one on, each once and then once more; returns how often the
 // answers and the node were as they are to be.
 fn emptied(full: AnyInner<4>) -> usize {
     let mut any = full;

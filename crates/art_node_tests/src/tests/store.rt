@@ -45,7 +45,7 @@ fn place_behind<K: AsBytes + Drop, V: Drop, const P: usize>(
     Ok(name)
 }
 
-// A caller: frees one leaf and gives its pair to another, whose pair it answers.
+// A caller: frees one leaf and gives its pair to another, whose pair it returns.
 #[tactic(auto, using(crate::proofs::Laws::leaf_laws))]
 fn move_pair<K: AsBytes + Drop, V: Drop, const P: usize>(
     store: &mut NodeStore<K, V, P>,
@@ -261,7 +261,7 @@ fn a_store_hands_out_its_allocator(rt: HostRuntime) -> Result<(), Fail> {
     same(copied, Some(true))
 }
 
-// Places a leaf and another one behind it, and answers both names.
+// Places a leaf and another one behind it, and returns both names.
 #[tactic(auto, using(crate::proofs::Laws::leaf_laws))]
 fn place_pair(store: &mut Store) -> Result<(LeafPtr, LeafPtr), AllocError>
     ensures first { IfOk result (λ names. IsSome (map.get store.new.leaves names.0)) }
@@ -272,7 +272,7 @@ fn place_pair(store: &mut Store) -> Result<(LeafPtr, LeafPtr), AllocError>
     Ok((first, second))
 }
 
-// Frees the first of two leaves and gives its pair to the second; answers whether each is right: what is
+// Frees the first of two leaves and gives its pair to the second; returns whether each is right: what is
 // under the second name before, the pair that comes back, and what is under both names afterwards.
 fn move_first(store: &mut Store) -> Option<[bool; 4]> {
     let (first, second) = place_pair(store).ok()?;
@@ -295,7 +295,7 @@ fn leaves_are_linked_and_freed(rt: HostRuntime) -> Result<(), Fail> {
     same(move_first(&mut store), Some([true; 4]))
 }
 
-// Gives the second of two leaves another value; answers whether each is right: the old value, what is under
+// Gives the second of two leaves another value; returns whether each is right: the old value, what is under
 // both names then, and which value comes back and stays where it is tried.
 fn give_value(store: &mut Store) -> Option<[bool; 5]> {
     let (first, second) = place_pair(store).ok()?;
@@ -323,7 +323,7 @@ fn a_leaf_is_given_another_value(rt: HostRuntime) -> Result<(), Fail> {
     same(give_value(&mut store), Some([true; 5]))
 }
 
-// Places a node with this child under 3 and one with none, and answers both names.
+// Places a node with this child under 3 and one with none, and returns both names.
 #[tactic(auto, using(crate::proofs::Laws::inner_laws))]
 fn place_two(store: &mut Store, child: OpaqueNodePtr) -> Result<(InnerPtr, InnerPtr), AllocError>
     ensures lower { IfOk result (λ names. IsSome (map.get store.new.inners names.0)) }
@@ -337,7 +337,7 @@ fn place_two(store: &mut Store, child: OpaqueNodePtr) -> Result<(InnerPtr, Inner
     Ok((lower, upper))
 }
 
-// Writes and frees the first of two nodes, and gives the second one its header; answers whether each is
+// Writes and frees the first of two nodes, and gives the second one its header; returns whether each is
 // right: the first as it is written, under two bytes, and as it is freed, and what is then under both names.
 fn move_lower(store: &mut Store) -> Option<[bool; 5]> {
     let child = LeafPtr::from_slot(7).to_opaque();
@@ -360,7 +360,7 @@ fn inner_nodes_are_written_and_freed(rt: HostRuntime) -> Result<(), Fail> {
     same(move_lower(&mut store), Some([true; 5]))
 }
 
-// Cuts off an only child, which stands under 3, after none under 4; answers whether what comes back each
+// Cuts off an only child, which stands under 3, after none under 4; returns whether what comes back each
 // time and what is left are right.
 fn cut_off(store: &mut Store) -> Option<[bool; 3]> {
     let child = LeafPtr::from_slot(7).to_opaque();
@@ -417,7 +417,7 @@ fn a_store_counts_its_nodes(rt: HostRuntime) -> Result<(), Fail> {
     same(counted, Some(expected))
 }
 
-// Places leaves that are linked behind this one until one is refused, and answers what is handed back.
+// Places leaves that are linked behind this one until one is refused, and returns what is handed back.
 fn refused_leaf(store: &mut Store, last: LeafPtr) -> Option<SeenLeaf> {
     for _ in 0..MORE_THAN_FIT {
         let leaf = LeafNode {
@@ -433,7 +433,7 @@ fn refused_leaf(store: &mut Store, last: LeafPtr) -> Option<SeenLeaf> {
     None
 }
 
-// Places inner nodes with this child under 7 until one is refused, and answers what is handed back.
+// Places inner nodes with this child under 7 until one is refused, and returns what is handed back.
 fn refused_inner(store: &mut Store, child: OpaqueNodePtr) -> Option<SeenInner> {
     for _ in 0..MORE_THAN_FIT {
         let mut node = AnyInner::from_header(NodeType::Node4, Header::new(&[8, 9], 2));
@@ -463,7 +463,7 @@ fn place_one_each(store: &mut Store, value: u32) -> ([bool; 2], [bool; 2]) {
     ([is_leaf_placed, is_inner_placed], right)
 }
 
-// Places twenty of each; answers whether one was refused, and whether each time both of them and the first
+// Places twenty of each; returns whether one was refused, and whether each time both of them and the first
 // leaf were as they are to be.
 fn place_twenty_each(store: &mut Store, first: LeafPtr) -> (bool, bool) {
     let (mut any_refused, mut all_right) = (false, true);
@@ -525,7 +525,7 @@ fn refused_without_memory(
     Ok((leaf, inner))
 }
 
-// Places a leaf and a node above it, and sees that no more is placed while all memory is held; answers
+// Places a leaf and a node above it, and sees that no more is placed while all memory is held; returns
 // whether the leaf and the node that are handed back are right, and those under the two names.
 fn hand_back(store: &mut Store) -> Result<[bool; 4], AllocError> {
     let first = place(store, leaf_of(1, 10))?;
@@ -546,7 +546,7 @@ fn without_memory_placements_hand_the_node_back(rt: HostRuntime) -> Result<(), F
     same(hand_back(&mut store).ok(), Some([true; 4]))
 }
 
-// Places a leaf, and answers whether a reservation without memory is refused, and whether what is then
+// Places a leaf, and returns whether a reservation without memory is refused, and whether what is then
 // under the leaf's name is right.
 fn reserve_without_memory(store: &mut Store) -> Result<[bool; 2], AllocError> {
     let first = place(store, leaf_of(1, 10))?;

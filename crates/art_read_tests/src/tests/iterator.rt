@@ -283,7 +283,7 @@ fn a_leaf_that_came_may_be_freed(rt: HostRuntime) -> Result<(), Fail> {
     same(freed, Some((came, (0, 1))))
 }
 
-// Frees the leaves of a tree and then its inner nodes, or in the other order. Answers how many nodes there are before,
+// Frees the leaves of a tree and then its inner nodes, or in the other order. Returns how many nodes there are before,
 // between and after that.
 fn free_apart<const P: usize>(
     store: &mut NodeStore<Key, u32, P>,

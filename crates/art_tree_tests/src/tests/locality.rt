@@ -17,8 +17,8 @@ use std::test::Fail;
 /// How many names came into use, went out of it, and have another node.
 type Touched = (usize, usize, usize);
 
-// Asks a command, with a second store for the run alone, and answers the root. None where the reply is not the one of the
-// row, or the tree came into the second store.
+// Asks a command, with a second store for the run alone, and returns the root. None where the reply is not the one of
+// the row, or the tree came into the second store.
 fn root_after<const P: usize>(
     store: &mut NodeStore<Key, u32, P>,
     second: &mut NodeStore<Key, u32, P>,
@@ -37,8 +37,8 @@ fn root_after<const P: usize>(
     }
 }
 
-// Asks a command, with a second store for the run alone. Answers what it touches in the first, which had these nodes. None
-// where the reply is not the one of the row.
+// Asks a command, with a second store for the run alone. Returns what it touches in the first, which had these nodes.
+// None where the reply is not the one of the row.
 fn touched_since<const P: usize>(
     store: &mut NodeStore<Key, u32, P>,
     second: &mut NodeStore<Key, u32, P>,
@@ -290,7 +290,7 @@ fn step(key: &[u8; 1], is_insertion: bool) -> (Row<'_>, usize) {
     }
 }
 
-// Inserts all keys of one byte, or deletes the last one again and again. Answers how many of these steps are small.
+// Inserts all keys of one byte, or deletes the last one again and again. Returns how many of these steps are small.
 fn count_small_steps<const P: usize>(
     store: &mut NodeStore<Key, u32, P>,
     root: &mut Option<OpaqueNodePtr>,
@@ -403,7 +403,7 @@ fn deletion_told(replies: &[Reply<Key, u32>], touched: Touched) -> Deletion {
     Deletion::Other
 }
 
-// Runs the deletion without memory, where the store had these nodes. Answers what came of it.
+// Runs the deletion without memory, where the store had these nodes. Returns what came of it.
 fn delete_by<const P: usize>(
     store: &mut NodeStore<Key, u32, P>,
     second: &mut NodeStore<Key, u32, P>,

@@ -37,7 +37,7 @@ enum Part {
     Between(Bound<&'static [u8]>, Bound<&'static [u8]>),
 }
 
-// Puts the keys in, with their places as values. Answers whether all are new.
+// Puts the keys in, with their places as values. Returns whether all are new.
 fn fill<const P: usize>(map: &mut Map<P>, keys: Vec<Key>) -> bool {
     let mut value = 0u32;
     for key in keys {

@@ -129,7 +129,7 @@ fn refused_commands_leave_the_tree_of_the_others(rt: HostRuntime) -> Result<(), 
 /// A clone that is refused.
 static NO_CLONE: [Row<'static>; 1] = [(Asked::Clone, Told::NoMemory(None))];
 
-// Asks for a clone. Answers whether it was refused, and nothing else.
+// Asks for a clone. Returns whether it was refused, and nothing else.
 fn is_clone_refused<const P: usize>(
     first: &mut NodeStore<Key, u32, P>,
     second: &mut NodeStore<Key, u32, P>,

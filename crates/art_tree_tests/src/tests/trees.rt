@@ -36,7 +36,7 @@ impl Shape {
         self.longest_prefix = self.longest_prefix.max(node.prefix_len());
     }
 
-    // Meets the node under a name, and puts its children's names into the list. Answers whether there is one.
+    // Meets the node under a name, and puts its children's names into the list. Returns whether there is one.
     fn meet<const P: usize>(
         &mut self,
         store: &NodeStore<Key, u32, P>,

@@ -24,10 +24,11 @@ use art_nodes::store::NodeStore;
 use art_reading::path::{last_step, up};
 
 impl DeletePoint {
-    /// Takes the leaf of the point out of the tree.
+    /// Takes the leaf of the point out of the tree, and returns it, with the root that is left, if any.
     ///
     /// Memory is taken only where the leaf's parent shrinks, from 5, 17 or 49 children, and before the
-    /// first change. It is a constant number of writes.
+    /// first change. It is a constant number of writes. A refusal hands the point back, and the nodes are
+    /// as they were.
     pub fn apply<K: AsBytes + Drop, V: Drop, const PREFIX_LEN: usize>(
         self,
         store: &mut NodeStore<K, V, PREFIX_LEN>,

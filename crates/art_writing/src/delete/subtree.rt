@@ -86,10 +86,12 @@ struct Collapsed {
 }
 
 impl SubtreeDeletePoint {
-    /// Takes the node of the point out of the tree, with all below it, and frees it.
+    /// Takes the node of the point out of the tree, with all below it, and frees it. Returns how many
+    /// leaves went, and the root that is left, if any.
     ///
     /// Memory is taken only where the node's parent shrinks, from 5, 17 or 49 children, and before the
-    /// first change. It costs a step for each node that is freed, and a constant number of writes.
+    /// first change. It costs a step for each node that is freed, and a constant number of writes. A
+    /// refusal hands the point back, and the nodes are as they were.
     pub fn apply<K: AsBytes + Drop, V: Drop, const PREFIX_LEN: usize>(
         self,
         store: &mut NodeStore<K, V, PREFIX_LEN>,

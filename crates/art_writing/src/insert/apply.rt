@@ -24,8 +24,9 @@ impl InsertPoint {
     /// Puts a pair into the tree at the point of its key. A stored key that is equal stays and gets the value;
     /// the key that was handed in comes back with the old one.
     ///
-    /// All memory is taken before the first change, and none where the key is stored. It is a constant
-    /// number of writes, and a way down to a leaf beside the new one.
+    /// Returns the leaf of the key, what gave way, and the root. It is refused only for want of memory: then key and
+    /// value come back, and the nodes are as they were. All memory is taken before the first change, and none where the
+    /// key is stored. It is a constant number of writes, and a way down to a leaf beside the new one.
     #[inline(always)]
     pub fn apply<K: AsBytes + Drop, V: Drop, const PREFIX_LEN: usize>(
         self,
@@ -108,7 +109,8 @@ impl PrefixInsertPoint {
     /// Puts a pair into the tree at the point of its key, in the place of all pairs with related keys. A stored key
     /// that is equal stays and gets the value; the key that was handed in comes back with the old one.
     ///
-    /// All memory is taken before the first change, and none where the pair takes the place of one other.
+    /// It returns what `apply` of an `InsertPoint` does and how many leaves were freed, and is refused as that is. All
+    /// memory is taken before the first change, and none where the pair takes the place of one other.
     #[inline(always)]
     pub fn apply<K: AsBytes + Drop, V: Drop, const PREFIX_LEN: usize>(
         self,
@@ -185,7 +187,8 @@ impl OverwritePoint {
     /// Puts a pair into the tree in the place of all pairs with related keys: a leaf keeps its name and
     /// gets the pair, and an inner node gives way to a new leaf with all that is below it.
     ///
-    /// All memory is taken before the first change, and none where the end node is a leaf.
+    /// It returns what `apply` of an `InsertPoint` does and how many leaves were freed, and is refused as that is. All
+    /// memory is taken before the first change, and none where the end node is a leaf.
     pub fn apply<K: AsBytes + Drop, V: Drop, const PREFIX_LEN: usize>(
         self,
         store: &mut NodeStore<K, V, PREFIX_LEN>,

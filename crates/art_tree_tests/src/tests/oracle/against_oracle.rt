@@ -121,7 +121,7 @@ fn are_alike(one: &Reply<Tagged, u32>, other: &Reply<Tagged, u32>) -> bool {
     }
 }
 
-/// Compares a tree with the one that is built of these pairs. Answers the greatest kind of node, or None where they are
+/// Compares a tree with the one that is built of these pairs. Returns the greatest kind of node, or None where they are
 /// not the same.
 fn compare<const P: usize>(
     store: &NodeStore<Tagged, u32, P>,
@@ -135,8 +135,8 @@ fn compare<const P: usize>(
     kind_if_same((store, root), (&built, built_root), pairs)
 }
 
-/// Carries commands out on a tree. Answers the place of the first reply that is not the list's, and the greatest kind of
-/// node, or None where the tree is not the one that is built of the list's pairs.
+/// Carries commands out on a tree. Returns the place of the first reply that is not the list's, and the greatest kind
+/// of node, or None where the tree is not the one that is built of the list's pairs.
 fn carry_out<const P: usize>(
     first: &mut NodeStore<Tagged, u32, P>,
     second: &mut NodeStore<Tagged, u32, P>,

@@ -36,7 +36,7 @@ fn chain(alloc: Global, count: usize) -> Result<Vec<(Key, u32)>, AllocError>
     Ok(pairs)
 }
 
-/// Two keys whose common front is of 5 bytes.
+/// Two keys whose common prefix is of 5 bytes.
 fn two_long_keys(alloc: Global) -> Result<Vec<([u8; 6], u32)>, AllocError>
     ensures { IfOk result (λ pairs. IsMap (of_key ⟦<[u8; 6] as AsBytes>⟧.bytes) pairs.items) }
 {

@@ -11,7 +11,7 @@ use std::alloc::{AllocError, Global};
 use std::boxed::BoxedSlice;
 use std::mem;
 
-/// Carries a command out, and answers as is to be replied to it.
+/// Carries a command out, and returns as is to be replied to it.
 pub fn answer<K: AsBytes + Drop>(
     alloc: Global,
     pairs: &mut Vec<(K, u32)>,
@@ -82,7 +82,7 @@ fn overwrite<K: AsBytes + Drop>(
     })
 }
 
-/// Takes all pairs with related keys out. Answers the last of them, and how many there were.
+/// Takes all pairs with related keys out. Returns the last of them, and how many there were.
 fn take_related<K: AsBytes + Drop>(
     alloc: Global,
     pairs: &mut Vec<(K, u32)>,
@@ -126,7 +126,7 @@ fn delete_listed<K: AsBytes + Drop>(
     Ok(Reply::Deleted(remove(pairs, &key)))
 }
 
-/// The length of the stored key that is a front of these bytes.
+/// The length of the stored key that is a prefix of these bytes.
 fn match_len<K: AsBytes>(pairs: &[(K, u32)], query: &[u8]) -> Option<usize> {
     for (key, _) in pairs {
         if query.starts_with(key.as_bytes()) {

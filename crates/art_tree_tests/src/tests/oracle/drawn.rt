@@ -136,7 +136,7 @@ impl Drawer {
         }
     }
 
-    /// The bytes of a key that may be stored, or the front of one, or one with a further byte.
+    /// The bytes of a key that may be stored, or a prefix of one, or one with a further byte.
     fn query(&mut self, pairs: &[(Tagged, u32)]) -> Result<Key, AllocError> {
         let mut key = if self.numbers.is_heads() {
             self.known_key(pairs)?

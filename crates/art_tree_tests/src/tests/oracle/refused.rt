@@ -118,7 +118,7 @@ fn left_by<const P: usize>(
     }
 }
 
-/// What is left where the run answered this.
+/// What is left where the run returned this.
 fn left_of<const P: usize>(
     first: &NodeStore<Key, u32, P>,
     second: &NodeStore<Key, u32, P>,
@@ -173,7 +173,7 @@ fn count_related(pairs: &[(Key, u32)], key: &[u8]) -> usize {
         .count()
 }
 
-/// How many bytes two keys share in front.
+/// The length of the longest prefix that both keys have.
 fn shared(one: &[u8], other: &[u8]) -> usize {
     one.iter()
         .zip(other)
@@ -181,7 +181,7 @@ fn shared(one: &[u8], other: &[u8]) -> usize {
         .count()
 }
 
-/// How many children the parent of the leaf of a stored key has: as many as there are bytes behind the longest front
+/// How many children the parent of the leaf of a stored key has: as many as there are bytes behind the longest prefix
 /// that the key shares with any other one.
 fn count_siblings(pairs: &[(Key, u32)], key: &[u8]) -> usize {
     let mut depth = 0usize;

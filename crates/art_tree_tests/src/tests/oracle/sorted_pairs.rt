@@ -10,7 +10,7 @@ use art_test_support::trees::Key;
 use std::alloc::{AllocError, Global};
 use std::test::Fail;
 
-/// Puts a pair in if no stored key is equal or related, and answers whether it did.
+/// Puts a pair in if no stored key is equal or related, and returns whether it did.
 pub fn insert_apart<K: AsBytes + Drop, V: Drop>(
     pairs: &mut Vec<(K, V)>,
     key: K,
@@ -28,7 +28,7 @@ pub fn insert_apart<K: AsBytes + Drop, V: Drop>(
     }
 }
 
-/// Gives a stored key another value, and answers the old one.
+/// Gives a stored key another value, and returns the old one.
 fn replace<K: AsBytes + Drop, V: Drop>(pairs: &mut Vec<(K, V)>, key: K, value: V) -> Option<V>
     requires { IsMap (of_key K.bytes) pairs.old.items }
     ensures { IsMap (of_key K.bytes) pairs.new.items }
@@ -40,7 +40,7 @@ fn replace<K: AsBytes + Drop, V: Drop>(pairs: &mut Vec<(K, V)>, key: K, value: V
     Some(old)
 }
 
-/// Takes a key out, and answers its value.
+/// Takes a key out, and returns its value.
 fn take<K: AsBytes + Drop, V: Drop>(pairs: &mut Vec<(K, V)>, key: &[u8]) -> Option<V>
     requires { IsMap (of_key K.bytes) pairs.old.items }
     ensures { IsMap (of_key K.bytes) pairs.new.items }
@@ -60,7 +60,7 @@ fn three_pairs(alloc: Global) -> Result<Vec<(Key, u32)>, AllocError>
     Ok(pairs)
 }
 
-/// What searches among three pairs answer.
+/// What searches among three pairs return.
 fn searched(pairs: &[(Key, u32)]) -> ([Result<usize, usize>; 3], [bool; 2])
     requires { IsMap (of_key ⟦<Vec<u8> as AsBytes>⟧.bytes) pairs.now }
 {

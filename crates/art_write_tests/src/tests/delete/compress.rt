@@ -40,7 +40,7 @@ fn raises_the_other_leaf(rt: HostRuntime) -> Result<(), Fail> {
 // How many names came into use, went out of it, and have another node, and the root that is left.
 type Merged = ((usize, usize, usize), Outline);
 
-// Deletes [7, 1, 1, 9] beside two keys with a longer prefix. Answers what is seen, and what is to be.
+// Deletes [7, 1, 1, 9] beside two keys with a longer prefix. Returns what is seen, and what is to be.
 fn merge_long<const P: usize>(store: &mut NodeStore<Key, u32, P>) -> Option<(Merged, Merged)> {
     let slices: [&[u8]; 3] = [&[7, 1, 1, 1, 1, 5], &[7, 1, 1, 1, 1, 6], &[7, 1, 1, 9]];
     let seen = deletion_from(store, &slices, &[7, 1, 1, 9])?;

@@ -23,7 +23,7 @@ pub fn point_of<K: AsBytes + Drop, const P: usize>(
     search_for_delete_point(store, root, key_bytes)
 }
 
-/// Takes a key out, and answers the root that is left. The outer `None` is for an absent key or a refusal.
+/// Takes a key out, and returns the root that is left. The outer `None` is for an absent key or a refusal.
 pub fn take_out<K: AsBytes + Drop, const P: usize>(
     store: &mut NodeStore<K, u32, P>,
     root: OpaqueNodePtr,
@@ -38,7 +38,7 @@ pub fn take_out<K: AsBytes + Drop, const P: usize>(
     }
 }
 
-/// Deletes a key. Answers the root that is left and the deleted pair, or `None` where the key is absent or the deletion
+/// Deletes a key. Returns the root that is left and the deleted pair, or `None` where the key is absent or the deletion
 /// is refused.
 pub fn delete<const P: usize>(
     store: &mut NodeStore<Key, u32, P>,

@@ -27,7 +27,7 @@ fn kind_for(count: usize) -> Option<NodeType> {
     }
 }
 
-// Takes all 256 keys of one byte out. Answers the root that is left, and how many keys there were when the root was of
+// Takes all 256 keys of one byte out. Returns the root that is left, and how many keys there were when the root was of
 // another kind than it had to be.
 fn take_all_out<const P: usize>(
     store: &mut NodeStore<Key, u32, P>,
@@ -210,7 +210,7 @@ fn without_memory_a_shrink_leaves_the_tree(rt: HostRuntime) -> Result<(), Fail> 
     Ok(())
 }
 
-// Places so many leaves beside a tree, or else fills its store. Answers whether there was memory.
+// Places so many leaves beside a tree, or else fills its store. Returns whether there was memory.
 fn crowd<const P: usize>(
     store: &mut NodeStore<Key, u32, P>,
     root: OpaqueNodePtr,

@@ -114,7 +114,7 @@ fn split_expected(case: Case<'_>, effect: Effect, parent: OpaqueNodePtr) -> Opti
     })
 }
 
-// Splits a node as a case has it. Answers what is seen, and what is to be.
+// Splits a node as a case has it. Returns what is seen, and what is to be.
 fn split_by<const P: usize>(
     store: &mut NodeStore<Key, u32, P>,
     case: Case<'_>,
