@@ -1,5 +1,5 @@
 //! The walk of leaves, from either end of a part of the list that they are linked in.
-ghost use Rattle.std.specs.Prelude.{◌≡◌, List, [], None, Some, IsSome, IfSome};
+ghost use Rattle.std.specs.Prelude.{◌≡◌, List, None, Some, IsSome, IfSome};
 ghost use Rattle.std.specs.FinMap as map;
 ghost use Rattle.std.specs.Option.{option_map};
 ghost use Rattle.art_parts.specs.Names.{leaf_name};

@@ -51,9 +51,9 @@ module _ {K V : Type 0} (bytes : K → List ℕ) (P : ℕ) where
       subst (λ n. IsCanonicalTree (of_key bytes) P s n (pairs_of layout) layout) (sym by.stands.0.named) (subst (λ xs. IsCanonicalTree (of_key bytes) P s root xs layout) (sym (tree_radix by).1) by)
 
   -- the name of a canonical root is that of a canonical tree
-  pub canonical_root : (s : Nodes K V) (root : Option OpaqueNodePtr) {name : OpaqueNodePtr} → root ≡ Some name → (pairs : List (K × V)) × IsCanonical (of_key bytes) P s root pairs →
+  pub canonical_root : {s : Nodes K V} {root : Option OpaqueNodePtr} {name : OpaqueNodePtr} → root ≡ Some name → (pairs : List (K × V)) × IsCanonical (of_key bytes) P s root pairs →
       IsCanonicalRoot (of_key bytes) P s name
-  canonical_root s root is (pairs, canonical) = let (layout, by) = subst (λ r. IsCanonical (of_key bytes) P s r pairs) is canonical in (pairs, layout, by)
+  canonical_root {s} is (pairs, canonical) = let (layout, by) = subst (λ r. IsCanonical (of_key bytes) P s r pairs) is canonical in (pairs, layout, by)
 
   -- a root is canonical for the pairs of a state that shows it
   pub sound_canonical : (old : State K V) (side : Side) (s z : Nodes K V) (root : Option OpaqueNodePtr) → shown_state old ≡ from_side side s z root →

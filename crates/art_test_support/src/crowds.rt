@@ -1,5 +1,5 @@
 //! Nodes beside a tree, which take the room that its store has.
-ghost use Rattle.std.specs.Prelude.{◌≢◌};
+
 ghost use Rattle.art_parts.specs.declared.names.NodeType.TheVariants.{Leaf};
 ghost use Rattle.art_model.specs.Pairs.{of_key};
 ghost use Rattle.art_model.specs.Roots.{IsCanonicalRoot};

@@ -1,5 +1,5 @@
 //! Maps of keys that are never in conflict, as a user has them.
-ghost use Rattle.std.specs.Prelude.{◌≡◌, length, Some, IfOk, IfSome, OnErr, OnOk, negsuc, option_copied};
+ghost use Rattle.std.specs.Prelude.{◌≡◌, length, Some, IfOk, IfSome, OnErr, OnOk, negsuc};
 ghost use Rattle.std.specs.Cmp.Lexicographic.{slice_cmp};
 ghost use Rattle.std.specs.Option.{option_map};
 ghost use Rattle.std.specs.Ordering.{nat_cmp};

@@ -1,7 +1,4 @@
 //! Trees that are drawn, and then spoiled in one place.
-ghost use Rattle.std.specs.Prelude.{IfOk};
-ghost use Rattle.art_model.specs.Pairs.{of_key};
-ghost use Rattle.art_model.specs.Roots.{IsCanonicalRoot};
 
 use art_nodes::node::{
     AnyInner, Header, InnerPtr, LeafPtr, NodePtr, NodeType, OpaqueNodePtr, OptionalLeafPtr,

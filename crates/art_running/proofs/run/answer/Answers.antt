@@ -11,19 +11,19 @@ pub returns-in_default : goal.returns-in_default
 returns-in_default g c = rw c.in_default.is (c.answer_without_tree.ensures c.args.side.now c.args.other.now)
 
 pub insert-requires : goal.insert-requires
-insert-requires g c = (search rules, (canonical_root g.K.AsBytes.bytes g.row.P c.args.present.now c.args.root.now c.in-Some.is c.requires.canonical, c.in-Some.is))
+insert-requires g c = (search rules, (canonical_root g.K.AsBytes.bytes g.row.P c.in-Some.is c.requires.canonical, c.in-Some.is))
 
 pub returns-in-Insert : goal.returns-in-Insert
 returns-in-Insert g c = rw (c.in-Insert.is, c.in-Some.is) (c.insert.ensures c.args.side.now c.args.other.now)
 
 pub insert_prefix-requires : goal.insert_prefix-requires
-insert_prefix-requires g c = (search rules, (canonical_root g.K.AsBytes.bytes g.row.P c.args.present.now c.args.root.now c.in-Some.is c.requires.canonical, c.in-Some.is))
+insert_prefix-requires g c = (search rules, (canonical_root g.K.AsBytes.bytes g.row.P c.in-Some.is c.requires.canonical, c.in-Some.is))
 
 pub returns-in-InsertPrefix : goal.returns-in-InsertPrefix
 returns-in-InsertPrefix g c = rw (c.in-InsertPrefix.is, c.in-Some.is) (c.insert_prefix.ensures c.args.side.now c.args.other.now)
 
 pub search_for_delete_point-requires : goal.search_for_delete_point-requires
-search_for_delete_point-requires g c = (search rules, canonical_root g.K.AsBytes.bytes g.row.P c.args.present.now c.args.root.now c.in-Some.is c.requires.canonical)
+search_for_delete_point-requires g c = (search rules, canonical_root g.K.AsBytes.bytes g.row.P c.in-Some.is c.requires.canonical)
 
 pub delete-requires : goal.delete-requires
 delete-requires g c = (search rules, (c.in-Some-search_for_delete_point.ensures.applies, c.in-Some.is))
@@ -46,7 +46,7 @@ returns-in-Delete g c =
     absent_step bytes g.row.P c.args.side.now c.args.other.now (Some layout) (sym none, sym (removes_none (of_key bytes) key (pairs_of layout) none))))
 
 pub find_minimum_to_delete-point-requires : goal.find_minimum_to_delete-point-requires
-find_minimum_to_delete-point-requires g c = (search rules, canonical_root g.K.AsBytes.bytes g.row.P c.args.present.now c.args.root.now c.in-Some.is c.requires.canonical)
+find_minimum_to_delete-point-requires g c = (search rules, canonical_root g.K.AsBytes.bytes g.row.P c.in-Some.is c.requires.canonical)
 
 pub delete-requires-in-DeleteMin : goal.delete-requires-in-DeleteMin
 delete-requires-in-DeleteMin g c = (search rules, (c.find_minimum_to_delete-point.ensures.applies, c.in-Some.is))
@@ -58,7 +58,7 @@ returns-in-DeleteMin g c =
     (deletion_at bytes g.row.P DeleteMin first_of (takes_first bytes) c.find_minimum_to_delete-point.ensures.point) c.args.side.now c.args.other.now)
 
 pub find_maximum_to_delete-point-requires : goal.find_maximum_to_delete-point-requires
-find_maximum_to_delete-point-requires g c = (search rules, canonical_root g.K.AsBytes.bytes g.row.P c.args.present.now c.args.root.now c.in-Some.is c.requires.canonical)
+find_maximum_to_delete-point-requires g c = (search rules, canonical_root g.K.AsBytes.bytes g.row.P c.in-Some.is c.requires.canonical)
 
 pub delete-requires-in-DeleteMax : goal.delete-requires-in-DeleteMax
 delete-requires-in-DeleteMax g c = (search rules, (c.find_maximum_to_delete-point.ensures.applies, c.in-Some.is))
@@ -70,13 +70,13 @@ returns-in-DeleteMax g c =
     (deletion_at bytes g.row.P DeleteMax last_of (takes_last bytes) c.find_maximum_to_delete-point.ensures.point) c.args.side.now c.args.other.now)
 
 pub clone_over-requires : goal.clone_over-requires
-clone_over-requires g c = (search rules, (canonical_root g.K.AsBytes.bytes g.row.P c.args.present.now c.args.root.now c.in-Some.is c.requires.canonical, (c.in-Some.is, c.requires.clones)))
+clone_over-requires g c = (search rules, (canonical_root g.K.AsBytes.bytes g.row.P c.in-Some.is c.requires.canonical, (c.in-Some.is, c.requires.clones)))
 
 pub returns-in-Clone : goal.returns-in-Clone
 returns-in-Clone g c = rw (c.in-Clone.is, c.in-Some.is) c.clone_over.ensures
 
 pub search_unchecked-requires : goal.search_unchecked-requires
-search_unchecked-requires g c = (search rules, canonical_root g.K.AsBytes.bytes g.row.P c.args.present.now c.args.root.now c.in-Some.is c.requires.canonical)
+search_unchecked-requires g c = (search rules, canonical_root g.K.AsBytes.bytes g.row.P c.in-Some.is c.requires.canonical)
 
 pub returns-in-Contains : goal.returns-in-Contains
 returns-in-Contains g c =
@@ -87,7 +87,7 @@ returns-in-Contains g c =
     (found_stored (of_key bytes) c.in-Contains.key.items (pairs_of layout) layout c.search_unchecked.result found, refl)))
 
 pub longest_match-requires : goal.longest_match-requires
-longest_match-requires g c = (search rules, canonical_root g.K.AsBytes.bytes g.row.P c.args.present.now c.args.root.now c.in-Some.is c.requires.canonical)
+longest_match-requires g c = (search rules, canonical_root g.K.AsBytes.bytes g.row.P c.in-Some.is c.requires.canonical)
 
 pub returns : goal.returns
 returns g c =

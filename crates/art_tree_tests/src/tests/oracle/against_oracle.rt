@@ -1,5 +1,5 @@
 //! Trees that runs of drawn commands leave, each compared with the tree that is built of the pairs at one go.
-ghost use Rattle.std.specs.Prelude.{ℕ, ◌<◌, ◌∷◌, List};
+ghost use Rattle.std.specs.Prelude.{ℕ, ◌<◌, List};
 ghost use Rattle.art_model.specs.Canonical.{IsCanonical};
 ghost use Rattle.art_model.specs.Clones.{KeepBytes};
 ghost use Rattle.art_model.specs.Pairs.{IsMap, of_key};
