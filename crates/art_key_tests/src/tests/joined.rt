@@ -49,13 +49,13 @@ fn count_numbers(alloc: Global, string: &Escaped) -> Option<usize> {
 }
 
 // The string of a number, and then the number.
-fn numbered(alloc: Global, number: usize) -> Option<Joined<Escaped, Unsigned<2>>> {
-    let string = Escaped::encode(alloc, Short::new(number).as_slice()).ok()?;
-    Joined::join(alloc, &string, &Unsigned::from(number as u16)).ok()
+fn numbered(alloc: Global, number: u16) -> Option<Joined<Escaped, Unsigned<2>>> {
+    let string = Escaped::encode(alloc, Short::new(number as usize).as_slice()).ok()?;
+    Joined::join(alloc, &string, &Unsigned::from(number)).ok()
 }
 
 // Whether a string comes back that stands before the string of a number and the number.
-fn comes_back_before(alloc: Global, first: &Escaped, number: usize) -> Option<bool> {
+fn comes_back_before(alloc: Global, first: &Escaped, number: u16) -> Option<bool> {
     let rest = numbered(alloc, number)?;
     come_back(alloc, first, &rest)
 }
@@ -63,7 +63,7 @@ fn comes_back_before(alloc: Global, first: &Escaped, number: usize) -> Option<bo
 // How many strings come back after a string, with a number after both.
 fn count_strings(alloc: Global, first: &Escaped) -> Option<usize> {
     let mut count = 0usize;
-    for number in 0..COUNT {
+    for number in 0..COUNT as u16 {
         count = count.saturating_add(comes_back_before(alloc, first, number)? as usize);
     }
     Some(count)

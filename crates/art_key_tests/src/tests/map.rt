@@ -295,9 +295,9 @@ fn write(map: &mut KeyedMap<[u8; 2], u32, 8>) -> Option<()> {
 // What writes of values leave, and whether a map is equal to its clone.
 fn written(map: &mut KeyedMap<[u8; 2], u32, 8>) -> Option<([Option<u32>; 4], Option<u32>, bool)> {
     write(map)?;
-    let seen = (values(map), map.get(&[1, 1]).copied());
+    let (values, value) = (values(map), map.get(&[1, 1]).copied());
     let copy = map.clone().ok()?;
-    Some((seen.0, seen.1, *map == copy))
+    Some((values, value, *map == copy))
 }
 
 #[test]

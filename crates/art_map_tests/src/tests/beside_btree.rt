@@ -308,12 +308,7 @@ fn agree_on_extended(map: &mut Map, more: Map, model: &mut Model, others: &mut M
 
 // Whether they are the same once they have taken drawn pairs, which compare as those of the other one, and have changed
 // their values and let some go.
-fn agree_in_round(
-    map: &mut Map,
-    model: &mut Model,
-    numbers: &mut Numbers,
-    alloc: Global,
-) -> bool {
+fn agree_in_round(map: &mut Map, model: &mut Model, numbers: &mut Numbers, alloc: Global) -> bool {
     let (mut more, mut others) = (ByteMap::new(alloc), BTreeMap::new(alloc));
     let agree = [
         fill_both(&mut more, &mut others, numbers),
