@@ -14,6 +14,17 @@ use std::test::Fail;
 // How many short strings there are of at most three bytes.
 const COUNT: usize = 85;
 
+// Whether a key is taken apart into these two.
+fn comes_apart<A: DecodeBytes + PartialEq + Drop, B: DecodeBytes + PartialEq + Drop>(
+    alloc: Global,
+    key: &Joined<A, B>,
+    first: &A,
+    second: &B,
+) -> Option<bool> {
+    let (one, other) = key.split(alloc).ok()?;
+    Some([one == *first, other == *second] == [true; 2])
+}
+
 // Whether two keys come back from their join.
 fn come_back<A: DecodeBytes + PartialEq + Drop, B: DecodeBytes + PartialEq + Drop>(
     alloc: Global,
@@ -21,41 +32,58 @@ fn come_back<A: DecodeBytes + PartialEq + Drop, B: DecodeBytes + PartialEq + Dro
     second: &B,
 ) -> Option<bool> {
     let key = Joined::join(alloc, first, second).ok()?;
-    let (one, other) = key.split(alloc).ok()?;
-    Some(one == *first && other == *second)
+    comes_apart(alloc, &key, first, second)
 }
+
+static NUMBERS: [i32; 6] = [i32::MIN, -257, -1, 0, 1, i32::MAX];
 
 // How many numbers come back beside a string, as its second key and as its first one.
 fn count_numbers(alloc: Global, string: &Escaped) -> Option<usize> {
     let mut count = 0usize;
-    for number in [i32::MIN, -257, -1, 0, 1, i32::MAX] {
-        let number = Signed::from(number);
+    for number in NUMBERS.iter() {
+        let number = Signed::from(*number);
         count = count.saturating_add(come_back(alloc, string, &number)? as usize);
         count = count.saturating_add(come_back(alloc, &number, string)? as usize);
     }
     Some(count)
 }
 
+// The string of a number, and then the number.
+fn numbered(alloc: Global, number: u16) -> Option<Joined<Escaped, Unsigned<2>>> {
+    let string = Escaped::encode(alloc, Short::new(number as usize).as_slice()).ok()?;
+    Joined::join(alloc, &string, &Unsigned::from(number)).ok()
+}
+
+// Whether a string comes back that stands before the string of a number and the number.
+fn comes_back_before(alloc: Global, first: &Escaped, number: u16) -> Option<bool> {
+    let rest = numbered(alloc, number)?;
+    come_back(alloc, first, &rest)
+}
+
 // How many strings come back after a string, with a number after both.
 fn count_strings(alloc: Global, first: &Escaped) -> Option<usize> {
     let mut count = 0usize;
-    for number in 0..COUNT {
-        let string = Short::new(number);
-        let second = Escaped::encode(alloc, string.as_slice()).ok()?;
-        let rest = Joined::join(alloc, &second, &Unsigned::from(number as u16)).ok()?;
-        count = count.saturating_add(come_back(alloc, first, &rest)? as usize);
+    for number in 0..COUNT as u16 {
+        count = count.saturating_add(comes_back_before(alloc, first, number)? as usize);
     }
     Some(count)
+}
+
+// How many of both there are with the short string of a number.
+fn count_with(alloc: Global, number: usize) -> (Option<usize>, Option<usize>) {
+    match Escaped::encode(alloc, Short::new(number).as_slice()) {
+        Ok(first) => (count_numbers(alloc, &first), count_strings(alloc, &first)),
+        Err(_) => (None, None),
+    }
 }
 
 // How many of both there are with each short string.
 fn count_pairs(alloc: Global) -> Option<(usize, usize)> {
     let (mut numbers, mut strings) = (0usize, 0usize);
     for number in 0..COUNT {
-        let string = Short::new(number);
-        let first = Escaped::encode(alloc, string.as_slice()).ok()?;
-        numbers = numbers.saturating_add(count_numbers(alloc, &first)?);
-        strings = strings.saturating_add(count_strings(alloc, &first)?);
+        let (of_numbers, of_strings) = count_with(alloc, number);
+        numbers = numbers.saturating_add(of_numbers?);
+        strings = strings.saturating_add(of_strings?);
     }
     Some((numbers, strings))
 }
@@ -65,44 +93,102 @@ fn short_strings_and_numbers_come_back_from_their_joins(rt: HostRuntime) -> Resu
     same(count_pairs(rt.alloc()), Some((85 * 12, 85 * 85)))
 }
 
-// What comes back of a key of five parts, of which two are joined first.
-fn nested(alloc: Global) -> Option<(bool, [u8; 2], u64)> {
+type Left = Joined<Terminated, [u8; 2]>;
+
+type Right = Joined<Escaped, [u8; 0]>;
+
+// Two keys that are joins themselves.
+fn left_key(alloc: Global) -> Option<Left> {
     let word = Terminated::encode_str(alloc, "car").ok()??;
-    let left = Joined::join(alloc, &word, &[7u8, 0]).ok()?;
-    let right = Joined::join(alloc, &Escaped::encode(alloc, b"\0").ok()?, &[9u8; 0]).ok()?;
-    let both = Joined::join(alloc, &left, &right).ok()?;
-    let key = Joined::join(alloc, &both, &Unsigned::from(1u64 << 40)).ok()?;
-    let (keys, number) = key.split(alloc).ok()?;
-    let (one, other) = keys.split(alloc).ok()?;
-    let (text, array) = one.split(alloc).ok()?;
-    let is_right = other == right && text.as_bytes_without_end() == b"car".as_slice();
-    Some((is_right, array, u64::from(number)))
+    Joined::join(alloc, &word, &[7, 0]).ok()
+}
+
+fn right_key(alloc: Global) -> Option<Right> {
+    let string = Escaped::encode(alloc, b"\0").ok()?;
+    Joined::join(alloc, &string, &[]).ok()
+}
+
+// Their join, with a number behind it.
+fn whole_key(
+    alloc: Global,
+    left: &Left,
+    right: &Right,
+) -> Option<Joined<Joined<Left, Right>, Unsigned<8>>> {
+    let both = Joined::join(alloc, left, right).ok()?;
+    Joined::join(alloc, &both, &Unsigned::from(1u64 << 40)).ok()
+}
+
+// Whether the word of the left key comes back, and its array.
+fn word_and_array(alloc: Global, left: &Left) -> Option<(bool, [u8; 2])> {
+    let (text, array) = left.split(alloc).ok()?;
+    Some((text.as_bytes_without_end() == b"car".as_slice(), array))
+}
+
+// The same of both keys, and whether the right one comes back.
+fn both_apart(
+    alloc: Global,
+    both: &Joined<Left, Right>,
+    right: &Right,
+) -> Option<(bool, Option<(bool, [u8; 2])>)> {
+    let (one, other) = both.split(alloc).ok()?;
+    Some((other == *right, word_and_array(alloc, &one)))
+}
+
+// What comes back of both keys, and of the number behind them.
+type Apart = (Option<(bool, Option<(bool, [u8; 2])>)>, u64);
+
+fn whole_apart(alloc: Global, left: &Left, right: &Right) -> Option<Apart> {
+    let key = whole_key(alloc, left, right)?;
+    let (both, number) = key.split(alloc).ok()?;
+    Some((both_apart(alloc, &both, right), u64::from(number)))
+}
+
+// What comes back of a key of five parts, of which two are joined first.
+fn nested(alloc: Global) -> Option<Apart> {
+    let left = left_key(alloc)?;
+    let right = right_key(alloc)?;
+    whole_apart(alloc, &left, &right)
 }
 
 #[test]
 fn joins_of_joins_are_taken_apart(rt: HostRuntime) -> Result<(), Fail> {
-    same(nested(rt.alloc()), Some((true, [7, 0], 1 << 40)))
+    let keys = Some((true, Some((true, [7, 0]))));
+    same(nested(rt.alloc()), Some((keys, 1 << 40)))
 }
 
-// Whether a string is not taken out of a key while there is no memory, and numbers are.
+// Whether a string is not taken out of a key, and numbers are.
+fn taken_out(
+    of_string: &Joined<Escaped, Unsigned<2>>,
+    of_numbers: &Joined<Unsigned<2>, Signed<1>>,
+    alloc: Global,
+) -> Option<(bool, bool)> {
+    let refused = of_string.split(alloc).is_err();
+    let (number, other) = of_numbers.split(alloc).ok()?;
+    Some((refused, (u16::from(number), i8::from(other)) == (513, -1)))
+}
+
+// The same while there is no memory.
 fn starve(
     of_string: &Joined<Escaped, Unsigned<2>>,
     of_numbers: &Joined<Unsigned<2>, Signed<1>>,
     alloc: Global,
 ) -> Option<(bool, bool)> {
     let held = all_memory(alloc).ok()?;
-    let refused = of_string.split(alloc).is_err();
-    let (number, other) = of_numbers.split(alloc).ok()?;
+    let seen = taken_out(of_string, of_numbers, alloc);
     drop(held);
-    Some((refused, u16::from(number) == 513 && i8::from(other) == -1))
+    seen
+}
+
+// A string and a number as one key.
+fn key_of_string(alloc: Global) -> Option<Joined<Escaped, Unsigned<2>>> {
+    let string = Escaped::encode(alloc, b"car").ok()?;
+    Joined::join(alloc, &string, &Unsigned::from(513u16)).ok()
 }
 
 // The same, after both keys were made.
 fn starve_keys(alloc: Global) -> Option<(bool, bool)> {
-    let string = Escaped::encode(alloc, b"car").ok()?;
-    let number = Unsigned::from(513u16);
-    let of_string = Joined::join(alloc, &string, &number).ok()?;
-    let of_numbers = Joined::join(alloc, &number, &Signed::from(-1i8)).ok()?;
+    let of_string = key_of_string(alloc)?;
+    let of_numbers = Joined::join(alloc, &Unsigned::from(513u16), &Signed::from(-1i8)).ok()?;
     starve(&of_string, &of_numbers, alloc)
 }
 

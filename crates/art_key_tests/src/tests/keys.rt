@@ -45,19 +45,25 @@ fn bytes_are_ended_unless_a_zero_stands_among_them(rt: HostRuntime) -> Result<()
     )
 }
 
-// How a key with an end is shown, and whether it has its bytes.
-fn shown(alloc: Global, text: &[u8], display: &str, debug: &str) -> Option<[bool; 4]> {
-    let key = Terminated::new(text.to_vec(alloc).ok()?).ok()?;
+// How a key with an end is shown.
+fn shown_as(alloc: Global, key: &Terminated, display: &str, debug: &str) -> Option<[bool; 2]> {
     let as_text = key.to_string(alloc).ok()?;
     let as_debug = format!(in alloc; "{key:?}").ok()?;
+    Some([as_text.as_str() == display, as_debug.as_str() == debug])
+}
+
+// The same, and whether the key has its bytes.
+fn shown(
+    alloc: Global,
+    text: &[u8],
+    display: &str,
+    debug: &str,
+) -> Option<(Option<[bool; 2]>, [bool; 2])> {
+    let key = Terminated::new(text.to_vec(alloc).ok()?).ok()?;
+    let shown = shown_as(alloc, &key, display, debug);
     let is_whole = key.as_bytes_without_end() == text;
     let back = key.into_bytes_without_end();
-    Some([
-        as_text.as_str() == display,
-        as_debug.as_str() == debug,
-        is_whole,
-        back.as_slice() == text,
-    ])
+    Some((shown, [is_whole, back.as_slice() == text]))
 }
 
 #[test]
@@ -72,7 +78,7 @@ fn keys_with_an_end_are_shown_as_text(rt: HostRuntime) -> Result<(), Fail> {
         ),
         shown(alloc, b"a\xffb", "a\u{fffd}b", "\"a\\xffb\""),
     ];
-    same(seen, [Some([true; 4]); 2])
+    same(seen, [Some((Some([true; 2]), [true; 2])); 2])
 }
 
 // Strings in the order of their bytes.

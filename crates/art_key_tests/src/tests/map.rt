@@ -9,17 +9,21 @@ use std::alloc::Global;
 use std::ops::Bound;
 use std::test::Fail;
 
+// The value of a pair.
+fn value_of<K>(pair: Option<(&K, &u32)>) -> Option<u32> {
+    let (_, value) = pair?;
+    Some(*value)
+}
+
 // The values of a map, in the order of its keys.
 fn values<K: NoPrefixesBytes + Drop>(map: &KeyedMap<K, u32, 8>) -> [Option<u32>; 4] {
     let mut iter = map.iter();
-    let mut values = [None; 4];
-    for value in values.iter_mut() {
-        *value = match iter.next() {
-            Some((_, value)) => Some(*value),
-            None => None,
-        };
-    }
-    values
+    [
+        value_of(iter.next()),
+        value_of(iter.next()),
+        value_of(iter.next()),
+        value_of(iter.next()),
+    ]
 }
 
 // Puts strings in as escaped keys, with their places as values.
@@ -57,13 +61,17 @@ fn strings_that_go_on_after_others_are_stored_in_order(rt: HostRuntime) -> Resul
     )
 }
 
+// Puts four numbers in, with their places as values.
+fn plant_numbers(map: &mut KeyedMap<Signed<4>, u32, 8>) -> Option<()> {
+    for (i, n) in [5i32, -1, 0, i32::MIN].iter().enumerate() {
+        map.insert(Signed::from(*n), i as u32).ok()?;
+    }
+    Some(())
+}
+
 // What a map of numbers returns.
 fn numbers(map: &mut KeyedMap<Signed<4>, u32, 8>) -> Option<([Option<u32>; 4], bool, usize)> {
-    for (i, n) in [5i32, -1, 0, i32::MIN].iter().enumerate() {
-        if map.insert(Signed::from(*n), i as u32).is_err() {
-            return None;
-        }
-    }
+    plant_numbers(map)?;
     let order = values(map);
     let is_there = map.contains_key(&Signed::from(-1));
     let Ok(Some((key, _))) = map.remove(&Signed::from(-1)) else {
@@ -87,8 +95,9 @@ fn word(
 ) -> Option<Option<u32>> {
     let key = Terminated::new(text.to_vec(alloc).ok()?).ok()?;
     match map.insert(key, value) {
-        Ok(replaced) => Some(replaced.map(|pair| pair.1)),
-        Err(_) => None,
+        Ok(Some((_key, old))) => Some(Some(old)),
+        Ok(None) => Some(None),
+        Err(_refused) => None,
     }
 }
 
@@ -140,19 +149,12 @@ fn a_clone_has_clones_of_the_pairs(rt: HostRuntime) -> Result<(), Fail> {
 
 // The values of a part of a map.
 fn count_part(map: &KeyedMap<Signed<4>, u32, 8>) -> (usize, usize, Option<u32>, Option<u32>) {
-    let first = match map.first_from(Bound::Excluded(&Signed::from(-1))) {
-        Some((_, value)) => Some(*value),
-        None => None,
-    };
-    let last = match map.last_up_to(Bound::Included(&Signed::from(-1))) {
-        Some((_, value)) => Some(*value),
-        None => None,
-    };
+    let number = Signed::from(-1);
     (
         map.range(Signed::from(-5)..Signed::from(5)).count(),
         map.range(Signed::from(5)..=Signed::from(-5)).count(),
-        first,
-        last,
+        value_of(map.first_from(Bound::Excluded(&number))),
+        value_of(map.last_up_to(Bound::Included(&number))),
     )
 }
 
@@ -160,11 +162,7 @@ fn count_part(map: &KeyedMap<Signed<4>, u32, 8>) -> (usize, usize, Option<u32>, 
 fn parts(
     map: &mut KeyedMap<Signed<4>, u32, 8>,
 ) -> Option<(usize, usize, Option<u32>, Option<u32>)> {
-    for (i, n) in [5i32, -1, 0, i32::MIN].iter().enumerate() {
-        if map.insert(Signed::from(*n), i as u32).is_err() {
-            return None;
-        }
-    }
+    plant_numbers(map)?;
     Some(count_part(map))
 }
 
@@ -202,53 +200,81 @@ fn words_are_found_by_their_bytes(rt: HostRuntime) -> Result<(), Fail> {
     same(seen, Some(([Some(2), Some(1), None, None, None], 3)))
 }
 
-// How many words begin so, what their removal returns, and which are left.
-fn remove_below(
+// How many words that begin so a removal takes out, and another one after it.
+fn remove_twice(
     map: &mut KeyedMap<Escaped, u32, 8>,
     alloc: Global,
-) -> Option<([usize; 2], [bool; 4])> {
+    bytes: &[u8],
+) -> Option<[Option<usize>; 2]> {
+    let prefix = Escaped::encode(alloc, bytes).ok()?;
+    Some([
+        map.remove_prefix(&prefix).ok(),
+        map.remove_prefix(&prefix).ok(),
+    ])
+}
+
+// The value of a string that is not a key yet.
+fn value_under(
+    map: &KeyedMap<Escaped, u32, 8>,
+    alloc: Global,
+    bytes: &[u8],
+) -> Option<Option<u32>> {
+    Some(map.get_bytes(alloc, bytes).ok()?.copied())
+}
+
+// What a removal of the words that begin so returns, and which are left.
+type Left = ([Option<usize>; 2], [Option<Option<u32>>; 4]);
+
+fn remove_below(map: &mut KeyedMap<Escaped, u32, 8>, alloc: Global) -> Option<Left> {
     plant_escaped(map, alloc, [b"cart", b"cat", b"car", b"ca"])?;
-    let prefix = Escaped::encode(alloc, b"car").ok()?;
-    let removed = map.remove_prefix(&prefix).ok()?;
-    let again = map.remove_prefix(&prefix).ok()?;
+    let removed = remove_twice(map, alloc, b"car")?;
     let left = [
-        map.get_bytes(alloc, b"cart").ok()?.is_some(),
-        map.get_bytes(alloc, b"cat").ok()?.is_some(),
-        map.get_bytes(alloc, b"car").ok()?.is_some(),
-        map.get_bytes(alloc, b"ca").ok()?.is_some(),
+        value_under(map, alloc, b"cart"),
+        value_under(map, alloc, b"cat"),
+        value_under(map, alloc, b"car"),
+        value_under(map, alloc, b"ca"),
     ];
-    Some(([removed, again], left))
+    Some((removed, left))
 }
 
 #[test]
 fn words_that_begin_with_a_word_go_at_once(rt: HostRuntime) -> Result<(), Fail> {
     let seen = remove_below(&mut KeyedMap::new(rt.alloc()), rt.alloc());
-    same(seen, Some(([2, 0], [false, true, false, true])))
+    let left = [Some(None), Some(Some(1)), Some(None), Some(Some(3))];
+    same(seen, Some(([Some(2), Some(0)], left)))
 }
 
 // What is found of escaped strings by bytes that are not a key yet.
-fn look_up_bytes(map: &mut KeyedMap<Escaped, u32, 8>, alloc: Global) -> Option<[Option<u32>; 5]> {
+fn look_up_bytes(
+    map: &mut KeyedMap<Escaped, u32, 8>,
+    alloc: Global,
+) -> Option<[Option<Option<u32>>; 5]> {
     plant_escaped(map, alloc, [b"cart", b"", b"car", b"c\0"])?;
     Some([
-        map.get_bytes(alloc, b"car").ok()?.copied(),
-        map.get_bytes(alloc, b"").ok()?.copied(),
-        map.get_bytes(alloc, b"ca").ok()?.copied(),
-        map.get_bytes(alloc, b"c\0").ok()?.copied(),
-        map.get_bytes(alloc, b"c\x01").ok()?.copied(),
+        value_under(map, alloc, b"car"),
+        value_under(map, alloc, b""),
+        value_under(map, alloc, b"ca"),
+        value_under(map, alloc, b"c\0"),
+        value_under(map, alloc, b"c\x01"),
     ])
 }
 
 #[test]
 fn escaped_strings_are_found_by_their_bytes(rt: HostRuntime) -> Result<(), Fail> {
     let seen = look_up_bytes(&mut KeyedMap::new(rt.alloc()), rt.alloc());
-    same(seen, Some([Some(2), Some(1), None, Some(3), None]))
+    let found = [
+        Some(Some(2)),
+        Some(Some(1)),
+        Some(None),
+        Some(Some(3)),
+        Some(None),
+    ];
+    same(seen, Some(found))
 }
 
-// What writes of values leave, and what a map and its clone have in common.
-fn written(map: &mut KeyedMap<[u8; 2], u32, 8>) -> Option<([Option<u32>; 4], u32, bool)> {
-    if map.insert([1, 2], 7).is_err() {
-        return None;
-    }
+// Writes values in three ways.
+fn write(map: &mut KeyedMap<[u8; 2], u32, 8>) -> Option<()> {
+    map.insert([1, 2], 7).ok()?;
     let value = map.get_mut(&[1, 2])?;
     *value = value.saturating_add(1);
     let Ok(value) = map.get_or_insert([1, 1], 3) else {
@@ -263,12 +289,19 @@ fn written(map: &mut KeyedMap<[u8; 2], u32, 8>) -> Option<([Option<u32>; 4], u32
         return None;
     };
     *value = value.saturating_add(1);
+    Some(())
+}
+
+// What writes of values leave, and whether a map is equal to its clone.
+fn written(map: &mut KeyedMap<[u8; 2], u32, 8>) -> Option<([Option<u32>; 4], Option<u32>, bool)> {
+    write(map)?;
+    let (values, value) = (values(map), map.get(&[1, 1]).copied());
     let copy = map.clone().ok()?;
-    Some((values(map), map.get(&[1, 1]).copied()?, *map == copy))
+    Some((values, value, *map == copy))
 }
 
 #[test]
 fn values_are_written_where_they_are(rt: HostRuntime) -> Result<(), Fail> {
     let seen = written(&mut KeyedMap::new(rt.alloc()));
-    same(seen, Some(([Some(4), Some(6), None, None], 4, true)))
+    same(seen, Some(([Some(4), Some(6), None, None], Some(4), true)))
 }

@@ -61,22 +61,26 @@ fn without_memory_a_pair_comes_back(rt: HostRuntime) -> Result<(), Fail> {
     same(seen, Some((true, 0)))
 }
 
-// What is found without memory of escaped strings, by bytes that are plain and by others.
-fn starve_look_ups(map: &KeyedMap<Escaped, u32, 8>, alloc: Global) -> Option<(Option<u32>, bool)> {
-    let held = all_memory(alloc).ok()?;
+// What is found of escaped strings, by bytes that are plain and by others.
+fn look_ups(map: &KeyedMap<Escaped, u32, 8>, alloc: Global) -> Option<(Option<u32>, bool)> {
     let found = map.get_bytes(alloc, b"car").ok()?.copied();
-    let refused = map.get_bytes(alloc, b"c\0").is_err();
-    drop(held);
-    Some((found, refused))
+    Some((found, map.get_bytes(alloc, b"c\0").is_err()))
 }
 
-fn starve_strings(alloc: Global) -> Option<(Option<u32>, bool)> {
-    let mut map = KeyedMap::new(alloc);
+// The same without memory, in a map of one.
+fn starve_strings(
+    map: &mut KeyedMap<Escaped, u32, 8>,
+    alloc: Global,
+) -> Option<(Option<u32>, bool)> {
     map.insert(Escaped::encode(alloc, b"car").ok()?, 7).ok()?;
-    starve_look_ups(&map, alloc)
+    let held = all_memory(alloc).ok()?;
+    let found = look_ups(map, alloc);
+    drop(held);
+    found
 }
 
 #[test]
 fn without_memory_plain_strings_are_found(rt: HostRuntime) -> Result<(), Fail> {
-    same(starve_strings(rt.alloc()), Some((Some(7), true)))
+    let found = starve_strings(&mut KeyedMap::new(rt.alloc()), rt.alloc());
+    same(found, Some((Some(7), true)))
 }

@@ -33,6 +33,11 @@ fn agree_on_question(map: &Map, model: &BTreeMap<Key, u32>, key: Key, question: 
     }
 }
 
+// A key with the value that is its own, if there is one.
+fn pair_with(key: Key, value: Option<u32>) -> Option<(Key, u32)> {
+    Some((key, value?))
+}
+
 // Whether a removal returned this pair.
 fn is_answered(answer: Result<Option<(Key, u32)>, MapRefused>, pair: Option<(Key, u32)>) -> bool {
     match answer {
@@ -44,22 +49,17 @@ fn is_answered(answer: Result<Option<(Key, u32)>, MapRefused>, pair: Option<(Key
 // A removal from both, and whether they return the same.
 fn agree_on_removal(map: &mut Map, model: &mut BTreeMap<Key, u32>, removal: Removal<Key>) -> bool {
     match removal {
-        Removal::Key(key) => {
-            let pair = match model.remove(&key) {
-                Some(value) => Some((key, value)),
-                None => None,
-            };
-            is_answered(map.remove(&key), pair)
-        }
+        Removal::Key(key) => is_answered(map.remove(&key), pair_with(key, model.remove(&key))),
         Removal::First => is_answered(map.pop_first(), model.pop_first()),
         Removal::Last => is_answered(map.pop_last(), model.pop_last()),
     }
 }
 
 fn agree_on_insertion(map: &mut Map, model: &mut BTreeMap<Key, u32>, key: Key, value: u32) -> bool {
-    match (map.insert(key, value), model.insert(key, value)) {
-        (Ok(replaced), Ok(old)) => replaced == old.map(|old| (key, old)),
-        _ => false,
+    let replaced = map.insert(key, value).ok();
+    match model.insert(key, value) {
+        Ok(old) => replaced == Some(pair_with(key, old)),
+        Err(_) => false,
     }
 }
 
@@ -201,9 +201,31 @@ fn agree_on_write(map: &mut Map, model: &mut Model, key: Key, value: u32, call: 
     }
 }
 
+// Whether both have the same keys from the front.
+fn agree_on_keys(map: &Map, model: &BTreeMap<Key, u32>) -> bool {
+    let mut own = map.keys();
+    for key in model.keys() {
+        if own.next() != Some(key) {
+            return false;
+        }
+    }
+    own.next().is_none()
+}
+
+// Whether both have the same values from the back.
+fn agree_on_values(map: &Map, model: &BTreeMap<Key, u32>) -> bool {
+    let mut own = map.values();
+    for value in model.values().rev() {
+        if own.next_back() != Some(value) {
+            return false;
+        }
+    }
+    own.next_back().is_none()
+}
+
 // Whether both have the same keys, and the same values.
 fn agree_on_parts(map: &Map, model: &BTreeMap<Key, u32>) -> bool {
-    map.keys().eq(model.keys()) && map.values().rev().eq(model.values().rev())
+    agree_on_keys(map, model) && agree_on_values(map, model)
 }
 
 // The number of the first write or call after which they differ, if they do. All 300 calls they are cleared.
@@ -284,6 +306,20 @@ fn agree_on_extended(map: &mut Map, more: Map, model: &mut Model, others: &mut M
     extended && pairs.next().is_none() && agree_on_pairs(map, model)
 }
 
+// Whether they are the same once they have taken drawn pairs, which compare as those of the other one, and have changed
+// their values and let some go.
+fn agree_in_round(map: &mut Map, model: &mut Model, numbers: &mut Numbers, alloc: Global) -> bool {
+    let (mut more, mut others) = (ByteMap::new(alloc), BTreeMap::new(alloc));
+    let agree = [
+        fill_both(&mut more, &mut others, numbers),
+        agree_on_order(map, &more, model, &others),
+        agree_on_extended(map, more, model, &mut others),
+        agree_on_each_value(map, model),
+        agree_on_retained(map, model, numbers.below(5) as u32),
+    ];
+    agree == [true; 5]
+}
+
 // The number of the first round after which they differ, if they do.
 fn differ_in_round(
     map: &mut Map,
@@ -293,13 +329,7 @@ fn differ_in_round(
     alloc: Global,
 ) -> Option<usize> {
     for round in 0..rounds {
-        let (mut more, mut others) = (ByteMap::new(alloc), BTreeMap::new(alloc));
-        let agree = fill_both(&mut more, &mut others, numbers)
-            && agree_on_order(map, &more, model, &others)
-            && agree_on_extended(map, more, model, &mut others)
-            && agree_on_each_value(map, model)
-            && agree_on_retained(map, model, numbers.below(5) as u32);
-        if !agree {
+        if !agree_in_round(map, model, numbers, alloc) {
             return Some(round);
         }
     }

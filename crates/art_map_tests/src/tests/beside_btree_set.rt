@@ -17,6 +17,11 @@ fn drawn_key(numbers: &mut Numbers) -> Key {
     [numbers.below(5) as u8, numbers.below(12) as u8]
 }
 
+// Whether neither call was refused, and both returned the same.
+fn are_same<T: PartialEq + Drop>(own: Option<T>, other: Option<T>) -> bool {
+    own.is_some() && own == other
+}
+
 // A change of both, and whether they return the same.
 fn agree_on_change(set: &mut Set, model: &mut Model, key: Key, call: usize) -> bool {
     match call {
@@ -24,14 +29,8 @@ fn agree_on_change(set: &mut Set, model: &mut Model, key: Key, call: usize) -> b
         1 => set.take(&key).ok() == Some(model.take(&key)),
         2 => set.pop_first().ok() == Some(model.pop_first()),
         3 => set.pop_last().ok() == Some(model.pop_last()),
-        4 => match (set.replace(key), model.replace(key)) {
-            (Ok(own), Ok(other)) => own == other,
-            _ => false,
-        },
-        _ => match (set.insert(key), model.insert(key)) {
-            (Ok(own), Ok(other)) => own == other,
-            _ => false,
-        },
+        4 => are_same(set.replace(key).ok(), model.replace(key).ok()),
+        _ => are_same(set.insert(key).ok(), model.insert(key).ok()),
     }
 }
 

@@ -291,6 +291,20 @@ fn agree_from_back(map: &Map, model: &BTreeMap<Key, u32>, part: Part<'_>) -> boo
     own.next_back().is_none()
 }
 
+// Whether a part of the map has the pairs of the other one, each taken from an end that is drawn.
+fn agree_from_drawn_ends(
+    map: &Map,
+    model: &BTreeMap<Key, u32>,
+    part: Part<'_>,
+    alloc: Global,
+    numbers: &mut Numbers,
+) -> bool {
+    match pairs_of(alloc, model, part) {
+        Ok(pairs) => agree_from_both(part_of(map, part), &pairs, numbers),
+        Err(_) => false,
+    }
+}
+
 // The same from either end, and from both in turn.
 fn agree_on_part(
     map: &Map,
@@ -298,13 +312,10 @@ fn agree_on_part(
     part: Part<'_>,
     alloc: Global,
     numbers: &mut Numbers,
-) -> Option<bool> {
-    let pairs = pairs_of(alloc, model, part).ok()?;
-    Some(
-        agree_from_front(map, model, part)
-            && agree_from_back(map, model, part)
-            && agree_from_both(part_of(map, part), &pairs, numbers),
-    )
+) -> bool {
+    agree_from_front(map, model, part)
+        && agree_from_back(map, model, part)
+        && agree_from_drawn_ends(map, model, part, alloc, numbers)
 }
 
 // Whether the pairs next to two bounds are the ends of the parts that begin and end there.
@@ -319,14 +330,13 @@ fn agree_on_drawn(
     model: &BTreeMap<Key, u32>,
     alloc: Global,
     numbers: &mut Numbers,
-) -> Option<bool> {
+) -> bool {
     let (low, high) = (drawn_key(numbers), drawn_key(numbers));
     let (from, to) = (drawn_bound(numbers, &low), drawn_bound(numbers, &high));
     let below = Part::Below(&low[..numbers.below(5)]);
-    let agree = agree_on_part(map, model, below, alloc, numbers)?
-        && agree_on_part(map, model, Part::Between(from, to), alloc, numbers)?
-        && agree_on_ends(map, from, to);
-    Some(agree)
+    agree_on_part(map, model, below, alloc, numbers)
+        && agree_on_part(map, model, Part::Between(from, to), alloc, numbers)
+        && agree_on_ends(map, from, to)
 }
 
 // A removal of all pairs below a prefix from both, and whether they say that as many went.
@@ -375,7 +385,7 @@ fn differ_at(
         if !agree_on_change(map, model, &mut numbers, grows) {
             return Some(change);
         }
-        if agree_on_drawn(map, model, alloc, &mut numbers) != Some(true) {
+        if !agree_on_drawn(map, model, alloc, &mut numbers) {
             return Some(change);
         }
     }

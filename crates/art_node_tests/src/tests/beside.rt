@@ -32,7 +32,23 @@ fn beside_each(kind: NodeType) -> [Option<(u8, OpaqueNodePtr)>; 4] {
         }
         any.write_child(byte, child(byte).1);
     }
-    [0, 15, 22, 255].map(|byte| beside(any.as_ref(), byte))
+    let node = any.as_ref();
+    [
+        beside(node, 0),
+        beside(node, 15),
+        beside(node, 22),
+        beside(node, 255),
+    ]
+}
+
+// The children that are put under these bytes.
+fn children(bytes: [u8; 4]) -> [Option<(u8, OpaqueNodePtr)>; 4] {
+    [
+        Some(child(bytes[0])),
+        Some(child(bytes[1])),
+        Some(child(bytes[2])),
+        Some(child(bytes[3])),
+    ]
 }
 
 // A node that keeps its children in order returns the next one above, or else the last; one with a
@@ -45,14 +61,7 @@ fn finds_the_child_beside_a_byte(rt: HostRuntime) -> Result<(), Fail> {
         beside_each(NodeType::Node48),
         beside_each(NodeType::Node256),
     ];
-    let expected = [
-        [10, 20, 200, 200],
-        [10, 20, 200, 200],
-        [10, 10, 20, 200],
-        [10, 10, 20, 200],
-    ];
-    same(
-        found,
-        expected.map(|bytes: [u8; 4]| bytes.map(|byte| Some(child(byte)))),
-    )
+    let in_order = children([10, 20, 200, 200]);
+    let nearest = children([10, 10, 20, 200]);
+    same(found, [in_order, in_order, nearest, nearest])
 }

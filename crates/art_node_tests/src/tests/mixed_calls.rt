@@ -109,6 +109,24 @@ fn drawn_of<'a, T>(numbers: &mut Numbers, listed: &'a mut [T]) -> Option<&'a mut
     Some(&mut listed[at])
 }
 
+// The name that a placement gave, or the error without the node.
+fn placed<N, T: Drop>(answer: Result<N, (T, AllocError)>) -> Result<N, AllocError> {
+    match answer {
+        Ok(name) => Ok(name),
+        Err((_node, error)) => Err(error),
+    }
+}
+
+// Whether a name is on a list.
+fn is_listed<N: PartialEq + Copy, T>(listed: &[(N, T)], name: N) -> bool {
+    for entry in listed {
+        if entry.0 == name {
+            return true;
+        }
+    }
+    false
+}
+
 // Whether a node holds this.
 fn is_like(node: InnerRef<'_, 3>, want: &PlainInner) -> bool {
     let PlainPrefix { bytes, len } = want.prefix;
@@ -175,8 +193,8 @@ impl Trial {
             next,
         };
         let want = PlainLeaf::of(&leaf);
-        let name = self.store.place_leaf(leaf).map_err(|refused| refused.1)?;
-        let is_new = self.leaves.iter().all(|listed| listed.0 != name);
+        let name = placed(self.store.place_leaf(leaf))?;
+        let is_new = !is_listed(&self.leaves, name);
         self.leaves.push((name, want))?;
         Ok(is_new)
     }
@@ -188,8 +206,8 @@ impl Trial {
             return Ok(false);
         }
         let node = AnyInner::from_header(kind, prefix.header());
-        let name = self.store.place_inner(node).map_err(|refused| refused.1)?;
-        let is_new = self.inners.iter().all(|listed| listed.0 != name);
+        let name = placed(self.store.place_inner(node))?;
+        let is_new = !is_listed(&self.inners, name);
         let children = no_children();
         self.inners.push((name, PlainInner { prefix, children }))?;
         Ok(is_new && name.kind == kind)

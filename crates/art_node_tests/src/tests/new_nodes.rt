@@ -22,11 +22,11 @@ fn nodes_begin_with_a_header_alone(rt: HostRuntime) -> Result<(), Fail> {
         read(&InnerNode48::from_header(header), &[7, 8]),
         read(&InnerNodeDirect::from_header(header), &[7, 8]),
     ];
-    let kinds = [
-        NodeType::Node4,
-        NodeType::Node16,
-        NodeType::Node48,
-        NodeType::Node256,
+    let expected = [
+        (NodeType::Node4, 3, true, 0),
+        (NodeType::Node16, 3, true, 0),
+        (NodeType::Node48, 3, true, 0),
+        (NodeType::Node256, 3, true, 0),
     ];
-    same(seen, kinds.map(|kind| (kind, 3, true, 0)))
+    same(seen, expected)
 }

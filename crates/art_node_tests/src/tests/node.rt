@@ -417,7 +417,13 @@ fn holds_as_many_as_its_kind(rt: HostRuntime) -> Result<(), Fail> {
         live::<InnerNode48<4>>(47),
         live::<InnerNodeDirect<4>>(255),
     ];
-    same(lives, [3, 15, 47, 255].map(expected_life))
+    let expected = [
+        expected_life(3),
+        expected_life(15),
+        expected_life(47),
+        expected_life(255),
+    ];
+    same(lives, expected)
 }
 
 // A node with a child under each of these bytes but one, which is taken out last.
@@ -435,7 +441,11 @@ fn with_hole<N: InnerNode<4>>(bytes: &[u8], removed: u8) -> N {
 #[test]
 fn finds_no_child_behind_the_last(rt: HostRuntime) -> Result<(), Fail> {
     let node: InnerNode16<4> = with_hole(&[10, 20, 30, 40, 50, 60], 60);
-    let found = [60, 0, 50].map(|byte| node.lookup_child(byte));
+    let found = [
+        node.lookup_child(60),
+        node.lookup_child(0),
+        node.lookup_child(50),
+    ];
     same(found, [None, None, Some(name(50))])
 }
 

@@ -140,19 +140,16 @@ fn place_promised<K: AsBytes + Drop, V: Drop, const P: usize>(
     ensures reserved { IfOk result (λ names. IsSome (map.get store.new.leaves names.2)) }
 {
     store.reserve(2, Some(NodeType::Node16))?;
-    let first = store
-        .place_leaf(leaves.0)
-        .map_err(|refused| refused.1)
-        .unwrap();
+    let Ok(first) = store.place_leaf(leaves.0) else {
+        unreachable!()
+    };
     let node = AnyInner::from_header(NodeType::Node16, header);
-    let upper = store
-        .place_inner(node)
-        .map_err(|refused| refused.1)
-        .unwrap();
-    let second = store
-        .place_leaf(leaves.1)
-        .map_err(|refused| refused.1)
-        .unwrap();
+    let Ok(upper) = store.place_inner(node) else {
+        unreachable!()
+    };
+    let Ok(second) = store.place_leaf(leaves.1) else {
+        unreachable!()
+    };
     Ok((first, upper, second))
 }
 
