@@ -45,7 +45,7 @@ row_more : (done : List (Key × ℕ)) (pair : Key × ℕ) → row_text (done ++ 
 row_more [] pair = append-nil (entry_text pair)
 row_more (d ∷ ds) pair =
     ap (λ bs. entry_text d ++ bs)
-        (flat_map-append (λ p. codes " " ++ entry_text p) ds (pair ∷ []) ∙ ap (λ bs. flat_map (λ p. codes " " ++ entry_text p) ds ++ bs) (append-nil (codes " " ++ entry_text pair)))
+    (flat_map-append (λ p. codes " " ++ entry_text p) ds (pair ∷ []) ∙ ap (λ bs. flat_map (λ p. codes " " ++ entry_text p) ds ++ bs) (append-nil (codes " " ++ entry_text pair)))
     ∙ sym (append_assoc (entry_text d) (flat_map (λ p. codes " " ++ entry_text p) ds) (codes " " ++ entry_text pair))
 
 row_is : (pairs : List (Key × ℕ)) → pairs ≢ [] → pairs_text pairs ≡ row_text pairs

@@ -215,7 +215,7 @@ module _ {K V : Type 0} {IsClone : K × V → K × V → Type 0} {s : Nodes K V}
 
       pub outer_goes_on : {new : Nodes K V} {after : LeafEnds} → Some after.first ≡ option_or (first_leaf f.ends) (Some done.min_leaf) → after.last ≡ done.max_leaf →
           new.leaves ≡ with_links_around now.leaves (last_leaf f.ends) (Some done.min_leaf) (Some done.min_leaf) (last_leaf f.ends) →
-              new.inners ≡ change now.inners f.copy (with_child f.byte done.root) →
+          new.inners ≡ change now.inners f.copy (with_child f.byte done.root) →
           new.promise ≡ now.promise → IsCopying IsClone s start whole fs new f.copy f.children (first_leaf (Some after)) (last_leaf (Some after))
       outer_goes_on {new} a b leaves inners promise = record {
         old = outer_of.old;

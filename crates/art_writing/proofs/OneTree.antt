@@ -392,7 +392,7 @@ module _ {K V : Type 0} {t v : Nodes K V} {too : Bool} where
       let cs = join others (child byte last no_child) in
       let all : names_below cs ≡ o ++ c = names_below-join others (child byte last no_child) ∙ ap (λ l. o ++ l) (append-nil c) in
       let goes : names_to_free_below too cs ≡ names_to_free_below too others ++ names_to_free too last =
-          names_to_free_below-join too others (child byte last no_child) ∙ ap (λ l. names_to_free_below too others ++ l) (append-nil (names_to_free too last)) in
+      names_to_free_below-join too others (child byte last no_child) ∙ ap (λ l. names_to_free_below too others ++ l) (append-nil (names_to_free too last)) in
       let ends : leaf_names_below cs ≡ leaf_names_below others ++ leaf_names last = leaf_names_below-join others (child byte last no_child) ∙ ap (λ l. leaf_names_below others ++ l) (append-nil (leaf_names last)) in
       let slots : slots_of cs ≡ slots_of others ++ (byte, name_of last) ∷ [] = slots_of-join others (child byte last no_child) in
       let distinct : AreDistinct (mark ∷ (o ++ c)) = subst (λ l. AreDistinct (mark ∷ l)) all can.layout.distinct in
@@ -483,7 +483,7 @@ module _ {K V : Type 0} {s : Nodes K V} {too : Bool} where
     below = step.moved.below;
     can = step.moved.can;
     kept = keeps_on (names_to_free too upper ++ names_to_free too lower)
-          (names_to_free too is.above ++ names_to_free too is.below) (names_to_free too step.moved.above ++ names_to_free too step.moved.below) is.kept step.moved.kept;
+        (names_to_free too is.above ++ names_to_free too is.below) (names_to_free too step.moved.above ++ names_to_free too step.moved.below) is.kept step.moved.kept;
     counted = is.counted ∙ step.moved.counted;
     names = is.names ∙ step.moved.names;
   }
