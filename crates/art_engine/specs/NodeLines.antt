@@ -18,9 +18,9 @@ indent zero = []
 indent (suc depth) = codes "  " ++ indent depth
 
 -- where a node stands: below so many inner nodes, and under which byte, or as the root
-abbrev pub place_text : ℕ → Option ℕ → List ℕ
-place_text depth None = indent depth ++ codes "*: "
-place_text depth (Some byte) = indent depth ++ (decimal byte ++ codes ": ")
+abbrev pub line_start : ℕ → Option ℕ → List ℕ
+line_start depth None = indent depth ++ codes "*: "
+line_start depth (Some byte) = indent depth ++ (decimal byte ++ codes ": ")
 
 -- a leaf has its pair
 abbrev pub leaf_text : Key × ℕ → List ℕ
@@ -38,7 +38,7 @@ node_text (inner_node h slots) = inner_text h (length slots)
 
 -- a line: where a node stands, and what is written of it
 abbrev pub line_at : ℕ → Option ℕ → List ℕ → List ℕ
-line_at depth byte text = place_text depth byte ++ (text ++ codes "\n")
+line_at depth byte text = line_start depth byte ++ (text ++ codes "\n")
 
 -- the lines of a tree that stands there: its root's, and then those of what stands below it
 abbrev mutual

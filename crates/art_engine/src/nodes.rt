@@ -19,15 +19,15 @@ use std::{fmt, io};
 /// Where a node stands, which is displayed as the beginning of its line: two spaces for each inner node above it, and
 /// the byte that it is the child under, or `*` for the root.
 #[derive(Clone, Copy)]
-struct Place {
+struct LineStart {
     depth: usize,
     byte: Option<u8>,
 }
 
-impl fmt::Display for Place {
-    ghost use Rattle.art_engine.specs.NodeLines.{place_text};
+impl fmt::Display for LineStart {
+    ghost use Rattle.art_engine.specs.NodeLines.{line_start};
 
-    ghost output = { λ place. Some (place_text place.depth place.byte) };
+    ghost output = { λ place. Some (line_start place.depth place.byte) };
 
     fn fmt<W: fmt::Write>(&self, f: &mut fmt::Formatter<W>) -> fmt::Result {
         for _ in 0..self.depth {
@@ -81,7 +81,7 @@ fn write_node<W: Write, const P: usize>(
         Appends (W.contents output.old) (W.contents output.new)
         (line_at node.depth node.byte (node_text there)))) }
 {
-    let place = Place {
+    let place = LineStart {
         depth: node.depth,
         byte: node.byte,
     };

@@ -4,8 +4,8 @@ use Rattle.art_inner.specs.Inner.{put_child, remove_child}
 use Rattle.art_inner.specs.Tables.{names_by_byte}
 use Rattle.art_inner.specs.Direct.{in_place, direct_at}
 use Rattle.art_parts.specs.declared.names.OpaqueNodePtr.{OpaqueNodePtr}
-use Rattle.art_inner.specs.declared.direct.Place.{Place}
-use Rattle.art_inner.specs.declared.direct.Place.TheVariants.{Node4, Vacant}
+use Rattle.art_inner.specs.declared.direct.PlaceKind.{PlaceKind}
+use Rattle.art_inner.specs.declared.direct.PlaceKind.TheVariants.{Node4, Vacant}
 use Rattle.art_inner.proofs.Extent.{listed_put, listed_remove, listed_none}
 
 same_place : (n k : ℕ) → k < n → get_or (replicate n Vacant) k Node4 ≡ Vacant
@@ -13,11 +13,11 @@ same_place zero k h = absurd (omega arith)
 same_place (suc n) zero h = refl
 same_place (suc n) (suc k) h = same_place n k (omega arith)
 
-pub all_vacant : (slots : List ℕ) (places : List Place) → places ≡ replicate 256 Vacant → names_by_byte (direct_at slots places) ≡ []
-all_vacant slots places is = listed_none (direct_at slots places) (λ k h. ap (λ p. in_place p (get_or slots k 0)) (ap (λ (ps : List Place). get_or ps k Node4) is ∙ same_place 256 k h))
+pub all_vacant : (slots : List ℕ) (places : List PlaceKind) → places ≡ replicate 256 Vacant → names_by_byte (direct_at slots places) ≡ []
+all_vacant slots places is = listed_none (direct_at slots places) (λ k h. ap (λ p. in_place p (get_or slots k 0)) (ap (λ (ps : List PlaceKind). get_or ps k Node4) is ∙ same_place 256 k h))
 
-module _ (slots : List ℕ) (places : List Place) (b : ℕ) (within : b < 256) (as_many_slots : length slots ≡ 256) (as_many : length places ≡ 256) where
-  pub direct_put : (place : Place) (child : OpaqueNodePtr) → ((slot : ℕ) → in_place place slot ≡ Some (record { kind = child.kind; slot = slot })) →
+module _ (slots : List ℕ) (places : List PlaceKind) (b : ℕ) (within : b < 256) (as_many_slots : length slots ≡ 256) (as_many : length places ≡ 256) where
+  pub direct_put : (place : PlaceKind) (child : OpaqueNodePtr) → ((slot : ℕ) → in_place place slot ≡ Some (record { kind = child.kind; slot = slot })) →
       names_by_byte (direct_at (set slots b child.slot) (set places b place)) ≡ put_child (names_by_byte (direct_at slots places)) b child
   direct_put place child is = listed_put (direct_at slots places) (direct_at (set slots b child.slot) (set places b place)) b within
       (λ k h d. ap (λ p. in_place p (get_or (set slots b child.slot) k 0)) (get_or-set_other places b k place Node4 d)

@@ -9,7 +9,7 @@ use std::marker::Model;
 
 // The kind of the name that stands in a place. One byte says it and whether there is one.
 #[derive(Clone, Copy)]
-enum Place {
+enum PlaceKind {
     Node4,
     Node16,
     Node48,
@@ -22,7 +22,7 @@ enum Place {
 #[derive(Drop)]
 pub(crate) struct Direct {
     slots: [usize; 256],
-    places: [Place; 256],
+    places: [PlaceKind; 256],
     len: usize,
 }
 
@@ -101,7 +101,7 @@ impl Direct {
         ensures rest { self.new ≡ remove_child self.old byte }
     {
         let child = self.get(byte)?;
-        self.places[byte as usize] = Place::Vacant;
+        self.places[byte as usize] = PlaceKind::Vacant;
         self.len -= 1;
         Some(child)
     }
@@ -118,41 +118,41 @@ impl Places for Direct {
 
 ghost use Rattle.art_inner.specs.Direct.{in_place};
 ghost use Rattle.std.specs.Prelude.{replicate};
-ghost use Rattle.art_inner.specs.declared.direct.Place.TheVariants as place;
+ghost use Rattle.art_inner.specs.declared.direct.PlaceKind.TheVariants as place;
 
 fn vacant_slots() -> [usize; 256] {
     [0; 256]
 }
 
-fn vacant_places() -> [Place; 256]
+fn vacant_places() -> [PlaceKind; 256]
     ensures { result ≡ replicate 256 place.Vacant }
 {
-    [Place::Vacant; 256]
+    [PlaceKind::Vacant; 256]
 }
 
 #[inline(always)]
-fn name_in(place: Place, slot: usize) -> Option<OpaqueNodePtr>
+fn name_in(place: PlaceKind, slot: usize) -> Option<OpaqueNodePtr>
     ensures { result ≡ in_place place slot }
 {
     let kind = match place {
-        Place::Node4 => NodeType::Node4,
-        Place::Node16 => NodeType::Node16,
-        Place::Node48 => NodeType::Node48,
-        Place::Node256 => NodeType::Node256,
-        Place::Leaf => NodeType::Leaf,
-        Place::Vacant => return None,
+        PlaceKind::Node4 => NodeType::Node4,
+        PlaceKind::Node16 => NodeType::Node16,
+        PlaceKind::Node48 => NodeType::Node48,
+        PlaceKind::Node256 => NodeType::Node256,
+        PlaceKind::Leaf => NodeType::Leaf,
+        PlaceKind::Vacant => return None,
     };
     Some(OpaqueNodePtr { kind, slot })
 }
 
-fn place_of(kind: NodeType) -> Place
+fn place_of(kind: NodeType) -> PlaceKind
     ensures { (slot : ℕ) → in_place result slot ≡ Some (record { kind = kind; slot = slot }) }
 {
     match kind {
-        NodeType::Node4 => Place::Node4,
-        NodeType::Node16 => Place::Node16,
-        NodeType::Node48 => Place::Node48,
-        NodeType::Node256 => Place::Node256,
-        NodeType::Leaf => Place::Leaf,
+        NodeType::Node4 => PlaceKind::Node4,
+        NodeType::Node16 => PlaceKind::Node16,
+        NodeType::Node48 => PlaceKind::Node48,
+        NodeType::Node256 => PlaceKind::Node256,
+        NodeType::Leaf => PlaceKind::Leaf,
     }
 }

@@ -24,13 +24,13 @@ use Rattle.art_writing.proofs.Replaced.{own_leaf}
 use Rattle.art_writing.proofs.Standing.{tree_stays}
 use Rattle.art_writing.proofs.Unstored.{refused_new}
 use Rattle.art_map.specs.MapAnswers.{IsRefusalOf, value_at}
-use Rattle.art_map.specs.MapChanges.{HasEntered, HasMade, HasTried, IsPlaceOf, NamesLeafOf, put_new}
+use Rattle.art_map.specs.MapChanges.{HasEntered, HasMade, HasTried, IsPositionOf, NamesLeafOf, put_new}
 use Rattle.art_map.specs.MapPairs.{HoldsPairs, pairs_at}
 use Rattle.art_map.specs.declared.map.MapInsertError.{MapInsertError}
 use Rattle.art_map.specs.declared.map.MapInsertError.TheVariants as errors
 use Rattle.art_map.specs.declared.map.MapMakeError.{MapMakeError}
-use Rattle.art_map.specs.declared.map.place.Place.{Place}
-use Rattle.art_map.specs.declared.map.place.Place.TheVariants as places
+use Rattle.art_map.specs.declared.map.position.Position.{Position}
+use Rattle.art_map.specs.declared.map.position.Position.TheVariants as positions
 use Rattle.art_map.proofs.Items.{no_pairs}
 use Rattle.art_map.proofs.Puts.{is_some-map}
 use Rattle.art_map.proofs.Views.{holds, map_held, view_is}
@@ -76,13 +76,13 @@ stored_free bytes key pairs rising stored = go (is_conflict (of_key bytes) key p
     go false e = refl
     go true e = absurd (false≢true (sym (conflict_new (of_key bytes) key pairs rising e) ∙ stored))
 
--- a key whose place is no leaf is not stored
-pub place_new : {K V : Type 0} (bytes : K → List ℕ) (P : ℕ) {s : Nodes K V} {root : Option OpaqueNodePtr} {len : ℕ} (key : List ℕ) → HoldsPairs (of_key bytes) P s root len (pairs_at s root) →
-    (place : Place) → IsPlaceOf bytes P s root key place → ((leaf : LeafPtr) → place ≡ places.Leaf leaf → ⊥) → has_key (of_key bytes) key (pairs_at s root) ≡ false
-place_new bytes P key is (places.Leaf leaf) at off = absurd (off leaf refl)
-place_new bytes P key is (places.Point point) (root_is, point_in, exact, free) off = point_new bytes P root_is point_in exact
-place_new bytes P {s} key is places.Bare at off = ap (has_key (of_key bytes) key) (no_pairs (of_key bytes) P s at is)
-place_new bytes P {s} {root} key is (places.Refused error) (any, related) off = conflict_new (of_key bytes) key (pairs_at s root) (map_held (of_key bytes) P s is) related
+-- a key whose position is no leaf is not stored
+pub position_new : {K V : Type 0} (bytes : K → List ℕ) (P : ℕ) {s : Nodes K V} {root : Option OpaqueNodePtr} {len : ℕ} (key : List ℕ) → HoldsPairs (of_key bytes) P s root len (pairs_at s root) →
+    (place : Position) → IsPositionOf bytes P s root key place → ((leaf : LeafPtr) → place ≡ positions.Leaf leaf → ⊥) → has_key (of_key bytes) key (pairs_at s root) ≡ false
+position_new bytes P key is (positions.Leaf leaf) at off = absurd (off leaf refl)
+position_new bytes P key is (positions.Point point) (root_is, point_in, exact, free) off = point_new bytes P root_is point_in exact
+position_new bytes P {s} key is positions.Bare at off = ap (has_key (of_key bytes) key) (no_pairs (of_key bytes) P s at is)
+position_new bytes P {s} {root} key is (positions.Refused error) (any, related) off = conflict_new (of_key bytes) key (pairs_at s root) (map_held (of_key bytes) P s is) related
 
 -- a key under which there is no value is not stored
 pub none_stored : {K V : Type 0} (bytes : K → List ℕ) (key : List ℕ) (pairs : List (K × V)) → value_at bytes key pairs ≡ None → has_key (of_key bytes) key pairs ≡ false

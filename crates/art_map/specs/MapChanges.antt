@@ -26,8 +26,8 @@ use Rattle.art_map.specs.declared.map.MapInsertError.{MapInsertError}
 use Rattle.art_map.specs.MapCalls.{IsMakeRefusal}
 use Rattle.art_map.specs.declared.map.MapMakeError.{MapMakeError}
 use Rattle.art_map.specs.declared.map.MapRefused.{MapRefused}
-use Rattle.art_map.specs.declared.map.place.Place.{Place}
-use Rattle.art_map.specs.declared.map.place.Place.TheVariants as places
+use Rattle.art_map.specs.declared.map.position.Position.{Position}
+use Rattle.art_map.specs.declared.map.position.Position.TheVariants as positions
 
 -- how many pairs gave way: one that came back, or those that were freed
 abbrev pub gone_count : {K V : Type 0} → PrefixInsertResult K V → ℕ
@@ -60,13 +60,13 @@ pub record NamesLeafOf {K V : Type 0} (bytes : K → List ℕ) (P : ℕ) (s : No
   pub key_is : bytes pair.0 ≡ key
 
 -- The leaf is that of the key; or the point is, where no key is equal or in conflict; or there is no tree; or a key is in conflict.
-abbrev pub IsPlaceOf : {K V : Type 0} → (K → List ℕ) → ℕ → Nodes K V → Option OpaqueNodePtr → List ℕ → Place → Type 0
-IsPlaceOf bytes P s root key (places.Leaf leaf) = NamesLeafOf bytes P s root key leaf
-IsPlaceOf bytes P s root key (places.Point point) =
+abbrev pub IsPositionOf : {K V : Type 0} → (K → List ℕ) → ℕ → Nodes K V → Option OpaqueNodePtr → List ℕ → Position → Type 0
+IsPositionOf bytes P s root key (positions.Leaf leaf) = NamesLeafOf bytes P s root key leaf
+IsPositionOf bytes P s root key (positions.Point point) =
     (root ≡ Some point.root) × IsPointIn (of_key bytes) P s key point × ((leaf : LeafPtr) → point.insert_kind ≢ Exact leaf) ×
     (is_conflict (of_key bytes) key (pairs_at s root) ≡ false)
-IsPlaceOf bytes P s root key places.Bare = root ≡ None
-IsPlaceOf bytes P s root key (places.Refused error) =
+IsPositionOf bytes P s root key positions.Bare = root ≡ None
+IsPositionOf bytes P s root key (positions.Refused error) =
     IsRefusedFor key error × (is_conflict (of_key bytes) key (pairs_at s root) ≡ true)
 
 -- the pairs with a new one, where its key is not stored yet

@@ -48,7 +48,7 @@ mod iter;
 mod lend;
 mod owned;
 mod parts;
-mod place;
+mod position;
 mod range;
 mod remove;
 mod replace;

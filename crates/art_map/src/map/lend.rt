@@ -8,7 +8,7 @@ ghost use Rattle.art_map.specs.MapAnswers.{IsRefusalOf, IsRefusalOfMade, value_a
 ghost use Rattle.art_map.specs.MapCalls.{IsMakeRefusal, Modifies};
 ghost use Rattle.art_map.specs.MapLends.{lends_put};
 
-use super::place::{enter, leaf_made, leaf_tried, place_near};
+use super::position::{enter, leaf_made, leaf_tried, position_near};
 use super::{ByteMap, MapInsertError, MapMakeError};
 use art_nodes::node::{AsBytes, LeafPtr};
 use art_reading::lookup::search_unchecked;
@@ -65,12 +65,12 @@ impl<K: AsBytes + Drop, V: Drop, const P: usize> ByteMap<K, V, P> {
             (is_conflict (of_key K.bytes) (K.bytes key) self.old ≡ false) }
         ensures refused { IfErr result (IsRefusalOf K.bytes key value self.old) }
     {
-        let place = place_near(&self.store, self.root, leaf, key.as_bytes());
+        let position = position_near(&self.store, self.root, leaf, key.as_bytes());
         let leaf = match enter(
             &mut self.store,
             &mut self.root,
             &mut self.len,
-            place,
+            position,
             key,
             value,
         ) {
@@ -102,12 +102,12 @@ impl<K: AsBytes + Drop, V: Drop, const P: usize> ByteMap<K, V, P> {
         ensures refused { IfErr result (IsRefusalOfMade K.bytes key
             (FnOnceReturnsAt F.FnOnce make key) self.old) }
     {
-        let place = place_near(&self.store, self.root, leaf, key.as_bytes());
+        let position = position_near(&self.store, self.root, leaf, key.as_bytes());
         let leaf = match leaf_made(
             &mut self.store,
             &mut self.root,
             &mut self.len,
-            place,
+            position,
             key,
             make,
         ) {
@@ -137,12 +137,12 @@ impl<K: AsBytes + Drop, V: Drop, const P: usize> ByteMap<K, V, P> {
             (is_conflict (of_key K.bytes) (K.bytes key) self.old ≡ false) }
         ensures refused { IfErr result (IsMakeRefusal K.bytes key (F.post make) self.old) }
     {
-        let place = place_near(&self.store, self.root, leaf, key.as_bytes());
+        let position = position_near(&self.store, self.root, leaf, key.as_bytes());
         let leaf = match leaf_tried(
             &mut self.store,
             &mut self.root,
             &mut self.len,
-            place,
+            position,
             key,
             make,
         ) {

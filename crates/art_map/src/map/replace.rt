@@ -5,7 +5,7 @@ ghost use Rattle.art_map.specs.MapAnswers.{IsRefusalOf};
 ghost use Rattle.art_map.specs.MapChanges.{HasReplaced};
 ghost use Rattle.art_map.specs.MapPairs.{HoldsPairs, pairs_at};
 
-use super::place::{Place, enter, place_of};
+use super::position::{Position, enter, position_of};
 use super::{ByteMap, MapInsertError};
 use art_nodes::node::{AsBytes, OpaqueNodePtr};
 use art_nodes::store::NodeStore;
@@ -43,11 +43,11 @@ fn replace_in<K: AsBytes + Drop, V: Drop, const P: usize>(
     ensures { HasReplaced K.bytes P (pairs_at store.old root.old) key value result
         store.new root.new len.new }
 {
-    let place = place_of(store, *root, key.as_bytes());
-    if let Place::Leaf(leaf) = place {
+    let position = position_of(store, *root, key.as_bytes());
+    if let Position::Leaf(leaf) = position {
         return Ok(Some(store.swap_pair(leaf, key, value)));
     }
-    match enter(store, root, len, place, key, value) {
+    match enter(store, root, len, position, key, value) {
         Ok(_) => Ok(None),
         Err(error) => Err(error),
     }

@@ -1,7 +1,7 @@
 use Rattle.std.proofs.Common.{refl, rules, sym, subst}
 use Rattle.art_model.specs.Pairs.{of_key}
 use Rattle.art_map.specs.MapPairs.{HoldsPairs, pairs_at}
-use Rattle.art_map.proofs.Entered.{new_replaces, place_new, stored_free}
+use Rattle.art_map.proofs.Entered.{new_replaces, position_new, stored_free}
 use Rattle.art_map.proofs.Views.{map_held}
 use Rattle.art_map.proofs.Written.{is_stored, is_there, pair_swapped, pair_written}
 use Rattle.art_map.proofs.map.replace.replace_in.Goals as goal
@@ -26,8 +26,8 @@ returns-in-Leaf g c =
 pub returns-in-Ok : goal.returns-in-Ok
 returns-in-Ok g c =
     let bytes = g.K.AsBytes.bytes in
-    let placed = rw c.as_bytes.ensures at c.place_of-place.ensures in
-    let none = place_new bytes g.row.P (bytes c.args.key) c.requires c.place_of-place.result placed c.in_default.not-Leaf in
+    let placed = rw c.as_bytes.ensures at c.position_of-position.ensures in
+    let none = position_new bytes g.row.P (bytes c.args.key) c.requires c.position_of-position.result placed c.in_default.not-Leaf in
     let (same, gone) = new_replaces bytes (c.args.key, c.args.value) (pairs_at c.args.store.now c.args.root.now) none in
     let (held, named, free) = c.in-Ok.ensures in
     (subst (HoldsPairs (of_key bytes) g.row.P c.enter.new.store c.enter.new.root c.enter.new.len) (sym same) held, gone, free)

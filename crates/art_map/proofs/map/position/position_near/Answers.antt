@@ -1,7 +1,7 @@
 use Rattle.std.proofs.Common.{subst}
 use Rattle.art_map.specs.MapChanges.{NamesLeafOf}
 use Rattle.art_map.proofs.LeafOf.{leaf_of_map}
-use Rattle.art_map.proofs.map.place.place_near.Goals as goal
+use Rattle.art_map.proofs.map.position.position_near.Goals as goal
 
 pub returns-then-has_key_at : goal.returns-then-has_key_at
 returns-then-has_key_at g c =

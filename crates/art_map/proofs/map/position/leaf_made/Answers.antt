@@ -2,21 +2,21 @@ use Rattle.std.proofs.Common.{sym, ◌∙◌, rules}
 use Rattle.std.proofs.lemmas.Bool.{false≢true}
 use Rattle.art_model.specs.Pairs.{of_key}
 use Rattle.art_map.specs.MapPairs.{pairs_at}
-use Rattle.art_map.proofs.Entered.{place_new, stored_free}
+use Rattle.art_map.proofs.Entered.{position_new, stored_free}
 use Rattle.art_map.proofs.Views.{map_held}
 use Rattle.art_map.proofs.Written.{is_stored}
-use Rattle.art_map.proofs.map.place.leaf_made.Goals as goal
+use Rattle.art_map.proofs.map.position.leaf_made.Goals as goal
 
 pub returns-in-Leaf : goal.returns-in-Leaf
 returns-in-Leaf g c =
     let bytes = g.K.AsBytes.bytes in
-    let named = rw c.in-Leaf.is at c.requires.place in
+    let named = rw c.in-Leaf.is at c.requires.position in
     let stored = is_stored bytes g.row.P (bytes c.args.key) named in
     let free = stored_free bytes (bytes c.args.key) (pairs_at c.args.store.now c.args.root.now) (map_held (of_key bytes) g.row.P c.args.store.now c.requires.holds) stored in
     (named.pair.1, λ none. absurd (false≢true (sym none ∙ stored)), rw stored (c.requires.holds, named, free))
 
 pub make-value-requires : goal.make-value-requires
 make-value-requires g c =
-    let new = place_new g.K.AsBytes.bytes g.row.P (g.K.AsBytes.bytes c.args.key) c.requires.holds c.args.place c.requires.place c.in_default.not-Leaf in
+    let new = position_new g.K.AsBytes.bytes g.row.P (g.K.AsBytes.bytes c.args.key) c.requires.holds c.args.position c.requires.position c.in_default.not-Leaf in
     let callable = c.requires.make new in
     search rules

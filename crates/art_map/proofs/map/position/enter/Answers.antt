@@ -11,13 +11,13 @@ use Rattle.art_map.proofs.Items.{no_pairs}
 use Rattle.art_map.proofs.Puts.{at_some, left_holds, one_more, planted, stays}
 use Rattle.art_map.proofs.Views.{map_held}
 use Rattle.art_map.proofs.Written.{is_stored}
-use Rattle.art_map.proofs.map.place.enter.Goals as goal
+use Rattle.art_map.proofs.map.position.enter.Goals as goal
 
 pub one_more-requires : goal.one_more-requires
 one_more-requires g c =
     let bytes = g.K.AsBytes.bytes in
     let pairs = pairs_at c.args.store.now c.args.root.now in
-    let (root_is, point_in, off, free) = rw c.in-Point.is at c.requires.place in
+    let (root_is, point_in, off, free) = rw c.in-Point.is at c.requires.position in
     let has = at_some root_is c.requires.holds in
     let none = point_new bytes g.row.P root_is point_in off in
     let more = one_more bytes (c.args.key, c.args.value) pairs has.by.is_map (none_back bytes (c.args.key, c.args.value) pairs none) in
@@ -28,7 +28,7 @@ one_more-requires g c =
 pub returns-in-Leaf : goal.returns-in-Leaf
 returns-in-Leaf g c =
     let bytes = g.K.AsBytes.bytes in
-    let named = rw c.in-Leaf.is at c.requires.place in
+    let named = rw c.in-Leaf.is at c.requires.position in
     let stored = is_stored bytes g.row.P (bytes c.args.key) named in
     rw stored (
       c.requires.holds,
@@ -40,7 +40,7 @@ pub returns-in-Ok : goal.returns-in-Ok
 returns-in-Ok g c =
     let bytes = g.K.AsBytes.bytes in
     let at = c.in-Ok.ensures.planted in
-    let bare : c.args.root.now ≡ None = rw c.in-Bare.is at c.requires.place in
+    let bare : c.args.root.now ≡ None = rw c.in-Bare.is at c.requires.position in
     rw (no_pairs (of_key bytes) g.row.P c.args.store.now bare c.requires.holds, c.to_opaque.ensures) (
       planted bytes g.row.P (rw bare at c.requires.holds) at,
       record {
@@ -61,7 +61,7 @@ returns-in-Ok-apply g c =
     let bytes = g.K.AsBytes.bytes in
     let new : g.row.K.Denot × g.row.V.Denot = (c.args.key, c.args.value) in
     let pairs = pairs_at c.args.store.now c.args.root.now in
-    let (root_is, point_in, off, free) = rw c.in-Point.is at c.requires.place in
+    let (root_is, point_in, off, free) = rw c.in-Point.is at c.requires.position in
     let has = at_some root_is c.requires.holds in
     let none = point_new bytes g.row.P root_is point_in off in
     let more = one_more bytes new pairs has.by.is_map (none_back bytes new pairs none) in
@@ -75,7 +75,7 @@ returns-in-Ok-apply g c =
 pub returns-in-Err-apply : goal.returns-in-Err-apply
 returns-in-Err-apply g c =
     let bytes = g.K.AsBytes.bytes in
-    let (root_is, point_in, off, free) = rw c.in-Point.is at c.requires.place in
+    let (root_is, point_in, off, free) = rw c.in-Point.is at c.requires.position in
     rw c.without_memory-in-Err-apply.ensures (
       stays (of_key bytes) g.row.P c.args.store.now c.apply.new.store c.in-Err-apply.ensures.leaves c.in-Err-apply.ensures.inners c.requires.holds,
       (c.in-Err-apply.ensures.handed_back.0, c.in-Err-apply.ensures.handed_back.1, point_new bytes g.row.P root_is point_in off),
@@ -84,6 +84,6 @@ returns-in-Err-apply g c =
 pub returns-in-Refused-Memory : goal.returns-in-Refused-Memory
 returns-in-Refused-Memory g c =
     let bytes = of_key g.K.AsBytes.bytes in
-    let (any, related) = rw c.in-Refused-Memory.is at c.requires.place in
+    let (any, related) = rw c.in-Refused-Memory.is at c.requires.position in
     let pairs = pairs_at c.args.store.now c.args.root.now in
     (c.requires.holds, (refl, refl, conflict_new bytes (g.K.AsBytes.bytes c.args.key) pairs (map_held bytes g.row.P c.args.store.now c.requires.holds) related))

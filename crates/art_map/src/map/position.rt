@@ -3,7 +3,7 @@ ghost use Rattle.std.specs.Prelude.{◌≡◌, ℕ, IsTrue, false};
 ghost use Rattle.std.specs.Borrow.{Bor};
 ghost use Rattle.std.specs.Fn.{FnOnceReturnsAt};
 ghost use Rattle.art_model.specs.Pairs.{has_key, of_key};
-ghost use Rattle.art_map.specs.MapChanges.{HasEntered, HasKeyAt, HasMade, HasTried, IsPlaceOf};
+ghost use Rattle.art_map.specs.MapChanges.{HasEntered, HasKeyAt, HasMade, HasTried, IsPositionOf};
 ghost use Rattle.art_map.specs.MapPairs.{HoldsPairs, pairs_at};
 
 use super::{MapInsertError, MapMakeError, one_more, without_memory};
@@ -15,7 +15,7 @@ use art_writing::insert::{
 
 // Where a key is in a tree, or comes in.
 #[derive(Drop)]
-pub(super) enum Place {
+pub(super) enum Position {
     /// The leaf of the key.
     Leaf(LeafPtr),
     /// Where its leaf comes in.
@@ -27,44 +27,44 @@ pub(super) enum Place {
 }
 
 // Where a key is, or comes in.
-pub(super) fn place_of<K: AsBytes + Drop, V: Drop, const P: usize>(
+pub(super) fn position_of<K: AsBytes + Drop, V: Drop, const P: usize>(
     store: &NodeStore<K, V, P>,
     root: Option<OpaqueNodePtr>,
     key_bytes: &[u8],
-) -> Place
+) -> Position
     requires { (len : ℕ) × HoldsPairs (of_key K.bytes) P store.now root len
         (pairs_at store.now root) }
-    ensures { IsPlaceOf K.bytes P store.now root key_bytes.now result }
+    ensures { IsPositionOf K.bytes P store.now root key_bytes.now result }
 {
     let Some(name) = root else {
-        return Place::Bare;
+        return Position::Bare;
     };
     match search_for_insert_point(store, name, key_bytes) {
         Ok(point) => match point.insert_kind {
-            InsertKind::Exact { leaf_node_ptr } => Place::Leaf(leaf_node_ptr),
-            _ => Place::Point(point),
+            InsertKind::Exact { leaf_node_ptr } => Position::Leaf(leaf_node_ptr),
+            _ => Position::Point(point),
         },
-        Err(error) => Place::Refused(error),
+        Err(error) => Position::Refused(error),
     }
 }
 
 // Where a key is, or comes in. A leaf that had the key is looked at first, since it may have it still.
-pub(super) fn place_near<K: AsBytes + Drop, V: Drop, const P: usize>(
+pub(super) fn position_near<K: AsBytes + Drop, V: Drop, const P: usize>(
     store: &NodeStore<K, V, P>,
     root: Option<OpaqueNodePtr>,
     leaf: Option<LeafPtr>,
     key_bytes: &[u8],
-) -> Place
+) -> Position
     requires { (len : ℕ) × HoldsPairs (of_key K.bytes) P store.now root len
         (pairs_at store.now root) }
-    ensures { IsPlaceOf K.bytes P store.now root key_bytes.now result }
+    ensures { IsPositionOf K.bytes P store.now root key_bytes.now result }
 {
     if let Some(leaf) = leaf {
         if has_key_at(store, leaf, key_bytes) {
-            return Place::Leaf(leaf);
+            return Position::Leaf(leaf);
         }
     }
-    place_of(store, root, key_bytes)
+    position_of(store, root, key_bytes)
 }
 
 // Whether a leaf is there, with the key of these bytes.
@@ -86,19 +86,19 @@ pub(super) fn enter<K: AsBytes + Drop, V: Drop, const P: usize>(
     store: &mut NodeStore<K, V, P>,
     root: &mut Option<OpaqueNodePtr>,
     len: &mut usize,
-    place: Place,
+    position: Position,
     key: K,
     value: V,
 ) -> Result<LeafPtr, MapInsertError<K, V>>
     requires holds { HoldsPairs (of_key K.bytes) P store.old root.old len.old
         (pairs_at store.old root.old) }
-    requires place { IsPlaceOf K.bytes P store.old root.old (K.bytes key) place }
+    requires position { IsPositionOf K.bytes P store.old root.old (K.bytes key) position }
     ensures { HasEntered K.bytes P (pairs_at store.old root.old) key value result
         store.new root.new len.new }
 {
-    match place {
-        Place::Leaf(leaf) => Ok(leaf),
-        Place::Bare => match plant(store, key, value) {
+    match position {
+        Position::Leaf(leaf) => Ok(leaf),
+        Position::Bare => match plant(store, key, value) {
             Ok(leaf) => {
                 *root = Some(leaf.to_opaque());
                 *len = 1;
@@ -106,7 +106,7 @@ pub(super) fn enter<K: AsBytes + Drop, V: Drop, const P: usize>(
             }
             Err(refused) => Err(without_memory(refused)),
         },
-        Place::Point(point) => match point.apply(store, key, value) {
+        Position::Point(point) => match point.apply(store, key, value) {
             Ok(done) => {
                 *root = Some(done.new_root);
                 *len = one_more(store, *len);
@@ -114,10 +114,10 @@ pub(super) fn enter<K: AsBytes + Drop, V: Drop, const P: usize>(
             }
             Err(refused) => Err(without_memory(refused)),
         },
-        Place::Refused(InsertSearchError::Prefix(error)) => {
+        Position::Refused(InsertSearchError::Prefix(error)) => {
             Err(MapInsertError::Conflict { key, value, error })
         }
-        Place::Refused(InsertSearchError::Memory(_error)) => {
+        Position::Refused(InsertSearchError::Memory(_error)) => {
             Err(MapInsertError::Memory { key, value })
         }
     }
@@ -128,23 +128,23 @@ pub(super) fn leaf_made<K: AsBytes + Drop, V: Drop, const P: usize, F: FnOnce(&K
     store: &mut NodeStore<K, V, P>,
     root: &mut Option<OpaqueNodePtr>,
     len: &mut usize,
-    place: Place,
+    position: Position,
     key: K,
     make: F,
 ) -> Result<LeafPtr, MapInsertError<K, V>>
     requires holds { HoldsPairs (of_key K.bytes) P store.old root.old len.old
         (pairs_at store.old root.old) }
-    requires place { IsPlaceOf K.bytes P store.old root.old (K.bytes key) place }
+    requires position { IsPositionOf K.bytes P store.old root.old (K.bytes key) position }
     requires make { has_key (of_key K.bytes) (K.bytes key) (pairs_at store.old root.old) ≡ false →
         (p : Bor K) → p.now ≡ key → F.pre make p }
     ensures { HasMade K.bytes P (pairs_at store.old root.old) key
         (FnOnceReturnsAt F.FnOnce make key) result store.new root.new len.new }
 {
-    if let Place::Leaf(leaf) = place {
+    if let Position::Leaf(leaf) = position {
         return Ok(leaf);
     }
     let value = make(&key);
-    enter(store, root, len, place, key, value)
+    enter(store, root, len, position, key, value)
 }
 
 // The same with a closure that may fail to make the value.
@@ -158,23 +158,23 @@ pub(super) fn leaf_tried<
     store: &mut NodeStore<K, V, P>,
     root: &mut Option<OpaqueNodePtr>,
     len: &mut usize,
-    place: Place,
+    position: Position,
     key: K,
     make: F,
 ) -> Result<LeafPtr, MapMakeError<K, V, E>>
     requires holds { HoldsPairs (of_key K.bytes) P store.old root.old len.old
         (pairs_at store.old root.old) }
-    requires place { IsPlaceOf K.bytes P store.old root.old (K.bytes key) place }
+    requires position { IsPositionOf K.bytes P store.old root.old (K.bytes key) position }
     requires make { has_key (of_key K.bytes) (K.bytes key) (pairs_at store.old root.old) ≡ false →
         F.pre make }
     ensures { HasTried K.bytes P (pairs_at store.old root.old) key (F.post make) result
         store.new root.new len.new }
 {
-    if let Place::Leaf(leaf) = place {
+    if let Position::Leaf(leaf) = position {
         return Ok(leaf);
     }
     match make() {
-        Ok(value) => match enter(store, root, len, place, key, value) {
+        Ok(value) => match enter(store, root, len, position, key, value) {
             Ok(leaf) => Ok(leaf),
             Err(error) => Err(MapMakeError::Insert(error)),
         },
