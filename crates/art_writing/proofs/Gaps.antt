@@ -24,8 +24,8 @@ use Rattle.art_model.proofs.places.PlaceLaws.{join_assoc}
 use Rattle.art_model.proofs.stores.Slots.{length-slots_of}
 use Rattle.art_model.proofs.stores.Stores.{HoldsBelow-right}
 use Rattle.art_model.proofs.stores.Views as views
-use Rattle.art_writing.specs.declared.writes.Neighbour.{Neighbour}
-use Rattle.art_writing.specs.declared.writes.Neighbour.TheVariants.{Before, After}
+use Rattle.art_writing.specs.declared.writes.Direction.{Direction}
+use Rattle.art_writing.specs.declared.writes.Direction.TheVariants.{Before, After}
 use Rattle.art_writing.specs.ParentWrites.{ComesBetween, HasGap, IsBeside, side_of}
 
 -- a child of a full tree is one
@@ -135,7 +135,7 @@ module _ {K V : Type 0} {s : Nodes K V} {p : InnerPtr} {b : ℕ} {l r : Subtrees
     other_byte e = there_is (sym gap_absent ∙ ap (child_at shown.children) (sym e) ∙ beside.there)
 
     -- so it is above or below
-    by_side : (Holds : Neighbour → Type 0) → (b < found.0 → Holds Before) → (found.0 < b → Holds After) → Holds (side_of b found.0)
+    by_side : (Holds : Direction → Type 0) → (b < found.0 → Holds Before) → (found.0 < b → Holds After) → Holds (side_of b found.0)
     by_side Holds above below = go (ltb found.0 b) refl
       where
         go : (t : Bool) → ltb found.0 b ≡ t → Holds (cond t After Before)

@@ -66,7 +66,7 @@ use Rattle.art_writing.specs.declared.delete.DeleteResult.{DeleteResult}
 use Rattle.art_writing.specs.declared.delete.subtree.SubtreeDeleteResult.{SubtreeDeleteResult}
 use Rattle.art_writing.specs.declared.delete.subtree.Collapsed.{Collapsed}
 use Rattle.art_writing.specs.declared.delete.subtree.SubtreeDeletePoint.{SubtreeDeletePoint}
-use Rattle.art_writing.specs.declared.writes.Neighbour.TheVariants.{After}
+use Rattle.art_writing.specs.declared.writes.Direction.TheVariants.{After}
 use Rattle.art_writing.proofs.Below.{change-keeps, change_seen, has_child}
 use Rattle.art_writing.proofs.BranchReads.{beside_is}
 use Rattle.art_writing.proofs.Collapses as collapses

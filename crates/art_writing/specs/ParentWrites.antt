@@ -15,8 +15,8 @@ use Rattle.art_model.specs.Roots.{IsFullTree}
 use Rattle.art_model.specs.Trees.{Tree, inner, Subtrees, child, no_child, NodeHeader}
 use Rattle.art_model.specs.Writes.{Leaves, Inners, IsThere, with_next, with_previous}
 use Rattle.art_writing.specs.Inserted.{unlinked_leaf}
-use Rattle.art_writing.specs.declared.writes.Neighbour.{Neighbour}
-use Rattle.art_writing.specs.declared.writes.Neighbour.TheVariants.{Before, After}
+use Rattle.art_writing.specs.declared.writes.Direction.{Direction}
+use Rattle.art_writing.specs.declared.writes.Direction.TheVariants.{Before, After}
 
 -- the parent, where there is one, has a child under its byte
 abbrev pub HasChild : Inners → Option (InnerPtr × ℕ) → Type 0
@@ -36,16 +36,16 @@ LinksAreThere leaves name =
     IfSome (map.get leaves name) (λ leaf. IsThere leaves leaf.previous × IsThere leaves leaf.next)
 
 -- the side of the byte of a child on which that of a new one is
-abbrev pub side_of : ℕ → ℕ → Neighbour
+abbrev pub side_of : ℕ → ℕ → Direction
 side_of new other = if nat_lt other new then After else Before
 
 -- the leaf with another one on a side
-abbrev pub with_beside : {K V : Type 0} → Neighbour → Option LeafPtr → LeafNode K V → LeafNode K V
+abbrev pub with_beside : {K V : Type 0} → Direction → Option LeafPtr → LeafNode K V → LeafNode K V
 with_beside Before other = with_previous other
 with_beside After other = with_next other
 
 -- a new leaf that comes right before a tree's first leaf, or right after its last one, has these leaves beside it
-abbrev pub IsBeside : {K V : Type 0} → Nodes K V → Tree OpaqueNodePtr (K × V) → Neighbour → Option LeafPtr →
+abbrev pub IsBeside : {K V : Type 0} → Nodes K V → Tree OpaqueNodePtr (K × V) → Direction → Option LeafPtr →
     Option LeafPtr → Type 0
 IsBeside s tree Before previous next =
     (first : LeafPtr) × HasFirstLeaf tree (leaf_name first) × (next ≡ Some first) ×

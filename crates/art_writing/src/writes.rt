@@ -16,23 +16,23 @@ use art_nodes::store::NodeStore;
 use art_reading::minmax::{maximum_unchecked, minimum_unchecked};
 use art_reading::path::{TreePath, last_step};
 
-/// A side of a leaf, or of the leaves of a tree.
+/// A direction from a leaf, or from the leaves of a tree, in the order of keys.
 #[derive(Clone, Copy)]
-pub(crate) enum Neighbour {
+pub(crate) enum Direction {
     Before,
     After,
 }
 
-impl Neighbour {
-    /// The side of the byte of a child on which that of a new one is.
+impl Direction {
+    /// The direction from the byte of a child to that of a new one.
     #[inline(always)]
     pub(crate) fn of(new: u8, other: u8) -> Self
         ensures { result ≡ side_of new other }
     {
         if other < new {
-            Neighbour::After
+            Direction::After
         } else {
-            Neighbour::Before
+            Direction::Before
         }
     }
 }
@@ -42,7 +42,7 @@ impl Neighbour {
 fn set_beside<K: AsBytes + Drop, V: Drop, const P: usize>(
     store: &mut NodeStore<K, V, P>,
     leaf: OptionalLeafPtr,
-    side: Neighbour,
+    side: Direction,
     other: OptionalLeafPtr,
 )
     requires { IsThere store.old.leaves leaf }
@@ -57,8 +57,8 @@ fn set_beside<K: AsBytes + Drop, V: Drop, const P: usize>(
         unreachable!()
     };
     let (previous, next) = match side {
-        Neighbour::Before => (other, node.next),
-        Neighbour::After => (node.previous, other),
+        Direction::Before => (other, node.next),
+        Direction::After => (node.previous, other),
     };
     store.set_links(leaf, previous, next);
 }
@@ -75,8 +75,8 @@ pub(crate) fn link<K: AsBytes + Drop, V: Drop, const P: usize>(
     ensures inners { store.new.inners ≡ store.old.inners }
     ensures promise { store.new.promise ≡ store.old.promise }
 {
-    set_beside(store, previous, Neighbour::After, next);
-    set_beside(store, next, Neighbour::Before, previous);
+    set_beside(store, previous, Direction::After, next);
+    set_beside(store, next, Direction::Before, previous);
 }
 
 /// Places a leaf of a pair, which is promised, between two others, and returns its name.
@@ -106,8 +106,8 @@ pub(crate) fn place_between<K: AsBytes + Drop, V: Drop, const P: usize>(
     let Ok(name) = store.place_leaf(leaf) else {
         unreachable!()
     };
-    set_beside(store, previous, Neighbour::After, Some(name));
-    set_beside(store, next, Neighbour::Before, Some(name));
+    set_beside(store, previous, Direction::After, Some(name));
+    set_beside(store, next, Direction::Before, Some(name));
     name
 }
 
@@ -162,21 +162,21 @@ pub(crate) fn replace_at<K: AsBytes + Drop, V: Drop, const P: usize>(
 pub(crate) fn links_beside<K: AsBytes + Drop, V: Drop, const P: usize>(
     store: &NodeStore<K, V, P>,
     name: OpaqueNodePtr,
-    side: Neighbour,
+    side: Direction,
 ) -> (OptionalLeafPtr, OptionalLeafPtr)
     requires { (tree : Tree OpaqueNodePtr (K × V)) × IsFullTree store.now name tree }
     ensures { (tree : Tree OpaqueNodePtr (K × V)) → IsFullTree store.now name tree →
         IsBeside store.now tree side result.0 result.1 }
 {
     match side {
-        Neighbour::Before => {
+        Direction::Before => {
             let first = minimum_unchecked(store, name);
             let Some(leaf) = store.leaf(first) else {
                 unreachable!()
             };
             (leaf.previous, Some(first))
         }
-        Neighbour::After => {
+        Direction::After => {
             let last = maximum_unchecked(store, name);
             let Some(leaf) = store.leaf(last) else {
                 unreachable!()

@@ -18,7 +18,7 @@ ghost use Rattle.art_writing.specs.ParentWrites.{HasChild};
 use super::DeletePoint;
 use super::apply::has_spare_child;
 use crate::deallocate::free_nodes;
-use crate::writes::{Neighbour, link, links_beside, replace_at};
+use crate::writes::{Direction, link, links_beside, replace_at};
 use art_nodes::node::{AsBytes, LeafPtr, NodeType, OpaqueNodePtr};
 use art_nodes::store::NodeStore;
 use art_reading::descent::{End, walk_below, walk_to_end};
@@ -176,7 +176,7 @@ impl SubtreeDeletePoint {
                 count: 1,
             };
         };
-        let (_, next) = links_beside(store, self.node, Neighbour::After);
+        let (_, next) = links_beside(store, self.node, Direction::After);
         store.remove_child(parent, byte);
         link(store, Some(first), next);
         let new_root = replace_at(store, self.path, root, first.to_opaque());

@@ -18,7 +18,7 @@ ghost use Rattle.art_reading.specs.PathSteps.{last_step};
 ghost use Rattle.art_reading.specs.declared.end_node.InsertKind.TheVariants as kinds;
 
 use super::{InsertParentNodeChange, InsertPoint, InsertResult, Refused};
-use crate::writes::{Neighbour, links_beside, place_between, replace_at};
+use crate::writes::{Direction, links_beside, place_between, replace_at};
 use art_nodes::node::{
     AsBytes, Header, InnerPtr, LeafPtr, NodeType, OpaqueNodePtr, OptionalLeafPtr,
 };
@@ -54,7 +54,7 @@ fn branch_above<K: AsBytes + Drop, V: Drop, const P: usize>(
     ensures beside { (tree : Tree OpaqueNodePtr (K × V)) → IsFullTree store.now name tree →
         IsBeside store.now tree (side_of new_byte old_byte) result.previous result.next }
 {
-    let (previous, next) = links_beside(store, name, Neighbour::of(new_byte, old_byte));
+    let (previous, next) = links_beside(store, name, Direction::of(new_byte, old_byte));
     Branch {
         header: Header::new(part, part.len()),
         old_byte,

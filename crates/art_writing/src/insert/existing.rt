@@ -6,7 +6,7 @@ ghost use Rattle.art_writing.specs.Inserted.{IsPointIn, placed_for};
 ghost use Rattle.art_reading.specs.declared.end_node.InsertKind.TheVariants as kinds;
 
 use super::{InsertParentNodeChange, InsertPoint, InsertResult, Refused};
-use crate::writes::{Neighbour, links_beside, place_between, replace_at};
+use crate::writes::{Direction, links_beside, place_between, replace_at};
 use art_nodes::node::{AsBytes, InnerPtr, LeafPtr, NodeType, OpaqueNodePtr, OptionalLeafPtr};
 use art_nodes::store::NodeStore;
 use art_reading::path::TreePath;
@@ -71,7 +71,7 @@ impl InsertPoint {
         };
         let byte = key_bytes[self.key_bytes_used];
         let (other, child) = node.beside(byte);
-        links_beside(store, child, Neighbour::of(byte, other))
+        links_beside(store, child, Direction::of(byte, other))
     }
 }
 

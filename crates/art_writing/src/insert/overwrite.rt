@@ -8,13 +8,13 @@ ghost use Rattle.art_model.specs.Roots.{IsFullTree};
 ghost use Rattle.art_model.specs.Trees.{Tree};
 ghost use Rattle.art_writing.specs.Applied.{IsPrefixApplied};
 ghost use Rattle.art_writing.specs.ParentWrites.{IsBeside};
-ghost use Rattle.art_writing.specs.declared.writes.Neighbour.TheVariants.{Before, After};
+ghost use Rattle.art_writing.specs.declared.writes.Direction.TheVariants.{Before, After};
 ghost use Rattle.art_writing.specs.Overwritten.{IsOverwritePointIn};
 ghost use Rattle.art_writing.specs.declared.insert.PrefixInsertPoint.TheVariants as points;
 
 use super::{InsertParentNodeChange, InsertResult, OverwritePoint, PrefixInsertResult, Refused};
 use crate::deallocate::deallocate_tree;
-use crate::writes::{Neighbour, links_beside, place_between, replace_at};
+use crate::writes::{Direction, links_beside, place_between, replace_at};
 use art_nodes::node::{AsBytes, OptionalLeafPtr};
 use art_nodes::store::NodeStore;
 
@@ -64,8 +64,8 @@ impl OverwritePoint {
             IsFullTree store.now self.overwrite_point tree →
             (last : Option LeafPtr) × IsBeside store.now tree After last result.1 }
     {
-        let (previous, _) = links_beside(store, self.overwrite_point, Neighbour::Before);
-        let (_, next) = links_beside(store, self.overwrite_point, Neighbour::After);
+        let (previous, _) = links_beside(store, self.overwrite_point, Direction::Before);
+        let (_, next) = links_beside(store, self.overwrite_point, Direction::After);
         (previous, next)
     }
 }
