@@ -86,23 +86,21 @@ fn agree_on_call(
 // Whether both have the same pairs, in the same order, from the front.
 fn agree_from_front(map: &Map, model: &BTreeMap<Key, u32>) -> bool {
     let mut own = map.iter();
+    let mut agree = true;
     for pair in model.iter() {
-        if own.next() != Some(pair) {
-            return false;
-        }
+        agree &= own.next() == Some(pair);
     }
-    own.next().is_none()
+    agree & own.next().is_none()
 }
 
 // The same from the back.
 fn agree_from_back(map: &Map, model: &BTreeMap<Key, u32>) -> bool {
     let mut own = map.iter();
+    let mut agree = true;
     for pair in model.iter().rev() {
-        if own.next_back() != Some(pair) {
-            return false;
-        }
+        agree &= own.next_back() == Some(pair);
     }
-    own.next_back().is_none()
+    agree & own.next_back().is_none()
 }
 
 // The same from both ends, and in number.
@@ -204,23 +202,21 @@ fn agree_on_write(map: &mut Map, model: &mut Model, key: Key, value: u32, call: 
 // Whether both have the same keys from the front.
 fn agree_on_keys(map: &Map, model: &BTreeMap<Key, u32>) -> bool {
     let mut own = map.keys();
+    let mut agree = true;
     for key in model.keys() {
-        if own.next() != Some(key) {
-            return false;
-        }
+        agree &= own.next() == Some(key);
     }
-    own.next().is_none()
+    agree & own.next().is_none()
 }
 
 // Whether both have the same values from the back.
 fn agree_on_values(map: &Map, model: &BTreeMap<Key, u32>) -> bool {
     let mut own = map.values();
+    let mut agree = true;
     for value in model.values().rev() {
-        if own.next_back() != Some(value) {
-            return false;
-        }
+        agree &= own.next_back() == Some(value);
     }
-    own.next_back().is_none()
+    agree & own.next_back().is_none()
 }
 
 // Whether both have the same keys, and the same values.

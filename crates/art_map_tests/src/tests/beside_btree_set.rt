@@ -46,34 +46,69 @@ fn agree_on_questions(set: &Set, model: &Model, key: Key) -> bool {
 
 // Whether both have the same keys from both ends.
 fn agree_on_keys(set: &Set, model: &Model) -> bool {
-    set.iter().eq(model.iter()) && set.iter().rev().eq(model.iter().rev())
+    let (mut front, mut back) = (set.iter(), set.iter());
+    let mut agree = true;
+    for key in model.iter() {
+        agree &= front.next() == Some(key);
+    }
+    for key in model.iter().rev() {
+        agree &= back.next_back() == Some(key);
+    }
+    agree & front.next().is_none() & back.next_back().is_none()
+}
+
+// Whether the parts below the first byte of a key are the same.
+fn agree_below(set: &Set, model: &Model, key: Key) -> bool {
+    let mut below = set.prefix(&key[..1]);
+    let mut agree = true;
+    for stored in model.iter() {
+        if stored[0] == key[0] {
+            agree &= below.next() == Some(stored);
+        }
+    }
+    agree & below.next().is_none()
+}
+
+// The first key after this one, and the last one up to it.
+fn beside_key(model: &Model, key: Key) -> (Option<Key>, Option<Key>) {
+    let (mut after, mut up_to) = (None, None);
+    for stored in model.iter() {
+        if *stored <= key {
+            up_to = Some(*stored);
+        } else if after.is_none() {
+            after = Some(*stored);
+        }
+    }
+    (after, up_to)
 }
 
 // Whether the parts below a prefix, and after and before a key, are the same.
 fn agree_on_parts(set: &Set, model: &Model, key: Key) -> bool {
     let bytes = &key[..];
     let (after, before) = (Bound::Excluded(bytes), Bound::Included(bytes));
-    let mut below = set.prefix(&key[..1]);
-    for stored in model.iter() {
-        if stored[0] == key[0] && below.next() != Some(stored) {
-            return false;
-        }
-    }
-    below.next().is_none()
-        && set.first_from(after) == model.iter().find(|stored| **stored > key)
-        && set.last_up_to(before) == model.iter().rev().find(|stored| **stored <= key)
-        && set.range((after, Bound::Unbounded)).next() == set.first_from(after)
-        && set.range((Bound::Unbounded, before)).next_back() == set.last_up_to(before)
+    let found = [
+        set.first_from(after).copied(),
+        set.range((after, Bound::Unbounded)).next().copied(),
+        set.last_up_to(before).copied(),
+        set.range((Bound::Unbounded, before)).next_back().copied(),
+    ];
+    let (next, last) = beside_key(model, key);
+    found == [next, next, last, last] && agree_below(set, model, key)
 }
 
 // Whether what two sets have together is the same.
 fn agree_on_walks(set: &Set, other: &Set, model: &Model, beside: &Model) -> bool {
-    set.union(other).eq(model.union(beside))
-        && set.intersection(other).eq(model.intersection(beside))
-        && set.difference(other).eq(model.difference(beside))
-        && set
-            .symmetric_difference(other)
-            .eq(model.symmetric_difference(beside))
+    let (of_one, of_the_model) = (
+        set.symmetric_difference(other),
+        model.symmetric_difference(beside),
+    );
+    let agree = [
+        set.union(other).eq(model.union(beside)),
+        set.intersection(other).eq(model.intersection(beside)),
+        set.difference(other).eq(model.difference(beside)),
+        of_one.eq(of_the_model),
+    ];
+    agree == [true; 4]
 }
 
 // Whether two sets compare in the same way.
@@ -105,23 +140,20 @@ fn differ_at(
     for change in 0..changes {
         let key = drawn_key(&mut numbers);
         let call = numbers.below(if (change / 100) % 2 == 0 { 12 } else { 6 });
-        let agree = if numbers.is_heads() {
+        let mut agree = if numbers.is_heads() {
             agree_on_change(left, left_model, key, call)
         } else {
             agree_on_change(right, right_model, key, call)
         };
-        if !agree || !agree_on_questions(left, left_model, key) {
-            return Some(change);
+        if change % 50 == 49 {
+            agree &= agree_on_retained(right, right_model, key[0]);
         }
-        if change % 50 == 49 && !agree_on_retained(right, right_model, key[0]) {
-            return Some(change);
-        }
-        if !agree_on_keys(left, left_model) || !agree_on_parts(right, right_model, key) {
-            return Some(change);
-        }
-        if !agree_on_walks(left, right, left_model, right_model)
-            || !agree_on_order(left, right, left_model, right_model)
-        {
+        agree &= agree_on_questions(left, left_model, key);
+        agree &= agree_on_keys(left, left_model);
+        agree &= agree_on_parts(right, right_model, key);
+        agree &= agree_on_walks(left, right, left_model, right_model);
+        agree &= agree_on_order(left, right, left_model, right_model);
+        if !agree {
             return Some(change);
         }
     }

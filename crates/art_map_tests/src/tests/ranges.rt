@@ -256,39 +256,39 @@ fn agree_from_both(
     numbers: &mut Numbers,
 ) -> bool {
     let mut rest = pairs.iter();
+    let mut agree = true;
     for _ in 0..pairs.len() {
-        let agree = if numbers.is_heads() {
+        agree &= if numbers.is_heads() {
             copied(own.next()) == rest.next().copied()
         } else {
             copied(own.next_back()) == rest.next_back().copied()
         };
-        if !agree {
-            return false;
-        }
     }
-    own.next().is_none() && own.next_back().is_none()
+    agree & own.next().is_none() & own.next_back().is_none()
 }
 
 // Whether a part of the map has the same pairs as of the other one, in order from the front.
 fn agree_from_front(map: &Map, model: &BTreeMap<Key, u32>, part: Part<'_>) -> bool {
     let mut own = part_of(map, part);
+    let mut agree = true;
     for (key, value) in model.iter() {
-        if is_part(part, key) && own.next() != Some((key, value)) {
-            return false;
+        if is_part(part, key) {
+            agree &= own.next() == Some((key, value));
         }
     }
-    own.next().is_none()
+    agree & own.next().is_none()
 }
 
 // The same from the back.
 fn agree_from_back(map: &Map, model: &BTreeMap<Key, u32>, part: Part<'_>) -> bool {
     let mut own = part_of(map, part);
+    let mut agree = true;
     for (key, value) in model.iter().rev() {
-        if is_part(part, key) && own.next_back() != Some((key, value)) {
-            return false;
+        if is_part(part, key) {
+            agree &= own.next_back() == Some((key, value));
         }
     }
-    own.next_back().is_none()
+    agree & own.next_back().is_none()
 }
 
 // Whether a part of the map has the pairs of the other one, each taken from an end that is drawn.

@@ -1,11 +1,15 @@
 //! Two trees in one store: drawn insertions and deletions in both, each beside a `BTreeMap`.
-use art_nodes::node::OpaqueNodePtr;
+ghost use Rattle.std.specs.Prelude.{IfSome};
+ghost use Rattle.art_operations.specs.Checks.{IsWellFormed};
+ghost use Rattle.art_model.specs.Pairs.{of_key};
+
+use art_nodes::node::{AsBytes, OpaqueNodePtr};
 use art_nodes::store::NodeStore;
 use art_operations::deallocate::deallocate_tree;
 use art_operations::delete::search_for_delete_point;
 use art_operations::insert::{plant, search_for_insert_point};
 use art_operations::lookup::search_unchecked;
-use art_operations::well_formed::WellFormedChecker;
+use art_operations::well_formed::{WellFormedChecker, WellFormedTreeStats};
 use art_test_support::expected::as_expected;
 use art_test_support::numbers::Numbers;
 use art_test_support::trees::value_of;
@@ -18,8 +22,46 @@ type Store = NodeStore<Key, u32, 1>;
 
 type Model = BTreeMap<Key, u32>;
 
+// How many nodes a tree has, where the checker finds no fault. It says that the root is canonical.
+fn checked<K: AsBytes + Drop, const P: usize>(
+    store: &NodeStore<K, u32, P>,
+    root: OpaqueNodePtr,
+) -> Option<WellFormedTreeStats>
+    ensures { IfSome result (λ stats. IsWellFormed (of_key K.bytes) P store.now root stats) }
+{
+    match WellFormedChecker::check_tree(store, root) {
+        Ok(stats) => Some(stats),
+        Err(_fault) => None,
+    }
+}
+
+// Plants a tree of one pair, and returns its root.
+fn planted(store: &mut Store, key: Key, value: u32) -> Option<OpaqueNodePtr> {
+    match plant(store, key, value) {
+        Ok(name) => Some(name.to_opaque()),
+        Err(_refused) => None,
+    }
+}
+
+// The root after a pair was put into a tree, and the value that it replaced.
+fn put(
+    store: &mut Store,
+    root: OpaqueNodePtr,
+    key: Key,
+    value: u32,
+) -> Option<(OpaqueNodePtr, Option<u32>)> {
+    let _ = checked(store, root)?;
+    let point = search_for_insert_point(store, root, &key).ok()?;
+    match point.apply(store, key, value) {
+        Ok(done) => match done.existing_leaf {
+            Some(leaf) => Some((done.new_root, Some(leaf.value))),
+            None => Some((done.new_root, None)),
+        },
+        Err(_refused) => None,
+    }
+}
+
 // Puts a pair into a tree, or plants one, and into its model, and returns the root, if both had the same value before.
-// The checker says that the root is canonical.
 fn insert(
     store: &mut Store,
     root: Option<OpaqueNodePtr>,
@@ -27,29 +69,32 @@ fn insert(
     key: Key,
     value: u32,
 ) -> Option<OpaqueNodePtr> {
-    let Ok(old) = model.insert(key, value) else {
-        return None;
-    };
+    let old = model.insert(key, value).ok()?;
     let Some(root) = root else {
-        return match plant(store, key, value) {
-            Ok(name) => Some(name.to_opaque()),
-            Err(_) => None,
-        };
+        return planted(store, key, value);
     };
-    let Ok(_) = WellFormedChecker::check_tree(store, root) else {
-        return None;
-    };
-    let Ok(point) = search_for_insert_point(store, root, &key) else {
-        return None;
-    };
-    let Ok(done) = point.apply(store, key, value) else {
-        return None;
-    };
-    let replaced = done.existing_leaf.map(|leaf| leaf.value);
+    let (new_root, replaced) = put(store, root, key, value)?;
     if replaced == old {
-        Some(done.new_root)
+        Some(new_root)
     } else {
         None
+    }
+}
+
+// The root that is left after a key was taken out of a tree, and the value that it had. The inner `None` is for a key that
+// is not there.
+fn taken(
+    store: &mut Store,
+    root: OpaqueNodePtr,
+    key: Key,
+) -> Option<Option<(Option<OpaqueNodePtr>, u32)>> {
+    let _ = checked(store, root)?;
+    let Some(point) = search_for_delete_point(store, root, &key) else {
+        return Some(None);
+    };
+    match point.apply(store, root) {
+        Ok(done) => Some(Some((done.new_root, done.deleted_leaf.value))),
+        Err(_refused) => None,
     }
 }
 
@@ -61,24 +106,11 @@ fn delete(
     key: Key,
 ) -> Option<Option<OpaqueNodePtr>> {
     let old = model.remove(&key);
-    let Ok(_) = WellFormedChecker::check_tree(store, root) else {
-        return None;
+    let (left, value) = match taken(store, root, key)? {
+        Some((left, value)) => (left, Some(value)),
+        None => (Some(root), None),
     };
-    let Some(point) = search_for_delete_point(store, root, &key) else {
-        return if old.is_none() {
-            Some(Some(root))
-        } else {
-            None
-        };
-    };
-    let Ok(done) = point.apply(store, root) else {
-        return None;
-    };
-    if old == Some(done.deleted_leaf.value) {
-        Some(done.new_root)
-    } else {
-        None
-    }
+    if value == old { Some(left) } else { None }
 }
 
 // A drawn change of a tree and of its model, and the root after it, if they agree.
@@ -102,18 +134,18 @@ fn agree(store: &Store, root: Option<OpaqueNodePtr>, model: &Model) -> bool {
     let Some(root) = root else {
         return model.is_empty();
     };
-    let Ok(stats) = WellFormedChecker::check_tree(store, root) else {
+    let Some(stats) = checked(store, root) else {
         return false;
     };
+    let mut agree = stats.num_leaf == model.len();
     for (key, value) in model.iter() {
-        let Some(leaf) = search_unchecked(store, root, key) else {
-            return false;
+        let found = match search_unchecked(store, root, key) {
+            Some(leaf) => value_of(store, leaf),
+            None => None,
         };
-        if value_of(store, leaf) != Some(*value) {
-            return false;
-        }
+        agree &= found == Some(*value);
     }
-    stats.num_leaf == model.len()
+    agree
 }
 
 // The roots of two trees after drawn changes, or the number of the first call after which one differs from its model.
@@ -160,7 +192,7 @@ fn left_alone(
     let Some(root) = one else {
         return (None, false);
     };
-    let Ok(_) = WellFormedChecker::check_tree(store, root) else {
+    let Some(_) = checked(store, root) else {
         return (None, false);
     };
     let freed = deallocate_tree(root, store);

@@ -108,7 +108,13 @@ fn leaves_left<const P: usize>(
     let root = planted_all(store, &FOUR).ok()??;
     let (_, leaves) = names_of_four(store, root)?;
     let left = free_inner_nodes(store, root)?;
-    Some((left, leaves.map(|leaf| value_of(store, leaf))))
+    let values = [
+        value_of(store, leaves[0]),
+        value_of(store, leaves[1]),
+        value_of(store, leaves[2]),
+        value_of(store, leaves[3]),
+    ];
+    Some((left, values))
 }
 
 // What is left of so many leaves and inner nodes where the inner ones are freed.

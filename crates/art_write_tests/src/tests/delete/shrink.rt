@@ -27,6 +27,11 @@ fn kind_for(count: usize) -> Option<NodeType> {
     }
 }
 
+// The kind of the root that is left, if there is one.
+fn kind_left(root: Option<OpaqueNodePtr>) -> Option<NodeType> {
+    Some(root?.node_type())
+}
+
 // Takes all 256 keys of one byte out. Returns the root that is left, and how many keys there were when the root was of
 // another kind than it had to be.
 fn take_all_out<const P: usize>(
@@ -41,7 +46,7 @@ fn take_all_out<const P: usize>(
         let top = root?;
         root = take_out(store, top, &[turn.wrapping_mul(77)])?;
         let left = usize::from(255 - turn);
-        if root.map(|root| root.node_type()) != kind_for(left) {
+        if kind_left(root) != kind_for(left) {
             return Some((root, Some(left)));
         }
     }
@@ -147,7 +152,7 @@ fn left_of_five<const P: usize>(
     let root = planted_all(store, &SIX[..5]).ok()??;
     promise(store, root, 0, NodeType::Node4).ok()?;
     let (new_root, gone) = left_without_memory(store, root)?;
-    Some((gone.value, new_root.map(|root| root.node_type())))
+    Some((gone.value, kind_left(new_root)))
 }
 
 #[test]

@@ -284,8 +284,20 @@ fn shrinks_a_parent_of_each_kind(rt: HostRuntime) -> Result<(), Fail> {
 // More nodes of one kind than a store has room for before it is asked for.
 const MORE_THAN_FIT: usize = 100_000;
 
-// What a refused removal touches of these nodes, beside nodes of the smaller kind that take all that there is room for.
-// The point has to come back.
+// What a refused removal touches of these nodes. The point has to come back.
+fn refused_removal<const P: usize>(
+    store: &mut NodeStore<Key, u32, P>,
+    root: OpaqueNodePtr,
+    before: &[Seen],
+) -> Option<(bool, Touched)>
+    requires { IsCanonicalRoot (of_key (λ key. key.items)) P store.old root }
+{
+    let point = search_for_prefix_delete_point(store, root, &[255])?;
+    let refused = point.apply(store, root).err()?;
+    Some((refused.point == point, count_touched(store, before)))
+}
+
+// The same beside nodes of the smaller kind that take all that there is room for.
 fn refused_in_crowd<const P: usize>(
     store: &mut NodeStore<Key, u32, P>,
     root: OpaqueNodePtr,
@@ -296,11 +308,10 @@ fn refused_in_crowd<const P: usize>(
 {
     let held = all_memory(store.alloc()).ok()?;
     place_beside(store, root, kind, MORE_THAN_FIT);
-    let point = search_for_prefix_delete_point(store, root, &[255])?;
-    let refused = point.apply(store, root);
+    let refused = refused_removal(store, root, before);
     drop(held);
-    let (_, freed, changed) = count_touched(store, before);
-    Some((refused.err()?.point == point, (freed, changed)))
+    let (is_back, (_, freed, changed)) = refused?;
+    Some((is_back, (freed, changed)))
 }
 
 // The same in the tree of so many keys of one byte and two that begin with 255.

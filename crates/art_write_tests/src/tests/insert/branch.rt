@@ -22,7 +22,10 @@ fn branch_of<const P: usize>(
     bytes: [u8; 2],
 ) -> Option<Branch> {
     let outline = outline_of(store, name, stored)?;
-    let has_children = bytes.map(|byte| child(store, name, byte).is_some());
+    let has_children = [
+        child(store, name, bytes[0]).is_some(),
+        child(store, name, bytes[1]).is_some(),
+    ];
     Some((outline, has_children))
 }
 
@@ -57,6 +60,16 @@ struct Split {
     found: Option<OpaqueNodePtr>,
 }
 
+// The node that was split, where that is to be an inner one.
+fn rest_seen<const P: usize>(
+    store: &NodeStore<Key, u32, P>,
+    case: Case<'_>,
+    old: OpaqueNodePtr,
+) -> Option<Branch> {
+    let (_, stored) = case.rest?;
+    branch_of(store, old, stored, [5, 6])
+}
+
 // What is seen of a case.
 fn split_seen<const P: usize>(
     store: &NodeStore<Key, u32, P>,
@@ -70,15 +83,14 @@ fn split_seen<const P: usize>(
         point: case.byte.and(Some(effect.point)),
         done: effect.done,
         parent: branch_of(store, parent, stored, [byte, 9])?,
-        rest: case
-            .rest
-            .and_then(|(_, stored)| branch_of(store, old, stored, [5, 6])),
+        rest: rest_seen(store, case, old),
         found: child(store, parent, byte),
     })
 }
 
 // The point of a key that parts from the prefix [1, 1] of what the root has under a byte, after one byte of it.
-fn point_below(effect: Effect, byte: u8) -> Option<PrefixInsertPoint> {
+fn point_below(effect: Effect, byte: Option<u8>) -> Option<PrefixInsertPoint> {
+    let byte = byte?;
     let root = effect.root;
     Some(PrefixInsertPoint::InsertPoint(InsertPoint {
         path: TreePath::ChildOfRoot {
@@ -98,6 +110,12 @@ fn point_below(effect: Effect, byte: u8) -> Option<PrefixInsertPoint> {
     }))
 }
 
+// What the split node is to be, where that is an inner one.
+fn rest_expected(case: Case<'_>) -> Option<Branch> {
+    let (len, _) = case.rest?;
+    Some(branch_below(len))
+}
+
 // What is to be seen of it. The root stays where what is below it is split.
 fn split_expected(case: Case<'_>, effect: Effect, parent: OpaqueNodePtr) -> Option<Split> {
     let new_root = if case.byte.is_some() {
@@ -106,10 +124,10 @@ fn split_expected(case: Case<'_>, effect: Effect, parent: OpaqueNodePtr) -> Opti
         parent
     };
     Some(Split {
-        point: case.byte.and_then(|byte| point_below(effect, byte)),
+        point: point_below(effect, case.byte),
         done: done_below(effect.done, new_root, parent, 9, case.touched)?,
         parent: branch_below(case.parent.0),
-        rest: case.rest.map(|(len, _)| branch_below(len)),
+        rest: rest_expected(case),
         found: effect.below,
     })
 }

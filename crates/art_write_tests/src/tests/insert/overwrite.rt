@@ -15,7 +15,7 @@ use art_operations::lookup::search_unchecked;
 use art_operations::path::TreePath;
 use art_test_support::expected::{as_expected, same};
 use art_test_support::nodes::count_nodes;
-use art_test_support::points::{Insertion, Way, put};
+use art_test_support::points::{Gone, Insertion, Way, put};
 use art_test_support::trees::{Key, keys_of_three, planted_all, planted_keys, value_of};
 use std::alloc::Global;
 use std::test::Fail;
@@ -343,6 +343,11 @@ struct Ordinary {
     touched: (usize, usize, usize),
 }
 
+// The value of a pair that gave way.
+fn value_of_gone(pair: Option<Gone>) -> Option<u32> {
+    Some(pair?.value)
+}
+
 // What comes of a key that is related to no unequal one.
 fn tried_apart(alloc: Global, slices: &[&[u8]], key: &[u8]) -> Option<Ordinary> {
     let (seen, _) = tried(alloc, slices, key, key)?;
@@ -355,7 +360,7 @@ fn tried_apart(alloc: Global, slices: &[&[u8]], key: &[u8]) -> Option<Ordinary> 
     };
     Some(Ordinary {
         kind: kind_of(seen.point),
-        existing: seen.done.existing.map(|pair| pair.value),
+        existing: value_of_gone(seen.done.existing),
         removed: seen.removed,
         keeps_root: seen.done.new_root == seen.root,
         told,

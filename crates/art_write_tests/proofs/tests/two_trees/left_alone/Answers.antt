@@ -4,5 +4,5 @@ use Rattle.art_write_tests.proofs.tests.two_trees.left_alone.Goals as goal
 
 pub deallocate_tree-freed-requires : goal.deallocate_tree-freed-requires
 deallocate_tree-freed-requires c =
-    let (pairs, layout, by, leaves, inners, few) = c.in-Ok-check_tree.ensures.well_formed in
+    let (pairs, layout, by, leaves, inners, few) = c.in-Some-checked.ensures in
     (search rules, (layout, has_children _ _ _ _ _ layout by))
