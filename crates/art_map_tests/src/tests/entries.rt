@@ -1,6 +1,6 @@
 //! Drawn calls of a map's entries beside those of a `BTreeMap`.
 use super::beside_btree::{Key, Map, Model, agree_on_pairs, drawn_key};
-use art_operations::map::ByteMap;
+use art_operations::map::{ByteMap, MapMakeError};
 use art_test_support::expected::as_expected;
 use art_test_support::numbers::Numbers;
 use std::collections::BTreeMap;
@@ -32,6 +32,35 @@ fn agree_on_made_of_key(map: &mut Map, model: &mut Model, key: Key) -> bool {
         return false;
     };
     stored == *entry.or_insert_with_key(|key| key[1] as u32)
+}
+
+// A value, where it is even.
+fn even(value: u32) -> Result<u32, u32> {
+    if value % 2 == 0 {
+        return Ok(value);
+    }
+    Err(value)
+}
+
+// The value of a key that is put in with an even one, or the odd one that is not; `None` for a refusal.
+fn tried(map: &mut Map, key: Key, value: u32) -> Result<u32, Option<u32>> {
+    match map.entry(key).or_try_insert_with(|| even(value)) {
+        Ok(own) => Ok(*own),
+        Err(MapMakeError::Make(odd)) => Err(Some(odd)),
+        Err(MapMakeError::Insert(_)) => Err(None),
+    }
+}
+
+// The same, with one that is made where it is even.
+fn agree_on_tried(map: &mut Map, model: &mut Model, key: Key, value: u32) -> bool {
+    let Ok(entry) = model.entry(key) else {
+        return false;
+    };
+    let other = match entry.or_try_insert_with(|| even(value)) {
+        Ok(other) => Ok(*other),
+        Err(odd) => Err(Some(odd)),
+    };
+    tried(map, key, value) == other
 }
 
 // The same, with the default.
@@ -79,8 +108,9 @@ fn agree_on_call(map: &mut Map, model: &mut Model, numbers: &mut Numbers) -> boo
     let (key, value) = (drawn_key(numbers), numbers.value());
     match numbers.below(40) {
         0..=9 => agree_on_made(map, model, key, value),
-        10..=19 => agree_on_made_of_key(map, model, key),
-        20..=29 => agree_on_default(map, model, key),
+        10..=16 => agree_on_made_of_key(map, model, key),
+        17..=22 => agree_on_default(map, model, key),
+        23..=29 => agree_on_tried(map, model, key, value),
         30..=37 => agree_on_changed(map, model, key, value),
         _ => agree_on_walks(map, model),
     }
