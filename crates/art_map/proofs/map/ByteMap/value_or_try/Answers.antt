@@ -12,7 +12,8 @@ use Rattle.art_map.proofs.Written.{is_there, lends_same, one_value, value_read, 
 use Rattle.art_map.proofs.map.ByteMap.value_or_try.Goals as goal
 
 pub invariant_of-self : goal.invariant_of-self
-invariant_of-self g c = tried_holds g.K.AsBytes.bytes g.row.P _ c.leaf_tried.new.store c.leaf_tried.new.root c.leaf_tried.new.len _ (g.F.FnOnce.post c.args.make tt) c.leaf_tried.result c.leaf_tried.ensures
+invariant_of-self g c =
+    tried_holds g.K.AsBytes.bytes g.row.P _ c.leaf_tried.new.store c.leaf_tried.new.root c.leaf_tried.new.len _ (g.F.FnOnce.post c.args.make tt) c.leaf_tried.result c.leaf_tried.ensures
 
 pub unreachable-requires : goal.unreachable-requires
 unreachable-requires g c =
