@@ -51,7 +51,9 @@ fn put(
     value: u32,
 ) -> Option<(OpaqueNodePtr, Option<u32>)> {
     let _ = checked(store, root)?;
-    let point = search_for_insert_point(store, root, &key).ok()?;
+    let Ok(point) = search_for_insert_point(store, root, &key) else {
+        return None;
+    };
     match point.apply(store, key, value) {
         Ok(done) => match done.existing_leaf {
             Some(leaf) => Some((done.new_root, Some(leaf.value))),

@@ -172,10 +172,10 @@ pub type Told = (Option<u32>, usize);
 /// The same, where the key came in.
 pub fn told(answer: Put<Key>) -> Option<Told> {
     match answer {
-        Ok(done) => match done.insert_result.existing_leaf {
-            Some(leaf) => Some((Some(leaf.value), done.leafs_removed)),
-            None => Some((None, done.leafs_removed)),
-        },
+        Ok(done) => Some((
+            done.insert_result.existing_leaf.map(|leaf| leaf.value),
+            done.leafs_removed,
+        )),
         Err(_) => None,
     }
 }
