@@ -1,6 +1,6 @@
 use Rattle.std.specs.Fmt.{HasWritten, IsPlainFormatter}
 use Rattle.art_engine.specs.NodeLines.{indent}
-use Rattle.art_engine.proofs.nodes.PlaceDisplay.fmt.Given as goal
+use Rattle.art_engine.proofs.nodes.LineStartDisplay.fmt.Given as goal
 
 -- two spaces are written for each turn so far
 abbrev pub invariant-loop : goal.invariant-loop
