@@ -7,6 +7,8 @@ use Rattle.art_model.specs.Writes.{as_inner}
 use Rattle.art_reading.specs.declared.path.TreePath.{TreePath}
 use Rattle.art_reading.specs.declared.path.TreePath.TheVariants.{Root, ChildOfRoot, Normal}
 use Rattle.art_reading.specs.declared.path.LastSteps.{LastSteps}
+use Rattle.art_reading.specs.declared.path.StepCount.{StepCount}
+use Rattle.art_reading.specs.declared.path.StepCount.TheVariants as count
 
 -- the path one step further down, to the child that a node has under a byte
 abbrev pub step_down : TreePath → InnerPtr → ℕ → TreePath
@@ -14,15 +16,17 @@ step_down Root node byte = ChildOfRoot node byte
 step_down (ChildOfRoot parent b) node byte = Normal parent b node byte
 step_down (Normal grandparent c parent b) node byte = Normal parent b node byte
 
--- the path that ends with a parent and a grandparent, as far as they are there, and with the bytes that lead down
-abbrev pub path_with : Option InnerPtr → ℕ → Option InnerPtr → ℕ → TreePath
-path_with None byte grandparent above = Root
-path_with (Some parent) byte None above = ChildOfRoot parent byte
-path_with (Some parent) byte (Some grandparent) above = Normal grandparent above parent byte
+-- the path that ends with so many steps, from a grandparent and a parent by the bytes that lead down
+abbrev pub path_with : StepCount → InnerPtr → ℕ → InnerPtr → ℕ → TreePath
+path_with count.None grandparent above parent byte = Root
+path_with count.One grandparent above parent byte = ChildOfRoot parent byte
+path_with count.Two grandparent above parent byte = Normal grandparent above parent byte
 
 -- the path that the last steps of a way make
 abbrev pub path_after : LastSteps → TreePath
-path_after steps = path_with steps.parent steps.child_key_byte steps.grandparent steps.parent_key_byte
+path_after steps =
+    path_with steps.count (record { kind = steps.grandparent_kind; slot = steps.grandparent_slot }) steps.parent_key_byte
+        (record { kind = steps.parent_kind; slot = steps.parent_slot }) steps.child_key_byte
 
 -- the last steps of a path: the parent and the grandparent, with the bytes that lead down
 abbrev pub path_of : {A : Type 0} → List (Frame OpaqueNodePtr A) → TreePath

@@ -3,7 +3,7 @@
 ghost use Rattle.std.specs.Prelude.{◌≡◌};
 ghost use Rattle.art_reading.specs.PathSteps.{last_step, up};
 
-use art_nodes::node::{InnerPtr, OptionalLeafPtr};
+use art_nodes::node::{InnerPtr, NodeType, OptionalLeafPtr};
 
 /// The inner nodes right above a node, and the bytes that lead down from them.
 #[derive(Clone, Copy, PartialEq, Eq, Debug)]
@@ -88,13 +88,24 @@ impl TreePath {
     }
 }
 
-// The last steps of a way down, in fields by themselves: a caller that does not ask for the path
-// keeps none of them in its loop.
+// How many of the last two steps of a way there are.
+#[derive(Clone, Copy)]
+enum StepCount {
+    None,
+    One,
+    Two,
+}
+
+// The last steps of a way down, in plain fields: a loop keeps them in registers, and a caller that does
+// not ask for the path keeps none of them.
 #[derive(Clone, Copy)]
 pub(crate) struct LastSteps {
-    parent: Option<InnerPtr>,
+    count: StepCount,
+    parent_kind: NodeType,
+    parent_slot: usize,
     child_key_byte: u8,
-    grandparent: Option<InnerPtr>,
+    grandparent_kind: NodeType,
+    grandparent_slot: usize,
     parent_key_byte: u8,
 }
 
@@ -108,9 +119,12 @@ impl LastSteps {
         ensures { path_after result ≡ Root }
     {
         LastSteps {
-            parent: None,
+            count: StepCount::None,
+            parent_kind: NodeType::Leaf,
+            parent_slot: 0,
             child_key_byte: 0,
-            grandparent: None,
+            grandparent_kind: NodeType::Leaf,
+            grandparent_slot: 0,
             parent_key_byte: 0,
         }
     }
@@ -120,10 +134,16 @@ impl LastSteps {
     pub(crate) fn step_down(&mut self, node: InnerPtr, byte: u8)
         ensures { path_after self.new ≡ step_down (path_after self.old) node byte }
     {
-        self.grandparent = self.parent;
+        self.grandparent_kind = self.parent_kind;
+        self.grandparent_slot = self.parent_slot;
         self.parent_key_byte = self.child_key_byte;
-        self.parent = Some(node);
+        self.parent_kind = node.kind;
+        self.parent_slot = node.slot;
         self.child_key_byte = byte;
+        match self.count {
+            StepCount::None => self.count = StepCount::One,
+            StepCount::One | StepCount::Two => self.count = StepCount::Two,
+        }
     }
 
     #[inline(always)]
@@ -131,13 +151,21 @@ impl LastSteps {
         ensures { result ≡ path_after self.now }
     {
         let child_key_byte = self.child_key_byte;
-        match (self.parent, self.grandparent) {
-            (None, _) => TreePath::Root,
-            (Some(parent), None) => TreePath::ChildOfRoot {
+        let parent = InnerPtr {
+            kind: self.parent_kind,
+            slot: self.parent_slot,
+        };
+        let grandparent = InnerPtr {
+            kind: self.grandparent_kind,
+            slot: self.grandparent_slot,
+        };
+        match self.count {
+            StepCount::None => TreePath::Root,
+            StepCount::One => TreePath::ChildOfRoot {
                 parent,
                 child_key_byte,
             },
-            (Some(parent), Some(grandparent)) => TreePath::Normal {
+            StepCount::Two => TreePath::Normal {
                 grandparent,
                 parent_key_byte: self.parent_key_byte,
                 parent,
