@@ -34,9 +34,8 @@ use Rattle.art_model.proofs.places.OnWay.{AreAside, aside_others, aside_off, asi
 use Rattle.art_model.proofs.stores.Shown.{IsShown, IsThere, leaf_shown, leaf_met, inner_met, shown_met}
 use Rattle.art_model.proofs.stores.Stores.{path_holds}
 use Rattle.art_model.specs.Roots.{ForTree, IsCanonicalRoot}
-use Rattle.art_reading.specs.declared.end_node.Spot.{Spot}
 use Rattle.art_reading.specs.declared.end_node.SearchStep.{SearchStep}
-use Rattle.art_reading.specs.declared.end_node.SearchStep.TheVariants.{Down}
+use Rattle.art_reading.specs.declared.end_node.SearchStep.TheVariants.{End, Down}
 use Rattle.art_reading.specs.declared.end_node.InsertKind.{InsertKind}
 use Rattle.art_reading.specs.declared.end_node.InsertKind.TheVariants.{MismatchPrefix, SplitLeaf, Exact, IntoExisting}
 use Rattle.art_reading.specs.declared.path.ExplicitMismatch.{ExplicitMismatch}
@@ -44,7 +43,7 @@ use Rattle.art_reading.specs.declared.path.PrefixMatch.{PrefixMatch}
 use Rattle.art_reading.specs.declared.path.TreePath.{TreePath}
 use Rattle.art_reading.specs.declared.path.TreePath.TheVariants.{Root}
 use Rattle.art_reading.specs.Matching.{shared_len}
-use Rattle.art_reading.specs.EndNodes.{IsAt, ComesTo, HasEndNode, IsOverwrittenWith, IsEndFor, IsKindFor, IsCompared, IsMismatch, IsStepFrom, used_in_prefix, ending}
+use Rattle.art_reading.specs.EndNodes.{IsAt, ComesTo, HasEndNode, IsOverwrittenWith, IsEndFor, IsKindFor, IsCompared, IsMismatch, IsStepFrom, used_in_prefix}
 use Rattle.art_reading.specs.PartEnds.{IsPlaced}
 use Rattle.art_reading.specs.PathSteps.{step_down}
 use Rattle.art_reading.proofs.Partings.{parted_unrelated, unrelated_after, conflict-related, no_conflict, first_conflict, same_conflict}
@@ -68,10 +67,10 @@ module _ {A : Type 0} (bytes : A → List ℕ) (P : ℕ) (key : List ℕ) (node 
 
 module _ {K V : Type 0} {s : Nodes K V} {bytes : K × V → List ℕ} {P : ℕ} {root : OpaqueNodePtr} {pairs : List (K × V)}
     {layout : Tree OpaqueNodePtr (K × V)} (by : IsCanonicalTree bytes P s root pairs layout) where
-  pub start : (key : List ℕ) → IsAt bytes P key layout (record { path = Root; name = root; depth = 0 })
+  pub start : (key : List ℕ) → IsAt bytes P key layout Root root 0
   start key = record { frames = []; place = []; node = layout; whole = refl; leads = refl; radix = (tree_radix by).0; on_way = (key, refl); named = by.stands.0.named; depth_is = refl; path_is = refl }
 
-  module _ {key : List ℕ} {path : TreePath} {name : OpaqueNodePtr} {depth : ℕ} (d : IsAt bytes P key layout (record { path = path; name = name; depth = depth })) where
+  module _ {key : List ℕ} {path : TreePath} {name : OpaqueNodePtr} {depth : ℕ} (d : IsAt bytes P key layout path name depth) where
     holds : Holds (node_at s) d.node
     holds = (path_holds (node_at s) d.frames d.node (subst (Holds (node_at s)) (sym d.whole) by.stands.0.holds)).1
 
@@ -295,7 +294,7 @@ module _ {K V : Type 0} {s : Nodes K V} {bytes : K × V → List ℕ} {P : ℕ} 
 
           -- a child goes on with the key
           goes_on : {to : OpaqueNodePtr} → Some to ≡ child_at shown.children (get_or key (depth + match.matched_bytes) 0) →
-              IsAt bytes P key layout (record { path = step_down path p (get_or key (depth + match.matched_bytes) 0); name = to; depth = depth + match.matched_bytes + 1 })
+              IsAt bytes P key layout (step_down path p (get_or key (depth + match.matched_bytes) 0)) to (depth + match.matched_bytes + 1)
           goes_on {to} there =
               let b = get_or key (depth + match.matched_bytes) 0 in
               let e : child_at (slots_of at.children) b ≡ Some to = ap (λ cs. child_at cs b) (sym at.slots) ∙ sym there in
@@ -326,21 +325,21 @@ module _ {K V : Type 0} {s : Nodes K V} {bytes : K × V → List ℕ} {P : ℕ} 
 
         -- the step past the prefix
         pub prefix_step : {step : SearchStep} →
-            (length key ≤ depth + match.matched_bytes → step ≡ ending (record { path = path; name = name; depth = depth }) None (depth + match.matched_bytes - 1)) →
+            (length key ≤ depth + match.matched_bytes → step ≡ End None (depth + match.matched_bytes - 1)) →
             (depth + match.matched_bytes < length key → child_at shown.children (get_or key (depth + match.matched_bytes) 0) ≡ None →
-            step ≡ ending (record { path = path; name = name; depth = depth }) (Some (IntoExisting p)) (depth + match.matched_bytes)) →
+            step ≡ End (Some (IntoExisting p)) (depth + match.matched_bytes)) →
             (depth + match.matched_bytes < length key → (to : OpaqueNodePtr) → child_at shown.children (get_or key (depth + match.matched_bytes) 0) ≡ Some to →
-            step ≡ Down (record { path = step_down path p (get_or key (depth + match.matched_bytes) 0); name = to; depth = depth + match.matched_bytes + 1 })) →
-            IsStepFrom bytes P key pairs layout depth step
+            step ≡ Down p (get_or key (depth + match.matched_bytes) 0) to (depth + match.matched_bytes + 1)) →
+            IsStepFrom bytes P key pairs layout path name depth step
         prefix_step {step} ends into down = by_length (leb (length key) (depth + match.matched_bytes)) refl
           where
             by_child : depth + match.matched_bytes < length key → (o : Option OpaqueNodePtr) → child_at shown.children (get_or key (depth + match.matched_bytes) 0) ≡ o →
-                IsStepFrom bytes P key pairs layout depth step
-            by_child long None e = subst (IsStepFrom bytes P key pairs layout depth) (sym (into long e)) (ends_after_prefix long (sym e))
-            by_child long (Some to) e = subst (IsStepFrom bytes P key pairs layout depth) (sym (down long to e)) (omega arith, goes_on long (sym e))
+                IsStepFrom bytes P key pairs layout path name depth step
+            by_child long None e = subst (IsStepFrom bytes P key pairs layout path name depth) (sym (into long e)) (ends_after_prefix long (sym e))
+            by_child long (Some to) e = subst (IsStepFrom bytes P key pairs layout path name depth) (sym (down long to e)) (omega arith, goes_on long (sym e))
 
-            by_length : (t : Bool) → leb (length key) (depth + match.matched_bytes) ≡ t → IsStepFrom bytes P key pairs layout depth step
-            by_length true e = let short = leb-true (length key) (depth + match.matched_bytes) e in subst (IsStepFrom bytes P key pairs layout depth) (sym (ends short)) (ends_with_prefix short)
+            by_length : (t : Bool) → leb (length key) (depth + match.matched_bytes) ≡ t → IsStepFrom bytes P key pairs layout path name depth step
+            by_length true e = let short = leb-true (length key) (depth + match.matched_bytes) e in subst (IsStepFrom bytes P key pairs layout path name depth) (sym (ends short)) (ends_with_prefix short)
             by_length false e = by_child (leb-false (length key) (depth + match.matched_bytes) e) (child_at shown.children (get_or key (depth + match.matched_bytes) 0)) refl
 
       -- the prefix and the key part, or the key ends
@@ -398,31 +397,31 @@ module _ {K V : Type 0} {s : Nodes K V} {bytes : K × V → List ℕ} {P : ℕ} 
 
         -- the step in the prefix
         pub mismatch_step : {step : SearchStep} →
-            (length key ≤ depth + m.matched_bytes → step ≡ ending (record { path = path; name = name; depth = depth }) None depth) →
-            (depth + m.matched_bytes < length key → step ≡ ending (record { path = path; name = name; depth = depth }) (Some (MismatchPrefix m p)) depth) →
-            IsStepFrom bytes P key pairs layout depth step
+            (length key ≤ depth + m.matched_bytes → step ≡ End None depth) →
+            (depth + m.matched_bytes < length key → step ≡ End (Some (MismatchPrefix m p)) depth) →
+            IsStepFrom bytes P key pairs layout path name depth step
         mismatch_step {step} ends parts = by_length (leb (length key) (depth + m.matched_bytes)) refl
           where
-            by_length : (t : Bool) → leb (length key) (depth + m.matched_bytes) ≡ t → IsStepFrom bytes P key pairs layout depth step
-            by_length true e = let short = leb-true (length key) (depth + m.matched_bytes) e in subst (IsStepFrom bytes P key pairs layout depth) (sym (ends short)) (ends_in_prefix short)
-            by_length false e = let long = leb-false (length key) (depth + m.matched_bytes) e in subst (IsStepFrom bytes P key pairs layout depth) (sym (parts long)) (parts_from_prefix long)
+            by_length : (t : Bool) → leb (length key) (depth + m.matched_bytes) ≡ t → IsStepFrom bytes P key pairs layout path name depth step
+            by_length true e = let short = leb-true (length key) (depth + m.matched_bytes) e in subst (IsStepFrom bytes P key pairs layout path name depth) (sym (ends short)) (ends_in_prefix short)
+            by_length false e = let long = leb-false (length key) (depth + m.matched_bytes) e in subst (IsStepFrom bytes P key pairs layout path name depth) (sym (parts long)) (parts_from_prefix long)
 
--- what was compared of the key at a spot is no more than the key has
-module _ {K V : Type 0} {s : Nodes K V} {bytes : K × V → List ℕ} {P : ℕ} {root : OpaqueNodePtr} {key : List ℕ} {spot : Spot}
-    (canonical : IsCanonicalRoot bytes P s root) (at : ForTree bytes P s root (λ pairs layout. IsAt bytes P key layout spot)) where
-  pub prefix_fits : {match : PrefixMatch} → ForTree bytes P s root (λ pairs layout. (d : IsAt bytes P key layout spot) → IsCompared bytes P key d.node spot.depth (Ok match)) →
-      spot.depth + match.matched_bytes ≤ length key
+-- what was compared of the key at a node is no more than the key has
+module _ {K V : Type 0} {s : Nodes K V} {bytes : K × V → List ℕ} {P : ℕ} {root : OpaqueNodePtr} {key : List ℕ} {path : TreePath} {name : OpaqueNodePtr} {depth : ℕ}
+    (canonical : IsCanonicalRoot bytes P s root) (at : ForTree bytes P s root (λ pairs layout. IsAt bytes P key layout path name depth)) where
+  pub prefix_fits : {match : PrefixMatch} → ForTree bytes P s root (λ pairs layout. (d : IsAt bytes P key layout path name depth) → IsCompared bytes P key d.node depth (Ok match)) →
+      depth + match.matched_bytes ≤ length key
   prefix_fits compared = let (pairs, layout, by) = canonical in let d = at pairs layout by in prefix_used by d (compared pairs layout by d)
 
-  pub mismatch_fits : {m : ExplicitMismatch} → ForTree bytes P s root (λ pairs layout. (d : IsAt bytes P key layout spot) → IsCompared bytes P key d.node spot.depth (Err m)) →
-      spot.depth + m.matched_bytes ≤ length key
+  pub mismatch_fits : {m : ExplicitMismatch} → ForTree bytes P s root (λ pairs layout. (d : IsAt bytes P key layout path name depth) → IsCompared bytes P key d.node depth (Err m)) →
+      depth + m.matched_bytes ≤ length key
   mismatch_fits compared = let (pairs, layout, by) = canonical in let d = at pairs layout by in mismatch_used by d (compared pairs layout by d)
 
--- the part of the tree at a spot, and the key, which is as long as the way to it
-module _ {K V : Type 0} {s : Nodes K V} {bytes : K × V → List ℕ} {P : ℕ} {key : List ℕ} {spot : Spot}
-    (spotted : (root : OpaqueNodePtr) × IsCanonicalRoot bytes P s root × ForTree bytes P s root (λ pairs layout. IsAt bytes P key layout spot)) where
-  pub part_at : {part : OpaqueNodePtr} → part ≡ spot.name → (node : Tree OpaqueNodePtr (K × V)) × IsPlaced bytes P s part spot.depth node
-  part_at is = let (root, (pairs, layout, by), at) = spotted in let d = at pairs layout by in (d.node, part_there by d is)
+-- the part of the tree at a node, and the key, which is as long as the way to it
+module _ {K V : Type 0} {s : Nodes K V} {bytes : K × V → List ℕ} {P : ℕ} {key : List ℕ} {name : OpaqueNodePtr} {depth : ℕ}
+    (found : (root : OpaqueNodePtr) × (path : TreePath) × IsCanonicalRoot bytes P s root × ForTree bytes P s root (λ pairs layout. IsAt bytes P key layout path name depth)) where
+  pub part_at : (node : Tree OpaqueNodePtr (K × V)) × IsPlaced bytes P s name depth node
+  part_at = let (root, path, (pairs, layout, by), at) = found in let d = at pairs layout by in (d.node, part_there by d refl)
 
-  pub key_reaches : spot.depth ≤ length key
-  key_reaches = let (root, (pairs, layout, by), at) = spotted in inside by (at pairs layout by)
+  pub key_reaches : depth ≤ length key
+  key_reaches = let (root, path, (pairs, layout, by), at) = found in inside by (at pairs layout by)

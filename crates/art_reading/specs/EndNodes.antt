@@ -18,11 +18,11 @@ use Rattle.art_reading.specs.declared.end_node.InsertKind.{InsertKind}
 use Rattle.art_reading.specs.declared.end_node.InsertKind.TheVariants.{MismatchPrefix, SplitLeaf, Exact, IntoExisting}
 use Rattle.art_reading.specs.declared.end_node.SearchStep.{SearchStep}
 use Rattle.art_reading.specs.declared.end_node.SearchStep.TheVariants.{End, Down}
-use Rattle.art_reading.specs.declared.end_node.Spot.{Spot}
+use Rattle.art_reading.specs.declared.path.TreePath.{TreePath}
 use Rattle.art_reading.specs.declared.path.ExplicitMismatch.{ExplicitMismatch}
 use Rattle.art_reading.specs.declared.path.PrefixMatch.{PrefixMatch}
 use Rattle.art_reading.specs.Matching.{shared_len}
-use Rattle.art_reading.specs.PathSteps.{path_of}
+use Rattle.art_reading.specs.PathSteps.{path_of, step_down}
 
 -- a key and a leaf's key part after so many bytes, each with a byte of its own
 abbrev pub PartAfter : ℕ → List ℕ → List ℕ → Type 0
@@ -101,11 +101,6 @@ module _ {A : Type 0} (bytes : A → List ℕ) (P : ℕ) (key : List ℕ) (node 
   ComesTo used (Some kind) = IsKindOf used kind
   ComesTo used None = IsOverwrittenWith bytes key depth used node
 
--- a step that ends at a spot
-abbrev pub ending : Spot → Option InsertKind → ℕ → SearchStep
-ending spot kind used =
-    End (record { path = spot.path; name = spot.name; insert_kind = kind; key_bytes_used = used })
-
 module _ {A : Type 0} (bytes : A → List ℕ) (P : ℕ) where
   -- The key's end node, with the parent and the grandparent of that and the bytes that lead down.
   pub record HasEndNode (layout : Tree OpaqueNodePtr A) (key : List ℕ) (end : EndNode) : Type 0 where
@@ -121,8 +116,8 @@ module _ {A : Type 0} (bytes : A → List ℕ) (P : ℕ) where
   IsEndFor key pairs layout end =
       (is_conflict bytes key pairs ≡ is_none end.insert_kind) × HasEndNode layout key end
 
-  -- the spot is a node of the tree at a place that is a prefix of the key
-  pub record IsAt (key : List ℕ) (tree : Tree OpaqueNodePtr A) (spot : Spot) : Type 0 where
+  -- this path leads to the node of this name, at a place of so many bytes that is a prefix of the key
+  pub record IsAt (key : List ℕ) (tree : Tree OpaqueNodePtr A) (path : TreePath) (name : OpaqueNodePtr) (depth : ℕ) : Type 0 where
     pub frames : List (Frame OpaqueNodePtr A)
     pub place : List ℕ
     pub node : Tree OpaqueNodePtr A
@@ -130,11 +125,13 @@ module _ {A : Type 0} (bytes : A → List ℕ) (P : ℕ) where
     pub leads : IsPath bytes P place frames
     pub radix : IsRadix bytes P place node
     pub on_way : IsFront place key
-    pub named : name_of node ≡ spot.name
-    pub depth_is : length place ≡ spot.depth
-    pub path_is : spot.path ≡ path_of frames
+    pub named : name_of node ≡ name
+    pub depth_is : length place ≡ depth
+    pub path_is : path ≡ path_of frames
 
-  -- a step from this depth comes to the key's end node, or further down
-  abbrev pub IsStepFrom : List ℕ → List A → Tree OpaqueNodePtr A → ℕ → SearchStep → Type 0
-  IsStepFrom key pairs layout depth (End end) = IsEndFor key pairs layout end
-  IsStepFrom key pairs layout depth (Down spot) = (depth < spot.depth) × IsAt key layout spot
+  -- a step from such a node ends there, at the key's end node, or comes further down
+  abbrev pub IsStepFrom : List ℕ → List A → Tree OpaqueNodePtr A → TreePath → OpaqueNodePtr → ℕ → SearchStep → Type 0
+  IsStepFrom key pairs layout path name depth (End kind used) =
+      IsEndFor key pairs layout (record { path = path; name = name; insert_kind = kind; key_bytes_used = used })
+  IsStepFrom key pairs layout path name depth (Down node byte child below) =
+      (depth < below) × IsAt key layout (step_down path node byte) child below

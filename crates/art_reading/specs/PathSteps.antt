@@ -26,7 +26,7 @@ path_with count.Two grandparent above parent byte = Normal grandparent above par
 abbrev pub path_after : LastSteps → TreePath
 path_after steps =
     path_with steps.count (record { kind = steps.grandparent_kind; slot = steps.grandparent_slot }) steps.parent_key_byte
-        (record { kind = steps.parent_kind; slot = steps.parent_slot }) steps.child_key_byte
+    (record { kind = steps.parent_kind; slot = steps.parent_slot }) steps.child_key_byte
 
 -- the last steps of a path: the parent and the grandparent, with the bytes that lead down
 abbrev pub path_of : {A : Type 0} → List (Frame OpaqueNodePtr A) → TreePath

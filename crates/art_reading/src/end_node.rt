@@ -1,19 +1,23 @@
 //! The way down with a key to its end node: the node with the longest place that is a prefix of it.
-ghost use Rattle.std.specs.Prelude.{◌≡◌, ◌≢◌, ◌≤◌, length, Some, None, slice_get, IfOk, IfErr};
+ghost use Rattle.std.specs.Prelude.{◌≡◌, ◌≢◌, ◌+◌, ◌-◌, ◌<◌, ◌≤◌, ◌^◌, get_or, length, Some, None, slice_get, IfOk, IfErr};
 ghost use Rattle.std.specs.FinMap as map;
 ghost use Rattle.art_parts.specs.Names.{inner_name};
 ghost use Rattle.art_parts.specs.declared.names.NodeType.TheVariants.{Leaf};
 ghost use Rattle.art_parts.specs.declared.names.OpaqueNodePtr.{OpaqueNodePtr};
+ghost use Rattle.art_inner.specs.Inner.{child_at};
 ghost use Rattle.art_inner.specs.Views.{ref_view};
 ghost use Rattle.art_model.specs.Keys.{IsFront};
 ghost use Rattle.art_model.specs.Pairs.{of_key};
 ghost use Rattle.art_model.specs.Roots.{ForTree, IsCanonicalRoot};
 ghost use Rattle.art_reading.specs.Matching.{shared_len};
 ghost use Rattle.art_reading.specs.EndNodes.{IsAt, IsCompared, IsEndFor, IsKindFor, IsStepFrom};
+ghost use Rattle.art_reading.specs.declared.end_node.InsertKind.TheVariants as kinds;
+ghost use Rattle.art_reading.specs.declared.end_node.SearchStep.TheVariants as steps;
+ghost use Rattle.art_reading.specs.declared.path.TreePath.{TreePath};
 
 use crate::matching::shared_len;
 use crate::minmax::minimum_unchecked;
-use crate::path::{ExplicitMismatch, PrefixMatch, TreePath};
+use crate::path::{ExplicitMismatch, LastSteps, PrefixMatch, TreePath};
 use art_nodes::node::{
     AsBytes, InnerPtr, InnerRef, LeafNode, LeafPtr, NodePtr, OpaqueNodePtr, OptionalLeafPtr,
 };
@@ -69,143 +73,81 @@ pub fn walk_to_end_node<K: AsBytes + Drop, V: Drop, const PREFIX_LEN: usize>(
     ensures { ForTree (of_key K.bytes) PREFIX_LEN store.now root (λ pairs layout.
         IsEndFor (of_key K.bytes) PREFIX_LEN key_bytes.now pairs layout result) }
 {
-    let mut spot = Spot {
-        path: TreePath::Root,
-        name: root,
-        depth: 0,
-    };
+    let mut steps = LastSteps::new();
+    let mut name = root;
+    let mut depth = 0;
     'down: loop {
-        match next_step(store, root, key_bytes, spot) {
-            SearchStep::End(end) => return end,
-            SearchStep::Down(below) => spot = below,
+        match next_step(store, root, key_bytes, name, depth) {
+            SearchStep::End {
+                insert_kind,
+                key_bytes_used,
+            } => {
+                return EndNode {
+                    path: steps.path(),
+                    name,
+                    insert_kind,
+                    key_bytes_used,
+                };
+            }
+            SearchStep::Down {
+                inner,
+                byte,
+                child,
+                child_depth,
+            } => {
+                steps.step_down(inner, byte);
+                name = child;
+                depth = child_depth;
+            }
         }
-    }
-}
-
-// A node on the way down with a key.
-#[derive(Clone, Copy)]
-struct Spot {
-    /// The nodes right above the node.
-    path: TreePath,
-    name: OpaqueNodePtr,
-    /// How many bytes lead to the node.
-    depth: usize,
-}
-
-impl Spot {
-    ghost use Rattle.std.specs.Prelude.{◌+◌, ◌-◌, ◌<◌, get_or};
-    ghost use Rattle.art_inner.specs.Inner.{child_at};
-    ghost use Rattle.art_reading.specs.PathSteps.{step_down};
-    ghost use Rattle.art_reading.specs.EndNodes.{ending};
-    ghost use Rattle.art_reading.specs.declared.end_node.InsertKind.TheVariants as kinds;
-    ghost use Rattle.art_reading.specs.declared.end_node.SearchStep.TheVariants as steps;
-
-    // The key's way ends at this node.
-    #[inline(always)]
-    fn end(self, insert_kind: Option<InsertKind>, key_bytes_used: usize) -> SearchStep
-        ensures { result ≡ ending self insert_kind key_bytes_used }
-    {
-        SearchStep::End(EndNode {
-            path: self.path,
-            name: self.name,
-            insert_kind,
-            key_bytes_used,
-        })
-    }
-
-    // The end at this node where the key, after so many bytes, parts from its prefix or ends in it.
-    #[inline(always)]
-    fn end_in_prefix(
-        self,
-        key_bytes: &[u8],
-        inner: InnerPtr,
-        mismatch: ExplicitMismatch,
-        depth: usize,
-    ) -> SearchStep
-        ensures ends { length key_bytes.now ≤ depth → result ≡ ending self None self.depth }
-        ensures parts { depth < length key_bytes.now →
-            result ≡ ending self (Some (kinds.MismatchPrefix mismatch inner)) self.depth }
-    {
-        if depth >= key_bytes.len() {
-            return self.end(None, self.depth);
-        }
-        let insert_kind = InsertKind::MismatchPrefix {
-            mismatch,
-            mismatched_inner_node_ptr: inner,
-        };
-        self.end(Some(insert_kind), self.depth)
-    }
-
-    // The step from this node with a key that has so many bytes up to the end of the node's prefix.
-    #[inline(always)]
-    fn step_past_prefix<const P: usize>(
-        self,
-        key_bytes: &[u8],
-        inner: InnerPtr,
-        node: InnerRef<'_, P>,
-        depth: usize,
-    ) -> SearchStep
-        ensures ends { length key_bytes.now ≤ depth → result ≡ ending self None (depth - 1) }
-        ensures into { depth < length key_bytes.now →
-            child_at (ref_view node.entry).children (get_or key_bytes.now depth 0) ≡ None →
-            result ≡ ending self (Some (kinds.IntoExisting inner)) depth }
-        ensures down { depth < length key_bytes.now → (child : OpaqueNodePtr) →
-            child_at (ref_view node.entry).children (get_or key_bytes.now depth 0) ≡ Some child →
-            result ≡ steps.Down (record {
-              path = step_down self.path inner (get_or key_bytes.now depth 0);
-              name = child;
-              depth = depth + 1;
-            }) }
-    {
-        if depth >= key_bytes.len() {
-            return self.end(None, depth.saturating_sub(1));
-        }
-        let byte = key_bytes[depth];
-        let Some(child) = node.lookup_child(byte) else {
-            let insert_kind = InsertKind::IntoExisting {
-                inner_node_ptr: inner,
-            };
-            return self.end(Some(insert_kind), depth);
-        };
-        SearchStep::Down(Spot {
-            path: self.path.step_down(inner, byte),
-            name: child,
-            depth: depth + 1,
-        })
     }
 }
 
 // Where a step on the way down with a key comes to.
 #[derive(Clone, Copy)]
 enum SearchStep {
-    /// The key's end node.
-    End(EndNode),
-    /// A child that the key goes on with.
-    Down(Spot),
+    /// The node is the key's end node, with what is to be done there.
+    End {
+        insert_kind: Option<InsertKind>,
+        key_bytes_used: usize,
+    },
+    /// The key goes on with a child.
+    Down {
+        inner: InnerPtr,
+        /// The byte under which the node has the child.
+        byte: u8,
+        child: OpaqueNodePtr,
+        /// How many bytes lead to the child.
+        child_depth: usize,
+    },
 }
 
-// One step on the way down.
+// The step from the node of this name, to which so many bytes of the key lead.
 #[inline(always)]
 fn next_step<K: AsBytes + Drop, V: Drop, const PREFIX_LEN: usize>(
     store: &NodeStore<K, V, PREFIX_LEN>,
     root: OpaqueNodePtr,
     key_bytes: &[u8],
-    spot: Spot,
+    name: OpaqueNodePtr,
+    depth: usize,
 ) -> SearchStep
     requires root { IsCanonicalRoot (of_key K.bytes) PREFIX_LEN store.now root }
-    requires spot { ForTree (of_key K.bytes) PREFIX_LEN store.now root (λ pairs layout.
-        IsAt (of_key K.bytes) PREFIX_LEN key_bytes.now layout spot) }
-    ensures { ForTree (of_key K.bytes) PREFIX_LEN store.now root (λ pairs layout.
-        IsStepFrom (of_key K.bytes) PREFIX_LEN key_bytes.now pairs layout spot.depth result) }
+    requires at { (path : TreePath) × ForTree (of_key K.bytes) PREFIX_LEN store.now root
+        (λ pairs layout. IsAt (of_key K.bytes) PREFIX_LEN key_bytes.now layout path name depth) }
+    ensures { (path : TreePath) → ForTree (of_key K.bytes) PREFIX_LEN store.now root
+        (λ pairs layout. IsAt (of_key K.bytes) PREFIX_LEN key_bytes.now layout path name depth →
+        IsStepFrom (of_key K.bytes) PREFIX_LEN key_bytes.now pairs layout path name depth result) }
 {
-    match spot.name.split() {
-        NodePtr::Inner(inner) => step_at_inner(store, root, key_bytes, spot, inner),
+    match name.split() {
+        NodePtr::Inner(inner) => step_at_inner(store, root, key_bytes, inner, depth),
         NodePtr::Leaf(leaf_node_ptr) => {
             let Some(leaf) = store.leaf(leaf_node_ptr) else {
                 unreachable!()
             };
-            let insert_kind = kind_at_leaf(leaf_node_ptr, leaf, key_bytes);
-            spot.end(insert_kind, spot.depth)
+            SearchStep::End {
+                insert_kind: kind_at_leaf(leaf_node_ptr, leaf, key_bytes),
+                key_bytes_used: depth,
+            }
         }
     }
 }
@@ -216,29 +158,94 @@ fn step_at_inner<K: AsBytes + Drop, V: Drop, const PREFIX_LEN: usize>(
     store: &NodeStore<K, V, PREFIX_LEN>,
     root: OpaqueNodePtr,
     key_bytes: &[u8],
-    spot: Spot,
     inner: InnerPtr,
+    depth: usize,
 ) -> SearchStep
     requires root { IsCanonicalRoot (of_key K.bytes) PREFIX_LEN store.now root }
-    requires spot { ForTree (of_key K.bytes) PREFIX_LEN store.now root (λ pairs layout.
-        IsAt (of_key K.bytes) PREFIX_LEN key_bytes.now layout spot) }
     requires inner { inner.kind ≢ Leaf }
-    requires name { inner_name inner ≡ spot.name }
-    ensures { ForTree (of_key K.bytes) PREFIX_LEN store.now root (λ pairs layout.
-        IsStepFrom (of_key K.bytes) PREFIX_LEN key_bytes.now pairs layout spot.depth result) }
+    requires at { (path : TreePath) × ForTree (of_key K.bytes) PREFIX_LEN store.now root
+        (λ pairs layout. IsAt (of_key K.bytes) PREFIX_LEN key_bytes.now layout
+        path (inner_name inner) depth) }
+    ensures { (path : TreePath) → ForTree (of_key K.bytes) PREFIX_LEN store.now root
+        (λ pairs layout. IsAt (of_key K.bytes) PREFIX_LEN key_bytes.now layout
+        path (inner_name inner) depth →
+        IsStepFrom (of_key K.bytes) PREFIX_LEN key_bytes.now pairs layout
+        path (inner_name inner) depth result) }
 {
     let Some(node) = store.inner(inner) else {
         unreachable!()
     };
-    match match_full_prefix(store, spot, inner, node, key_bytes) {
-        Ok(matched) => {
-            let depth = spot.depth + matched.matched_bytes;
-            spot.step_past_prefix(key_bytes, inner, node, depth)
-        }
-        Err(mismatch) => {
-            let depth = spot.depth + mismatch.matched_bytes;
-            spot.end_in_prefix(key_bytes, inner, mismatch, depth)
-        }
+    match match_full_prefix(store, inner, node, key_bytes, depth) {
+        Ok(matched) => step_past_prefix(key_bytes, inner, node, depth + matched.matched_bytes),
+        Err(mismatch) => end_in_prefix(key_bytes, inner, mismatch, depth),
+    }
+}
+
+// The end at an inner node from whose prefix the key parts, or in whose prefix it ends.
+#[inline(always)]
+fn end_in_prefix(
+    key_bytes: &[u8],
+    inner: InnerPtr,
+    mismatch: ExplicitMismatch,
+    depth: usize,
+) -> SearchStep
+    requires { depth + mismatch.matched_bytes < 2 ^ 64 }
+    ensures ends { length key_bytes.now ≤ depth + mismatch.matched_bytes →
+        result ≡ steps.End None depth }
+    ensures parts { depth + mismatch.matched_bytes < length key_bytes.now →
+        result ≡ steps.End (Some (kinds.MismatchPrefix mismatch inner)) depth }
+{
+    if depth + mismatch.matched_bytes >= key_bytes.len() {
+        return SearchStep::End {
+            insert_kind: None,
+            key_bytes_used: depth,
+        };
+    }
+    SearchStep::End {
+        insert_kind: Some(InsertKind::MismatchPrefix {
+            mismatch,
+            mismatched_inner_node_ptr: inner,
+        }),
+        key_bytes_used: depth,
+    }
+}
+
+// The step from an inner node with a key that has so many bytes up to the end of its prefix.
+#[inline(always)]
+fn step_past_prefix<const P: usize>(
+    key_bytes: &[u8],
+    inner: InnerPtr,
+    node: InnerRef<'_, P>,
+    depth: usize,
+) -> SearchStep
+    ensures ends { length key_bytes.now ≤ depth → result ≡ steps.End None (depth - 1) }
+    ensures into { depth < length key_bytes.now →
+        child_at (ref_view node.entry).children (get_or key_bytes.now depth 0) ≡ None →
+        result ≡ steps.End (Some (kinds.IntoExisting inner)) depth }
+    ensures down { depth < length key_bytes.now → (child : OpaqueNodePtr) →
+        child_at (ref_view node.entry).children (get_or key_bytes.now depth 0) ≡ Some child →
+        result ≡ steps.Down inner (get_or key_bytes.now depth 0) child (depth + 1) }
+{
+    if depth >= key_bytes.len() {
+        return SearchStep::End {
+            insert_kind: None,
+            key_bytes_used: depth.saturating_sub(1),
+        };
+    }
+    let byte = key_bytes[depth];
+    match node.lookup_child(byte) {
+        None => SearchStep::End {
+            insert_kind: Some(InsertKind::IntoExisting {
+                inner_node_ptr: inner,
+            }),
+            key_bytes_used: depth,
+        },
+        Some(child) => SearchStep::Down {
+            inner,
+            byte,
+            child,
+            child_depth: depth + 1,
+        },
     }
 }
 
@@ -266,27 +273,26 @@ fn kind_at_leaf<K: AsBytes, V>(
     }
 }
 
-// Compares the whole prefix of the inner node at a spot with the rest of the key.
+// Compares the whole prefix of an inner node, to which so many bytes of the key lead, with the rest of it.
 #[inline(always)]
 fn match_full_prefix<K: AsBytes + Drop, V: Drop, const PREFIX_LEN: usize>(
     store: &NodeStore<K, V, PREFIX_LEN>,
-    spot: Spot,
     name: InnerPtr,
     node: InnerRef<'_, PREFIX_LEN>,
     key_bytes: &[u8],
+    depth: usize,
 ) -> Result<PrefixMatch, ExplicitMismatch>
     requires inner { name.kind ≢ Leaf }
-    requires name { inner_name name ≡ spot.name }
     requires node { Some (ref_view node) ≡ map.get store.now.inners name }
-    requires spot { (root : OpaqueNodePtr) ×
+    requires at { (root : OpaqueNodePtr) × (path : TreePath) ×
         IsCanonicalRoot (of_key K.bytes) PREFIX_LEN store.now root ×
         ForTree (of_key K.bytes) PREFIX_LEN store.now root (λ pairs layout.
-        IsAt (of_key K.bytes) PREFIX_LEN key_bytes.now layout spot) }
-    ensures { (root : OpaqueNodePtr) → ForTree (of_key K.bytes) PREFIX_LEN store.now root
-        (λ pairs layout. (at : IsAt (of_key K.bytes) PREFIX_LEN key_bytes.now layout spot) →
-        IsCompared (of_key K.bytes) PREFIX_LEN key_bytes.now at.node spot.depth result) }
+        IsAt (of_key K.bytes) PREFIX_LEN key_bytes.now layout path (inner_name name) depth) }
+    ensures { (root : OpaqueNodePtr) → (path : TreePath) →
+        ForTree (of_key K.bytes) PREFIX_LEN store.now root (λ pairs layout.
+        (at : IsAt (of_key K.bytes) PREFIX_LEN key_bytes.now layout path (inner_name name) depth) →
+        IsCompared (of_key K.bytes) PREFIX_LEN key_bytes.now at.node depth result) }
 {
-    let depth = spot.depth;
     let rest_of_key = &key_bytes[depth..];
     let len = node.prefix_len();
     if len <= PREFIX_LEN {

@@ -136,6 +136,7 @@ pub(crate) fn take_from_between<K: AsBytes + Drop, V: Drop, const P: usize>(
 }
 
 /// Puts a node in the place at the end of a path, and returns the root.
+#[inline(always)]
 pub(crate) fn replace_at<K: AsBytes + Drop, V: Drop, const P: usize>(
     store: &mut NodeStore<K, V, P>,
     path: TreePath,

@@ -91,6 +91,7 @@ ghost use Rattle.art_writing.specs.ParentWrites.{ComesBetween, HasChild, HasGap}
 ghost use Rattle.art_reading.specs.PathSteps.{last_step, root_with};
 
 // What an insertion did that put a leaf below a node.
+#[inline(always)]
 fn new_child<K, V>(
     leaf_node_ptr: LeafPtr,
     parent: InnerPtr,
@@ -116,6 +117,7 @@ fn new_child<K, V>(
 }
 
 // The kind of the node that takes the place of this one when it gets a child more, where it is full.
+#[inline(always)]
 fn kind_if_full<K: AsBytes + Drop, V: Drop, const P: usize>(
     store: &NodeStore<K, V, P>,
     name: InnerPtr,
@@ -130,6 +132,7 @@ fn kind_if_full<K: AsBytes + Drop, V: Drop, const P: usize>(
 
 // Puts a larger node with a child more in the place of one at the end of a path, and returns its name
 // and the root.
+#[inline(always)]
 fn put_larger<K: AsBytes + Drop, V: Drop, const P: usize>(
     store: &mut NodeStore<K, V, P>,
     path: TreePath,

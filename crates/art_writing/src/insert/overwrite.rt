@@ -20,6 +20,7 @@ use art_nodes::store::NodeStore;
 
 impl OverwritePoint {
     /// Puts a leaf in the place of an inner node, and frees all that was below it.
+    #[inline(always)]
     pub(super) fn overwrite_subtree<K: AsBytes + Drop, V: Drop, const P: usize>(
         self,
         store: &mut NodeStore<K, V, P>,
@@ -50,6 +51,7 @@ impl OverwritePoint {
     }
 
     // The leaves beside all that is below an inner node.
+    #[inline(always)]
     fn links_around<K: AsBytes + Drop, V: Drop, const P: usize>(
         self,
         store: &NodeStore<K, V, P>,
