@@ -339,7 +339,9 @@ module _ {K V : Type 0} {s : Nodes K V} {bytes : K × V → List ℕ} {P : ℕ} 
             by_child long (Some to) e = subst (IsStepFrom bytes P key pairs layout path name depth) (sym (down long to e)) (omega arith, goes_on long (sym e))
 
             by_length : (t : Bool) → leb (length key) (depth + match.matched_bytes) ≡ t → IsStepFrom bytes P key pairs layout path name depth step
-            by_length true e = let short = leb-true (length key) (depth + match.matched_bytes) e in subst (IsStepFrom bytes P key pairs layout path name depth) (sym (ends short)) (ends_with_prefix short)
+            by_length true e =
+                let short = leb-true (length key) (depth + match.matched_bytes) e in
+                subst (IsStepFrom bytes P key pairs layout path name depth) (sym (ends short)) (ends_with_prefix short)
             by_length false e = by_child (leb-false (length key) (depth + match.matched_bytes) e) (child_at shown.children (get_or key (depth + match.matched_bytes) 0)) refl
 
       -- the prefix and the key part, or the key ends
