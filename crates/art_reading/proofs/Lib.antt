@@ -1,3 +1,4 @@
+pub mod Blocks
 pub mod Iterators
 pub mod Rests
 pub mod Outcomes

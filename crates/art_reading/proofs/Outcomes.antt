@@ -1,10 +1,8 @@
 -- what the comparison of a prefix tells
-use Rattle.std.proofs.Common.{◌≡◌, ℕ, ◌<◌, ◌≤◌, ◌⊎◌, inl, inr, List, length, refl, ap, sym, Ok, Err, Bool, true, ltb, arith, false, not, eqb, drop}
+use Rattle.std.proofs.Common.{◌≡◌, ℕ, ◌<◌, ◌≤◌, ◌⊎◌, inl, inr, List, length, refl, ap, sym, Ok, Err, Bool, true, ltb, arith, false, not, IsTrue, ◌↔◌}
 use Rattle.std.proofs.lemmas.Bool.{le-ltb, lt-ltb, cases_lt, false≢true}
 use Rattle.art_parts.specs.Headers.{Prefix}
-use Rattle.std.specs.List.{starts_with}
-use Rattle.std.proofs.lemmas.Bool.Decides.{Decides-eqb}
-use Rattle.std.proofs.lemmas.Slice.Eq.{starts_is}
+use Rattle.art_model.specs.Keys.{IsFront}
 use Rattle.art_model.proofs.keys.Fronts.{shared_whole, whole_shared}
 use Rattle.art_reading.specs.declared.matching.PrefixMatchBehavior.{PrefixMatchBehavior}
 use Rattle.art_reading.specs.declared.matching.PrefixMatchBehavior.TheVariants.{Pessimistic, Optimistic}
@@ -88,13 +86,13 @@ module _ (prefix : Prefix) (rest : List ℕ) where
           rw (le-ltb (shared_len prefix.stored rest) (length prefix.stored) h, le-ltb (length rest) prefix.len l, le-ltb (length prefix.stored) prefix.len stored) refl
 
 module _ (stored rest : List ℕ) where
-  -- `starts_with` says whether the rest parts from what is stored
-  pub starts_parts : (r : Bool) → r ≡ starts_with eqb rest stored → not r ≡ parts_from rest stored
-  starts_parts true e =
-      let whole = whole_shared stored rest (drop (length stored) rest, (starts_is Decides-eqb rest stored true e).0 refl) in
+  -- whether the rest begins with what is stored says whether it parts from it
+  pub begins_parts : (r : Bool) → IsTrue r ↔ IsFront stored rest → not r ≡ parts_from rest stored
+  begins_parts true test =
+      let whole = whole_shared stored rest (test.0 refl) in
       sym (le-ltb (shared_len stored rest) (length stored) (omega arith))
-  starts_parts false e = sym (lt-ltb (shared_len stored rest) (length stored) (less (cases_lt (shared_len stored rest) (length stored))))
+  begins_parts false test = sym (lt-ltb (shared_len stored rest) (length stored) (less (cases_lt (shared_len stored rest) (length stored))))
     where
       less : (shared_len stored rest < length stored) ⊎ (length stored ≤ shared_len stored rest) → shared_len stored rest < length stored
       less (inl h) = h
-      less (inr h) = let front = shared_whole stored rest h in absurd (false≢true ((starts_is Decides-eqb rest stored false e).1 front.0 front.1))
+      less (inr h) = absurd (false≢true (test.1 (shared_whole stored rest h)))

@@ -1,5 +1,6 @@
 //! How the bytes of keys and prefixes are compared on a way down.
-ghost use Rattle.std.specs.Prelude.{◌≡◌, ◌+◌, ◌<◌, ◌≤◌, ◌↔◌, length, take, drop, is_ok, false, IfSome, IsTrue};
+ghost use Rattle.std.specs.Prelude.{◌≡◌, ◌+◌, ◌<◌, ◌≤◌, ◌↔◌, length, take, drop, is_ok, false, IfSome, IsSome, IsTrue};
+ghost use Rattle.art_model.specs.Keys.{IsFront};
 ghost use Rattle.art_reading.specs.Matching.{shared_len};
 ghost use Rattle.art_reading.specs.declared.matching.PrefixMatchBehavior.TheVariants.{Optimistic, Pessimistic};
 
@@ -93,7 +94,7 @@ impl PrefixMatchBehavior {
         ensures passed_over { self ≡ Optimistic → result ≡ false }
     {
         match self {
-            PrefixMatchBehavior::Pessimistic => !rest_of_key.starts_with(stored),
+            PrefixMatchBehavior::Pessimistic => !begins_with(rest_of_key, stored),
             PrefixMatchBehavior::Optimistic => false,
         }
     }
@@ -113,17 +114,17 @@ impl PrefixMatchBehavior {
         ensures child { result ≡ child_below self.old (N.view_of node.now) key_bytes.now depth }
         ensures within { IfSome result (λ child.
             (depth ≤ child.0) × (child.0 < length key_bytes.now)) }
-        ensures behavior { self.new ≡
+        ensures behavior { IsSome result → self.new ≡
             behavior_after self.old (N.view_of node.now).prefix (drop depth key_bytes.now) }
     {
         let prefix_len = node.prefix_len();
+        if prefix_len >= key_bytes.len() - depth {
+            return None;
+        }
         if prefix_len > 0 && !self.goes_on(prefix_len, node.read_prefix(), &key_bytes[depth..]) {
             return None;
         }
         let place = depth + prefix_len;
-        if place >= key_bytes.len() {
-            return None;
-        }
         Some((place, node.lookup_child(key_bytes[place])?))
     }
 
@@ -141,7 +142,7 @@ impl PrefixMatchBehavior {
         ensures child { result ≡ child_below self.old (ref_view node.entry) key_bytes.now depth }
         ensures within { IfSome result (λ child.
             (depth ≤ child.0) × (child.0 < length key_bytes.now)) }
-        ensures behavior { self.new ≡
+        ensures behavior { IsSome result → self.new ≡
             behavior_after self.old (ref_view node.entry).prefix (drop depth key_bytes.now) }
     {
         match node {
@@ -153,6 +154,7 @@ impl PrefixMatchBehavior {
     }
 
     /// Returns whether the key is the leaf's, as far as it is left to compare from a depth on.
+    #[inline(always)]
     pub fn matches_leaf_key<K: AsBytes, V>(
         self,
         leaf: &LeafNode<K, V>,
@@ -163,11 +165,12 @@ impl PrefixMatchBehavior {
     {
         let leaf_bytes = leaf.key.as_bytes();
         let from = self.compared_from(leaf_bytes, key_bytes, depth);
-        leaf_bytes[from..] == key_bytes[from..]
+        are_equal(&leaf_bytes[from..], &key_bytes[from..])
     }
 
     /// Returns whether the leaf's key is a prefix of the key, as far as they are left to compare from a
     /// depth on.
+    #[inline(always)]
     pub fn leaf_key_is_prefix<K: AsBytes, V>(
         self,
         leaf: &LeafNode<K, V>,
@@ -178,7 +181,7 @@ impl PrefixMatchBehavior {
     {
         let leaf_bytes = leaf.key.as_bytes();
         let from = self.compared_from(leaf_bytes, key_bytes, depth);
-        key_bytes[from..].starts_with(&leaf_bytes[from..])
+        begins_with(&key_bytes[from..], &leaf_bytes[from..])
     }
 
     ghost use Rattle.art_reading.specs.Descents.{IsAskedFor};
@@ -203,6 +206,7 @@ impl PrefixMatchBehavior {
     ghost use Rattle.art_reading.specs.Matching.{compared_from};
 
     // Where the comparison of a leaf's key with the key begins.
+    #[inline(always)]
     fn compared_from(self, leaf_bytes: &[u8], key_bytes: &[u8], depth: usize) -> usize
         ensures value { result ≡ compared_from self depth leaf_bytes.now key_bytes.now }
         ensures in_leaf { result ≤ length leaf_bytes.now }
@@ -248,8 +252,75 @@ fn same_blocks(a: &[u8], b: &[u8], end: usize) -> usize
 fn are_same(a: &[u8], b: &[u8], at: usize) -> bool
     requires in_a { at + 8 ≤ length a.now }
     requires in_b { at + 8 ≤ length b.now }
-    ensures { IsTrue result → take 8 (drop at a.now) ≡ take 8 (drop at b.now) }
+    ensures { IsTrue result ↔ (take 8 (drop at a.now) ≡ take 8 (drop at b.now)) }
 {
     let (x, y) = (u8x8::from_slice(&a[at..]), u8x8::from_slice(&b[at..]));
     x.simd_ne(y).to_bitmask() == 0
+}
+
+// Whether the four bytes from a place on are the same in both.
+#[inline(always)]
+fn are_four_same(a: &[u8], b: &[u8], at: usize) -> bool
+    requires in_a { at + 4 ≤ length a.now }
+    requires in_b { at + 4 ≤ length b.now }
+    ensures { IsTrue result ↔ (take 4 (drop at a.now) ≡ take 4 (drop at b.now)) }
+{
+    let (x, y) = (u8x4::from_slice(&a[at..]), u8x4::from_slice(&b[at..]));
+    x.simd_ne(y).to_bitmask() == 0
+}
+
+// Whether both are the same.
+#[inline(always)]
+fn are_equal(a: &[u8], b: &[u8]) -> bool
+    ensures { IsTrue result ↔ (a.now ≡ b.now) }
+{
+    a.len() == b.len() && have_same_front(a, b, a.len())
+}
+
+/// Returns whether the bytes begin with others.
+#[inline(always)]
+pub fn begins_with(bytes: &[u8], front: &[u8]) -> bool
+    ensures { IsTrue result ↔ IsFront front.now bytes.now }
+{
+    front.len() <= bytes.len() && have_same_front(front, bytes, front.len())
+}
+
+// Whether this many bytes at the beginning are the same. It is inlined into its callers, where a call
+// of a comparison of slices costs more than the comparison itself.
+#[inline(always)]
+fn have_same_front(a: &[u8], b: &[u8], len: usize) -> bool
+    requires in_a { len ≤ length a.now }
+    requires in_b { len ≤ length b.now }
+    ensures { IsTrue result ↔ (take len a.now ≡ take len b.now) }
+{
+    if len >= 8 {
+        return are_blocks_same(a, b, len - 8);
+    }
+    if len >= 4 {
+        return are_four_same(a, b, 0) && are_four_same(a, b, len - 4);
+    }
+    for i in 0..len {
+        if a[i] != b[i] {
+            return false;
+        }
+    }
+    true
+}
+
+// Whether all bytes up to the end of a last block of eight are the same. That block may begin within
+// the one before it.
+#[inline(always)]
+fn are_blocks_same(a: &[u8], b: &[u8], last: usize) -> bool
+    requires in_a { last + 8 ≤ length a.now }
+    requires in_b { last + 8 ≤ length b.now }
+    ensures { IsTrue result ↔ (take (last + 8) a.now ≡ take (last + 8) b.now) }
+{
+    let mut at = 0;
+    while at < last {
+        if !are_same(a, b, at) {
+            return false;
+        }
+        at += 8;
+    }
+    are_same(a, b, last)
 }

@@ -1,4 +1,4 @@
-use Rattle.std.proofs.Common.{arith, rules}
+use Rattle.std.proofs.Common.{arith, refl, rules}
 use Rattle.art_model.proofs.stores.Shown.{leaf_met, inner_met, shown_met}
 use Rattle.art_reading.proofs.Steps.{start, node_there, last_leaf, stops, steps}
 use Rattle.art_reading.proofs.OnWay.{stored_short}
@@ -41,5 +41,5 @@ down-preserved g c = record {
   on_way = λ pairs layout by.
       let d = c.down.invariant.on_way pairs layout by in
       let at = shown_met (node_there by d) c.in-Inner.ensures.proper c.in-Inner.ensures.name c.in-Some-inner.ensures.view in
-      rw c.step_down.ensures (steps by d at c.add_one.ensures c.in_ok-place.ensures.child c.in_ok-place.ensures.behavior);
+      rw c.step_down.ensures (steps by d at c.add_one.ensures c.in_ok-place.ensures.child (c.in_ok-place.ensures.behavior refl));
 }
