@@ -2,6 +2,7 @@ pub mod Folded
 pub mod Folding
 pub mod Descents
 pub mod Readings
+pub mod Marks
 pub mod Meetings
 pub mod Untried
 pub mod Passed

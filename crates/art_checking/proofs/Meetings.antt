@@ -1,10 +1,9 @@
 -- what a check has met, as a map from names to places
-use Rattle.std.proofs.Common.{◌≡◌, ◌≢◌, ℕ, Bool, true, false, eqb, ◌&&◌, cond, List, [], ◌∷◌, ◌++◌, refl, ap, ap₂, sym, ◌∙◌, arith, eq-eqb, eqb-true, Some, None, ◌⊎◌, inl, inr}
+use Rattle.std.proofs.Common.{◌≡◌, ◌≢◌, ℕ, zero, suc, true, false, eqb, ◌&&◌, List, [], ◌∷◌, ◌++◌, length, slice_get, refl, ap, ap₂, sym, ◌∙◌, arith, eq-eqb, eqb-true, Some, None, ◌⊎◌, inl, inr}
 use Rattle.std.proofs.lemmas.Bool.{cases_Bool, cases_order, ne_eqb, false≢true}
 use Rattle.std.specs.Cmp.{nat_cmp_is}
 use Rattle.std.specs.declared.cmp.Ordering.TheVariants.{Less, Equal, Greater}
 use Rattle.std.specs.List.{AllByRecursion as Each}
-use Rattle.std.specs.Map.{lookup}
 use Rattle.std.specs.Ordering.{is_eq, nat_cmp}
 use Rattle.art_parts.specs.Codes.{kind_at, kind_at-index}
 use Rattle.art_parts.specs.Kinds.{kind_index}
@@ -12,23 +11,25 @@ use Rattle.art_parts.specs.declared.names.NodeType.{NodeType}
 use Rattle.art_parts.specs.declared.names.NodeType.TheVariants.{Node4, Node16, Node48, Node256, Leaf}
 use Rattle.art_parts.specs.declared.names.OpaqueNodePtr.{OpaqueNodePtr}
 use Rattle.art_parts.specs.contracts.names.OpaqueNodePtrOrd.TheImpl as derived
+use Rattle.art_parts.specs.contracts.names.OpaqueNodePtrPartialEq.TheImpl as derived_eq
 use Rattle.art_parts.specs.contracts.names.InnerPtrOrd.TheImpl as derived_inner
 use Rattle.art_parts.specs.declared.names.InnerPtr.{InnerPtr}
 use Rattle.art_model.specs.Footprints.{IsIn}
 use Rattle.art_model.proofs.lists.Lists.{Each-append, each_in, each_from, in_left, in_right}
 use Rattle.art_model.proofs.lists.Pairwises.{Pairwise-append}
-use Rattle.art_checking.specs.Meetings.{same_name, Places, IsMet, Meets}
+use Rattle.art_checking.specs.Marks.{same_name, place_under}
+use Rattle.art_checking.specs.Meetings.{Places, IsMet, Meets}
 
 -- ---- the order of names tells them apart
 
-is_eq_nat : (i j : ℕ) → is_eq (nat_cmp i j) ≡ eqb i j
+pub is_eq_nat : (i j : ℕ) → is_eq (nat_cmp i j) ≡ eqb i j
 is_eq_nat i j = elim (cases_order i j) [
   | inl e ↦ ap is_eq (sym (nat_cmp_is i j Equal e)) ∙ sym (eq-eqb i j e)
   | inr (inl l) ↦ ap is_eq (sym (nat_cmp_is i j Less l)) ∙ sym (ne_eqb i j (λ e. omega arith))
   | inr (inr l) ↦ ap is_eq (sym (nat_cmp_is i j Greater l)) ∙ sym (ne_eqb i j (λ e. omega arith))
 ]
 
-pub is_eq_same : (n k : OpaqueNodePtr) → is_eq (derived.cmp-value.it n k) ≡ same_name n k
+is_eq_same : (n k : OpaqueNodePtr) → is_eq (derived.cmp-value.it n k) ≡ same_name n k
 is_eq_same n k = go n.kind k.kind n.slot k.slot
   where
     go : (a b : NodeType) (i j : ℕ) → is_eq (derived.cmp-value.it (record { kind = a; slot = i }) (record { kind = b; slot = j })) ≡ same_name
@@ -38,6 +39,18 @@ is_eq_same n k = go n.kind k.kind n.slot k.slot
     go Node48 Node48 i j = is_eq_nat i j
     go Node256 Node256 i j = is_eq_nat i j
     go Leaf Leaf i j = is_eq_nat i j
+    go _ _ i j = refl
+
+pub eq_same : (n k : OpaqueNodePtr) → derived_eq.eq-value.it n k ≡ same_name n k
+eq_same n k = go n.kind k.kind n.slot k.slot
+  where
+    go : (a b : NodeType) (i j : ℕ) → derived_eq.eq-value.it (record { kind = a; slot = i }) (record { kind = b; slot = j }) ≡ same_name
+        (record { kind = a; slot = i }) (record { kind = b; slot = j })
+    go Node4 Node4 i j = refl
+    go Node16 Node16 i j = refl
+    go Node48 Node48 i j = refl
+    go Node256 Node256 i j = refl
+    go Leaf Leaf i j = refl
     go _ _ i j = refl
 
 is_eq_inner : (p q : InnerPtr) → is_eq (derived_inner.cmp-value.it p q) ≡ same_name (record { kind = p.kind; slot = p.slot }) (record { kind = q.kind; slot = q.slot })
@@ -63,10 +76,19 @@ same_inner p q e =
 pub same_apart : (n k : OpaqueNodePtr) → n ≢ k → same_name n k ≡ false
 same_apart n k off = elim (cases_Bool (same_name n k)) [ inl e ↦ absurd (off (same_is n k e)) | inr e ↦ e ]
 
--- two tests that agree find the same
-pub lookup_same : {K X : Type 0} (f g : K → Bool) → ((k : K) → f k ≡ g k) → (es : List (K × X)) → lookup f es ≡ lookup g es
-lookup_same f g same [] = refl
-lookup_same f g same (e ∷ es) = rw (same e.0) (ap (λ r. cond (g e.0) (Some e.1) r) (lookup_same f g same es))
+-- ---- what is met last
+-- it stands where the others end
+pub place_here : (met : List (OpaqueNodePtr × List ℕ)) (name : OpaqueNodePtr) (place : List ℕ) → place_under name (slice_get (met ++ (name, place) ∷ []) (length met)) ≡ Some place
+place_here [] name place = rw (same_self name) refl
+place_here (m ∷ met) name place = place_here met name place
+
+-- and changes nothing for other names, whatever their numbers
+pub place_elsewhere : (met : List (OpaqueNodePtr × List ℕ)) (name : OpaqueNodePtr) (place : List ℕ) (n : OpaqueNodePtr) → n ≢ name → (i : ℕ) →
+    place_under n (slice_get (met ++ (name, place) ∷ []) i) ≡ place_under n (slice_get met i)
+place_elsewhere [] name place n off zero = rw (same_apart name n (λ e. off (sym e))) refl
+place_elsewhere [] name place n off (suc i) = refl
+place_elsewhere (m ∷ met) name place n off zero = refl
+place_elsewhere (m ∷ met) name place n off (suc i) = place_elsewhere met name place n off i
 
 -- ---- meetings follow one another
 pub meets_none : (f : Places) → Meets f f []

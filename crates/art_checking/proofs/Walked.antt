@@ -20,7 +20,8 @@ use Rattle.art_model.specs.Trees.{NodeHeader}
 use Rattle.art_model.proofs.lists.Lists.{front_cut}
 use Rattle.art_model.proofs.places.Places.{one_way}
 use Rattle.art_checking.specs.Checked.{IsFirstLeast, IsLeastLeaf, IsRead, IsWalked, NoneBelow, NoneFrom}
-use Rattle.art_checking.specs.Meetings.{Places, IsMet, same_name}
+use Rattle.art_checking.specs.Marks.{same_name}
+use Rattle.art_checking.specs.Meetings.{Places, IsMet}
 use Rattle.art_checking.proofs.Descents.{inner_at, least_below}
 use Rattle.art_checking.proofs.Meetings.{same_is, same_self}
 

@@ -1,28 +1,41 @@
 -- The names that a check has met, each with its place. No public clause cites this module.
-use Rattle.std.specs.Prelude.{◌≡◌, ◌≢◌, ℕ, Bool, ◌==◌, ◌&&◌, List, [], ◌∷◌, ◌++◌, length, Option, Some, None}
+use Rattle.std.specs.Prelude.{◌≡◌, ◌≢◌, ℕ, List, [], ◌∷◌, ◌++◌, length, slice_get, slice_index_or, Option, Some, None}
 use Rattle.std.specs.List.{AllByRecursion as Each}
-use Rattle.std.specs.Map.{lookup}
-use Rattle.std.specs.Option.{option_map}
-use Rattle.art_parts.specs.Kinds.{kind_index}
 use Rattle.art_parts.specs.declared.names.LeafPtr.{LeafPtr}
-use Rattle.art_parts.specs.declared.names.NodeType.TheVariants.{Leaf}
+use Rattle.art_parts.specs.declared.names.NodeType.{NodeType}
+use Rattle.art_parts.specs.declared.names.NodeType.TheVariants.{Node4, Node16, Node48, Node256, Leaf}
 use Rattle.art_parts.specs.declared.names.OpaqueNodePtr.{OpaqueNodePtr}
 use Rattle.art_model.specs.Footprints.{IsIn}
 use Rattle.art_model.specs.Layouts.{AreDistinct}
-use Rattle.art_checking.specs.Checks.{prefix_bytes}
+use Rattle.art_checking.specs.Marks.{place_under}
+use Rattle.art_checking.specs.declared.well_formed.seen.Numbers.{Numbers}
 use Rattle.art_checking.specs.declared.well_formed.seen.Seen.{Seen}
 
--- whether the names are one
-abbrev pub same_name : OpaqueNodePtr → OpaqueNodePtr → Bool
-same_name n k = kind_index n.kind == kind_index k.kind && n.slot == k.slot
+-- the number in a slot of a row, or zero past its end
+abbrev pub number_at : List ℕ → ℕ → ℕ
+number_at row slot = slice_index_or row slot 0
+
+-- the row of a kind
+abbrev pub row_of : Numbers → NodeType → List ℕ
+row_of numbers kind = elim kind [
+  | Node4 ↦ numbers.node4.items
+  | Node16 ↦ numbers.node16.items
+  | Node48 ↦ numbers.node48.items
+  | Node256 ↦ numbers.node256.items
+  | Leaf ↦ numbers.leaf.items
+]
+
+-- the number of a name
+abbrev pub number_of : Numbers → OpaqueNodePtr → ℕ
+number_of numbers name = number_at (row_of numbers name.kind) name.slot
 
 -- the place at which a name was met, if it was
 unfoldable pub place_in : Seen → OpaqueNodePtr → Option (List ℕ)
-place_in seen name = option_map prefix_bytes (lookup (same_name name) seen.places.entries)
+place_in seen name = place_under name (slice_get seen.met (number_of seen.numbers name))
 
 -- how many names were met
 abbrev pub count_met : Seen → ℕ
-count_met seen = length seen.places.entries
+count_met seen = length seen.met
 
 -- the leaves with one more, where this is a leaf's name
 abbrev pub leaves_with : OpaqueNodePtr → List LeafPtr → List LeafPtr

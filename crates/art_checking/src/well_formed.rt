@@ -12,8 +12,10 @@ use std::fmt;
 use std::ops::{Add, AddAssign};
 
 mod check;
+mod compared;
 mod errors;
 mod fault;
+mod met;
 mod seen;
 
 pub use fault::MalformedTreeError;
@@ -127,9 +129,9 @@ impl AddAssign for WellFormedTreeStats {
 }
 
 /// Checks trees. It visits each node once; besides, it looks up the siblings of each leaf, and walks down
-/// each chain of least children once where a prefix is read from the leaf below. It looks up each name in an
-/// ordered map of those that were met, where a name is noted with a copy of all bytes that lead to it. The
-/// inner nodes above the one that it is at stand in a list.
+/// each chain of least children once where a prefix is read from the leaf below. It finds the names that were
+/// met by their slots, in rows up to the highest slot of each kind, and notes each with a copy of all bytes
+/// that lead to it. The inner nodes above the one that it is at stand in a list.
 pub struct WellFormedChecker;
 
 impl WellFormedChecker {

@@ -19,11 +19,13 @@ ghost use Rattle.art_checking.specs.Meetings.{place_in};
 ghost use Rattle.art_checking.specs.declared.well_formed.seen.Seen.{Seen};
 
 use super::MalformedTreeError;
+use super::compared::order_of;
 use super::seen::Seen;
 use art_nodes::node::{
     AsBytes, Children, InnerPtr, InnerRef, LeafPtr, NodePtr, OpaqueNodePtr, OptionalLeafPtr,
 };
 use art_nodes::store::NodeStore;
+use art_reading::matching::begins_with;
 use std::alloc::AllocError;
 use std::cmp::Ordering;
 use std::collections::BTreeSet;
@@ -197,12 +199,12 @@ fn meet<K: AsBytes + Drop, V: Drop, const P: usize>(
 {
     let alloc = store.alloc();
     if let Some(first) = seen.place_of(name) {
-        return Err(MalformedTreeError::loop_found(alloc, name, first.as_slice(), place));
+        return Err(MalformedTreeError::loop_found(alloc, name, first, place));
     }
     if !is_there(store, name) {
         return Err(MalformedTreeError::dead_name(alloc, place, name));
     }
-    seen.record(alloc, name, place)?;
+    seen.record(name, place)?;
     Ok(())
 }
 
@@ -390,7 +392,7 @@ fn check_leaf<K: AsBytes + Drop, V: Drop, const P: usize>(
         unreachable!()
     };
     let key = node.key.as_bytes();
-    if !key.starts_with(place) {
+    if !begins_with(key, place) {
         return Err(MalformedTreeError::prefix_mismatch(store.alloc(), place, key));
     }
     check_order(store, key, node.previous, Ordering::Less, place)?;
@@ -420,7 +422,7 @@ fn check_order<K: AsBytes + Drop, V: Drop, const P: usize>(
         return Err(MalformedTreeError::dead_name(store.alloc(), place, sibling.to_opaque()));
     };
     let sibling_key = node.key.as_bytes();
-    let actual = sibling_key.cmp(key);
+    let actual = order_of(sibling_key, key);
     if actual == expected {
         return Ok(());
     }

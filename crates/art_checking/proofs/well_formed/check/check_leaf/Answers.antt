@@ -1,10 +1,7 @@
-use Rattle.std.proofs.Common.{ap, sym, ◌≡◌, ◌∙◌, List, ◌++◌, ℕ, length, drop, eqb, true, refl, subst, inl, inr, Option, Some, None, Result, Ok, Err, IfErr, IfSome}
+use Rattle.std.proofs.Common.{ap, sym, ◌≡◌, ◌∙◌, List, ℕ, refl, subst, inl, inr, Option, Some, None, Result, Ok, Err, IfErr, IfSome}
 use Rattle.std.proofs.lemmas.Bool.{false≢true}
-use Rattle.std.proofs.lemmas.Bool.Decides.{Decides-eqb}
 use Rattle.std.proofs.lemmas.Result.{on_ok_weaker}
-use Rattle.std.proofs.lemmas.Slice.Eq.{starts_is}
 use Rattle.std.specs.FinMap as map
-use Rattle.std.specs.List.{starts_with}
 use Rattle.std.specs.Option.{option_map, option_and_then}
 use Rattle.std.specs.declared.cmp.Ordering.{Ordering}
 use Rattle.std.specs.declared.cmp.Ordering.TheVariants.{Less, Greater}
@@ -24,12 +21,6 @@ use Rattle.art_checking.specs.declared.well_formed.fault.MalformedTreeError.{Mal
 use Rattle.art_checking.proofs.Descents.{leaf_at}
 use Rattle.art_checking.proofs.Faulty.{passed_on, said}
 use Rattle.art_checking.proofs.well_formed.check.check_leaf.Goals as goal
-
-begins : (whole front : List ℕ) → true ≡ starts_with eqb whole front → IsFront front whole
-begins whole front e = (drop (length front) whole, (starts_is Decides-eqb whole front true e).0 refl)
-
-tests : (whole front rest : List ℕ) → whole ≡ front ++ rest → starts_with eqb whole front ≡ true
-tests whole front rest e = (starts_is Decides-eqb whole front (starts_with eqb whole front) refl).1 rest e
 
 module _ {K V : Type 0} (bytes : K × V → List ℕ) (P : ℕ) (s : Nodes K V) (p : LeafPtr) (node : LeafNode K V) (there : map.get s.leaves p ≡ Some node) where
   -- its siblings are those that it names
@@ -63,8 +54,7 @@ one_node e f = cc
 
 pub returns-clause-leaf : goal.returns-clause-leaf
 returns-clause-leaf g c =
-    let begun = begins (g.K.AsBytes.bytes c.in-Some.node.now.key) c.args.place.now
-    (subst (λ key. true ≡ starts_with eqb key c.args.place.now) c.as_bytes-key.ensures c.if-not-starts_with.ensures.value) in
+    let begun = subst (IsFront c.args.place.now) c.as_bytes-key.ensures (c.begins_with.ensures.0 c.if-not-begins_with.false) in
     on_ok_weaker c.check_order-2.result (λ after. (pair_of c.in-Some.node.now, leaf_at c.args.store.now c.args.leaf c.in-Some.node.now (sym c.in-Some.ensures), begun)) c.check_order-2.ensures.sibling
 
 pub returns-in_err-check_order-clause-fault : goal.returns-in_err-check_order-clause-fault
@@ -80,14 +70,14 @@ returns-clause-fault g c =
     at_leaf (of_key g.K.AsBytes.bytes) g.row.P c.args.store.now c.args.leaf c.in-Some.node.now there c.check_order-2.result c.args.place.now c.in-Some.node.now.next Greater
     (sym c.as_bytes-key.ensures) (next_named (of_key g.K.AsBytes.bytes) g.row.P c.args.store.now c.args.leaf c.in-Some.node.now there) c.check_order-2.ensures.fault
 
-pub returns-then-not-starts_with-clause-fault : goal.returns-then-not-starts_with-clause-fault
-returns-then-not-starts_with-clause-fault g c root reach =
+pub returns-then-not-begins_with-clause-fault : goal.returns-then-not-begins_with-clause-fault
+returns-then-not-begins_with-clause-fault g c root reach =
     said (of_key g.K.AsBytes.bytes) g.row.P c.args.store.now root c.prefix_mismatch.result c.prefix_mismatch.ensures (
       leaf_name c.args.leaf,
       pair_of c.in-Some.node.now,
       (reach, leaf_at c.args.store.now c.args.leaf c.in-Some.node.now (sym c.in-Some.ensures)),
       sym c.as_bytes-key.ensures,
-      λ front. false≢true (sym c.if-not-starts_with.true ∙ c.starts_with.ensures.value ∙ tests c.as_bytes-key.result.now c.args.place.now front.0 front.1),
+      λ front. false≢true (sym c.if-not-begins_with.true ∙ c.begins_with.ensures.1 front),
     )
 
 pub returns-clause-siblings : goal.returns-clause-siblings

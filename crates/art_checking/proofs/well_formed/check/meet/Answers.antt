@@ -1,4 +1,4 @@
-use Rattle.std.proofs.Common.{sym, ◌∙◌, ap, ◌≡◌, Some}
+use Rattle.std.proofs.Common.{sym, ◌≡◌, Some}
 use Rattle.art_model.specs.Pairs.{of_key}
 use Rattle.art_model.specs.Stores.{node_at}
 use Rattle.art_model.proofs.places.Trails.{other_way}
@@ -12,8 +12,8 @@ returns-in-Some-clause-fault g c root reached reach off =
     let bytes = of_key g.K.AsBytes.bytes in
     let s = c.args.store.now in
     let name = c.args.name in
-    let first = c.as_slice.result.now in
-    let at : place_in c.args.seen.now name ≡ Some first = sym c.in-Some.ensures ∙ ap Some (sym c.as_slice.ensures) in
+    let first = c.in-Some.first.now in
+    let at : place_in c.args.seen.now name ≡ Some first = sym c.in-Some.ensures in
     let one = reached name first at in
     said bytes g.row.P s root c.loop_found.result c.loop_found.ensures
     (one, reach, other_way (node_at s) bytes g.row.P root name name first c.args.place.now one reach (off first at))
