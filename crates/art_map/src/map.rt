@@ -34,6 +34,7 @@ use art_writing::insert::{
     InsertPrefixError, InsertSearchError, PrefixInsertResult, Refused, plant,
     search_for_insert_point, search_for_prefix_insert_point,
 };
+use art_writing::taken;
 use std::alloc::{AllocError, Global};
 use std::fmt;
 use std::marker::Model;
@@ -707,6 +708,7 @@ fn copy_tree<K: AsBytes + Clone + Drop, V: Clone + Drop, const P: usize>(
         into.new (Some copy) len) }
 {
     into.reserve(len, None)?;
+    into.reserve_inners_like(store)?;
     let copy = clone_unchecked(store, root, into)?;
     Ok(copy.root)
 }
@@ -830,12 +832,12 @@ fn take_out<K: AsBytes + Drop, V: Drop, const P: usize>(
         HasTaken K.bytes P pairs (Some x) (remove_key (of_key K.bytes) (K.bytes x.0) pairs) result
         store.new root.new len.new) }
 {
-    match point.apply(store, name) {
-        Ok(done) => {
+    match taken::take_out(point, store, name) {
+        Some(done) => {
             *root = done.new_root;
             *len -= 1;
             Ok(Some((done.deleted_leaf.key, done.deleted_leaf.value)))
         }
-        Err(_) => Err(MapRefused),
+        None => Err(MapRefused),
     }
 }

@@ -1,5 +1,5 @@
--- What a private function that applies a delete point answers, in one word, and one that takes its leaf alone. No public clause cites this module.
-use Rattle.std.specs.Prelude.{◌≡◌, ℕ, List, Option, Some, Result, IsOk, IsTrue, IsSomeAnd, IfOk, IfErr, IfSome, OnOk, OnErr}
+-- What a delete point that is applied answers, in one word, and what a private function that takes its leaf alone does.
+use Rattle.std.specs.Prelude.{◌≡◌, ℕ, List, Option, Some, None, Result, Ok, Err, IsOk, IsTrue, IsSomeAnd, IfOk, IfErr, IfSome, OnOk, OnErr}
 use Rattle.std.specs.FinMap as map
 use Rattle.art_nodes.specs.Nodes.{Nodes, no_promise}
 use Rattle.art_parts.specs.declared.names.OpaqueNodePtr.{OpaqueNodePtr}
@@ -26,6 +26,11 @@ pub record IsLeafTaken {K V : Type 0} (s t : Nodes K V) (point : DeletePoint) (r
   pub inners : t.inners ≡ s.inners
   pub promise : t.promise ≡ s.promise
   pub root_is : done.new_root ≡ root
+
+-- What was done at a point, or the point that is handed back where nothing was.
+abbrev pub done_or_refused : {K V : Type 0} → DeletePoint → Option (DeleteResult K V) → Result (DeleteResult K V) DeleteRefused
+done_or_refused point (Some done) = Ok done
+done_or_refused point None = Err (record { point = point })
 
 -- A delete point is applied; or it is handed back, with the nodes as they were and nothing promised.
 pub record IsTakenOut {K V : Type 0} (bytes : K × V → List ℕ) (P : ℕ) (s t : Nodes K V) (root : OpaqueNodePtr)

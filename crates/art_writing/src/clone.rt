@@ -209,6 +209,7 @@ fn clone_of(root: OpaqueNodePtr, ends: Option<LeafEnds>) -> CloneResult
 }
 
 // Places a clone of a leaf, with no siblings.
+#[inline(always)]
 fn clone_leaf<K: AsBytes + Clone + Drop, V: Clone + Drop, const P: usize>(
     store: &NodeStore<K, V, P>,
     name: LeafPtr,

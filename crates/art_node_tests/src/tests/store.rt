@@ -589,6 +589,27 @@ fn place_node16_without_memory(store: &mut Store) -> Result<[bool; 2], AllocErro
     Ok(placed)
 }
 
+// Whether two Node4s are placed without memory where room was asked for as many as another store has.
+fn place_like_another_without_memory(store: &mut Store) -> Result<[bool; 2], AllocError> {
+    let mut other = Store::new(store.alloc());
+    let _ = other.place_inner(node4(&[1, 2]));
+    let _ = other.place_inner(node4(&[3, 4]));
+    store.reserve_inners_like(&other)?;
+    let held = all_memory(store.alloc())?;
+    let placed = [
+        store.place_inner(node4(&[8, 9])).is_ok(),
+        store.place_inner(node4(&[6, 7])).is_ok(),
+    ];
+    drop(held);
+    Ok(placed)
+}
+
+#[test]
+fn without_memory_there_is_room_like_that_of_another_store(rt: HostRuntime) -> Result<(), Fail> {
+    let placed = place_like_another_without_memory(&mut Store::new(rt.alloc()));
+    same(placed.ok(), Some([true; 2]))
+}
+
 #[test]
 fn without_memory_the_promise_is_kept(rt: HostRuntime) -> Result<(), Fail> {
     let placed = place_without_memory(&mut Store::new(rt.alloc()));

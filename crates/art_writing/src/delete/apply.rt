@@ -14,7 +14,7 @@ ghost use Rattle.art_writing.specs.Deleted.{IsDeletePointIn, IsRootAfter, Touche
 ghost use Rattle.art_reading.specs.PathSteps.{last_step};
 ghost use Rattle.art_inner.specs.Views.{ref_kind, ref_view};
 ghost use Rattle.art_parts.specs.Kinds.{kind_least, next_smaller};
-ghost use Rattle.art_writing.specs.TakenOut.{IsLeafTaken, IsTakenOut};
+ghost use Rattle.art_writing.specs.TakenOut.{IsLeafTaken, IsTakenOut, done_or_refused};
 ghost use Rattle.art_writing.specs.ParentWrites.{LinksAreThere};
 
 use super::{DeletePoint, DeleteRefused, DeleteResult};
@@ -79,21 +79,25 @@ impl DeletePoint {
         ensures inners { OnErr result (store.new.inners ≡ store.old.inners) }
         ensures void { OnErr result (store.new.promise ≡ no_promise) }
     {
-        self.take_out(store, root)
+        match self.take_out(store, root) {
+            Some(done) => Ok(done),
+            None => Err(DeleteRefused { point: self }),
+        }
     }
 
-    // The same, and what is ensured of it in one word.
+    /// The same, and what is ensured of it in one word; `None` where it is refused.
     #[inline(always)]
-    fn take_out<K: AsBytes + Drop, V: Drop, const P: usize>(
+    pub(crate) fn take_out<K: AsBytes + Drop, V: Drop, const P: usize>(
         self,
         store: &mut NodeStore<K, V, P>,
         root: OpaqueNodePtr,
-    ) -> Result<DeleteResult<K, V>, DeleteRefused>
+    ) -> Option<DeleteResult<K, V>>
         requires { IsDeletePointIn (of_key K.bytes) P store.old root self }
-        ensures { IsTakenOut (of_key K.bytes) P store.old store.new root self result }
+        ensures { IsTakenOut (of_key K.bytes) P store.old store.new root self
+            (done_or_refused self result) }
     {
         match last_step(self.path) {
-            None => Ok(self.take_leaf(store, None)),
+            None => Some(self.take_leaf(store, None)),
             Some((parent, byte)) => self.take_from_parent(store, root, parent, byte),
         }
     }
@@ -105,10 +109,11 @@ impl DeletePoint {
         root: OpaqueNodePtr,
         parent: InnerPtr,
         byte: u8,
-    ) -> Result<DeleteResult<K, V>, DeleteRefused>
+    ) -> Option<DeleteResult<K, V>>
         requires parent { last_step self.path ≡ Some (parent, byte) }
         requires answers { IsDeletePointIn (of_key K.bytes) P store.old root self }
-        ensures { IsTakenOut (of_key K.bytes) P store.old store.new root self result }
+        ensures { IsTakenOut (of_key K.bytes) P store.old store.new root self
+            (done_or_refused self result) }
     {
         let Some(node) = store.inner(parent) else {
             unreachable!()
@@ -116,11 +121,11 @@ impl DeletePoint {
         let kind = node.node_type();
         if has_spare_child(node) {
             store.remove_child(parent, byte);
-            return Ok(self.take_leaf(store, Some(root)));
+            return Some(self.take_leaf(store, Some(root)));
         }
         match kind.smaller() {
             Some(smaller) => self.shrink_parent(store, root, parent, byte, smaller),
-            None => Ok(self.compress_parent(store, root, parent, byte)),
+            None => Some(self.compress_parent(store, root, parent, byte)),
         }
     }
 
@@ -132,19 +137,20 @@ impl DeletePoint {
         parent: InnerPtr,
         byte: u8,
         smaller: NodeType,
-    ) -> Result<DeleteResult<K, V>, DeleteRefused>
+    ) -> Option<DeleteResult<K, V>>
         requires parent { last_step self.path ≡ Some (parent, byte) }
         requires smaller { next_smaller parent.kind ≡ Some smaller }
         requires shrinks { parent_change store.old self.path ≡ shrinks smaller }
         requires answers { IsDeletePointIn (of_key K.bytes) P store.old root self }
-        ensures { IsTakenOut (of_key K.bytes) P store.old store.new root self result }
+        ensures { IsTakenOut (of_key K.bytes) P store.old store.new root self
+            (done_or_refused self result) }
     {
         if store.reserve(0, Some(smaller)).is_err() {
-            return Err(DeleteRefused { point: self });
+            return None;
         }
         let node = store.put_smaller(parent, byte);
         let new_root = replace_at(store, up(self.path), root, node.to_opaque());
-        Ok(self.take_leaf(store, Some(new_root)))
+        Some(self.take_leaf(store, Some(new_root)))
     }
 
     /// Takes the leaf alone out, when its parent has let it go.

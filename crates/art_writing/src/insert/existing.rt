@@ -117,7 +117,6 @@ fn new_child<K, V>(
 }
 
 // The kind of the node that takes the place of this one when it gets a child more, where it is full.
-#[inline(always)]
 fn kind_if_full<K: AsBytes + Drop, V: Drop, const P: usize>(
     store: &NodeStore<K, V, P>,
     name: InnerPtr,
