@@ -56,7 +56,7 @@ fn insert_all(map: &mut Map, alloc: Global, keys: &[u8], ends: &[u64]) -> u64 {
     let (mut count, mut value, mut from) = (0u64, 0u32, 0);
     for end in ends {
         let to = *end as usize;
-        if let Ok(key) = between(keys, from, to).to_vec(alloc) {
+        if let Ok(key) = Vec::from_slice(alloc, between(keys, from, to)) {
             count = count.wrapping_add(u64::from(is_new(map, key, value)));
         }
         value = value.wrapping_add(1);
@@ -79,7 +79,7 @@ fn insert_again(map: &mut Map, alloc: Global, keys: &[u8], ends: &[u64]) -> u64 
     let (mut count, mut from) = (0u64, 0);
     for end in ends {
         let to = *end as usize;
-        if let Ok(key) = between(keys, from, to).to_vec(alloc) {
+        if let Ok(key) = Vec::from_slice(alloc, between(keys, from, to)) {
             count = count.wrapping_add(u64::from(is_stored_now(map, key)));
         }
         from = to;
@@ -98,7 +98,7 @@ fn over_all(map: &mut Map, alloc: Global, keys: &[u8], ends: &[u64]) -> u64 {
     let (mut count, mut from) = (0u64, 0);
     for end in ends {
         let to = *end as usize;
-        if let Ok(key) = between(keys, from, to).to_vec(alloc) {
+        if let Ok(key) = Vec::from_slice(alloc, between(keys, from, to)) {
             count = count.wrapping_add(u64::from(map.insert_over(key, 7).is_ok()));
         }
         from = to;
@@ -267,19 +267,19 @@ fn write_more(map: &mut Map, alloc: Global, key_bytes: &[u8]) {
 }
 
 fn insert_more(map: &mut Map, alloc: Global, key_bytes: &[u8]) {
-    if let Ok(key) = key_bytes.to_vec(alloc) {
+    if let Ok(key) = Vec::from_slice(alloc, key_bytes) {
         let _ = map.insert(key, 1);
     }
 }
 
 fn get_more(map: &mut Map, alloc: Global, key_bytes: &[u8]) {
-    if let Ok(key) = key_bytes.to_vec(alloc) {
+    if let Ok(key) = Vec::from_slice(alloc, key_bytes) {
         let _ = map.get_or_insert(key, 2);
     }
 }
 
 fn over_more(map: &mut Map, alloc: Global, key_bytes: &[u8]) {
-    if let Ok(key) = key_bytes.to_vec(alloc) {
+    if let Ok(key) = Vec::from_slice(alloc, key_bytes) {
         let _ = map.insert_over(key, 3);
     }
 }

@@ -34,7 +34,7 @@ fn build(store: &mut Store, alloc: Global, keys: &[u8], ends: &[u64]) -> Option<
     let (mut root, mut from) = (None, 0);
     'keys: for end in ends {
         let to = *end as usize;
-        let Ok(key) = between(keys, from, to).to_vec(alloc) else {
+        let Ok(key) = Vec::from_slice(alloc, between(keys, from, to)) else {
             return None;
         };
         root = Some(put_in(store, root, key, 0)?);

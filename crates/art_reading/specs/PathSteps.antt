@@ -13,14 +13,14 @@ use Rattle.art_reading.specs.declared.path.StepCount.TheVariants as count
 -- the path one step further down, to the child that a node has under a byte
 abbrev pub step_down : TreePath → InnerPtr → ℕ → TreePath
 step_down Root node byte = ChildOfRoot node byte
-step_down (ChildOfRoot parent b) node byte = Normal parent b node byte
-step_down (Normal grandparent c parent b) node byte = Normal parent b node byte
+step_down (ChildOfRoot parent b) node byte = Normal node byte parent b
+step_down (Normal parent b grandparent c) node byte = Normal node byte parent b
 
 -- the path that ends with so many steps, from a grandparent and a parent by the bytes that lead down
 abbrev pub path_with : StepCount → InnerPtr → ℕ → InnerPtr → ℕ → TreePath
 path_with count.None grandparent above parent byte = Root
 path_with count.One grandparent above parent byte = ChildOfRoot parent byte
-path_with count.Two grandparent above parent byte = Normal grandparent above parent byte
+path_with count.Two grandparent above parent byte = Normal parent byte grandparent above
 
 -- the path that the last steps of a way make
 abbrev pub path_after : LastSteps → TreePath
@@ -37,13 +37,13 @@ path_of (f ∷ fs) = step_down (path_of fs) (as_inner f.mark) f.byte
 abbrev pub last_step : TreePath → Option (InnerPtr × ℕ)
 last_step Root = None
 last_step (ChildOfRoot parent byte) = Some (parent, byte)
-last_step (Normal grandparent above parent byte) = Some (parent, byte)
+last_step (Normal parent byte grandparent above) = Some (parent, byte)
 
 -- the path of the parent at the end of a path, as far as it is known
 abbrev pub up : TreePath → TreePath
 up Root = Root
 up (ChildOfRoot parent byte) = Root
-up (Normal grandparent above parent byte) = ChildOfRoot grandparent above
+up (Normal parent byte grandparent above) = ChildOfRoot grandparent above
 
 -- the root, where the node at the end of the path may be another one
 abbrev pub root_with : TreePath → OpaqueNodePtr → OpaqueNodePtr → OpaqueNodePtr

@@ -18,12 +18,12 @@ pub enum TreePath {
     },
     /// The node's parent is below another inner node.
     Normal {
-        grandparent: InnerPtr,
-        /// The byte under which the grandparent has the parent.
-        parent_key_byte: u8,
         parent: InnerPtr,
         /// The byte under which the parent has the node.
         child_key_byte: u8,
+        grandparent: InnerPtr,
+        /// The byte under which the grandparent has the parent.
+        parent_key_byte: u8,
     },
 }
 

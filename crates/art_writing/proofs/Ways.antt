@@ -23,7 +23,7 @@ module _ {A : Type 0} where
       down : (path : TreePath) → last_step (step_down path (as_inner f.mark) f.byte) ≡ Some (as_inner f.mark, f.byte)
       down Root = refl
       down (ChildOfRoot parent b) = refl
-      down (Normal grandparent c parent b) = refl
+      down (Normal parent b grandparent c) = refl
 
   -- the root, where another node stands at the end of the path
   pub root_with-path_of : (fs : List (Frame OpaqueNodePtr A)) (root node : OpaqueNodePtr) → root_with (path_of fs) root node ≡ paths.root_with fs root node
@@ -33,13 +33,13 @@ module _ {A : Type 0} where
       down : (path : TreePath) → root_with (step_down path (as_inner f.mark) f.byte) root node ≡ root
       down Root = refl
       down (ChildOfRoot parent b) = refl
-      down (Normal grandparent c parent b) = refl
+      down (Normal parent b grandparent c) = refl
 
 -- it is the root by what is told of the parent
 pub root_told : (point : InsertPoint) (path : TreePath) (node : InnerPtr) (byte : ℕ) → root_with path point.root (inner_name node) ≡ root_after (record point { path = path }) (NewParent node byte)
 root_told point Root node byte = refl
 root_told point (ChildOfRoot parent b) node byte = refl
-root_told point (Normal grandparent above parent b) node byte = refl
+root_told point (Normal parent b grandparent above) node byte = refl
 
 -- ---- one step up from below a node
 
@@ -52,7 +52,7 @@ module _ {A : Type 0} (f : Frame OpaqueNodePtr A) where
       above : (path : TreePath) → last_step (up (step_down (step_down path (as_inner g.mark) g.byte) (as_inner f.mark) f.byte)) ≡ Some (as_inner g.mark, g.byte)
       above Root = refl
       above (ChildOfRoot parent b) = refl
-      above (Normal grandparent c parent b) = refl
+      above (Normal parent b grandparent c) = refl
 
   -- the root is another one exactly where the node is the root
   pub root_with-up : (fs : List (Frame OpaqueNodePtr A)) (root node : OpaqueNodePtr) → root_with (up (path_of (f ∷ fs))) root node ≡ paths.root_with fs root node
@@ -62,13 +62,13 @@ module _ {A : Type 0} (f : Frame OpaqueNodePtr A) where
       above : (path : TreePath) → root_with (up (step_down (step_down path (as_inner g.mark) g.byte) (as_inner f.mark) f.byte)) root node ≡ root
       above Root = refl
       above (ChildOfRoot parent b) = refl
-      above (Normal grandparent c parent b) = refl
+      above (Normal parent b grandparent c) = refl
 
   above_root : (change : ParentChange) (g : Frame OpaqueNodePtr A) (root : OpaqueNodePtr) (path : TreePath) →
       IsRootAfter change (step_down (step_down path (as_inner g.mark) g.byte) (as_inner f.mark) f.byte) root (Some root)
   above_root change g root Root = refl
   above_root change g root (ChildOfRoot parent b) = refl
-  above_root change g root (Normal grandparent c parent b) = refl
+  above_root change g root (Normal parent b grandparent c) = refl
 
   -- and that is the one that a deletion answers where the parent gives way
   pub root_after_at : (change : ParentChange) (fs : List (Frame OpaqueNodePtr A)) (root node : OpaqueNodePtr) → change ≢ keeps →

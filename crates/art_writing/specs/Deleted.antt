@@ -84,4 +84,4 @@ IsTopAfter change root new = (name : OpaqueNodePtr) × (new ≡ Some name)
 abbrev pub IsRootAfter : ParentChange → TreePath → OpaqueNodePtr → Option OpaqueNodePtr → Type 0
 IsRootAfter change Root root new = new ≡ None
 IsRootAfter change (ChildOfRoot parent byte) root new = IsTopAfter change root new
-IsRootAfter change (Normal grandparent above parent byte) root new = new ≡ Some root
+IsRootAfter change (Normal parent byte grandparent above) root new = new ≡ Some root
