@@ -13,6 +13,7 @@ impl<'a, const P: usize> InnerRef<'a, P> {
 
     /// A child next to a byte that has none itself, with the child's own byte. It is above or below, and no other child
     /// stands between.
+    #[inline(always)]
     pub fn beside(&self, byte: u8) -> (u8, OpaqueNodePtr)
         requires some { 0 < length (ref_view self.now).children }
         requires absent { child_at (ref_view self.now).children byte ≡ None }
@@ -29,6 +30,7 @@ impl<'a, const P: usize> InnerRef<'a, P> {
 }
 
 // The nearest child on either side of a byte.
+#[inline(always)]
 pub(crate) fn nearest<T: Places>(table: &T, byte: u8) -> (u8, OpaqueNodePtr)
     requires { (other : ℕ) × (other < 256) × (other ≢ byte) ×
         IsSome (child_at (T.children_of table.now) other) }

@@ -21,7 +21,7 @@ pub fn minimum_unchecked<K: AsBytes + Drop, V: Drop, const PREFIX_LEN: usize>(
 {
     match root.split() {
         NodePtr::Leaf(leaf) => leaf,
-        NodePtr::Inner(_) => walk_to_end(store, root, End::First).1,
+        NodePtr::Inner(_) => first_below(store, root),
     }
 }
 
@@ -37,6 +37,32 @@ pub fn maximum_unchecked<K: AsBytes + Drop, V: Drop, const PREFIX_LEN: usize>(
 {
     match root.split() {
         NodePtr::Leaf(leaf) => leaf,
-        NodePtr::Inner(_) => walk_to_end(store, root, End::Last).1,
+        NodePtr::Inner(_) => last_below(store, root),
     }
+}
+
+// The first leaf, by a walk. This is a call, so that those into which `minimum_unchecked` is inlined stay small.
+#[inline(never)]
+fn first_below<K: AsBytes + Drop, V: Drop, const P: usize>(
+    store: &NodeStore<K, V, P>,
+    root: OpaqueNodePtr,
+) -> LeafPtr
+    requires { (layout : Tree OpaqueNodePtr (K × V)) × IsFullTree store.now root layout }
+    ensures { (layout : Tree OpaqueNodePtr (K × V)) →
+        IsFullTree store.now root layout → HasFirstLeaf layout (leaf_name result) }
+{
+    walk_to_end(store, root, End::First).1
+}
+
+// The same of the last leaf.
+#[inline(never)]
+fn last_below<K: AsBytes + Drop, V: Drop, const P: usize>(
+    store: &NodeStore<K, V, P>,
+    root: OpaqueNodePtr,
+) -> LeafPtr
+    requires { (layout : Tree OpaqueNodePtr (K × V)) × IsFullTree store.now root layout }
+    ensures { (layout : Tree OpaqueNodePtr (K × V)) →
+        IsFullTree store.now root layout → HasLastLeaf layout (leaf_name result) }
+{
+    walk_to_end(store, root, End::Last).1
 }

@@ -116,6 +116,7 @@ impl InsertPoint {
     }
 
     // Reads the header that a split leaves to the old node: the rest of its prefix.
+    #[inline(always)]
     fn trimmed_header<K: AsBytes + Drop, V: Drop, const P: usize>(
         self,
         store: &NodeStore<K, V, P>,

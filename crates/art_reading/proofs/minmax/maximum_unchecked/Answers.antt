@@ -7,4 +7,4 @@ pub returns-in-Leaf : goal.returns-in-Leaf
 returns-in-Leaf g c layout full = (ends Root Last c.in-Leaf.ensures.name (start {s = c.args.store.now} Last full)).0
 
 pub returns-in-Inner : goal.returns-in-Inner
-returns-in-Inner g c layout full = (c.walk_to_end.ensures layout full).0
+returns-in-Inner g c layout full = c.last_below.ensures layout full
