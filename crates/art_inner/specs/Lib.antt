@@ -6,6 +6,7 @@ pub mod Inner
 pub mod Views
 pub mod Beside
 pub mod InnerChanges
+pub mod InnerRenamed
 -- their tables
 pub mod Tables
 pub mod Rows
