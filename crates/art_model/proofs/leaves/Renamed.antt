@@ -15,10 +15,12 @@ use Rattle.art_parts.specs.declared.names.OpaqueNodePtr.{OpaqueNodePtr}
 use Rattle.art_model.specs.Canonical.{IsCanonicalTree}
 use Rattle.art_model.specs.Footprints.{IsIn}
 use Rattle.art_model.specs.Layouts.{AreDistinct, AreLinked, Links, first_or, leaf_names, leaf_node, inner_node, names_of}
+use Rattle.art_model.specs.Pairs.{first_of}
 use Rattle.art_model.specs.Stores.{Held, content_at, held_leaf, held_inner, links_at, links_of, node_at, pair_of}
 use Rattle.art_model.specs.Trees.{Tree, NodeHeader}
 use Rattle.art_model.specs.Writes.{as_inner}
 use Rattle.art_model.proofs.leaves.Chains.{links_leaf, links_inner}
+use Rattle.art_model.proofs.leaves.LeafEnds.{first_or_of}
 use Rattle.art_model.proofs.leaves.OtherNames.{IsOwn, distinct_renamed, holds_renamed, linked_renamed, links_renamed, leaf_names-renamed, name_of-renamed, names_of-renamed, renamed, unmarked-renamed}
 use Rattle.art_model.proofs.lists.Lists.{each_from, each_map, in_map, out_map}
 use Rattle.art_model.proofs.stores.Names.{taken_in, takes_leaves}
@@ -40,6 +42,11 @@ optional_leaf_one (Some p) (Some q) e = ap Some (leaf_name_one p q cc)
 first_or-leaves : (row : List LeafPtr) → first_or (map leaf_name row) None ≡ option_map leaf_name (first_of_row row)
 first_or-leaves [] = refl
 first_or-leaves (p ∷ row) = refl
+
+-- the first name of a row is that of the first leaf
+pub first_named : {names : List OpaqueNodePtr} {first : LeafPtr} (row : List LeafPtr) → names ≡ map leaf_name row → first_of names ≡ Some (leaf_name first) → first_of_row row ≡ Some first
+first_named {names} {first} row names_are is =
+    optional_leaf_one (first_of_row row) (Some first) (sym (first_or-leaves row) ∙ first_or_of (map leaf_name row) ∙ ap first_of (sym names_are) ∙ is)
 
 module _ {K V : Type 0} (s : Nodes K V) where
   -- a leaf with these links stands between the leaves that they name
@@ -90,7 +97,7 @@ module _ {K V : Type 0} (s : Nodes K V) where
 -- ---- what is held under the new names
 
 -- an inner node keeps its name
-inner_stays : (rename : LeafPtr → LeafPtr) (kind : NodeType) (slot : ℕ) → kind ≢ Leaf → renamed_in rename kind slot ≡ record { kind = kind; slot = slot }
+pub inner_stays : (rename : LeafPtr → LeafPtr) (kind : NodeType) (slot : ℕ) → kind ≢ Leaf → renamed_in rename kind slot ≡ record { kind = kind; slot = slot }
 inner_stays rename Leaf slot off = absurd (off refl)
 inner_stays rename Node4 slot off = refl
 inner_stays rename Node16 slot off = refl

@@ -18,7 +18,7 @@ impl<K: AsBytes + Drop, V: Drop, const P: usize> NodeStore<K, V, P> {
         ensures renamed { (row : List LeafPtr) → IsRow self.old.leaves None row →
             first_of_row row ≡ Some first →
             OnOk result ((rename : LeafPtr → LeafPtr) ×
-                AreRenamed rename row self.old self.new) }
+            AreRenamed rename row self.old self.new) }
         ensures promise { OnOk result (self.new.promise ≡ no_promise) }
         ensures refused { OnErr result (self.new ≡ self.old) }
     {
