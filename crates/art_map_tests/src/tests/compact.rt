@@ -44,10 +44,7 @@ fn compacted(map: &mut Map) -> ([bool; 2], [u32; 2], [Option<u32>; 2]) {
 #[test]
 fn a_compact_map_has_the_same_pairs(rt: HostRuntime) -> Result<(), Fail> {
     let seen = compacted(&mut ByteMap::new(rt.alloc()));
-    as_expected(Some((
-        seen,
-        ([true; 2], [124_679, 976_421], [Some(4), None]),
-    )))
+    as_expected(Some((seen, ([true; 2], [124_679, 976_421], [Some(4), None]))))
 }
 
 // Of a compact map: whether a pair goes in between two others, another one that goes out, and the digits then; and the
@@ -65,10 +62,7 @@ fn changed(map: &mut Map) -> (bool, Option<([u8; 1], u32)>, [[u32; 2]; 2]) {
 #[test]
 fn a_compact_map_is_changed(rt: HostRuntime) -> Result<(), Fail> {
     let seen = changed(&mut ByteMap::new(rt.alloc()));
-    as_expected(Some((
-        seen,
-        (true, Some(([7], 7)), [[124_569, 965_421]; 2]),
-    )))
+    as_expected(Some((seen, (true, Some(([7], 7)), [[124_569, 965_421]; 2]))))
 }
 
 // Whether a map is compact with no pair, with one and with two, and its digits each time.
@@ -130,7 +124,9 @@ fn differ_at(map: &mut Drawn, model: &mut Model, calls: usize) -> Option<usize> 
 }
 
 #[test]
-fn drawn_calls_of_a_compact_map_answer_as_those_of_a_btree_map(rt: HostRuntime) -> Result<(), Fail> {
+fn drawn_calls_of_a_compact_map_answer_as_those_of_a_btree_map(
+    rt: HostRuntime,
+) -> Result<(), Fail> {
     let alloc = rt.alloc();
     let seen = differ_at(&mut ByteMap::new(alloc), &mut BTreeMap::new(alloc), 4_000);
     as_expected(Some((seen, None)))
