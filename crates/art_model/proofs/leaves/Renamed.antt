@@ -87,6 +87,7 @@ module _ {K V : Type 0} (s : Nodes K V) where
         names_are = ap (λ ks. leaf_name p ∷ ks) rest.names_are;
       }
 
+  -- the row of leaves that are linked, from the one after a leaf on
   pub row_of : (before : Option LeafPtr) (names : List OpaqueNodePtr) → AreLinked (links_at s) (option_map leaf_name before) names None → HasRow before names
   row_of before [] h = record { row = []; is_row = tt; names_are = refl }
   row_of before (n ∷ ns) h =
@@ -104,10 +105,12 @@ inner_stays rename Node16 slot off = refl
 inner_stays rename Node48 slot off = refl
 inner_stays rename Node256 slot off = refl
 
+-- a leaf beside another one has its new name
 optional_renamed : (rename : LeafPtr → LeafPtr) (o : Option LeafPtr) → option_map leaf_name (option_map rename o) ≡ option_map (child_renamed rename) (option_map leaf_name o)
 optional_renamed rename None = refl
 optional_renamed rename (Some p) = refl
 
+-- where no inner node is none is renamed
 inner_none : {K V : Type 0} (rename : LeafPtr → LeafPtr) (o : Option Inner) →
     ◌≡◌ {A = Option (Held K V)} (option_map held_inner o) None → ◌≡◌ {A = Option (Held K V)} (option_map held_inner (option_map (inner_renamed rename) o)) None
 inner_none rename None e = refl
