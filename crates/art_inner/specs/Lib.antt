@@ -7,6 +7,7 @@ pub mod Views
 pub mod Beside
 pub mod InnerChanges
 pub mod InnerRenamed
+pub mod NewNames
 -- their tables
 pub mod Tables
 pub mod Rows
