@@ -11,9 +11,10 @@ impl<K: AsBytes + Drop, V: Drop, const P: usize> ByteMap<K, V, P> {
     /// back, and returns `Ok` once they stand so. No pair is cloned, and the map stays the same. An `Err`
     /// is for want of memory, and then nothing has moved.
     ///
-    /// It costs a walk over all leaves and inner nodes, and takes room for all leaves once more and a word
-    /// for each slot of a leaf, and gives the old room and the words back. It pays before many walks of a
-    /// map that is written rarely: pairs that are inserted later stand behind the others again.
+    /// It costs a walk over all leaves and inner nodes. It takes room for as many leaves as there are, and
+    /// a word for each one that the old room could hold, and gives back these words and the old room. It
+    /// pays before many walks of a map that is written rarely: pairs that are inserted later stand behind
+    /// the others again.
     pub fn compact(&mut self) -> Result<(), AllocError>
         ensures same { self.new ≡ self.old }
     {

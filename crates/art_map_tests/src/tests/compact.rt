@@ -65,20 +65,25 @@ fn a_compact_map_is_changed(rt: HostRuntime) -> Result<(), Fail> {
     as_expected(Some((seen, (true, Some(([7], 7)), [[124_569, 965_421]; 2]))))
 }
 
-// Whether a map is compact with no pair, with one and with two, and its digits each time.
-fn of_few(map: &mut Map) -> ([bool; 3], [[u32; 2]; 3]) {
-    let none = (map.compact().is_ok(), digits(map));
+// Whether a map is made compact, and its digits then.
+fn made_compact(map: &mut Map) -> (bool, [u32; 2]) {
+    (map.compact().is_ok(), digits(map))
+}
+
+// The same of a map with no pair, with one and with two.
+fn of_few(map: &mut Map) -> [(bool, [u32; 2]); 3] {
+    let none = made_compact(map);
     drop(map.insert([8], 8));
-    let one = (map.compact().is_ok(), digits(map));
+    let one = made_compact(map);
     drop(map.insert([3], 3));
-    let two = (map.compact().is_ok(), digits(map));
-    ([none.0, one.0, two.0], [none.1, one.1, two.1])
+    let two = made_compact(map);
+    [none, one, two]
 }
 
 #[test]
 fn a_map_of_few_pairs_is_compact(rt: HostRuntime) -> Result<(), Fail> {
     let seen = of_few(&mut ByteMap::new(rt.alloc()));
-    as_expected(Some((seen, ([true; 3], [[0, 0], [8, 8], [38, 83]]))))
+    as_expected(Some((seen, [(true, [0, 0]), (true, [8, 8]), (true, [38, 83])])))
 }
 
 // Puts the keys below a number in, in steps of 7, and says whether they come in their order once the map is compact.
