@@ -8,3 +8,4 @@ pub mod DirectLemmas
 pub mod IndexedLemmas
 pub mod RowsLemmas
 pub mod RowTables
+pub mod RenamingLemmas

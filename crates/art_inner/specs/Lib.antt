@@ -6,6 +6,8 @@ pub mod Inner
 pub mod Views
 pub mod Beside
 pub mod InnerChanges
+pub mod InnerRenamed
+pub mod NewNames
 -- their tables
 pub mod Tables
 pub mod Rows

@@ -1,10 +1,11 @@
 //! Names with a place for each byte.
-ghost use Rattle.std.specs.Prelude.{◌≡◌, ℕ, ◌<◌, ◌≤◌, [], length, Some, None};
+ghost use Rattle.std.specs.Prelude.{◌≡◌, ℕ, ◌<◌, ◌≤◌, [], length, Some, None, slice_index_or};
 
 use crate::beside::nearest;
 use crate::children::Children;
 use crate::places::Places;
-use art_parts::names::{NodeType, OpaqueNodePtr};
+use crate::renaming::new_name;
+use art_parts::names::{LeafPtr, NodeType, OpaqueNodePtr};
 use std::marker::Model;
 
 // The kind of the name that stands in a place. One byte says it and whether there is one.
@@ -42,6 +43,8 @@ impl Model for Direct {
 impl Direct {
     ghost use Rattle.art_inner.specs.Inner.{IsRising, child_at, put_child, remove_child};
     ghost use Rattle.art_inner.specs.Beside.{IsNextTo};
+    ghost use Rattle.art_inner.specs.InnerRenamed.{children_renamed};
+    ghost use Rattle.art_inner.specs.NewNames.{new_name};
 
     pub(crate) fn new() -> Self
         ensures { result ≡ [] }
@@ -105,6 +108,13 @@ impl Direct {
         self.len -= 1;
         Some(child)
     }
+
+    // Gives the leaves among the names the names that a table has for them.
+    pub(crate) fn rename_leaves(&mut self, table: &[usize])
+        ensures { self.new ≡ children_renamed (new_name table.now) self.old }
+    {
+        rename_places(&self.places, &mut self.slots, table);
+    }
 }
 
 impl Places for Direct {
@@ -154,5 +164,24 @@ fn place_of(kind: NodeType) -> PlaceKind
         NodeType::Node48 => PlaceKind::Node48,
         NodeType::Node256 => PlaceKind::Node256,
         NodeType::Leaf => PlaceKind::Leaf,
+    }
+}
+
+ghost use Rattle.std.specs.Option.{option_map};
+ghost use Rattle.art_inner.specs.Direct.{direct_at};
+ghost use Rattle.art_inner.specs.InnerRenamed.{child_renamed};
+ghost use Rattle.art_inner.specs.NewNames.{new_name};
+
+// Writes for each leaf in a place the slot that a table has for it.
+fn rename_places(places: &[PlaceKind], slots: &mut [usize], table: &[usize])
+    requires { length places.now ≡ length slots.old }
+    ensures count { length slots.new ≡ length slots.old }
+    ensures names { (b : ℕ) → direct_at slots.new places.now b ≡
+        option_map (child_renamed (new_name table.now)) (direct_at slots.old places.now b) }
+{
+    for at in 0..slots.len() {
+        if let PlaceKind::Leaf = places[at] {
+            slots[at] = new_name(table, LeafPtr { slot: slots[at] }).slot;
+        }
     }
 }

@@ -4,6 +4,7 @@ ghost use Rattle.std.specs.Prelude.{◌≡◌, ◌≢◌, ℕ, ◌+◌, ◌<◌,
 use crate::beside::nearest;
 use crate::children::Children;
 use crate::places::Places;
+use crate::renaming::rename_slots;
 use art_parts::names::{NodeType, OpaqueNodePtr};
 use std::marker::Model;
 
@@ -36,6 +37,8 @@ impl Model for Indexed {
 impl Indexed {
     ghost use Rattle.art_inner.specs.Inner.{HasPlace, IsRising, child_at, put_child, remove_child};
     ghost use Rattle.art_inner.specs.Beside.{IsNextTo};
+    ghost use Rattle.art_inner.specs.InnerRenamed.{children_renamed};
+    ghost use Rattle.art_inner.specs.NewNames.{new_name};
 
     pub(crate) fn new() -> Self
         ensures { result ≡ [] }
@@ -110,6 +113,13 @@ impl Indexed {
         self.index[byte as usize] = 0;
         self.len = last - 1;
         Some(child)
+    }
+
+    // Gives the leaves among the names the names that a table has for them.
+    pub(crate) fn rename_leaves(&mut self, table: &[usize])
+        ensures { self.new ≡ children_renamed (new_name table.now) self.old }
+    {
+        rename_slots(&self.kinds, &mut self.slots, table);
     }
 }
 

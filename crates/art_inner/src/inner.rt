@@ -15,6 +15,8 @@ use std::marker::Model;
 /// An inner node of one kind.
 pub trait InnerNode<const P: usize>: FromHeader<Header<P>> {
     ghost use Rattle.art_inner.specs.InnerChanges.{with_child, without_child};
+    ghost use Rattle.art_inner.specs.InnerRenamed.{inner_renamed};
+    ghost use Rattle.art_inner.specs.NewNames.{new_name};
     ghost use Rattle.art_inner.specs.Inner.{HasPlace, Inner, IsRising, child_at, childless, children_between};
     ghost use Rattle.art_parts.specs.Headers.{Prefix};
     ghost use Rattle.art_inner.specs.Views.{any_kind, any_view};
@@ -56,6 +58,11 @@ pub trait InnerNode<const P: usize>: FromHeader<Header<P>> {
     fn remove_child(&mut self, byte: u8) -> Option<OpaqueNodePtr>
         ensures removed { result ≡ child_at (view_of self.old).children byte }
         ensures rest { view_of self.new ≡ without_child byte (view_of self.old) };
+
+    /// Gives the children that are leaves the names that a table of slots has for them. It costs a step for each place of
+    /// the node.
+    fn rename_leaves(&mut self, table: &[usize])
+        ensures { view_of self.new ≡ inner_renamed (new_name table.now) (view_of self.old) };
 
     fn into_any(self) -> AnyInner<P>
         ensures kind { any_kind result ≡ TYPE }
@@ -211,6 +218,10 @@ impl<const P: usize> InnerNode<P> for InnerNode4<P> {
         self.table.remove(byte)
     }
 
+    fn rename_leaves(&mut self, table: &[usize]) {
+        self.table.rename_leaves(table)
+    }
+
     fn into_any(self) -> AnyInner<P> {
         AnyInner::Node4(self)
     }
@@ -313,6 +324,10 @@ impl<const P: usize> InnerNode<P> for InnerNode16<P> {
 
     fn remove_child(&mut self, byte: u8) -> Option<OpaqueNodePtr> {
         self.table.remove(byte)
+    }
+
+    fn rename_leaves(&mut self, table: &[usize]) {
+        self.table.rename_leaves(table)
     }
 
     fn into_any(self) -> AnyInner<P> {
@@ -419,6 +434,10 @@ impl<const P: usize> InnerNode<P> for InnerNode48<P> {
         self.table.remove(byte)
     }
 
+    fn rename_leaves(&mut self, table: &[usize]) {
+        self.table.rename_leaves(table)
+    }
+
     fn into_any(self) -> AnyInner<P> {
         AnyInner::Node48(self)
     }
@@ -521,6 +540,10 @@ impl<const P: usize> InnerNode<P> for InnerNodeDirect<P> {
 
     fn remove_child(&mut self, byte: u8) -> Option<OpaqueNodePtr> {
         self.table.remove(byte)
+    }
+
+    fn rename_leaves(&mut self, table: &[usize]) {
+        self.table.rename_leaves(table)
     }
 
     fn into_any(self) -> AnyInner<P> {

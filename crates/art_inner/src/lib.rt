@@ -9,6 +9,7 @@ mod indexed;
 pub mod inner;
 mod lanes;
 mod places;
+pub mod renaming;
 pub mod resized;
 mod rows;
 mod table;

@@ -3,6 +3,7 @@ ghost use Rattle.std.specs.Prelude.{◌≡◌, ◌+◌, ◌-◌, ◌<◌, ◌≤
 
 use crate::children::Children;
 use crate::lanes::lanes_before;
+use crate::renaming::rename_slots;
 use crate::rows::Rows;
 use art_parts::names::{NodeType, OpaqueNodePtr};
 use std::marker::Model;
@@ -35,6 +36,8 @@ impl<const N: usize> Table<N> {
     ghost use Rattle.art_inner.specs.Inner.{HasPlace, IsAbove, IsRising, child_at, put_child, remove_child};
     ghost use Rattle.art_inner.specs.Rows.{AreAligned, rows_of};
     ghost use Rattle.art_inner.specs.Beside.{IsNextTo};
+    ghost use Rattle.art_inner.specs.InnerRenamed.{children_renamed};
+    ghost use Rattle.art_inner.specs.NewNames.{new_name};
 
     pub(crate) fn new() -> Self
         ensures { result ≡ [] }
@@ -136,6 +139,13 @@ impl<const N: usize> Table<N> {
             Ok(at) => Some(self.take_out(at, byte)),
             Err(_) => None,
         }
+    }
+
+    // Gives the leaves among the names the names that a table has for them.
+    pub(crate) fn rename_leaves(&mut self, table: &[usize])
+        ensures { self.new ≡ children_renamed (new_name table.now) self.old }
+    {
+        rename_slots(&self.kinds, &mut self.slots, table);
     }
 
     ghost use Rattle.std.specs.Prelude.{Some, None, IsSome};

@@ -318,6 +318,14 @@ impl<K: NoPrefixesBytes + Drop, V: Drop, const P: usize> KeyedMap<K, V, P> {
     {
         self.map.clear();
     }
+
+    /// Moves the pairs into the order of their keys in memory, as `compact` of a `ByteMap` does: a walk
+    /// then reads memory from front to back. An `Err` is for want of memory, and then nothing has moved.
+    pub fn compact(&mut self) -> Result<(), AllocError>
+        ensures same { self.new ≡ self.old }
+    {
+        self.map.compact()
+    }
 }
 
 impl<K: CloneBytes + Drop, V: Clone + Drop, const P: usize> KeyedMap<K, V, P> {

@@ -8,7 +8,7 @@ ghost use Rattle.art_map.specs.SetKeys.{add_key, as_pairs};
 use art_keys::laws::NoPrefixesBytes;
 use art_map::map::{IntoKeys, Keys, MapRefused};
 use art_map::set::{ByteSet, SetInsertError};
-use std::alloc::Global;
+use std::alloc::{AllocError, Global};
 use std::fmt;
 use std::marker::Model;
 use thiserror::Error;
@@ -211,6 +211,14 @@ impl<K: NoPrefixesBytes + Drop, const P: usize> KeyedSet<K, P> {
         ensures { self.new ≡ [] }
     {
         self.set.clear();
+    }
+
+    /// Moves the keys into their order in memory, as `compact` of a `ByteMap` does: a walk then reads
+    /// memory from front to back. An `Err` is for want of memory, and then nothing has moved.
+    pub fn compact(&mut self) -> Result<(), AllocError>
+        ensures same { self.new ≡ self.old }
+    {
+        self.set.compact()
     }
 }
 

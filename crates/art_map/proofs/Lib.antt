@@ -20,4 +20,5 @@ pub mod SetOrders
 pub mod Extended
 pub mod Retained
 pub mod Refusing
+pub mod Compacted
 pub mod SetSides

@@ -41,6 +41,7 @@ use std::marker::Model;
 use std::ops::{Bound, Index, RangeBounds};
 use thiserror::Error;
 
+mod compact;
 mod compared;
 mod each;
 mod entry;

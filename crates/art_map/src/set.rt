@@ -9,7 +9,7 @@ ghost use Rattle.art_map.specs.SetKeys.{IsKeyRefusal, add_key, as_pairs, key_err
 use crate::map::{ByteMap, IntoKeys, Keys, MapInsertError, MapRefused};
 use art_nodes::node::AsBytes;
 use art_writing::insert::InsertPrefixError;
-use std::alloc::Global;
+use std::alloc::{AllocError, Global};
 use std::fmt;
 use std::marker::Model;
 use thiserror::Error;
@@ -236,6 +236,14 @@ impl<K: AsBytes + Drop, const P: usize> ByteSet<K, P> {
         ensures { self.new ≡ [] }
     {
         self.map.clear();
+    }
+
+    /// Moves the keys into their order in memory, as `compact` of a `ByteMap` does: a walk then reads
+    /// memory from front to back. An `Err` is for want of memory, and then nothing has moved.
+    pub fn compact(&mut self) -> Result<(), AllocError>
+        ensures same { self.new ≡ self.old }
+    {
+        self.map.compact()
     }
 }
 

@@ -1,6 +1,7 @@
 mod beside_btree;
 mod beside_btree_set;
 mod calls;
+mod compact;
 mod entries;
 mod memory;
 mod owned;

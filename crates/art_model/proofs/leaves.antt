@@ -1,6 +1,8 @@
 -- Lemmas of leaves in their order, and the links between them.
 pub mod Links
 pub mod Segments
+pub mod OtherNames
+pub mod Renamed
 pub mod LeavesFound
 pub mod LeafEnds
 pub mod LeafChild

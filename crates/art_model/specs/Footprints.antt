@@ -1,7 +1,8 @@
 -- What a call did to the nodes under names, between the store before it and the store after it.
-use Rattle.std.specs.Prelude.{◌≡◌, ℕ, ◌≤◌, ◌⊎◌, List, [], ◌∷◌, length, Option, Some, None}
+use Rattle.std.specs.Prelude.{◌≡◌, ℕ, ◌≤◌, List, [], ◌∷◌, length, Option, Some, None}
 use Rattle.std.specs.List.{AllByRecursion as Each}
 use Rattle.art_nodes.specs.Nodes.{Nodes}
+pub use Rattle.art_nodes.specs.Renamed.{IsIn}
 use Rattle.art_parts.specs.declared.names.OpaqueNodePtr.{OpaqueNodePtr}
 use Rattle.art_model.specs.Layouts.{names_of}
 use Rattle.art_model.specs.Pairs.{related_to}
@@ -9,11 +10,6 @@ use Rattle.art_model.specs.Paths.{Frame, plug}
 use Rattle.art_model.specs.Radix.{pairs_of}
 use Rattle.art_model.specs.Stores.{content_at, IsUsed}
 use Rattle.art_model.specs.Trees.{Tree}
-
--- the element stands in the list
-abbrev pub IsIn : {X : Type 0} → X → List X → Type 0
-IsIn x [] = ⊥
-IsIn x (y ∷ ys) = (y ≡ x) ⊎ IsIn x ys
 
 -- The placed names are in use in the new store alone, the freed ones in the old store alone, and all names that hold another node are among the changed ones.
 pub record Footprint {K V : Type 0} (old new : Nodes K V) (placed freed changed : List OpaqueNodePtr) : Type 0 where

@@ -3,4 +3,5 @@ mod mixed_calls;
 mod names;
 mod new_nodes;
 mod node;
+mod sort;
 mod store;

@@ -86,6 +86,20 @@ fn negative_numbers_come_first(rt: HostRuntime) -> Result<(), Fail> {
     same(seen, Some(([Some(3), Some(1), Some(2), Some(0)], true, 3)))
 }
 
+// Whether a map of numbers is made compact, what it returns then, and what a number more has.
+fn compacted(map: &mut KeyedMap<Signed<4>, u32, 8>) -> Option<(bool, [Option<u32>; 4], usize)> {
+    plant_numbers(map)?;
+    let is_compact = map.compact().is_ok();
+    map.insert(Signed::from(7), 4).ok()?;
+    Some((is_compact, values(map), map.len()))
+}
+
+#[test]
+fn numbers_stay_in_order_in_a_compact_map(rt: HostRuntime) -> Result<(), Fail> {
+    let seen = compacted(&mut KeyedMap::new(rt.alloc()));
+    same(seen, Some((true, [Some(3), Some(1), Some(2), Some(0)], 5)))
+}
+
 // Puts a word in as a key with an end, and returns the value that it had.
 fn word(
     map: &mut KeyedMap<Terminated, u32, 8>,

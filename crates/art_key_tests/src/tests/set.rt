@@ -50,6 +50,20 @@ fn a_set_has_each_number_once(rt: HostRuntime) -> Result<(), Fail> {
     )
 }
 
+// Whether a set of three numbers is made compact, and its ends and their number then.
+fn compacted(set: &mut KeyedSet<Signed<2>, 2>) -> Option<(bool, [i16; 2], usize)> {
+    put_in(set)?;
+    let is_compact = set.compact().is_ok();
+    let ends = [i16::from(*set.first()?), i16::from(*set.last()?)];
+    Some((is_compact, ends, set.len()))
+}
+
+#[test]
+fn a_compact_set_has_the_same_numbers(rt: HostRuntime) -> Result<(), Fail> {
+    let seen = compacted(&mut KeyedSet::new(rt.alloc()));
+    same(seen, Some((true, [i16::MIN, 3], 3)))
+}
+
 // How many times each of four users has.
 fn count_times(
     times: &mut KeyedSet<Joined<Unsigned<1>, Signed<2>>, 2>,

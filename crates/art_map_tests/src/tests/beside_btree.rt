@@ -64,7 +64,7 @@ fn agree_on_insertion(map: &mut Map, model: &mut BTreeMap<Key, u32>, key: Key, v
 }
 
 // A call of both, and whether they return the same.
-fn agree_on_call(
+pub(super) fn agree_on_call(
     map: &mut Map,
     model: &mut BTreeMap<Key, u32>,
     numbers: &mut Numbers,

@@ -41,7 +41,7 @@ use Rattle.art_model.proofs.stores.Writes.{node_at-leaf, node_at-inner, inner_at
 module _ {K V : Type 0} (s : Nodes K V) where
   mutual
     -- a leaf's name among those of all nodes is among those of the leaves
-    leaf_among : (t : Tree OpaqueNodePtr (K × V)) → Holds (node_at s) t → (p : LeafPtr) → IsIn (leaf_name p) (names_of t) → IsIn (leaf_name p) (leaf_names t)
+    pub leaf_among : (t : Tree OpaqueNodePtr (K × V)) → Holds (node_at s) t → (p : LeafPtr) → IsIn (leaf_name p) (names_of t) → IsIn (leaf_name p) (leaf_names t)
     leaf_among (leaf n x) h p i = i
     leaf_among (inner n g cs) holds p (inl e) = absurd (leaf_name_is s p g (slots_of cs) (ap (node_at s) (sym e) ∙ holds.0))
     leaf_among (inner n g cs) holds p (inr i) = leaf_among_below cs holds.1 p i

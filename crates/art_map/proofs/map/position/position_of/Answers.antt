@@ -1,5 +1,4 @@
 use Rattle.std.proofs.Common.{rules, ap, sym, ◌∙◌, Some}
-use Rattle.art_model.specs.Pairs.{of_key}
 use Rattle.art_map.proofs.Entered.{leaf_of_point}
 use Rattle.art_map.proofs.Puts.{canonical_root}
 use Rattle.art_map.proofs.map.position.position_of.Goals as goal

@@ -1,0 +1,31 @@
+//! Leaves get other names, by a table of their slots.
+ghost use Rattle.std.specs.Prelude.{◌≡◌, ℕ, length, slice_index_or};
+ghost use Rattle.art_inner.specs.NewNames.{new_name, new_slot};
+ghost use Rattle.art_parts.specs.declared.names.NodeType.TheVariants.{Node4};
+
+use art_parts::names::{LeafPtr, NodeType};
+
+/// The name that a table has for a leaf, or the same where it has none. It costs one access.
+#[inline(always)]
+pub fn new_name(table: &[usize], leaf: LeafPtr) -> LeafPtr
+    ensures { result ≡ new_name table.now leaf }
+{
+    match table.get(leaf.slot) {
+        Some(&slot) => LeafPtr { slot },
+        None => leaf,
+    }
+}
+
+// Writes for each leaf among so many names the slot that a table has for it.
+pub(crate) fn rename_slots(kinds: &[NodeType], slots: &mut [usize], table: &[usize])
+    requires { length kinds.now ≡ length slots.old }
+    ensures count { length slots.new ≡ length slots.old }
+    ensures slots { (k : ℕ) → slice_index_or slots.new k 0 ≡
+        new_slot table.now (slice_index_or kinds.now k Node4) (slice_index_or slots.old k 0) }
+{
+    for at in 0..slots.len() {
+        if kinds[at] == NodeType::Leaf {
+            slots[at] = new_name(table, LeafPtr { slot: slots[at] }).slot;
+        }
+    }
+}

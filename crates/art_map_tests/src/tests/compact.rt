@@ -1,0 +1,194 @@
+//! Maps whose pairs were moved into the order of their keys.
+use super::beside_btree::{Map as Drawn, Model, agree_on_call, agree_on_pairs};
+use super::calls::{Map, Removal, remove};
+use art_operations::map::ByteMap;
+use art_operations::set::ByteSet;
+use art_test_support::expected::{as_expected, same};
+use art_test_support::memory::{all_memory, begin_refusals, end_refusals};
+use art_test_support::numbers::Numbers;
+use std::alloc::Global;
+use std::collections::BTreeMap;
+use std::test::Fail;
+
+// Puts keys in out of their order, each with its byte as its value, and says whether all are there.
+fn fill_unsorted(map: &mut Map) -> bool {
+    for byte in [7u8, 2, 9, 4, 6, 1] {
+        drop(map.insert([byte], byte as u32));
+    }
+    map.len() == 6
+}
+
+// The values as the digits of a number, from the front, and from the back.
+fn digits(map: &Map) -> [u32; 2] {
+    let (mut front, mut back) = (0u32, 0u32);
+    let (mut from_front, mut from_back) = (map.iter(), map.iter());
+    for _ in 0..map.len() {
+        if let Some((_, digit)) = from_front.next() {
+            front = front.wrapping_mul(10).wrapping_add(*digit);
+        }
+        if let Some((_, digit)) = from_back.next_back() {
+            back = back.wrapping_mul(10).wrapping_add(*digit);
+        }
+    }
+    [front, back]
+}
+
+// Whether a map is filled and compact, its digits then, and what two keys have.
+fn compacted(map: &mut Map) -> ([bool; 2], [u32; 2], [Option<u32>; 2]) {
+    let is_filled = fill_unsorted(map);
+    let is_compact = map.compact().is_ok();
+    let values = [map.get(&[4]).copied(), map.get(&[5]).copied()];
+    ([is_filled, is_compact], digits(map), values)
+}
+
+#[test]
+fn a_compact_map_has_the_same_pairs(rt: HostRuntime) -> Result<(), Fail> {
+    let seen = compacted(&mut ByteMap::new(rt.alloc()));
+    as_expected(Some((seen, ([true; 2], [124_679, 976_421], [Some(4), None]))))
+}
+
+// Of a compact map: whether a pair goes in between two others, another one that goes out, and the digits then; and the
+// same digits once the map is compact again.
+fn changed(map: &mut Map) -> (bool, Option<([u8; 1], u32)>, [[u32; 2]; 2]) {
+    fill_unsorted(map);
+    let is_compact = map.compact().is_ok();
+    let is_new = matches!(map.insert([5], 5), Ok(None));
+    let gone = remove(map, Removal::Key([7])).ok().flatten();
+    let before = digits(map);
+    let is_right = is_compact && is_new && map.compact().is_ok();
+    (is_right, gone, [before, digits(map)])
+}
+
+#[test]
+fn a_compact_map_is_changed(rt: HostRuntime) -> Result<(), Fail> {
+    let seen = changed(&mut ByteMap::new(rt.alloc()));
+    as_expected(Some((seen, (true, Some(([7], 7)), [[124_569, 965_421]; 2]))))
+}
+
+// Whether a map is made compact, and its digits then.
+fn made_compact(map: &mut Map) -> (bool, [u32; 2]) {
+    (map.compact().is_ok(), digits(map))
+}
+
+// The same of a map with no pair, with one and with two.
+fn of_few(map: &mut Map) -> [(bool, [u32; 2]); 3] {
+    let none = made_compact(map);
+    drop(map.insert([8], 8));
+    let one = made_compact(map);
+    drop(map.insert([3], 3));
+    let two = made_compact(map);
+    [none, one, two]
+}
+
+#[test]
+fn a_map_of_few_pairs_is_compact(rt: HostRuntime) -> Result<(), Fail> {
+    let seen = of_few(&mut ByteMap::new(rt.alloc()));
+    as_expected(Some((seen, [(true, [0, 0]), (true, [8, 8]), (true, [38, 83])])))
+}
+
+// Puts the keys below a number in, in steps of 7, and says whether they come in their order once the map is compact.
+fn is_in_order(map: &mut Map, count: u8) -> bool {
+    for step in 0..count as u32 {
+        let byte = (step * 7 % count as u32) as u8;
+        drop(map.insert([byte], byte as u32));
+    }
+    let mut agree = map.compact().is_ok();
+    let mut pairs = map.iter();
+    for byte in 0..count {
+        agree &= pairs.next() == Some((&[byte], &(byte as u32)));
+    }
+    agree & pairs.next().is_none()
+}
+
+#[test]
+fn leaves_of_each_kind_of_node_are_moved(rt: HostRuntime) -> Result<(), Fail> {
+    let alloc = rt.alloc();
+    let seen = [
+        is_in_order(&mut ByteMap::new(alloc), 4),
+        is_in_order(&mut ByteMap::new(alloc), 16),
+        is_in_order(&mut ByteMap::new(alloc), 48),
+        is_in_order(&mut ByteMap::new(alloc), 250),
+    ];
+    as_expected(Some((seen, [true; 4])))
+}
+
+// The number of the first call after which a map and a `BTreeMap` differ, if they do, where the map is made compact all
+// 40 calls.
+fn differ_at(map: &mut Drawn, model: &mut Model, calls: usize) -> Option<usize> {
+    let mut numbers = Numbers::new(5);
+    for call in 0..calls {
+        let is_growing = (call / 500) % 2 == 0;
+        if !agree_on_call(map, model, &mut numbers, is_growing) {
+            return Some(call);
+        }
+        if call % 40 == 39 && !(map.compact().is_ok() && agree_on_pairs(map, model)) {
+            return Some(call);
+        }
+    }
+    None
+}
+
+#[test]
+fn drawn_calls_of_a_compact_map_answer_as_those_of_a_btree_map(
+    rt: HostRuntime,
+) -> Result<(), Fail> {
+    let alloc = rt.alloc();
+    let seen = differ_at(&mut ByteMap::new(alloc), &mut BTreeMap::new(alloc), 4_000);
+    as_expected(Some((seen, None)))
+}
+
+// Whether a map is refused while there is no memory, and its digits then.
+fn starve(alloc: Global, map: &mut Map) -> Option<(bool, [u32; 2])> {
+    fill_unsorted(map);
+    let held = all_memory(alloc).ok()?;
+    let is_refused = map.compact().is_err();
+    drop(held);
+    Some((is_refused, digits(map)))
+}
+
+#[test]
+fn without_memory_no_map_is_made_compact(rt: HostRuntime) -> Result<(), Fail> {
+    let seen = starve(rt.alloc(), &mut ByteMap::new(rt.alloc()));
+    as_expected(Some((seen, Some((true, [124_679, 976_421])))))
+}
+
+// Whether a map is refused, and its digits then.
+fn refuse(alloc: Global, map: &mut Map) -> (bool, [u32; 2]) {
+    fill_unsorted(map);
+    begin_refusals(alloc);
+    let is_refused = map.compact().is_err();
+    end_refusals(alloc);
+    (is_refused, digits(map))
+}
+
+#[test]
+fn refused_each_compact_moves_no_pair(rt: HostRuntime) -> Result<(), Fail> {
+    let (is_refused, digits) = refuse(rt.alloc(), &mut ByteMap::new(rt.alloc()));
+    same(digits, [124_679, 976_421])?;
+    if is_refused {
+        println!(rt; "asserted")?;
+    }
+    Ok(())
+}
+
+// Whether a set of three keys is compact, and its keys then.
+fn keys_of_compact(set: &mut ByteSet<[u8; 1], 4>) -> (bool, [Option<[u8; 1]>; 4]) {
+    for byte in [3u8, 1, 2] {
+        drop(set.insert([byte]));
+    }
+    let is_compact = set.compact().is_ok();
+    let mut keys = set.iter();
+    let seen = [
+        keys.next().copied(),
+        keys.next().copied(),
+        keys.next().copied(),
+        keys.next().copied(),
+    ];
+    (is_compact, seen)
+}
+
+#[test]
+fn a_compact_set_has_the_same_keys(rt: HostRuntime) -> Result<(), Fail> {
+    let seen = keys_of_compact(&mut ByteSet::new(rt.alloc()));
+    as_expected(Some((seen, (true, [Some([1]), Some([2]), Some([3]), None]))))
+}

@@ -1,0 +1,122 @@
+//! The leaves move to slots in the order of their links.
+ghost use Rattle.std.specs.Prelude.{◌≡◌, ℕ, ◌≤◌, List, [], length, Option, Some, None, OnOk, OnErr};
+ghost use Rattle.std.specs.Option.{option_map};
+ghost use Rattle.slab.specs.Slab as slab;
+ghost use Rattle.slab.specs.Slab.{HasRoomFor, slab_len};
+ghost use Rattle.art_inner.specs.InnerRenamed.{inner_renamed};
+ghost use Rattle.art_inner.specs.NewNames.{new_name};
+ghost use Rattle.art_nodes.specs.Moves.{AreMoved};
+ghost use Rattle.art_nodes.specs.Renamed.{AreRenamed, IsRow, first_of_row, leaf_renamed};
+ghost use Rattle.art_nodes.specs.StoreView.{leaves_of};
+ghost use Rattle.art_parts.specs.declared.names.LeafPtr.{LeafPtr};
+
+use super::{InnerSlabs, NodeStore};
+use crate::node::{AsBytes, InnerNode, LeafNode, LeafPtr};
+use art_inner::renaming::new_name;
+use slab::Slab;
+use std::alloc::AllocError;
+
+impl<K: AsBytes + Drop, V: Drop, const P: usize> NodeStore<K, V, P> {
+    ghost use Rattle.art_nodes.specs.Nodes.{no_promise};
+
+    /// Moves the leaves of a row, from its first one on, to new slots in its order, and gives all nodes
+    /// that name them the new names. Leaves that are not in the row go. It takes memory for as many leaves
+    /// again, and where there is none, nothing has changed. It costs a step for each leaf and for each
+    /// place of an inner node.
+    pub fn sort_leaves(&mut self, first: LeafPtr) -> Result<(), AllocError>
+        requires { (row : List LeafPtr) ×
+            IsRow self.old.leaves None row × (first_of_row row ≡ Some first) }
+        ensures renamed { (row : List LeafPtr) →
+            IsRow self.old.leaves None row → first_of_row row ≡ Some first →
+            OnOk result ((rename : LeafPtr → LeafPtr) ×
+            AreRenamed rename row self.old self.new) }
+        ensures promise { OnOk result (self.new.promise ≡ no_promise) }
+        ensures refused { OnErr result (self.new ≡ self.old) }
+    {
+        let mut sorted = Slab::with_capacity(self.alloc, self.leaves.len())?;
+        let mut places = vec![in self.alloc; 0; self.leaves.capacity()]?;
+        let table = places.as_mut_slice();
+        self.promised_leaves = 0;
+        self.promised_inner = None;
+        move_row(&mut self.leaves, &mut sorted, table, first);
+        rename_links(&mut sorted, table);
+        prove!(sorted.len() <= sorted.capacity());
+        self.leaves = sorted;
+        self.inners.rename_leaves(table);
+        Ok(())
+    }
+}
+
+impl<const P: usize> InnerSlabs<P> {
+    ghost use Rattle.std.specs.FinMap as map;
+    ghost use Rattle.art_nodes.specs.StoreView.{inners_of};
+    ghost use Rattle.art_parts.specs.declared.names.InnerPtr.{InnerPtr};
+
+    // Gives the leaves among the children of all nodes the names that a table has for them.
+    fn rename_leaves(&mut self, table: &[usize])
+        ensures { (name : InnerPtr) → map.get (inners_of self.new) name ≡
+            option_map (inner_renamed (new_name table.now)) (map.get (inners_of self.old) name) }
+    {
+        rename_children(&mut self.node4, table);
+        rename_children(&mut self.node16, table);
+        rename_children(&mut self.node48, table);
+        rename_children(&mut self.node256, table);
+    }
+}
+
+// Moves the leaves of a row into a slab that is empty, and writes into a table the new slot of each under its old one.
+fn move_row<K: Drop, V: Drop>(
+    from: &mut Slab<LeafNode<K, V>>,
+    to: &mut Slab<LeafNode<K, V>>,
+    table: &mut [usize],
+    first: LeafPtr,
+)
+    requires row { (row : List LeafPtr) ×
+        IsRow (leaves_of from.old.slots) None row × (first_of_row row ≡ Some first) }
+    requires room { HasRoomFor to.old (slab_len from.old) }
+    requires empty { to.old.slots ≡ [] }
+    requires places { length from.old.slots ≤ length table.old }
+    ensures { (row : List LeafPtr) →
+        IsRow (leaves_of from.old.slots) None row → first_of_row row ≡ Some first →
+        AreMoved table.new row [] from.old to.new }
+{
+    let mut next = Some(first);
+    while let Some(leaf) = next {
+        let node = from.remove(leaf.slot);
+        next = node.next;
+        table[leaf.slot] = to.insert_reserved(node);
+    }
+}
+
+// Gives the leaves that others name the names that a table has for them.
+fn rename_links<K: Drop, V: Drop>(leaves: &mut Slab<LeafNode<K, V>>, table: &[usize])
+    ensures { (slot : ℕ) → slab.get leaves.new slot ≡
+        option_map (leaf_renamed (new_name table.now)) (slab.get leaves.old slot) }
+{
+    for slot in 0..leaves.capacity() {
+        if let Some(leaf) = leaves.get_mut(slot) {
+            rename_beside(leaf, table);
+        }
+    }
+}
+
+// Gives the leaves beside one the names that a table has for them.
+fn rename_beside<K, V>(leaf: &mut LeafNode<K, V>, table: &[usize])
+    ensures { leaf.new ≡ leaf_renamed (new_name table.now) leaf.old }
+{
+    leaf.previous = leaf.previous.map(|beside| new_name(table, beside));
+    leaf.next = leaf.next.map(|beside| new_name(table, beside));
+}
+
+// Gives the leaves among the children of the nodes of a kind the names that a table has for them.
+fn rename_children<N: InnerNode<P>, const P: usize>(nodes: &mut Slab<N>, table: &[usize])
+    ensures { (slot : ℕ) → option_map N.view_of (slab.get nodes.new slot) ≡
+        option_map (λ node. inner_renamed (new_name table.now) (N.view_of node))
+        (slab.get nodes.old slot) }
+{
+    for slot in 0..nodes.capacity() {
+        if let Some(node) = nodes.get_mut(slot) {
+            node.rename_leaves(table);
+        }
+    }
+}
