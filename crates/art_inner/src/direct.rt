@@ -5,6 +5,7 @@ use crate::beside::nearest;
 use crate::children::Children;
 use crate::places::Places;
 use art_parts::names::{NodeType, OpaqueNodePtr};
+use std::alloc::AllocError;
 use std::marker::Model;
 
 // The kind of the name that stands in a place. One byte says it and whether there is one.
@@ -37,6 +38,18 @@ impl Model for Direct {
     ghost view = { λ t. names_by_byte (direct_at t.slots t.places) };
 
     ghost invariant = { λ t. t.len ≡ length (names_by_byte (direct_at t.slots t.places)) };
+}
+
+impl Clone for Direct {
+    ghost is_clone = { λ table copy. copy ≡ table };
+
+    fn clone(&self) -> Result<Self, AllocError> {
+        Ok(Direct {
+            slots: self.slots,
+            places: self.places,
+            len: self.len,
+        })
+    }
 }
 
 impl Direct {

@@ -21,3 +21,4 @@ pub mod Extended
 pub mod Retained
 pub mod Refusing
 pub mod SetSides
+pub mod Copied
