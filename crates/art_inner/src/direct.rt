@@ -6,6 +6,7 @@ use crate::children::Children;
 use crate::places::Places;
 use crate::renaming::new_name;
 use art_parts::names::{LeafPtr, NodeType, OpaqueNodePtr};
+use std::alloc::AllocError;
 use std::marker::Model;
 
 // The kind of the name that stands in a place. One byte says it and whether there is one.
@@ -38,6 +39,18 @@ impl Model for Direct {
     ghost view = { λ t. names_by_byte (direct_at t.slots t.places) };
 
     ghost invariant = { λ t. t.len ≡ length (names_by_byte (direct_at t.slots t.places)) };
+}
+
+impl Clone for Direct {
+    ghost is_clone = { λ table copy. copy ≡ table };
+
+    fn clone(&self) -> Result<Self, AllocError> {
+        Ok(Direct {
+            slots: self.slots,
+            places: self.places,
+            len: self.len,
+        })
+    }
 }
 
 impl Direct {

@@ -6,6 +6,7 @@ use crate::children::Children;
 use crate::places::Places;
 use crate::renaming::rename_slots;
 use art_parts::names::{NodeType, OpaqueNodePtr};
+use std::alloc::AllocError;
 use std::marker::Model;
 
 /// Up to 48 names in places, and for each byte the number of its place from one on, or zero: seen as
@@ -32,6 +33,19 @@ impl Model for Indexed {
         (t.len ≡ length (names_by_byte (indexed_at t.slots t.kinds t.index)))
         × (t.len ≤ 48)
         × IsIndex t.index t.len };
+}
+
+impl Clone for Indexed {
+    ghost is_clone = { λ table copy. copy ≡ table };
+
+    fn clone(&self) -> Result<Self, AllocError> {
+        Ok(Indexed {
+            slots: self.slots,
+            index: self.index,
+            kinds: self.kinds,
+            len: self.len,
+        })
+    }
 }
 
 impl Indexed {

@@ -10,6 +10,7 @@ use crate::resized::{Grows, Shrinks};
 use crate::table::{Table, get_by_lanes};
 use art_parts::header::{FromHeader, Header};
 use art_parts::names::{NodeType, OpaqueNodePtr};
+use std::alloc::AllocError;
 use std::marker::Model;
 
 /// An inner node of one kind.
@@ -144,6 +145,17 @@ impl<const P: usize> Model for InnerNode4<P> {
     ghost invariant = { λ _. IsSize P };
 }
 
+impl<const P: usize> Clone for InnerNode4<P> {
+    ghost is_clone = { λ node copy. copy ≡ node };
+
+    fn clone(&self) -> Result<Self, AllocError> {
+        Ok(InnerNode4 {
+            header: self.header,
+            table: self.table.clone()?,
+        })
+    }
+}
+
 impl<const P: usize> FromHeader<Header<P>> for InnerNode4<P> {
     ghost use Rattle.art_inner.specs.Inner.{childless};
 
@@ -250,6 +262,17 @@ impl<const P: usize> Model for InnerNode16<P> {
     ghost view = { λ n. record { prefix = n.header; children = n.table } };
 
     ghost invariant = { λ _. IsSize P };
+}
+
+impl<const P: usize> Clone for InnerNode16<P> {
+    ghost is_clone = { λ node copy. copy ≡ node };
+
+    fn clone(&self) -> Result<Self, AllocError> {
+        Ok(InnerNode16 {
+            header: self.header,
+            table: self.table.clone()?,
+        })
+    }
 }
 
 impl<const P: usize> FromHeader<Header<P>> for InnerNode16<P> {
@@ -360,6 +383,17 @@ impl<const P: usize> Model for InnerNode48<P> {
     ghost invariant = { λ _. IsSize P };
 }
 
+impl<const P: usize> Clone for InnerNode48<P> {
+    ghost is_clone = { λ node copy. copy ≡ node };
+
+    fn clone(&self) -> Result<Self, AllocError> {
+        Ok(InnerNode48 {
+            header: self.header,
+            table: self.table.clone()?,
+        })
+    }
+}
+
 impl<const P: usize> FromHeader<Header<P>> for InnerNode48<P> {
     ghost use Rattle.art_inner.specs.Inner.{childless};
 
@@ -466,6 +500,17 @@ impl<const P: usize> Model for InnerNodeDirect<P> {
     ghost view = { λ n. record { prefix = n.header; children = n.table } };
 
     ghost invariant = { λ _. IsSize P };
+}
+
+impl<const P: usize> Clone for InnerNodeDirect<P> {
+    ghost is_clone = { λ node copy. copy ≡ node };
+
+    fn clone(&self) -> Result<Self, AllocError> {
+        Ok(InnerNodeDirect {
+            header: self.header,
+            table: self.table.clone()?,
+        })
+    }
 }
 
 impl<const P: usize> FromHeader<Header<P>> for InnerNodeDirect<P> {

@@ -6,6 +6,7 @@ use crate::lanes::lanes_before;
 use crate::renaming::rename_slots;
 use crate::rows::Rows;
 use art_parts::names::{NodeType, OpaqueNodePtr};
+use std::alloc::AllocError;
 use std::marker::Model;
 
 /// Up to `N` names under rising bytes, seen as their list.
@@ -30,6 +31,19 @@ impl<const N: usize> Model for Table<N> {
         (t.len ≤ N)
         × (length t.kinds ≡ N)
         × IsRising (take t.len (rows t.bytes t.kinds t.slots)) };
+}
+
+impl<const N: usize> Clone for Table<N> {
+    ghost is_clone = { λ table copy. copy ≡ table };
+
+    fn clone(&self) -> Result<Self, AllocError> {
+        Ok(Table {
+            slots: self.slots,
+            bytes: self.bytes,
+            kinds: self.kinds,
+            len: self.len,
+        })
+    }
 }
 
 impl<const N: usize> Table<N> {

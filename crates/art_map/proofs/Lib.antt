@@ -22,3 +22,4 @@ pub mod Retained
 pub mod Refusing
 pub mod Compacted
 pub mod SetSides
+pub mod Copied

@@ -486,6 +486,21 @@ impl<K: AsBytes + Clone + Drop, V: Clone + Drop, const P: usize> ByteMap<K, V, P
         requires { KeepBytes K.bytes K.is_clone }
         ensures { IfOk result (AreClones K.is_clone V.is_clone self.now) }
     {
+        let Some(store) = self.store.clone_nodes()? else {
+            return self.clone_tree();
+        };
+        Ok(ByteMap {
+            store,
+            root: self.root,
+            len: self.len,
+        })
+    }
+
+    // The same, node by node down the tree, with room for these nodes alone.
+    fn clone_tree(&self) -> Result<Self, AllocError>
+        requires { KeepBytes K.bytes K.is_clone }
+        ensures { IfOk result (AreClones K.is_clone V.is_clone self.now) }
+    {
         let mut store = NodeStore::new(self.store.alloc());
         let Some(root) = self.root else {
             return Ok(ByteMap {

@@ -13,3 +13,10 @@ module _ {K V : Type 0} (is_key_clone : K → K → Type 0) (is_value_clone : V 
     pub value : is_value_clone leaf.value copy.value
     pub previous : copy.previous ≡ None
     pub next : copy.next ≡ None
+
+  -- the second leaf is made of clones of the first one's key and value, and has the same siblings
+  pub record IsLeafCopy (leaf copy : LeafNode K V) : Type 0 where
+    pub key : is_key_clone leaf.key copy.key
+    pub value : is_value_clone leaf.value copy.value
+    pub previous : copy.previous ≡ leaf.previous
+    pub next : copy.next ≡ leaf.next

@@ -1,6 +1,6 @@
 //! Leaves.
 ghost use Rattle.std.specs.Prelude.{◌≡◌, None, IsTrue, IsOk, IfOk, ◌↔◌};
-ghost use Rattle.art_parts.specs.LeafClones.{IsLeafClone};
+ghost use Rattle.art_parts.specs.LeafClones.{IsLeafClone, IsLeafCopy};
 
 use crate::bytes::AsBytes;
 use crate::names::OptionalLeafPtr;
@@ -13,6 +13,22 @@ pub struct LeafNode<K, V> {
     pub value: V,
     pub previous: OptionalLeafPtr,
     pub next: OptionalLeafPtr,
+}
+
+/// A clone names the leaves that its source names.
+impl<K: Clone, V: Clone> Clone for LeafNode<K, V> {
+    ghost is_clone = { IsLeafCopy K.is_clone V.is_clone };
+
+    fn clone(&self) -> Result<Self, AllocError> {
+        let key = self.key.clone()?;
+        let value = self.value.clone()?;
+        Ok(LeafNode {
+            key,
+            value,
+            previous: self.previous,
+            next: self.next,
+        })
+    }
 }
 
 impl<K, V> LeafNode<K, V> {

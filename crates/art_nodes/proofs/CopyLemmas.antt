@@ -1,0 +1,41 @@
+-- Slots with clones of other slots' values, and what the maps that they stand for have then.
+use Rattle.std.proofs.Common.{◌≡◌, ℕ, zero, suc, List, [], ◌∷◌, get_or, Option, Some, None, refl, ap}
+use Rattle.std.proofs.lemmas.List.Elements.{same_from_all_zip}
+use Rattle.std.specs.FinMap.{FinMap}
+use Rattle.std.specs.List.{AllZip}
+use Rattle.slab.specs.Slab.{IsSlotClone}
+use Rattle.art_inner.specs.Inner.{Inner}
+use Rattle.art_parts.specs.LeafClones.{IsLeafCopy}
+use Rattle.art_parts.specs.Names.{leaf_cmp}
+use Rattle.art_parts.specs.declared.leaf.LeafNode.{LeafNode}
+use Rattle.art_nodes.specs.StoreClones.{IsCopyThere, AreLeafCopies}
+use Rattle.art_nodes.specs.StoreView.{leaves_of}
+use Rattle.art_nodes.proofs.StoreLemmas.{get_leaves_of, leaf_under}
+
+-- leaves in slots with clones
+module _ {K V : Type 0} (is_key_clone : K → K → Type 0) (is_value_clone : V → V → Type 0) where
+  copy_there : (slot copy : Option (LeafNode K V)) → IsSlotClone (IsLeafCopy is_key_clone is_value_clone) slot copy → IsCopyThere is_key_clone is_value_clone slot copy
+  copy_there None copy is = is
+  copy_there (Some leaf) copy is = is
+
+  slot_copied : (slots copies : List (Option (LeafNode K V))) → AllZip (IsSlotClone (IsLeafCopy is_key_clone is_value_clone)) slots copies → (at : ℕ) →
+      IsCopyThere is_key_clone is_value_clone (get_or slots at None) (get_or copies at None)
+  slot_copied [] [] are at = refl
+  slot_copied [] (copy ∷ copies) are at = absurd are
+  slot_copied (slot ∷ slots) [] are at = absurd are
+  slot_copied (slot ∷ slots) (copy ∷ copies) are zero = copy_there slot copy are.0
+  slot_copied (slot ∷ slots) (copy ∷ copies) are (suc at) = slot_copied slots copies are.1 at
+
+  -- each name has a clone of its leaf
+  pub leaves_copied : (slots copies : List (Option (LeafNode K V))) (leaves : FinMap leaf_cmp (LeafNode K V)) → leaves_of slots ≡ leaves →
+      AllZip (IsSlotClone (IsLeafCopy is_key_clone is_value_clone)) slots copies → AreLeafCopies is_key_clone is_value_clone leaves (leaves_of copies)
+  leaves_copied slots copies leaves is are name = rw (leaf_under slots leaves name is, get_leaves_of copies name) (slot_copied slots copies are name.slot)
+
+same_slot : (slot copy : Option Inner) → IsSlotClone (λ node other. other ≡ node) slot copy → copy ≡ slot
+same_slot None copy is = is
+same_slot (Some node) None is = absurd is
+same_slot (Some node) (Some other) is = ap Some is
+
+-- slots of nodes that equal their clones are the same
+pub slots_kept : (slots copies : List (Option Inner)) → AllZip (IsSlotClone (λ node other. other ≡ node)) slots copies → copies ≡ slots
+slots_kept slots copies are = same_from_all_zip (IsSlotClone (λ node other. other ≡ node)) slots copies are same_slot
