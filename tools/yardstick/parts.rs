@@ -4,7 +4,7 @@ use crate::heap;
 use std::hint::black_box;
 use std::ptr::addr_of_mut;
 
-pub const NAMES: [&str; 16] = [
+pub const NAMES: [&str; 18] = [
     "insert",
     "get",
     "get_mut",
@@ -20,6 +20,8 @@ pub const NAMES: [&str; 16] = [
     "clear",
     "insert_over",
     "check",
+    "compact",
+    "walk_compact",
     "rest",
 ];
 
@@ -36,7 +38,7 @@ pub const DROP_CLONE: usize = 9;
 pub const REMOVE: usize = 10;
 pub const AGAIN: usize = 11;
 pub const CLEAR: usize = 12;
-pub const REST: usize = 15;
+pub const REST: usize = 17;
 
 /// What is written between two parts where caches are to be cold.
 const EVICTED: usize = 96 << 20;

@@ -16,6 +16,7 @@ struct Counts {
     taken: u64,
     again: u64,
     over: u64,
+    compacted: u64,
     more: u64,
 }
 
@@ -81,7 +82,9 @@ pub fn byte_map(work: &Work) {
     let told = [counts.stored, counts.found, counts.written, counts.matched, counts.taken, counts.again, counts.over];
     assert_eq!(told, [count; 7]);
     assert_eq!(counts.below, work.walked());
-    assert!(counts.walked == counts.back && counts.walked == counts.cloned && counts.more == count);
+    assert!([counts.back, counts.cloned].iter().all(|sum| *sum == counts.walked));
+    assert_eq!(counts.compacted, keys.bytes.len() as u64 + 7 * count);
+    assert_eq!(counts.more, count);
 }
 
 pub fn kit_map(work: &Work) {

@@ -45,6 +45,7 @@ pub fn work(
     clear_all(&mut map);
     begin(alloc, parts::OVER);
     counts.over = over_all(&mut map, alloc, keys, ends);
+    counts.compacted = compact_all(&mut map, alloc);
     begin(alloc, parts::REST);
     counts.more = read_more(&map, asked, asked_ends);
     write_more(&mut map, alloc, asked);
@@ -205,6 +206,16 @@ fn clone_all(map: &Map, alloc: Global) -> u64 {
     begin(alloc, parts::DROP_CLONE);
     let_go(copy);
     sum
+}
+
+/// Moves all pairs into order, and walks. Returns the sum of the walk.
+fn compact_all(map: &mut Map, alloc: Global) -> u64 {
+    begin(alloc, parts::COMPACT);
+    let Ok(()) = map.compact() else {
+        return 0;
+    };
+    begin(alloc, parts::WALK_COMPACT);
+    walk_all(map)
 }
 
 #[inline(never)]

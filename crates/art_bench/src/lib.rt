@@ -24,6 +24,7 @@ pub struct Counts {
     pub taken: u64,
     pub again: u64,
     pub over: u64,
+    pub compacted: u64,
     pub more: u64,
 }
 

@@ -33,7 +33,11 @@ pub const OVER: usize = 13;
 
 pub const CHECK: usize = 14;
 
-pub const REST: usize = 15;
+pub const COMPACT: usize = 15;
+
+pub const WALK_COMPACT: usize = 16;
+
+pub const REST: usize = 17;
 
 /// Tells the heap that a part begins, by a request that none can meet.
 #[inline(never)]
