@@ -132,12 +132,11 @@ module _ {K V : Type 0} (bytes : K → List ℕ) (P : ℕ) {s : Nodes K V} {name
           let (node, there, its) = leaf_found (of_key bytes) P has.by has_leaf in
           sym read ∙ ap (option_map pair_of) there ∙ ap Some its ∙ sym some ∙ ap wanted view
 
-  -- the leaf that a look-up finds has the pair that was sought
-  pub found_pair : {root : Option OpaqueNodePtr} {len : ℕ} (p : LeafPtr) → root ≡ Some name → HoldsPairs (of_key bytes) P s root len (pairs_at s root) →
-      (sought : List (K × V) → List (K × V)) → ForTree (of_key bytes) P s name (λ pairs _. pair_under s (Some p) ≡ first_of (sought pairs)) →
-      {y : K × V} {before : List (K × V)} → option_map pair_of (get s.leaves p) ≡ Some y → pairs_at s root ≡ before → Some y ≡ first_of (sought before)
-  found_pair {root} p e is sought found read view =
-      let has = at_some e is in sym read ∙ found (pairs_at s root) has.layout has.by ∙ ap (λ xs. first_of (sought xs)) view
+  -- what a look-up finds is the pair that was sought, or nothing where there is none
+  pub found_pair : {root : Option OpaqueNodePtr} {len : ℕ} → root ≡ Some name → HoldsPairs (of_key bytes) P s root len (pairs_at s root) →
+      (sought : List (K × V) → List (K × V)) {found : Option (K × V)} → ForTree (of_key bytes) P s name (λ pairs _. found ≡ first_of (sought pairs)) →
+      {before : List (K × V)} → pairs_at s root ≡ before → found ≡ first_of (sought before)
+  found_pair {root} e is sought read view = let has = at_some e is in read (pairs_at s root) has.layout has.by ∙ ap (λ xs. first_of (sought xs)) view
 
 -- a value is found exactly where the key is stored
 pub value_stored : {K V : Type 0} (bytes : K → List ℕ) (key : List ℕ) (pairs : List (K × V)) → is_some (value_at bytes key pairs) ≡ has_key (of_key bytes) key pairs

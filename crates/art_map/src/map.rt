@@ -21,7 +21,7 @@ use art_nodes::node::{AsBytes, LeafPtr, OpaqueNodePtr};
 use art_nodes::store::NodeStore;
 use art_reading::descent::End;
 use art_reading::iterator::RawIterator;
-use art_reading::lookup::{prefix_search_unchecked, search_unchecked};
+use art_reading::lookup::{Asked, find_unchecked, search_unchecked};
 use art_reading::minmax::{maximum_unchecked, minimum_unchecked};
 use art_reading::range::{
     first_from_unchecked, last_up_to_unchecked, prefix_unchecked, range_unchecked,
@@ -164,8 +164,8 @@ impl<K: AsBytes + Drop, V: Drop, const P: usize> ByteMap<K, V, P> {
         ensures value { option_copied result ≡ value_at K.bytes key_bytes.now self.now }
         ensures sorted { IsMap (of_key K.bytes) self.now }
     {
-        let leaf = search_unchecked(&self.store, self.root?, key_bytes)?;
-        Some(pair_at(&self.store, leaf).1)
+        let leaf = find_unchecked(&self.store, self.root?, key_bytes, Asked::Same)?;
+        Some(&leaf.value)
     }
 
     /// Returns the pair of the key with these bytes, or `None`. It costs what `get` does.
@@ -173,8 +173,8 @@ impl<K: AsBytes + Drop, V: Drop, const P: usize> ByteMap<K, V, P> {
         ensures { option_map deref_pair result ≡
             first_of (with_key (of_key K.bytes) key_bytes.now self.now) }
     {
-        let leaf = search_unchecked(&self.store, self.root?, key_bytes)?;
-        Some(pair_at(&self.store, leaf))
+        let leaf = find_unchecked(&self.store, self.root?, key_bytes, Asked::Same)?;
+        Some((&leaf.key, &leaf.value))
     }
 
     /// Returns the value of the key with these bytes, to be written, or `None`. It costs what `get` does.
@@ -194,8 +194,8 @@ impl<K: AsBytes + Drop, V: Drop, const P: usize> ByteMap<K, V, P> {
             first_of (match_of (of_key K.bytes) query.now self.now) }
         ensures sorted { IsMap (of_key K.bytes) self.now }
     {
-        let leaf = prefix_search_unchecked(&self.store, self.root?, query)?;
-        Some(pair_at(&self.store, leaf))
+        let leaf = find_unchecked(&self.store, self.root?, query, Asked::Front)?;
+        Some((&leaf.key, &leaf.value))
     }
 
     /// Returns the first pair, or `None`. It reads one inner node for each level.

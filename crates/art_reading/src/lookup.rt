@@ -1,17 +1,18 @@
 //! Searches for a key, and for the key that is a prefix of a query.
 ghost use Rattle.std.specs.Prelude.{◌≡◌, ◌+◌, ◌<◌, ◌^◌, length, IfSome, IsSome};
 ghost use Rattle.std.specs.FinMap as map;
+ghost use Rattle.std.specs.Option.{option_map};
 ghost use Rattle.art_model.specs.Lookups.{FindsLeaf, pair_under};
 ghost use Rattle.art_model.specs.Pairs.{first_of, match_of, of_key, with_key};
 ghost use Rattle.art_model.specs.Roots.{ForTree, IsCanonicalRoot};
+ghost use Rattle.art_model.specs.Stores.{pair_of};
 ghost use Rattle.art_reading.specs.Descents.{CountsVisits, asked_of};
 ghost use Rattle.art_reading.specs.declared.matching.PrefixMatchBehavior.TheVariants.{Pessimistic};
 
 pub use crate::descent::Visits;
 use crate::descent::walk_to_key;
-use crate::matching::Asked;
-pub use crate::matching::PrefixMatchBehavior;
-use art_nodes::node::{AsBytes, OpaqueNodePtr, OptionalLeafPtr};
+pub use crate::matching::{Asked, PrefixMatchBehavior};
+use art_nodes::node::{AsBytes, LeafNode, OpaqueNodePtr, OptionalLeafPtr};
 use art_nodes::store::NodeStore;
 
 /// By default a look-up has compared all bytes so far, and no node has been read.
@@ -101,6 +102,24 @@ pub fn prefix_search_visiting<K: AsBytes + Drop, V: Drop, const PREFIX_LEN: usiz
         visits.old visits.new (IsSome result) }
 {
     find_leaf(store, root, key_bytes, Asked::Front, visits)
+}
+
+/// Returns the leaf of the key that is asked for, or `None` where no stored key is as asked. It goes the
+/// way of `search_unchecked`, at the same cost, and a caller need not read the leaf once more.
+#[inline(always)]
+pub fn find_unchecked<'a, K: AsBytes + Drop, V: Drop, const PREFIX_LEN: usize>(
+    store: &'a NodeStore<K, V, PREFIX_LEN>,
+    root: OpaqueNodePtr,
+    key_bytes: &[u8],
+    asked: Asked,
+) -> Option<&'a LeafNode<K, V>>
+    requires { IsCanonicalRoot (of_key K.bytes) PREFIX_LEN store.now root }
+    ensures { ForTree (of_key K.bytes) PREFIX_LEN store.now root (λ pairs _.
+        option_map (λ leaf. pair_of leaf.now) result ≡
+        first_of (asked_of asked (of_key K.bytes) key_bytes.now pairs)) }
+{
+    let last = walk_to_key(store, root, key_bytes, asked, &mut Visits::new())?;
+    Some(last.node)
 }
 
 // The leaf that is asked for, or `None` where no stored key is as asked; each reading of a node is counted.
