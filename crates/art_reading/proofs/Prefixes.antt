@@ -1,7 +1,7 @@
 -- the whole prefix of a node, as it is read
 use Rattle.std.proofs.Common.{◌≡◌, ◌≢◌, ℕ, ◌+◌, ◌-◌, ◌<◌, ◌≤◌, List, [], ◌∷◌, ◌++◌, length, take, drop, slice_get, ap, sym, ◌∙◌, arith, subst, length-append, Option, Some, None, Result, Ok, Err}
 use Rattle.std.specs.Result.{IfOk, IfErr}
-use Rattle.std.proofs.lemmas.List.{take_all}
+use Rattle.std.proofs.lemmas.List.{nil_from_length, take_all}
 use Rattle.std.specs.FinMap as map
 use Rattle.art_inner.specs.Inner.{Inner}
 use Rattle.art_parts.specs.Headers.{Prefix, header_of as whole_header}
@@ -101,6 +101,13 @@ module _ {K V : Type 0} {s : Nodes K V} {bytes : K × V → List ℕ} {P : ℕ} 
     matches_stored key r h l short st rest_is a b c d e =
         let long : shown.prefix.len ≤ P = let k = ap (λ z. z.len) h in omega arith in
         compared bytes P key node depth None r (st ∙ ap (λ z. z.stored) h ∙ stored_is long) rest_is (let k = len_is in omega arith) a b c d e
+
+    -- an empty prefix is compared with nothing
+    pub matches_empty : {header : Prefix} {len : ℕ} (key : List ℕ) {match : PrefixMatch} →
+        header ≡ shown.prefix → len ≡ header.len → len ≡ 0 → match.matched_bytes ≡ 0 → IsCompared bytes P key node depth (Ok match)
+    matches_empty key h l none e =
+        let empty : length (prefix_of bytes depth node) ≡ 0 = let k = len_is in let p = ap (λ z. z.len) h in omega arith in
+        (e ∙ sym empty, (drop depth key, sym (ap (λ prefix. prefix ++ drop depth key) (nil_from_length _ empty))))
 
     -- a prefix that is read from the least leaf below
     module _ {q : LeafPtr} (first : HasFirstLeaf node (leaf_name q)) where

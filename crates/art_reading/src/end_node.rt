@@ -293,8 +293,11 @@ fn match_full_prefix<K: AsBytes + Drop, V: Drop, const PREFIX_LEN: usize>(
         (at : IsAt (of_key K.bytes) PREFIX_LEN key_bytes.now layout path (inner_name name) depth) →
         IsCompared (of_key K.bytes) PREFIX_LEN key_bytes.now at.node depth result) }
 {
-    let rest_of_key = &key_bytes[depth..];
     let len = node.prefix_len();
+    if len == 0 {
+        return Ok(PrefixMatch { matched_bytes: 0 });
+    }
+    let rest_of_key = &key_bytes[depth..];
     if len <= PREFIX_LEN {
         return match_prefix(node.read_prefix(), rest_of_key, None);
     }

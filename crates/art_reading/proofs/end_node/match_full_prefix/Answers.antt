@@ -1,8 +1,12 @@
 use Rattle.std.proofs.Common.{rules, ◌+◌, ◌≤◌, length, ap, refl, arith}
 use Rattle.std.proofs.lemmas.List.{take_rest}
-use Rattle.art_reading.proofs.Prefixes.{is_full, no_leaf_gone, long_enough, matches_stored, matches_read}
+use Rattle.art_reading.proofs.Prefixes.{is_full, no_leaf_gone, long_enough, matches_empty, matches_stored, matches_read}
 use Rattle.art_reading.proofs.EndNodes.{key_reaches, part_at, part_there}
 use Rattle.art_reading.proofs.end_node.match_full_prefix.Goals as goal
+
+pub returns-then-len-eq0 : goal.returns-then-len-eq0
+returns-then-len-eq0 g c root path pairs layout by at =
+    matches_empty (part_there by at refl) c.requires.inner c.requires.node c.args.key_bytes.now refl c.prefix_len-len.ensures c.if-len-eq0.true refl
 
 pub slice_bounds-rest_of_key-count : goal.slice_bounds-rest_of_key-count
 slice_bounds-rest_of_key-count g c = key_reaches c.requires.at
