@@ -1,5 +1,5 @@
 //! Names with a place for each byte.
-ghost use Rattle.std.specs.Prelude.{◌≡◌, ℕ, ◌<◌, ◌≤◌, [], length, Some, None, slice_index_or};
+ghost use Rattle.std.specs.Prelude.{◌≡◌, ℕ, ◌<◌, ◌≤◌, [], length, Some, None};
 
 use crate::beside::nearest;
 use crate::children::Children;
