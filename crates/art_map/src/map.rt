@@ -481,7 +481,8 @@ impl<K: AsBytes + Clone + Drop, V: Clone + Drop, const P: usize> ByteMap<K, V, P
     ghost use Rattle.art_model.specs.Clones.{AreClones, KeepBytes};
 
     /// Returns a map of clones of all pairs, with a store of its own. An `Err` is for want of memory, for
-    /// a node or for the clone of a key or a value.
+    /// a node or for the clone of a key or a value. Its slots are copied one by one; where most of those for
+    /// leaves are vacant, its nodes are, down the tree.
     pub fn clone(&self) -> Result<Self, AllocError>
         requires { KeepBytes K.bytes K.is_clone }
         ensures { IfOk result (AreClones K.is_clone V.is_clone self.now) }

@@ -17,6 +17,16 @@ pub fn fill(map: &mut Map) -> bool {
     map.len() == 5
 }
 
+/// Puts the keys from 1 to 60 in, with the same values, and says whether all are there.
+pub fn fill_many(map: &mut Map) -> bool {
+    for byte in 1..61u8 {
+        if map.insert([byte], byte as u32).is_err() {
+            return false;
+        }
+    }
+    map.len() == 60
+}
+
 /// Which pair is removed.
 #[derive(Clone, Copy)]
 pub enum Removal<K> {
@@ -186,5 +196,37 @@ fn filled_and_cloned(map: &mut Map) -> (bool, Option<([Option<u32>; 2], usize)>,
 #[test]
 fn a_clone_goes_its_own_way(rt: HostRuntime) -> Result<(), Fail> {
     let seen = filled_and_cloned(&mut ByteMap::new(rt.alloc()));
+    as_expected(Some((seen, (true, Some(([Some(1), Some(5)], 4)), 5))))
+}
+
+// The same where 60 pairs were put in.
+fn many_cloned(map: &mut Map) -> (bool, Option<([Option<u32>; 2], usize)>, usize) {
+    (fill_many(map), cloned(map), map.len())
+}
+
+#[test]
+fn a_clone_of_many_goes_its_own_way(rt: HostRuntime) -> Result<(), Fail> {
+    let seen = many_cloned(&mut ByteMap::new(rt.alloc()));
+    as_expected(Some((seen, (true, Some(([Some(1), Some(5)], 59)), 60))))
+}
+
+// Takes the keys from 6 to 60 out, and says whether five are left.
+fn empty_most(map: &mut Map) -> bool {
+    for byte in 6..61u8 {
+        if map.remove(&[byte]).is_err() {
+            return false;
+        }
+    }
+    map.len() == 5
+}
+
+// The same where five of 60 are left.
+fn few_left_cloned(map: &mut Map) -> (bool, Option<([Option<u32>; 2], usize)>, usize) {
+    (fill_many(map) && empty_most(map), cloned(map), map.len())
+}
+
+#[test]
+fn a_clone_of_the_few_left_goes_its_own_way(rt: HostRuntime) -> Result<(), Fail> {
+    let seen = few_left_cloned(&mut ByteMap::new(rt.alloc()));
     as_expected(Some((seen, (true, Some(([Some(1), Some(5)], 4)), 5))))
 }

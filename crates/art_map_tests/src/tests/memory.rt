@@ -1,5 +1,5 @@
 //! Calls without memory.
-use super::calls::{Map, Removal, fill, remove, value_of};
+use super::calls::{Map, Removal, fill, fill_many, remove, value_of};
 use art_operations::map::{ByteMap, MapInsertError, MapRefused};
 use art_test_support::expected::{as_expected, same};
 use art_test_support::memory::{all_memory, begin_refusals, end_refusals};
@@ -244,4 +244,23 @@ fn without_memory_no_pair_is_cloned(rt: HostRuntime) -> Result<(), Fail> {
     let alloc = rt.alloc();
     let seen = starve_clones_of_filled(alloc, &mut ByteMap::new(alloc), &ByteMap::new(alloc));
     as_expected(Some((seen, (true, Some([true, false]), 5))))
+}
+
+// Whether a map was filled, whether a clone of it is refused, and how many pairs it has then.
+fn clone_many(alloc: Global, map: &mut Map) -> (bool, bool, usize) {
+    let is_filled = fill_many(map);
+    begin_refusals(alloc);
+    let is_refused = is_clone_refused(map);
+    end_refusals(alloc);
+    (is_filled, is_refused, map.len())
+}
+
+#[test]
+fn refused_each_clone_of_many_leaves_the_map(rt: HostRuntime) -> Result<(), Fail> {
+    let (is_filled, is_refused, len) = clone_many(rt.alloc(), &mut ByteMap::new(rt.alloc()));
+    same((is_filled, len), (true, 60))?;
+    if is_refused {
+        println!(rt; "asserted")?;
+    }
+    Ok(())
 }

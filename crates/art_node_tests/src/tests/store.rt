@@ -375,6 +375,47 @@ fn a_child_is_cut_off(rt: HostRuntime) -> Result<(), Fail> {
     same(cut_off(&mut store), Some([true; 3]))
 }
 
+// Places five pairs of leaves, and returns the names of the last one.
+fn place_five_pairs(store: &mut Store) -> Result<(LeafPtr, LeafPtr), AllocError> {
+    for _ in 0..4 {
+        place_pair(store)?;
+    }
+    place_pair(store)
+}
+
+// What a clone of the nodes has under two names, where there is one.
+fn cloned_seen(
+    store: &Store,
+    leaf: LeafPtr,
+    inner: InnerPtr,
+) -> Option<(Option<SeenLeaf>, Option<SeenInner>)> {
+    match store.clone_nodes() {
+        Ok(Some(copy)) => Some((leaf_seen(&copy, leaf), inner_seen(&copy, inner, 3))),
+        _ => None,
+    }
+}
+
+// Whether a clone of ten leaves and two nodes has the last leaf and the first node as they are to be, and
+// whether there is no clone of slots that are all vacant.
+fn clone_placed(store: &mut Store) -> Option<[bool; 3]> {
+    let child = LeafPtr::from_slot(7).to_opaque();
+    let (lower, _) = place_two(store, child).ok()?;
+    let (first, last) = place_five_pairs(store).ok()?;
+    let (leaf, inner) = cloned_seen(store, last, lower)?;
+    store.clear();
+    Some([
+        leaf == expected_leaf(2, 20, Some(first)),
+        inner == expected_node4([5, 6], 1, Some(child)),
+        cloned_seen(store, last, lower) == None,
+    ])
+}
+
+#[test]
+fn nodes_are_cloned_under_their_names(rt: HostRuntime) -> Result<(), Fail> {
+    let mut store = Store::new(rt.alloc());
+    same(clone_placed(&mut store), Some([true; 3]))
+}
+
 #[test]
 fn a_reservation_past_all_numbers_is_refused(rt: HostRuntime) -> Result<(), Fail> {
     let mut store = Store::new(rt.alloc());
