@@ -12,7 +12,7 @@ use Rattle.art_model.specs.Footprints.{IsIn}
 use Rattle.art_model.specs.Kept.{ChangesInPlace}
 use Rattle.art_model.specs.Keys.{are_same}
 use Rattle.art_model.specs.Layouts.{names_of}
-use Rattle.art_model.specs.Lookups.{HasFirstLeaf, HasLastLeaf, pair_under}
+use Rattle.art_model.specs.Lookups.{HasFirstLeaf, HasLastLeaf}
 use Rattle.art_model.specs.Pairs.{IsMap, first_of, last_of, without_first, of_key, has_key, remove_key, with_key}
 use Rattle.art_model.specs.Paths.{pairs_before, pairs_after}
 use Rattle.art_model.specs.Radix.{pairs_of}
