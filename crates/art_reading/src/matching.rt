@@ -164,6 +164,9 @@ impl PrefixMatchBehavior {
         ensures { IsTrue result ↔ MatchesLeafKey self depth (K.bytes leaf.now.key) key_bytes.now }
     {
         let leaf_bytes = leaf.key.as_bytes();
+        if leaf_bytes.len() != key_bytes.len() {
+            return false;
+        }
         let from = self.compared_from(leaf_bytes, key_bytes, depth);
         are_equal(&leaf_bytes[from..], &key_bytes[from..])
     }
