@@ -233,7 +233,8 @@ pub next_there : {K V : Type 0} (start from to : Slab (LeafNode K V)) (table : L
     IsSome (get from name.slot) × IsSome (get start name.slot)
 next_there {K} {V} start from to table row name moving = by_rest moving.rest moving.is_row moving.first moving.there
   where
-    by_rest : (rest : List LeafPtr) → IsRow (leaves_of start.slots) moving.before rest → first_of_row rest ≡ Some name → ((other : LeafPtr) → IsIn other rest → get from other.slot ≡ get start other.slot) →
+    by_rest : (rest : List LeafPtr) → IsRow (leaves_of start.slots) moving.before rest → first_of_row rest ≡ Some name →
+        ((other : LeafPtr) → IsIn other rest → get from other.slot ≡ get start other.slot) →
         IsSome (get from name.slot) × IsSome (get start name.slot)
     by_rest [] is first there = absurd cc
     by_rest (head ∷ rest) is first there =
