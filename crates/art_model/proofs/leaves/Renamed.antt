@@ -165,7 +165,7 @@ module _ {K V : Type 0} {rename : LeafPtr → LeafPtr} {row : List LeafPtr} {s t
         | inl (q, k_is) ↦
             let same : leaf_name (rename p) ≡ leaf_name (rename q) = ap (child_renamed rename) (sym n_is) ∙ e ∙ ap (child_renamed rename) k_is in
             n_is ∙ ap leaf_name (are.distinct p q (in_row p (subst (λ z. IsIn z (names_of layout)) n_is i))
-                (in_row q (subst (λ z. IsIn z (names_of layout)) k_is j)) (leaf_name_one _ _ same)) ∙ sym k_is
+            (in_row q (subst (λ z. IsIn z (names_of layout)) k_is j)) (leaf_name_one _ _ same)) ∙ sym k_is
         | inr off ↦ absurd (off (ap (λ z. z.kind) (sym (inner_stays rename k.kind k.slot off) ∙ sym e ∙ ap (child_renamed rename) n_is)))
       ]
       | inr off ↦ elim (leaf_or k) [
