@@ -1,8 +1,7 @@
 -- What a removal makes of a sorted table.
-use Rattle.std.proofs.Common.{◌≡◌, ◌≢◌, ℕ, zero, suc, ◌-◌, ◌<◌, ◌≤◌, List, [], ◌∷◌, ◌++◌, length, get_or, take, drop, remove, Option, Some, None, is_some, refl, sym, ap, ◌∙◌, inl, inr, arith, subst}
+use Rattle.std.proofs.Common.{◌≡◌, ◌≢◌, ℕ, zero, suc, ◌+◌, ◌-◌, ◌<◌, ◌≤◌, List, [], ◌∷◌, ◌++◌, length, get_or, set, take, drop, remove, Option, Some, None, is_some, refl, sym, ap, ◌∙◌, inl, inr, arith, subst, add-one}
 use Rattle.std.proofs.lemmas.List.{length-take-le, take-append-le, take_all, length-append, length-drop}
-use Rattle.std.proofs.lemmas.Slice.{put_mid-rotated}
-use borrow.Rule.Slice.PartMut.{put_mid, mid_of}
+use Rattle.std.proofs.lemmas.List.Edits.{get_or-remove_above}
 use Rattle.art_inner.specs.Inner.{Children, IsRising, child_at, remove_child, count_below}
 use Rattle.art_parts.specs.declared.names.OpaqueNodePtr.{OpaqueNodePtr}
 use Rattle.art_inner.proofs.TableLemmas.{Entry, counted_front, counted_here, place_of_child}
@@ -44,16 +43,53 @@ front_without {X} es new len at within fits same written =
     let long : length (take len es) ≡ len = length-take-le len es fits in
     take-append-le (len - 1) new (drop len es) (omega arith) ∙ ap (λ (n : ℕ). take (n - 1) new) (sym long) ∙ written
 
--- an item of a list that has one
-pub an_item : {X : Type 0} (xs : List X) → 0 < length xs → X
-an_item [] some = absurd (omega (arith, some))
-an_item (x ∷ xs) some = x
+-- one list's items below a place, and then those of another from the place on: the next one comes to the place
+next_taken : {X : Type 0} (front rest : List X) (p : ℕ) (d : X) → p < length front → suc p < length rest → get_or front p d ≡ get_or rest (suc p) d →
+    set (take p front ++ drop p rest) p (get_or (take p front ++ drop p rest) (suc p) d) ≡ take (suc p) front ++ drop (suc p) rest
+next_taken [] rest p d within later same = absurd (omega (arith, within))
+next_taken (x ∷ front) [] p d within later same = absurd (omega (arith, later))
+next_taken (x ∷ front) (a ∷ []) p d within later same = absurd (omega (arith, later))
+next_taken (x ∷ front) (a ∷ b ∷ rest) zero d within later same = ap (λ y. y ∷ b ∷ rest) (sym same)
+next_taken (x ∷ front) (a ∷ rest) (suc p) d within later same = ap (λ xs. x ∷ xs) (next_taken front rest p d (omega (arith, within)) (omega (arith, later)) same)
 
--- all but the last after the part from a place on is turned by one
-pub shown_rotated : {X : Type 0} (part r : List X) (at : ℕ) (d : X) → at < length part →
-    r ≡ drop 1 (mid_of at (length part - at) part) ++ take 1 (mid_of at (length part - at) part) → take (length part - 1) (put_mid at (length part - at) part r) ≡ remove part at
-shown_rotated part r at d within rotated =
-    let left : length (remove part at) ≡ length part - 1 = omega (arith, length-append (take at part) (drop (suc at) part), length-take-le at part (omega arith), length-drop (suc at) part) in
-    ap (take (length part - 1)) (put_mid-rotated at (length part - at) part r d within (omega arith) rotated)
-    ∙ take-append-le (length part - 1) (remove part at) _ (omega (arith, left))
-    ∙ take_all (length part - 1) (remove part at) (omega (arith, left))
+-- before the first value moves
+pub not_moved : {X : Type 0} (old : List X) (at : ℕ) → old ≡ take (at + 1 - 1) (remove old at) ++ drop (at + 1 - 1) old
+not_moved old at = let back : at + 1 - 1 ≡ at = omega arith in rw back (parted old at)
+  where
+    parted : {X : Type 0} (xs : List X) (k : ℕ) → xs ≡ take k (remove xs k) ++ drop k xs
+    parted [] zero = refl
+    parted [] (suc k) = refl
+    parted (x ∷ xs) zero = refl
+    parted (x ∷ xs) (suc k) = ap (λ ys. x ∷ ys) (parted xs k)
+
+length_without : {X : Type 0} (old : List X) (at : ℕ) → at < length old → length (remove old at) ≡ length old - 1
+length_without old at within = omega (arith, length-append (take at old) (drop (suc at) old), length-take-le at old (omega (arith, within)), length-drop (suc at) old)
+
+-- a value moves one place to the front
+pub moved_front : {X : Type 0} (old part : List X) (at place : ℕ) (d x : X) → at < place → place < length old →
+    part ≡ take (place - 1) (remove old at) ++ drop (place - 1) old → x ≡ get_or part place d →
+    set part (place - 1) x ≡ take (place + 1 - 1) (remove old at) ++ drop (place + 1 - 1) old
+moved_front old part at zero d x after within is read = absurd (omega (arith, after))
+moved_front {X} old part at (suc p) d x after within is read =
+    let back : suc p - 1 ≡ p = omega arith in
+    let on : suc p + 1 - 1 ≡ suc p = omega arith in
+    let left = remove old at in
+    let shown : part ≡ take p left ++ drop p old = is ∙ ap (λ (k : ℕ). take k left ++ drop k old) back in
+    let same : get_or left p d ≡ get_or old (suc p) d = get_or-remove_above old at d p (omega (arith, after)) (omega (arith, after, within)) ∙ ap (λ (k : ℕ). get_or old k d) (add-one p) in
+    ap (λ (k : ℕ). set part k x) back
+    ∙ ap (set part p) (read ∙ ap (λ (xs : List X). get_or xs (suc p) d) shown)
+    ∙ ap (λ (xs : List X). set xs p (get_or (take p left ++ drop p old) (suc p) d)) shown
+    ∙ next_taken left old p d (omega (arith, within, after, length_without old at (omega (arith, after, within)))) within same
+    ∙ ap (λ (k : ℕ). take k left ++ drop k old) (sym on)
+
+-- all later values have moved
+pub all_moved : {X : Type 0} (old part : List X) (at place : ℕ) → at < length old → place ≡ length old → part ≡ take (place - 1) (remove old at) ++ drop (place - 1) old →
+    take (length old - 1) part ≡ remove old at
+all_moved {X} old part at place within end is =
+    let left = remove old at in
+    let count : length left ≡ length old - 1 = length_without old at within in
+    let last : place - 1 ≡ length old - 1 = ap (λ (k : ℕ). k - 1) end in
+    let whole : take (length old - 1) left ≡ left = take_all (length old - 1) left (omega (arith, count)) in
+    ap (take (length old - 1)) (is ∙ ap (λ (k : ℕ). take k left ++ drop k old) last ∙ ap (λ (xs : List X). xs ++ drop (length old - 1) old) whole)
+    ∙ take-append-le (length old - 1) left (drop (length old - 1) old) (omega (arith, count))
+    ∙ whole

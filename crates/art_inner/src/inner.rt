@@ -226,6 +226,7 @@ impl<const P: usize> InnerNode<P> for InnerNode4<P> {
         self.table.write(byte, child)
     }
 
+    #[inline(always)]
     fn remove_child(&mut self, byte: u8) -> Option<OpaqueNodePtr> {
         self.table.remove(byte)
     }
@@ -345,6 +346,7 @@ impl<const P: usize> InnerNode<P> for InnerNode16<P> {
         self.table.write(byte, child)
     }
 
+    #[inline(always)]
     fn remove_child(&mut self, byte: u8) -> Option<OpaqueNodePtr> {
         self.table.remove(byte)
     }
@@ -464,6 +466,7 @@ impl<const P: usize> InnerNode<P> for InnerNode48<P> {
         self.table.write(byte, child)
     }
 
+    #[inline(always)]
     fn remove_child(&mut self, byte: u8) -> Option<OpaqueNodePtr> {
         self.table.remove(byte)
     }
@@ -583,6 +586,7 @@ impl<const P: usize> InnerNode<P> for InnerNodeDirect<P> {
         self.table.write(byte, child)
     }
 
+    #[inline(always)]
     fn remove_child(&mut self, byte: u8) -> Option<OpaqueNodePtr> {
         self.table.remove(byte)
     }

@@ -145,6 +145,7 @@ impl<const N: usize> Table<N> {
         }
     }
 
+    #[inline(always)]
     pub(crate) fn remove(&mut self, byte: u8) -> Option<OpaqueNodePtr>
         ensures removed { result ≡ child_at self.old byte }
         ensures rest { self.new ≡ remove_child self.old byte }
@@ -180,6 +181,7 @@ impl<const N: usize> Table<N> {
     }
 
     // Takes out the name at its place.
+    #[inline(always)]
     fn take_out(&mut self, at: usize, byte: u8) -> OpaqueNodePtr
         requires place { at ≡ count_below self.old byte }
         requires there { IsSome (child_at self.old byte) }
@@ -232,9 +234,14 @@ fn insert_into<T: Copy>(part: &mut [T], at: usize, value: T)
 }
 
 // Closes the gap where a value is let go: the later ones move one place to the front.
+#[inline(always)]
 fn remove_from<T: Copy>(part: &mut [T], at: usize)
     requires { at < length part.old }
     ensures { take (length part.old - 1) part.new ≡ remove part.old at }
 {
-    part[at..].rotate_left(1);
+    let mut place = at + 1;
+    while place < part.len() {
+        part[place - 1] = part[place];
+        place += 1;
+    }
 }
