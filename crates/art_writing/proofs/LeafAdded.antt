@@ -1,5 +1,5 @@
 -- a leaf that is placed below the node of a point, which has room or gives way to a larger one
-use Rattle.std.proofs.Common.{◌≡◌, ◌≢◌, ℕ, ◌<◌, ◌≤◌, List, ◌++◌, length, Bool, true, false, cond, MatchBool, Option, Some, None, IsSomeAnd, IfSome, is_some, refl, ap, ap₂, sym, ◌∙◌, subst, arith, append_assoc, inl}
+use Rattle.std.proofs.Common.{◌≡◌, ◌≢◌, ℕ, ◌<◌, ◌≤◌, List, ◌++◌, length, Bool, true, false, cond, leb, MatchBool, Option, Some, None, IsSomeAnd, IfSome, is_some, refl, ap, ap₂, sym, ◌∙◌, subst, arith, append_assoc, inl}
 use Rattle.std.proofs.lemmas.Bool.{leb-true, leb-false}
 use Rattle.std.specs.FinMap as map
 use Rattle.std.specs.Option.{option_map}
@@ -60,6 +60,13 @@ next_larger_is Node16 not_last proper = refl
 next_larger_is Node48 not_last proper = refl
 next_larger_is Node256 not_last proper = absurd (not_last refl)
 next_larger_is Leaf not_last proper = absurd (proper refl)
+
+-- the kind that is asked for is told by the node that is read
+pub asked_of : {K V : Type 0} (s : Nodes K V) (p : InnerPtr) {kind : NodeType} {node : Inner} → kind ≡ p.kind → Some node ≡ map.get s.inners p →
+    cond (leb (kind_capacity kind) (length node.children)) (next_larger kind) None ≡ cond (is_full s p) (next_larger p.kind) None
+asked_of s p {node = node} same there =
+    ap (λ k. cond (leb (kind_capacity k) (length node.children)) (next_larger k) None) same
+    ∙ ap (λ (o : Option Inner). cond (elim o [ None ↦ false | Some n ↦ leb (kind_capacity p.kind) (length n.children) ]) (next_larger p.kind) None) there
 
 module _ {K V : Type 0} {bytes : K × V → List ℕ} {P : ℕ} {s : Nodes K V} (point : InsertPoint) {p : InnerPtr} {pairs : List (K × V)} {layout : Tree OpaqueNodePtr (K × V)} (new : K × V) {b : ℕ}
     (by : IsCanonicalTree bytes P s point.root pairs layout) (e : IsEntry bytes P p layout (bytes new) point.path b) where

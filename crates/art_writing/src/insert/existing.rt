@@ -7,7 +7,9 @@ ghost use Rattle.art_reading.specs.declared.end_node.InsertKind.TheVariants as k
 
 use super::{InsertParentNodeChange, InsertPoint, InsertResult, Refused};
 use crate::writes::{Direction, links_beside, place_between, replace_at};
-use art_nodes::node::{AsBytes, InnerPtr, LeafPtr, NodeType, OpaqueNodePtr, OptionalLeafPtr};
+use art_nodes::node::{
+    AsBytes, InnerPtr, InnerRef, LeafPtr, NodeType, OpaqueNodePtr, OptionalLeafPtr,
+};
 use art_nodes::store::NodeStore;
 use art_reading::path::TreePath;
 
@@ -27,8 +29,7 @@ impl InsertPoint {
     {
         let key_bytes = key.as_bytes();
         let byte = key_bytes[self.key_bytes_used];
-        let larger = kind_if_full(store, inner_node_ptr);
-        let (previous, next) = self.links_below(store, inner_node_ptr, key_bytes);
+        let (larger, (previous, next)) = self.larger_and_links(store, inner_node_ptr, key_bytes);
         if store.reserve(1, larger).is_err() {
             return Err(Refused { key, value });
         }
@@ -49,37 +50,42 @@ impl InsertPoint {
         Ok(new_child(leaf_node_ptr, inner_node_ptr, byte, self.root))
     }
 
-    // The leaves beside a new one that comes below an inner node.
+    // The kind of the node that takes the place of this one where it is full, and the leaves beside
+    // a new one below it.
     #[inline(always)]
-    fn links_below<K: AsBytes + Drop, V: Drop, const P: usize>(
+    fn larger_and_links<K: AsBytes + Drop, V: Drop, const P: usize>(
         self,
         store: &NodeStore<K, V, P>,
         name: InnerPtr,
         key_bytes: &[u8],
-    ) -> (OptionalLeafPtr, OptionalLeafPtr)
+    ) -> (Option<NodeType>, (OptionalLeafPtr, OptionalLeafPtr))
         requires point { self.insert_kind ≡ kinds.IntoExisting name }
         requires answers { IsPointIn (of_key K.bytes) P store.now key_bytes.now self }
+        ensures larger { result.0 ≡ (placed_for store.now (kinds.IntoExisting name)).inner }
         ensures beside { (left : Subtrees OpaqueNodePtr (K × V)) →
             (right : Subtrees OpaqueNodePtr (K × V)) →
             HasGap store.now name (get_or key_bytes.now self.key_bytes_used 0) left right →
-            ComesBetween store.now left right result.0 result.1 }
+            ComesBetween store.now left right result.1.0 result.1.1 }
         ensures few { IfSome (map.get store.now.inners name) (λ node.
             length node.children < 256) }
     {
         let Some(node) = store.inner(name) else {
             unreachable!()
         };
+        let larger = larger_if_full(node);
         let byte = key_bytes[self.key_bytes_used];
         let (other, child) = node.beside(byte);
-        links_beside(store, child, Direction::of(byte, other))
+        let links = links_beside(store, child, Direction::of(byte, other));
+        (larger, links)
     }
 }
 
-ghost use Rattle.std.specs.Prelude.{◌≢◌, ◌<◌, IsSomeAnd, IsTrue, IfSome, None, length};
+ghost use Rattle.std.specs.Prelude.{◌≢◌, ◌<◌, IsSomeAnd, IsTrue, IfSome, None, length, nat_le, if◌then◌else◌};
 ghost use Rattle.std.specs.FinMap as map;
 ghost use Rattle.art_inner.specs.InnerChanges.{with_child};
 ghost use Rattle.art_inner.specs.Inner.{HasPlace};
-ghost use Rattle.art_parts.specs.Kinds.{kind_capacity, larger_kind};
+ghost use Rattle.art_inner.specs.Views.{ref_kind, ref_view};
+ghost use Rattle.art_parts.specs.Kinds.{kind_capacity, larger_kind, next_larger};
 ghost use Rattle.art_parts.specs.Names.{inner_name};
 ghost use Rattle.art_nodes.specs.Nodes.{promises, take_inner};
 ghost use Rattle.art_parts.specs.declared.names.NodeType.TheVariants.{Node256};
@@ -117,15 +123,16 @@ fn new_child<K, V>(
 }
 
 // The kind of the node that takes the place of this one when it gets a child more, where it is full.
-fn kind_if_full<K: AsBytes + Drop, V: Drop, const P: usize>(
-    store: &NodeStore<K, V, P>,
-    name: InnerPtr,
-) -> Option<NodeType>
-    ensures { result ≡ (placed_for store.now (kinds.IntoExisting name)).inner }
+#[inline(always)]
+fn larger_if_full<const P: usize>(node: InnerRef<'_, P>) -> Option<NodeType>
+    ensures { result ≡
+        (if nat_le (kind_capacity (ref_kind node.entry)) (length (ref_view node.entry).children)
+        then next_larger (ref_kind node.entry) else None) }
 {
-    match store.inner(name) {
-        Some(node) if node.is_full() => name.kind.larger(),
-        _ => None,
+    if node.is_full() {
+        node.node_type().larger()
+    } else {
+        None
     }
 }
 

@@ -16,7 +16,7 @@ use Rattle.art_writing.proofs.insert.InsertPoint.add_child.Goals as goal
 pub returns-then-is_err : goal.returns-then-is_err
 returns-then-is_err g c =
     refused g.K.AsBytes.bytes (λ covered. not_granted c.reserve.result (sym c.is_err.ensures.value ∙ c.if-is_err.true) c.reserve.ensures.succeeds
-    (subst (λ kind. IsTrue (covers c.args.store.now.promise 1 kind)) (sym c.kind_if_full-larger.ensures)
+    (subst (λ kind. IsTrue (covers c.args.store.now.promise 1 kind)) (sym c.larger_and_links-larger.ensures.larger)
     (subst (λ kind. IsTrue (is_covered (placed_for c.args.store.now kind) c.args.store.now.promise)) c.requires.point covered)))
     c.reserve.ensures.leaves c.reserve.ensures.inners (was_refused c.reserve.result (sym c.is_err.ensures.value ∙ c.if-is_err.true) c.reserve.ensures.refused)
 
@@ -24,14 +24,14 @@ pub place_between-leaf_node_ptr-requires : goal.place_between-leaf_node_ptr-requ
 place_between-leaf_node_ptr-requires g c =
     let (pairs, layout, by, own) = c.requires.answers in
     let e = entry c.requires.answers c.requires.point (ap (λ l. get_or l c.args.self.key_bytes_used 0) c.as_bytes-key_bytes.ensures) by in
-    let beside = c.links_below-previous.ensures.beside e.left e.right (entry_gap by e) in
+    let beside = c.larger_and_links-larger.ensures.beside e.left e.right (entry_gap by e) in
     let same = sym c.reserve.ensures.leaves in (
       search rules,
       (
-        leaf_promised c.reserve.new.self.promise c.kind_if_full-larger.result (not_refused c.reserve.result (sym c.is_err.ensures.value ∙ c.if-is_err.false) c.reserve.ensures.reserved),
+        leaf_promised c.reserve.new.self.promise c.larger_and_links-larger.result.0 (not_refused c.reserve.result (sym c.is_err.ensures.value ∙ c.if-is_err.false) c.reserve.ensures.reserved),
         (
-          subst (λ m. IsThere m c.links_below-previous.result.0) same (previous_is_there c.args.self (c.args.key, c.args.value) by e _ _ beside),
-          subst (λ m. IsThere m c.links_below-previous.result.1) same (next_is_there c.args.self (c.args.key, c.args.value) by e _ _ beside),
+          subst (λ m. IsThere m c.larger_and_links-larger.result.1.0) same (previous_is_there c.args.self (c.args.key, c.args.value) by e _ _ beside),
+          subst (λ m. IsThere m c.larger_and_links-larger.result.1.1) same (next_is_there c.args.self (c.args.key, c.args.value) by e _ _ beside),
         ),
       ),
     )
@@ -42,7 +42,7 @@ put_larger-requires g c =
     let e = entry c.requires.answers c.requires.point (ap (λ l. get_or l c.args.self.key_bytes_used 0) c.as_bytes-key_bytes.ensures) by in
     let same = c.place_between-leaf_node_ptr.ensures.inners ∙ c.reserve.ensures.inners in
     let p = c.args.inner_node_ptr in
-    let (full, last, asked) = asked_full c.args.self (c.args.key, c.args.value) by e c.links_below-previous.ensures.few c.kind_if_full-larger.ensures (sym c.is_some.ensures ∙ c.if-is_some.true) in
+    let (full, last, asked) = asked_full c.args.self (c.args.key, c.args.value) by e c.larger_and_links-larger.ensures.few c.larger_and_links-larger.ensures.larger (sym c.is_some.ensures ∙ c.if-is_some.true) in
     let covered = not_refused c.reserve.result (sym c.is_err.ensures.value ∙ c.if-is_err.false) c.reserve.ensures.reserved in (
       search rules,
       (
@@ -63,11 +63,11 @@ returns-then-is_some g c =
     let granted = sym c.is_err.ensures.value ∙ c.if-is_err.false in
     let (pairs, layout, own, answers) = c.requires.answers in
     let entered = entry c.requires.answers c.requires.point (ap (λ l. get_or l c.args.self.key_bytes_used 0) c.as_bytes-key_bytes.ensures) own in
-    let asked = (asked_full c.args.self (c.args.key, c.args.value) own entered c.links_below-previous.ensures.few c.kind_if_full-larger.ensures (sym c.is_some.ensures ∙ c.if-is_some.true)).2 in
+    let asked = (asked_full c.args.self (c.args.key, c.args.value) own entered c.larger_and_links-larger.ensures.few c.larger_and_links-larger.ensures.larger (sym c.is_some.ensures ∙ c.if-is_some.true)).2 in
     applied g.K.AsBytes.bytes c.requires.answers (λ pairs layout by.
     let e = entry c.requires.answers c.requires.point (ap (λ l. get_or l c.args.self.key_bytes_used 0) c.as_bytes-key_bytes.ensures) by in
-    let beside = c.links_below-previous.ensures.beside e.left e.right (entry_gap by e) in
-    let (full, last, asked) = asked_full c.args.self (c.args.key, c.args.value) by e c.links_below-previous.ensures.few c.kind_if_full-larger.ensures (sym c.is_some.ensures ∙ c.if-is_some.true) in
+    let beside = c.larger_and_links-larger.ensures.beside e.left e.right (entry_gap by e) in
+    let (full, last, asked) = asked_full c.args.self (c.args.key, c.args.value) by e c.larger_and_links-larger.ensures.few c.larger_and_links-larger.ensures.larger (sym c.is_some.ensures ∙ c.if-is_some.true) in
     full_inserted c.args.self (c.args.key, c.args.value) by e _ _ beside c.reserve.new.self c.place_between-leaf_node_ptr.new.store
     c.reserve.ensures.leaves c.reserve.ensures.inners c.place_between-leaf_node_ptr.ensures.fresh c.place_between-leaf_node_ptr.ensures.leaves
     c.place_between-leaf_node_ptr.ensures.inners c.to_opaque-child.ensures c.put_larger.new.store c.put_larger.ensures.leaves full last
@@ -75,8 +75,8 @@ returns-then-is_some g c =
     (c.put_larger.ensures.promise
     ∙ ap (λ promise. inner_taken (Some (larger_kind c.args.inner_node_ptr.kind)) promise) c.place_between-leaf_node_ptr.ensures.promise
     ∙ ap (λ kind. inner_taken kind (take_leaf c.reserve.new.self.promise)) (sym asked)
-    ∙ after_reserve c.args.store.now c.reserve.new.self c.kind_if_full-larger.result c.reserve.result granted c.reserve.ensures.covered c.reserve.ensures.granted
-    (ap (λ kind. record { leaves = 1; inner = kind }) c.kind_if_full-larger.ensures ∙ ap (placed_for c.args.store.now) (sym c.requires.point)))
+    ∙ after_reserve c.args.store.now c.reserve.new.self c.larger_and_links-larger.result.0 c.reserve.result granted c.reserve.ensures.covered c.reserve.ensures.granted
+    (ap (λ kind. record { leaves = 1; inner = kind }) c.larger_and_links-larger.ensures.larger ∙ ap (placed_for c.args.store.now) (sym c.requires.point)))
 
 pub write_child-requires : goal.write_child-requires
 write_child-requires g c =
@@ -84,16 +84,16 @@ write_child-requires g c =
     let e = entry c.requires.answers c.requires.point (ap (λ l. get_or l c.args.self.key_bytes_used 0) c.as_bytes-key_bytes.ensures) by in
     let p = c.args.inner_node_ptr in
     let same = c.place_between-leaf_node_ptr.ensures.inners ∙ c.reserve.ensures.inners in
-    let room = asked_room c.args.self (c.args.key, c.args.value) by e c.links_below-previous.ensures.few c.kind_if_full-larger.ensures (sym c.is_some.ensures ∙ c.if-is_some.false) in
+    let room = asked_room c.args.self (c.args.key, c.args.value) by e c.larger_and_links-larger.ensures.few c.larger_and_links-larger.ensures.larger (sym c.is_some.ensures ∙ c.if-is_some.false) in
     (search rules, has_room c.args.self (c.args.key, c.args.value) by e room c.place_between-leaf_node_ptr.new.store.inners same)
 
 pub returns : goal.returns
 returns g c =
-    let none = is_none c.kind_if_full-larger.result (sym c.is_some.ensures ∙ c.if-is_some.false) in
+    let none = is_none c.larger_and_links-larger.result.0 (sym c.is_some.ensures ∙ c.if-is_some.false) in
     applied g.K.AsBytes.bytes c.requires.answers (λ pairs layout by.
     let e = entry c.requires.answers c.requires.point (ap (λ l. get_or l c.args.self.key_bytes_used 0) c.as_bytes-key_bytes.ensures) by in
-    let beside = c.links_below-previous.ensures.beside e.left e.right (entry_gap by e) in
-    let room = asked_room c.args.self (c.args.key, c.args.value) by e c.links_below-previous.ensures.few c.kind_if_full-larger.ensures (sym c.is_some.ensures ∙ c.if-is_some.false) in
+    let beside = c.larger_and_links-larger.ensures.beside e.left e.right (entry_gap by e) in
+    let room = asked_room c.args.self (c.args.key, c.args.value) by e c.larger_and_links-larger.ensures.few c.larger_and_links-larger.ensures.larger (sym c.is_some.ensures ∙ c.if-is_some.false) in
     room_inserted c.args.self (c.args.key, c.args.value) by e _ _ beside c.reserve.new.self c.place_between-leaf_node_ptr.new.store
     c.reserve.ensures.leaves c.reserve.ensures.inners c.place_between-leaf_node_ptr.ensures.fresh c.place_between-leaf_node_ptr.ensures.leaves
     c.place_between-leaf_node_ptr.ensures.inners c.to_opaque-child.ensures c.write_child.new.self c.write_child.ensures.leaves room
@@ -101,6 +101,6 @@ returns g c =
     (c.write_child.ensures.promise
     ∙ c.place_between-leaf_node_ptr.ensures.promise
     ∙ ap (λ kind. inner_taken kind (take_leaf c.reserve.new.self.promise)) (sym none)
-    ∙ after_reserve c.args.store.now c.reserve.new.self c.kind_if_full-larger.result c.reserve.result
+    ∙ after_reserve c.args.store.now c.reserve.new.self c.larger_and_links-larger.result.0 c.reserve.result
     (sym c.is_err.ensures.value ∙ c.if-is_err.false) c.reserve.ensures.covered c.reserve.ensures.granted
-    (ap (λ kind. record { leaves = 1; inner = kind }) c.kind_if_full-larger.ensures ∙ ap (placed_for c.args.store.now) (sym c.requires.point)))
+    (ap (λ kind. record { leaves = 1; inner = kind }) c.larger_and_links-larger.ensures.larger ∙ ap (placed_for c.args.store.now) (sym c.requires.point)))
