@@ -1,10 +1,14 @@
 -- the steps of a way down, in the shape that its code shows
-use Rattle.std.proofs.Common.{◌≡◌, ℕ, ◌+◌, ◌<◌, ◌≤◌, ◌⊎◌, inl, inr, List, [], length, drop, get_or, refl, ap, sym, ◌∙◌, arith, subst, length-drop, Option, Some, None, Result, Ok, Err}
+use Rattle.std.proofs.Common.{◌≡◌, ◌≢◌, ℕ, ◌+◌, ◌<◌, ◌≤◌, ◌⊎◌, inl, inr, List, [], length, drop, get_or, refl, ap, sym, ◌∙◌, arith, subst, length-drop, Option, Some, None, Result, Ok, Err}
 use Rattle.std.proofs.lemmas.Bool.{le-ltb, lt-ltb, cases_lt}
 use Rattle.std.specs.FinMap as map
 use Rattle.art_inner.specs.Inner.{Inner, child_at}
 use Rattle.art_parts.specs.Names.{leaf_name}
 use Rattle.art_nodes.specs.Nodes.{Nodes}
+use Rattle.art_inner.specs.Views.{Ref, ref_kind, ref_view}
+use Rattle.art_inner.specs.declared.any.InnerRefOf.TheVariants as ref
+use Rattle.art_parts.specs.declared.names.NodeType.{NodeType}
+use Rattle.art_parts.specs.declared.names.NodeType.TheVariants.{Leaf}
 use Rattle.art_parts.specs.declared.names.InnerPtr.{InnerPtr}
 use Rattle.art_parts.specs.declared.names.OpaqueNodePtr.{OpaqueNodePtr}
 use Rattle.art_model.specs.Pairs.{match_of}
@@ -12,10 +16,11 @@ use Rattle.art_model.specs.Trees.{Tree}
 use Rattle.art_model.specs.Layouts.{Holds}
 use Rattle.art_model.specs.Stores.{node_at, pair_of}
 use Rattle.art_model.specs.Lookups.{nodes_on_way}
+use Rattle.art_model.specs.Writes.{as_inner}
 use Rattle.art_model.specs.Canonical.{IsCanonicalTree}
 use Rattle.art_model.proofs.stores.Stores.{path_holds}
 use Rattle.art_model.proofs.stores.Canonical.{tree_radix}
-use Rattle.art_model.proofs.stores.Shown.{IsShown, IsThere, leaf_shown}
+use Rattle.art_model.proofs.stores.Shown.{IsShown, IsThere, leaf_shown, shown_met}
 use Rattle.art_reading.specs.declared.descent.LastLeaf.{LastLeaf}
 use Rattle.art_reading.specs.declared.matching.PrefixMatchBehavior.{PrefixMatchBehavior}
 use Rattle.art_reading.specs.declared.matching.PrefixMatchBehavior.TheVariants.{Pessimistic}
@@ -29,6 +34,13 @@ use Rattle.art_reading.specs.Stored.{IsWholeStored}
 use Rattle.art_reading.specs.Descents.{IsLastLeaf}
 use Rattle.art_reading.proofs.Outcomes.{Why, err_why, ok_compared, ok_sure}
 use Rattle.art_reading.proofs.OnWay.{IsOnWay, leaf_leads, leaf_whole, leaf_only, leaf_least, leaf_exactly, IsEnd, ends_short, ends_off, ends_childless, still_compared, goes_on}
+
+-- a reference to an inner node has the kind of one
+pub ref_proper : (node : Ref) {kind : NodeType} → ref_kind node ≡ kind → kind ≢ Leaf
+ref_proper (ref.Node4 n) is leaf = absurd cc
+ref_proper (ref.Node16 n) is leaf = absurd cc
+ref_proper (ref.Node48 n) is leaf = absurd cc
+ref_proper (ref.Node256 n) is leaf = absurd cc
 
 module _ {K V : Type 0} {s : Nodes K V} {bytes : K × V → List ℕ} {P : ℕ} {root : OpaqueNodePtr} {pairs : List (K × V)}
     {layout : Tree OpaqueNodePtr (K × V)} (by : IsCanonicalTree bytes P s root pairs layout) where
@@ -56,6 +68,10 @@ module _ {K V : Type 0} {s : Nodes K V} {bytes : K × V → List ℕ} {P : ℕ} 
     -- the node stands under its name
     pub node_there : IsThere s d.node name
     node_there = record { named = d.named; holds = (path_holds (node_at s) d.path d.node (subst (Holds (node_at s)) (sym d.whole) by.stands.0.holds)).1 }
+
+    -- the store has an inner node under its name
+    pub shown_here : (node : Ref) → ref_kind node ≡ name.kind → Some (ref_view node) ≡ map.get s.inners (as_inner name) → IsShown d.node (as_inner name) (ref_view node)
+    shown_here node kind there = shown_met node_there (ref_proper node kind) refl there
 
   -- at a leaf the way ends
   pub last_leaf : {key : List ℕ} {name : OpaqueNodePtr} {before now after : ℕ} (last : LastLeaf K V) →

@@ -11,7 +11,7 @@ ghost use Rattle.art_reading.specs.Descents.{CountsVisits, IsEndChild, IsKeysLea
 
 use crate::matching::{Asked, PrefixMatchBehavior};
 use crate::path::{LastSteps, TreePath};
-use art_nodes::node::{AsBytes, InnerRef, LeafNode, LeafPtr, NodePtr, OpaqueNodePtr};
+use art_nodes::node::{AsBytes, InnerPtr, InnerRef, LeafNode, LeafPtr, NodePtr, OpaqueNodePtr};
 use art_nodes::store::NodeStore;
 use std::marker::Model;
 
@@ -113,23 +113,25 @@ fn walk<'a, K: AsBytes + Drop, V: Drop, const PREFIX_LEN: usize>(
     let mut behavior = PrefixMatchBehavior::Pessimistic;
     'down: loop {
         visits.add_one();
-        let inner = match name.split() {
-            NodePtr::Inner(inner) => inner,
-            NodePtr::Leaf(name) => {
-                let Some(node) = store.leaf(name) else {
-                    unreachable!()
-                };
-                return Some(LastLeaf {
-                    path: steps.path(),
-                    name,
-                    node,
-                    depth,
-                    behavior,
-                });
-            }
+        // Asked for first: so the kinds of name and node are one question in the machine code.
+        let inner = InnerPtr {
+            kind: name.kind,
+            slot: name.slot,
         };
         let Some(node) = store.inner(inner) else {
-            unreachable!()
+            let Some(name) = name.as_leaf() else {
+                unreachable!()
+            };
+            let Some(node) = store.leaf(name) else {
+                unreachable!()
+            };
+            return Some(LastLeaf {
+                path: steps.path(),
+                name,
+                node,
+                depth,
+                behavior,
+            });
         };
         let (place, child) = behavior.step_at(node, key_bytes, depth)?;
         steps.step_down(inner, key_bytes[place]);
