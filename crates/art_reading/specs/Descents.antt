@@ -20,9 +20,9 @@ use Rattle.art_reading.specs.declared.descent.End.{End}
 use Rattle.art_reading.specs.declared.descent.End.TheVariants.{First, Last}
 use Rattle.art_reading.specs.declared.path.TreePath.{TreePath}
 use Rattle.art_reading.specs.PathSteps.{path_of}
-use Rattle.art_reading.specs.Stored.{IsWholeStored}
+use Rattle.art_reading.specs.Stored.{ComparesAll, IsWholeStored}
 
-module _ {K V : Type 0} (bytes : K × V → List ℕ) (P : ℕ) (key : List ℕ) (pairs : List (K × V))
+module _ {K V : Type 0} (bytes : K × V → List ℕ) (P : ℕ) (start : PrefixMatchBehavior) (key : List ℕ) (pairs : List (K × V))
     (layout : Tree OpaqueNodePtr (K × V)) (before after : ℕ) where
   -- the only leaf that can match the key, and what is left to compare of it: the bytes after its place, or all of them
   pub record IsLastLeaf (last : LastLeaf K V) : Type 0 where
@@ -33,7 +33,7 @@ module _ {K V : Type 0} (bytes : K × V → List ℕ) (P : ℕ) (key : List ℕ)
     pub depth_is : length place ≡ last.depth
     pub is_short : last.depth ≤ length key
     pub compared : last.behavior ≡ Pessimistic → IsFront place key
-    pub compares : IsWholeStored P layout → last.behavior ≡ Pessimistic
+    pub compares : ComparesAll P start layout → last.behavior ≡ Pessimistic
     pub only : match_of bytes key pairs ≡ match_of bytes key (pair_of last.node.now ∷ [])
     pub at_least : before + length (nodes_on_way bytes key layout) ≤ after
     pub exactly : IsFront place key → before + length (nodes_on_way bytes key layout) ≡ after
@@ -42,7 +42,7 @@ module _ {K V : Type 0} (bytes : K × V → List ℕ) (P : ℕ) (key : List ℕ)
   abbrev pub WalkEnds : Option (LastLeaf K V) → Type 0
   WalkEnds None =
       (match_of bytes key pairs ≡ []) × (before + length (nodes_on_way bytes key layout) ≤ after)
-      × (IsWholeStored P layout → before + length (nodes_on_way bytes key layout) ≡ after)
+      × (ComparesAll P start layout → before + length (nodes_on_way bytes key layout) ≡ after)
   WalkEnds (Some last) = IsLastLeaf last
 
 -- what a look-up counts: at least the nodes on the key's way, exactly these where a leaf is found or each prefix is stored whole, and at most one more than the key has bytes

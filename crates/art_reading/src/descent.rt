@@ -7,6 +7,7 @@ ghost use Rattle.art_model.specs.Pairs.{of_key};
 ghost use Rattle.art_model.specs.Roots.{ForTree, IsCanonicalRoot, IsFullTree};
 ghost use Rattle.art_model.specs.Trees.{Tree};
 ghost use Rattle.art_reading.specs.PartEnds.{EndsBelow};
+ghost use Rattle.art_reading.specs.declared.matching.PrefixMatchBehavior.TheVariants.{Pessimistic};
 ghost use Rattle.art_reading.specs.Descents.{CountsVisits, IsEndChild, IsKeysLeaf, LeadsToEnd, WalkEnds, asked_of};
 
 use crate::matching::{Asked, PrefixMatchBehavior};
@@ -68,22 +69,27 @@ pub struct LastLeaf<'a, K, V> {
 }
 
 /// Goes down with a key to the leaf that is asked for, or to `None` where no stored key is as asked.
+///
+/// The way begins with `start`. From `Pessimistic` on the bytes of prefixes are compared, as far as they
+/// are stored; from `Optimistic` on none are: it compares lengths, and the whole key at the leaf.
 #[inline(always)]
 pub fn walk_to_key<'a, K: AsBytes + Drop, V: Drop, const PREFIX_LEN: usize>(
     store: &'a NodeStore<K, V, PREFIX_LEN>,
     root: OpaqueNodePtr,
     key_bytes: &[u8],
     asked: Asked,
+    start: PrefixMatchBehavior,
     visits: &mut Visits,
 ) -> Option<LastLeaf<'a, K, V>>
     requires root { IsCanonicalRoot (of_key K.bytes) PREFIX_LEN store.now root }
     requires room { visits.old + length key_bytes.now + 1 < 2 ^ 64 }
     ensures leaf { ForTree (of_key K.bytes) PREFIX_LEN store.now root (λ pairs layout.
         IsKeysLeaf (asked_of asked (of_key K.bytes) key_bytes.now pairs) layout result) }
-    ensures visits { CountsVisits (of_key K.bytes) PREFIX_LEN store.now root key_bytes.now
-        visits.old visits.new (IsSome result) }
+    ensures visits { start ≡ Pessimistic → CountsVisits (of_key K.bytes) PREFIX_LEN store.now root
+        key_bytes.now visits.old visits.new (IsSome result) }
+    ensures at_most { visits.new ≤ visits.old + length key_bytes.now + 1 }
 {
-    let last = walk(store, root, key_bytes, visits)?;
+    let last = walk(store, root, key_bytes, start, visits)?;
     let behavior = last.behavior;
     if behavior.finds(asked, last.node, key_bytes, last.depth) {
         Some(last)
@@ -98,19 +104,20 @@ fn walk<'a, K: AsBytes + Drop, V: Drop, const PREFIX_LEN: usize>(
     store: &'a NodeStore<K, V, PREFIX_LEN>,
     root: OpaqueNodePtr,
     key_bytes: &[u8],
+    start: PrefixMatchBehavior,
     visits: &mut Visits,
 ) -> Option<LastLeaf<'a, K, V>>
     requires root { IsCanonicalRoot (of_key K.bytes) PREFIX_LEN store.now root }
     requires room { visits.old + length key_bytes.now + 1 < 2 ^ 64 }
     ensures ends { ForTree (of_key K.bytes) PREFIX_LEN store.now root (λ pairs layout.
-        WalkEnds (of_key K.bytes) PREFIX_LEN key_bytes.now pairs layout
+        WalkEnds (of_key K.bytes) PREFIX_LEN start key_bytes.now pairs layout
         visits.old visits.new result) }
     ensures at_most { visits.new ≤ visits.old + length key_bytes.now + 1 }
 {
     let mut steps = LastSteps::new();
     let mut name = root;
     let mut depth = 0;
-    let mut behavior = PrefixMatchBehavior::Pessimistic;
+    let mut behavior = start;
     'down: loop {
         visits.add_one();
         // Asked for first: so the kinds of name and node are one question in the machine code.
@@ -125,8 +132,9 @@ fn walk<'a, K: AsBytes + Drop, V: Drop, const PREFIX_LEN: usize>(
             let Some(node) = store.leaf(name) else {
                 unreachable!()
             };
+            let path = steps.path();
             return Some(LastLeaf {
-                path: steps.path(),
+                path,
                 name,
                 node,
                 depth,

@@ -1,12 +1,12 @@
 use Rattle.std.proofs.Common.{arith, refl, rules}
 use Rattle.std.proofs.lemmas.Bool.{false≢true}
 use Rattle.art_model.proofs.stores.Shown.{leaf_met, inner_met}
-use Rattle.art_reading.proofs.Steps.{start, node_there, ref_proper, shown_here, last_leaf, stops, steps}
+use Rattle.art_reading.proofs.Steps.{begins, node_there, ref_proper, shown_here, last_leaf, stops, steps}
 use Rattle.art_reading.proofs.OnWay.{stored_short}
 use Rattle.art_reading.proofs.descent.walk.Goals as goal
 
 pub down-init : goal.down-init
-down-init g c = record { short = omega arith; few = omega arith; on_way = λ pairs layout by. rw c.new-steps.ensures (start by _ _) }
+down-init g c = record { short = omega arith; few = omega arith; on_way = λ pairs layout by. rw c.new-steps.ensures (begins by _ _ _) }
 
 pub unreachable-requires : goal.unreachable-requires
 unreachable-requires g c =
@@ -21,7 +21,7 @@ unreachable-requires-in_default-leaf g c =
 
 pub returns-in_default-clause-ends : goal.returns-in_default-clause-ends
 returns-in_default-clause-ends g c pairs layout by =
-    rw c.path.ensures (last_leaf by _ (c.down.invariant.on_way pairs layout by) c.in-Some-as_leaf.ensures.name c.in-Some-leaf.ensures c.down.invariant.short c.add_one.ensures)
+    rw c.path-path.ensures (last_leaf by _ (c.down.invariant.on_way pairs layout by) c.in-Some-as_leaf.ensures.name c.in-Some-leaf.ensures c.down.invariant.short c.add_one.ensures)
 
 pub step_at-requires : goal.step_at-requires
 step_at-requires g c =
