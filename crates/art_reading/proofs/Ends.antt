@@ -19,7 +19,7 @@ use Rattle.art_reading.specs.declared.matching.PrefixMatchBehavior.{PrefixMatchB
 use Rattle.art_reading.specs.declared.matching.PrefixMatchBehavior.TheVariants.{Pessimistic, Optimistic}
 use Rattle.art_reading.specs.Matching.{compared_from, MatchesLeafKey, LeafKeyIsPrefix}
 use Rattle.art_reading.specs.Stored.{ComparesAll}
-use Rattle.art_reading.specs.Descents.{CountsVisits, IsAskedFor, IsLastLeaf, IsOnlyLeaf, WalkEnds, asked_of}
+use Rattle.art_reading.specs.Descents.{CountsVisitsFrom, IsAskedFor, IsLastLeaf, IsOnlyLeaf, WalkEnds, asked_of}
 
 -- both keys have the same bytes before those that are compared
 record IsShared (leaf query : List ℕ) (n : ℕ) : Type 0 where
@@ -156,13 +156,13 @@ just bytes P start key pairs layout before after None ends all = ends.2 all
 just bytes P start key pairs layout before after (Some last) ends all = ends.exactly (ends.compared (ends.compares all))
 
 module _ {K V : Type 0} {bytes : K × V → List ℕ} {P : ℕ} {s : Nodes K V} {root : OpaqueNodePtr} {start : PrefixMatchBehavior} {key : List ℕ} {before after : ℕ} where
-  -- what is counted on a way that ends so, and begins with comparing
+  -- what is counted on a way that ends so
   pub counts : (end : Option (LastLeaf K V)) → ForTree bytes P s root (λ pairs layout. WalkEnds bytes P start key pairs layout before after end) → {IsFound : Type 0} →
-      ForTree bytes P s root (λ pairs layout. IsFound → before + length (nodes_on_way bytes key layout) ≡ after) → after ≤ before + length key + 1 → start ≡ Pessimistic →
-      CountsVisits bytes P s root key before after IsFound
-  counts end ends exactly at_most compares = record {
+      ForTree bytes P s root (λ pairs layout. IsFound → before + length (nodes_on_way bytes key layout) ≡ after) → after ≤ before + length key + 1 →
+      CountsVisitsFrom start bytes P s root key before after IsFound
+  counts end ends exactly at_most = record {
     at_least = λ pairs layout by. least bytes P start key pairs layout before after end (ends pairs layout by);
     exactly = exactly;
-    if_whole = λ pairs layout by whole. just bytes P start key pairs layout before after end (ends pairs layout by) (compares, whole);
+    if_whole = λ pairs layout by. just bytes P start key pairs layout before after end (ends pairs layout by);
     at_most = at_most;
   }

@@ -23,7 +23,6 @@ use Rattle.art_model.proofs.stores.Canonical.{tree_radix}
 use Rattle.art_model.proofs.stores.Shown.{IsShown, IsThere, leaf_shown, shown_met}
 use Rattle.art_reading.specs.declared.descent.LastLeaf.{LastLeaf}
 use Rattle.art_reading.specs.declared.matching.PrefixMatchBehavior.{PrefixMatchBehavior}
-use Rattle.art_reading.specs.declared.matching.PrefixMatchBehavior.TheVariants.{Pessimistic}
 use Rattle.art_reading.specs.declared.path.AttemptOptimisticPrefixMatch.{AttemptOptimisticPrefixMatch}
 use Rattle.art_reading.specs.declared.path.PessimisticMismatch.{PessimisticMismatch}
 use Rattle.art_reading.specs.declared.path.TreePath.{TreePath}

@@ -20,7 +20,7 @@ use Rattle.art_reading.specs.declared.descent.End.{End}
 use Rattle.art_reading.specs.declared.descent.End.TheVariants.{First, Last}
 use Rattle.art_reading.specs.declared.path.TreePath.{TreePath}
 use Rattle.art_reading.specs.PathSteps.{path_of}
-use Rattle.art_reading.specs.Stored.{ComparesAll, IsWholeStored}
+use Rattle.art_reading.specs.Stored.{ComparesAll}
 
 module _ {K V : Type 0} (bytes : K × V → List ℕ) (P : ℕ) (start : PrefixMatchBehavior) (key : List ℕ) (pairs : List (K × V))
     (layout : Tree OpaqueNodePtr (K × V)) (before after : ℕ) where
@@ -45,15 +45,19 @@ module _ {K V : Type 0} (bytes : K × V → List ℕ) (P : ℕ) (start : PrefixM
       × (ComparesAll P start layout → before + length (nodes_on_way bytes key layout) ≡ after)
   WalkEnds (Some last) = IsLastLeaf last
 
--- what a look-up counts: at least the nodes on the key's way, exactly these where a leaf is found or each prefix is stored whole, and at most one more than the key has bytes
-pub record CountsVisits {K V : Type 0} (bytes : K × V → List ℕ) (P : ℕ) (s : Nodes K V) (root : OpaqueNodePtr) (key : List ℕ)
-    (before after : ℕ) (IsFound : Type 0) : Type 0 where
+-- what a way down counts that begins with this behavior: at least the nodes on the key's way, exactly these where a leaf is found or each prefix is compared whole, and at most one more than the key has bytes
+pub record CountsVisitsFrom (start : PrefixMatchBehavior) {K V : Type 0} (bytes : K × V → List ℕ) (P : ℕ) (s : Nodes K V) (root : OpaqueNodePtr)
+    (key : List ℕ) (before after : ℕ) (IsFound : Type 0) : Type 0 where
   pub at_least : ForTree bytes P s root (λ pairs layout. before + length (nodes_on_way bytes key layout) ≤ after)
   pub exactly : ForTree bytes P s root (λ pairs layout.
       IsFound → before + length (nodes_on_way bytes key layout) ≡ after)
   pub if_whole : ForTree bytes P s root (λ pairs layout.
-      IsWholeStored P layout → before + length (nodes_on_way bytes key layout) ≡ after)
+      ComparesAll P start layout → before + length (nodes_on_way bytes key layout) ≡ after)
   pub at_most : after ≤ before + length key + 1
+
+-- what a look-up counts: at least the nodes on the key's way, exactly these where a leaf is found or each prefix is stored whole, and at most one more than the key has bytes
+abbrev pub CountsVisits : {K V : Type 0} → (K × V → List ℕ) → ℕ → Nodes K V → OpaqueNodePtr → List ℕ → ℕ → ℕ → Type 0 → Type 0
+CountsVisits bytes P s root key before after IsFound = CountsVisitsFrom Pessimistic bytes P s root key before after IsFound
 
 -- the pairs that are asked for: those with the key, or with a prefix of it
 abbrev pub asked_of : {A : Type 0} → Asked → (A → List ℕ) → List ℕ → List A → List A

@@ -1,4 +1,4 @@
--- Trees of which each prefix is stored whole.
+-- Trees of which each prefix is stored whole, and ways down that compare each whole.
 use Rattle.std.specs.Prelude.{◌≡◌, ℕ, ◌≤◌, ⊤}
 use Rattle.art_model.specs.Trees.{Tree, leaf, inner, Subtrees, no_child, child}
 use Rattle.art_reading.specs.declared.matching.PrefixMatchBehavior.{PrefixMatchBehavior}

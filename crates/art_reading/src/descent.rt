@@ -7,8 +7,7 @@ ghost use Rattle.art_model.specs.Pairs.{of_key};
 ghost use Rattle.art_model.specs.Roots.{ForTree, IsCanonicalRoot, IsFullTree};
 ghost use Rattle.art_model.specs.Trees.{Tree};
 ghost use Rattle.art_reading.specs.PartEnds.{EndsBelow};
-ghost use Rattle.art_reading.specs.declared.matching.PrefixMatchBehavior.TheVariants.{Pessimistic};
-ghost use Rattle.art_reading.specs.Descents.{CountsVisits, IsEndChild, IsKeysLeaf, LeadsToEnd, WalkEnds, asked_of};
+ghost use Rattle.art_reading.specs.Descents.{CountsVisitsFrom, IsEndChild, IsKeysLeaf, LeadsToEnd, WalkEnds, asked_of};
 
 use crate::matching::{Asked, PrefixMatchBehavior};
 use crate::path::{LastSteps, TreePath};
@@ -70,8 +69,9 @@ pub struct LastLeaf<'a, K, V> {
 
 /// Goes down with a key to the leaf that is asked for, or to `None` where no stored key is as asked.
 ///
-/// The way begins with `start`. From `Pessimistic` on the bytes of prefixes are compared, as far as they
-/// are stored; from `Optimistic` on none are: it compares lengths, and the whole key at the leaf.
+/// The way begins with `start`: with `Pessimistic` it compares the bytes of prefixes as far as they are
+/// stored, with `Optimistic` only their lengths, and the whole key at the leaf. Where the leaf is there
+/// both read the same nodes; where it is not an optimistic way may read more.
 #[inline(always)]
 pub fn walk_to_key<'a, K: AsBytes + Drop, V: Drop, const PREFIX_LEN: usize>(
     store: &'a NodeStore<K, V, PREFIX_LEN>,
@@ -85,9 +85,8 @@ pub fn walk_to_key<'a, K: AsBytes + Drop, V: Drop, const PREFIX_LEN: usize>(
     requires room { visits.old + length key_bytes.now + 1 < 2 ^ 64 }
     ensures leaf { ForTree (of_key K.bytes) PREFIX_LEN store.now root (λ pairs layout.
         IsKeysLeaf (asked_of asked (of_key K.bytes) key_bytes.now pairs) layout result) }
-    ensures visits { start ≡ Pessimistic → CountsVisits (of_key K.bytes) PREFIX_LEN store.now root
-        key_bytes.now visits.old visits.new (IsSome result) }
-    ensures at_most { visits.new ≤ visits.old + length key_bytes.now + 1 }
+    ensures visits { CountsVisitsFrom start (of_key K.bytes) PREFIX_LEN store.now root key_bytes.now
+        visits.old visits.new (IsSome result) }
 {
     let last = walk(store, root, key_bytes, start, visits)?;
     let behavior = last.behavior;
@@ -120,7 +119,7 @@ fn walk<'a, K: AsBytes + Drop, V: Drop, const PREFIX_LEN: usize>(
     let mut behavior = start;
     'down: loop {
         visits.add_one();
-        // Asked for first: so the kinds of name and node are one question in the machine code.
+        // It comes first, so that the kinds of name and node are one question in the machine code.
         let inner = InnerPtr {
             kind: name.kind,
             slot: name.slot,
