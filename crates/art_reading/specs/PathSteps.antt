@@ -16,7 +16,7 @@ step_down Root node byte = ChildOfRoot node byte
 step_down (ChildOfRoot parent b) node byte = Normal node byte parent b
 step_down (Normal parent b grandparent c) node byte = Normal node byte parent b
 
--- the path with a parent of this kind and a grandparent of that kind: none is there of the kind of leaves
+-- the path with a parent and a grandparent of these kinds, where one of the kind of leaves is not there
 abbrev pub path_with : NodeType → NodeType → InnerPtr → ℕ → InnerPtr → ℕ → TreePath
 path_with kinds.Leaf above parent byte grandparent b = Root
 path_with kind kinds.Leaf parent byte grandparent b = ChildOfRoot parent byte
