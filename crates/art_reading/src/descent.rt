@@ -119,7 +119,7 @@ fn walk<'a, K: AsBytes + Drop, V: Drop, const PREFIX_LEN: usize>(
     let mut behavior = start;
     'down: loop {
         visits.add_one();
-        // It comes first, so that the kinds of name and node are one question in the machine code.
+        // Inner nodes come first, so that the kinds of name and node are one question in machine code.
         let inner = InnerPtr {
             kind: name.kind,
             slot: name.slot,
