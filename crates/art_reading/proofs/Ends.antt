@@ -18,8 +18,8 @@ use Rattle.art_reading.specs.declared.descent.LastLeaf.{LastLeaf}
 use Rattle.art_reading.specs.declared.matching.PrefixMatchBehavior.{PrefixMatchBehavior}
 use Rattle.art_reading.specs.declared.matching.PrefixMatchBehavior.TheVariants.{Pessimistic, Optimistic}
 use Rattle.art_reading.specs.Matching.{compared_from, MatchesLeafKey, LeafKeyIsPrefix}
-use Rattle.art_reading.specs.Stored.{IsWholeStored}
-use Rattle.art_reading.specs.Descents.{CountsVisits, IsAskedFor, IsLastLeaf, IsOnlyLeaf, WalkEnds, asked_of}
+use Rattle.art_reading.specs.Stored.{ComparesAll}
+use Rattle.art_reading.specs.Descents.{CountsVisitsFrom, IsAskedFor, IsLastLeaf, IsOnlyLeaf, WalkEnds, asked_of}
 
 -- both keys have the same bytes before those that are compared
 record IsShared (leaf query : List ℕ) (n : ℕ) : Type 0 where
@@ -64,8 +64,8 @@ module _ {A : Type 0} (bytes : A → List ℕ) (key : List ℕ) where
       go ih false true e f = rw (e, f) ih
       go ih false false e f = rw (e, f) ih
 
-module _ {K V : Type 0} {bytes : K × V → List ℕ} {P : ℕ} {key : List ℕ} {pairs : List (K × V)} {layout : Tree OpaqueNodePtr (K × V)} {before after : ℕ}
-    {last : LastLeaf K V} (h : IsLastLeaf bytes P key pairs layout before after last) where
+module _ {K V : Type 0} {bytes : K × V → List ℕ} {P : ℕ} {start : PrefixMatchBehavior} {key : List ℕ} {pairs : List (K × V)} {layout : Tree OpaqueNodePtr (K × V)} {before after : ℕ}
+    {last : LastLeaf K V} (h : IsLastLeaf bytes P start key pairs layout before after last) where
   shared : IsShared (bytes (pair_of last.node.now)) key (compared_from last.behavior last.depth (bytes (pair_of last.node.now)) key)
   shared = shared_front last.behavior last.depth h.place (bytes (pair_of last.node.now)) key h.depth_is h.is_short h.leads_to h.compared
 
@@ -144,25 +144,25 @@ none_asked Same bytes key pairs nothing = sym (with_key-match_of bytes key pairs
 none_asked Front bytes key pairs nothing = nothing
 
 -- wherever a way ends, the nodes on it were counted
-least : {K V : Type 0} (bytes : K × V → List ℕ) (P : ℕ) (key : List ℕ) (pairs : List (K × V)) (layout : Tree OpaqueNodePtr (K × V)) (before after : ℕ)
-    (end : Option (LastLeaf K V)) → WalkEnds bytes P key pairs layout before after end → before + length (nodes_on_way bytes key layout) ≤ after
-least bytes P key pairs layout before after None ends = ends.1
-least bytes P key pairs layout before after (Some last) ends = ends.at_least
+least : {K V : Type 0} (bytes : K × V → List ℕ) (P : ℕ) (start : PrefixMatchBehavior) (key : List ℕ) (pairs : List (K × V)) (layout : Tree OpaqueNodePtr (K × V)) (before after : ℕ)
+    (end : Option (LastLeaf K V)) → WalkEnds bytes P start key pairs layout before after end → before + length (nodes_on_way bytes key layout) ≤ after
+least bytes P start key pairs layout before after None ends = ends.1
+least bytes P start key pairs layout before after (Some last) ends = ends.at_least
 
--- where each prefix is stored whole, just these were
-just : {K V : Type 0} (bytes : K × V → List ℕ) (P : ℕ) (key : List ℕ) (pairs : List (K × V)) (layout : Tree OpaqueNodePtr (K × V)) (before after : ℕ)
-    (end : Option (LastLeaf K V)) → WalkEnds bytes P key pairs layout before after end → IsWholeStored P layout → before + length (nodes_on_way bytes key layout) ≡ after
-just bytes P key pairs layout before after None ends whole = ends.2 whole
-just bytes P key pairs layout before after (Some last) ends whole = ends.exactly (ends.compared (ends.compares whole))
+-- where each prefix is compared whole, just these were
+just : {K V : Type 0} (bytes : K × V → List ℕ) (P : ℕ) (start : PrefixMatchBehavior) (key : List ℕ) (pairs : List (K × V)) (layout : Tree OpaqueNodePtr (K × V)) (before after : ℕ)
+    (end : Option (LastLeaf K V)) → WalkEnds bytes P start key pairs layout before after end → ComparesAll P start layout → before + length (nodes_on_way bytes key layout) ≡ after
+just bytes P start key pairs layout before after None ends all = ends.2 all
+just bytes P start key pairs layout before after (Some last) ends all = ends.exactly (ends.compared (ends.compares all))
 
-module _ {K V : Type 0} {bytes : K × V → List ℕ} {P : ℕ} {s : Nodes K V} {root : OpaqueNodePtr} {key : List ℕ} {before after : ℕ} where
+module _ {K V : Type 0} {bytes : K × V → List ℕ} {P : ℕ} {s : Nodes K V} {root : OpaqueNodePtr} {start : PrefixMatchBehavior} {key : List ℕ} {before after : ℕ} where
   -- what is counted on a way that ends so
-  pub counts : (end : Option (LastLeaf K V)) → ForTree bytes P s root (λ pairs layout. WalkEnds bytes P key pairs layout before after end) → {IsFound : Type 0} →
+  pub counts : (end : Option (LastLeaf K V)) → ForTree bytes P s root (λ pairs layout. WalkEnds bytes P start key pairs layout before after end) → {IsFound : Type 0} →
       ForTree bytes P s root (λ pairs layout. IsFound → before + length (nodes_on_way bytes key layout) ≡ after) → after ≤ before + length key + 1 →
-      CountsVisits bytes P s root key before after IsFound
+      CountsVisitsFrom start bytes P s root key before after IsFound
   counts end ends exactly at_most = record {
-    at_least = λ pairs layout by. least bytes P key pairs layout before after end (ends pairs layout by);
+    at_least = λ pairs layout by. least bytes P start key pairs layout before after end (ends pairs layout by);
     exactly = exactly;
-    if_whole = λ pairs layout by. just bytes P key pairs layout before after end (ends pairs layout by);
+    if_whole = λ pairs layout by. just bytes P start key pairs layout before after end (ends pairs layout by);
     at_most = at_most;
   }

@@ -14,6 +14,7 @@ pub mod Beside
 pub mod Cuts
 pub mod Spans
 pub mod Bounds
+pub mod Parents
 pub mod Partings
 pub mod Prefixes
 pub mod EndNodes

@@ -25,7 +25,7 @@ use Rattle.art_reading.specs.declared.matching.PrefixMatchBehavior.TheVariants.{
 use Rattle.art_reading.specs.declared.path.TreePath.{TreePath}
 use Rattle.art_reading.specs.Matching.{shared_len}
 use Rattle.art_reading.specs.PathSteps.{step_down, path_of}
-use Rattle.art_reading.specs.Stored.{IsWholeStored, AreWholeStored}
+use Rattle.art_reading.specs.Stored.{ComparesAll, IsWholeStored, AreWholeStored}
 
 -- how many of these nodes are on the key's way
 abbrev pub count_on_way : {N : Type 0} → List ℕ → List (List ℕ × N) → ℕ
@@ -36,8 +36,8 @@ whole_child : {N A : Type 0} (P : ℕ) (cs : Subtrees N A) (b : ℕ) (t : Tree N
 whole_child P no_child b t ds whole = whole.0
 whole_child P (child c u cs) b t ds whole = whole_child P cs b t ds whole.1
 
--- A node of the tree below which all pairs are that match the key. The nodes above it were counted, and all of them are on the key's way if it is, as where each prefix is stored whole.
-pub record IsOnWay {A : Type 0} (bytes : A → List ℕ) (P : ℕ) (key : List ℕ) (tree : Tree OpaqueNodePtr A) (way : TreePath) (name : OpaqueNodePtr)
+-- A node of the tree below which all pairs are that match the key. The nodes above it were counted, and all of them are on the key's way if it is, as where each prefix is compared whole.
+pub record IsOnWay {A : Type 0} (bytes : A → List ℕ) (P : ℕ) (start : PrefixMatchBehavior) (key : List ℕ) (tree : Tree OpaqueNodePtr A) (way : TreePath) (name : OpaqueNodePtr)
     (depth : ℕ) (behavior : PrefixMatchBehavior) (before now : ℕ) : Type 0 where
   pub path : List (Frame OpaqueNodePtr A)
   pub node : Tree OpaqueNodePtr A
@@ -51,7 +51,7 @@ pub record IsOnWay {A : Type 0} (bytes : A → List ℕ) (P : ℕ) (key : List �
   pub matches : match_of bytes key (pairs_of tree) ≡ match_of bytes key (pairs_of node)
   pub at_least : before + count_on_way key (places bytes 0 tree) ≤ now + count_on_way key (places bytes depth node)
   pub exactly : IsFront place key → before + count_on_way key (places bytes 0 tree) ≡ now + count_on_way key (places bytes depth node)
-  pub compares : IsWholeStored P tree → (behavior ≡ Pessimistic) × IsWholeStored P node
+  pub compares : ComparesAll P start tree → ComparesAll P behavior node
 
 -- the first of some nodes counts at most once, and exactly once where its place is a front of the key
 module _ {N : Type 0} (key : List ℕ) (node : List ℕ × N) (nodes : List (List ℕ × N)) where
@@ -65,8 +65,8 @@ module _ {N : Type 0} (key : List ℕ) (node : List ℕ × N) (nodes : List (Lis
   count_front : IsFront node.0 key → count_on_way key (node ∷ nodes) ≡ 1 + count_on_way key nodes
   count_front (r, e) = let is : is_front node.0 key ≡ true = ap (is_front node.0) e ∙ front_is node.0 r in rw is (omega arith)
 
-module _ {A : Type 0} {bytes : A → List ℕ} {P : ℕ} {key : List ℕ} {tree : Tree OpaqueNodePtr A} {way : TreePath} {name : OpaqueNodePtr} {depth : ℕ}
-    {behavior : PrefixMatchBehavior} {before now : ℕ} (d : IsOnWay bytes P key tree way name depth behavior before now) where
+module _ {A : Type 0} {bytes : A → List ℕ} {P : ℕ} {start : PrefixMatchBehavior} {key : List ℕ} {tree : Tree OpaqueNodePtr A} {way : TreePath} {name : OpaqueNodePtr} {depth : ℕ}
+    {behavior : PrefixMatchBehavior} {before now : ℕ} (d : IsOnWay bytes P start key tree way name depth behavior before now) where
   -- the node's own place
   own_place : place_of bytes depth d.node ≡ d.place
   own_place = subst (λ n. place_of bytes n d.node ≡ d.place) d.depth_is (place_is bytes P d.node d.place d.radix)
@@ -143,7 +143,7 @@ module _ {A : Type 0} {bytes : A → List ℕ} {P : ℕ} {key : List ℕ} {tree 
     abbrev pub IsEnd : Type 0
     IsEnd =
         (match_of bytes key (pairs_of tree) ≡ []) × (before + count_on_way key (places bytes 0 tree) ≤ now + 1)
-        × (IsWholeStored P tree → before + count_on_way key (places bytes 0 tree) ≡ now + 1)
+        × (ComparesAll P start tree → before + count_on_way key (places bytes 0 tree) ≡ now + 1)
 
     ends_aside : AreAside front key at.children → IsEnd
     ends_aside aside =
@@ -205,7 +205,7 @@ module _ {A : Type 0} {bytes : A → List ℕ} {P : ℕ} {key : List ℕ} {tree 
     pub goes_on : {to : OpaqueNodePtr} {after : PrefixMatchBehavior} → depth + shown.prefix.len < length key →
         child_at shown.children (get_or key (depth + shown.prefix.len) 0) ≡ Some to → (after ≡ Pessimistic → IsFront front key) →
         (behavior ≡ Pessimistic → shown.prefix.len ≤ length shown.prefix.stored → after ≡ Pessimistic) →
-        IsOnWay bytes P key tree (step_down way p (get_or key (depth + shown.prefix.len) 0)) to (depth + shown.prefix.len + 1) after before (now + 1)
+        IsOnWay bytes P start key tree (step_down way p (get_or key (depth + shown.prefix.len) 0)) to (depth + shown.prefix.len + 1) after before (now + 1)
     goes_on {to} {after} long there sure keeps =
         let b = get_or key (length front) 0 in
         let e = ap (λ cs. child_at cs b) (sym at.slots) ∙ ap (λ n. child_at shown.children (get_or key n 0)) front_len ∙ there in

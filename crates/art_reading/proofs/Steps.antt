@@ -1,10 +1,14 @@
 -- the steps of a way down, in the shape that its code shows
-use Rattle.std.proofs.Common.{◌≡◌, ℕ, ◌+◌, ◌<◌, ◌≤◌, ◌⊎◌, inl, inr, List, [], length, drop, get_or, refl, ap, sym, ◌∙◌, arith, subst, length-drop, Option, Some, None, Result, Ok, Err}
+use Rattle.std.proofs.Common.{◌≡◌, ◌≢◌, ℕ, ◌+◌, ◌<◌, ◌≤◌, ◌⊎◌, inl, inr, List, [], length, drop, get_or, refl, ap, sym, ◌∙◌, arith, subst, length-drop, Option, Some, None, Result, Ok, Err}
 use Rattle.std.proofs.lemmas.Bool.{le-ltb, lt-ltb, cases_lt}
 use Rattle.std.specs.FinMap as map
 use Rattle.art_inner.specs.Inner.{Inner, child_at}
 use Rattle.art_parts.specs.Names.{leaf_name}
 use Rattle.art_nodes.specs.Nodes.{Nodes}
+use Rattle.art_inner.specs.Views.{Ref, ref_kind, ref_view}
+use Rattle.art_inner.specs.declared.any.InnerRefOf.TheVariants as ref
+use Rattle.art_parts.specs.declared.names.NodeType.{NodeType}
+use Rattle.art_parts.specs.declared.names.NodeType.TheVariants.{Leaf}
 use Rattle.art_parts.specs.declared.names.InnerPtr.{InnerPtr}
 use Rattle.art_parts.specs.declared.names.OpaqueNodePtr.{OpaqueNodePtr}
 use Rattle.art_model.specs.Pairs.{match_of}
@@ -12,28 +16,36 @@ use Rattle.art_model.specs.Trees.{Tree}
 use Rattle.art_model.specs.Layouts.{Holds}
 use Rattle.art_model.specs.Stores.{node_at, pair_of}
 use Rattle.art_model.specs.Lookups.{nodes_on_way}
+use Rattle.art_model.specs.Writes.{as_inner}
 use Rattle.art_model.specs.Canonical.{IsCanonicalTree}
 use Rattle.art_model.proofs.stores.Stores.{path_holds}
 use Rattle.art_model.proofs.stores.Canonical.{tree_radix}
-use Rattle.art_model.proofs.stores.Shown.{IsShown, IsThere, leaf_shown}
+use Rattle.art_model.proofs.stores.Shown.{IsShown, IsThere, leaf_shown, shown_met}
 use Rattle.art_reading.specs.declared.descent.LastLeaf.{LastLeaf}
 use Rattle.art_reading.specs.declared.matching.PrefixMatchBehavior.{PrefixMatchBehavior}
-use Rattle.art_reading.specs.declared.matching.PrefixMatchBehavior.TheVariants.{Pessimistic}
 use Rattle.art_reading.specs.declared.path.AttemptOptimisticPrefixMatch.{AttemptOptimisticPrefixMatch}
 use Rattle.art_reading.specs.declared.path.PessimisticMismatch.{PessimisticMismatch}
 use Rattle.art_reading.specs.declared.path.TreePath.{TreePath}
 use Rattle.art_reading.specs.declared.path.TreePath.TheVariants.{Root}
 use Rattle.art_reading.specs.Matching.{child_below, prefix_match, behavior_after}
 use Rattle.art_reading.specs.PathSteps.{step_down}
-use Rattle.art_reading.specs.Stored.{IsWholeStored}
+use Rattle.art_reading.specs.Stored.{ComparesAll}
 use Rattle.art_reading.specs.Descents.{IsLastLeaf}
 use Rattle.art_reading.proofs.Outcomes.{Why, err_why, ok_compared, ok_sure}
 use Rattle.art_reading.proofs.OnWay.{IsOnWay, leaf_leads, leaf_whole, leaf_only, leaf_least, leaf_exactly, IsEnd, ends_short, ends_off, ends_childless, still_compared, goes_on}
 
+-- a reference to an inner node has the kind of one
+pub ref_proper : (node : Ref) {kind : NodeType} → ref_kind node ≡ kind → kind ≢ Leaf
+ref_proper (ref.Node4 n) is leaf = absurd cc
+ref_proper (ref.Node16 n) is leaf = absurd cc
+ref_proper (ref.Node48 n) is leaf = absurd cc
+ref_proper (ref.Node256 n) is leaf = absurd cc
+
 module _ {K V : Type 0} {s : Nodes K V} {bytes : K × V → List ℕ} {P : ℕ} {root : OpaqueNodePtr} {pairs : List (K × V)}
     {layout : Tree OpaqueNodePtr (K × V)} (by : IsCanonicalTree bytes P s root pairs layout) where
-  pub start : (key : List ℕ) (visits : ℕ) → IsOnWay bytes P key layout Root root 0 Pessimistic visits visits
-  start key visits =
+  -- it begins at the root
+  pub begins : (behavior : PrefixMatchBehavior) (key : List ℕ) (visits : ℕ) → IsOnWay bytes P behavior key layout Root root 0 behavior visits visits
+  begins behavior key visits =
       record {
         path = [];
         way_is = refl;
@@ -48,19 +60,23 @@ module _ {K V : Type 0} {s : Nodes K V} {bytes : K × V → List ℕ} {P : ℕ} 
         matches = refl;
         at_least = omega arith;
         exactly = λ _. refl;
-        compares = λ whole. (refl, whole);
+        compares = λ all. all;
       }
 
-  module _ {key : List ℕ} {way : TreePath} {name : OpaqueNodePtr} {depth : ℕ} {behavior : PrefixMatchBehavior} {before now : ℕ}
-      (d : IsOnWay bytes P key layout way name depth behavior before now) where
+  module _ {start : PrefixMatchBehavior} {key : List ℕ} {way : TreePath} {name : OpaqueNodePtr} {depth : ℕ} {behavior : PrefixMatchBehavior} {before now : ℕ}
+      (d : IsOnWay bytes P start key layout way name depth behavior before now) where
     -- the node stands under its name
     pub node_there : IsThere s d.node name
     node_there = record { named = d.named; holds = (path_holds (node_at s) d.path d.node (subst (Holds (node_at s)) (sym d.whole) by.stands.0.holds)).1 }
 
+    -- the store has an inner node under its name
+    pub shown_here : (node : Ref) → ref_kind node ≡ name.kind → Some (ref_view node) ≡ map.get s.inners (as_inner name) → IsShown d.node (as_inner name) (ref_view node)
+    shown_here node kind there = shown_met node_there (ref_proper node kind) refl there
+
   -- at a leaf the way ends
-  pub last_leaf : {key : List ℕ} {name : OpaqueNodePtr} {before now after : ℕ} (last : LastLeaf K V) →
-      IsOnWay bytes P key layout last.path name last.depth last.behavior before now → leaf_name last.name ≡ name →
-      Some last.node.now ≡ map.get s.leaves last.name → last.depth ≤ length key → after ≡ now + 1 → IsLastLeaf bytes P key pairs layout before after last
+  pub last_leaf : {start : PrefixMatchBehavior} {key : List ℕ} {name : OpaqueNodePtr} {before now after : ℕ} (last : LastLeaf K V) →
+      IsOnWay bytes P start key layout last.path name last.depth last.behavior before now → leaf_name last.name ≡ name →
+      Some last.node.now ≡ map.get s.leaves last.name → last.depth ≤ length key → after ≡ now + 1 → IsLastLeaf bytes P start key pairs layout before after last
   last_leaf last d is there short e =
       let n = leaf_name last.name in
       let x = pair_of last.node.now in
@@ -80,9 +96,9 @@ module _ {K V : Type 0} {s : Nodes K V} {bytes : K × V → List ℕ} {P : ℕ} 
       }
 
 module _ {K V : Type 0} {s : Nodes K V} {bytes : K × V → List ℕ} {P : ℕ} {root : OpaqueNodePtr} {pairs : List (K × V)}
-    {layout : Tree OpaqueNodePtr (K × V)} {key : List ℕ} {way : TreePath} {name : OpaqueNodePtr} {depth : ℕ} {behavior : PrefixMatchBehavior}
+    {layout : Tree OpaqueNodePtr (K × V)} {start : PrefixMatchBehavior} {key : List ℕ} {way : TreePath} {name : OpaqueNodePtr} {depth : ℕ} {behavior : PrefixMatchBehavior}
     {before now : ℕ} {p : InnerPtr} {shown : Inner} (by : IsCanonicalTree bytes P s root pairs layout)
-    (d : IsOnWay bytes P key layout way name depth behavior before now) (at : IsShown d.node p shown) where
+    (d : IsOnWay bytes P start key layout way name depth behavior before now) (at : IsShown d.node p shown) where
   abbrev place : ℕ
   place = depth + shown.prefix.len
 
@@ -90,7 +106,7 @@ module _ {K V : Type 0} {s : Nodes K V} {bytes : K × V → List ℕ} {P : ℕ} 
   abbrev Ends : ℕ → Type 0
   Ends after =
       (match_of bytes key pairs ≡ []) × (before + length (nodes_on_way bytes key layout) ≤ after)
-      × (IsWholeStored P layout → before + length (nodes_on_way bytes key layout) ≡ after)
+      × (ComparesAll P start layout → before + length (nodes_on_way bytes key layout) ≡ after)
 
   -- the key leads to no child
   pub stops : {after : ℕ} → after ≡ now + 1 → None ≡ child_below behavior shown key depth → Ends after
@@ -112,11 +128,11 @@ module _ {K V : Type 0} {s : Nodes K V} {bytes : K × V → List ℕ} {P : ℕ} 
 
   -- the key leads to a child
   pub steps : {after : ℕ} {to : ℕ × OpaqueNodePtr} {behavior' : PrefixMatchBehavior} → after ≡ now + 1 → Some to ≡ child_below behavior shown key depth →
-      behavior' ≡ behavior_after behavior shown.prefix (drop depth key) → IsOnWay bytes P key layout (step_down way p (get_or key to.0 0)) to.1 (to.0 + 1) behavior' before after
+      behavior' ≡ behavior_after behavior shown.prefix (drop depth key) → IsOnWay bytes P start key layout (step_down way p (get_or key to.0 0)) to.1 (to.0 + 1) behavior' before after
   steps {after} {to} {behavior'} counted some is = go (prefix_match behavior shown.prefix (drop depth key)) refl (cases_lt place (length key)) (child_at shown.children (get_or key place 0)) refl
     where
       Below : ℕ × OpaqueNodePtr → ℕ → Type 0
-      Below z visits = IsOnWay bytes P key layout (step_down way p (get_or key z.0 0)) z.1 (z.0 + 1) behavior' before visits
+      Below z visits = IsOnWay bytes P start key layout (step_down way p (get_or key z.0 0)) z.1 (z.0 + 1) behavior' before visits
 
       go : (r : Result AttemptOptimisticPrefixMatch PessimisticMismatch) → prefix_match behavior shown.prefix (drop depth key) ≡ r →
           (place < length key) ⊎ (length key ≤ place) → (c : Option OpaqueNodePtr) → child_at shown.children (get_or key place 0) ≡ c → Below to after

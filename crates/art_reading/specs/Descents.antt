@@ -20,9 +20,9 @@ use Rattle.art_reading.specs.declared.descent.End.{End}
 use Rattle.art_reading.specs.declared.descent.End.TheVariants.{First, Last}
 use Rattle.art_reading.specs.declared.path.TreePath.{TreePath}
 use Rattle.art_reading.specs.PathSteps.{path_of}
-use Rattle.art_reading.specs.Stored.{IsWholeStored}
+use Rattle.art_reading.specs.Stored.{ComparesAll}
 
-module _ {K V : Type 0} (bytes : K × V → List ℕ) (P : ℕ) (key : List ℕ) (pairs : List (K × V))
+module _ {K V : Type 0} (bytes : K × V → List ℕ) (P : ℕ) (start : PrefixMatchBehavior) (key : List ℕ) (pairs : List (K × V))
     (layout : Tree OpaqueNodePtr (K × V)) (before after : ℕ) where
   -- the only leaf that can match the key, and what is left to compare of it: the bytes after its place, or all of them
   pub record IsLastLeaf (last : LastLeaf K V) : Type 0 where
@@ -33,7 +33,7 @@ module _ {K V : Type 0} (bytes : K × V → List ℕ) (P : ℕ) (key : List ℕ)
     pub depth_is : length place ≡ last.depth
     pub is_short : last.depth ≤ length key
     pub compared : last.behavior ≡ Pessimistic → IsFront place key
-    pub compares : IsWholeStored P layout → last.behavior ≡ Pessimistic
+    pub compares : ComparesAll P start layout → last.behavior ≡ Pessimistic
     pub only : match_of bytes key pairs ≡ match_of bytes key (pair_of last.node.now ∷ [])
     pub at_least : before + length (nodes_on_way bytes key layout) ≤ after
     pub exactly : IsFront place key → before + length (nodes_on_way bytes key layout) ≡ after
@@ -42,18 +42,22 @@ module _ {K V : Type 0} (bytes : K × V → List ℕ) (P : ℕ) (key : List ℕ)
   abbrev pub WalkEnds : Option (LastLeaf K V) → Type 0
   WalkEnds None =
       (match_of bytes key pairs ≡ []) × (before + length (nodes_on_way bytes key layout) ≤ after)
-      × (IsWholeStored P layout → before + length (nodes_on_way bytes key layout) ≡ after)
+      × (ComparesAll P start layout → before + length (nodes_on_way bytes key layout) ≡ after)
   WalkEnds (Some last) = IsLastLeaf last
 
--- what a look-up counts: at least the nodes on the key's way, exactly these where a leaf is found or each prefix is stored whole, and at most one more than the key has bytes
-pub record CountsVisits {K V : Type 0} (bytes : K × V → List ℕ) (P : ℕ) (s : Nodes K V) (root : OpaqueNodePtr) (key : List ℕ)
-    (before after : ℕ) (IsFound : Type 0) : Type 0 where
+-- what a way down counts that begins with this behavior: at least the nodes on the key's way, exactly these where a leaf is found or each prefix is compared whole, and at most one more than the key has bytes
+pub record CountsVisitsFrom (start : PrefixMatchBehavior) {K V : Type 0} (bytes : K × V → List ℕ) (P : ℕ) (s : Nodes K V) (root : OpaqueNodePtr)
+    (key : List ℕ) (before after : ℕ) (IsFound : Type 0) : Type 0 where
   pub at_least : ForTree bytes P s root (λ pairs layout. before + length (nodes_on_way bytes key layout) ≤ after)
   pub exactly : ForTree bytes P s root (λ pairs layout.
       IsFound → before + length (nodes_on_way bytes key layout) ≡ after)
   pub if_whole : ForTree bytes P s root (λ pairs layout.
-      IsWholeStored P layout → before + length (nodes_on_way bytes key layout) ≡ after)
+      ComparesAll P start layout → before + length (nodes_on_way bytes key layout) ≡ after)
   pub at_most : after ≤ before + length key + 1
+
+-- what a look-up counts: at least the nodes on the key's way, exactly these where a leaf is found or each prefix is stored whole, and at most one more than the key has bytes
+abbrev pub CountsVisits : {K V : Type 0} → (K × V → List ℕ) → ℕ → Nodes K V → OpaqueNodePtr → List ℕ → ℕ → ℕ → Type 0 → Type 0
+CountsVisits bytes P s root key before after IsFound = CountsVisitsFrom Pessimistic bytes P s root key before after IsFound
 
 -- the pairs that are asked for: those with the key, or with a prefix of it
 abbrev pub asked_of : {A : Type 0} → Asked → (A → List ℕ) → List ℕ → List A → List A

@@ -1,5 +1,7 @@
 -- Paths of code: one step down and up, the last steps of a path of the model, the parent that a path ends with, and the root.
 use Rattle.std.specs.Prelude.{ℕ, List, [], ◌∷◌, Option, Some, None}
+use Rattle.art_parts.specs.declared.names.NodeType.{NodeType}
+use Rattle.art_parts.specs.declared.names.NodeType.TheVariants as kinds
 use Rattle.art_parts.specs.declared.names.InnerPtr.{InnerPtr}
 use Rattle.art_parts.specs.declared.names.OpaqueNodePtr.{OpaqueNodePtr}
 use Rattle.art_model.specs.Paths.{Frame}
@@ -7,8 +9,6 @@ use Rattle.art_model.specs.Writes.{as_inner}
 use Rattle.art_reading.specs.declared.path.TreePath.{TreePath}
 use Rattle.art_reading.specs.declared.path.TreePath.TheVariants.{Root, ChildOfRoot, Normal}
 use Rattle.art_reading.specs.declared.path.LastSteps.{LastSteps}
-use Rattle.art_reading.specs.declared.path.StepCount.{StepCount}
-use Rattle.art_reading.specs.declared.path.StepCount.TheVariants as count
 
 -- the path one step further down, to the child that a node has under a byte
 abbrev pub step_down : TreePath → InnerPtr → ℕ → TreePath
@@ -16,17 +16,18 @@ step_down Root node byte = ChildOfRoot node byte
 step_down (ChildOfRoot parent b) node byte = Normal node byte parent b
 step_down (Normal parent b grandparent c) node byte = Normal node byte parent b
 
--- the path that ends with so many steps, from a grandparent and a parent by the bytes that lead down
-abbrev pub path_with : StepCount → InnerPtr → ℕ → InnerPtr → ℕ → TreePath
-path_with count.None grandparent above parent byte = Root
-path_with count.One grandparent above parent byte = ChildOfRoot parent byte
-path_with count.Two grandparent above parent byte = Normal parent byte grandparent above
+-- the path with a parent and a grandparent of these kinds, where one of the kind of leaves is not there
+abbrev pub path_with : NodeType → NodeType → InnerPtr → ℕ → InnerPtr → ℕ → TreePath
+path_with kinds.Leaf above parent byte grandparent b = Root
+path_with kind kinds.Leaf parent byte grandparent b = ChildOfRoot parent byte
+path_with kind above parent byte grandparent b = Normal parent byte grandparent b
 
 -- the path that the last steps of a way make
 abbrev pub path_after : LastSteps → TreePath
 path_after steps =
-    path_with steps.count (record { kind = steps.grandparent_kind; slot = steps.grandparent_slot }) steps.parent_key_byte
+    path_with steps.parent_kind steps.grandparent_kind
     (record { kind = steps.parent_kind; slot = steps.parent_slot }) steps.child_key_byte
+    (record { kind = steps.grandparent_kind; slot = steps.grandparent_slot }) steps.parent_key_byte
 
 -- the last steps of a path: the parent and the grandparent, with the bytes that lead down
 abbrev pub path_of : {A : Type 0} → List (Frame OpaqueNodePtr A) → TreePath

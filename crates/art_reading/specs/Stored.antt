@@ -1,6 +1,8 @@
--- Trees of which each prefix is stored whole.
-use Rattle.std.specs.Prelude.{ℕ, ◌≤◌, ⊤}
+-- Trees of which each prefix is stored whole, and ways down that compare each whole.
+use Rattle.std.specs.Prelude.{◌≡◌, ℕ, ◌≤◌, ⊤}
 use Rattle.art_model.specs.Trees.{Tree, leaf, inner, Subtrees, no_child, child}
+use Rattle.art_reading.specs.declared.matching.PrefixMatchBehavior.{PrefixMatchBehavior}
+use Rattle.art_reading.specs.declared.matching.PrefixMatchBehavior.TheVariants.{Pessimistic}
 
 module _ {N A : Type 0} (P : ℕ) where
   -- no prefix has more than P bytes, so that each is stored whole
@@ -12,3 +14,7 @@ module _ {N A : Type 0} (P : ℕ) where
     pub AreWholeStored : Subtrees N A → Type 0
     AreWholeStored no_child = ⊤
     AreWholeStored (child b t cs) = IsWholeStored t × AreWholeStored cs
+
+  -- who goes down the tree so compares each prefix whole
+  abbrev pub ComparesAll : PrefixMatchBehavior → Tree N A → Type 0
+  ComparesAll behavior tree = (behavior ≡ Pessimistic) × IsWholeStored tree

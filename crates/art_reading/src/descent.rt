@@ -7,11 +7,11 @@ ghost use Rattle.art_model.specs.Pairs.{of_key};
 ghost use Rattle.art_model.specs.Roots.{ForTree, IsCanonicalRoot, IsFullTree};
 ghost use Rattle.art_model.specs.Trees.{Tree};
 ghost use Rattle.art_reading.specs.PartEnds.{EndsBelow};
-ghost use Rattle.art_reading.specs.Descents.{CountsVisits, IsEndChild, IsKeysLeaf, LeadsToEnd, WalkEnds, asked_of};
+ghost use Rattle.art_reading.specs.Descents.{CountsVisitsFrom, IsEndChild, IsKeysLeaf, LeadsToEnd, WalkEnds, asked_of};
 
 use crate::matching::{Asked, PrefixMatchBehavior};
 use crate::path::{LastSteps, TreePath};
-use art_nodes::node::{AsBytes, InnerRef, LeafNode, LeafPtr, NodePtr, OpaqueNodePtr};
+use art_nodes::node::{AsBytes, InnerPtr, InnerRef, LeafNode, LeafPtr, NodePtr, OpaqueNodePtr};
 use art_nodes::store::NodeStore;
 use std::marker::Model;
 
@@ -68,22 +68,27 @@ pub struct LastLeaf<'a, K, V> {
 }
 
 /// Goes down with a key to the leaf that is asked for, or to `None` where no stored key is as asked.
+///
+/// The way begins with `start`: with `Pessimistic` it compares the bytes of prefixes as far as they are
+/// stored, with `Optimistic` only their lengths, and the whole key at the leaf. Where the leaf is there
+/// both read the same nodes; where it is not an optimistic way may read more.
 #[inline(always)]
 pub fn walk_to_key<'a, K: AsBytes + Drop, V: Drop, const PREFIX_LEN: usize>(
     store: &'a NodeStore<K, V, PREFIX_LEN>,
     root: OpaqueNodePtr,
     key_bytes: &[u8],
     asked: Asked,
+    start: PrefixMatchBehavior,
     visits: &mut Visits,
 ) -> Option<LastLeaf<'a, K, V>>
     requires root { IsCanonicalRoot (of_key K.bytes) PREFIX_LEN store.now root }
     requires room { visits.old + length key_bytes.now + 1 < 2 ^ 64 }
     ensures leaf { ForTree (of_key K.bytes) PREFIX_LEN store.now root (λ pairs layout.
         IsKeysLeaf (asked_of asked (of_key K.bytes) key_bytes.now pairs) layout result) }
-    ensures visits { CountsVisits (of_key K.bytes) PREFIX_LEN store.now root key_bytes.now
+    ensures visits { CountsVisitsFrom start (of_key K.bytes) PREFIX_LEN store.now root key_bytes.now
         visits.old visits.new (IsSome result) }
 {
-    let last = walk(store, root, key_bytes, visits)?;
+    let last = walk(store, root, key_bytes, start, visits)?;
     let behavior = last.behavior;
     if behavior.finds(asked, last.node, key_bytes, last.depth) {
         Some(last)
@@ -98,38 +103,42 @@ fn walk<'a, K: AsBytes + Drop, V: Drop, const PREFIX_LEN: usize>(
     store: &'a NodeStore<K, V, PREFIX_LEN>,
     root: OpaqueNodePtr,
     key_bytes: &[u8],
+    start: PrefixMatchBehavior,
     visits: &mut Visits,
 ) -> Option<LastLeaf<'a, K, V>>
     requires root { IsCanonicalRoot (of_key K.bytes) PREFIX_LEN store.now root }
     requires room { visits.old + length key_bytes.now + 1 < 2 ^ 64 }
     ensures ends { ForTree (of_key K.bytes) PREFIX_LEN store.now root (λ pairs layout.
-        WalkEnds (of_key K.bytes) PREFIX_LEN key_bytes.now pairs layout
+        WalkEnds (of_key K.bytes) PREFIX_LEN start key_bytes.now pairs layout
         visits.old visits.new result) }
     ensures at_most { visits.new ≤ visits.old + length key_bytes.now + 1 }
 {
     let mut steps = LastSteps::new();
     let mut name = root;
     let mut depth = 0;
-    let mut behavior = PrefixMatchBehavior::Pessimistic;
+    let mut behavior = start;
     'down: loop {
         visits.add_one();
-        let inner = match name.split() {
-            NodePtr::Inner(inner) => inner,
-            NodePtr::Leaf(name) => {
-                let Some(node) = store.leaf(name) else {
-                    unreachable!()
-                };
-                return Some(LastLeaf {
-                    path: steps.path(),
-                    name,
-                    node,
-                    depth,
-                    behavior,
-                });
-            }
+        // Inner nodes come first, so that the kinds of name and node are one question in machine code.
+        let inner = InnerPtr {
+            kind: name.kind,
+            slot: name.slot,
         };
         let Some(node) = store.inner(inner) else {
-            unreachable!()
+            let Some(name) = name.as_leaf() else {
+                unreachable!()
+            };
+            let Some(node) = store.leaf(name) else {
+                unreachable!()
+            };
+            let path = steps.path();
+            return Some(LastLeaf {
+                path,
+                name,
+                node,
+                depth,
+                behavior,
+            });
         };
         let (place, child) = behavior.step_at(node, key_bytes, depth)?;
         steps.step_down(inner, key_bytes[place]);

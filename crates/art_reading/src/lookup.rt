@@ -118,7 +118,8 @@ pub fn find_unchecked<'a, K: AsBytes + Drop, V: Drop, const PREFIX_LEN: usize>(
         option_map (λ leaf. pair_of leaf.now) result ≡
         first_of (asked_of asked (of_key K.bytes) key_bytes.now pairs)) }
 {
-    let last = walk_to_key(store, root, key_bytes, asked, &mut Visits::new())?;
+    let start = PrefixMatchBehavior::Pessimistic;
+    let last = walk_to_key(store, root, key_bytes, asked, start, &mut Visits::new())?;
     Some(last.node)
 }
 
@@ -142,6 +143,7 @@ fn find_leaf<K: AsBytes + Drop, V: Drop, const PREFIX_LEN: usize>(
     ensures visits { CountsVisits (of_key K.bytes) PREFIX_LEN store.now root key_bytes.now
         visits.old visits.new (IsSome result) }
 {
-    let last = walk_to_key(store, root, key_bytes, asked, visits)?;
+    let start = PrefixMatchBehavior::Pessimistic;
+    let last = walk_to_key(store, root, key_bytes, asked, start, visits)?;
     Some(last.name)
 }

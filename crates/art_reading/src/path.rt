@@ -1,6 +1,6 @@
 //! Ways down a tree: the nodes right above a node, prefixes that go on with a key, and prefixes that
 //! part from it.
-ghost use Rattle.std.specs.Prelude.{◌≡◌};
+ghost use Rattle.std.specs.Prelude.{◌≡◌, ◌≢◌};
 ghost use Rattle.art_reading.specs.PathSteps.{last_step, up};
 
 use art_nodes::node::{InnerPtr, NodeType, OptionalLeafPtr};
@@ -88,19 +88,10 @@ impl TreePath {
     }
 }
 
-// How many of the last two steps of a way there are.
-#[derive(Clone, Copy)]
-enum StepCount {
-    None,
-    One,
-    Two,
-}
-
 // The last steps of a way down, in plain fields: a loop keeps them in registers, and a caller that does
-// not ask for the path keeps none of them.
+// not ask for the path keeps none of them. A parent or grandparent whose kind is `Leaf` is not there.
 #[derive(Clone, Copy)]
 pub(crate) struct LastSteps {
-    count: StepCount,
     parent_kind: NodeType,
     parent_slot: usize,
     child_key_byte: u8,
@@ -112,6 +103,7 @@ pub(crate) struct LastSteps {
 impl LastSteps {
     ghost use Rattle.art_reading.specs.PathSteps.{path_after, step_down};
     ghost use Rattle.art_reading.specs.declared.path.TreePath.TheVariants.{Root};
+    ghost use Rattle.art_parts.specs.declared.names.NodeType.TheVariants.{Leaf};
 
     // At the root.
     #[inline(always)]
@@ -119,7 +111,6 @@ impl LastSteps {
         ensures { path_after result ≡ Root }
     {
         LastSteps {
-            count: StepCount::None,
             parent_kind: NodeType::Leaf,
             parent_slot: 0,
             child_key_byte: 0,
@@ -132,6 +123,7 @@ impl LastSteps {
     // Goes one step further down, to the child that a node has under a byte.
     #[inline(always)]
     pub(crate) fn step_down(&mut self, node: InnerPtr, byte: u8)
+        requires { node.kind ≢ Leaf }
         ensures { path_after self.new ≡ step_down (path_after self.old) node byte }
     {
         self.grandparent_kind = self.parent_kind;
@@ -140,10 +132,6 @@ impl LastSteps {
         self.parent_kind = node.kind;
         self.parent_slot = node.slot;
         self.child_key_byte = byte;
-        match self.count {
-            StepCount::None => self.count = StepCount::One,
-            StepCount::One | StepCount::Two => self.count = StepCount::Two,
-        }
     }
 
     #[inline(always)]
@@ -159,13 +147,13 @@ impl LastSteps {
             kind: self.grandparent_kind,
             slot: self.grandparent_slot,
         };
-        match self.count {
-            StepCount::None => TreePath::Root,
-            StepCount::One => TreePath::ChildOfRoot {
+        match (self.parent_kind, self.grandparent_kind) {
+            (NodeType::Leaf, _) => TreePath::Root,
+            (_, NodeType::Leaf) => TreePath::ChildOfRoot {
                 parent,
                 child_key_byte,
             },
-            StepCount::Two => TreePath::Normal {
+            (_, _) => TreePath::Normal {
                 grandparent,
                 parent_key_byte: self.parent_key_byte,
                 parent,

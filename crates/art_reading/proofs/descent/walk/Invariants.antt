@@ -10,7 +10,7 @@ invariant-down g l = record {
   short : l.depth ≤ length l.key_bytes;
   few : l.visits ≤ l.fn.visits + l.depth;
   on_way : ForTree (of_key g.K.AsBytes.bytes) g.row.PREFIX_LEN l.store l.fn.root
-      (λ pairs layout. IsOnWay (of_key g.K.AsBytes.bytes) g.row.PREFIX_LEN l.key_bytes layout (path_after l.steps) l.name l.depth l.behavior l.fn.visits l.visits);
+      (λ pairs layout. IsOnWay (of_key g.K.AsBytes.bytes) g.row.PREFIX_LEN l.fn.start l.key_bytes layout (path_after l.steps) l.name l.depth l.behavior l.fn.visits l.visits);
 }
 
 abbrev pub decreases-down : goal.decreases-down

@@ -1,6 +1,7 @@
 use Rattle.std.proofs.Common.{arith, rules}
 use Rattle.art_reading.specs.PathSteps.{path_after}
 use Rattle.art_reading.proofs.EndNodes.{inside, start}
+use Rattle.art_reading.proofs.Parents.{step_proper}
 use Rattle.art_reading.proofs.end_node.walk_to_end_node.Goals as goal
 
 pub down-init : goal.down-init
@@ -23,3 +24,8 @@ down-preserved g c pairs layout by =
 
 pub next_step-requires : goal.next_step-requires
 next_step-requires g c = (search rules, (c.requires, (path_after c.down.steps, c.down.invariant)))
+
+pub step_down-requires : goal.step_down-requires
+step_down-requires g c =
+    let (pairs, layout, by) = c.requires in
+    step_proper c.args.store.now (path_after c.down.steps) c.in-Down.inner c.in-Down.byte by (rw c.in-Down.is at (c.next_step.ensures (path_after c.down.steps) pairs layout by (c.down.invariant pairs layout by))).1
