@@ -3,14 +3,14 @@ ghost use Rattle.std.specs.Prelude.{◌≡◌, ◌+◌, ◌<◌, ◌^◌, length
 ghost use Rattle.art_model.specs.Canonical.{IsCanonical};
 ghost use Rattle.art_model.specs.Pairs.{first_of, last_of, of_key, remove_key, remove_reply};
 ghost use Rattle.art_model.specs.Roots.{ForTree, IsCanonicalRoot};
-ghost use Rattle.art_reading.specs.Descents.{CountsVisits, of_two};
+ghost use Rattle.art_reading.specs.Descents.{CountsVisits, CountsVisitsFrom, of_two};
 ghost use Rattle.art_writing.specs.Deleted.{IsDeletePoint, IsDeletePointIn, pair_at};
 
 use art_nodes::node::{AsBytes, LeafNode, LeafPtr, OpaqueNodePtr};
 use art_nodes::store::NodeStore;
 use art_reading::descent::{End, walk_to_end, walk_to_key};
 use art_reading::lookup::Visits;
-use art_reading::matching::Asked;
+use art_reading::matching::{Asked, PrefixMatchBehavior};
 use art_reading::path::TreePath;
 
 mod apply;
@@ -86,7 +86,57 @@ pub fn search_for_delete_point_visiting<K: AsBytes + Drop, V: Drop, const PREFIX
     ensures visits { CountsVisits (of_key K.bytes) PREFIX_LEN store.now root key_bytes.now
         visits.old visits.new (IsSome result) }
 {
-    let last = walk_to_key(store, root, key_bytes, Asked::Same, visits)?;
+    search_from(store, root, key_bytes, PrefixMatchBehavior::Pessimistic, visits)
+}
+
+/// Returns what `search_for_delete_point` does.
+///
+/// On its way it compares no prefix, and passes over them by their lengths; at the leaf it compares the
+/// whole key. So it takes fewer steps where the key is there, and may read more nodes where it isn't: at
+/// most one more than the key has bytes.
+#[inline(always)]
+pub fn search_for_delete_point_by_lengths<K: AsBytes + Drop, V: Drop, const PREFIX_LEN: usize>(
+    store: &NodeStore<K, V, PREFIX_LEN>,
+    root: OpaqueNodePtr,
+    key_bytes: &[u8],
+) -> Option<DeletePoint>
+    requires { IsCanonicalRoot (of_key K.bytes) PREFIX_LEN store.now root }
+    ensures point { ForTree (of_key K.bytes) PREFIX_LEN store.now root (λ pairs layout.
+        IsDeletePoint layout (remove_reply (of_key K.bytes) key_bytes.now pairs) result) }
+    ensures pair { ForTree (of_key K.bytes) PREFIX_LEN store.now root (λ pairs _.
+        pair_at store.now result ≡ remove_reply (of_key K.bytes) key_bytes.now pairs) }
+    ensures absent { ForTree (of_key K.bytes) PREFIX_LEN store.now root (λ pairs _.
+        IfNone result (IsCanonical (of_key K.bytes) PREFIX_LEN store.now (Some root)
+        (remove_key (of_key K.bytes) key_bytes.now pairs))) }
+    ensures applies { IfSome result (IsDeletePointIn (of_key K.bytes) PREFIX_LEN store.now root) }
+{
+    let start = PrefixMatchBehavior::Optimistic;
+    search_from(store, root, key_bytes, start, &mut Visits::new())
+}
+
+// Returns the point of a key, by a way that begins with this behavior, and counts each node that it reads.
+#[inline(always)]
+fn search_from<K: AsBytes + Drop, V: Drop, const P: usize>(
+    store: &NodeStore<K, V, P>,
+    root: OpaqueNodePtr,
+    key_bytes: &[u8],
+    start: PrefixMatchBehavior,
+    visits: &mut Visits,
+) -> Option<DeletePoint>
+    requires root { IsCanonicalRoot (of_key K.bytes) P store.now root }
+    requires room { visits.old + length key_bytes.now + 1 < 2 ^ 64 }
+    ensures point { ForTree (of_key K.bytes) P store.now root (λ pairs layout.
+        IsDeletePoint layout (remove_reply (of_key K.bytes) key_bytes.now pairs) result) }
+    ensures pair { ForTree (of_key K.bytes) P store.now root (λ pairs _.
+        pair_at store.now result ≡ remove_reply (of_key K.bytes) key_bytes.now pairs) }
+    ensures absent { ForTree (of_key K.bytes) P store.now root (λ pairs _.
+        IfNone result (IsCanonical (of_key K.bytes) P store.now (Some root)
+        (remove_key (of_key K.bytes) key_bytes.now pairs))) }
+    ensures applies { IfSome result (IsDeletePointIn (of_key K.bytes) P store.now root) }
+    ensures visits { CountsVisitsFrom start (of_key K.bytes) P store.now root key_bytes.now
+        visits.old visits.new (IsSome result) }
+{
+    let last = walk_to_key(store, root, key_bytes, Asked::Same, start, visits)?;
     Some(DeletePoint {
         path: last.path,
         leaf_node_ptr: last.name,

@@ -2,7 +2,7 @@ use Rattle.std.proofs.Common.{ap, refl, subst, sym, ◌∙◌}
 use Rattle.art_model.specs.Canonical.{IsCanonicalTree}
 use Rattle.art_model.specs.Pairs.{first_of, of_key}
 use Rattle.art_writing.proofs.DeletePoints.{leads_to, nothing_goes, pair_named, point_there}
-use Rattle.art_writing.proofs.delete.search_for_delete_point_visiting.Goals as goal
+use Rattle.art_writing.proofs.delete.search_from.Goals as goal
 
 pub returns-in_err-last-clause-point : goal.returns-in_err-last-clause-point
 returns-in_err-last-clause-point g c pairs layout by = rw (c.from_residual.ensures, c.in_err-last.ensures.leaf pairs layout by) tt
@@ -23,7 +23,7 @@ returns-clause-pair g c pairs layout by =
 pub returns-in_err-last-clause-absent : goal.returns-in_err-last-clause-absent
 returns-in_err-last-clause-absent g c pairs layout by =
     let none = nothing_goes (of_key g.K.AsBytes.bytes) c.args.key_bytes.now pairs (c.in_err-last.ensures.leaf pairs layout by) in
-    rw c.from_residual.ensures (layout, subst (λ ps. IsCanonicalTree (of_key g.K.AsBytes.bytes) g.row.PREFIX_LEN c.args.store.now c.args.root ps layout) (sym none) by)
+    rw c.from_residual.ensures (layout, subst (λ ps. IsCanonicalTree (of_key g.K.AsBytes.bytes) g.row.P c.args.store.now c.args.root ps layout) (sym none) by)
 
 pub returns-in_err-last-clause-applies : goal.returns-in_err-last-clause-applies
 returns-in_err-last-clause-applies g c = rw c.from_residual.ensures tt
