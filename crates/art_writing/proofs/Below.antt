@@ -1,5 +1,5 @@
 -- The leaf of a delete point below its parent, and what the writes that take it out leave.
-use Rattle.std.proofs.Common.{◌≡◌, ◌≢◌, ℕ, suc, ◌<◌, ◌≤◌, List, [], ◌∷◌, length, Bool, true, false, cond, leb, refl, ap, sym, ◌∙◌, subst, arith, Option, Some, None, IsSome, is_some, IfSome, IsSomeAnd}
+use Rattle.std.proofs.Common.{◌≡◌, ◌≢◌, ℕ, suc, ◌<◌, ◌≤◌, List, [], ◌∷◌, length, Bool, true, false, cond, leb, refl, ap, sym, ◌∙◌, subst, arith, Option, Some, None, IsSome, is_some, IfSome, IsSomeAnd, Ok}
 use Rattle.std.specs.FinMap.{get, insert, remove}
 use Rattle.std.proofs.lemmas.Bool.{leb-true, leb-false, lt-leb}
 use Rattle.art_inner.specs.InnerChanges.{without_child}
@@ -35,7 +35,7 @@ use Rattle.art_writing.specs.Deleted.{IsRootAfter, LeadsTo, TouchesFor, ParentCh
 use Rattle.art_reading.specs.declared.path.TreePath.{TreePath}
 use Rattle.art_writing.specs.Inserted.{unlinked_leaf}
 use Rattle.art_reading.specs.PathSteps.{last_step, path_of, up, root_with}
-use Rattle.art_writing.specs.TakenOut.{IsLeafTaken}
+use Rattle.art_writing.specs.TakenOut.{IsLeafTaken, IsLetGo, IsTakenOut}
 use Rattle.art_writing.specs.ParentWrites.{HasChild, LinksAreThere}
 use Rattle.art_writing.proofs.Deletions.{IsDeleted, leaf_at, some_same, taken_since}
 use Rattle.art_writing.proofs.Ways.{last_step-path_of, last_step-up, root_with-up, root_after_at, root_kept_at}
@@ -172,6 +172,13 @@ module _ {K V : Type 0} {bytes : K × V → List ℕ} {P : ℕ} {s : Nodes K V} 
     -- the leaves beside it are there
     pub leaf_ready : IsSome (get s.leaves point.leaf_node_ptr) × LinksAreThere s.leaves point.leaf_node_ptr
     leaf_ready = rw at.here (refl, links_there at.below at.here)
+
+    -- so after writes that change no leaf the parent has let it go
+    pub let_go : {u : Nodes K V} {new : Option OpaqueNodePtr} → u.leaves ≡ s.leaves →
+        ((t : Nodes K V) → (done : DeleteResult K V) → IsLeafTaken u t point new done → IsTakenOut bytes P s t root point (Ok done)) → IsLetGo bytes P s u root point new
+    let_go leaves taken =
+        let ready = subst (λ m. IsSome (get m point.leaf_node_ptr) × LinksAreThere m point.leaf_node_ptr) (sym leaves) leaf_ready in
+        record { leaf = ready.0; beside = ready.1; taken = taken }
 
     -- the parent as the store has it
     pub parent_there : (node : Inner) × (get s.inners parent ≡ Some node) × (parent.kind ≢ Leaf) × (length node.children ≡ suc (length (bytes_of (join at.frame.left at.frame.right))))

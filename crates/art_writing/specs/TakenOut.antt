@@ -1,5 +1,5 @@
--- What a delete point that is applied answers, in one word, and what a private function that takes its leaf alone does.
-use Rattle.std.specs.Prelude.{◌≡◌, ℕ, List, Option, Some, None, Result, Ok, Err, IsOk, IsTrue, IsSomeAnd, IfOk, IfErr, IfSome, OnOk, OnErr}
+-- What a delete point that is applied answers, in one word, and what the private functions do that take its leaf alone, or let it go before.
+use Rattle.std.specs.Prelude.{◌≡◌, ℕ, List, Option, Some, None, Result, Ok, Err, IsOk, IsSome, IsTrue, IsSomeAnd, IfOk, IfErr, IfSome, OnOk, OnErr}
 use Rattle.std.specs.FinMap as map
 use Rattle.art_nodes.specs.Nodes.{Nodes, no_promise}
 use Rattle.art_parts.specs.declared.names.OpaqueNodePtr.{OpaqueNodePtr}
@@ -16,6 +16,7 @@ use Rattle.art_writing.specs.declared.delete.DeleteRefused.{DeleteRefused}
 use Rattle.art_writing.specs.declared.delete.DeleteResult.{DeleteResult}
 use Rattle.art_writing.specs.Deleted.{IsRootAfter, TouchesFor, pair_at, parent_change, placed_for_deletion}
 use Rattle.art_writing.specs.Inserted.{unlinked_leaf}
+use Rattle.art_writing.specs.ParentWrites.{LinksAreThere}
 
 -- The point's leaf goes from between those beside it, and is answered alone, with this root; inner nodes and the promise stay.
 pub record IsLeafTaken {K V : Type 0} (s t : Nodes K V) (point : DeletePoint) (root : Option OpaqueNodePtr)
@@ -59,3 +60,17 @@ pub record IsTakenOut {K V : Type 0} (bytes : K × V → List ℕ) (P : ℕ) (s 
   pub leaves : OnErr result (t.leaves ≡ s.leaves)
   pub inners : OnErr result (t.inners ≡ s.inners)
   pub void : OnErr result (t.promise ≡ no_promise)
+
+-- The point's leaf is still there, and all else is done: once it is taken, and this root answered, the point is applied.
+pub record IsLetGo {K V : Type 0} (bytes : K × V → List ℕ) (P : ℕ) (s u : Nodes K V) (root : OpaqueNodePtr)
+    (point : DeletePoint) (new_root : Option OpaqueNodePtr) : Type 0 where
+  pub leaf : IsSome (map.get u.leaves point.leaf_node_ptr)
+  pub beside : LinksAreThere u.leaves point.leaf_node_ptr
+  pub taken : (t : Nodes K V) → (done : DeleteResult K V) → IsLeafTaken u t point new_root done →
+      IsTakenOut bytes P s t root point (Ok done)
+
+-- the point's parent has let the leaf go, and this root is left; or the point is handed back
+abbrev pub IsLetGoOrRefused : {K V : Type 0} → (K × V → List ℕ) → ℕ → Nodes K V → Nodes K V → OpaqueNodePtr → DeletePoint →
+    Option OpaqueNodePtr → Type 0
+IsLetGoOrRefused bytes P s u root point (Some new_root) = IsLetGo bytes P s u root point (Some new_root)
+IsLetGoOrRefused bytes P s u root point None = IsTakenOut bytes P s u root point (Err (record { point = point }))

@@ -86,7 +86,13 @@ pub fn search_for_delete_point_visiting<K: AsBytes + Drop, V: Drop, const PREFIX
     ensures visits { CountsVisits (of_key K.bytes) PREFIX_LEN store.now root key_bytes.now
         visits.old visits.new (IsSome result) }
 {
-    search_from(store, root, key_bytes, PrefixMatchBehavior::Pessimistic, visits)
+    search_from(
+        store,
+        root,
+        key_bytes,
+        PrefixMatchBehavior::Pessimistic,
+        visits,
+    )
 }
 
 /// Returns what `search_for_delete_point` does.

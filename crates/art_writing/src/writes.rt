@@ -64,6 +64,7 @@ fn set_beside<K: AsBytes + Drop, V: Drop, const P: usize>(
 }
 
 /// Links two leaves, where there are both, or the one that there is with none.
+#[inline(always)]
 pub(crate) fn link<K: AsBytes + Drop, V: Drop, const P: usize>(
     store: &mut NodeStore<K, V, P>,
     previous: OptionalLeafPtr,
@@ -112,6 +113,7 @@ pub(crate) fn place_between<K: AsBytes + Drop, V: Drop, const P: usize>(
 }
 
 /// Takes a leaf from between the two that it names, and returns it alone.
+#[inline(always)]
 pub(crate) fn take_from_between<K: AsBytes + Drop, V: Drop, const P: usize>(
     store: &mut NodeStore<K, V, P>,
     name: LeafPtr,

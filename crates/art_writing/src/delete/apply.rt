@@ -14,7 +14,7 @@ ghost use Rattle.art_writing.specs.Deleted.{IsDeletePointIn, IsRootAfter, Touche
 ghost use Rattle.art_reading.specs.PathSteps.{last_step};
 ghost use Rattle.art_inner.specs.Views.{ref_kind, ref_view};
 ghost use Rattle.art_parts.specs.Kinds.{kind_least, next_smaller};
-ghost use Rattle.art_writing.specs.TakenOut.{IsLeafTaken, IsTakenOut, done_or_refused};
+ghost use Rattle.art_writing.specs.TakenOut.{IsLeafTaken, IsLetGoOrRefused, IsTakenOut, done_or_refused};
 ghost use Rattle.art_writing.specs.ParentWrites.{LinksAreThere};
 
 use super::{DeletePoint, DeleteRefused, DeleteResult};
@@ -96,24 +96,25 @@ impl DeletePoint {
         ensures { IsTakenOut (of_key K.bytes) P store.old store.new root self
             (done_or_refused self result) }
     {
-        match last_step(self.path) {
-            None => Some(self.take_leaf(store, None)),
-            Some((parent, byte)) => self.take_from_parent(store, root, parent, byte),
-        }
+        let new_root = match last_step(self.path) {
+            None => None,
+            Some((parent, byte)) => Some(self.take_from_parent(store, root, parent, byte)?),
+        };
+        Some(self.take_leaf(store, new_root))
     }
 
-    // Takes the leaf out, and its parent keeps its kind, shrinks or goes with the leaf.
+    // The parent lets the leaf go: it keeps its kind, shrinks or goes too. Returns the root that is left.
+    #[inline(always)]
     fn take_from_parent<K: AsBytes + Drop, V: Drop, const P: usize>(
         self,
         store: &mut NodeStore<K, V, P>,
         root: OpaqueNodePtr,
         parent: InnerPtr,
         byte: u8,
-    ) -> Option<DeleteResult<K, V>>
+    ) -> Option<OpaqueNodePtr>
         requires parent { last_step self.path ≡ Some (parent, byte) }
         requires answers { IsDeletePointIn (of_key K.bytes) P store.old root self }
-        ensures { IsTakenOut (of_key K.bytes) P store.old store.new root self
-            (done_or_refused self result) }
+        ensures { IsLetGoOrRefused (of_key K.bytes) P store.old store.new root self result }
     {
         let Some(node) = store.inner(parent) else {
             unreachable!()
@@ -121,7 +122,7 @@ impl DeletePoint {
         let kind = node.node_type();
         if has_spare_child(node) {
             store.remove_child(parent, byte);
-            return Some(self.take_leaf(store, Some(root)));
+            return Some(root);
         }
         match kind.smaller() {
             Some(smaller) => self.shrink_parent(store, root, parent, byte, smaller),
@@ -129,7 +130,7 @@ impl DeletePoint {
         }
     }
 
-    // Takes the leaf out, and a node of the next smaller kind comes in its parent's place, or is refused.
+    // A node of the next smaller kind, without the leaf, comes in the parent's place, or is refused.
     fn shrink_parent<K: AsBytes + Drop, V: Drop, const P: usize>(
         self,
         store: &mut NodeStore<K, V, P>,
@@ -137,25 +138,23 @@ impl DeletePoint {
         parent: InnerPtr,
         byte: u8,
         smaller: NodeType,
-    ) -> Option<DeleteResult<K, V>>
+    ) -> Option<OpaqueNodePtr>
         requires parent { last_step self.path ≡ Some (parent, byte) }
         requires smaller { next_smaller parent.kind ≡ Some smaller }
         requires shrinks { parent_change store.old self.path ≡ shrinks smaller }
         requires answers { IsDeletePointIn (of_key K.bytes) P store.old root self }
-        ensures { IsTakenOut (of_key K.bytes) P store.old store.new root self
-            (done_or_refused self result) }
+        ensures { IsLetGoOrRefused (of_key K.bytes) P store.old store.new root self result }
     {
         if store.reserve(0, Some(smaller)).is_err() {
             return None;
         }
         let node = store.put_smaller(parent, byte);
-        let new_root = replace_at(store, up(self.path), root, node.to_opaque());
-        Some(self.take_leaf(store, Some(new_root)))
+        Some(replace_at(store, up(self.path), root, node.to_opaque()))
     }
 
-    /// Takes the leaf alone out, when its parent has let it go.
+    // Takes the leaf alone out, when its parent has let it go.
     #[inline(always)]
-    pub(super) fn take_leaf<K: AsBytes + Drop, V: Drop, const P: usize>(
+    fn take_leaf<K: AsBytes + Drop, V: Drop, const P: usize>(
         self,
         store: &mut NodeStore<K, V, P>,
         new_root: Option<OpaqueNodePtr>,

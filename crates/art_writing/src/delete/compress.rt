@@ -1,5 +1,5 @@
 //! One of the two children of a node goes, a leaf, and the other takes that node's place.
-ghost use Rattle.std.specs.Prelude.{◌≡◌, ◌≢◌, ◌+◌, ◌≤◌, ℕ, List, ◌∷◌, ◌++◌, length, IsSome, IsSomeAnd, IfSome, Some, Ok, cond};
+ghost use Rattle.std.specs.Prelude.{◌≡◌, ◌≢◌, ◌+◌, ◌≤◌, ℕ, List, ◌∷◌, ◌++◌, length, IsSome, IsSomeAnd, IfSome, Some, cond};
 ghost use Rattle.std.specs.FinMap as map;
 ghost use Rattle.art_inner.specs.InnerChanges.{with_header};
 ghost use Rattle.art_inner.specs.Views.{ref_view};
@@ -9,34 +9,33 @@ ghost use Rattle.art_model.specs.Pairs.{of_key};
 ghost use Rattle.art_model.specs.Writes.{as_inner};
 ghost use Rattle.art_parts.specs.declared.names.NodeType.TheVariants.{Leaf};
 ghost use Rattle.art_writing.specs.Deleted.{IsDeletePointIn, is_compressed, parent_change};
-ghost use Rattle.art_writing.specs.TakenOut.{IsTakenOut};
+ghost use Rattle.art_writing.specs.TakenOut.{IsLetGo};
 ghost use Rattle.art_reading.specs.PathSteps.{last_step};
 
-use super::{DeletePoint, DeleteResult};
+use super::DeletePoint;
 use crate::writes::replace_at;
 use art_nodes::node::{AsBytes, Header, InnerPtr, InnerRef, LeafPtr, OpaqueNodePtr};
 use art_nodes::store::NodeStore;
 use art_reading::path::up;
 
 impl DeletePoint {
-    /// Takes a leaf out with its parent, in whose place the other child comes.
+    /// Takes a leaf's parent out, in whose place the other child comes. Returns the root that is left.
     pub(super) fn compress_parent<K: AsBytes + Drop, V: Drop, const P: usize>(
         self,
         store: &mut NodeStore<K, V, P>,
         root: OpaqueNodePtr,
         parent: InnerPtr,
         byte: u8,
-    ) -> DeleteResult<K, V>
+    ) -> OpaqueNodePtr
         requires parent { last_step self.path ≡ Some (parent, byte) }
         requires compressed { parent_change store.old self.path ≡ is_compressed }
         requires answers { IsDeletePointIn (of_key K.bytes) P store.old root self }
-        ensures { IsTakenOut (of_key K.bytes) P store.old store.new root self (Ok result) }
+        ensures { IsLetGo (of_key K.bytes) P store.old store.new root self (Some result) }
     {
         let (header, other_byte, other) = store.take_other(parent, byte);
         let beside = leaf_beside(store, self.leaf_node_ptr, byte < other_byte);
         lengthen_prefix(store, other, header, other_byte, beside);
-        let new_root = replace_at(store, up(self.path), root, other);
-        self.take_leaf(store, Some(new_root))
+        replace_at(store, up(self.path), root, other)
     }
 }
 

@@ -1,7 +1,7 @@
 use Rattle.std.proofs.Common.{rules, ◌∙◌}
 use Rattle.art_model.specs.Pairs.{of_key}
 use Rattle.art_writing.specs.Deleted.{is_compressed}
-use Rattle.art_writing.proofs.Below.{is_below, leaf_ready}
+use Rattle.art_writing.proofs.Below.{is_below, let_go}
 use Rattle.art_writing.proofs.Deletions.{taken_out_of}
 use Rattle.art_writing.proofs.Removals.{IsOneOfTwo, IsOtherTaken, is_one_of_two, one_left, other_is, beside_ready, may_lengthen, lengthened_is, above_ready, two_deleted}
 use Rattle.art_writing.proofs.delete.DeletePoint.compress_parent.Goals as goal
@@ -32,22 +32,19 @@ lengthen_prefix-requires g c =
     let o = (goal.at.lengthen_prefix-requires g c).After-take_other-header in
     (search rules, (search rules, may_lengthen (two g o) (taken g o) c.leaf_beside-beside.result c.leaf_beside-beside.ensures))
 
-pub replace_at-new_root-requires : goal.replace_at-new_root-requires
-replace_at-new_root-requires g c =
-    let o = (goal.at.replace_at-new_root-requires g c).After-take_other-header in
+pub replace_at-requires : goal.replace_at-requires
+replace_at-requires g c =
+    let o = (goal.at.replace_at-requires g c).After-take_other-header in
     let lengthened = lengthened_is (two g o) (taken g o) c.lengthen_prefix.new.store.inners c.lengthen_prefix.ensures.leaf c.lengthen_prefix.ensures.inner in
     (search rules, above_ready (two g o) c.lengthen_prefix.new.store.inners c.up.result lengthened c.up.ensures)
-
-pub take_leaf-requires : goal.take_leaf-requires
-take_leaf-requires g c =
-    let (pairs, layout, x, by, leads) = c.requires.answers in
-    (search rules, rw (c.replace_at-new_root.ensures.leaves, c.lengthen_prefix.ensures.leaves, c.take_other-header.ensures.leaves) (leaf_ready (is_below by leads c.requires.parent)))
 
 pub returns : goal.returns
 returns g c =
     let o = (goal.at.returns g c).After-take_other-header in
+    let (pairs, layout, x, by, leads) = c.requires.answers in
+    let leaves = c.replace_at.ensures.leaves ∙ c.lengthen_prefix.ensures.leaves ∙ c.take_other-header.ensures.leaves in
     let lengthened = lengthened_is (two g o) (taken g o) c.lengthen_prefix.new.store.inners c.lengthen_prefix.ensures.leaf c.lengthen_prefix.ensures.inner in
-    taken_out_of c.requires.answers (two_deleted (two g o) (c.replace_at-new_root.ensures.leaves ∙ c.lengthen_prefix.ensures.leaves ∙ c.take_other-header.ensures.leaves)
-    c.up.ensures (other_is (two g o) (taken g o)) lengthened c.replace_at-new_root.ensures.inners c.take_leaf.ensures c.requires.compressed c.replace_at-new_root.ensures.root)
+    let_go (is_below by leads c.requires.parent) leaves (λ t done leaf. taken_out_of c.requires.answers
+    (two_deleted (two g o) leaves c.up.ensures (other_is (two g o) (taken g o)) lengthened c.replace_at.ensures.inners leaf c.requires.compressed c.replace_at.ensures.root)
     is_compressed c.requires.compressed (λ kind e. absurd cc)
-    (c.take_leaf.ensures.promise ∙ c.replace_at-new_root.ensures.promise ∙ c.lengthen_prefix.ensures.promise ∙ c.take_other-header.ensures.promise)
+    (leaf.promise ∙ c.replace_at.ensures.promise ∙ c.lengthen_prefix.ensures.promise ∙ c.take_other-header.ensures.promise))

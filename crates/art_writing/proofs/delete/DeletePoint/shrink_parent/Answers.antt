@@ -2,7 +2,7 @@ use Rattle.std.proofs.Common.{rules, ap, sym, ◌∙◌, subst, IsTrue}
 use Rattle.art_nodes.specs.Nodes.{promises, take_inner}
 use Rattle.art_model.specs.Writes.{with_child_at}
 use Rattle.art_reading.specs.PathSteps.{last_step, up, root_with}
-use Rattle.art_writing.proofs.Below.{IsSmaller, is_below, leaf_ready, shrinks_fit, smaller_is, above_ready, parent_deleted}
+use Rattle.art_writing.proofs.Below.{IsSmaller, is_below, let_go, shrinks_fit, smaller_is, above_ready, parent_deleted}
 use Rattle.art_writing.proofs.Deletions.{shrink_refused, taken_out_with}
 use Rattle.art_writing.proofs.Reserved.{covered_inner, not_refused}
 use Rattle.art_writing.proofs.delete.DeletePoint.shrink_parent.Goals as goal
@@ -33,31 +33,27 @@ put_smaller-node-requires g c =
       ),
     )
 
-pub replace_at-new_root-requires : goal.replace_at-new_root-requires
-replace_at-new_root-requires g c =
+pub replace_at-requires : goal.replace_at-requires
+replace_at-requires g c =
     let (pairs, layout, x, by, leads) = c.requires.answers in
-    let at = goal.at.replace_at-new_root-requires g c in (
+    let at = goal.at.replace_at-requires g c in (
       search rules,
       rw c.up.ensures (above_ready (is_below by leads c.requires.parent) c.reserve.new.self c.reserve.ensures.inners c.args.smaller c.requires.parent
           c.requires.shrinks (smaller g at.After-put_smaller-node)),
     )
 
-pub take_leaf-requires : goal.take_leaf-requires
-take_leaf-requires g c =
-    let (pairs, layout, x, by, leads) = c.requires.answers in
-    (search rules, rw (c.replace_at-new_root.ensures.leaves, c.put_smaller-node.ensures.leaves, c.reserve.ensures.leaves) (leaf_ready (is_below by leads c.requires.parent)))
-
 pub returns : goal.returns
 returns g c =
     let (pairs, layout, x, by, leads) = c.requires.answers in
     let at = goal.at.returns g c in
-    taken_out_with c.requires.answers (parent_deleted (is_below by leads c.requires.parent) c.reserve.new.self c.reserve.ensures.inners c.args.smaller c.requires.parent
-    c.requires.shrinks (smaller g at.After-put_smaller-node)
-    (c.replace_at-new_root.ensures.leaves ∙ c.put_smaller-node.ensures.leaves ∙ c.reserve.ensures.leaves)
-    (c.replace_at-new_root.ensures.inners ∙ ap (λ path. with_child_at (last_step path) c.to_opaque.result c.put_smaller-node.new.self.inners) c.up.ensures
+    let leaves = c.replace_at.ensures.leaves ∙ c.put_smaller-node.ensures.leaves ∙ c.reserve.ensures.leaves in
+    let_go (is_below by leads c.requires.parent) leaves (λ t done leaf. taken_out_with c.requires.answers
+    (parent_deleted (is_below by leads c.requires.parent) c.reserve.new.self c.reserve.ensures.inners c.args.smaller c.requires.parent
+    c.requires.shrinks (smaller g at.After-put_smaller-node) leaves
+    (c.replace_at.ensures.inners ∙ ap (λ path. with_child_at (last_step path) c.to_opaque.result c.put_smaller-node.new.self.inners) c.up.ensures
     ∙ ap (λ name. with_child_at (last_step (up c.args.self.path)) name c.put_smaller-node.new.self.inners) c.to_opaque.ensures)
-    (c.replace_at-new_root.ensures.root ∙ ap (λ path. root_with path c.args.root c.to_opaque.result) c.up.ensures ∙ ap (root_with (up c.args.self.path) c.args.root) c.to_opaque.ensures)
-    c.take_leaf.ensures)
+    (c.replace_at.ensures.root ∙ ap (λ path. root_with path c.args.root c.to_opaque.result) c.up.ensures ∙ ap (root_with (up c.args.self.path) c.args.root) c.to_opaque.ensures)
+    leaf)
     c.reserve.new.self c.args.smaller c.reserve.result (sym c.is_err.ensures.value ∙ c.if-is_err.false) c.reserve.ensures.covered c.reserve.ensures.granted c.requires.shrinks
-    (c.take_leaf.ensures.promise ∙ c.replace_at-new_root.ensures.promise ∙ c.put_smaller-node.ensures.promise
-    ∙ ap (λ kind. take_inner kind c.reserve.new.self.promise) (sym (smaller_is c.args.parent.kind c.args.smaller c.requires.smaller).0))
+    (leaf.promise ∙ c.replace_at.ensures.promise ∙ c.put_smaller-node.ensures.promise
+    ∙ ap (λ kind. take_inner kind c.reserve.new.self.promise) (sym (smaller_is c.args.parent.kind c.args.smaller c.requires.smaller).0)))

@@ -1,8 +1,8 @@
-use Rattle.std.proofs.Common.{rules, ◌≡◌, sym, ◌∙◌}
+use Rattle.std.proofs.Common.{◌≡◌, sym, ◌∙◌}
 use Rattle.std.proofs.lemmas.Bool.{ltb-true}
 use Rattle.art_inner.specs.Views.{ref_kind}
 use Rattle.art_writing.specs.Deleted.{parent_change, keeps}
-use Rattle.art_writing.proofs.Below.{is_below, leaf_ready, child_deleted, change_seen, change-keeps}
+use Rattle.art_writing.proofs.Below.{is_below, let_go, child_deleted, change_seen, change-keeps}
 use Rattle.art_writing.proofs.Deletions.{parent_at, taken_out_of}
 use Rattle.art_writing.proofs.delete.DeletePoint.take_from_parent.Goals as goal
 
@@ -13,19 +13,16 @@ unreachable-requires g c =
 
 -- ---- a parent that keeps its kind
 
-pub take_leaf-requires : goal.take_leaf-requires
-take_leaf-requires g c =
-    let (pairs, layout, x, by, leads) = c.requires.answers in
-    (search rules, rw c.remove_child.ensures.leaves (leaf_ready (is_below by leads c.requires.parent)))
-
 pub returns-then-has_spare_child : goal.returns-then-has_spare_child
 returns-then-has_spare_child g c =
     let (pairs, layout, x, by, leads) = c.requires.answers in
+    let at = is_below by leads c.requires.parent in
     let is : parent_change c.args.store.now c.args.self.path ≡ keeps =
     change_seen c.args.store.now c.args.self.path c.requires.parent (sym c.in-Some.ensures.view) c.in-Some.ensures.kind
     ∙ change-keeps (ref_kind c.in-Some.node) _ (ltb-true _ _ (sym c.has_spare_child.ensures ∙ c.if-has_spare_child.true)) in
-    taken_out_of c.requires.answers (child_deleted (is_below by leads c.requires.parent) c.remove_child.ensures.leaves c.remove_child.ensures.inners c.take_leaf.ensures c.requires.parent is)
-    keeps is (λ kind e. absurd cc) (c.take_leaf.ensures.promise ∙ c.remove_child.ensures.promise)
+    let_go at c.remove_child.ensures.leaves (λ t done leaf. taken_out_of c.requires.answers
+    (child_deleted at c.remove_child.ensures.leaves c.remove_child.ensures.inners leaf c.requires.parent is)
+    keeps is (λ kind e. absurd cc) (leaf.promise ∙ c.remove_child.ensures.promise))
 
 -- ---- a parent that shrinks
 
