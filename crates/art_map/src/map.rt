@@ -28,7 +28,7 @@ use art_reading::range::{
 };
 use art_writing::clone::clone_unchecked;
 use art_writing::delete::{
-    DeletePoint, find_maximum_to_delete, find_minimum_to_delete, search_for_delete_point,
+    DeletePoint, find_maximum_to_delete, find_minimum_to_delete, search_for_delete_point_by_lengths,
 };
 use art_writing::insert::{
     InsertPrefixError, InsertSearchError, PrefixInsertResult, Refused, plant,
@@ -748,7 +748,7 @@ fn take_key<K: AsBytes + Drop, V: Drop, const P: usize>(
     let Some(name) = *root else {
         return Ok(None);
     };
-    let Some(point) = search_for_delete_point(store, name, key_bytes) else {
+    let Some(point) = search_for_delete_point_by_lengths(store, name, key_bytes) else {
         return Ok(None);
     };
     take_out(store, root, len, name, point)
@@ -775,7 +775,7 @@ fn take_below<K: AsBytes + Drop, V: Drop, const P: usize>(
         return Ok(None);
     };
     let key_bytes = pair_at(store, leaf).0.as_bytes();
-    let Some(point) = search_for_delete_point(store, name, key_bytes) else {
+    let Some(point) = search_for_delete_point_by_lengths(store, name, key_bytes) else {
         unreachable!()
     };
     take_out(store, root, len, name, point)

@@ -10,7 +10,7 @@ use super::{ByteMap, MapRefused, take_out};
 use art_nodes::node::{AsBytes, OpaqueNodePtr};
 use art_nodes::store::NodeStore;
 use art_reading::range::range_unchecked;
-use art_writing::delete::{DeletePoint, search_for_delete_point};
+use art_writing::delete::{DeletePoint, search_for_delete_point_by_lengths};
 use std::ops::Bound;
 
 impl<K: AsBytes + Drop, V: Drop, const P: usize> ByteMap<K, V, P> {
@@ -93,7 +93,7 @@ fn find_refused<K: AsBytes + Drop, V: Drop, const P: usize, F: FnMut(&K, &V) -> 
     let mut pairs = RangeOf::new(store, walk, len);
     while let Some((key, value)) = pairs.next() {
         if !f(key, value) {
-            return search_for_delete_point(store, root, key.as_bytes());
+            return search_for_delete_point_by_lengths(store, root, key.as_bytes());
         }
     }
     None

@@ -30,8 +30,8 @@ returns-in_default-next g c =
 pub pair_at-requires : goal.pair_at-requires
 pair_at-requires g c = (search rules, c.in-Some-next.ensures.there)
 
-pub search_for_delete_point-requires : goal.search_for_delete_point-requires
-search_for_delete_point-requires g c = (search rules, canonical_root c.in-Some.is c.requires)
+pub search_for_delete_point_by_lengths-requires : goal.search_for_delete_point_by_lengths-requires
+search_for_delete_point_by_lengths-requires g c = (search rules, canonical_root c.in-Some.is c.requires)
 
 pub unreachable-requires : goal.unreachable-requires
 unreachable-requires g c =
@@ -40,7 +40,7 @@ unreachable-requires g c =
     let has = at_some c.in-Some.is c.requires in
     let first = first_pair has.by (λ x. is_front c.args.prefix.now (g.K.AsBytes.bytes x.0)) (c.in-Some-next.ensures.leaf _ (c.prefix_unchecked.ensures _ has.layout has.by)) c.pair_at.ensures in
     point_not_none B c.args.prefix.now pairs (deref_pair c.pair_at.result) c.as_bytes-key_bytes.result.now has.by.is_map first c.as_bytes-key_bytes.ensures
-    (point_none has.layout (remove_reply B c.as_bytes-key_bytes.result.now pairs) (c.in_default-search_for_delete_point.ensures.point pairs has.layout has.by))
+    (point_none has.layout (remove_reply B c.as_bytes-key_bytes.result.now pairs) (c.in_default-search_for_delete_point_by_lengths.ensures.point pairs has.layout has.by))
 
 pub returns : goal.returns
 returns g c =
@@ -49,8 +49,8 @@ returns g c =
     let has = at_some c.in-Some.is c.requires in
     let first = first_pair has.by (λ x. is_front c.args.prefix.now (g.K.AsBytes.bytes x.0)) (c.in-Some-next.ensures.leaf _ (c.prefix_unchecked.ensures _ has.layout has.by)) c.pair_at.ensures in
     let (x, e, leads) =
-    point_some has.layout c.in-Some-search_for_delete_point.point (remove_reply B c.as_bytes-key_bytes.result.now pairs)
-    (c.in-Some-search_for_delete_point.ensures.point pairs has.layout has.by) in
+    point_some has.layout c.in-Some-search_for_delete_point_by_lengths.point (remove_reply B c.as_bytes-key_bytes.result.now pairs)
+    (c.in-Some-search_for_delete_point_by_lengths.ensures.point pairs has.layout has.by) in
     let (told, left) = point_is_first B c.args.prefix.now pairs (deref_pair c.pair_at.result) c.as_bytes-key_bytes.result.now has.by.is_map first c.as_bytes-key_bytes.ensures x e in
     let Taken = HasTaken g.K.AsBytes.bytes g.row.P pairs in
     subst (λ reply. Taken reply (without_below B c.args.prefix.now 1 pairs) c.take_out.result c.take_out.new.store c.take_out.new.root c.take_out.new.len) told

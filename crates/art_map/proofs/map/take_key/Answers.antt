@@ -6,15 +6,15 @@ use Rattle.art_map.specs.MapPairs.{HoldsPairs, pairs_at}
 use Rattle.art_map.proofs.Puts.{at_some, canonical_root}
 use Rattle.art_map.proofs.map.take_key.Goals as goal
 
-pub search_for_delete_point-requires : goal.search_for_delete_point-requires
-search_for_delete_point-requires g c = (search rules, canonical_root c.in-Some.is c.requires)
+pub search_for_delete_point_by_lengths-requires : goal.search_for_delete_point_by_lengths-requires
+search_for_delete_point_by_lengths-requires g c = (search rules, canonical_root c.in-Some.is c.requires)
 
-pub returns-in_default-search_for_delete_point : goal.returns-in_default-search_for_delete_point
-returns-in_default-search_for_delete_point g c =
+pub returns-in_default-search_for_delete_point_by_lengths : goal.returns-in_default-search_for_delete_point_by_lengths
+returns-in_default-search_for_delete_point_by_lengths g c =
     let B = of_key g.K.AsBytes.bytes in
     let pairs = pairs_at c.args.store.now c.args.root.now in
     let has = at_some c.in-Some.is c.requires in
-    let none = point_none has.layout (remove_reply B c.args.key_bytes.now pairs) (c.in_default-search_for_delete_point.ensures.point pairs has.layout has.by) in
+    let none = point_none has.layout (remove_reply B c.args.key_bytes.now pairs) (c.in_default-search_for_delete_point_by_lengths.ensures.point pairs has.layout has.by) in
     (subst (HoldsPairs B g.row.P c.args.store.now c.args.root.now c.args.len.now) (sym (removes_none B c.args.key_bytes.now pairs none)) c.requires, sym none)
 
 pub returns : goal.returns
@@ -23,7 +23,7 @@ returns g c =
     let pairs = pairs_at c.args.store.now c.args.root.now in
     let has = at_some c.in-Some.is c.requires in
     let (x, e, leads) =
-    point_some has.layout c.in-Some-search_for_delete_point.point (remove_reply B c.args.key_bytes.now pairs) (c.in-Some-search_for_delete_point.ensures.point pairs has.layout has.by) in
+    point_some has.layout c.in-Some-search_for_delete_point_by_lengths.point (remove_reply B c.args.key_bytes.now pairs) (c.in-Some-search_for_delete_point_by_lengths.ensures.point pairs has.layout has.by) in
     let Taken = HasTaken g.K.AsBytes.bytes g.row.P pairs in
     subst (λ reply. Taken reply (remove_key B c.args.key_bytes.now pairs) c.take_out.result c.take_out.new.store c.take_out.new.root c.take_out.new.len) (sym e)
     (subst (λ key. Taken (Some x) (remove_key B key pairs) c.take_out.result c.take_out.new.store c.take_out.new.root c.take_out.new.len) (removed_key B c.args.key_bytes.now pairs x e)

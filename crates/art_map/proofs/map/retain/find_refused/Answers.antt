@@ -40,9 +40,9 @@ returns-then-not-f-clause-found g c =
       kept = kept;
       refused = asked_at g.F.FnMut c.f.ensures no;
     } in
-    finds (AsksPair g.F.FnMut) bytes g.row.P has.by c.args.last.now stops c.search_for_delete_point.result
-    (subst (λ k. ForTree B g.row.P c.args.store.now c.args.root (λ all tree. IsDeletePoint tree (remove_reply B k all) c.search_for_delete_point.result)) c.as_bytes.ensures c.search_for_delete_point.ensures.point)
-    c.search_for_delete_point.ensures.applies
+    finds (AsksPair g.F.FnMut) bytes g.row.P has.by c.args.last.now stops c.search_for_delete_point_by_lengths.result
+    (subst (λ k. ForTree B g.row.P c.args.store.now c.args.root (λ all tree. IsDeletePoint tree (remove_reply B k all) c.search_for_delete_point_by_lengths.result)) c.as_bytes.ensures c.search_for_delete_point_by_lengths.ensures.point)
+    c.search_for_delete_point_by_lengths.ensures.applies
 
 pub loop-key-preserved : goal.loop-key-preserved
 loop-key-preserved g c =
