@@ -170,7 +170,7 @@ module _ {K V : Type 0} {bytes : K × V → List ℕ} {P : ℕ} {s : Nodes K V} 
 
   module _ (at : IsBelow bytes P s root pairs layout x point parent byte) where
     -- the leaves beside it are there
-    pub leaf_ready : IsSome (get s.leaves point.leaf_node_ptr) × LinksAreThere s.leaves point.leaf_node_ptr
+    leaf_ready : IsSome (get s.leaves point.leaf_node_ptr) × LinksAreThere s.leaves point.leaf_node_ptr
     leaf_ready = rw at.here (refl, links_there at.below at.here)
 
     -- so after writes that change no leaf the parent has let it go
