@@ -1,6 +1,8 @@
 -- What is done to the rows of a table is done to its children.
-use Rattle.std.proofs.Common.{◌≡◌, ◌≢◌, ℕ, ◌+◌, ◌-◌, ◌<◌, ◌≤◌, suc, List, [], ◌∷◌, ◌++◌, length, get_or, set, take, drop, remove, Some, None, IsSome, is_some, sym, ap, ◌∙◌, arith, add-one, subst}
+use Rattle.std.proofs.Common.{◌≡◌, ℕ, ◌+◌, ◌-◌, ◌<◌, ◌≤◌, suc, List, [], ◌∷◌, ◌++◌, length, get_or, set, slice_get, take, drop, remove, Some, None, IsSome, is_some, sym, ap, ◌∙◌, arith, add-one, subst}
 use Rattle.std.proofs.lemmas.List.{get_or-take, length-append, length-drop, length-take-le}
+use Rattle.std.proofs.lemmas.Option.{slice_get-get_or, slice_get_past}
+use Rattle.std.specs.Option.{option_map}
 use Rattle.art_inner.specs.Inner.{Children, IsAbove, IsRising, child_at, count_below, put_child, remove_child}
 use Rattle.art_inner.specs.Rows.{rows}
 use Rattle.art_parts.specs.declared.names.NodeType.{NodeType}
@@ -9,7 +11,7 @@ use Rattle.art_parts.specs.declared.names.OpaqueNodePtr.{OpaqueNodePtr}
 use Rattle.art_inner.specs.declared.table.Table.TheInside.{Inside}
 use Rattle.art_inner.proofs.ChildrenLaws.{put_child-above}
 use Rattle.art_inner.proofs.RemovalLemmas.{found_at, removed_at, front_without}
-use Rattle.art_inner.proofs.RowsLemmas.{child_in_place, rows-absent, read_there, count_below-bound, length-rows, rows-between, rows-read, rows-remove, rows-renamed, rows-set, rows-take, take_set_end}
+use Rattle.art_inner.proofs.RowsLemmas.{count_below-bound, length-rows, rows-between, rows-read, rows-remove, rows-renamed, rows-set, rows-take, take_set_end}
 use Rattle.art_inner.proofs.TableLemmas.{Entry, none_is_not, place_of_child, put_child_set, put_child_between, front_after, shown_set, IsRising-put_child}
 
 -- a table in arrays of `N` places shows these children
@@ -56,19 +58,14 @@ module _ {N : ℕ} (t : Inside N) (cs : Children) (s : Shows t cs) where
       ap (λ (xs : Children). get_or xs at past) (sym s.shows) ∙ get_or-take t.len (rows t.bytes t.kinds t.slots) at past within
       ∙ rows-read at t.bytes t.kinds t.slots 0 Node4 0 (s.kinds ∙ sym s.bytes) (s.slots ∙ sym s.bytes) (omega (arith, within, s.fits, s.bytes))
 
-  -- the name beside a byte that stands at a place in use
-  pub table_at : (at b : ℕ) → at < t.len → get_or t.bytes at 0 ≡ b → child_at cs b ≡ Some (record { kind = get_or t.kinds at Node4; slot = get_or t.slots at 0 })
-  table_at at b within same =
-      child_in_place cs at b _ s.rising (read_there cs at past (omega (arith, within, table_length))) (ap (λ (c : Entry). c.0) (read_at at within) ∙ same)
+  -- the name at a place in use
+  pub table_name : (at : ℕ) → at < t.len → option_map (λ (c : Entry). c.1) (slice_get cs at) ≡ Some (record { kind = get_or t.kinds at Node4; slot = get_or t.slots at 0 })
+  table_name at within =
+      ap (option_map (λ (c : Entry). c.1)) (slice_get-get_or cs at past (omega (arith, within, table_length)))
       ∙ ap (λ (c : Entry). Some c.1) (read_at at within)
 
-  -- a byte that stands at no place in use
-  pub table_none : (b : ℕ) → ((k : ℕ) → k < t.len → get_or t.bytes k 0 ≢ b) → child_at cs b ≡ None
-  table_none b other =
-      ap (λ (xs : Children). child_at xs b) (sym s.shows ∙ rows-take t.len t.bytes t.kinds t.slots)
-      ∙ rows-absent (take t.len t.bytes) (take t.len t.kinds) (take t.len t.slots) b
-      (λ k within same. let near : k < t.len = omega (arith, within, length-take-le t.len t.bytes (omega (arith, s.fits, s.bytes))) in
-      other k near (sym (get_or-take t.len t.bytes k 0 near) ∙ same))
+  pub table_vacant : (at : ℕ) → t.len ≤ at → option_map (λ (c : Entry). c.1) (slice_get cs at) ≡ None
+  table_vacant at past_all = ap (option_map (λ (c : Entry). c.1)) (slice_get_past cs at (omega (arith, past_all, table_length)))
 
   module _ (at b : ℕ) (place : at ≡ count_below cs b) where
     -- a byte that is there stands at its place

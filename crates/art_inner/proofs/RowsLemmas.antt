@@ -1,5 +1,6 @@
 -- Three lists side by side go through the parts of lists, so what is done to each is done to the children.
-use Rattle.std.proofs.Common.{◌≡◌, ℕ, zero, suc, ◌<◌, ◌≤◌, cond, ltb, List, [], ◌∷◌, ◌++◌, length, get_or, set, take, drop, remove, slice_get, Option, Some, None, is_some, ◌≢◌, refl, sym, ap, ◌∙◌, inl, inr, arith}
+use Rattle.std.proofs.Common.{◌≡◌, ℕ, zero, suc, ◌+◌, ◌<◌, ◌≤◌, Bool, true, false, cond, ltb, eqb, not, List, [], ◌∷◌, ◌++◌, length, get_or, set, take, drop, remove, slice_get, Option, Some, None, is_some, ◌≢◌, refl, sym, ap, ◌∙◌, inl, inr, arith}
+use Rattle.std.specs.List.{prefix_len}
 use Rattle.std.specs.Option.{option_map}
 use Rattle.art_parts.specs.declared.names.NodeType.TheVariants.{Leaf}
 use Rattle.art_inner.specs.Inner.{Children, IsBelow, IsRising, child_at, count_below}
@@ -82,18 +83,27 @@ child_in_place [] k b c rising there same = absurd (none_is_not (ap is_some (ap 
 child_in_place (d ∷ cs) zero b c rising there same = let is : d ≡ c = cc in at_here d cs b (ap (λ (e : Entry). e.0) is ∙ same) ∙ ap (λ (e : Entry). Some e.1) is
 child_in_place (d ∷ cs) (suc k) b c rising there same = at_later d cs b (λ e. omega (arith, e, same, byte_above d.0 cs k c rising.0 there)) ∙ child_in_place cs k b c rising.1 there same
 
-pub read_there : (cs : Children) (k : ℕ) (d : Entry) → k < length cs → slice_get cs k ≡ Some (get_or cs k d)
-read_there [] k d within = absurd (omega (arith, within))
-read_there (c ∷ cs) zero d within = refl
-read_there (c ∷ cs) (suc k) d within = read_there cs k d (omega (arith, within))
+name_behind : (same : Bool) (c : Entry) (cs : Children) (place : ℕ) (rest : Option OpaqueNodePtr) → option_map (λ (e : Entry). e.1) (slice_get cs place) ≡ rest →
+    option_map (λ (e : Entry). e.1) (slice_get (c ∷ cs) (cond (not same) (1 + place) 0)) ≡ cond same (Some c.1) rest
+name_behind true c cs place rest is = refl
+name_behind false c cs place rest is =
+    let next : 1 + place ≡ suc place = omega arith in
+    ap (λ (k : ℕ). option_map (λ (e : Entry). e.1) (slice_get (c ∷ cs) k)) next ∙ is
 
--- a byte that stands nowhere has no name
-pub rows-absent : (bs : List ℕ) (ks : List NodeType) (ss : List ℕ) (b : ℕ) → ((k : ℕ) → k < length bs → get_or bs k 0 ≢ b) → child_at (rows bs ks ss) b ≡ None
-rows-absent [] ks ss b other = refl
-rows-absent (x ∷ bs) [] ss b other = refl
-rows-absent (x ∷ bs) (k ∷ ks) [] b other = refl
-rows-absent (x ∷ bs) (k ∷ ks) (s ∷ ss) b other =
-    at_later (x, record { kind = k; slot = s }) (rows bs ks ss) b (other 0 (omega arith)) ∙ rows-absent bs ks ss b (λ i h. other (suc i) (omega (arith, h)))
+-- the name at the first place of a byte is the one under it
+first_name : (n : ℕ) (bs : List ℕ) (ks : List NodeType) (ss : List ℕ) (b : ℕ) →
+    option_map (λ (e : Entry). e.1) (slice_get (take n (rows bs ks ss)) (prefix_len (λ x. not (eqb x b)) bs)) ≡ child_at (take n (rows bs ks ss)) b
+first_name zero bs ks ss b = refl
+first_name (suc n) [] ks ss b = refl
+first_name (suc n) (x ∷ bs) [] ss b = refl
+first_name (suc n) (x ∷ bs) (k ∷ ks) [] b = refl
+first_name (suc n) (x ∷ bs) (k ∷ ks) (s ∷ ss) b = name_behind (eqb x b) (x, record { kind = k; slot = s }) (take n (rows bs ks ss)) (prefix_len (λ y. not (eqb y b)) bs) _ (first_name n bs ks ss b)
+
+-- where the rows show these children
+pub rows-first : (n : ℕ) (bs : List ℕ) (ks : List NodeType) (ss : List ℕ) (cs : Children) (b place : ℕ) → take n (rows bs ks ss) ≡ cs → place ≡ prefix_len (λ x. not (eqb x b)) bs →
+    option_map (λ (e : Entry). e.1) (slice_get cs place) ≡ child_at cs b
+rows-first n bs ks ss cs b place shows first =
+    (λ i. option_map (λ (e : Entry). e.1) (slice_get (sym shows i) (first i))) ∙ first_name n bs ks ss b ∙ ap (λ (xs : Children). child_at xs b) shows
 
 -- a byte that does not stand at the place where it would has no name
 pub rows-not_at : (bs : List ℕ) (ks : List NodeType) (ss : List ℕ) (at b : ℕ) → length ks ≡ length bs → length ss ≡ length bs → IsRising (rows bs ks ss) →

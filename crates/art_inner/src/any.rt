@@ -4,7 +4,7 @@ ghost use Rattle.std.specs.Prelude.{◌≡◌, ◌≢◌, ◌-◌, min, ◌<◌,
 use crate::children::Children;
 use crate::inner::{InnerNode, InnerNode4, InnerNode16, InnerNode48, InnerNodeDirect};
 use crate::places::Places;
-use crate::table::get_by_lanes;
+use crate::table::{get_by_lanes, get_of_four};
 use art_parts::header::{FromHeader, Header};
 use art_parts::names::{NodeType, OpaqueNodePtr};
 use std::alloc::AllocError;
@@ -233,7 +233,7 @@ impl<'a, const P: usize> InnerRef<'a, P> {
         ensures { result ≡ child_at (ref_view self.now).children byte }
     {
         match *self {
-            InnerRef::Node4(node) => node.table.get(byte),
+            InnerRef::Node4(node) => get_of_four(&node.table, byte),
             InnerRef::Node16(node) => get_by_lanes(&node.table, byte),
             InnerRef::Node48(node) => node.table.get(byte),
             InnerRef::Node256(node) => node.table.get(byte),

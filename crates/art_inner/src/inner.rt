@@ -7,7 +7,7 @@ use crate::direct::Direct;
 use crate::indexed::Indexed;
 use crate::places::Places;
 use crate::resized::{Grows, Shrinks};
-use crate::table::{Table, get_by_lanes};
+use crate::table::{Table, get_by_lanes, get_of_four};
 use art_parts::header::{FromHeader, Header};
 use art_parts::names::{NodeType, OpaqueNodePtr};
 use std::alloc::AllocError;
@@ -219,7 +219,7 @@ impl<const P: usize> InnerNode<P> for InnerNode4<P> {
 
     #[inline(always)]
     fn lookup_child(&self, byte: u8) -> Option<OpaqueNodePtr> {
-        self.table.get(byte)
+        get_of_four(&self.table, byte)
     }
 
     fn write_child(&mut self, byte: u8, child: OpaqueNodePtr) {

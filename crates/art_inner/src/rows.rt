@@ -1,5 +1,5 @@
 //! Names under rising bytes, lent: bytes, kinds and slots in slices of their own.
-ghost use Rattle.std.specs.Prelude.{◌≡◌, ◌≢◌, ℕ, ◌-◌, ◌<◌, ◌≤◌, [], ◌++◌, length, take, drop, None, IfSome, IfNone, IfOk, IfErr, IsSome, IsTrue, ◌↔◌, slice_get, slice_index_or, Some};
+ghost use Rattle.std.specs.Prelude.{◌≡◌, ◌-◌, ◌<◌, ◌≤◌, [], ◌++◌, length, take, drop, None, IfNone, IfOk, IfErr, IsSome, IsTrue, ◌↔◌, slice_get, slice_index_or, Some};
 ghost use Rattle.std.specs.List.{cons_option};
 
 use art_parts::names::{NodeType, OpaqueNodePtr};
@@ -97,19 +97,6 @@ impl<'a> Rows<'a> {
         Some(last)
     }
 
-    // The name under a byte.
-    #[inline(always)]
-    pub(crate) fn get(&self, byte: u8) -> Option<OpaqueNodePtr>
-        requires aligned { AreAligned self.now }
-        requires rising { IsRising (rows_of self.now) }
-        ensures { result ≡ child_at (rows_of self.now) byte }
-    {
-        match position(self.bytes, byte) {
-            Some(place) => Some(self.entry(place).1),
-            None => None,
-        }
-    }
-
     // How many stand under bytes below this one.
     pub(super) fn count_below(&self, byte: u8) -> usize
         requires { AreAligned self.now }
@@ -158,20 +145,4 @@ fn is_at(bytes: &[u8], at: usize, byte: u8) -> bool
     ensures { IsTrue result ↔ ((at < length bytes.now) × (slice_index_or bytes.now at 0 ≡ byte)) }
 {
     at < bytes.len() && bytes[at] == byte
-}
-
-// A place at which the byte stands.
-#[inline(always)]
-fn position(bytes: &[u8], byte: u8) -> Option<usize>
-    ensures found { IfSome result (λ at.
-        (at < length bytes.now) × (slice_index_or bytes.now at 0 ≡ byte)) }
-    ensures absent { IfNone result ((k : ℕ) → k < length bytes.now →
-        slice_index_or bytes.now k 0 ≢ byte) }
-{
-    for at in 0..bytes.len() {
-        if bytes[at] == byte {
-            return Some(at);
-        }
-    }
-    None
 }

@@ -1,5 +1,6 @@
 //! Up to so many names under rising bytes.
-ghost use Rattle.std.specs.Prelude.{◌≡◌, ◌+◌, ◌-◌, ◌<◌, ◌≤◌, [], ◌∷◌, ◌++◌, length, take, drop, remove};
+ghost use Rattle.std.specs.Prelude.{◌≡◌, ◌+◌, ◌-◌, ◌<◌, ◌≤◌, [], ◌∷◌, ◌++◌, length, take, drop, remove, slice_get};
+ghost use Rattle.std.specs.Option.{option_map};
 
 use crate::children::Children;
 use crate::lanes::lanes_before;
@@ -105,12 +106,18 @@ impl<const N: usize> Table<N> {
         }
     }
 
-    // The name under a byte.
+    // The name at a place. Those past the last name count as vacant.
     #[inline(always)]
-    pub(crate) fn get(&self, byte: u8) -> Option<OpaqueNodePtr>
-        ensures { result ≡ child_at self.now byte }
+    fn name_at(&self, place: usize) -> Option<OpaqueNodePtr>
+        ensures { result ≡ option_map (λ child. child.1) (slice_get self.now place) }
     {
-        self.rows().get(byte)
+        if place >= self.len {
+            return None;
+        }
+        Some(OpaqueNodePtr {
+            kind: self.kinds[place],
+            slot: self.slots[place],
+        })
     }
 
     pub(crate) fn iter(&self) -> Children<'_>
@@ -201,21 +208,45 @@ impl<const N: usize> Table<N> {
     }
 }
 
+ghost use Rattle.std.specs.List.{prefix_len};
 ghost use Rattle.art_inner.specs.Inner.{child_at};
+ghost use lib.Dec.{eqb};
+ghost use mathlib.Core.Bool.{not};
 
-// The name under a byte, by lanes. Those past the last name count as vacant.
+// The name under a byte, by four compares.
+#[inline(always)]
+pub(crate) fn get_of_four(table: &Table<4>, byte: u8) -> Option<OpaqueNodePtr>
+    ensures { result ≡ child_at table.now byte }
+{
+    table.name_at(place_in_four(&table.bytes, byte))
+}
+
+// The name under a byte, by lanes.
 #[inline(always)]
 pub(crate) fn get_by_lanes(table: &Table<16>, byte: u8) -> Option<OpaqueNodePtr>
     ensures { result ≡ child_at table.now byte }
 {
-    let place = lanes_before(&table.bytes, byte);
-    if place >= table.len {
-        return None;
+    table.name_at(lanes_before(&table.bytes, byte))
+}
+
+// How many of four bytes come before the first that is this one: 4 where none is.
+#[inline(always)]
+fn place_in_four(bytes: &[u8; 4], byte: u8) -> usize
+    ensures { result ≡ prefix_len (λ x. not (eqb x byte)) bytes.now }
+{
+    if bytes[0] == byte {
+        return 0;
     }
-    Some(OpaqueNodePtr {
-        kind: table.kinds[place],
-        slot: table.slots[place],
-    })
+    if bytes[1] == byte {
+        return 1;
+    }
+    if bytes[2] == byte {
+        return 2;
+    }
+    if bytes[3] == byte {
+        return 3;
+    }
+    4
 }
 
 // Puts a value at a place, and lets the last one go.
