@@ -834,6 +834,7 @@ fn take_all<K: AsBytes + Drop, V: Drop, const P: usize>(
 }
 
 // Takes the pair of a point out of the tree.
+#[inline(always)]
 fn take_out<K: AsBytes + Drop, V: Drop, const P: usize>(
     store: &mut NodeStore<K, V, P>,
     root: &mut Option<OpaqueNodePtr>,
@@ -850,12 +851,10 @@ fn take_out<K: AsBytes + Drop, V: Drop, const P: usize>(
         HasTaken K.bytes P pairs (Some x) (remove_key (of_key K.bytes) (K.bytes x.0) pairs) result
         store.new root.new len.new) }
 {
-    match taken::take_out(point, store, name) {
-        Some(done) => {
-            *root = done.new_root;
-            *len -= 1;
-            Ok(Some((done.deleted_leaf.key, done.deleted_leaf.value)))
-        }
-        None => Err(MapRefused),
-    }
+    let Some(done) = taken::take_out(point, store, name) else {
+        return Err(MapRefused);
+    };
+    *root = done.new_root;
+    *len -= 1;
+    Ok(Some((done.deleted_leaf.key, done.deleted_leaf.value)))
 }

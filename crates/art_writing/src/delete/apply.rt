@@ -98,7 +98,14 @@ impl DeletePoint {
     {
         let new_root = match last_step(self.path) {
             None => None,
-            Some((parent, byte)) => Some(self.take_from_parent(store, root, parent, byte)?),
+            Some((parent, byte)) => {
+                let name = self.take_from_parent(store, root, parent, byte)?;
+                // Made anew of its parts: what stands between these in memory is not carried on.
+                Some(OpaqueNodePtr {
+                    kind: name.kind,
+                    slot: name.slot,
+                })
+            }
         };
         Some(self.take_leaf(store, new_root))
     }
