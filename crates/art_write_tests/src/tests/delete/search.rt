@@ -6,7 +6,7 @@ use art_nodes::node::OpaqueNodePtr;
 use art_nodes::store::NodeStore;
 use art_operations::delete::{
     DeletePoint, find_maximum_to_delete, find_minimum_to_delete, search_for_delete_point,
-    search_for_delete_point_visiting,
+    search_for_delete_point_by_lengths, search_for_delete_point_visiting,
 };
 use art_operations::lookup::Visits;
 use art_operations::path::TreePath;
@@ -178,6 +178,52 @@ static ABSENT: [&[u8]; 6] = [&[], &[1], &[1, 2], &[1, 2, 5], &[1, 2, 3, 4], &[7]
 #[test]
 fn finds_no_point_of_an_absent_key(rt: HostRuntime) -> Result<(), Fail> {
     let seen = has_none::<16>(&mut NodeStore::new(rt.alloc()), &ABSENT);
+    same(seen, Some(true))
+}
+
+// The first of some keys for which the two searches name different points.
+fn first_told_apart<'a, const P: usize>(
+    store: &NodeStore<Key, u32, P>,
+    root: OpaqueNodePtr,
+    keys: &[&'a [u8]],
+) -> Option<&'a [u8]>
+    requires { IsCanonicalRoot (of_key (λ key. key.items)) P store.now root }
+{
+    for &key in keys {
+        let point = search_for_delete_point(store, root, key);
+        if search_for_delete_point_by_lengths(store, root, key) != point {
+            return Some(key);
+        }
+    }
+    None
+}
+
+// Whether the two searches name the same points of these keys in a tree of three, in which the second byte of two is a
+// prefix.
+fn are_named_alike<const P: usize>(
+    store: &mut NodeStore<Key, u32, P>,
+    keys: &[&[u8]],
+) -> Option<bool> {
+    let root = planted_all(store, &[&[1, 2, 3], &[1, 2, 4], &[6]]).ok()??;
+    Some(first_told_apart(store, root, keys).is_none())
+}
+
+// The three keys, and some that part from them in the prefix, at the leaf and at a child, or end before.
+static SOUGHT: [&[u8]; 9] = [
+    &[1, 2, 3],
+    &[1, 2, 4],
+    &[6],
+    &[1, 9, 3],
+    &[1, 2, 5],
+    &[1, 2, 3, 4],
+    &[6, 1],
+    &[1],
+    &[],
+];
+
+#[test]
+fn names_the_same_points_by_lengths(rt: HostRuntime) -> Result<(), Fail> {
+    let seen = are_named_alike::<16>(&mut NodeStore::new(rt.alloc()), &SOUGHT);
     same(seen, Some(true))
 }
 
