@@ -15,6 +15,7 @@ use Rattle.art_model.specs.Pairs.{first_of, last_of, without_last}
 use Rattle.art_model.specs.Stores.{held_leaf, links_of, links_at}
 use Rattle.art_model.proofs.leaves.Links.{link_of}
 use Rattle.art_model.proofs.lists.Lists.{each_from, each_in}
+use Rattle.art_model.proofs.lists.Pairwises.{Pairwise-in}
 use Rattle.art_model.proofs.leaves.Segments.{but_last, last_of_in, empty_segment, segment-frame, segment_rest, segment_front, tree_segment}
 use Rattle.art_reading.specs.declared.descent.End.{End}
 use Rattle.art_reading.specs.declared.descent.End.TheVariants.{First, Last}
@@ -118,6 +119,7 @@ module _ {K V : Type 0} (s : Nodes K V) (a b : LeafPtr) where
     pub there : map.get s.leaves (of_two end (a, b)) ≡ Some leaf
     pub next : LeafPtr
     pub next_is : of_two end (leaf.next, leaf.previous) ≡ Some next
+    pub other : next ≢ of_two end (a, b)
     pub taken : TakesEnd end s names (Some (of_two end (a, b))) (Some (of_two end ((next, b), (a, next))))
 
   has_next : (end : End) (names : List OpaqueNodePtr) → a ≢ b → IsIteratorOf s (Some (a, b)) names → HasNext end names
@@ -135,6 +137,7 @@ module _ {K V : Type 0} (s : Nodes K V) (a b : LeafPtr) where
         there = there;
         next = p;
         next_is = next_is;
+        other = λ one. is.segment.distinct.0.0 (first ∙ ap leaf_name (sym one) ∙ same);
         taken = (sym is.ends.0, record { ends = (ap Some (sym same), is.ends.1); segment = segment_rest (x ∷ []) (y ∷ ys) is.segment });
       }
   has_next Last (x ∷ y ∷ ys) other is =
@@ -145,15 +148,18 @@ module _ {K V : Type 0} (s : Nodes K V) (a b : LeafPtr) where
       let (leaf, there, previous, next) = linked_leaf (map.get s.leaves b) (record { previous = last_or xs (Some x); next = segment.after }) linked in
       let (q, some) = last_or-some xs x in
       let (p, next_is, same) = named leaf.previous q (previous ∙ some) in
+      let front_ends : last_of (x ∷ xs) ≡ Some q = last_of-or xs x ∙ some in
+      let apart = Pairwise-in ◌≢◌ (x ∷ xs) (leaf_name b ∷ []) q (leaf_name b) segment.distinct (last_of_in (x ∷ xs) q front_ends) (inl refl) in
       record {
         leaf = leaf;
         there = there;
         next = p;
         next_is = next_is;
+        other = λ one. apart (sym same ∙ ap leaf_name one);
         taken = (
           sym is.ends.1,
           record {
-            ends = (is.ends.0, last_of-or xs x ∙ some ∙ ap Some (sym same));
+            ends = (is.ends.0, front_ends ∙ ap Some (sym same));
             segment = segment_front (x ∷ xs) (leaf_name b ∷ []) segment;
           },
         );
@@ -189,6 +195,14 @@ module _ {K V : Type 0} (s : Nodes K V) (a b : LeafPtr) where
 
       pub next_there : {o : Option LeafPtr} (leaf : LeafNode K V) → Some leaf ≡ map.get s.leaves p → o ≡ of_two end (leaf.next, leaf.previous) → o ≡ None → ⊥
       next_there leaf there read none = let e = same_next leaf there read in absurd cc
+
+      -- and it is another one
+      pub next_other : {o : Option LeafPtr} (leaf : LeafNode K V) (next : LeafPtr) →
+          Some leaf ≡ map.get s.leaves p → o ≡ of_two end (leaf.next, leaf.previous) → o ≡ Some next → next ≢ p
+      next_other leaf next there read some one =
+          let e = same_next leaf there read in
+          let same : next ≡ has.next = cc in
+          has.other (sym same ∙ one ∙ at)
 
       pub next_taken : {o : Option LeafPtr} (leaf : LeafNode K V) (next : LeafPtr) {left : LeafPtr × LeafPtr} →
           Some leaf ≡ map.get s.leaves p → o ≡ of_two end (leaf.next, leaf.previous) → o ≡ Some next →

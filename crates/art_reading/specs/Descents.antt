@@ -45,7 +45,8 @@ module _ {K V : Type 0} (bytes : K × V → List ℕ) (P : ℕ) (start : PrefixM
       × (ComparesAll P start layout → before + length (nodes_on_way bytes key layout) ≡ after)
   WalkEnds (Some last) = IsLastLeaf last
 
--- what a way down counts that begins with this behavior: at least the nodes on the key's way, exactly these where a leaf is found or each prefix is compared whole, and at most one more than the key has bytes
+-- what a way down counts that begins with this behavior: at least the nodes on the key's way, exactly these where a leaf is
+-- found or each prefix is compared whole, and at most one more than the key has bytes
 pub record CountsVisitsFrom (start : PrefixMatchBehavior) {K V : Type 0} (bytes : K × V → List ℕ) (P : ℕ) (s : Nodes K V) (root : OpaqueNodePtr)
     (key : List ℕ) (before after : ℕ) (IsFound : Type 0) : Type 0 where
   pub at_least : ForTree bytes P s root (λ pairs layout. before + length (nodes_on_way bytes key layout) ≤ after)

@@ -1,5 +1,5 @@
 //! The walk of leaves, from either end of a part of the list that they are linked in.
-ghost use Rattle.std.specs.Prelude.{◌≡◌, List, None, Some, IsSome, IfSome};
+ghost use Rattle.std.specs.Prelude.{◌≡◌, ◌≢◌, List, None, Some, IsSome, IfSome};
 ghost use Rattle.std.specs.FinMap as map;
 ghost use Rattle.std.specs.Option.{option_map};
 ghost use Rattle.art_parts.specs.Names.{leaf_name};
@@ -149,11 +149,31 @@ impl RawIterator {
             self.ends = None;
             return Some((taken, leaf));
         }
-        let Some(next) = end.of((leaf.next, leaf.previous)) else {
+        let Some(linked) = end.of((leaf.next, leaf.previous)) else {
             unreachable!()
         };
+        let next = foreseen(end, taken, linked);
         self.ends = Some(end.of(((next, last), (first, next))));
         Some((taken, leaf))
+    }
+}
+
+// The leaf that one is linked to, from this end. If that stands in the slot beside, its name is computed
+// from the one's own, so that a processor which foresees this reads it before the link has come.
+#[inline(always)]
+fn foreseen(end: End, taken: LeafPtr, linked: LeafPtr) -> LeafPtr
+    requires { linked ≢ taken }
+    ensures { result ≡ linked }
+{
+    let (slot, next) = (taken.slot, linked.slot);
+    let apart = end.of((next.wrapping_sub(slot), slot.wrapping_sub(next)));
+    match apart {
+        1 => LeafPtr {
+            slot: end.of((slot.wrapping_add(1), slot.wrapping_sub(1))),
+        },
+        // Without this arm a compiler sees that the link is returned in any case, and waits for it.
+        0 => unreachable!(),
+        _ => linked,
     }
 }
 

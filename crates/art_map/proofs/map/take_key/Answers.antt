@@ -22,8 +22,8 @@ returns g c =
     let B = of_key g.K.AsBytes.bytes in
     let pairs = pairs_at c.args.store.now c.args.root.now in
     let has = at_some c.in-Some.is c.requires in
-    let (x, e, leads) =
-    point_some has.layout c.in-Some-search_for_delete_point_by_lengths.point (remove_reply B c.args.key_bytes.now pairs) (c.in-Some-search_for_delete_point_by_lengths.ensures.point pairs has.layout has.by) in
+    let leads_there = c.in-Some-search_for_delete_point_by_lengths.ensures.point pairs has.layout has.by in
+    let (x, e, leads) = point_some has.layout c.in-Some-search_for_delete_point_by_lengths.point (remove_reply B c.args.key_bytes.now pairs) leads_there in
     let Taken = HasTaken g.K.AsBytes.bytes g.row.P pairs in
     subst (λ reply. Taken reply (remove_key B c.args.key_bytes.now pairs) c.take_out.result c.take_out.new.store c.take_out.new.root c.take_out.new.len) (sym e)
     (subst (λ key. Taken (Some x) (remove_key B key pairs) c.take_out.result c.take_out.new.store c.take_out.new.root c.take_out.new.len) (removed_key B c.args.key_bytes.now pairs x e)

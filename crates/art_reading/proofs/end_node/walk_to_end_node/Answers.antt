@@ -28,4 +28,6 @@ next_step-requires g c = (search rules, (c.requires, (path_after c.down.steps, c
 pub step_down-requires : goal.step_down-requires
 step_down-requires g c =
     let (pairs, layout, by) = c.requires in
-    step_proper c.args.store.now (path_after c.down.steps) c.in-Down.inner c.in-Down.byte by (rw c.in-Down.is at (c.next_step.ensures (path_after c.down.steps) pairs layout by (c.down.invariant pairs layout by))).1
+    let path = path_after c.down.steps in
+    let step = c.next_step.ensures path pairs layout by (c.down.invariant pairs layout by) in
+    step_proper c.args.store.now path c.in-Down.inner c.in-Down.byte by (rw c.in-Down.is at step).1

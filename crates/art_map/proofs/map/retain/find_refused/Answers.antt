@@ -40,8 +40,10 @@ returns-then-not-f-clause-found g c =
       kept = kept;
       refused = asked_at g.F.FnMut c.f.ensures no;
     } in
-    finds (AsksPair g.F.FnMut) bytes g.row.P has.by c.args.last.now stops c.search_for_delete_point_by_lengths.result
-    (subst (λ k. ForTree B g.row.P c.args.store.now c.args.root (λ all tree. IsDeletePoint tree (remove_reply B k all) c.search_for_delete_point_by_lengths.result)) c.as_bytes.ensures c.search_for_delete_point_by_lengths.ensures.point)
+    let found = c.search_for_delete_point_by_lengths.result in
+    finds (AsksPair g.F.FnMut) bytes g.row.P has.by c.args.last.now stops found
+    (subst (λ k. ForTree B g.row.P c.args.store.now c.args.root (λ all tree. IsDeletePoint tree (remove_reply B k all) found))
+    c.as_bytes.ensures c.search_for_delete_point_by_lengths.ensures.point)
     c.search_for_delete_point_by_lengths.ensures.applies
 
 pub loop-key-preserved : goal.loop-key-preserved

@@ -42,7 +42,8 @@ put_larger-requires g c =
     let e = entry c.requires.answers c.requires.point (ap (λ l. get_or l c.args.self.key_bytes_used 0) c.as_bytes-key_bytes.ensures) by in
     let same = c.place_between-leaf_node_ptr.ensures.inners ∙ c.reserve.ensures.inners in
     let p = c.args.inner_node_ptr in
-    let (full, last, asked) = asked_full c.args.self (c.args.key, c.args.value) by e c.larger_and_links-larger.ensures.few c.larger_and_links-larger.ensures.larger (sym c.is_some.ensures ∙ c.if-is_some.true) in
+    let known = c.larger_and_links-larger.ensures in
+    let (full, last, asked) = asked_full c.args.self (c.args.key, c.args.value) by e known.few known.larger (sym c.is_some.ensures ∙ c.if-is_some.true) in
     let covered = not_refused c.reserve.result (sym c.is_err.ensures.value ∙ c.if-is_err.false) c.reserve.ensures.reserved in (
       search rules,
       (
@@ -63,11 +64,13 @@ returns-then-is_some g c =
     let granted = sym c.is_err.ensures.value ∙ c.if-is_err.false in
     let (pairs, layout, own, answers) = c.requires.answers in
     let entered = entry c.requires.answers c.requires.point (ap (λ l. get_or l c.args.self.key_bytes_used 0) c.as_bytes-key_bytes.ensures) own in
-    let asked = (asked_full c.args.self (c.args.key, c.args.value) own entered c.larger_and_links-larger.ensures.few c.larger_and_links-larger.ensures.larger (sym c.is_some.ensures ∙ c.if-is_some.true)).2 in
+    let known = c.larger_and_links-larger.ensures in
+    let asked = (asked_full c.args.self (c.args.key, c.args.value) own entered known.few known.larger (sym c.is_some.ensures ∙ c.if-is_some.true)).2 in
     applied g.K.AsBytes.bytes c.requires.answers (λ pairs layout by.
     let e = entry c.requires.answers c.requires.point (ap (λ l. get_or l c.args.self.key_bytes_used 0) c.as_bytes-key_bytes.ensures) by in
     let beside = c.larger_and_links-larger.ensures.beside e.left e.right (entry_gap by e) in
-    let (full, last, asked) = asked_full c.args.self (c.args.key, c.args.value) by e c.larger_and_links-larger.ensures.few c.larger_and_links-larger.ensures.larger (sym c.is_some.ensures ∙ c.if-is_some.true) in
+    let known = c.larger_and_links-larger.ensures in
+    let (full, last, asked) = asked_full c.args.self (c.args.key, c.args.value) by e known.few known.larger (sym c.is_some.ensures ∙ c.if-is_some.true) in
     full_inserted c.args.self (c.args.key, c.args.value) by e _ _ beside c.reserve.new.self c.place_between-leaf_node_ptr.new.store
     c.reserve.ensures.leaves c.reserve.ensures.inners c.place_between-leaf_node_ptr.ensures.fresh c.place_between-leaf_node_ptr.ensures.leaves
     c.place_between-leaf_node_ptr.ensures.inners c.to_opaque-child.ensures c.put_larger.new.store c.put_larger.ensures.leaves full last
