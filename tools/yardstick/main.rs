@@ -18,7 +18,7 @@ fn run(map: &str, work: &Work) {
     match map {
         "library" => proved::byte_map(work),
         "kit" => proved::kit_map(work),
-        "check" => proved::check(work),
+        "store" => proved::store(work),
         "btree" => btree::run(work),
         "linked" => linked::run_linked(work),
         "plain" => linked::run_plain(work),

@@ -4,7 +4,7 @@ use crate::heap;
 use std::hint::black_box;
 use std::ptr::addr_of_mut;
 
-pub const NAMES: [&str; 18] = [
+pub const NAMES: [&str; 21] = [
     "insert",
     "get",
     "get_mut",
@@ -22,6 +22,9 @@ pub const NAMES: [&str; 18] = [
     "check",
     "compact",
     "walk_compact",
+    "store_insert",
+    "store_get",
+    "store_remove",
     "rest",
 ];
 
@@ -38,7 +41,7 @@ pub const DROP_CLONE: usize = 9;
 pub const REMOVE: usize = 10;
 pub const AGAIN: usize = 11;
 pub const CLEAR: usize = 12;
-pub const REST: usize = 17;
+pub const REST: usize = 20;
 
 /// What is written between two parts where caches are to be cold.
 const EVICTED: usize = 96 << 20;

@@ -49,11 +49,15 @@ unsafe extern "C" {
         counts: &mut Counts,
     );
 
-    fn bench_check(
+    fn bench_store(
         keys: *const u8,
         keys_len: usize,
         ends: *const u64,
         ends_len: usize,
+        asked: *const u8,
+        asked_len: usize,
+        asked_ends: *const u64,
+        asked_ends_len: usize,
         counts: &mut Counts,
     );
 }
@@ -108,17 +112,21 @@ pub fn kit_map(work: &Work) {
     assert!(counts.walked == counts.back && counts.walked == counts.cloned);
 }
 
-pub fn check(work: &Work) {
+pub fn store(work: &Work) {
     let mut counts = Counts::default();
-    let keys = &work.keys;
+    let (keys, asked) = (&work.keys, &work.asked);
     unsafe {
-        bench_check(
+        bench_store(
             keys.bytes.as_ptr(),
             keys.bytes.len(),
             keys.ends.as_ptr(),
             keys.ends.len(),
+            asked.bytes.as_ptr(),
+            asked.bytes.len(),
+            asked.ends.as_ptr(),
+            asked.ends.len(),
             &mut counts,
         );
     }
-    assert_eq!(counts.found, keys.count() as u64);
+    assert_eq!([counts.stored, counts.found, counts.taken], [keys.count() as u64; 3]);
 }

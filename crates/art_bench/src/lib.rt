@@ -5,9 +5,9 @@
 use std::alloc::Global;
 
 mod byte_map;
-mod checking;
 mod kit_map;
 mod parts;
+mod store_calls;
 
 /// How many keys or pairs each part came to.
 #[repr(C)]
@@ -65,8 +65,15 @@ pub extern "C" fn bench_kit_map(
     kit_map::work(alloc, keys, ends, asked, asked_ends, counts);
 }
 
-/// Checks the tree of all keys.
+/// Works on a tree in a store, with the same keys.
 #[unsafe(no_mangle)]
-pub extern "C" fn bench_check(alloc: Global, keys: &[u8], ends: &[u64], counts: &mut Counts) {
-    checking::work(alloc, keys, ends, counts);
+pub extern "C" fn bench_store(
+    alloc: Global,
+    keys: &[u8],
+    ends: &[u64],
+    asked: &[u8],
+    asked_ends: &[u64],
+    counts: &mut Counts,
+) {
+    store_calls::work(alloc, keys, ends, asked, asked_ends, counts);
 }

@@ -37,7 +37,13 @@ pub const COMPACT: usize = 15;
 
 pub const WALK_COMPACT: usize = 16;
 
-pub const REST: usize = 17;
+pub const STORE_INSERT: usize = 17;
+
+pub const STORE_GET: usize = 18;
+
+pub const STORE_REMOVE: usize = 19;
+
+pub const REST: usize = 20;
 
 /// Tells the heap that a part begins, by a request that none can meet.
 #[inline(never)]

@@ -138,6 +138,7 @@ impl DeletePoint {
     }
 
     // A node of the next smaller kind, without the leaf, comes in the parent's place, or is refused.
+    #[inline(always)]
     fn shrink_parent<K: AsBytes + Drop, V: Drop, const P: usize>(
         self,
         store: &mut NodeStore<K, V, P>,

@@ -20,6 +20,7 @@ use art_reading::path::up;
 
 impl DeletePoint {
     /// Takes a leaf's parent out, in whose place the other child comes. Returns the root that is left.
+    #[inline(always)]
     pub(super) fn compress_parent<K: AsBytes + Drop, V: Drop, const P: usize>(
         self,
         store: &mut NodeStore<K, V, P>,

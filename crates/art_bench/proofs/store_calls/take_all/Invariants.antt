@@ -1,0 +1,8 @@
+use Rattle.std.proofs.Common.{IfSome}
+use Rattle.art_model.specs.Pairs.{of_key}
+use Rattle.art_model.specs.Roots.{IsCanonicalRoot}
+use Rattle.art_bench.proofs.store_calls.take_all.Given as goal
+
+-- the root that is left, if there is one, is canonical
+abbrev pub invariant-keys : goal.invariant-keys
+invariant-keys l = IfSome l.left (IsCanonicalRoot (of_key (λ key. key.items)) 16 l.store)
